@@ -1,0 +1,6 @@
+// The tables of the .nl format: fields of the header, and opcodes.
+#![tactic(auto)]
+
+mod class;
+
+pub use class::OpClass;
