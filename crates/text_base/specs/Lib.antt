@@ -1,0 +1,14 @@
+pub mod Desk
+pub mod Memory
+pub mod Entries
+pub mod MemoryFields
+pub mod Lines
+pub mod LinesFields
+pub mod Words
+pub mod Judged
+pub mod Stopped
+pub mod Reading
+pub mod Cut
+pub mod Names
+pub mod TextLines
+pub mod Host

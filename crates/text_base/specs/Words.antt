@@ -1,0 +1,45 @@
+-- The words of a line, and its comment.
+use Rattle.std.specs.Prelude.{take, ◌==◌, ℕ, Bool, true, ◌&&◌, ◌||◌, List, [], ◌∷◌, if◌then◌else◌, map}
+use Rattle.std.specs.Borrow.{Bor}
+use Rattle.text_base.specs.declared.blanks.TheConstants.{LONGEST_ROW}
+
+-- a space or a tab
+abbrev pub is_blank : ℕ → Bool
+is_blank b = (b == 32) || (b == 9)
+
+-- the byte goes onto the first word, or begins one
+abbrev pub onto_word : ℕ → Bool → List (List ℕ) → List (List ℕ)
+onto_word b begins [] = (b ∷ []) ∷ []
+onto_word b begins (word ∷ words) = if begins then (b ∷ []) ∷ word ∷ words else (b ∷ word) ∷ words
+
+-- the next byte, if there is one, is a blank
+abbrev pub ends_word : List ℕ → Bool
+ends_word [] = true
+ends_word (b ∷ bytes) = is_blank b
+
+-- the words of a line: the longest runs of bytes that are no blanks
+abbrev pub words_of : List ℕ → List (List ℕ)
+words_of [] = []
+words_of (b ∷ bytes) = if is_blank b then words_of bytes else onto_word b (ends_word bytes) (words_of bytes)
+
+-- what words that are lent stand for
+abbrev pub texts : List (Bor (List ℕ)) → List (List ℕ)
+texts words = map (λ w. w.now) words
+
+-- the first twelve words, or all where there are fewer
+abbrev pub row_of : List ℕ → List (List ℕ)
+row_of line = take LONGEST_ROW (words_of line)
+
+-- without the blanks at the front
+abbrev pub without_blanks : List ℕ → List ℕ
+without_blanks [] = []
+without_blanks (b ∷ bytes) = if is_blank b then without_blanks bytes else b ∷ bytes
+
+-- the bytes up to a comment: a `#` begins one where it may begin, at the front or after a blank
+abbrev pub up_to_comment : Bool → List ℕ → List ℕ
+up_to_comment may_begin [] = []
+up_to_comment may_begin (b ∷ bytes) = if may_begin && (b == 35) then [] else b ∷ up_to_comment (is_blank b) bytes
+
+-- the line without its comment, which begins at a `#` that is the first byte or follows a blank
+abbrev pub without_comment : List ℕ → List ℕ
+without_comment line = up_to_comment true line

@@ -1,0 +1,105 @@
+// The words of a line, and the line without its comment or its first blanks.
+ghost use Rattle.std.specs.Prelude.{◌≡◌, ◌≤◌, length, take};
+ghost use Rattle.text_base.specs.Words.{words_of, row_of, texts, is_blank, without_blanks, without_comment};
+
+use crate::runs::Words;
+use std::marker::Model;
+
+/// A row has at most so many words.
+pub const LONGEST_ROW: usize = 12;
+
+/// The words of a line, in order.
+pub fn words(line: &[u8]) -> Words<'_>
+    ensures { words_of result.rest.now ≡ words_of line.now }
+{
+    Words { rest: line }
+}
+
+/// The first twelve words of a line, or all where there are fewer.
+#[derive(Drop)]
+pub struct Row<'a> {
+    room: [&'a [u8]; LONGEST_ROW],
+    count: usize,
+}
+
+impl<'a> Model for Row<'a> {
+    ghost use Rattle.std.specs.Prelude.{List, ℕ, ◌≤◌, length, take};
+    ghost use Rattle.text_base.specs.Words.{texts};
+
+    ghost Value = { List (List ℕ) };
+
+    ghost view = { λ r. texts (take r.count r.room) };
+
+    ghost invariant = { λ r. r.count ≤ length r.room };
+}
+
+impl<'a> Row<'a> {
+    /// The first words of a line.
+    pub fn of(line: &'a [u8]) -> Row<'a>
+        ensures { result ≡ row_of line.now }
+    {
+        let none = &line[..0];
+        let mut room = [none; LONGEST_ROW];
+        let count = fill_words(line, &mut room);
+        Row { room, count }
+    }
+
+    /// The words, in order.
+    pub fn words(&self) -> &[&'a [u8]]
+        ensures { texts result.now ≡ self.now }
+    {
+        &self.room[..self.count]
+    }
+}
+
+// Puts the first words of a line into a row, as many as it has room for, and says how many.
+fn fill_words<'a>(line: &'a [u8], row: &mut [&'a [u8]]) -> usize
+    ensures room { length row.new ≡ length row.old }
+    ensures within { result ≤ length row.old }
+    ensures words { texts (take result row.new) ≡ take (length row.old) (words_of line.now) }
+{
+    let mut rest = words(line);
+    let mut count = 0;
+    'filling: while count < row.len() {
+        let Some(word) = rest.next() else {
+            return count;
+        };
+        row[count] = word;
+        count += 1;
+    }
+    count
+}
+
+fn is_blank(byte: u8) -> bool
+    ensures { result ≡ is_blank byte }
+{
+    byte == b' ' || byte == b'\t'
+}
+
+/// The line without the blanks at its front.
+pub fn skip_blanks(line: &[u8]) -> &[u8]
+    ensures { result.now ≡ without_blanks line.now }
+{
+    let mut rest = line;
+    while let [first, more @ ..] = rest {
+        if !is_blank(*first) {
+            break;
+        }
+        rest = more;
+    }
+    rest
+}
+
+/// The line without its comment, which begins at a `#` that is the first byte or follows a blank.
+pub fn strip_comment(line: &[u8]) -> &[u8]
+    ensures { result.now ≡ without_comment line.now }
+{
+    let mut may_begin = true;
+    'bytes: for (place, byte) in line.iter().enumerate() {
+        if may_begin && *byte == b'#' {
+            return &line[..place];
+        }
+        may_begin = is_blank(*byte);
+    }
+    line
+}

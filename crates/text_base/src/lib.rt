@@ -1,0 +1,34 @@
+// The desk through which a program meets the outside, steps, names, lines and words of texts, and a reader for any grammar of lines.
+#![tactic(auto)]
+
+mod blanks;
+mod desk;
+mod fault;
+mod grammar;
+mod host;
+mod law;
+mod lines;
+mod memory;
+mod names;
+mod reader;
+mod runs;
+mod steps;
+mod stop;
+#[cfg(test)]
+mod tests;
+mod text_lines;
+
+pub use blanks::{LONGEST_ROW, Row, skip_blanks, strip_comment, words};
+pub use desk::{Desk, Failed};
+pub use fault::TextFault;
+pub use grammar::Grammar;
+pub use host::HostDesk;
+pub use law::{fault_stays, lines_are_the_text, one_outcome, stored_text_is_found};
+pub use lines::{LineFault, Lines, Taken};
+pub use memory::MemoryDesk;
+pub use names::{BadName, Name};
+pub use reader::{Reader, read, read_pieces};
+pub use runs::Words;
+pub use steps::{Blank, Ledger, Steps};
+pub use stop::Stop;
+pub use text_lines::TextLines;

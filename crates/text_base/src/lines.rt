@@ -1,0 +1,180 @@
+// The lines of a text that comes in pieces.
+ghost use Rattle.std.specs.Prelude.{◌≡◌, ◌+◌, ◌-◌, ◌<◌, ◌≤◌, ◌^◌, ◌++◌, ◌==◌, List, ℕ, position, [], length, take, IfOk, IfSome, IsSome, IsTrue, ◌↔◌, None, Some, IsNone, false, true};
+ghost use Rattle.text_base.specs.Lines.{new_state, StandsFor, Keeps, Scan, GoesOn, IfLine, taken_of, scan, number_of, trimmed, front_of, Takes, end_done};
+
+use std::alloc::{AllocError, Global};
+use std::marker::Model;
+
+/// A line has at most so many bytes before its LF.
+pub const LONGEST_LINE: usize = 65536;
+
+/// An input has at most so many bytes.
+pub const LONGEST_INPUT: u32 = 0x8000_0000;
+
+/// Why a line was not read.
+#[derive(Clone, Copy, Debug, PartialEq, Eq)]
+pub enum LineFault {
+    LineTooLong,
+    InputTooLong,
+}
+
+/// What came of a piece.
+#[derive(Clone, Copy, Debug, PartialEq, Eq)]
+pub enum Taken {
+    /// So many bytes were taken, and a line has ended.
+    Line(usize),
+    /// All bytes were taken, and no line ended.
+    More,
+    Fault(LineFault),
+}
+
+/// A reader of lines. It holds one line.
+#[derive(Drop)]
+pub struct Lines {
+    line: Vec<u8>,
+    ended: bool,
+    count: u32,
+    total: u32,
+    fault: Option<LineFault>,
+}
+
+impl Model for Lines {
+    ghost use Rattle.text_base.specs.Lines.{LinesState};
+
+    ghost Value = { LinesState };
+
+    ghost use Rattle.text_base.specs.LinesFields.{lines_state, IsLines};
+
+    ghost view = { lines_state };
+
+    ghost invariant = { IsLines };
+}
+
+// The place of the first line end.
+fn line_end(piece: &[u8]) -> Option<usize>
+    ensures { result ≡ position (λ b. b == 10) piece.now }
+{
+    piece.iter().position(|b| *b == b'\n')
+}
+
+// The length of the front without a line end.
+fn front_len(piece: &[u8]) -> usize
+    ensures { result ≡ length (front_of piece.now) }
+{
+    match line_end(piece) {
+        Some(place) => place,
+        None => piece.len(),
+    }
+}
+
+// The bytes without the CR bytes at their end.
+fn trim(bytes: &[u8]) -> &[u8]
+    ensures { result.now ≡ trimmed bytes.now }
+{
+    let mut len = bytes.len();
+    'cutting: while len > 0 && bytes[len - 1] == b'\r' {
+        len -= 1;
+    }
+    &bytes[..len]
+}
+
+impl Lines {
+    /// A reader of a new text, with room for one line.
+    pub fn new(alloc: Global) -> Result<Lines, AllocError>
+        ensures state { IfOk result (λ lines. lines ≡ new_state) }
+        ensures text { IfOk result (λ lines. StandsFor [] lines) }
+    {
+        Ok(Lines {
+            line: Vec::with_capacity(alloc, LONGEST_LINE)?,
+            ended: false,
+            count: 0,
+            total: 0,
+            fault: None,
+        })
+    }
+
+    /// Takes bytes until a line ends or the piece is used.
+    pub fn take(&mut self, piece: &[u8]) -> Taken
+        ensures exact { Takes self.old piece.now result self.new }
+        ensures within { IfLine result (λ n. (0 < n) × (n ≤ length piece.now) × IsSome self.new.line) }
+
+        // However the text was cut into pieces, the lines are its lines.
+        ensures text { (text : List ℕ) → StandsFor text self.old → StandsFor (text ++ taken_of result piece.now) self.new }
+        ensures lines { (text : List ℕ) → StandsFor text self.old → GoesOn (scan text) (scan (text ++ taken_of result piece.now)) result self.new }
+    {
+        self.take_piece(piece)
+    }
+
+    fn take_piece(&mut self, piece: &[u8]) -> Taken
+        ensures { Takes self.old piece.now result self.new }
+    {
+        if let Some(fault) = self.fault {
+            return Taken::Fault(fault);
+        }
+        if self.ended {
+            self.line.clear();
+            self.ended = false;
+        }
+        let front = front_len(piece);
+        let ends = front < piece.len();
+        let count = if ends { front + 1 } else { front };
+        let line_room = LONGEST_LINE - self.line.len();
+        let input_room = (LONGEST_INPUT - self.total) as usize;
+        if count > input_room && (input_room <= line_room || front <= line_room) {
+            self.fault = Some(LineFault::InputTooLong);
+            return Taken::Fault(LineFault::InputTooLong);
+        }
+        if front > line_room {
+            self.fault = Some(LineFault::LineTooLong);
+            return Taken::Fault(LineFault::LineTooLong);
+        }
+        match self.line.extend_from_slice(&piece[..front]) {
+            Ok(()) => {}
+            Err(_) => unreachable!(),
+        }
+        self.total += count as u32;
+        if !ends {
+            return Taken::More;
+        }
+        self.count += 1;
+        self.ended = true;
+        Taken::Line(count)
+    }
+
+    /// Whether bytes stand after the last line end. They are then the line.
+    pub fn end(&mut self) -> bool
+        ensures exact { self.new ≡ end_done self.old }
+        ensures rest { IsTrue result ↔ (0 < length self.old.rest) }
+        ensures line { result ≡ true → (self.new.line ≡ Some (trimmed self.old.rest)) × (self.new.count ≡ self.old.count + 1) }
+        ensures none { result ≡ false → (self.new.line ≡ None) × (self.new.count ≡ self.old.count) }
+    {
+        if self.ended || self.line.is_empty() {
+            self.line.clear();
+            self.ended = false;
+            return false;
+        }
+        self.count += 1;
+        self.ended = true;
+        true
+    }
+
+    /// The line that was given.
+    pub fn line(&self) -> &[u8]
+        requires { IsSome self.now.line }
+        ensures { Some result.now ≡ self.now.line }
+    {
+        trim(&self.line)
+    }
+
+    /// The number of the line that was given, of the one that has a fault, or of the one that is awaited.
+    pub fn number(&self) -> u32
+        ensures value { result ≡ number_of self.now }
+        ensures room { result ≤ 2 ^ 31 + 1 }
+    {
+        if self.ended {
+            self.count
+        } else {
+            self.count + 1
+        }
+    }
+}
