@@ -1,4 +1,4 @@
-// The classes of opcodes.
+// What an opcode of an .nl expression means: its class and its operands.
 
 /// What an opcode of an .nl expression does.
 #[derive(Clone, Copy, Debug, PartialEq, Eq)]
@@ -17,4 +17,21 @@ pub enum OpClass {
     Absolute,
     /// Not in the table.
     Refused,
+}
+
+/// How many operands follow an opcode.
+#[derive(Clone, Copy, Debug, PartialEq, Eq)]
+pub enum Operands {
+    One,
+    Two,
+    /// Their number stands on the next line.
+    Counted,
+}
+
+/// A row of the table of opcodes.
+#[derive(Clone, Copy, Debug, PartialEq, Eq)]
+pub struct OpcodeRow {
+    pub opcode: u32,
+    pub class: OpClass,
+    pub operands: Operands,
 }
