@@ -1,0 +1,190 @@
+-- Powers, least and greatest, whole parts and absolute values: what their definitions say.
+use Rattle.std.proofs.Common.{◌≡◌, ℕ, zero, suc, ◌+◌, ◌*◌, ◌/◌, ◌<◌, ◌⊎◌, inl, inr, ⊎_elim, ◌∙◌, sym, ap, refl, subst, subst₂, one-mul, arith, Bool, true, false, if◌then◌else◌, ℤ, pos, negsuc, ◌+ℤ◌, ◌*ℤ◌, ◌≤ℤ◌, ◌<ℤ◌, neg_ℤ, List, [], ◌∷◌, All, Contains}
+use Rattle.std.specs.Int.{int_div_euclid}
+use Rattle.std.proofs.lemmas.Int.{ints}
+use Rattle.std.proofs.lemmas.Nat.{div-add-mod'}
+use Rattle.std.proofs.Math.Nat.{mod-lt}
+use Rattle.std.proofs.lemmas.List.Elements.{All-nil, All-cons}
+use Rattle.fractions.specs.Functions.{power_of, is_below, lesser_of, greater_of, least_of, greatest_of, floor_of, ceiling_of, without_sign, absolute_of}
+use Rattle.fractions.specs.Rational.{ℚ, whole, zero_ℚ, one_ℚ, ◌+ℚ◌, ◌-ℚ◌, ◌*ℚ◌, neg_ℚ, ◌≤ℚ◌, ◌<ℚ◌, IsWhole}
+use Rattle.fractions.proofs.Signed.{neg-*ℤ}
+use Rattle.fractions.proofs.Values.{HasValue, scaled_value, own_value, whole_value, value_le, value_lt}
+use Rattle.fractions.proofs.Arithmetic.{≤ℚ_refl, ≤ℚ_trans, neg-≤ℚ, neg-neg, neg-+ℚ, neg_zero, -ℚ_lem, not_both, le_or_lt, zero_value, whole_of, whole-+ℚ, whole-neg, IsWhole-whole}
+
+-- ---- powers
+pub power_of-zero : (x : ℚ) → power_of x 0 ≡ one_ℚ
+unfolding power_of
+power_of-zero x = refl
+
+pub power_of-suc : (x : ℚ) (n : ℕ) → power_of x (suc n) ≡ x *ℚ power_of x n
+unfolding power_of
+power_of-suc x n = refl
+
+-- ---- least and greatest
+-- the lesser of two is one of them, and at most both
+pub record IsLesser (x y z : ℚ) : Type 0 where
+  pub one : (z ≡ x) ⊎ (z ≡ y)
+  pub first : z ≤ℚ x
+  pub second : z ≤ℚ y
+
+pub record IsGreater (x y z : ℚ) : Type 0 where
+  pub one : (z ≡ x) ⊎ (z ≡ y)
+  pub first : x ≤ℚ z
+  pub second : y ≤ℚ z
+
+lesser_is : (x y : ℚ) → IsLesser x y (lesser_of x y)
+unfolding lesser_of
+lesser_is x y = by (is_below y x) refl
+  where
+    by : (b : Bool) → is_below y x ≡ b → IsLesser x y (if b then y else x)
+    by true e = record { one = inr refl; first = record { crosswise = omega (arith, ints) }; second = ≤ℚ_refl y }
+    by false e = record { one = inl refl; first = ≤ℚ_refl x; second = record { crosswise = omega (arith, ints) } }
+
+greater_is : (x y : ℚ) → IsGreater x y (greater_of x y)
+unfolding greater_of
+greater_is x y = by (is_below x y) refl
+  where
+    by : (b : Bool) → is_below x y ≡ b → IsGreater x y (if b then y else x)
+    by true e = record { one = inr refl; first = record { crosswise = omega (arith, ints) }; second = ≤ℚ_refl y }
+    by false e = record { one = inl refl; first = ≤ℚ_refl x; second = record { crosswise = omega (arith, ints) } }
+
+contains_first : (x : ℚ) (xs : List ℚ) → Contains (x ∷ xs) x
+contains_first x xs = (0, omega arith, refl)
+
+contains_later : (x y : ℚ) (xs : List ℚ) → Contains xs y → Contains (x ∷ xs) y
+contains_later x y xs h = (suc h.0, omega (arith, h.1), h.2)
+
+-- the least of x and a list is one of them and at most all
+pub record IsLeast (x : ℚ) (xs : List ℚ) (z : ℚ) : Type 0 where
+  pub one : (z ≡ x) ⊎ Contains xs z
+  pub first : z ≤ℚ x
+  pub rest : All (λ y. z ≤ℚ y) xs
+
+pub record IsGreatest (x : ℚ) (xs : List ℚ) (z : ℚ) : Type 0 where
+  pub one : (z ≡ x) ⊎ Contains xs z
+  pub first : x ≤ℚ z
+  pub rest : All (λ y. y ≤ℚ z) xs
+
+one_of : (x y w z : ℚ) (ys : List ℚ) → (w ≡ x) ⊎ (w ≡ y) → (z ≡ w) ⊎ Contains ys z → (z ≡ x) ⊎ Contains (y ∷ ys) z
+one_of x y w z ys (inl e) (inl f) = inl (f ∙ e)
+one_of x y w z ys (inr e) (inl f) = inr (subst (Contains (y ∷ ys)) (sym (f ∙ e)) (contains_first y ys))
+one_of x y w z ys h (inr c) = inr (contains_later y z ys c)
+
+least_is : (x : ℚ) (xs : List ℚ) → IsLeast x xs (least_of x xs)
+unfolding least_of
+least_is x [] = record { one = inl refl; first = ≤ℚ_refl x; rest = All-nil (λ y. x ≤ℚ y) }
+least_is x (y ∷ ys) =
+    let w = lesser_of x y in
+    let two = lesser_is x y in
+    let r = least_is w ys in
+    record {
+      one = one_of x y w (least_of w ys) ys two.one r.one;
+      first = ≤ℚ_trans (least_of w ys) w x r.first two.first;
+      rest = All-cons (λ v. least_of w ys ≤ℚ v) y ys (≤ℚ_trans (least_of w ys) w y r.first two.second) r.rest;
+    }
+
+greatest_is : (x : ℚ) (xs : List ℚ) → IsGreatest x xs (greatest_of x xs)
+unfolding greatest_of
+greatest_is x [] = record { one = inl refl; first = ≤ℚ_refl x; rest = All-nil (λ y. y ≤ℚ x) }
+greatest_is x (y ∷ ys) =
+    let w = greater_of x y in
+    let two = greater_is x y in
+    let r = greatest_is w ys in
+    record {
+      one = one_of x y w (greatest_of w ys) ys two.one r.one;
+      first = ≤ℚ_trans x w (greatest_of w ys) two.first r.first;
+      rest = All-cons (λ v. v ≤ℚ greatest_of w ys) y ys (≤ℚ_trans y w (greatest_of w ys) two.second r.first) r.rest;
+    }
+
+among : (x : ℚ) (xs : List ℚ) (z : ℚ) → (z ≡ x) ⊎ Contains xs z → Contains (x ∷ xs) z
+among x xs z (inl e) = subst (Contains (x ∷ xs)) (sym e) (contains_first x xs)
+among x xs z (inr c) = contains_later x z xs c
+
+pub least_law : (x : ℚ) (xs : List ℚ) → Contains (x ∷ xs) (least_of x xs) × All (λ y. least_of x xs ≤ℚ y) (x ∷ xs)
+least_law x xs = let r = least_is x xs in (among x xs (least_of x xs) r.one, All-cons (λ y. least_of x xs ≤ℚ y) x xs r.first r.rest)
+
+pub greatest_law : (x : ℚ) (xs : List ℚ) → Contains (x ∷ xs) (greatest_of x xs) × All (λ y. y ≤ℚ greatest_of x xs) (x ∷ xs)
+greatest_law x xs = let r = greatest_is x xs in (among x xs (greatest_of x xs) r.one, All-cons (λ y. y ≤ℚ greatest_of x xs) x xs r.first r.rest)
+
+-- ---- whole parts
+floor_below_ℤ : (z : ℤ) (b : ℕ) → 0 < b → (int_div_euclid z (pos b) *ℤ pos b) ≤ℤ z
+floor_below_ℤ (pos a) b some = let split = div-add-mod' a b in let h : pos (a / b * b) ≤ℤ pos a = omega (arith, ints) in h
+floor_below_ℤ (negsuc a) b some =
+    let split = div-add-mod' a b in let small = mod-lt a some in
+    let q = a / b in
+    omega (arith, ints)
+
+floor_near_ℤ : (z : ℤ) (b : ℕ) → 0 < b → z <ℤ ((int_div_euclid z (pos b) +ℤ pos 1) *ℤ pos b)
+floor_near_ℤ (pos a) b some = let split = div-add-mod' a b in let small = mod-lt a some in let h : pos a <ℤ pos ((a / b + 1) * b) = omega (arith, ints) in h
+floor_near_ℤ (negsuc a) b some =
+    let q = a / b in
+    let split = div-add-mod' a b in
+    let below : negsuc a <ℤ neg_ℤ (pos (q * b)) = omega (arith, ints, split) in
+    subst (λ z. negsuc a <ℤ (z *ℤ pos b)) (sym (one_more q)) (subst (λ z. negsuc a <ℤ z) (sym (neg-*ℤ (pos q) (pos b))) below)
+  where
+    one_more : (q : ℕ) → negsuc q +ℤ pos 1 ≡ neg_ℤ (pos q)
+    one_more zero = refl
+    one_more (suc q) = omega (arith, ints)
+
+-- the greatest whole number that is not above x
+pub record IsFloor (x z : ℚ) : Type 0 where
+  pub whole : IsWhole z
+  pub below : z ≤ℚ x
+  pub near : x <ℚ (z +ℚ one_ℚ)
+
+at_most_by : (x : ℚ) (q : ℤ) → (q *ℤ pos x.bottom) ≤ℤ x.top → whole q ≤ℚ x
+at_most_by x q h = value_le (subst (λ n. HasValue (whole q) (q *ℤ pos x.bottom) n) (one-mul x.bottom) (scaled_value x.bottom x.above (whole_value q))) (own_value x) h
+
+above_by : (x : ℚ) (q : ℤ) → x.top <ℤ (q *ℤ pos x.bottom) → x <ℚ whole q
+above_by x q h = value_lt (own_value x) (subst (λ n. HasValue (whole q) (q *ℤ pos x.bottom) n) (one-mul x.bottom) (scaled_value x.bottom x.above (whole_value q))) h
+
+pub floor_is : (x : ℚ) → IsFloor x (floor_of x)
+unfolding floor_of
+floor_is x =
+    let q = int_div_euclid x.top (pos x.bottom) in
+    record {
+      whole = IsWhole-whole q;
+      below = at_most_by x q (floor_below_ℤ x.top x.bottom x.above);
+      near = subst (λ v. x <ℚ v) (sym (whole-+ℚ q (pos 1))) (above_by x (q +ℤ pos 1) (floor_near_ℤ x.top x.bottom x.above));
+    }
+
+-- the least whole number that is not below x
+pub record IsCeiling (x z : ℚ) : Type 0 where
+  pub whole : IsWhole z
+  pub above : x ≤ℚ z
+  pub near : (z -ℚ one_ℚ) <ℚ x
+
+neg-<ℚ : (x y : ℚ) → x <ℚ y → neg_ℚ y <ℚ neg_ℚ x
+neg-<ℚ x y h = ⊎_elim (λ (l : neg_ℚ x ≤ℚ neg_ℚ y). absurd (not_both y x (subst₂ (λ a b. a ≤ℚ b) (neg-neg y) (neg-neg x) (neg-≤ℚ (neg_ℚ x) (neg_ℚ y) l)) h)) (λ (l : neg_ℚ y <ℚ neg_ℚ x). l) (le_or_lt (neg_ℚ x) (neg_ℚ y))
+
+neg_whole : (z : ℚ) → IsWhole z → IsWhole (neg_ℚ z)
+neg_whole z h = let r = whole_of z h in subst IsWhole (sym (ap neg_ℚ r.1 ∙ whole-neg r.0)) (IsWhole-whole (neg_ℤ r.0))
+
+pub ceiling_is : (x : ℚ) → IsCeiling x (ceiling_of x)
+unfolding ceiling_of
+ceiling_is x =
+    let f = floor_is (neg_ℚ x) in
+    let z = floor_of (neg_ℚ x) in
+    record {
+      whole = neg_whole z f.whole;
+      above = subst (λ v. v ≤ℚ neg_ℚ z) (neg-neg x) (neg-≤ℚ z (neg_ℚ x) f.below);
+      near = subst₂ (λ a b. a <ℚ b) (neg-+ℚ z one_ℚ ∙ sym (-ℚ_lem (neg_ℚ z) one_ℚ)) (neg-neg x) (neg-<ℚ (neg_ℚ x) (z +ℚ one_ℚ) f.near);
+    }
+
+-- ---- absolute values
+pub record IsAbsolute (x z : ℚ) : Type 0 where
+  pub one : (z ≡ x) ⊎ (z ≡ neg_ℚ x)
+  pub above : zero_ℚ ≤ℚ z
+
+zero_below : (x : ℚ) → pos 0 ≤ℤ x.top → zero_ℚ ≤ℚ x
+zero_below x h = value_le (zero_value x.bottom x.above) (own_value x) h
+
+pub absolute_is : (x : ℚ) → IsAbsolute x (absolute_of x)
+unfolding absolute_of
+absolute_is x = by x.top refl
+  where
+    by : (t : ℤ) → x.top ≡ t → IsAbsolute x (without_sign t x)
+    by (pos n) e = record { one = inl refl; above = zero_below x (subst (λ z. pos 0 ≤ℤ z) (sym e) (omega (arith, ints))) }
+    by (negsuc n) e =
+        let low : x ≤ℚ zero_ℚ = value_le (own_value x) (zero_value x.bottom x.above) (subst (λ z. z ≤ℤ pos 0) (sym e) (omega (arith, ints))) in
+        record { one = inr refl; above = subst (λ v. v ≤ℚ neg_ℚ x) neg_zero (neg-≤ℚ x zero_ℚ low) }

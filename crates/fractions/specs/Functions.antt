@@ -1,0 +1,51 @@
+-- Powers, least and greatest, whole parts and absolute values.
+use Rattle.std.specs.Prelude.{ℕ, zero, suc, ℤ, pos, negsuc, ◌*ℤ◌, int_lt, Bool, ◌==◌, if◌then◌else◌, nat_lt, List, [], ◌∷◌, Option, Some, None}
+use Rattle.std.specs.Int.{int_div_euclid}
+use Rattle.fractions.specs.Rational.{ℚ, one_ℚ, whole, ◌*ℚ◌, neg_ℚ}
+
+-- x to the n; x to the 0 is 1
+unfoldable pub power_of : ℚ → ℕ → ℚ
+power_of x zero = one_ℚ
+power_of x (suc n) = x *ℚ power_of x n
+
+-- the number as an exponent: whole, and from 0 to 127 (own profile)
+abbrev pub small_exponent : ℤ → Option ℕ
+small_exponent (pos n) = (if nat_lt n 128 then Some n else None)
+small_exponent (negsuc n) = None
+
+abbrev pub exponent_of : ℚ → Option ℕ
+exponent_of x = (if x.bottom == 1 then small_exponent x.top else None)
+
+-- x is below y
+abbrev pub is_below : ℚ → ℚ → Bool
+is_below x y = int_lt (x.top *ℤ pos y.bottom) (y.top *ℤ pos x.bottom)
+
+unfoldable pub lesser_of : ℚ → ℚ → ℚ
+lesser_of x y = (if is_below y x then y else x)
+
+unfoldable pub greater_of : ℚ → ℚ → ℚ
+greater_of x y = (if is_below x y then y else x)
+
+-- the least, and the greatest, of a number and those of a list
+unfoldable pub least_of : ℚ → List ℚ → ℚ
+least_of x [] = x
+least_of x (y ∷ ys) = least_of (lesser_of x y) ys
+
+unfoldable pub greatest_of : ℚ → List ℚ → ℚ
+greatest_of x [] = x
+greatest_of x (y ∷ ys) = greatest_of (greater_of x y) ys
+
+-- the greatest whole number not above x, and the least not below x
+unfoldable pub floor_of : ℚ → ℚ
+floor_of x = whole (int_div_euclid x.top (pos x.bottom))
+
+unfoldable pub ceiling_of : ℚ → ℚ
+ceiling_of x = neg_ℚ (floor_of (neg_ℚ x))
+
+-- x, or -x where x is below 0
+abbrev pub without_sign : ℤ → ℚ → ℚ
+without_sign (pos n) x = x
+without_sign (negsuc n) x = neg_ℚ x
+
+unfoldable pub absolute_of : ℚ → ℚ
+absolute_of x = without_sign x.top x

@@ -1,0 +1,4 @@
+pub mod Example
+pub mod LineLemmas
+pub mod Linear
+pub mod Local

@@ -1,0 +1,162 @@
+-- The first fault of folding a tree to a line (own profile).
+use Rattle.std.specs.Prelude.{ℕ, ◌+◌, ◌==◌, List, [], ◌∷◌, Bool, true, false, ◌&&◌, if◌then◌else◌, Option, Some, None}
+use Rattle.std.specs.Option.{option_or}
+use Rattle.code_tables.specs.declared.class.OpClass.{OpClass}
+use Rattle.code_tables.specs.declared.class.OpClass.TheVariants.{Sum, Difference, Product, Quotient, Negation, List as SumOfAll, Power, Least, Greatest, Floor, Ceiling, Absolute}
+use Rattle.fractions.specs.Fits.{fits, sum_fits}
+use Rattle.fractions.specs.Functions.{exponent_of, power_of}
+use Rattle.fractions.specs.Rational.{ℚ, zero_ℚ, ◌+ℚ◌, ◌*ℚ◌, neg_ℚ, inverse_of, decimal_value}
+use Rattle.nl_meaning.specs.declared.Fault.{Fault}
+use Rattle.nl_meaning.specs.declared.Reason.{Reason}
+use Rattle.nl_meaning.specs.declared.Reason.TheVariants.{Nonlinear, DivideByZero, TooWide, RefusedPower}
+use Rattle.nl_meaning.specs.Lines.{Line, line_by, all_below, is_zero, is_constant, are_constant, constants_of, one_if, or_zero}
+use Rattle.nl_meaning.specs.Trees.{Tree, number, variable, defined, operator, Trees, none, more, Point, Known, nothing_known, with_value, LinearTerm, Expression, Definition, on_values, tree_value, known_values, val, expression_value, expression_val, tree_size}
+
+abbrev pub too_wide_unless : Bool → Option Reason
+too_wide_unless true = None
+too_wide_unless false = Some TooWide
+
+abbrev pub nonlinear_unless : Bool → Option Reason
+nonlinear_unless true = None
+nonlinear_unless false = Some Nonlinear
+
+-- ---- lines of operators
+abbrev pub line_sum : Line → Line → Line
+line_sum a b = record { constant = a.constant +ℚ b.constant; coef = λ j. a.coef j +ℚ b.coef j }
+
+abbrev pub line_scaled : ℚ → Line → Line
+line_scaled k a = record { constant = k *ℚ a.constant; coef = λ j. k *ℚ a.coef j }
+
+abbrev pub line_neg : Line → Line
+line_neg a = record { constant = neg_ℚ a.constant; coef = λ j. neg_ℚ (a.coef j) }
+
+abbrev pub constant_line : ℚ → Line
+constant_line k = record { constant = k; coef = λ j. zero_ℚ }
+
+abbrev pub running_line : Line → List Line → Line
+running_line a [] = a
+running_line a (b ∷ bs) = running_line (line_sum a b) bs
+
+-- what a class makes of constants alone
+abbrev pub constants_line : OpClass → List Line → Line
+constants_line c ls = constant_line (or_zero (on_values c (constants_of ls)))
+
+-- what an operator makes of lines, where it has no fault
+abbrev pub operator_line : ℕ → OpClass → List Line → Line
+operator_line n Sum (a ∷ b ∷ []) = line_sum a b
+operator_line n Difference (a ∷ b ∷ []) = line_sum a (line_neg b)
+operator_line n Product (a ∷ b ∷ []) = (if is_constant n a then line_scaled a.constant b else line_scaled b.constant a)
+operator_line n Quotient (a ∷ b ∷ []) = line_scaled (inverse_of b.constant) a
+operator_line n Negation (a ∷ []) = line_neg a
+operator_line n SumOfAll (a ∷ bs) = running_line a bs
+operator_line n c ls = constants_line c ls
+
+-- ---- the table of faults
+-- the constants' sum and each coefficient's fit
+abbrev pub sums_fit : ℕ → Line → Line → Bool
+sums_fit n a b = sum_fits a.constant b.constant && all_below (λ j. sum_fits (a.coef j) (b.coef j)) n
+
+-- the constant's and each coefficient's product with k fit
+abbrev pub products_fit : ℕ → ℚ → Line → Bool
+products_fit n k a = fits (k *ℚ a.constant) && all_below (λ j. fits (k *ℚ a.coef j)) n
+
+-- each running sum from the left fits
+abbrev pub running_sums_fit : ℕ → Line → List Line → Bool
+running_sums_fit n a [] = true
+running_sums_fit n a (b ∷ bs) = sums_fit n a b && running_sums_fit n (line_sum a b) bs
+
+abbrev pub power_fault : ℚ → Option ℕ → Option Reason
+power_fault x None = Some RefusedPower
+power_fault x (Some k) = too_wide_unless (fits (power_of x k))
+
+-- the fault of an operator whose operands are these lines of n variables
+abbrev pub operator_fault : ℕ → OpClass → List Line → Option Reason
+operator_fault n Sum (a ∷ b ∷ []) = too_wide_unless (sums_fit n a b)
+operator_fault n Difference (a ∷ b ∷ []) = too_wide_unless (sums_fit n a (line_neg b))
+operator_fault n Product (a ∷ b ∷ []) =
+    (if is_constant n a then too_wide_unless (products_fit n a.constant b)
+    else (if is_constant n b then too_wide_unless (products_fit n b.constant a) else Some Nonlinear))
+operator_fault n Quotient (a ∷ b ∷ []) =
+    (if is_constant n b then (if is_zero b.constant then Some DivideByZero else too_wide_unless (products_fit n (inverse_of b.constant) a))
+    else Some Nonlinear)
+operator_fault n SumOfAll (a ∷ bs) = too_wide_unless (running_sums_fit n a bs)
+operator_fault n Power (a ∷ b ∷ []) = (if are_constant n (a ∷ b ∷ []) then power_fault a.constant (exponent_of b.constant) else Some Nonlinear)
+operator_fault n Least ls = nonlinear_unless (are_constant n ls)
+operator_fault n Greatest ls = nonlinear_unless (are_constant n ls)
+operator_fault n Floor ls = nonlinear_unless (are_constant n ls)
+operator_fault n Ceiling ls = nonlinear_unless (are_constant n ls)
+operator_fault n Absolute ls = nonlinear_unless (are_constant n ls)
+operator_fault n _ _ = None
+
+abbrev pub fault_at : ℕ → Option Reason → Option Fault
+fault_at i None = None
+fault_at i (Some r) = Some (record { place = i; reason = r })
+
+-- ---- trees
+-- the line of a tree, by its values
+abbrev pub line_of : (Point → Known) → Tree → Line
+line_of known t = line_by (λ at. tree_value (known at) at t)
+
+abbrev pub lines_of : (Point → Known) → Trees → List Line
+lines_of known none = []
+lines_of known (more t ts) = line_of known t ∷ lines_of known ts
+
+-- the first fault of a tree whose first node has the number i: operands before their operator, from left to right
+abbrev mutual
+  pub tree_fault : (Point → Known) → ℕ → ℕ → Tree → Option Fault
+  tree_fault known n i (number m e) = fault_at i (too_wide_unless (fits (decimal_value m e)))
+  tree_fault known n i (variable j) = None
+  tree_fault known n i (defined k) = None
+  tree_fault known n i (operator c ts) = option_or (trees_fault known n (i + 1) ts) (fault_at i (operator_fault n c (lines_of known ts)))
+
+  pub trees_fault : (Point → Known) → ℕ → ℕ → Trees → Option Fault
+  trees_fault known n i none = None
+  trees_fault known n i (more t ts) = option_or (tree_fault known n i t) (trees_fault known n (i + tree_size t) ts)
+
+-- ---- linear terms
+-- a line with k added at j
+abbrev pub line_with : Line → ℕ → ℚ → Line
+line_with a j k = record { constant = a.constant; coef = λ i. a.coef i +ℚ k *ℚ one_if (i == j) }
+
+-- a line with the terms of a list added
+abbrev pub line_with_terms : Line → List LinearTerm → Line
+line_with_terms a [] = a
+line_with_terms a (t ∷ ts) = line_with_terms (line_with a t.variable t.factor) ts
+
+-- the first fault of the linear terms that are added to a line; the first of them has the number i
+abbrev pub terms_fault : Line → ℕ → List LinearTerm → Option Fault
+terms_fault a i [] = None
+terms_fault a i (t ∷ ts) =
+    option_or (fault_at i (too_wide_unless (fits t.factor && sum_fits (a.coef t.variable) t.factor)))
+    (terms_fault (line_with a t.variable t.factor) (i + 1) ts)
+
+-- ---- expressions
+-- the first fault of a tree and its linear terms, which are numbered after its nodes
+abbrev pub expression_fault : (Point → Known) → ℕ → Expression → Option Fault
+expression_fault known n x = option_or (tree_fault known n 0 x.tree) (terms_fault (line_of known x.tree) (tree_size x.tree) x.terms)
+
+-- the first fault of the definitions, in file order
+abbrev pub definitions_fault : (Point → Known) → ℕ → List Definition → Option Fault
+definitions_fault known n [] = None
+definitions_fault known n (d ∷ ds) =
+    option_or (expression_fault known n d.expression)
+    (definitions_fault (λ at. with_value (known at) d.index (expression_value (known at) at d.expression)) n ds)
+
+-- the first fault of a tree, and of an expression, of a file with these defined variables: the definitions come first
+abbrev pub first_fault : ℕ → List Definition → Tree → Option Fault
+first_fault n ds t = option_or (definitions_fault (λ at. nothing_known) n ds) (tree_fault (known_values ds) n 0 t)
+
+abbrev pub first_expression_fault : ℕ → List Definition → Expression → Option Fault
+first_expression_fault n ds x = option_or (definitions_fault (λ at. nothing_known) n ds) (expression_fault (known_values ds) n x)
+
+-- ---- coefficients
+-- the value at the point with 1 at j and 0 elsewhere, less the value at the point 0
+abbrev pub coef : List Definition → Tree → ℕ → ℚ
+coef ds t j = (line_by (val ds t)).coef j
+
+abbrev pub constant_of : List Definition → Tree → ℚ
+constant_of ds t = (line_by (val ds t)).constant
+
+-- the same of an expression
+abbrev pub expression_line : List Definition → Expression → Line
+expression_line ds x = line_by (expression_val ds x)

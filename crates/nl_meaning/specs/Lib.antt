@@ -1,0 +1,4 @@
+pub mod Example
+pub mod Faults
+pub mod Lines
+pub mod Trees
