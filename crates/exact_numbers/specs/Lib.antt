@@ -1,0 +1,5 @@
+pub mod Fraction
+pub mod Decimal
+pub mod Written
+pub mod Values
+pub mod Text

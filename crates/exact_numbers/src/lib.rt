@@ -1,0 +1,22 @@
+// Exact decimal numbers and fractions of 128 bits.
+#![tactic(auto)]
+
+mod arithmetic;
+mod dec;
+mod frac;
+mod gcd;
+pub mod laws;
+mod mantissa;
+mod num_text;
+mod of_dec;
+mod order;
+mod read;
+#[cfg(test)]
+mod tests;
+mod write;
+
+pub use arithmetic::lcm;
+pub use dec::Dec;
+pub use frac::Frac;
+pub use num_text::NumText;
+pub use read::{NumFault, read_dec, read_whole};

@@ -1,0 +1,104 @@
+ghost use Rattle.std.specs.Prelude.{◌≡◌, ◌≢◌, ℕ, ◌+◌, ◌-◌, ◌*◌, ◌%◌, ◌^◌, ◌<◌, ◌≤◌, MatchOption, SomeIff, true, false, pos, ◌<ℤ◌, unsigned_abs};
+ghost use Rattle.exact_numbers.specs.Fraction.{IsCofactor};
+ghost use Rattle.exact_numbers.specs.Values.{dec_value, frac_value, fits, FitsDec};
+
+use crate::arithmetic::{bounded_product, paired};
+use crate::dec::Dec;
+use crate::frac::Frac;
+use crate::mantissa::with_sign;
+
+// start * factor ^ times, where it is within the greatest size.
+pub(crate) fn grown(start: u128, factor: u128, times: u32) -> Option<u128>
+    requires small { start < 2 ^ 127 }
+    requires above { 0 < factor }
+    ensures { SomeIff result (start * factor ^ times < 2 ^ 127) (start * factor ^ times) }
+{
+    let mut number = start;
+    for _ in 0..times {
+        match bounded_product(number, factor) {
+            Some(next) => number = next,
+            None => return None,
+        }
+    }
+    Some(number)
+}
+
+// A number divided by a factor again and again, and how many of the divisions are left.
+#[derive(Clone, Copy)]
+struct Cancelled {
+    rest: u128,
+    left: u32,
+}
+
+fn cancel(n: u128, factor: u128, times: u32) -> Cancelled
+    requires { 1 < factor }
+    ensures within { result.left ≤ times }
+    ensures whole { n ≡ result.rest * factor ^ (times - result.left) }
+    ensures shortest { 0 < result.left → result.rest % factor ≢ 0 }
+{
+    let mut rest = n;
+    let mut left = times;
+    while left > 0 && rest % factor == 0 {
+        rest /= factor;
+        left -= 1;
+    }
+    Cancelled { rest, left }
+}
+
+impl Frac {
+    /// The fraction that a decimal number is; none exactly where it does not fit.
+    pub fn of_dec(d: Dec) -> Option<Frac>
+        ensures { MatchOption result (fits (dec_value d) ≡ false)
+            (λ f. (fits (dec_value d) ≡ true) × (frac_value f ≡ dec_value d)) }
+    {
+        let size = d.m.unsigned_abs();
+        let negative = d.m < 0;
+        if d.e >= 0 {
+            let Some(num) = grown(size, 10, d.e as u32) else {
+                return None;
+            };
+            return Some(paired(negative, num, 1));
+        }
+        let places = d.e.unsigned_abs() as u32;
+        let twos = cancel(size, 2, places);
+        let fives = cancel(twos.rest, 5, places);
+        let Some(even) = grown(1, 2, twos.left) else {
+            return None;
+        };
+        let Some(den) = grown(even, 5, fives.left) else {
+            return None;
+        };
+        Some(paired(negative, fives.rest, den))
+    }
+
+    /// The greatest divisor of the denominator that is prime to 10.
+    pub fn cofactor(self) -> i128
+        ensures above { pos 0 <ℤ result }
+        ensures cofactor { IsCofactor (frac_value self).bottom (unsigned_abs result) }
+    {
+        let odd = cancel(self.den, 2, 127);
+        let rest = cancel(odd.rest, 5, 127);
+        rest.rest as i128
+    }
+
+    /// The decimal number of the same value; none exactly where no Dec has it.
+    pub fn to_dec(self) -> Option<Dec>
+        ensures { MatchOption result (FitsDec (frac_value self) → ⊥) (λ d. dec_value d ≡ frac_value self) }
+    {
+        let twos = cancel(self.den, 2, 127);
+        let fives = cancel(twos.rest, 5, 127);
+        if fives.rest != 1 {
+            return None;
+        }
+        let even = 127 - twos.left;
+        let odd = 127 - fives.left;
+        let places = even.max(odd);
+        let Some(first) = grown(self.num.unsigned_abs(), 2, places - even) else {
+            return None;
+        };
+        let Some(size) = grown(first, 5, places - odd) else {
+            return None;
+        };
+        Dec::new(with_sign(self.num < 0, size), -(places as i32))
+    }
+}
