@@ -1,0 +1,5 @@
+mod Definitions
+mod Drafts
+mod Guesses
+pub mod Headers
+pub mod Prefixes

@@ -1,0 +1,35 @@
+-- The kinds of variables, by the groups in which they stand (Gay 2005, "Writing .nl Files", order of variables).
+use Rattle.std.specs.Prelude.{ℕ, ◌-◌, max, nat_lt, List, [], ◌∷◌, if◌then◌else◌}
+use Rattle.nl_model.specs.declared.counts.Counts.{Counts}
+use Rattle.nl_model.specs.declared.kind.Kind.{Kind}
+use Rattle.nl_model.specs.declared.kind.Kind.TheVariants.{Continuous, Binary, Integer}
+
+-- so many variables of one kind
+pub record Group : Type 0 where
+  pub size : ℕ
+  pub kind : Kind
+
+abbrev pub group_of : ℕ → Kind → Group
+group_of n k = record { size = n; kind = k }
+
+-- nonlinear in constraints and objectives, in constraints only, in objectives only; then linear, binary, integer
+abbrev pub groups : Counts → List Group
+groups c =
+    group_of (c.nlvb - c.nlvbi) Continuous
+    ∷ group_of c.nlvbi Integer
+    ∷ group_of (c.nlvc - c.nlvb - c.nlvci) Continuous
+    ∷ group_of c.nlvci Integer
+    ∷ group_of (c.nlvo - c.nlvc - c.nlvoi) Continuous
+    ∷ group_of c.nlvoi Integer
+    ∷ group_of (c.n_var - max c.nlvc c.nlvo - c.nbv - c.niv) Continuous
+    ∷ group_of c.nbv Binary
+    ∷ group_of c.niv Integer
+    ∷ []
+
+-- the kind of variable j, where the groups follow each other; nothing asks for one past the last
+abbrev pub kind_among : List Group → ℕ → Kind
+kind_among [] j = Continuous
+kind_among (g ∷ gs) j = (if nat_lt j g.size then g.kind else kind_among gs (j - g.size))
+
+unfoldable pub kind_of : Counts → ℕ → Kind
+kind_of c j = kind_among (groups c) j

@@ -1,0 +1,9 @@
+pub mod Built
+pub mod Draft
+pub mod File
+pub mod FileCode
+pub mod HeaderRules
+pub mod Kinds
+pub mod Nodes
+pub mod Rules
+pub mod TreeCode

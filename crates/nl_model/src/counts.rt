@@ -1,0 +1,37 @@
+// The counts of a header.
+
+/// The numbers of header lines 2 to 10, by their names (Gay 2005, "Writing .nl Files").
+#[derive(Clone, Copy, Debug)]
+pub struct Counts {
+    pub n_var: u32,
+    pub n_con: u32,
+    pub n_obj: u32,
+    pub n_ranges: u32,
+    pub n_eqns: u32,
+    pub n_lcon: u32,
+    pub nlc: u32,
+    pub nlo: u32,
+    pub nlnc: u32,
+    pub lnc: u32,
+    pub nlvc: u32,
+    pub nlvo: u32,
+    pub nlvb: u32,
+    pub nwv: u32,
+    pub nfunc: u32,
+    pub arith: u32,
+    pub flags: u32,
+    pub nbv: u32,
+    pub niv: u32,
+    pub nlvbi: u32,
+    pub nlvci: u32,
+    pub nlvoi: u32,
+    pub nzc: u32,
+    pub nzo: u32,
+    pub row_name_len: u32,
+    pub col_name_len: u32,
+    pub comb: u32,
+    pub comc: u32,
+    pub como: u32,
+    pub comc1: u32,
+    pub como1: u32,
+}

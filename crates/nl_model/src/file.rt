@@ -1,0 +1,191 @@
+// Files.
+ghost use Rattle.std.specs.Prelude.{◌≡◌, ◌<◌, length, Some, IsSome, All, slice_get, option_copied, option_map};
+ghost use Rattle.nl_model.specs.Draft.{file_of};
+ghost use Rattle.nl_model.specs.Rules.{term_count, IsFile};
+
+use crate::builder::NlBuilder;
+use crate::definition::Def;
+use crate::expr::Expr;
+use crate::header::Header;
+use crate::interval::Interval;
+use crate::objective::Objective;
+use crate::suffix::Suffix;
+use crate::terms::Terms;
+use std::marker::Model;
+
+/// What an .nl file says.
+#[derive(Drop)]
+pub struct NlFile {
+    header: Header,
+    bodies: Vec<Option<Expr>>,
+    objectives: Vec<Option<Objective>>,
+    definitions: Vec<Def>,
+    terms: Vec<Terms>,
+    slopes: Vec<Terms>,
+    sides: Vec<Interval>,
+    bounds: Vec<Interval>,
+    dual_guesses: Terms,
+    primal_guesses: Terms,
+    suffixes: Vec<Suffix>,
+}
+
+impl Model for NlFile {
+    ghost use Rattle.nl_model.specs.File.{File};
+    ghost use Rattle.nl_model.specs.FileCode.{file_code};
+
+    ghost Value = { File };
+
+    ghost coded = { file_code };
+
+    ghost use Rattle.nl_model.specs.Built.{read_file, IsWhole};
+
+    ghost view = { read_file };
+
+    ghost invariant = { IsWhole };
+}
+
+impl NlFile {
+    /// The header, and what holds of each file.
+    pub fn header(&self) -> &Header
+        ensures options { result.now.options ≡ self.now.options }
+        ensures counts { result.now.counts ≡ self.now.counts }
+        ensures file { IsFile self.now }
+    {
+        &self.header
+    }
+
+    /// The body of a constraint, where it was given.
+    pub fn body(&self, con: u32) -> Option<&Expr>
+        requires { con < self.now.counts.n_con }
+        ensures { slice_get self.now.bodies con ≡ Some (option_copied result) }
+    {
+        self.bodies[con as usize].as_ref()
+    }
+
+    /// The terms of a constraint.
+    pub fn terms(&self, con: u32) -> &Terms
+        requires { con < self.now.counts.n_con }
+        ensures { slice_get self.now.terms con ≡ Some result.now }
+    {
+        &self.terms[con as usize]
+    }
+
+    // Objective k.
+    fn given(&self, k: u32) -> &Objective
+        requires { k < self.now.counts.n_obj }
+        ensures { slice_get self.now.objectives k ≡ Some result.now }
+    {
+        match &self.objectives[k as usize] {
+            Some(objective) => objective,
+            None => unreachable!(),
+        }
+    }
+
+    /// The tree of objective k.
+    pub fn objective(&self, k: u32) -> &Expr
+        requires { k < self.now.counts.n_obj }
+        ensures { option_map (λ o. o.tree) (slice_get self.now.objectives k) ≡ Some result.now }
+    {
+        &self.given(k).tree
+    }
+
+    /// Whether objective k is maximised.
+    pub fn maximise(&self, k: u32) -> bool
+        requires { k < self.now.counts.n_obj }
+        ensures { option_map (λ o. o.maximise) (slice_get self.now.objectives k) ≡ Some result }
+    {
+        self.given(k).maximise
+    }
+
+    /// The terms of objective k.
+    pub fn slopes(&self, k: u32) -> &Terms
+        requires { k < self.now.counts.n_obj }
+        ensures { slice_get self.now.slopes k ≡ Some result.now }
+    {
+        &self.slopes[k as usize]
+    }
+
+    /// The defined variables in file order.
+    pub fn defs(&self) -> &[Def]
+        ensures { result.now ≡ self.now.definitions }
+    {
+        &self.definitions
+    }
+
+    /// The interval of a constraint.
+    pub fn side(&self, con: u32) -> Interval
+        requires { con < self.now.counts.n_con }
+        ensures { slice_get self.now.sides con ≡ Some result }
+    {
+        self.sides[con as usize]
+    }
+
+    /// The interval of a variable.
+    pub fn bound(&self, var: u32) -> Interval
+        requires { var < self.now.counts.n_var }
+        ensures { slice_get self.now.bounds var ≡ Some result }
+    {
+        self.bounds[var as usize]
+    }
+
+    /// The guesses of dual values of constraints in file order.
+    pub fn dual_guesses(&self) -> &Terms
+        ensures { result.now ≡ self.now.dual_guesses }
+    {
+        &self.dual_guesses
+    }
+
+    /// The guesses of values of variables in file order.
+    pub fn primal_guesses(&self) -> &Terms
+        ensures { result.now ≡ self.now.primal_guesses }
+    {
+        &self.primal_guesses
+    }
+
+    /// The suffixes in file order.
+    pub fn suffixes(&self) -> &[Suffix]
+        ensures { result.now ≡ self.now.suffixes }
+    {
+        &self.suffixes
+    }
+}
+
+impl NlBuilder {
+    /// The file, where every objective, side and bound was given, and as many terms as the header says.
+    pub fn finish(self) -> NlFile
+        requires objectives { All IsSome self.objectives }
+        requires sides { length self.sides ≡ self.counts.n_con }
+        requires bounds { length self.bounds ≡ self.counts.n_var }
+        requires terms { term_count self.terms ≡ self.counts.nzc }
+        ensures { result ≡ file_of self }
+    {
+        let NlBuilder {
+            header,
+            bodies,
+            objectives,
+            definitions,
+            defined: _,
+            terms,
+            term_count: _,
+            slopes,
+            sides,
+            bounds,
+            dual_guesses,
+            primal_guesses,
+            suffixes,
+        } = self;
+        NlFile {
+            header,
+            bodies,
+            objectives,
+            definitions,
+            terms,
+            slopes,
+            sides,
+            bounds,
+            dual_guesses,
+            primal_guesses,
+            suffixes,
+        }
+    }
+}

@@ -1,0 +1,37 @@
+// The values of .nl files: headers, expression trees, intervals, lists of terms, and the file with its builder.
+#![tactic(auto)]
+
+mod at;
+mod builder;
+mod counts;
+mod decs;
+mod definition;
+mod expr;
+mod expr_builder;
+mod file;
+mod header;
+mod interval;
+mod kind;
+mod node;
+mod objective;
+mod options;
+mod places;
+mod suffix;
+mod terms;
+
+pub use at::{At, Owner};
+pub use builder::NlBuilder;
+pub use counts::Counts;
+pub use decs::Decs;
+pub use definition::Def;
+pub use expr::Expr;
+pub use expr_builder::ExprBuilder;
+pub use file::NlFile;
+pub use header::Header;
+pub use interval::Interval;
+pub use kind::Kind;
+pub use node::Node;
+pub use objective::Objective;
+pub use options::Options;
+pub use suffix::Suffix;
+pub use terms::Terms;

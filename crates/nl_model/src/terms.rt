@@ -1,0 +1,63 @@
+// Lists of terms.
+ghost use Rattle.std.specs.Prelude.{◌≡◌, ◌<◌, ◌++◌, ◌∷◌, [], length, OnOk, OnErr, Some, slice_get};
+
+use exact_numbers::Dec;
+use std::alloc::{AllocError, Global};
+use std::marker::Model;
+
+/// Indices with their values, in file order.
+#[derive(Drop)]
+pub struct Terms {
+    items: Vec<(u32, Dec)>,
+}
+
+impl Model for Terms {
+    ghost use Rattle.std.specs.Prelude.{List, ℕ};
+    ghost use Rattle.exact_numbers.specs.declared.dec.Dec.{Dec as DecValue};
+
+    ghost Value = { List (ℕ × DecValue) };
+
+    ghost view = { λ t. t.items.items };
+}
+
+impl Terms {
+    /// No terms.
+    pub fn new(alloc: Global) -> Self
+        ensures { result ≡ [] }
+    {
+        Terms {
+            items: Vec::new(alloc),
+        }
+    }
+
+    /// Adds a term at the end.
+    pub fn push(&mut self, term: (u32, Dec)) -> Result<(), AllocError>
+        ensures ok { OnOk result (self.new ≡ self.old ++ term ∷ []) }
+        ensures err { OnErr result (self.new ≡ self.old) }
+    {
+        self.items.push(term)?;
+        Ok(())
+    }
+
+    /// How many terms there are.
+    pub fn len(&self) -> usize
+        ensures { result ≡ length self.now }
+    {
+        self.items.len()
+    }
+
+    /// The term at i, counted from 0.
+    pub fn get(&self, i: usize) -> (u32, Dec)
+        requires { i < length self.now }
+        ensures { slice_get self.now i ≡ Some result }
+    {
+        self.items[i]
+    }
+
+    /// All terms in order.
+    pub fn items(&self) -> &[(u32, Dec)]
+        ensures { result.now ≡ self.now }
+    {
+        &self.items
+    }
+}
