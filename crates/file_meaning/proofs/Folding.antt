@@ -1,0 +1,88 @@
+-- A file without a fold fault is linear.
+use Rattle.std.proofs.Common.{◌≡◌, ℕ, zero, suc, ◌+◌, ◌<◌, ◌∙◌, ap, refl, subst, arith, Bool, true, false, if◌then◌else◌, Option, Some, None, List, [], ◌∷◌, ◌++◌}
+use Rattle.std.specs.Option.{option_or}
+use Rattle.linear_programs.specs.Linear.{value_at}
+use Rattle.nl_meaning.specs.declared.Fault.{Fault}
+use Rattle.nl_meaning.specs.Faults.{expression_fault, definitions_fault, line_of, line_with_terms, expression_line}
+use Rattle.nl_meaning.specs.Trees.{Point, Known, nothing_known, with_value, Expression, Definition, expression_value, known_values, expression_val, IsExpressionFormed, AreDefined, IsOneOf, indices_of}
+use Rattle.nl_meaning.specs.Lines.{line_value}
+use Rattle.nl_meaning.proofs.LineLemmas.{line_by_lem}
+use Rattle.nl_meaning.proofs.Linear.{HasValues, option_or-none, known_linear, expression_linear}
+use Rattle.nl_model.specs.File.{File}
+use Rattle.file_meaning.specs.Expressions.{definitions_of, body_of, objective_of}
+use Rattle.file_meaning.specs.FoldFaults.{Owner, definition, FoldFault, no_such_objective, Owned, owned_line, coefficient_count, at_owner, owners_fault, owned_definitions, owned_body, owned_objective, defined_line, owners_of, has_objective, fold_fault}
+use Rattle.file_meaning.specs.LinearFile.{elements_from, HasLines, IsFormedFile}
+use Rattle.file_meaning.proofs.Plain.{form_value_lem}
+
+at_owner-none : (o : Owner) (r : Option Fault) → at_owner o r ≡ None → r ≡ None
+at_owner-none o None e = refl
+at_owner-none o (Some x) e = cc
+
+-- an owner without a fault has an expression without one
+expression_clean : (n count : ℕ) (o : Owned) (os : List Owned) → owners_fault n count (o ∷ os) ≡ None → expression_fault o.known n o.expression ≡ None
+expression_clean n count o os e =
+    let first = option_or-none _ _ e in
+    at_owner-none o.owner (expression_fault o.known n o.expression) (option_or-none _ _ first.0).0
+
+rest_clean : (n count : ℕ) (o : Owned) (os : List Owned) → owners_fault n count (o ∷ os) ≡ None → (m : ℕ) × (owners_fault n m os ≡ None)
+rest_clean n count o os e = (count + coefficient_count n (owned_line o), (option_or-none _ _ e).1)
+
+definitions_clean : (n : ℕ) (known : Point → Known) (i : ℕ) (ds : List Definition) (os : List Owned) (count : ℕ) → owners_fault n count (owned_definitions known i ds ++ os) ≡ None → (definitions_fault known n ds ≡ None) × (m : ℕ) × (owners_fault n m os ≡ None)
+definitions_clean n known i [] os count e = (refl, count, e)
+definitions_clean n known i (d ∷ ds) os count e =
+    let later : Point → Known = λ at. with_value (known at) d.index (expression_value (known at) at d.expression) in
+    let o : Owned = record { owner = definition i; known = known; expression = d.expression } in
+    let tail = owned_definitions later (suc i) ds ++ os in
+    let first = expression_clean n count o tail e in
+    let rest = rest_clean n count o tail e in
+    let r = definitions_clean n later (suc i) ds os rest.0 rest.1 in
+    (ap (λ x. option_or x (definitions_fault later n ds)) first ∙ r.0, r.1, r.2)
+
+bodies_clean : (n : ℕ) (g : ℕ → Owned) (i m : ℕ) (os : List Owned) (count : ℕ) → owners_fault n count (elements_from g i m ++ os) ≡ None → ((j : ℕ) → j < m → expression_fault (g (i + j)).known n (g (i + j)).expression ≡ None) × (c : ℕ) × (owners_fault n c os ≡ None)
+unfolding elements_from
+bodies_clean n g i zero os count e = (λ j h. absurd (omega arith), count, e)
+bodies_clean n g i (suc m) os count e =
+    let tail = elements_from g (suc i) m ++ os in
+    let first = expression_clean n count (g i) tail e in
+    let rest = rest_clean n count (g i) tail e in
+    let r = bodies_clean n g (suc i) m os rest.0 rest.1 in
+    (each first r.0, r.1, r.2)
+  where
+    each : expression_fault (g i).known n (g i).expression ≡ None → ((j : ℕ) → j < m → expression_fault (g (suc i + j)).known n (g (suc i + j)).expression ≡ None) → (j : ℕ) → j < suc m → expression_fault (g (i + j)).known n (g (i + j)).expression ≡ None
+    each first rest zero h = subst (λ k. expression_fault (g k).known n (g k).expression ≡ None) (omega arith) first
+    each first rest (suc j) h = subst (λ k. expression_fault (g k).known n (g k).expression ≡ None) (omega arith) (rest j (omega arith))
+
+with_objective : (b : Bool) (r : Option FoldFault) (k : ℕ) → (if b then r else Some (no_such_objective k)) ≡ None → r ≡ None
+with_objective true r k e = e
+with_objective false r k e = cc
+
+-- an expression without a fault, over defined variables without one, has the values of its line
+clean_line : (n : ℕ) (ds : List Definition) → AreDefined n [] ds → definitions_fault (λ at. nothing_known) n ds ≡ None → (x : Expression) → IsExpressionFormed n (indices_of ds) x → expression_fault (known_values ds) n x ≡ None → HasValues n (expression_val ds x) (expression_line ds x)
+clean_line n ds above clean x formed fault =
+    line_by_lem n (expression_val ds x) (line_with_terms (line_of (known_values ds) x.tree) x.terms)
+    (expression_linear n (known_values ds) (indices_of ds) (known_linear n ds above clean) x formed fault)
+
+pub clean_has_lines : (f : File) (k : ℕ) → IsFormedFile f k → fold_fault f k ≡ None → HasLines f k
+unfolding fold_fault
+clean_has_lines f k formed clean =
+    let n = f.counts.n_var in
+    let ds = definitions_of f in
+    let free = with_objective (has_objective f k) (owners_fault n 0 (owners_of f k)) k clean in
+    let defs = definitions_clean n (λ at. nothing_known) 0 ds (elements_from (owned_body f) 0 f.counts.n_con ++ owned_objective f k ∷ []) 0 free in
+    let bodies = bodies_clean n (owned_body f) 0 f.counts.n_con (owned_objective f k ∷ []) defs.1 defs.2 in
+    let last = expression_clean n bodies.1 (owned_objective f k) [] bodies.2 in
+    record {
+      bodies = λ i h xs. clean_line n ds formed.definitions defs.0 (body_of f i) (formed.bodies i h) (subst (λ j. expression_fault (known_values ds) n (body_of f j) ≡ None) (omega arith) (bodies.0 i h)) (value_at xs) ∙ ap Some (form_value_lem n (expression_line ds (body_of f i)) xs);
+      objective = λ xs. clean_line n ds formed.definitions defs.0 (objective_of f k) formed.objective last (value_at xs) ∙ ap Some (form_value_lem n (expression_line ds (objective_of f k)) xs);
+    }
+
+-- each defined variable has the values of its line
+pub defined_has_line : (f : File) (k : ℕ) → IsFormedFile f k → fold_fault f k ≡ None → (i : ℕ) → IsOneOf i (indices_of (definitions_of f)) → (at : Point) → known_values (definitions_of f) at i ≡ Some (line_value f.counts.n_var (defined_line f i) at)
+unfolding fold_fault
+defined_has_line f k formed clean i among =
+    let n = f.counts.n_var in
+    let ds = definitions_of f in
+    let free = with_objective (has_objective f k) (owners_fault n 0 (owners_of f k)) k clean in
+    let defs = definitions_clean n (λ at. nothing_known) 0 ds (elements_from (owned_body f) 0 f.counts.n_con ++ owned_objective f k ∷ []) 0 free in
+    let r = known_linear n ds formed.definitions defs.0 i among in
+    line_by_lem n (λ at. known_values ds at i) r.0 r.1

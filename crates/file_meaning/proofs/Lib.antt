@@ -1,0 +1,5 @@
+pub mod Elements
+pub mod Files
+pub mod Folding
+pub mod Formed
+pub mod Plain

@@ -1,0 +1,44 @@
+-- The expressions of an .nl file (Gay 2005, "Writing .nl Files"): trees with their linear terms.
+use Rattle.std.specs.Prelude.{ℕ, pos, Bool, false, List, [], map, get_or, Option, Some, None}
+use Rattle.exact_numbers.specs.Values.{dec_value}
+use Rattle.nl_meaning.specs.Trees.{Tree, number, LinearTerm, Expression, Definition}
+use Rattle.nl_model.specs.File.{Term, Objective, Definition as FileDefinition, File}
+
+-- a variable and its factor
+abbrev pub linear_term : Term → LinearTerm
+linear_term t = record { variable = t.0; factor = dec_value t.1 }
+
+abbrev pub linear_terms : List Term → List LinearTerm
+linear_terms ts = map linear_term ts
+
+abbrev pub definition_of : FileDefinition → Definition
+definition_of d = record { index = d.index; expression = record { tree = d.tree; terms = linear_terms d.terms } }
+
+-- the defined variables, in file order
+abbrev pub definitions_of : File → List Definition
+definitions_of f = map definition_of f.definitions
+
+abbrev pub zero_tree : Tree
+zero_tree = number (pos 0) (pos 0)
+
+abbrev pub tree_or_zero : Option Tree → Tree
+tree_or_zero None = zero_tree
+tree_or_zero (Some t) = t
+
+-- body i: the C expression, 0 where none was given, and the J terms
+abbrev pub body_of : File → ℕ → Expression
+body_of f i = record { tree = tree_or_zero (get_or f.bodies i None); terms = linear_terms (get_or f.terms i []) }
+
+-- a file without objectives minimises 0
+abbrev pub no_objective : Objective
+no_objective = record { maximise = false; tree = zero_tree }
+
+abbrev pub objective_at : File → ℕ → Objective
+objective_at f k = get_or f.objectives k no_objective
+
+-- objective k: the O expression and the G terms
+abbrev pub objective_of : File → ℕ → Expression
+objective_of f k = record { tree = (objective_at f k).tree; terms = linear_terms (get_or f.slopes k []) }
+
+abbrev pub maximises : File → ℕ → Bool
+maximises f k = (objective_at f k).maximise

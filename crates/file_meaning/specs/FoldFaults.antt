@@ -1,0 +1,87 @@
+-- The first fault of folding an .nl file to its linear program (own profile).
+use Rattle.std.specs.Prelude.{ℕ, zero, suc, ◌+◌, ◌^◌, ◌==◌, ◌&&◌, ◌||◌, nat_lt, Bool, if◌then◌else◌, List, [], ◌∷◌, ◌++◌, Option, Some, None}
+use Rattle.std.specs.Option.{option_or}
+use Rattle.nl_meaning.specs.declared.Fault.{Fault}
+use Rattle.nl_meaning.specs.Faults.{expression_fault}
+use Rattle.nl_meaning.specs.Lines.{Line, line_by, is_zero}
+use Rattle.nl_meaning.specs.Trees.{Point, Known, nothing_known, with_value, Expression, Definition, expression_value, known_values}
+use Rattle.nl_model.specs.File.{File}
+use Rattle.file_meaning.specs.Expressions.{definitions_of, body_of, objective_of}
+use Rattle.file_meaning.specs.LinearFile.{elements_from}
+
+-- a defined variable by its position in the file, a constraint, or an objective
+pub data Owner : Type 0 where
+  definition : ℕ → Owner
+  constraint : ℕ → Owner
+  objective : ℕ → Owner
+
+-- there is no such objective; a fault at a node or a term of an owner; or too many coefficients, at the head of an owner
+pub data FoldFault : Type 0 where
+  no_such_objective : ℕ → FoldFault
+  at_place : Owner → Fault → FoldFault
+  fold_too_large : Owner → FoldFault
+
+-- an expression of a file, with the values of the defined variables before it
+pub record Owned : Type 0 where
+  pub owner : Owner
+  pub known : Point → Known
+  pub expression : Expression
+
+abbrev pub owned_line : Owned → Line
+owned_line o = line_by (λ at. expression_value (o.known at) at o.expression)
+
+-- how many of the first n coefficients are not 0
+abbrev pub coefficient_count : ℕ → Line → ℕ
+coefficient_count zero l = 0
+coefficient_count (suc n) l = coefficient_count n l + (if is_zero (l.coef n) then 0 else 1)
+
+-- at most 2 ^ 23 coefficients
+abbrev pub most_coefficients : ℕ
+most_coefficients = 2 ^ 23
+
+abbrev pub at_owner : Owner → Option Fault → Option FoldFault
+at_owner o None = None
+at_owner o (Some f) = Some (at_place o f)
+
+abbrev pub head_fault : Owner → ℕ → Option FoldFault
+head_fault o count = (if nat_lt most_coefficients count then Some (fold_too_large o) else None)
+
+-- the fault of one owner, where those up to it have `count` coefficients: nodes and terms before the head
+abbrev pub owner_fault : ℕ → ℕ → Owned → Option FoldFault
+owner_fault n count o = option_or (at_owner o.owner (expression_fault o.known n o.expression)) (head_fault o.owner count)
+
+-- the first fault of owners, where those before have `count` coefficients
+abbrev pub owners_fault : ℕ → ℕ → List Owned → Option FoldFault
+owners_fault n count [] = None
+owners_fault n count (o ∷ os) =
+    let total = count + coefficient_count n (owned_line o) in
+    option_or (owner_fault n total o) (owners_fault n total os)
+
+-- the definitions in file order, of which the first is definition i; each may use the earlier ones
+abbrev pub owned_definitions : (Point → Known) → ℕ → List Definition → List Owned
+owned_definitions known i [] = []
+owned_definitions known i (d ∷ ds) =
+    record { owner = definition i; known = known; expression = d.expression }
+    ∷ owned_definitions (λ at. with_value (known at) d.index (expression_value (known at) at d.expression)) (suc i) ds
+
+-- the line of defined variable i, by its values
+abbrev pub defined_line : File → ℕ → Line
+defined_line f i = line_by (λ at. known_values (definitions_of f) at i)
+
+abbrev pub owned_body : File → ℕ → Owned
+owned_body f i = record { owner = constraint i; known = known_values (definitions_of f); expression = body_of f i }
+
+abbrev pub owned_objective : File → ℕ → Owned
+owned_objective f k = record { owner = objective k; known = known_values (definitions_of f); expression = objective_of f k }
+
+-- the defined variables in file order, the constraints by number, and objective k
+abbrev pub owners_of : File → ℕ → List Owned
+owners_of f k = owned_definitions (λ at. nothing_known) 0 (definitions_of f) ++ (elements_from (owned_body f) 0 f.counts.n_con ++ owned_objective f k ∷ [])
+
+-- objective k is there, or it is the 0 of a file without objectives
+abbrev pub has_objective : File → ℕ → Bool
+has_objective f k = nat_lt k f.counts.n_obj || ((k == 0) && (f.counts.n_obj == 0))
+
+-- the first fault of folding a file with objective k
+unfoldable pub fold_fault : File → ℕ → Option FoldFault
+fold_fault f k = (if has_objective f k then owners_fault f.counts.n_var 0 (owners_of f k) else Some (no_such_objective k))

@@ -1,0 +1,4 @@
+pub mod Expressions
+pub mod FoldFaults
+pub mod LinearFile
+pub mod Meaning
