@@ -1,0 +1,11 @@
+use Rattle.exported_program.proofs.Export.{tied_points, tied_objective, tied_sense}
+use Rattle.exported_program.proofs.laws.tied_export_keeps_meaning.Goals as goal
+
+pub returns-clause-points : goal.returns-clause-points
+returns-clause-points c = tied_points
+
+pub returns-clause-objective : goal.returns-clause-objective
+returns-clause-objective c = tied_objective
+
+pub returns-clause-sense : goal.returns-clause-sense
+returns-clause-sense c = tied_sense

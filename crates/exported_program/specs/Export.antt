@@ -1,0 +1,77 @@
+-- Which decimal program a file is exported as, and which row or objective has a fault.
+use Rattle.std.specs.Prelude.{◌≡◌, ℕ, ◌<◌, ◌^◌, pos, IsTrue, Option, Some, None, All}
+use Rattle.fractions.specs.Fitting.{fits, sum_fits}
+use Rattle.fractions.specs.Rational.{neg_ℚ, ℚ, whole, ◌-ℚ◌, ◌*ℚ◌}
+use Rattle.exported_program.specs.Factor.{least_factor, row_numbers, objective_numbers, coefficients_below}
+use Rattle.linear_programs.specs.Linear.{Row, Linear, variable_count}
+use Rattle.mps_model.specs.Mps.{Mps, with_values}
+use Rattle.exact_numbers.specs.declared.dec.Dec.{Dec}
+use Rattle.exact_numbers.specs.Values.{dec_value, FitsDec}
+use Rattle.exported_program.specs.Program.{program, tied_program, scaled_side, nonzero}
+use Rattle.exported_program.specs.Return.{is_exported, row_at}
+
+-- ---- factors
+abbrev pub factor_of_row : Linear → ℕ → ℕ
+factor_of_row f i = least_factor (row_numbers (variable_count f) (row_at f i))
+
+abbrev pub factor_of_objective : Linear → ℕ
+factor_of_objective f = least_factor (objective_numbers (variable_count f) f.objective)
+
+-- ---- faults
+pub record ScaledFits (k : ℕ) (x : ℚ) : Type 0 where
+  pub frac : IsTrue (fits (whole (pos k) *ℚ x))
+  pub dec : FitsDec (whole (pos k) *ℚ x)
+
+-- a side of the file, and what is left of it without the constant, times k
+pub record SideFits (k : ℕ) (constant s : ℚ) : Type 0 where
+  pub side : IsTrue (fits s)
+  pub less : IsTrue (sum_fits s (neg_ℚ constant))
+  pub scaled : ScaledFits k (s -ℚ constant)
+
+-- both scaled sides, where both are finite and differ
+pub record RangeFits (l u : ℚ) : Type 0 where
+  pub difference : IsTrue (sum_fits u (neg_ℚ l))
+  pub dec : FitsDec (u -ℚ l)
+
+abbrev pub IfSide : (ℚ → Type 0) → Option ℚ → Type 0
+IfSide P None = Unit {0}
+IfSide P (Some s) = P s
+
+abbrev pub IfBoth : (ℚ → ℚ → Type 0) → Option ℚ → Option ℚ → Type 0
+IfBoth P None u = Unit {0}
+IfBoth P (Some l) None = Unit {0}
+IfBoth P (Some l) (Some u) = IfSide (λ r. P l u) (nonzero (u -ℚ l))
+
+pub record RowFits (n : ℕ) (r : Row) (k : ℕ) : Type 0 where
+  pub factor : k < 2 ^ 127
+  pub coefficients : All (ScaledFits k) (coefficients_below r.body.coefficient n)
+  pub lower : IfSide (SideFits k r.body.constant) r.side.lower
+  pub upper : IfSide (SideFits k r.body.constant) r.side.upper
+  pub range : IfBoth RangeFits (scaled_side (whole (pos k)) r.body.constant r.side.lower) (scaled_side (whole (pos k)) r.body.constant r.side.upper)
+
+abbrev pub ExportFits : Linear → ℕ → Type 0
+ExportFits f i = IsTrue (is_exported (row_at f i)) → RowFits (variable_count f) (row_at f i) (factor_of_row f i)
+
+-- row i is the first that is too wide
+pub record IsRowTooWide (f : Linear) (i : ℕ) : Type 0 where
+  pub before : (k : ℕ) → k < i → ExportFits f k
+  pub wide : ¬ ExportFits f i
+
+-- the objective is written as it is
+abbrev pub IsDecimal : Linear → Type 0
+IsDecimal f = All FitsDec (objective_numbers (variable_count f) f.objective)
+
+pub record ObjectiveFits (f : Linear) : Type 0 where
+  pub factor : factor_of_objective f < 2 ^ 127
+  pub parts : All (ScaledFits (factor_of_objective f)) (objective_numbers (variable_count f) f.objective)
+
+-- the rows fit, and a tied objective does not
+pub record IsObjectiveTooWide (f : Linear) : Type 0 where
+  pub rows : (i : ℕ) → ExportFits f i
+  pub tied : ¬ IsDecimal f
+  pub wide : ¬ ObjectiveFits f
+
+-- ---- the program
+pub record IsProgramOf (f : Linear) (m : Mps Dec) : Type 0 where
+  pub plain : IsDecimal f → with_values dec_value m ≡ program f (factor_of_row f)
+  pub tied : ¬ IsDecimal f → with_values dec_value m ≡ tied_program f (factor_of_row f) (factor_of_objective f)

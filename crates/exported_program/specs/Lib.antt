@@ -1,0 +1,8 @@
+pub mod Example
+pub mod Export
+pub mod Factor
+pub mod Names
+pub mod Program
+pub mod Return
+pub mod Terms
+pub mod Written

@@ -1,0 +1,29 @@
+-- Where an exported row stands in the program, and its dual.
+use Rattle.std.specs.Prelude.{ℕ, zero, suc, pos, Bool, cond, List, [], ◌∷◌, get_or}
+use Rattle.fractions.specs.Rational.{ℚ, whole, zero_ℚ, ◌*ℚ◌}
+use Rattle.linear_programs.specs.Linear.{Row, Linear, unbounded}
+use Rattle.exported_program.specs.Program.{has_side}
+
+abbrev pub is_exported : Row → Bool
+is_exported r = has_side r.side.lower r.side.upper
+
+-- nothing asks for a row past the last
+abbrev pub no_file_row : Row
+no_file_row = record { name = []; body = record { constant = zero_ℚ; coefficient = λ j. zero_ℚ }; side = unbounded }
+
+abbrev pub row_at : Linear → ℕ → Row
+row_at f i = get_or f.rows i no_file_row
+
+-- how many of the rows before row i are exported
+unfoldable pub place_of : List Row → ℕ → ℕ
+place_of [] i = 0
+place_of (r ∷ rs) zero = 0
+place_of (r ∷ rs) (suc i) = cond (is_exported r) (suc (place_of rs i)) (place_of rs i)
+
+-- the row of the program that file row i becomes; row 0 is the objective
+abbrev pub program_row : Linear → ℕ → ℕ
+program_row f i = suc (place_of f.rows i)
+
+-- the dual of a row with this factor, from the value w of its scaled row, s being the answer's sign
+abbrev pub dual_of : ℚ → ℚ → ℕ → ℚ
+dual_of s w factor = w *ℚ (s *ℚ whole (pos factor))

@@ -1,0 +1,4 @@
+pub mod Built
+pub mod Mps
+pub mod Text
+pub mod Valid

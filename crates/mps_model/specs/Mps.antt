@@ -1,0 +1,194 @@
+-- MPS programs, and what they mean (the usual MPS manuals; the signs of ranges and of upper bounds below 0 are an own profile).
+use Rattle.std.specs.Prelude.{ℕ, suc, ◌<◌, ℤ, pos, negsuc, nat_eq, Bool, true, false, cond, ◌||◌, ◌&&◌, IsTrue, List, [], ◌∷◌, length, map, get_or, Option, Some, None}
+use Rattle.fractions.specs.Rational.{ℚ, zero_ℚ, one_ℚ, ◌+ℚ◌, ◌-ℚ◌, ◌*ℚ◌, neg_ℚ, IsWhole}
+use Rattle.fractions.specs.Sums.{sum_over, sum_below}
+pub use Rattle.mps_model.specs.declared.kinds.RowKind.{RowKind}
+use Rattle.mps_model.specs.declared.kinds.RowKind.TheVariants.{N, L, G, E}
+pub use Rattle.mps_model.specs.declared.kinds.BoundKind.{BoundKind}
+use Rattle.mps_model.specs.declared.kinds.BoundKind.TheVariants.{Lo, Up, Fx, Fr, Mi, Pl, Bv, Li, Ui}
+use Rattle.linear_programs.specs.Linear.{Interval, IsInside, unbounded, value_at}
+
+pub record MpsRow : Type 0 where
+  pub name : List ℕ
+  pub kind : RowKind
+
+-- a value at a row
+pub record Entry (V : Type 0) : Type 0 where
+  pub row : ℕ
+  pub value : V
+
+pub record Column (V : Type 0) : Type 0 where
+  pub name : List ℕ
+  pub marked : Bool
+  pub entries : List (Entry V)
+
+pub record Bound (V : Type 0) : Type 0 where
+  pub kind : BoundKind
+  pub column : ℕ
+  pub value : V
+
+-- a program whose numbers are of the type V: decimals as they are written, or fractions, their values
+pub record Mps (V : Type 0) : Type 0 where
+  pub name : List ℕ
+  pub maximise : Bool
+  pub rows : List MpsRow
+  pub columns : List (Column V)
+  pub rhs : List (Entry V)
+  pub ranges : List (Entry V)
+  pub bounds : List (Bound V)
+
+-- the program of the values
+abbrev pub entry_with : {V W : Type 0} → (V → W) → Entry V → Entry W
+entry_with v e = record { row = e.row; value = v e.value }
+
+abbrev pub column_with : {V W : Type 0} → (V → W) → Column V → Column W
+column_with v c = record { name = c.name; marked = c.marked; entries = map (entry_with v) c.entries }
+
+abbrev pub bound_with : {V W : Type 0} → (V → W) → Bound V → Bound W
+bound_with v b = record { kind = b.kind; column = b.column; value = v b.value }
+
+unfoldable pub with_values : {V W : Type 0} → (V → W) → Mps V → Mps W
+with_values v m =
+    record {
+      name = m.name;
+      maximise = m.maximise;
+      rows = m.rows;
+      columns = map (column_with v) m.columns;
+      rhs = map (entry_with v) m.rhs;
+      ranges = map (entry_with v) m.ranges;
+      bounds = map (bound_with v) m.bounds;
+    }
+
+-- ---- meaning
+abbrev pub is_below_zero : ℤ → Bool
+is_below_zero (pos n) = false
+is_below_zero (negsuc n) = true
+
+abbrev pub is_negative : ℚ → Bool
+is_negative x = is_below_zero x.top
+
+abbrev pub size_of : ℚ → ℚ
+size_of x = cond (is_negative x) (neg_ℚ x) x
+
+-- the first value that the records give for a row
+unfoldable pub at_row : {V : Type 0} → ℕ → List (Entry V) → Option V
+at_row i [] = None
+at_row i (e ∷ es) = cond (nat_eq e.row i) (Some e.value) (at_row i es)
+
+abbrev pub or_zero : Option ℚ → ℚ
+or_zero None = zero_ℚ
+or_zero (Some x) = x
+
+-- nothing asks for a column past the last
+abbrev pub no_column : {V : Type 0} → Column V
+no_column = record { name = []; marked = false; entries = [] }
+
+abbrev pub column_at : Mps ℚ → ℕ → Column ℚ
+column_at m j = get_or m.columns j no_column
+
+-- the sum of a column's entries in row i, each times x
+unfoldable pub part_of_row : ℕ → List (Entry ℚ) → ℚ → ℚ
+part_of_row i entries x = sum_over (λ e. cond (nat_eq e.row i) (e.value *ℚ x) zero_ℚ) entries
+
+-- the sum of all entries of row i, each times its column's value
+unfoldable pub row_value : Mps ℚ → List ℚ → ℕ → ℚ
+row_value m xs i = sum_below (λ j. part_of_row i (column_at m j).entries (value_at xs j)) (length m.columns)
+
+-- the interval of a row with the right side b
+abbrev pub row_sides : RowKind → ℚ → Option ℚ → Interval
+row_sides N b range = unbounded
+row_sides L b None = record { lower = None; upper = Some b }
+row_sides L b (Some r) = record { lower = Some (b -ℚ size_of r); upper = Some b }
+row_sides G b None = record { lower = Some b; upper = None }
+row_sides G b (Some r) = record { lower = Some b; upper = Some (b +ℚ size_of r) }
+row_sides E b None = record { lower = Some b; upper = Some b }
+row_sides E b (Some r) = cond (is_negative r) (record { lower = Some (b +ℚ r); upper = Some b }) (record { lower = Some b; upper = Some (b +ℚ r) })
+
+-- nothing asks for a row past the last
+abbrev pub no_row : MpsRow
+no_row = record { name = []; kind = N }
+
+abbrev pub rhs_at : Mps ℚ → ℕ → ℚ
+rhs_at m i = or_zero (at_row i m.rhs)
+
+abbrev pub row_interval : Mps ℚ → ℕ → Interval
+row_interval m i = row_sides (get_or m.rows i no_row).kind (rhs_at m i) (at_row i m.ranges)
+
+-- the side that a record sets, where it sets the lower one
+abbrev pub lower_set : BoundKind → ℚ → Option (Option ℚ)
+lower_set Lo v = Some (Some v)
+lower_set Li v = Some (Some v)
+lower_set Fx v = Some (Some v)
+lower_set Fr v = Some None
+lower_set Mi v = Some None
+lower_set Bv v = Some (Some zero_ℚ)
+lower_set Up v = None
+lower_set Ui v = None
+lower_set Pl v = None
+
+abbrev pub upper_set : BoundKind → ℚ → Option (Option ℚ)
+upper_set Up v = Some (Some v)
+upper_set Ui v = Some (Some v)
+upper_set Fx v = Some (Some v)
+upper_set Fr v = Some None
+upper_set Pl v = Some None
+upper_set Bv v = Some (Some one_ℚ)
+upper_set Lo v = None
+upper_set Li v = None
+upper_set Mi v = None
+
+abbrev pub or_else : {A : Type 0} → Option A → Option A → Option A
+or_else (Some x) o = Some x
+or_else None o = o
+
+-- the side that the first record of column j that sets one sets
+unfoldable pub side_set : (BoundKind → ℚ → Option (Option ℚ)) → ℕ → List (Bound ℚ) → Option (Option ℚ)
+side_set sets j [] = None
+side_set sets j (b ∷ bs) = or_else (cond (nat_eq b.column j) (sets b.kind b.value) None) (side_set sets j bs)
+
+-- without a record: 0, but no lower side where the upper one is below 0
+abbrev pub usual_lower : Option (Option ℚ) → Option ℚ
+usual_lower (Some (Some u)) = cond (is_negative u) None (Some zero_ℚ)
+usual_lower (Some None) = Some zero_ℚ
+usual_lower None = Some zero_ℚ
+
+abbrev pub given : Option (Option ℚ) → Option ℚ → Option ℚ
+given (Some side) usual = side
+given None usual = usual
+
+abbrev pub column_interval : Mps ℚ → ℕ → Interval
+column_interval m j =
+    let upper = side_set upper_set j m.bounds in
+    record { lower = given (side_set lower_set j m.bounds) (usual_lower upper); upper = given upper None }
+
+abbrev pub is_whole_kind : BoundKind → Bool
+is_whole_kind Bv = true
+is_whole_kind Li = true
+is_whole_kind Ui = true
+is_whole_kind Lo = false
+is_whole_kind Up = false
+is_whole_kind Fx = false
+is_whole_kind Fr = false
+is_whole_kind Mi = false
+is_whole_kind Pl = false
+
+unfoldable pub has_whole_record : ℕ → List (Bound ℚ) → Bool
+has_whole_record j [] = false
+has_whole_record j (b ∷ bs) = (nat_eq b.column j && is_whole_kind b.kind) || has_whole_record j bs
+
+abbrev pub is_whole_column : Mps ℚ → ℕ → Bool
+is_whole_column m j = (column_at m j).marked || has_whole_record j m.bounds
+
+-- every row is in its interval, every column in its bounds, and every whole column is whole
+pub record IsMpsFeasible (m : Mps ℚ) (xs : List ℚ) : Type 0 where
+  pub rows : (i : ℕ) → i < length m.rows → IsInside (row_interval m i) (row_value m xs i)
+  pub bounds : (j : ℕ) → j < length m.columns → IsInside (column_interval m j) (value_at xs j)
+  pub whole : (j : ℕ) → j < length m.columns → IsTrue (is_whole_column m j) → IsWhole (value_at xs j)
+
+-- the place of the first N row
+unfoldable pub objective_row : List MpsRow → ℕ
+objective_row [] = 0
+objective_row (r ∷ rs) = elim r.kind [ N ↦ 0 | L ↦ suc (objective_row rs) | G ↦ suc (objective_row rs) | E ↦ suc (objective_row rs) ]
+
+abbrev pub mps_objective : Mps ℚ → List ℚ → ℚ
+mps_objective m xs = row_value m xs (objective_row m.rows) -ℚ rhs_at m (objective_row m.rows)

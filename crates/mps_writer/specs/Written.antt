@@ -1,0 +1,7 @@
+-- How the numbers of a program are written.
+use Rattle.std.specs.Prelude.{ℕ, List}
+use Rattle.exact_numbers.specs.declared.dec.Dec.{Dec}
+use Rattle.exact_numbers.specs.Written.{dec_text}
+
+abbrev pub text_of : Dec → List ℕ
+text_of d = dec_text d.m d.e
