@@ -1,0 +1,5 @@
+pub mod Columns
+pub mod Exported
+pub mod Rows
+pub mod Scaled
+pub mod Sides
