@@ -1,0 +1,18 @@
+// The commands of the bridge, over any desk.
+#![tactic(auto)]
+
+mod command;
+mod rows;
+mod small;
+mod small_lines;
+mod words;
+#[cfg(test)]
+mod tests;
+mod top;
+mod toy;
+mod transfer;
+
+pub use command::{export_file, line_for};
+pub use top::{bridge, bridge_headline};
+pub use toy::judge;
+pub use transfer::{read_text, tell_line, write_all};
