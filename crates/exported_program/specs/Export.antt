@@ -1,6 +1,6 @@
 -- Which decimal program a file is exported as, and which row or objective has a fault.
 use Rattle.std.specs.Prelude.{◌≡◌, ℕ, ◌<◌, ◌^◌, pos, IsTrue, Option, Some, None, All}
-use Rattle.fractions.specs.Fitting.{fits, sum_fits}
+use Rattle.fractions.specs.Fits.{fits, sum_fits}
 use Rattle.fractions.specs.Rational.{neg_ℚ, ℚ, whole, ◌-ℚ◌, ◌*ℚ◌}
 use Rattle.exported_program.specs.Factor.{least_factor, row_numbers, objective_numbers, coefficients_below}
 use Rattle.linear_programs.specs.Linear.{Row, Linear, variable_count}
