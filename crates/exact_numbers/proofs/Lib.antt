@@ -12,3 +12,4 @@ pub mod Bridge
 pub mod Signs
 pub mod Spelling
 pub mod Reading
+pub mod Wholes

@@ -137,6 +137,34 @@ impl Frac {
         self.num < 0
     }
 
+    // The sum of whole numbers, with no division.
+    fn add_whole(self, other: Frac) -> Option<Frac>
+        requires first { self.den ≡ 1 }
+        requires second { other.den ≡ 1 }
+        ensures { MatchOption result (sum_fits (frac_value self) (frac_value other) ≡ false)
+            (λ f. (sum_fits (frac_value self) (frac_value other) ≡ true)
+            × (frac_value f ≡ frac_value self +ℚ frac_value other)) }
+    {
+        let Some(sum) = bounded_sum(self.num, other.num) else {
+            return None;
+        };
+        Some(Frac { num: sum, den: 1 })
+    }
+
+    // The product of whole numbers, with no division.
+    fn mul_whole(self, other: Frac) -> Option<Frac>
+        requires first { self.den ≡ 1 }
+        requires second { other.den ≡ 1 }
+        ensures { MatchOption result (fits (frac_value self *ℚ frac_value other) ≡ false)
+            (λ f. (fits (frac_value self *ℚ frac_value other) ≡ true)
+            × (frac_value f ≡ frac_value self *ℚ frac_value other)) }
+    {
+        let Some(size) = bounded_product(self.num.unsigned_abs(), other.num.unsigned_abs()) else {
+            return None;
+        };
+        Some(paired((self.num < 0) != (other.num < 0), size, 1))
+    }
+
     /// The product; none exactly where it does not fit. Sizes are cancelled crosswise first, so that
     /// no larger number is formed.
     pub fn mul(self, other: Frac) -> Option<Frac>
@@ -144,6 +172,9 @@ impl Frac {
             (λ f. (fits (frac_value self *ℚ frac_value other) ≡ true)
             × (frac_value f ≡ frac_value self *ℚ frac_value other)) }
     {
+        if self.den == 1 && other.den == 1 {
+            return self.mul_whole(other);
+        }
         let size = self.num.unsigned_abs();
         let other_size = other.num.unsigned_abs();
         let first = gcd(size, other.den);
@@ -163,6 +194,9 @@ impl Frac {
             (λ f. (sum_fits (frac_value self) (frac_value other) ≡ true)
             × (frac_value f ≡ frac_value self +ℚ frac_value other)) }
     {
+        if self.den == 1 && other.den == 1 {
+            return self.add_whole(other);
+        }
         let common = gcd(self.den, other.den);
         let scale = other.den / common;
         let other_scale = self.den / common;

@@ -113,6 +113,22 @@ fn kept_before(whole: &[u8], after: usize) -> usize
     }
 }
 
+// The number with one more digit, where it is within the greatest size. Nothing is divided.
+fn with_digit(number: u128, digit: u8) -> Option<u128>
+    requires small { number < 2 ^ 127 }
+    requires digit { digit < 10 }
+    ensures { SomeIff result (number * 10 + digit < 2 ^ 127) (number * 10 + digit) }
+{
+    if number > MAX_SIZE / 10 {
+        return None;
+    }
+    let next = number * 10 + digit as u128;
+    if next > MAX_SIZE {
+        return None;
+    }
+    Some(next)
+}
+
 // The number `start` with more digits, where it is within the greatest size.
 fn with_digits(start: u128, digits: &[u8]) -> Option<u128>
     requires digits { AllDigits 10 digits.now }
@@ -121,11 +137,11 @@ fn with_digits(start: u128, digits: &[u8]) -> Option<u128>
 {
     let mut number = start;
     for b in digits {
-        let digit = (*b - b'0') as u128;
-        if number > (MAX_SIZE - digit) / 10 {
+        let digit = *b - b'0';
+        let Some(next) = with_digit(number, digit) else {
             return None;
-        }
-        number = number * 10 + digit;
+        };
+        number = next;
     }
     Some(number)
 }
