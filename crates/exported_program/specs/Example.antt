@@ -13,6 +13,7 @@ Number = ℤ × ℤ
 abbrev dec : ℤ → ℤ → Number
 dec m e = (m, e)
 
+-- how a number is written
 abbrev pub spelled : Number → List ℕ
 spelled d = dec_text d.0 d.1
 
@@ -25,6 +26,7 @@ item name value weight = record { name = name; marked = true; entries = entry 0 
 abbrev bound : BoundKind → ℕ → Number → Bound Number
 bound kind j d = record { kind = kind; column = j; value = d }
 
+-- the values 10, 7, 12 and the weights 5, 4, 6.5 of three items, at most 10 in weight
 unfoldable pub knapsack : Mps Number
 knapsack =
     record {
@@ -37,6 +39,7 @@ knapsack =
       bounds = bound Lo 0 (dec (pos 0) (pos 0)) ∷ bound Up 0 (dec (pos 1) (pos 0)) ∷ bound Lo 1 (dec (pos 0) (pos 0)) ∷ bound Up 1 (dec (pos 1) (pos 0)) ∷ bound Lo 2 (dec (pos 0) (pos 0)) ∷ bound Up 2 (dec (pos 1) (pos 0)) ∷ [];
     }
 
+-- its text
 unfoldable pub knapsack_text : List ℕ
 knapsack_text =
     codes "NAME nl\nOBJSENSE\n MAX\nROWS\n N obj\n L c0\nCOLUMNS\n M0 'MARKER' 'INTORG'\n x0 obj 10\n x0 c0 5\n x1 obj 7\n x1 c0 4\n x2 obj 12\n x2 c0 6.5\n M1 'MARKER' 'INTEND'\nRHS\n RHS c0 10\nBOUNDS\n LO BND x0 0\n UP BND x0 1\n LO BND x1 0\n UP BND x1 1\n LO BND x2 0\n UP BND x2 1\nENDATA\n"

@@ -14,6 +14,7 @@ use Rattle.exported_program.specs.Return.{is_exported, row_at}
 abbrev pub factor_of_row : Linear → ℕ → ℕ
 factor_of_row f i = least_factor (row_numbers (variable_count f) (row_at f i))
 
+-- the least factor of the objective's numbers
 abbrev pub factor_of_objective : Linear → ℕ
 factor_of_objective f = least_factor (objective_numbers (variable_count f) f.objective)
 
@@ -33,15 +34,18 @@ pub record RangeFits (l u : ℚ) : Type 0 where
   pub difference : IsTrue (sum_fits u (neg_ℚ l))
   pub dec : FitsDec (u -ℚ l)
 
+-- P holds of the side, where there is one
 abbrev pub IfSide : (ℚ → Type 0) → Option ℚ → Type 0
 IfSide P None = Unit {0}
 IfSide P (Some s) = P s
 
+-- P holds of both sides, where both are there and differ
 abbrev pub IfBoth : (ℚ → ℚ → Type 0) → Option ℚ → Option ℚ → Type 0
 IfBoth P None u = Unit {0}
 IfBoth P (Some l) None = Unit {0}
 IfBoth P (Some l) (Some u) = IfSide (λ r. P l u) (nonzero (u -ℚ l))
 
+-- all numbers of a row with factor k fit
 pub record RowFits (n : ℕ) (r : Row) (k : ℕ) : Type 0 where
   pub factor : k < 2 ^ 127
   pub coefficients : All (ScaledFits k) (coefficients_below r.body.coefficient n)
@@ -49,6 +53,7 @@ pub record RowFits (n : ℕ) (r : Row) (k : ℕ) : Type 0 where
   pub upper : IfSide (SideFits k r.body.constant) r.side.upper
   pub range : IfBoth RangeFits (scaled_side (whole (pos k)) r.body.constant r.side.lower) (scaled_side (whole (pos k)) r.body.constant r.side.upper)
 
+-- row i is not exported, or its numbers fit
 abbrev pub ExportFits : Linear → ℕ → Type 0
 ExportFits f i = IsTrue (is_exported (row_at f i)) → RowFits (variable_count f) (row_at f i) (factor_of_row f i)
 
@@ -61,6 +66,7 @@ pub record IsRowTooWide (f : Linear) (i : ℕ) : Type 0 where
 abbrev pub IsDecimal : Linear → Type 0
 IsDecimal f = All FitsDec (objective_numbers (variable_count f) f.objective)
 
+-- the numbers of a tied objective fit
 pub record ObjectiveFits (f : Linear) : Type 0 where
   pub factor : factor_of_objective f < 2 ^ 127
   pub parts : All (ScaledFits (factor_of_objective f)) (objective_numbers (variable_count f) f.objective)

@@ -15,14 +15,17 @@ pub record IsFactor (xs : List ℚ) (k : ℕ) : Type 0 where
   pub above : 0 < k
   pub finite : All (λ x. IsFinite (whole (pos k) *ℚ x)) xs
 
+-- no lesser number is a factor
 pub record IsLeastFactor (xs : List ℚ) (k : ℕ) : Type 0 where
   pub factor : IsFactor xs k
   pub least : (l : ℕ) → IsFactor xs l → k ≤ l
 
+-- the coefficients of the first n variables
 abbrev pub coefficients_below : (ℕ → ℚ) → ℕ → List ℚ
 coefficients_below c zero = []
 coefficients_below c (suc n) = coefficients_below c n ++ c n ∷ []
 
+-- the side less the constant, where there is a side
 abbrev pub side_less : ℚ → Option ℚ → List ℚ
 side_less constant None = []
 side_less constant (Some s) = (s -ℚ constant) ∷ []
@@ -31,6 +34,7 @@ side_less constant (Some s) = (s -ℚ constant) ∷ []
 abbrev pub row_numbers : ℕ → Row → List ℚ
 row_numbers n r = coefficients_below r.body.coefficient n ++ side_less r.body.constant r.side.lower ++ side_less r.body.constant r.side.upper
 
+-- an objective's constant and its coefficients
 abbrev pub objective_numbers : ℕ → Form → List ℚ
 objective_numbers n o = o.constant ∷ coefficients_below o.coefficient n
 
@@ -44,6 +48,7 @@ steps_to_cofactor (suc k) n = cond (nat_eq (gcd_of n 10) 1) n (steps_to_cofactor
 unfoldable pub cofactor_of : ℕ → ℕ
 cofactor_of n = steps_to_cofactor n n
 
+-- the least common multiple, of numbers above 0
 unfoldable pub lcm_of : ℕ → ℕ → ℕ
 lcm_of a b = a * (b / gcd_of a b)
 

@@ -14,10 +14,12 @@ pub record ScaledRow : Type 0 where
   pub coefficient : ℕ → ℚ
   pub side : Interval
 
+-- a side less the constant, times k
 abbrev pub scaled_side : ℚ → ℚ → Option ℚ → Option ℚ
 scaled_side k constant None = None
 scaled_side k constant (Some s) = Some (k *ℚ (s -ℚ constant))
 
+-- a row times k
 abbrev pub scaled_row : ℕ → Row → ScaledRow
 scaled_row k r =
     record {
@@ -29,6 +31,7 @@ scaled_row k r =
       };
     }
 
+-- one of the sides is there
 abbrev pub has_side : Option ℚ → Option ℚ → Bool
 has_side None None = false
 has_side (Some l) u = true
@@ -44,11 +47,13 @@ exported_rows factor i (r ∷ rs) =
 abbrev pub nonzero : ℚ → Option ℚ
 nonzero x = unless_zero x.top x
 
+-- the upper side less the lower, where both are there and differ
 abbrev pub range_of : Option ℚ → Option ℚ → Option ℚ
 range_of None u = None
 range_of (Some l) None = None
 range_of (Some l) (Some u) = nonzero (u -ℚ l)
 
+-- the lower side, or else the upper
 abbrev pub rhs_of : Option ℚ → Option ℚ → ℚ
 rhs_of None None = zero_ℚ
 rhs_of None (Some u) = u
@@ -59,15 +64,18 @@ abbrev pub two_sided : Option ℚ → RowKind
 two_sided None = E
 two_sided (Some r) = G
 
+-- E where the sides are equal, G with a lower side, L with an upper one alone
 abbrev pub kind_of : Option ℚ → Option ℚ → RowKind
 kind_of None None = N
 kind_of None (Some u) = L
 kind_of (Some l) None = G
 kind_of (Some l) (Some u) = two_sided (nonzero (u -ℚ l))
 
+-- name and kind of a row
 abbrev pub mps_row : ScaledRow → MpsRow
 mps_row r = record { name = r.name; kind = kind_of r.side.lower r.side.upper }
 
+-- with an entry in row i in front, where there is a value
 abbrev pub with_entry : ℕ → Option ℚ → List (Entry ℚ) → List (Entry ℚ)
 with_entry i None es = es
 with_entry i (Some v) es = record { row = i; value = v } ∷ es
@@ -82,15 +90,18 @@ abbrev pub or_obj_zero : List (Entry ℚ) → List (Entry ℚ)
 or_obj_zero [] = record { row = 0; value = zero_ℚ } ∷ []
 or_obj_zero (e ∷ es) = e ∷ es
 
+-- the entries of variable j: of the objective, then of the rows in order
 abbrev pub column_entries : Form → List ScaledRow → ℕ → List (Entry ℚ)
 column_entries objective rows j =
     or_obj_zero (with_entry 0 (nonzero (objective.coefficient j)) (entries_of (λ r. nonzero (r.coefficient j)) 1 rows))
 
+-- a column for each variable, of which the first is variable j
 unfoldable pub columns_of : Form → List ScaledRow → ℕ → List Variable → List (Column ℚ)
 columns_of objective rows j [] = []
 columns_of objective rows j (v ∷ vs) =
     record { name = v.name; marked = v.whole; entries = column_entries objective rows j } ∷ columns_of objective rows (suc j) vs
 
+-- a bound of column j
 abbrev pub bound_record : BoundKind → ℕ → ℚ → Bound ℚ
 bound_record kind j v = record { kind = kind; column = j; value = v }
 
@@ -106,17 +117,20 @@ column_bounds j None (Some u) = bound_record Mi j zero_ℚ ∷ bound_record Up j
 column_bounds j (Some l) None = bound_record Lo j l ∷ bound_record Pl j zero_ℚ ∷ []
 column_bounds j (Some l) (Some u) = fixed_or_both j l u (nonzero (u -ℚ l))
 
+-- the bounds of the variables, of which the first is variable j
 unfoldable pub bounds_of : ℕ → List Variable → List (Bound ℚ)
 bounds_of j [] = []
 bounds_of j (v ∷ vs) = column_bounds j v.bound.lower v.bound.upper ++ bounds_of (suc j) vs
 
--- the texts nl and obj
+-- the text nl
 abbrev pub nl_name : List ℕ
 nl_name = 110 ∷ 108 ∷ []
 
+-- the text obj
 abbrev pub obj_name : List ℕ
 obj_name = 111 ∷ 98 ∷ 106 ∷ []
 
+-- the program of scaled rows, an objective and variables
 unfoldable pub program_of : List ScaledRow → Form → List Variable → Bool → Mps ℚ
 program_of rows objective variables maximise =
     record {
@@ -134,10 +148,11 @@ abbrev pub program : Linear → (ℕ → ℕ) → Mps ℚ
 program f factor = program_of (exported_rows factor 0 f.rows) f.objective f.variables f.maximise
 
 -- ---- an objective that is tied to a column z
--- the texts z and zdef
+-- the text z
 abbrev pub z_name : List ℕ
 z_name = 122 ∷ []
 
+-- the text zdef
 abbrev pub zdef_name : List ℕ
 zdef_name = 122 ∷ 100 ∷ 101 ∷ 102 ∷ []
 
@@ -154,6 +169,7 @@ tie n objective =
       side = record { lower = Some zero_ℚ; upper = Some zero_ℚ };
     }
 
+-- a variable with any value
 abbrev pub z_variable : Variable
 z_variable = record { name = z_name; bound = unbounded; whole = false }
 

@@ -4,6 +4,7 @@ use Rattle.fractions.specs.Rational.{ℚ, whole, zero_ℚ, ◌*ℚ◌}
 use Rattle.linear_programs.specs.Linear.{Row, Linear, unbounded}
 use Rattle.exported_program.specs.Program.{has_side}
 
+-- the row has a finite side
 abbrev pub is_exported : Row → Bool
 is_exported r = has_side r.side.lower r.side.upper
 
@@ -11,6 +12,7 @@ is_exported r = has_side r.side.lower r.side.upper
 abbrev pub no_file_row : Row
 no_file_row = record { name = []; body = record { constant = zero_ℚ; coefficient = λ j. zero_ℚ }; side = unbounded }
 
+-- row i of the file
 abbrev pub row_at : Linear → ℕ → Row
 row_at f i = get_or f.rows i no_file_row
 

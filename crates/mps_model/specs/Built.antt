@@ -20,6 +20,7 @@ abbrev pub or_empty : Option (List ℕ) → List ℕ
 or_empty None = []
 or_empty (Some name) = name
 
+-- the value of the parts of a program
 abbrev pub mps_of : Option (List ℕ) → Bool → List MpsRow → List (Column Dec) → List (ℕ × Dec) → List (ℕ × Dec) → List (BoundKind × ℕ × Dec) → Mps Dec
 mps_of name maximise rows columns rhs ranges bounds =
     record {
@@ -50,6 +51,7 @@ pub record CanAddRow (m : Mps Dec) (name : List ℕ) : Type 0 where
   pub no_marker : name ≢ marker_word
   pub new : All (IsOtherRow name) m.rows
 
+-- a column of a new name
 pub record CanAddColumn (m : Mps Dec) (name : List ℕ) : Type 0 where
   pub few : length m.columns < 2 ^ 21
   pub new : All (IsOtherColumn name) m.columns
@@ -61,15 +63,18 @@ pub record CanAddEntry (m : Mps Dec) (row : ℕ) : Type 0 where
   pub few : entry_count m.columns < 2 ^ 24
   pub new : All (IsOtherEntry row) (last_entries m.columns)
 
+-- the first right side of a row
 pub record CanAddRhs (m : Mps Dec) (row : ℕ) : Type 0 where
   pub within : row < length m.rows
   pub new : All (IsOtherEntry row) m.rhs
 
+-- the first range of a row that is no N row
 pub record CanAddRange (m : Mps Dec) (row : ℕ) : Type 0 where
   pub within : row < length m.rows
   pub bounded : IsBounded m.rows row
   pub new : All (IsOtherEntry row) m.ranges
 
+-- a bound that sets no side again
 pub record CanAddBound (m : Mps Dec) (kind : BoundKind) (column : ℕ) (value : Dec) : Type 0 where
   pub within : column < length m.columns
   pub new : All (IsOtherBound kind column) m.bounds

@@ -8,6 +8,7 @@ pub use Rattle.mps_model.specs.declared.kinds.BoundKind.{BoundKind}
 use Rattle.mps_model.specs.declared.kinds.BoundKind.TheVariants.{Lo, Up, Fx, Fr, Mi, Pl, Bv, Li, Ui}
 use Rattle.linear_programs.specs.Linear.{Interval, IsInside, unbounded, value_at}
 
+-- a row: its name and its kind
 pub record MpsRow : Type 0 where
   pub name : List ℕ
   pub kind : RowKind
@@ -17,11 +18,13 @@ pub record Entry (V : Type 0) : Type 0 where
   pub row : ℕ
   pub value : V
 
+-- a column: its name, whether it stands in a marked stretch, its entries
 pub record Column (V : Type 0) : Type 0 where
   pub name : List ℕ
   pub marked : Bool
   pub entries : List (Entry V)
 
+-- a bound of a column
 pub record Bound (V : Type 0) : Type 0 where
   pub kind : BoundKind
   pub column : ℕ
@@ -41,12 +44,15 @@ pub record Mps (V : Type 0) : Type 0 where
 abbrev pub entry_with : {V W : Type 0} → (V → W) → Entry V → Entry W
 entry_with v e = record { row = e.row; value = v e.value }
 
+-- a column of the values
 abbrev pub column_with : {V W : Type 0} → (V → W) → Column V → Column W
 column_with v c = record { name = c.name; marked = c.marked; entries = map (entry_with v) c.entries }
 
+-- a bound of the value
 abbrev pub bound_with : {V W : Type 0} → (V → W) → Bound V → Bound W
 bound_with v b = record { kind = b.kind; column = b.column; value = v b.value }
 
+-- a program of the values
 unfoldable pub with_values : {V W : Type 0} → (V → W) → Mps V → Mps W
 with_values v m =
     record {
@@ -64,9 +70,11 @@ abbrev pub is_below_zero : ℤ → Bool
 is_below_zero (pos n) = false
 is_below_zero (negsuc n) = true
 
+-- x is below 0
 abbrev pub is_negative : ℚ → Bool
 is_negative x = is_below_zero x.top
 
+-- the size of x, without its sign
 abbrev pub size_of : ℚ → ℚ
 size_of x = cond (is_negative x) (neg_ℚ x) x
 
@@ -75,6 +83,7 @@ unfoldable pub at_row : {V : Type 0} → ℕ → List (Entry V) → Option V
 at_row i [] = None
 at_row i (e ∷ es) = cond (nat_eq e.row i) (Some e.value) (at_row i es)
 
+-- 0 where there is none
 abbrev pub or_zero : Option ℚ → ℚ
 or_zero None = zero_ℚ
 or_zero (Some x) = x
@@ -83,6 +92,7 @@ or_zero (Some x) = x
 abbrev pub no_column : {V : Type 0} → Column V
 no_column = record { name = []; marked = false; entries = [] }
 
+-- column j
 abbrev pub column_at : Mps ℚ → ℕ → Column ℚ
 column_at m j = get_or m.columns j no_column
 
@@ -108,9 +118,11 @@ row_sides E b (Some r) = cond (is_negative r) (record { lower = Some (b +ℚ r);
 abbrev pub no_row : MpsRow
 no_row = record { name = []; kind = N }
 
+-- the right side of row i; 0 where none is given
 abbrev pub rhs_at : Mps ℚ → ℕ → ℚ
 rhs_at m i = or_zero (at_row i m.rhs)
 
+-- the interval of row i
 abbrev pub row_interval : Mps ℚ → ℕ → Interval
 row_interval m i = row_sides (get_or m.rows i no_row).kind (rhs_at m i) (at_row i m.ranges)
 
@@ -126,6 +138,7 @@ lower_set Up v = None
 lower_set Ui v = None
 lower_set Pl v = None
 
+-- the side that a record sets, where it sets the upper one
 abbrev pub upper_set : BoundKind → ℚ → Option (Option ℚ)
 upper_set Up v = Some (Some v)
 upper_set Ui v = Some (Some v)
@@ -137,6 +150,7 @@ upper_set Lo v = None
 upper_set Li v = None
 upper_set Mi v = None
 
+-- the first that is there
 abbrev pub or_else : {A : Type 0} → Option A → Option A → Option A
 or_else (Some x) o = Some x
 or_else None o = o
@@ -152,15 +166,18 @@ usual_lower (Some (Some u)) = cond (is_negative u) None (Some zero_ℚ)
 usual_lower (Some None) = Some zero_ℚ
 usual_lower None = Some zero_ℚ
 
+-- the side that is set, or else the usual one
 abbrev pub given : Option (Option ℚ) → Option ℚ → Option ℚ
 given (Some side) usual = side
 given None usual = usual
 
+-- the interval of column j
 abbrev pub column_interval : Mps ℚ → ℕ → Interval
 column_interval m j =
     let upper = side_set upper_set j m.bounds in
     record { lower = given (side_set lower_set j m.bounds) (usual_lower upper); upper = given upper None }
 
+-- a record of this kind makes its column whole
 abbrev pub is_whole_kind : BoundKind → Bool
 is_whole_kind Bv = true
 is_whole_kind Li = true
@@ -172,10 +189,12 @@ is_whole_kind Fr = false
 is_whole_kind Mi = false
 is_whole_kind Pl = false
 
+-- column j has a record that makes it whole
 unfoldable pub has_whole_record : ℕ → List (Bound ℚ) → Bool
 has_whole_record j [] = false
 has_whole_record j (b ∷ bs) = (nat_eq b.column j && is_whole_kind b.kind) || has_whole_record j bs
 
+-- column j is marked, or a record makes it whole
 abbrev pub is_whole_column : Mps ℚ → ℕ → Bool
 is_whole_column m j = (column_at m j).marked || has_whole_record j m.bounds
 
@@ -190,5 +209,6 @@ unfoldable pub objective_row : List MpsRow → ℕ
 objective_row [] = 0
 objective_row (r ∷ rs) = elim r.kind [ N ↦ 0 | L ↦ suc (objective_row rs) | G ↦ suc (objective_row rs) | E ↦ suc (objective_row rs) ]
 
+-- the value of the first N row less its right side
 abbrev pub mps_objective : Mps ℚ → List ℚ → ℚ
 mps_objective m xs = row_value m xs (objective_row m.rows) -ℚ rhs_at m (objective_row m.rows)

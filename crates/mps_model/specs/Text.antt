@@ -15,12 +15,14 @@ section word = word ++ 10 ∷ []
 abbrev pub data_line : List (List ℕ) → List ℕ
 data_line words = flat_map (λ word. 32 ∷ word) words ++ 10 ∷ []
 
+-- the letter of a kind of row
 abbrev pub kind_text : RowKind → List ℕ
 kind_text N = codes "N"
 kind_text L = codes "L"
 kind_text G = codes "G"
 kind_text E = codes "E"
 
+-- the word of a kind of bound
 abbrev pub bound_text : BoundKind → List ℕ
 bound_text Lo = codes "LO"
 bound_text Up = codes "UP"
@@ -54,13 +56,16 @@ abbrev pub name_section : List ℕ → List ℕ
 name_section [] = []
 name_section (b ∷ name) = section (codes "NAME " ++ b ∷ name)
 
+-- the sense where the objective is maximised, nothing where it is minimised
 abbrev pub sense_section : Bool → List ℕ
 sense_section true = section (codes "OBJSENSE") ++ data_line (codes "MAX" ∷ [])
 sense_section false = []
 
+-- kind and name
 abbrev pub row_line : MpsRow → List ℕ
 row_line r = data_line (kind_text r.kind ∷ r.name ∷ [])
 
+-- marker line i; the word is that of a beginning or an end
 abbrev pub marker_line : ℕ → List ℕ → List ℕ
 marker_line i word = data_line ((codes "M" ++ decimal i) ∷ codes "'MARKER'" ∷ word ∷ [])
 
@@ -71,6 +76,7 @@ change_text true false i = marker_line i (codes "'INTEND'")
 change_text false false i = []
 change_text true true i = []
 
+-- how many marker lines stand after that place
 abbrev pub markers_after : Bool → Bool → ℕ → ℕ
 markers_after false true i = i + 1
 markers_after true false i = i + 1
@@ -84,9 +90,11 @@ unless_empty (x ∷ xs) text = text
 
 -- text is how a number is written
 module _ {V : Type 0} (text : V → List ℕ) where
+  -- a word, the name of the row, and the number
   abbrev pub entry_line : List MpsRow → List ℕ → Entry V → List ℕ
   entry_line rows word e = data_line (word ∷ row_name rows e.row ∷ text e.value ∷ [])
 
+  -- a line for each entry
   abbrev pub entry_lines : List MpsRow → List ℕ → List (Entry V) → List ℕ
   entry_lines rows word entries = flat_map (entry_line rows word) entries
 
@@ -95,9 +103,11 @@ module _ {V : Type 0} (text : V → List ℕ) where
   columns_text rows before i [] = change_text before false i
   columns_text rows before i (c ∷ cs) = change_text before c.marked i ++ entry_lines rows c.name c.entries ++ columns_text rows c.marked (markers_after before c.marked i) cs
 
+  -- kind, set name, column, and the number where the kind has one
   abbrev pub bound_line : List (Column V) → Bound V → List ℕ
   bound_line columns b = data_line (bound_text b.kind ∷ codes "BND" ∷ (get_or columns b.column no_column).name ∷ value_words b.kind (text b.value))
 
+  -- the text of a program
   unfoldable pub mps_text_by : Mps V → List ℕ
   mps_text_by m =
       name_section m.name

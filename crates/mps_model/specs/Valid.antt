@@ -17,6 +17,7 @@ abbrev pub IsNameOrEmpty : List ℕ → Type 0
 IsNameOrEmpty [] = Unit {0}
 IsNameOrEmpty (b ∷ bs) = IsName (b ∷ bs)
 
+-- the row has another name
 abbrev pub IsOtherRow : List ℕ → MpsRow → Type 0
 IsOtherRow name r = r.name ≢ name
 
@@ -36,6 +37,7 @@ abbrev pub IsNone : {A : Type 0} → Option A → Type 0
 IsNone None = Unit {0}
 IsNone (Some x) = ⊥
 
+-- one of the two is missing
 abbrev pub AreNotBoth : {A : Type 0} → Option A → Option A → Type 0
 AreNotBoth None o = Unit {0}
 AreNotBoth (Some x) o = IsNone o
@@ -58,6 +60,7 @@ IsWithoutNumber Li = ⊥
 IsWithoutNumber Ui = ⊥
 
 module _ {V : Type 0} where
+  -- the entry is in another row than row i
   abbrev pub IsOtherEntry : ℕ → Entry V → Type 0
   IsOtherEntry i e = e.row ≢ i
 
@@ -66,9 +69,11 @@ module _ {V : Type 0} where
     pub within : All (λ e. e.row < n) entries
     pub apart : AllPairs (λ e g. e.row ≢ g.row) entries
 
+  -- the column has another name
   abbrev pub IsOtherColumn : List ℕ → Column V → Type 0
   IsOtherColumn name c = c.name ≢ name
 
+  -- how many entries the columns have together
   abbrev pub entry_count : List (Column V) → ℕ
   entry_count columns = sum_by (λ c. length c.entries) columns
 
@@ -104,6 +109,7 @@ module _ {V : Type 0} where
     pub ranges : AreRanges m.rows m.ranges
     pub bounds : AreBounds value (length m.columns) m.bounds
 
+  -- the column has an entry
   abbrev pub HasEntries : Column V → Type 0
   HasEntries c = 0 < length c.entries
 
@@ -112,6 +118,7 @@ module _ {V : Type 0} where
     pub objective : objective_row m.rows < length m.rows
     pub filled : All HasEntries m.columns
 
+  -- a whole program
   pub record IsMps (value : V → ℚ) (m : Mps V) : Type 0 where
     pub part : IsPartOfMps value m
     pub complete : IsComplete m
