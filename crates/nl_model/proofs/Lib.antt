@@ -2,4 +2,6 @@ mod Definitions
 mod Drafts
 mod Guesses
 pub mod Headers
+pub mod OneList
+pub mod Opcodes
 pub mod Prefixes

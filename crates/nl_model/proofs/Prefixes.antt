@@ -109,14 +109,14 @@ record IsSplit (k : ℕ) (ts : List Tree) (ns : List Node) : Type 0 where
   first : ArePrefixes (first_trees k ts) front
   rest : ArePrefixes (as_trees (drop k ts)) back
 
-record IsCut (t : Tree) (us : Trees) (ns : List Node) : Type 0 where
-  head : List Node
-  tail : List Node
-  joined : ns ≡ head ++ tail
-  first : IsPrefix t head
-  rest : ArePrefixes us tail
+pub record IsCut (t : Tree) (us : Trees) (ns : List Node) : Type 0 where
+  pub head : List Node
+  pub tail : List Node
+  pub joined : ns ≡ head ++ tail
+  pub first : IsPrefix t head
+  pub rest : ArePrefixes us tail
 
-cut : (t : Tree) (us : Trees) (ns : List Node) → ArePrefixes (more t us) ns → IsCut t us ns
+pub cut : (t : Tree) (us : Trees) (ns : List Node) → ArePrefixes (more t us) ns → IsCut t us ns
 cut t us _ (one_more _ ns _ ms h k) = record { head = ns; tail = ms; joined = refl; first = h; rest = k }
 
 split : (k : ℕ) (ts : List Tree) (ns : List Node) → k ≤ length ts → ArePrefixes (as_trees ts) ns → IsSplit k ts ns
@@ -153,6 +153,9 @@ only [] h = absurd (omega arith)
 only (t ∷ []) h = refl
 only (t ∷ u ∷ ts) h = absurd (omega arith)
 
+pub none_empty : (ms : List Node) → ArePrefixes none ms → ms ≡ []
+none_empty _ no_tree = refl
+
 -- the nodes of one tree, from the tree alone
 alone : (t : Tree) (ns : List Node) → ArePrefixes (more t none) ns → IsPrefix t ns
 alone t ns p =
@@ -160,9 +163,6 @@ alone t ns p =
     let P : List Node → Type 0 = λ ms. IsPrefix t ms in
     let nothing = none_empty c.tail c.rest in
     subst P (sym (c.joined ∙ ap (λ ms. c.head ++ ms) nothing ∙ append-nil c.head)) c.first
-  where
-    none_empty : (ms : List Node) → ArePrefixes none ms → ms ≡ []
-    none_empty _ no_tree = refl
 
 pub nodes_of_run : (ns : List Node) (wants : ℕ) → AreNodesBegun ns wants → awaited ns ≡ 0 → AreNodesOf (tree_of ns) ns
 nodes_of_run ns wants b e =

@@ -1,10 +1,28 @@
 -- Nodes in prefix form, seen as trees (Gay 2005, "Writing .nl Files", expressions).
 use Rattle.std.specs.Prelude.{◌≡◌, ℕ, ◌+◌, ◌-◌, ◌*◌, ◌^◌, ◌<◌, ◌≤◌, List, [], ◌∷◌, ◌++◌, drop, length}
 use Rattle.code_tables.specs.Opcodes.{class_of}
+use Rattle.code_tables.specs.declared.class.OpClass.{OpClass}
+use Rattle.code_tables.specs.declared.class.OpClass.TheVariants.{Sum, Difference, Product, Quotient, Negation, List as ListOf, Power, Least, Greatest, Floor, Ceiling, Absolute, Refused}
 use Rattle.exact_numbers.specs.declared.dec.Dec.{Dec}
 use Rattle.nl_meaning.specs.Trees.{Tree, number, variable, defined, operator, Trees, none, more, first_trees, count_of, HasCount}
 use Rattle.nl_model.specs.declared.node.Node.{Node}
 use Rattle.nl_model.specs.declared.node.Node.TheVariants.{Num, Var, Defined, Op}
+
+-- the opcode of a class; nothing asks for that of refused ones
+abbrev pub opcode_of : OpClass → ℕ
+opcode_of Sum = 0
+opcode_of Difference = 1
+opcode_of Product = 2
+opcode_of Quotient = 3
+opcode_of Power = 5
+opcode_of Least = 11
+opcode_of Greatest = 12
+opcode_of Floor = 13
+opcode_of Ceiling = 14
+opcode_of Absolute = 15
+opcode_of Negation = 16
+opcode_of ListOf = 54
+opcode_of Refused = 4
 
 -- a node before some trees: an operator takes its operands from them
 abbrev pub with_node : Node → List Tree → List Tree

@@ -159,33 +159,18 @@ impl NlBuilder {
         requires terms { term_count self.terms ≡ self.counts.nzc }
         ensures { result ≡ file_of self }
     {
-        let NlBuilder {
-            header,
-            bodies,
-            objectives,
-            definitions,
-            defined: _,
-            terms,
-            term_count: _,
-            slopes,
-            sides,
-            bounds,
-            dual_guesses,
-            primal_guesses,
-            suffixes,
-        } = self;
         NlFile {
-            header,
-            bodies,
-            objectives,
-            definitions,
-            terms,
-            slopes,
-            sides,
-            bounds,
-            dual_guesses,
-            primal_guesses,
-            suffixes,
+            header: self.header,
+            bodies: self.bodies,
+            objectives: self.objectives,
+            definitions: self.definitions,
+            terms: self.terms,
+            slopes: self.slopes,
+            sides: self.sides,
+            bounds: self.bounds,
+            dual_guesses: self.dual_guesses,
+            primal_guesses: self.primal_guesses,
+            suffixes: self.suffixes,
         }
     }
 }

@@ -12,12 +12,15 @@ mod file;
 mod header;
 mod interval;
 mod kind;
+pub mod laws;
 mod node;
 mod objective;
 mod options;
 mod places;
 mod suffix;
 mod terms;
+#[cfg(test)]
+mod tests;
 
 pub use at::{At, Owner};
 pub use builder::NlBuilder;
