@@ -1,6 +1,9 @@
 pub mod Digits
+pub mod Headline
 pub mod Kept
 pub mod Known
 pub mod Lists
 pub mod FrontRows
+pub mod SmallFiles
+pub mod SmallTexts
 pub mod Zeros

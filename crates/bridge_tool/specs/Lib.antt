@@ -1,8 +1,11 @@
 pub mod Command
+pub mod Export
 pub mod Outcome
 pub mod Reading
+pub mod SmallFacts
+pub mod SmallFile
 pub mod SmallLines
 pub mod SmallRows
 pub mod SmallWords
-pub mod Toy
 pub mod Transfer
+pub mod WholeNumbers

@@ -2,6 +2,7 @@
 #![tactic(auto)]
 
 mod command;
+mod exporting;
 mod rows;
 mod small;
 mod small_lines;
@@ -9,10 +10,8 @@ mod words;
 #[cfg(test)]
 mod tests;
 mod top;
-mod toy;
 mod transfer;
 
 pub use command::{export_file, line_for};
-pub use top::{bridge, bridge_headline};
-pub use toy::judge;
+pub use top::{bridge};
 pub use transfer::{read_text, tell_line, write_all};

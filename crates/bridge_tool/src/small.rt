@@ -95,7 +95,7 @@ fn read_rows(alloc: Global, lines: &TextLines) -> Result<SmallText, Stop<NotSmal
 
 /// What a text says, if it is a small text.
 #[tactic(auto, unfolding(crate::specs::SmallRows::small_text))]
-pub(crate) fn read_text(alloc: Global, text: &[u8]) -> Result<SmallText, Stop<NotSmall>>
+pub(crate) fn read_small(alloc: Global, text: &[u8]) -> Result<SmallText, Stop<NotSmall>>
     ensures { Says (small_text text.now) result }
 {
     match read_lines(alloc, text) {
