@@ -1,20 +1,18 @@
-use Rattle.std.proofs.Common.{◌≡◌, ◌≢◌, ℕ, zero, suc, ◌+◌, ◌-◌, ◌<◌, ◌≤◌, ◌^◌, ◌∙◌, sym, ap, ap₂, refl, arith, subst, List, [], ◌∷◌, ◌++◌, length, drop, get_or, append_assoc, append-nil, All, IfSome, map, Option, Some, None, add-one, length-append}
-use Rattle.std.specs.Fmt.{decimal}
+use Rattle.std.proofs.Common.{◌≡◌, ◌≢◌, ℕ, suc, ◌+◌, ◌<◌, ◌≤◌, ◌^◌, ◌∙◌, sym, ap, ap₂, refl, arith, subst, List, [], ◌∷◌, ◌++◌, length, drop, get_or, append_assoc, append-nil, All, map, Option, Some, None, length-append}
 use Rattle.std.proofs.lemmas.Fmt.{decimal_injective}
-use Rattle.std.proofs.lemmas.List.{length-map, map-append}
-use Rattle.std.proofs.lemmas.List.Elements.{All-push, All-append}
+use Rattle.std.proofs.lemmas.List.{length-map}
+use Rattle.std.proofs.lemmas.List.Elements.{All-push}
 use Rattle.fractions.specs.Rational.{ℚ}
 use Rattle.mps_model.specs.Mps.{MpsRow, Entry, Mps, entry_with}
 use Rattle.mps_model.specs.declared.kinds.RowKind.{RowKind}
 use Rattle.mps_model.specs.Valid.{IsOtherRow, marker_word}
 use Rattle.mps_model.specs.Built.{CanAddRow}
-use Rattle.exported_program.specs.Program.{ScaledRow, kind_of, mps_row, with_entry, entries_of, obj_name, zdef_name}
+use Rattle.exported_program.specs.Program.{ScaledRow, kind_of, mps_row, with_entry, entries_of}
 use Rattle.exact_numbers.specs.declared.numbers.Dec.{Dec}
 use Rattle.exact_numbers.specs.Values.{dec_value}
 use Rattle.row_scaling.specs.declared.row.FactoredRow.{FactoredRow}
-use Rattle.row_scaling.specs.Rows.{side_value, RowValue}
-use Rattle.row_scaling.specs.Scaled.{ScaledValue}
-use Rattle.row_scaling.specs.Exported.{exported_from, row_name, scaled_row_of, tied_rows, program_rows}
+use Rattle.row_scaling.specs.Rows.{side_value}
+use Rattle.row_scaling.specs.Exported.{exported_from, row_name, scaled_row_of}
 use Rattle.row_scaling.specs.Sides.{IsEntryAdded, AreEntriesAdded}
 use Rattle.row_scaling.proofs.RowLemmas.{Rows, left, left_none, left_some, left_end, entries_more, entries_none}
 use Rattle.row_scaling.proofs.ColumnLemmas.{entry_front}

@@ -1,7 +1,11 @@
 pub mod AddLemmas
 pub mod ColumnLemmas
+pub mod ColumnsLeft
+pub mod FillLemmas
 pub mod NameLemmas
 pub mod NumberLemmas
+pub mod ProgramLemmas
 pub mod RowLemmas
 pub mod TieLemmas
+pub mod VariableLemmas
 pub mod WholeLemmas

@@ -1,16 +1,14 @@
-use Rattle.std.proofs.Common.{◌≡◌, ℕ, ◌+◌, ◌*◌, ◌^◌, ◌<◌, ◌∙◌, sym, ap, refl, arith, subst, ⊎_elim, ℤ, pos, ◌*ℤ◌, Bool, true, false, ◌↔◌, IsTrue, Option, Some, None, mul-one, ◌<ℤ◌, int_lt, nat_eq}
+use Rattle.std.proofs.Common.{◌≡◌, ◌^◌, ◌∙◌, sym, ap, refl, arith, subst, ⊎_elim, ℤ, pos, ◌*ℤ◌, Bool, true, false, ◌↔◌, IsTrue, Some, None, mul-one, ◌<ℤ◌, int_lt, nat_eq}
 use Rattle.std.proofs.lemmas.Int.{ints}
-use Rattle.std.specs.Option.{option_map}
 use Rattle.std.specs.Ordering.{int_cmp, ordering_index}
 use Rattle.std.specs.declared.cmp.Ordering.{Ordering}
-use Rattle.fractions.specs.Rational.{ℚ, whole, zero_ℚ, one_ℚ, decimal_value, above_zero, below_zero}
+use Rattle.fractions.specs.Rational.{ℚ, zero_ℚ, one_ℚ, decimal_value, above_zero, below_zero}
 use Rattle.fractions.proofs.Signed.{times_cancel, times_twice}
 use Rattle.fractions.proofs.Values.{HasValue, same_crosswise, equal_tops, same_value, whole_value}
 use Rattle.fractions.proofs.Arithmetic.{decimal_value_lem}
 use Rattle.exported_program.specs.Program.{nonzero}
 use Rattle.exported_program.proofs.Sides.{nonzero_cases}
 use Rattle.exact_numbers.specs.declared.numbers.Dec.{Dec}
-use Rattle.exact_numbers.specs.Decimal.{IsDec}
 use Rattle.exact_numbers.specs.Values.{dec_value, FitsDec, order_of}
 use Rattle.exact_numbers.proofs.Orders.{less_z, greater_z, equal_z}
 use Rattle.exact_numbers.proofs.Tens.{ten-pos}
@@ -52,12 +50,12 @@ some_at_other d h =
 -- ---- comparison
 equal_out : (z w : ℤ) → nat_eq (ordering_index (int_cmp z w)) 1 ≡ true → z ≡ w
 equal_out z w h =
-    elim (int_lt z w) as (λ b. int_lt z w ≡ b → z ≡ w)
-    [ true ↦ λ e. (let l : z <ℤ w = omega (arith, ints, e) in let f = sym (ap (λ o. nat_eq (ordering_index o) 1) (less_z z w l)) ∙ h in cc)
-    | false ↦ λ e. elim (int_lt w z) as (λ b. int_lt w z ≡ b → z ≡ w)
-        [ true ↦ λ f. (let l : w <ℤ z = omega (arith, ints, f) in let g = sym (ap (λ o. nat_eq (ordering_index o) 1) (greater_z z w l)) ∙ h in cc)
+    elim (int_lt z w) as (λ b. int_lt z w ≡ b → z ≡ w) [
+      | true ↦ λ e. (let l : z <ℤ w = omega (arith, ints, e) in let f = sym (ap (λ o. nat_eq (ordering_index o) 1) (less_z z w l)) ∙ h in cc)
+      | false ↦ λ e. elim (int_lt w z) as (λ b. int_lt w z ≡ b → z ≡ w) [
+        | true ↦ λ f. (let l : w <ℤ z = omega (arith, ints, f) in let g = sym (ap (λ o. nat_eq (ordering_index o) 1) (greater_z z w l)) ∙ h in cc)
         | false ↦ λ f. omega (arith, ints, e, f)
-        ] refl
+      ] refl
     ] refl
 
 pub by_order : (b : Bool) (o : Ordering) (x y : ℚ) → b ≡ nat_eq (ordering_index o) 1 → o ≡ order_of x y → IsTrue b ↔ (x ≡ y)

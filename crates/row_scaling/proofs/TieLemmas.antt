@@ -1,10 +1,9 @@
-use Rattle.std.proofs.Common.{◌≡◌, ◌≢◌, ℕ, zero, suc, ◌+◌, ◌<◌, ◌≤◌, ◌∙◌, sym, ap, ap₂, refl, arith, subst, cond, nat_eq, true, false, List, [], ◌∷◌, ◌++◌, length, get_or, append_assoc, All, IfSome, map, Option, Some, None, add-one, append-nil, ℤ, pos, ◌<ℤ◌, neg_ℤ, ⊎_elim, length-append}
+use Rattle.std.proofs.Common.{◌≡◌, ◌≢◌, ℕ, suc, ◌+◌, ◌<◌, ◌≤◌, ◌∙◌, sym, ap, ap₂, refl, arith, subst, cond, nat_eq, List, [], ◌∷◌, ◌++◌, length, get_or, append_assoc, All, IfSome, map, Option, Some, None, append-nil, pos, neg_ℤ, ⊎_elim}
 use Rattle.std.proofs.lemmas.Bool.{cases_eq, eq-eqb, ne_eqb}
 use Rattle.std.proofs.lemmas.List.{map-append}
 use Rattle.std.proofs.lemmas.Int.{ints}
 use Rattle.std.proofs.lemmas.List.Sums.{sum_by-cons}
-use Rattle.fractions.specs.Rational.{ℚ, whole, zero_ℚ, one_ℚ, neg_ℚ, ◌+ℚ◌}
-use Rattle.fractions.specs.Sums.{sum_over}
+use Rattle.fractions.specs.Rational.{ℚ, zero_ℚ, one_ℚ, ◌+ℚ◌}
 use Rattle.fractions.proofs.Arithmetic.{+ℚ_zero, zero-+ℚ, whole-neg, same_whole}
 use Rattle.fractions.proofs.Adding.{sum_over-append}
 use Rattle.mps_model.specs.Mps.{Entry}
@@ -14,7 +13,7 @@ use Rattle.exact_numbers.specs.Values.{dec_value}
 use Rattle.row_scaling.specs.declared.row.Tie.{Tie}
 use Rattle.row_scaling.specs.Rows.{TermOf, IsSparse, IsBelow, coefficient_of}
 use Rattle.row_scaling.specs.Scaled.{ScaledValue, IsScaled, IsTie, term_count}
-use Rattle.row_scaling.specs.Exported.{exported_from, form_of, tied_row, tied_rows, written_form, program_rows, program_objective}
+use Rattle.row_scaling.specs.Exported.{exported_from, form_of, tied_row, tied_rows, written_form}
 use Rattle.row_scaling.specs.Columns.{terms_in, entry_value, entries_in_column, column_count, tied_count, IsAdded, AreRowsAdded, AreColumns, total_of}
 use Rattle.row_scaling.proofs.ColumnLemmas.{terms_of_row, terms_in-append, entry_front, nothing_in, first_in, later_in, no_terms}
 use Rattle.row_scaling.proofs.RowLemmas.{entries_more, entries_none}

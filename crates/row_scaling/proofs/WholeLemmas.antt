@@ -1,18 +1,16 @@
-use Rattle.std.proofs.Common.{◌≡◌, ◌≢◌, ℕ, zero, suc, ◌+◌, ◌-◌, ◌<◌, ◌≤◌, ◌^◌, ◌∙◌, sym, ap, ap₂, refl, arith, subst, List, [], ◌∷◌, ◌++◌, length, get_or, append_assoc, append-nil, All, IfSome, map, Option, Some, None, IsSome, length-append, ⊎_elim}
-use Rattle.std.proofs.lemmas.List.{length-map, map-append}
-use Rattle.std.proofs.lemmas.List.Elements.{All-append}
-use Rattle.fractions.specs.Rational.{ℚ, zero_ℚ, neg_ℚ, ◌-ℚ◌}
+use Rattle.std.proofs.Common.{◌≡◌, ℕ, zero, suc, ◌+◌, ◌-◌, ◌<◌, ◌≤◌, ◌^◌, ◌∙◌, sym, ap, ap₂, refl, arith, subst, List, [], ◌∷◌, ◌++◌, length, get_or, append-nil, All, map, Option, Some, None, IsSome, length-append}
+use Rattle.std.proofs.lemmas.List.{length-map}
+use Rattle.fractions.specs.Rational.{ℚ, neg_ℚ, ◌-ℚ◌}
 use Rattle.fractions.proofs.Arithmetic.{+ℚ-neg, neg_zero, -ℚ_lem}
 use Rattle.mps_model.specs.Mps.{MpsRow, Entry, Mps, entry_with}
-use Rattle.mps_model.specs.declared.kinds.RowKind.TheVariants.{N, L, G, E}
-use Rattle.mps_model.specs.Valid.{IsOtherRow, IsBounded, marker_word}
-use Rattle.exported_program.specs.Program.{ScaledRow, kind_of, two_sided, nonzero, mps_row, with_entry, entries_of, obj_name, zdef_name}
+use Rattle.mps_model.specs.declared.kinds.RowKind.TheVariants.{N, E}
+use Rattle.mps_model.specs.Valid.{IsOtherRow, IsBounded}
+use Rattle.exported_program.specs.Program.{two_sided, nonzero, mps_row, with_entry, entries_of, obj_name, zdef_name}
 use Rattle.exact_numbers.specs.declared.numbers.Dec.{Dec}
 use Rattle.exact_numbers.specs.Values.{dec_value}
-use Rattle.row_scaling.specs.declared.row.FactoredRow.{FactoredRow}
 use Rattle.row_scaling.specs.declared.row.Tie.{Tie}
 use Rattle.row_scaling.specs.Scaled.{ScaledValue}
-use Rattle.row_scaling.specs.Exported.{exported_from, row_name, scaled_row_of, form_of, tied_row, tied_rows, written_form, program_rows, program_objective}
+use Rattle.row_scaling.specs.Exported.{exported_from, form_of, tied_row, tied_rows, written_form, program_rows, program_objective}
 use Rattle.row_scaling.specs.Sides.{IsEntryAdded, AreEntriesAdded, right_side_of, range_in}
 use Rattle.row_scaling.proofs.RowLemmas.{Rows, entries_none}
 use Rattle.row_scaling.proofs.TieLemmas.{entries_of-append, one_entry}

@@ -1,5 +1,5 @@
 -- Scaled rows as data, and their values.
-use Rattle.std.specs.Prelude.{◌≡◌, ◌≢◌, ℕ, suc, ◌<◌, ◌≤◌, nat_eq, cond, IsTrue, List, [], ◌∷◌, Option, Some, All}
+use Rattle.std.specs.Prelude.{◌≡◌, ◌≢◌, ℕ, suc, ◌<◌, ◌≤◌, nat_eq, cond, IsTrue, List, [], ◌∷◌, Option, All}
 use Rattle.std.specs.Option.{option_map}
 use Rattle.fractions.specs.Rational.{ℚ, zero_ℚ}
 use Rattle.fractions.specs.Sums.{sum_over}

@@ -1,8 +1,8 @@
 -- A scaled linear program as data.
-use Rattle.std.specs.Prelude.{◌≡◌, ℕ, ◌+◌, ◌<◌, ◌≤◌, ◌^◌, ℤ, pos, ◌<ℤ◌, Bool, List, length, get_or, Option, None, All, IfSome}
+use Rattle.std.specs.Prelude.{◌≡◌, ℕ, ◌+◌, ◌≤◌, ◌^◌, ℤ, pos, ◌<ℤ◌, Bool, List, length, get_or, Option, None, All, IfSome}
 use Rattle.std.specs.List.{sum_by}
 use Rattle.std.specs.Option.{option_map, option_map_or}
-use Rattle.fractions.specs.Rational.{ℚ, whole, neg_ℚ}
+use Rattle.fractions.specs.Rational.{whole, neg_ℚ}
 use Rattle.exact_numbers.specs.Values.{dec_value}
 use Rattle.nl_model.specs.declared.interval.Interval.{Interval}
 use Rattle.nl_model.specs.declared.kind.Kind.{Kind}

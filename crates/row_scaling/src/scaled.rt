@@ -123,7 +123,8 @@ impl Scaled {
 
     /// Whether the objective is maximised.
     pub fn maximise(&self) -> bool
-        ensures { result ≡ self.now.maximise }
+        ensures value { result ≡ self.now.maximise }
+        ensures scaled { IsScaled self.now }
     {
         self.maximise
     }

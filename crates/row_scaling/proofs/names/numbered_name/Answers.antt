@@ -1,4 +1,4 @@
-use Rattle.std.proofs.Common.{◌≡◌, ◌∷◌, ◌∙◌, sym, subst, ap, rules, arith, ◌<◌, ◌^◌}
+use Rattle.std.proofs.Common.{◌≡◌, ◌∷◌, sym, subst, rules, arith, ◌<◌, ◌^◌}
 use Rattle.std.specs.Fmt.{decimal}
 use Rattle.text_base.specs.Names.{IsName}
 use Rattle.row_scaling.proofs.NameLemmas.{numbered_is_name}

@@ -1,6 +1,5 @@
-use Rattle.std.proofs.Common.{◌≡◌, ◌<◌, ◌^◌, arith}
-use Rattle.row_scaling.proofs.AddLemmas.{can_put_row, row_put, rows_put}
-use Rattle.row_scaling.proofs.RowLemmas.{Rows}
+use Rattle.std.proofs.Common.{◌<◌, ◌^◌, arith}
+use Rattle.row_scaling.proofs.AddLemmas.{can_put_row, row_put}
 use Rattle.row_scaling.proofs.rows.add_exported_rows.Goals as goal
 
 pub add_row-requires : goal.add_row-requires

@@ -1,7 +1,4 @@
-use Rattle.std.proofs.Common.{◌≡◌, ◌∷◌, length, map, ap, sym, subst, ◌≤◌, ◌^◌}
-use Rattle.mps_model.specs.declared.kinds.RowKind.TheVariants.{N}
-use Rattle.exported_program.specs.Program.{mps_row, obj_name}
-use Rattle.row_scaling.specs.Exported.{exported_from}
+use Rattle.std.proofs.Common.{length, ap, sym, subst, ◌≤◌, ◌^◌}
 use Rattle.row_scaling.proofs.WholeLemmas.{obj_and_rows, few_rows_yet, zdef_not_yet}
 use Rattle.row_scaling.proofs.rows.add_rows.Goals as goal
 

@@ -1,4 +1,4 @@
-use Rattle.std.proofs.Common.{◌≡◌, ◌≤◌, ◌<◌, ◌∙◌, [], length, All, ap, sym, subst, refl, arith}
+use Rattle.std.proofs.Common.{◌<◌, ◌∙◌, length, All, ap, sym, subst, refl, arith}
 use Rattle.row_scaling.specs.Rows.{side_value}
 use Rattle.row_scaling.specs.Exported.{exported_from, program_rows}
 use Rattle.row_scaling.specs.Sides.{range_in, AreEntriesAdded}

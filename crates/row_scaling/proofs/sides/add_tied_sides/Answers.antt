@@ -1,4 +1,4 @@
-use Rattle.std.proofs.Common.{◌≡◌, ◌+◌, ◌∙◌, length, ap, subst}
+use Rattle.std.proofs.Common.{◌+◌, ◌∙◌, length, ap, subst}
 use Rattle.fractions.specs.Rational.{neg_ℚ}
 use Rattle.exported_program.specs.Program.{nonzero}
 use Rattle.exact_numbers.specs.Values.{dec_value}
