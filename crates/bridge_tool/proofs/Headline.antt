@@ -1,12 +1,12 @@
 -- The headline, from the clauses of each call.
-use Rattle.std.proofs.Common.{◌≡◌, ◌≢◌, ◌⊎◌, inl, inr, ◌∙◌, ℕ, ◌≤◌, List, take, Option, Some, None, refl, ap, arith}
+use Rattle.std.proofs.Common.{◌≡◌, ◌≢◌, inl, inr, ◌∙◌, ℕ, ◌≤◌, List, take, Option, Some, None, refl, ap, arith}
 use Rattle.std.specs.Prelude.{option_map}
 use Rattle.nl_model.specs.File.{File}
 use Rattle.text_base.specs.Desk.{Texts}
 use Rattle.bridge_tool.specs.Command.{file_of}
 use Rattle.bridge_tool.specs.Export.{output_of, export_text, MeansTheSame}
 use Rattle.bridge_tool.specs.SmallFile.{small_file}
-use Rattle.bridge_tool.specs.Outcome.{Answers, IsQuiet, Outcome, Status, Told, Written, outcome_of, outcome_of_command, outcome_of_export, outcome_of_file, outcome_of_output}
+use Rattle.bridge_tool.specs.Outcome.{Answers, IsQuiet, Status, Told, Written, outcome_of, outcome_of_command, outcome_of_file, outcome_of_output}
 use Rattle.bridge_tool.specs.declared.transfer.TheConstants.{LIMIT}
 
 same_output : (text : List ℕ) → output_of text ≡ option_map export_text (small_file text)
@@ -33,11 +33,11 @@ pub answers : (o : Option File) (status : ℕ) (ow nw ot nt : Option (List ℕ))
     → Answers o ow nw ot nt before now status
 answers None status ow nw ot nt before now input output which written quiet told silent memory no_input no_output means =
     elim which [
-      inl e ↦ (e, quiet (inl e), rw e at told)
-    | inr k ↦ elim k [ inl e ↦ absurd (memory e) | inr f ↦ absurd (no_input f.1) ]
+      | inl e ↦ (e, quiet (inl e), rw e at told)
+      | inr k ↦ elim k [ inl e ↦ absurd (memory e) | inr f ↦ absurd (no_input f.1) ]
     ]
 answers (Some f) status ow nw ot nt before now input output which written quiet told silent memory no_input no_output means =
     elim which [
-      inl e ↦ (e, written.0 (omega arith), silent (omega arith), means f refl)
-    | inr k ↦ elim k [ inl e ↦ absurd (memory e) | inr j ↦ elim j [ inl g ↦ absurd (no_input g.1) | inr g ↦ absurd (no_output g.1) ] ]
+      | inl e ↦ (e, written.0 (omega arith), silent (omega arith), means f refl)
+      | inr k ↦ elim k [ inl e ↦ absurd (memory e) | inr j ↦ elim j [ inl g ↦ absurd (no_input g.1) | inr g ↦ absurd (no_output g.1) ] ]
     ]

@@ -1,9 +1,9 @@
 -- Lines of texts without line faults.
-use Rattle.std.proofs.Common.{◌≡◌, ◌∙◌, ℕ, ◌+◌, ◌<◌, Bool, true, false, cond, ltb, eqb, List, [], ◌∷◌, ◌++◌, length, take, drop, map, filter, Option, Some, None, refl, sym, ap, arith, lt-ltb}
+use Rattle.std.proofs.Common.{◌≡◌, ◌∙◌, ℕ, Bool, true, false, cond, ltb, eqb, List, [], ◌∷◌, ◌++◌, length, map, Option, Some, None, refl, sym, ap, arith, lt-ltb}
 use Rattle.std.proofs.lemmas.List.{append-nil, drop_all, take_all}
 use Rattle.std.proofs.lemmas.Bool.{eqb-true, eqb-false}
 use Rattle.std.proofs.lemmas.List.Elements.{filter-append}
-use Rattle.text_base.specs.Judged.{Rules, Last, Open, Bad, End, reason_at, reason_after, last_reason, IsClean, HasFaultAt}
+use Rattle.text_base.specs.Judged.{Last, End, last_reason, IsClean}
 use Rattle.text_base.specs.Reading.{lines_of, last_of, last_by}
 use Rattle.text_base.specs.Lines.{scan}
 use Rattle.text_base.specs.Words.{row_of}

@@ -1,22 +1,21 @@
 -- The file of a small text means what its program means.
-use Rattle.std.proofs.Common.{◌≡◌, ◌∙◌, ℕ, zero, suc, ◌<◌, ℤ, List, [], ◌∷◌, length, get_or, map, Option, Some, None, IfSome, refl, sym, ap, subst, lit<, ◌↔◌}
+use Rattle.std.proofs.Common.{◌≡◌, ◌∙◌, ℕ, zero, suc, ℤ, List, [], ◌∷◌, get_or, map, Option, Some, None, IfSome, sym, ap, subst, lit<}
 use Rattle.std.specs.Prelude.{option_map}
 use Rattle.std.specs.List.{AllByRecursion}
-use Rattle.fractions.specs.Rational.{ℚ, ◌≤ℚ◌}
 use Rattle.fractions.proofs.Arithmetic.{≤ℚ_refl}
 use Rattle.exact_numbers.specs.Values.{dec_value}
 use Rattle.linear_programs.specs.Linear.{AreOrdered}
-use Rattle.nl_meaning.specs.Trees.{Tree, number, AreTermsBelow, IsFormed}
+use Rattle.nl_meaning.specs.Trees.{AreTermsBelow, IsFormed}
 use Rattle.nl_model.specs.File.{File}
-use Rattle.file_meaning.specs.Expressions.{definitions_of, body_of, objective_of, tree_or_zero, linear_terms, no_objective}
+use Rattle.file_meaning.specs.Expressions.{tree_or_zero, linear_terms, no_objective}
 use Rattle.file_meaning.specs.LinearFile.{linear_of, IsFormedFile, IsPlain, IsNumber}
-use Rattle.file_meaning.specs.Meaning.{side_of, no_sides, interval_of as sides_of}
+use Rattle.file_meaning.specs.Meaning.{no_sides, interval_of as sides_of}
 use Rattle.bridge_tool.specs.declared.words.Side.{Side}
 use Rattle.bridge_tool.specs.declared.words.Term.{Term}
 use Rattle.bridge_tool.specs.declared.rows.Objective.{Objective}
 use Rattle.bridge_tool.specs.SmallRows.{Small}
 use Rattle.bridge_tool.specs.SmallFacts.{AreSame, IsSided, AreBelow, IsSmall}
-use Rattle.bridge_tool.specs.SmallFile.{file_of, constant_tree, interval_of, term_of, terms_of, objectives_of, slopes_of}
+use Rattle.bridge_tool.specs.SmallFile.{file_of, constant_tree, interval_of, terms_of, objectives_of, slopes_of}
 use Rattle.bridge_tool.specs.SmallFile.{small_file}
 use Rattle.bridge_tool.specs.SmallRows.{rows_of, small_rows, small_text, unless_bad}
 use Rattle.bridge_tool.specs.Export.{MeansTheSame, exported_program}

@@ -2,13 +2,10 @@
 use Rattle.std.proofs.Common.{◌≡◌, ℕ, zero, suc, ◌+◌, ◌<◌, ℤ, Bool, true, false, cond, ◌&&◌, nat_eq, ltb, eqb, List, [], ◌∷◌, length, drop, Option, Some, None, IfSome, refl}
 use Rattle.std.specs.Prelude.{option_map, codes, slice_index_or}
 use Rattle.std.specs.List.{AllByRecursion}
-use Rattle.std.specs.Str.{bytes_eq}
 use Rattle.std.proofs.lemmas.Bool.{ltb-true}
-use Rattle.bridge_tool.specs.declared.words.Side.{Side}
 use Rattle.bridge_tool.specs.declared.words.Term.{Term}
 use Rattle.bridge_tool.specs.declared.words.TermsHead.{TermsHead}
-use Rattle.bridge_tool.specs.declared.rows.Head.{Head}
-use Rattle.bridge_tool.specs.SmallWords.{Row, side_in, side_of, side_by, term_in, term_of, is_word, is_letter_row, number_up_to, most_number, small_number}
+use Rattle.bridge_tool.specs.SmallWords.{Row, side_in, side_of, term_in, term_of, is_word, is_letter_row, number_up_to, most_number, small_number}
 use Rattle.bridge_tool.specs.SmallRows.{Read, Part, go_on, one, passing, each, header, body, objective, sides, terms, terms_under, front_head, slopes, Small, small_front, small_rows, whole_small, counts_agree}
 use Rattle.bridge_tool.specs.SmallFacts.{IsSided, AreBelow, IsSmall}
 

@@ -1,5 +1,5 @@
 -- Words that are all one word.
-use Rattle.std.proofs.Common.{◌≡◌, ◌∙◌, ℕ, suc, Bool, true, ◌&&◌, eqb, List, [], ◌∷◌, length, map, refl, ap, eq-eqb}
+use Rattle.std.proofs.Common.{◌≡◌, ◌∙◌, ℕ, suc, Bool, ◌&&◌, eqb, List, [], ◌∷◌, length, refl, ap, eq-eqb}
 use Rattle.std.specs.List.{list_all}
 use Rattle.std.specs.Borrow.{Bor}
 use Rattle.text_base.specs.Words.{texts}

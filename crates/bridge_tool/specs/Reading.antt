@@ -1,9 +1,9 @@
 -- What reading a part of a small text answers.
-use Rattle.std.specs.Prelude.{◌≡◌, ℕ, List, Option, Some, None, Result, Ok, Err, MatchResult}
+use Rattle.std.specs.Prelude.{◌≡◌, List, Option, Some, None, Result, MatchResult}
 use Rattle.text_base.specs.declared.stop.Stop.{Stop}
 use Rattle.text_base.specs.Stopped.{IfFault}
 use Rattle.bridge_tool.specs.SmallWords.{Row}
-use Rattle.bridge_tool.specs.SmallRows.{Read, Part}
+use Rattle.bridge_tool.specs.SmallRows.{Part}
 use Rattle.bridge_tool.specs.declared.rows.NotSmall.{NotSmall}
 
 -- what a part says and leaves of the old rows, or that they do not begin with one; of want of memory nothing is said

@@ -1,6 +1,5 @@
 -- The .nl file that a small text is.
 use Rattle.std.specs.Prelude.{ℕ, ℤ, pos, List, [], ◌∷◌, map, Option, Some, None, option_map}
-use Rattle.exact_numbers.specs.declared.dec.Dec.{Dec}
 use Rattle.nl_meaning.specs.Trees.{Tree, number}
 use Rattle.nl_model.specs.declared.counts.Counts.{Counts}
 use Rattle.nl_model.specs.declared.interval.Interval.{Interval}
@@ -20,15 +19,37 @@ constant_tree z = number (whole_dec z).m (whole_dec z).e
 abbrev pub counts_of : Head → Counts
 counts_of h =
     record {
-      n_var = h.sizes.n_var; n_con = h.sizes.n_con; n_obj = h.sizes.n_obj; n_ranges = 0; n_eqns = 0; n_lcon = 0;
-      nlc = 0; nlo = 0;
-      nlnc = 0; lnc = 0;
-      nlvc = 0; nlvo = 0; nlvb = 0;
-      nwv = 0; nfunc = 0; arith = 0; flags = 1;
-      nbv = 0; niv = 0; nlvbi = 0; nlvci = 0; nlvoi = 0;
-      nzc = h.nonzeros.nzc; nzo = h.nonzeros.nzo;
-      row_name_len = 0; col_name_len = 0;
-      comb = 0; comc = 0; como = 0; comc1 = 0; como1 = 0;
+      n_var = h.sizes.n_var;
+      n_con = h.sizes.n_con;
+      n_obj = h.sizes.n_obj;
+      n_ranges = 0;
+      n_eqns = 0;
+      n_lcon = 0;
+      nlc = 0;
+      nlo = 0;
+      nlnc = 0;
+      lnc = 0;
+      nlvc = 0;
+      nlvo = 0;
+      nlvb = 0;
+      nwv = 0;
+      nfunc = 0;
+      arith = 0;
+      flags = 1;
+      nbv = 0;
+      niv = 0;
+      nlvbi = 0;
+      nlvci = 0;
+      nlvoi = 0;
+      nzc = h.nonzeros.nzc;
+      nzo = h.nonzeros.nzo;
+      row_name_len = 0;
+      col_name_len = 0;
+      comb = 0;
+      comc = 0;
+      como = 0;
+      comc1 = 0;
+      como1 = 0;
     }
 
 abbrev pub interval_of : Side → Interval

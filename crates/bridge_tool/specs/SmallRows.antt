@@ -1,17 +1,14 @@
 -- Small texts: which rows are one, and what they say.
-use Rattle.std.specs.Prelude.{ℕ, suc, zero, ◌+◌, ◌==◌, ◌&&◌, nat_le, ℤ, Bool, List, [], ◌∷◌, length, drop, sum_by, map, filter, nat_lt, Option, Some, None, option_map, option_and_then, if◌then◌else◌}
+use Rattle.std.specs.Prelude.{ℕ, suc, zero, ◌+◌, ◌==◌, ◌&&◌, nat_le, ℤ, Bool, List, [], ◌∷◌, length, drop, sum_by, map, filter, nat_lt, Option, Some, None, option_map, if◌then◌else◌}
 use Rattle.text_base.specs.Judged.{Last, Open, Bad, End}
 use Rattle.text_base.specs.Reading.{lines_of, last_of}
 use Rattle.text_base.specs.Words.{row_of}
 use Rattle.bridge_tool.specs.SmallWords.{Row, is_first_row, is_zeros, is_flags, sizes_in, nonzeros_in, constant_in, is_body_head, sense_in, is_letter_row, side_in, terms_head, term_in}
 use Rattle.bridge_tool.specs.declared.rows.Head.{Head}
 use Rattle.bridge_tool.specs.declared.rows.Objective.{Objective}
-use Rattle.bridge_tool.specs.declared.words.Sizes.{Sizes}
-use Rattle.bridge_tool.specs.declared.words.Nonzeros.{Nonzeros}
 use Rattle.bridge_tool.specs.declared.words.Side.{Side}
 use Rattle.bridge_tool.specs.declared.words.TermsHead.{TermsHead}
 use Rattle.bridge_tool.specs.declared.words.Term.{Term}
-
 
 -- ---- reading from the front of rows
 

@@ -6,12 +6,12 @@ mod exporting;
 mod rows;
 mod small;
 mod small_lines;
-mod words;
 #[cfg(test)]
 mod tests;
 mod top;
 mod transfer;
+mod words;
 
 pub use command::{export_file, line_for};
-pub use top::{bridge};
+pub use top::bridge;
 pub use transfer::{read_text, tell_line, write_all};

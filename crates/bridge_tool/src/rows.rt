@@ -303,7 +303,12 @@ impl<'a> Rows<'a> {
 
     /// The sides under a letter, where there are some.
     #[tactic(auto, unfolding(crate::specs::SmallRows::sides))]
-    pub(crate) fn sides(&mut self, alloc: Global, letter: u8, count: u32) -> Result<Vec<Side>, Stop<NotSmall>>
+    pub(crate) fn sides(
+        &mut self,
+        alloc: Global,
+        letter: u8,
+        count: u32,
+    ) -> Result<Vec<Side>, Stop<NotSmall>>
         ensures { Takes (sides letter count) (λ v. v.items) self.old result self.new }
     {
         if count == 0 {
@@ -314,7 +319,12 @@ impl<'a> Rows<'a> {
     }
 
     // So many terms.
-    fn term_rows(&mut self, alloc: Global, n_var: u32, count: u32) -> Result<Vec<Term>, Stop<NotSmall>>
+    fn term_rows(
+        &mut self,
+        alloc: Global,
+        n_var: u32,
+        count: u32,
+    ) -> Result<Vec<Term>, Stop<NotSmall>>
         ensures { Takes (each (λ i. one (term_in n_var)) 0 count) (λ v. v.items) self.old result self.new }
     {
         let mut all = Vec::new(alloc);
@@ -336,7 +346,14 @@ impl<'a> Rows<'a> {
 
     // The terms of a constraint or objective, if the head in front is its own.
     #[tactic(auto, unfolding(crate::specs::SmallRows::terms))]
-    fn next_terms(&mut self, alloc: Global, letter: u8, n_var: u32, number: u32, head: &mut Option<TermsHead>) -> Result<Vec<Term>, Stop<NotSmall>>
+    fn next_terms(
+        &mut self,
+        alloc: Global,
+        letter: u8,
+        n_var: u32,
+        number: u32,
+        head: &mut Option<TermsHead>,
+    ) -> Result<Vec<Term>, Stop<NotSmall>>
         requires { head.old ≡ front_head letter self.old }
         ensures taken { Takes (terms letter n_var number) (λ v. v.items) self.old result self.new }
         ensures head { OnOk result (head.new ≡ front_head letter self.new) }
@@ -358,7 +375,12 @@ impl<'a> Rows<'a> {
     }
 
     /// The terms of all constraints.
-    pub(crate) fn term_lists(&mut self, alloc: Global, n_var: u32, count: u32) -> Result<Vec<Vec<Term>>, Stop<NotSmall>>
+    pub(crate) fn term_lists(
+        &mut self,
+        alloc: Global,
+        n_var: u32,
+        count: u32,
+    ) -> Result<Vec<Vec<Term>>, Stop<NotSmall>>
         ensures { Takes (each (terms 74 n_var) 0 count) (λ v. map (λ list. list.items) v.items) self.old result self.new }
     {
         let mut all = Vec::new(alloc);
@@ -374,7 +396,12 @@ impl<'a> Rows<'a> {
 
     /// The terms of the objective, where there is one.
     #[tactic(auto, unfolding(crate::specs::SmallRows::slopes))]
-    pub(crate) fn slopes(&mut self, alloc: Global, n_var: u32, n_obj: u32) -> Result<Vec<Term>, Stop<NotSmall>>
+    pub(crate) fn slopes(
+        &mut self,
+        alloc: Global,
+        n_var: u32,
+        n_obj: u32,
+    ) -> Result<Vec<Term>, Stop<NotSmall>>
         ensures { Takes (slopes n_var n_obj) (λ v. v.items) self.old result self.new }
     {
         if n_obj == 0 {

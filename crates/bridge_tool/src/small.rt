@@ -77,7 +77,9 @@ fn counts_agree(small: &SmallText) -> bool
     ensures { result ≡ counts_agree small.now }
 {
     let nzc = small.head.nonzeros.nzc;
-    has_terms(&small.terms, nzc) && nzc as usize <= MOST_TERMS && small.slopes.len() <= MOST_TERMS - nzc as usize
+    has_terms(&small.terms, nzc)
+        && nzc as usize <= MOST_TERMS
+        && small.slopes.len() <= MOST_TERMS - nzc as usize
 }
 
 /// What rows say, if they are those of a small text.

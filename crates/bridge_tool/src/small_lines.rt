@@ -66,7 +66,10 @@ impl WordedLines {
 }
 
 /// The lines of a text that hold words, if no line has a line fault.
-pub(crate) fn read_lines(alloc: Global, text: &[u8]) -> Result<TextLines, Stop<TextFault<LineFault>>>
+pub(crate) fn read_lines(
+    alloc: Global,
+    text: &[u8],
+) -> Result<TextLines, Stop<TextFault<LineFault>>>
     ensures { Reads line_rules SaysLines text.now result }
 {
     let lines = TextLines::new(alloc);

@@ -1,5 +1,4 @@
-use Rattle.std.proofs.Common.{rules, arith, ◌<◌, ◌≡◌, length, get_or, true}
-use Rattle.std.specs.Char.{is_ascii_digit}
+use Rattle.std.proofs.Common.{rules}
 use Rattle.bridge_tool.proofs.Digits.{number-empty, number-not, number-large, number-read, are_read-next}
 use Rattle.bridge_tool.proofs.words.number_up_to.Goals as goal
 

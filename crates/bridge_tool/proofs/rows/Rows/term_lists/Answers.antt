@@ -1,4 +1,4 @@
-use Rattle.std.proofs.Common.{rules, map}
+use Rattle.std.proofs.Common.{rules}
 use Rattle.bridge_tool.specs.SmallRows.{terms}
 use Rattle.bridge_tool.proofs.FrontRows.{read_to-none, read_to-more, read_to-fault, read_to-all}
 use Rattle.bridge_tool.proofs.Lists.{map-push}
