@@ -1,0 +1,5 @@
+pub mod NumberLemmas
+pub mod HeadLemmas
+pub mod ReaderLemmas
+pub mod HeaderLaw
+pub mod TakeLemmas

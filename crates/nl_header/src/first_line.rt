@@ -1,0 +1,91 @@
+// The first header line: the letter of text files, and the options.
+ghost use Rattle.std.specs.Prelude.{◌≡◌, ℕ, ◌<◌, ◌≤◌, ◌++◌, option_to_list, length, filter_map, slice_index, IfOk, IfErr, None, Some};
+ghost use Rattle.text_base.specs.Judged.{first_reason};
+ghost use Rattle.text_base.specs.Words.{texts};
+ghost use Rattle.nl_model.specs.HeaderRules.{has_second_three};
+ghost use Rattle.nl_header.specs.Numbers.{signed_of};
+ghost use Rattle.nl_header.specs.Head.{begins_with, option_count, options_of, first_line_tests};
+
+use crate::fault::HeadFault;
+use crate::numbers::{signed_of, whole_of};
+use nl_model::Options;
+
+/// At most so many options.
+const MOST_OPTIONS: u32 = 4;
+
+fn begins_with(byte: u8, word: &[u8]) -> bool
+    requires { 0 < byte }
+    ensures { result ≡ begins_with byte word.now }
+{
+    match word {
+        [first, ..] => *first == byte,
+        [] => false,
+    }
+}
+
+// The number directly after the `g` of the first word.
+fn option_count(words: &[&[u8]]) -> Option<u32>
+    requires { 0 < length words.now }
+    ensures { result ≡ option_count (texts words.now) }
+{
+    let first = words[0];
+    if !begins_with(b'g', first) {
+        return None;
+    }
+    whole_of(&first[1..])
+}
+
+fn push_some(options: &mut Options, number: Option<i32>)
+    requires { length options.old < 9 }
+    ensures { options.new ≡ options.old ++ option_to_list number }
+{
+    if let Some(number) = number {
+        options.push(number);
+    }
+}
+
+// The signed whole numbers among the words.
+fn signed_numbers(words: &[&[u8]]) -> Options
+    requires { length words.now ≤ 9 }
+    ensures { result ≡ filter_map signed_of (texts words.now) }
+{
+    let mut options = Options::new();
+    'words: for word in words {
+        let number = signed_of(word);
+        push_some(&mut options, number);
+    }
+    options
+}
+
+fn has_second_three(options: &Options) -> bool
+    ensures { result ≡ has_second_three options.now }
+{
+    match options.items() {
+        [_, second, ..] => *second == 3,
+        _ => false,
+    }
+}
+
+/// The options of the first line, from its words.
+#[tactic(auto, unfolding(crate::specs::Head::first_line_tests))]
+pub fn read_first(words: &[&[u8]]) -> Result<Options, HeadFault>
+    requires { 0 < length words.now }
+    ensures ok { IfOk result (λ o. (first_reason (first_line_tests (texts words.now)) ≡ None) × (o ≡ options_of (texts words.now))) }
+    ensures err { IfErr result (λ f. first_reason (first_line_tests (texts words.now)) ≡ Some f) }
+{
+    if begins_with(b'b', words[0]) {
+        return Err(HeadFault::BinaryFile);
+    }
+    let Some(count) = option_count(words) else {
+        return Err(HeadFault::BadFirstLine);
+    };
+    let rest = &words[1..];
+    if count > MOST_OPTIONS || rest.len() != count as usize {
+        return Err(HeadFault::Options);
+    }
+    let options = signed_numbers(rest);
+    if options.len() != count as usize || has_second_three(&options) {
+        return Err(HeadFault::Options);
+    }
+    Ok(options)
+}
