@@ -1,5 +1,13 @@
 // Nodes of expression trees.
 use exact_numbers::Dec;
+use std::mem::size_of;
+
+// A node and a term take at most so many bytes.
+const MOST_BYTES: usize = 48;
+
+const _: () = prove!(size_of::<Node>() <= MOST_BYTES);
+
+const _: () = prove!(size_of::<(u32, Dec)>() <= MOST_BYTES);
 
 /// A node of an expression in prefix form.
 #[derive(Clone, Copy, Debug)]
