@@ -8,7 +8,7 @@ use Rattle.mps_model.specs.declared.kinds.RowKind.{RowKind}
 use Rattle.mps_model.specs.Valid.{IsOtherRow, marker_word}
 use Rattle.mps_model.specs.Built.{CanAddRow}
 use Rattle.exported_program.specs.Program.{ScaledRow, kind_of, mps_row, with_entry, entries_of}
-use Rattle.exact_numbers.specs.declared.numbers.Dec.{Dec}
+use Rattle.exact_numbers.specs.declared.dec.Dec.{Dec}
 use Rattle.exact_numbers.specs.Values.{dec_value}
 use Rattle.row_scaling.specs.declared.row.FactoredRow.{FactoredRow}
 use Rattle.row_scaling.specs.Rows.{side_value}

@@ -9,7 +9,7 @@ use Rattle.mps_model.specs.Mps.{Entry, Column, Mps, column_with, entry_with}
 use Rattle.mps_model.specs.Built.{CanAddColumn, entry_of}
 use Rattle.mps_model.specs.Valid.{IsOtherColumn, HasEntries, entry_count}
 use Rattle.exported_program.specs.Program.{ScaledRow, columns_of, column_entries, or_obj_zero, entries_of, with_entry, nonzero, z_name, z_variable}
-use Rattle.exact_numbers.specs.declared.numbers.Dec.{Dec}
+use Rattle.exact_numbers.specs.declared.dec.Dec.{Dec}
 use Rattle.exact_numbers.specs.Values.{dec_value}
 use Rattle.row_scaling.specs.declared.row.Tie.{Tie}
 use Rattle.row_scaling.specs.Rows.{TermOf}

@@ -2,10 +2,12 @@ pub mod AddLemmas
 pub mod ColumnLemmas
 pub mod ColumnsLeft
 pub mod FillLemmas
+pub mod LawLemmas
 pub mod NameLemmas
 pub mod NumberLemmas
 pub mod ProgramLemmas
 pub mod RowLemmas
+pub mod TestLemmas
 pub mod TieLemmas
 pub mod VariableLemmas
 pub mod WholeLemmas

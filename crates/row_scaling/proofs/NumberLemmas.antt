@@ -8,7 +8,7 @@ use Rattle.fractions.proofs.Values.{HasValue, same_crosswise, equal_tops, same_v
 use Rattle.fractions.proofs.Arithmetic.{decimal_value_lem}
 use Rattle.exported_program.specs.Program.{nonzero}
 use Rattle.exported_program.proofs.Sides.{nonzero_cases}
-use Rattle.exact_numbers.specs.declared.numbers.Dec.{Dec}
+use Rattle.exact_numbers.specs.declared.dec.Dec.{Dec}
 use Rattle.exact_numbers.specs.Values.{dec_value, FitsDec, order_of}
 use Rattle.exact_numbers.proofs.Orders.{less_z, greater_z, equal_z}
 use Rattle.exact_numbers.proofs.Tens.{ten-pos}

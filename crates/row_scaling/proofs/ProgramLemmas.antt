@@ -6,7 +6,7 @@ use Rattle.mps_model.specs.Mps.{MpsRow, Entry, Column, Bound, Mps, with_values, 
 use Rattle.mps_model.specs.declared.kinds.RowKind.TheVariants.{N, E}
 use Rattle.mps_model.specs.Valid.{IsBounded, IsComplete, HasEntries}
 use Rattle.exported_program.specs.Program.{kind_of, two_sided, has_side, nonzero, mps_row, with_entry, entries_of, bounds_of, obj_name, nl_name, program_of}
-use Rattle.exact_numbers.specs.declared.numbers.Dec.{Dec}
+use Rattle.exact_numbers.specs.declared.dec.Dec.{Dec}
 use Rattle.exact_numbers.specs.Values.{dec_value}
 use Rattle.row_scaling.specs.declared.row.Tie.{Tie}
 use Rattle.row_scaling.specs.Rows.{side_value}

@@ -8,7 +8,7 @@ use Rattle.fractions.proofs.Arithmetic.{+ℚ_zero, zero-+ℚ, whole-neg, same_wh
 use Rattle.fractions.proofs.Adding.{sum_over-append}
 use Rattle.mps_model.specs.Mps.{Entry}
 use Rattle.exported_program.specs.Program.{ScaledRow, nonzero, with_entry, entries_of, then_at, z_form}
-use Rattle.exact_numbers.specs.declared.numbers.Dec.{Dec}
+use Rattle.exact_numbers.specs.declared.dec.Dec.{Dec}
 use Rattle.exact_numbers.specs.Values.{dec_value}
 use Rattle.row_scaling.specs.declared.row.Tie.{Tie}
 use Rattle.row_scaling.specs.Rows.{TermOf, IsSparse, IsBelow, coefficient_of}

@@ -6,7 +6,7 @@ use Rattle.mps_model.specs.Mps.{Bound, Mps, bound_with}
 use Rattle.mps_model.specs.declared.kinds.BoundKind.TheVariants.{Lo, Up, Fx, Fr}
 use Rattle.exported_program.specs.Program.{bounds_of, bound_record, column_bounds, fixed_or_both, nonzero, z_variable}
 use Rattle.exported_program.proofs.Sides.{nonzero_cases, difference_zero}
-use Rattle.exact_numbers.specs.declared.numbers.Dec.{Dec}
+use Rattle.exact_numbers.specs.declared.dec.Dec.{Dec}
 use Rattle.exact_numbers.specs.Values.{dec_value}
 use Rattle.nl_model.specs.declared.interval.Interval.{Interval}
 use Rattle.nl_model.specs.declared.kind.Kind.{Kind}

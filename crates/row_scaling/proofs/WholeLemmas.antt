@@ -6,7 +6,7 @@ use Rattle.mps_model.specs.Mps.{MpsRow, Entry, Mps, entry_with}
 use Rattle.mps_model.specs.declared.kinds.RowKind.TheVariants.{N, E}
 use Rattle.mps_model.specs.Valid.{IsOtherRow, IsBounded}
 use Rattle.exported_program.specs.Program.{two_sided, nonzero, mps_row, with_entry, entries_of, obj_name, zdef_name}
-use Rattle.exact_numbers.specs.declared.numbers.Dec.{Dec}
+use Rattle.exact_numbers.specs.declared.dec.Dec.{Dec}
 use Rattle.exact_numbers.specs.Values.{dec_value}
 use Rattle.row_scaling.specs.declared.row.Tie.{Tie}
 use Rattle.row_scaling.specs.Scaled.{ScaledValue}

@@ -3,7 +3,7 @@ use Rattle.std.specs.Prelude.{◌≡◌, List, length, map, All}
 use Rattle.mps_model.specs.Mps.{Column, column_with}
 use Rattle.mps_model.specs.Valid.{HasEntries}
 use Rattle.exported_program.specs.Program.{columns_of}
-use Rattle.exact_numbers.specs.declared.numbers.Dec.{Dec}
+use Rattle.exact_numbers.specs.declared.dec.Dec.{Dec}
 use Rattle.exact_numbers.specs.Values.{dec_value}
 use Rattle.row_scaling.specs.Scaled.{ScaledValue}
 use Rattle.row_scaling.specs.Columns.{column_count}

@@ -4,7 +4,7 @@ use Rattle.std.specs.List.{AllPairs}
 use Rattle.fractions.specs.Rational.{ℚ}
 use Rattle.mps_model.specs.Mps.{Column, Bound, Mps, bound_with}
 use Rattle.mps_model.specs.Built.{entry_of}
-use Rattle.exact_numbers.specs.declared.numbers.Dec.{Dec}
+use Rattle.exact_numbers.specs.declared.dec.Dec.{Dec}
 use Rattle.exact_numbers.specs.Values.{dec_value}
 use Rattle.row_scaling.specs.Rows.{TermOf}
 

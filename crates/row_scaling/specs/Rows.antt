@@ -5,7 +5,7 @@ use Rattle.fractions.specs.Rational.{ℚ, zero_ℚ}
 use Rattle.fractions.specs.Sums.{sum_over}
 use Rattle.linear_programs.specs.Linear.{Interval as Sides}
 use Rattle.exported_program.specs.Program.{has_side, range_of}
-use Rattle.exact_numbers.specs.declared.numbers.Dec.{Dec}
+use Rattle.exact_numbers.specs.declared.dec.Dec.{Dec}
 use Rattle.exact_numbers.specs.Values.{dec_value}
 use Rattle.nl_model.specs.declared.interval.Interval.{Interval}
 

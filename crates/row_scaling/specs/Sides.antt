@@ -3,7 +3,7 @@ use Rattle.std.specs.Prelude.{◌≡◌, ℕ, ◌+◌, ◌<◌, List, [], ◌++�
 use Rattle.fractions.specs.Rational.{ℚ}
 use Rattle.mps_model.specs.Mps.{Entry, entry_with}
 use Rattle.exported_program.specs.Program.{ScaledRow, entries_of, nonzero, range_of, rhs_of, with_entry}
-use Rattle.exact_numbers.specs.declared.numbers.Dec.{Dec}
+use Rattle.exact_numbers.specs.declared.dec.Dec.{Dec}
 use Rattle.exact_numbers.specs.Values.{dec_value}
 
 -- the lower side, or else the upper one, but none where it is 0

@@ -5,13 +5,17 @@ mod bounds;
 mod columns;
 mod export;
 mod fill;
+mod laws;
 mod names;
 mod numbers;
 mod row;
 mod rows;
 mod scaled;
 mod sides;
+#[cfg(test)]
+mod tests;
 
 pub use export::program;
+pub use laws::{plain_program, tied_row_is_scaled};
 pub use row::{FactoredRow, ScaledObjective, ScaledRow, Tie};
 pub use scaled::Scaled;

@@ -121,8 +121,8 @@ fn add_tied_sides(builder: &mut MpsBuilder, scaled: &Scaled) -> Result<(), Alloc
 {
     let place = add_row_sides(builder, scaled.rows())?;
     let objective = scaled.objective();
-    let side = nonzero(negated(objective.constant));
-    add_right_side(builder, place, side)?;
+    let last = nonzero(negated(objective.constant));
+    add_right_side(builder, place, last)?;
     Ok(())
 }
 
