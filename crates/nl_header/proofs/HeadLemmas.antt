@@ -1,9 +1,9 @@
 -- What header lines say, and what is wrong with one, step by step.
-use Rattle.std.proofs.Common.{◌≡◌, ◌∙◌, ℕ, ◌+◌, ◌-◌, ◌<◌, ◌≤◌, Bool, true, false, List, [], ◌∷◌, ◌++◌, length, get_or, take, Option, Some, None, refl, sym, ap, arith, min, unwrap_or, Bor, ◌==◌, ◌&&◌, ℤ, map, cond, filter_map, set, ◌≢◌, get_or-set_other, get_or-set_same, below_more, suc}
-use Rattle.std.proofs.lemmas.List.{get_or_past, length-map, map_more, get_or-map, length-append, length-set}
+use Rattle.std.proofs.Common.{◌≡◌, ◌∙◌, ℕ, ◌+◌, ◌-◌, ◌<◌, ◌≤◌, Bool, true, false, List, [], ◌∷◌, ◌++◌, length, get_or, take, Option, Some, None, refl, sym, ap, arith, min, unwrap_or, Bor, ◌==◌, ◌&&◌, ℤ, cond, filter_map, set, ◌≢◌, get_or-set_other, get_or-set_same, below_more, suc}
+use Rattle.std.proofs.lemmas.List.{get_or_past, length-map, map_more, length-append, length-set}
 use Rattle.std.proofs.lemmas.List.Elements.{filter_map-append}
-use Rattle.std.proofs.lemmas.Bool.{eqb-true, lt-ltb, ltb-true, ltb-false}
-use Rattle.std.specs.Prelude.{option_to_list, find, option_map, nat_lt, nat_le}
+use Rattle.std.proofs.lemmas.Bool.{eqb-true, ltb-true, ltb-false}
+use Rattle.std.specs.Prelude.{option_to_list, find, option_map, nat_lt}
 use Rattle.std.specs.List.{list_all, cons_option}
 use Rattle.text_base.specs.Words.{texts}
 use Rattle.text_base.specs.Judged.{first_reason}
@@ -13,7 +13,7 @@ use Rattle.code_tables.specs.Header.{header_rows, field_at, field_in}
 use Rattle.nl_header.specs.declared.fault.HeadFault.{HeadFault}
 use Rattle.nl_header.specs.Numbers.{whole_of, signed_of}
 use Rattle.nl_header.proofs.NumberLemmas.{first_of_both, second_of_both}
-use Rattle.nl_header.specs.Head.{number_in, word_at, word_tests, words_fault, or_else, number_after, no_row}
+use Rattle.nl_header.specs.Head.{number_in, word_tests, words_fault, or_else, number_after, no_row}
 use Rattle.nl_header.specs.Reading.{put_in}
 use Rattle.std.proofs.Math.Nat.{suc_inj}
 
@@ -137,4 +137,4 @@ put_in-each (r ∷ rows) line words (o ∷ old) [] m n each = absurd (omega (ari
 put_in-each (r ∷ rows) line words (o ∷ old) (v ∷ new) m n each =
     ap (λ x. x ∷ new) (each 0 (omega arith))
     ∙ ap (λ xs. number_after r line words o ∷ xs)
-      (put_in-each rows line words old new (suc_inj m) (suc_inj n) (λ k lt. each (suc k) (omega (arith, lt))))
+    (put_in-each rows line words old new (suc_inj m) (suc_inj n) (λ k lt. each (suc k) (omega (arith, lt))))

@@ -1,24 +1,23 @@
 -- Ten lines without a fault say a header: they keep its rules.
-use Rattle.std.proofs.Common.{◌≡◌, ◌∙◌, ℕ, zero, suc, ne_eqb, ◌+◌, ◌-◌, ◌<◌, ◌≤◌, ◌^◌, ◌==◌, ◌&&◌, ◌||◌, Bool, true, false, not, cond, List, [], ◌∷◌, ◌++◌, length, get_or, map, take, drop, filter_map, Option, Some, None, refl, sym, ap, subst, arith, unwrap_or, ℤ}
-use Rattle.std.specs.Prelude.{nat_lt, nat_le, is_none, max, IsTrue}
+use Rattle.std.proofs.Common.{◌≡◌, ◌∙◌, ℕ, zero, suc, ne_eqb, ◌+◌, ◌-◌, ◌<◌, ◌≤◌, ◌^◌, ◌==◌, ◌&&◌, Bool, true, false, not, cond, List, [], ◌∷◌, ◌++◌, length, get_or, map, take, drop, Option, Some, None, refl, sym, ap, subst, arith, unwrap_or, ℤ}
+use Rattle.std.specs.Prelude.{nat_lt, nat_le, is_none, max}
 use Rattle.std.specs.List.{list_all}
-use Rattle.std.proofs.lemmas.List.{get_or_past, get_or-take, get_or_append_left, take-append-le, take_more, length-append, length-take, length-drop}
-use Rattle.std.proofs.lemmas.Bool.{eqb-true, eqb-false, eq-eqb, lt-ltb, ltb-true, ltb-false, le-ltb, le-leb, leb-true, leb-false}
+use Rattle.std.proofs.lemmas.List.{get_or-take, get_or_append_left, take-append-le, take_more, length-append, length-take}
+use Rattle.std.proofs.lemmas.Bool.{eqb-true, lt-ltb, ltb-true, ltb-false, le-ltb, le-leb, leb-true}
 use Rattle.std.proofs.lemmas.Option.{none-some}
 use Rattle.text_base.specs.Judged.{first_reason}
 use Rattle.code_tables.specs.declared.field.Field.{Field}
 use Rattle.code_tables.specs.declared.field.FieldRow.{FieldRow}
 use Rattle.code_tables.specs.Header.{header_rows, field_at}
 use Rattle.nl_model.specs.declared.counts.Counts.{Counts}
-use Rattle.nl_model.specs.HeaderRules.{are_options, has_second_three, numbers_of, are_numbers, has_no_refused, are_sizes_within, are_shared_within, are_whole_within, are_definitions_within, are_counts, is_header}
+use Rattle.nl_model.specs.HeaderRules.{are_options, has_second_three, are_numbers, has_no_refused, are_sizes_within, are_shared_within, are_whole_within, are_definitions_within, is_header}
 use Rattle.nl_header.specs.declared.fault.HeadFault.{HeadFault}
 use Rattle.nl_header.specs.declared.fault.HeadFault.TheVariants.{BadHeaderNumber, BinaryFile, BadFirstLine, Options, RefusedCount, TooLarge, CountsDisagree}
 use Rattle.nl_header.specs.Numbers.{whole_of, are_digits}
 use Rattle.std.specs.Str.Parse.{digits_value}
-use Rattle.nl_header.specs.Head.{number_in, number_at, word_at, line_at, words_fault, word_tests, number_tests, must_be_zero, limit_of, or_else, is_short, rule_tests, number_line_fault, line_fault, first_line_tests, options_in, options_of, counts_in, counts_by, has_options, option_count, begins_with}
+use Rattle.nl_header.specs.Head.{number_in, number_at, word_at, line_at, words_fault, word_tests, number_tests, limit_of, or_else, rule_tests, number_line_fault, line_fault, first_line_tests, options_in, options_of, counts_in, counts_by, has_options, option_count}
 use Rattle.nl_header.specs.Reading.{AreClean, last_rule}
 use Rattle.nl_header.proofs.NumberLemmas.{both, first_of_both, second_of_both}
-use Rattle.nl_header.proofs.ReaderLemmas.{take-all}
 
 abbrev Lines : Type 0
 Lines = List (List (List ℕ))
@@ -94,9 +93,9 @@ pub nine_clean : (before : List (List (List ℕ))) (ws : List (List ℕ)) → le
 nine_clean before ws nine clean = record {
   many = omega (arith, length-append before (ws ∷ []), nine);
   clean = λ i lt.
-    let below : i < length before = omega (arith, lt, nine) in
-    ap (λ b. line_fault b (get_or (before ++ ws ∷ []) i [])) (take-append-le i before (ws ∷ []) (omega (arith, below)))
-    ∙ ap (line_fault (take i before)) (get_or_append_left before (ws ∷ []) [] i below) ∙ clean.clean i below;
+      let below : i < length before = omega (arith, lt, nine) in
+      ap (λ b. line_fault b (get_or (before ++ ws ∷ []) i [])) (take-append-le i before (ws ∷ []) (omega (arith, below)))
+      ∙ ap (line_fault (take i before)) (get_or_append_left before (ws ∷ []) [] i below) ∙ clean.clean i below;
 }
 
 line-of : (lines : Lines) (n : ℕ) → 0 < n → n < 9 → AreNineClean lines → number_line_fault (n + 1) (counts_in (take (n + 1) lines)) (line_at lines (n + 1)) ≡ None
@@ -140,11 +139,11 @@ unfolding counts_in counts_by field_at header_rows
 no-refused lines clean =
     both _ _
     (both _ _
-     (both _ _
-      (both _ _ (is-zero 7 false (number_at lines 2 6) (number-of lines 1 6 (omega arith) (omega arith) (omega arith) clean))
-       (is-zero 10 true (number_at lines 4 1) (number-of lines 3 1 (omega arith) (omega arith) (omega arith) clean)))
-      (is-zero 11 true (number_at lines 4 2) (number-of lines 3 2 (omega arith) (omega arith) (omega arith) clean)))
-     (is-zero 15 true (number_at lines 6 1) (number-of lines 5 1 (omega arith) (omega arith) (omega arith) clean)))
+    (both _ _
+    (both _ _ (is-zero 7 false (number_at lines 2 6) (number-of lines 1 6 (omega arith) (omega arith) (omega arith) clean))
+    (is-zero 10 true (number_at lines 4 1) (number-of lines 3 1 (omega arith) (omega arith) (omega arith) clean)))
+    (is-zero 11 true (number_at lines 4 2) (number-of lines 3 2 (omega arith) (omega arith) (omega arith) clean)))
+    (is-zero 15 true (number_at lines 6 1) (number-of lines 5 1 (omega arith) (omega arith) (omega arith) clean)))
     (is-zero 16 true (number_at lines 6 2) (number-of lines 5 2 (omega arith) (omega arith) (omega arith) clean))
 
 sizes-within : (lines : Lines) → AreNineClean lines → are_sizes_within (counts_in lines) ≡ true
@@ -152,10 +151,10 @@ unfolding counts_in counts_by field_at header_rows
 sizes-within lines clean =
     both _ _
     (both _ _
-     (both _ _
-      (is-within 2 (2 ^ 20) true (number_at lines 2 1) refl (number-of lines 1 1 (omega arith) (omega arith) (omega arith) clean))
-      (is-within 3 (2 ^ 20) true (number_at lines 2 2) refl (number-of lines 1 2 (omega arith) (omega arith) (omega arith) clean)))
-     (is-within 4 256 true (number_at lines 2 3) refl (number-of lines 1 3 (omega arith) (omega arith) (omega arith) clean)))
+    (both _ _
+    (is-within 2 (2 ^ 20) true (number_at lines 2 1) refl (number-of lines 1 1 (omega arith) (omega arith) (omega arith) clean))
+    (is-within 3 (2 ^ 20) true (number_at lines 2 2) refl (number-of lines 1 2 (omega arith) (omega arith) (omega arith) clean)))
+    (is-within 4 256 true (number_at lines 2 3) refl (number-of lines 1 3 (omega arith) (omega arith) (omega arith) clean)))
     (is-within 24 (2 ^ 22) true (number_at lines 8 1) refl (number-of lines 7 1 (omega arith) (omega arith) (omega arith) clean))
 
 -- a number that was read, or 0, is below 2 ^ 31
@@ -220,8 +219,9 @@ options-from : (os : List ℤ) (c : ℕ) (d : Bool) → ((nat_le c 4 && d) && (l
 options-from os c d has =
     let front : ((nat_le c 4 && d) && (length os == c)) ≡ true = first_of_both _ _ has in
     let few : c ≤ 4 = leb-true c 4 (first_of_both _ _ (first_of_both _ _ front)) in
-    let same : length os ≡ c = eqb-true _ _ (second_of_both _ _ front) in
-    both _ _ (le-leb (length os) 4 (omega (arith, few, same))) (second_of_both _ _ has)
+    let same : length os ≡ c = eqb-true (length os) c (second_of_both (nat_le c 4 && d) (length os == c) front) in
+    let small : nat_le (length os) 4 ≡ true = le-leb (length os) 4 (omega (arith, few, same)) in
+    both _ _ small (second_of_both _ _ has)
 
 first-options : (ws : List (List ℕ)) → first_reason (first_line_tests ws) ≡ None → are_options (options_of ws) ≡ true
 unfolding first_line_tests

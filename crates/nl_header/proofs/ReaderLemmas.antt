@@ -1,7 +1,7 @@
 -- Lines taken one after the other.
-use Rattle.std.proofs.Common.{◌≡◌, ◌∙◌, ℕ, suc, ◌+◌, ◌-◌, ◌<◌, ◌≤◌, ◌==◌, ◌&&◌, ◌||◌, Bool, true, false, not, cond, List, [], ◌∷◌, ◌++◌, length, get_or, map, take, drop, filter_map, Option, Some, None, refl, sym, ap, subst, arith, unwrap_or, Bor, ℤ}
+use Rattle.std.proofs.Common.{◌≡◌, ◌∙◌, ℕ, ◌+◌, ◌-◌, ◌<◌, ◌≤◌, ◌==◌, ◌&&◌, ◌||◌, Bool, true, false, not, cond, List, [], ◌∷◌, ◌++◌, length, get_or, map, take, drop, Option, Some, None, refl, sym, ap, arith, unwrap_or, Bor, ℤ}
 use Rattle.std.specs.Prelude.{nat_lt, nat_le, is_none}
-use Rattle.std.specs.List.{list_all, list_any}
+use Rattle.std.specs.List.{list_all}
 use Rattle.std.proofs.lemmas.List.{get_or_past, length-map, get_or-take, get_or_append_left, take-append-le, length-append, length-take, length-drop, take_all}
 use Rattle.std.proofs.Math.Seq.{get_or-append_seam}
 use Rattle.std.proofs.Math.Bool.{and-false}
@@ -15,10 +15,10 @@ use Rattle.nl_model.specs.declared.counts.Counts.{Counts}
 use Rattle.nl_model.specs.HeaderRules.{has_second_three}
 use Rattle.nl_header.specs.declared.fault.HeadFault.{HeadFault}
 use Rattle.nl_header.specs.declared.fault.HeadFault.TheVariants.{BadHeaderNumber, BinaryFile, BadFirstLine, Options}
-use Rattle.nl_header.specs.Numbers.{whole_of, signed_of}
+use Rattle.nl_header.specs.Numbers.{whole_of}
 use Rattle.nl_header.specs.Head.{number_in, number_at, word_at, line_at, number_after, words_fault, or_else, is_short, rule_tests, number_line_fault, line_fault, first_line_tests, options_in, options_of, counts_in, counts_by, has_options, option_count, begins_with}
-use Rattle.nl_header.specs.Reading.{Taken, IsReading, AreClean, numbers_in, put_in, counts_from, last_rule, GoesOn}
-use Rattle.nl_header.proofs.NumberLemmas.{both, first_of_both, second_of_both}
+use Rattle.nl_header.specs.Reading.{Taken, IsReading, AreClean, numbers_in, put_in, counts_from, GoesOn}
+use Rattle.nl_header.proofs.NumberLemmas.{first_of_both, second_of_both}
 
 -- ---- No line.
 
@@ -172,7 +172,7 @@ first_reason-row ws = by (nat_le (length ws) 12) refl
         ap (λ w. first_reason ((begins_with 98 w, BinaryFile) ∷ (is_none (option_count (take 12 ws)), BadFirstLine) ∷ (not (has_options (take 12 ws) (unwrap_or (option_count (take 12 ws)) 0)), Options) ∷ [])) (word_at-row ws 1 (omega arith))
         ∙ ap (λ o. first_reason ((begins_with 98 (word_at ws 1), BinaryFile) ∷ (is_none o, BadFirstLine) ∷ (not (has_options (take 12 ws) (unwrap_or o 0)), Options) ∷ [])) (option_count-row ws)
         ∙ ap (λ t. first_reason ((begins_with 98 (word_at ws 1), BinaryFile) ∷ (is_none (option_count ws), BadFirstLine) ∷ (not t, Options) ∷ []))
-          (no_options (take 12 ws) (unwrap_or (option_count ws) 0) (omega (arith, length-take 12 ws, many)) ∙ sym (no_options ws (unwrap_or (option_count ws) 0) (omega (arith, many))))
+        (no_options (take 12 ws) (unwrap_or (option_count ws) 0) (omega (arith, length-take 12 ws, many)) ∙ sym (no_options ws (unwrap_or (option_count ws) 0) (omega (arith, many))))
 
 pub first_row-whole : (ws : List (List ℕ)) → first_reason (first_line_tests ws) ≡ None → take 12 ws ≡ ws
 unfolding first_line_tests
@@ -183,7 +183,7 @@ first_row-whole ws clean = by (nat_le (length ws) 12) refl
     by false e =
         let many : 6 ≤ length ws = omega (arith, leb-false _ _ e) in
         absurd (never (begins_with 98 (word_at ws 1)) (is_none (option_count ws)) BinaryFile BadFirstLine Options
-          (ap (λ t. first_reason ((begins_with 98 (word_at ws 1), BinaryFile) ∷ (is_none (option_count ws), BadFirstLine) ∷ (not t, Options) ∷ [])) (sym (no_options ws (unwrap_or (option_count ws) 0) many)) ∙ clean))
+        (ap (λ t. first_reason ((begins_with 98 (word_at ws 1), BinaryFile) ∷ (is_none (option_count ws), BadFirstLine) ∷ (not t, Options) ∷ [])) (sym (no_options ws (unwrap_or (option_count ws) 0) many)) ∙ clean))
 
 -- ---- All lines so far.
 

@@ -1,17 +1,15 @@
 -- A line of numbers that is taken.
-use Rattle.std.proofs.Common.{◌≡◌, ◌∙◌, ℕ, ◌+◌, ◌-◌, ◌<◌, ◌≤◌, ◌==◌, Bool, true, false, cond, List, [], ◌∷◌, ◌++◌, length, get_or, take, Option, Some, None, Result, Ok, Err, refl, sym, ap, subst, arith, ne_eqb}
+use Rattle.std.proofs.Common.{◌≡◌, ◌∙◌, ℕ, ◌+◌, ◌<◌, Bool, true, false, cond, List, [], ◌∷◌, ◌++◌, length, take, Option, Some, None, Result, Ok, Err, sym, ap, arith, ne_eqb}
 use Rattle.std.specs.Prelude.{IsTrue}
 use Rattle.std.proofs.lemmas.List.{get_or_append_left, length-append}
-
 use Rattle.code_tables.specs.Header.{header_rows}
 use Rattle.nl_model.specs.declared.counts.Counts.{Counts}
 use Rattle.nl_model.specs.declared.header.Header.{Header}
 use Rattle.nl_model.specs.HeaderRules.{is_header, are_definitions_within}
 use Rattle.text_base.specs.Judged.{first_reason}
 use Rattle.nl_header.specs.declared.fault.HeadFault.{HeadFault}
-use Rattle.nl_header.specs.declared.fault.HeadFault.TheVariants.{TooLarge}
-use Rattle.nl_header.specs.Head.{number_line_fault, line_fault, first_line_tests, options_in, options_of, counts_in, line_at}
-use Rattle.nl_header.specs.Reading.{Taken, IsReading, AreClean, numbers_in, put_in, counts_from, last_rule, GoesOn, Ends, SaysHeader, Takes, Closes}
+use Rattle.nl_header.specs.Head.{number_line_fault, line_fault, first_line_tests, options_in, options_of, counts_in}
+use Rattle.nl_header.specs.Reading.{Taken, IsReading, AreClean, numbers_in, put_in, counts_from, last_rule, Takes, Closes}
 use Rattle.nl_header.proofs.ReaderLemmas.{put_in-row, put_in-more, counts_from-in, clean-more}
 use Rattle.nl_header.proofs.HeaderLaw.{nine_clean, header-rule, last_rule-kept, last_rule-broken, last_rule-before}
 

@@ -1,13 +1,13 @@
 -- What the ten header lines of an .nl file say (Gay 2005, "Writing .nl Files"), and what is wrong with one.
 -- A line is the list of its words; lines, places and rows are counted from 1. Which numbers are refused, and the order of faults, are this project's own.
-use Rattle.std.specs.Prelude.{◌≡◌, ℕ, ◌+◌, ◌-◌, ◌^◌, ◌<◌, ◌==◌, Bool, true, false, not, ◌&&◌, ◌||◌, nat_lt, nat_le, ℤ, List, [], ◌∷◌, ◌++◌, length, take, drop, slice_index, slice_index_or, find, Option, Some, None, is_none, unwrap_or, option_map, if◌then◌else◌, codes}
-use Rattle.std.specs.List.{list_all, list_any, filter_map}
+use Rattle.std.specs.Prelude.{ℕ, ◌+◌, ◌-◌, ◌^◌, ◌==◌, Bool, true, false, not, ◌&&◌, ◌||◌, nat_lt, nat_le, ℤ, List, [], ◌∷◌, ◌++◌, length, drop, slice_index, slice_index_or, find, Option, Some, None, is_none, unwrap_or, if◌then◌else◌, codes}
+use Rattle.std.specs.List.{list_any, filter_map}
 use Rattle.std.specs.Str.{bytes_eq}
 use Rattle.std.specs.Option.{option_map_or}
 use Rattle.text_base.specs.Judged.{first_reason}
 use Rattle.code_tables.specs.declared.field.Field.{Field}
 use Rattle.code_tables.specs.declared.field.FieldRow.{FieldRow}
-use Rattle.code_tables.specs.Header.{HeaderRow, header, header_rows, field_at}
+use Rattle.code_tables.specs.Header.{header, header_rows, field_at}
 use Rattle.nl_model.specs.declared.counts.Counts.{Counts}
 use Rattle.nl_model.specs.HeaderRules.{has_second_three, are_shared_within, are_whole_within, are_definitions_within}
 use Rattle.nl_header.specs.Numbers.{whole_of, signed_of}

@@ -1,5 +1,5 @@
 -- What a reader of header lines holds, and what it answers to the next line.
-use Rattle.std.specs.Prelude.{◌≡◌, ℕ, ◌+◌, ◌<◌, ◌==◌, not, ◌&&◌, ℤ, Bool, false, List, [], ◌∷◌, ◌++◌, length, map, take, slice_index, slice_index_or, Option, Some, None, Result, Ok, Err}
+use Rattle.std.specs.Prelude.{◌≡◌, ℕ, ◌+◌, ◌<◌, ◌==◌, not, ◌&&◌, ℤ, false, List, [], ◌∷◌, ◌++◌, length, map, take, slice_index, slice_index_or, Option, Some, None, Result, Ok, Err}
 use Rattle.code_tables.specs.declared.field.FieldRow.{FieldRow}
 use Rattle.code_tables.specs.Header.{header_rows}
 use Rattle.text_base.specs.Judged.{first_reason}
@@ -55,6 +55,12 @@ abbrev pub Takes : List (List (List ℕ)) → List (List ℕ) → Result (Option
 Takes before words (Ok None) after = GoesOn before words after
 Takes before words (Ok (Some header)) after = Ends before words header after
 Takes before words (Err fault) after = line_fault before words ≡ Some fault
+
+-- how many lines were taken, before and after
+abbrev pub HasCounted : ℕ → Result (Option Header) HeadFault → ℕ → Type 0
+HasCounted before (Ok None) after = (after ≡ before + 1) × (after < 10)
+HasCounted before (Ok (Some header)) after = (before ≡ 9) × (after ≡ 10)
+HasCounted before (Err fault) after = after ≡ before
 
 -- ---- One step.
 

@@ -3,14 +3,14 @@
 
 mod fault;
 mod first_line;
+mod kinds;
 mod number_line;
 mod numbers;
 mod reader;
 mod rules;
+#[cfg(test)]
+mod tests;
 
 pub use fault::HeadFault;
-pub use first_line::read_first;
-pub use number_line::{is_short, judge_words, put_numbers};
-pub use numbers::{signed_of, whole_of};
+pub use kinds::kinds_of;
 pub use reader::HeaderReader;
-pub use rules::counts_of;

@@ -62,7 +62,11 @@ fn judge_word(field: Option<Field>, word: &[u8]) -> Result<(), HeadFault>
 fn next_place(place: u32) -> u32
     ensures { result ≡ min (place + 1) PAST_FIELDS }
 {
-    if place < PAST_FIELDS { place + 1 } else { PAST_FIELDS }
+    if place < PAST_FIELDS {
+        place + 1
+    } else {
+        PAST_FIELDS
+    }
 }
 
 /// Judges the words of a line from the left.
@@ -104,11 +108,20 @@ fn number_in(words: &[&[u8]], place: u32) -> u32
 fn number_after(row: FieldRow, line: u32, words: &[&[u8]], number: u32) -> u32
     ensures { result ≡ number_after row line (texts words.now) number }
 {
-    if row.line == line { number_in(words, row.place) } else { number }
+    if row.line == line {
+        number_in(words, row.place)
+    } else {
+        number
+    }
 }
 
 /// Puts the numbers of a line where the rows of its fields are.
-pub fn put_numbers<const N: usize>(table: &Table<N>, line: u32, words: &[&[u8]], numbers: &mut [u32; N])
+pub fn put_numbers<const N: usize>(
+    table: &Table<N>,
+    line: u32,
+    words: &[&[u8]],
+    numbers: &mut [u32; N],
+)
     requires { length table.now.rows ≡ N }
     ensures { numbers.new ≡ put_in table.now.rows line (texts words.now) numbers.old }
 {

@@ -4,7 +4,7 @@ ghost use Rattle.text_base.specs.Judged.{first_reason};
 ghost use Rattle.text_base.specs.Words.{words_of, row_of};
 ghost use Rattle.code_tables.specs.Header.{header_rows};
 ghost use Rattle.nl_header.specs.Head.{first_line_tests, number_line_fault, options_of};
-ghost use Rattle.nl_header.specs.Reading.{IsReading, Takes, Closes, put_in, counts_from, last_rule};
+ghost use Rattle.nl_header.specs.Reading.{IsReading, Takes, HasCounted, Closes, put_in, counts_from, last_rule};
 
 use crate::fault::HeadFault;
 use crate::first_line::read_first;
@@ -117,7 +117,7 @@ impl HeaderReader {
         requires words { 0 < length (words_of text.now) }
         requires more { self.old.lines < 10 }
         ensures takes { (before : List (List (List ℕ))) → IsReading self.old before → Takes before (words_of text.now) result self.new }
-        ensures count { OnErr result (self.new.lines ≡ self.old.lines) }
+        ensures count { HasCounted self.old.lines result self.new.lines }
     {
         let row = Row::of(text);
         if self.lines == 0 {
@@ -137,7 +137,8 @@ impl HeaderReader {
         requires words { 0 < length (words_of text.now) }
         requires more { self.old.lines < 10 }
         ensures takes { (before : List (List (List ℕ))) → IsReading self.old before → Takes before (words_of text.now) result self.new }
-        ensures fault { IfErr result (λ f. (self.new.fault ≡ Some f) × (self.new.lines ≡ self.old.lines)) }
+        ensures count { HasCounted self.old.lines result self.new.lines }
+        ensures fault { IfErr result (λ f. self.new.fault ≡ Some f) }
         ensures again { IfSome self.old.fault (λ f. (result ≡ Err f) × (self.new ≡ self.old)) }
     {
         if let Some(fault) = self.fault {

@@ -1,4 +1,3 @@
-use Rattle.std.proofs.Common.{sym}
 use Rattle.nl_header.proofs.HeadLemmas.{number_in-past}
 use Rattle.nl_header.proofs.number_line.number_in.Goals as goal
 

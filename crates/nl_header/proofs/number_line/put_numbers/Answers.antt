@@ -7,7 +7,7 @@ use Rattle.nl_header.proofs.number_line.put_numbers.Goals as goal
 pub rows-preserved : goal.rows-preserved
 rows-preserved g c = record {
   done = set-done c.rows.i c.rows.numbers c.args.numbers.now _ (λ k n. number_after (slice_index_or c.args.table.now.rows k no_row) c.args.line (texts c.args.words.now) n)
-    (omega (arith, c.rows-test.true, c.rows.invariant.size, c.told-numbers)) c.rows.invariant.done c.rows.invariant.rest c.number_after-number.ensures;
+      (omega (arith, c.rows-test.true, c.rows.invariant.size, c.told-numbers)) c.rows.invariant.done c.rows.invariant.rest c.number_after-number.ensures;
   size = set-size _ _ _ ∙ c.rows.invariant.size;
   rest = set-rest _ _ _ _ c.rows.invariant.rest;
 }

@@ -1,4 +1,4 @@
-use Rattle.std.proofs.Common.{sym, ◌∙◌}
+use Rattle.std.proofs.Common.{◌∙◌}
 use Rattle.nl_header.proofs.ReaderLemmas.{line_words, line_short, line_rules, short_at}
 use Rattle.nl_header.proofs.rules.judge_line.Goals as goal
 

@@ -1,0 +1,40 @@
+// The kinds of variables, by the groups in which they stand.
+ghost use Rattle.std.specs.Prelude.{◌≡◌, ◌<◌};
+ghost use Rattle.nl_model.specs.Kinds.{kind_of};
+
+use nl_model::{Header, Kind};
+
+/// The kind of the group that a place is in, where groups of these sizes follow each other.
+macro_rules! kind_at {
+    ($place:ident; $($size:expr => $kind:ident,)+) => {
+        $(
+            let size = $size;
+            if $place < size {
+                return Kind::$kind;
+            }
+            $place -= size;
+        )+
+    };
+}
+
+/// The kind of a variable: nonlinear in constraints and objectives, in constraints only, in objectives only; then linear, binary, integer.
+#[tactic(auto, unfolding(nl_model::specs::Kinds::kind_of))]
+pub fn kinds_of(header: &Header, var: u32) -> Kind
+    requires { var < header.now.counts.n_var }
+    ensures { result ≡ kind_of header.now.counts var }
+{
+    let counts = header.counts();
+    let mut place = var;
+    kind_at!(place;
+        counts.nlvb.saturating_sub(counts.nlvbi) => Continuous,
+        counts.nlvbi => Integer,
+        counts.nlvc.saturating_sub(counts.nlvb).saturating_sub(counts.nlvci) => Continuous,
+        counts.nlvci => Integer,
+        counts.nlvo.saturating_sub(counts.nlvc).saturating_sub(counts.nlvoi) => Continuous,
+        counts.nlvoi => Integer,
+        counts.n_var.saturating_sub(counts.nlvc.max(counts.nlvo)).saturating_sub(counts.nbv).saturating_sub(counts.niv) => Continuous,
+        counts.nbv => Binary,
+        counts.niv => Integer,
+    );
+    Kind::Continuous
+}
