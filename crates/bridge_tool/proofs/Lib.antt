@@ -6,4 +6,5 @@ pub mod Lists
 pub mod FrontRows
 pub mod SmallFiles
 pub mod SmallTexts
+pub mod WholeValues
 pub mod Zeros

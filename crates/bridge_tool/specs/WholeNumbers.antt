@@ -43,7 +43,7 @@ unfolding strip
 is_stripped zero n some small = absurd (omega arith)
 is_stripped (suc k) n some small = by_digit k n (eqb (n % 10) 0) some small refl (is_stripped k (n / 10))
 
-unsigned_signed : (b : Bool) (n : ℕ) → unsigned_abs (signed b n) ≡ n
+pub unsigned_signed : (b : Bool) (n : ℕ) → unsigned_abs (signed b n) ≡ n
 unsigned_signed false n = refl
 unsigned_signed true zero = refl
 unsigned_signed true (suc n) = refl

@@ -3,6 +3,7 @@
 
 mod command;
 mod exporting;
+mod laws;
 mod rows;
 mod small;
 mod small_lines;
@@ -13,5 +14,6 @@ mod transfer;
 mod words;
 
 pub use command::{export_file, line_for};
+pub use laws::whole_numbers;
 pub use top::bridge;
 pub use transfer::{read_text, tell_line, write_all};
