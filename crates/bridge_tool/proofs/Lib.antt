@@ -1,3 +1,4 @@
+pub mod ExportedTexts
 pub mod Digits
 pub mod Headline
 pub mod Kept
@@ -5,6 +6,13 @@ pub mod Known
 pub mod Lists
 pub mod FrontRows
 pub mod SmallFiles
+pub mod SmallNumbers
 pub mod SmallTexts
 pub mod WholeValues
 pub mod Zeros
+pub mod ScaledColumns
+pub mod ScaledPrograms
+pub mod ScaledRows
+pub mod ScaledTexts
+pub mod SumLemmas
+pub mod SumValues

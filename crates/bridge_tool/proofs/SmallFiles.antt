@@ -106,7 +106,7 @@ if_last Open o h = tt
 if_last (Bad fault) o h = tt
 if_last End o h = h
 
-if_text : (text : List ℕ) → IfSome (small_text text) IsSmall
+pub if_text : (text : List ℕ) → IfSome (small_text text) IsSmall
 unfolding small_text
 if_text text = if_last (last_of text) (small_rows (rows_of (lines_of text))) (if_small (rows_of (lines_of text)))
 

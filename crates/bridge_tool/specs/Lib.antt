@@ -7,5 +7,7 @@ pub mod SmallFile
 pub mod SmallLines
 pub mod SmallRows
 pub mod SmallWords
+pub mod Scaling
+pub mod Sums
 pub mod Transfer
 pub mod WholeNumbers

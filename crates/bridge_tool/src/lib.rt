@@ -5,8 +5,10 @@ mod command;
 mod exporting;
 mod laws;
 mod rows;
+mod scaling;
 mod small;
 mod small_lines;
+mod sums;
 #[cfg(test)]
 mod tests;
 mod top;
