@@ -118,8 +118,8 @@ module _ (s : Small) where
       let bound = bounds 0 (omega arith) ∙ ap (λ i. whole_sides (get_or s.bounds i no_side)) here ∙ sym (variable_bound j (h.columns j (omega arith))) in
       let kind = ap is_whole (kinds 0 (omega arith)) ∙ sym (not_whole j) in
       let next = λ (i : ℕ) (below : i < n).
-          let moved : j + suc i ≡ suc j + i = omega arith in
-          bounds (suc i) (omega arith) ∙ ap (λ m. whole_sides (get_or s.bounds m no_side)) moved in
+      let moved : j + suc i ≡ suc j + i = omega arith in
+      bounds (suc i) (omega arith) ∙ ap (λ m. whole_sides (get_or s.bounds m no_side)) moved in
       ap₂ (λ v vs. v ∷ vs)
       (λ t. record { name = (variable_of (file_of s) j).name; bound = bound t; whole = kind t })
       (variables_are h (suc j) n bs ks (omega arith) (omega arith) (omega arith) next (λ i below. kinds (suc i) (omega arith)))

@@ -30,8 +30,8 @@ same_program s h v is =
     let n = s.head.sizes.n_con in
     let count : length v.rows ≡ n = omega (arith, is.rows.count, h.bodies) in
     let each = λ (k : ℕ) (lt : k < n).
-        let first : k ≡ 0 + k = omega arith in
-        subst (λ m. IsSomeRowOf (get_or s.bodies m (pos 0)) (get_or s.sides m no_side) (get_or s.terms m []) (get_or v.rows k None)) first (is.rows.each k (omega arith)) in
+    let first : k ≡ 0 + k = omega arith in
+    subst (λ m. IsSomeRowOf (get_or s.bodies m (pos 0)) (get_or s.sides m no_side) (get_or s.terms m []) (get_or v.rows k None)) first (is.rows.each k (omega arith)) in
     let rows = rows_from s h 0 n v.rows count (omega arith) each in
     let variables = variables_is s h v.bounds v.kinds is.bounds is.kinds in
     let form = form_is s h v.objective is.objective in

@@ -57,8 +57,8 @@ row_more i bodies sides terms rows after z s ts r h is ez es ets e =
     let at : ℕ → List (Option FactoredRow) → Type 0 = λ k l. IsSomeRowOf (get_or bodies k (pos 0)) (get_or sides k no_side) (get_or terms k []) (get_or l k None) in
     let count = h.count in
     let whole_row : IsSomeRowOf (get_or bodies i (pos 0)) (get_or sides i no_side) (get_or terms i []) (Some r) =
-        subst (λ w. IsSomeRowOf w (get_or sides i no_side) (get_or terms i []) (Some r)) ez
-        (subst (λ w. IsSomeRowOf z w (get_or terms i []) (Some r)) es (subst (λ w. IsSomeRowOf z s w (Some r)) ets is)) in
+    subst (λ w. IsSomeRowOf w (get_or sides i no_side) (get_or terms i []) (Some r)) ez
+    (subst (λ w. IsSomeRowOf z w (get_or terms i []) (Some r)) es (subst (λ w. IsSomeRowOf z s w (Some r)) ets is)) in
     let last : at i (rows ++ Some r ∷ []) = subst (IsSomeRowOf (get_or bodies i (pos 0)) (get_or sides i no_side) (get_or terms i [])) (sym (get_or_push rows (Some r) None i count)) whole_row in
     record {
       count = ap length e ∙ length-append rows (Some r ∷ []) ∙ omega arith;

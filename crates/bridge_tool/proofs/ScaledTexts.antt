@@ -148,7 +148,7 @@ module _ (s : Small) (h : IsWholeText s) where
       let here : i + 0 ≡ i = omega arith in
       let first = subst at here (is 0 (omega arith)) in
       let next = λ (k : ℕ) (below : k < n).
-          let moved : i + suc k ≡ suc i + k = omega arith in
-          subst (λ m. IsSomeRowOf (get_or s.bodies m (pos 0)) (get_or s.sides m no_side) (get_or s.terms m []) (get_or rows k None)) moved (is (suc k) (omega arith)) in
+      let moved : i + suc k ≡ suc i + k = omega arith in
+      subst (λ m. IsSomeRowOf (get_or s.bodies m (pos 0)) (get_or s.sides m no_side) (get_or s.terms m []) (get_or rows k None)) moved (is (suc k) (omega arith)) in
       exported_one (has_side (side_of (file_of s) i).lower (side_of (file_of s) i).upper) (scaled_row_of i r.row) (scaled_row 1 (row_of (file_of s) i)) (exported_from (suc i) rows) (exported_rows (λ i. 1) (suc i) (elements_from (row_of (file_of s)) (suc i) n))
       (row_sided i lt r.row first) (row_is i lt r.row first) (rows_from (suc i) n rows (omega arith) (omega arith) next)
