@@ -1,14 +1,12 @@
 -- How much there is in all pieces, with a row more in the last.
-use Rattle.std.proofs.Common.{◌≡◌, ◌∙◌, ℕ, ◌+◌, Bool, true, false, List, [], ◌∷◌, ◌++◌, length, map, filter, sum_by, refl, sym, ap, ap₂, arith}
-use Rattle.std.proofs.lemmas.List.{append-nil, length-append, map-append}
+use Rattle.std.proofs.Common.{◌≡◌, ◌∙◌, ◌+◌, Bool, true, false, List, [], ◌∷◌, ◌++◌, length, filter, sum_by, refl, ap, arith}
+use Rattle.std.proofs.lemmas.List.{append-nil}
 use Rattle.std.proofs.lemmas.List.Sums.{sum_by-append}
 use Rattle.std.proofs.lemmas.List.Elements.{filter-append}
 use Rattle.nl_model.specs.declared.counts.Counts.{Counts}
 use Rattle.nl_segments.specs.declared.head.Head.{Head}
-use Rattle.nl_segments.specs.Rows.{Row}
 use Rattle.nl_segments.specs.Pieces.{Piece, piece_nodes, piece_pairs}
 use Rattle.nl_segments.specs.Tests.{node_total, pair_total}
-use Rattle.nl_segments.proofs.PieceLemmas.{longer}
 
 -- the total of the last piece and of those before it
 pub nodes-append : (c : Counts) (before : List Piece) (p : Piece) → node_total c (before ++ p ∷ []) ≡ node_total c before + length (piece_nodes c p)

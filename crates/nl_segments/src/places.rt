@@ -168,9 +168,9 @@ impl Places {
         }
     }
 
-    // The line of a place, where the file has it.
+    /// The line of a place, where the file has it.
     #[tactic(auto, unfolding(crate::specs::Saying::line_of))]
-    fn line_at(&self, at: At) -> Option<u32>
+    pub(crate) fn line_at(&self, at: At) -> Option<u32>
         ensures { result ≡ line_of self.now at }
     {
         match at {

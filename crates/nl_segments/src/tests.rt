@@ -5,6 +5,7 @@ use crate::head::Head;
 use crate::heads::{is_in_range, read_head};
 use crate::intervals::read_interval;
 use crate::marks::Marks;
+use crate::owner_lines::OwnerLines;
 use crate::pairs::read_pair;
 use crate::places::Places;
 use crate::seen::Seen;
@@ -94,21 +95,29 @@ fn marks(rt: HostRuntime) -> Result<(), Fail> {
 #[test]
 fn segments(rt: HostRuntime) -> Result<(), Fail> {
     let mut seen = Seen::new(rt.alloc(), &small_counts(), 0)?;
-    seen.add(Head::Terms(0, 2));
-    assert!(rt; seen.has(Head::Terms(0, 1)));
-    assert!(rt; !seen.has(Head::Body(0)));
+    seen.add(Head::Sides);
+    assert!(rt; seen.has(Head::Sides));
+    assert!(rt; !seen.has(Head::Bounds));
+    Ok(())
+}
+
+#[test]
+fn owner_lines(rt: HostRuntime) -> Result<(), Fail> {
+    let mut lines = OwnerLines::new(rt.alloc());
+    lines.begin_row(24);
+    lines.add_term(25)?;
+    assert!(rt; lines.head() == Some(24));
+    lines.begin_tree(30);
+    lines.add_node(31)?;
+    assert!(rt; lines.head() == Some(30));
+    assert!(rt; lines.node(0) == Some(31));
+    assert!(rt; lines.term(0) == Some(25));
     Ok(())
 }
 
 #[test]
 fn places(rt: HostRuntime) -> Result<(), Fail> {
-    let mut places = Places::new(rt.alloc(), &small_counts())?;
-    places.begin(rt.alloc(), Head::Terms(0, 2), 24)?;
-    places.add_term(Head::Terms(0, 2), 25)?;
-    places.begin(rt.alloc(), Head::Body(0), 30)?;
-    places.add_node(Head::Body(0), 31)?;
-    assert!(rt; places.line(At::Head(Owner::Con(0))) == 30);
-    assert!(rt; places.line(At::Node(Owner::Con(0), 0)) == 31);
-    assert!(rt; places.line(At::Term(Owner::Con(0), 0)) == 25);
+    let places = Places::new(rt.alloc(), &small_counts())?;
+    assert!(rt; places.line_at(At::Head(Owner::Con(0))).is_none());
     Ok(())
 }
