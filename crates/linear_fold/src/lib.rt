@@ -8,6 +8,8 @@ mod fold;
 mod form;
 mod operate;
 mod pad;
+#[cfg(test)]
+mod tests;
 mod wide;
 mod work;
 
