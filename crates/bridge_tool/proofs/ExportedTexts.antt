@@ -1,5 +1,5 @@
 -- The text of a small text's program.
-use Rattle.std.proofs.Common.{◌≡◌, ◌∙◌, ℕ, List, Option, Some, IfSome, ap, subst}
+use Rattle.std.proofs.Common.{◌≡◌, ◌∙◌, ℕ, List, Some, IfSome, ap, subst}
 use Rattle.exact_numbers.specs.Values.{dec_value, value_text}
 use Rattle.exact_numbers.specs.declared.dec.Dec.{Dec}
 use Rattle.fractions.specs.Rational.{ℚ}

@@ -1,12 +1,10 @@
 -- The objective and the variables of the scaled program of a small text are those of its file.
-use Rattle.std.proofs.Common.{◌≡◌, ◌∙◌, ◌⊎◌, inl, inr, ℕ, zero, suc, ◌+◌, ◌-◌, ◌<◌, ◌≤◌, ℤ, pos, Bool, true, false, cond, ltb, List, [], ◌∷◌, length, get_or, map, Option, Some, None, refl, sym, ap, ap₂, subst, arith, All}
+use Rattle.std.proofs.Common.{◌≡◌, ◌∙◌, ◌⊎◌, inl, inr, ℕ, zero, suc, ◌+◌, ◌-◌, ◌<◌, ◌≤◌, pos, Bool, true, false, cond, ltb, List, [], ◌∷◌, length, get_or, map, Option, Some, None, refl, sym, ap, ap₂, arith}
 use Rattle.std.specs.List.{AllByRecursion}
 use Rattle.std.proofs.lemmas.Bool.{ltb-true}
 use Rattle.std.proofs.lemmas.List.{length-map}
 use Rattle.std.proofs.Math.ListN.{get_or-map as get_or-map_at}
-use Rattle.fractions.specs.Rational.{ℚ, whole}
-use Rattle.linear_programs.specs.Linear.{Interval as Sides, Form, Variable}
-use Rattle.exact_numbers.specs.Values.{dec_value}
+use Rattle.fractions.specs.Rational.{whole}
 use Rattle.exact_numbers.proofs.Signs.{decimal_whole}
 use Rattle.file_meaning.specs.Expressions.{definitions_of, objective_of, maximises, no_objective}
 use Rattle.file_meaning.specs.LinearFile.{elements_from, variable_of, objective_form, number_value, coefficient_of as file_coefficient}
@@ -14,18 +12,16 @@ use Rattle.file_meaning.specs.Meaning.{no_sides, bound_of, interval_of as sides_
 use Rattle.file_meaning.proofs.Plain.{plain_constant, plain_coefficient}
 use Rattle.nl_model.specs.declared.interval.Interval.{Interval}
 use Rattle.nl_model.specs.declared.kind.Kind.{Kind}
-use Rattle.nl_model.specs.declared.kind.Kind.TheVariants.{Continuous, Binary, Integer}
+use Rattle.nl_model.specs.declared.kind.Kind.TheVariants.{Continuous}
 use Rattle.nl_model.specs.Kinds.{Group, groups, kind_among, kind_of}
 use Rattle.row_scaling.specs.declared.row.ScaledObjective.{ScaledObjective}
-use Rattle.row_scaling.specs.Rows.{coefficient_of, sides_value}
+use Rattle.row_scaling.specs.Rows.{sides_value}
 use Rattle.row_scaling.specs.Exported.{form_of, is_whole, variables_from}
-use Rattle.bridge_tool.specs.declared.words.Side.{Side}
 use Rattle.bridge_tool.specs.declared.words.Term.{Term}
 use Rattle.bridge_tool.specs.declared.rows.Head.{Head}
 use Rattle.bridge_tool.specs.declared.rows.Objective.{Objective}
 use Rattle.bridge_tool.specs.SmallRows.{Small}
 use Rattle.bridge_tool.specs.SmallFile.{file_of, counts_of, interval_of, terms_of, objectives_of, slopes_of}
-use Rattle.bridge_tool.specs.WholeNumbers.{whole_dec}
 use Rattle.bridge_tool.specs.Scaling.{whole_sides, no_side, constant_of, slopes_for, is_maximised, IsObjectiveOf, AreContinuous}
 use Rattle.bridge_tool.proofs.SmallFiles.{plain_file}
 use Rattle.bridge_tool.proofs.SumValues.{sum_value}

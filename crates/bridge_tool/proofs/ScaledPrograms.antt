@@ -1,17 +1,16 @@
 -- The scaled program of a small text is exported as the program of its file.
-use Rattle.std.proofs.Common.{◌≡◌, ◌∙◌, ℕ, zero, suc, ◌+◌, ◌<◌, ◌≤◌, ◌^◌, List, [], ◌∷◌, length, get_or, map, Option, Some, None, IfSome, refl, sym, ap, ap₂, subst, arith, lit<, All, ℤ, pos}
+use Rattle.std.proofs.Common.{◌≡◌, ◌∙◌, ℕ, suc, ◌+◌, ◌<◌, ◌≤◌, ◌^◌, List, [], ◌∷◌, length, get_or, map, Option, Some, None, IfSome, sym, ap, ap₂, subst, arith, lit<, All, ℤ, pos}
 use Rattle.std.specs.List.{AllByRecursion, sum_by}
 use Rattle.std.specs.Option.{option_map_or}
 use Rattle.std.proofs.lemmas.List.{length-map, get_or_default}
 use Rattle.std.proofs.lemmas.List.Elements.{All-from_recursion}
 use Rattle.std.proofs.lemmas.List.Sums.{sum_by-cons}
 use Rattle.exported_program.specs.Program.{program_of, exported_rows}
-use Rattle.file_meaning.specs.LinearFile.{linear_of, elements_from, row_of, variable_of, objective_form}
-use Rattle.file_meaning.specs.Expressions.{maximises}
+use Rattle.file_meaning.specs.LinearFile.{linear_of}
 use Rattle.row_scaling.specs.declared.row.FactoredRow.{FactoredRow}
 use Rattle.row_scaling.specs.Rows.{IsBelow, sides_value}
 use Rattle.row_scaling.specs.Scaled.{ScaledValue, IsRowOver, IsScaled, row_term_count}
-use Rattle.row_scaling.specs.Exported.{exported_as, exported_from, form_of, variables_from}
+use Rattle.row_scaling.specs.Exported.{exported_as, form_of}
 use Rattle.row_scaling.proofs.LawLemmas.{plain_as}
 use Rattle.bridge_tool.specs.declared.words.Side.{Side}
 use Rattle.bridge_tool.specs.declared.words.Term.{Term}
@@ -20,7 +19,7 @@ use Rattle.bridge_tool.specs.SmallFacts.{AreBelow, AreShort, HasSide, IsShort, I
 use Rattle.bridge_tool.specs.SmallRows.{Small}
 use Rattle.bridge_tool.specs.SmallFile.{file_of}
 use Rattle.bridge_tool.specs.Export.{exported_program}
-use Rattle.bridge_tool.specs.Scaling.{no_side, IsRowOf, IsSomeRowOf, AreRowsOf, IsScaledOf, IsRowSide, IsObjectiveOf, AreContinuous, constant_of, is_maximised, slopes_for, whole_sides}
+use Rattle.bridge_tool.specs.Scaling.{no_side, IsSomeRowOf, AreRowsOf, IsScaledOf, IsRowSide, IsObjectiveOf, AreContinuous, constant_of, is_maximised, slopes_for, whole_sides}
 use Rattle.bridge_tool.proofs.ScaledTexts.{AreSidesSized, AreSized, IsSideSized, IsSized, IsWholeText, rows_from}
 use Rattle.bridge_tool.proofs.ScaledColumns.{form_is, variables_is, sense_is}
 

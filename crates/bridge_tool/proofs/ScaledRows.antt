@@ -1,11 +1,11 @@
 -- Scaled rows, made one by one.
-use Rattle.std.proofs.Common.{◌≡◌, ◌∙◌, ◌⊎◌, inl, inr, ℕ, suc, ◌+◌, ◌<◌, ◌≤◌, ℤ, pos, ◌-ℤ◌, Bool, true, List, [], ◌∷◌, ◌++◌, length, get_or, map, take, Option, Some, None, IsSome, refl, sym, ap, ap₂, subst, arith, All, length-append}
-use Rattle.std.proofs.lemmas.List.{get_or-map, get_or_push, map_more, map_push, take_all}
+use Rattle.std.proofs.Common.{◌≡◌, ◌∙◌, ◌⊎◌, inl, inr, ℕ, ◌+◌, ◌<◌, ℤ, pos, ◌-ℤ◌, true, List, [], ◌∷◌, ◌++◌, length, get_or, map, take, Option, Some, None, IsSome, refl, sym, ap, ap₂, subst, arith, length-append}
+use Rattle.std.proofs.lemmas.List.{get_or-map, get_or_push, map_more, map_push}
 use Rattle.std.proofs.Math.ListN.{get_or-append}
 use Rattle.std.proofs.lemmas.List.Elements.{All-push}
 use borrow.Author.Count.{below_more}
-use Rattle.fractions.specs.Rational.{ℚ, whole}
-use Rattle.exported_program.specs.Program.{has_side, range_of, nonzero}
+use Rattle.fractions.specs.Rational.{whole}
+use Rattle.exported_program.specs.Program.{has_side, range_of}
 use Rattle.nl_model.specs.declared.interval.Interval.{Interval}
 use Rattle.nl_model.specs.declared.kind.Kind.{Kind}
 use Rattle.nl_model.specs.declared.kind.Kind.TheVariants.{Continuous}
@@ -14,7 +14,7 @@ use Rattle.row_scaling.specs.Rows.{TermOf, RowValue, IsScaledRow, side_value, si
 use Rattle.row_scaling.proofs.WholeLemmas.{no_difference}
 use Rattle.bridge_tool.specs.declared.words.Side.{Side}
 use Rattle.bridge_tool.specs.declared.words.Term.{Term}
-use Rattle.bridge_tool.specs.SmallFacts.{AreSame, HasSide, IsSided}
+use Rattle.bridge_tool.specs.SmallFacts.{AreSame}
 use Rattle.bridge_tool.specs.Sums.{AreSums}
 use Rattle.bridge_tool.specs.Scaling.{side_less, whole_sides, no_side, IsRowSide, IsRowOf, IsSomeRowOf, AreRowsOf, AreContinuous}
 

@@ -1,31 +1,29 @@
 -- The scaled program of a small text is the program of its file.
-use Rattle.std.proofs.Common.{◌≡◌, ◌∙◌, ℕ, zero, suc, ◌+◌, ◌^◌, ◌<◌, ◌≤◌, ℤ, pos, ◌+ℤ◌, ◌-ℤ◌, neg_ℤ, unsigned_abs, Bool, true, false, cond, List, [], ◌∷◌, length, get_or, map, Option, Some, None, refl, sym, ap, ap₂, subst, arith}
+use Rattle.std.proofs.Common.{◌≡◌, ◌∙◌, ℕ, zero, suc, ◌+◌, ◌^◌, ◌<◌, ◌≤◌, ℤ, pos, ◌+ℤ◌, ◌-ℤ◌, neg_ℤ, unsigned_abs, Bool, true, cond, List, [], ◌∷◌, length, get_or, Option, Some, None, refl, sym, ap, ap₂, subst, arith}
 use Rattle.std.specs.Prelude.{option_map}
 use Rattle.std.specs.List.{AllByRecursion}
 use Rattle.std.proofs.lemmas.List.{get_or-map}
 use Rattle.std.proofs.Math.ListN.{get_or-map as get_or-map_at}
 use Rattle.std.proofs.lemmas.Int.{ints}
-use Rattle.fractions.specs.Rational.{ℚ, whole, one_ℚ, neg_ℚ, ◌+ℚ◌, ◌-ℚ◌, ◌*ℚ◌}
+use Rattle.fractions.specs.Rational.{ℚ, whole, one_ℚ, ◌+ℚ◌, ◌-ℚ◌}
 use Rattle.fractions.proofs.Arithmetic.{one-*ℚ, whole-+ℚ, whole-neg, -ℚ_lem}
-use Rattle.linear_programs.specs.Linear.{Interval as Sides, Form, Row, Variable}
+use Rattle.linear_programs.specs.Linear.{Interval as Sides}
 use Rattle.exact_numbers.specs.Values.{dec_value}
-use Rattle.exported_program.specs.Program.{ScaledRow, scaled_row, scaled_side, has_side, exported_rows, program_of}
-use Rattle.file_meaning.specs.Expressions.{definitions_of, body_of, objective_of, tree_or_zero, maximises, no_objective}
-use Rattle.file_meaning.specs.LinearFile.{linear_of, elements_from, row_of, variable_of, body_form, objective_form, number_value, coefficient_of as file_coefficient}
-use Rattle.file_meaning.specs.Meaning.{no_sides, side_of, bound_of, interval_of as sides_of}
+use Rattle.exported_program.specs.Program.{ScaledRow, scaled_row, scaled_side, has_side, exported_rows}
+use Rattle.file_meaning.specs.Expressions.{definitions_of, body_of, tree_or_zero}
+use Rattle.file_meaning.specs.LinearFile.{elements_from, row_of, body_form, number_value, coefficient_of as file_coefficient}
+use Rattle.file_meaning.specs.Meaning.{side_of, interval_of as sides_of}
 use Rattle.file_meaning.proofs.Plain.{plain_constant, plain_coefficient}
-use Rattle.nl_model.specs.declared.interval.Interval.{Interval}
 use Rattle.row_scaling.specs.declared.row.FactoredRow.{FactoredRow}
-use Rattle.row_scaling.specs.Rows.{RowValue, coefficient_of, side_value, sides_value}
+use Rattle.row_scaling.specs.Rows.{RowValue, side_value}
 use Rattle.row_scaling.specs.Exported.{exported_from, scaled_row_of}
 use Rattle.bridge_tool.specs.declared.words.Side.{Side}
 use Rattle.bridge_tool.specs.declared.words.Term.{Term}
-use Rattle.bridge_tool.specs.declared.rows.Objective.{Objective}
 use Rattle.bridge_tool.specs.SmallRows.{Small}
 use Rattle.bridge_tool.specs.SmallFile.{file_of, constant_tree, interval_of, terms_of}
 use Rattle.bridge_tool.specs.WholeNumbers.{whole_dec}
-use Rattle.bridge_tool.specs.Sums.{sum_at, AreSums}
-use Rattle.bridge_tool.specs.Scaling.{whole_side, side_less, whole_sides, no_side, IsRowOf, IsSomeRowOf, AreRowsOf, constant_of, slopes_for, IsObjectiveOf}
+use Rattle.bridge_tool.specs.Sums.{sum_at}
+use Rattle.bridge_tool.specs.Scaling.{whole_side, side_less, whole_sides, no_side, IsRowOf, IsSomeRowOf, constant_of, slopes_for}
 use Rattle.bridge_tool.proofs.SmallFiles.{plain_file}
 use Rattle.bridge_tool.proofs.SumValues.{sum_value}
 use Rattle.bridge_tool.proofs.WholeValues.{whole_dec_value}

@@ -1,5 +1,5 @@
 -- The sums of terms are the coefficients that the terms of the file give.
-use Rattle.std.proofs.Common.{◌≡◌, ◌∙◌, ℕ, ◌^◌, ◌<◌, ℤ, pos, ◌+ℤ◌, unsigned_abs, nat_eq, Bool, true, false, cond, eqb, List, [], ◌∷◌, refl, sym, ap, ap₂}
+use Rattle.std.proofs.Common.{◌≡◌, ◌∙◌, ℕ, ◌^◌, ◌<◌, ℤ, pos, unsigned_abs, nat_eq, Bool, true, false, cond, List, [], ◌∷◌, refl, ap₂}
 use Rattle.std.specs.List.{AllByRecursion}
 use Rattle.fractions.specs.Rational.{ℚ, whole, zero_ℚ, ◌+ℚ◌}
 use Rattle.fractions.specs.Sums.{sum_over}

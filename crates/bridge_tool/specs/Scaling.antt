@@ -1,9 +1,8 @@
 -- The scaled program of a small text: all its numbers are whole, so each factor is 1.
-use Rattle.std.specs.Prelude.{◌≡◌, ℕ, ◌<◌, ℤ, pos, ◌-ℤ◌, Bool, true, false, List, [], ◌∷◌, length, get_or, map, Option, Some, None, option_map, All}
+use Rattle.std.specs.Prelude.{◌≡◌, ℕ, ◌<◌, ℤ, pos, ◌-ℤ◌, Bool, false, List, [], length, get_or, map, Option, Some, None, option_map, All}
 use Rattle.fractions.specs.Rational.{ℚ, whole}
 use Rattle.linear_programs.specs.Linear.{Interval as Sides}
 use Rattle.exact_numbers.specs.Values.{dec_value}
-use Rattle.nl_model.specs.declared.interval.Interval.{Interval}
 use Rattle.row_scaling.specs.declared.row.FactoredRow.{FactoredRow}
 use Rattle.row_scaling.specs.declared.row.ScaledObjective.{ScaledObjective}
 use Rattle.nl_model.specs.declared.kind.Kind.{Kind}

@@ -1,4 +1,4 @@
-// Rows of the tables, as the paper prints them.
+// Rows of the tables, as "Writing .nl Files" prints them.
 
 use crate::{
     Field, OpClass, Operands, class_of, field_at, header_table, opcode_table, operands_of,

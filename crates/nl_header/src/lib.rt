@@ -13,4 +13,5 @@ mod tests;
 
 pub use fault::HeadFault;
 pub use kinds::kinds_of;
+pub use numbers::{signed_of, whole_of};
 pub use reader::HeaderReader;

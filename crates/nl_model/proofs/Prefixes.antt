@@ -170,4 +170,4 @@ nodes_of_run ns wants b e =
     let one = only (trees_of ns) (length-trees 1 ns b.run e) in
     let P : List Tree → Type 0 = λ ts. ArePrefixes (as_trees ts) ns in
     let whole = alone (tree_of ns) ns (subst P one (forest ns formed)) in
-    record { prefix = whole; trees = one; formed = formed; tree_formed = tree_formed whole }
+    record { prefix = whole; trees = one; formed = formed; tree_formed = tree_formed whole; few = b.few }

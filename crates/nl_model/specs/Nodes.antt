@@ -83,6 +83,7 @@ pub record AreNodesOf (t : Tree) (ns : List Node) : Type 0 where
   pub trees : trees_of ns ≡ t ∷ []
   pub formed : AreNodesFormed ns
   pub tree_formed : IsTreeFormed t
+  pub few : length ns ≤ 2 ^ 22
 
 -- the number of nodes that follow a node as its operands
 abbrev pub operand_count : Node → ℕ

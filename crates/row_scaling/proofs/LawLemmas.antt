@@ -1,4 +1,4 @@
-use Rattle.std.proofs.Common.{◌≡◌, ℕ, ◌∙◌, sym, ap, ap₂, refl, true, false, cond, nat_eq, pos, List, [], ◌∷◌, ◌++◌, append-nil, Option, Some, None}
+use Rattle.std.proofs.Common.{◌≡◌, ℕ, ◌∙◌, sym, ap, ap₂, refl, true, false, cond, nat_eq, pos, [], ◌∷◌, ◌++◌, append-nil, Some, None}
 use Rattle.fractions.specs.Rational.{ℚ, whole, zero_ℚ, one_ℚ, neg_ℚ, ◌*ℚ◌, ◌-ℚ◌}
 use Rattle.fractions.proofs.Arithmetic.{*ℚ_one, *ℚ-neg}
 use Rattle.fractions.proofs.Ring.{ring, v, num, ◌⊖◌, ◌⊗◌, opp}

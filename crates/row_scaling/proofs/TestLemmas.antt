@@ -1,4 +1,4 @@
-use Rattle.std.proofs.Common.{◌≡◌, ◌≢◌, ℕ, zero, suc, ◌∙◌, sym, ap, ap₂, refl, arith, subst, ℤ, pos, List, [], ◌∷◌, Option, Some, None, Bool, All, IfSome, ◌<◌, ◌≤◌, ◌^◌, length}
+use Rattle.std.proofs.Common.{◌≡◌, ◌≢◌, zero, suc, ◌∙◌, sym, ap, refl, arith, subst, ℤ, pos, List, [], ◌∷◌, Option, Some, None, Bool, All, IfSome}
 use Rattle.std.proofs.lemmas.Int.{ints}
 use Rattle.fractions.specs.Rational.{zero_ℚ, decimal_value}
 use Rattle.exact_numbers.specs.declared.dec.Dec.{Dec}
@@ -8,7 +8,7 @@ use Rattle.nl_model.specs.declared.kind.Kind.{Kind}
 use Rattle.row_scaling.specs.declared.row.FactoredRow.{FactoredRow}
 use Rattle.row_scaling.specs.declared.row.ScaledObjective.{ScaledObjective}
 use Rattle.row_scaling.specs.Rows.{TermOf, RowValue, IsBelow, IsScaledRow}
-use Rattle.row_scaling.specs.Scaled.{ScaledValue, IsScaled, IsRowOver}
+use Rattle.row_scaling.specs.Scaled.{IsScaled, IsRowOver}
 use Rattle.row_scaling.proofs.NumberLemmas.{zero_of_value}
 
 other_than_zero : (d : Dec) (m : ℤ) → (m ≡ pos 0 → ⊥) → dec_value d ≡ decimal_value m (pos 0) → dec_value d ≢ zero_ℚ

@@ -1,0 +1,171 @@
+-- What the entries of a fold come to.
+use Rattle.std.proofs.Common.{◌≡◌, ◌≢◌, ℕ, zero, suc, ◌+◌, ◌<◌, ◌≤◌, ◌∙◌, sym, ap, ap₂, refl, subst, Bool, true, false, None, Some, Option, List, [], ◌∷◌, map, length, ⊎_elim, arith, option_and_then, if◌then◌else◌, get_or, ◌==◌}
+use Rattle.std.specs.Option.{option_or}
+use Rattle.std.proofs.lemmas.Bool.{cases_lt, eq-eqb}
+use Rattle.code_tables.specs.declared.class.OpClass.{OpClass}
+use Rattle.code_tables.specs.declared.class.OpClass.TheVariants.{Sum, Difference, Product, Quotient, Negation, List as SumOfAll, Power, Least, Greatest, Floor, Ceiling, Absolute, Refused}
+use Rattle.exact_numbers.specs.declared.frac.Frac.{Frac}
+use Rattle.exact_numbers.specs.Values.{frac_value}
+use Rattle.fractions.specs.Rational.{ℚ, zero_ℚ, one_ℚ, whole, ◌+ℚ◌, ◌*ℚ◌, neg_ℚ, inverse_of}
+use Rattle.fractions.proofs.Arithmetic.{*ℚ_zero, +ℚ_zero, zero-+ℚ, neg_zero}
+use Rattle.nl_meaning.specs.declared.Fault.{Fault}
+use Rattle.nl_meaning.specs.declared.Reason.{Reason}
+use Rattle.nl_meaning.specs.Lines.{Line, some_values, line_value, line_by, is_constant}
+use Rattle.nl_meaning.specs.Faults.{line_with, line_sum, line_scaled, line_neg, running_line, constant_line, operator_fault, operator_line, fault_at, lines_of, trees_fault}
+use Rattle.nl_meaning.specs.Trees.{Point, Known, Trees, none, more, on_values, operator_value, tree_value, trees_values, HasCount}
+use Rattle.nl_meaning.proofs.LineLemmas.{same_constant, same_coef, no_coef, apart-eqb}
+use Rattle.nl_meaning.proofs.Linear.{all_there-some, constant_value, variable_value, operator_has_line}
+use Rattle.linear_fold.specs.declared.entries.Entry.{Entry}
+use Rattle.linear_fold.specs.declared.form.Form.{Form}
+use Rattle.linear_fold.specs.declared.operate.Outcome.{Outcome}
+use Rattle.linear_fold.specs.Coefs.{coef_in}
+use Rattle.linear_fold.specs.Forms.{form_line, is_open, IsZeroFrom}
+use Rattle.linear_fold.specs.Operates.{IsWithin, AreWithin, zero_line}
+use Rattle.linear_fold.specs.Folds.{HasLineOf, AreLinesOf, AreOperands, AreKnown, IsGiven}
+use Rattle.linear_fold.proofs.CoefLemmas.{adds_at, found_same, found_apart}
+use Rattle.linear_fold.specs.Coefs.{value_or_zero}
+use Rattle.linear_fold.proofs.Scaled.{same_line}
+
+-- a function of points that has the values of a line
+pub same_form : (n : ℕ) (f : Point → Option ℚ) (a : Form) (l : Line) → form_line a ≡ l → ((at : Point) → f at ≡ Some (line_value n l at)) → HasLineOf n f a
+same_form n f a l e h at = h at ∙ ap (λ m. Some (line_value n m at)) (sym e)
+
+pub constant_lined : (n : ℕ) (k : ℚ) (at : Point) → Some k ≡ Some (line_value n (constant_line k) at)
+constant_lined n k at = ap Some (sym (constant_value n k at))
+
+pub variable_lined : (n j : ℕ) → j < n → (at : Point) → Some (at j) ≡ Some (line_value n (line_with (constant_line zero_ℚ) j one_ℚ) at)
+variable_lined n j h at = ap Some (variable_value n j at h)
+
+pub constant_within : (n : ℕ) (f : Form) (k : ℚ) → form_line f ≡ constant_line k → is_open f ≡ false → IsWithin n f
+constant_within n f k e c = record { closed = c; zero_from = λ j h. ap (λ l. l.coef j) e }
+
+pub variable_within : (n j : ℕ) (f : Form) → j < n → form_line f ≡ line_with (constant_line zero_ℚ) j one_ℚ → is_open f ≡ false → IsWithin n f
+variable_within n j f l e c =
+    record {
+      closed = c;
+      zero_from = λ i g. ap (λ m. m.coef i) e ∙ ap (λ x. zero_ℚ +ℚ one_ℚ *ℚ x) (apart-eqb i j (omega arith)) ∙ ap (λ x. zero_ℚ +ℚ x) (*ℚ_zero one_ℚ) ∙ +ℚ_zero zero_ℚ;
+    }
+
+pub same_within : (n : ℕ) (a b : Form) → form_line a ≡ form_line b → is_open a ≡ false → IsWithin n b → IsWithin n a
+same_within n a b e c w = record { closed = c; zero_from = λ j g. ap (λ m. m.coef j) e ∙ w.zero_from j g }
+
+pub one_not_zero : (x : ℚ) → x ≡ one_ℚ → x ≢ zero_ℚ
+unfolding whole
+one_not_zero x e z = (let h : one_ℚ ≡ zero_ℚ = sym e ∙ z in let k = ap (λ (y : ℚ). y.top) h in cc)
+
+pub term_line : (c k : Frac) (j : ℕ) → frac_value c ≡ zero_ℚ → frac_value k ≡ one_ℚ → (record { constant = frac_value c; coef = coef_in ((j, k) ∷ []) }) ≡ line_with (constant_line zero_ℚ) j one_ℚ
+term_line c k j e f =
+    same_line (record { constant = frac_value c; coef = coef_in ((j, k) ∷ []) }) (line_with (constant_line zero_ℚ) j one_ℚ) e
+    (adds_at (λ i. zero_ℚ) (coef_in ((j, k) ∷ [])) j one_ℚ (ap value_or_zero (found_same (j, k) [] j refl) ∙ f ∙ sym (zero-+ℚ one_ℚ)) (λ i n. ap value_or_zero (found_apart (j, k) [] i n)))
+
+-- a form of a tree's values has the tree's line
+pub is_line_of : (n : ℕ) (f : Point → Option ℚ) (a : Form) → IsWithin n a → HasLineOf n f a → form_line a ≡ line_by f
+is_line_of n f a w h =
+    same_line _ _ (sym (same_constant n f (form_line a) h))
+    (λ j. ⊎_elim
+    (λ (l : j < n). sym (same_coef n f (form_line a) h j l))
+    (λ (g : n ≤ j). w.zero_from j g ∙ sym (no_coef n f (form_line a) h j g))
+    (cases_lt j n))
+
+module _ (known : Point → Known) (n : ℕ) where
+  lines_are : (ts : Trees) (fs : List Form) → AreWithin n fs → AreLinesOf known n ts fs → map form_line fs ≡ lines_of known ts
+  lines_are none [] w h = refl
+  lines_are none (f ∷ fs) w h = absurd h
+  lines_are (more t ts) [] w h = absurd h
+  lines_are (more t ts) (f ∷ fs) w h = ap₂ ◌∷◌ (is_line_of n (λ at. tree_value (known at) at t) f w.0 h.0) (lines_are ts fs w.1 h.1)
+
+  values_are : (ts : Trees) (fs : List Form) → AreLinesOf known n ts fs → (at : Point) → trees_values (known at) at ts ≡ some_values n at (map form_line fs)
+  values_are none [] h at = refl
+  values_are none (f ∷ fs) h at = absurd h
+  values_are (more t ts) [] h at = absurd h
+  values_are (more t ts) (f ∷ fs) h at = ap₂ ◌∷◌ (h.0 at) (values_are ts fs h.1 at)
+
+length-forms : (fs : List Form) → length (map form_line fs) ≡ length fs
+length-forms [] = refl
+length-forms (f ∷ fs) = ap suc (length-forms fs)
+
+-- ---- no coefficient from n on
+abbrev AreZeroLines : ℕ → List Line → Type 0
+AreZeroLines n [] = Unit {0}
+AreZeroLines n (l ∷ ls) = IsZeroFrom n l × AreZeroLines n ls
+
+lines_zero : (n : ℕ) (fs : List Form) → AreWithin n fs → AreZeroLines n (map form_line fs)
+lines_zero n [] w = tt
+lines_zero n (f ∷ fs) w = (w.0.zero_from, lines_zero n fs w.1)
+
+sum_zero : (n : ℕ) (a b : Line) → IsZeroFrom n a → IsZeroFrom n b → IsZeroFrom n (line_sum a b)
+sum_zero n a b p q j h = ap₂ ◌+ℚ◌ (p j h) (q j h) ∙ +ℚ_zero zero_ℚ
+
+neg_zero_from : (n : ℕ) (a : Line) → IsZeroFrom n a → IsZeroFrom n (line_neg a)
+neg_zero_from n a p j h = ap neg_ℚ (p j h) ∙ neg_zero
+
+scaled_zero : (n : ℕ) (k : ℚ) (a : Line) → IsZeroFrom n a → IsZeroFrom n (line_scaled k a)
+scaled_zero n k a p j h = ap (λ x. k *ℚ x) (p j h) ∙ *ℚ_zero k
+
+running_zero : (n : ℕ) (a : Line) (ls : List Line) → IsZeroFrom n a → AreZeroLines n ls → IsZeroFrom n (running_line a ls)
+running_zero n a [] p q = p
+running_zero n a (l ∷ ls) p q = running_zero n (line_sum a l) ls (sum_zero n a l p q.0) q.1
+
+chosen_zero : (n : ℕ) (b : Bool) (x y : Line) → IsZeroFrom n x → IsZeroFrom n y → IsZeroFrom n (if b then x else y)
+chosen_zero n true x y p q = p
+chosen_zero n false x y p q = q
+
+pub operator_zero : (n : ℕ) (c : OpClass) (ls : List Line) → HasCount c (length ls) → AreZeroLines n ls → IsZeroFrom n (operator_line n c ls)
+operator_zero n Sum [] h z = absurd (omega arith)
+operator_zero n Sum (a ∷ []) h z = absurd (omega arith)
+operator_zero n Sum (a ∷ b ∷ []) h z = sum_zero n a b z.0 z.1.0
+operator_zero n Sum (a ∷ b ∷ d ∷ ls) h z = absurd (omega arith)
+operator_zero n Difference [] h z = absurd (omega arith)
+operator_zero n Difference (a ∷ []) h z = absurd (omega arith)
+operator_zero n Difference (a ∷ b ∷ []) h z = sum_zero n a (line_neg b) z.0 (neg_zero_from n b z.1.0)
+operator_zero n Difference (a ∷ b ∷ d ∷ ls) h z = absurd (omega arith)
+operator_zero n Product [] h z = absurd (omega arith)
+operator_zero n Product (a ∷ []) h z = absurd (omega arith)
+operator_zero n Product (a ∷ b ∷ []) h z = chosen_zero n (is_constant n a) _ _ (scaled_zero n a.constant b z.1.0) (scaled_zero n b.constant a z.0)
+operator_zero n Product (a ∷ b ∷ d ∷ ls) h z = absurd (omega arith)
+operator_zero n Quotient [] h z = absurd (omega arith)
+operator_zero n Quotient (a ∷ []) h z = absurd (omega arith)
+operator_zero n Quotient (a ∷ b ∷ []) h z = scaled_zero n (inverse_of b.constant) a z.0
+operator_zero n Quotient (a ∷ b ∷ d ∷ ls) h z = absurd (omega arith)
+operator_zero n Negation [] h z = absurd (omega arith)
+operator_zero n Negation (a ∷ []) h z = neg_zero_from n a z.0
+operator_zero n Negation (a ∷ b ∷ ls) h z = absurd (omega arith)
+operator_zero n SumOfAll [] h z = absurd (omega arith)
+operator_zero n SumOfAll (a ∷ ls) h z = running_zero n a ls z.0 z.1
+operator_zero n Power ls h z = λ j g. refl
+operator_zero n Least ls h z = λ j g. refl
+operator_zero n Greatest ls h z = λ j g. refl
+operator_zero n Floor ls h z = λ j g. refl
+operator_zero n Ceiling ls h z = λ j g. refl
+operator_zero n Absolute ls h z = λ j g. refl
+operator_zero n Refused ls h z = absurd h
+
+-- ---- an operator
+pub operator_within : (n : ℕ) (c : OpClass) (fs : List Form) (f : Form) → HasCount c (length fs) → AreWithin n fs → form_line f ≡ operator_line n c (map form_line fs) → is_open f ≡ false → IsWithin n f
+operator_within n c fs f count w e closed =
+    record {
+      closed = closed;
+      zero_from = λ j g. ap (λ l. l.coef j) e ∙ operator_zero n c (map form_line fs) (subst (HasCount c) (sym (length-forms fs)) count) (lines_zero n fs w) j g;
+    }
+
+module _ (known : Point → Known) (n i : ℕ) (c : OpClass) (ts : Trees) (fs : List Form) (broken : Option Fault) (whole_one : broken ≡ None) (count : HasCount c (length fs)) (within : AreWithin n fs) (operands : AreOperands known n (i + 1) ts fs broken) where
+  pub operator_lined : (f : Form) → operator_fault n c (map form_line fs) ≡ None → form_line f ≡ operator_line n c (map form_line fs) → (option_or (trees_fault known n (i + 1) ts) (fault_at i (operator_fault n c (lines_of known ts))) ≡ None) × HasLineOf n (λ at. operator_value c (trees_values (known at) at ts)) f
+  operator_lined f clean line =
+      let lines = operands.lines whole_one in
+      let many : HasCount c (length (map form_line fs)) = subst (HasCount c) (sym (length-forms fs)) count in (
+        ap₂ option_or (sym operands.fault ∙ whole_one) (ap (λ ls. fault_at i (operator_fault n c ls)) (sym (lines_are known n ts fs within lines)) ∙ ap (fault_at i) clean),
+        same_form n _ f _ line
+            (λ at.
+            ap (operator_value c) (values_are known n ts fs lines at) ∙ ap (option_and_then (on_values c)) (all_there-some n at (map form_line fs))
+            ∙ operator_has_line n c (map form_line fs) many clean at),
+      )
+
+  pub operator_broken : (x : Reason) → operator_fault n c (map form_line fs) ≡ Some x → option_or (trees_fault known n (i + 1) ts) (fault_at i (operator_fault n c (lines_of known ts))) ≡ Some (record { place = i; reason = x })
+  operator_broken x h =
+      let lines = operands.lines whole_one in
+      ap₂ option_or (sym operands.fault ∙ whole_one) (ap (λ ls. fault_at i (operator_fault n c ls)) (sym (lines_are known n ts fs within lines)) ∙ ap (fault_at i) h)
+
+pub slot_at : (slots : List (Option Form)) (k : ℕ) (x : Option Form) → k < length slots → x ≡ get_or slots k x → get_or slots k None ≡ x
+slot_at [] k x h e = absurd (omega arith)
+slot_at (y ∷ ys) zero x h e = sym e
+slot_at (y ∷ ys) (suc k) x h e = slot_at ys k x (omega arith) e

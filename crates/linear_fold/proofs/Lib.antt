@@ -1,0 +1,9 @@
+pub mod Closing
+pub mod CoefLemmas
+pub mod ConstantLemmas
+pub mod Folding
+pub mod FracLemmas
+pub mod Operators
+pub mod PlaceLemmas
+pub mod Scaled
+pub mod Stacks

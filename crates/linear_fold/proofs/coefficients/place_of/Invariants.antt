@@ -1,0 +1,10 @@
+use Rattle.std.proofs.Common.{◌≡◌, take}
+use Rattle.linear_fold.specs.Coefs.{AreBelow}
+use Rattle.linear_fold.proofs.coefficients.place_of.Given as goal
+
+abbrev pub invariant-loop-term : goal.invariant-loop-term
+invariant-loop-term l =
+    record {
+      counted : l.place ≡ l.term-index;
+      before : AreBelow l.variable (take l.place l.terms);
+    }

@@ -1,0 +1,19 @@
+use Rattle.std.proofs.Common.{◌∙◌, ap, ap₂, pos, negsuc, ◌/◌, ◌-◌, sym, subst, ◌<◌, arith}
+use Rattle.exact_numbers.specs.Values.{frac_value}
+use Rattle.fractions.specs.Rational.{whole}
+use Rattle.linear_fold.proofs.ConstantLemmas.{floor_above, floor_under, is_above, is_under, quotient_small, some_size}
+use Rattle.linear_fold.proofs.constants.floor_of.Goals as goal
+
+pub returns-then-is_negative : goal.returns-then-is_negative
+returns-then-is_negative c =
+    floor_under (frac_value c.args.x) (frac_value c.whole_under.result) (is_under c.is_negative.result (frac_value c.args.x) c.is_negative.ensures.0 c.if-is_negative.true)
+    (c.whole_under.ensures ∙ ap₂ (λ s p. whole (negsuc ((s - 1) / p))) c.size_of-size.ensures.value c.parts_of-parts.ensures)
+
+pub returns : goal.returns
+returns c =
+    floor_above (frac_value c.args.x) (frac_value c.whole_above.result) (is_above c.is_negative.result (frac_value c.args.x) c.is_negative.ensures.1 c.if-is_negative.false)
+    (c.whole_above.ensures ∙ ap₂ (λ s p. whole (pos (s / p))) c.size_of-size.ensures.value c.parts_of-parts.ensures)
+
+pub overflow_sub-size : goal.overflow_sub-size
+overflow_sub-size c =
+    subst (λ k. 0 < k) (sym c.size_of-size.ensures.value) (some_size (frac_value c.args.x) (is_under c.is_negative.result (frac_value c.args.x) c.is_negative.ensures.0 c.if-is_negative.true))

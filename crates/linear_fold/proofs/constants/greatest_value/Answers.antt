@@ -1,0 +1,32 @@
+use Rattle.std.proofs.Common.{◌≡◌, ◌∙◌, sym, ap, drop, ◌+◌}
+use Rattle.exact_numbers.specs.Values.{frac_value}
+use Rattle.linear_fold.proofs.ConstantLemmas.{greatest_choice, greatest_found, choosing_init, choosing_more, choosing_stop, choosing_tests, choosing_best, closed_here, closed_first, first_of_forms, first_varies}
+use Rattle.linear_fold.proofs.Operators.{next_form, none_left}
+use Rattle.linear_fold.proofs.constants.greatest_value.Goals as goal
+
+pub constant_of-requires : goal.constant_of-requires
+constant_of-requires c = closed_first c.index-operands-0.result (drop 1 c.args.operands.now) c.args.operands.now (first_of_forms c.args.operands.now c.index-operands-0.result c.requires.some c.index-operands-0.is) c.requires.closed
+
+pub returns-in_default : goal.returns-in_default
+returns-in_default c n z =
+    first_varies n c.index-operands-0.result (drop 1 c.args.operands.now) c.args.operands.now (first_of_forms c.args.operands.now c.index-operands-0.result c.requires.some c.index-operands-0.is) z
+    (λ m y. sym (c.in_default.ensures.test m y))
+
+pub loop-operand-init : goal.loop-operand-init
+loop-operand-init c = choosing_init greatest_choice _ c.args.operands.now c.requires.closed
+
+pub loop-operand-preserved : goal.loop-operand-preserved
+loop-operand-preserved c =
+    choosing_more greatest_choice (frac_value c.in-Some.greatest) (frac_value c.loop-operand.greatest) (frac_value c.greater-greatest.result) c.operand-item.result (drop c.loop-operand.operand-index c.args.operands.now) (drop (c.loop-operand.operand-index + 1) c.args.operands.now) c.args.operands.now
+    (next_form c.args.operands.now c.loop-operand.operand-index c.operand-item.result c.loop-operand-test.true c.operand-item.is) c.loop-operand.invariant
+    (frac_value c.in-Some-constant_of.value) c.in-Some-constant_of.ensures.value (λ m y. sym (c.in-Some-constant_of.ensures.test m y)) c.greater-greatest.ensures
+
+pub returns : goal.returns
+returns c n z =
+    let fs = drop 1 c.args.operands.now in
+    let is = first_of_forms c.args.operands.now c.index-operands-0.result c.requires.some c.index-operands-0.is in
+    let none = none_left c.args.operands.now c.loop-operand.operand-index c.loop-operand-test.false in
+    let x = c.index-operands-0.result in
+    greatest_found n x fs c.args.operands.now c.loop-operand.greatest is
+    (choosing_tests greatest_choice (frac_value c.in-Some.greatest) (frac_value c.loop-operand.greatest) x (drop c.loop-operand.operand-index c.args.operands.now) fs c.args.operands.now none is c.in-Some.ensures.value c.loop-operand.invariant n z)
+    (choosing_best greatest_choice (frac_value c.in-Some.greatest) (frac_value c.loop-operand.greatest) x (drop c.loop-operand.operand-index c.args.operands.now) fs c.args.operands.now none is c.in-Some.ensures.value c.loop-operand.invariant)

@@ -1,0 +1,10 @@
+use Rattle.std.proofs.Common.{◌≡◌, length}
+use Rattle.linear_fold.specs.Places.{AreZeros}
+use Rattle.linear_fold.proofs.work.Work.new.Given as goal
+
+abbrev pub invariant-loop : goal.invariant-loop
+invariant-loop l =
+    record {
+      zeros : AreZeros l.places.items;
+      many : length l.places.items ≡ l.counter;
+    }

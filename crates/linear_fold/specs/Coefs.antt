@@ -1,0 +1,49 @@
+-- Lists of terms, and the coefficients that they give.
+use Rattle.std.specs.Prelude.{◌≡◌, ◌≢◌, ℕ, zero, suc, ◌==◌, ◌<◌, ◌≤◌, List, [], ◌∷◌, Option, Some, None, Result, Ok, Err, true, false, if◌then◌else◌}
+use Rattle.text_base.specs.declared.stop.Stop.{Stop}
+use Rattle.text_base.specs.declared.stop.Stop.TheVariants.{Fault, Memory}
+use Rattle.exact_numbers.specs.declared.frac.Frac.{Frac}
+use Rattle.exact_numbers.specs.Values.{frac_value}
+use Rattle.fractions.specs.Fits.{sum_fits}
+use Rattle.fractions.specs.Rational.{ℚ, zero_ℚ, ◌+ℚ◌, ◌*ℚ◌}
+use Rattle.nl_meaning.specs.Lines.{one_if}
+use Rattle.linear_fold.specs.declared.wide.Wide.{Wide}
+
+-- a variable and its coefficient
+abbrev pub Term : Type 0
+Term = ℕ × Frac
+
+-- the coefficient that stands with variable j
+abbrev pub found : List Term → ℕ → Option Frac
+found [] j = None
+found (t ∷ ts) j = (if j == t.0 then Some t.1 else found ts j)
+
+abbrev pub value_or_zero : Option Frac → ℚ
+value_or_zero None = zero_ℚ
+value_or_zero (Some f) = frac_value f
+
+-- the coefficient of variable j; 0 where none stands
+abbrev pub coef_in : List Term → ℕ → ℚ
+coef_in ts j = value_or_zero (found ts j)
+
+-- ascending by variable, the first being at least n, and no coefficient is 0
+abbrev pub AreAscending : ℕ → List Term → Type 0
+AreAscending n [] = Unit {0}
+AreAscending n (t ∷ ts) = (n ≤ t.0) × (frac_value t.1 ≢ zero_ℚ) × AreAscending (suc t.0) ts
+
+-- every variable is below n
+abbrev pub AreBelow : ℕ → List Term → Type 0
+AreBelow n [] = Unit {0}
+AreBelow n (t ∷ ts) = (t.0 < n) × AreBelow n ts
+
+-- the term at place i has variable j
+abbrev pub StandsAt : List Term → ℕ → ℕ → Type 0
+StandsAt [] i j = ⊥
+StandsAt (t ∷ ts) zero j = t.0 ≡ j
+StandsAt (t ∷ ts) (suc i) j = StandsAt ts i j
+
+-- k is added to the coefficient of variable j; it is too wide exactly where the sum does not fit
+abbrev pub AddsAt : (ℕ → ℚ) → ℕ → ℚ → (ℕ → ℚ) → Result (Unit {0}) (Stop Wide) → Type 0
+AddsAt old j k new (Ok u) = (sum_fits (old j) k ≡ true) × ((i : ℕ) → new i ≡ old i +ℚ k *ℚ one_if (i == j))
+AddsAt old j k new (Err (Fault w)) = sum_fits (old j) k ≡ false
+AddsAt old j k new (Err Memory) = Unit {0}

@@ -1,0 +1,104 @@
+-- Forms as data, and the lines that they are.
+use Rattle.std.specs.Prelude.{◌≡◌, ℕ, ◌<◌, ◌≤◌, List, [], ◌∷◌, length, Bool, true, false, ◌&&◌, Result, Ok, Err}
+use Rattle.exact_numbers.specs.declared.frac.Frac.{Frac}
+use Rattle.exact_numbers.specs.Values.{frac_value}
+use Rattle.fractions.specs.Fits.{fits, sum_fits}
+use Rattle.fractions.specs.Rational.{ℚ, zero_ℚ, ◌*ℚ◌}
+use Rattle.nl_meaning.specs.Faults.{line_sum, line_scaled, line_with}
+use Rattle.nl_meaning.specs.Lines.{Line}
+use Rattle.text_base.specs.declared.stop.Stop.{Stop}
+use Rattle.text_base.specs.declared.stop.Stop.TheVariants.{Fault, Memory}
+use Rattle.linear_fold.specs.declared.wide.Wide.{Wide}
+use Rattle.linear_fold.specs.declared.form.Form.{Form}
+use Rattle.linear_fold.specs.declared.form.Kept.{Kept}
+use Rattle.linear_fold.specs.declared.form.Kept.TheVariants.{Closed, Open}
+use Rattle.linear_fold.specs.Coefs.{Term, AreBelow, coef_in}
+use Rattle.linear_fold.specs.Places.{place_in}
+
+abbrev pub kept_coef : Kept → ℕ → ℚ
+kept_coef (Closed ts) j = coef_in ts j
+kept_coef (Open ps) j = place_in ps j
+
+-- its constant and its coefficients
+abbrev pub form_line : Form → Line
+form_line f = record { constant = frac_value f.constant; coef = kept_coef f.kept }
+
+abbrev pub is_kept_open : Kept → Bool
+is_kept_open (Closed ts) = false
+is_kept_open (Open ps) = true
+
+-- it lies on a pad
+abbrev pub is_open : Form → Bool
+is_open f = is_kept_open f.kept
+
+abbrev pub kept_places : Kept → ℕ
+kept_places (Closed ts) = 0
+kept_places (Open ps) = length ps
+
+-- the places of the pad on which it lies
+abbrev pub place_count : Form → ℕ
+place_count f = kept_places f.kept
+
+abbrev pub kept_terms : Kept → List Term
+kept_terms (Closed ts) = ts
+kept_terms (Open ps) = []
+
+-- the terms of a closed form
+abbrev pub form_terms : Form → List Term
+form_terms f = kept_terms f.kept
+
+-- no coefficient from n on
+abbrev pub IsZeroFrom : ℕ → Line → Type 0
+IsZeroFrom n l = (j : ℕ) → n ≤ j → l.coef j ≡ zero_ℚ
+
+-- an open form has a place for each coefficient of a line
+abbrev pub HasPlaces : Kept → Line → Type 0
+HasPlaces (Closed ts) l = Unit {0}
+HasPlaces (Open ps) l = IsZeroFrom (length ps) l
+
+abbrev pub HasRoom : Form → Line → Type 0
+HasRoom f l = HasPlaces f.kept l
+
+-- a + k * b fits: each product with k and each sum does, of the constants and of the coefficients of one variable
+pub record ScaledSumFits (a : Line) (k : ℚ) (b : Line) : Type 0 where
+  pub product : fits (k *ℚ b.constant) ≡ true
+  pub sum : sum_fits a.constant (k *ℚ b.constant) ≡ true
+  pub products : (j : ℕ) → fits (k *ℚ b.coef j) ≡ true
+  pub sums : (j : ℕ) → sum_fits (a.coef j) (k *ℚ b.coef j) ≡ true
+
+-- k times b is added to a; it is too wide exactly where it does not fit
+abbrev pub AddsScaled : Line → ℚ → Line → Line → Result (Unit {0}) (Stop Wide) → Type 0
+AddsScaled a k b new (Ok u) = ScaledSumFits a k b × (new ≡ line_sum a (line_scaled k b))
+AddsScaled a k b new (Err (Fault w)) = ¬ ScaledSumFits a k b
+AddsScaled a k b new (Err Memory) = Unit {0}
+
+-- one step: k times a coefficient is added at its variable
+abbrev pub step_fits : Line → ℚ → Term → Bool
+step_fits a k t = fits (k *ℚ frac_value t.1) && sum_fits (a.coef t.0) (k *ℚ frac_value t.1)
+
+abbrev pub stepped : Line → ℚ → Term → Line
+stepped a k t = line_with a t.0 (k *ℚ frac_value t.1)
+
+-- the steps over a list of terms, from the left
+abbrev pub adds_fit : Line → ℚ → List Term → Bool
+adds_fit a k [] = true
+adds_fit a k (t ∷ ts) = step_fits a k t && adds_fit (stepped a k t) k ts
+
+abbrev pub with_scaled : Line → ℚ → List Term → Line
+with_scaled a k [] = a
+with_scaled a k (t ∷ ts) = with_scaled (stepped a k t) k ts
+
+-- k times the terms are added to a; it is too wide exactly where a step does not fit
+abbrev pub SumsUp : Line → ℚ → List Term → Line → Result (Unit {0}) (Stop Wide) → Type 0
+SumsUp a k ts new (Ok u) = (adds_fit a k ts ≡ true) × (new ≡ with_scaled a k ts)
+SumsUp a k ts new (Err (Fault w)) = adds_fit a k ts ≡ false
+SumsUp a k ts new (Err Memory) = Unit {0}
+
+-- an open form has a place for a variable, and for those of terms
+abbrev pub HasPlace : Kept → ℕ → Type 0
+HasPlace (Closed ts) j = Unit {0}
+HasPlace (Open ps) j = j < length ps
+
+abbrev pub AreWithin : Kept → List Term → Type 0
+AreWithin (Closed ts) us = Unit {0}
+AreWithin (Open ps) us = AreBelow (length ps) us

@@ -1,0 +1,21 @@
+-- A place for each variable, which holds its coefficient.
+use Rattle.std.specs.Prelude.{◌≡◌, ◌≢◌, ℕ, zero, suc, ◌<◌, List, [], ◌∷◌, length}
+use Rattle.std.specs.List.{Contains}
+use Rattle.exact_numbers.specs.declared.frac.Frac.{Frac}
+use Rattle.exact_numbers.specs.Values.{frac_value}
+use Rattle.fractions.specs.Rational.{ℚ, zero_ℚ}
+
+-- the coefficient at place j; 0 where there is no such place
+abbrev pub place_in : List Frac → ℕ → ℚ
+place_in [] j = zero_ℚ
+place_in (p ∷ ps) zero = frac_value p
+place_in (p ∷ ps) (suc j) = place_in ps j
+
+-- no place holds anything but 0
+abbrev pub AreZeros : List Frac → Type 0
+AreZeros ps = (j : ℕ) → place_in ps j ≡ zero_ℚ
+
+-- every place that holds anything but 0 is among the touched ones, which are all there
+pub record AreMarked (ps : List Frac) (touched : List ℕ) : Type 0 where
+  pub among : (j : ℕ) → place_in ps j ≢ zero_ℚ → Contains touched j
+  pub there : (j : ℕ) → Contains touched j → j < length ps

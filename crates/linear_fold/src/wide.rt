@@ -1,0 +1,5 @@
+// The one fault of a sum of forms.
+
+/// A number beyond fractions of 128 bits.
+#[derive(Clone, Copy, Debug, PartialEq, Eq)]
+pub struct Wide;

@@ -1,0 +1,207 @@
+-- What is held of a piece, and what a row more does to it.
+use Rattle.std.proofs.Common.{◌≡◌, ◌∙◌, ℕ, ◌-◌, ◌<◌, ◌≤◌, Bool, true, false, cond, List, [], ◌∷◌, ◌++◌, length, take, drop, refl, sym, ap, ap₂, arith, nat_lt, Option, Some, None}
+use Rattle.std.specs.List.{filter_map, cons_option}
+use Rattle.std.proofs.lemmas.Bool.{ltb-true, ltb-false, lt-ltb}
+use Rattle.std.proofs.lemmas.List.{append-nil, length-append, map-append, take-append-le, take_all, drop_all, drop-append-le}
+use Rattle.std.proofs.lemmas.List.Elements.{filter_map-append}
+use Rattle.nl_model.specs.declared.counts.Counts.{Counts}
+use Rattle.nl_model.specs.File.{Term}
+use Rattle.nl_segments.specs.declared.head.Head.{Head}
+use Rattle.nl_segments.specs.declared.head.Head.TheVariants.{Body, Objective, Definition, DualGuesses, PrimalGuesses, Sides, Bounds, ColumnCounts, Terms, Slopes, Suffix}
+use Rattle.nl_segments.specs.declared.node_row.NodeRow.{NodeRow}
+use Rattle.nl_segments.specs.declared.node_row.NodeRow.TheVariants.{Whole, Counted}
+use Rattle.std.specs.Prelude.{is_some, unwrap_or}
+use Rattle.nl_model.specs.declared.node.Node.TheVariants.{Op}
+use Rattle.nl_segments.specs.Numbers.{whole_of}
+use Rattle.nl_segments.specs.Rows.{Row, row_words, word_at}
+use Rattle.nl_segments.specs.Nodes.{Placed, Pending, node_in, opcode_in, pending_in, placed_in, with_operands, nodes_from, pending_from, only_nodes}
+use Rattle.nl_segments.specs.NodeRows.{IsRow}
+use Rattle.nl_segments.specs.Pieces.{Piece, pair_count, line_count, has_tree, tree_rows, piece_nodes, piece_pending, piece_pairs, pair_in, awaited_in}
+use Rattle.nl_segments.specs.Current.{Current, current_awaits, new_current, less_line, with_node_row, with_operand_count, IsCurrent}
+use Rattle.nl_segments.proofs.PieceLemmas.{longer}
+
+-- ---- awaited
+
+pub positive : (a b : ℕ) → nat_lt 0 (a - b) ≡ nat_lt b a
+positive a b = by (nat_lt b a) refl
+  where
+    by : (t : Bool) → nat_lt b a ≡ t → nat_lt 0 (a - b) ≡ nat_lt b a
+    by true e = let lt = ltb-true b a e in lt-ltb 0 (a - b) (omega arith) ∙ sym e
+    by false e = let le = ltb-false b a e in ap (nat_lt 0) (let none : a - b ≡ 0 = omega arith in none) ∙ sym e
+
+pub awaits : (c : Counts) (p : Piece) (cur : Current) → IsCurrent c p cur → current_awaits cur ≡ awaited_in c p
+unfolding awaited_in
+awaits c p cur h = rw (h.head, h.left, h.nodes, h.pending, positive (line_count c p.head) (length p.rows)) refl
+
+-- ---- the parts of a piece with a row more
+
+-- lines before an expression: the expression has not begun
+pub early_tree : (c : Counts) (p : Piece) (row : Row) → length p.rows < line_count c p.head → tree_rows (longer p row) ≡ tree_rows p
+early_tree c p row early = by p.head refl
+  where
+    by : (h : Head) → p.head ≡ h → tree_rows (longer p row) ≡ tree_rows p
+    by (Body i) e = absurd (let none : length p.rows < 0 = rw e at early in omega arith)
+    by (Objective k m) e = absurd (let none : length p.rows < 0 = rw e at early in omega arith)
+    by (Definition i j u) e =
+        let few : length p.rows < j = rw e at early in
+        rw e (drop_all j (p.rows ++ row ∷ []) (omega (arith, length-append p.rows (row ∷ []))) ∙ sym (drop_all j p.rows (omega arith)))
+    by (DualGuesses n) e = rw e refl
+    by (PrimalGuesses n) e = rw e refl
+    by Sides e = rw e refl
+    by Bounds e = rw e refl
+    by (ColumnCounts n) e = rw e refl
+    by (Terms i n) e = rw e refl
+    by (Slopes k n) e = rw e refl
+    by (Suffix k n) e = rw e refl
+
+-- a row of the expression
+pub late_tree : (p : Piece) (row : Row) → has_tree p.head ≡ true → pair_count p.head ≤ length p.rows → tree_rows (longer p row) ≡ tree_rows p ++ row ∷ []
+late_tree p row tree late = rw tree (drop-append-le (pair_count p.head) p.rows (row ∷ []) late)
+
+-- a pair
+pub early_pairs : (p : Piece) (row : Row) (t : Term) → length p.rows < pair_count p.head → pair_in (row_words row) ≡ Some t → piece_pairs (longer p row) ≡ piece_pairs p ++ t ∷ []
+early_pairs p row t early e =
+    let whole : take (pair_count p.head) p.rows ≡ p.rows = take_all (pair_count p.head) p.rows (omega arith) in
+    let more : take (pair_count p.head) (p.rows ++ row ∷ []) ≡ p.rows ++ row ∷ [] = take_all (pair_count p.head) (p.rows ++ row ∷ []) (omega (arith, length-append p.rows (row ∷ []))) in
+    ap (filter_map (λ r. pair_in (row_words r))) more
+    ∙ filter_map-append (λ r. pair_in (row_words r)) p.rows (row ∷ [])
+    ∙ ap₂ (λ rs o. filter_map (λ r. pair_in (row_words r)) rs ++ cons_option o []) (sym whole) e
+
+-- no pair
+pub late_pairs : (p : Piece) (row : Row) → pair_count p.head ≤ length p.rows → piece_pairs (longer p row) ≡ piece_pairs p
+late_pairs p row late = ap (filter_map (λ r. pair_in (row_words r))) (take-append-le (pair_count p.head) p.rows (row ∷ []) late)
+
+-- ---- nodes of rows
+
+-- the nodes of a row after which nothing more is known, where an opcode may be pending
+abbrev pub last_nodes : ℕ → Option Pending → Row → List Placed
+last_nodes n None row = cons_option (placed_in n row) []
+last_nodes n (Some p) row = with_operands p row ∷ []
+
+abbrev pub last_pending : Option Pending → Row → Option Pending
+last_pending None row = pending_in row
+last_pending (Some p) row = None
+
+cons_option-append : {A : Type 0} (o : Option A) (xs ys : List A) → cons_option o (xs ++ ys) ≡ cons_option o xs ++ ys
+cons_option-append None xs ys = refl
+cons_option-append (Some x) xs ys = refl
+
+pub nodes-more : (n : ℕ) (pending : Option Pending) (rows : List Row) (row : Row) → nodes_from n pending (rows ++ row ∷ []) ≡ nodes_from n pending rows ++ last_nodes n (pending_from pending rows) row
+unfolding nodes_from pending_from
+nodes-more n None [] row = refl
+nodes-more n (Some p) [] row = refl
+nodes-more n None (r ∷ rows) row = ap (cons_option (placed_in n r)) (nodes-more n (pending_in r) rows row) ∙ cons_option-append (placed_in n r) _ _
+nodes-more n (Some p) (r ∷ rows) row = ap (λ ps. with_operands p r ∷ ps) (nodes-more n None rows row)
+
+pub pending-more : (pending : Option Pending) (rows : List Row) (row : Row) → pending_from pending (rows ++ row ∷ []) ≡ last_pending (pending_from pending rows) row
+unfolding pending_from
+pending-more None [] row = refl
+pending-more (Some p) [] row = refl
+pending-more None (r ∷ rows) row = pending-more (pending_in r) rows row
+pending-more (Some p) (r ∷ rows) row = pending-more None rows row
+
+-- ---- what is held, with a row more
+
+left_less : (count : ℕ) (rows : List Row) (row : Row) → count - length rows - 1 ≡ count - length (rows ++ row ∷ [])
+left_less count rows row = omega (arith, length-append rows (row ∷ []))
+
+no_left : (count : ℕ) (rows : List Row) (row : Row) → count ≤ length rows → count - length rows ≡ count - length (rows ++ row ∷ [])
+no_left count rows row late = omega (arith, length-append rows (row ∷ []))
+
+-- a line before an expression
+pub with_line : (c : Counts) (p : Piece) (cur : Current) (row : Row) → IsCurrent c p cur → length p.rows < line_count c p.head → IsCurrent c (longer p row) (less_line cur)
+with_line c p cur row h early =
+    let tree = early_tree c p row early in
+    record {
+      head = h.head;
+      line = h.line;
+      left = ap (λ (k : ℕ). k - 1) h.left ∙ left_less (line_count c p.head) p.rows row;
+      nodes = h.nodes ∙ ap (λ rs. only_nodes (nodes_from c.n_var None rs)) (sym tree);
+      pending = h.pending ∙ ap (pending_from None) (sym tree);
+    }
+
+tree_count : (c : Counts) (h : Head) → has_tree h ≡ true → line_count c h ≡ pair_count h
+tree_count c (Body i) e = refl
+tree_count c (Objective k m) e = refl
+tree_count c (Definition i j u) e = refl
+tree_count c (DualGuesses n) e = refl
+tree_count c (PrimalGuesses n) e = refl
+tree_count c Sides e = absurd cc
+tree_count c Bounds e = absurd cc
+tree_count c (ColumnCounts n) e = absurd cc
+tree_count c (Terms i n) e = refl
+tree_count c (Slopes k n) e = refl
+tree_count c (Suffix k n) e = refl
+
+-- a row of the expression changes nodes and the pending opcode alone
+pub with_tree_row : (c : Counts) (p : Piece) (cur next : Current) (row : Row) → IsCurrent c p cur → has_tree p.head ≡ true → line_count c p.head ≤ length p.rows
+    → next.head ≡ cur.head → next.line ≡ cur.line → next.left ≡ cur.left
+    → next.nodes ≡ cur.nodes ++ only_nodes (last_nodes c.n_var (piece_pending p) row) → next.pending ≡ last_pending (piece_pending p) row
+    → IsCurrent c (longer p row) next
+with_tree_row c p cur next row h tree late head line left nodes pending =
+    let rows = late_tree p row tree (omega (arith, late, tree_count c p.head tree)) in
+    record {
+      head = head ∙ h.head;
+      line = line ∙ h.line;
+      left = left ∙ h.left ∙ no_left (line_count c p.head) p.rows row late;
+      nodes = nodes ∙ ap (λ ns. ns ++ only_nodes (last_nodes c.n_var (piece_pending p) row)) h.nodes
+          ∙ sym (ap (λ rs. only_nodes (nodes_from c.n_var None rs)) rows
+          ∙ ap only_nodes (nodes-more c.n_var None (tree_rows p) row)
+          ∙ map-append (λ n. n.node) (piece_nodes c p) (last_nodes c.n_var (piece_pending p) row));
+      pending = pending ∙ sym (ap (pending_from None) rows ∙ pending-more None (tree_rows p) row);
+    }
+
+-- a node, or an opcode that awaits its number of operands
+row_nodes : (n : ℕ) (row : Row) (r : NodeRow) (cur : Current) → IsRow (node_in n (row_words row)) (opcode_in (row_words row)) r
+    → ((with_node_row cur row.line r).nodes ≡ cur.nodes ++ only_nodes (last_nodes n None row)) × ((with_node_row cur row.line r).pending ≡ cond (is_some (opcode_in (row_words row))) (pending_in row) cur.pending)
+row_nodes n row (Whole node) cur h = rw (h.0, h.1) (refl, refl)
+row_nodes n row (Counted o) cur h = rw (h.0, h.1) (sym (append-nil cur.nodes), refl)
+
+none_pending : (row : Row) (pending : Option Pending) → pending ≡ None → cond (is_some (opcode_in (row_words row))) (pending_in row) pending ≡ pending_in row
+none_pending row pending e = by (opcode_in (row_words row)) refl
+  where
+    by : (o : Option ℕ) → opcode_in (row_words row) ≡ o → cond (is_some (opcode_in (row_words row))) (pending_in row) pending ≡ pending_in row
+    by None h = rw h e
+    by (Some o) h = rw h refl
+
+kept_fields : (cur : Current) (line : ℕ) (r : NodeRow) → ((with_node_row cur line r).head ≡ cur.head) × ((with_node_row cur line r).line ≡ cur.line) × ((with_node_row cur line r).left ≡ cur.left)
+kept_fields cur line (Whole n) = (refl, refl, refl)
+kept_fields cur line (Counted o) = (refl, refl, refl)
+
+pub with_node : (c : Counts) (p : Piece) (cur : Current) (row : Row) (r : NodeRow) → IsCurrent c p cur → has_tree p.head ≡ true → line_count c p.head ≤ length p.rows
+    → piece_pending p ≡ None → IsRow (node_in c.n_var (row_words row)) (opcode_in (row_words row)) r
+    → IsCurrent c (longer p row) (with_node_row cur row.line r)
+with_node c p cur row r h tree late none is =
+    let facts = row_nodes c.n_var row r cur is in
+    let kept = kept_fields cur row.line r in
+    with_tree_row c p cur (with_node_row cur row.line r) row h tree late kept.0 kept.1 kept.2
+    (facts.0 ∙ ap (λ o. cur.nodes ++ only_nodes (last_nodes c.n_var o row)) (sym none))
+    (facts.1 ∙ none_pending row cur.pending (h.pending ∙ none) ∙ ap (λ o. last_pending o row) (sym none))
+
+-- the number of operands of the opcode that awaits it
+pub with_count : (c : Counts) (p : Piece) (cur : Current) (row : Row) (q : Pending) (k : ℕ) → IsCurrent c p cur → has_tree p.head ≡ true → line_count c p.head ≤ length p.rows
+    → piece_pending p ≡ Some q → whole_of (word_at (row_words row) 0) ≡ Some k
+    → IsCurrent c (longer p row) (with_operand_count cur q.opcode k)
+with_count c p cur row q k h tree late some is =
+    with_tree_row c p cur (with_operand_count cur q.opcode k) row h tree late refl refl refl
+    (ap (λ o. cur.nodes ++ Op q.opcode (unwrap_or o 0) ∷ []) (sym is) ∙ ap (λ o. cur.nodes ++ only_nodes (last_nodes c.n_var o row)) (sym some))
+    (ap (λ o. last_pending o row) (sym some))
+
+drop_nil : (n : ℕ) → drop {A = Row} n [] ≡ []
+drop_nil n = drop_all n [] (omega arith)
+
+no_nodes : (n : ℕ) → [] ≡ only_nodes (nodes_from n None [])
+unfolding nodes_from
+no_nodes n = refl
+
+no_pending : None ≡ pending_from None []
+unfolding pending_from
+no_pending = refl
+
+-- a head
+pub begun : (c : Counts) (head : Head) (name : List ℕ) (line : ℕ) → IsCurrent c (record { head = head; name = name; line = line; rows = [] }) (new_current head line (line_count c head))
+begun c head name line = by (has_tree head) refl
+  where
+    by : (t : Bool) → has_tree head ≡ t → IsCurrent c (record { head = head; name = name; line = line; rows = [] }) (new_current head line (line_count c head))
+    by true e = record { head = refl; line = refl; left = omega arith; nodes = rw (e, drop_nil (pair_count head)) (no_nodes c.n_var); pending = rw (e, drop_nil (pair_count head)) no_pending }
+    by false e = record { head = refl; line = refl; left = omega arith; nodes = rw e (no_nodes c.n_var); pending = rw e no_pending }

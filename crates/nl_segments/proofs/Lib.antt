@@ -1,0 +1,12 @@
+pub mod NumberLemmas
+pub mod WholeLemmas
+pub mod StandingLemmas
+pub mod Examples
+pub mod PieceLemmas
+pub mod OpcodeLemmas
+pub mod CurrentLemmas
+pub mod MarkLemmas
+pub mod DraftLemmas
+pub mod PlaceLemmas
+pub mod SeenLemmas
+pub mod TotalLemmas

@@ -1,0 +1,14 @@
+pub mod Numbers
+pub mod Rows
+pub mod Heads
+pub mod Nodes
+pub mod Pieces
+pub mod Saying
+pub mod Tests
+pub mod Grammar
+pub mod NodeRows
+pub mod Steps
+pub mod Current
+pub mod Stamps
+pub mod PlaceSteps
+pub mod SeenSegments

@@ -1,0 +1,164 @@
+// The piece that was begun last.
+ghost use Rattle.std.specs.Prelude.{◌≡◌, ◌<◌, ◌≤◌, ◌^◌, length, None, OnOk, IfSome, IsSome};
+ghost use Rattle.nl_model.specs.Nodes.{awaited};
+ghost use Rattle.nl_segments.specs.Current.{new_current, nodes_await, current_awaits, less_line, with_pair, with_node_row, with_operand_count};
+ghost use Rattle.nl_segments.specs.Pieces.{has_tree, line_kind};
+ghost use Rattle.nl_segments.specs.NodeRows.{IsFormedRow};
+
+use crate::awaited::Awaited;
+use crate::head::Head;
+use crate::node_row::NodeRow;
+use crate::pending::Pending;
+use exact_numbers::Dec;
+use nl_model::{ExprBuilder, Node, Terms};
+use std::alloc::{AllocError, Global};
+use std::marker::Model;
+
+/// The piece that was begun last: its head, how many lines before an expression are still awaited, and what was read of it.
+#[derive(Drop)]
+pub struct Current {
+    head: Head,
+    line: u32,
+    left: u32,
+    pairs: Terms,
+    nodes: ExprBuilder,
+    pending: Option<Pending>,
+}
+
+impl Model for Current {
+    ghost use Rattle.std.specs.Prelude.{IfSome};
+    ghost use Rattle.nl_segments.specs.Current.{Current as CurrentValue, IsPending};
+
+    ghost Value = { CurrentValue };
+
+    ghost view = { λ c. record { head = c.head; line = c.line; left = c.left; pairs = c.pairs; nodes = c.nodes; pending = c.pending } };
+
+    ghost invariant = { λ c. IfSome c.pending (IsPending c.nodes) };
+}
+
+/// Whether an expression follows the lines of a head.
+pub(crate) fn has_tree(head: Head) -> bool
+    ensures { result ≡ has_tree head }
+{
+    match head {
+        Head::Body(_) => true,
+        Head::Objective(_, _) => true,
+        Head::Definition(_, _, _) => true,
+        _ => false,
+    }
+}
+
+// What the lines of a head are.
+fn line_kind(head: Head) -> Awaited
+    ensures { result ≡ line_kind head }
+{
+    match head {
+        Head::Sides => Awaited::Interval,
+        Head::Bounds => Awaited::Interval,
+        Head::ColumnCounts(_) => Awaited::ColumnCount,
+        _ => Awaited::Pair,
+    }
+}
+
+impl Current {
+    /// A head, after which so many lines come before any expression.
+    pub(crate) fn new(alloc: Global, head: Head, line: u32, left: u32) -> Current
+        ensures { result ≡ new_current head line left }
+    {
+        Current {
+            head,
+            line,
+            left,
+            pairs: Terms::new(alloc),
+            nodes: ExprBuilder::new(alloc),
+            pending: None,
+        }
+    }
+
+    /// The head.
+    pub(crate) fn head(&self) -> Head
+        ensures { result ≡ self.now.head }
+    {
+        self.head
+    }
+
+    /// The line of the head.
+    pub(crate) fn line(&self) -> u32
+        ensures { result ≡ self.now.line }
+    {
+        self.line
+    }
+
+    // What the expression awaits.
+    fn nodes_await(&self) -> Awaited
+        ensures { result ≡ nodes_await self.now.nodes self.now.pending }
+    {
+        if self.pending.is_some() {
+            return Awaited::OperandCount;
+        }
+        if self.nodes.wants() == 0 {
+            return Awaited::Nothing;
+        }
+        Awaited::Node
+    }
+
+    /// The line that is awaited.
+    pub(crate) fn awaited(&self) -> Awaited
+        ensures { result ≡ current_awaits self.now }
+    {
+        if self.left > 0 {
+            return line_kind(self.head);
+        }
+        if has_tree(self.head) {
+            return self.nodes_await();
+        }
+        Awaited::Nothing
+    }
+
+    /// Counts a line that is kept elsewhere.
+    pub(crate) fn take_line(&mut self)
+        requires { 0 < self.old.left }
+        ensures { self.new ≡ less_line self.old }
+    {
+        self.left -= 1;
+    }
+
+    /// Keeps a pair.
+    pub(crate) fn take_pair(&mut self, pair: (u32, Dec)) -> Result<(), AllocError>
+        requires { 0 < self.old.left }
+        ensures { OnOk result (self.new ≡ with_pair self.old pair) }
+    {
+        self.pairs.push(pair)?;
+        self.left -= 1;
+        Ok(())
+    }
+
+    /// Keeps a row of the expression, which stands in this line.
+    pub(crate) fn take_row(&mut self, row: NodeRow, line: u32) -> Result<(), AllocError>
+        requires wanted { 0 < awaited self.old.nodes }
+        requires none { self.old.pending ≡ None }
+        requires few { length self.old.nodes < 2 ^ 22 }
+        requires formed { IsFormedRow row }
+        ensures { OnOk result (self.new ≡ with_node_row self.old line row) }
+    {
+        match row {
+            NodeRow::Whole(node) => self.nodes.push(node)?,
+            NodeRow::Counted(opcode) => self.pending = Some(Pending { opcode, line }),
+        }
+        Ok(())
+    }
+
+    /// Keeps the opcode that awaits its number of operands.
+    pub(crate) fn take_operand_count(&mut self, opcode: u32, count: u32) -> Result<(), AllocError>
+        requires pending { IfSome self.old.pending (λ p. p.opcode ≡ opcode) }
+        requires some { IsSome self.old.pending }
+        requires few { length self.old.nodes < 2 ^ 22 }
+        requires more { 0 < count }
+        requires most { count ≤ 2 ^ 22 }
+        ensures { OnOk result (self.new ≡ with_operand_count self.old opcode count) }
+    {
+        self.nodes.push(Node::Op(opcode, count))?;
+        self.pending = None;
+        Ok(())
+    }
+}

@@ -1,0 +1,29 @@
+// Reading .nl files: their segments, one line after the other.
+#![tactic(auto)]
+
+mod awaited;
+mod counts;
+mod current;
+mod fault;
+mod head;
+mod heads;
+mod intervals;
+mod law;
+mod marks;
+mod node_row;
+mod nodes;
+mod numbers;
+mod owner_lines;
+mod pairs;
+mod pending;
+mod places;
+mod seen;
+#[cfg(test)]
+mod tests;
+mod words;
+
+pub use awaited::Awaited;
+pub use fault::{NlFault, NlReason, Refusal};
+pub use head::Head;
+pub use law::{one_line_more, one_reading};
+pub use places::Places;

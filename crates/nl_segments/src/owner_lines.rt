@@ -1,0 +1,98 @@
+// The lines of one owner.
+ghost use Rattle.std.specs.Prelude.{◌≡◌, ◌++◌, ◌∷◌, [], None, Some, OnOk, slice_get};
+ghost use Rattle.nl_segments.specs.Saying.{no_lines};
+ghost use Rattle.std.specs.Option.{option_or};
+
+use std::alloc::{AllocError, Global};
+use std::marker::Model;
+
+/// The lines of a defined variable, a constraint or an objective: of its head, if it has one, of its nodes in prefix order, and of its terms in file order.
+#[derive(Drop)]
+pub struct OwnerLines {
+    head: Option<u32>,
+    nodes: Vec<u32>,
+    terms: Vec<u32>,
+}
+
+impl Model for OwnerLines {
+    ghost use Rattle.nl_segments.specs.Saying.{OwnerLines as LinesValue};
+
+    ghost Value = { LinesValue };
+
+    ghost view = { λ o. record { head = o.head; nodes = o.nodes.items; terms = o.terms.items } };
+}
+
+impl OwnerLines {
+    /// No lines.
+    pub(crate) fn new(alloc: Global) -> OwnerLines
+        ensures { result ≡ no_lines }
+    {
+        OwnerLines {
+            head: None,
+            nodes: Vec::new(alloc),
+            terms: Vec::new(alloc),
+        }
+    }
+
+    /// Begins an expression.
+    pub(crate) fn begin_tree(&mut self, line: u32)
+        ensures { self.new ≡ record self.old { head = Some line; nodes = [] } }
+    {
+        self.head = Some(line);
+        self.nodes.clear();
+    }
+
+    /// Begins terms.
+    pub(crate) fn begin_terms(&mut self)
+        ensures { self.new ≡ record self.old { terms = [] } }
+    {
+        self.terms.clear();
+    }
+
+    /// Begins terms, whose head counts where there is no expression.
+    pub(crate) fn begin_row(&mut self, line: u32)
+        ensures { self.new ≡ record self.old { head = option_or self.old.head (Some line); terms = [] } }
+    {
+        if self.head.is_none() {
+            self.head = Some(line);
+        }
+        self.terms.clear();
+    }
+
+    /// Adds the line of a node.
+    pub(crate) fn add_node(&mut self, line: u32) -> Result<(), AllocError>
+        ensures { OnOk result (self.new ≡ record self.old { nodes = self.old.nodes ++ line ∷ [] }) }
+    {
+        self.nodes.push(line)?;
+        Ok(())
+    }
+
+    /// Adds the line of a term.
+    pub(crate) fn add_term(&mut self, line: u32) -> Result<(), AllocError>
+        ensures { OnOk result (self.new ≡ record self.old { terms = self.old.terms ++ line ∷ [] }) }
+    {
+        self.terms.push(line)?;
+        Ok(())
+    }
+
+    /// The line of the head.
+    pub(crate) fn head(&self) -> Option<u32>
+        ensures { result ≡ self.now.head }
+    {
+        self.head
+    }
+
+    /// The line of a node.
+    pub(crate) fn node(&self, i: u32) -> Option<u32>
+        ensures { result ≡ slice_get self.now.nodes i }
+    {
+        self.nodes.get(i as usize).copied()
+    }
+
+    /// The line of a term.
+    pub(crate) fn term(&self, i: u32) -> Option<u32>
+        ensures { result ≡ slice_get self.now.terms i }
+    {
+        self.terms.get(i as usize).copied()
+    }
+}

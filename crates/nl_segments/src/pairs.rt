@@ -1,0 +1,54 @@
+// Lines of an index and a value.
+ghost use Rattle.std.specs.Prelude.{◌≡◌, ◌<◌, ◌&&◌, not, Some, None, IfOk, IfErr, OnOk};
+ghost use Rattle.text_base.specs.Judged.{first_reason};
+ghost use Rattle.text_base.specs.Words.{texts};
+ghost use Rattle.nl_segments.specs.Pieces.{pair_in};
+ghost use Rattle.nl_segments.specs.Tests.{for_reason, is_whole, pair_form_tests};
+
+use crate::fault::NlReason;
+use crate::numbers::dec_of_text;
+use crate::words::{are_digits, number_at, word_at};
+use exact_numbers::Dec;
+
+fn is_whole(value: Dec) -> bool
+    ensures { result ≡ is_whole value }
+{
+    value.is_whole()
+}
+
+// Whether a value is not whole where it must be.
+fn is_refused(value: Dec, whole_only: bool) -> bool
+    ensures { result ≡ (whole_only && not (is_whole value)) }
+{
+    whole_only && !is_whole(value)
+}
+
+/// The pair of a line, where indices are below a limit and values may have to be whole.
+#[tactic(auto, unfolding(crate::specs::Tests::pair_form_tests, crate::specs::Pieces::pair_in))]
+pub(crate) fn read_pair(
+    words: &[&[u8]],
+    limit: u32,
+    whole_only: bool,
+) -> Result<(u32, Dec), NlReason>
+    ensures pair { IfOk result (λ t. pair_in (texts words.now) ≡ Some t) }
+    ensures below { IfOk result (λ t. t.0 < limit) }
+    ensures fine { OnOk result (first_reason (pair_form_tests limit whole_only (texts words.now)) ≡ None) }
+    ensures fault { IfErr result (λ r. first_reason (pair_form_tests limit whole_only (texts words.now)) ≡ Some (for_reason r)) }
+{
+    if words.len() != 2 || !are_digits(word_at(words, 0)) {
+        return Err(NlReason::BadLine);
+    }
+    let Some(index) = number_at(words, 0) else {
+        return Err(NlReason::IndexOut);
+    };
+    if index >= limit {
+        return Err(NlReason::IndexOut);
+    }
+    let Some(value) = dec_of_text(word_at(words, 1)) else {
+        return Err(NlReason::BadNumber);
+    };
+    if is_refused(value, whole_only) {
+        return Err(NlReason::BadNumber);
+    }
+    Ok((index, value))
+}
