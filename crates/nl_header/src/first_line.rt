@@ -2,13 +2,12 @@
 ghost use Rattle.std.specs.Prelude.{◌≡◌, ℕ, ◌<◌, ◌≤◌, ◌++◌, option_to_list, length, filter_map, slice_index, IfOk, IfErr, None, Some};
 ghost use Rattle.text_base.specs.Judged.{first_reason};
 ghost use Rattle.text_base.specs.Words.{texts};
-ghost use Rattle.nl_model.specs.HeaderRules.{has_second_three};
 ghost use Rattle.nl_header.specs.Numbers.{signed_of};
 ghost use Rattle.nl_header.specs.Head.{begins_with, option_count, options_of, first_line_tests};
 
 use crate::fault::HeadFault;
 use crate::numbers::{signed_of, whole_of};
-use nl_model::Options;
+use nl_model::{Options, has_second_three};
 
 /// At most so many options.
 const MOST_OPTIONS: u32 = 4;
@@ -57,15 +56,6 @@ fn signed_numbers(words: &[&[u8]]) -> Options
     options
 }
 
-fn has_second_three(options: &Options) -> bool
-    ensures { result ≡ has_second_three options.now }
-{
-    match options.items() {
-        [_, second, ..] => *second == 3,
-        _ => false,
-    }
-}
-
 /// The options of the first line, from its words.
 #[tactic(auto, unfolding(crate::specs::Head::first_line_tests))]
 pub fn read_first(words: &[&[u8]]) -> Result<Options, HeadFault>
@@ -84,7 +74,7 @@ pub fn read_first(words: &[&[u8]]) -> Result<Options, HeadFault>
         return Err(HeadFault::Options);
     }
     let options = signed_numbers(rest);
-    if options.len() != count as usize || has_second_three(&options) {
+    if options.len() != count as usize || has_second_three(options.items()) {
         return Err(HeadFault::Options);
     }
     Ok(options)

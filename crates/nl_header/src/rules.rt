@@ -3,14 +3,13 @@ ghost use Rattle.std.specs.Prelude.{◌≡◌, length, OnOk, IfErr, None, Some, 
 ghost use Rattle.text_base.specs.Judged.{first_reason};
 ghost use Rattle.text_base.specs.Words.{words_of, row_of};
 ghost use Rattle.code_tables.specs.Header.{header_rows};
-ghost use Rattle.nl_model.specs.HeaderRules.{are_shared_within, are_whole_within};
 ghost use Rattle.nl_header.specs.Head.{number_line_fault, rule_tests};
 ghost use Rattle.nl_header.specs.Reading.{counts_from, last_rule};
 
 use crate::fault::HeadFault;
 use crate::number_line::{is_short, judge_words};
 use code_tables::header_table;
-use nl_model::Counts;
+use nl_model::{Counts, are_shared_within, are_whole_within};
 use text_base::Row;
 
 /// The counts of the numbers of the rows.
@@ -51,23 +50,6 @@ pub fn counts_of(numbers: &[u32; 32]) -> Counts
         comc1: numbers[30],
         como1: numbers[31],
     }
-}
-
-fn are_shared_within(c: &Counts) -> bool
-    ensures { result ≡ are_shared_within c.now }
-{
-    c.nlvb <= c.nlvc && c.nlvb <= c.nlvo
-}
-
-// The sum may be wider than a count.
-fn are_whole_within(c: &Counts) -> bool
-    ensures { result ≡ are_whole_within c.now }
-{
-    let grouped = c.nlvc.max(c.nlvo) as u64 + c.nbv as u64 + c.niv as u64;
-    c.nlvbi <= c.nlvb
-        && c.nlvci <= c.nlvc.saturating_sub(c.nlvb)
-        && c.nlvoi <= c.nlvo.saturating_sub(c.nlvc)
-        && grouped <= c.n_var as u64
 }
 
 // Judges the rules of the lines before the last.

@@ -2,6 +2,7 @@ pub mod Built
 pub mod Draft
 pub mod File
 pub mod FileCode
+pub mod FilePlaces
 pub mod HeaderRules
 pub mod Kinds
 pub mod Nodes

@@ -30,8 +30,8 @@ pub struct Header {
     pub ghost ruled: { IsTrue (is_header options counts) },
 }
 
-// Whether the second option is 3.
-fn has_second_three(options: &[i32]) -> bool
+/// Whether the second option is 3.
+pub fn has_second_three(options: &[i32]) -> bool
     ensures { result ≡ has_second_three options.now }
 {
     match options {
@@ -102,13 +102,15 @@ fn are_sizes_within(c: &Counts) -> bool
         && c.nzc <= MOST_TERMS
 }
 
-fn are_shared_within(c: &Counts) -> bool
+/// Whether the variables that are nonlinear in constraints and in objectives are so in each.
+pub fn are_shared_within(c: &Counts) -> bool
     ensures { result ≡ are_shared_within c.now }
 {
     c.nlvb <= c.nlvc && c.nlvb <= c.nlvo
 }
 
-fn are_whole_within(c: &Counts) -> bool
+/// Whether each group has at least its whole variables, and the groups have at most all variables.
+pub fn are_whole_within(c: &Counts) -> bool
     ensures { result ≡ are_whole_within c.now }
 {
     let grouped = c.nlvc.max(c.nlvo) as u64 + c.nbv as u64 + c.niv as u64;
@@ -119,7 +121,7 @@ fn are_whole_within(c: &Counts) -> bool
 }
 
 /// The number of defined variables.
-pub(crate) fn defined_count(c: &Counts) -> u64
+pub fn defined_count(c: &Counts) -> u64
     ensures { result ≡ defined_count c.now }
 {
     c.comb as u64 + c.comc as u64 + c.como as u64 + c.comc1 as u64 + c.como1 as u64

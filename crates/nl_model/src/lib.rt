@@ -30,7 +30,7 @@ pub use definition::Def;
 pub use expr::Expr;
 pub use expr_builder::ExprBuilder;
 pub use file::NlFile;
-pub use header::Header;
+pub use header::{Header, are_shared_within, are_whole_within, defined_count, has_second_three};
 pub use interval::Interval;
 pub use kind::Kind;
 pub use node::Node;

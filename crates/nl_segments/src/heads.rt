@@ -3,7 +3,6 @@ ghost use Rattle.std.specs.Prelude.{◌≡◌, ◌+◌, ◌&&◌, nat_le, nat_lt
 ghost use Rattle.text_base.specs.Judged.{first_reason};
 ghost use Rattle.nl_segments.specs.Tests.{for_reason, head_form_tests};
 ghost use Rattle.nl_model.specs.HeaderRules.{defined_count};
-ghost use Rattle.text_base.specs.Names.{is_name, has_name_bytes};
 ghost use Rattle.text_base.specs.Words.{texts};
 ghost use Rattle.nl_segments.specs.Heads.{bare_head, numbered_head, counted_head, objective_head, definition_head, column_head, suffix_head, head_of, is_in_range};
 ghost use Rattle.nl_segments.specs.declared.head.Head.TheVariants.{Body, DualGuesses, PrimalGuesses, Sides, Bounds, Terms, Slopes};
@@ -13,26 +12,8 @@ use crate::head::Head;
 use crate::words::{
     is_refused_letter, is_segment_letter, letter_of, number_at, own_number, word_at,
 };
-use nl_model::Counts;
-
-// A name has at most so many bytes.
-const LONGEST_NAME: usize = 255;
-
-// No byte of a name is below this one.
-const LEAST_NAME_BYTE: u8 = 33;
-
-// Whether no byte is below 33.
-fn has_name_bytes(text: &[u8]) -> bool
-    ensures { result ≡ has_name_bytes text.now }
-{
-    text.iter().all(|b| *b >= LEAST_NAME_BYTE)
-}
-
-fn is_name(text: &[u8]) -> bool
-    ensures { result ≡ is_name text.now }
-{
-    !text.is_empty() && text.len() <= LONGEST_NAME && has_name_bytes(text)
-}
+use nl_model::{Counts, defined_count};
+use text_base::is_name;
 
 // The head of a letter alone.
 fn bare_head(head: Head, words: &[&[u8]]) -> Option<Head>
@@ -213,12 +194,7 @@ fn slopes_head(words: &[&[u8]]) -> Option<Head>
 pub(crate) fn defined_end(counts: &Counts) -> u64
     ensures { result ≡ counts.now.n_var + defined_count counts.now }
 {
-    let defined = counts.comb as u64
-        + counts.comc as u64
-        + counts.como as u64
-        + counts.comc1 as u64
-        + counts.como1 as u64;
-    counts.n_var as u64 + defined
+    counts.n_var as u64 + defined_count(counts)
 }
 
 // Whether the index is that of a defined variable.

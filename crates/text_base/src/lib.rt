@@ -26,7 +26,7 @@ pub use host::HostDesk;
 pub use law::{fault_stays, lines_are_the_text, one_outcome, stored_text_is_found};
 pub use lines::{LineFault, Lines, Taken};
 pub use memory::MemoryDesk;
-pub use names::{BadName, Name};
+pub use names::{BadName, Name, is_name};
 pub use reader::{Reader, read, read_pieces};
 pub use runs::Words;
 pub use steps::{Blank, Ledger, Steps};

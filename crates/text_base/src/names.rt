@@ -41,7 +41,8 @@ fn has_name_bytes(text: &[u8]) -> bool
     text.iter().all(|b| *b >= LEAST_NAME_BYTE)
 }
 
-fn is_name(text: &[u8]) -> bool
+/// Whether the text is a name.
+pub fn is_name(text: &[u8]) -> bool
     ensures { result ≡ is_name text.now }
 {
     !text.is_empty() && text.len() <= LONGEST_NAME && has_name_bytes(text)
