@@ -1,5 +1,7 @@
 pub mod Coefs
+pub mod FoldedFaults
 pub mod Folds
 pub mod Forms
 pub mod Operates
 pub mod Places
+pub mod Programs

@@ -5,7 +5,10 @@ mod coefficients;
 mod constants;
 mod entries;
 mod fold;
+mod fold_all;
+mod fold_fault;
 mod form;
+mod linear;
 mod operate;
 mod pad;
 #[cfg(test)]
@@ -13,6 +16,9 @@ mod tests;
 mod wide;
 mod work;
 
+pub use fold_all::fold_all;
+pub use fold_fault::FoldFault;
 pub use form::{Form, FormTerms};
+pub use linear::Linear;
 pub use pad::Pad;
 pub use wide::Wide;

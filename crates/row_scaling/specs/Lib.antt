@@ -4,4 +4,5 @@ pub mod Filled
 pub mod Filling
 pub mod Rows
 pub mod Scaled
+pub mod Scaling
 pub mod Sides

@@ -10,6 +10,8 @@ mod names;
 mod numbers;
 mod row;
 mod rows;
+mod scale_fault;
+mod scale_rows;
 mod scaled;
 mod sides;
 #[cfg(test)]
@@ -18,4 +20,6 @@ mod tests;
 pub use export::program;
 pub use laws::{plain_program, tied_row_is_scaled};
 pub use row::{FactoredRow, ScaledObjective, ScaledRow, Tie};
+pub use scale_fault::ScaleFault;
+pub use scale_rows::scale_rows;
 pub use scaled::Scaled;

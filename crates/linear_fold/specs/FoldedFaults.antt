@@ -1,0 +1,67 @@
+-- The faults of folding a file at their places, and how many steps folding takes.
+use Rattle.std.specs.Prelude.{ℕ, ◌+◌, ◌-◌, ◌*◌, nat_lt, Bool, List, length, Option, Some, None, option_map, if◌then◌else◌}
+use Rattle.std.specs.List.{sum_by}
+use Rattle.std.specs.Option.{option_map_or}
+use Rattle.nl_meaning.specs.declared.Fault.{Fault}
+use Rattle.nl_meaning.specs.declared.Reason.{Reason}
+use Rattle.nl_meaning.specs.declared.Reason.TheVariants.{Nonlinear as IsNonlinear, DivideByZero as DividesByZero, TooWide as IsTooWide, RefusedPower as HasRefusedPower}
+use Rattle.nl_meaning.specs.Trees.{tree_size}
+use Rattle.nl_model.specs.declared.at.At.{At}
+use Rattle.nl_model.specs.declared.at.At.TheVariants.{Node, Term, Head}
+use Rattle.nl_model.specs.declared.at.Owner.{Owner}
+use Rattle.nl_model.specs.declared.at.Owner.TheVariants.{Def, Con, Obj}
+use Rattle.nl_model.specs.File.{File}
+use Rattle.nl_model.specs.FilePlaces.{HasPlace, node_count}
+use Rattle.file_meaning.specs.FoldFaults.{Owner as FoldOwner, definition, constraint, objective, FoldFault as FileFault, no_such_objective, at_place, fold_too_large, fold_fault}
+use Rattle.linear_fold.specs.declared.fold_fault.FoldFault.{FoldFault}
+use Rattle.linear_fold.specs.declared.fold_fault.FoldFault.TheVariants.{Nonlinear, DivideByZero, TooWide, RefusedPower, FoldTooLarge, NoSuchObjective}
+
+abbrev pub owner_of : FoldOwner → Owner
+owner_of (definition i) = Def i
+owner_of (constraint i) = Con i
+owner_of (objective k) = Obj k
+
+-- nodes are numbered from 0, and the terms after them
+abbrev pub place_at : File → Owner → ℕ → At
+place_at f o i = if nat_lt i (node_count f o) then Node o i else Term o (i - node_count f o)
+
+abbrev pub fault_for : Reason → At → FoldFault
+fault_for IsNonlinear at = Nonlinear at
+fault_for DividesByZero at = DivideByZero at
+fault_for IsTooWide at = TooWide at
+fault_for HasRefusedPower at = RefusedPower at
+
+abbrev pub named_fault : File → FileFault → FoldFault
+named_fault f (no_such_objective k) = NoSuchObjective k
+named_fault f (at_place o fault) = fault_for fault.reason (place_at f (owner_of o) fault.place)
+named_fault f (fold_too_large o) = FoldTooLarge (Head (owner_of o))
+
+-- the first fault of folding a file with objective k
+abbrev pub first_fold_fault : File → ℕ → Option FoldFault
+first_fold_fault f k = option_map (named_fault f) (fold_fault f k)
+
+-- the file has the place of the fault, where it has one
+abbrev pub HasFaultPlace : File → FoldFault → Type 0
+HasFaultPlace f (Nonlinear at) = HasPlace f at
+HasFaultPlace f (DivideByZero at) = HasPlace f at
+HasFaultPlace f (TooWide at) = HasPlace f at
+HasFaultPlace f (RefusedPower at) = HasPlace f at
+HasFaultPlace f (FoldTooLarge at) = HasPlace f at
+HasFaultPlace f (NoSuchObjective k) = Unit {0}
+
+-- ---- steps
+
+-- the nodes of all expressions
+abbrev pub node_total : File → ℕ
+node_total f =
+    sum_by (λ d. tree_size d.tree) f.definitions
+    + sum_by (λ b. option_map_or tree_size b 0) f.bodies
+    + sum_by (λ o. tree_size o.tree) f.objectives
+
+-- the linear terms of all owners
+abbrev pub term_total : File → ℕ
+term_total f = sum_by (λ d. length d.terms) f.definitions + sum_by length f.terms + sum_by length f.slopes
+
+-- folding takes at most so many steps
+abbrev pub step_bound : File → ℕ
+step_bound f = 2 * (node_total f + term_total f) * (f.counts.n_var + 1)

