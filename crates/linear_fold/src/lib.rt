@@ -4,8 +4,8 @@
 mod coefficients;
 mod constants;
 mod entries;
+mod file_fold;
 mod fold;
-mod fold_all;
 mod fold_fault;
 mod form;
 mod linear;
@@ -16,7 +16,7 @@ mod tests;
 mod wide;
 mod work;
 
-pub use fold_all::fold_all;
+pub use file_fold::fold_all;
 pub use fold_fault::FoldFault;
 pub use form::{Form, FormTerms};
 pub use linear::Linear;

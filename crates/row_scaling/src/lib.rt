@@ -11,7 +11,7 @@ mod numbers;
 mod row;
 mod rows;
 mod scale_fault;
-mod scale_rows;
+mod scale;
 mod scaled;
 mod sides;
 #[cfg(test)]
@@ -21,5 +21,5 @@ pub use export::program;
 pub use laws::{plain_program, tied_row_is_scaled};
 pub use row::{FactoredRow, ScaledObjective, ScaledRow, Tie};
 pub use scale_fault::ScaleFault;
-pub use scale_rows::scale_rows;
+pub use scale::scale_rows;
 pub use scaled::Scaled;
