@@ -12,7 +12,7 @@ use crate::head::Head;
 use crate::words::{
     is_refused_letter, is_segment_letter, letter_of, number_at, own_number, word_at,
 };
-use nl_model::{Counts, defined_count};
+use nl_model::Counts;
 use text_base::is_name;
 
 // The head of a letter alone.
@@ -194,7 +194,12 @@ fn slopes_head(words: &[&[u8]]) -> Option<Head>
 pub(crate) fn defined_end(counts: &Counts) -> u64
     ensures { result ≡ counts.now.n_var + defined_count counts.now }
 {
-    counts.n_var as u64 + defined_count(counts)
+    let defined = counts.comb as u64
+        + counts.comc as u64
+        + counts.como as u64
+        + counts.comc1 as u64
+        + counts.como1 as u64;
+    counts.n_var as u64 + defined
 }
 
 // Whether the index is that of a defined variable.
