@@ -1,6 +1,8 @@
 pub mod Current
 pub mod Grammar
 pub mod Heads
+pub mod Held
+pub mod HeldCode
 pub mod NodeRows
 pub mod Nodes
 pub mod Numbers

@@ -1,5 +1,7 @@
 -- What reading an .nl text answers, and what a reader of one stands for.
-use Rattle.std.specs.Prelude.{◌≡◌, ℕ, List, Option, IsSome, Result, Ok, Err}
+use Rattle.std.specs.Prelude.{◌≡◌, ℕ, List, Option, IsSome, Result, Ok, Err, refl}
+use Rattle.std.specs.Coded.{Coded, code_by, coded×, coded_option}
+use Rattle.text_base.specs.contracts.lines.Lines.{the_row as lines_row}
 use Rattle.text_base.specs.declared.stop.Stop.{Stop}
 use Rattle.text_base.specs.declared.stop.Stop.TheVariants.{Fault, Memory}
 use Rattle.text_base.specs.declared.fault.TextFault.{TextFault}
@@ -11,7 +13,9 @@ use Rattle.nl_segments.specs.declared.fault.NlFault.{NlFault}
 use Rattle.nl_segments.specs.declared.fault.Refusal.{Refusal}
 use Rattle.nl_segments.specs.declared.nl_read.NlRead.{NlRead}
 use Rattle.nl_segments.specs.Saying.{line_of}
-use Rattle.nl_segments.specs.Grammar.{nl_rules, NlValue, SaysFile}
+use Rattle.nl_segments.specs.Grammar.{standing, nl_rules, NlValue, SaysFile}
+use Rattle.nl_segments.specs.Held.{Progress, HoldsStanding}
+use Rattle.nl_segments.specs.HeldCode.{progress_code, stop_code}
 
 -- ---- texts
 
@@ -53,11 +57,20 @@ abbrev pub stop_of : Stop (TextFault Refusal) → Stop NlFault
 stop_of (Fault f) = Fault (fault_of f)
 stop_of Memory = Memory
 
--- the lines of the bytes so far, and why it stopped
+-- the lines of the bytes so far, what is held of them, and why it stopped
 pub record Reading : Type 0 where
   pub lines : LinesState
+  pub progress : Progress
   pub stopped : Option (Stop (TextFault Refusal))
 
 -- the reader was fed this text
 abbrev pub IsFed : Reading → List ℕ → Type 0
-IsFed r text = Stands r.stopped nl_rules (λ lines. Unit {0}) r.lines text
+IsFed r text = Stands r.stopped nl_rules (λ lines. HoldsStanding (standing lines) r.progress) r.lines text
+
+-- the code of what a reader stands for
+abbrev pub reading_code : Coded Reading
+reading_code =
+    code_by (LinesState × (Progress × Option (Stop (TextFault Refusal)))) (coded× lines_row.coded (coded× progress_code (coded_option stop_code)))
+    (λ r. (r.lines, (r.progress, r.stopped)))
+    (λ p. record { lines = p.0; progress = p.1.0; stopped = p.1.1 })
+    (λ _. refl)

@@ -2,9 +2,17 @@
 #![tactic(auto)]
 
 mod awaited;
+mod body;
+mod body_columns;
+mod body_heads;
+mod body_intervals;
+mod body_nodes;
+mod body_operands;
+mod body_pairs;
 mod counts;
 mod current;
 mod fault;
+mod grammar;
 mod head;
 mod heads;
 mod intervals;

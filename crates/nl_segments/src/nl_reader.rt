@@ -3,19 +3,39 @@ ghost use Rattle.std.specs.Prelude.{◌≡◌, ◌++◌, List, ℕ, [], IfOk, If
 ghost use Rattle.text_base.specs.Stopped.{IfFault};
 ghost use Rattle.text_base.specs.Reading.{IsFreeSoFar};
 ghost use Rattle.nl_segments.specs.Grammar.{nl_rules};
-ghost use Rattle.nl_segments.specs.Reader.{IsFed, ReadsNl, HasNlFaultSoFar, HasLines, stop_of};
+ghost use Rattle.nl_segments.specs.Reader.{IsFed, ReadsNl, HasNlFaultSoFar, HasLines, stop_of, fault_of};
 
 use crate::fault::{NlFault, Refusal};
+use crate::grammar::NlGrammar;
 use crate::nl_read::NlRead;
 use std::alloc::{AllocError, Global};
 use std::marker::Model;
-use text_base::{Lines, Stop, TextFault};
+use text_base::{Reader, Stop, TextFault};
+
+// The fault of a text at a line.
+fn fault_of(found: TextFault<Refusal>) -> NlFault
+    ensures { result ≡ fault_of found }
+{
+    NlFault {
+        reason: found.reason.reason,
+        line: found.line,
+        opcode: found.reason.opcode,
+    }
+}
+
+fn stop_of(stop: Stop<TextFault<Refusal>>) -> Stop<NlFault>
+    ensures { result ≡ stop_of stop }
+{
+    match stop {
+        Stop::Fault(found) => Stop::Fault(fault_of(found)),
+        Stop::Memory => Stop::Memory,
+    }
+}
 
 /// Reads an .nl text that comes in pieces.
 #[derive(Drop)]
 pub struct NlReader {
-    lines: Lines,
-    stopped: Option<Stop<TextFault<Refusal>>>,
+    reader: Reader<NlGrammar>,
 }
 
 impl Model for NlReader {
@@ -23,7 +43,11 @@ impl Model for NlReader {
 
     ghost Value = { Reading };
 
-    ghost view = { λ r. record { lines = r.lines; stopped = r.stopped } };
+    ghost use Rattle.nl_segments.specs.Reader.{reading_code};
+
+    ghost coded = { reading_code };
+
+    ghost view = { λ r. record { lines = r.reader.lines; progress = r.reader.grammar; stopped = r.reader.stopped } };
 }
 
 impl NlReader {
@@ -31,8 +55,9 @@ impl NlReader {
     pub fn new(alloc: Global) -> Result<NlReader, AllocError>
         ensures { IfOk result (λ reader. IsFed reader []) }
     {
-        let _ = alloc;
-        Err(AllocError)
+        Ok(NlReader {
+            reader: Reader::new(alloc, NlGrammar::new(alloc))?,
+        })
     }
 
     /// Takes the next piece of the text. An `Err` is answered again by each later call.
@@ -45,17 +70,9 @@ impl NlReader {
         ensures kept { IfErr result (λ stop. IfSome self.new.stopped (λ found. stop ≡ stop_of found)) }
         ensures sticky { IfSome self.old.stopped (λ found. result ≡ Err (stop_of found)) }
     {
-        let _ = piece;
-        match self.stopped {
-            Some(Stop::Fault(f)) => Err(Stop::Fault(NlFault {
-                reason: f.reason.reason,
-                line: f.line,
-                opcode: f.reason.opcode,
-            })),
-            _ => {
-                self.stopped = Some(Stop::Memory);
-                Err(Stop::Memory)
-            }
+        match self.reader.feed(piece) {
+            Ok(()) => Ok(()),
+            Err(stop) => Err(stop_of(stop)),
         }
     }
 
@@ -65,13 +82,9 @@ impl NlReader {
         ensures lines { IfOk result HasLines }
         ensures sticky { IfSome self.stopped (λ found. result ≡ Err (stop_of found)) }
     {
-        match self.stopped {
-            Some(Stop::Fault(f)) => Err(Stop::Fault(NlFault {
-                reason: f.reason.reason,
-                line: f.line,
-                opcode: f.reason.opcode,
-            })),
-            _ => Err(Stop::Memory),
+        match self.reader.finish() {
+            Ok(read) => Ok(read),
+            Err(stop) => Err(stop_of(stop)),
         }
     }
 }
@@ -81,7 +94,8 @@ pub fn read_nl(alloc: Global, text: &[u8]) -> Result<NlRead, Stop<NlFault>>
     ensures reads { ReadsNl text.now result }
     ensures lines { IfOk result HasLines }
 {
-    let _ = alloc;
-    let _ = text;
-    Err(Stop::Memory)
+    match text_base::read(alloc, NlGrammar::new(alloc), text) {
+        Ok(read) => Ok(read),
+        Err(stop) => Err(stop_of(stop)),
+    }
 }

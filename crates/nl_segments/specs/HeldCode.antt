@@ -1,0 +1,70 @@
+-- The codes of what readers hold, by which proofs tell them apart: those of their parts.
+use Rattle.std.specs.Prelude.{ℕ, Bool, List, Option, Some, None, refl, ◌≡◌}
+use Rattle.std.specs.Coded.{Coded, code_by, coded×, coded_ℕ, coded_bool, coded_list, coded_option}
+use Rattle.text_base.specs.declared.stop.Stop.{Stop}
+use Rattle.text_base.specs.declared.stop.Stop.TheVariants.{Fault, Memory}
+use Rattle.text_base.specs.declared.fault.TextFault.{TextFault}
+use Rattle.nl_header.specs.contracts.reader.HeaderReader.{the_row as header_row}
+use Rattle.nl_header.specs.Reading.{Taken}
+use Rattle.nl_model.specs.Draft.{Draft}
+use Rattle.nl_model.specs.FileCode.{draft_code}
+use Rattle.nl_segments.specs.contracts.current.Current.{the_row as current_row}
+use Rattle.nl_segments.specs.contracts.seen.Seen.{the_row as seen_row}
+use Rattle.nl_segments.specs.contracts.places.Places.{the_row as places_row}
+use Rattle.nl_segments.specs.contracts.fault.NlReason.{the_row as reason_row}
+use Rattle.nl_segments.specs.declared.fault.NlReason.{NlReason}
+use Rattle.nl_segments.specs.declared.fault.Refusal.{Refusal}
+use Rattle.nl_segments.specs.Current.{Current}
+use Rattle.nl_segments.specs.SeenSegments.{Segments}
+use Rattle.nl_segments.specs.Saying.{PlaceLines}
+use Rattle.nl_segments.specs.Held.{Body, Progress}
+
+abbrev Parts : Type 0
+Parts =
+    ((Draft × Option Current) × (Option (List ℕ) × List Bool)) × ((Segments × PlaceLines) × (((ℕ × ℕ) × (ℕ × ℕ)) × (List ℕ × List ℕ)))
+
+abbrev parts_code : Coded Parts
+parts_code =
+    coded× (coded× (coded× draft_code (coded_option current_row.coded)) (coded× (coded_option (coded_list coded_ℕ)) (coded_list coded_bool)))
+    (coded× (coded× seen_row.coded places_row.coded)
+    (coded× (coded× (coded× coded_ℕ coded_ℕ) (coded× coded_ℕ coded_ℕ)) (coded× (coded_list coded_ℕ) (coded_list coded_ℕ))))
+
+abbrev pub body_code : Coded Body
+body_code =
+    code_by Parts parts_code
+    (λ b. (((b.draft, b.current), (b.name, b.marks)), ((b.seen, b.places), (((b.nodes, b.linear), (b.values, b.suffixes)), (b.columns, b.uses)))))
+    (λ p. record {
+      draft = p.0.0.0;
+      current = p.0.0.1;
+      name = p.0.1.0;
+      marks = p.0.1.1;
+      seen = p.1.0.0;
+      nodes = p.1.1.0.0.0;
+      linear = p.1.1.0.0.1;
+      values = p.1.1.0.1.0;
+      suffixes = p.1.1.0.1.1;
+      columns = p.1.1.1.0;
+      uses = p.1.1.1.1;
+      places = p.1.0.1;
+    })
+    (λ _. refl)
+
+abbrev pub progress_code : Coded Progress
+progress_code =
+    code_by (Taken × Option Body) (coded× header_row.coded (coded_option body_code)) (λ g. (g.header, g.body)) (λ p. record { header = p.0; body = p.1 }) (λ _. refl)
+
+-- the reason, the opcode and the line of a fault; none for want of memory
+abbrev fault_parts : Stop (TextFault Refusal) → Option ((NlReason × ℕ) × ℕ)
+fault_parts (Fault f) = Some ((f.reason.reason, f.reason.opcode), f.line)
+fault_parts Memory = None
+
+abbrev stop_from : Option ((NlReason × ℕ) × ℕ) → Stop (TextFault Refusal)
+stop_from (Some p) = Fault (record { reason = record { reason = p.0.0; opcode = p.0.1 }; line = p.1 })
+stop_from None = Memory
+
+abbrev stop_again : (s : Stop (TextFault Refusal)) → stop_from (fault_parts s) ≡ s
+stop_again (Fault f) = refl
+stop_again Memory = refl
+
+abbrev pub stop_code : Coded (Stop (TextFault Refusal))
+stop_code = code_by (Option ((NlReason × ℕ) × ℕ)) (coded_option (coded× (coded× reason_row.coded coded_ℕ) coded_ℕ)) fault_parts stop_from stop_again
