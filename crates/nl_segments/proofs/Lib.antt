@@ -1,6 +1,8 @@
 pub mod NumberLemmas
 pub mod WholeLemmas
 pub mod StandingLemmas
+pub mod StartLemmas
+pub mod StopLemmas
 pub mod Examples
 pub mod PieceLemmas
 pub mod OpcodeLemmas
