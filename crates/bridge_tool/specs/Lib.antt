@@ -1,13 +1,8 @@
+pub mod Answer
 pub mod Command
 pub mod Export
 pub mod Outcome
-pub mod Reading
-pub mod SmallFacts
-pub mod SmallFile
-pub mod SmallLines
-pub mod SmallRows
-pub mod SmallWords
-pub mod Scaling
-pub mod Sums
+pub mod Refusal
+pub mod Told
+pub mod Stages
 pub mod Transfer
-pub mod WholeNumbers

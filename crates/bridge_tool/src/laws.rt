@@ -1,10 +1,17 @@
 // Each law is proved by a function with an empty body.
-ghost use Rattle.std.specs.Prelude.{◌≡◌, ◌<◌, ◌^◌, ℤ, unsigned_abs};
-ghost use Rattle.fractions.specs.Rational.{whole};
-ghost use Rattle.exact_numbers.specs.Values.{dec_value};
-ghost use Rattle.bridge_tool.specs.WholeNumbers.{whole_dec};
+ghost use Rattle.std.specs.Prelude.{◌≡◌, List, ℕ, Option};
+ghost use Rattle.nl_model.specs.Rules.{IsFile};
+ghost use Rattle.text_base.specs.Desk.{Texts};
+ghost use Rattle.bridge_tool.specs.Export.{IsExported, MeansTheFile};
+ghost use Rattle.bridge_tool.specs.Outcome.{ComesTo, Outcome};
 
-/// The Dec of a whole number below 10^10 in size has its value.
-pub fn whole_numbers()
-    ensures { (z : ℤ) → unsigned_abs z < 10 ^ 10 → dec_value (whole_dec z) ≡ whole z }
+/// Words come to exactly one outcome, whatever texts a desk has.
+pub fn one_outcome()
+    ensures some { (texts : Option Texts) (words : List (List ℕ)) → (outcome : Outcome) × ComesTo texts words outcome }
+    ensures one { (texts : Option Texts) (words : List (List ℕ)) (a b : Outcome) → ComesTo texts words a → ComesTo texts words b → a ≡ b }
+{}
+
+/// The program of a text that is exported means what its file means.
+pub fn programs_mean_their_files()
+    ensures { (text : List ℕ) (k : ℕ) (bytes : List ℕ) (e : IsExported text k bytes) → IsFile e.value.file → MeansTheFile e.value.file k e.program }
 {}

@@ -1,21 +1,19 @@
 // The commands of the bridge, over any desk.
 #![tactic(auto)]
 
+mod answer;
 mod command;
+#[cfg(test)]
+mod examples;
 mod exporting;
 mod laws;
-mod rows;
-mod scaling;
-mod small;
-mod small_lines;
-mod sums;
 #[cfg(test)]
 mod tests;
+mod told;
 mod top;
 mod transfer;
-mod words;
 
-pub use command::{export_file, line_for};
-pub use laws::whole_numbers;
+pub use command::{Export, export_of, plain_number};
+pub use laws::{one_outcome, programs_mean_their_files};
 pub use top::bridge;
-pub use transfer::{read_text, tell_line, write_all};
+pub use transfer::{Feed, Unread, feed_text, tell_line, write_all};

@@ -1,9 +1,15 @@
+pub mod BodyLemmas
 pub mod Closing
 pub mod CoefLemmas
 pub mod ConstantLemmas
+pub mod CountLemmas
+pub mod DefinitionLemmas
+pub mod Expressions
 pub mod Folding
 pub mod FracLemmas
 pub mod Operators
+pub mod OwnerLemmas
 pub mod PlaceLemmas
+pub mod ProgramLemmas
 pub mod Scaled
 pub mod Stacks

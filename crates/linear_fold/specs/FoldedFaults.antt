@@ -11,7 +11,8 @@ use Rattle.nl_model.specs.declared.at.At.TheVariants.{Node, Term, Head}
 use Rattle.nl_model.specs.declared.at.Owner.{Owner}
 use Rattle.nl_model.specs.declared.at.Owner.TheVariants.{Def, Con, Obj}
 use Rattle.nl_model.specs.File.{File}
-use Rattle.nl_model.specs.FilePlaces.{HasPlace, node_count}
+use Rattle.nl_model.specs.FilePlaces.{HasPlace, tree_at}
+use Rattle.file_meaning.specs.Expressions.{tree_or_zero}
 use Rattle.file_meaning.specs.FoldFaults.{Owner as FoldOwner, definition, constraint, objective, FoldFault as FileFault, no_such_objective, at_place, fold_too_large, fold_fault}
 use Rattle.linear_fold.specs.declared.fold_fault.FoldFault.{FoldFault}
 use Rattle.linear_fold.specs.declared.fold_fault.FoldFault.TheVariants.{Nonlinear, DivideByZero, TooWide, RefusedPower, FoldTooLarge, NoSuchObjective}
@@ -21,9 +22,13 @@ owner_of (definition i) = Def i
 owner_of (constraint i) = Con i
 owner_of (objective k) = Obj k
 
--- nodes are numbered from 0, and the terms after them
+-- of an owner with so many nodes: nodes are numbered from 0, and the terms after them
+abbrev pub place_after : ℕ → Owner → ℕ → At
+place_after nodes o i = if nat_lt i nodes then Node o i else Term o (i - nodes)
+
+-- the place of a number; a missing tree is the number 0, which is one node
 abbrev pub place_at : File → Owner → ℕ → At
-place_at f o i = if nat_lt i (node_count f o) then Node o i else Term o (i - node_count f o)
+place_at f o i = place_after (tree_size (tree_or_zero (tree_at f o))) o i
 
 abbrev pub fault_for : Reason → At → FoldFault
 fault_for IsNonlinear at = Nonlinear at

@@ -1,17 +1,19 @@
 -- What folding a tree comes to.
-use Rattle.std.specs.Prelude.{◌≡◌, ◌≢◌, ℕ, ◌+◌, ◌-◌, ◌<◌, ◌≤◌, List, [], ◌∷◌, length, get_or, Option, Some, None}
+use Rattle.std.specs.Prelude.{◌≡◌, ◌≢◌, ℕ, ◌+◌, ◌-◌, ◌<◌, ◌≤◌, List, [], ◌∷◌, length, get_or, Bool, false, Option, Some, None, Result, Ok, Err}
+use Rattle.text_base.specs.declared.stop.Stop.{Stop}
+use Rattle.text_base.specs.declared.stop.Stop.TheVariants.{Fault as Stopped, Memory}
 use Rattle.code_tables.specs.Opcodes.{class_of}
 use Rattle.fractions.specs.Rational.{ℚ}
 use Rattle.nl_meaning.specs.declared.Fault.{Fault}
-use Rattle.nl_meaning.specs.Faults.{expression_fault, tree_fault, trees_fault}
-use Rattle.nl_meaning.specs.Lines.{line_value}
-use Rattle.nl_meaning.specs.Trees.{Point, Known, Tree, Trees, none, more, Expression, HasCount, expression_value, tree_size, tree_value}
+use Rattle.nl_meaning.specs.Faults.{expression_fault, line_with_terms, terms_fault, tree_fault, trees_fault}
+use Rattle.nl_meaning.specs.Lines.{Line, line_value}
+use Rattle.nl_meaning.specs.Trees.{Point, Known, Tree, number, variable, defined, operator, Trees, none, more, LinearTerm, Expression, HasCount, expression_value, tree_size, tree_value}
 use Rattle.nl_model.specs.declared.node.Node.{Node}
 use Rattle.nl_model.specs.declared.node.Node.TheVariants.{Num, Var, Defined, Op}
 use Rattle.linear_fold.specs.declared.entries.Entry.{Entry}
 use Rattle.linear_fold.specs.declared.entries.Entry.TheVariants.{Linear, Broken}
 use Rattle.linear_fold.specs.declared.form.Form.{Form}
-use Rattle.linear_fold.specs.Forms.{form_line}
+use Rattle.linear_fold.specs.Forms.{form_line, is_open}
 use Rattle.linear_fold.specs.Operates.{IsWithin}
 
 -- the value of f at each point is that of the line of a form of n variables
@@ -93,3 +95,26 @@ IsNodeWithin n slots (Op o k) = Unit {0}
 abbrev pub AreNodesWithin : ℕ → List (Option Form) → List Node → Type 0
 AreNodesWithin n slots [] = Unit {0}
 AreNodesWithin n slots (x ∷ xs) = IsNodeWithin n slots x × AreNodesWithin n slots xs
+
+-- a tree uses only the first n variables, and defined variables that have forms
+abbrev mutual
+  pub IsTreeGiven : ℕ → List (Option Form) → Tree → Type 0
+  IsTreeGiven n slots (number m e) = Unit {0}
+  IsTreeGiven n slots (variable j) = j < n
+  IsTreeGiven n slots (defined i) = IsGiven n slots i
+  IsTreeGiven n slots (operator c ts) = AreTreesGiven n slots ts
+
+  pub AreTreesGiven : ℕ → List (Option Form) → Trees → Type 0
+  AreTreesGiven n slots none = Unit {0}
+  AreTreesGiven n slots (more t ts) = IsTreeGiven n slots t × AreTreesGiven n slots ts
+
+-- terms are added to a line, the first of which has the number i; or the first fault among them
+abbrev pub AddsTerms : Line → ℕ → List LinearTerm → Line → Result (Unit {0}) (Stop Fault) → Type 0
+AddsTerms a i ts new (Ok u) = (terms_fault a i ts ≡ None) × (new ≡ line_with_terms a ts)
+AddsTerms a i ts new (Err (Stopped fault)) = terms_fault a i ts ≡ Some fault
+AddsTerms a i ts new (Err Memory) = Unit {0}
+
+-- the closed form of a line with terms, or the first fault among them
+abbrev pub ComesToTerms : Line → ℕ → List LinearTerm → Entry → Type 0
+ComesToTerms a i ts (Linear form) = (terms_fault a i ts ≡ None) × (form_line form ≡ line_with_terms a ts) × (is_open form ≡ false)
+ComesToTerms a i ts (Broken fault) = terms_fault a i ts ≡ Some fault

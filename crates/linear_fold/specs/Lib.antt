@@ -3,5 +3,6 @@ pub mod FoldedFaults
 pub mod Folds
 pub mod Forms
 pub mod Operates
+pub mod OwnerFolds
 pub mod Places
 pub mod Programs

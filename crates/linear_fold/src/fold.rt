@@ -53,6 +53,7 @@ fn defined_entry<L: Ledger>(
     ensures blank { OnOk result (StaysBlank total.old total.new) }
     ensures entry { IfOk result (λ e. (i : ℕ) (known : Point → Known) → AreKnown variables known slots.now → IsFolded known variables i (defined index) e) }
     ensures within { IfOk result (λ e. IsEntryWithin variables e) }
+    ensures above { steps.old ≤ steps.new }
     ensures below { steps.new ≤ steps.old + (variables + 1) }
 {
     match &slots[(index - variables) as usize] {
@@ -80,6 +81,7 @@ fn operation_entry<L: Ledger>(
     ensures blank { OnOk result (StaysBlank total.old total.new) }
     ensures entry { IfOk result (λ e. (known : Point → Known) (ts : Trees) → AreOperands known variables (place + 1) ts operands.now.forms.items operands.now.broken → IsFolded known variables place (operator class ts) e) }
     ensures within { IfOk result (λ e. IsEntryWithin variables e) }
+    ensures above { steps.old ≤ steps.new }
     ensures below { steps.new ≤ steps.old + (variables + 1) * length operands.now.forms.items }
 {
     if let Some(fault) = operands.broken {
@@ -112,6 +114,7 @@ fn entry_of<L: Ledger>(
     ensures within { IfOk result (λ e. AreWithin variables (forms_of (e ∷ reverse stack.new.items))) }
     ensures size { IfOk result (λ e. (trees : List Tree) → length trees ≡ length stack.old.items → length (with_node node trees) ≡ 1 + length stack.new.items) }
     ensures entry { IfOk result (λ e. (known : Point → Known) (trees : List Tree) → AreKnown variables known slots.now → AreFolded known variables (place + 1) trees (reverse stack.old.items) → AreFolded known variables place (with_node node trees) (e ∷ reverse stack.new.items)) }
+    ensures above { steps.old ≤ steps.new }
     ensures below { steps.new + (variables + 1) * vec_len stack.new ≤ steps.old + (variables + 1) * vec_len stack.old + (variables + 1) }
 {
     match node {
@@ -151,6 +154,7 @@ pub(crate) fn fold_tree<L: Ledger>(
     ensures blank { OnOk result (StaysBlank total.old total.new) }
     ensures entry { IfOk result (λ e. (known : Point → Known) (tree : Tree) → AreKnown variables known slots.now → trees_of nodes.now ≡ tree ∷ [] → IsFolded known variables 0 tree e) }
     ensures within { IfOk result (λ e. IsEntryWithin variables e) }
+    ensures above { steps.old ≤ steps.new }
     ensures below { steps.new + (variables + 1) ≤ steps.old + 2 * (variables + 1) * length nodes.now }
 {
     let mut stack: Vec<Entry> = Vec::new(alloc);

@@ -36,6 +36,7 @@ impl Form {
     pub fn new(alloc: Global) -> Form
         ensures line { form_line result ≡ constant_line zero_ℚ }
         ensures closed { is_open result ≡ false }
+        ensures terms { form_terms result ≡ [] }
     {
         Form::of_constant(alloc, Frac::zero())
     }
@@ -44,6 +45,7 @@ impl Form {
     pub fn of_constant(alloc: Global, constant: Frac) -> Form
         ensures line { form_line result ≡ constant_line (frac_value constant) }
         ensures closed { is_open result ≡ false }
+        ensures terms { form_terms result ≡ [] }
     {
         Form {
             constant,
@@ -195,7 +197,7 @@ impl Form {
     }
 
     // Sets the constant and each coefficient to 0.
-    fn clear(&mut self)
+    pub(crate) fn clear(&mut self)
         ensures line { form_line self.new ≡ constant_line zero_ℚ }
         ensures open { is_open self.new ≡ is_open self.old }
         ensures places { place_count self.new ≡ place_count self.old }

@@ -30,6 +30,30 @@ impl Model for Linear {
 impl Linear {
     ghost use Rattle.linear_fold.specs.Programs.{IsLinear};
 
+    // The folded file of these parts.
+    pub(crate) fn of_parts(
+        bodies: Vec<Form>,
+        objective: Form,
+        number: u32,
+        maximise: bool,
+        sides: Vec<Interval>,
+        bounds: Vec<Interval>,
+        kinds: Vec<Kind>,
+    ) -> Linear
+        requires { IsLinear (record { bodies = bodies.items; objective = objective; number = number; maximise = maximise; sides = sides.items; bounds = bounds.items; kinds = kinds.items }) }
+        ensures { result ≡ record { bodies = bodies.items; objective = objective; number = number; maximise = maximise; sides = sides.items; bounds = bounds.items; kinds = kinds.items } }
+    {
+        Linear {
+            bodies,
+            objective,
+            number,
+            maximise,
+            sides,
+            bounds,
+            kinds,
+        }
+    }
+
     /// The form of the body of a constraint.
     pub fn body(&self, con: u32) -> &Form
         requires { con < length self.now.bodies }

@@ -122,6 +122,7 @@ pub(crate) fn sum_of_all<L: Ledger>(
     requires within { AreWithin (place_count total.old) operands.now }
     ensures blank { OnOk result (StaysBlank total.old total.new) }
     ensures outcome { IfOk result (λ o. ComesTo (running_sums_fit (place_count total.old) zero_line (lines_of_forms operands.now)) (running_line zero_line (lines_of_forms operands.now)) o) }
+    ensures above { steps.old ≤ steps.new }
     ensures below { steps.new ≤ steps.old + (place_count total.old + 1) * length operands.now }
 {
     let summed = add_all(total, operands, steps);
@@ -140,6 +141,7 @@ fn difference<L: Ledger>(
     requires second { IsWithin (place_count total.old) b.now }
     ensures blank { OnOk result (StaysBlank total.old total.new) }
     ensures outcome { IfOk result (λ o. Operates (place_count total.old) Difference (form_line a.now ∷ form_line b.now ∷ []) o) }
+    ensures above { steps.old ≤ steps.new }
     ensures below { steps.new ≤ steps.old + (place_count total.old + 1) * 2 }
 {
     let summed = add_difference(total, a, b, steps);
@@ -158,6 +160,7 @@ pub(crate) fn scaled<L: Ledger>(
     requires within { IsWithin (place_count total.old) a.now }
     ensures blank { OnOk result (StaysBlank total.old total.new) }
     ensures outcome { IfOk result (λ o. ComesTo (products_fit (place_count total.old) (frac_value k) (form_line a.now)) (line_scaled (frac_value k) (form_line a.now)) o) }
+    ensures above { steps.old ≤ steps.new }
     ensures below { steps.new ≤ steps.old + (place_count total.old + 1) }
 {
     let summed = add_multiple(total, a, k, steps);
@@ -176,6 +179,7 @@ pub(crate) fn copied<L: Ledger>(
     ensures blank { OnOk result (StaysBlank total.old total.new) }
     ensures line { IfOk result (λ f. form_line f ≡ form_line a.now) }
     ensures closed { IfOk result (λ f. is_open f ≡ false) }
+    ensures above { steps.old ≤ steps.new }
     ensures below { steps.new ≤ steps.old + (place_count total.old + 1) }
 {
     match scaled(alloc, a, Frac::one(), total, steps) {
@@ -195,6 +199,7 @@ fn negated<L: Ledger>(
     requires within { IsWithin (place_count total.old) a.now }
     ensures blank { OnOk result (StaysBlank total.old total.new) }
     ensures outcome { IfOk result (λ o. Operates (place_count total.old) Negation (form_line a.now ∷ []) o) }
+    ensures above { steps.old ≤ steps.new }
     ensures below { steps.new ≤ steps.old + (place_count total.old + 1) }
 {
     scaled(alloc, a, Frac::one().neg(), total, steps)
@@ -212,6 +217,7 @@ fn product<L: Ledger>(
     requires second { IsWithin (place_count total.old) b.now }
     ensures blank { OnOk result (StaysBlank total.old total.new) }
     ensures outcome { IfOk result (λ o. Operates (place_count total.old) Product (form_line a.now ∷ form_line b.now ∷ []) o) }
+    ensures above { steps.old ≤ steps.new }
     ensures below { steps.new ≤ steps.old + (place_count total.old + 1) }
 {
     if a.is_constant() {
@@ -235,6 +241,7 @@ fn quotient<L: Ledger>(
     requires second { IsWithin (place_count total.old) b.now }
     ensures blank { OnOk result (StaysBlank total.old total.new) }
     ensures outcome { IfOk result (λ o. Operates (place_count total.old) Quotient (form_line a.now ∷ form_line b.now ∷ []) o) }
+    ensures above { steps.old ≤ steps.new }
     ensures below { steps.new ≤ steps.old + (place_count total.old + 1) }
 {
     if !b.is_constant() {
@@ -260,6 +267,7 @@ pub(crate) fn operate<L: Ledger>(
     requires within { AreWithin (place_count total.old) operands.now }
     ensures blank { OnOk result (StaysBlank total.old total.new) }
     ensures outcome { IfOk result (λ o. Operates (place_count total.old) class (lines_of_forms operands.now) o) }
+    ensures above { steps.old ≤ steps.new }
     ensures below { steps.new ≤ steps.old + (place_count total.old + 1) * length operands.now }
 {
     match class {

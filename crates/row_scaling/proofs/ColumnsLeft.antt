@@ -11,10 +11,11 @@ use Rattle.mps_model.specs.Valid.{IsOtherColumn, HasEntries, entry_count}
 use Rattle.exported_program.specs.Program.{ScaledRow, columns_of, column_entries, or_obj_zero, entries_of, with_entry, nonzero, z_name, z_variable}
 use Rattle.exact_numbers.specs.declared.dec.Dec.{Dec}
 use Rattle.exact_numbers.specs.Values.{dec_value}
+use Rattle.file_meaning.specs.LinearFile.{variable_name}
 use Rattle.row_scaling.specs.declared.row.Tie.{Tie}
 use Rattle.row_scaling.specs.Rows.{TermOf}
 use Rattle.row_scaling.specs.Scaled.{ScaledValue, IsScaled, term_count}
-use Rattle.row_scaling.specs.Exported.{program_objective, program_rows, program_variables, tied_variables, column_name}
+use Rattle.row_scaling.specs.Exported.{program_objective, program_rows, program_variables, tied_variables}
 use Rattle.row_scaling.specs.Columns.{entry_value, entries_in_column, tied_count, total_of}
 use Rattle.row_scaling.specs.Filling.{or_first, column_from, with_column, AreRising}
 use Rattle.row_scaling.specs.Filled.{AreFilled}
@@ -77,10 +78,10 @@ unfolding columns_of
 columns_none o rows j = refl
 
 -- names
-column_names_apart : (i k : ℕ) → i < 2 ^ 32 → k < 2 ^ 32 → (i ≡ k → ⊥) → column_name i ≢ column_name k
+column_names_apart : (i k : ℕ) → i < 2 ^ 32 → k < 2 ^ 32 → (i ≡ k → ⊥) → variable_name i ≢ variable_name k
 column_names_apart i k a b apart e = apart (decimal_injective i k (omega arith) (omega arith) (ap (drop 1) e))
 
-column_name_other : (i : ℕ) → column_name i ≢ z_name
+column_name_other : (i : ℕ) → variable_name i ≢ z_name
 column_name_other i e = let f : 120 ≡ 122 = ap (λ t. get_or t 0 0) e in omega (arith, f)
 
 some_entries : (ts : List TermOf) (z : Dec) → 0 < length (or_first (record { row = 0; value = z }) (map entry_of ts))
@@ -97,7 +98,7 @@ module _ {V : Type 0} (items : V → List TermOf) (s : ScaledValue) (cols : List
     pub count : length now.columns ≡ j
     pub value : map (column_with dec_value) now.columns ++ columns_of (program_objective s) (program_rows s) j (left_variables s j) ≡ columns_of (program_objective s) (program_rows s) 0 (program_variables s)
     pub few : entry_count now.columns + total_of items (drop j cols) ≤ total_of items cols + j
-    pub other : (k : ℕ) → j ≤ k → k < 2 ^ 32 → All (IsOtherColumn (column_name k)) now.columns
+    pub other : (k : ℕ) → j ≤ k → k < 2 ^ 32 → All (IsOtherColumn (variable_name k)) now.columns
     pub not_z : All (IsOtherColumn z_name) now.columns
     pub filled : All HasEntries now.columns
 
@@ -108,7 +109,7 @@ module _ {V : Type 0} (items : V → List TermOf) (s : ScaledValue) (cols : List
         count = ap length e;
         value = ap (λ cs. map (column_with dec_value) cs ++ columns_of (program_objective s) (program_rows s) 0 (program_variables s)) e;
         few = omega (arith, ap (λ (cs : List (Column Dec)). entry_count cs) e);
-        other = λ k l m. subst (All (IsOtherColumn (column_name k))) (sym e) (λ i d h. absurd (omega arith));
+        other = λ k l m. subst (All (IsOtherColumn (variable_name k))) (sym e) (λ i d h. absurd (omega arith));
         not_z = subst (All (IsOtherColumn z_name)) (sym e) (λ i d h. absurd (omega arith));
         filled = subst (All HasEntries) (sym e) (λ i d h. absurd (omega arith));
       }
@@ -150,7 +151,7 @@ module _ {V : Type 0} (items : V → List TermOf) (s : ScaledValue) (cols : List
         )
 
     pub column_put : (old : Mps Dec) (v : Variable) → AreColumnsLeft old now j → j < 2 ^ 32 → j < length cols → c ≡ get_or cols j c → map entry_value (items c) ≡ entries_in_column s j → dec_value z ≡ zero_ℚ →
-        left_variables s j ≡ v ∷ left_variables s (j + 1) → name ≡ column_name j → name ≡ v.name → marked ≡ v.whole → AreColumnsLeft old new (j + 1)
+        left_variables s j ≡ v ∷ left_variables s (j + 1) → name ≡ variable_name j → name ≡ v.name → marked ≡ v.whole → AreColumnsLeft old new (j + 1)
     column_put old v a small inside is terms none left own n m =
         let total : total_of items (drop j cols) ≡ length (items c) + total_of items (drop (j + 1) cols) =
         ap (total_of items) (rest_of cols j c inside is) ∙ sum_by-cons (λ c. length (items c)) c (drop (j + 1) cols) in
@@ -159,12 +160,12 @@ module _ {V : Type 0} (items : V → List TermOf) (s : ScaledValue) (cols : List
           count = count_put a.count;
           value = value_put v (left_variables s (j + 1)) terms none n m ∙ ap (λ vs. map (column_with dec_value) now.columns ++ columns_of (program_objective s) (program_rows s) j vs) (sym left) ∙ a.value;
           few = omega (arith, entries_put, total, a.few);
-          other = λ k l h. other_put (column_name k) (a.other k (omega arith) h) (λ f. column_names_apart j k small h (λ g. omega (arith, g, l)) (sym own ∙ f));
+          other = λ k l h. other_put (variable_name k) (a.other k (omega arith) h) (λ f. column_names_apart j k small h (λ g. omega (arith, g, l)) (sym own ∙ f));
           not_z = other_put z_name a.not_z (λ f. column_name_other j (sym own ∙ f));
           filled = filled_put a.filled;
         }
 
-  pub can_put_column : (old now : Mps Dec) (j : ℕ) (name : List ℕ) → AreColumnsLeft old now j → j < 2 ^ 21 → name ≡ column_name j → CanAddColumn now name
+  pub can_put_column : (old now : Mps Dec) (j : ℕ) (name : List ℕ) → AreColumnsLeft old now j → j < 2 ^ 21 → name ≡ variable_name j → CanAddColumn now name
   can_put_column old now j name a small n =
       record { few = omega (arith, a.count, small); new = subst (λ t. All (IsOtherColumn t) now.columns) (sym n) (a.other j (omega arith) (omega arith)) }
 

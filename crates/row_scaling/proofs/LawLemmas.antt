@@ -4,8 +4,9 @@ use Rattle.fractions.proofs.Arithmetic.{*ℚ_one, *ℚ-neg}
 use Rattle.fractions.proofs.Ring.{ring, v, num, ◌⊖◌, ◌⊗◌, opp}
 use Rattle.linear_programs.specs.Linear.{Form}
 use Rattle.exported_program.specs.Program.{program_of, scaled_row, tie, then_at, zdef_name}
+use Rattle.linear_fold.specs.Programs.{variables_from}
 use Rattle.row_scaling.specs.Scaled.{ScaledValue}
-use Rattle.row_scaling.specs.Exported.{exported_as, exported_from, form_of, tied_row, tied_rows, tied_variables, written_form, variables_from}
+use Rattle.row_scaling.specs.Exported.{exported_as, exported_from, form_of, tied_row, tied_rows, tied_variables, written_form}
 
 pub plain_as : (s : ScaledValue) → s.tie ≡ None → exported_as s ≡ program_of (exported_from 0 s.rows) (form_of s.objective) (variables_from 0 s.bounds s.kinds) s.maximise
 unfolding exported_as

@@ -1,11 +1,14 @@
-use Rattle.std.proofs.Common.{◌≡◌, ◌^◌, ◌∙◌, sym, ap, refl, arith, subst, ⊎_elim, ℤ, pos, ◌*ℤ◌, Bool, true, false, ◌↔◌, IsTrue, Some, None, mul-one, ◌<ℤ◌, int_lt, nat_eq}
+use Rattle.std.proofs.Common.{◌≡◌, ◌<◌, ◌⊎◌, unsigned_abs, ◌^◌, ◌∙◌, sym, ap, refl, arith, subst, ⊎_elim, ℤ, pos, ◌*ℤ◌, Bool, true, false, ◌↔◌, IsTrue, Some, None, mul-one, ◌<ℤ◌, int_lt, nat_eq}
 use Rattle.std.proofs.lemmas.Int.{ints}
 use Rattle.std.specs.Ordering.{int_cmp, ordering_index}
 use Rattle.std.specs.declared.cmp.Ordering.{Ordering}
-use Rattle.fractions.specs.Rational.{ℚ, zero_ℚ, one_ℚ, decimal_value, above_zero, below_zero}
+use Rattle.fractions.specs.Fits.{fits, is_small}
+use Rattle.fractions.specs.Rational.{ℚ, zero_ℚ, one_ℚ, whole, over, decimal_value, above_zero, below_zero}
 use Rattle.fractions.proofs.Signed.{times_cancel, times_twice}
 use Rattle.fractions.proofs.Values.{HasValue, same_crosswise, equal_tops, same_value, whole_value}
-use Rattle.fractions.proofs.Arithmetic.{decimal_value_lem}
+use Rattle.fractions.proofs.Arithmetic.{decimal_value_lem, over_parts}
+use Rattle.linear_fold.proofs.FracLemmas.{both_true}
+use Rattle.std.proofs.lemmas.Bool.{ltb-true}
 use Rattle.exported_program.specs.Program.{nonzero}
 use Rattle.exported_program.proofs.Sides.{nonzero_cases}
 use Rattle.exact_numbers.specs.declared.dec.Dec.{Dec}
@@ -62,3 +65,19 @@ pub by_order : (b : Bool) (o : Ordering) (x y : ℚ) → b ≡ nat_eq (ordering_
 by_order b o x y test order =
     let is = test ∙ ap (λ o. nat_eq (ordering_index o) 1) order in
     (λ t. same_crosswise x y (equal_out _ _ (sym is ∙ t)), λ e. is ∙ ap (λ o. nat_eq (ordering_index o) 1) (equal_z _ _ (ap (λ z. z.top *ℤ pos y.bottom) e ∙ ap (λ z. y.top *ℤ pos z.bottom) (sym e))))
+
+-- ---- whole numbers
+over_one : (z : ℤ) → over z 1 ≡ whole z
+unfolding whole
+over_one z = over_parts (whole z)
+
+pub whole_fits : (z : ℤ) → unsigned_abs z < 2 ^ 127 → fits (over z 1) ≡ true
+unfolding whole
+whole_fits z h = ap fits (over_one z) ∙ both_true (is_small (unsigned_abs z)) (is_small 1) (grind (arith, ltb-true)) refl
+
+pub over_one_is : (x : ℚ) (z : ℤ) → x ≡ over z 1 → x ≡ whole z
+over_one_is x z e = e ∙ over_one z
+
+pub one_not_none : (z : ℤ) → (pos 1 ≡ pos 0) ⊎ (fits (over z 1) ≡ false) → unsigned_abs z < 2 ^ 127 → ⊥
+one_not_none z h small =
+    ⊎_elim (λ (e : pos 1 ≡ pos 0). omega (arith, ints, e)) (λ (e : fits (over z 1) ≡ false). (let clash : true ≡ false = sym (whole_fits z small) ∙ e in cc)) h

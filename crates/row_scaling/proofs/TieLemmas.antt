@@ -10,8 +10,9 @@ use Rattle.mps_model.specs.Mps.{Entry}
 use Rattle.exported_program.specs.Program.{ScaledRow, nonzero, with_entry, entries_of, then_at, z_form}
 use Rattle.exact_numbers.specs.declared.dec.Dec.{Dec}
 use Rattle.exact_numbers.specs.Values.{dec_value}
+use Rattle.file_meaning.specs.LinearFile.{coefficient_of}
 use Rattle.row_scaling.specs.declared.row.Tie.{Tie}
-use Rattle.row_scaling.specs.Rows.{TermOf, IsSparse, IsBelow, coefficient_of}
+use Rattle.row_scaling.specs.Rows.{TermOf, IsSparse, IsBelow}
 use Rattle.row_scaling.specs.Scaled.{ScaledValue, IsScaled, IsTie, term_count}
 use Rattle.row_scaling.specs.Exported.{exported_from, form_of, tied_row, tied_rows, written_form}
 use Rattle.row_scaling.specs.Columns.{terms_in, entry_value, entries_in_column, column_count, tied_count, IsAdded, AreRowsAdded, AreColumns, total_of}

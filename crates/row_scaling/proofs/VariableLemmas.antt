@@ -11,10 +11,13 @@ use Rattle.exact_numbers.specs.Values.{dec_value}
 use Rattle.nl_model.specs.declared.interval.Interval.{Interval}
 use Rattle.nl_model.specs.declared.kind.Kind.{Kind}
 use Rattle.nl_model.specs.declared.kind.Kind.TheVariants.{Continuous}
+use Rattle.linear_fold.specs.Programs.{variables_from}
+use Rattle.file_meaning.specs.LinearFile.{variable_name}
+use Rattle.file_meaning.specs.Meaning.{is_whole_kind, interval_of}
 use Rattle.row_scaling.specs.declared.row.Tie.{Tie}
-use Rattle.row_scaling.specs.Rows.{side_value, sides_value}
+use Rattle.row_scaling.specs.Rows.{side_value}
 use Rattle.row_scaling.specs.Scaled.{ScaledValue}
-use Rattle.row_scaling.specs.Exported.{variables_from, tied_variables, program_variables, column_name, is_whole}
+use Rattle.row_scaling.specs.Exported.{tied_variables, program_variables}
 use Rattle.row_scaling.specs.Filling.{AreBoundsAdded}
 use Rattle.row_scaling.proofs.RowLemmas.{rest_of}
 use Rattle.row_scaling.proofs.ColumnLemmas.{same_default}
@@ -25,7 +28,7 @@ abbrev pub left_variables : ScaledValue → ℕ → List Variable
 left_variables s j = variables_from j (drop j s.bounds) (drop j s.kinds) ++ tied_variables s.tie
 
 abbrev pub variable_of : ℕ → Interval → Kind → Variable
-variable_of j b k = record { name = column_name j; bound = sides_value b; whole = is_whole k }
+variable_of j b k = record { name = variable_name j; bound = interval_of b; whole = is_whole_kind k }
 
 pub left_more : (s : ScaledValue) (j : ℕ) (b : Interval) (k : Kind) → j < length s.bounds → j < length s.kinds → b ≡ get_or s.bounds j b → k ≡ get_or s.kinds j k → left_variables s j ≡ variable_of j b k ∷ left_variables s (j + 1)
 left_more s j b k h l first second =

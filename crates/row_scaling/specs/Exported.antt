@@ -1,31 +1,22 @@
 -- The MPS program that a scaled linear program is exported as.
-use Rattle.std.specs.Prelude.{ℕ, suc, Bool, true, false, ℤ, List, [], ◌∷◌, ◌++◌, length, Option, Some, None}
-use Rattle.std.specs.Fmt.{decimal}
+use Rattle.std.specs.Prelude.{ℕ, suc, ℤ, List, [], ◌∷◌, ◌++◌, length, Option, Some, None}
 use Rattle.fractions.specs.Rational.{ℚ, whole, neg_ℚ}
 use Rattle.linear_programs.specs.Linear.{Form, Variable}
 use Rattle.mps_model.specs.Mps.{Mps}
 use Rattle.exported_program.specs.Program.{ScaledRow, program_of, then_at, z_form, z_variable, zdef_name}
 use Rattle.exact_numbers.specs.Values.{dec_value}
-use Rattle.nl_model.specs.declared.interval.Interval.{Interval}
-use Rattle.nl_model.specs.declared.kind.Kind.{Kind}
-use Rattle.nl_model.specs.declared.kind.Kind.TheVariants.{Continuous, Binary, Integer}
+use Rattle.file_meaning.specs.LinearFile.{coefficient_of, row_name}
+use Rattle.file_meaning.specs.Meaning.{interval_of}
+use Rattle.linear_fold.specs.Programs.{variables_from}
 use Rattle.row_scaling.specs.declared.row.FactoredRow.{FactoredRow}
 use Rattle.row_scaling.specs.declared.row.ScaledObjective.{ScaledObjective}
 use Rattle.row_scaling.specs.declared.row.Tie.{Tie}
-use Rattle.row_scaling.specs.Rows.{RowValue, coefficient_of, sides_value}
+use Rattle.row_scaling.specs.Rows.{RowValue}
 use Rattle.row_scaling.specs.Scaled.{ScaledValue}
-
--- c and the number
-abbrev pub row_name : ℕ → List ℕ
-row_name i = 99 ∷ decimal i
-
--- x and the number
-abbrev pub column_name : ℕ → List ℕ
-column_name j = 120 ∷ decimal j
 
 -- the scaled row of constraint i
 abbrev pub scaled_row_of : ℕ → RowValue → ScaledRow
-scaled_row_of i r = record { name = row_name i; coefficient = coefficient_of r.terms; side = sides_value r.side }
+scaled_row_of i r = record { name = row_name i; coefficient = coefficient_of r.terms; side = interval_of r.side }
 
 -- the exported rows in order, of which the first is that of constraint i
 abbrev pub exported_from : ℕ → List (Option FactoredRow) → List ScaledRow
@@ -35,17 +26,6 @@ exported_from i (Some r ∷ rs) = scaled_row_of i r.row ∷ exported_from (suc i
 
 abbrev pub form_of : ScaledObjective → Form
 form_of o = record { constant = dec_value o.constant; coefficient = coefficient_of o.terms }
-
-abbrev pub is_whole : Kind → Bool
-is_whole Continuous = false
-is_whole Binary = true
-is_whole Integer = true
-
--- the variables in order, of which the first is variable j
-abbrev pub variables_from : ℕ → List Interval → List Kind → List Variable
-variables_from j [] ks = []
-variables_from j (b ∷ bs) [] = []
-variables_from j (b ∷ bs) (k ∷ ks) = record { name = column_name j; bound = sides_value b; whole = is_whole k } ∷ variables_from (suc j) bs ks
 
 -- g times the objective, less g times z, is 0: z is variable n, and the form is the objective times g
 abbrev pub tied_row : ℕ → ℤ → Form → ScaledRow

@@ -1,9 +1,7 @@
 -- Scaled rows as data, and their values.
-use Rattle.std.specs.Prelude.{◌≡◌, ◌≢◌, ℕ, suc, ◌<◌, ◌≤◌, nat_eq, cond, IsTrue, List, [], ◌∷◌, Option, All}
+use Rattle.std.specs.Prelude.{◌≡◌, ◌≢◌, ℕ, suc, ◌<◌, ◌≤◌, IsTrue, List, [], ◌∷◌, Option, All}
 use Rattle.std.specs.Option.{option_map}
 use Rattle.fractions.specs.Rational.{ℚ, zero_ℚ}
-use Rattle.fractions.specs.Sums.{sum_over}
-use Rattle.linear_programs.specs.Linear.{Interval as Sides}
 use Rattle.exported_program.specs.Program.{has_side, range_of}
 use Rattle.exact_numbers.specs.declared.dec.Dec.{Dec}
 use Rattle.exact_numbers.specs.Values.{dec_value}
@@ -12,10 +10,6 @@ use Rattle.nl_model.specs.declared.interval.Interval.{Interval}
 -- a variable and its coefficient
 abbrev pub TermOf : Type 0
 TermOf = ℕ × Dec
-
--- the coefficient that terms give to variable j
-unfoldable pub coefficient_of : List TermOf → ℕ → ℚ
-coefficient_of ts j = sum_over (λ t. cond (nat_eq t.0 j) (dec_value t.1) zero_ℚ) ts
 
 -- the variables rise, the first being at least n, and no coefficient is 0
 abbrev pub IsSparse : ℕ → List TermOf → Type 0
@@ -29,9 +23,6 @@ IsBelow n ts = All (λ t. t.0 < n) ts
 -- the value of a side
 abbrev pub side_value : Option Dec → Option ℚ
 side_value s = option_map dec_value s
-
-abbrev pub sides_value : Interval → Sides
-sides_value s = record { lower = side_value s.lo; upper = side_value s.hi }
 
 -- a row times its factor: its coefficients, its sides less the constant, and their difference where both are there and differ
 pub record RowValue : Type 0 where

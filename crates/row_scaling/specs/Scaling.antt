@@ -1,5 +1,5 @@
 -- What scaling the rows of a folded file answers.
-use Rattle.std.specs.Prelude.{◌≡◌, ◌⊎◌, ℕ, ◌<◌, ◌^◌, ℤ, pos, List, length, IsTrue, Option, Some, None}
+use Rattle.std.specs.Prelude.{◌≡◌, ◌⊎◌, ℕ, ℤ, pos, IsTrue, Option, Some, None}
 use Rattle.std.specs.Option.{option_map}
 use Rattle.linear_programs.specs.Linear.{Linear}
 use Rattle.exported_program.specs.Export.{ExportFits, IsDecimal, ObjectiveFits, IsRowTooWide, IsObjectiveTooWide, factor_of_row, factor_of_objective}

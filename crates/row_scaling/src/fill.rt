@@ -2,8 +2,9 @@
 ghost use Rattle.std.specs.Prelude.{◌≡◌, ℕ, ◌+◌, ◌<◌, ◌≤◌, ◌^◌, ◌++◌, ◌∷◌, [], length, OnOk, All, map};
 ghost use Rattle.mps_model.specs.Built.{CanAddColumn};
 ghost use Rattle.mps_model.specs.Valid.{entry_count};
+ghost use Rattle.file_meaning.specs.Meaning.{is_whole_kind};
 ghost use Rattle.row_scaling.specs.Columns.{AreColumns, column_count, entries_in_column, total_of};
-ghost use Rattle.row_scaling.specs.Exported.{is_whole, program_rows};
+ghost use Rattle.row_scaling.specs.Exported.{program_rows};
 ghost use Rattle.row_scaling.specs.Filled.{AreFilled};
 ghost use Rattle.row_scaling.specs.Filling.{AreRising, column_from, with_column};
 ghost use Rattle.row_scaling.specs.Scaled.{term_count};
@@ -19,7 +20,7 @@ use text_base::Name;
 
 // Whether a variable of this kind is whole.
 fn is_whole(kind: Kind) -> bool
-    ensures { result ≡ is_whole kind }
+    ensures { result ≡ is_whole_kind kind }
 {
     match kind {
         Kind::Continuous => false,

@@ -2,10 +2,10 @@
 ghost use Rattle.std.specs.Prelude.{◌≡◌, ◌↔◌, IsTrue};
 ghost use Rattle.std.specs.Option.{option_map};
 ghost use Rattle.fractions.specs.Rational.{zero_ℚ, one_ℚ, neg_ℚ};
-ghost use Rattle.exact_numbers.specs.Values.{dec_value};
+ghost use Rattle.exact_numbers.specs.Values.{dec_value, frac_value};
 ghost use Rattle.exported_program.specs.Program.{nonzero};
 
-use exact_numbers::Dec;
+use exact_numbers::{Dec, Frac};
 use std::cmp::Ordering;
 
 // The number, but none where it is 0.
@@ -23,6 +23,12 @@ pub(crate) fn negated(d: Dec) -> Dec
 
 pub(crate) fn same_value(a: Dec, b: Dec) -> bool
     ensures { IsTrue result ↔ (dec_value a ≡ dec_value b) }
+{
+    a.order(b) == Ordering::Equal
+}
+
+pub(crate) fn same_fraction(a: Frac, b: Frac) -> bool
+    ensures { IsTrue result ↔ (frac_value a ≡ frac_value b) }
 {
     a.order(b) == Ordering::Equal
 }

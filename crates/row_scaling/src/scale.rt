@@ -4,8 +4,10 @@ ghost use Rattle.text_base.specs.Stopped.{IfFault};
 ghost use Rattle.linear_fold.specs.Programs.{linear_value};
 ghost use Rattle.row_scaling.specs.Scaling.{HasNoScaleFault, HasScaleFault, IsScaledOf};
 
+use crate::objectives::{TiedObjective, scaled_objective};
 use crate::scale_fault::ScaleFault;
 use crate::scaled::Scaled;
+use crate::scaled_rows::scaled_rows;
 use linear_fold::Linear;
 use std::alloc::Global;
 use text_base::Stop;
@@ -16,7 +18,20 @@ pub fn scale_rows(alloc: Global, linear: &Linear) -> Result<Scaled, Stop<ScaleFa
     ensures fine { OnOk result (HasNoScaleFault (linear_value linear.now)) }
     ensures fault { IfErr result (λ stop. IfFault stop (λ fault. HasScaleFault (linear_value linear.now) fault)) }
 {
-    let _ = alloc;
-    let _ = linear;
-    Err(Stop::Memory)
+    let rows = match scaled_rows(alloc, linear) {
+        Ok(rows) => rows,
+        Err(stop) => return Err(stop),
+    };
+    let parts = match scaled_objective(alloc, linear.objective()) {
+        Ok(parts) => parts,
+        Err(Stop::Memory) => return Err(Stop::Memory),
+        Err(Stop::Fault(_)) => return Err(Stop::Fault(ScaleFault::ObjectiveTooWide)),
+    };
+    let mut bounds = Vec::new(alloc);
+    bounds.extend_from_slice(linear.bounds())?;
+    let mut kinds = Vec::new(alloc);
+    kinds.extend_from_slice(linear.kinds())?;
+    let TiedObjective { objective, tie } = parts;
+    let maximise = linear.maximise();
+    Ok(Scaled::new(rows, objective, tie, maximise, bounds, kinds))
 }

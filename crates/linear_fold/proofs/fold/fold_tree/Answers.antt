@@ -27,6 +27,7 @@ loop-place-preserved g c =
           (let a : length (trees_of (drop (c.loop-place.place - 1) c.args.nodes.now)) ≡ length (with_node c.index-nodes-place.result trees) = ap (λ ns. length (trees_of ns)) here in
           omega (arith, got.size trees c.loop-place.invariant.many, longer));
       within = subst (λ es. AreWithin c.args.variables (forms_of es)) (sym top) got.within;
+      above = (let h = c.loop-place.invariant.above in let k = got.above in omega arith);
       blank = got.blank.blank;
       places = got.blank.places ∙ c.loop-place.invariant.places;
       below =

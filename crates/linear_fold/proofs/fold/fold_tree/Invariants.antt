@@ -12,6 +12,7 @@ invariant-loop-place g l =
       folded : (known : Point → Known) → AreKnown l.variables known l.slots → AreFolded known l.variables l.place (trees_of (drop l.place l.nodes)) (reverse l.stack.items);
       many : length (trees_of (drop l.place l.nodes)) ≡ length l.stack.items;
       within : AreWithin l.variables (forms_of (reverse l.stack.items));
+      above : l.fn.steps ≤ l.steps;
       blank : IsBlank l.total;
       places : place_count l.total ≡ l.variables;
       below : l.steps + (l.variables + 1) * length l.stack.items ≤ l.fn.steps + 2 * (l.variables + 1) * (length l.nodes - l.place);

@@ -1,8 +1,8 @@
 use Rattle.std.proofs.Common.{◌≡◌, ◌<◌, ◌∙◌, length, get_or, map, None, false, ap, sym, subst, arith}
 use Rattle.nl_model.specs.declared.interval.Interval.{Interval}
 use Rattle.nl_model.specs.declared.kind.Kind.TheVariants.{Continuous}
+use Rattle.file_meaning.specs.Meaning.{is_whole_kind}
 use Rattle.row_scaling.specs.Columns.{column_count, tied_count, entry_value, entries_in_column}
-use Rattle.row_scaling.specs.Exported.{is_whole}
 use Rattle.row_scaling.specs.Filling.{AreRising, column_from, with_column}
 use Rattle.row_scaling.proofs.VariableLemmas.{left_more, there, variable_of}
 use Rattle.row_scaling.proofs.ColumnsLeft.{column_put, rising_enough, all_filled, all_filled_tied}
@@ -31,7 +31,7 @@ loop-j-preserved c =
     let e = c.in_ok-add_column.ensures ∙ ap (λ es. with_column c.loop-j.builder (column_from c.in_ok-name.name c.is_whole.result es c.zero.result)) c.deref.ensures.value in
     column_put (λ c. c.items) s c.args.columns.now c.loop-j.builder c.add_column.new.builder j c.index-columns-j.result c.in_ok-name.name c.is_whole.result c.zero.result e c.args.builder.now (variable_of j b k) c.loop-j.invariant
     (omega (arith, bound_there, c.kinds-kinds.ensures.scaled.few_columns)) (omega (arith, inside, c.requires.columns.count)) c.index-columns-j.is terms c.zero.ensures
-    (left_more s j b k bound_there kind_there (there s.bounds j no_sides bound_there) (there s.kinds j Continuous kind_there)) c.in_ok-name.ensures c.in_ok-name.ensures (c.is_whole.ensures ∙ ap is_whole (ap (λ ks. get_or ks j Continuous) c.kinds-kinds.ensures.value))
+    (left_more s j b k bound_there kind_there (there s.bounds j no_sides bound_there) (there s.kinds j Continuous kind_there)) c.in_ok-name.ensures c.in_ok-name.ensures (c.is_whole.ensures ∙ ap is_whole_kind (ap (λ ks. get_or ks j Continuous) c.kinds-kinds.ensures.value))
 
 pub add_column-requires-2-clause-rising : goal.add_column-requires-2-clause-rising
 add_column-requires-2-clause-rising c =

@@ -1,0 +1,16 @@
+use Rattle.std.proofs.Common.{◌-◌, ◌≡◌, ◌≤◌}
+use Rattle.text_base.specs.Desk.{OnlyInput}
+use Rattle.bridge_tool.specs.declared.transfer.TheConstants.{LIMIT}
+use Rattle.bridge_tool.proofs.Known.{IsFedSo}
+use Rattle.bridge_tool.proofs.transfer.feed_rest.Given as goal
+
+abbrev pub invariant-reading : goal.invariant-reading
+invariant-reading g l = record {
+  within : l.taken ≤ LIMIT;
+  feeds : IsFedSo (g.D.Desk.meaning l.initial.desk).left (g.D.Desk.meaning l.desk).left l.taken (g.R.Feed.fed l.initial.reader) (g.R.Feed.fed l.reader);
+  count : (g.D.Desk.meaning l.desk).input_faults ≡ (g.D.Desk.meaning l.initial.desk).input_faults;
+  rest : OnlyInput (g.D.Desk.meaning l.initial.desk) (g.D.Desk.meaning l.desk);
+}
+
+abbrev pub decreases-reading : goal.decreases-reading
+decreases-reading g l = LIMIT - l.taken

@@ -1,0 +1,49 @@
+-- Why a text is refused: its first fault, and the line that is told.
+use Rattle.std.specs.Prelude.{◌≡◌, ◌⊎◌, ℕ, List, Result, Ok, Err, Some, None}
+use Rattle.std.specs.Global.{Vec}
+use Rattle.text_base.specs.declared.stop.Stop.{Stop}
+use Rattle.text_base.specs.declared.stop.Stop.TheVariants.{Fault, Memory}
+use Rattle.file_meaning.specs.FoldFaults.{fold_fault}
+use Rattle.file_meaning.specs.LinearFile.{linear_of}
+use Rattle.linear_fold.specs.FoldedFaults.{first_fold_fault}
+use Rattle.linear_fold.specs.declared.fold_fault.FoldFault.{FoldFault}
+use Rattle.nl_segments.specs.Grammar.{NlValue}
+use Rattle.nl_segments.specs.Reader.{IsNl, HasNlFault}
+use Rattle.nl_segments.specs.declared.fault.NlFault.{NlFault}
+use Rattle.row_scaling.specs.Scaling.{HasScaleFault}
+use Rattle.row_scaling.specs.declared.scale_fault.ScaleFault.{ScaleFault}
+use Rattle.bridge_tool.specs.Export.{IsExported}
+use Rattle.bridge_tool.specs.Told.{nl_line, fold_line, scale_line}
+
+-- the text itself has a fault
+pub record HasTextRefusal (text line : List ℕ) : Type 0 where
+  pub fault : NlFault
+  pub first : HasNlFault text fault
+  pub told : line ≡ nl_line fault
+
+-- the text says a file that does not fold with objective k
+pub record HasFoldRefusal (text : List ℕ) (k : ℕ) (line : List ℕ) : Type 0 where
+  pub value : NlValue
+  pub fault : FoldFault
+  pub read : IsNl text value
+  pub first : first_fold_fault value.file k ≡ Some fault
+  pub told : line ≡ fold_line value.places fault
+
+-- it folds, and a row or the objective has no decimal program
+pub record HasScaleRefusal (text : List ℕ) (k : ℕ) (line : List ℕ) : Type 0 where
+  pub value : NlValue
+  pub fault : ScaleFault
+  pub read : IsNl text value
+  pub folded : fold_fault value.file k ≡ None
+  pub first : HasScaleFault (linear_of value.file k) fault
+  pub told : line ≡ scale_line k fault
+
+-- a text with objective k is refused with this line
+abbrev pub IsRefused : List ℕ → ℕ → List ℕ → Type 0
+IsRefused text k line = HasTextRefusal text line ⊎ HasFoldRefusal text k line ⊎ HasScaleRefusal text k line
+
+-- what judging a text with objective k answers: bytes to write, or a line to tell; of want of memory nothing is said
+abbrev pub Judges : List ℕ → ℕ → Result (Vec ℕ) (Stop (Vec ℕ)) → Type 0
+Judges text k (Ok bytes) = IsExported text k bytes.items
+Judges text k (Err (Fault line)) = IsRefused text k line.items
+Judges text k (Err Memory) = Unit {0}

@@ -1,0 +1,44 @@
+// How a command ends.
+ghost use Rattle.std.specs.Prelude.{◌≡◌};
+ghost use Rattle.bridge_tool.specs.Answer.{status_of, told_by};
+
+/// How a command ends; with the line of a refusal.
+#[derive(Drop)]
+pub(crate) enum Answer {
+    Done,
+    Refused(Vec<u8>),
+    BadWords,
+    InputFault,
+    OutputFault,
+    NoMemory,
+}
+
+impl Answer {
+    /// The status that the program ends with.
+    pub(crate) fn status(&self) -> u8
+        ensures { result ≡ status_of self.now }
+    {
+        match self {
+            Answer::Done => 0,
+            Answer::Refused(_) => 2,
+            Answer::BadWords => 3,
+            Answer::InputFault => 4,
+            Answer::OutputFault => 5,
+            Answer::NoMemory => 6,
+        }
+    }
+
+    /// The line to tell, which is empty where nothing is told.
+    pub(crate) fn line(&self) -> &[u8]
+        ensures { result.now ≡ told_by self.now }
+    {
+        match self {
+            Answer::Done => b"",
+            Answer::Refused(line) => line,
+            Answer::BadWords => b"bad words\n",
+            Answer::InputFault => b"input fault\n",
+            Answer::OutputFault => b"output fault\n",
+            Answer::NoMemory => b"no memory\n",
+        }
+    }
+}

@@ -1,0 +1,160 @@
+-- Trees with their terms: nodes, terms that are added one by one, and what they come to.
+use Rattle.std.proofs.Common.{◌≡◌, ◌≢◌, ℕ, zero, suc, ◌+◌, ◌-◌, ◌*◌, ◌<◌, ◌≤◌, ◌∙◌, sym, ap, ap₂, refl, subst, arith, Bool, true, false, ◌&&◌, Option, Some, None, IfSome, Result, Ok, Err, List, [], ◌∷◌, ◌++◌, map, length, length-append, All, get_or, drop, drop-cons, IsTrue, pos}
+use Rattle.std.specs.Option.{option_or, option_map_or}
+use Rattle.std.proofs.lemmas.List.Elements.{All-head, All-tail}
+use Rattle.std.proofs.Math.Nat.{mul-le-mul_left}
+use Rattle.text_base.specs.declared.stop.Stop.{Stop}
+use Rattle.text_base.specs.declared.stop.Stop.TheVariants.{Fault as Stopped, Memory}
+use Rattle.exact_numbers.specs.declared.frac.Frac.{Frac}
+use Rattle.exact_numbers.specs.declared.dec.Dec.{Dec}
+use Rattle.fractions.specs.Rational.{ℚ, zero_ℚ, one_ℚ, ◌+ℚ◌, ◌*ℚ◌, decimal_value}
+use Rattle.fractions.proofs.Arithmetic.{*ℚ_zero, +ℚ_zero}
+use Rattle.exact_numbers.proofs.Bridge.{zero_decimal}
+use Rattle.fractions.specs.Fits.{fits}
+use Rattle.nl_meaning.specs.declared.Fault.{Fault}
+use Rattle.nl_meaning.specs.declared.Reason.{Reason}
+use Rattle.nl_meaning.specs.Lines.{Line, line_value, line_by}
+use Rattle.nl_meaning.specs.Faults.{constant_line, line_sum, line_scaled, fault_at, too_wide_unless, line_of, line_with, line_with_terms, terms_fault, tree_fault, expression_fault, products_fit}
+use Rattle.nl_meaning.specs.Trees.{Point, Known, Tree, number, variable, defined, operator, Trees, none, more, LinearTerm, Expression, AreTermsBelow, tree_size, trees_size, tree_value, expression_value}
+use Rattle.nl_meaning.proofs.Linear.{terms_added}
+use Rattle.nl_meaning.proofs.LineLemmas.{apart-eqb, line_by_lem}
+use Rattle.nl_model.specs.declared.node.Node.{Node}
+use Rattle.nl_model.specs.declared.node.Node.TheVariants.{Num, Var, Defined, Op}
+use Rattle.nl_model.specs.File.{Term}
+use Rattle.nl_model.specs.Nodes.{IsPrefix, a_number, a_variable, a_defined, an_operation, ArePrefixes, no_tree, one_more}
+use Rattle.nl_model.specs.Rules.{AreTermsBelow as AreFileTermsBelow}
+use Rattle.file_meaning.specs.Expressions.{linear_term, linear_terms, zero_tree}
+use Rattle.linear_fold.specs.declared.entries.Entry.{Entry}
+use Rattle.linear_fold.specs.declared.entries.Entry.TheVariants.{Linear, Broken}
+use Rattle.linear_fold.specs.declared.form.Form.{Form}
+use Rattle.linear_fold.specs.declared.wide.Wide.{Wide}
+use Rattle.linear_fold.specs.Forms.{form_line, is_open, place_count, AddsScaled, IsZeroFrom}
+use Rattle.linear_fold.specs.Operates.{IsWithin, SumsTo, zero_line}
+use Rattle.linear_fold.specs.Folds.{AddsTerms, AreNodesWithin, AreTreesGiven, ComesToTerms, HasLineOf, IsEntryWithin, IsExpressionFolded, IsFolded, IsTreeGiven}
+use Rattle.linear_fold.proofs.Folding.{constant_lined, is_line_of, same_form}
+use Rattle.linear_fold.proofs.FracLemmas.{fits_zero}
+use Rattle.linear_fold.proofs.Operators.{FitsLine, copy_fits, multiplied, scaled_by_one}
+
+-- ---- nodes
+mutual
+  pub prefix_size : {t : Tree} {ns : List Node} → IsPrefix t ns → length ns ≡ tree_size t
+  prefix_size (a_number d) = refl
+  prefix_size (a_variable j) = refl
+  prefix_size (a_defined i) = refl
+  prefix_size (an_operation o ts ns k h) = let r = prefixes_size h in omega arith
+
+  prefixes_size : {ts : Trees} {ns : List Node} → ArePrefixes ts ns → length ns ≡ trees_size ts
+  prefixes_size no_tree = refl
+  prefixes_size (one_more t ns ts ms h k) = length-append ns ms ∙ ap₂ (λ a b. a + b) (prefix_size h) (prefixes_size k)
+
+pub nodes_append : (n : ℕ) (slots : List (Option Form)) (xs ys : List Node) → AreNodesWithin n slots xs → AreNodesWithin n slots ys → AreNodesWithin n slots (xs ++ ys)
+nodes_append n slots [] ys a b = b
+nodes_append n slots (x ∷ xs) ys a b = (a.0, nodes_append n slots xs ys a.1 b)
+
+mutual
+  pub prefix_within : (n : ℕ) (slots : List (Option Form)) {t : Tree} {ns : List Node} → IsPrefix t ns → IsTreeGiven n slots t → AreNodesWithin n slots ns
+  prefix_within n slots (a_number d) g = (tt, tt)
+  prefix_within n slots (a_variable j) g = (g, tt)
+  prefix_within n slots (a_defined i) g = (g, tt)
+  prefix_within n slots (an_operation o ts ns k h) g = (tt, prefixes_within n slots h g)
+
+  prefixes_within : (n : ℕ) (slots : List (Option Form)) {ts : Trees} {ns : List Node} → ArePrefixes ts ns → AreTreesGiven n slots ts → AreNodesWithin n slots ns
+  prefixes_within n slots no_tree g = tt
+  prefixes_within n slots (one_more t ns ts ms h k) g = nodes_append n slots ns ms (prefix_within n slots h g.0) (prefixes_within n slots k g.1)
+
+-- ---- a form on a pad
+module _ (z : Line) (empty : z ≡ zero_line) (a : Line) (k : ℚ) (one : k ≡ one_ℚ) (n : ℕ) (za : IsZeroFrom n a) where
+  pub put_line : (new : Line) → AddsScaled z k a new (Ok tt) → new ≡ a
+  put_line new h = (multiplied z empty a k n za new (Ok tt) h).1 ∙ scaled_by_one k a one
+
+  pub put_fits : (new : Line) (s : Stop Wide) (w : Wide) → s ≡ Stopped w → FitsLine a → AddsScaled z k a new (Err s) → ⊥
+  put_fits new s w is fit h =
+      let wide : products_fit n k a ≡ false = multiplied z empty a k n za new (Err (Stopped w)) (subst (λ e. AddsScaled z k a new (Err e)) is h) in
+      let clash : true ≡ false = sym (copy_fits n k a one fit) ∙ wide in
+      cc
+
+-- ---- terms
+option_or-none_right : (f : Option Fault) → option_or f None ≡ f
+option_or-none_right None = refl
+option_or-none_right (Some x) = refl
+
+pub add_more : (a new : Line) (i : ℕ) (t : LinearTerm) (ts : List LinearTerm) → (terms_fault a i (t ∷ []) ≡ None) × (new ≡ line_with_terms a (t ∷ [])) → (terms_fault new (i + 1) ts ≡ terms_fault a i (t ∷ ts)) × (line_with_terms new ts ≡ line_with_terms a (t ∷ ts))
+add_more a new i t ts h = (
+  ap (λ l. terms_fault l (i + 1) ts) h.1 ∙ ap (λ f. option_or f (terms_fault (line_with_terms a (t ∷ [])) (i + 1) ts)) (sym h.0 ∙ option_or-none_right _),
+  ap (λ l. line_with_terms l ts) h.1,
+)
+
+pub add_stop : (a new other : Line) (i : ℕ) (t : LinearTerm) (ts : List LinearTerm) (s : Stop Fault) → AddsTerms a i (t ∷ []) new (Err s) → AddsTerms a i (t ∷ ts) other (Err s)
+add_stop a new other i t ts (Stopped f) h = ap (λ r. option_or r (terms_fault (line_with_terms a (t ∷ [])) (i + 1) ts)) (sym (option_or-none_right _) ∙ h)
+add_stop a new other i t ts Memory h = tt
+
+pub stop_same : (a b new : Line) (i j : ℕ) (ts us : List LinearTerm) (s : Stop Fault) → terms_fault a i ts ≡ terms_fault b j us → AddsTerms a i ts new (Err s) → AddsTerms b j us new (Err s)
+stop_same a b new i j ts us (Stopped f) e h = sym e ∙ h
+stop_same a b new i j ts us Memory e h = tt
+
+pub term_at : (ts : List Term) (i : ℕ) (t : Term) → i < length ts → t ≡ get_or ts i t → drop i ts ≡ t ∷ drop (i + 1) ts
+term_at ts i t h e =
+    let next : suc i ≡ i + 1 = omega arith in
+    drop-cons ts i t h ∙ ap₂ ◌∷◌ (sym e) (ap (λ k. drop k ts) next)
+
+pub no_terms_left : (ts : List Term) (i : ℕ) → length ts ≤ i → drop i ts ≡ []
+no_terms_left [] zero h = refl
+no_terms_left [] (suc i) h = refl
+no_terms_left (f ∷ fs) zero h = absurd (omega arith)
+no_terms_left (f ∷ fs) (suc i) h = no_terms_left fs i (omega arith)
+
+pub terms_formed : (n : ℕ) (ts : List Term) → AreFileTermsBelow n ts → AreTermsBelow n (linear_terms ts)
+terms_formed n [] h = tt
+terms_formed n (t ∷ ts) h = (All-head (λ s. s.0 < n) t ts h, terms_formed n ts (All-tail (λ s. s.0 < n) t ts h))
+
+-- a line with terms of the first n variables has no coefficient from n on
+pub terms_zero : (n : ℕ) (a : Line) (ts : List LinearTerm) → IsZeroFrom n a → AreTermsBelow n ts → IsZeroFrom n (line_with_terms a ts)
+terms_zero n a [] z b = z
+terms_zero n a (t ∷ ts) z b =
+    terms_zero n (line_with a t.variable t.factor) ts
+    (λ j g. let low = b.0 in ap₂ (λ x y. x +ℚ t.factor *ℚ y) (z j g) (apart-eqb j t.variable (λ e. omega arith)) ∙ ap (λ x. zero_ℚ +ℚ x) (*ℚ_zero t.factor) ∙ +ℚ_zero zero_ℚ) b.1
+
+pub empty_list : (ts : List Term) → length ts ≡ 0 → ts ≡ []
+empty_list [] e = refl
+empty_list (t ∷ ts) e = absurd (omega arith)
+
+-- ---- a tree with its terms
+module _ (known : Point → Known) (n : ℕ) (tree : Tree) (form : Form) (folded : (tree_fault known n 0 tree ≡ None) × HasLineOf n (λ at. tree_value (known at) at tree) form) where
+  pub no_terms : (ts : List Term) → ts ≡ [] → IsExpressionFolded known n (record { tree = tree; terms = linear_terms ts }) (Linear form)
+  no_terms ts e =
+      subst (λ us. IsExpressionFolded known n (record { tree = tree; terms = linear_terms us }) (Linear form)) (sym e)
+      (ap (λ f. option_or f None) folded.0, terms_added n known (record { tree = tree; terms = [] }) (form_line form) tt folded.1)
+
+  pub some_terms : (ts : List LinearTerm) (first : ℕ) (e : Entry) → IsWithin n form → tree_size tree ≡ first → AreTermsBelow n ts → ComesToTerms (form_line form) first ts e → IsExpressionFolded known n (record { tree = tree; terms = ts }) e
+  some_terms ts first (Linear g) within size below h =
+      let line = is_line_of n (λ at. tree_value (known at) at tree) form within folded.1 in (
+        ap₂ option_or folded.0 (ap₂ (λ l i. terms_fault l i ts) (sym line) size ∙ h.0),
+        λ at. terms_added n known (record { tree = tree; terms = ts }) (form_line form) below folded.1 at ∙ ap (λ l. Some (line_value n l at)) (sym h.1),
+      )
+  some_terms ts first (Broken f) within size below h =
+      let line = is_line_of n (λ at. tree_value (known at) at tree) form within folded.1 in
+      ap₂ option_or folded.0 (ap₂ (λ l i. terms_fault l i ts) (sym line) size ∙ h)
+
+pub entry_within : (n : ℕ) (a : Line) (i : ℕ) (ts : List LinearTerm) (e : Entry) → IsZeroFrom n a → AreTermsBelow n ts → ComesToTerms a i ts e → IsEntryWithin n e
+entry_within n a i ts (Linear g) z b h = record { closed = h.2; zero_from = λ j k. ap (λ l. l.coef j) h.1 ∙ terms_zero n a ts z b j k }
+entry_within n a i ts (Broken f) z b h = tt
+
+-- the missing tree is the number 0
+pub zero_folded : (known : Point → Known) (n : ℕ) (f : Form) → form_line f ≡ constant_line zero_ℚ → IsFolded known n 0 zero_tree (Linear f)
+zero_folded known n f e =
+    let zero_is = zero_decimal (pos 0) in (
+      ap (λ b. fault_at 0 (too_wide_unless b)) (ap fits zero_is ∙ fits_zero),
+      same_form n _ f (constant_line zero_ℚ) e (λ at. ap Some zero_is ∙ constant_lined n zero_ℚ at),
+    )
+
+-- ---- steps
+pub same_bound : (n new from len size : ℕ) → len ≡ size → new + (n + 1) ≤ from + 2 * (n + 1) * len → new ≤ from + 2 * (n + 1) * size
+same_bound n new from len size e h = subst (λ k. new ≤ from + 2 * (n + 1) * k) e (omega arith)
+
+pub sum_bound : (n new from len : ℕ) → 0 < len → new ≤ from + (n + 1) + len → new ≤ from + 2 * (n + 1) * len
+sum_bound n new from zero some h = absurd (omega arith)
+sum_bound n new from (suc k) some h = omega arith
+
+pub not_empty : (ts : List Term) → (length ts ≡ 0 → ⊥) → 0 < length ts
+not_empty [] h = absurd (h refl)
+not_empty (t ∷ ts) h = omega arith

@@ -1,0 +1,35 @@
+use Rattle.std.proofs.Common.{◌≡◌, ◌-◌, ◌+◌, take, Some, set, sym, subst, subst₂, arith, length}
+use Rattle.nl_model.specs.declared.at.Owner.TheVariants.{Def as OfDefinition}
+use Rattle.linear_fold.specs.OwnerFolds.{AreSlotsOf}
+use Rattle.linear_fold.proofs.DefinitionLemmas.{definition_folded, definition_here, inside}
+use Rattle.linear_fold.proofs.definitions.fold_definition.Goals as goal
+
+pub overflow_sub-slot : goal.overflow_sub-slot
+overflow_sub-slot g c =
+    let here = definition_here c.args.file.now c.requires.file c.args.index c.args.definition.now c.requires.at in
+    let from = here.from in
+    let same = c.in_ok-form.ensures.folder.variables in
+    omega arith
+
+pub index_mut-requires : goal.index_mut-requires
+index_mut-requires g c =
+    let here = definition_here c.args.file.now c.requires.file c.args.index c.args.definition.now c.requires.at in
+    let from = here.from in
+    let below = here.below in
+    let same = c.in_ok-form.ensures.folder.variables in
+    let room = c.in_ok-form.ensures.folder.slots.room in
+    let len = c.fold_owner.new.folder.slots.ok.0 in
+    omega arith
+
+pub returns-clause-folder : goal.returns-clause-folder
+returns-clause-folder g c =
+    let h = c.in_ok-form.ensures.folder in
+    record {
+      variables = h.variables;
+      places = h.places;
+      blank = h.blank;
+      few = h.few;
+      slots =
+          subst (λ n. AreSlotsOf c.args.file.now (take (c.args.index + 1) c.args.file.now.definitions) (set c.fold_owner.new.folder.slots.items (c.args.definition.now.index - n) (Some c.in_ok-form.form))) (sym h.variables)
+          (definition_folded c.args.file.now c.requires.file c.args.index c.args.definition.now c.requires.at c.fold_owner.new.folder.slots.items c.in_ok-form.form h.slots c.in_ok-form.ensures.form);
+    }

@@ -1,0 +1,13 @@
+use Rattle.std.proofs.Common.{sym, option_copied, subst}
+use Rattle.file_meaning.specs.Expressions.{linear_terms, tree_or_zero}
+use Rattle.linear_fold.specs.Folds.{IsExpressionFolded}
+use Rattle.linear_fold.proofs.Operators.{if_ok}
+use Rattle.linear_fold.proofs.expression.fold_expression.Goals as goal
+
+pub returns-clause-entry : goal.returns-clause-entry
+returns-clause-entry g c =
+    if_ok c.sum_entry.result _ _
+    (λ e h known are.
+    subst (λ ts. IsExpressionFolded known c.args.variables (record { tree = tree_or_zero (option_copied c.args.tree); terms = linear_terms ts }) e) c.items.ensures
+    (h known (tree_or_zero (option_copied c.args.tree)) (sym c.node_count-first.ensures.nodes) (c.in_ok-entry.ensures.entry known are)))
+    c.sum_entry.ensures.entry

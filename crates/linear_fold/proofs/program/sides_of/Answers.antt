@@ -1,0 +1,7 @@
+use Rattle.std.proofs.Common.{◌≡◌, ◌∙◌, ◌++◌, ◌∷◌, [], ap, sym}
+use Rattle.linear_fold.proofs.ProgramLemmas.{take_next}
+use Rattle.linear_fold.proofs.program.sides_of.Goals as goal
+
+pub loop-con-preserved : goal.loop-con-preserved
+loop-con-preserved c =
+    c.in_ok-push.ensures.items ∙ ap (λ xs. xs ++ c.side.result ∷ []) c.loop-con.invariant ∙ sym (take_next c.args.file.now.sides c.loop-con.con c.side.result c.side.ensures)

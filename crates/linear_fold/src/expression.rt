@@ -1,0 +1,226 @@
+// Expressions folded to forms: a tree, which may be missing, and its linear terms.
+ghost use Rattle.std.specs.Prelude.{◌≡◌, true, ℕ, ◌+◌, ◌*◌, ◌^◌, ◌<◌, ◌≤◌, List, [], ◌∷◌, IfOk, IfSome, OnOk, OnErr, length, option_copied};
+ghost use Rattle.std.specs.Option.{option_map_or};
+ghost use Rattle.text_base.specs.Stopped.{IfFault};
+ghost use Rattle.nl_meaning.specs.Lines.{Line};
+ghost use Rattle.nl_meaning.specs.Trees.{Known, LinearTerm, Point, Tree, tree_size};
+ghost use Rattle.nl_model.specs.Nodes.{IsTreeFormed};
+ghost use Rattle.nl_model.specs.Rules.{AreTermsBelow};
+ghost use Rattle.file_meaning.specs.Expressions.{linear_term, linear_terms, tree_or_zero};
+ghost use Rattle.linear_fold.specs.Folds.{AddsTerms, AreKnown, AreSlotsWithin, ComesToTerms, IsEntryWithin, IsExpressionFolded, IsFolded, IsTreeGiven};
+ghost use Rattle.linear_fold.specs.Forms.{form_line, is_open, place_count};
+ghost use Rattle.linear_fold.specs.Operates.{IsBlank, IsWithin, StaysBlank};
+
+use crate::entries::Entry;
+use crate::fold::fold_tree;
+use crate::form::Form;
+use exact_numbers::{Dec, Frac};
+use nl_meaning::{Fault, Reason};
+use nl_model::{Expr, Terms};
+use std::alloc::{AllocError, Global};
+use text_base::{Ledger, Steps, Stop};
+
+/// How many nodes an expression has; a missing one is the number 0.
+pub(crate) fn node_count(tree: Option<&Expr>) -> usize
+    ensures nodes { result ≡ tree_size (tree_or_zero (option_copied tree.entry)) }
+    ensures few { result ≤ 2 ^ 22 }
+{
+    match tree {
+        Some(expr) => expr.nodes().len(),
+        None => 1,
+    }
+}
+
+// The entry of a tree; a missing one is the number 0.
+fn tree_entry<L: Ledger>(
+    alloc: Global,
+    tree: Option<&Expr>,
+    slots: &[Option<Form>],
+    total: &mut Form,
+    steps: &mut Steps<L>,
+    variables: u32,
+) -> Result<Entry, AllocError>
+    requires given { IfSome (option_copied tree) (IsTreeGiven variables slots.now) }
+    requires slots { AreSlotsWithin variables slots.now }
+    requires places { place_count total.old ≡ variables }
+    requires blank { IsBlank total.old }
+    ensures blank { OnOk result (StaysBlank total.old total.new) }
+    ensures entry { IfOk result (λ e. (known : Point → Known) → AreKnown variables known slots.now → IsFolded known variables 0 (tree_or_zero (option_copied tree.entry)) e) }
+    ensures within { IfOk result (λ e. IsEntryWithin variables e) }
+    ensures above { steps.old ≤ steps.new }
+    ensures below { steps.new ≤ steps.old + 2 * (variables + 1) * option_map_or tree_size (option_copied tree.entry) 0 }
+{
+    match tree {
+        Some(expr) => fold_tree(alloc, expr.nodes(), slots, total, steps, variables),
+        None => Ok(Entry::Linear(Form::new(alloc))),
+    }
+}
+
+// Adds a term, which has a number.
+fn add_one(total: &mut Form, variable: u32, factor: Dec, place: usize) -> Result<(), Stop<Fault>>
+    requires open { is_open total.old ≡ true }
+    requires below { variable < place_count total.old }
+    ensures adds { AddsTerms (form_line total.old) place (linear_term (variable, factor) ∷ []) (form_line total.new) result }
+    ensures open { is_open total.new ≡ true }
+    ensures places { place_count total.new ≡ place_count total.old }
+{
+    let wide = Fault {
+        place,
+        reason: Reason::TooWide,
+    };
+    let Some(factor) = Frac::of_dec(factor) else {
+        return Err(Stop::Fault(wide));
+    };
+    match total.add_term(variable, factor) {
+        Ok(()) => Ok(()),
+        Err(Stop::Fault(_)) => Err(Stop::Fault(wide)),
+        Err(Stop::Memory) => Err(Stop::Memory),
+    }
+}
+
+// Adds terms one by one, of which the first has a number; a step for each.
+fn add_linear_terms<L: Ledger>(
+    total: &mut Form,
+    terms: &[(u32, Dec)],
+    first: usize,
+    steps: &mut Steps<L>,
+) -> Result<(), Stop<Fault>>
+    requires open { is_open total.old ≡ true }
+    requires below { AreTermsBelow (place_count total.old) terms.now }
+    requires first { first ≤ 2 ^ 22 }
+    ensures adds { AddsTerms (form_line total.old) first (linear_terms terms.now) (form_line total.new) result }
+    ensures open { is_open total.new ≡ true }
+    ensures places { place_count total.new ≡ place_count total.old }
+    ensures above { steps.old ≤ steps.new }
+    ensures below { steps.new ≤ steps.old + length terms.now }
+{
+    for (index, term) in terms.iter().enumerate() {
+        steps.tick();
+        match add_one(total, term.0, term.1, first + index) {
+            Ok(()) => {}
+            Err(stop) => return Err(stop),
+        }
+    }
+    Ok(())
+}
+
+// Puts a form on an open form that is 0.
+fn put<L: Ledger>(total: &mut Form, form: &Form, steps: &mut Steps<L>) -> Result<(), AllocError>
+    requires blank { IsBlank total.old }
+    requires within { IsWithin (place_count total.old) form.now }
+    ensures line { OnOk result (form_line total.new ≡ form_line form.now) }
+    ensures open { is_open total.new ≡ true }
+    ensures places { place_count total.new ≡ place_count total.old }
+    ensures above { steps.old ≤ steps.new }
+    ensures below { steps.new ≤ steps.old + (place_count total.old + 1) }
+{
+    match total.add_scaled(form, Frac::one(), steps) {
+        Ok(()) => Ok(()),
+        Err(Stop::Fault(_)) => unreachable!(),
+        Err(Stop::Memory) => Err(AllocError),
+    }
+}
+
+// The entry of a sum that lies on an open form, which is 0 again.
+fn entry_of_sum(
+    alloc: Global,
+    total: &mut Form,
+    summed: Result<(), Stop<Fault>>,
+) -> Result<Entry, AllocError>
+    requires open { is_open total.old ≡ true }
+    ensures blank { OnOk result (StaysBlank total.old total.new) }
+    ensures entry { IfOk result (λ e. (a : Line) (i : ℕ) (ts : List LinearTerm) → AddsTerms a i ts (form_line total.old) summed → ComesToTerms a i ts e) }
+{
+    match summed {
+        Ok(()) => {
+            let form = total.take(alloc)?;
+            Ok(Entry::Linear(form))
+        }
+        Err(Stop::Fault(fault)) => {
+            total.clear();
+            Ok(Entry::Broken(fault))
+        }
+        Err(Stop::Memory) => Err(AllocError),
+    }
+}
+
+// A form with terms, of which the first has a number.
+fn with_terms<L: Ledger>(
+    alloc: Global,
+    form: &Form,
+    terms: &[(u32, Dec)],
+    first: usize,
+    total: &mut Form,
+    steps: &mut Steps<L>,
+) -> Result<Entry, AllocError>
+    requires blank { IsBlank total.old }
+    requires within { IsWithin (place_count total.old) form.now }
+    requires below { AreTermsBelow (place_count total.old) terms.now }
+    requires first { first ≤ 2 ^ 22 }
+    ensures blank { OnOk result (StaysBlank total.old total.new) }
+    ensures entry { IfOk result (λ e. ComesToTerms (form_line form.now) first (linear_terms terms.now) e) }
+    ensures above { steps.old ≤ steps.new }
+    ensures below { steps.new ≤ steps.old + (place_count total.old + 1) + length terms.now }
+{
+    put(total, form, steps)?;
+    let summed = add_linear_terms(total, terms, first, steps);
+    entry_of_sum(alloc, total, summed)
+}
+
+// The entry of a tree with terms, of which the first has a number.
+fn sum_entry<L: Ledger>(
+    alloc: Global,
+    entry: Entry,
+    terms: &[(u32, Dec)],
+    first: usize,
+    total: &mut Form,
+    steps: &mut Steps<L>,
+    variables: u32,
+) -> Result<Entry, AllocError>
+    requires blank { IsBlank total.old }
+    requires places { place_count total.old ≡ variables }
+    requires within { IsEntryWithin variables entry }
+    requires below { AreTermsBelow variables terms.now }
+    requires first { first ≤ 2 ^ 22 }
+    ensures blank { OnOk result (StaysBlank total.old total.new) }
+    ensures entry { IfOk result (λ e. (known : Point → Known) (tree : Tree) → tree_size tree ≡ first → IsFolded known variables 0 tree entry → IsExpressionFolded known variables (record { tree = tree; terms = linear_terms terms.now }) e) }
+    ensures within { IfOk result (λ e. IsEntryWithin variables e) }
+    ensures above { steps.old ≤ steps.new }
+    ensures below { steps.new ≤ steps.old + 2 * (variables + 1) * length terms.now }
+{
+    match entry {
+        Entry::Broken(fault) => Ok(Entry::Broken(fault)),
+        Entry::Linear(form) => {
+            if terms.is_empty() {
+                return Ok(Entry::Linear(form));
+            }
+            with_terms(alloc, &form, terms, first, total, steps)
+        }
+    }
+}
+
+/// Folds a tree, which may be missing, with its terms: its form, or its first fault.
+pub(crate) fn fold_expression<L: Ledger>(
+    alloc: Global,
+    tree: Option<&Expr>,
+    terms: &Terms,
+    slots: &[Option<Form>],
+    total: &mut Form,
+    steps: &mut Steps<L>,
+    variables: u32,
+) -> Result<Entry, AllocError>
+    requires given { IfSome (option_copied tree) (IsTreeGiven variables slots.now) }
+    requires below { AreTermsBelow variables terms.now }
+    requires slots { AreSlotsWithin variables slots.now }
+    requires places { place_count total.old ≡ variables }
+    requires blank { IsBlank total.old }
+    ensures blank { OnOk result (StaysBlank total.old total.new) }
+    ensures entry { IfOk result (λ e. (known : Point → Known) → AreKnown variables known slots.now → IsExpressionFolded known variables (record { tree = tree_or_zero (option_copied tree.entry); terms = linear_terms terms.now }) e) }
+    ensures within { IfOk result (λ e. IsEntryWithin variables e) }
+    ensures above { steps.old ≤ steps.new }
+    ensures below { steps.new ≤ steps.old + 2 * (variables + 1) * (option_map_or tree_size (option_copied tree.entry) 0 + length terms.now) }
+{
+    let entry = tree_entry(alloc, tree, slots, total, steps, variables)?;
+    let first = node_count(tree);
+    sum_entry(alloc, entry, terms.items(), first, total, steps, variables)
+}

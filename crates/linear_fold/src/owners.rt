@@ -1,0 +1,133 @@
+// Owners folded one by one: what has a tree and terms.
+ghost use Rattle.std.specs.Prelude.{◌≡◌, ◌+◌, ◌*◌, ◌^◌, ◌<◌, ◌≤◌, [], ◌∷◌, false, IfOk, IfErr, OnOk, length, option_copied};
+ghost use Rattle.text_base.specs.Stopped.{IfFault};
+ghost use Rattle.nl_model.specs.FilePlaces.{terms_at, tree_at};
+ghost use Rattle.nl_model.specs.Rules.{IsFile};
+ghost use Rattle.nl_model.specs.declared.at.At.TheVariants.{Head};
+ghost use Rattle.file_meaning.specs.FoldFaults.{most_coefficients};
+ghost use Rattle.linear_fold.specs.declared.fold_fault.FoldFault.TheVariants.{FoldTooLarge};
+ghost use Rattle.linear_fold.specs.FoldedFaults.{HasFaultPlace, fault_for, place_after};
+ghost use Rattle.linear_fold.specs.Coefs.{AreAscending};
+ghost use Rattle.linear_fold.specs.Forms.{form_terms, is_open};
+ghost use Rattle.linear_fold.specs.OwnerFolds.{AreOwnersFolded, HasFolded, HasOwner, IsFormOf, definitions_before, owned_at, owner_size};
+
+use crate::entries::Entry;
+use crate::expression::{fold_expression, node_count};
+use crate::fold_fault::FoldFault;
+use crate::form::Form;
+use nl_meaning::{Fault, Reason};
+use nl_model::{At, Expr, NlFile, Owner, Terms};
+use std::alloc::Global;
+use text_base::{Ledger, Steps, Stop};
+
+// The most coefficients of a folded file.
+const MOST_COEFFICIENTS: usize = 0x80_0000;
+
+/// What folding a file keeps: the forms of defined variables, an open form that is 0, and the coefficients so far.
+#[derive(Drop)]
+pub(crate) struct Folder {
+    pub(crate) alloc: Global,
+    pub(crate) slots: Vec<Option<Form>>,
+    pub(crate) total: Form,
+    pub(crate) count: usize,
+    pub(crate) variables: u32,
+}
+
+// The tree of an owner, where one was given, and its terms.
+fn expression_of(file: &NlFile, owner: Owner) -> (Option<&Expr>, &Terms)
+    requires { HasOwner file.now owner }
+    ensures tree { option_copied result.0 ≡ tree_at file.now owner }
+    ensures terms { result.1.now ≡ terms_at file.now owner }
+{
+    match owner {
+        Owner::Def(index) => {
+            let definition = &file.defs()[index as usize];
+            (Some(&definition.tree), &definition.terms)
+        }
+        Owner::Con(con) => (file.body(con), file.terms(con)),
+        Owner::Obj(k) => (Some(file.objective(k)), file.slopes(k)),
+    }
+}
+
+// The place with this number, of an owner with so many nodes.
+fn place_of(owner: Owner, nodes: usize, number: usize) -> At
+    requires { number < 2 ^ 32 }
+    ensures { result ≡ place_after nodes owner number }
+{
+    if number < nodes {
+        At::Node(owner, number as u32)
+    } else {
+        At::Term(owner, (number - nodes) as u32)
+    }
+}
+
+// The fault of an owner with so many nodes.
+fn fault_of(owner: Owner, nodes: usize, fault: Fault) -> FoldFault
+    requires { fault.place < 2 ^ 32 }
+    ensures { result ≡ fault_for fault.reason (place_after nodes owner fault.place) }
+{
+    let at = place_of(owner, nodes, fault.place);
+    match fault.reason {
+        Reason::Nonlinear => FoldFault::Nonlinear(at),
+        Reason::DivideByZero => FoldFault::DivideByZero(at),
+        Reason::TooWide => FoldFault::TooWide(at),
+        Reason::RefusedPower => FoldFault::RefusedPower(at),
+    }
+}
+
+// The coefficients with those of the form of an owner, where they are not too many.
+fn count_with(count: usize, owner: Owner, form: &Form) -> Result<usize, FoldFault>
+    requires few { count ≤ most_coefficients }
+    requires closed { is_open form.now ≡ false }
+    ensures count { IfOk result (λ total. total ≡ count + length (form_terms form.now)) }
+    ensures few { IfOk result (λ total. total ≤ most_coefficients) }
+    ensures fault { IfErr result (λ fault. fault ≡ FoldTooLarge (Head owner)) }
+    ensures many { IfErr result (λ fault. most_coefficients < count + length (form_terms form.now)) }
+    ensures ascending { AreAscending 0 (form_terms form.now) }
+{
+    let total = count + form.listed().len();
+    if total > MOST_COEFFICIENTS {
+        return Err(FoldFault::FoldTooLarge(At::Head(owner)));
+    }
+    Ok(total)
+}
+
+/// Folds an owner: its form, or its fault.
+pub(crate) fn fold_owner<L: Ledger>(
+    file: &NlFile,
+    owner: Owner,
+    folder: &mut Folder,
+    steps: &mut Steps<L>,
+) -> Result<Form, Stop<FoldFault>>
+    requires file { IsFile file.now }
+    requires owner { HasOwner file.now owner }
+    requires folder { HasFolded file.now (definitions_before file.now owner) folder.old }
+    ensures folder { OnOk result (HasFolded file.now (definitions_before file.now owner) folder.new) }
+    ensures form { IfOk result (λ form. IsFormOf file.now owner form) }
+    ensures count { IfOk result (λ form. folder.new.count ≡ folder.old.count + length (form_terms form)) }
+    ensures folded { AreOwnersFolded file.now folder.old.count (owned_at file.now owner ∷ []) folder.new.count result }
+    ensures place { IfErr result (λ stop. IfFault stop (λ fault. HasFaultPlace file.now fault)) }
+    ensures above { steps.old ≤ steps.new }
+    ensures below { steps.new ≤ steps.old + 2 * (file.now.counts.n_var + 1) * owner_size file.now owner }
+{
+    let (tree, terms) = expression_of(file, owner);
+    let entry = fold_expression(
+        folder.alloc,
+        tree,
+        terms,
+        &folder.slots,
+        &mut folder.total,
+        steps,
+        folder.variables,
+    )?;
+    match entry {
+        Entry::Broken(fault) => Err(Stop::Fault(fault_of(owner, node_count(tree), fault))),
+        Entry::Linear(form) => match count_with(folder.count, owner, &form) {
+            Ok(count) => {
+                folder.count = count;
+                Ok(form)
+            }
+            Err(fault) => Err(Stop::Fault(fault)),
+        },
+    }
+}

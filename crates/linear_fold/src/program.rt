@@ -1,0 +1,132 @@
+// The fold of a whole file.
+ghost use Rattle.std.specs.Prelude.{◌≡◌, ◌+◌, ◌<◌, ◌≤◌, ◌==◌, ◌&&◌, ◌||◌, IfOk, IfErr, OnOk, None, Some, nat_lt, true};
+ghost use Rattle.text_base.specs.Stopped.{IfFault};
+ghost use Rattle.nl_model.specs.HeaderRules.{AreCounts};
+ghost use Rattle.nl_model.specs.Kinds.{kind_of};
+ghost use Rattle.nl_model.specs.Rules.{IsFile};
+ghost use Rattle.file_meaning.specs.Expressions.{maximises};
+ghost use Rattle.file_meaning.specs.FoldFaults.{fold_fault, has_objective};
+ghost use Rattle.file_meaning.specs.LinearFile.{elements_from, linear_of};
+ghost use Rattle.linear_fold.specs.FoldedFaults.{first_fold_fault, HasFaultPlace, step_bound};
+ghost use Rattle.linear_fold.specs.OwnerFolds.{AreFormsOf};
+ghost use Rattle.linear_fold.specs.Programs.{linear_value};
+
+use crate::bodies::fold_forms;
+use crate::definitions::empty_folder;
+use crate::fold_fault::FoldFault;
+use crate::form::Form;
+use crate::linear::Linear;
+use nl_header::kinds_of;
+use nl_model::{Counts, Interval, Kind, NlFile};
+use std::alloc::{AllocError, Global};
+use text_base::{Ledger, Steps, Stop};
+
+// Whether there is such an objective; a file without objectives has the objective 0.
+fn has_objective(counts: &Counts, objective: u32) -> bool
+    ensures { result ≡ (nat_lt objective counts.now.n_obj || ((objective == 0) && (counts.now.n_obj == 0))) }
+{
+    objective < counts.n_obj || (objective == 0 && counts.n_obj == 0)
+}
+
+// Whether an objective is maximised; the 0 of a file without objectives is not.
+fn is_maximised(file: &NlFile, objective: u32) -> bool
+    requires { IsFile file.now }
+    ensures { result ≡ maximises file.now objective }
+{
+    if objective < file.header().counts().n_obj {
+        file.maximise(objective)
+    } else {
+        false
+    }
+}
+
+// The sides of all constraints.
+fn sides_of(alloc: Global, file: &NlFile) -> Result<Vec<Interval>, AllocError>
+    requires { IsFile file.now }
+    ensures { IfOk result (λ v. v.items ≡ file.now.sides) }
+{
+    let counts = file.header().counts();
+    let mut sides = Vec::with_capacity(alloc, counts.n_con as usize)?;
+    for con in 0..counts.n_con {
+        sides.push(file.side(con))?;
+    }
+    Ok(sides)
+}
+
+// The bounds of all variables.
+fn bounds_of(alloc: Global, file: &NlFile) -> Result<Vec<Interval>, AllocError>
+    requires { IsFile file.now }
+    ensures { IfOk result (λ v. v.items ≡ file.now.bounds) }
+{
+    let counts = file.header().counts();
+    let mut bounds = Vec::with_capacity(alloc, counts.n_var as usize)?;
+    for var in 0..counts.n_var {
+        bounds.push(file.bound(var))?;
+    }
+    Ok(bounds)
+}
+
+// The kinds of all variables.
+fn all_kinds(alloc: Global, file: &NlFile) -> Result<Vec<Kind>, AllocError>
+    ensures { IfOk result (λ v. v.items ≡ elements_from (kind_of file.now.counts) 0 file.now.counts.n_var) }
+{
+    let header = file.header();
+    let counts = header.counts();
+    let mut kinds = Vec::with_capacity(alloc, counts.n_var as usize)?;
+    for var in 0..counts.n_var {
+        kinds.push(kinds_of(header, var))?;
+    }
+    Ok(kinds)
+}
+
+// The folded file of the forms of its bodies and of an objective.
+fn assemble(
+    alloc: Global,
+    file: &NlFile,
+    objective: u32,
+    bodies: Vec<Form>,
+    form: Form,
+) -> Result<Linear, AllocError>
+    requires file { IsFile file.now }
+    requires counts { AreCounts file.now.counts }
+    requires forms { AreFormsOf file.now objective bodies.items form }
+    ensures linear { IfOk result (λ l. linear_value l ≡ linear_of file.now objective) }
+    ensures number { IfOk result (λ l. l.number ≡ objective) }
+{
+    let sides = sides_of(alloc, file)?;
+    let bounds = bounds_of(alloc, file)?;
+    let kinds = all_kinds(alloc, file)?;
+    let maximise = is_maximised(file, objective);
+    Ok(Linear::of_parts(bodies, form, objective, maximise, sides, bounds, kinds))
+}
+
+/// Folds a file with one of its objectives: its linear program, or its first fault.
+pub fn fold_all<L: Ledger>(
+    alloc: Global,
+    file: &NlFile,
+    objective: u32,
+    steps: &mut Steps<L>,
+) -> Result<Linear, Stop<FoldFault>>
+    // The linear program of the file, which has no fault.
+    ensures linear { IfOk result (λ l. linear_value l ≡ linear_of file.now objective) }
+    ensures number { IfOk result (λ l. l.number ≡ objective) }
+    ensures fine { OnOk result (fold_fault file.now objective ≡ None) }
+
+    // The first fault, at a place of the file.
+    ensures fault { IfErr result (λ stop. IfFault stop (λ fault. first_fold_fault file.now objective ≡ Some fault)) }
+    ensures place { IfErr result (λ stop. IfFault stop (λ fault. HasFaultPlace file.now fault)) }
+
+    ensures above { steps.old ≤ steps.new }
+    ensures below { steps.new ≤ steps.old + step_bound file.now }
+{
+    if !has_objective(file.header().counts(), objective) {
+        return Err(Stop::Fault(FoldFault::NoSuchObjective(objective)));
+    }
+    let mut folder = empty_folder(alloc, file)?;
+    let (bodies, form) = match fold_forms(alloc, file, objective, &mut folder, steps) {
+        Ok(forms) => forms,
+        Err(stop) => return Err(stop),
+    };
+    let linear = assemble(alloc, file, objective, bodies, form)?;
+    Ok(linear)
+}

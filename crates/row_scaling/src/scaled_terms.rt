@@ -1,0 +1,41 @@
+// The terms of a form times a factor, as decimals.
+ghost use Rattle.std.specs.Prelude.{◌≡◌, MatchOption, All, IfOk, IfErr, false};
+ghost use Rattle.text_base.specs.Stopped.{IfFault};
+ghost use Rattle.fractions.specs.Rational.{◌*ℚ◌};
+ghost use Rattle.exact_numbers.specs.Values.{dec_value, frac_value};
+ghost use Rattle.linear_fold.specs.Coefs.{AreAscending};
+ghost use Rattle.linear_fold.specs.Forms.{form_terms, is_open};
+ghost use Rattle.row_scaling.specs.Fitting.{coefficients_in, NumberFits, AreTermsTimes};
+
+use exact_numbers::{Dec, Frac};
+use linear_fold::{Form, Wide};
+use nl_model::Terms;
+use std::alloc::Global;
+use text_base::Stop;
+
+// A number times the factor, as a decimal; none exactly where it does not fit.
+pub(crate) fn scaled_number(number: Frac, factor: Frac) -> Option<Dec>
+    ensures { MatchOption result (¬ NumberFits (frac_value factor) (frac_value number)) (λ d. NumberFits (frac_value factor) (frac_value number) × (dec_value d ≡ frac_value factor *ℚ frac_value number)) }
+{
+    let Some(product) = factor.mul(number) else {
+        return None;
+    };
+    product.to_dec()
+}
+
+// The terms of a form times the factor. Wide exactly where a number does not fit.
+pub(crate) fn scaled_terms(alloc: Global, form: &Form, factor: Frac) -> Result<Terms, Stop<Wide>>
+    requires { is_open form.now ≡ false }
+    ensures scaled { IfOk result (λ terms. AreTermsTimes (frac_value factor) (form_terms form.now) terms) }
+    ensures ascending { AreAscending 0 (form_terms form.now) }
+    ensures wide { IfErr result (λ stop. IfFault stop (λ _. ¬ All (NumberFits (frac_value factor)) (coefficients_in (form_terms form.now)))) }
+{
+    let mut terms = Terms::new(alloc);
+    for term in form.terms() {
+        let Some(value) = scaled_number(term.1, factor) else {
+            return Err(Stop::Fault(Wide));
+        };
+        terms.push((term.0, value))?;
+    }
+    Ok(terms)
+}
