@@ -4,6 +4,7 @@ pub mod StandingLemmas
 pub mod StartLemmas
 pub mod StopLemmas
 pub mod GrammarLemmas
+pub mod BodyStart
 pub mod Examples
 pub mod PieceLemmas
 pub mod OpcodeLemmas

@@ -3,8 +3,11 @@ use Rattle.std.specs.Prelude.{◌≡◌, ℕ, ◌<◌, List, length, Option, Som
 use Rattle.text_base.specs.declared.stop.Stop.{Stop}
 use Rattle.text_base.specs.declared.stop.Stop.TheVariants.{Fault, Memory}
 use Rattle.nl_header.specs.Reading.{Taken, IsReading}
+use Rattle.nl_segments.specs.declared.awaited.Awaited.{Awaited}
+use Rattle.nl_segments.specs.declared.awaited.Awaited.TheVariants.{Nothing}
 use Rattle.nl_segments.specs.declared.fault.Refusal.{Refusal}
 use Rattle.nl_segments.specs.Rows.{Row}
+use Rattle.nl_segments.specs.Current.{Current, current_awaits}
 use Rattle.nl_segments.specs.Grammar.{Standing, header_refusal, row_refusal}
 use Rattle.nl_segments.specs.Held.{Body, Progress, HoldsStanding}
 use Rattle.nl_segments.specs.Steps.{after_header_row, after_row}
@@ -27,3 +30,8 @@ TakesHeaderRow old row result new = TakesBy header_refusal after_header_row old 
 -- any row
 abbrev pub TakesAnyRow : Progress → Row → Result (Unit {0}) (Stop Refusal) → Progress → Type 0
 TakesAnyRow old row result new = TakesBy row_refusal after_row old row result new
+
+-- the line that the body awaits
+abbrev pub body_awaits : Option Current → Awaited
+body_awaits None = Nothing
+body_awaits (Some cur) = current_awaits cur

@@ -1,4 +1,4 @@
-use Rattle.std.proofs.Common.{◌≡◌, ◌∙◌, Some, None, sym, subst, ap}
+use Rattle.std.proofs.Common.{◌≡◌, ◌∙◌, Some, None, refl, sym, subst, ap}
 use Rattle.text_base.specs.Words.{texts, row_of}
 use Rattle.nl_segments.specs.Rows.{Row}
 use Rattle.nl_segments.specs.Held.{Progress, TakesRow}
@@ -20,3 +20,8 @@ returns c =
     let row : Row = record { line = c.args.number; text = c.args.text.now } in
     row_in_header c.args.self.now row c.take_header.result c.take_header.new.self (subst (λ (g : Progress). g.body ≡ None) c.self.view_is c.in_default.is)
     (subst (λ g. TakesHeaderRow g row c.take_header.result c.take_header.new.self) c.self.view_is c.take_header.ensures)
+
+pub take-requires : goal.take-requires
+take-requires c =
+    let row : Row = record { line = c.args.number; text = c.args.text.now } in
+    record { exists = (row, record { same_words = sym (c.words.ensures ∙ c.requires.row); same_line = refl }) }
