@@ -14,4 +14,5 @@ pub mod Saying
 pub mod SeenSegments
 pub mod Stamps
 pub mod Steps
+pub mod Taking
 pub mod Tests
