@@ -33,10 +33,12 @@ pub struct BodyReader {
     pub(crate) columns: Vec<u32>,
     pub(crate) uses: Vec<u32>,
     pub(crate) places: Places,
+    // memory ran out while a row was taken; then nothing is known of the rest
+    pub(crate) failed: bool,
 }
 
 impl Model for BodyReader {
-    ghost use Rattle.nl_segments.specs.Held.{Body, HoldsSome};
+    ghost use Rattle.nl_segments.specs.Held.{Body, HoldsUnless};
 
     ghost Value = { Body };
 
@@ -46,7 +48,7 @@ impl Model for BodyReader {
 
     ghost view = { λ b. record { draft = b.builder; current = b.current; name = b.name; marks = b.marks; seen = b.seen; nodes = b.nodes; linear = b.linear; values = b.values; suffixes = b.suffixes; columns = b.columns.items; uses = b.uses.items; places = b.places } };
 
-    ghost invariant = { λ b. HoldsSome (record { draft = b.builder; current = b.current; name = b.name; marks = b.marks; seen = b.seen; nodes = b.nodes; linear = b.linear; values = b.values; suffixes = b.suffixes; columns = b.columns.items; uses = b.uses.items; places = b.places }) };
+    ghost invariant = { λ b. HoldsUnless b.failed (record { draft = b.builder; current = b.current; name = b.name; marks = b.marks; seen = b.seen; nodes = b.nodes; linear = b.linear; values = b.values; suffixes = b.suffixes; columns = b.columns.items; uses = b.uses.items; places = b.places }) };
 }
 
 impl BodyReader {
