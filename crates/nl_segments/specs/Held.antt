@@ -141,6 +141,10 @@ pub record IsRowOf (row : Row) (words : List (List ℕ)) (line : ℕ) : Type 0 w
   pub same_words : row_words row ≡ words
   pub same_line : row.line ≡ line
 
+-- the words are those of some row
+abbrev pub AreOfRow : List (List ℕ) → ℕ → Type 0
+AreOfRow words line = (row : Row) × IsRowOf row words line
+
 -- what is wrong with a row of these words
 abbrev pub words_refusal : Standing → List (List ℕ) → Option Refusal
 words_refusal s words = first_reason (row_tests (counts_of s) (said s) s.pieces words)
