@@ -129,11 +129,6 @@ pub record IsHeld (s : Standing) (b : Body) : Type 0 where
 abbrev pub HoldsSome : Body → Type 0
 HoldsSome b = (s : Standing) × IsHeld s b
 
--- the same unless memory ran out
-abbrev pub HoldsUnless : Bool → Body → Type 0
-HoldsUnless true b = Unit {0}
-HoldsUnless false b = HoldsSome b
-
 -- ---- What taking a row, or the end, answers.
 
 -- the row of these words in this line

@@ -15,3 +15,4 @@ pub mod SeenSegments
 pub mod Stamps
 pub mod Steps
 pub mod Tests
+pub mod TreeSteps
