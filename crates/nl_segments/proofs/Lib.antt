@@ -10,3 +10,8 @@ pub mod DraftLemmas
 pub mod PlaceLemmas
 pub mod SeenLemmas
 pub mod TotalLemmas
+pub mod PairLines
+pub mod FreshLaw
+pub mod NodeLemmas
+pub mod TreeLaw
+pub mod NodeSteps

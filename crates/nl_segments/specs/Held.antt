@@ -136,9 +136,9 @@ pub record IsRowOf (row : Row) (words : List (List ℕ)) (line : ℕ) : Type 0 w
   pub same_words : row_words row ≡ words
   pub same_line : row.line ≡ line
 
--- the words are those of some row
-abbrev pub AreOfRow : List (List ℕ) → ℕ → Type 0
-AreOfRow words line = (row : Row) × IsRowOf row words line
+-- there is such a row
+abbrev pub HasRow : List (List ℕ) → ℕ → Type 0
+HasRow words line = (row : Row) × IsRowOf row words line
 
 -- what is wrong with a row of these words
 abbrev pub words_refusal : Standing → List (List ℕ) → Option Refusal

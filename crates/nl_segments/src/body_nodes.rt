@@ -6,7 +6,7 @@ ghost use Rattle.nl_model.specs.Nodes.{tree_of};
 ghost use Rattle.nl_segments.specs.declared.awaited.Awaited.TheVariants.{Node, Nothing};
 ghost use Rattle.nl_segments.specs.Current.{current_awaits};
 ghost use Rattle.nl_segments.specs.Heads.{is_head};
-ghost use Rattle.nl_segments.specs.Held.{TakesRow, IsAwaiting, AreOfRow};
+ghost use Rattle.nl_segments.specs.Held.{TakesRow, IsAwaiting, HasRow};
 ghost use Rattle.nl_segments.specs.Nodes.{node_in, opcode_in};
 ghost use Rattle.nl_segments.specs.NodeRows.{IsRow, IsFormedRow};
 ghost use Rattle.nl_segments.specs.Pieces.{has_tree};
@@ -120,7 +120,7 @@ impl BodyReader {
     /// A line with a node.
     pub(crate) fn take_node(&mut self, words: &[&[u8]], line: u32) -> Result<(), Stop<Refusal>>
         requires row { is_head (texts words.now) ≡ false }
-        requires some { AreOfRow (texts words.now) line }
+        requires exists { HasRow (texts words.now) line }
         requires awaited { IsAwaiting Node self.old }
         ensures { TakesRow self.old (texts words.now) line result self.new }
     {

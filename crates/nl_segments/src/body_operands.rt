@@ -3,7 +3,7 @@ ghost use Rattle.std.specs.Prelude.{◌≡◌, false};
 ghost use Rattle.text_base.specs.Words.{texts};
 ghost use Rattle.nl_segments.specs.declared.awaited.Awaited.TheVariants.{OperandCount};
 ghost use Rattle.nl_segments.specs.Heads.{is_head};
-ghost use Rattle.nl_segments.specs.Held.{TakesRow, IsAwaiting, AreOfRow};
+ghost use Rattle.nl_segments.specs.Held.{TakesRow, IsAwaiting, HasRow};
 
 use crate::body::BodyReader;
 use crate::body_nodes::settle;
@@ -20,7 +20,7 @@ impl BodyReader {
         line: u32,
     ) -> Result<(), Stop<Refusal>>
         requires row { is_head (texts words.now) ≡ false }
-        requires some { AreOfRow (texts words.now) line }
+        requires exists { HasRow (texts words.now) line }
         requires awaited { IsAwaiting OperandCount self.old }
         ensures { TakesRow self.old (texts words.now) line result self.new }
     {
