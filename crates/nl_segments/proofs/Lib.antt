@@ -14,4 +14,3 @@ pub mod PairLines
 pub mod FreshLaw
 pub mod NodeLemmas
 pub mod TreeLaw
-pub mod NodeSteps

@@ -1,17 +1,16 @@
 // A line with a node.
-ghost use Rattle.std.specs.Prelude.{◌≡◌, ◌<◌, ◌≤◌, ◌^◌, true, false, None, IfOk, IfErr, OnOk, Some};
+ghost use Rattle.std.specs.Prelude.{◌≡◌, ◌<◌, ◌≤◌, ◌^◌, true, false, None, IfOk, IfErr, OnOk, Some, All};
 ghost use Rattle.text_base.specs.Judged.{first_reason};
 ghost use Rattle.text_base.specs.Words.{texts};
-ghost use Rattle.nl_model.specs.Nodes.{tree_of};
 ghost use Rattle.nl_segments.specs.declared.awaited.Awaited.TheVariants.{Node, Nothing};
 ghost use Rattle.nl_segments.specs.Current.{current_awaits};
 ghost use Rattle.nl_segments.specs.Heads.{is_head};
-ghost use Rattle.nl_segments.specs.Held.{TakesRow, IsAwaiting, HasRow};
+ghost use Rattle.nl_segments.specs.Held.{TakesRow, IsAwaiting, HasRow, IsNodeKnown};
 ghost use Rattle.nl_segments.specs.Nodes.{node_in, opcode_in};
 ghost use Rattle.nl_segments.specs.NodeRows.{IsRow, IsFormedRow};
 ghost use Rattle.nl_segments.specs.Pieces.{has_tree};
 ghost use Rattle.nl_segments.specs.PlaceSteps.{HasOwner, HasBegun};
-ghost use Rattle.nl_segments.specs.TreeSteps.{MayTake, with_tree, IsSettled, row_count, with_row_line, counted_node_tests};
+ghost use Rattle.nl_segments.specs.TreeSteps.{MayTake, IsFresh, with_tree, IsSettled, row_count, with_row_line, counted_node_tests};
 
 use crate::awaited::Awaited;
 use crate::body::BodyReader;
@@ -103,7 +102,8 @@ pub(crate) fn settle(
     current: Current,
 ) -> Result<Option<Current>, AllocError>
     requires tree { has_tree current.head ≡ true }
-    requires may { current_awaits current ≡ Nothing → MayTake builder.old current.head current.pairs (tree_of current.nodes) }
+    requires fresh { current_awaits current ≡ Nothing → IsFresh builder.old current.head current.pairs }
+    requires known { All (IsNodeKnown builder.old.counts.n_var builder.old.definitions) current.nodes }
     ensures { IfOk result (λ kept. IsSettled builder.old current kept builder.new) }
 {
     if current.awaited() != Awaited::Nothing {
