@@ -14,3 +14,4 @@ pub mod PairLines
 pub mod FreshLaw
 pub mod NodeLemmas
 pub mod TreeLaw
+pub mod NodeSteps

@@ -1,12 +1,16 @@
 -- A tree whose nodes use what is there uses what is there.
-use Rattle.std.proofs.Common.{◌≡◌, ℕ, zero, suc, ◌<◌, List, [], ◌∷◌, ◌++◌, length, arith, All}
+use Rattle.std.proofs.Common.{◌≡◌, ℕ, zero, suc, ◌<◌, List, [], ◌∷◌, ◌++◌, length, sym, subst, arith, All}
 use Rattle.nl_meaning.specs.Trees.{Tree, Trees}
-use Rattle.nl_model.specs.File.{Definition}
+use Rattle.nl_model.specs.File.{Definition, Term}
 use Rattle.nl_model.specs.declared.node.Node.{Node}
 use Rattle.nl_model.specs.declared.node.Node.TheVariants.{Num, Var, Defined, Op}
-use Rattle.nl_model.specs.Nodes.{IsPrefix, a_number, a_variable, a_defined, an_operation, ArePrefixes, no_tree, one_more}
+use Rattle.nl_model.specs.Nodes.{IsPrefix, a_number, a_variable, a_defined, an_operation, ArePrefixes, no_tree, one_more, AreNodesOf}
+use Rattle.nl_model.specs.Draft.{Draft}
 use Rattle.nl_model.specs.Rules.{IsTreeWithin, AreTreesWithin}
 use Rattle.nl_segments.specs.Held.{IsNodeKnown}
+use Rattle.nl_segments.specs.Current.{Current}
+use Rattle.nl_segments.specs.declared.head.Head.{Head}
+use Rattle.nl_segments.specs.TreeSteps.{IsFresh, MayTake}
 
 -- node by node
 abbrev Each : ℕ → List Definition → List Node → Type 0
@@ -38,3 +42,12 @@ mutual
 
 pub tree_within : (n : ℕ) (ds : List Definition) (t : Tree) (ns : List Node) → IsPrefix t ns → All (IsNodeKnown n ds) ns → IsTreeWithin n ds t
 tree_within n ds t ns p h = within n ds p (each n ds ns h)
+
+-- the draft may take the expression of a piece that is complete
+pub may_take : (d : Draft) (cur : Current) (head : Head) (terms : List Term) (nodes : List Node) (tree : Tree) → head ≡ cur.head → terms ≡ cur.pairs → nodes ≡ cur.nodes
+    → IsFresh d cur.head cur.pairs → All (IsNodeKnown d.counts.n_var d.definitions) cur.nodes → AreNodesOf tree nodes → MayTake d head terms tree
+may_take d cur head terms nodes tree h t n fresh known of =
+    record {
+      fresh = subst (λ x. IsFresh d x terms) (sym h) (subst (λ ts. IsFresh d cur.head ts) (sym t) fresh);
+      within = tree_within d.counts.n_var d.definitions tree nodes of.prefix (subst (All (IsNodeKnown d.counts.n_var d.definitions)) (sym n) known);
+    }
