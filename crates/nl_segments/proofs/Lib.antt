@@ -15,3 +15,5 @@ pub mod FreshLaw
 pub mod NodeLemmas
 pub mod TreeLaw
 pub mod NodeSteps
+pub mod TreeFresh
+pub mod NodeTaken

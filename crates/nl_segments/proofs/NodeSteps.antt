@@ -4,6 +4,7 @@ use Rattle.std.specs.Prelude.{ℤ, if◌then◌else◌, IfSome, IsTrue}
 use Rattle.std.specs.List.{flat_map}
 use Rattle.std.proofs.lemmas.Bool.{ltb-true, ltb-false}
 use Rattle.std.proofs.lemmas.Grind.{flat_map-append}
+use Rattle.std.proofs.lemmas.List.Concat.{flat_map-cons}
 use Rattle.std.proofs.lemmas.List.{length-append, length_push, length-map, map-append, take-append-le}
 use Rattle.std.proofs.lemmas.List.Elements.{All-push}
 use Rattle.text_base.specs.Judged.{first_reason}
@@ -42,7 +43,7 @@ use Rattle.nl_segments.proofs.PairLines.{at, last_sound, sound_longer, are_seen_
 
 -- ---- where a row of an expression is awaited
 
-abbrev in_tree : Awaited → Bool
+abbrev pub in_tree : Awaited → Bool
 in_tree Nothing = false
 in_tree Pair = false
 in_tree ColumnCount = false
@@ -63,10 +64,10 @@ lines_before (Terms i n) = refl
 lines_before (Slopes k n) = refl
 lines_before (Suffix k n) = refl
 
-no : true ≡ false → ⊥
+pub no : true ≡ false → ⊥
 no e = cc
 
-beyond : (cur : Current) → in_tree (current_awaits cur) ≡ true → (cur.left ≡ 0) × (has_tree cur.head ≡ true)
+pub beyond : (cur : Current) → in_tree (current_awaits cur) ≡ true → (cur.left ≡ 0) × (has_tree cur.head ≡ true)
 beyond cur e = by (nat_lt 0 cur.left) (has_tree cur.head) refl refl e
   where
     by : (t u : Bool) → nat_lt 0 cur.left ≡ t → has_tree cur.head ≡ u → in_tree (if t then line_kind cur.head else (if u then nodes_await cur.nodes cur.pending else Nothing)) ≡ true
@@ -120,9 +121,11 @@ no_columns p (Suffix k n) e = refl
 
 columns_longer : (before : List Piece) (p : Piece) (row : Row) → has_tree p.head ≡ true → all_column_counts (before ++ longer p row ∷ []) ≡ all_column_counts (before ++ p ∷ [])
 columns_longer before p row tree =
-    flat_map-append (λ p. column_counts p p.head) before (longer p row ∷ [])
-    ∙ ap (λ xs. flat_map (λ p. column_counts p p.head) before ++ xs ++ []) (no_columns (longer p row) p.head tree ∙ sym (no_columns p p.head tree))
-    ∙ sym (flat_map-append (λ p. column_counts p p.head) before (p ∷ []))
+    let f : Piece → List ℕ = λ p. column_counts p p.head in
+    flat_map-append f before (longer p row ∷ [])
+    ∙ ap (λ xs. flat_map f before ++ xs)
+    (flat_map-cons f (longer p row) [] ∙ ap (λ xs. xs ++ flat_map f []) (no_columns (longer p row) p.head tree ∙ sym (no_columns p p.head tree)) ∙ sym (flat_map-cons f p []))
+    ∙ sym (flat_map-append f before (p ∷ []))
 
 if_zero : (t : Bool) (a : ℕ) → (if t then a + 0 else a) ≡ a
 if_zero true a = omega arith
@@ -134,7 +137,7 @@ pairs_same counts c before p row t =
 
 -- ---- the draft
 
-tree_says : (h : Head) → has_tree h ≡ true → says_whole h ≡ true
+pub tree_says : (h : Head) → has_tree h ≡ true → says_whole h ≡ true
 tree_says (BodyHead i) e = refl
 tree_says (Objective k m) e = refl
 tree_says (Definition i j u) e = refl
@@ -223,30 +226,30 @@ pub record IsTreeStep (old : Body) (next : Current) (count : ℕ) (lines : Place
 
 said_next : (o : List ℤ) (before : List Piece) (c : Counts) (p : Piece) (row : Row) (old : Body) (cur next : Current) (more : List Placed) (kept : Option Current) (new : Draft)
     → IsOpen c old.draft old.name p cur → IsRowMore c p row old cur next more → old.draft ≡ draft_of o c (before ++ p ∷ []) → IsSettled old.draft next kept new → new ≡ draft_of o c (before ++ longer p row ∷ [])
-said_next o before c p row old cur next more (Some k) new open m d s =
+said_next o before c p row old cur next more (Some k) new begun m d s =
     let whole = tree_says p.head m.place.tree in
-    s.2 ∙ d ∙ draft_before o c before p whole open.incomplete ∙ sym (draft_before o c before (longer p row) whole (sym (ap is_nothing (awaits c (longer p row) next m.is_next)) ∙ s.0))
-said_next o before c p row old cur next more None new open m d s =
+    s.2 ∙ d ∙ draft_before o c before p whole begun.incomplete ∙ sym (draft_before o c before (longer p row) whole (sym (ap is_nothing (awaits c (longer p row) next m.is_next)) ∙ s.0))
+said_next o before c p row old cur next more None new begun m d s =
     let whole = tree_says p.head m.place.tree in
     let q = longer p row in
     let D = draft_of o c before in
     s.1
-    ∙ ap (λ x. with_tree x next.head next.pairs (tree_of next.nodes)) (d ∙ draft_before o c before p whole open.incomplete)
+    ∙ ap (λ x. with_tree x next.head next.pairs (tree_of next.nodes)) (d ∙ draft_before o c before p whole begun.incomplete)
     ∙ ap (λ h. with_tree D h next.pairs (tree_of next.nodes)) m.is_next.head
-    ∙ tree_pairs D p.head next.pairs (piece_pairs q) (tree_of next.nodes) (λ k. m.pairs ∙ open.pairs k ∙ sym (late_pairs p row m.place.early))
+    ∙ tree_pairs D p.head next.pairs (piece_pairs q) (tree_of next.nodes) (λ k. m.pairs ∙ begun.pairs k ∙ sym (late_pairs p row m.place.early))
     ∙ ap (λ ns. with_tree D p.head (piece_pairs q) (tree_of ns)) m.is_next.nodes
     ∙ sym (with_whole o c before q m.place.tree (sym (ap is_nothing (awaits c q next m.is_next)) ∙ s.0))
 
 last_next : (c : Counts) (p : Piece) (row : Row) (old new : Body) (cur next : Current) (more : List Placed) (kept : Option Current)
     → IsOpen c old.draft old.name p cur → IsRowMore c p row old cur next more → new.name ≡ old.name → IsSettled old.draft next kept new.draft → IsLast c new.draft new.name (Some (longer p row)) kept
-last_next c p row old new cur next more None open m name s = sym (ap is_nothing (awaits c (longer p row) next m.is_next)) ∙ s.0
-last_next c p row old new cur next more (Some k) open m name s =
+last_next c p row old new cur next more None begun m name s = sym (ap is_nothing (awaits c (longer p row) next m.is_next)) ∙ s.0
+last_next c p row old new cur next more (Some k) begun m name s =
     record {
       incomplete = sym (ap is_nothing (awaits c (longer p row) next m.is_next)) ∙ s.0;
       current = subst (IsCurrent c (longer p row)) (sym s.1) m.is_next;
-      pairs = λ x. ap (λ (k : Current). k.pairs) s.1 ∙ m.pairs ∙ open.pairs x ∙ sym (late_pairs p row m.place.early);
+      pairs = λ x. ap (λ (k : Current). k.pairs) s.1 ∙ m.pairs ∙ begun.pairs x ∙ sym (late_pairs p row m.place.early);
       known = subst (λ (d : Draft). All (IsNodeKnown c.n_var d.definitions) k.nodes) (sym s.2) (subst (λ (k : Current). All (IsNodeKnown c.n_var old.draft.definitions) k.nodes) (sym s.1) m.known);
-      named = λ x. name ∙ open.named x;
+      named = λ x. name ∙ begun.named x;
     }
 
 few_next : (d : Draft) (next : Current) (kept : Option Current) (new : Draft) (n nodes : ℕ) → IsSettled d next kept new → IfSome next.pending (λ q. n < 2 ^ 22) → nodes ≡ n → IsNodeLeft kept nodes
@@ -257,18 +260,18 @@ few_next d next (Some k) new n nodes s left e =
 pub row_held : (header : List (List (List ℕ))) (before : List Piece) (p : Piece) (row : Row) (old new : Body) (cur next : Current) (more : List Placed) (lines : PlaceLines)
     → IsHeld (at header (before ++ p ∷ [])) old → IsOpen (counts_in header) old.draft old.name p cur → IsRowMore (counts_in header) p row old cur next more → IsTreeStep old next (length more) lines new
     → lines ≡ lines_by (counts_in header) (place_lines (counts_in header) before) (longer p row) p.head → IsHeld (at header (before ++ longer p row ∷ [])) new
-row_held header before p row old new cur next more lines h open m st place =
+row_held header before p row old new cur next more lines h begun m st place =
     let c = counts_in header in
     let o = options_in header in
     let q = longer p row in
-    let said_so = said_next o before c p row old cur next more new.current new.draft open m h.draft st.settled in
+    let said_so = said_next o before c p row old cur next more new.current new.draft begun m h.draft st.settled in
     let terms = settled_terms old.draft next new.current new.draft st.settled in
     record {
       body = h.body;
       sound = sound_longer c before p row h.sound (sound_row c p row m.place (last_sound c before p h.sound));
       draft = said_so;
       counts = ap (λ d. d.counts) said_so ∙ draft_counts o c (before ++ q ∷ []);
-      last = subst (λ l. IsLast c new.draft new.name l new.current) (sym (last-append before q)) (last_next c p row old new cur next more new.current open m st.name st.settled);
+      last = subst (λ l. IsLast c new.draft new.name l new.current) (sym (last-append before q)) (last_next c p row old new cur next more new.current begun m st.name st.settled);
       marks = subst (λ l. IfSome l (IsMarked c new.marks)) (sym (last-append before q))
           (λ once i lt. ap (λ ms. get_or ms i false) st.marks ∙ subst (λ l. IfSome l (IsMarked c old.marks)) (last-append before p) h.marks once i lt ∙ ap (λ ts. has_index ts i) (sym (late_pairs p row m.place.early)));
       room = λ head r. subst (λ (ms : List Bool). index_limit c head ≤ length ms) (sym st.marks) (h.room head r);
