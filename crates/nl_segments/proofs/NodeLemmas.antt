@@ -41,6 +41,10 @@ pub first_none : (xs ys : Tests) → first_reason xs ≡ None → first_reason (
 first_none [] ys e = refl
 first_none (t ∷ xs) ys e = if_none t.0 t.1 (first_reason xs) (first_reason (xs ++ ys)) (first_reason ys) (first_none xs ys) e
 
+pub first_fine : (xs ys : Tests) → first_reason (xs ++ ys) ≡ None → first_reason xs ≡ None
+first_fine [] ys e = refl
+first_fine (t ∷ xs) ys e = if_none t.0 t.1 (first_reason (xs ++ ys)) (first_reason xs) None (first_fine xs ys) e
+
 pub later_none : (b : Bool) (x : Refusal) (xs : Tests) → first_reason ((b, x) ∷ xs) ≡ None → first_reason xs ≡ None
 later_none true x xs e = absurd cc
 later_none false x xs e = e

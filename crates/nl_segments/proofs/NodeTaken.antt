@@ -1,5 +1,5 @@
 -- Taking a row of an expression: what is wrong with it, and what is held after it.
-use Rattle.std.proofs.Common.{◌≡◌, ◌∙◌, ℕ, ◌+◌, ◌<◌, ◌≤◌, ◌^◌, Bool, true, false, List, [], ◌∷◌, ◌++◌, length, map, refl, sym, ap, subst, arith, Option, Some, None, All}
+use Rattle.std.proofs.Common.{◌≡◌, ◌∙◌, ℕ, ◌+◌, ◌<◌, ◌≤◌, ◌^◌, Bool, true, false, List, [], ◌∷◌, ◌++◌, length, map, refl, sym, ap, subst, arith, nat_le, Option, Some, None, All}
 use Rattle.std.specs.Prelude.{IfSome, IsSomeAnd, option_map, unwrap_or}
 use Rattle.std.specs.List.{cons_option}
 use Rattle.std.proofs.lemmas.Bool.{ltb-true}
@@ -22,20 +22,23 @@ use Rattle.nl_segments.specs.Numbers.{whole_of}
 use Rattle.nl_segments.specs.Nodes.{Placed, Pending, only_lines, node_in, opcode_in}
 use Rattle.nl_segments.specs.NodeRows.{IsRow}
 use Rattle.nl_segments.specs.Pieces.{Piece, has_tree, pair_count, piece_nodes, piece_pending}
-use Rattle.nl_segments.specs.Tests.{node_form_tests, node_tests, operand_tests}
+use Rattle.nl_segments.specs.Tests.{for_reason, node_form_tests, node_tests, operand_tests}
 use Rattle.nl_segments.specs.Saying.{PlaceLines, term_lines, lines_by, place_lines}
 use Rattle.nl_segments.specs.Grammar.{Standing, counts_of, said}
 use Rattle.nl_segments.specs.Steps.{after_body_row}
 use Rattle.nl_segments.specs.Current.{Current, current_awaits, with_node_row, with_operand_count}
 use Rattle.nl_segments.specs.PlaceSteps.{HasOwner, HasBegun, with_node_line}
-use Rattle.nl_segments.specs.TreeSteps.{row_count, with_row_line, counted_node_tests}
-use Rattle.nl_segments.specs.Held.{Body, IsHeld, IsNodeKnown, IsNodeLeft, IsOpen, words_refusal}
+use Rattle.nl_segments.specs.TreeSteps.{IsFresh, IsSettled, row_count, with_row_line, counted_node_tests}
+use Rattle.nl_segments.specs.Held.{Body, IsHeld, IsNodeKnown, IsNodeLeft, IsOpen, IsRowOf, words_refusal}
 use Rattle.nl_segments.proofs.CurrentLemmas.{last_nodes, with_node, with_count}
 use Rattle.nl_segments.proofs.PieceLemmas.{longer, lines-append}
 use Rattle.nl_segments.proofs.PlaceLemmas.{place_counts, place_node, place_same}
 use Rattle.nl_segments.proofs.TotalLemmas.{nodes-append}
 use Rattle.nl_segments.proofs.PairLines.{at, opened, judged_by, row_after, last_sound}
-use Rattle.nl_segments.proofs.NodeLemmas.{node_known}
+use Rattle.nl_segments.proofs.TreeFresh.{fresh_tree}
+use Rattle.nl_segments.specs.declared.fault.NlReason.TheVariants.{TooLarge}
+use Rattle.nl_model.specs.Draft.{Draft}
+use Rattle.nl_segments.proofs.NodeLemmas.{first_fine, node_known}
 use Rattle.nl_segments.proofs.NodeSteps.{no, in_tree, beyond, IsInTree, in_tree_of, tree_nodes, IsRowMore, IsTreeStep, row_held}
 
 -- ---- the last piece
@@ -222,6 +225,53 @@ node_judged s b cur words h here kind other =
     ∙ ap (λ d. first_reason (counted_node_tests (counts_of s) d b.nodes words)) h.draft
     ∙ ap (λ n. first_reason (counted_node_tests (counts_of s) (said s) n words)) h.nodes)
 
+-- ---- all of a row
+
+-- a row of a node was read where it is awaited
+pub record IsRead (b : Body) (words : List (List ℕ)) (cur : Current) (r : NodeRow) : Type 0 where
+  pub here : b.current ≡ Some cur
+  pub kind : current_awaits cur ≡ NodeLine
+  pub other : is_head words ≡ false
+  pub row : IsRow (node_in b.draft.counts.n_var words) (opcode_in words) r
+  pub few : b.nodes < 2 ^ 22
+  pub fine : first_reason (counted_node_tests b.draft.counts b.draft b.nodes words) ≡ None
+
+form_fine : (b : Body) (words : List (List ℕ)) (cur : Current) (r : NodeRow) → IsRead b words cur r → first_reason (node_form_tests b.draft.counts b.draft words) ≡ None
+form_fine b words cur r h = first_fine (node_form_tests b.draft.counts b.draft words) ((nat_le (2 ^ 22) b.nodes, for_reason TooLarge) ∷ []) h.fine
+
+pub next_known : (s : Standing) (b : Body) (words : List (List ℕ)) (line : ℕ) (cur next : Current) (r : NodeRow) → IsHeld s b → IsRead b words cur r → next ≡ with_node_row cur line r
+    → All (IsNodeKnown b.draft.counts.n_var b.draft.definitions) next.nodes
+next_known s b words line cur next r h read e =
+    subst (λ (k : Current). All (IsNodeKnown b.draft.counts.n_var b.draft.definitions) k.nodes) (sym e) (row_known s b cur r words line h read.here read.row (form_fine b words cur r read))
+
+pub next_fresh : (s : Standing) (b : Body) (words : List (List ℕ)) (line : ℕ) (cur next : Current) (r : NodeRow) → IsHeld s b → IsRead b words cur r → next ≡ with_node_row cur line r → IsFresh b.draft next.head next.pairs
+next_fresh s b words line cur next r h read e =
+    fresh_tree s b cur next h read.here (beyond cur (ap in_tree read.kind)).1 (ap (λ (k : Current). k.head) e ∙ row_head cur line r) (ap (λ (k : Current). k.pairs) e ∙ row_pairs cur line r)
+
+pub node_taken : (b : Body) (words : List (List ℕ)) (line : ℕ) (cur next : Current) (r : NodeRow) (head : Head) (count : ℕ) (draft : Draft) (kept : Option Current) (places : PlaceLines)
+    → IsRead b words cur r → next ≡ with_node_row cur line r → head ≡ cur.head → count ≡ row_count r → places ≡ with_row_line b.places line head r → IsSettled b.draft next kept draft
+    → (s : Standing) (row : Row) → IsRowOf row words line → IsHeld s b → (words_refusal s words ≡ None) × IsHeld (after_body_row s row) (record b { draft = draft; current = kept; nodes = b.nodes + count; places = places })
+node_taken b words line cur next r head count draft kept places read e same counted lines settled s row is h =
+    let step : IsTreeStep b (with_node_row cur line r) (row_count r) (with_row_line b.places line cur.head r) (record b { draft = draft; current = kept; nodes = b.nodes + count; places = places }) = record {
+      settled = subst (λ k. IsSettled b.draft k kept draft) e settled;
+      name = refl;
+      marks = refl;
+      seen = refl;
+      nodes = ap (λ n. b.nodes + n) counted;
+      linear = refl;
+      values = refl;
+      suffixes = refl;
+      columns = refl;
+      uses = refl;
+      places = lines ∙ ap (λ h. with_row_line b.places line h r) same;
+    } in
+    let w = sym is.same_words in
+    (node_judged s b cur words h read.here read.kind read.other ∙ read.fine,
+    row_taken s row b (record b { draft = draft; current = kept; nodes = b.nodes + count; places = places }) cur r h read.here read.kind (subst (λ ws. is_head ws ≡ false) w read.other)
+    (subst (λ ws. IsRow (node_in b.draft.counts.n_var ws) (opcode_in ws) r) w read.row)
+    (subst (λ ws. first_reason (node_form_tests b.draft.counts b.draft ws) ≡ None) w (form_fine b words cur r read)) read.few
+    (subst (λ n. IsTreeStep b (with_node_row cur n r) (row_count r) (with_row_line b.places n cur.head r) (record b { draft = draft; current = kept; nodes = b.nodes + count; places = places })) (sym is.same_line) step))
+
 -- ---- the number of operands
 
 pub operands_judged : (s : Standing) (b : Body) (cur : Current) (words : List (List ℕ)) → IsHeld s b → b.current ≡ Some cur → current_awaits cur ≡ OperandCount → is_head words ≡ false
@@ -256,3 +306,43 @@ operands_taken s row old new cur q k h here kind some other is st =
     let core = row_held s.header o.before p row old new cur (with_operand_count cur q.opcode k) (x ∷ []) (with_node_line old.places q.line cur.head) held o.is_open more st
     (lines_one s.header o.before p row old cur x held o.is_open.current.head place nodes) in
     subst (λ x. IsHeld (after_body_row x row) new) (sym o.whole) (subst (λ x. IsHeld x new) (sym (row_after s.header o.before p row other)) core)
+
+-- the number was read where it is awaited
+pub record IsCounted (b : Body) (words : List (List ℕ)) (cur : Current) (q : Pending) (k : ℕ) : Type 0 where
+  pub here : b.current ≡ Some cur
+  pub kind : current_awaits cur ≡ OperandCount
+  pub other : is_head words ≡ false
+  pub pending : cur.pending ≡ Some q
+  pub count : whole_of (word_at words 0) ≡ Some k
+  pub fine : first_reason (operand_tests words) ≡ None
+
+pub counted_known : (s : Standing) (b : Body) (words : List (List ℕ)) (cur next : Current) (q : Pending) (k : ℕ) → IsHeld s b → IsCounted b words cur q k → next ≡ with_operand_count cur q.opcode k
+    → All (IsNodeKnown b.draft.counts.n_var b.draft.definitions) next.nodes
+counted_known s b words cur next q k h read e =
+    subst (λ (x : Current). All (IsNodeKnown b.draft.counts.n_var b.draft.definitions) x.nodes) (sym e) (operands_known s b cur q.opcode k h read.here)
+
+pub counted_fresh : (s : Standing) (b : Body) (words : List (List ℕ)) (cur next : Current) (q : Pending) (k : ℕ) → IsHeld s b → IsCounted b words cur q k → next ≡ with_operand_count cur q.opcode k → IsFresh b.draft next.head next.pairs
+counted_fresh s b words cur next q k h read e =
+    fresh_tree s b cur next h read.here (beyond cur (ap in_tree read.kind)).1 (ap (λ (x : Current). x.head) e) (ap (λ (x : Current). x.pairs) e)
+
+pub count_taken : (b : Body) (words : List (List ℕ)) (line : ℕ) (cur next : Current) (q : Pending) (k : ℕ) (head : Head) (draft : Draft) (kept : Option Current) (places : PlaceLines)
+    → IsCounted b words cur q k → next ≡ with_operand_count cur q.opcode k → head ≡ cur.head → places ≡ with_node_line b.places q.line head → IsSettled b.draft next kept draft
+    → (s : Standing) (row : Row) → IsRowOf row words line → IsHeld s b → (words_refusal s words ≡ None) × IsHeld (after_body_row s row) (record b { draft = draft; current = kept; nodes = b.nodes + 1; places = places })
+count_taken b words line cur next q k head draft kept places read e same lines settled s row is h =
+    let step : IsTreeStep b (with_operand_count cur q.opcode k) 1 (with_node_line b.places q.line cur.head) (record b { draft = draft; current = kept; nodes = b.nodes + 1; places = places }) = record {
+      settled = subst (λ k. IsSettled b.draft k kept draft) e settled;
+      name = refl;
+      marks = refl;
+      seen = refl;
+      nodes = refl;
+      linear = refl;
+      values = refl;
+      suffixes = refl;
+      columns = refl;
+      uses = refl;
+      places = lines ∙ ap (λ h. with_node_line b.places q.line h) same;
+    } in
+    let w = sym is.same_words in
+    (operands_judged s b cur words h read.here read.kind read.other ∙ read.fine,
+    operands_taken s row b (record b { draft = draft; current = kept; nodes = b.nodes + 1; places = places }) cur q k h read.here read.kind read.pending (subst (λ ws. is_head ws ≡ false) w read.other)
+    (subst (λ ws. whole_of (word_at ws 0) ≡ Some k) w read.count) step)
