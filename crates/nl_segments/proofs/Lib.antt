@@ -1,6 +1,10 @@
 pub mod NumberLemmas
 pub mod WholeLemmas
 pub mod StandingLemmas
+pub mod StartLemmas
+pub mod StopLemmas
+pub mod GrammarLemmas
+pub mod BodyStart
 pub mod Examples
 pub mod PieceLemmas
 pub mod OpcodeLemmas

@@ -14,5 +14,6 @@ pub mod Saying
 pub mod SeenSegments
 pub mod Stamps
 pub mod Steps
+pub mod Taking
 pub mod Tests
 pub mod TreeSteps

@@ -1,5 +1,5 @@
 -- What reading an .nl text answers, and what a reader of one stands for.
-use Rattle.std.specs.Prelude.{◌≡◌, ℕ, List, Option, IsSome, Result, Ok, Err, refl}
+use Rattle.std.specs.Prelude.{ℕ, List, Option, IsSome, Result, Ok, Err, refl}
 use Rattle.std.specs.Coded.{Coded, code_by, coded×, coded_option}
 use Rattle.text_base.specs.contracts.lines.Lines.{the_row as lines_row}
 use Rattle.text_base.specs.declared.stop.Stop.{Stop}
@@ -66,6 +66,10 @@ pub record Reading : Type 0 where
 -- the reader was fed this text
 abbrev pub IsFed : Reading → List ℕ → Type 0
 IsFed r text = Stands r.stopped nl_rules (λ lines. HoldsStanding (standing lines) r.progress) r.lines text
+
+-- what holds of each reader: it was fed some text
+abbrev pub WasFed : Reading → Type 0
+WasFed r = (text : List ℕ) × IsFed r text
 
 -- the code of what a reader stands for
 abbrev pub reading_code : Coded Reading

@@ -1,18 +1,23 @@
 // A reader of the rows after the header.
-ghost use Rattle.std.specs.Prelude.{◌≡◌, ℕ, List, IfOk, IsSome, true};
+ghost use Rattle.std.specs.Prelude.{◌≡◌, ◌≤◌, ℕ, List, IfOk, replicate, false};
 ghost use Rattle.text_base.specs.Words.{texts};
-ghost use Rattle.nl_segments.specs.declared.awaited.Awaited.TheVariants.{Pair, ColumnCount, Interval, Node, OperandCount};
+ghost use Rattle.nl_segments.specs.declared.head.Head.{Head};
 ghost use Rattle.nl_segments.specs.Heads.{is_head};
 ghost use Rattle.nl_segments.specs.Held.{IsHeld, IsHeaderOf, only_header, TakesRow, HasRow, Finishes};
 ghost use Rattle.nl_segments.specs.Reader.{HasLines};
+ghost use Rattle.nl_segments.specs.Taking.{body_awaits};
+ghost use Rattle.nl_segments.specs.Tests.{index_limit};
 
+use crate::awaited::Awaited;
 use crate::current::Current;
-use crate::fault::Refusal;
+use crate::fault::{NlReason, Refusal};
 use crate::marks::Marks;
 use crate::nl_read::NlRead;
+use crate::nodes::refusal;
 use crate::places::Places;
 use crate::seen::Seen;
-use nl_model::{Header, NlBuilder};
+use crate::words::is_head;
+use nl_model::{Counts, Header, NlBuilder, defined_count};
 use std::alloc::{AllocError, Global};
 use std::marker::Model;
 use text_base::{Name, Stop};
@@ -52,15 +57,49 @@ impl Model for BodyReader {
     ghost invariant = { λ b. b.is_broken ≡ false → HoldsSome (record { draft = b.builder; current = b.current; name = b.name; marks = b.marks; seen = b.seen; nodes = b.nodes; linear = b.linear; values = b.values; suffixes = b.suffixes; columns = b.columns.items; uses = b.uses.items; places = b.places }) };
 }
 
+// So many zeros.
+fn zeros(alloc: Global, len: usize) -> Result<Vec<u32>, AllocError>
+    ensures { IfOk result (λ v. v.items ≡ replicate len 0) }
+{
+    Vec::from_elem(alloc, 0u32, len)
+}
+
+// The indices of each piece are below this.
+fn most_indices(counts: &Counts) -> usize
+    ensures { (head : Head) → index_limit counts.now head ≤ result }
+{
+    let most = counts.n_var.max(counts.n_con).max(counts.n_obj);
+    most.max(1) as usize
+}
+
 impl BodyReader {
     /// A reader of the rows after this header.
     pub(crate) fn new(alloc: Global, header: Header) -> Result<BodyReader, AllocError>
         requires { (rows : List (List (List ℕ))) × IsHeaderOf rows header.options header.counts }
         ensures { IfOk result (λ b. (rows : List (List (List ℕ))) → IsHeaderOf rows header.options header.counts → IsHeld (only_header rows) b) }
     {
-        let _ = alloc;
-        let _ = header;
-        Err(AllocError)
+        let counts = *header.counts();
+        let marks = Marks::new(alloc, most_indices(&counts))?;
+        let seen = Seen::new(alloc, &counts, defined_count(&counts) as u32)?;
+        let uses = zeros(alloc, counts.n_var as usize)?;
+        let places = Places::new(alloc, &counts)?;
+        let builder = NlBuilder::new(alloc, header)?;
+        Ok(BodyReader {
+            alloc,
+            builder,
+            current: None,
+            name: None,
+            marks,
+            seen,
+            nodes: 0,
+            linear: 0,
+            values: 0,
+            suffixes: 0,
+            columns: Vec::new(alloc),
+            uses,
+            places,
+            is_broken: false,
+        })
     }
 
     /// Takes the row of these words in this line.
@@ -68,9 +107,36 @@ impl BodyReader {
         requires exists { HasRow (texts words.now) line }
         ensures { TakesRow self.old (texts words.now) line result self.new }
     {
-        let _ = words;
-        let _ = line;
-        Err(Stop::Memory)
+        if is_head(words) {
+            return self.take_head(words, line);
+        }
+        self.take_line(words, line)
+    }
+
+    // Takes a row that is no head.
+    fn take_line(&mut self, words: &[&[u8]], line: u32) -> Result<(), Stop<Refusal>>
+        requires row { is_head (texts words.now) ≡ false }
+        requires exists { HasRow (texts words.now) line }
+        ensures { TakesRow self.old (texts words.now) line result self.new }
+    {
+        match self.awaited() {
+            Awaited::Pair => self.take_pair(words, line),
+            Awaited::ColumnCount => self.take_column(words, line),
+            Awaited::Interval => self.take_interval(words, line),
+            Awaited::Node => self.take_node(words, line),
+            Awaited::OperandCount => self.take_operand_count(words, line),
+            Awaited::Nothing => Err(Stop::Fault(refusal(NlReason::ExtraLine))),
+        }
+    }
+
+    // The line that is awaited.
+    fn awaited(&self) -> Awaited
+        ensures { result ≡ body_awaits self.now.current }
+    {
+        match &self.current {
+            Some(current) => current.awaited(),
+            None => Awaited::Nothing,
+        }
     }
 
     /// The file and the lines of its places, at the end of the text.

@@ -119,9 +119,9 @@ pub(crate) fn settle(
 impl BodyReader {
     /// A line with a node.
     pub(crate) fn take_node(&mut self, words: &[&[u8]], line: u32) -> Result<(), Stop<Refusal>>
+        requires awaited { IsAwaiting Node self.old }
         requires row { is_head (texts words.now) ≡ false }
         requires exists { HasRow (texts words.now) line }
-        requires awaited { IsAwaiting Node self.old }
         ensures { TakesRow self.old (texts words.now) line result self.new }
     {
         if self.is_broken {

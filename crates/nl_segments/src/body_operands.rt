@@ -19,9 +19,9 @@ impl BodyReader {
         words: &[&[u8]],
         line: u32,
     ) -> Result<(), Stop<Refusal>>
+        requires awaited { IsAwaiting OperandCount self.old }
         requires row { is_head (texts words.now) ≡ false }
         requires exists { HasRow (texts words.now) line }
-        requires awaited { IsAwaiting OperandCount self.old }
         ensures { TakesRow self.old (texts words.now) line result self.new }
     {
         let _ = line;

@@ -1,9 +1,9 @@
 // A line of an index and a value.
-ghost use Rattle.std.specs.Prelude.{◌≡◌, true};
+ghost use Rattle.std.specs.Prelude.{◌≡◌, true, false};
 ghost use Rattle.text_base.specs.Words.{texts};
 ghost use Rattle.nl_segments.specs.declared.awaited.Awaited.TheVariants.{Pair, ColumnCount, Interval, Node, OperandCount};
 ghost use Rattle.nl_segments.specs.Heads.{is_head};
-ghost use Rattle.nl_segments.specs.Held.{TakesRow, IsAwaiting};
+ghost use Rattle.nl_segments.specs.Held.{HasRow, TakesRow, IsAwaiting};
 
 use crate::body::BodyReader;
 use crate::fault::Refusal;
@@ -12,7 +12,9 @@ use text_base::Stop;
 impl BodyReader {
     /// A line of an index and a value.
     pub(crate) fn take_pair(&mut self, words: &[&[u8]], line: u32) -> Result<(), Stop<Refusal>>
-        requires { IsAwaiting Pair self.old }
+        requires awaited { IsAwaiting Pair self.old }
+        requires row { is_head (texts words.now) ≡ false }
+        requires exists { HasRow (texts words.now) line }
         ensures { TakesRow self.old (texts words.now) line result self.new }
     {
         let _ = words;

@@ -1,17 +1,35 @@
 // The grammar of .nl texts, a line at a time.
-ghost use Rattle.std.specs.Prelude.{◌≡◌, []};
-ghost use Rattle.nl_segments.specs.Grammar.{standing, nl_rules, SaysFile, fault_refusal};
+ghost use Rattle.std.specs.Prelude.{◌≡◌, ◌<◌, [], length, None};
+ghost use Rattle.text_base.specs.Words.{words_of, row_of};
+ghost use Rattle.nl_segments.specs.Grammar.{standing, nl_rules, SaysFile, fault_refusal, reason_of};
 ghost use Rattle.nl_segments.specs.Held.{HoldsStanding};
 ghost use Rattle.nl_segments.specs.Reader.{value_of, HasLines};
+ghost use Rattle.nl_segments.specs.Taking.{TakesHeaderRow, TakesAnyRow};
 
 use crate::body::BodyReader;
 use crate::fault::{NlReason, Refusal};
 use crate::nl_read::NlRead;
 use crate::nodes::refusal;
-use nl_header::HeaderReader;
+use nl_header::{HeadFault, HeaderReader};
 use std::alloc::Global;
 use std::marker::Model;
-use text_base::{Grammar, LineFault, Stop};
+use std::mem;
+use text_base::{Grammar, LineFault, Row, Stop, strip_comment};
+
+// What a fault of the header is called here.
+fn reason_of(fault: HeadFault) -> NlReason
+    ensures { result ≡ reason_of fault }
+{
+    match fault {
+        HeadFault::BinaryFile => NlReason::BinaryFile,
+        HeadFault::BadFirstLine => NlReason::BadFirstLine,
+        HeadFault::Options => NlReason::Options,
+        HeadFault::BadHeaderNumber => NlReason::BadHeaderNumber,
+        HeadFault::CountsDisagree => NlReason::CountsDisagree,
+        HeadFault::RefusedCount => NlReason::RefusedCount,
+        HeadFault::TooLarge => NlReason::TooLarge,
+    }
+}
 
 /// The lines so far: the header, and then the body.
 #[derive(Drop)]
@@ -22,7 +40,7 @@ pub struct NlGrammar {
 }
 
 impl Model for NlGrammar {
-    ghost use Rattle.nl_segments.specs.Held.{Progress, HoldsSomeStanding};
+    ghost use Rattle.nl_segments.specs.Held.{Progress};
 
     ghost Value = { Progress };
 
@@ -32,7 +50,9 @@ impl Model for NlGrammar {
 
     ghost view = { λ g. record { header = g.header; body = g.body } };
 
-    ghost invariant = { λ g. HoldsSomeStanding (record { header = g.header; body = g.body }) };
+    ghost use Rattle.nl_segments.specs.Taking.{AwaitsHeader};
+
+    ghost invariant = { λ g. AwaitsHeader g.header g.body };
 }
 
 impl Grammar for NlGrammar {
@@ -51,9 +71,12 @@ impl Grammar for NlGrammar {
     ghost says = { λ s lines r. SaysFile lines (value_of r) × HasLines r };
 
     fn take(&mut self, line: &[u8], number: u32) -> Result<(), Stop<Refusal>> {
-        let _ = line;
-        let _ = number;
-        Err(Stop::Memory)
+        let text = strip_comment(line);
+        let row = Row::of(text);
+        if row.words().is_empty() {
+            return Ok(());
+        }
+        self.take_row(text, &row, number)
     }
 
     fn line_fault(&self, fault: LineFault) -> Refusal {
@@ -64,13 +87,15 @@ impl Grammar for NlGrammar {
     }
 
     fn finish(self) -> Result<NlRead, Stop<Refusal>> {
-        Err(Stop::Memory)
+        match self.body {
+            Some(body) => body.finish(),
+            None => Err(Stop::Fault(refusal(NlReason::EndInHeader))),
+        }
     }
 }
 
 impl NlGrammar {
     /// No lines.
-    #[tactic(auto, unfolding(crate::specs::Grammar::standing))]
     pub(crate) fn new(alloc: Global) -> NlGrammar
         ensures { HoldsStanding (standing []) result }
     {
@@ -79,5 +104,39 @@ impl NlGrammar {
             header: HeaderReader::new(),
             body: None,
         }
+    }
+
+    // Takes a row of the header. After an `Err` nothing was taken.
+    fn take_header(&mut self, text: &[u8], number: u32) -> Result<(), Stop<Refusal>>
+        requires none { self.old.body ≡ None }
+        requires words { 0 < length (words_of text.now) }
+        ensures { TakesHeaderRow self.old (record { line = number; text = text.now }) result self.new }
+    {
+        let _ = number;
+        let mut header = mem::replace(&mut self.header, HeaderReader::new());
+        match header.line(text) {
+            Ok(None) => {
+                self.header = header;
+                Ok(())
+            }
+            Ok(Some(whole)) => {
+                let body = BodyReader::new(self.alloc, whole)?;
+                self.body = Some(body);
+                Ok(())
+            }
+            Err(fault) => Err(Stop::Fault(refusal(reason_of(fault)))),
+        }
+    }
+
+    // Takes a row of the header or of the body.
+    fn take_row(&mut self, text: &[u8], row: &Row<'_>, number: u32) -> Result<(), Stop<Refusal>>
+        requires words { 0 < length (words_of text.now) }
+        requires row { row.now ≡ row_of text.now }
+        ensures { TakesAnyRow self.old (record { line = number; text = text.now }) result self.new }
+    {
+        if let Some(body) = &mut self.body {
+            return body.take(row.words(), number);
+        }
+        self.take_header(text, number)
     }
 }

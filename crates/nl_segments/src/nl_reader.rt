@@ -48,6 +48,10 @@ impl Model for NlReader {
     ghost coded = { reading_code };
 
     ghost view = { λ r. record { lines = r.reader.lines; progress = r.reader.grammar; stopped = r.reader.stopped } };
+
+    ghost use Rattle.nl_segments.specs.Reader.{WasFed};
+
+    ghost invariant = { λ r. WasFed (record { lines = r.reader.lines; progress = r.reader.grammar; stopped = r.reader.stopped }) };
 }
 
 impl NlReader {
@@ -70,10 +74,10 @@ impl NlReader {
         ensures kept { IfErr result (λ stop. IfSome self.new.stopped (λ found. stop ≡ stop_of found)) }
         ensures sticky { IfSome self.old.stopped (λ found. result ≡ Err (stop_of found)) }
     {
-        match self.reader.feed(piece) {
-            Ok(()) => Ok(()),
-            Err(stop) => Err(stop_of(stop)),
+        if let Err(stop) = self.reader.feed(piece) {
+            return Err(stop_of(stop));
         }
+        Ok(())
     }
 
     /// The file and its places, at the end of the text.

@@ -1,0 +1,130 @@
+-- What rows and the end do to the whole reader.
+use Rattle.std.proofs.Common.{◌≡◌, ◌∙◌, ℕ, suc, ◌+◌, ◌<◌, ◌≤◌, Bool, true, false, List, [], ◌∷◌, ◌++◌, length, take, not, ◌==◌, Bor, refl, sym, ap, subst, arith, nat_lt, IfOk, IfErr, OnOk}
+use Rattle.std.specs.Prelude.{Option, Some, None, Result, Ok, Err, if◌then◌else◌, option_map}
+use Rattle.std.proofs.lemmas.List.{length-map}
+use Rattle.text_base.specs.Stopped.{IfFault}
+use Rattle.text_base.specs.declared.stop.Stop.{Stop}
+use Rattle.text_base.specs.declared.stop.Stop.TheVariants.{Fault, Memory}
+use Rattle.text_base.specs.Words.{words_of, row_of, texts, without_comment}
+use Rattle.nl_header.specs.Head.{line_fault}
+use Rattle.nl_header.specs.Reading.{Taken, IsReading, Takes}
+use Rattle.nl_header.specs.declared.fault.HeadFault.{HeadFault}
+use Rattle.nl_model.specs.declared.header.Header.{Header}
+use Rattle.nl_segments.specs.declared.fault.Refusal.{Refusal}
+use Rattle.nl_segments.specs.declared.nl_read.NlRead.{NlRead}
+use Rattle.nl_segments.specs.Rows.{Row, holds_words}
+use Rattle.nl_segments.specs.Grammar.{Standing, standing, is_in_header, line_refusal, header_refusal, row_refusal, end_refusal, nl_rules, SaysFile, reason_of}
+use Rattle.nl_segments.specs.declared.fault.NlReason.TheVariants.{EndInHeader}
+use Rattle.nl_segments.specs.Tests.{for_reason}
+use Rattle.nl_segments.specs.Held.{Body, Progress, IsHeld, IsHeaderOf, only_header, HoldsBy, HoldsStanding, TakesRow, Finishes, IsRowOf}
+use Rattle.nl_segments.specs.Steps.{after, after_header_row, after_row, after_body_row}
+use Rattle.nl_segments.specs.Taking.{TakesAnyRow, TakesHeaderRow}
+use Rattle.nl_segments.specs.Reader.{value_of, HasLines}
+use Rattle.nl_segments.proofs.StandingLemmas.{standing-more}
+
+-- ---- the header
+
+-- before the body
+record IsBefore (s : Standing) (t : Taken) : Type 0 where
+  header : is_in_header s ≡ true
+  none : s.pieces ≡ []
+  reading : IsReading t s.header
+
+before_body : (s : Standing) (g : Progress) → g.body ≡ None → HoldsStanding s g → IsBefore s g.header
+before_body s g e h =
+    let held : HoldsBy s g.header None = subst (HoldsBy s g.header) e h in
+    record { header = held.0; none = held.1; reading = held.2 }
+
+pub body_begun : (g : Progress) (row : Row) (header : Header) (after : Taken) (b : Body) → g.body ≡ None
+    → ((before : List (List (List ℕ))) → IsReading g.header before → Takes before (words_of row.text) (Ok (Some header)) after)
+    → ((rows : List (List (List ℕ))) → IsHeaderOf rows header.options header.counts → IsHeld (only_header rows) b)
+    → (s : Standing) → HoldsStanding s g → (header_refusal s row.text ≡ None) × IsHeld (after_header_row s row) b
+body_begun g row header after b none takes begun s h =
+    let before = before_body s g none h in
+    let ends = takes s.header before.reading in
+    (rw ends.clean refl, rw before.none (begun (s.header ++ words_of row.text ∷ []) (record { whole = rw ends.says.count refl; same_options = sym ends.says.options; same_counts = sym ends.says.counts })))
+
+-- ---- any row
+
+in_body : (s : Standing) (b : Body) → IsHeld s b → is_in_header s ≡ false
+in_body s b h = h.body
+
+pub row_in_header : (old : Progress) (row : Row) (r : Result (Unit {0}) (Stop Refusal)) (new : Progress) → old.body ≡ None → TakesHeaderRow old row r new → TakesAnyRow old row r new
+row_in_header old row (Ok u) new none takes = λ s h. rw (before_body s old none h).header (takes s h)
+row_in_header old row (Err (Fault f)) new none takes = λ s h. rw (before_body s old none h).header (takes s h)
+row_in_header old row (Err Memory) new none takes = tt
+
+pub row_in_body : (t : Taken) (old new : Body) (row : Row) (r : Result (Unit {0}) (Stop Refusal)) → TakesRow old (row_of row.text) row.line r new
+    → TakesAnyRow (record { header = t; body = Some old }) row r (record { header = t; body = Some new })
+row_in_body t old new row (Ok u) takes = λ s h. rw (in_body s old h) (takes s row (record { same_words = refl; same_line = refl }) h)
+row_in_body t old new row (Err (Fault f)) takes = λ s h. rw (in_body s old h) (takes s h)
+row_in_body t old new row (Err Memory) takes = tt
+
+-- ---- a line
+
+some_are : (n : ℕ) → (suc n == 0) ≡ false
+some_are n = grind arith
+
+row_begins : (words : List (List ℕ)) → not (length (take 12 words) == 0) ≡ not (length words == 0)
+row_begins [] = refl
+row_begins (word ∷ words) = cc (some_are (length (take 11 words)), some_are (length words))
+
+pub row_holds_words : (line text : List ℕ) (words : List (Bor (List ℕ))) → text ≡ without_comment line → texts words ≡ row_of text → holds_words line ≡ not (length words == 0)
+row_holds_words line text words e w =
+    sym (ap (λ n. not (n == 0)) (sym (length-map words (λ x. x.now)) ∙ ap (length {A = List ℕ}) w)
+    ∙ row_begins (words_of text) ∙ ap (λ t. not (length (words_of t) == 0)) e)
+
+pub no_row : (g : Progress) (lines : List (List ℕ)) (line : List ℕ) → holds_words line ≡ false → HoldsStanding (standing lines) g → HoldsStanding (standing (lines ++ line ∷ [])) g
+no_row g lines line none h = subst (λ s. HoldsStanding s g) (sym (standing-more lines line ∙ rw none refl)) h
+
+pub no_row_fine : (s : Standing) (line : List ℕ) → holds_words line ≡ false → line_refusal s line ≡ None
+unfolding line_refusal
+no_row_fine s line none = rw none refl
+
+pub row_taken : (old new : Progress) (line : List ℕ) (n : ℕ) (r : Result (Unit {0}) (Stop Refusal)) → holds_words line ≡ true
+    → TakesAnyRow old (record { line = n; text = without_comment line }) r new
+    → OnOk r ((lines : List (List ℕ)) → n ≡ length lines + 1 → HoldsStanding (standing lines) old → HoldsStanding (standing (lines ++ line ∷ [])) new)
+row_taken old new line n (Ok u) some takes = λ lines e h.
+    subst (λ s. HoldsStanding s new) (sym (standing-more lines line ∙ rw (some, ← e) refl)) (takes (standing lines) h).1
+row_taken old new line n (Err stop) some takes = tt
+
+pub row_fine : (old new : Progress) (line : List ℕ) (n : ℕ) (r : Result (Unit {0}) (Stop Refusal)) → holds_words line ≡ true
+    → TakesAnyRow old (record { line = n; text = without_comment line }) r new
+    → OnOk r ((lines : List (List ℕ)) → n ≡ length lines + 1 → HoldsStanding (standing lines) old → line_refusal (standing lines) line ≡ None)
+unfolding line_refusal
+row_fine old new line n (Ok u) some takes = λ lines e h. rw some (takes (standing lines) h).0
+row_fine old new line n (Err stop) some takes = tt
+
+pub row_fault : (old new : Progress) (line : List ℕ) (n : ℕ) (r : Result (Unit {0}) (Stop Refusal)) → holds_words line ≡ true
+    → TakesAnyRow old (record { line = n; text = without_comment line }) r new
+    → IfErr r (λ stop. IfFault stop (λ reason. (lines : List (List ℕ)) → n ≡ length lines + 1 → HoldsStanding (standing lines) old → line_refusal (standing lines) line ≡ Some reason))
+unfolding line_refusal
+row_fault old new line n (Ok u) some takes = tt
+row_fault old new line n (Err (Fault f)) some takes = λ lines e h. rw some (takes (standing lines) h)
+row_fault old new line n (Err Memory) some takes = tt
+
+-- ---- the end
+
+pub end_in_header : (s : Standing) (g : Progress) → g.body ≡ None → HoldsStanding s g → end_refusal s ≡ Some (for_reason EndInHeader)
+unfolding end_refusal
+end_in_header s g none h = rw (before_body s g none h).header refl
+
+body_held : (s : Standing) (g : Progress) (b : Body) → g.body ≡ Some b → HoldsStanding s g → IsHeld s b
+body_held s g b e h = subst (HoldsBy s g.header) e h
+
+pub end_fine : (g : Progress) (given b : Body) → given ≡ b → g.body ≡ Some b → (r : Result NlRead (Stop Refusal)) → Finishes given r
+    → IfOk r (λ value. (lines : List (List ℕ)) → HoldsStanding (standing lines) g → end_refusal (standing lines) ≡ None)
+unfolding end_refusal
+end_fine g given b same e (Ok value) finishes = λ lines h.
+    let held = body_held (standing lines) g b e h in
+    rw (in_body (standing lines) b held) ((subst (λ x. Finishes x (Ok value)) same finishes) (standing lines) held).0
+end_fine g given b same e (Err stop) finishes = tt
+
+pub end_fault : (g : Progress) (given b : Body) → given ≡ b → g.body ≡ Some b → (r : Result NlRead (Stop Refusal)) → Finishes given r
+    → IfErr r (λ stop. IfFault stop (λ reason. (lines : List (List ℕ)) → HoldsStanding (standing lines) g → end_refusal (standing lines) ≡ Some reason))
+unfolding end_refusal
+end_fault g given b same e (Ok value) finishes = tt
+end_fault g given b same e (Err (Fault f)) finishes = λ lines h.
+    let held = body_held (standing lines) g b e h in
+    rw (in_body (standing lines) b held) ((subst (λ x. Finishes x (Err (Fault f))) same finishes) (standing lines) held)
+end_fault g given b same e (Err Memory) finishes = tt
