@@ -1,7 +1,6 @@
 -- Rows of expressions: their tests, and what is known of their nodes.
-use Rattle.std.proofs.Common.{◌≡◌, ◌∙◌, ℕ, ◌+◌, ◌<◌, ◌≤◌, ◌^◌, ◌==◌, Bool, true, false, not, ◌&&◌, ◌||◌, List, [], ◌∷◌, ◌++◌, refl, sym, ap, subst, arith, nat_lt, nat_le, Option, Some, None}
-use Rattle.std.specs.Prelude.{if◌then◌else◌, option_map, option_and_then, unwrap_or, is_none, codes}
-use Rattle.std.specs.Option.{option_map_or}
+use Rattle.std.proofs.Common.{◌≡◌, ℕ, ◌+◌, ◌<◌, ◌≤◌, ◌^◌, ◌==◌, Bool, true, false, not, ◌||◌, List, [], ◌∷◌, ◌++◌, refl, ap, subst, arith, nat_lt, nat_le, Option, Some, None}
+use Rattle.std.specs.Prelude.{if◌then◌else◌, option_map, option_and_then, unwrap_or, codes}
 use Rattle.std.proofs.lemmas.Bool.{le-leb, leb-true, ltb-true, ltb-false, not-false}
 use Rattle.text_base.specs.Judged.{first_reason}
 use Rattle.code_tables.specs.Opcodes.{operands_of}
@@ -10,7 +9,7 @@ use Rattle.code_tables.specs.declared.class.Operands.TheVariants.{One, Two, Coun
 use Rattle.exact_numbers.specs.declared.dec.Dec.{Dec}
 use Rattle.nl_model.specs.declared.counts.Counts.{Counts}
 use Rattle.nl_model.specs.declared.node.Node.{Node}
-use Rattle.nl_model.specs.declared.node.Node.TheVariants.{Num, Var, Defined, Op}
+use Rattle.nl_model.specs.declared.node.Node.TheVariants.{Num}
 use Rattle.nl_model.specs.Draft.{Draft}
 use Rattle.nl_model.specs.File.{Definition}
 use Rattle.nl_model.specs.HeaderRules.{defined_count}
@@ -21,7 +20,7 @@ use Rattle.nl_segments.specs.Heads.{is_among, letter_of, own_number}
 use Rattle.nl_segments.specs.Held.{IsNodeKnown}
 use Rattle.nl_segments.specs.Nodes.{fixed_node, variable_node, node_in, leaf_text}
 use Rattle.nl_segments.specs.Numbers.{dec_of_text, dec_of_signed}
-use Rattle.nl_segments.specs.Tests.{Tests, for_reason, is_below, is_node_form, is_undefined, leaf_tests, node_form_tests, number_tests, opcode_tests, variable_tests}
+use Rattle.nl_segments.specs.Tests.{Tests, for_reason, is_node_form, is_undefined, leaf_tests, node_form_tests, number_tests, opcode_tests, variable_tests}
 
 -- ---- the first of more tests
 

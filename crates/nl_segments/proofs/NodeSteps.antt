@@ -1,18 +1,14 @@
 -- What a row of an expression does to what is held. In each lemma p is the last piece, after the pieces `before`.
-use Rattle.std.proofs.Common.{◌≡◌, ◌∙◌, ℕ, ◌+◌, ◌-◌, ◌<◌, ◌≤◌, ◌^◌, Bool, true, false, List, [], ◌∷◌, ◌++◌, length, map, take, refl, sym, ap, subst, arith, nat_lt, Option, Some, None, get_or, All}
+use Rattle.std.proofs.Common.{◌≡◌, ◌∙◌, ℕ, ◌+◌, ◌<◌, ◌≤◌, ◌^◌, Bool, true, false, List, [], ◌∷◌, ◌++◌, length, refl, sym, ap, subst, arith, nat_lt, Option, Some, None, get_or, All}
 use Rattle.std.specs.Prelude.{ℤ, if◌then◌else◌, IfSome, IsTrue}
 use Rattle.std.specs.List.{flat_map}
-use Rattle.std.proofs.lemmas.Bool.{ltb-true, ltb-false}
+use Rattle.std.proofs.lemmas.Bool.{ltb-false}
 use Rattle.std.proofs.lemmas.Grind.{flat_map-append}
 use Rattle.std.proofs.lemmas.List.Concat.{flat_map-cons}
-use Rattle.std.proofs.lemmas.List.{length-append, length_push, length-map, map-append, take-append-le}
-use Rattle.std.proofs.lemmas.List.Elements.{All-push}
-use Rattle.text_base.specs.Judged.{first_reason}
+use Rattle.std.proofs.lemmas.List.{length-append, take-append-le}
 use Rattle.nl_header.specs.Head.{options_in, counts_in}
 use Rattle.nl_meaning.specs.Trees.{Tree}
 use Rattle.nl_model.specs.declared.counts.Counts.{Counts}
-use Rattle.nl_model.specs.declared.node.Node.{Node}
-use Rattle.nl_model.specs.declared.node.Node.TheVariants.{Op}
 use Rattle.nl_model.specs.Draft.{Draft}
 use Rattle.nl_model.specs.File.{Term}
 use Rattle.nl_model.specs.Nodes.{tree_of}
@@ -21,23 +17,17 @@ use Rattle.nl_segments.specs.declared.awaited.Awaited.{Awaited}
 use Rattle.nl_segments.specs.declared.awaited.Awaited.TheVariants.{Nothing, Pair, ColumnCount, Interval as IntervalLine, Node as NodeLine, OperandCount}
 use Rattle.nl_segments.specs.declared.head.Head.{Head}
 use Rattle.nl_segments.specs.declared.head.Head.TheVariants.{Body as BodyHead, Objective, Definition, DualGuesses, PrimalGuesses, Sides, Bounds, ColumnCounts, Terms, Slopes, Suffix}
-use Rattle.nl_segments.specs.declared.node_row.NodeRow.{NodeRow}
-use Rattle.nl_segments.specs.declared.node_row.NodeRow.TheVariants.{Whole, Counted}
-use Rattle.nl_segments.specs.Rows.{Row, row_words}
-use Rattle.nl_segments.specs.Heads.{is_in_range}
-use Rattle.nl_segments.specs.Nodes.{Placed, only_nodes, only_lines, nodes_from, node_in, opcode_in}
-use Rattle.nl_segments.specs.NodeRows.{IsRow}
-use Rattle.nl_segments.specs.Pieces.{Piece, last_piece, line_kind, line_count, pair_count, has_tree, is_nothing, is_complete, piece_nodes, piece_pending, piece_pairs}
-use Rattle.nl_segments.specs.Tests.{all_column_counts, column_counts, has_index, holds_once, index_limit, is_linear, is_suffix, pair_total}
-use Rattle.nl_segments.specs.Saying.{PlaceLines, node_lines, term_lines, lines_by, place_lines, piece_tree, draft_of}
-use Rattle.nl_segments.specs.Current.{Current, IsCurrent, current_awaits, nodes_await, with_node_row}
-use Rattle.nl_segments.specs.PlaceSteps.{HasOwner, HasBegun, with_node_line}
-use Rattle.nl_segments.specs.TreeSteps.{IsSettled, with_tree, row_count, with_row_line}
-use Rattle.nl_segments.specs.Held.{Body, AreSeen, AreSound, IsHeld, IsLast, IsMarked, IsNodeKnown, IsNodeLeft, IsOpen, IsSoundPiece, keeps_pairs, use_count}
-use Rattle.nl_segments.proofs.CurrentLemmas.{awaits, late_tree, late_pairs, last_nodes, nodes-more, tree_count, with_node}
+use Rattle.nl_segments.specs.Rows.{Row}
+use Rattle.nl_segments.specs.Nodes.{Placed, nodes_from}
+use Rattle.nl_segments.specs.Pieces.{Piece, line_kind, line_count, pair_count, has_tree, is_nothing, is_complete, piece_nodes, piece_pending, piece_pairs}
+use Rattle.nl_segments.specs.Tests.{all_column_counts, column_counts, has_index, index_limit, is_linear, is_suffix, pair_total}
+use Rattle.nl_segments.specs.Saying.{PlaceLines, lines_by, place_lines, piece_tree, draft_of}
+use Rattle.nl_segments.specs.Current.{Current, IsCurrent, current_awaits, nodes_await}
+use Rattle.nl_segments.specs.TreeSteps.{IsSettled, with_tree}
+use Rattle.nl_segments.specs.Held.{Body, AreSeen, IsHeld, IsLast, IsMarked, IsNodeKnown, IsNodeLeft, IsOpen, IsSoundPiece, keeps_pairs, use_count}
+use Rattle.nl_segments.proofs.CurrentLemmas.{awaits, late_tree, late_pairs, last_nodes, nodes-more, tree_count}
 use Rattle.nl_segments.proofs.DraftLemmas.{draft_counts, says_whole, draft_before, with_body, with_objective, with_definition}
 use Rattle.nl_segments.proofs.PieceLemmas.{longer, last-append, lines-append}
-use Rattle.nl_segments.proofs.PlaceLemmas.{place_counts, place_node, place_same}
 use Rattle.nl_segments.proofs.TotalLemmas.{nodes-append}
 use Rattle.nl_segments.proofs.PairLines.{at, last_sound, sound_longer, are_seen_longer, suffixes_longer, pairs_longer}
 
@@ -156,6 +146,7 @@ with_whole o c before q tree whole = by q.head refl
   where
     back : (h : Head) → q.head ≡ h → with_tree (draft_of o c before) h (piece_pairs q) (piece_tree c q) ≡ with_tree (draft_of o c before) q.head (piece_pairs q) (piece_tree c q)
     back h e = ap (λ x. with_tree (draft_of o c before) x (piece_pairs q) (piece_tree c q)) (sym e)
+
     by : (h : Head) → q.head ≡ h → draft_of o c (before ++ q ∷ []) ≡ with_tree (draft_of o c before) q.head (piece_pairs q) (piece_tree c q)
     by (BodyHead i) e = with_body o c before q i e whole ∙ back (BodyHead i) e
     by (Objective k m) e = with_objective o c before q k m e whole ∙ back (Objective k m) e

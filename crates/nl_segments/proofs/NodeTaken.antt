@@ -1,6 +1,6 @@
 -- Taking a row of an expression: what is wrong with it, and what is held after it.
 use Rattle.std.proofs.Common.{◌≡◌, ◌∙◌, ℕ, ◌+◌, ◌<◌, ◌≤◌, ◌^◌, Bool, true, false, List, [], ◌∷◌, ◌++◌, length, map, refl, sym, ap, subst, arith, nat_le, Option, Some, None, All}
-use Rattle.std.specs.Prelude.{IfSome, IsSomeAnd, option_map, unwrap_or}
+use Rattle.std.specs.Prelude.{IfSome, option_map, unwrap_or}
 use Rattle.std.specs.List.{cons_option}
 use Rattle.std.proofs.lemmas.Bool.{ltb-true}
 use Rattle.std.proofs.lemmas.List.{append-nil, length-map, length_push, map-append, take-append-le}
@@ -29,7 +29,7 @@ use Rattle.nl_segments.specs.Steps.{after_body_row}
 use Rattle.nl_segments.specs.Current.{Current, current_awaits, with_node_row, with_operand_count}
 use Rattle.nl_segments.specs.PlaceSteps.{HasOwner, HasBegun, with_node_line}
 use Rattle.nl_segments.specs.TreeSteps.{IsFresh, IsSettled, row_count, with_row_line, counted_node_tests}
-use Rattle.nl_segments.specs.Held.{Body, IsHeld, IsNodeKnown, IsNodeLeft, IsOpen, IsRowOf, words_refusal}
+use Rattle.nl_segments.specs.Held.{Body, IsHeld, IsNodeKnown, IsNodeLeft, IsRowOf, words_refusal}
 use Rattle.nl_segments.proofs.CurrentLemmas.{last_nodes, with_node, with_count}
 use Rattle.nl_segments.proofs.PieceLemmas.{longer, lines-append}
 use Rattle.nl_segments.proofs.PlaceLemmas.{place_counts, place_node, place_same}
@@ -265,12 +265,13 @@ node_taken b words line cur next r head count draft kept places read e same coun
       uses = refl;
       places = lines ∙ ap (λ h. with_row_line b.places line h r) same;
     } in
-    let w = sym is.same_words in
-    (node_judged s b cur words h read.here read.kind read.other ∙ read.fine,
-    row_taken s row b (record b { draft = draft; current = kept; nodes = b.nodes + count; places = places }) cur r h read.here read.kind (subst (λ ws. is_head ws ≡ false) w read.other)
-    (subst (λ ws. IsRow (node_in b.draft.counts.n_var ws) (opcode_in ws) r) w read.row)
-    (subst (λ ws. first_reason (node_form_tests b.draft.counts b.draft ws) ≡ None) w (form_fine b words cur r read)) read.few
-    (subst (λ n. IsTreeStep b (with_node_row cur n r) (row_count r) (with_row_line b.places n cur.head r) (record b { draft = draft; current = kept; nodes = b.nodes + count; places = places })) (sym is.same_line) step))
+    let w = sym is.same_words in (
+      node_judged s b cur words h read.here read.kind read.other ∙ read.fine,
+      row_taken s row b (record b { draft = draft; current = kept; nodes = b.nodes + count; places = places }) cur r h read.here read.kind (subst (λ ws. is_head ws ≡ false) w read.other)
+          (subst (λ ws. IsRow (node_in b.draft.counts.n_var ws) (opcode_in ws) r) w read.row)
+          (subst (λ ws. first_reason (node_form_tests b.draft.counts b.draft ws) ≡ None) w (form_fine b words cur r read)) read.few
+          (subst (λ n. IsTreeStep b (with_node_row cur n r) (row_count r) (with_row_line b.places n cur.head r) (record b { draft = draft; current = kept; nodes = b.nodes + count; places = places })) (sym is.same_line) step),
+    )
 
 -- ---- the number of operands
 
@@ -342,7 +343,8 @@ count_taken b words line cur next q k head draft kept places read e same lines s
       uses = refl;
       places = lines ∙ ap (λ h. with_node_line b.places q.line h) same;
     } in
-    let w = sym is.same_words in
-    (operands_judged s b cur words h read.here read.kind read.other ∙ read.fine,
-    operands_taken s row b (record b { draft = draft; current = kept; nodes = b.nodes + 1; places = places }) cur q k h read.here read.kind read.pending (subst (λ ws. is_head ws ≡ false) w read.other)
-    (subst (λ ws. whole_of (word_at ws 0) ≡ Some k) w read.count) step)
+    let w = sym is.same_words in (
+      operands_judged s b cur words h read.here read.kind read.other ∙ read.fine,
+      operands_taken s row b (record b { draft = draft; current = kept; nodes = b.nodes + 1; places = places }) cur q k h read.here read.kind read.pending (subst (λ ws. is_head ws ≡ false) w read.other)
+          (subst (λ ws. whole_of (word_at ws 0) ≡ Some k) w read.count) step,
+    )

@@ -1,11 +1,11 @@
 -- The file may take the expression of the last piece, which has given nothing before.
-use Rattle.std.proofs.Common.{◌≡◌, ◌∙◌, ℕ, ◌+◌, ◌<◌, ◌≤◌, Bool, true, false, ◌&&◌, List, [], ◌∷◌, ◌++◌, length, refl, sym, ap, subst, arith, nat_lt, nat_le, Option, Some, None, All}
+use Rattle.std.proofs.Common.{◌≡◌, ◌∙◌, ℕ, ◌+◌, ◌<◌, ◌≤◌, Bool, true, false, ◌&&◌, List, [], ◌∷◌, ◌++◌, length, refl, sym, ap, subst, arith, nat_lt, nat_le, Some}
 use Rattle.std.specs.Prelude.{ℤ, IsTrue}
 use Rattle.std.specs.List.{list_any}
 use Rattle.std.proofs.lemmas.Bool.{ltb-true, leb-true}
 use Rattle.nl_header.specs.Head.{options_in, counts_in}
 use Rattle.nl_model.specs.declared.counts.Counts.{Counts}
-use Rattle.nl_model.specs.Draft.{Draft, is_given}
+use Rattle.nl_model.specs.Draft.{is_given}
 use Rattle.nl_model.specs.File.{Term}
 use Rattle.nl_model.specs.HeaderRules.{defined_count}
 use Rattle.nl_model.specs.Rules.{AreTermsBelow, is_defined, most_terms}
@@ -15,9 +15,9 @@ use Rattle.nl_segments.specs.Heads.{is_in_range}
 use Rattle.nl_segments.specs.Pieces.{Piece, has_tree, piece_pairs}
 use Rattle.nl_segments.specs.Tests.{index_limit, is_linear, is_same_piece, pair_total}
 use Rattle.nl_segments.specs.Saying.{draft_of}
-use Rattle.nl_segments.specs.Grammar.{Standing, counts_of}
+use Rattle.nl_segments.specs.Grammar.{Standing}
 use Rattle.nl_segments.specs.Current.{Current}
-use Rattle.nl_segments.specs.TreeSteps.{IsFresh, IsFreshDefinition}
+use Rattle.nl_segments.specs.TreeSteps.{IsFresh}
 use Rattle.nl_segments.specs.Held.{Body, IsHeld, IsOpen, keeps_pairs}
 use Rattle.nl_segments.proofs.DraftLemmas.{draft_before}
 use Rattle.nl_segments.proofs.FreshLaw.{none_before, fresh_body, fresh_objective, fresh_definition}
@@ -54,14 +54,19 @@ fresh_by header before p b cur h held begun tree e = by h e
   where
     c : Counts
     c = counts_in header
+
     o : List ℤ
     o = options_in header
+
     draft : b.draft ≡ draft_of o c before
     draft = held.draft ∙ draft_before o c before p (tree_says p.head tree) begun.incomplete
+
     none : (h : Head) → p.head ≡ h → list_any (is_same_piece h p.name) before ≡ false
     none h e = subst (λ h. list_any (is_same_piece h p.name) before ≡ false) e (none_before before p held.sound.apart)
+
     range : (h : Head) → p.head ≡ h → is_in_range b.draft.counts h ≡ true
     range h e = ap (λ x. is_in_range x h) held.counts ∙ ap (is_in_range c) (sym e) ∙ (last_sound c before p held.sound).range
+
     by : (h : Head) → p.head ≡ h → IsFresh b.draft h cur.pairs
     by (BodyHead i) e = (body_in b.draft.counts i (range (BodyHead i) e), ap (λ d. is_given d.bodies i) draft ∙ fresh_body o c before i p.name (none (BodyHead i) e))
     by (Objective k m) e = (objective_in b.draft.counts k m (range (Objective k m) e), ap (λ d. is_given d.objectives k) draft ∙ fresh_objective o c before k m p.name (none (Objective k m) e))

@@ -1,5 +1,5 @@
 -- What a row of an expression does to what is held, and what a whole expression adds to the file.
-use Rattle.std.specs.Prelude.{◌≡◌, ℕ, ◌+◌, ◌<◌, ◌≤◌, ◌^◌, Bool, true, false, List, [], ◌∷◌, ◌++◌, length, slice_set, Option, Some, None, nat_le}
+use Rattle.std.specs.Prelude.{◌≡◌, ℕ, ◌+◌, ◌<◌, ◌≤◌, ◌^◌, true, false, List, [], ◌∷◌, ◌++◌, length, slice_set, Option, Some, None, nat_le}
 use Rattle.nl_meaning.specs.Trees.{Tree}
 use Rattle.nl_model.specs.declared.counts.Counts.{Counts}
 use Rattle.nl_model.specs.Draft.{Draft, is_given}
@@ -7,7 +7,6 @@ use Rattle.nl_model.specs.File.{Term}
 use Rattle.nl_model.specs.HeaderRules.{defined_count}
 use Rattle.nl_model.specs.Nodes.{tree_of}
 use Rattle.nl_model.specs.Rules.{AreTermsBelow, IsTreeWithin, is_defined, most_terms}
-use Rattle.nl_segments.specs.declared.awaited.Awaited.TheVariants.{Nothing}
 use Rattle.nl_segments.specs.declared.fault.NlReason.TheVariants.{TooLarge}
 use Rattle.nl_segments.specs.declared.head.Head.{Head}
 use Rattle.nl_segments.specs.declared.head.Head.TheVariants.{Body, Objective, Definition}

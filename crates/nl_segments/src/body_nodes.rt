@@ -56,12 +56,7 @@ fn row_count(row: NodeRow) -> u32
 }
 
 // Takes the line of a row, if it is a node.
-fn add_row_line(
-    places: &mut Places,
-    head: Head,
-    row: NodeRow,
-    line: u32,
-) -> Result<(), AllocError>
+fn add_row_line(places: &mut Places, head: Head, row: NodeRow, line: u32) -> Result<(), AllocError>
     requires owner { HasOwner places.old head }
     requires begun { HasBegun places.old head }
     ensures { OnOk result (places.new ≡ with_row_line places.old line head row) }

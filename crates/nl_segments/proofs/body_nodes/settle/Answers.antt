@@ -1,6 +1,4 @@
-use Rattle.std.proofs.Common.{◌≡◌, ◌∙◌, sym, rules}
-use Rattle.nl_segments.specs.declared.awaited.Awaited.TheVariants.{Nothing}
-use Rattle.nl_segments.specs.Current.{current_awaits}
+use Rattle.std.proofs.Common.{◌∙◌, sym, rules}
 use Rattle.nl_segments.proofs.TreeLaw.{may_take}
 use Rattle.nl_segments.proofs.body_nodes.settle.Goals as goal
 

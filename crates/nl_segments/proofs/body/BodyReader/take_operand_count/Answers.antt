@@ -1,11 +1,11 @@
-use Rattle.std.proofs.Common.{◌≡◌, ◌∙◌, ◌<◌, ◌≤◌, ◌^◌, sym, ap, subst, refl, arith, false, Option, Some, None, List, ℕ}
+use Rattle.std.proofs.Common.{◌≡◌, ◌∙◌, sym, ap, subst, refl, arith, false, Option, Some, None, List, ℕ}
 use Rattle.text_base.specs.Judged.{first_reason}
 use Rattle.text_base.specs.Words.{texts}
 use Rattle.nl_segments.specs.declared.awaited.Awaited.TheVariants.{OperandCount}
 use Rattle.nl_segments.specs.contracts.body.BodyReader.{the_view}
-use Rattle.nl_segments.specs.Current.{Current, current_awaits}
+use Rattle.nl_segments.specs.Current.{Current}
 use Rattle.nl_segments.specs.Heads.{is_head}
-use Rattle.nl_segments.specs.Held.{Body, IsAwaiting, IsHeld, HasRow, HoldsSome}
+use Rattle.nl_segments.specs.Held.{Body, IsAwaiting, IsHeld}
 use Rattle.nl_segments.specs.Nodes.{Pending}
 use Rattle.nl_segments.specs.Numbers.{whole_of}
 use Rattle.nl_segments.specs.Rows.{word_at}
