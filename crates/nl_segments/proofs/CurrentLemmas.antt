@@ -120,7 +120,7 @@ with_line c p cur row h early =
       pending = h.pending ∙ ap (pending_from None) (sym tree);
     }
 
-tree_count : (c : Counts) (h : Head) → has_tree h ≡ true → line_count c h ≡ pair_count h
+pub tree_count : (c : Counts) (h : Head) → has_tree h ≡ true → line_count c h ≡ pair_count h
 tree_count c (Body i) e = refl
 tree_count c (Objective k m) e = refl
 tree_count c (Definition i j u) e = refl

@@ -14,3 +14,10 @@ pub mod DraftLemmas
 pub mod PlaceLemmas
 pub mod SeenLemmas
 pub mod TotalLemmas
+pub mod PairLines
+pub mod FreshLaw
+pub mod NodeLemmas
+pub mod TreeLaw
+pub mod NodeSteps
+pub mod TreeFresh
+pub mod NodeTaken

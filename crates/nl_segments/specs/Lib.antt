@@ -16,3 +16,4 @@ pub mod Stamps
 pub mod Steps
 pub mod Taking
 pub mod Tests
+pub mod TreeSteps

@@ -1,13 +1,115 @@
 // A line with a node.
-ghost use Rattle.std.specs.Prelude.{◌≡◌, true, false};
+ghost use Rattle.std.specs.Prelude.{◌≡◌, ◌<◌, ◌≤◌, ◌^◌, true, false, None, IfOk, IfErr, OnOk, Some, All};
+ghost use Rattle.text_base.specs.Judged.{first_reason};
 ghost use Rattle.text_base.specs.Words.{texts};
-ghost use Rattle.nl_segments.specs.declared.awaited.Awaited.TheVariants.{Pair, ColumnCount, Interval, Node, OperandCount};
+ghost use Rattle.nl_segments.specs.declared.awaited.Awaited.TheVariants.{Node, Nothing};
+ghost use Rattle.nl_segments.specs.Current.{current_awaits};
 ghost use Rattle.nl_segments.specs.Heads.{is_head};
-ghost use Rattle.nl_segments.specs.Held.{HasRow, TakesRow, IsAwaiting};
+ghost use Rattle.nl_segments.specs.Held.{TakesRow, IsAwaiting, HasRow, IsNodeKnown};
+ghost use Rattle.nl_segments.specs.Nodes.{node_in, opcode_in};
+ghost use Rattle.nl_segments.specs.NodeRows.{IsRow, IsFormedRow};
+ghost use Rattle.nl_segments.specs.Pieces.{has_tree};
+ghost use Rattle.nl_segments.specs.PlaceSteps.{HasOwner, HasBegun};
+ghost use Rattle.nl_segments.specs.TreeSteps.{MayTake, IsFresh, with_tree, IsSettled, row_count, with_row_line, counted_node_tests};
 
+use crate::awaited::Awaited;
 use crate::body::BodyReader;
-use crate::fault::Refusal;
+use crate::current::Current;
+use crate::fault::{NlReason, Refusal};
+use crate::head::Head;
+use crate::node_row::NodeRow;
+use crate::nodes::{read_node, refusal};
+use crate::places::Places;
+use nl_model::{Def, Expr, NlBuilder, Terms};
+use std::alloc::AllocError;
 use text_base::Stop;
+
+/// A file has at most so many nodes.
+const MOST_NODES: u32 = 4_194_304;
+
+// A row of an expression, after so many nodes.
+fn read_row(words: &[&[u8]], builder: &NlBuilder, nodes: u32) -> Result<NodeRow, Refusal>
+    ensures row { IfOk result (IsRow (node_in builder.now.counts.n_var (texts words.now)) (opcode_in (texts words.now))) }
+    ensures formed { IfOk result IsFormedRow }
+    ensures few { OnOk result (nodes < 2 ^ 22) }
+    ensures fine { OnOk result (first_reason (counted_node_tests builder.now.counts builder.now nodes (texts words.now)) ≡ None) }
+    ensures fault { IfErr result (λ r. first_reason (counted_node_tests builder.now.counts builder.now nodes (texts words.now)) ≡ Some r) }
+{
+    let row = match read_node(words, builder) {
+        Ok(row) => row,
+        Err(refusal) => return Err(refusal),
+    };
+    if nodes >= MOST_NODES {
+        return Err(refusal(NlReason::TooLarge));
+    }
+    Ok(row)
+}
+
+// How many nodes a row is.
+fn row_count(row: NodeRow) -> u32
+    ensures { result ≡ row_count row }
+{
+    match row {
+        NodeRow::Whole(_) => 1,
+        NodeRow::Counted(_) => 0,
+    }
+}
+
+// Takes the line of a row, if it is a node.
+fn add_row_line(places: &mut Places, head: Head, row: NodeRow, line: u32) -> Result<(), AllocError>
+    requires owner { HasOwner places.old head }
+    requires begun { HasBegun places.old head }
+    ensures { OnOk result (places.new ≡ with_row_line places.old line head row) }
+{
+    match row {
+        NodeRow::Whole(_) => places.add_node(head, line),
+        NodeRow::Counted(_) => Ok(()),
+    }
+}
+
+// Gives the expression of a piece of this head to the file.
+fn give_tree(
+    builder: &mut NlBuilder,
+    head: Head,
+    terms: Terms,
+    tree: Expr,
+) -> Result<(), AllocError>
+    requires { MayTake builder.old head terms tree }
+    ensures { OnOk result (builder.new ≡ with_tree builder.old head terms tree) }
+{
+    match head {
+        Head::Body(con) => builder.body(con, tree),
+        Head::Objective(k, maximise) => builder.objective(k, maximise, tree),
+        Head::Definition(index, _, usage) => builder.define(Def {
+            index,
+            terms,
+            usage,
+            tree,
+        })?,
+        _ => {}
+    }
+    Ok(())
+}
+
+/// The last piece, where it is not complete; else its expression is given to the file.
+pub(crate) fn settle(
+    builder: &mut NlBuilder,
+    current: Current,
+) -> Result<Option<Current>, AllocError>
+    requires tree { has_tree current.head ≡ true }
+    requires fresh { current_awaits current ≡ Nothing → IsFresh builder.old current.head current.pairs }
+    requires known { All (IsNodeKnown builder.old.counts.n_var builder.old.definitions) current.nodes }
+    ensures { IfOk result (λ kept. IsSettled builder.old current kept builder.new) }
+{
+    if current.awaited() != Awaited::Nothing {
+        return Ok(Some(current));
+    }
+    let head = current.head();
+    let (terms, nodes) = current.into_parts();
+    let tree = nodes.finish();
+    give_tree(builder, head, terms, tree)?;
+    Ok(None)
+}
 
 impl BodyReader {
     /// A line with a node.
@@ -17,8 +119,23 @@ impl BodyReader {
         requires exists { HasRow (texts words.now) line }
         ensures { TakesRow self.old (texts words.now) line result self.new }
     {
-        let _ = words;
-        let _ = line;
-        Err(Stop::Memory)
+        if self.is_broken {
+            return Err(Stop::Memory);
+        }
+        let row = match read_row(words, &self.builder, self.nodes) {
+            Ok(row) => row,
+            Err(refusal) => return Err(Stop::Fault(refusal)),
+        };
+        self.is_broken = true;
+        let Some(mut current) = self.current.take() else {
+            unreachable!();
+        };
+        let head = current.head();
+        current.take_row(row, line)?;
+        self.nodes += row_count(row);
+        add_row_line(&mut self.places, head, row, line)?;
+        self.current = settle(&mut self.builder, current)?;
+        self.is_broken = false;
+        Ok(())
     }
 }

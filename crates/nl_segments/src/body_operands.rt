@@ -1,12 +1,15 @@
 // A line with the number of operands of an opcode.
-ghost use Rattle.std.specs.Prelude.{◌≡◌, true, false};
+ghost use Rattle.std.specs.Prelude.{◌≡◌, false};
 ghost use Rattle.text_base.specs.Words.{texts};
-ghost use Rattle.nl_segments.specs.declared.awaited.Awaited.TheVariants.{Pair, ColumnCount, Interval, Node, OperandCount};
+ghost use Rattle.nl_segments.specs.declared.awaited.Awaited.TheVariants.{OperandCount};
 ghost use Rattle.nl_segments.specs.Heads.{is_head};
-ghost use Rattle.nl_segments.specs.Held.{HasRow, TakesRow, IsAwaiting};
+ghost use Rattle.nl_segments.specs.Held.{TakesRow, IsAwaiting, HasRow};
 
 use crate::body::BodyReader;
+use crate::body_nodes::settle;
+use crate::counts::read_operand_count;
 use crate::fault::Refusal;
+use crate::nodes::refusal;
 use text_base::Stop;
 
 impl BodyReader {
@@ -21,8 +24,27 @@ impl BodyReader {
         requires exists { HasRow (texts words.now) line }
         ensures { TakesRow self.old (texts words.now) line result self.new }
     {
-        let _ = words;
         let _ = line;
-        Err(Stop::Memory)
+        if self.is_broken {
+            return Err(Stop::Memory);
+        }
+        let count = match read_operand_count(words) {
+            Ok(count) => count,
+            Err(reason) => return Err(Stop::Fault(refusal(reason))),
+        };
+        self.is_broken = true;
+        let Some(mut current) = self.current.take() else {
+            unreachable!();
+        };
+        let Some(pending) = current.pending() else {
+            unreachable!();
+        };
+        let head = current.head();
+        current.take_operand_count(pending.opcode, count)?;
+        self.nodes += 1;
+        self.places.add_node(head, pending.line)?;
+        self.current = settle(&mut self.builder, current)?;
+        self.is_broken = false;
+        Ok(())
     }
 }

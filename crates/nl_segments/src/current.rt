@@ -161,4 +161,19 @@ impl Current {
         self.pending = None;
         Ok(())
     }
+
+    /// The opcode that awaits its number of operands.
+    pub(crate) fn pending(&self) -> Option<Pending>
+        ensures { result ≡ self.now.pending }
+    {
+        self.pending
+    }
+
+    /// The pairs that were kept, and the nodes.
+    pub(crate) fn into_parts(self) -> (Terms, ExprBuilder)
+        ensures pairs { result.0 ≡ self.pairs }
+        ensures nodes { result.1 ≡ self.nodes }
+    {
+        (self.pairs, self.nodes)
+    }
 }

@@ -1,0 +1,123 @@
+-- Rows of expressions: their tests, and what is known of their nodes.
+use Rattle.std.proofs.Common.{◌≡◌, ℕ, ◌+◌, ◌<◌, ◌≤◌, ◌^◌, ◌==◌, Bool, true, false, not, ◌||◌, List, [], ◌∷◌, ◌++◌, refl, ap, subst, arith, nat_lt, nat_le, Option, Some, None}
+use Rattle.std.specs.Prelude.{if◌then◌else◌, option_map, option_and_then, unwrap_or, codes}
+use Rattle.std.proofs.lemmas.Bool.{le-leb, leb-true, ltb-true, ltb-false, not-false}
+use Rattle.text_base.specs.Judged.{first_reason}
+use Rattle.code_tables.specs.Opcodes.{operands_of}
+use Rattle.code_tables.specs.declared.class.Operands.{Operands}
+use Rattle.code_tables.specs.declared.class.Operands.TheVariants.{One, Two, Counted as OnNextLine}
+use Rattle.exact_numbers.specs.declared.dec.Dec.{Dec}
+use Rattle.nl_model.specs.declared.counts.Counts.{Counts}
+use Rattle.nl_model.specs.declared.node.Node.{Node}
+use Rattle.nl_model.specs.declared.node.Node.TheVariants.{Num}
+use Rattle.nl_model.specs.Draft.{Draft}
+use Rattle.nl_model.specs.File.{Definition}
+use Rattle.nl_model.specs.HeaderRules.{defined_count}
+use Rattle.nl_model.specs.Rules.{is_defined}
+use Rattle.nl_segments.specs.declared.fault.NlReason.TheVariants.{TooLarge, IndexOut, Undefined, BadLine, RefusedLeaf}
+use Rattle.nl_segments.specs.declared.fault.Refusal.{Refusal}
+use Rattle.nl_segments.specs.Heads.{is_among, letter_of, own_number}
+use Rattle.nl_segments.specs.Held.{IsNodeKnown}
+use Rattle.nl_segments.specs.Nodes.{fixed_node, variable_node, node_in, leaf_text}
+use Rattle.nl_segments.specs.Numbers.{dec_of_text, dec_of_signed}
+use Rattle.nl_segments.specs.Tests.{Tests, for_reason, is_node_form, is_undefined, leaf_tests, node_form_tests, number_tests, opcode_tests, variable_tests}
+
+-- ---- the first of more tests
+
+if_some : (b : Bool) (x r : Refusal) (o w : Option Refusal) → (o ≡ Some r → w ≡ Some r) → (if b then Some x else o) ≡ Some r → (if b then Some x else w) ≡ Some r
+if_some true x r o w f e = e
+if_some false x r o w f e = f e
+
+if_none : (b : Bool) (x : Refusal) (o w z : Option Refusal) → (o ≡ None → w ≡ z) → (if b then Some x else o) ≡ None → (if b then Some x else w) ≡ z
+if_none true x o w z f e = absurd cc
+if_none false x o w z f e = f e
+
+pub first_some : (xs ys : Tests) (r : Refusal) → first_reason xs ≡ Some r → first_reason (xs ++ ys) ≡ Some r
+first_some [] ys r e = absurd cc
+first_some (t ∷ xs) ys r e = if_some t.0 t.1 r (first_reason xs) (first_reason (xs ++ ys)) (first_some xs ys r) e
+
+pub first_none : (xs ys : Tests) → first_reason xs ≡ None → first_reason (xs ++ ys) ≡ first_reason ys
+first_none [] ys e = refl
+first_none (t ∷ xs) ys e = if_none t.0 t.1 (first_reason xs) (first_reason (xs ++ ys)) (first_reason ys) (first_none xs ys) e
+
+pub first_fine : (xs ys : Tests) → first_reason (xs ++ ys) ≡ None → first_reason xs ≡ None
+first_fine [] ys e = refl
+first_fine (t ∷ xs) ys e = if_none t.0 t.1 (first_reason (xs ++ ys)) (first_reason xs) None (first_fine xs ys) e
+
+pub later_none : (b : Bool) (x : Refusal) (xs : Tests) → first_reason ((b, x) ∷ xs) ≡ None → first_reason xs ≡ None
+later_none true x xs e = absurd cc
+later_none false x xs e = e
+
+pub too_large : (n : ℕ) → 2 ^ 22 ≤ n → first_reason ((nat_le (2 ^ 22) n, for_reason TooLarge) ∷ []) ≡ Some (for_reason TooLarge)
+too_large n le = rw (le-leb (2 ^ 22) n le) refl
+
+pub not_large : (n : ℕ) → n < 2 ^ 22 → first_reason ((nat_le (2 ^ 22) n, for_reason TooLarge) ∷ []) ≡ None
+not_large n lt = by (nat_le (2 ^ 22) n) refl
+  where
+    by : (b : Bool) → nat_le (2 ^ 22) n ≡ b → first_reason ((nat_le (2 ^ 22) n, for_reason TooLarge) ∷ []) ≡ None
+    by true e = absurd (let le = leb-true (2 ^ 22) n e in omega (arith, lt))
+    by false e = rw e refl
+
+-- ---- nodes use what is there
+
+number_known : (n : ℕ) (ds : List Definition) (o : Option Dec) (node : Node) → option_map Num o ≡ Some node → IsNodeKnown n ds node
+number_known n ds None node e = absurd cc
+number_known n ds (Some d) node e = subst (IsNodeKnown n ds) (ap (λ o. unwrap_or o node) e) tt
+
+operation_known : (n : ℕ) (ds : List Definition) (o : ℕ) (k : Option Operands) (node : Node) → fixed_node o k ≡ Some node → IsNodeKnown n ds node
+operation_known n ds o None node e = absurd cc
+operation_known n ds o (Some One) node e = subst (IsNodeKnown n ds) (ap (λ o. unwrap_or o node) e) tt
+operation_known n ds o (Some Two) node e = subst (IsNodeKnown n ds) (ap (λ o. unwrap_or o node) e) tt
+operation_known n ds o (Some OnNextLine) node e = absurd cc
+
+opcode_known : (n : ℕ) (ds : List Definition) (o : Option ℕ) (node : Node) → option_and_then (λ o. fixed_node o (operands_of o)) o ≡ Some node → IsNodeKnown n ds node
+opcode_known n ds None node e = absurd cc
+opcode_known n ds (Some o) node e = operation_known n ds o (operands_of o) node e
+
+index_known : (c : Counts) (d : Draft) (i : ℕ) → is_undefined c d i ≡ false → IsNodeKnown c.n_var d.definitions (variable_node c.n_var i)
+index_known c d i h = by (nat_lt i c.n_var) refl
+  where
+    by : (b : Bool) → nat_lt i c.n_var ≡ b → IsNodeKnown c.n_var d.definitions (variable_node c.n_var i)
+    by true e = rw e (ltb-true i c.n_var e)
+    by false e =
+        let above = le-leb c.n_var i (ltb-false i c.n_var e) in
+        rw e (not-false (is_defined d.definitions i) (rw above at h))
+
+variable_known : (c : Counts) (d : Draft) (o : Option ℕ) (node : Node) → option_map (variable_node c.n_var) o ≡ Some node → first_reason (variable_tests c d o) ≡ None → IsNodeKnown c.n_var d.definitions node
+variable_known c d None node e t = absurd cc
+variable_known c d (Some i) node e t =
+    subst (IsNodeKnown c.n_var d.definitions) (ap (λ o. unwrap_or o node) e) (index_known c d i (by (nat_lt i (c.n_var + defined_count c)) (is_undefined c d i) refl t))
+  where
+    by : (b u : Bool) → is_undefined c d i ≡ u → (if not b then Some (for_reason IndexOut) else (if u then Some (for_reason Undefined) else None)) ≡ None → is_undefined c d i ≡ false
+    by b false e t = e
+    by true true e t = absurd cc
+    by false true e t = absurd cc
+
+-- the node by what its letter is
+abbrev leaf : Counts → List (List ℕ) → Bool → Bool → Bool → Bool → Option Node
+leaf c words n s v o =
+    if n then option_map Num (dec_of_text (leaf_text words)) else
+    if s then option_map Num (dec_of_signed (leaf_text words)) else
+    if v then option_map (variable_node c.n_var) (own_number words) else
+    if o then option_and_then (λ o. fixed_node o (operands_of o)) (own_number words) else None
+
+leaf_known : (c : Counts) (d : Draft) (words : List (List ℕ)) (node : Node) → node_in c.n_var words ≡ Some node → first_reason (leaf_tests c d words) ≡ None → IsNodeKnown c.n_var d.definitions node
+unfolding node_in
+leaf_known c d words node e t =
+    by (letter_of words == 110) ((letter_of words == 115) || (letter_of words == 108)) (letter_of words == 118) (letter_of words == 111) e t
+  where
+    by : (n s v o : Bool) → leaf c words n s v o ≡ Some node
+        → first_reason (if n then number_tests (dec_of_text (leaf_text words)) else (if v then variable_tests c d (own_number words) else (if o then opcode_tests (own_number words) else number_tests (dec_of_signed (leaf_text words))))) ≡ None
+        → IsNodeKnown c.n_var d.definitions node
+    by true s v o e t = number_known c.n_var d.definitions (dec_of_text (leaf_text words)) node e
+    by false true v o e t = number_known c.n_var d.definitions (dec_of_signed (leaf_text words)) node e
+    by false false true o e t = variable_known c d (own_number words) node e t
+    by false false false true e t = opcode_known c.n_var d.definitions (own_number words) node e
+    by false false false false e t = absurd cc
+
+pub node_known : (c : Counts) (d : Draft) (words : List (List ℕ)) (node : Node) → node_in c.n_var words ≡ Some node → first_reason (node_form_tests c d words) ≡ None → IsNodeKnown c.n_var d.definitions node
+unfolding node_form_tests
+node_known c d words node e t =
+    leaf_known c d words node e
+    (later_none (not (is_node_form words)) (for_reason BadLine) (leaf_tests c d words)
+    (later_none (is_among (codes "fh") (letter_of words)) (for_reason RefusedLeaf) ((not (is_node_form words), for_reason BadLine) ∷ leaf_tests c d words) t))
