@@ -130,6 +130,10 @@ pub record IsRowOf (row : Row) (words : List (List ℕ)) (line : ℕ) : Type 0 w
   pub same_words : row_words row ≡ words
   pub same_line : row.line ≡ line
 
+-- there is such a row
+abbrev pub HasRow : List (List ℕ) → ℕ → Type 0
+HasRow words line = (row : Row) × IsRowOf row words line
+
 -- what is wrong with a row of these words
 abbrev pub words_refusal : Standing → List (List ℕ) → Option Refusal
 words_refusal s words = first_reason (row_tests (counts_of s) (said s) s.pieces words)

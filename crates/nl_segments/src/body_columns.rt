@@ -1,22 +1,38 @@
 // A line with the number of a column.
-ghost use Rattle.std.specs.Prelude.{◌≡◌, true};
+ghost use Rattle.std.specs.Prelude.{◌≡◌, false};
 ghost use Rattle.text_base.specs.Words.{texts};
-ghost use Rattle.nl_segments.specs.declared.awaited.Awaited.TheVariants.{Pair, ColumnCount, Interval, Node, OperandCount};
+ghost use Rattle.nl_segments.specs.declared.awaited.Awaited.TheVariants.{ColumnCount};
 ghost use Rattle.nl_segments.specs.Heads.{is_head};
 ghost use Rattle.nl_segments.specs.Held.{TakesRow, IsAwaiting};
 
 use crate::body::BodyReader;
+use crate::closing::close_counted;
+use crate::counts::read_column;
 use crate::fault::Refusal;
+use crate::nodes::refusal;
 use text_base::Stop;
 
 impl BodyReader {
     /// A line with the number of a column.
     pub(crate) fn take_column(&mut self, words: &[&[u8]], line: u32) -> Result<(), Stop<Refusal>>
-        requires { IsAwaiting ColumnCount self.old }
+        requires awaited { IsAwaiting ColumnCount self.old }
+        requires row { is_head (texts words.now) ≡ false }
         ensures { TakesRow self.old (texts words.now) line result self.new }
     {
-        let _ = words;
         let _ = line;
-        Err(Stop::Memory)
+        if self.is_broken {
+            return Err(Stop::Memory);
+        }
+        let number = match read_column(words) {
+            Ok(number) => number,
+            Err(reason) => return Err(Stop::Fault(refusal(reason))),
+        };
+        self.is_broken = true;
+        if self.columns.push(number).is_err() {
+            return Err(Stop::Memory);
+        }
+        count_line(&mut self.current);
+        self.is_broken = false;
+        Ok(())
     }
 }
