@@ -11,3 +11,6 @@ pub mod PlaceLemmas
 pub mod SeenLemmas
 pub mod TotalLemmas
 pub mod PairLines
+pub mod FreshLaw
+pub mod PairHeld
+pub mod IntervalSteps

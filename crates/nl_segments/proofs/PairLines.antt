@@ -1,6 +1,6 @@
 -- A row more in the last piece, where the row is no head: what stays of what is held, and by which tests the row is judged.
 use Rattle.std.proofs.Common.{◌≡◌, ◌∙◌, ℕ, ◌+◌, ◌<◌, ◌≤◌, Bool, true, false, List, [], ◌∷◌, ◌++◌, length, filter, refl, sym, ap, subst, arith, Option, Some, None, get_or, All}
-use Rattle.std.specs.Prelude.{AllPairs, if◌then◌else◌}
+use Rattle.std.specs.Prelude.{AllPairs, IsSomeAnd, if◌then◌else◌}
 use Rattle.std.specs.List.{list_any}
 use Rattle.std.proofs.lemmas.List.{length-append, get_or_append_left}
 use Rattle.std.proofs.Math.Seq.{get_or-append_seam}
@@ -18,7 +18,7 @@ use Rattle.nl_segments.specs.Tests.{awaited_tests, is_same_piece, is_suffix, nod
 use Rattle.nl_segments.specs.Grammar.{Standing, counts_of, said}
 use Rattle.nl_segments.specs.Steps.{after_body_row}
 use Rattle.nl_segments.specs.Current.{Current, current_awaits}
-use Rattle.nl_segments.specs.Held.{Body, AreSeen, AreSound, IsHeld, IsLast, IsOpen, IsSoundPiece, words_refusal}
+use Rattle.nl_segments.specs.Held.{Body, AreOfRow, AreSeen, HoldsSome, IsRowOf, IsAwaiting, AreSound, IsHeld, IsLast, IsOpen, IsSoundPiece, words_refusal}
 use Rattle.nl_segments.proofs.CurrentLemmas.{awaits}
 use Rattle.nl_segments.proofs.PieceLemmas.{Split, split, longer, last-append, extended-append}
 use Rattle.nl_segments.proofs.TotalLemmas.{nodes-append, pairs-append, pairs-other}
@@ -45,6 +45,19 @@ opened s b cur e h = by (last_piece s.pieces) refl (subst (IsLast (counts_of s) 
         let parts = split s.pieces p q in
         record { before = parts.before; piece = p; whole = λ i. record { header = s.header; pieces = parts.whole i }; last = q; is_open = l }
 
+-- the piece that is held awaits this line
+pub record Awaits (b : Body) (kind : Awaited) : Type 0 where
+  pub cur : Current
+  pub is : b.current ≡ Some cur
+  pub awaits_it : current_awaits cur ≡ kind
+
+pub awaiting : (b : Body) (kind : Awaited) → IsAwaiting kind b → Awaits b kind
+awaiting b kind h = by b.current refl h
+  where
+    by : (o : Option Current) → b.current ≡ o → IsSomeAnd o (λ c. current_awaits c ≡ kind) → Awaits b kind
+    by None e none = absurd none
+    by (Some cur) e a = record { cur = cur; is = e; awaits_it = a }
+
 -- ---- the tests of the row
 
 awaited-last : (c : Counts) (pieces : List Piece) (p : Piece) → last_piece pieces ≡ Some p → awaited_of c pieces ≡ awaited_in c p
@@ -53,15 +66,15 @@ awaited-last c pieces p e = rw e refl
 pub judged_by : (s : Standing) (b : Body) (cur : Current) (words : List (List ℕ)) (kind : Awaited) (o : Opened s b cur) → is_head words ≡ false → current_awaits cur ≡ kind
     → words_refusal s words ≡ first_reason (awaited_tests (counts_of s) (said s) s.pieces o.piece words kind)
 unfolding row_tests
-judged_by s b cur words kind o no e =
+judged_by s b cur words kind o plain e =
     let kind_is : awaited_of (counts_of s) s.pieces ≡ kind = awaited-last (counts_of s) s.pieces o.piece o.last ∙ sym (awaits (counts_of s) o.piece cur o.is_open.current) ∙ e in
-    rw (no, o.last) (ap (λ k. first_reason (awaited_tests (counts_of s) (said s) s.pieces o.piece words k)) kind_is)
+    rw (plain, o.last) (ap (λ k. first_reason (awaited_tests (counts_of s) (said s) s.pieces o.piece words k)) kind_is)
 
 -- ---- the pieces with the row
 
 pub row_after : (header : List (List (List ℕ))) (before : List Piece) (p : Piece) (row : Row) → is_head (row_words row) ≡ false
     → after_body_row (at header (before ++ p ∷ [])) row ≡ at header (before ++ longer p row ∷ [])
-row_after header before p row no = rw no (ap (at header) (extended-append before p row))
+row_after header before p row plain = rw plain (ap (at header) (extended-append before p row))
 
 -- ---- what stays
 
@@ -137,3 +150,9 @@ pairs_longer counts before p row more e = by (counts p.head) refl
     by : (t : Bool) → counts p.head ≡ t → pair_total counts (before ++ longer p row ∷ []) ≡ (if counts p.head then pair_total counts (before ++ p ∷ []) + more else pair_total counts (before ++ p ∷ []))
     by true t = rw t (pairs-append counts before (longer p row) t ∙ (let q = pairs-append counts before p t in omega arith))
     by false t = rw t (pairs-other counts before (longer p row) t ∙ sym (pairs-other counts before p t))
+
+-- ---- the reader holds something again
+
+pub holds_again : (fields value new : Body) (words : List (List ℕ)) (line : ℕ) → fields ≡ value → AreOfRow words line → HoldsSome fields
+    → ((s : Standing) (row : Row) → IsRowOf row words line → IsHeld s value → (words_refusal s words ≡ None) × IsHeld (after_body_row s row) new) → HoldsSome new
+holds_again fields value new words line same row h step = (after_body_row h.0 row.0, (step h.0 row.0 row.1 (subst (IsHeld h.0) same h.1)).1)

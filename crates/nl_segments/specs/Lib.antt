@@ -1,4 +1,5 @@
 pub mod Current
+pub mod Closing
 pub mod Grammar
 pub mod Heads
 pub mod Held

@@ -3,10 +3,10 @@ ghost use Rattle.std.specs.Prelude.{◌≡◌, false};
 ghost use Rattle.text_base.specs.Words.{texts};
 ghost use Rattle.nl_segments.specs.declared.awaited.Awaited.TheVariants.{ColumnCount};
 ghost use Rattle.nl_segments.specs.Heads.{is_head};
-ghost use Rattle.nl_segments.specs.Held.{TakesRow, IsAwaiting};
+ghost use Rattle.nl_segments.specs.Held.{AreOfRow, TakesRow, IsAwaiting};
 
 use crate::body::BodyReader;
-use crate::closing::close_counted;
+use crate::closing::count_line;
 use crate::counts::read_column;
 use crate::fault::Refusal;
 use crate::nodes::refusal;
@@ -17,6 +17,7 @@ impl BodyReader {
     pub(crate) fn take_column(&mut self, words: &[&[u8]], line: u32) -> Result<(), Stop<Refusal>>
         requires awaited { IsAwaiting ColumnCount self.old }
         requires row { is_head (texts words.now) ≡ false }
+        requires some { AreOfRow (texts words.now) line }
         ensures { TakesRow self.old (texts words.now) line result self.new }
     {
         let _ = line;
@@ -28,9 +29,7 @@ impl BodyReader {
             Err(reason) => return Err(Stop::Fault(refusal(reason))),
         };
         self.is_broken = true;
-        if self.columns.push(number).is_err() {
-            return Err(Stop::Memory);
-        }
+        self.columns.push(number)?;
         count_line(&mut self.current);
         self.is_broken = false;
         Ok(())

@@ -9,6 +9,7 @@ mod body_intervals;
 mod body_nodes;
 mod body_operands;
 mod body_pairs;
+mod closing;
 mod counts;
 mod current;
 mod fault;
