@@ -18,7 +18,7 @@ use Rattle.nl_segments.specs.Tests.{awaited_tests, is_same_piece, is_suffix, nod
 use Rattle.nl_segments.specs.Grammar.{Standing, counts_of, said}
 use Rattle.nl_segments.specs.Steps.{after_body_row}
 use Rattle.nl_segments.specs.Current.{Current, current_awaits}
-use Rattle.nl_segments.specs.Held.{Body, AreOfRow, AreSeen, HoldsSome, IsRowOf, IsAwaiting, AreSound, IsHeld, IsLast, IsOpen, IsSoundPiece, words_refusal}
+use Rattle.nl_segments.specs.Held.{Body, HasRow, AreSeen, HoldsSome, IsRowOf, IsAwaiting, AreSound, IsHeld, IsLast, IsOpen, IsSoundPiece, words_refusal}
 use Rattle.nl_segments.proofs.CurrentLemmas.{awaits}
 use Rattle.nl_segments.proofs.PieceLemmas.{Split, split, longer, last-append, extended-append}
 use Rattle.nl_segments.proofs.TotalLemmas.{nodes-append, pairs-append, pairs-other}
@@ -153,6 +153,6 @@ pairs_longer counts before p row more e = by (counts p.head) refl
 
 -- ---- the reader holds something again
 
-pub holds_again : (fields value new : Body) (words : List (List ℕ)) (line : ℕ) → fields ≡ value → AreOfRow words line → HoldsSome fields
+pub holds_again : (fields value new : Body) (words : List (List ℕ)) (line : ℕ) → fields ≡ value → HasRow words line → HoldsSome fields
     → ((s : Standing) (row : Row) → IsRowOf row words line → IsHeld s value → (words_refusal s words ≡ None) × IsHeld (after_body_row s row) new) → HoldsSome new
 holds_again fields value new words line same row h step = (after_body_row h.0 row.0, (step h.0 row.0 row.1 (subst (IsHeld h.0) same h.1)).1)

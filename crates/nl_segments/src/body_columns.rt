@@ -3,7 +3,7 @@ ghost use Rattle.std.specs.Prelude.{◌≡◌, false};
 ghost use Rattle.text_base.specs.Words.{texts};
 ghost use Rattle.nl_segments.specs.declared.awaited.Awaited.TheVariants.{ColumnCount};
 ghost use Rattle.nl_segments.specs.Heads.{is_head};
-ghost use Rattle.nl_segments.specs.Held.{AreOfRow, TakesRow, IsAwaiting};
+ghost use Rattle.nl_segments.specs.Held.{HasRow, TakesRow, IsAwaiting};
 
 use crate::body::BodyReader;
 use crate::closing::count_line;
@@ -17,7 +17,7 @@ impl BodyReader {
     pub(crate) fn take_column(&mut self, words: &[&[u8]], line: u32) -> Result<(), Stop<Refusal>>
         requires awaited { IsAwaiting ColumnCount self.old }
         requires row { is_head (texts words.now) ≡ false }
-        requires some { AreOfRow (texts words.now) line }
+        requires exists { HasRow (texts words.now) line }
         ensures { TakesRow self.old (texts words.now) line result self.new }
     {
         let _ = line;

@@ -8,7 +8,7 @@ returns-in-Err c = column_refused c.args.self.now _ _ c.requires.awaited c.requi
 
 pub invariant_of-self-2 : goal.invariant_of-self-2
 invariant_of-self-2 c _ =
-    holds_again _ _ _ _ _ c.self.view_is c.requires.some (c.self.invariant c.if-self.false)
+    holds_again _ _ _ _ _ c.self.view_is c.requires.exists (c.self.invariant c.if-self.false)
     (column_step _ _ _ _ _ _ _ c.self.view_is c.requires.awaited c.requires.row c.in-Ok.ensures.fine c.in-Ok.ensures.number c.in_ok-push.ensures.items c.count_line.ensures)
 
 pub returns : goal.returns
