@@ -14,3 +14,4 @@ pub mod PairLines
 pub mod FreshLaw
 pub mod PairHeld
 pub mod IntervalSteps
+pub mod IntervalOrder

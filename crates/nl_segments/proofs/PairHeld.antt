@@ -7,7 +7,7 @@ use Rattle.nl_model.specs.declared.counts.Counts.{Counts}
 use Rattle.nl_model.specs.declared.node.Node.{Node}
 use Rattle.nl_model.specs.Draft.{Draft}
 use Rattle.nl_model.specs.Nodes.{awaited}
-use Rattle.nl_model.specs.Rules.{AreTermsBelow, AreIndicesApart}
+use Rattle.nl_model.specs.Rules.{AreTermsBelow, AreIndicesApart, most_terms}
 use Rattle.nl_segments.specs.declared.awaited.Awaited.{Awaited}
 use Rattle.nl_segments.specs.declared.awaited.Awaited.TheVariants.{Nothing, Pair, ColumnCount, Interval as IntervalLine, Node as NodeLine, OperandCount}
 use Rattle.nl_segments.specs.declared.head.Head.{Head}
@@ -19,7 +19,7 @@ use Rattle.nl_segments.specs.Saying.{place_lines}
 use Rattle.nl_segments.specs.Grammar.{Standing, counts_of, said}
 use Rattle.nl_segments.specs.Current.{Current, IsCurrent, current_awaits, less_line, nodes_await}
 use Rattle.nl_segments.specs.SeenSegments.{IsSeenIn, has_segment}
-use Rattle.nl_segments.specs.Closing.{unless_complete}
+use Rattle.nl_segments.specs.LineSteps.{unless_complete}
 use Rattle.nl_segments.specs.Held.{Body, IsHeld, IsLast, IsMarked, IsNodeKnown, IsNodeLeft, IsOpen, IsSoundPiece, use_count}
 use Rattle.nl_segments.proofs.CurrentLemmas.{awaits, early_tree, late_pairs, with_line}
 use Rattle.nl_segments.proofs.DraftLemmas.{draft_counts}
@@ -107,6 +107,7 @@ pub record Changes (header : List (List (List ℕ))) (before : List Piece) (p : 
   pub nodes : new.nodes ≡ old.nodes
   pub suffixes : new.suffixes ≡ old.suffixes
   pub few : IfSome cur.pending (λ q. old.nodes < 2 ^ 22)
+  pub few_terms : new.linear ≤ most_terms
 
 pub held_longer : (header : List (List (List ℕ))) (before : List Piece) (p : Piece) (row : Row) (cur : Current) (old new : Body) → IsHeld (at header (before ++ p ∷ [])) old
     → IsSoundPiece (counts_of (at header [])) (longer p row) → length p.rows < line_count (counts_of (at header [])) p.head → Changes header before p row cur old new
@@ -134,6 +135,7 @@ held_longer header before p row cur old new h sound within g =
       users = g.users ∙ h.users;
       places = g.places;
       few = left_closed cur new.current new.nodes g.current (subst (λ n. IfSome cur.pending (λ q. n < 2 ^ 22)) (sym g.nodes) g.few);
+      few_terms = g.few_terms;
     }
 
 -- ---- a line that is no pair

@@ -58,6 +58,9 @@ awaiting b kind h = by b.current refl h
     by None e none = absurd none
     by (Some cur) e a = record { cur = cur; is = e; awaits_it = a }
 
+pub awaits_as : (b : Body) (cur : Current) (kind : Awaited) → b.current ≡ Some cur → IsAwaiting kind b → current_awaits cur ≡ kind
+awaits_as b cur kind e h = subst (λ o. IsSomeAnd o (λ c. current_awaits c ≡ kind)) e h
+
 -- ---- the tests of the row
 
 awaited-last : (c : Counts) (pieces : List Piece) (p : Piece) → last_piece pieces ≡ Some p → awaited_of c pieces ≡ awaited_in c p

@@ -1,5 +1,5 @@
 pub mod Current
-pub mod Closing
+pub mod LineSteps
 pub mod Grammar
 pub mod Heads
 pub mod Held
