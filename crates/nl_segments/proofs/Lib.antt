@@ -15,3 +15,5 @@ pub mod FreshLaw
 pub mod PairHeld
 pub mod IntervalSteps
 pub mod IntervalOrder
+pub mod PairLaw
+pub mod PairJudging

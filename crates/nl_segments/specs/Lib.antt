@@ -8,6 +8,7 @@ pub mod NodeRows
 pub mod Nodes
 pub mod Numbers
 pub mod Pieces
+pub mod PairSteps
 pub mod PlaceSteps
 pub mod Reader
 pub mod Rows

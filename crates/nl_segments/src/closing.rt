@@ -7,7 +7,8 @@ ghost use Rattle.nl_segments.specs.Pieces.{is_nothing};
 use crate::awaited::Awaited;
 use crate::current::Current;
 
-fn is_nothing(awaited: Awaited) -> bool
+/// Whether a piece is complete.
+pub(crate) fn is_nothing(awaited: Awaited) -> bool
     ensures { result ≡ is_nothing awaited }
 {
     match awaited {

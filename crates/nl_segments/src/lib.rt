@@ -25,6 +25,7 @@ mod node_row;
 mod nodes;
 mod numbers;
 mod owner_lines;
+mod pair_rules;
 mod pairs;
 mod pending;
 mod places;
