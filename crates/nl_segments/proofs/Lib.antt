@@ -17,3 +17,6 @@ pub mod IntervalSteps
 pub mod IntervalOrder
 pub mod PairLaw
 pub mod PairJudging
+pub mod HeadSuffixes
+pub mod PairPiece
+pub mod PairDraft
