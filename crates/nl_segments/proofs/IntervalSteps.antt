@@ -34,7 +34,7 @@ use Rattle.nl_segments.proofs.PairHeld.{IsEarly, early, Changes, held_longer, sa
 
 -- ---- the numbers of columns
 
-columns-append : (before : List Piece) (p : Piece) → all_column_counts (before ++ p ∷ []) ≡ all_column_counts before ++ column_counts p p.head
+pub columns-append : (before : List Piece) (p : Piece) → all_column_counts (before ++ p ∷ []) ≡ all_column_counts before ++ column_counts p p.head
 columns-append [] p = append-nil (column_counts p p.head)
 columns-append (q ∷ before) p =
     ap (λ ns. column_counts q q.head ++ ns) (columns-append before p) ∙ sym (append_assoc (column_counts q q.head) (all_column_counts before) (column_counts p p.head))

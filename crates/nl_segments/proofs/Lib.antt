@@ -20,3 +20,5 @@ pub mod PairJudging
 pub mod HeadSuffixes
 pub mod PairPiece
 pub mod PairDraft
+pub mod PairCan
+pub mod PairTaken

@@ -1,11 +1,12 @@
 -- What the file, the uses of variables and the lines of places are with a pair more.
 use Rattle.std.proofs.Common.{◌≡◌, ◌≢◌, ◌∙◌, ℕ, ◌-◌, ◌+◌, ◌<◌, ◌≤◌, ◌==◌, Bool, true, false, ◌&&◌, ◌||◌, List, [], ◌∷◌, ◌++◌, length, take, map, refl, sym, ap, subst, arith, Option, Some, None, get_or, slice_set, All, nat_lt, nat_le, if◌then◌else◌}
 use Rattle.std.specs.Prelude.{ℤ, IsTrue, IfSome, unwrap_or}
+use Rattle.std.specs.List.{fold}
 use Rattle.std.proofs.lemmas.Bool.{eqb-true, eqb-false, ltb-true, ltb-false}
 use Rattle.std.proofs.lemmas.Grind.{get_or-set_at}
-use Rattle.std.proofs.lemmas.List.{append-nil, drop_all, length-append, length-set, map-append, take_all, get_or-set_other}
+use Rattle.std.proofs.lemmas.List.{append-nil, drop_all, length-append, length-replicate, length-set, map-append, take_all, get_or-set_other}
 use Rattle.nl_model.specs.declared.counts.Counts.{Counts}
-use Rattle.nl_model.specs.Draft.{Draft}
+use Rattle.nl_model.specs.Draft.{Draft, empty_draft}
 use Rattle.nl_model.specs.File.{Term}
 use Rattle.nl_model.specs.Nodes.{awaited}
 use Rattle.nl_model.specs.Rules.{most_terms, term_count}
@@ -16,7 +17,7 @@ use Rattle.nl_segments.specs.declared.head.Head.TheVariants.{Body, Objective, De
 use Rattle.nl_segments.specs.Rows.{Row, row_words}
 use Rattle.nl_segments.specs.Nodes.{only_nodes, only_lines, nodes_from, nodes_of, pending_from, pending_of}
 use Rattle.nl_segments.specs.Pieces.{Piece, awaited_in, is_complete, has_tree, is_nothing, line_count, line_kind, pair_count, pair_in, piece_pairs, tree_awaits, tree_rows}
-use Rattle.nl_segments.specs.Saying.{node_lines, draft_of, said_by, place_lines, lines_by, term_lines}
+use Rattle.nl_segments.specs.Saying.{node_lines, draft_of, said_by, with_piece, place_lines, lines_by, term_lines}
 use Rattle.nl_segments.specs.PlaceSteps.{HasBegun, HasOwner, with_term_line}
 use Rattle.nl_segments.specs.Heads.{is_in_range}
 use Rattle.nl_segments.specs.Tests.{is_linear, is_suffix}
@@ -25,6 +26,7 @@ use Rattle.nl_segments.specs.Held.{keeps_pairs, use_count}
 use Rattle.nl_segments.specs.PairSteps.{CanUse, one_more, with_closed, with_given, with_kept, with_suffix, with_use}
 use Rattle.nl_segments.proofs.CurrentLemmas.{early_tree}
 use Rattle.nl_segments.proofs.DraftLemmas.{draft_before, with_dual, with_primal, with_term, with_slope, with_suffix as suffix_said}
+use Rattle.nl_segments.proofs.FreshLaw.{either}
 use Rattle.nl_segments.proofs.PairLaw.{use_more}
 use Rattle.nl_segments.proofs.PairPiece.{IsNextPair, few_rows}
 use Rattle.nl_segments.proofs.PieceLemmas.{longer, lines-append}
@@ -115,9 +117,35 @@ draft_pair o c before p row t name cur n range unfinished head closes pairs name
     by Bounds e = absurd (let none = few _ e in omega arith)
     by (ColumnCounts k) e = absurd (let none = few _ e in omega arith)
 
+-- ---- a place for each constraint and objective
+
+lengths_by : (d : Draft) (p : Piece) (h : Head) → (length (said_by d p h).terms ≡ length d.terms) × (length (said_by d p h).slopes ≡ length d.slopes)
+lengths_by d p (Terms i n) = (length-set d.terms i _, refl)
+lengths_by d p (Slopes k n) = (refl, length-set d.slopes k _)
+lengths_by d p (Body i) = (either (λ x. length x.terms ≡ length d.terms) d _ p refl refl, either (λ x. length x.slopes ≡ length d.slopes) d _ p refl refl)
+lengths_by d p (Objective k m) = (either (λ x. length x.terms ≡ length d.terms) d _ p refl refl, either (λ x. length x.slopes ≡ length d.slopes) d _ p refl refl)
+lengths_by d p (Definition i j u) = (either (λ x. length x.terms ≡ length d.terms) d _ p refl refl, either (λ x. length x.slopes ≡ length d.slopes) d _ p refl refl)
+lengths_by d p (Suffix k n) = (either (λ x. length x.terms ≡ length d.terms) d _ p refl refl, either (λ x. length x.slopes ≡ length d.slopes) d _ p refl refl)
+lengths_by d p (DualGuesses n) = (refl, refl)
+lengths_by d p (PrimalGuesses n) = (refl, refl)
+lengths_by d p Sides = (refl, refl)
+lengths_by d p Bounds = (refl, refl)
+lengths_by d p (ColumnCounts n) = (refl, refl)
+
+fold_lengths : (pieces : List Piece) (d : Draft) → (length (fold with_piece d pieces).terms ≡ length d.terms) × (length (fold with_piece d pieces).slopes ≡ length d.slopes)
+fold_lengths [] d = (refl, refl)
+fold_lengths (p ∷ pieces) d =
+    let rest = fold_lengths pieces (with_piece d p) in
+    let first = lengths_by d p p.head in
+    (rest.0 ∙ first.0, rest.1 ∙ first.1)
+
+pub draft_lengths : (o : List ℤ) (c : Counts) (pieces : List Piece) → (length (draft_of o c pieces).terms ≡ c.n_con) × (length (draft_of o c pieces).slopes ≡ c.n_obj)
+unfolding draft_of
+draft_lengths o c pieces = let all = fold_lengths pieces (empty_draft o c) in (all.0 ∙ length-replicate c.n_con [], all.1 ∙ length-replicate c.n_obj [])
+
 -- ---- uses of variables
 
-terms_closed : (d : Draft) (name : Option (List ℕ)) (cur : Current) → (with_closed d name cur).terms ≡ d.terms
+pub terms_closed : (d : Draft) (name : Option (List ℕ)) (cur : Current) → (with_closed d name cur).terms ≡ d.terms
 terms_closed d name cur = by (is_nothing (current_awaits cur)) refl
   where
     same : (h : Head) → (with_suffix d name cur h).terms ≡ d.terms
@@ -136,7 +164,7 @@ terms_closed d name cur = by (is_nothing (current_awaits cur)) refl
     by true e = rw e (same cur.head)
     by false e = rw e refl
 
-pub uses_pair : (d : Draft) (head : Head) (t : Term) (uses : List ℕ) (j n con : ℕ) → length uses ≡ n → t.0 < n → length d.terms ≡ con → ((i k : ℕ) → head ≡ Terms i k → i < con)
+pub uses_pair : (d : Draft) (head : Head) (t : Term) (uses : List ℕ) (j n con : ℕ) → length uses ≡ n → ((i k : ℕ) → head ≡ Terms i k → t.0 < n) → length d.terms ≡ con → ((i k : ℕ) → head ≡ Terms i k → i < con)
     → get_or uses j 0 ≡ use_count d.terms j → get_or (with_use head uses t.0) j 0 ≡ use_count (with_given d head t).terms j
 uses_pair d (Terms i k) t uses j n con len below rows range h = by (t.0 == j) refl
   where
@@ -145,7 +173,7 @@ uses_pair d (Terms i k) t uses j n con len below rows range h = by (t.0 == j) re
     by : (b : Bool) → (t.0 == j) ≡ b → get_or (slice_set uses t.0 (get_or uses t.0 0 + 1)) j 0 ≡ use_count (slice_set d.terms i (get_or d.terms i [] ++ t ∷ [])) j
     by true e =
         let same = eqb-true t.0 j e in
-        get_or-set_at uses t.0 j (get_or uses t.0 0 + 1) 0 (sym same) (omega arith) ∙ ap (λ (k : ℕ). get_or uses k 0 + 1) same ∙ ap (λ (k : ℕ). k + 1) h
+        get_or-set_at uses t.0 j (get_or uses t.0 0 + 1) 0 (sym same) (let lt = below i k refl in omega arith) ∙ ap (λ (k : ℕ). get_or uses k 0 + 1) same ∙ ap (λ (k : ℕ). k + 1) h
         ∙ sym (more ∙ ap (λ b. if b then use_count d.terms j + 1 else use_count d.terms j) e)
     by false e =
         get_or-set_other uses t.0 j (get_or uses t.0 0 + 1) 0 (λ s. eqb-false t.0 j e (sym s)) ∙ h
