@@ -20,7 +20,7 @@ use Rattle.nl_segments.specs.Tests.{has_index, holds_once, index_limit, is_linea
 use Rattle.nl_segments.specs.Grammar.{Standing, counts_of}
 use Rattle.nl_segments.specs.Current.{Current}
 use Rattle.nl_segments.specs.PairSteps.{CanAddSuffix, CanClose, CanGive, CanUse, is_full_at, with_given, with_kept}
-use Rattle.nl_segments.specs.Held.{Body, HoldsSome, IsAwaiting, IsHeld, IsMarked, IsSoundPiece, keeps_pairs, use_count}
+use Rattle.nl_segments.specs.Held.{Body, HasRow, HoldsSome, IsAwaiting, IsHeld, IsMarked, IsSoundPiece, keeps_pairs, use_count}
 use Rattle.nl_segments.proofs.DraftLemmas.{draft_before, draft_counts, says_whole}
 use Rattle.nl_segments.proofs.FreshLaw.{none_before, fresh_dual, fresh_primal}
 use Rattle.nl_segments.proofs.HeadSuffixes.{suffixes_come}
@@ -174,7 +174,7 @@ pub can_give : (s : Standing) (b : Body) (cur : Current) (row : Row) (t : Term) 
 can_give s b cur row t n = subst (λ h. CanGive b.draft h t) (sym n.parts.is_open.current.head) (can_give_by s b cur row t n n.parts.piece.head refl)
 
 can_close_by : (s : Standing) (b : Body) (cur : Current) (row : Row) (t : Term) (n : IsPairNext s b cur row t) (h : Head) → n.parts.piece.head ≡ h → CanClose (with_given b.draft h t) b.name (with_kept cur t) h
-can_close_by s b cur row t n (Suffix kind k) e done =
+can_close_by s b cur row t n (Suffix kind k) e =
     let p = n.parts.piece in
     let o = options_in s.header in
     let c = counts_of s in
@@ -188,7 +188,7 @@ can_close_by s b cur row t n (Suffix kind k) e done =
     let fresh : has_suffix b.draft.suffixes kind p.name ≡ false =
     ap (λ d. has_suffix d.suffixes kind p.name) before ∙ suffixes_come o c kind k p.name n.parts.before all ∙ not_before s b cur row t n (Suffix kind k) e in
     let named : unwrap_or b.name [] ≡ p.name = ap (λ (x : Option (List ℕ)). unwrap_or x []) name in
-    record {
+    λ done. record {
       named = name ∙ ap Some (sym named);
       objects = subst (λ m. AreTermsBelow (object_count m kind) (with_kept cur t).pairs) (sym n.held.counts) (subst (AreTermsBelow (object_count c kind)) (sym values) objects);
       apart = subst AreIndicesApart (sym values) (sound.once (ap holds_once e));
@@ -245,3 +245,41 @@ has_begun s b cur row t n =
     let p = n.parts.piece in
     subst (λ l. HasBegun l cur.head) (sym n.held.places)
     (subst (HasBegun (place_lines (counts_of s) (n.parts.before ++ p ∷ []))) (sym n.parts.is_open.current.head) (begun_there (counts_of s) n.parts.before p))
+
+-- ---- all of it
+
+pub record CanTake (b : Body) (head : Head) (t : Term) : Type 0 where
+  pub give : CanGive b.draft head t
+  pub owner : HasOwner b.places head
+  pub begun : HasBegun b.places head
+  pub close : (d : Draft) → d ≡ with_given b.draft head t → IfSome b.current (λ c. CanClose d b.name (with_kept c t) c.head)
+  pub room : t.0 < length b.marks
+  pub use_of : CanUse head b.uses t.0
+
+pub can_take : (b : Body) (cur : Current) (head : Head) (words : List (List ℕ)) (line : ℕ) (t : Term) → head ≡ cur.head → HasRow words line → HoldsSome b → IsRead b cur words t → CanTake b head t
+can_take b cur head words line t same row h r =
+    let n = pair_next h.0 b cur row.0 words t row.1.same_words r h.1 in
+    let close : (d : Draft) → d ≡ with_given b.draft head t → CanClose d b.name (with_kept cur t) cur.head =
+    λ d e. subst (λ x. CanClose x b.name (with_kept cur t) cur.head) (sym (e ∙ ap (λ x. with_given b.draft x t) same)) (can_close h.0 b cur row.0 t n) in
+    record {
+      give = subst (λ x. CanGive b.draft x t) (sym same) (can_give h.0 b cur row.0 t n);
+      owner = subst (HasOwner b.places) (sym same) (has_owner h.0 b cur row.0 t n);
+      begun = subst (HasBegun b.places) (sym same) (has_begun h.0 b cur row.0 t n);
+      close = λ d e. subst (λ o. IfSome o (λ c. CanClose d b.name (with_kept c t) c.head)) (sym r.current) (close d e);
+      room = n.room;
+      use_of = subst (λ x. CanUse x b.uses t.0) (sym same) (can_use h.0 b cur row.0 t n);
+    }
+
+-- a pair that was read
+pub read_by : (value fields : Body) (cur : Current) (words : List (List ℕ)) (t : Term) (counts : Counts) (head : Head) (full : Bool) → fields ≡ value → fields.current ≡ Some cur → IsAwaiting Pair value
+    → counts ≡ fields.draft.counts → head ≡ cur.head → full ≡ is_full_at head fields.linear fields.values → pair_in words ≡ Some t → t.0 < index_limit counts head
+    → (holds_once head && get_or fields.marks t.0 false) ≡ false → full ≡ false → IsRead fields cur words t
+read_by value fields cur words t counts head full same current a counts_is head_is full_is says below fresh room =
+    record {
+      current = current;
+      awaits = subst (IsAwaiting Pair) (sym same) a;
+      says = says;
+      below = subst (λ k. t.0 < index_limit k cur.head) counts_is (subst (λ x. t.0 < index_limit counts x) head_is below);
+      fresh = ap (λ x. holds_once x && get_or fields.marks t.0 false) (sym head_is) ∙ fresh;
+      free = ap (λ x. is_full_at x fields.linear fields.values) (sym head_is) ∙ sym full_is ∙ room;
+    }

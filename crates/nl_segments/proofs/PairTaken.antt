@@ -213,10 +213,10 @@ judged_pair s b cur words full e a plain full_by h =
     let c = counts_of s in
     let head = o.is_open.current.head in
     let marks : IsMarked c b.marks o.piece = subst (λ q. IfSome q (IsMarked c b.marks)) o.last h.marks in
-    let full = full_by ∙ ap (λ x. is_full_at x b.linear b.values) head ∙ full_is s.pieces o.piece.head b.linear b.values h.linear h.values in
+    let full_said = full_by ∙ ap (λ x. is_full_at x b.linear b.values) head ∙ full_is s.pieces o.piece.head b.linear b.values h.linear h.values in
     judged_by s b cur words Pair o plain (awaits_as b cur Pair e a)
-    ∙ same_pair_tests c s.pieces o.piece words b.marks _ marks full
-    ∙ sym (ap (λ k. first_reason (next_pair_tests k cur.head b.marks _ words)) h.counts ∙ ap (λ x. first_reason (next_pair_tests c x b.marks _ words)) head)
+    ∙ same_pair_tests c s.pieces o.piece words b.marks full marks full_said
+    ∙ sym (ap (λ k. first_reason (next_pair_tests k cur.head b.marks full words)) h.counts ∙ ap (λ x. first_reason (next_pair_tests c x b.marks full words)) head)
 
 pub pair_refused : (value : Body) (cur : Current) (words : List (List ℕ)) (full : Bool) (r : Refusal) → value.current ≡ Some cur → IsAwaiting Pair value → is_head words ≡ false
     → full ≡ is_full_at cur.head value.linear value.values → first_reason (next_pair_tests value.draft.counts cur.head value.marks full words) ≡ Some r
@@ -234,3 +234,40 @@ pair_step value fields new cur words line t full same plain r full_by fine d s r
     subst (λ x. IsHeld (after_body_row x row) new) (sym n.parts.whole)
     (subst (λ x. IsHeld x new) (sym (row_after s.header n.parts.before n.parts.piece row (ap is_head is.same_words ∙ plain)))
     (pair_held s fields new cur row t n r.current done)))
+
+-- the tests of a row that was read, by the parts that reading took
+pub tests_by : (value fields : Body) (cur : Current) (words : List (List ℕ)) (counts : Counts) (head : Head) (full : Bool) (r : Option Refusal) → fields ≡ value → counts ≡ fields.draft.counts → head ≡ cur.head
+    → first_reason (next_pair_tests counts head fields.marks full words) ≡ r → first_reason (next_pair_tests fields.draft.counts cur.head fields.marks full words) ≡ r
+tests_by value fields cur words counts head full r same counts_is head_is e =
+    sym (ap (λ k. first_reason (next_pair_tests k head fields.marks full words)) counts_is ∙ ap (λ x. first_reason (next_pair_tests fields.draft.counts x fields.marks full words)) head_is) ∙ e
+
+pub refused_by : (value fields : Body) (cur : Current) (words : List (List ℕ)) (counts : Counts) (head : Head) (full : Bool) (r : Refusal) → fields ≡ value → fields.current ≡ Some cur → IsAwaiting Pair value → is_head words ≡ false
+    → counts ≡ fields.draft.counts → head ≡ cur.head → full ≡ is_full_at head fields.linear fields.values → first_reason (next_pair_tests counts head fields.marks full words) ≡ Some r
+    → (s : Standing) → IsHeld s value → words_refusal s words ≡ Some r
+refused_by value fields cur words counts head full r same current a plain counts_is head_is full_is fault s h =
+    judged_pair s fields cur words full current (subst (IsAwaiting Pair) (sym same) a) plain (full_is ∙ ap (λ x. is_full_at x fields.linear fields.values) head_is) (subst (IsHeld s) (sym same) h)
+    ∙ tests_by value fields cur words counts head full (Some r) same counts_is head_is fault
+
+-- the changes, by the parts that were changed
+pub done_by : (old new : Body) (cur : Current) (t : Term) (line : ℕ) (head : Head) (given : Draft) → head ≡ cur.head → old.current ≡ Some cur → given ≡ with_given old.draft head t
+    → IfSome old.current (λ c. new.draft ≡ with_closed given old.name (with_kept c t))
+    → IfSome old.current (λ c. new.current ≡ unless_complete (with_kept c t))
+    → IfSome old.current (λ c. new.name ≡ (if is_nothing (current_awaits (with_kept c t)) then None else old.name))
+    → new.marks ≡ with_mark head old.marks t.0 → new.linear ≡ one_more (is_linear head) old.linear → new.values ≡ one_more (is_suffix head) old.values → new.uses ≡ with_use head old.uses t.0
+    → new.places ≡ with_term_line old.places line head → new.columns ≡ old.columns → new.seen ≡ old.seen → new.nodes ≡ old.nodes → new.suffixes ≡ old.suffixes → IsPairDone old new cur t line
+done_by old new cur t line head given head_is cur_is given_is draft current name marks linear values uses places columns seen nodes suffixes =
+    record {
+      draft = subst (λ o. IfSome o (λ c. new.draft ≡ with_closed given old.name (with_kept c t))) cur_is draft
+          ∙ ap (λ d. with_closed d old.name (with_kept cur t)) (given_is ∙ ap (λ x. with_given old.draft x t) head_is);
+      current = subst (λ o. IfSome o (λ c. new.current ≡ unless_complete (with_kept c t))) cur_is current;
+      name = subst (λ o. IfSome o (λ c. new.name ≡ (if is_nothing (current_awaits (with_kept c t)) then None else old.name))) cur_is name;
+      marks = marks ∙ ap (λ x. with_mark x old.marks t.0) head_is;
+      linear = linear ∙ ap (λ x. one_more (is_linear x) old.linear) head_is;
+      values = values ∙ ap (λ x. one_more (is_suffix x) old.values) head_is;
+      uses = uses ∙ ap (λ x. with_use x old.uses t.0) head_is;
+      places = places ∙ ap (λ x. with_term_line old.places line x) head_is;
+      columns = columns;
+      seen = seen;
+      nodes = nodes;
+      suffixes = suffixes;
+    }
