@@ -21,3 +21,13 @@ pub mod TreeLaw
 pub mod NodeSteps
 pub mod TreeFresh
 pub mod NodeTaken
+pub mod PairHeld
+pub mod IntervalSteps
+pub mod IntervalOrder
+pub mod PairLaw
+pub mod PairJudging
+pub mod HeadSuffixes
+pub mod PairPiece
+pub mod PairDraft
+pub mod PairCan
+pub mod PairTaken

@@ -1,4 +1,5 @@
 pub mod Current
+pub mod LineSteps
 pub mod Grammar
 pub mod Heads
 pub mod Held
@@ -7,6 +8,7 @@ pub mod NodeRows
 pub mod Nodes
 pub mod Numbers
 pub mod Pieces
+pub mod PairSteps
 pub mod PlaceSteps
 pub mod Reader
 pub mod Rows

@@ -1,12 +1,15 @@
 // A line with the number of a column.
-ghost use Rattle.std.specs.Prelude.{◌≡◌, true, false};
+ghost use Rattle.std.specs.Prelude.{◌≡◌, false};
 ghost use Rattle.text_base.specs.Words.{texts};
-ghost use Rattle.nl_segments.specs.declared.awaited.Awaited.TheVariants.{Pair, ColumnCount, Interval, Node, OperandCount};
+ghost use Rattle.nl_segments.specs.declared.awaited.Awaited.TheVariants.{ColumnCount};
 ghost use Rattle.nl_segments.specs.Heads.{is_head};
 ghost use Rattle.nl_segments.specs.Held.{HasRow, TakesRow, IsAwaiting};
 
 use crate::body::BodyReader;
+use crate::closing::count_line;
+use crate::counts::read_column;
 use crate::fault::Refusal;
+use crate::nodes::refusal;
 use text_base::Stop;
 
 impl BodyReader {
@@ -17,8 +20,18 @@ impl BodyReader {
         requires exists { HasRow (texts words.now) line }
         ensures { TakesRow self.old (texts words.now) line result self.new }
     {
-        let _ = words;
         let _ = line;
-        Err(Stop::Memory)
+        if self.is_broken {
+            return Err(Stop::Memory);
+        }
+        let number = match read_column(words) {
+            Ok(number) => number,
+            Err(reason) => return Err(Stop::Fault(refusal(reason))),
+        };
+        self.is_broken = true;
+        self.columns.push(number)?;
+        count_line(&mut self.current);
+        self.is_broken = false;
+        Ok(())
     }
 }

@@ -1,24 +1,112 @@
 // A line with the sides of a constraint or a variable.
-ghost use Rattle.std.specs.Prelude.{◌≡◌, true, false};
+ghost use Rattle.std.specs.Prelude.{◌≡◌, ◌-◌, ◌<◌, ◌≤◌, ◌&&◌, not, false, Some, None, IfOk, IfErr, OnOk};
+ghost use Rattle.text_base.specs.Judged.{first_reason};
 ghost use Rattle.text_base.specs.Words.{texts};
-ghost use Rattle.nl_segments.specs.declared.awaited.Awaited.TheVariants.{Pair, ColumnCount, Interval, Node, OperandCount};
+ghost use Rattle.nl_model.specs.Kinds.{kind_of};
+ghost use Rattle.nl_model.specs.Rules.{IsOrdered};
+ghost use Rattle.nl_segments.specs.declared.awaited.Awaited.TheVariants.{Interval as IntervalLine};
 ghost use Rattle.nl_segments.specs.Heads.{is_head};
 ghost use Rattle.nl_segments.specs.Held.{HasRow, TakesRow, IsAwaiting};
+ghost use Rattle.nl_segments.specs.LineSteps.{HasRoom, next_interval_tests, with_interval};
+ghost use Rattle.nl_segments.specs.Pieces.{interval_in};
+ghost use Rattle.nl_segments.specs.Tests.{for_reason, is_binary, is_empty, is_sides};
 
 use crate::body::BodyReader;
-use crate::fault::Refusal;
+use crate::closing::count_line;
+use crate::current::Current;
+use crate::fault::{NlReason, Refusal};
+use crate::head::Head;
+use crate::intervals::read_interval;
+use crate::nodes::refusal;
+use nl_header::kinds_of;
+use nl_model::{Header, Interval, Kind, NlBuilder};
+use std::alloc::AllocError;
 use text_base::Stop;
+
+fn is_sides(head: Head) -> bool
+    ensures { result ≡ is_sides head }
+{
+    match head {
+        Head::Sides => true,
+        _ => false,
+    }
+}
+
+fn is_binary(kind: Kind) -> bool
+    ensures { result ≡ is_binary kind }
+{
+    match kind {
+        Kind::Binary => true,
+        _ => false,
+    }
+}
+
+// Whether the next variable is binary, where so many intervals are left. Those of constraints are of none.
+fn wants_unit(header: &Header, of_constraint: bool, left: u32) -> bool
+    requires some { 0 < left }
+    requires most { of_constraint ≡ false → left ≤ header.now.counts.n_var }
+    ensures { result ≡ (not of_constraint && is_binary (kind_of header.now.counts (header.now.counts.n_var - left))) }
+{
+    if of_constraint {
+        return false;
+    }
+    is_binary(kinds_of(header, header.counts().n_var - left))
+}
+
+// The interval of the next line.
+fn read_next(header: &Header, current: &Current, words: &[&[u8]]) -> Result<Interval, NlReason>
+    requires some { 0 < current.now.left }
+    requires most { is_sides current.now.head ≡ false → current.now.left ≤ header.now.counts.n_var }
+    ensures interval { IfOk result (λ i. interval_in (texts words.now) ≡ Some i) }
+    ensures ordered { IfOk result (λ i. is_empty i ≡ false) }
+    ensures fine { OnOk result (first_reason (next_interval_tests header.now.counts current.now (texts words.now)) ≡ None) }
+    ensures fault { IfErr result (λ r. first_reason (next_interval_tests header.now.counts current.now (texts words.now)) ≡ Some (for_reason r)) }
+{
+    let of_constraint = is_sides(current.head());
+    let unit = wants_unit(header, of_constraint, current.left());
+    read_interval(words, of_constraint, unit)
+}
+
+// Gives the interval of the next constraint or variable.
+fn add_interval(
+    builder: &mut NlBuilder,
+    of_constraint: bool,
+    interval: Interval,
+) -> Result<(), AllocError>
+    requires room { HasRoom builder.old of_constraint }
+    requires ordered { IsOrdered interval }
+    ensures { OnOk result (builder.new ≡ with_interval builder.old of_constraint interval) }
+{
+    if of_constraint {
+        return builder.side(interval);
+    }
+    builder.bound(interval)
+}
 
 impl BodyReader {
     /// A line with the sides of a constraint or a variable.
     pub(crate) fn take_interval(&mut self, words: &[&[u8]], line: u32) -> Result<(), Stop<Refusal>>
-        requires awaited { IsAwaiting Interval self.old }
+        requires awaited { IsAwaiting IntervalLine self.old }
         requires row { is_head (texts words.now) ≡ false }
         requires exists { HasRow (texts words.now) line }
         ensures { TakesRow self.old (texts words.now) line result self.new }
     {
-        let _ = words;
         let _ = line;
-        Err(Stop::Memory)
+        if self.is_broken {
+            return Err(Stop::Memory);
+        }
+        let Some(current) = &self.current else {
+            unreachable!()
+        };
+        let of_constraint = is_sides(current.head());
+        let interval = match read_next(self.builder.header(), current, words) {
+            Ok(interval) => interval,
+            Err(reason) => return Err(Stop::Fault(refusal(reason))),
+        };
+        self.is_broken = true;
+        add_interval(&mut self.builder, of_constraint, interval)?;
+        count_line(&mut self.current);
+        self.is_broken = false;
+        Ok(())
     }
 }

@@ -1,13 +1,174 @@
 // A line of an index and a value.
-ghost use Rattle.std.specs.Prelude.{◌≡◌, true, false};
+ghost use Rattle.std.specs.Prelude.{◌≡◌, ◌<◌, ◌≤◌, ◌&&◌, length, get_or, true, false, Some, None, IsSome, IsTrue, IsSomeAnd, IfSome, IfOk, IfErr, OnOk, if◌then◌else◌};
+ghost use Rattle.text_base.specs.Judged.{first_reason};
 ghost use Rattle.text_base.specs.Words.{texts};
-ghost use Rattle.nl_segments.specs.declared.awaited.Awaited.TheVariants.{Pair, ColumnCount, Interval, Node, OperandCount};
+ghost use Rattle.nl_model.specs.Rules.{most_terms};
+ghost use Rattle.nl_segments.specs.declared.awaited.Awaited.TheVariants.{Pair};
+ghost use Rattle.nl_segments.specs.Current.{current_awaits};
 ghost use Rattle.nl_segments.specs.Heads.{is_head};
 ghost use Rattle.nl_segments.specs.Held.{HasRow, TakesRow, IsAwaiting};
+ghost use Rattle.nl_segments.specs.LineSteps.{unless_complete};
+ghost use Rattle.nl_segments.specs.PairSteps.{CanClose, CanGive, CanUse, next_pair_tests, one_more, with_closed, with_given, with_kept, with_mark, with_suffix, with_use};
+ghost use Rattle.nl_segments.specs.Pieces.{is_nothing, pair_in};
+ghost use Rattle.nl_segments.specs.Tests.{for_reason, holds_once, index_limit};
 
 use crate::body::BodyReader;
-use crate::fault::Refusal;
-use text_base::Stop;
+use crate::closing::is_nothing;
+use crate::current::Current;
+use crate::fault::{NlReason, Refusal};
+use crate::head::Head;
+use crate::marks::Marks;
+use crate::nodes::refusal;
+use crate::pair_rules::{
+    holds_once, index_limit, is_full, is_linear, is_suffix, keeps_pairs, wants_whole,
+};
+use crate::pairs::read_pair;
+use exact_numbers::Dec;
+use nl_model::{Counts, NlBuilder, Suffix};
+use std::alloc::AllocError;
+use text_base::{Name, Stop};
+
+// Whether the index came before, where it comes once.
+fn is_repeated(head: Head, marks: &Marks, index: u32) -> bool
+    requires { index < length marks.now }
+    ensures { result ≡ (holds_once head && get_or marks.now index false) }
+{
+    if !holds_once(head) {
+        return false;
+    }
+    marks.is_marked(index)
+}
+
+// The pair of the next line.
+fn read_next(
+    counts: &Counts,
+    head: Head,
+    marks: &Marks,
+    full: bool,
+    words: &[&[u8]],
+) -> Result<(u32, Dec), NlReason>
+    requires { index_limit counts.now head ≤ length marks.now }
+    ensures pair { IfOk result (λ t. pair_in (texts words.now) ≡ Some t) }
+    ensures below { IfOk result (λ t. t.0 < index_limit counts.now head) }
+    ensures fresh { IfOk result (λ t. (holds_once head && get_or marks.now t.0 false) ≡ false) }
+    ensures room { OnOk result (full ≡ false) }
+    ensures fine { OnOk result (first_reason (next_pair_tests counts.now head marks.now full (texts words.now)) ≡ None) }
+    ensures fault { IfErr result (λ r. first_reason (next_pair_tests counts.now head marks.now full (texts words.now)) ≡ Some (for_reason r)) }
+{
+    let pair = match read_pair(words, index_limit(counts, head), wants_whole(head)) {
+        Ok(pair) => pair,
+        Err(reason) => return Err(reason),
+    };
+    if is_repeated(head, marks, pair.0) {
+        return Err(NlReason::RepeatedIndex);
+    }
+    if full {
+        return Err(NlReason::TooLarge);
+    }
+    Ok(pair)
+}
+
+// Gives the file a pair that is not kept.
+fn give_pair(builder: &mut NlBuilder, head: Head, pair: (u32, Dec)) -> Result<(), AllocError>
+    requires { CanGive builder.old head pair }
+    ensures { OnOk result (builder.new ≡ with_given builder.old head pair) }
+{
+    match head {
+        Head::DualGuesses(_) => builder.dual_guess(pair.0, pair.1),
+        Head::PrimalGuesses(_) => builder.primal_guess(pair.0, pair.1),
+        Head::Terms(i, _) => builder.term(i, pair.0, pair.1),
+        Head::Slopes(k, _) => builder.slope(k, pair.0, pair.1),
+        _ => Ok(()),
+    }
+}
+
+// Counts a line of the piece, and keeps its pair where the head says so.
+fn keep_pair(held: &mut Current, pair: (u32, Dec)) -> Result<(), AllocError>
+    requires { 0 < held.old.left }
+    ensures { OnOk result (held.new ≡ with_kept held.old pair) }
+{
+    if keeps_pairs(held.head()) {
+        return held.take_pair(pair);
+    }
+    held.take_line();
+    Ok(())
+}
+
+// Gives the file the suffix of a piece that is complete.
+fn give_suffix(
+    builder: &mut NlBuilder,
+    name: Option<Name>,
+    held: Current,
+) -> Result<(), AllocError>
+    requires complete { is_nothing (current_awaits held) ≡ true }
+    requires can { CanClose builder.old name held held.head }
+    ensures { OnOk result (builder.new ≡ with_suffix builder.old name held held.head) }
+{
+    let Head::Suffix(kind, _) = held.head() else {
+        return Ok(());
+    };
+    let Some(name) = name else { unreachable!() };
+    builder.suffix(Suffix {
+        kind,
+        name,
+        values: held.into_pairs(),
+    })
+}
+
+// Takes a pair into the piece. A piece that is complete is not held any more.
+fn close_line(
+    builder: &mut NlBuilder,
+    name: &mut Option<Name>,
+    current: &mut Option<Current>,
+    pair: (u32, Dec),
+) -> Result<(), AllocError>
+    requires left { IsSomeAnd current.old (λ c. 0 < c.left) }
+    requires can { IfSome current.old (λ c. CanClose builder.old name.old (with_kept c pair) c.head) }
+    ensures current { OnOk result (IfSome current.old (λ c. current.new ≡ unless_complete (with_kept c pair))) }
+    ensures builder { OnOk result (IfSome current.old (λ c. builder.new ≡ with_closed builder.old name.old (with_kept c pair))) }
+    ensures name { OnOk result (IfSome current.old (λ c. name.new ≡ (if is_nothing (current_awaits (with_kept c pair)) then None else name.old))) }
+{
+    let Some(mut held) = current.take() else {
+        unreachable!()
+    };
+    keep_pair(&mut held, pair)?;
+    if is_nothing(held.awaited()) {
+        return give_suffix(builder, name.take(), held);
+    }
+    *current = Some(held);
+    Ok(())
+}
+
+// Marks an index that comes once.
+fn mark(marks: &mut Marks, head: Head, index: u32)
+    requires { index < length marks.old }
+    ensures { marks.new ≡ with_mark head marks.old index }
+{
+    if holds_once(head) {
+        marks.mark(index);
+    }
+}
+
+// Counts a use of a variable in the terms of a constraint.
+fn count_use(uses: &mut Vec<u32>, head: Head, var: u32)
+    requires { CanUse head uses.old.items var }
+    ensures { uses.new.items ≡ with_use head uses.old.items var }
+{
+    match head {
+        Head::Terms(_, _) => uses[var as usize] += 1,
+        _ => {}
+    }
+}
+
+// Counts one more, where it counts.
+fn count(total: &mut u32, counts: bool)
+    requires { counts ≡ true → total.old < most_terms }
+    ensures { total.new ≡ one_more counts total.old }
+{
+    if counts {
+        *total += 1;
+    }
+}
 
 impl BodyReader {
     /// A line of an index and a value.
@@ -17,8 +178,28 @@ impl BodyReader {
         requires exists { HasRow (texts words.now) line }
         ensures { TakesRow self.old (texts words.now) line result self.new }
     {
-        let _ = words;
-        let _ = line;
-        Err(Stop::Memory)
+        if self.is_broken {
+            return Err(Stop::Memory);
+        }
+        let Some(current) = &self.current else {
+            unreachable!()
+        };
+        let head = current.head();
+        let full = is_full(head, self.linear, self.values);
+        let counts = self.builder.header().counts();
+        let pair = match read_next(counts, head, &self.marks, full, words) {
+            Ok(pair) => pair,
+            Err(reason) => return Err(Stop::Fault(refusal(reason))),
+        };
+        self.is_broken = true;
+        give_pair(&mut self.builder, head, pair)?;
+        self.places.add_term(head, line)?;
+        close_line(&mut self.builder, &mut self.name, &mut self.current, pair)?;
+        mark(&mut self.marks, head, pair.0);
+        count_use(&mut self.uses, head, pair.0);
+        count(&mut self.linear, is_linear(head));
+        count(&mut self.values, is_suffix(head));
+        self.is_broken = false;
+        Ok(())
     }
 }

@@ -177,3 +177,19 @@ impl Current {
         (self.pairs, self.nodes)
     }
 }
+
+impl Current {
+    /// How many lines before any expression are still awaited.
+    pub(crate) fn left(&self) -> u32
+        ensures { result ≡ self.now.left }
+    {
+        self.left
+    }
+
+    /// The pairs that were kept.
+    pub(crate) fn into_pairs(self) -> Terms
+        ensures { result ≡ self.pairs }
+    {
+        self.pairs
+    }
+}

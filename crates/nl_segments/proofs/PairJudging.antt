@@ -1,0 +1,123 @@
+-- A pair is judged by what is held as it is by the pieces.
+use Rattle.std.proofs.Common.{◌≡◌, ◌∙◌, ℕ, ◌<◌, Bool, true, false, not, ◌&&◌, ◌||◌, List, [], ◌∷◌, ◌++◌, length, refl, sym, ap, ap₂, arith, Option, Some, None, get_or, nat_lt}
+use Rattle.std.specs.Prelude.{IsTrue, unwrap_or, option_map, option_and_then, ◌==◌}
+use Rattle.std.proofs.lemmas.Bool.{ltb-true}
+use Rattle.text_base.specs.Judged.{first_reason}
+use Rattle.exact_numbers.specs.declared.dec.Dec.{Dec}
+use Rattle.nl_model.specs.declared.counts.Counts.{Counts}
+use Rattle.nl_model.specs.File.{Term}
+use Rattle.nl_segments.specs.declared.fault.NlReason.TheVariants.{TooLarge, RepeatedIndex}
+use Rattle.nl_segments.specs.declared.fault.Refusal.{Refusal}
+use Rattle.nl_segments.specs.declared.head.Head.{Head}
+use Rattle.nl_segments.specs.Numbers.{are_digits, dec_of_text, whole_of}
+use Rattle.nl_segments.specs.Rows.{word_at}
+use Rattle.nl_segments.specs.Pieces.{Piece, pair_in, piece_pairs}
+use Rattle.nl_segments.specs.Tests.{Tests, for_reason, has_index, holds_once, index_limit, is_below, is_full, pair_form_tests, pair_tests, wants_whole}
+use Rattle.nl_segments.specs.PairSteps.{next_pair_tests}
+use Rattle.nl_segments.specs.Held.{IsMarked}
+
+-- ---- lists of tests
+
+pub chosen : (xs ys : Tests) (r : Refusal) → first_reason xs ≡ Some r → first_reason (xs ++ ys) ≡ Some r
+chosen [] ys r e = absurd cc
+chosen (x ∷ xs) ys r e = by x.0 refl (λ h. chosen xs ys r h)
+  where
+    by : (b : Bool) → x.0 ≡ b → (first_reason xs ≡ Some r → first_reason (xs ++ ys) ≡ Some r) → first_reason ((x ∷ xs) ++ ys) ≡ Some r
+    by true t rest = rw t (rw t at e)
+    by false t rest = rw t (rest (rw t at e))
+
+pub passed : (xs ys : Tests) → first_reason xs ≡ None → first_reason (xs ++ ys) ≡ first_reason ys
+passed [] ys e = refl
+passed (x ∷ xs) ys e = by x.0 refl (λ h. passed xs ys h)
+  where
+    by : (b : Bool) → x.0 ≡ b → (first_reason xs ≡ None → first_reason (xs ++ ys) ≡ first_reason ys) → first_reason ((x ∷ xs) ++ ys) ≡ first_reason ys
+    by true t rest = absurd (let some : Some x.1 ≡ None = rw t at e in cc)
+    by false t rest = rw t (rest (rw t at e))
+
+-- ---- reading a pair
+
+pub index_of : (words : List (List ℕ)) (t : Term) → pair_in words ≡ Some t → whole_of (word_at words 0) ≡ Some t.0
+unfolding pair_in
+index_of words t e = by (whole_of (word_at words 0)) (dec_of_text (word_at words 1)) refl refl
+  where
+    by : (i : Option ℕ) (d : Option Dec) → whole_of (word_at words 0) ≡ i → dec_of_text (word_at words 1) ≡ d → whole_of (word_at words 0) ≡ Some t.0
+    by None d p q = absurd (let none : None ≡ Some t = rw p at e in cc)
+    by (Some i) None p q = absurd (let none : None ≡ Some t = rw (p, q) at e in cc)
+    by (Some i) (Some d) p q = let same : Some (i, d) ≡ Some t = rw (p, q) at e in p ∙ ap (λ (o : Option Term). Some (unwrap_or {T = Term} o (i, d)).0) same
+
+abbrev last_tests : Bool → Bool → Tests
+last_tests repeated full = (repeated, for_reason RepeatedIndex) ∷ (full, for_reason TooLarge) ∷ []
+
+module _ (c : Counts) (head : Head) (marks : List Bool) (full : Bool) (words : List (List ℕ)) (limit : ℕ) (whole : Bool) (limit_is : limit ≡ index_limit c head) (whole_is : whole ≡ wants_whole head) where
+  abbrev form : Tests
+  form = pair_form_tests limit whole words
+
+  abbrev next : Tests
+  next = next_pair_tests c head marks full words
+
+  next_is : next ≡ form ++ last_tests (holds_once head && get_or marks (unwrap_or (whole_of (word_at words 0)) 0) false) full
+  next_is = ap₂ (λ l w. pair_form_tests l w words ++ last_tests (holds_once head && get_or marks (unwrap_or (whole_of (word_at words 0)) 0) false) full) (sym limit_is) (sym whole_is)
+
+  pub read_fault : (r : Refusal) → first_reason form ≡ Some r → first_reason next ≡ Some r
+  read_fault r e = ap first_reason next_is ∙ chosen form _ r e
+
+  read_passed : (t : Term) → first_reason form ≡ None → pair_in words ≡ Some t → first_reason next ≡ first_reason (last_tests (holds_once head && get_or marks t.0 false) full)
+  read_passed t e p =
+      ap first_reason next_is ∙ passed form _ e ∙ ap (λ o. first_reason (last_tests (holds_once head && get_or marks (unwrap_or o 0) false) full)) (index_of words t p)
+
+  pub read_repeated : (t : Term) → first_reason form ≡ None → pair_in words ≡ Some t → (holds_once head && get_or marks t.0 false) ≡ true → first_reason next ≡ Some (for_reason RepeatedIndex)
+  read_repeated t e p r = read_passed t e p ∙ ap (λ b. first_reason (last_tests b full)) r
+
+  pub read_full : (t : Term) → first_reason form ≡ None → pair_in words ≡ Some t → (holds_once head && get_or marks t.0 false) ≡ false → full ≡ true → first_reason next ≡ Some (for_reason TooLarge)
+  read_full t e p r f = read_passed t e p ∙ ap₂ (λ b f. first_reason (last_tests b f)) r f
+
+  pub read_fine : (t : Term) → first_reason form ≡ None → pair_in words ≡ Some t → (holds_once head && get_or marks t.0 false) ≡ false → full ≡ false → first_reason next ≡ None
+  read_fine t e p r f = read_passed t e p ∙ ap₂ (λ b f. first_reason (last_tests b f)) r f
+
+-- ---- the tests by the pieces
+
+record IsIndex (limit : ℕ) (o : Option ℕ) : Type 0 where
+  index : ℕ
+  is : o ≡ Some index
+  below : index < limit
+
+below_limit : (limit : ℕ) (o : Option ℕ) → not (is_below limit o) ≡ false → IsIndex limit o
+below_limit limit None e = absurd cc
+below_limit limit (Some i) e = by (nat_lt i limit) refl
+  where
+    by : (b : Bool) → nat_lt i limit ≡ b → IsIndex limit (Some i)
+    by true t = record { index = i; is = refl; below = ltb-true i limit t }
+    by false t = absurd (let clash : true ≡ false = rw t at e in cc)
+
+index_found : (limit : ℕ) (whole : Bool) (words : List (List ℕ)) → first_reason (pair_form_tests limit whole words) ≡ None → IsIndex limit (whole_of (word_at words 0))
+unfolding pair_form_tests
+index_found limit whole words e = by (not (length words == 2 && are_digits (word_at words 0))) (not (is_below limit (whole_of (word_at words 0)))) refl refl
+  where
+    by : (a b : Bool) → not (length words == 2 && are_digits (word_at words 0)) ≡ a → not (is_below limit (whole_of (word_at words 0))) ≡ b → IsIndex limit (whole_of (word_at words 0))
+    by true b p q = absurd (let some = rw p at e in cc)
+    by false true p q = absurd (let some = rw (p, q) at e in cc)
+    by false false p q = below_limit limit _ q
+
+same_mark : (c : Counts) (marks : List Bool) (p : Piece) (i : ℕ) → IsMarked c marks p → i < index_limit c p.head → (holds_once p.head && has_index (piece_pairs p) i) ≡ (holds_once p.head && get_or marks i false)
+same_mark c marks p i h lt = by (holds_once p.head) refl
+  where
+    by : (b : Bool) → holds_once p.head ≡ b → (holds_once p.head && has_index (piece_pairs p) i) ≡ (holds_once p.head && get_or marks i false)
+    by true e = ap (λ b. holds_once p.head && b) (sym (h e i lt))
+    by false e = rw e refl
+
+pub same_pair_tests : (c : Counts) (pieces : List Piece) (p : Piece) (words : List (List ℕ)) (marks : List Bool) (full : Bool) → IsMarked c marks p → full ≡ is_full pieces p.head
+    → first_reason (pair_tests c pieces p words) ≡ first_reason (next_pair_tests c p.head marks full words)
+unfolding pair_tests
+same_pair_tests c pieces p words marks full h full_is = by (first_reason (pair_form_tests (index_limit c p.head) (wants_whole p.head) words)) refl
+  where
+    by : (o : Option Refusal) → first_reason (pair_form_tests (index_limit c p.head) (wants_whole p.head) words) ≡ o → first_reason (pair_tests c pieces p words) ≡ first_reason (next_pair_tests c p.head marks full words)
+    by (Some r) e = chosen (pair_form_tests (index_limit c p.head) (wants_whole p.head) words) _ r e ∙ sym (chosen (pair_form_tests (index_limit c p.head) (wants_whole p.head) words) _ r e)
+    by None e =
+        let i = index_found (index_limit c p.head) (wants_whole p.head) words e in
+        let at : ℕ = unwrap_or (whole_of (word_at words 0)) 0 in
+        let at_is : at ≡ i.index = ap (λ o. unwrap_or o 0) i.is in
+        let same : (holds_once p.head && has_index (piece_pairs p) at) ≡ (holds_once p.head && get_or marks at false) =
+        ap (λ k. holds_once p.head && has_index (piece_pairs p) k) at_is ∙ same_mark c marks p i.index h i.below ∙ ap (λ k. holds_once p.head && get_or marks k false) (sym at_is) in
+        passed (pair_form_tests (index_limit c p.head) (wants_whole p.head) words) _ e
+        ∙ ap₂ (λ b f. first_reason (last_tests b f)) same (sym full_is)
+        ∙ sym (passed (pair_form_tests (index_limit c p.head) (wants_whole p.head) words) _ e)

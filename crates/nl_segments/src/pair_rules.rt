@@ -1,0 +1,105 @@
+// What a head asks of its pairs.
+ghost use Rattle.std.specs.Prelude.{◌≡◌};
+ghost use Rattle.nl_model.specs.Rules.{object_count};
+ghost use Rattle.nl_segments.specs.Held.{keeps_pairs};
+ghost use Rattle.nl_segments.specs.PairSteps.{is_full_at};
+ghost use Rattle.nl_segments.specs.Tests.{holds_once, index_limit, is_linear, is_suffix, wants_whole};
+
+use crate::head::Head;
+use nl_model::Counts;
+
+// There are at most so many linear terms, and so many values of suffixes.
+const MOST_TERMS: u32 = 4_194_304;
+
+// How many objects of a kind there are.
+fn object_count(counts: &Counts, kind: u8) -> u32
+    ensures { result ≡ object_count counts.now kind }
+{
+    let objects = kind % 4;
+    if objects == 0 {
+        return counts.n_var;
+    }
+    if objects == 1 {
+        return counts.n_con;
+    }
+    if objects == 2 {
+        return counts.n_obj;
+    }
+    1
+}
+
+/// The indices of pairs are below this.
+pub(crate) fn index_limit(counts: &Counts, head: Head) -> u32
+    ensures { result ≡ index_limit counts.now head }
+{
+    match head {
+        Head::DualGuesses(_) => counts.n_con,
+        Head::Suffix(kind, _) => object_count(counts, kind),
+        _ => counts.n_var,
+    }
+}
+
+/// Whether values must be whole.
+pub(crate) fn wants_whole(head: Head) -> bool
+    ensures { result ≡ wants_whole head }
+{
+    match head {
+        Head::Suffix(kind, _) => (kind / 4) % 2 == 0,
+        _ => false,
+    }
+}
+
+/// Whether an index comes once.
+pub(crate) fn holds_once(head: Head) -> bool
+    ensures { result ≡ holds_once head }
+{
+    match head {
+        Head::DualGuesses(_) => true,
+        Head::PrimalGuesses(_) => true,
+        Head::Suffix(_, _) => true,
+        _ => false,
+    }
+}
+
+/// Whether pairs are linear terms.
+pub(crate) fn is_linear(head: Head) -> bool
+    ensures { result ≡ is_linear head }
+{
+    match head {
+        Head::Definition(_, _, _) => true,
+        Head::Terms(_, _) => true,
+        Head::Slopes(_, _) => true,
+        _ => false,
+    }
+}
+
+/// Whether pairs are values of a suffix.
+pub(crate) fn is_suffix(head: Head) -> bool
+    ensures { result ≡ is_suffix head }
+{
+    match head {
+        Head::Suffix(_, _) => true,
+        _ => false,
+    }
+}
+
+/// Whether pairs are kept until the piece is complete.
+pub(crate) fn keeps_pairs(head: Head) -> bool
+    ensures { result ≡ keeps_pairs head }
+{
+    match head {
+        Head::Definition(_, _, _) => true,
+        Head::Suffix(_, _) => true,
+        _ => false,
+    }
+}
+
+/// Whether no more pairs may come, where so many linear terms and values of suffixes came.
+pub(crate) fn is_full(head: Head, linear: u32, values: u32) -> bool
+    ensures { result ≡ is_full_at head linear values }
+{
+    if is_linear(head) {
+        return linear >= MOST_TERMS;
+    }
+    is_suffix(head) && values >= MOST_TERMS
+}
