@@ -10,3 +10,4 @@ pub mod DraftLemmas
 pub mod PlaceLemmas
 pub mod SeenLemmas
 pub mod TotalLemmas
+pub mod FreshLaw

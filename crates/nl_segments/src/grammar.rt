@@ -1,5 +1,5 @@
 // The grammar of .nl texts, a line at a time.
-ghost use Rattle.std.specs.Prelude.{◌≡◌, ◌×◌, []};
+ghost use Rattle.std.specs.Prelude.{◌≡◌, []};
 ghost use Rattle.nl_segments.specs.Grammar.{standing, nl_rules, SaysFile, fault_refusal};
 ghost use Rattle.nl_segments.specs.Held.{HoldsStanding};
 ghost use Rattle.nl_segments.specs.Reader.{value_of, HasLines};
