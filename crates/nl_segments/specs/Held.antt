@@ -1,5 +1,5 @@
 -- What the reader of the body holds, and how this stands to what the lines mean.
-use Rattle.std.specs.Prelude.{◌≡◌, ℕ, ℤ, nat_lt, IsSomeAnd, ◌<◌, ◌≤◌, ◌==◌, Bool, true, false, IsTrue, List, [], ◌∷◌, ◌++◌, length, take, get_or, filter, Option, Some, None, IfSome, Result, Ok, Err, All, AllPairs}
+use Rattle.std.specs.Prelude.{◌≡◌, ℕ, ℤ, nat_lt, IsSomeAnd, ◌<◌, ◌≤◌, ◌^◌, ◌==◌, Bool, true, false, IsTrue, List, [], ◌∷◌, ◌++◌, length, take, get_or, filter, Option, Some, None, IfSome, Result, Ok, Err, All, AllPairs}
 use Rattle.std.specs.List.{list_any, sum_by}
 use Rattle.text_base.specs.declared.stop.Stop.{Stop}
 use Rattle.text_base.specs.declared.stop.Stop.TheVariants.{Fault, Memory}
@@ -100,6 +100,11 @@ AreSeen c seen pieces =
 abbrev pub use_count : List (List Term) → ℕ → ℕ
 use_count rows j = sum_by (λ terms. length (filter (λ t. t.0 == j) terms)) rows
 
+-- an opcode that awaits its number of operands may still become a node
+abbrev pub IsNodeLeft : Option Current → ℕ → Type 0
+IsNodeLeft None nodes = Unit {0}
+IsNodeLeft (Some cur) nodes = IfSome cur.pending (λ q. nodes < 2 ^ 22)
+
 -- ---- What is held of all pieces.
 pub record IsHeld (s : Standing) (b : Body) : Type 0 where
   pub body : is_in_header s ≡ false
@@ -118,6 +123,7 @@ pub record IsHeld (s : Standing) (b : Body) : Type 0 where
   pub uses : (j : ℕ) → j < (counts_of s).n_var → get_or b.uses j 0 ≡ use_count b.draft.terms j
   pub users : length b.uses ≡ (counts_of s).n_var
   pub places : b.places ≡ place_lines (counts_of s) s.pieces
+  pub few : IsNodeLeft b.current b.nodes
 
 -- what holds of each reader of the body: it holds what some lines mean
 abbrev pub HoldsSome : Body → Type 0
@@ -129,6 +135,10 @@ HoldsSome b = (s : Standing) × IsHeld s b
 pub record IsRowOf (row : Row) (words : List (List ℕ)) (line : ℕ) : Type 0 where
   pub same_words : row_words row ≡ words
   pub same_line : row.line ≡ line
+
+-- the words are those of some row
+abbrev pub AreOfRow : List (List ℕ) → ℕ → Type 0
+AreOfRow words line = (row : Row) × IsRowOf row words line
 
 -- what is wrong with a row of these words
 abbrev pub words_refusal : Standing → List (List ℕ) → Option Refusal

@@ -1,5 +1,6 @@
 pub mod Current
 pub mod Grammar
+pub mod HeadSteps
 pub mod Heads
 pub mod Held
 pub mod HeldCode

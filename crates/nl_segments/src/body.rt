@@ -3,7 +3,7 @@ ghost use Rattle.std.specs.Prelude.{◌≡◌, ℕ, List, IfOk, IsSome, true};
 ghost use Rattle.text_base.specs.Words.{texts};
 ghost use Rattle.nl_segments.specs.declared.awaited.Awaited.TheVariants.{Pair, ColumnCount, Interval, Node, OperandCount};
 ghost use Rattle.nl_segments.specs.Heads.{is_head};
-ghost use Rattle.nl_segments.specs.Held.{IsHeld, IsHeaderOf, only_header, TakesRow, IsAwaiting, Finishes};
+ghost use Rattle.nl_segments.specs.Held.{IsHeld, IsHeaderOf, only_header, TakesRow, AreOfRow, Finishes};
 ghost use Rattle.nl_segments.specs.Reader.{HasLines};
 
 use crate::current::Current;
@@ -33,9 +33,12 @@ pub struct BodyReader {
     pub(crate) columns: Vec<u32>,
     pub(crate) uses: Vec<u32>,
     pub(crate) places: Places,
+    // half of a row was taken when memory was wanting
+    pub(crate) is_broken: bool,
 }
 
 impl Model for BodyReader {
+    ghost use Rattle.std.specs.Prelude.{◌≡◌, false};
     ghost use Rattle.nl_segments.specs.Held.{Body, HoldsSome};
 
     ghost Value = { Body };
@@ -46,7 +49,7 @@ impl Model for BodyReader {
 
     ghost view = { λ b. record { draft = b.builder; current = b.current; name = b.name; marks = b.marks; seen = b.seen; nodes = b.nodes; linear = b.linear; values = b.values; suffixes = b.suffixes; columns = b.columns.items; uses = b.uses.items; places = b.places } };
 
-    ghost invariant = { λ b. HoldsSome (record { draft = b.builder; current = b.current; name = b.name; marks = b.marks; seen = b.seen; nodes = b.nodes; linear = b.linear; values = b.values; suffixes = b.suffixes; columns = b.columns.items; uses = b.uses.items; places = b.places }) };
+    ghost invariant = { λ b. b.is_broken ≡ false → HoldsSome (record { draft = b.builder; current = b.current; name = b.name; marks = b.marks; seen = b.seen; nodes = b.nodes; linear = b.linear; values = b.values; suffixes = b.suffixes; columns = b.columns.items; uses = b.uses.items; places = b.places }) };
 }
 
 impl BodyReader {
@@ -62,6 +65,7 @@ impl BodyReader {
 
     /// Takes the row of these words in this line.
     pub(crate) fn take(&mut self, words: &[&[u8]], line: u32) -> Result<(), Stop<Refusal>>
+        requires { AreOfRow (texts words.now) line }
         ensures { TakesRow self.old (texts words.now) line result self.new }
     {
         let _ = words;
