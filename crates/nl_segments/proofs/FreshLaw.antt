@@ -43,7 +43,7 @@ unlike_swapped i k e = by (k == i) refl
 -- ---- what each piece keeps
 
 -- whether the piece is complete or not
-either : (P : Draft → Type 0) (d more : Draft) (p : Piece) → P d → P more → P (if_complete d p more)
+pub either : (P : Draft → Type 0) (d more : Draft) (p : Piece) → P d → P more → P (if_complete d p more)
 either P d more p f g = by (is_complete d.counts p) refl
   where
     by : (t : Bool) → is_complete d.counts p ≡ t → P (if_complete d p more)

@@ -11,3 +11,5 @@ pub mod PlaceLemmas
 pub mod SeenLemmas
 pub mod TotalLemmas
 pub mod FreshLaw
+pub mod HeadSuffixes
+pub mod HeadBegun
