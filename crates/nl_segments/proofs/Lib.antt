@@ -13,3 +13,4 @@ pub mod TotalLemmas
 pub mod FreshLaw
 pub mod HeadSuffixes
 pub mod HeadBegun
+pub mod HeadRefusal
