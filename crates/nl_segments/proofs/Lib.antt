@@ -14,3 +14,4 @@ pub mod FreshLaw
 pub mod HeadSuffixes
 pub mod HeadBegun
 pub mod HeadRefusal
+pub mod HeadSeen
