@@ -1,5 +1,5 @@
 -- What a piece without rows says.
-use Rattle.std.proofs.Common.{◌≡◌, ◌∙◌, ℕ, zero, suc, ◌<◌, ◌==◌, Bool, true, false, ◌&&◌, ◌||◌, List, [], ◌∷◌, ◌++◌, length, take, drop, replicate, filter, refl, sym, ap, ap₂, arith, nat_lt, get_or, slice_set, sum_by, Option, Some, None}
+use Rattle.std.proofs.Common.{◌≡◌, ◌∙◌, ℕ, zero, suc, ◌==◌, Bool, true, false, ◌||◌, List, [], ◌∷◌, ◌++◌, length, take, drop, filter, refl, sym, ap, arith, nat_lt, get_or, slice_set, None}
 use Rattle.std.specs.Prelude.{ℤ, not, if◌then◌else◌}
 use Rattle.std.proofs.lemmas.Bool.{eqb-true, lt-ltb}
 use Rattle.std.proofs.lemmas.List.{append-nil, length-append, take_all, drop_all, set-get_or}
@@ -146,6 +146,7 @@ count_begun pieces head name line = by (is_suffix head) refl
   where
     all : filter (λ p. is_suffix p.head) (pieces ++ new_piece head name line ∷ []) ≡ filter (λ p. is_suffix p.head) pieces ++ filter (λ p. is_suffix p.head) (new_piece head name line ∷ [])
     all = filter-append (λ p. is_suffix p.head) pieces (new_piece head name line ∷ [])
+
     by : (t : Bool) → is_suffix head ≡ t → begun_count head (suffix_count pieces) ≡ suffix_count (pieces ++ new_piece head name line ∷ [])
     by true e = rw (all, e) (omega (arith, length-append (filter (λ p. is_suffix p.head) pieces) (new_piece head name line ∷ [])))
     by false e = rw (all, e) (ap (λ ps. length ps) (sym (append-nil (filter (λ p. is_suffix p.head) pieces))))

@@ -1,10 +1,8 @@
 -- What is wrong with a head, by what is held.
-use Rattle.std.proofs.Common.{◌≡◌, ◌∙◌, ℕ, ◌<◌, ◌≤◌, ◌==◌, Bool, true, false, ◌&&◌, ◌||◌, List, [], ◌∷◌, ◌++◌, length, refl, sym, ap, ap₂, arith, nat_lt, Option, Some, None}
-use Rattle.std.specs.Prelude.{not, nat_le, codes, is_some}
+use Rattle.std.proofs.Common.{◌≡◌, ◌∙◌, ℕ, ◌<◌, Bool, true, false, ◌&&◌, List, [], ◌∷◌, ◌++◌, refl, sym, ap, arith, Some, None}
+use Rattle.std.specs.Prelude.{not, nat_le, codes}
 use Rattle.std.specs.Str.{bytes_eq}
-use Rattle.std.proofs.lemmas.Bool.{ltb-false}
 use Rattle.text_base.specs.Judged.{first_reason}
-use Rattle.text_base.specs.Names.{IsName, is_name, has_name_bytes}
 use Rattle.nl_model.specs.declared.counts.Counts.{Counts}
 use Rattle.nl_model.specs.File.{Suffix}
 use Rattle.nl_segments.specs.declared.fault.NlReason.TheVariants.{TooLarge, RepeatedSegment, IndexOut, ShortSegment, SosSuffix}

@@ -1,20 +1,20 @@
 -- The segments that came, with a head more; and the name of a suffix.
-use Rattle.std.proofs.Common.{◌≡◌, ◌∙◌, ℕ, ◌-◌, ◌<◌, ◌≤◌, ◌==◌, Bool, true, false, ◌&&◌, ◌||◌, List, [], ◌∷◌, ◌++◌, length, refl, sym, ap, ap₂, arith, subst, nat_lt, Option, Some, None}
+use Rattle.std.proofs.Common.{◌≡◌, ◌∙◌, ℕ, ◌-◌, ◌==◌, Bool, true, false, ◌&&◌, ◌||◌, List, [], ◌∷◌, ◌++◌, length, refl, sym, ap, ap₂, arith, Option, Some, None}
 use Rattle.std.specs.Prelude.{not, if◌then◌else◌, ◌+◌, nat_le, option_map, option_and_then}
 use Rattle.std.specs.List.{list_any}
-use Rattle.std.proofs.lemmas.Bool.{ltb-true, ltb-false}
+use Rattle.std.proofs.lemmas.Bool.{ltb-true}
 use Rattle.std.proofs.lemmas.List.{length-set}
 use Rattle.std.proofs.lemmas.List.Folds.{list_any-append}
 use Rattle.text_base.specs.Names.{IsName, is_name, has_name_bytes}
 use Rattle.nl_model.specs.declared.counts.Counts.{Counts}
 use Rattle.nl_segments.specs.declared.head.Head.{Head}
 use Rattle.nl_segments.specs.declared.head.Head.TheVariants.{Body, Objective, Definition, DualGuesses, PrimalGuesses, Sides, Bounds, ColumnCounts, Terms, Slopes, Suffix}
-use Rattle.nl_segments.specs.Heads.{head_of, name_in, is_in_range, numbered_head, counted_head, bare_head, objective_head, definition_head, column_head, suffix_head, with_sense, of_kind, letter_of, own_number, number_at}
+use Rattle.nl_segments.specs.Heads.{head_of, name_in, is_in_range, numbered_head, counted_head, bare_head, objective_head, definition_head, column_head, suffix_head, with_sense, letter_of, own_number, number_at}
 use Rattle.nl_segments.specs.Rows.{word_at}
 use Rattle.nl_segments.specs.Pieces.{Piece}
 use Rattle.nl_segments.specs.PlaceSteps.{HasOwner}
-use Rattle.nl_segments.specs.Saying.{PlaceLines, place_lines}
-use Rattle.nl_segments.specs.SeenSegments.{Segments, IsSeenIn, has_segment, with_segment}
+use Rattle.nl_segments.specs.Saying.{place_lines}
+use Rattle.nl_segments.specs.SeenSegments.{Segments, IsSeenIn, with_segment}
 use Rattle.nl_segments.specs.Tests.{is_suffix, is_same_head, is_same_piece}
 use Rattle.nl_segments.specs.Held.{AreSeen}
 use Rattle.nl_segments.proofs.HeadBegun.{new_piece}
@@ -92,11 +92,12 @@ seen_begun c s pieces g name line seen range = each
   where
     each : AreSeen c (with_segment s g) (pieces ++ new_piece g name line ∷ [])
     each head within plain =
-        let before = seen head within plain in
-        (still_within s (with_segment s g) head (same_marks s g) before.0,
-        marked s g head before.0 (within_marks c s pieces g seen range) plain
-        ∙ ap₂ (λ a b. a || b) before.1 (sym (same_name head g name line plain))
-        ∙ sym (list_any-append (is_same_piece head []) pieces (new_piece g name line ∷ [])))
+        let before = seen head within plain in (
+          still_within s (with_segment s g) head (same_marks s g) before.0,
+          marked s g head before.0 (within_marks c s pieces g seen range) plain
+              ∙ ap₂ (λ a b. a || b) before.1 (sym (same_name head g name line plain))
+              ∙ sym (list_any-append (is_same_piece head []) pieces (new_piece g name line ∷ [])),
+        )
 
 -- no name is asked but that of a suffix
 pub any_name : (head : Head) (name : List ℕ) (pieces : List Piece) → is_suffix head ≡ false → list_any (is_same_piece head []) pieces ≡ list_any (is_same_piece head name) pieces

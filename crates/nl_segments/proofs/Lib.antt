@@ -15,3 +15,4 @@ pub mod HeadSuffixes
 pub mod HeadBegun
 pub mod HeadRefusal
 pub mod HeadSeen
+pub mod HeadLaw
