@@ -24,7 +24,7 @@ use Rattle.nl_segments.specs.PlaceSteps.{with_begun, HasOwner}
 use Rattle.nl_segments.specs.Grammar.{Standing, counts_of, said}
 use Rattle.nl_segments.specs.Steps.{after_body_row}
 use Rattle.nl_segments.specs.Tests.{Tests, for_reason, is_suffix, is_linear, is_same_piece, is_repeated, index_limit, has_index, head_form_tests, formed_head_tests, head_tests, row_tests}
-use Rattle.nl_segments.specs.Held.{Body, IsSoundPiece, AreSound, IsOpen, IsLast, IsMarked, IsNodeLeft, IsHeld, HoldsSome, IsRowOf, AreOfRow, words_refusal, use_count}
+use Rattle.nl_segments.specs.Held.{Body, IsSoundPiece, AreSound, IsOpen, IsLast, IsMarked, IsNodeLeft, IsHeld, HoldsSome, IsRowOf, HasRow, words_refusal, use_count}
 use Rattle.nl_segments.specs.HeadSteps.{has_come, has_come_suffix, held_head_tests, formed_tests, held_refusal, begun_current, begun_name, begun_count, begun_draft, with_begun_head}
 use Rattle.nl_segments.proofs.PieceLemmas.{split, last-append, lines-append}
 use Rattle.nl_segments.proofs.DraftLemmas.{draft_counts}
@@ -240,6 +240,7 @@ held_begun s b head name line h closed range fresh =
       places = ap (λ l. with_begun l line head) h.places
           ∙ sym (lines-append (counts_of s) s.pieces (new_piece head name line) ∙ place_begun (counts_of s) (place_lines (counts_of s) s.pieces) head name line);
       few = node_left b.draft.counts head line b.nodes;
+      few_terms = h.few_terms;
     }
 
 -- a row that is a head begins a piece
@@ -295,7 +296,7 @@ fresh_suffix seen suffixes (Terms i n) name e = refl
 fresh_suffix seen suffixes (Slopes k n) name e = refl
 fresh_suffix seen suffixes (Suffix kind n) name e = e
 
-pub taken_some : (b : Body) (words : List (List ℕ)) (line : ℕ) (head : Head) → AreOfRow words line → is_head words ≡ true → head_of b.draft.counts words ≡ Some head → IsNewOf b words head
+pub taken_some : (b : Body) (words : List (List ℕ)) (line : ℕ) (head : Head) → HasRow words line → is_head words ≡ true → head_of b.draft.counts words ≡ Some head → IsNewOf b words head
     → HoldsSome b → HoldsSome (with_begun_head b head (name_in words) line)
 taken_some b words line head of first e new h = (after_body_row h.0 of.0, taken_head h.0 b of.0 words line head of.1 first e new h.1)
 

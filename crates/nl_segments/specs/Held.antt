@@ -11,7 +11,7 @@ use Rattle.nl_model.specs.Draft.{Draft, file_of}
 use Rattle.nl_header.specs.Head.{options_in, counts_in}
 use Rattle.nl_header.specs.Reading.{Taken, IsReading}
 use Rattle.nl_model.specs.File.{Term, Definition}
-use Rattle.nl_model.specs.Rules.{AreTermsBelow, AreIndicesApart, is_defined}
+use Rattle.nl_model.specs.Rules.{AreTermsBelow, AreIndicesApart, is_defined, most_terms}
 use Rattle.nl_segments.specs.declared.awaited.Awaited.{Awaited}
 use Rattle.nl_segments.specs.declared.fault.Refusal.{Refusal}
 use Rattle.nl_segments.specs.declared.nl_read.NlRead.{NlRead}
@@ -24,7 +24,7 @@ use Rattle.nl_segments.specs.Heads.{is_in_range}
 use Rattle.nl_segments.specs.Saying.{PlaceLines, place_lines}
 use Rattle.nl_segments.specs.SeenSegments.{Segments, IsSeenIn, has_segment}
 use Rattle.nl_segments.specs.Current.{Current, IsCurrent, current_awaits}
-use Rattle.nl_segments.specs.Grammar.{Standing, is_in_header, counts_of, said}
+use Rattle.nl_segments.specs.Grammar.{Standing, is_in_header, counts_of, said, NlValue}
 use Rattle.nl_segments.specs.Steps.{after_body_row}
 
 -- the file so far; the last piece, where it is not complete; the name of its suffix; marks for its indices; the segments that came; how many nodes, linear terms, values of suffixes and suffixes came; the numbers of columns; how often each variable stands in terms of constraints; and the lines of places
@@ -124,6 +124,7 @@ pub record IsHeld (s : Standing) (b : Body) : Type 0 where
   pub users : length b.uses ≡ (counts_of s).n_var
   pub places : b.places ≡ place_lines (counts_of s) s.pieces
   pub few : IsNodeLeft b.current b.nodes
+  pub few_terms : b.linear ≤ most_terms
 
 -- what holds of each reader of the body: it holds what some lines mean
 abbrev pub HoldsSome : Body → Type 0
@@ -136,9 +137,9 @@ pub record IsRowOf (row : Row) (words : List (List ℕ)) (line : ℕ) : Type 0 w
   pub same_words : row_words row ≡ words
   pub same_line : row.line ≡ line
 
--- the words are those of some row
-abbrev pub AreOfRow : List (List ℕ) → ℕ → Type 0
-AreOfRow words line = (row : Row) × IsRowOf row words line
+-- there is such a row
+abbrev pub HasRow : List (List ℕ) → ℕ → Type 0
+HasRow words line = (row : Row) × IsRowOf row words line
 
 -- what is wrong with a row of these words
 abbrev pub words_refusal : Standing → List (List ℕ) → Option Refusal

@@ -3,7 +3,7 @@ ghost use Rattle.std.specs.Prelude.{◌≡◌, ℕ, List, IfOk, IsSome, true};
 ghost use Rattle.text_base.specs.Words.{texts};
 ghost use Rattle.nl_segments.specs.declared.awaited.Awaited.TheVariants.{Pair, ColumnCount, Interval, Node, OperandCount};
 ghost use Rattle.nl_segments.specs.Heads.{is_head};
-ghost use Rattle.nl_segments.specs.Held.{IsHeld, IsHeaderOf, only_header, TakesRow, AreOfRow, Finishes};
+ghost use Rattle.nl_segments.specs.Held.{IsHeld, IsHeaderOf, only_header, TakesRow, HasRow, Finishes};
 ghost use Rattle.nl_segments.specs.Reader.{HasLines};
 
 use crate::current::Current;
@@ -65,7 +65,7 @@ impl BodyReader {
 
     /// Takes the row of these words in this line.
     pub(crate) fn take(&mut self, words: &[&[u8]], line: u32) -> Result<(), Stop<Refusal>>
-        requires { AreOfRow (texts words.now) line }
+        requires exists { HasRow (texts words.now) line }
         ensures { TakesRow self.old (texts words.now) line result self.new }
     {
         let _ = words;

@@ -5,7 +5,7 @@ ghost use Rattle.text_base.specs.Names.{IsName};
 ghost use Rattle.text_base.specs.Words.{texts};
 ghost use Rattle.nl_segments.specs.Heads.{is_head, head_of, is_in_range, name_in};
 ghost use Rattle.nl_segments.specs.HeadSteps.{has_come, has_come_suffix, held_head_tests, held_refusal, begun_current, begun_name, begun_count, begun_draft};
-ghost use Rattle.nl_segments.specs.Held.{TakesRow, AreOfRow};
+ghost use Rattle.nl_segments.specs.Held.{TakesRow, HasRow};
 ghost use Rattle.nl_segments.specs.Pieces.{pair_count, line_count};
 ghost use Rattle.nl_segments.specs.SeenSegments.{IsSeenIn};
 ghost use Rattle.nl_segments.specs.Tests.{for_reason, is_suffix};
@@ -205,7 +205,7 @@ impl BodyReader {
     /// A row that is a head.
     pub(crate) fn take_head(&mut self, words: &[&[u8]], line: u32) -> Result<(), Stop<Refusal>>
         requires row { is_head (texts words.now) ≡ true }
-        requires some { AreOfRow (texts words.now) line }
+        requires exists { HasRow (texts words.now) line }
         ensures { TakesRow self.old (texts words.now) line result self.new }
     {
         if self.is_broken {

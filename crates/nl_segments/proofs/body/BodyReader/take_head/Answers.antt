@@ -52,7 +52,7 @@ invariant_of-self-2 c = λ e.
     (c.begun_current.ensures ∙ ap (λ k. begun_current k c.in-Ok.head c.args.line) (c.counts.ensures.value ∙ c.header.ensures.counts))
     (c.in_ok-self-inside.ensures ∙ ap (begun_name c.in-Ok.head) c.word_at-name.ensures)
     c.clear.ensures c.add.ensures refl refl refl c.begun_count-self-inside.ensures refl refl c.in_ok-begin.ensures))
-    (taken_some b (texts c.args.words.now) c.args.line c.in-Ok.head c.requires.some c.requires.row c.in-Ok.ensures.head new (c.self.invariant c.if-self.false))
+    (taken_some b (texts c.args.words.now) c.args.line c.in-Ok.head c.requires.exists c.requires.row c.in-Ok.ensures.head new (c.self.invariant c.if-self.false))
 
 pub returns : goal.returns
 returns c = λ s row is h.
