@@ -1,6 +1,7 @@
 pub mod Current
 pub mod LineSteps
 pub mod Grammar
+pub mod HeadSteps
 pub mod Heads
 pub mod Held
 pub mod HeldCode

@@ -1,13 +1,205 @@
 // A row that is a head.
-ghost use Rattle.std.specs.Prelude.{◌≡◌, true, false};
+ghost use Rattle.std.specs.Prelude.{◌≡◌, ◌<◌, true, false, Some, None, IfOk, IfErr, OnOk, OnErr};
+ghost use Rattle.text_base.specs.Judged.{first_reason};
+ghost use Rattle.text_base.specs.Names.{IsName};
 ghost use Rattle.text_base.specs.Words.{texts};
-ghost use Rattle.nl_segments.specs.declared.awaited.Awaited.TheVariants.{Pair, ColumnCount, Interval, Node, OperandCount};
-ghost use Rattle.nl_segments.specs.Heads.{is_head};
-ghost use Rattle.nl_segments.specs.Held.{HasRow, TakesRow, IsAwaiting};
+ghost use Rattle.nl_segments.specs.Heads.{is_head, head_of, is_in_range, name_in};
+ghost use Rattle.nl_segments.specs.HeadSteps.{has_come, has_come_suffix, held_head_tests, held_refusal, begun_current, begun_name, begun_count, begun_draft};
+ghost use Rattle.nl_segments.specs.Held.{TakesRow, HasRow};
+ghost use Rattle.nl_segments.specs.Pieces.{pair_count, line_count};
+ghost use Rattle.nl_segments.specs.SeenSegments.{IsSeenIn};
+ghost use Rattle.nl_segments.specs.Tests.{for_reason, is_suffix};
 
 use crate::body::BodyReader;
-use crate::fault::Refusal;
-use text_base::Stop;
+use crate::current::{Current, has_tree};
+use crate::fault::{NlReason, Refusal};
+use crate::head::Head;
+use crate::heads::{is_in_range, read_head};
+use crate::nodes::refusal;
+use crate::seen::Seen;
+use crate::words::word_at;
+use nl_model::{Counts, NlBuilder, Suffix, Terms};
+use std::alloc::{AllocError, Global};
+use text_base::{Name, Stop};
+
+/// A file has at most so many suffixes.
+const MOST_SUFFIXES: u32 = 1024;
+
+// Whether the head is that of a suffix.
+fn is_suffix(head: Head) -> bool
+    ensures { result ≡ is_suffix head }
+{
+    matches!(head, Head::Suffix(_, _))
+}
+
+// How many pairs follow a head.
+fn pair_count(head: Head) -> u32
+    ensures { result ≡ pair_count head }
+{
+    match head {
+        Head::Definition(_, n, _) => n,
+        Head::DualGuesses(n) => n,
+        Head::PrimalGuesses(n) => n,
+        Head::Terms(_, n) => n,
+        Head::Slopes(_, n) => n,
+        Head::Suffix(_, n) => n,
+        _ => 0,
+    }
+}
+
+// How many lines follow a head, before any expression.
+fn line_count(counts: &Counts, head: Head) -> u32
+    ensures { result ≡ line_count counts.now head }
+{
+    match head {
+        Head::Sides => counts.n_con,
+        Head::Bounds => counts.n_var,
+        Head::ColumnCounts(n) => n,
+        _ => pair_count(head),
+    }
+}
+
+// Whether a suffix of this head and name was given.
+fn has_come_suffix(builder: &NlBuilder, head: Head, name: &[u8]) -> bool
+    ensures { result ≡ has_come_suffix builder.now.suffixes head name.now }
+{
+    match head {
+        Head::Suffix(kind, _) => builder.has_suffix(kind, name),
+        _ => false,
+    }
+}
+
+// Whether a segment of this head, or a suffix of this name, came before.
+fn has_come(builder: &NlBuilder, seen: &Seen, head: Head, name: &[u8]) -> bool
+    requires { is_suffix head ≡ false → IsSeenIn seen.now head }
+    ensures { result ≡ has_come seen.now builder.now.suffixes head name.now }
+{
+    if is_suffix(head) {
+        return has_come_suffix(builder, head, name);
+    }
+    seen.has(head)
+}
+
+// What is wrong with a head whose form is right, after so many suffixes.
+fn judge(
+    builder: &NlBuilder,
+    seen: &Seen,
+    suffixes: u32,
+    head: Head,
+    name: &[u8],
+) -> Result<(), NlReason>
+    requires { is_in_range builder.now.counts head ≡ true → is_suffix head ≡ false → IsSeenIn seen.now head }
+    ensures fine { OnOk result (first_reason (held_head_tests builder.now.counts seen.now builder.now.suffixes suffixes name.now head) ≡ None) }
+    ensures fault { IfErr result (λ r. first_reason (held_head_tests builder.now.counts seen.now builder.now.suffixes suffixes name.now head) ≡ Some (for_reason r)) }
+{
+    if !is_in_range(builder.header().counts(), head) {
+        return Err(NlReason::IndexOut);
+    }
+    if is_suffix(head) && name == b"sosno".as_slice() {
+        return Err(NlReason::SosSuffix);
+    }
+    if has_come(builder, seen, head, name) {
+        return Err(NlReason::RepeatedSegment);
+    }
+    if is_suffix(head) && suffixes >= MOST_SUFFIXES {
+        return Err(NlReason::TooLarge);
+    }
+    Ok(())
+}
+
+// The head of these words, where the last piece may be open.
+fn new_head(
+    builder: &NlBuilder,
+    is_open: bool,
+    seen: &Seen,
+    suffixes: u32,
+    words: &[&[u8]],
+) -> Result<Head, NlReason>
+    requires { (head : Head) → is_in_range builder.now.counts head ≡ true → is_suffix head ≡ false → IsSeenIn seen.now head }
+    ensures head { IfOk result (λ head. head_of builder.now.counts (texts words.now) ≡ Some head) }
+    ensures fine { OnOk result (held_refusal builder.now.counts is_open seen.now builder.now.suffixes suffixes (texts words.now) ≡ None) }
+    ensures fault { IfErr result (λ r. held_refusal builder.now.counts is_open seen.now builder.now.suffixes suffixes (texts words.now) ≡ Some (for_reason r)) }
+{
+    if is_open {
+        return Err(NlReason::ShortSegment);
+    }
+    let head = match read_head(builder.header().counts(), words) {
+        Ok(head) => head,
+        Err(reason) => return Err(reason),
+    };
+    match judge(builder, seen, suffixes, head, word_at(words, 2)) {
+        Ok(()) => Ok(head),
+        Err(reason) => Err(reason),
+    }
+}
+
+// The name of a suffix.
+fn name_of(alloc: Global, text: &[u8]) -> Result<Name, AllocError>
+    requires { IsName text.now }
+    ensures { IfOk result (λ name. name ≡ text.now) }
+{
+    match Name::of(alloc, text) {
+        Ok(name) => Ok(name),
+        Err(Stop::Fault(_)) => unreachable!(),
+        Err(Stop::Memory) => Err(AllocError),
+    }
+}
+
+// The name of a suffix, and none for another head.
+fn begun_name(alloc: Global, head: Head, text: &[u8]) -> Result<Option<Name>, AllocError>
+    requires { is_suffix head ≡ true → IsName text.now }
+    ensures { IfOk result (λ name. name ≡ begun_name head text.now) }
+{
+    if !is_suffix(head) {
+        return Ok(None);
+    }
+    let name = name_of(alloc, text)?;
+    Ok(Some(name))
+}
+
+// Gives a suffix without values to the file.
+fn give_empty_suffix(
+    builder: &mut NlBuilder,
+    alloc: Global,
+    head: Head,
+    text: &[u8],
+) -> Result<(), AllocError>
+    requires name { is_suffix head ≡ true → IsName text.now }
+    requires fresh { has_come_suffix builder.old.suffixes head text.now ≡ false }
+    ensures { OnOk result (builder.new ≡ begun_draft builder.old head text.now) }
+{
+    if let Head::Suffix(kind, 0) = head {
+        let name = name_of(alloc, text)?;
+        builder.suffix(Suffix {
+            kind,
+            name,
+            values: Terms::new(alloc),
+        })?;
+    }
+    Ok(())
+}
+
+// The piece that a head begins, where it awaits a line.
+fn begun_current(alloc: Global, counts: &Counts, head: Head, line: u32) -> Option<Current>
+    ensures { result ≡ begun_current counts.now head line }
+{
+    let left = line_count(counts, head);
+    if has_tree(head) || left > 0 {
+        return Some(Current::new(alloc, head, line, left));
+    }
+    None
+}
+
+// How many suffixes came, with a head more.
+fn begun_count(head: Head, suffixes: u32) -> u32
+    requires { is_suffix head ≡ true → suffixes < 1024 }
+    ensures { result ≡ begun_count head suffixes }
+{
+    if is_suffix(head) {
+        return suffixes + 1;
+    }
+    suffixes
+}
 
 impl BodyReader {
     /// A row that is a head.
@@ -16,8 +208,24 @@ impl BodyReader {
         requires exists { HasRow (texts words.now) line }
         ensures { TakesRow self.old (texts words.now) line result self.new }
     {
-        let _ = words;
-        let _ = line;
-        Err(Stop::Memory)
+        if self.is_broken {
+            return Err(Stop::Memory);
+        }
+        let is_open = self.current.is_some();
+        let head = match new_head(&self.builder, is_open, &self.seen, self.suffixes, words) {
+            Ok(head) => head,
+            Err(reason) => return Err(Stop::Fault(refusal(reason))),
+        };
+        self.is_broken = true;
+        let name = word_at(words, 2);
+        self.current = begun_current(self.alloc, self.builder.header().counts(), head, line);
+        self.marks.clear();
+        self.seen.add(head);
+        self.suffixes = begun_count(head, self.suffixes);
+        self.name = begun_name(self.alloc, head, name)?;
+        self.places.begin(self.alloc, head, line)?;
+        give_empty_suffix(&mut self.builder, self.alloc, head, name)?;
+        self.is_broken = false;
+        Ok(())
     }
 }

@@ -1,0 +1,99 @@
+-- What is wrong with a head, by what is held.
+use Rattle.std.proofs.Common.{◌≡◌, ◌∙◌, ℕ, ◌<◌, Bool, true, false, ◌&&◌, List, [], ◌∷◌, ◌++◌, refl, sym, ap, arith, Some, None}
+use Rattle.std.specs.Prelude.{not, nat_le, codes}
+use Rattle.std.specs.Str.{bytes_eq}
+use Rattle.text_base.specs.Judged.{first_reason}
+use Rattle.nl_model.specs.declared.counts.Counts.{Counts}
+use Rattle.nl_model.specs.File.{Suffix}
+use Rattle.nl_segments.specs.declared.fault.NlReason.TheVariants.{TooLarge, RepeatedSegment, IndexOut, ShortSegment, SosSuffix}
+use Rattle.nl_segments.specs.declared.fault.Refusal.{Refusal}
+use Rattle.nl_segments.specs.declared.head.Head.{Head}
+use Rattle.nl_segments.specs.Heads.{head_of, name_in, is_in_range}
+use Rattle.nl_segments.specs.HeadSteps.{has_come, held_head_tests, formed_tests, held_refusal}
+use Rattle.nl_segments.specs.SeenSegments.{Segments}
+use Rattle.nl_segments.specs.Tests.{Tests, for_reason, is_suffix, head_form_tests}
+
+-- ---- reasons
+
+pub reason_before : (xs ys : Tests) (r : Refusal) → first_reason xs ≡ Some r → first_reason (xs ++ ys) ≡ Some r
+reason_before [] ys r e = absurd cc
+reason_before (x ∷ xs) ys r e = by x.0 refl (reason_before xs ys r)
+  where
+    by : (t : Bool) → x.0 ≡ t → (first_reason xs ≡ Some r → first_reason (xs ++ ys) ≡ Some r) → first_reason ((x ∷ xs) ++ ys) ≡ Some r
+    by true s rest = rw s (rw s at e)
+    by false s rest = rw s (rest (rw s at e))
+
+pub reason_after : (xs ys : Tests) → first_reason xs ≡ None → first_reason (xs ++ ys) ≡ first_reason ys
+reason_after [] ys e = refl
+reason_after (x ∷ xs) ys e = by x.0 refl (reason_after xs ys)
+  where
+    by : (t : Bool) → x.0 ≡ t → (first_reason xs ≡ None → first_reason (xs ++ ys) ≡ first_reason ys) → first_reason ((x ∷ xs) ++ ys) ≡ first_reason ys
+    by true s rest = absurd (let wrong : Some x.1 ≡ None = rw s at e in cc)
+    by false s rest = rw s (rest (rw s at e))
+
+-- no reason before, where there is none
+pub none_first : (xs ys : Tests) → first_reason (xs ++ ys) ≡ None → first_reason xs ≡ None
+none_first [] ys e = refl
+none_first (x ∷ xs) ys e = by x.0 refl (none_first xs ys)
+  where
+    by : (t : Bool) → x.0 ≡ t → (first_reason (xs ++ ys) ≡ None → first_reason xs ≡ None) → first_reason (x ∷ xs) ≡ None
+    by true s rest = absurd (let wrong : Some x.1 ≡ None = rw s at e in cc)
+    by false s rest = rw s (rest (rw s at e))
+
+-- the first test of those that give no reason
+none_head : (b : Bool) (r : Refusal) (xs : Tests) → first_reason ((b, r) ∷ xs) ≡ None → (b ≡ false) × (first_reason xs ≡ None)
+none_head true r xs e = absurd cc
+none_head false r xs e = (refl, e)
+
+-- no test of a head holds
+all_false : (a b d f : Bool) → first_reason ((a, for_reason IndexOut) ∷ (b, for_reason SosSuffix) ∷ (d, for_reason RepeatedSegment) ∷ (f, for_reason TooLarge) ∷ []) ≡ None
+    → (a ≡ false) × (d ≡ false) × (f ≡ false)
+all_false true b d f e = absurd cc
+all_false false true d f e = absurd cc
+all_false false false true f e = absurd cc
+all_false false false false true e = absurd cc
+all_false false false false false e = (refl, refl, refl)
+
+-- ---- the head of words
+
+pub form_fault : (c : Counts) (is_open : Bool) (seen : Segments) (suffixes : List Suffix) (count : ℕ) (words : List (List ℕ)) (r : Refusal)
+    → is_open ≡ false → first_reason (head_form_tests c words) ≡ Some r → held_refusal c is_open seen suffixes count words ≡ Some r
+form_fault c is_open seen suffixes count words r f e = rw f (reason_before (head_form_tests c words) (formed_tests c seen suffixes count (name_in words) (head_of c words)) r e)
+
+pub form_fine : (c : Counts) (is_open : Bool) (seen : Segments) (suffixes : List Suffix) (count : ℕ) (words : List (List ℕ)) (head : Head)
+    → is_open ≡ false → first_reason (head_form_tests c words) ≡ None → head_of c words ≡ Some head
+    → held_refusal c is_open seen suffixes count words ≡ first_reason (held_head_tests c seen suffixes count (name_in words) head)
+form_fine c is_open seen suffixes count words head f e is =
+    rw f (reason_after (head_form_tests c words) (formed_tests c seen suffixes count (name_in words) (head_of c words)) e ∙ ap (λ o. first_reason (formed_tests c seen suffixes count (name_in words) o)) is)
+
+-- a head that nothing is wrong with
+pub record IsNew (c : Counts) (is_open : Bool) (seen : Segments) (suffixes : List Suffix) (count : ℕ) (name : List ℕ) (head : Head) : Type 0 where
+  pub closed : is_open ≡ false
+  pub range : is_in_range c head ≡ true
+  pub fresh : has_come seen suffixes head name ≡ false
+  pub few : is_suffix head ≡ true → count < 1024
+
+not_false : (b : Bool) → not b ≡ false → b ≡ true
+not_false true e = refl
+not_false false e = absurd cc
+
+below : (b : Bool) (count : ℕ) → (b && nat_le 1024 count) ≡ false → b ≡ true → count < 1024
+below b count e t = let f : nat_le 1024 count ≡ false = rw t at e in by (nat_le 1024 count) refl f
+  where
+    by : (x : Bool) → nat_le 1024 count ≡ x → x ≡ false → count < 1024
+    by true s w = absurd cc
+    by false s w = grind arith
+
+pub is_new : (c : Counts) (is_open : Bool) (seen : Segments) (suffixes : List Suffix) (count : ℕ) (words : List (List ℕ)) (head : Head)
+    → head_of c words ≡ Some head → held_refusal c is_open seen suffixes count words ≡ None → IsNew c is_open seen suffixes count (name_in words) head
+is_new c is_open seen suffixes count words head is e =
+    let first = none_head is_open (for_reason ShortSegment) (head_form_tests c words ++ formed_tests c seen suffixes count (name_in words) (head_of c words)) e in
+    let fine = none_first (head_form_tests c words) (formed_tests c seen suffixes count (name_in words) (head_of c words)) first.1 in
+    let tests : first_reason (held_head_tests c seen suffixes count (name_in words) head) ≡ None = sym (form_fine c is_open seen suffixes count words head first.0 fine is) ∙ e in
+    let none = all_false (not (is_in_range c head)) (is_suffix head && bytes_eq (name_in words) (codes "sosno")) (has_come seen suffixes head (name_in words)) (is_suffix head && nat_le 1024 count) tests in
+    record {
+      closed = first.0;
+      range = not_false (is_in_range c head) none.0;
+      fresh = none.1;
+      few = below (is_suffix head) count none.2;
+    }
