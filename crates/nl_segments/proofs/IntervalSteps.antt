@@ -123,10 +123,11 @@ pub column_step : (value fields : Body) (words : List (List ℕ)) (line k : ℕ)
     → (s : Standing) (row : Row) → IsRowOf row words line → IsHeld s value → (words_refusal s words ≡ None) × IsHeld (after_body_row s row) (record fields { columns = columns; current = current })
 column_step value fields words line k columns current same a plain fine is columns_are current_is s row r h =
     let w = awaiting fields ColumnCount (subst (IsAwaiting ColumnCount) (sym same) a) in
-    let held = subst (IsHeld s) (sym same) h in
-    (judged_by s fields w.cur words ColumnCount (opened s fields w.cur w.is held) plain w.awaits_it ∙ fine,
-    column_taken s fields w.cur row k columns current w.is w.awaits_it (ap is_head r.same_words ∙ plain) (ap (λ ws. whole_of (word_at ws 0)) r.same_words ∙ is) columns_are
-    (subst (λ o. IfSome o (λ c. current ≡ unless_complete (less_line c))) w.is current_is) held)
+    let held = subst (IsHeld s) (sym same) h in (
+      judged_by s fields w.cur words ColumnCount (opened s fields w.cur w.is held) plain w.awaits_it ∙ fine,
+      column_taken s fields w.cur row k columns current w.is w.awaits_it (ap is_head r.same_words ∙ plain) (ap (λ ws. whole_of (word_at ws 0)) r.same_words ∙ is) columns_are
+          (subst (λ o. IfSome o (λ c. current ≡ unless_complete (less_line c))) w.is current_is) held,
+    )
 
 -- ---- an interval
 
@@ -248,10 +249,11 @@ pub interval_step : (value fields : Body) (cur : Current) (words : List (List �
     → (s : Standing) (row : Row) → IsRowOf row words line → IsHeld s value → (words_refusal s words ≡ None) × IsHeld (after_body_row s row) (record fields { draft = draft; current = current })
 interval_step value fields cur words line i draft current same cur_is a plain fine is draft_is current_is s row r h =
     let kind = awaits_as fields cur IntervalLine cur_is (subst (IsAwaiting IntervalLine) (sym same) a) in
-    let held = subst (IsHeld s) (sym same) h in
-    (judged_interval s fields cur words cur_is kind plain held ∙ ap (λ c. first_reason (next_interval_tests c cur words)) (sym held.counts) ∙ fine,
-    interval_taken s fields cur row i draft current cur_is kind (ap is_head r.same_words ∙ plain) (ap interval_in r.same_words ∙ is) draft_is
-    (subst (λ o. IfSome o (λ c. current ≡ unless_complete (less_line c))) cur_is current_is) held)
+    let held = subst (IsHeld s) (sym same) h in (
+      judged_interval s fields cur words cur_is kind plain held ∙ ap (λ c. first_reason (next_interval_tests c cur words)) (sym held.counts) ∙ fine,
+      interval_taken s fields cur row i draft current cur_is kind (ap is_head r.same_words ∙ plain) (ap interval_in r.same_words ∙ is) draft_is
+          (subst (λ o. IfSome o (λ c. current ≡ unless_complete (less_line c))) cur_is current_is) held,
+    )
 
 -- ---- there is room for the interval
 

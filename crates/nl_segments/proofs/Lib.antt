@@ -31,8 +31,6 @@ pub mod PairPiece
 pub mod PairDraft
 pub mod PairCan
 pub mod PairTaken
-pub mod FreshLaw
-pub mod HeadSuffixes
 pub mod HeadBegun
 pub mod HeadRefusal
 pub mod HeadSeen

@@ -62,6 +62,7 @@ not_closed d name cur f = by (is_nothing (current_awaits cur)) refl
     same (ColumnCounts n) f = refl
     same (Terms i n) f = refl
     same (Slopes k n) f = refl
+
     by : (b : Bool) → is_nothing (current_awaits cur) ≡ b → with_closed d name cur ≡ d
     by true e = rw e (same cur.head f)
     by false e = rw e refl
@@ -77,10 +78,13 @@ draft_pair o c before p row t name cur n range unfinished head closes pairs name
   where
     d : Draft
     d = draft_of o c (before ++ p ∷ [])
+
     few : (h : Head) → p.head ≡ h → length p.rows < pair_count h
     few h e = subst (λ h. length p.rows < pair_count h) e (few_rows c p row t n)
+
     plain : (h : Head) → p.head ≡ h → is_suffix h ≡ false → is_suffix cur.head ≡ false
     plain h e f = ap is_suffix (head ∙ e) ∙ f
+
     by : (h : Head) → p.head ≡ h → with_closed (with_given (draft_of o c (before ++ p ∷ [])) p.head t) name cur ≡ draft_of o c (before ++ longer p row ∷ [])
     by (DualGuesses k) e = not_closed _ name cur (plain _ e refl) ∙ ap (λ h. with_given (draft_of o c (before ++ p ∷ [])) h t) e ∙ sym (with_dual o c before p row k t e (few _ e) n.says)
     by (PrimalGuesses k) e = not_closed _ name cur (plain _ e refl) ∙ ap (λ h. with_given (draft_of o c (before ++ p ∷ [])) h t) e ∙ sym (with_primal o c before p row k t e (few _ e) n.says)
@@ -97,6 +101,7 @@ draft_pair o c before p row t name cur n range unfinished head closes pairs name
       where
         given : with_given (draft_of o c (before ++ p ∷ [])) p.head t ≡ draft_of o c before
         given = ap (λ h. with_given (draft_of o c (before ++ p ∷ [])) h t) e ∙ draft_before o c before p (rw e refl) unfinished
+
         whole : (b : Bool) → is_complete c (longer p row) ≡ b → with_closed (with_given (draft_of o c (before ++ p ∷ [])) p.head t) name cur ≡ draft_of o c (before ++ longer p row ∷ [])
         whole false f =
             let no_more = closes ∙ f in
@@ -160,6 +165,7 @@ terms_closed d name cur = by (is_nothing (current_awaits cur)) refl
     same (ColumnCounts n) = refl
     same (Terms i n) = refl
     same (Slopes k n) = refl
+
     by : (b : Bool) → is_nothing (current_awaits cur) ≡ b → (with_closed d name cur).terms ≡ d.terms
     by true e = rw e (same cur.head)
     by false e = rw e refl
@@ -170,6 +176,7 @@ uses_pair d (Terms i k) t uses j n con len below rows range h = by (t.0 == j) re
   where
     more : use_count (slice_set d.terms i (get_or d.terms i [] ++ t ∷ [])) j ≡ (if t.0 == j then use_count d.terms j + 1 else use_count d.terms j)
     more = let lt = range i k refl in use_more d.terms i j t (omega arith)
+
     by : (b : Bool) → (t.0 == j) ≡ b → get_or (slice_set uses t.0 (get_or uses t.0 0 + 1)) j 0 ≡ use_count (slice_set d.terms i (get_or d.terms i [] ++ t ∷ [])) j
     by true e =
         let same = eqb-true t.0 j e in
@@ -243,12 +250,14 @@ places_pair c before p row t n range =
   where
     nodes_same : node_lines c (longer p row) ≡ node_lines c p
     nodes_same = ap (λ rs. only_lines (nodes_of c.n_var rs)) (early_tree c p row n.within)
+
     terms_more : term_lines (longer p row) ≡ term_lines p ++ row.line ∷ []
     terms_more =
         let few = few_rows c p row t n in
         let whole : take (pair_count p.head) p.rows ≡ p.rows = take_all (pair_count p.head) p.rows (omega arith) in
         let more : take (pair_count p.head) (p.rows ++ row ∷ []) ≡ p.rows ++ row ∷ [] = take_all (pair_count p.head) (p.rows ++ row ∷ []) (omega (arith, length-append p.rows (row ∷ []))) in
         ap (map (λ r. r.line)) more ∙ map-append (λ r. r.line) p.rows (row ∷ []) ∙ ap (λ rs. map (λ r. r.line) rs ++ row.line ∷ []) (sym whole)
+
     other : (h : Head) → is_linear h ≡ false → length p.rows < pair_count h → with_term_line (lines_by c (place_lines c before) p h) row.line h ≡ lines_by c (place_lines c before) (longer p row) h
     other (DualGuesses k) f few = refl
     other (PrimalGuesses k) f few = refl
@@ -261,6 +270,7 @@ places_pair c before p row t n range =
     other Sides f few = absurd (omega arith)
     other Bounds f few = absurd (omega arith)
     other (ColumnCounts k) f few = absurd (omega arith)
+
     by : (b : Bool) → is_linear p.head ≡ b → with_term_line (lines_by c (place_lines c before) p p.head) row.line p.head ≡ lines_by c (place_lines c before) (longer p row) p.head
     by true e = sym (place_term c (place_lines c before) p row row.line p.head (owner_there c before p.head range) e nodes_same terms_more)
     by false e = other p.head e (few_rows c p row t n)

@@ -78,6 +78,7 @@ last_closed c d name q cur held h e open_if = subst (IsLast c d name (Some q)) (
   where
     same : is_nothing (current_awaits cur) ≡ is_complete c q
     same = ap is_nothing (awaits c q cur h)
+
     by : (t : Bool) → is_nothing (current_awaits cur) ≡ t → IsLast c d name (Some q) (unless_complete cur)
     by true t = rw t (sym same ∙ t)
     by false t = rw t (open_if (sym same ∙ t))

@@ -60,10 +60,13 @@ use_more rows i j t lt = by (t.0 == j) refl
   where
     f : List Term → ℕ
     f ts = length (filter (λ t. t.0 == j) ts)
+
     split : f (get_or rows i [] ++ t ∷ []) ≡ f (get_or rows i []) + f (t ∷ [])
     split = ap length (filter-append (λ t. t.0 == j) (get_or rows i []) (t ∷ [])) ∙ length-append (filter (λ t. t.0 == j) (get_or rows i [])) (filter (λ t. t.0 == j) (t ∷ []))
+
     sums : sum_by f (slice_set rows i (get_or rows i [] ++ t ∷ [])) + f (get_or rows i []) ≡ sum_by f rows + f (get_or rows i [] ++ t ∷ [])
     sums = sum_set f rows i (get_or rows i [] ++ t ∷ []) lt
+
     by : (b : Bool) → (t.0 == j) ≡ b → use_count (slice_set rows i (get_or rows i [] ++ t ∷ [])) j ≡ (if t.0 == j then use_count rows j + 1 else use_count rows j)
     by true e = let one : f (t ∷ []) ≡ 1 = rw e refl in rw e (omega (arith, split, sums, one))
     by false e = let one : f (t ∷ []) ≡ 0 = rw e refl in rw e (omega (arith, split, sums, one))

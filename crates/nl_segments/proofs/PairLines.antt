@@ -113,6 +113,7 @@ same_front xs ys p q e = sym (front xs p) ∙ ap without_last e ∙ front ys q
     without_last [] = []
     without_last (x ∷ []) = []
     without_last (x ∷ y ∷ zs) = x ∷ without_last (y ∷ zs)
+
     front : (xs : List Piece) (p : Piece) → without_last (xs ++ p ∷ []) ≡ xs
     front [] p = refl
     front (x ∷ []) p = refl

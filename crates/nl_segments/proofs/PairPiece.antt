@@ -59,9 +59,11 @@ mark_more marks i k lt = by (k == i) refl
     or_true : (m : Bool) → true ≡ (m || true)
     or_true true = refl
     or_true false = refl
+
     or_false : (m : Bool) → m ≡ (m || false)
     or_false true = refl
     or_false false = refl
+
     by : (t : Bool) → (k == i) ≡ t → get_or (slice_set marks k true) i false ≡ (get_or marks i false || (k == i))
     by true e =
         let same = eqb-true k i e in

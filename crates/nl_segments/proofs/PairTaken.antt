@@ -117,6 +117,7 @@ definitions_kept d h t name cur = by (is_nothing (current_awaits cur)) refl
     given Sides = refl
     given Bounds = refl
     given (ColumnCounts n) = refl
+
     closed : (x : Draft) (h : Head) → (with_suffix x name cur h).definitions ≡ x.definitions
     closed x (Suffix k n) = refl
     closed x (BodyHead i) = refl
@@ -129,6 +130,7 @@ definitions_kept d h t name cur = by (is_nothing (current_awaits cur)) refl
     closed x (ColumnCounts n) = refl
     closed x (Terms i n) = refl
     closed x (Slopes k n) = refl
+
     by : (b : Bool) → is_nothing (current_awaits cur) ≡ b → (with_closed (with_given d h t) name cur).definitions ≡ d.definitions
     by true e = rw e (closed (with_given d h t) cur.head ∙ given h)
     by false e = rw e (given h)
@@ -229,11 +231,12 @@ pub pair_step : (value fields new : Body) (cur : Current) (words : List (List �
 pair_step value fields new cur words line t full same plain r full_by fine d s row is h =
     let held = subst (IsHeld s) (sym same) h in
     let n = pair_next s fields cur row words t is.same_words r held in
-    let done = subst (IsPairDone fields new cur t) (sym is.same_line) d in
-    (judged_pair s fields cur words full r.current r.awaits plain full_by held ∙ fine,
-    subst (λ x. IsHeld (after_body_row x row) new) (sym n.parts.whole)
-    (subst (λ x. IsHeld x new) (sym (row_after s.header n.parts.before n.parts.piece row (ap is_head is.same_words ∙ plain)))
-    (pair_held s fields new cur row t n r.current done)))
+    let done = subst (IsPairDone fields new cur t) (sym is.same_line) d in (
+      judged_pair s fields cur words full r.current r.awaits plain full_by held ∙ fine,
+      subst (λ x. IsHeld (after_body_row x row) new) (sym n.parts.whole)
+          (subst (λ x. IsHeld x new) (sym (row_after s.header n.parts.before n.parts.piece row (ap is_head is.same_words ∙ plain)))
+          (pair_held s fields new cur row t n r.current done)),
+    )
 
 -- the tests of a row that was read, by the parts that reading took
 pub tests_by : (value fields : Body) (cur : Current) (words : List (List ℕ)) (counts : Counts) (head : Head) (full : Bool) (r : Option Refusal) → fields ≡ value → counts ≡ fields.draft.counts → head ≡ cur.head

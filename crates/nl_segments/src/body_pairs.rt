@@ -95,11 +95,7 @@ fn keep_pair(held: &mut Current, pair: (u32, Dec)) -> Result<(), AllocError>
 }
 
 // Gives the file the suffix of a piece that is complete.
-fn give_suffix(
-    builder: &mut NlBuilder,
-    name: Option<Name>,
-    held: Current,
-) -> Result<(), AllocError>
+fn give_suffix(builder: &mut NlBuilder, name: Option<Name>, held: Current) -> Result<(), AllocError>
     requires complete { is_nothing (current_awaits held) ≡ true }
     requires can { CanClose builder.old name held held.head }
     ensures { OnOk result (builder.new ≡ with_suffix builder.old name held held.head) }
