@@ -3,8 +3,6 @@
 
 mod answer;
 mod command;
-#[cfg(test)]
-mod examples;
 mod exporting;
 mod laws;
 #[cfg(test)]

@@ -1,16 +1,15 @@
 -- The owners of a file in order, the forms of its bodies, and all steps.
-use Rattle.std.proofs.Common.{◌≡◌, ℕ, zero, suc, ◌+◌, ◌-◌, ◌*◌, ◌<◌, ◌≤◌, ◌∙◌, sym, ap, ap₂, refl, subst, subst₂, arith, Bool, true, false, Option, Some, None, option_map, option_and_then, List, [], ◌∷◌, ◌++◌, map, length, take, drop, drop-cons, get_or, slice_get, sum_by, length-append}
+use Rattle.std.proofs.Common.{◌≡◌, ℕ, zero, suc, ◌+◌, ◌*◌, ◌<◌, ◌≤◌, ◌∙◌, sym, ap, ap₂, refl, subst, subst₂, arith, false, Option, Some, None, option_map, option_and_then, List, [], ◌∷◌, ◌++◌, map, length, take, drop, get_or, slice_get, sum_by}
 use Rattle.std.specs.Option.{option_map_or}
-use Rattle.std.proofs.lemmas.List.Sums.{get_or-le-sum_by, sum_by-append, sum_by-cons, sum_by-take-le, sum_by_more}
+use Rattle.std.proofs.lemmas.List.Sums.{sum_by-append, sum_by-cons, sum_by-take-le, sum_by_more}
 use Rattle.text_base.specs.declared.stop.Stop.{Stop}
 use Rattle.text_base.specs.declared.stop.Stop.TheVariants.{Fault, Memory}
 use Rattle.text_base.specs.Stopped.{IfFault}
-use Rattle.nl_meaning.specs.Trees.{Point, Known, Tree, Expression, nothing_known, with_value, expression_value, tree_size}
-use Rattle.nl_model.specs.declared.at.Owner.{Owner}
+use Rattle.nl_meaning.specs.Trees.{Point, Tree, with_value, expression_value, tree_size}
 use Rattle.nl_model.specs.declared.at.Owner.TheVariants.{Def, Con, Obj}
 use Rattle.nl_model.specs.File.{Term, Objective, Definition, File}
 use Rattle.nl_model.specs.Rules.{IsFile}
-use Rattle.file_meaning.specs.Expressions.{definition_of, definitions_of, linear_terms, no_objective, tree_or_zero, zero_tree}
+use Rattle.file_meaning.specs.Expressions.{definition_of, linear_terms, no_objective, tree_or_zero, zero_tree}
 use Rattle.file_meaning.specs.FoldFaults.{definition, constraint, objective, Owned, owned_body, owned_definitions, owned_objective, most_coefficients, owners_fault, owners_of}
 use Rattle.file_meaning.specs.LinearFile.{elements_from}
 use Rattle.linear_fold.specs.declared.fold_fault.FoldFault.{FoldFault}

@@ -1,5 +1,5 @@
 -- The touched places, in order, become the terms of a closed form.
-use Rattle.std.proofs.Common.{◌≡◌, ◌≢◌, ℕ, zero, suc, ◌+◌, ◌<◌, ◌≤◌, ◌⊎◌, inl, inr, ◌∙◌, sym, ap, ap₂, refl, subst, arith, ⊎_elim, Bool, true, false, None, Some, List, [], ◌∷◌, ◌++◌, length, get_or, slice_set}
+use Rattle.std.proofs.Common.{◌≡◌, ◌≢◌, ℕ, zero, suc, ◌+◌, ◌<◌, ◌≤◌, ◌⊎◌, inl, inr, ◌∙◌, sym, ap, refl, subst, arith, ⊎_elim, None, Some, List, [], ◌∷◌, ◌++◌, length, get_or, slice_set}
 use Rattle.std.specs.List.{Contains}
 use Rattle.std.specs.List.Sorted.{IsNonDecreasingBy, IsPermutation}
 use Rattle.std.proofs.lemmas.Bool.{cases_eq}
@@ -7,7 +7,7 @@ use Rattle.std.proofs.lemmas.List.{length-set}
 use Rattle.std.proofs.lemmas.List.Sorted.{Contains-permutation, IsPermutation-sym}
 use Rattle.exact_numbers.specs.declared.frac.Frac.{Frac}
 use Rattle.exact_numbers.specs.Values.{frac_value}
-use Rattle.fractions.specs.Rational.{ℚ, zero_ℚ}
+use Rattle.fractions.specs.Rational.{zero_ℚ}
 use Rattle.linear_fold.specs.Coefs.{Term, found, value_or_zero, coef_in, AreAscending, AreBelow}
 use Rattle.linear_fold.specs.Places.{place_in, AreZeros, AreMarked}
 use Rattle.linear_fold.proofs.CoefLemmas.{found_same, found_apart, ascending_append, below_append, below_from}

@@ -1,12 +1,10 @@
 -- The operators that want constants.
-use Rattle.std.proofs.Common.{◌≡◌, ◌≢◌, ℕ, zero, suc, ◌+◌, ◌*◌, ◌/◌, ◌-◌, ◌^◌, ◌<◌, ◌≤◌, ◌∙◌, sym, ap, ap₂, refl, subst, subst₂, arith, mul-pos, Bool, true, false, cond, ◌&&◌, ℤ, pos, negsuc, neg_ℤ, ◌+ℤ◌, ◌*ℤ◌, ◌<ℤ◌, ◌≤ℤ◌, unsigned_abs, Option, Some, None, option_and_then, List, [], ◌∷◌, map, drop, get_or, length, if◌then◌else◌, lit<}
-use Prim.Native.Nat.{◌∣◌}
+use Rattle.std.proofs.Common.{◌≡◌, ℕ, zero, suc, ◌+◌, ◌*◌, ◌/◌, ◌-◌, ◌^◌, ◌<◌, ◌≤◌, ◌∙◌, sym, ap, refl, subst, subst₂, arith, mul-pos, Bool, true, false, cond, ◌&&◌, ℤ, pos, negsuc, ◌*ℤ◌, ◌<ℤ◌, ◌≤ℤ◌, unsigned_abs, Some, None, option_and_then, List, [], ◌∷◌, map, drop, get_or, length, if◌then◌else◌, lit<}
 use Rattle.std.specs.Int.{int_div_euclid}
-use Rattle.std.specs.Prelude.{int_lt, MatchOption}
+use Rattle.std.specs.Prelude.{int_lt}
 use Rattle.std.specs.Ordering.{int_cmp}
-use Rattle.std.specs.declared.cmp.Ordering.{Ordering}
 use Rattle.std.specs.declared.cmp.Ordering.TheVariants.{Less, Equal, Greater}
-use Rattle.std.proofs.Math.Nat.{pow-succ', pow-zero, mul-le-mul_left, zero-mul, div-le_self}
+use Rattle.std.proofs.Math.Nat.{pow-succ', pow-zero, zero-mul, div-le_self}
 use Rattle.std.proofs.lemmas.Bool.{ltb-true}
 use Rattle.std.proofs.lemmas.Int.{ints, unsigned_abs-mul}
 use Rattle.exact_numbers.specs.declared.frac.Frac.{Frac}
@@ -30,7 +28,7 @@ use Rattle.linear_fold.specs.declared.form.Form.{Form}
 use Rattle.linear_fold.specs.Forms.{form_line, is_open, IsZeroFrom}
 use Rattle.linear_fold.specs.Operates.{AreClosed, AreZeroFrom, IsValueOf}
 use Rattle.linear_fold.proofs.FracLemmas.{both_true, not_true}
-use Rattle.linear_fold.proofs.Operators.{next_form, fault_first}
+use Rattle.linear_fold.proofs.Operators.{fault_first}
 
 -- ---- signs
 top_under : (x : ℚ) → x <ℚ zero_ℚ → x.top <ℤ pos 0

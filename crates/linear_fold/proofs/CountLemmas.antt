@@ -1,15 +1,14 @@
 -- How many coefficients a line has.
-use Rattle.std.proofs.Common.{◌≡◌, ◌≢◌, ℕ, zero, suc, ◌+◌, ◌<◌, ◌≤◌, ◌∙◌, sym, ap, ap₂, refl, subst, arith, ⊎_elim, Bool, true, false, if◌then◌else◌, Option, Some, List, [], ◌∷◌, length}
+use Rattle.std.proofs.Common.{◌≡◌, ◌≢◌, ℕ, zero, suc, ◌+◌, ◌<◌, ◌≤◌, ◌∙◌, sym, ap, ap₂, refl, arith, ⊎_elim, true, if◌then◌else◌, List, [], ◌∷◌, length}
 use Rattle.std.proofs.lemmas.Bool.{cases_eq, cases_lt}
 use Rattle.exact_numbers.specs.Values.{frac_value}
 use Rattle.fractions.specs.Rational.{ℚ, whole, zero_ℚ}
-use Rattle.nl_meaning.specs.Lines.{Line, is_zero, line_by, line_value}
-use Rattle.nl_meaning.specs.Trees.{Point}
+use Rattle.nl_meaning.specs.Lines.{Line, is_zero}
 use Rattle.nl_meaning.proofs.LineLemmas.{is_zero-true}
 use Rattle.file_meaning.specs.FoldFaults.{coefficient_count}
 use Rattle.linear_fold.specs.declared.form.Form.{Form}
 use Rattle.linear_fold.specs.Coefs.{Term, AreAscending, AreBelow, coef_in, value_or_zero}
-use Rattle.linear_fold.specs.Forms.{form_line, form_terms, is_open}
+use Rattle.linear_fold.specs.Forms.{form_line, form_terms}
 use Rattle.linear_fold.specs.Operates.{IsWithin}
 use Rattle.linear_fold.specs.Programs.{IsFormOver}
 use Rattle.linear_fold.proofs.CoefLemmas.{found_apart, found_before, found_same}

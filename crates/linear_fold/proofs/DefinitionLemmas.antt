@@ -1,13 +1,13 @@
 -- The forms of definitions in their places, and owners that are folded one after the other.
-use Rattle.std.proofs.Common.{◌≡◌, ◌≢◌, ◌⊎◌, inl, inr, ℕ, zero, suc, ◌+◌, ◌-◌, ◌*◌, ◌<◌, ◌≤◌, ◌∙◌, sym, ap, ap₂, refl, subst, subst₂, arith, ◌^◌, ⊎_elim, Bool, true, false, ◌||◌, ◌==◌, eqb, if◌then◌else◌, Option, Some, None, option_map, Result, Ok, Err, List, [], ◌∷◌, ◌++◌, map, length, take, set, replicate, get_or, slice_get, sum_by, append_assoc, append-nil, length-append, get_or-set_same, get_or-set_other, eq-eqb}
+use Rattle.std.proofs.Common.{◌≡◌, ◌≢◌, ◌⊎◌, inl, inr, ℕ, zero, suc, ◌+◌, ◌-◌, ◌*◌, ◌<◌, ◌≤◌, ◌∙◌, sym, ap, refl, subst, arith, ◌^◌, ⊎_elim, Bool, true, false, ◌||◌, ◌==◌, if◌then◌else◌, Option, Some, None, option_map, List, [], ◌∷◌, ◌++◌, map, length, take, set, replicate, get_or, slice_get, length-append, get_or-set_same, get_or-set_other, eq-eqb}
 use Rattle.std.specs.Option.{option_map_or}
 use Rattle.std.proofs.Math.ListN.{length-set}
 use Rattle.std.proofs.Math.Seq.{take-suc}
 use Rattle.std.proofs.Math.Nat.{mul-le-mul_left}
 use Rattle.std.proofs.lemmas.Bool.{cases_eq, eqb-true, ne_eqb}
-use Rattle.std.proofs.lemmas.List.{get_or-replicate, get_or_past, length-replicate, length-take-le}
+use Rattle.std.proofs.lemmas.List.{length-replicate, length-take-le}
 use Rattle.std.proofs.lemmas.Option.{slice_get_read}
-use Rattle.std.proofs.lemmas.List.Sums.{get_or-le-sum_by, sum_by-append, sum_by-set, sum_by-take-le, sum_by_more}
+use Rattle.std.proofs.lemmas.List.Sums.{sum_by-append, sum_by-set, sum_by-take-le, sum_by_more}
 use Rattle.std.proofs.lemmas.List.Folds.{list_any-append, sum_by-replicate}
 use Rattle.text_base.specs.declared.stop.Stop.{Stop}
 use Rattle.text_base.specs.declared.stop.Stop.TheVariants.{Fault, Memory}
@@ -27,7 +27,7 @@ use Rattle.linear_fold.specs.FoldedFaults.{named_fault}
 use Rattle.linear_fold.specs.Folds.{AreKnown, AreSlotsWithin, HasLineOf, IsGiven}
 use Rattle.linear_fold.specs.Forms.{form_line}
 use Rattle.linear_fold.specs.Operates.{IsWithin}
-use Rattle.linear_fold.specs.OwnerFolds.{AreSlotsOf, HasStopped, HasFolded, IsFormOf, definitions_before, definitions_size, form_count, known_by}
+use Rattle.linear_fold.specs.OwnerFolds.{AreSlotsOf, HasStopped, HasFolded, IsFormOf, definitions_size, form_count, known_by}
 use Rattle.linear_fold.specs.declared.owners.Folder.{Folder}
 use Rattle.linear_fold.proofs.OwnerLemmas.{definition_at, found_here}
 

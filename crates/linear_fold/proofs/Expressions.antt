@@ -1,35 +1,30 @@
 -- Trees with their terms: nodes, terms that are added one by one, and what they come to.
-use Rattle.std.proofs.Common.{◌≡◌, ◌≢◌, ℕ, zero, suc, ◌+◌, ◌-◌, ◌*◌, ◌<◌, ◌≤◌, ◌∙◌, sym, ap, ap₂, refl, subst, arith, Bool, true, false, ◌&&◌, Option, Some, None, IfSome, Result, Ok, Err, List, [], ◌∷◌, ◌++◌, map, length, length-append, All, get_or, drop, drop-cons, IsTrue, pos}
-use Rattle.std.specs.Option.{option_or, option_map_or}
+use Rattle.std.proofs.Common.{◌≡◌, ℕ, zero, suc, ◌+◌, ◌*◌, ◌<◌, ◌≤◌, ◌∙◌, sym, ap, ap₂, refl, subst, arith, true, false, Option, Some, None, Ok, Err, List, [], ◌∷◌, ◌++◌, length, length-append, get_or, drop, drop-cons, pos}
+use Rattle.std.specs.Option.{option_or}
 use Rattle.std.proofs.lemmas.List.Elements.{All-head, All-tail}
-use Rattle.std.proofs.Math.Nat.{mul-le-mul_left}
 use Rattle.text_base.specs.declared.stop.Stop.{Stop}
 use Rattle.text_base.specs.declared.stop.Stop.TheVariants.{Fault as Stopped, Memory}
-use Rattle.exact_numbers.specs.declared.frac.Frac.{Frac}
-use Rattle.exact_numbers.specs.declared.dec.Dec.{Dec}
-use Rattle.fractions.specs.Rational.{ℚ, zero_ℚ, one_ℚ, ◌+ℚ◌, ◌*ℚ◌, decimal_value}
+use Rattle.fractions.specs.Rational.{ℚ, zero_ℚ, one_ℚ, ◌+ℚ◌, ◌*ℚ◌}
 use Rattle.fractions.proofs.Arithmetic.{*ℚ_zero, +ℚ_zero}
 use Rattle.exact_numbers.proofs.Bridge.{zero_decimal}
 use Rattle.fractions.specs.Fits.{fits}
 use Rattle.nl_meaning.specs.declared.Fault.{Fault}
-use Rattle.nl_meaning.specs.declared.Reason.{Reason}
-use Rattle.nl_meaning.specs.Lines.{Line, line_value, line_by}
-use Rattle.nl_meaning.specs.Faults.{constant_line, line_sum, line_scaled, fault_at, too_wide_unless, line_of, line_with, line_with_terms, terms_fault, tree_fault, expression_fault, products_fit}
-use Rattle.nl_meaning.specs.Trees.{Point, Known, Tree, number, variable, defined, operator, Trees, none, more, LinearTerm, Expression, AreTermsBelow, tree_size, trees_size, tree_value, expression_value}
+use Rattle.nl_meaning.specs.Lines.{Line, line_value}
+use Rattle.nl_meaning.specs.Faults.{constant_line, fault_at, too_wide_unless, line_with, line_with_terms, terms_fault, tree_fault, products_fit}
+use Rattle.nl_meaning.specs.Trees.{Point, Known, Tree, Trees, LinearTerm, AreTermsBelow, tree_size, trees_size, tree_value}
 use Rattle.nl_meaning.proofs.Linear.{terms_added}
-use Rattle.nl_meaning.proofs.LineLemmas.{apart-eqb, line_by_lem}
+use Rattle.nl_meaning.proofs.LineLemmas.{apart-eqb}
 use Rattle.nl_model.specs.declared.node.Node.{Node}
-use Rattle.nl_model.specs.declared.node.Node.TheVariants.{Num, Var, Defined, Op}
 use Rattle.nl_model.specs.File.{Term}
 use Rattle.nl_model.specs.Nodes.{IsPrefix, a_number, a_variable, a_defined, an_operation, ArePrefixes, no_tree, one_more}
 use Rattle.nl_model.specs.Rules.{AreTermsBelow as AreFileTermsBelow}
-use Rattle.file_meaning.specs.Expressions.{linear_term, linear_terms, zero_tree}
+use Rattle.file_meaning.specs.Expressions.{linear_terms, zero_tree}
 use Rattle.linear_fold.specs.declared.entries.Entry.{Entry}
 use Rattle.linear_fold.specs.declared.entries.Entry.TheVariants.{Linear, Broken}
 use Rattle.linear_fold.specs.declared.form.Form.{Form}
 use Rattle.linear_fold.specs.declared.wide.Wide.{Wide}
-use Rattle.linear_fold.specs.Forms.{form_line, is_open, place_count, AddsScaled, IsZeroFrom}
-use Rattle.linear_fold.specs.Operates.{IsWithin, SumsTo, zero_line}
+use Rattle.linear_fold.specs.Forms.{form_line, AddsScaled, IsZeroFrom}
+use Rattle.linear_fold.specs.Operates.{IsWithin, zero_line}
 use Rattle.linear_fold.specs.Folds.{AddsTerms, AreNodesWithin, AreTreesGiven, ComesToTerms, HasLineOf, IsEntryWithin, IsExpressionFolded, IsFolded, IsTreeGiven}
 use Rattle.linear_fold.proofs.Folding.{constant_lined, is_line_of, same_form}
 use Rattle.linear_fold.proofs.FracLemmas.{fits_zero}

@@ -1,7 +1,7 @@
 -- What the entries of a fold come to.
-use Rattle.std.proofs.Common.{◌≡◌, ◌≢◌, ℕ, zero, suc, ◌+◌, ◌<◌, ◌≤◌, ◌∙◌, sym, ap, ap₂, refl, subst, Bool, true, false, None, Some, Option, List, [], ◌∷◌, map, length, ⊎_elim, arith, option_and_then, if◌then◌else◌, get_or, ◌==◌}
+use Rattle.std.proofs.Common.{◌≡◌, ◌≢◌, ℕ, zero, suc, ◌+◌, ◌<◌, ◌≤◌, ◌∙◌, sym, ap, ap₂, refl, subst, Bool, true, false, None, Some, Option, List, [], ◌∷◌, map, length, ⊎_elim, arith, option_and_then, if◌then◌else◌, get_or}
 use Rattle.std.specs.Option.{option_or}
-use Rattle.std.proofs.lemmas.Bool.{cases_lt, eq-eqb}
+use Rattle.std.proofs.lemmas.Bool.{cases_lt}
 use Rattle.code_tables.specs.declared.class.OpClass.{OpClass}
 use Rattle.code_tables.specs.declared.class.OpClass.TheVariants.{Sum, Difference, Product, Quotient, Negation, List as SumOfAll, Power, Least, Greatest, Floor, Ceiling, Absolute, Refused}
 use Rattle.exact_numbers.specs.declared.frac.Frac.{Frac}
@@ -15,13 +15,11 @@ use Rattle.nl_meaning.specs.Faults.{line_with, line_sum, line_scaled, line_neg, 
 use Rattle.nl_meaning.specs.Trees.{Point, Known, Trees, none, more, on_values, operator_value, tree_value, trees_values, HasCount}
 use Rattle.nl_meaning.proofs.LineLemmas.{same_constant, same_coef, no_coef, apart-eqb}
 use Rattle.nl_meaning.proofs.Linear.{all_there-some, constant_value, variable_value, operator_has_line}
-use Rattle.linear_fold.specs.declared.entries.Entry.{Entry}
 use Rattle.linear_fold.specs.declared.form.Form.{Form}
-use Rattle.linear_fold.specs.declared.operate.Outcome.{Outcome}
 use Rattle.linear_fold.specs.Coefs.{coef_in}
 use Rattle.linear_fold.specs.Forms.{form_line, is_open, IsZeroFrom}
-use Rattle.linear_fold.specs.Operates.{IsWithin, AreWithin, zero_line}
-use Rattle.linear_fold.specs.Folds.{HasLineOf, AreLinesOf, AreOperands, AreKnown, IsGiven}
+use Rattle.linear_fold.specs.Operates.{IsWithin, AreWithin}
+use Rattle.linear_fold.specs.Folds.{HasLineOf, AreLinesOf, AreOperands}
 use Rattle.linear_fold.proofs.CoefLemmas.{adds_at, found_same, found_apart}
 use Rattle.linear_fold.specs.Coefs.{value_or_zero}
 use Rattle.linear_fold.proofs.Scaled.{same_line}

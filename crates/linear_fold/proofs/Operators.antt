@@ -1,5 +1,5 @@
 -- What the operators on forms come to.
-use Rattle.std.proofs.Common.{◌≡◌, ◌≢◌, ℕ, zero, suc, ◌+◌, ◌*◌, ◌<◌, ◌≤◌, ◌∙◌, sym, ap, ap₂, refl, subst, Bool, true, false, ◌&&◌, Option, Some, None, Result, Ok, Err, IfOk, List, [], ◌∷◌, map, drop, get_or, length, ⊎_elim, arith, add-one, drop-cons, if◌then◌else◌}
+use Rattle.std.proofs.Common.{◌≡◌, ℕ, zero, suc, ◌+◌, ◌*◌, ◌<◌, ◌≤◌, ◌∙◌, sym, ap, ap₂, refl, subst, Bool, true, false, ◌&&◌, Option, Some, Result, Ok, Err, IfOk, List, [], ◌∷◌, map, drop, get_or, length, ⊎_elim, arith, add-one, drop-cons, if◌then◌else◌}
 use Rattle.std.proofs.lemmas.Bool.{cases_lt}
 use Rattle.std.proofs.Math.Nat.{mul-le-mul_left}
 use Rattle.text_base.specs.declared.stop.Stop.{Stop}
@@ -9,19 +9,19 @@ use Rattle.fractions.specs.Fits.{fits, sum_fits}
 use Rattle.fractions.specs.Rational.{ℚ, zero_ℚ, one_ℚ, ◌+ℚ◌, ◌*ℚ◌, neg_ℚ, inverse_of}
 use Rattle.fractions.proofs.Arithmetic.{one-*ℚ, neg-*ℚ, *ℚ_zero, zero-+ℚ, +ℚ_zero}
 use Rattle.nl_meaning.specs.declared.Reason.{Reason}
-use Rattle.nl_meaning.specs.declared.Reason.TheVariants.{Nonlinear, DivideByZero, TooWide}
-use Rattle.nl_meaning.specs.Faults.{line_sum, line_scaled, line_neg, constant_line, sums_fit, products_fit, running_sums_fit, running_line, too_wide_unless, operator_fault, operator_line}
+use Rattle.nl_meaning.specs.declared.Reason.TheVariants.{Nonlinear, DivideByZero}
+use Rattle.nl_meaning.specs.Faults.{line_sum, line_scaled, line_neg, sums_fit, products_fit, running_sums_fit, running_line, too_wide_unless, operator_fault}
 use Rattle.nl_meaning.specs.Lines.{Line, is_zero, is_constant}
-use Rattle.nl_meaning.proofs.LineLemmas.{all_below-true, and-true, is_zero-false}
+use Rattle.nl_meaning.proofs.LineLemmas.{all_below-true, and-true}
 use Rattle.linear_fold.specs.declared.form.Form.{Form}
 use Rattle.linear_fold.specs.declared.operate.Outcome.{Outcome}
 use Rattle.linear_fold.specs.declared.operate.Outcome.TheVariants.{Linear, Refused}
 use Rattle.linear_fold.specs.declared.wide.Wide.{Wide}
 use Rattle.linear_fold.specs.Coefs.{AreAscending}
-use Rattle.linear_fold.specs.Forms.{form_line, form_terms, is_open, place_count, IsZeroFrom, HasRoom, HasPlaces, kept_places, is_kept_open, ScaledSumFits, AddsScaled}
+use Rattle.linear_fold.specs.Forms.{form_line, form_terms, place_count, IsZeroFrom, HasRoom, HasPlaces, kept_places, ScaledSumFits, AddsScaled}
 use Rattle.linear_fold.specs.declared.form.Kept.{Kept}
 use Rattle.linear_fold.specs.declared.form.Kept.TheVariants.{Closed, Open}
-use Rattle.linear_fold.specs.Operates.{zero_line, IsWithin, AreWithin, AreClosed, AreZeroFrom, SumsTo, ComesTo, Operates, lines_of_forms}
+use Rattle.linear_fold.specs.Operates.{zero_line, IsWithin, AreWithin, AreClosed, AreZeroFrom, SumsTo, ComesTo, Operates}
 use Rattle.linear_fold.proofs.FracLemmas.{frac_fits, both_true, not_true, fits_zero, sum_fits_zero, zero_sum_fits, fits_neg}
 use Rattle.linear_fold.proofs.Scaled.{same_line, kept_fits, closed_coef, few_terms, all_below-intro}
 

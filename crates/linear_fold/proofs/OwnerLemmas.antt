@@ -1,42 +1,38 @@
 -- What the fold of one owner finds in its file, and where its fault is.
-use Rattle.std.proofs.Common.{◌≡◌, ◌≢◌, ◌⊎◌, inl, inr, ℕ, zero, suc, ◌+◌, ◌-◌, ◌*◌, ◌^◌, ◌<◌, ◌≤◌, ◌∙◌, sym, ap, ap₂, refl, subst, subst₂, arith, ⊎_elim, Bool, true, false, nat_lt, ◌==◌, not, ◌&&◌, ◌||◌, IsTrue, is_some, pos, if◌then◌else◌, Option, Some, None, IfSome, option_map, option_and_then, Result, Ok, Err, List, [], ◌∷◌, ◌++◌, map, length, take, get_or, slice_get, sum_by, All, append_assoc, append-nil}
+use Rattle.std.proofs.Common.{◌≡◌, ◌⊎◌, inl, inr, ℕ, zero, suc, ◌+◌, ◌-◌, ◌^◌, ◌<◌, ◌≤◌, ◌∙◌, sym, ap, refl, subst, subst₂, arith, ⊎_elim, Bool, true, false, nat_lt, ◌==◌, not, ◌&&◌, ◌||◌, IsTrue, is_some, pos, if◌then◌else◌, Option, Some, None, IfSome, option_map, option_and_then, List, [], ◌∷◌, ◌++◌, length, take, get_or, slice_get, All, append_assoc, append-nil}
 use Rattle.std.specs.Option.{option_or, option_map_or}
-use Rattle.std.proofs.lemmas.Bool.{cases_lt, lt-ltb, le-ltb}
-use Rattle.std.proofs.lemmas.List.{get_or_past}
+use Rattle.std.proofs.lemmas.Bool.{lt-ltb, le-ltb}
 use Rattle.std.proofs.lemmas.List.Sums.{get_or-le-sum_by}
-use Rattle.text_base.specs.declared.stop.Stop.{Stop}
-use Rattle.text_base.specs.declared.stop.Stop.TheVariants.{Fault as Stopped, Memory}
-use Rattle.fractions.specs.Rational.{ℚ, zero_ℚ, decimal_value}
+use Rattle.fractions.specs.Rational.{decimal_value}
 use Rattle.fractions.specs.Fits.{fits, sum_fits}
 use Rattle.exact_numbers.proofs.Bridge.{zero_decimal}
 use Rattle.nl_meaning.specs.declared.Fault.{Fault}
 use Rattle.nl_meaning.specs.declared.Reason.{Reason}
 use Rattle.nl_meaning.specs.declared.Reason.TheVariants.{Nonlinear as IsNonlinear, DivideByZero as DividesByZero, TooWide as IsTooWide, RefusedPower as HasRefusedPower}
-use Rattle.nl_meaning.specs.Lines.{Line, line_by}
+use Rattle.nl_meaning.specs.Lines.{Line}
 use Rattle.nl_meaning.specs.Faults.{constant_line, fault_at, too_wide_unless, tree_fault, trees_fault, terms_fault, expression_fault, line_of, line_with, lines_of, operator_fault}
-use Rattle.nl_meaning.specs.Trees.{Point, Known, Tree, number, variable, defined, operator, Trees, none, more, LinearTerm, Expression, expression_value, tree_size, trees_size}
+use Rattle.nl_meaning.specs.Trees.{Point, Known, Tree, number, variable, defined, operator, Trees, none, more, Expression, expression_value, tree_size, trees_size}
 use Rattle.nl_meaning.proofs.Linear.{terms_added}
 use Rattle.nl_meaning.proofs.LineLemmas.{same_coef}
 use Rattle.nl_model.specs.declared.at.At.{At}
 use Rattle.nl_model.specs.declared.at.At.TheVariants.{Node, Term as TermOf, Head}
 use Rattle.nl_model.specs.declared.at.Owner.{Owner}
 use Rattle.nl_model.specs.declared.at.Owner.TheVariants.{Def, Con, Obj}
-use Rattle.nl_model.specs.File.{Term, Objective, Definition, File}
-use Rattle.nl_model.specs.FilePlaces.{HasPlace, has_head, node_count, terms_at, tree_at}
+use Rattle.nl_model.specs.File.{Term, Definition, File}
+use Rattle.nl_model.specs.FilePlaces.{HasPlace, terms_at, tree_at}
 use Rattle.nl_model.specs.HeaderRules.{defined_count}
-use Rattle.nl_model.specs.Rules.{AreDefinitions, AreTermsBelow, AreTreesWithin, IsDefinition, IsFile, IsTreeKnown, IsTreeWithin, is_defined, most_terms, term_count}
+use Rattle.nl_model.specs.Rules.{AreDefinitions, AreTermsBelow, AreTreesWithin, IsDefinition, IsFile, IsTreeKnown, IsTreeWithin, is_defined, most_terms}
 use Rattle.file_meaning.specs.Expressions.{linear_term, linear_terms, tree_or_zero, zero_tree}
-use Rattle.file_meaning.specs.FoldFaults.{Owned, at_owner, coefficient_count, fold_too_large, head_fault, most_coefficients, owned_line, owner_fault, owners_fault}
-use Rattle.linear_fold.specs.declared.fold_fault.FoldFault.{FoldFault}
+use Rattle.file_meaning.specs.FoldFaults.{Owned, at_owner, coefficient_count, fold_too_large, head_fault, most_coefficients, owned_line, owners_fault}
 use Rattle.linear_fold.specs.declared.fold_fault.FoldFault.TheVariants.{FoldTooLarge}
 use Rattle.linear_fold.specs.declared.form.Form.{Form}
-use Rattle.linear_fold.specs.FoldedFaults.{HasFaultPlace, fault_for, named_fault, owner_of, place_after, place_at}
+use Rattle.linear_fold.specs.FoldedFaults.{HasFaultPlace, fault_for, named_fault, owner_of, place_at}
 use Rattle.linear_fold.specs.declared.entries.Entry.{Entry}
 use Rattle.linear_fold.specs.Coefs.{AreAscending}
 use Rattle.linear_fold.specs.Forms.{form_line, form_terms}
 use Rattle.linear_fold.specs.Operates.{IsWithin}
 use Rattle.linear_fold.specs.Folds.{AreKnown, AreSlotsWithin, AreTreesGiven, HasLineOf, IsExpressionFolded, IsGiven, IsTreeGiven}
-use Rattle.linear_fold.specs.OwnerFolds.{AreOwnersFolded, AreSlotsOf, HasOwner, IsFormOf, definitions_before, expression_at, fold_owner_of, known_by, owned_at}
+use Rattle.linear_fold.specs.OwnerFolds.{AreSlotsOf, HasOwner, IsFormOf, definitions_before, expression_at, fold_owner_of, known_by, owned_at}
 use Rattle.linear_fold.proofs.CoefLemmas.{apart_test}
 use Rattle.linear_fold.proofs.CountLemmas.{count_zero, form_count_is}
 use Rattle.linear_fold.proofs.Folding.{constant_lined, is_line_of}

@@ -1,9 +1,9 @@
 -- A folded file is the linear program of its file.
-use Rattle.std.proofs.Common.{◌≡◌, ℕ, zero, suc, ◌+◌, ◌-◌, ◌<◌, ◌≤◌, ◌^◌, ◌∙◌, sym, ap, ap₂, refl, subst, arith, Bool, true, false, ◌||◌, ◌&&◌, ◌==◌, nat_lt, if◌then◌else◌, Option, option_map, Some, None, List, [], ◌∷◌, ◌++◌, length, take, drop, get_or, slice_get, All, append-nil, append_assoc}
+use Rattle.std.proofs.Common.{◌≡◌, ℕ, zero, suc, ◌+◌, ◌-◌, ◌<◌, ◌≤◌, ◌^◌, ◌∙◌, sym, ap, ap₂, refl, subst, arith, Bool, true, false, if◌then◌else◌, option_map, Some, List, [], ◌∷◌, ◌++◌, length, take, drop, get_or, slice_get, All, append-nil, append_assoc}
 use Rattle.std.proofs.Math.Seq.{take-suc}
 use Rattle.std.proofs.lemmas.List.{get_or_past}
 use Rattle.std.specs.Option.{option_map_or}
-use Rattle.linear_programs.specs.Linear.{Row, Variable}
+use Rattle.linear_programs.specs.Linear.{Row}
 use Rattle.text_base.specs.declared.stop.Stop.{Stop}
 use Rattle.text_base.specs.declared.stop.Stop.TheVariants.{Fault, Memory}
 use Rattle.text_base.specs.Stopped.{IfFault}
@@ -17,12 +17,12 @@ use Rattle.nl_model.specs.HeaderRules.{AreCounts}
 use Rattle.nl_model.specs.Kinds.{kind_of}
 use Rattle.nl_model.specs.Rules.{IsFile, IsOrdered}
 use Rattle.file_meaning.specs.Expressions.{maximises, no_objective}
-use Rattle.file_meaning.specs.FoldFaults.{fold_fault, has_objective, no_such_objective, owned_body, owned_line, owned_objective, owners_fault, owners_of}
+use Rattle.file_meaning.specs.FoldFaults.{fold_fault, has_objective, no_such_objective, owned_body, owned_line, owners_fault, owners_of}
 use Rattle.file_meaning.specs.LinearFile.{elements_from, form_of_line, linear_of, row_of, variable_of}
-use Rattle.file_meaning.specs.Meaning.{interval_of, no_sides}
+use Rattle.file_meaning.specs.Meaning.{no_sides}
 use Rattle.linear_fold.specs.declared.form.Form.{Form}
 use Rattle.linear_fold.specs.Forms.{form_line}
-use Rattle.linear_fold.specs.OwnerFolds.{AreBodiesOf, AreFormsOf, IsFormOf, owned_at}
+use Rattle.linear_fold.specs.OwnerFolds.{AreBodiesOf, AreFormsOf, IsFormOf}
 use Rattle.linear_fold.specs.Programs.{IsFormOver, IsLinear, LinearValue, linear_value, rows_from, variables_from}
 use Rattle.linear_fold.proofs.BodyLemmas.{body_owned, objective_owned}
 use Rattle.linear_fold.proofs.OwnerLemmas.{found_here, owner_line}

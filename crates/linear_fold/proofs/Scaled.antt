@@ -11,15 +11,14 @@ use Rattle.fractions.proofs.Arithmetic.{*ℚ_one, *ℚ_zero, +ℚ_zero}
 use Rattle.nl_meaning.specs.Faults.{constant_line, line_sum, line_scaled, line_with}
 use Rattle.nl_meaning.specs.Lines.{Line, all_below, is_zero, is_constant}
 use Rattle.nl_meaning.proofs.LineLemmas.{same-eqb, apart-eqb, and-true, all_below-true, is_zero-true}
-use Rattle.linear_fold.specs.declared.form.Form.{Form}
 use Rattle.linear_fold.specs.declared.form.Kept.{Kept}
 use Rattle.linear_fold.specs.declared.form.Kept.TheVariants.{Closed, Open}
 use Rattle.linear_fold.specs.declared.wide.Wide.{Wide}
-use Rattle.linear_fold.specs.Coefs.{Term, found, value_or_zero, coef_in, AreAscending, AreBelow, AddsAt}
+use Rattle.linear_fold.specs.Coefs.{Term, found, value_or_zero, coef_in, AreAscending, AreBelow}
 use Rattle.linear_fold.specs.Places.{place_in, AreZeros}
-use Rattle.linear_fold.specs.Forms.{kept_coef, is_kept_open, kept_terms, kept_places, form_line, IsZeroFrom, HasPlaces, AreWithin, ScaledSumFits, stepped, step_fits, adds_fit, with_scaled, SumsUp, AddsScaled}
+use Rattle.linear_fold.specs.Forms.{kept_coef, is_kept_open, kept_terms, IsZeroFrom, HasPlaces, AreWithin, ScaledSumFits, stepped, step_fits, adds_fit, with_scaled, SumsUp, AddsScaled}
 use Rattle.linear_fold.proofs.CoefLemmas.{apart_test, found_same, found_apart, found_before}
-use Rattle.linear_fold.proofs.FracLemmas.{frac_fits, both_true, not_true, sum_fits_zero, fits_zero, coef_fits, place_fits}
+use Rattle.linear_fold.proofs.FracLemmas.{both_true, not_true, sum_fits_zero, fits_zero, coef_fits, place_fits}
 
 -- lines with one constant and the same coefficients are one line
 pub same_line : (a b : Line) → a.constant ≡ b.constant → ((j : ℕ) → a.coef j ≡ b.coef j) → a ≡ b

@@ -1,12 +1,12 @@
 -- Stacks with the top at the end.
-use Rattle.std.proofs.Common.{◌≡◌, ◌≢◌, ℕ, zero, suc, ◌+◌, ◌-◌, ◌*◌, ◌<◌, ◌≤◌, ◌∙◌, sym, ap, ap₂, refl, subst, subst₂, is_some, true, false, Result, Ok, Err, IfOk, List, [], ◌∷◌, ◌++◌, reverse, take, drop, length, None, Some, Option, arith, append_assoc, append-nil, length-append, length-drop, drop-cons, get_or}
+use Rattle.std.proofs.Common.{◌≡◌, ℕ, zero, suc, ◌+◌, ◌-◌, ◌*◌, ◌<◌, ◌≤◌, ◌∙◌, sym, ap, ap₂, refl, subst, subst₂, is_some, true, false, Result, Ok, Err, IfOk, List, [], ◌∷◌, ◌++◌, reverse, take, drop, length, None, Some, Option, arith, append_assoc, append-nil, length-append, length-drop, drop-cons, get_or}
 use Rattle.std.specs.Option.{option_or}
 use Rattle.std.proofs.lemmas.List.{reverse-append, length-reverse}
 use Rattle.std.proofs.Math.Nat.{mul-le-mul_left}
 use Rattle.code_tables.specs.Opcodes.{class_of}
 use Rattle.nl_meaning.specs.declared.Fault.{Fault}
 use Rattle.nl_meaning.specs.Faults.{trees_fault}
-use Rattle.nl_meaning.specs.Trees.{Tree, Trees, Point, Known, operator, tree_size, trees_size, first_trees, count_of, HasCount}
+use Rattle.nl_meaning.specs.Trees.{Tree, Trees, Point, Known, operator, tree_size, trees_size, first_trees}
 use Rattle.nl_model.specs.declared.node.Node.{Node}
 use Rattle.nl_model.specs.declared.node.Node.TheVariants.{Num, Var, Defined, Op}
 use Rattle.nl_model.specs.Nodes.{AreNodesFormed, trees_of, with_node}
@@ -14,7 +14,7 @@ use Rattle.linear_fold.specs.declared.form.Form.{Form}
 use Rattle.linear_fold.specs.declared.entries.Entry.{Entry}
 use Rattle.linear_fold.specs.declared.entries.Entry.TheVariants.{Linear, Broken}
 use Rattle.linear_fold.specs.Folds.{AreFolded, AreNodesWithin, AreOperands, IsEntryWithin, IsFolded, IsNodeWithin, NodeFinds, first_broken, forms_of}
-use Rattle.linear_fold.specs.Operates.{AreWithin, IsWithin}
+use Rattle.linear_fold.specs.Operates.{AreWithin}
 
 -- k entries are still to be taken from stack, of the first ones of start
 pub record Taking (count : ℕ) (start : List Entry) (k : ℕ) (stack : List Entry) (forms : List Form) (broken : Option Fault) : Type 0 where

@@ -3,10 +3,9 @@ use Rattle.std.specs.Prelude.{◌≡◌, ℕ, Bool, true, false, List, [], ◌�
 use Rattle.text_base.specs.declared.stop.Stop.{Stop}
 use Rattle.text_base.specs.declared.stop.Stop.TheVariants.{Fault, Memory}
 use Rattle.code_tables.specs.declared.class.OpClass.{OpClass}
-use Rattle.fractions.specs.Rational.{ℚ, zero_ℚ}
-use Rattle.nl_meaning.specs.declared.Reason.{Reason}
+use Rattle.fractions.specs.Rational.{zero_ℚ}
 use Rattle.nl_meaning.specs.declared.Reason.TheVariants.{TooWide}
-use Rattle.nl_meaning.specs.Faults.{constant_line, line_neg, line_scaled, line_sum, operator_fault, operator_line, products_fit, running_line, running_sums_fit, sums_fit}
+use Rattle.nl_meaning.specs.Faults.{constant_line, operator_fault, operator_line}
 use Rattle.nl_meaning.specs.Lines.{Line, are_constant, constants_of}
 use Rattle.nl_meaning.specs.Trees.{on_values}
 use Rattle.exact_numbers.specs.declared.frac.Frac.{Frac}

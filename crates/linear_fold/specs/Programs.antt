@@ -1,5 +1,5 @@
 -- A folded file: the form of each body and of an objective, with sides, bounds and kinds; and the linear program that it is.
-use Rattle.std.specs.Prelude.{◌≡◌, ℕ, suc, ◌+◌, ◌<◌, ◌≤◌, ◌^◌, Bool, false, List, [], ◌∷◌, length, All}
+use Rattle.std.specs.Prelude.{◌≡◌, ℕ, suc, ◌+◌, ◌≤◌, ◌^◌, Bool, false, List, [], ◌∷◌, length, All}
 use Rattle.std.specs.List.{sum_by}
 use Rattle.linear_programs.specs.Linear.{Form as LinearForm, Row, Variable, Linear}
 use Rattle.nl_model.specs.declared.interval.Interval.{Interval}

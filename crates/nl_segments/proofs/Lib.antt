@@ -35,3 +35,8 @@ pub mod HeadBegun
 pub mod HeadRefusal
 pub mod HeadSeen
 pub mod HeadLaw
+pub mod LineEnd
+pub mod LineLaw
+pub mod LineOwners
+pub mod LinePieces
+pub mod LineTrees

@@ -74,7 +74,7 @@ fn decimal(side: Option<Frac>) -> Result<Option<Dec>, Wide>
     Ok(Some(dec))
 }
 
-// The number as a decimal, but none where it is 0. Wide exactly where it is another number and no decimal.
+// The upper number less the lower one, none where they do not differ. Wide exactly where it does not fit.
 fn difference(lower: Frac, upper: Frac) -> Result<Option<Dec>, Wide>
     ensures { MatchResult result
         (λ r. IfBoth RangeFits (Some (frac_value lower)) (Some (frac_value upper)) × (side_value r ≡ range_of (Some (frac_value lower)) (Some (frac_value upper))))
@@ -92,7 +92,7 @@ fn difference(lower: Frac, upper: Frac) -> Result<Option<Dec>, Wide>
     Ok(Some(dec))
 }
 
-// The upper side less the lower one, where both are there and differ. Wide exactly where it does not fit.
+// The difference of two sides, where both are there and differ. Wide exactly where it does not fit.
 fn range(lower: Option<Frac>, upper: Option<Frac>) -> Result<Option<Dec>, Wide>
     ensures { MatchResult result
         (λ r. IfBoth RangeFits (frac_side lower) (frac_side upper) × (side_value r ≡ range_of (frac_side lower) (frac_side upper)))

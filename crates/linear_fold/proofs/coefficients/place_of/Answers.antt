@@ -1,4 +1,4 @@
-use Rattle.std.proofs.Common.{◌≡◌, ◌∙◌, arith, suc, sym, ap, subst, ◌+◌, ◌≤◌, take, get_or, length, ◌<◌, add-one}
+use Rattle.std.proofs.Common.{◌≡◌, arith, sym, ap, subst, ◌+◌, take, get_or, length, ◌<◌, add-one}
 use Rattle.linear_fold.specs.Coefs.{AreBelow}
 use Rattle.linear_fold.proofs.CoefLemmas.{ascending_there, ascending_none, below_more}
 use Rattle.linear_fold.proofs.coefficients.place_of.Goals as goal

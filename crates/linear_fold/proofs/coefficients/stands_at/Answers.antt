@@ -1,4 +1,4 @@
-use Rattle.std.proofs.Common.{arith, sym, ap, ◌∙◌, nat_eq}
+use Rattle.std.proofs.Common.{arith, sym, ap, ◌∙◌}
 use Rattle.std.proofs.lemmas.Bool.{eqb-true, eq-eqb}
 use Rattle.linear_fold.specs.Coefs.{Term}
 use Rattle.linear_fold.proofs.CoefLemmas.{stands_within, stands_here, key_here}

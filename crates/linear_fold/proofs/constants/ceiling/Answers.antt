@@ -1,7 +1,7 @@
 use Rattle.std.proofs.Common.{◌∙◌, ap, Some, sym, [], ◌∷◌}
 use Rattle.exact_numbers.specs.Values.{frac_value}
 use Rattle.code_tables.specs.declared.class.OpClass.TheVariants.{Ceiling}
-use Rattle.fractions.specs.Functions.{floor_of, ceiling_of}
+use Rattle.fractions.specs.Functions.{floor_of}
 use Rattle.fractions.specs.Rational.{neg_ℚ}
 use Rattle.linear_fold.specs.Forms.{form_line}
 use Rattle.linear_fold.proofs.ConstantLemmas.{ceiling_is, made_of, one_constant}

@@ -1,7 +1,7 @@
-use Rattle.std.proofs.Common.{◌∙◌, ap, ap₂, pos, negsuc, ◌/◌, ◌-◌, sym, subst, ◌<◌, arith}
+use Rattle.std.proofs.Common.{◌∙◌, ap₂, pos, negsuc, ◌/◌, ◌-◌, sym, subst, ◌<◌}
 use Rattle.exact_numbers.specs.Values.{frac_value}
 use Rattle.fractions.specs.Rational.{whole}
-use Rattle.linear_fold.proofs.ConstantLemmas.{floor_above, floor_under, is_above, is_under, quotient_small, some_size}
+use Rattle.linear_fold.proofs.ConstantLemmas.{floor_above, floor_under, is_above, is_under, some_size}
 use Rattle.linear_fold.proofs.constants.floor_of.Goals as goal
 
 pub returns-then-is_negative : goal.returns-then-is_negative

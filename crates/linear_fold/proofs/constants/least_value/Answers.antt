@@ -1,6 +1,6 @@
-use Rattle.std.proofs.Common.{◌≡◌, ◌∙◌, sym, ap, drop, ◌+◌}
+use Rattle.std.proofs.Common.{sym, drop, ◌+◌}
 use Rattle.exact_numbers.specs.Values.{frac_value}
-use Rattle.linear_fold.proofs.ConstantLemmas.{least_choice, least_found, choosing_init, choosing_more, choosing_stop, choosing_tests, choosing_best, closed_here, closed_first, first_of_forms, first_varies}
+use Rattle.linear_fold.proofs.ConstantLemmas.{least_choice, least_found, choosing_init, choosing_more, choosing_tests, choosing_best, closed_first, first_of_forms, first_varies}
 use Rattle.linear_fold.proofs.Operators.{next_form, none_left}
 use Rattle.linear_fold.proofs.constants.least_value.Goals as goal
 

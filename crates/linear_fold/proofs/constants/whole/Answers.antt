@@ -1,4 +1,4 @@
-use Rattle.std.proofs.Common.{⊎_elim, ap, ◌≡◌, pos}
+use Rattle.std.proofs.Common.{⊎_elim, ◌≡◌, pos}
 use Rattle.std.proofs.lemmas.Int.{to_z-of_z}
 use Rattle.exact_numbers.specs.Values.{frac_value}
 use Rattle.linear_fold.proofs.ConstantLemmas.{whole_fits, whole_is}

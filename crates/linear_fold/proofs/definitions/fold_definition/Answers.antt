@@ -1,7 +1,6 @@
-use Rattle.std.proofs.Common.{◌≡◌, ◌-◌, ◌+◌, take, Some, set, sym, subst, subst₂, arith, length}
-use Rattle.nl_model.specs.declared.at.Owner.TheVariants.{Def as OfDefinition}
+use Rattle.std.proofs.Common.{◌-◌, ◌+◌, take, Some, set, sym, subst, arith}
 use Rattle.linear_fold.specs.OwnerFolds.{AreSlotsOf}
-use Rattle.linear_fold.proofs.DefinitionLemmas.{definition_folded, definition_here, inside}
+use Rattle.linear_fold.proofs.DefinitionLemmas.{definition_folded, definition_here}
 use Rattle.linear_fold.proofs.definitions.fold_definition.Goals as goal
 
 pub overflow_sub-slot : goal.overflow_sub-slot

@@ -1,4 +1,4 @@
-use Rattle.std.proofs.Common.{◌≡◌, ◌+◌, ◌<◌, ◌≤◌, ◌*◌, sym, subst, arith, length, take, refl}
+use Rattle.std.proofs.Common.{◌+◌, ◌<◌, ◌≤◌, ◌*◌, sym, subst, arith, length, take}
 use Rattle.nl_meaning.specs.Trees.{tree_size}
 use Rattle.nl_model.specs.declared.at.Owner.TheVariants.{Def as OfDefinition}
 use Rattle.linear_fold.specs.OwnerFolds.{definitions_size, owned_at}

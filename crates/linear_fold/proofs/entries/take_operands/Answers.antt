@@ -1,5 +1,5 @@
 use Rattle.std.proofs.Common.{◌≡◌, suc, ◌-◌, ◌+◌, ◌∙◌, sym, ap, arith, ◌++◌, ◌∷◌, []}
-use Rattle.linear_fold.proofs.Stacks.{took_form, took_broken, same_taking, keeps_first, takes_first, taking_init}
+use Rattle.linear_fold.proofs.Stacks.{took_form, took_broken, same_taking, keeps_first, takes_first}
 use Rattle.linear_fold.proofs.entries.take_operands.Goals as goal
 use Rattle.linear_fold.proofs.entries.take_operands.Goals.{in-Some-Linear+in_ok-push-in-Some-Linear, in-Some-Broken+then-is_none, in-Some-Broken+else-is_none, in-None}
 

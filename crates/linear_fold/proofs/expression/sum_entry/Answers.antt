@@ -1,8 +1,7 @@
-use Rattle.std.proofs.Common.{◌≡◌, false, ◌∙◌, ap, sym, subst, subst₂, arith, length}
+use Rattle.std.proofs.Common.{subst, arith, length}
 use Rattle.file_meaning.specs.Expressions.{linear_terms}
-use Rattle.linear_fold.specs.declared.entries.Entry.TheVariants.{Linear}
-use Rattle.linear_fold.specs.Folds.{ComesToTerms, IsEntryWithin, IsFolded}
-use Rattle.linear_fold.specs.Forms.{form_line, place_count}
+use Rattle.linear_fold.specs.Folds.{IsEntryWithin, IsFolded}
+use Rattle.linear_fold.specs.Forms.{form_line}
 use Rattle.linear_fold.specs.Operates.{IsWithin}
 use Rattle.linear_fold.proofs.Operators.{if_ok}
 use Rattle.linear_fold.proofs.Expressions.{empty_list, entry_within, no_terms, not_empty, some_terms, sum_bound, terms_formed}

@@ -1,9 +1,7 @@
-use Rattle.std.proofs.Common.{◌≡◌, ◌≤◌, ◌∷◌, ◌∙◌, ◌+◌, ◌*◌, length, reverse, take, drop, sym, ap, subst, subst₂, arith, vec_len, None}
-use Rattle.std.proofs.lemmas.List.{length-reverse}
-use Rattle.code_tables.specs.Opcodes.{class_of}
+use Rattle.std.proofs.Common.{◌≡◌, ◌≤◌, ◌∷◌, ◌∙◌, ◌+◌, length, reverse, sym, ap, subst, subst₂, arith, vec_len}
 use Rattle.nl_meaning.specs.Trees.{HasCount, operator}
 use Rattle.nl_model.specs.Nodes.{with_node}
-use Rattle.linear_fold.specs.Folds.{AreFolded, AreOperands, IsFolded, NodeFinds, forms_of}
+use Rattle.linear_fold.specs.Folds.{AreFolded, IsFolded, NodeFinds, forms_of}
 use Rattle.linear_fold.specs.Operates.{AreWithin}
 use Rattle.linear_fold.proofs.Operators.{if_ok}
 use Rattle.linear_fold.proofs.Stacks.{all_linear, entry_steps, length-reverse_stack, operator_size, operator_step, within_cons, within_take, within_entries_drop}

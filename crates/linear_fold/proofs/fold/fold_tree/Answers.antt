@@ -1,8 +1,8 @@
-use Rattle.std.proofs.Common.{◌≡◌, ◌∷◌, ◌++◌, [], ◌-◌, ◌+◌, ◌*◌, ◌≤◌, length, reverse, drop, sym, ap, subst, subst₂, arith, ◌∙◌, length-append, vec_len}
+use Rattle.std.proofs.Common.{◌≡◌, ◌∷◌, [], ◌-◌, ◌+◌, ◌*◌, ◌≤◌, length, reverse, drop, sym, ap, subst, subst₂, arith, ◌∙◌, length-append}
 use Rattle.nl_model.specs.Nodes.{trees_of, with_node}
 use Rattle.linear_fold.specs.Folds.{AreFolded, NodeFinds, forms_of}
 use Rattle.linear_fold.specs.Operates.{AreWithin}
-use Rattle.linear_fold.proofs.Stacks.{node_at, finds_at, top_first, top_folded, tree_steps, tree_stop, within_head}
+use Rattle.linear_fold.proofs.Stacks.{node_at, finds_at, top_first, top_folded, tree_steps}
 use Rattle.linear_fold.proofs.fold.fold_tree.Goals as goal
 
 pub entry_of-requires-clause-finds : goal.entry_of-requires-clause-finds

@@ -1,7 +1,6 @@
-use Rattle.std.proofs.Common.{◌≡◌, ◌+◌, subst, subst₂, None, Some, map, ℕ}
-use Rattle.nl_meaning.specs.Faults.{operator_fault, operator_line}
+use Rattle.std.proofs.Common.{subst, subst₂}
 use Rattle.linear_fold.specs.declared.operate.Outcome.TheVariants.{Linear, Refused}
-use Rattle.linear_fold.specs.Forms.{form_line, place_count}
+use Rattle.linear_fold.specs.Forms.{place_count}
 use Rattle.linear_fold.specs.Operates.{Operates, lines_of_forms}
 use Rattle.linear_fold.proofs.Folding.{operator_lined, operator_broken, operator_within}
 use Rattle.linear_fold.proofs.fold.operation_entry.Goals as goal

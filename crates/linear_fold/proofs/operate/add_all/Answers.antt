@@ -1,4 +1,4 @@
-use Rattle.std.proofs.Common.{◌≡◌, ◌∙◌, arith, sym, ap, refl, ◌+◌, ◌*◌, ◌<◌, ◌≤◌, length, drop}
+use Rattle.std.proofs.Common.{◌∙◌, arith, refl, ◌+◌, length, drop}
 use Rattle.exact_numbers.specs.Values.{frac_value}
 use Rattle.linear_fold.specs.Forms.{form_line, form_terms, place_count}
 use Rattle.linear_fold.proofs.Operators.{few_of_form, here_within, next_form, running_init, running_more, running_stop, times_more, times_within}

@@ -1,8 +1,6 @@
-use Rattle.std.proofs.Common.{◌≡◌, ◌≤◌, sym, subst, subst₂, length, ap, [], ◌∷◌, List}
-use Rattle.code_tables.specs.declared.class.OpClass.TheVariants.{Sum, Power, Least, Greatest, List as ListOf}
+use Rattle.std.proofs.Common.{◌≡◌, ◌≤◌, sym, subst, subst₂, length, [], ◌∷◌}
 use Rattle.nl_meaning.specs.Trees.{HasCount}
-use Rattle.linear_fold.specs.declared.form.Form.{Form}
-use Rattle.linear_fold.specs.Forms.{form_line, place_count}
+use Rattle.linear_fold.specs.Forms.{place_count}
 use Rattle.linear_fold.specs.Operates.{AreWithin, Operates, lines_of_forms}
 use Rattle.linear_fold.proofs.Operators.{closed_of, if_ok, pair_of, sum_comes, sum_of_all_comes, zero_of}
 use Rattle.linear_fold.proofs.operate.operate.Goals as goal

@@ -2,7 +2,7 @@ use Rattle.std.proofs.Common.{◌≡◌, ◌∙◌, ap, sym, subst, subst₂, ar
 use Rattle.nl_meaning.specs.Trees.{tree_size}
 use Rattle.nl_model.specs.FilePlaces.{terms_at, tree_at}
 use Rattle.file_meaning.specs.Expressions.{tree_or_zero}
-use Rattle.linear_fold.specs.FoldedFaults.{HasFaultPlace, fault_for, place_after, place_at}
+use Rattle.linear_fold.specs.FoldedFaults.{HasFaultPlace, fault_for, place_after}
 use Rattle.linear_fold.specs.Folds.{IsEntryWithin, IsExpressionFolded}
 use Rattle.linear_fold.specs.Forms.{form_terms}
 use Rattle.linear_fold.specs.OwnerFolds.{definitions_before, expression_at, known_by}

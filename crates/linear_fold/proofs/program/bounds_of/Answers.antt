@@ -1,4 +1,4 @@
-use Rattle.std.proofs.Common.{◌≡◌, ◌∙◌, ◌++◌, ◌∷◌, [], ap, sym}
+use Rattle.std.proofs.Common.{◌∙◌, ◌++◌, ◌∷◌, [], ap, sym}
 use Rattle.linear_fold.proofs.ProgramLemmas.{take_next}
 use Rattle.linear_fold.proofs.program.bounds_of.Goals as goal
 

@@ -1,5 +1,4 @@
-use Rattle.std.proofs.Common.{◌≡◌, ◌∙◌, sym, ap, subst, get_or}
-use Rattle.std.specs.List.{remove}
+use Rattle.std.proofs.Common.{◌∙◌, sym, ap, subst}
 use Rattle.exact_numbers.specs.Values.{frac_value}
 use Rattle.fractions.specs.Fits.{sum_fits}
 use Rattle.linear_fold.specs.Coefs.{AreAscending, coef_in}

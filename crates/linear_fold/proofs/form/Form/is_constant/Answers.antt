@@ -1,4 +1,4 @@
-use Rattle.std.proofs.Common.{◌≡◌, ◌∙◌, ap, length, ◌==◌}
+use Rattle.std.proofs.Common.{◌∙◌, ap, length, ◌==◌}
 use Rattle.exact_numbers.specs.Values.{frac_value}
 use Rattle.linear_fold.specs.Forms.{kept_terms}
 use Rattle.linear_fold.proofs.Scaled.{constant_test, nil_test}

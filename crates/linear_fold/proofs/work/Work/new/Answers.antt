@@ -1,4 +1,4 @@
-use Rattle.std.proofs.Common.{◌≡◌, ◌+◌, ◌∙◌, sym, ap, subst, arith, length, length-append, ◌++◌, ◌∷◌, []}
+use Rattle.std.proofs.Common.{◌+◌, ◌∙◌, sym, ap, subst, length, length-append, ◌∷◌, []}
 use Rattle.linear_fold.specs.Places.{AreZeros}
 use Rattle.linear_fold.proofs.PlaceLemmas.{no_marks, zero_more}
 use Rattle.linear_fold.proofs.work.Work.new.Goals as goal
