@@ -3,6 +3,8 @@
 
 mod answer;
 mod command;
+#[cfg(test)]
+mod examples;
 mod exporting;
 mod laws;
 #[cfg(test)]

@@ -1,5 +1,5 @@
 -- An interval that is not empty has its sides in order.
-use Rattle.std.proofs.Common.{refl, ◌≡◌, ◌∙◌, Bool, true, false, ℤ, ◌<ℤ◌, ◌≤ℤ◌, ◌*ℤ◌, pos, sym, ap, arith, Option, Some, None, int_cmp, Ordering, Less, Equal, Greater}
+use Rattle.std.proofs.Common.{refl, ◌≡◌, true, false, ℤ, ◌<ℤ◌, ◌≤ℤ◌, ap, arith, Option, Some, None, int_cmp, Ordering, Less, Equal, Greater}
 use Rattle.std.specs.Ordering.{MatchOrdering, is_lt}
 use Rattle.std.specs.Cmp.{int_ranks}
 use Rattle.std.proofs.lemmas.Int.{ints}

@@ -1,7 +1,7 @@
 -- What is held after the number of a column, and after an interval.
-use Rattle.std.proofs.Common.{◌≡◌, ◌∙◌, ℕ, ℤ, ◌<◌, ◌≤◌, ◌-◌, Bool, true, false, List, [], ◌∷◌, ◌++◌, length, refl, sym, ap, ap₂, subst, arith, Option, Some, None}
+use Rattle.std.proofs.Common.{◌≡◌, ◌∙◌, ℕ, ℤ, ◌<◌, ◌≤◌, ◌-◌, Bool, true, false, List, [], ◌∷◌, ◌++◌, length, refl, sym, ap, subst, arith, Option, Some, None}
 use Rattle.std.specs.Prelude.{IsTrue, IfSome}
-use Rattle.std.specs.List.{filter_map, flat_map, cons_option}
+use Rattle.std.specs.List.{filter_map, cons_option}
 use Rattle.std.proofs.lemmas.List.{append_assoc, append-nil}
 use Rattle.std.proofs.lemmas.List.Elements.{filter_map-append}
 use Rattle.nl_header.specs.Head.{options_in}
@@ -16,7 +16,7 @@ use Rattle.nl_segments.specs.declared.fault.Refusal.{Refusal}
 use Rattle.nl_segments.specs.Numbers.{whole_of}
 use Rattle.nl_segments.specs.Rows.{Row, row_words, word_at}
 use Rattle.nl_segments.specs.Heads.{is_head}
-use Rattle.nl_segments.specs.Pieces.{Piece, last_piece, pair_count, line_count, line_kind, interval_in, piece_counts, piece_intervals}
+use Rattle.nl_segments.specs.Pieces.{Piece, pair_count, line_count, line_kind, interval_in, piece_counts, piece_intervals}
 use Rattle.nl_segments.specs.Tests.{all_column_counts, column_counts, column_tests, holds_once, interval_form_tests, interval_tests, is_binary, is_sides}
 use Rattle.text_base.specs.Judged.{first_reason}
 use Rattle.nl_segments.specs.Steps.{after_body_row}
@@ -29,8 +29,8 @@ use Rattle.nl_segments.proofs.CurrentLemmas.{late_pairs, with_line}
 use Rattle.nl_segments.proofs.DraftLemmas.{draft_counts, with_bound, with_column, with_side}
 use Rattle.nl_segments.proofs.FreshLaw.{none_before, fresh_sides, fresh_bounds}
 use Rattle.nl_segments.proofs.PieceLemmas.{longer, draft-append}
-use Rattle.nl_segments.proofs.PairLines.{at, Opened, opened, Awaits, awaiting, awaits_as, judged_by, row_after, last_sound}
-use Rattle.nl_segments.proofs.PairHeld.{IsEarly, early, Changes, held_longer, same_totals, sound_no_pair, places_no_pair, open_line}
+use Rattle.nl_segments.proofs.PairLines.{at, opened, awaiting, awaits_as, judged_by, row_after, last_sound}
+use Rattle.nl_segments.proofs.PairHeld.{IsEarly, early, held_longer, same_totals, sound_no_pair, places_no_pair, open_line}
 
 -- ---- the numbers of columns
 

@@ -5,6 +5,10 @@ pub mod StartLemmas
 pub mod StopLemmas
 pub mod GrammarLemmas
 pub mod BodyStart
+pub mod EndLemmas
+pub mod FreshLaw
+pub mod LineLaw
+pub mod LinesHeld
 pub mod Examples
 pub mod PieceLemmas
 pub mod OpcodeLemmas
@@ -15,7 +19,6 @@ pub mod PlaceLemmas
 pub mod SeenLemmas
 pub mod TotalLemmas
 pub mod PairLines
-pub mod FreshLaw
 pub mod NodeLemmas
 pub mod TreeLaw
 pub mod NodeSteps
@@ -35,8 +38,3 @@ pub mod HeadBegun
 pub mod HeadRefusal
 pub mod HeadSeen
 pub mod HeadLaw
-pub mod LineEnd
-pub mod LineLaw
-pub mod LineOwners
-pub mod LinePieces
-pub mod LineTrees

@@ -1,6 +1,6 @@
 -- What a pair that was judged finds: its place in the file, its owner, and room.
-use Rattle.std.proofs.Common.{◌≡◌, ◌≢◌, ◌∙◌, ℕ, ◌+◌, ◌<◌, ◌≤◌, Bool, true, false, ◌&&◌, ◌||◌, List, [], ◌∷◌, ◌++◌, length, refl, sym, ap, ap₂, subst, arith, Option, Some, None, get_or, All, nat_lt, nat_le, if◌then◌else◌}
-use Rattle.std.specs.Prelude.{ℤ, IsTrue, IfSome, unwrap_or}
+use Rattle.std.proofs.Common.{◌≡◌, ◌≢◌, ◌∙◌, ℕ, ◌+◌, ◌<◌, ◌≤◌, Bool, true, false, ◌&&◌, List, [], ◌∷◌, ◌++◌, length, refl, sym, ap, subst, arith, Option, Some, get_or, All, nat_le}
+use Rattle.std.specs.Prelude.{IfSome, unwrap_or}
 use Rattle.std.specs.List.{list_any}
 use Rattle.std.proofs.lemmas.Bool.{ltb-true, leb-false}
 use Rattle.nl_header.specs.Head.{options_in}
@@ -13,22 +13,22 @@ use Rattle.nl_segments.specs.declared.head.Head.{Head}
 use Rattle.nl_segments.specs.declared.head.Head.TheVariants.{Body as BodyHead, Objective, Definition, DualGuesses, PrimalGuesses, Sides, Bounds, ColumnCounts, Terms, Slopes, Suffix}
 use Rattle.nl_segments.specs.Rows.{Row, row_words}
 use Rattle.nl_segments.specs.Heads.{is_in_range}
-use Rattle.nl_segments.specs.Pieces.{Piece, is_complete, pair_in, piece_pairs}
+use Rattle.nl_segments.specs.Pieces.{pair_in, piece_pairs}
 use Rattle.nl_segments.specs.PlaceSteps.{HasBegun, HasOwner}
 use Rattle.nl_segments.specs.Saying.{draft_of, place_lines, said_by}
-use Rattle.nl_segments.specs.Tests.{has_index, holds_once, index_limit, is_linear, is_same_piece, is_suffix}
+use Rattle.nl_segments.specs.Tests.{holds_once, index_limit, is_linear, is_same_piece, is_suffix}
 use Rattle.nl_segments.specs.Grammar.{Standing, counts_of}
 use Rattle.nl_segments.specs.Current.{Current}
-use Rattle.nl_segments.specs.PairSteps.{CanAddSuffix, CanClose, CanGive, CanUse, is_full_at, with_given, with_kept}
-use Rattle.nl_segments.specs.Held.{Body, HasRow, HoldsSome, IsAwaiting, IsHeld, IsMarked, IsSoundPiece, keeps_pairs, use_count}
-use Rattle.nl_segments.proofs.DraftLemmas.{draft_before, draft_counts, says_whole}
+use Rattle.nl_segments.specs.PairSteps.{CanClose, CanGive, CanUse, is_full_at, with_given, with_kept}
+use Rattle.nl_segments.specs.Held.{Body, HasRow, HoldsSome, IsAwaiting, IsHeld, IsMarked, keeps_pairs}
+use Rattle.nl_segments.proofs.DraftLemmas.{draft_before, says_whole}
 use Rattle.nl_segments.proofs.FreshLaw.{none_before, fresh_dual, fresh_primal}
 use Rattle.nl_segments.proofs.HeadSuffixes.{suffixes_come}
 use Rattle.nl_segments.proofs.PairDraft.{owner_there, begun_there}
-use Rattle.nl_segments.proofs.PairHeld.{IsEarly, early}
+use Rattle.nl_segments.proofs.PairHeld.{early}
 use Rattle.nl_segments.proofs.PairLaw.{terms_few, slopes_few, uses_few}
 use Rattle.nl_segments.proofs.PairLines.{at, Opened, opened, awaits_as, last_sound}
-use Rattle.nl_segments.proofs.PairPiece.{IsNextPair, few_rows, none_has, sound_pair, kept_pairs}
+use Rattle.nl_segments.proofs.PairPiece.{IsNextPair, none_has, sound_pair, kept_pairs}
 use Rattle.nl_segments.proofs.PieceLemmas.{longer, draft-append}
 
 -- ---- what is known of the piece

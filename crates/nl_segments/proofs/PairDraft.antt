@@ -1,36 +1,33 @@
 -- What the file, the uses of variables and the lines of places are with a pair more.
-use Rattle.std.proofs.Common.{◌≡◌, ◌≢◌, ◌∙◌, ℕ, ◌-◌, ◌+◌, ◌<◌, ◌≤◌, ◌==◌, Bool, true, false, ◌&&◌, ◌||◌, List, [], ◌∷◌, ◌++◌, length, take, map, refl, sym, ap, subst, arith, Option, Some, None, get_or, slice_set, All, nat_lt, nat_le, if◌then◌else◌}
-use Rattle.std.specs.Prelude.{ℤ, IsTrue, IfSome, unwrap_or}
+use Rattle.std.proofs.Common.{◌≡◌, ◌∙◌, ℕ, ◌-◌, ◌+◌, ◌<◌, ◌==◌, Bool, true, false, List, [], ◌∷◌, ◌++◌, length, take, map, refl, sym, ap, subst, arith, Option, Some, get_or, slice_set, nat_lt, if◌then◌else◌}
+use Rattle.std.specs.Prelude.{ℤ, IsTrue, unwrap_or}
 use Rattle.std.specs.List.{fold}
-use Rattle.std.proofs.lemmas.Bool.{eqb-true, eqb-false, ltb-true, ltb-false}
+use Rattle.std.proofs.lemmas.Bool.{eqb-true, eqb-false, ltb-true}
 use Rattle.std.proofs.lemmas.Grind.{get_or-set_at}
-use Rattle.std.proofs.lemmas.List.{append-nil, drop_all, length-append, length-replicate, length-set, map-append, take_all, get_or-set_other}
+use Rattle.std.proofs.lemmas.List.{drop_all, length-append, length-replicate, length-set, map-append, take_all, get_or-set_other}
 use Rattle.nl_model.specs.declared.counts.Counts.{Counts}
 use Rattle.nl_model.specs.Draft.{Draft, empty_draft}
 use Rattle.nl_model.specs.File.{Term}
-use Rattle.nl_model.specs.Nodes.{awaited}
-use Rattle.nl_model.specs.Rules.{most_terms, term_count}
-use Rattle.nl_segments.specs.declared.awaited.Awaited.{Awaited}
 use Rattle.nl_segments.specs.declared.awaited.Awaited.TheVariants.{Nothing, Pair}
 use Rattle.nl_segments.specs.declared.head.Head.{Head}
 use Rattle.nl_segments.specs.declared.head.Head.TheVariants.{Body, Objective, Definition, DualGuesses, PrimalGuesses, Sides, Bounds, ColumnCounts, Terms, Slopes, Suffix}
-use Rattle.nl_segments.specs.Rows.{Row, row_words}
-use Rattle.nl_segments.specs.Nodes.{only_nodes, only_lines, nodes_from, nodes_of, pending_from, pending_of}
-use Rattle.nl_segments.specs.Pieces.{Piece, awaited_in, is_complete, has_tree, is_nothing, line_count, line_kind, pair_count, pair_in, piece_pairs, tree_awaits, tree_rows}
+use Rattle.nl_segments.specs.Rows.{Row}
+use Rattle.nl_segments.specs.Nodes.{only_lines, nodes_from, nodes_of, pending_from, pending_of}
+use Rattle.nl_segments.specs.Pieces.{Piece, awaited_in, is_complete, has_tree, is_nothing, line_count, line_kind, pair_count, piece_pairs, tree_awaits, tree_rows}
 use Rattle.nl_segments.specs.Saying.{node_lines, draft_of, said_by, with_piece, place_lines, lines_by, term_lines}
 use Rattle.nl_segments.specs.PlaceSteps.{HasBegun, HasOwner, with_term_line}
 use Rattle.nl_segments.specs.Heads.{is_in_range}
 use Rattle.nl_segments.specs.Tests.{is_linear, is_suffix}
 use Rattle.nl_segments.specs.Current.{Current, current_awaits}
 use Rattle.nl_segments.specs.Held.{keeps_pairs, use_count}
-use Rattle.nl_segments.specs.PairSteps.{CanUse, one_more, with_closed, with_given, with_kept, with_suffix, with_use}
+use Rattle.nl_segments.specs.PairSteps.{with_closed, with_given, with_suffix, with_use}
 use Rattle.nl_segments.proofs.CurrentLemmas.{early_tree}
 use Rattle.nl_segments.proofs.DraftLemmas.{draft_before, with_dual, with_primal, with_term, with_slope, with_suffix as suffix_said}
 use Rattle.nl_segments.proofs.FreshLaw.{either}
 use Rattle.nl_segments.proofs.PairLaw.{use_more}
 use Rattle.nl_segments.proofs.PairPiece.{IsNextPair, few_rows}
 use Rattle.nl_segments.proofs.PieceLemmas.{longer, lines-append}
-use Rattle.nl_segments.proofs.PlaceLemmas.{place_term, place_same, place_counts}
+use Rattle.nl_segments.proofs.PlaceLemmas.{place_term, place_counts}
 
 -- ---- a defined variable is not complete by its terms alone
 

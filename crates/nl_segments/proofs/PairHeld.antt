@@ -1,22 +1,22 @@
 -- What is held after a line that comes before any expression.
 use Rattle.std.proofs.Common.{◌≡◌, ◌∙◌, ℕ, ◌-◌, ◌+◌, ◌<◌, ◌≤◌, ◌==◌, Bool, true, false, List, [], ◌∷◌, ◌++◌, length, refl, sym, ap, subst, arith, nat_lt, Option, Some, None, get_or, All, take}
-use Rattle.std.specs.Prelude.{IsTrue, IfSome, ◌^◌, if◌then◌else◌}
+use Rattle.std.specs.Prelude.{IfSome, ◌^◌}
 use Rattle.std.specs.List.{list_any}
-use Rattle.std.proofs.lemmas.Bool.{ltb-true, ltb-false}
+use Rattle.std.proofs.lemmas.Bool.{ltb-true}
 use Rattle.nl_model.specs.declared.counts.Counts.{Counts}
 use Rattle.nl_model.specs.declared.node.Node.{Node}
 use Rattle.nl_model.specs.Draft.{Draft}
 use Rattle.nl_model.specs.Nodes.{awaited}
 use Rattle.nl_model.specs.Rules.{AreTermsBelow, AreIndicesApart, most_terms}
 use Rattle.nl_segments.specs.declared.awaited.Awaited.{Awaited}
-use Rattle.nl_segments.specs.declared.awaited.Awaited.TheVariants.{Nothing, Pair, ColumnCount, Interval as IntervalLine, Node as NodeLine, OperandCount}
+use Rattle.nl_segments.specs.declared.awaited.Awaited.TheVariants.{Pair, ColumnCount, Interval as IntervalLine}
 use Rattle.nl_segments.specs.declared.head.Head.{Head}
 use Rattle.nl_segments.specs.Rows.{Row}
 use Rattle.nl_segments.specs.Nodes.{Pending, nodes_of, only_lines}
-use Rattle.nl_segments.specs.Pieces.{Piece, last_piece, is_complete, is_nothing, line_count, line_kind, has_tree, piece_nodes, pair_count, piece_pairs}
+use Rattle.nl_segments.specs.Pieces.{Piece, is_complete, is_nothing, line_count, line_kind, has_tree, pair_count, piece_pairs}
 use Rattle.nl_segments.specs.Tests.{all_column_counts, index_limit, is_same_piece, is_linear, is_suffix, pair_total}
 use Rattle.nl_segments.specs.Saying.{place_lines}
-use Rattle.nl_segments.specs.Grammar.{Standing, counts_of, said}
+use Rattle.nl_segments.specs.Grammar.{counts_of, said}
 use Rattle.nl_segments.specs.Current.{Current, IsCurrent, current_awaits, less_line, nodes_await}
 use Rattle.nl_segments.specs.SeenSegments.{IsSeenIn, has_segment}
 use Rattle.nl_segments.specs.LineSteps.{unless_complete}

@@ -1,6 +1,6 @@
 -- A pair is judged by what is held as it is by the pieces.
-use Rattle.std.proofs.Common.{◌≡◌, ◌∙◌, ℕ, ◌<◌, Bool, true, false, not, ◌&&◌, ◌||◌, List, [], ◌∷◌, ◌++◌, length, refl, sym, ap, ap₂, arith, Option, Some, None, get_or, nat_lt}
-use Rattle.std.specs.Prelude.{IsTrue, unwrap_or, option_map, option_and_then, ◌==◌}
+use Rattle.std.proofs.Common.{◌≡◌, ◌∙◌, ℕ, ◌<◌, Bool, true, false, not, ◌&&◌, List, [], ◌∷◌, ◌++◌, length, refl, sym, ap, ap₂, Option, Some, None, get_or, nat_lt}
+use Rattle.std.specs.Prelude.{unwrap_or, ◌==◌}
 use Rattle.std.proofs.lemmas.Bool.{ltb-true}
 use Rattle.text_base.specs.Judged.{first_reason}
 use Rattle.exact_numbers.specs.declared.dec.Dec.{Dec}

@@ -1,9 +1,8 @@
 -- How many terms the file has, and how often each variable is used.
-use Rattle.std.proofs.Common.{◌≡◌, ◌∙◌, ℕ, zero, suc, ◌+◌, ◌<◌, ◌≤◌, ◌==◌, Bool, true, false, List, [], ◌∷◌, ◌++◌, length, filter, sum_by, replicate, refl, sym, ap, arith, get_or, slice_set, if◌then◌else◌}
+use Rattle.std.proofs.Common.{◌≡◌, ◌∙◌, ℕ, zero, suc, ◌+◌, ◌<◌, ◌≤◌, ◌==◌, Bool, true, false, List, [], ◌∷◌, ◌++◌, length, filter, sum_by, replicate, refl, ap, arith, get_or, slice_set, if◌then◌else◌}
 use Rattle.std.specs.Prelude.{ℤ}
 use Rattle.std.specs.List.{fold}
-use Rattle.std.proofs.lemmas.Bool.{eqb-true, eqb-false}
-use Rattle.std.proofs.lemmas.List.{length-append, get_or-set_other}
+use Rattle.std.proofs.lemmas.List.{length-append}
 use Rattle.std.proofs.lemmas.List.Elements.{filter-append}
 use Rattle.std.proofs.lemmas.List.Sums.{sum_by-cons}
 use Rattle.nl_model.specs.declared.counts.Counts.{Counts}
@@ -16,7 +15,6 @@ use Rattle.nl_segments.specs.Pieces.{Piece, is_complete, piece_pairs}
 use Rattle.nl_segments.specs.Saying.{if_complete, said_by, with_piece, draft_of}
 use Rattle.nl_segments.specs.Tests.{is_linear, pair_total}
 use Rattle.nl_segments.specs.Held.{use_count}
-use Rattle.nl_segments.proofs.DraftLemmas.{get_set}
 
 -- ---- lists
 

@@ -1,5 +1,5 @@
 -- A row more in the last piece, where the row is no head: what stays of what is held, and by which tests the row is judged.
-use Rattle.std.proofs.Common.{◌≡◌, ◌∙◌, ℕ, ◌+◌, ◌<◌, ◌≤◌, Bool, true, false, List, [], ◌∷◌, ◌++◌, length, filter, refl, sym, ap, subst, arith, Option, Some, None, get_or, All}
+use Rattle.std.proofs.Common.{◌≡◌, ◌∙◌, ℕ, ◌+◌, ◌<◌, Bool, true, false, List, [], ◌∷◌, ◌++◌, length, filter, refl, sym, ap, subst, arith, Option, Some, None, get_or, All}
 use Rattle.std.specs.Prelude.{AllPairs, IsSomeAnd, if◌then◌else◌}
 use Rattle.std.specs.List.{list_any}
 use Rattle.std.proofs.lemmas.List.{length-append, get_or_append_left}
@@ -14,13 +14,13 @@ use Rattle.nl_segments.specs.declared.head.Head.{Head}
 use Rattle.nl_segments.specs.Rows.{Row, row_words}
 use Rattle.nl_segments.specs.Heads.{is_head}
 use Rattle.nl_segments.specs.Pieces.{Piece, last_piece, is_complete, piece_nodes, piece_pairs, awaited_of, awaited_in}
-use Rattle.nl_segments.specs.Tests.{awaited_tests, is_same_piece, is_suffix, node_total, pair_total, row_tests, suffix_count, all_column_counts}
+use Rattle.nl_segments.specs.Tests.{awaited_tests, is_same_piece, is_suffix, node_total, pair_total, row_tests, suffix_count}
 use Rattle.nl_segments.specs.Grammar.{Standing, counts_of, said}
 use Rattle.nl_segments.specs.Steps.{after_body_row}
 use Rattle.nl_segments.specs.Current.{Current, current_awaits}
 use Rattle.nl_segments.specs.Held.{Body, HasRow, AreSeen, HoldsSome, IsRowOf, IsAwaiting, AreSound, IsHeld, IsLast, IsOpen, IsSoundPiece, words_refusal}
 use Rattle.nl_segments.proofs.CurrentLemmas.{awaits}
-use Rattle.nl_segments.proofs.PieceLemmas.{Split, split, longer, last-append, extended-append}
+use Rattle.nl_segments.proofs.PieceLemmas.{split, longer, extended-append}
 use Rattle.nl_segments.proofs.TotalLemmas.{nodes-append, pairs-append, pairs-other}
 
 -- ---- the piece that is held

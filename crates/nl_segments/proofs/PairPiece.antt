@@ -1,10 +1,9 @@
 -- The last piece with a pair more: its pairs, its marks, and what is held of it.
-use Rattle.std.proofs.Common.{◌≡◌, ◌≢◌, ◌∙◌, ℕ, ◌-◌, ◌+◌, ◌<◌, ◌≤◌, ◌==◌, Bool, true, false, ◌&&◌, ◌||◌, List, [], ◌∷◌, ◌++◌, length, take, refl, sym, ap, subst, arith, Option, Some, None, get_or, slice_set, All, nat_lt, if◌then◌else◌}
-use Rattle.std.specs.Prelude.{IsTrue, IfSome}
-use Rattle.std.specs.List.{list_any}
+use Rattle.std.proofs.Common.{◌≡◌, ◌≢◌, ◌∙◌, ℕ, ◌-◌, ◌+◌, ◌<◌, ◌==◌, Bool, true, false, ◌||◌, List, [], ◌∷◌, ◌++◌, length, take, refl, sym, ap, subst, arith, Some, get_or, slice_set, All, if◌then◌else◌}
+use Rattle.std.specs.Prelude.{IsTrue}
 use Rattle.std.proofs.lemmas.Bool.{eqb-true, eqb-false, eq-eqb}
 use Rattle.std.proofs.lemmas.Grind.{get_or-set_at}
-use Rattle.std.proofs.lemmas.List.{append-nil, length-append, length-set, take_all, get_or-set_other}
+use Rattle.std.proofs.lemmas.List.{length-append, length-set, take_all, get_or-set_other}
 use Rattle.std.proofs.lemmas.List.Elements.{All-push}
 use Rattle.std.proofs.lemmas.List.Folds.{list_any-append, list_any_at}
 use Rattle.std.proofs.lemmas.List.Quantifiers.{all_pairs_push}
@@ -15,8 +14,8 @@ use Rattle.nl_segments.specs.declared.awaited.Awaited.TheVariants.{Pair}
 use Rattle.nl_segments.specs.declared.head.Head.{Head}
 use Rattle.nl_segments.specs.declared.head.Head.TheVariants.{Body, Objective, Definition, DualGuesses, PrimalGuesses, Sides, Bounds, ColumnCounts, Terms, Slopes, Suffix}
 use Rattle.nl_segments.specs.Rows.{Row, row_words}
-use Rattle.nl_segments.specs.Pieces.{Piece, is_complete, line_count, line_kind, pair_count, pair_in, piece_pairs}
-use Rattle.nl_segments.specs.Tests.{has_index, holds_once, index_limit, is_suffix}
+use Rattle.nl_segments.specs.Pieces.{Piece, line_count, line_kind, pair_count, pair_in, piece_pairs}
+use Rattle.nl_segments.specs.Tests.{has_index, holds_once, index_limit}
 use Rattle.nl_segments.specs.Current.{Current, IsCurrent, less_line, with_pair}
 use Rattle.nl_segments.specs.Held.{IsMarked, IsSoundPiece, keeps_pairs}
 use Rattle.nl_segments.specs.PairSteps.{with_kept, with_mark}

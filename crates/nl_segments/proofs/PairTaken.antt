@@ -1,7 +1,7 @@
 -- What is held after a pair.
-use Rattle.std.proofs.Common.{◌≡◌, ◌∙◌, ℕ, ◌+◌, ◌<◌, ◌≤◌, Bool, true, false, ◌&&◌, ◌||◌, List, [], ◌∷◌, ◌++◌, length, refl, sym, ap, ap₂, subst, arith, Option, Some, None, get_or, nat_le, All, if◌then◌else◌}
-use Rattle.std.specs.Prelude.{ℤ, IsTrue, IfSome, ◌^◌}
-use Rattle.std.proofs.lemmas.List.{length-append, append-nil, length-replicate, length-set}
+use Rattle.std.proofs.Common.{◌≡◌, ◌∙◌, ℕ, ◌+◌, ◌<◌, ◌≤◌, Bool, true, false, List, [], ◌∷◌, ◌++◌, length, refl, sym, ap, ap₂, subst, arith, Option, Some, None, get_or, All, if◌then◌else◌}
+use Rattle.std.specs.Prelude.{IfSome, ◌^◌}
+use Rattle.std.proofs.lemmas.List.{length-append}
 use Rattle.text_base.specs.Judged.{first_reason}
 use Rattle.nl_header.specs.Head.{options_in}
 use Rattle.nl_model.specs.declared.counts.Counts.{Counts}
@@ -13,26 +13,26 @@ use Rattle.nl_segments.specs.declared.awaited.Awaited.TheVariants.{Pair}
 use Rattle.nl_segments.specs.declared.fault.Refusal.{Refusal}
 use Rattle.nl_segments.specs.declared.head.Head.{Head}
 use Rattle.nl_segments.specs.declared.head.Head.TheVariants.{Body as BodyHead, Objective, Definition, DualGuesses, PrimalGuesses, Sides, Bounds, ColumnCounts, Terms, Slopes, Suffix}
-use Rattle.nl_segments.specs.Rows.{Row, row_words}
+use Rattle.nl_segments.specs.Rows.{Row}
 use Rattle.nl_segments.specs.Heads.{is_head, is_in_range}
-use Rattle.nl_segments.specs.Pieces.{Piece, is_complete, is_nothing, line_kind, pair_in, piece_pairs}
+use Rattle.nl_segments.specs.Pieces.{Piece, is_nothing, line_kind, piece_pairs}
 use Rattle.nl_segments.specs.PlaceSteps.{with_term_line}
 use Rattle.nl_segments.specs.Saying.{draft_of}
 use Rattle.nl_segments.specs.Tests.{all_column_counts, column_counts, index_limit, is_full, is_linear, is_suffix, pair_total}
-use Rattle.nl_segments.specs.Grammar.{Standing, counts_of, said}
+use Rattle.nl_segments.specs.Grammar.{Standing, counts_of}
 use Rattle.nl_segments.specs.Steps.{after_body_row}
 use Rattle.nl_segments.specs.Current.{Current, current_awaits}
 use Rattle.nl_segments.specs.LineSteps.{unless_complete}
 use Rattle.nl_segments.specs.PairSteps.{is_full_at, next_pair_tests, one_more, with_closed, with_given, with_kept, with_mark, with_suffix, with_use}
-use Rattle.nl_segments.specs.Held.{Body, HoldsSome, IsAwaiting, IsHeld, IsMarked, IsNodeKnown, IsNodeLeft, IsOpen, IsRowOf, keeps_pairs, use_count, words_refusal}
+use Rattle.nl_segments.specs.Held.{Body, IsAwaiting, IsHeld, IsMarked, IsNodeKnown, IsNodeLeft, IsRowOf, use_count, words_refusal}
 use Rattle.nl_segments.proofs.CurrentLemmas.{awaits}
 use Rattle.nl_segments.proofs.DraftLemmas.{draft_counts}
 use Rattle.nl_segments.proofs.IntervalSteps.{columns-append}
 use Rattle.nl_segments.proofs.PairCan.{IsRead, IsPairNext, pair_next}
 use Rattle.nl_segments.proofs.PairDraft.{draft_lengths, draft_pair, terms_closed, uses_pair, users_kept, places_pair}
-use Rattle.nl_segments.proofs.PairHeld.{Changes, held_longer}
+use Rattle.nl_segments.proofs.PairHeld.{held_longer}
 use Rattle.nl_segments.proofs.PairJudging.{same_pair_tests}
-use Rattle.nl_segments.proofs.PairLines.{at, Opened, opened, awaits_as, judged_by, last_sound, pairs_longer, row_after}
+use Rattle.nl_segments.proofs.PairLines.{at, opened, awaits_as, judged_by, last_sound, pairs_longer, row_after}
 use Rattle.nl_segments.proofs.PairPiece.{IsNextPair, pairs_are, sound_pair, marks_kept, marked_pair, kept_fields, kept_current, kept_pairs}
 use Rattle.nl_segments.proofs.PieceLemmas.{longer}
 

@@ -1,4 +1,5 @@
 pub mod Current
+pub mod Ending
 pub mod LineSteps
 pub mod Grammar
 pub mod HeadSteps

@@ -1,15 +1,19 @@
 // A reader of the rows after the header.
-ghost use Rattle.std.specs.Prelude.{◌≡◌, ◌≤◌, ℕ, List, IfOk, replicate, false};
+ghost use Rattle.std.specs.Prelude.{◌≡◌, ◌≤◌, ℕ, List, IfOk, IfErr, OnOk, Some, None, replicate, false};
 ghost use Rattle.text_base.specs.Words.{texts};
+ghost use Rattle.nl_model.specs.Draft.{IsDraft};
 ghost use Rattle.nl_segments.specs.declared.head.Head.{Head};
 ghost use Rattle.nl_segments.specs.Heads.{is_head};
 ghost use Rattle.nl_segments.specs.Held.{IsHeld, IsHeaderOf, only_header, TakesRow, HasRow, Finishes};
 ghost use Rattle.nl_segments.specs.Reader.{HasLines};
 ghost use Rattle.nl_segments.specs.Taking.{body_awaits};
-ghost use Rattle.nl_segments.specs.Tests.{index_limit};
+ghost use Rattle.nl_segments.specs.Tests.{for_reason, index_limit};
+ghost use Rattle.nl_segments.specs.Ending.{body_end_tests};
+ghost use Rattle.text_base.specs.Judged.{first_reason};
 
 use crate::awaited::Awaited;
 use crate::current::Current;
+use crate::ending::{are_sums, is_short};
 use crate::fault::{NlReason, Refusal};
 use crate::marks::Marks;
 use crate::nl_read::NlRead;
@@ -139,11 +143,42 @@ impl BodyReader {
         }
     }
 
+    // What is missing at the end.
+    fn judge_end(&self) -> Result<(), NlReason>
+        ensures draft { IsDraft self.now.draft }
+        ensures fine { OnOk result (first_reason (body_end_tests self.now) ≡ None) }
+        ensures fault { IfErr result (λ r. first_reason (body_end_tests self.now) ≡ Some (for_reason r)) }
+    {
+        let terms = self.builder.header().counts().nzc;
+        if self.awaited() != Awaited::Nothing {
+            return Err(NlReason::ShortSegment);
+        }
+        if is_short(&self.builder) {
+            return Err(NlReason::Missing);
+        }
+        if self.builder.terms() != terms {
+            return Err(NlReason::NonzeroCount);
+        }
+        if !are_sums(&self.columns, &self.uses) {
+            return Err(NlReason::ColumnCount);
+        }
+        Ok(())
+    }
+
     /// The file and the lines of its places, at the end of the text.
     pub(crate) fn finish(self) -> Result<NlRead, Stop<Refusal>>
         ensures finishes { Finishes self result }
         ensures lines { IfOk result HasLines }
     {
-        Err(Stop::Memory)
+        if self.is_broken {
+            return Err(Stop::Memory);
+        }
+        if let Err(reason) = self.judge_end() {
+            return Err(Stop::Fault(refusal(reason)));
+        }
+        Ok(NlRead {
+            file: self.builder.finish(),
+            places: self.places,
+        })
     }
 }

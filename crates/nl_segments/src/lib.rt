@@ -12,6 +12,7 @@ mod body_pairs;
 mod closing;
 mod counts;
 mod current;
+mod ending;
 mod fault;
 mod grammar;
 mod head;

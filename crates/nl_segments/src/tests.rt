@@ -5,13 +5,15 @@ use crate::head::Head;
 use crate::heads::{is_in_range, read_head};
 use crate::intervals::read_interval;
 use crate::marks::Marks;
+use crate::nl_read::NlRead;
+use crate::nl_reader::{NlReader, read_nl};
 use crate::owner_lines::OwnerLines;
 use crate::pairs::read_pair;
 use crate::places::Places;
 use crate::seen::Seen;
 use nl_model::{At, Counts, Owner};
 use std::test::Fail;
-use text_base::Row;
+use text_base::{Row, Stop};
 
 // Two variables, one constraint and one objective.
 fn small_counts() -> Counts {
@@ -120,4 +122,44 @@ fn places(rt: HostRuntime) -> Result<(), Fail> {
     let places = Places::new(rt.alloc(), &small_counts())?;
     assert!(rt; places.line_at(At::Head(Owner::Con(0))).is_none());
     Ok(())
+}
+
+// One variable and one constraint, `x0 <= 1`, with a comment and no last line end.
+const SMALL: &[u8] =
+    b"g3 1 1 0\n1 1 0 0 0\n0 0\n0 0\n0 0 0\n0 0 0 1\n0 0 0 0 0\n1 0\n0 0\n0 0 0 0 0\nC0\nn0 # a constant\nr\n1 1\nb\n3\nJ0 1\n0 2.5";
+
+// The lines of a constraint's head, node and term.
+fn has_small_lines(read: &NlRead) -> bool {
+    let head = read.places.line_at(At::Head(Owner::Con(0)));
+    let node = read.places.line_at(At::Node(Owner::Con(0), 0));
+    let term = read.places.line_at(At::Term(Owner::Con(0), 0));
+    head == Some(11) && node == Some(12) && term == Some(18)
+}
+
+#[test]
+fn small_text(rt: HostRuntime) {
+    match read_nl(rt.alloc(), SMALL) {
+        Ok(read) => assert!(rt; has_small_lines(&read)),
+        Err(_) => panic!(rt; "the text is right"),
+    }
+    match read_nl(rt.alloc(), &SMALL[..SMALL.len() - 5]) {
+        Err(Stop::Fault(fault)) => assert!(rt;
+            fault.reason == NlReason::ShortSegment && fault.line == 18
+        ),
+        _ => panic!(rt; "the term is missing"),
+    }
+}
+
+#[test]
+fn small_text_in_bytes(rt: HostRuntime) {
+    let Ok(mut reader) = NlReader::new(rt.alloc()) else {
+        panic!(rt; "memory is wanting");
+    };
+    for i in 0..SMALL.len() {
+        assert!(rt; reader.feed(&SMALL[i..i + 1]).is_ok());
+    }
+    match reader.finish() {
+        Ok(read) => assert!(rt; has_small_lines(&read)),
+        Err(_) => panic!(rt; "the text is right"),
+    }
 }

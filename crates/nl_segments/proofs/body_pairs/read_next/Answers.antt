@@ -1,6 +1,5 @@
 use Rattle.std.proofs.Common.{◌∙◌, sym}
 use Rattle.nl_segments.proofs.PairJudging.{read_fault, read_repeated, read_full, read_fine}
-use Rattle.nl_segments.proofs.PairLaw.{terms_few, slopes_few, uses_few, use_more}
 use Rattle.nl_segments.proofs.body_pairs.read_next.Goals as goal
 
 pub returns-in-Err-clause-fault : goal.returns-in-Err-clause-fault
