@@ -13,3 +13,4 @@ pub mod PlaceLemmas
 pub mod ProgramLemmas
 pub mod Scaled
 pub mod Stacks
+pub mod ValueLemmas

@@ -6,7 +6,7 @@ ghost use Rattle.nl_model.specs.Kinds.{kind_of};
 ghost use Rattle.nl_model.specs.Rules.{IsFile};
 ghost use Rattle.file_meaning.specs.Expressions.{maximises};
 ghost use Rattle.file_meaning.specs.FoldFaults.{fold_fault, has_objective};
-ghost use Rattle.file_meaning.specs.LinearFile.{elements_from, linear_of};
+ghost use Rattle.file_meaning.specs.LinearFile.{elements_from, linear_of, HasLines};
 ghost use Rattle.linear_fold.specs.FoldedFaults.{first_fold_fault, HasFaultPlace, step_bound};
 ghost use Rattle.linear_fold.specs.OwnerFolds.{AreFormsOf};
 ghost use Rattle.linear_fold.specs.Programs.{linear_value};
@@ -111,6 +111,9 @@ pub fn fold_all<L: Ledger>(
     ensures linear { IfOk result (λ l. linear_value l ≡ linear_of file.now objective) }
     ensures number { IfOk result (λ l. l.number ≡ objective) }
     ensures fine { OnOk result (fold_fault file.now objective ≡ None) }
+
+    // At every assignment each body and the objective have the values of their forms.
+    ensures values { OnOk result (HasLines file.now objective) }
 
     // The first fault, at a place of the file.
     ensures fault { IfErr result (λ stop. IfFault stop (λ fault. first_fold_fault file.now objective ≡ Some fault)) }

@@ -1,13 +1,12 @@
 -- What the reader of the body holds before any row, and a row that nothing awaits.
-use Rattle.std.proofs.Common.{◌≡◌, ◌∙◌, ℕ, zero, suc, ◌+◌, ◌-◌, ◌<◌, ◌≤◌, Bool, true, false, List, [], ◌∷◌, ◌++◌, length, filter, replicate, get_or, sum_by, refl, sym, ap, subst, arith, Option, Some, None, nat_le, nat_lt, ◌&&◌}
-use Rattle.std.specs.Prelude.{ℤ, IsSomeAnd, All, AllPairs}
+use Rattle.std.proofs.Common.{◌≡◌, ◌∙◌, ℕ, zero, suc, ◌+◌, ◌-◌, ◌<◌, ◌≤◌, true, false, List, [], ◌∷◌, length, replicate, get_or, refl, sym, ap, subst, arith, Option, Some, None, nat_le, nat_lt, ◌&&◌}
+use Rattle.std.specs.Prelude.{ℤ}
 use Rattle.std.proofs.lemmas.Bool.{ltb-true}
 use Rattle.std.proofs.lemmas.Bool.Decides.{nat_tests}
 use Rattle.std.proofs.lemmas.List.{length-replicate, get_or-replicate, length-append}
 use Rattle.text_base.specs.Judged.{first_reason}
 use Rattle.nl_model.specs.declared.counts.Counts.{Counts}
 use Rattle.nl_model.specs.Draft.{Draft, empty_draft}
-use Rattle.nl_model.specs.File.{Term}
 use Rattle.nl_model.specs.HeaderRules.{defined_count}
 use Rattle.nl_header.specs.Head.{options_in, counts_in}
 use Rattle.nl_segments.specs.declared.awaited.Awaited.{Awaited}
@@ -16,13 +15,13 @@ use Rattle.nl_segments.specs.declared.fault.NlReason.TheVariants.{ExtraLine}
 use Rattle.nl_segments.specs.declared.head.Head.{Head}
 use Rattle.nl_segments.specs.declared.head.Head.TheVariants.{Body as BodyHead, Objective, Definition, DualGuesses, PrimalGuesses, Sides, Bounds, ColumnCounts, Terms, Slopes, Suffix}
 use Rattle.nl_segments.specs.Heads.{is_head, is_in_range}
-use Rattle.nl_segments.specs.Pieces.{Piece, last_piece, is_complete, is_nothing, awaited_in, awaited_of}
-use Rattle.nl_segments.specs.Saying.{PlaceLines, empty_lines, draft_of, place_lines}
-use Rattle.nl_segments.specs.SeenSegments.{Segments, no_segments, has_segment, IsSeenIn}
-use Rattle.nl_segments.specs.Current.{Current, current_awaits}
+use Rattle.nl_segments.specs.Pieces.{Piece, last_piece, is_nothing, awaited_in, awaited_of}
+use Rattle.nl_segments.specs.Saying.{empty_lines, draft_of, place_lines}
+use Rattle.nl_segments.specs.SeenSegments.{no_segments, has_segment, IsSeenIn}
+use Rattle.nl_segments.specs.Current.{Current}
 use Rattle.nl_segments.specs.Tests.{index_limit, is_suffix, for_reason, awaited_tests, line_tests, row_tests}
 use Rattle.nl_segments.specs.Grammar.{Standing, counts_of, said}
-use Rattle.nl_segments.specs.Held.{Body, IsHeld, IsHeaderOf, IsSoundPiece, AreSound, AreSeen, IsAwaiting, IsLast, only_header, use_count, words_refusal}
+use Rattle.nl_segments.specs.Held.{Body, IsHeld, IsHeaderOf, AreSound, IsLast, only_header, use_count, words_refusal}
 use Rattle.nl_segments.specs.Taking.{body_awaits}
 use Rattle.nl_segments.proofs.CurrentLemmas.{awaits}
 

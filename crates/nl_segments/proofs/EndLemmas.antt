@@ -3,7 +3,7 @@ use Rattle.std.proofs.Common.{◌≡◌, ◌∙◌, ℕ, zero, suc, ◌+◌, ◌
 use Rattle.std.proofs.lemmas.Bool.{ltb-true, ltb-false, eqb-true}
 use Rattle.std.proofs.lemmas.Bool.Decides.{nat_tests}
 use Rattle.std.proofs.lemmas.List.{get_or_past}
-use Rattle.std.proofs.lemmas.List.Sums.{sum_by-cons, AllPass-from_list_all}
+use Rattle.std.proofs.lemmas.List.Sums.{sum_by-cons}
 use Rattle.std.specs.Prelude.{IsSome, is_some, drop, ◌||◌}
 use Rattle.std.specs.List.{list_all}
 use Rattle.text_base.specs.Judged.{first_reason}
@@ -15,9 +15,9 @@ use Rattle.nl_segments.specs.declared.fault.Refusal.{Refusal}
 use Rattle.nl_segments.specs.declared.fault.NlReason.TheVariants.{ShortSegment, Missing, NonzeroCount, ColumnCount as BadColumnCount}
 use Rattle.nl_segments.specs.Saying.{place_lines}
 use Rattle.std.proofs.lemmas.List.Folds.{list_all_at}
-use Rattle.nl_segments.specs.Pieces.{Piece, last_piece, is_nothing, awaited_in, awaited_of}
+use Rattle.nl_segments.specs.Pieces.{Piece, last_piece, is_nothing, awaited_of}
 use Rattle.nl_segments.specs.Current.{Current}
-use Rattle.nl_segments.specs.Tests.{terms_up_to, are_column_counts, all_column_counts, is_short, for_reason, end_tests}
+use Rattle.nl_segments.specs.Tests.{terms_up_to, are_column_counts, is_short, for_reason, end_tests}
 use Rattle.nl_segments.specs.Grammar.{Standing, counts_of, said}
 use Rattle.nl_segments.specs.Held.{Body, IsHeld, IsLast, use_count, end_refusal_of}
 use Rattle.nl_segments.specs.Taking.{body_awaits}

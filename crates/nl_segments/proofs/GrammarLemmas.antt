@@ -1,25 +1,22 @@
 -- What rows and the end do to the whole reader.
-use Rattle.std.proofs.Common.{◌≡◌, ◌∙◌, ℕ, suc, ◌+◌, ◌<◌, ◌≤◌, Bool, true, false, List, [], ◌∷◌, ◌++◌, length, take, not, ◌==◌, Bor, refl, sym, ap, subst, arith, nat_lt, IfOk, IfErr, OnOk}
-use Rattle.std.specs.Prelude.{Option, Some, None, Result, Ok, Err, if◌then◌else◌, option_map}
+use Rattle.std.proofs.Common.{◌≡◌, ◌∙◌, ℕ, suc, ◌+◌, true, false, List, [], ◌∷◌, ◌++◌, length, take, not, ◌==◌, Bor, refl, sym, ap, subst, arith, IfOk, IfErr, OnOk}
+use Rattle.std.specs.Prelude.{Some, None, Result, Ok, Err}
 use Rattle.std.proofs.lemmas.List.{length-map}
 use Rattle.text_base.specs.Stopped.{IfFault}
 use Rattle.text_base.specs.declared.stop.Stop.{Stop}
 use Rattle.text_base.specs.declared.stop.Stop.TheVariants.{Fault, Memory}
 use Rattle.text_base.specs.Words.{words_of, row_of, texts, without_comment}
-use Rattle.nl_header.specs.Head.{line_fault}
 use Rattle.nl_header.specs.Reading.{Taken, IsReading, Takes}
-use Rattle.nl_header.specs.declared.fault.HeadFault.{HeadFault}
 use Rattle.nl_model.specs.declared.header.Header.{Header}
 use Rattle.nl_segments.specs.declared.fault.Refusal.{Refusal}
 use Rattle.nl_segments.specs.declared.nl_read.NlRead.{NlRead}
 use Rattle.nl_segments.specs.Rows.{Row, holds_words}
-use Rattle.nl_segments.specs.Grammar.{Standing, standing, is_in_header, line_refusal, header_refusal, row_refusal, end_refusal, nl_rules, SaysFile, reason_of}
+use Rattle.nl_segments.specs.Grammar.{Standing, standing, is_in_header, line_refusal, header_refusal, end_refusal}
 use Rattle.nl_segments.specs.declared.fault.NlReason.TheVariants.{EndInHeader}
 use Rattle.nl_segments.specs.Tests.{for_reason}
-use Rattle.nl_segments.specs.Held.{Body, Progress, IsHeld, IsHeaderOf, only_header, HoldsBy, HoldsStanding, TakesRow, Finishes, IsRowOf}
-use Rattle.nl_segments.specs.Steps.{after, after_header_row, after_row, after_body_row}
+use Rattle.nl_segments.specs.Held.{Body, Progress, IsHeld, IsHeaderOf, only_header, HoldsBy, HoldsStanding, TakesRow, Finishes}
+use Rattle.nl_segments.specs.Steps.{after, after_header_row}
 use Rattle.nl_segments.specs.Taking.{TakesAnyRow, TakesHeaderRow}
-use Rattle.nl_segments.specs.Reader.{value_of, HasLines}
 use Rattle.nl_segments.proofs.StandingLemmas.{standing-more}
 
 -- ---- the header

@@ -1,17 +1,17 @@
 -- Each node, term and head of a file has its line, where all pieces are complete.
-use Rattle.std.proofs.Common.{◌≡◌, ◌∙◌, ℕ, zero, suc, ◌+◌, ◌<◌, ◌≤◌, Bool, true, false, not, ◌&&◌, ◌||◌, ◌==◌, List, [], ◌∷◌, ◌++◌, length, take, drop, map, replicate, get_or, slice_set, refl, sym, ap, ap₂, subst, arith, nat_lt, Option, Some, None, is_some}
-use Rattle.std.specs.Prelude.{ℤ, IsSome, IsTrue, slice_get, option_map, option_and_then, All}
-use Rattle.std.specs.Option.{option_map_or, option_or}
-use Rattle.std.proofs.lemmas.List.{length-append, length-map, length-replicate, get_or-set_other, length-set}
+use Rattle.std.proofs.Common.{◌≡◌, ◌∙◌, ℕ, zero, suc, ◌+◌, ◌<◌, ◌≤◌, Bool, true, false, not, ◌&&◌, ◌||◌, ◌==◌, List, [], ◌∷◌, ◌++◌, length, drop, get_or, slice_set, refl, sym, arith, Option, Some, None, is_some}
+use Rattle.std.specs.Prelude.{IsSome, slice_get}
+use Rattle.std.specs.Option.{option_map_or}
+use Rattle.std.proofs.lemmas.List.{get_or-set_other, length-set}
 use Rattle.std.proofs.lemmas.Grind.{get_or-set_at}
-use Rattle.std.proofs.lemmas.Bool.{ltb-true, ltb-false, eqb-true, eqb-false}
-use Rattle.std.proofs.lemmas.Option.{slice_get_past, slice_get-get_or}
-use Rattle.nl_meaning.specs.Trees.{Tree, Trees, tree_size, trees_size, first_trees}
+use Rattle.std.proofs.lemmas.Bool.{eqb-true, eqb-false}
+use Rattle.std.proofs.lemmas.Option.{slice_get-get_or}
+use Rattle.nl_meaning.specs.Trees.{Tree, tree_size, trees_size, first_trees}
 use Rattle.nl_model.specs.declared.node.Node.{Node}
 use Rattle.nl_model.specs.declared.node.Node.TheVariants.{Num, Var, Defined, Op}
 use Rattle.nl_model.specs.Nodes.{tree_of, trees_of}
-use Rattle.nl_model.specs.File.{Term, Definition, Objective}
-use Rattle.nl_segments.specs.Saying.{OwnerLines, PlaceLines, no_lines, changed}
+use Rattle.nl_model.specs.File.{Term, Definition}
+use Rattle.nl_segments.specs.Saying.{OwnerLines, no_lines, changed}
 
 -- ---- nodes
 

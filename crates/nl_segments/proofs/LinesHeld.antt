@@ -1,13 +1,13 @@
 -- Each node, term and head has its line in what pieces say.
-use Rattle.std.proofs.Common.{◌≡◌, ◌∙◌, ℕ, zero, suc, ◌+◌, ◌<◌, ◌≤◌, Bool, true, false, not, ◌&&◌, ◌||◌, ◌==◌, List, [], ◌∷◌, ◌++◌, length, take, map, replicate, get_or, slice_set, refl, sym, ap, ap₂, subst, arith, nat_lt, Option, Some, None, is_some, append_assoc}
-use Rattle.std.specs.Prelude.{if◌then◌else◌, ℤ, IsSome, IsTrue, slice_get, option_map, option_and_then, All, AllPairs}
+use Rattle.std.proofs.Common.{◌≡◌, ◌∙◌, ℕ, zero, suc, ◌<◌, ◌≤◌, Bool, true, false, not, ◌&&◌, ◌||◌, ◌==◌, List, [], ◌∷◌, ◌++◌, length, take, replicate, get_or, refl, sym, ap, subst, arith, nat_lt, Option, Some, None, is_some, append_assoc}
+use Rattle.std.specs.Prelude.{if◌then◌else◌, ℤ, IsSome, slice_get, option_map, option_and_then, All, AllPairs}
 use Rattle.std.specs.Option.{option_map_or, option_or}
 use Rattle.std.specs.List.{list_any}
-use Rattle.std.proofs.lemmas.List.{length-append, length-map, length-replicate, append-nil, get_or_append_left, get_or_push}
+use Rattle.std.proofs.lemmas.List.{length-append, length-map, length-replicate, append-nil, get_or_append_left}
 use Rattle.std.proofs.lemmas.Bool.{ltb-true, ltb-false}
 use Rattle.nl_meaning.specs.Trees.{Tree, tree_size}
 use Rattle.nl_model.specs.declared.counts.Counts.{Counts}
-use Rattle.nl_model.specs.Draft.{Draft, empty_draft, file_of, given}
+use Rattle.nl_model.specs.Draft.{Draft, file_of, given}
 use Rattle.nl_model.specs.File.{Term, Definition, Objective}
 use Rattle.nl_model.specs.Nodes.{tree_of}
 use Rattle.nl_segments.specs.declared.awaited.Awaited.{Awaited}
@@ -18,7 +18,7 @@ use Rattle.nl_segments.specs.declared.pending.Pending.{Pending}
 use Rattle.nl_segments.specs.Heads.{is_in_range}
 use Rattle.nl_segments.specs.Nodes.{Placed, only_nodes, only_lines}
 use Rattle.nl_segments.specs.Pieces.{Piece, awaited_in, has_tree, is_complete, is_nothing, line_count, line_kind, pair_count, piece_nodes, piece_pairs, piece_pending, tree_awaits}
-use Rattle.nl_segments.specs.Saying.{OwnerLines, PlaceLines, no_lines, changed, if_complete, said_by, with_piece, draft_of, place_lines, lines_by, line_of, empty_lines, piece_tree, node_lines, term_lines, with_tree_lines, with_term_lines, with_slope_lines}
+use Rattle.nl_segments.specs.Saying.{OwnerLines, PlaceLines, no_lines, said_by, draft_of, place_lines, lines_by, line_of, piece_tree, node_lines, term_lines, with_tree_lines, with_term_lines, with_slope_lines}
 use Rattle.nl_model.specs.File.{File}
 use Rattle.nl_segments.specs.Ending.{body_end_tests}
 use Rattle.text_base.specs.Judged.{first_reason}

@@ -24,7 +24,7 @@ use Rattle.nl_segments.specs.Heads.{is_in_range}
 use Rattle.nl_segments.specs.Saying.{PlaceLines, place_lines}
 use Rattle.nl_segments.specs.SeenSegments.{Segments, IsSeenIn, has_segment}
 use Rattle.nl_segments.specs.Current.{Current, IsCurrent, current_awaits}
-use Rattle.nl_segments.specs.Grammar.{Standing, is_in_header, counts_of, said, NlValue}
+use Rattle.nl_segments.specs.Grammar.{Standing, is_in_header, counts_of, said}
 use Rattle.nl_segments.specs.Steps.{after_body_row}
 
 -- the file so far; the last piece, where it is not complete; the name of its suffix; marks for its indices; the segments that came; how many nodes, linear terms, values of suffixes and suffixes came; the numbers of columns; how often each variable stands in terms of constraints; and the lines of places

@@ -1,5 +1,5 @@
 -- What a pair does to what is held, and by which tests it is judged.
-use Rattle.std.specs.Prelude.{◌≡◌, ◌≢◌, ℕ, ◌+◌, ◌<◌, ◌≤◌, ◌++◌, ◌∷◌, [], Bool, true, false, ◌&&◌, ◌||◌, nat_le, List, length, Option, Some, None, unwrap_or, get_or, slice_set, All, if◌then◌else◌}
+use Rattle.std.specs.Prelude.{◌≡◌, ◌≢◌, ℕ, ◌+◌, ◌<◌, ◌++◌, ◌∷◌, [], Bool, true, false, ◌&&◌, ◌||◌, nat_le, List, length, Option, Some, unwrap_or, get_or, slice_set, All, if◌then◌else◌}
 use Rattle.nl_model.specs.declared.counts.Counts.{Counts}
 use Rattle.nl_model.specs.Draft.{Draft}
 use Rattle.nl_model.specs.File.{Term}

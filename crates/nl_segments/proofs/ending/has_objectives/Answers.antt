@@ -1,5 +1,4 @@
-use Rattle.std.proofs.Common.{◌≡◌, ◌∙◌, ◌<◌, true, false, length, sym, arith}
-use Rattle.nl_model.specs.Draft.{is_given}
+use Rattle.std.proofs.Common.{◌∙◌, ◌<◌, length, sym, arith}
 use Rattle.nl_segments.proofs.EndLemmas.{given_next, not_given}
 use Rattle.nl_segments.proofs.ending.has_objectives.Goals as goal
 

@@ -1,4 +1,3 @@
-use Rattle.std.proofs.Common.{[], arith}
 use Rattle.nl_segments.proofs.StartLemmas.{holds_start}
 use Rattle.nl_segments.proofs.grammar.NlGrammar.new.Goals as goal
 

@@ -1,7 +1,6 @@
 use Rattle.std.proofs.Common.{◌≡◌, ◌∙◌, true, false, not, sym, ap}
 use Rattle.nl_segments.specs.Rows.{holds_words}
 use Rattle.nl_segments.specs.Grammar.{standing}
-use Rattle.nl_segments.specs.Held.{HoldsStanding}
 use Rattle.nl_segments.proofs.GrammarLemmas.{row_holds_words, no_row, no_row_fine, row_taken, row_fine, row_fault}
 use Rattle.nl_segments.proofs.grammar.NlGrammarGrammar.take.Goals as goal
 
