@@ -188,6 +188,3 @@ HoldsBy s header (Some b) = IsHeld s b
 -- the reader holds what lines mean
 abbrev pub HoldsStanding : Standing → Progress → Type 0
 HoldsStanding s g = HoldsBy s g.header g.body
-
-abbrev pub HoldsSomeStanding : Progress → Type 0
-HoldsSomeStanding g = (s : Standing) × HoldsStanding s g

@@ -6,7 +6,6 @@ ghost use Rattle.text_base.specs.Words.{texts};
 ghost use Rattle.nl_segments.specs.Heads.{is_head, head_of, is_in_range, name_in};
 ghost use Rattle.nl_segments.specs.HeadSteps.{has_come, has_come_suffix, held_head_tests, held_refusal, begun_current, begun_name, begun_count, begun_draft};
 ghost use Rattle.nl_segments.specs.Held.{TakesRow, HasRow};
-ghost use Rattle.nl_segments.specs.Pieces.{pair_count, line_count};
 ghost use Rattle.nl_segments.specs.SeenSegments.{IsSeenIn};
 ghost use Rattle.nl_segments.specs.Tests.{for_reason, is_suffix};
 
@@ -14,6 +13,7 @@ use crate::body::BodyReader;
 use crate::current::{Current, has_tree};
 use crate::fault::{NlReason, Refusal};
 use crate::head::Head;
+use crate::head_rules::{is_suffix, line_count};
 use crate::heads::{is_in_range, read_head};
 use crate::nodes::refusal;
 use crate::seen::Seen;
@@ -24,40 +24,6 @@ use text_base::{Name, Stop};
 
 /// A file has at most so many suffixes.
 const MOST_SUFFIXES: u32 = 1024;
-
-// Whether the head is that of a suffix.
-fn is_suffix(head: Head) -> bool
-    ensures { result ≡ is_suffix head }
-{
-    matches!(head, Head::Suffix(_, _))
-}
-
-// How many pairs follow a head.
-fn pair_count(head: Head) -> u32
-    ensures { result ≡ pair_count head }
-{
-    match head {
-        Head::Definition(_, n, _) => n,
-        Head::DualGuesses(n) => n,
-        Head::PrimalGuesses(n) => n,
-        Head::Terms(_, n) => n,
-        Head::Slopes(_, n) => n,
-        Head::Suffix(_, n) => n,
-        _ => 0,
-    }
-}
-
-// How many lines follow a head, before any expression.
-fn line_count(counts: &Counts, head: Head) -> u32
-    ensures { result ≡ line_count counts.now head }
-{
-    match head {
-        Head::Sides => counts.n_con,
-        Head::Bounds => counts.n_var,
-        Head::ColumnCounts(n) => n,
-        _ => pair_count(head),
-    }
-}
 
 // Whether a suffix of this head and name was given.
 fn has_come_suffix(builder: &NlBuilder, head: Head, name: &[u8]) -> bool

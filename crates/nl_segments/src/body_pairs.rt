@@ -17,11 +17,11 @@ use crate::closing::is_nothing;
 use crate::current::Current;
 use crate::fault::{NlReason, Refusal};
 use crate::head::Head;
-use crate::marks::Marks;
-use crate::nodes::refusal;
-use crate::pair_rules::{
+use crate::head_rules::{
     holds_once, index_limit, is_full, is_linear, is_suffix, keeps_pairs, wants_whole,
 };
+use crate::marks::Marks;
+use crate::nodes::refusal;
 use crate::pairs::read_pair;
 use exact_numbers::Dec;
 use nl_model::{Counts, NlBuilder, Suffix};

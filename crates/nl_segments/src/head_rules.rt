@@ -1,8 +1,9 @@
-// What a head asks of its pairs.
+// What a head says of the lines after it.
 ghost use Rattle.std.specs.Prelude.{◌≡◌};
 ghost use Rattle.nl_model.specs.Rules.{object_count};
 ghost use Rattle.nl_segments.specs.Held.{keeps_pairs};
 ghost use Rattle.nl_segments.specs.PairSteps.{is_full_at};
+ghost use Rattle.nl_segments.specs.Pieces.{line_count, pair_count};
 ghost use Rattle.nl_segments.specs.Tests.{holds_once, index_limit, is_linear, is_suffix, wants_whole};
 
 use crate::head::Head;
@@ -102,4 +103,31 @@ pub(crate) fn is_full(head: Head, linear: u32, values: u32) -> bool
         return linear >= MOST_TERMS;
     }
     is_suffix(head) && values >= MOST_TERMS
+}
+
+// How many pairs follow a head.
+fn pair_count(head: Head) -> u32
+    ensures { result ≡ pair_count head }
+{
+    match head {
+        Head::Definition(_, n, _) => n,
+        Head::DualGuesses(n) => n,
+        Head::PrimalGuesses(n) => n,
+        Head::Terms(_, n) => n,
+        Head::Slopes(_, n) => n,
+        Head::Suffix(_, n) => n,
+        _ => 0,
+    }
+}
+
+/// How many lines follow a head, before any expression.
+pub(crate) fn line_count(counts: &Counts, head: Head) -> u32
+    ensures { result ≡ line_count counts.now head }
+{
+    match head {
+        Head::Sides => counts.n_con,
+        Head::Bounds => counts.n_var,
+        Head::ColumnCounts(n) => n,
+        _ => pair_count(head),
+    }
 }
