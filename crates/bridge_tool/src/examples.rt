@@ -91,12 +91,19 @@ fn with_other_ends(alloc: Global, text: &str) -> Result<Vec<u8>, AllocError> {
     Ok(out)
 }
 
-// Whether the text is exported so where each read gives one byte.
-fn exports_by_bytes(alloc: Global, text: &[u8], written: &str) -> Result<bool, AllocError> {
+// Whether the text is exported so where each read gives at most so many bytes.
+fn exports_in_pieces(
+    alloc: Global,
+    text: &[u8],
+    most: usize,
+    written: &str,
+) -> Result<bool, AllocError>
+    requires { 0 < most }
+{
     let mut desk = MemoryDesk::new(alloc, 4000)?;
     desk.put("a.nl", text)?;
     for _ in 0..text.len() {
-        desk.cut(1)?;
+        desk.cut(most)?;
     }
     let status = command(alloc, &mut desk, &["export", "a.nl", "0"])?;
     Ok(status == 0 && did(&desk, written, ""))
@@ -106,7 +113,10 @@ fn exports_by_bytes(alloc: Global, text: &[u8], written: &str) -> Result<bool, A
 fn exports_a_knapsack(rt: HostRuntime) -> Result<(), Fail> {
     let other = with_other_ends(rt.alloc(), KNAPSACK)?;
     assert!(rt; exports(rt.alloc(), KNAPSACK, KNAPSACK_WRITTEN)?);
-    assert!(rt; exports_by_bytes(rt.alloc(), &other, KNAPSACK_WRITTEN)?);
+    assert!(rt; exports_in_pieces(rt.alloc(), &other, 1, KNAPSACK_WRITTEN)?);
+    assert!(rt; exports_in_pieces(rt.alloc(), &other, 2, KNAPSACK_WRITTEN)?);
+    assert!(rt; exports_in_pieces(rt.alloc(), &other, 3, KNAPSACK_WRITTEN)?);
+    assert!(rt; exports_in_pieces(rt.alloc(), &other, 7, KNAPSACK_WRITTEN)?);
     Ok(())
 }
 
