@@ -14,3 +14,4 @@ pub mod ProgramLemmas
 pub mod Scaled
 pub mod Stacks
 pub mod ValueLemmas
+pub mod ShortLemmas

@@ -10,6 +10,7 @@ ghost use Rattle.linear_fold.specs.Forms.{AddsScaled, AreWithin, HasPlace, HasRo
 
 use crate::coefficients::Coefficients;
 use crate::pad::Pad;
+use crate::shortcuts::{product_of, sum_of};
 use crate::wide::Wide;
 use crate::work::Work;
 use exact_numbers::Frac;
@@ -156,7 +157,7 @@ impl Form {
     {
         for term in terms {
             steps.tick();
-            let Some(scaled) = k.mul(term.1) else {
+            let Some(scaled) = product_of(k, term.1) else {
                 return Err(Stop::Fault(Wide));
             };
             match self.add_term(term.0, scaled) {
@@ -186,10 +187,10 @@ impl Form {
     {
         let terms = other.listed();
         steps.tick();
-        let Some(scaled) = k.mul(other.constant) else {
+        let Some(scaled) = product_of(k, other.constant) else {
             return Err(Stop::Fault(Wide));
         };
-        let Some(sum) = self.constant.add(scaled) else {
+        let Some(sum) = sum_of(self.constant, scaled) else {
             return Err(Stop::Fault(Wide));
         };
         self.constant = sum;

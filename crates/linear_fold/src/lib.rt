@@ -15,6 +15,7 @@ mod operate;
 mod owners;
 mod pad;
 mod program;
+mod shortcuts;
 #[cfg(test)]
 mod tests;
 mod wide;

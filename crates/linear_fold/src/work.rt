@@ -5,6 +5,7 @@ ghost use Rattle.linear_fold.specs.Coefs.{AddsAt, coef_in};
 ghost use Rattle.linear_fold.specs.Places.{AreZeros, place_in};
 
 use crate::coefficients::Coefficients;
+use crate::shortcuts::sum_of;
 use crate::wide::Wide;
 use exact_numbers::Frac;
 use std::alloc::{AllocError, Global};
@@ -55,7 +56,7 @@ impl Work {
         ensures count { length self.new ≡ length self.old }
     {
         let old = self.places[variable as usize];
-        let Some(sum) = old.add(factor) else {
+        let Some(sum) = sum_of(old, factor) else {
             return Err(Stop::Fault(Wide));
         };
         if !old.is_zero() {
