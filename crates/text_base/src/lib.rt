@@ -18,7 +18,7 @@ mod stop;
 mod tests;
 mod text_lines;
 
-pub use blanks::{LONGEST_ROW, Row, skip_blanks, strip_comment, words};
+pub use blanks::{LONGEST_ROW, Row, begins, skip_blanks, strip_comment, word_at, words};
 pub use desk::{Desk, Failed};
 pub use fault::TextFault;
 pub use grammar::Grammar;
