@@ -5,3 +5,4 @@ pub mod JudgedLemmas
 pub mod ReadingLemmas
 pub mod CutLemmas
 pub mod CutLines
+pub mod MarkLemmas
