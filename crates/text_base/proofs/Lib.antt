@@ -1,6 +1,7 @@
 pub mod Entries
 pub mod ScanLemmas
 pub mod WordLemmas
+pub mod FirstReasons
 pub mod JudgedLemmas
 pub mod ReadingLemmas
 pub mod CutLemmas
