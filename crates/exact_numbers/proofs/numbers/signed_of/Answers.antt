@@ -1,6 +1,6 @@
 use Rattle.std.proofs.Common.{sym}
-use Rattle.nl_header.proofs.NumberLemmas.{signed_of-ok, signed_of-err, signed_of-none, signed_utf8}
-use Rattle.nl_header.proofs.numbers.signed_of.Goals as goal
+use Rattle.exact_numbers.proofs.NumberLemmas.{signed_of-ok, signed_of-err, signed_of-none, signed_utf8}
+use Rattle.exact_numbers.proofs.numbers.signed_of.Goals as goal
 
 pub returns-in_default : goal.returns-in_default
 returns-in_default c = sym (signed_of-none _ (λ is fits. c.in_default.ensures.cases.0 (signed_utf8 _ is.1)))
