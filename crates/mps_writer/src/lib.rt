@@ -2,10 +2,10 @@
 #![tactic(auto)]
 
 ghost use Rattle.std.specs.Prelude.{◌≡◌, ◌++◌, ◌∷◌, OnOk, IfOk, map, codes};
-ghost use Rattle.exact_numbers.specs.Values.{dec_value, value_text};
+ghost use Rattle.exact_numbers.specs.Values.{dec_value, text_of, value_text};
 ghost use Rattle.mps_model.specs.Mps.{with_values};
 ghost use Rattle.mps_model.specs.Text.{mps_text_by, name_lines, sense_lines, section, row_line};
-ghost use Rattle.written_texts.specs.Lines.{line_text, lines_text, text_of};
+ghost use Rattle.written_texts.specs.Lines.{line_text, lines_text};
 
 mod bounds;
 mod columns;
