@@ -11,8 +11,6 @@ mod num_text;
 mod of_dec;
 mod order;
 mod read;
-#[cfg(test)]
-mod tests;
 mod write;
 
 pub use arithmetic::lcm;

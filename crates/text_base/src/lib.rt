@@ -14,8 +14,6 @@ mod reader;
 mod runs;
 mod steps;
 mod stop;
-#[cfg(test)]
-mod tests;
 mod text_lines;
 
 pub use blanks::{LONGEST_ROW, Row, skip_blanks, strip_comment, words};
