@@ -1,10 +1,10 @@
--- The names of rows and columns (own profile).
+-- The names of the rows and variables of a linear program (own profile).
 use Rattle.std.specs.Prelude.{ℕ, List, ◌∷◌}
 use Rattle.std.specs.Fmt.{decimal}
 
--- c and the number of the constraint
-abbrev pub constraint_name : ℕ → List ℕ
-constraint_name i = 99 ∷ decimal i
+-- c and the number of the row
+abbrev pub row_name : ℕ → List ℕ
+row_name i = 99 ∷ decimal i
 
 -- x and the number of the variable
 abbrev pub variable_name : ℕ → List ℕ
