@@ -7,7 +7,6 @@ mod fault;
 mod grammar;
 mod keyword;
 pub mod laws;
-mod marks;
 mod names;
 mod numbers;
 mod pairs;
