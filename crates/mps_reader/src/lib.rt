@@ -8,7 +8,6 @@ mod grammar;
 mod keyword;
 pub mod laws;
 mod names;
-mod numbers;
 mod pairs;
 mod reader;
 mod rows;
