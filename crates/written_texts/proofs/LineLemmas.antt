@@ -6,14 +6,15 @@ use Rattle.std.proofs.lemmas.List.{take_all}
 use Rattle.std.proofs.lemmas.List.Folds.{flat_map-map}
 use Rattle.std.proofs.lemmas.List.Sums.{suffix_len_is}
 use Rattle.std.specs.List.{AllByRecursion, suffix_len}
-use Rattle.text_base.proofs.ReadingLemmas as texts
-use Rattle.text_base.proofs.ScanLemmas.{NoEnd}
+use Rattle.text_base.proofs.ReadingLemmas.{written_lines}
+use Rattle.text_base.specs.Cut as texts
+use Rattle.text_base.specs.Cut.{HasNoEnd, IsTextLine}
 use Rattle.text_base.specs.Judged.{End}
 use Rattle.text_base.specs.Lines.{trimmed}
 use Rattle.text_base.specs.Names.{has_name_bytes}
 use Rattle.text_base.specs.Reading.{lines_of, last_of}
 use Rattle.written_texts.specs.Lines.{Line, indented, spaced, lines_text}
-use Rattle.written_texts.specs.Words.{IsWord, IsOneLine}
+use Rattle.written_texts.specs.Words.{IsWord, IsWordLine}
 
 -- spaces and bytes of words
 abbrev IsClear : List ℕ → Type 0
@@ -43,7 +44,7 @@ clear-spaced (word ∷ next ∷ words) all = clear-append word (32 ∷ spaced (n
 unlike : (b least : ℕ) → least < b → (b == least) ≡ false
 unlike b least lt = grind (arith, nat_tests)
 
-clear-end : (bytes : List ℕ) → IsClear bytes → NoEnd bytes
+clear-end : (bytes : List ℕ) → IsClear bytes → HasNoEnd bytes
 clear-end [] h = tt
 clear-end (b ∷ bytes) h = let low : 32 ≤ b = h.0 in (unlike b 10 (omega arith), clear-end bytes h.1)
 
@@ -60,17 +61,19 @@ trimmed-clear bytes h =
 
 -- ---- one line
 
-pub writable-line : (words : Line) → IsOneLine words → texts.IsWritableLine (spaced words)
-writable-line words one = let clear = clear-spaced words one.bytes in (clear-end (spaced words) clear, one.short, trimmed-clear (spaced words) clear)
+pub text-line : (words : Line) → IsWordLine words → IsTextLine (spaced words)
+text-line words one =
+    let clear = clear-spaced words one.bytes in
+    record { one = record { no_end = clear-end (spaced words) clear; no_cr = trimmed-clear (spaced words) clear }; short = one.short }
 
 pub bytes_of : (words : Line) → AllByRecursion IsWord words → AreBytes words
 bytes_of [] all = tt
 bytes_of (word ∷ words) all = (all.0.bytes, bytes_of words all.1)
 
-pub one-spaced : (words : Line) → AllByRecursion IsWord words → length (spaced words) ≤ 65536 → IsOneLine words
+pub one-spaced : (words : Line) → AllByRecursion IsWord words → length (spaced words) ≤ 65536 → IsWordLine words
 one-spaced words all short = record { bytes = bytes_of words all; short = short }
 
-pub one-indented : (words : Line) → AllByRecursion IsWord words → length (spaced (indented words)) ≤ 65536 → IsOneLine (indented words)
+pub one-indented : (words : Line) → AllByRecursion IsWord words → length (spaced (indented words)) ≤ 65536 → IsWordLine (indented words)
 one-indented words all short = record { bytes = (refl, bytes_of words all); short = short }
 
 -- words of at most k bytes
@@ -84,15 +87,15 @@ spaced-length k (word ∷ next ∷ words) all =
 
 -- ---- lines one after the other
 
-pub writable-lines : (lines : List Line) → AllByRecursion IsOneLine lines → AllByRecursion texts.IsWritableLine (map spaced lines)
-writable-lines [] all = tt
-writable-lines (words ∷ lines) all = (writable-line words all.0, writable-lines lines all.1)
+pub text-lines : (lines : List Line) → AllByRecursion IsWordLine lines → AllByRecursion IsTextLine (map spaced lines)
+text-lines [] all = tt
+text-lines (words ∷ lines) all = (text-line words all.0, text-lines lines all.1)
 
 lines_text-spaced : (lines : List Line) → texts.lines_text (map spaced lines) ≡ lines_text lines
 lines_text-spaced lines = flat_map-map (λ line. line ++ 10 ∷ []) spaced lines
 
-pub lines-read : (lines : List Line) → AllByRecursion IsOneLine lines → length (lines_text lines) ≤ 2 ^ 31 → (lines_of (lines_text lines) ≡ map spaced lines) × (last_of (lines_text lines) ≡ End)
+pub lines-read : (lines : List Line) → AllByRecursion IsWordLine lines → length (lines_text lines) ≤ 2 ^ 31 → (lines_of (lines_text lines) ≡ map spaced lines) × (last_of (lines_text lines) ≡ End)
 lines-read lines all room =
     let text = lines_text-spaced lines in
-    let both = texts.written_lines (map spaced lines) (writable-lines lines all) (subst (λ (t : List ℕ). length t ≤ 2 ^ 31) (sym text) room) in
+    let both = written_lines (map spaced lines) (text-lines lines all) (subst (λ (t : List ℕ). length t ≤ 2 ^ 31) (sym text) room) in
     (ap lines_of (sym text) ∙ both.0, ap last_of (sym text) ∙ both.1)

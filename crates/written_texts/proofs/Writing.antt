@@ -11,6 +11,14 @@ pub lines_after : (before lines more : List ℕ) (a b : List Line) → lines ≡
 lines_after before lines more a b p q =
     q ∙ ap (λ x. x ++ lines_text b) p ∙ append_assoc before (lines_text a) (lines_text b) ∙ ap (λ x. before ++ x) (sym (flat_map-append line_text a b))
 
+pub line_after : (before lines more : List ℕ) (a : List Line) (line : Line) → lines ≡ before ++ lines_text a → more ≡ lines ++ line_text line → more ≡ before ++ lines_text (a ++ line ∷ [])
+line_after before lines more a line p q = lines_after before lines more a (line ∷ []) p (q ∙ ap (λ x. lines ++ x) (sym (append-nil (line_text line))))
+
+-- of lines that are to follow, some are written
+pub rest_written : (out0 out1 total : List ℕ) (lines rest : List Line) → out0 ++ lines_text (lines ++ rest) ≡ total → out1 ≡ out0 ++ lines_text lines → out1 ++ lines_text rest ≡ total
+rest_written out0 out1 total lines rest start now =
+    ap (λ x. x ++ lines_text rest) now ∙ append_assoc out0 (lines_text lines) (lines_text rest) ∙ ap (λ x. out0 ++ x) (sym (flat_map-append line_text lines rest)) ∙ start
+
 -- a word, and after it further ones
 pub spaced-cons : (word : List ℕ) (words : List (List ℕ)) → spaced (word ∷ words) ≡ word ++ flat_map (λ w. 32 ∷ w) words
 spaced-cons word [] = sym (append-nil word)

@@ -23,6 +23,11 @@ line_text words = spaced words ++ 10 ∷ []
 abbrev pub lines_text : List Line → List ℕ
 lines_text lines = flat_map line_text lines
 
+-- lines that are left out where a list is empty
+abbrev pub unless_empty : {A : Type 0} → List A → List Line → List Line
+unless_empty [] lines = []
+unless_empty (x ∷ xs) lines = lines
+
 -- the one spelling of a number
 abbrev pub text_of : Dec → List ℕ
 text_of d = dec_text d.m d.e

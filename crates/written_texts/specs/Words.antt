@@ -21,6 +21,6 @@ pub record IsWritten (words : Line) : Type 0 where
   pub each : AllByRecursion IsKeptWord words
 
 -- a line within the limit of lines; words may be empty
-pub record IsOneLine (words : Line) : Type 0 where
+pub record IsWordLine (words : Line) : Type 0 where
   pub bytes : AllByRecursion (λ word. has_name_bytes word ≡ true) words
   pub short : length (spaced words) ≤ 65536

@@ -1,6 +1,6 @@
 use Rattle.std.proofs.Common.{arith, ◌∙◌}
 use Rattle.mps_writer.proofs.Writing.{markers_more, column_written, last_change, column_rows}
-use Rattle.mps_writer.proofs.columns.put_columns.Goals as goal
+use Rattle.mps_writer.proofs.columns.put_column_lines.Goals as goal
 
 pub put_entries-requires : goal.put_entries-requires
 put_entries-requires c = column_rows _ c.args.columns.now c.loop-column.column-index c.column-item.result c.entries.result.now (omega arith) c.requires c.column-item.is c.entries.ensures
