@@ -1,26 +1,26 @@
-// From the text of a file to the bytes to write, or to the line to tell.
-ghost use Rattle.std.specs.Prelude.{◌≡◌, ◌+◌, ◌≤◌, List, ℕ, IfOk};
-ghost use Rattle.exact_numbers.specs.Values.{dec_value, value_text};
+// The command export: from the text of a file to the text of its program, or to the line to tell.
+ghost use Rattle.std.specs.Prelude.{◌≡◌, ◌≢◌, ◌+◌, ◌≤◌, List, ℕ, IfOk};
 ghost use Rattle.linear_fold.specs.FoldedFaults.{step_bound};
 ghost use Rattle.linear_fold.specs.Programs.{linear_value};
-ghost use Rattle.mps_model.specs.Mps.{with_values};
-ghost use Rattle.mps_model.specs.Text.{mps_text_by};
 ghost use Rattle.nl_model.specs.Rules.{IsFile};
-ghost use Rattle.nl_segments.specs.Grammar.{NlValue};
 ghost use Rattle.nl_segments.specs.Reader.{HasLines, IsFed, IsNl, value_of};
 ghost use Rattle.row_scaling.specs.Exported.{exported_as};
-ghost use Rattle.bridge_tool.specs.Outcome.{Counts};
-ghost use Rattle.bridge_tool.specs.Refusal.{Judges};
+ghost use Rattle.bridge_tool.specs.Answer.{IsWorked, status_of};
+ghost use Rattle.bridge_tool.specs.Export.{Counts, IsExported, IsExportMeant, IsTextOf, export_promise};
+ghost use Rattle.bridge_tool.specs.OneFile.{Judges};
+ghost use Rattle.bridge_tool.specs.Refusal.{IsRefused};
 ghost use Rattle.bridge_tool.specs.Stages.{Folds, Scales};
 
-use crate::told::{fold_line, nl_line, scale_line};
+use crate::answer::Answer;
+use crate::nl_input::read_nl;
+use crate::nl_told::{fold_line, nl_line, scale_line};
+use crate::one_file::{end, missed};
 use linear_fold::{Linear, fold_all};
-use mps_model::Mps;
 use mps_writer::write_mps;
 use nl_segments::{NlRead, NlReader};
 use row_scaling::{Scaled, program, scale_rows};
 use std::alloc::{AllocError, Global};
-use text_base::{Ledger, Steps, Stop};
+use text_base::{Desk, Ledger, Steps, Stop};
 
 // The linear program of what was read, or the line of its first fault.
 fn fold<L: Ledger>(
@@ -60,11 +60,14 @@ fn scale(alloc: Global, linear: Linear, objective: u32) -> Result<Scaled, Stop<V
     }
 }
 
-// The decimal program of a scaled one.
-fn decimal(alloc: Global, scaled: Scaled) -> Result<Mps, AllocError>
-    ensures { IfOk result (λ m. with_values dec_value m ≡ exported_as scaled) }
+// The written text of the program of a scaled one.
+fn write_program(alloc: Global, scaled: Scaled) -> Result<Vec<u8>, AllocError>
+    ensures { IfOk result (λ out. IsTextOf out.items (exported_as scaled)) }
 {
-    program(alloc, &scaled)
+    let mps = program(alloc, &scaled)?;
+    let _ = mps.rows();
+    let out = write_mps(alloc, &mps)?;
+    Ok(out)
 }
 
 // The bytes to write for what was read, or the line to tell.
@@ -75,27 +78,26 @@ fn export_read<L: Ledger>(
     steps: &mut Steps<L>,
 ) -> Result<Vec<u8>, Stop<Vec<u8>>>
     requires { HasLines read }
-    ensures judges { (text : List ℕ) → IsNl text (value_of read) → Judges text objective result }
-    ensures file { IsFile read.file }
+    ensures judges { (text : List ℕ) → IsNl text (value_of read) → Judges (λ t. IsExported t objective) (λ t. IsRefused t objective) text result }
+    ensures means { IfOk result (λ out. (text : List ℕ) → IsNl text (value_of read) → IsExportMeant text objective) }
     ensures above { steps.old ≤ steps.new }
-    ensures below { steps.new ≤ steps.old + step_bound read.file }
+    ensures counts { (text : List ℕ) → IsNl text (value_of read) → Counts text steps.old steps.new }
 {
     let linear = fold(alloc, read, objective, steps)?;
     let scaled = scale(alloc, linear, objective)?;
-    let mps = decimal(alloc, scaled)?;
-    let out = write_mps(alloc, &mps)?;
+    let out = write_program(alloc, scaled)?;
     Ok(out)
 }
 
-/// The bytes to write for the text that a reader was fed, or the line to tell.
-pub(crate) fn judge<L: Ledger>(
+// The bytes to write for the text that a reader was fed, or the line to tell.
+fn judge<L: Ledger>(
     alloc: Global,
     reader: NlReader,
     objective: u32,
     steps: &mut Steps<L>,
 ) -> Result<Vec<u8>, Stop<Vec<u8>>>
-    ensures judges { (text : List ℕ) → IsFed reader text → Judges text objective result }
-    ensures files { IfOk result (λ out. (text : List ℕ) (value : NlValue) → IsFed reader text → IsNl text value → IsFile value.file) }
+    ensures judges { (text : List ℕ) → IsFed reader text → Judges (λ t. IsExported t objective) (λ t. IsRefused t objective) text result }
+    ensures means { IfOk result (λ out. (text : List ℕ) → IsFed reader text → IsExportMeant text objective) }
     ensures above { steps.old ≤ steps.new }
     ensures counts { (text : List ℕ) → IsFed reader text → Counts text steps.old steps.new }
 {
@@ -106,5 +108,29 @@ pub(crate) fn judge<L: Ledger>(
             let line = nl_line(alloc, fault)?;
             Err(Stop::Fault(line))
         }
+    }
+}
+
+/// Exports a file: reads its text, judges it, and writes what it comes to. Tells nothing.
+pub(crate) fn export<D: Desk, L: Ledger>(
+    alloc: Global,
+    file: &str,
+    objective: u32,
+    desk: &mut D,
+    steps: &mut Steps<L>,
+) -> Answer
+    ensures worked { IsWorked (export_promise (D.meaning desk.old).texts file.now objective)
+        (D.meaning desk.old) (D.meaning desk.new) result }
+    ensures known { status_of result ≢ 3 }
+    ensures above { steps.old ≤ steps.new }
+    ensures counts { (export_promise (D.meaning desk.old).texts file.now objective).counts steps.old steps.new }
+    ensures idle { status_of result ≡ 4 → steps.new ≡ steps.old }
+{
+    match read_nl(alloc, desk, file) {
+        Ok(reader) => {
+            let judged = judge(alloc, reader, objective, steps);
+            end(desk, judged)
+        }
+        Err(unread) => missed(unread),
     }
 }
