@@ -1,5 +1,5 @@
 -- An .nl text is exported as one text, or refused with one line.
-use Rattle.std.proofs.Common.{◌≡◌, ◌∙◌, inl, inr, ◌⊎◌, ℕ, ◌+◌, ◌≤◌, List, ◌++◌, codes, take, Option, Some, None, true, Bool, refl, sym, ap, subst}
+use Rattle.std.proofs.Common.{◌≡◌, ◌∙◌, inl, inr, ◌⊎◌, ℕ, ◌+◌, ◌≤◌, List, ◌++◌, codes, take, Option, Some, None, true, false, Bool, refl, sym, ap, subst}
 use Rattle.std.specs.Prelude.{option_map}
 use Rattle.fractions.specs.Rational.{ℚ}
 use Rattle.linear_programs.specs.Linear.{Linear}
@@ -12,7 +12,7 @@ use Rattle.text_base.specs.Judged.{HasOneOutcome, HasFaultAt, IsClean}
 use Rattle.text_base.specs.Reading.{lines_of, last_of}
 use Rattle.text_base.specs.declared.fault.TextFault.{TextFault}
 use Rattle.text_base.proofs.JudgedLemmas.{one_outcome}
-use Rattle.file_meaning.specs.FoldFaults.{fold_fault, FoldFault as FileFault}
+use Rattle.file_meaning.specs.FoldFaults.{fold_fault, has_objective, FoldFault as FileFault}
 use Rattle.file_meaning.specs.LinearFile.{linear_of}
 use Rattle.linear_fold.specs.FoldedFaults.{first_fold_fault, named_fault, step_bound}
 use Rattle.linear_fold.specs.declared.fold_fault.FoldFault.{FoldFault}
@@ -171,9 +171,10 @@ export_decided k = record {
 -- ---- steps
 
 -- the file that was read is the one that the text says
-pub counts_of_read : (text : List ℕ) (value : NlValue) (old new : ℕ) → IsNl text value → new ≤ old + step_bound value.file → Counts text old new
-counts_of_read text value old new read below =
+pub counts_of_read : (text : List ℕ) (k : ℕ) (value : NlValue) (old new : ℕ) → IsNl text value → new ≤ old + step_bound value.file → (has_objective value.file k ≡ false → new ≡ old) → Counts text k old new
+counts_of_read text k value old new read below none =
     record {
       folded = λ other h. subst (λ (f : File). new ≤ old + step_bound f) (same_file text value other read h) below;
       faulty = λ fault h. absurd (not_both text value fault read h);
+      none = λ other h e. none (subst (λ (f : File). has_objective f k ≡ false) (same_file text other value h read) e);
     }

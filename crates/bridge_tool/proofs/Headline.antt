@@ -9,8 +9,6 @@ use Rattle.bridge_tool.specs.Promise.{Promise, Answers}
 use Rattle.bridge_tool.proofs.Outcomes.{HasOne, IsPlain, told_has_one}
 use Rattle.bridge_tool.proofs.Working.{IsAnswered}
 
-
-
 module _ (p : Promise) (old new : Meaning) (status : ℕ) (a : IsAnswered p old new status) (memory : status ≢ 6) (no_input : Rose old.input_faults new.input_faults → ⊥) (no_output : Rose old.output_faults new.output_faults → ⊥) where
   no_text : p.comes NoText → ((other : Outcome) → p.comes other → other ≡ NoText) → Answers p old new status
   no_text h one =

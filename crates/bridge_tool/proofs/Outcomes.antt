@@ -29,7 +29,6 @@ pub record HasOne (kind comes : Outcome → Type 0) : Type 0 where
   pub one : (other : Outcome) → comes other → other ≡ outcome
 
 module _ (accepts refuses : List ℕ → List ℕ → Type 0) (d : AreDecided accepts refuses) where
-
   one_accepted : (text bytes : List ℕ) → accepts text bytes → (other : Outcome) → TextComesTo accepts refuses text other → other ≡ Done true bytes
   one_accepted text bytes h BadWords j = absurd j
   one_accepted text bytes h (Untold judges) j = absurd j

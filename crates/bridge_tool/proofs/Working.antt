@@ -1,5 +1,5 @@
 -- What each way to end a command says of its outcome and of the desk.
-use Rattle.std.proofs.Common.{◌≡◌, ◌≢◌, ◌∙◌, inl, inr, ◌⊎◌, ℕ, zero, suc, ◌+◌, ◌<◌, ◌≤◌, List, Bool, true, false, take, drop, Option, Some, None, IfSome, IfOk, Result, Ok, Err, refl, sym, ap, subst, arith}
+use Rattle.std.proofs.Common.{◌≡◌, ◌≢◌, ◌∙◌, inl, inr, ◌⊎◌, ℕ, zero, suc, ◌+◌, ◌<◌, ◌≤◌, List, Bool, true, false, take, drop, Option, Some, None, IfSome, OnOk, Result, Ok, Err, refl, sym, ap, subst, arith}
 use Rattle.std.proofs.lemmas.Bool.{cases_lt}
 use Rattle.std.specs.Global.{Vec}
 use Rattle.std.specs.Io.KnownBytes.{Appends}
@@ -242,7 +242,7 @@ module _ (accepts refuses : List ℕ → List ℕ → Type 0) (d : AreDecided ac
   pub file_worked : (file : List ℕ) (counts : ℕ → ℕ → Type 0) (means : List ℕ → Type 0) (old mid new : Meaning) (fed : List ℕ → Type 0) (judged : Result (Vec ℕ) (Stop (Vec ℕ))) (answer : Answer)
       → HasRead old.texts file LIMIT mid.left fed → mid.input_faults ≡ old.input_faults → OnlyInput old mid
       → ((text : List ℕ) → fed text → Judges accepts refuses text judged)
-      → IfOk judged (λ out. (text : List ℕ) → fed text → means text)
+      → OnOk judged ((text : List ℕ) → fed text → means text)
       → Ends judged mid new answer
       → IsWorked (file_promise accepts refuses old.texts file counts means) old new answer
   file_worked file counts means old mid new fed (Ok out) answer read same rest judges meant ends =
@@ -301,3 +301,7 @@ answered p old mid new answer status h is tells silent rest =
 
 pub not_none : {A : Type 0} (o : Option A) (x : A) → o ≡ None → o ≡ Some x → ⊥
 not_none o x e f = absurd cc
+
+pub on_ok : {T E : Type 0} (r : Result T E) (P Q : Type 0) → (P → Q) → OnOk r P → OnOk r Q
+on_ok (Ok t) P Q f h = f h
+on_ok (Err e) P Q f h = tt

@@ -1,11 +1,11 @@
 -- The command export: what an .nl text is exported as, and that this means the same.
-use Rattle.std.specs.Prelude.{◌≡◌, ◌↔◌, ℕ, ◌+◌, ◌≤◌, ◌^◌, List, [], ◌∷◌, ◌++◌, length, Option, Some, None}
+use Rattle.std.specs.Prelude.{◌≡◌, ◌↔◌, ℕ, ◌+◌, ◌≤◌, ◌^◌, false, List, [], ◌∷◌, ◌++◌, length, Option, Some, None}
 use Rattle.fractions.specs.Rational.{ℚ}
 use Rattle.exact_numbers.specs.Values.{value_text, dec_value}
 use Rattle.exact_numbers.specs.declared.dec.Dec.{Dec}
 use Rattle.exported_program.specs.Export.{IsDecimal}
 use Rattle.file_meaning.specs.Expressions.{maximises}
-use Rattle.file_meaning.specs.FoldFaults.{fold_fault}
+use Rattle.file_meaning.specs.FoldFaults.{fold_fault, has_objective}
 use Rattle.file_meaning.specs.LinearFile.{linear_of}
 use Rattle.file_meaning.specs.Meaning.{IsFeasible, objective_value}
 use Rattle.linear_fold.specs.FoldedFaults.{step_bound}
@@ -71,13 +71,15 @@ pub record IsExportMeant (text : List ℕ) (k : ℕ) : Type 0 where
   pub file : (bytes : List ℕ) (e : IsExported text k bytes) → MeansTheFile e.value.file k e.program
   pub back : (bytes : List ℕ) (e : IsExported text k bytes) → length bytes ≤ 2 ^ 31 → SaysProgram bytes e.program
 
--- Steps are counted for the file that the text says, up to its bound; a text that says none is not folded.
-pub record Counts (text : List ℕ) (old new : ℕ) : Type 0 where
+-- Steps are counted for the file that the text says, up to its bound; a text that says none is not folded, nor is a file
+-- without objective k.
+pub record Counts (text : List ℕ) (k old new : ℕ) : Type 0 where
   pub folded : (value : NlValue) → IsNl text value → new ≤ old + step_bound value.file
   pub faulty : (fault : NlFault) → HasNlFault text fault → new ≡ old
+  pub none : (value : NlValue) → IsNl text value → has_objective value.file k ≡ false → new ≡ old
 
 abbrev pub export_promise : Option Texts → List ℕ → ℕ → Promise
 export_promise texts file k =
     file_promise (λ text. IsExported text k) (λ text. IsRefused text k) texts file
-    (λ old new. IfText texts file (λ text. Counts text old new))
+    (λ old new. IfText texts file (λ text. Counts text k old new))
     (λ text. IsExportMeant text k)

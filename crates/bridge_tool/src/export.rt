@@ -1,5 +1,6 @@
 // The command export: from the text of a file to the text of its program, or to the line to tell.
-ghost use Rattle.std.specs.Prelude.{◌≡◌, ◌≢◌, ◌+◌, ◌≤◌, List, ℕ, IfOk};
+ghost use Rattle.std.specs.Prelude.{◌≡◌, ◌≢◌, ◌+◌, ◌≤◌, List, ℕ, false, IfOk, OnOk};
+ghost use Rattle.file_meaning.specs.FoldFaults.{has_objective};
 ghost use Rattle.linear_fold.specs.FoldedFaults.{step_bound};
 ghost use Rattle.linear_fold.specs.Programs.{linear_value};
 ghost use Rattle.nl_model.specs.Rules.{IsFile};
@@ -34,6 +35,7 @@ fn fold<L: Ledger>(
     ensures file { IsFile read.file }
     ensures above { steps.old ≤ steps.new }
     ensures below { steps.new ≤ steps.old + step_bound read.file }
+    ensures none { has_objective read.file objective ≡ false → steps.new ≡ steps.old }
 {
     let _ = read.file.header();
     match fold_all(alloc, &read.file, objective, steps) {
@@ -79,9 +81,11 @@ fn export_read<L: Ledger>(
 ) -> Result<Vec<u8>, Stop<Vec<u8>>>
     requires { HasLines read }
     ensures judges { (text : List ℕ) → IsNl text (value_of read) → Judges (λ t. IsExported t objective) (λ t. IsRefused t objective) text result }
-    ensures means { IfOk result (λ out. (text : List ℕ) → IsNl text (value_of read) → IsExportMeant text objective) }
+    ensures means { OnOk result ((text : List ℕ) → IsNl text (value_of read) → IsExportMeant text objective) }
     ensures above { steps.old ≤ steps.new }
-    ensures counts { (text : List ℕ) → IsNl text (value_of read) → Counts text steps.old steps.new }
+    ensures file { IsFile read.file }
+    ensures below { steps.new ≤ steps.old + step_bound read.file }
+    ensures none { has_objective read.file objective ≡ false → steps.new ≡ steps.old }
 {
     let linear = fold(alloc, read, objective, steps)?;
     let scaled = scale(alloc, linear, objective)?;
@@ -97,9 +101,9 @@ fn judge<L: Ledger>(
     steps: &mut Steps<L>,
 ) -> Result<Vec<u8>, Stop<Vec<u8>>>
     ensures judges { (text : List ℕ) → IsFed reader text → Judges (λ t. IsExported t objective) (λ t. IsRefused t objective) text result }
-    ensures means { IfOk result (λ out. (text : List ℕ) → IsFed reader text → IsExportMeant text objective) }
+    ensures means { OnOk result ((text : List ℕ) → IsFed reader text → IsExportMeant text objective) }
     ensures above { steps.old ≤ steps.new }
-    ensures counts { (text : List ℕ) → IsFed reader text → Counts text steps.old steps.new }
+    ensures counts { (text : List ℕ) → IsFed reader text → Counts text objective steps.old steps.new }
 {
     match reader.finish() {
         Ok(read) => export_read(alloc, read, objective, steps),

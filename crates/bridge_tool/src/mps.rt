@@ -1,5 +1,5 @@
 // The command mps: from an MPS text to the one written form of what it says, or to the line to tell.
-ghost use Rattle.std.specs.Prelude.{◌≡◌, ◌≢◌, List, ℕ, IfOk};
+ghost use Rattle.std.specs.Prelude.{◌≡◌, ◌≢◌, List, ℕ, IfOk, OnOk};
 ghost use Rattle.text_base.specs.Desk.{IsUnknown, OnlyInput};
 ghost use Rattle.mps_reader.specs.Reader.{IsFed};
 ghost use Rattle.bridge_tool.specs.Answer.{IsWorked, status_of};
@@ -45,7 +45,7 @@ pub(crate) fn read_mps<D: Desk>(
 // The bytes to write for the text that a reader was fed, or the line to tell.
 fn judge(alloc: Global, reader: MpsReader) -> Result<Vec<u8>, Stop<Vec<u8>>>
     ensures judges { (text : List ℕ) → IsFed reader text → Judges IsRewritten IsMpsRefused text result }
-    ensures means { IfOk result (λ out. (text : List ℕ) → IsFed reader text → IsMpsMeant text) }
+    ensures means { OnOk result ((text : List ℕ) → IsFed reader text → IsMpsMeant text) }
 {
     match reader.finish() {
         Ok(mps) => {

@@ -22,11 +22,7 @@ impl Feed for NlReader {
 }
 
 /// Feeds a reader the named text.
-pub(crate) fn read_nl<D: Desk>(
-    alloc: Global,
-    desk: &mut D,
-    file: &str,
-) -> Result<NlReader, Unread>
+pub(crate) fn read_nl<D: Desk>(alloc: Global, desk: &mut D, file: &str) -> Result<NlReader, Unread>
     ensures text { IfOk result (λ reader. HasRead (D.meaning desk.old).texts file.now LIMIT (D.meaning desk.new).left (IsFed reader)) }
     ensures cause { HasReadCause (IsUnknown (D.meaning desk.old).texts file.now)
         (D.meaning desk.old).input_faults (D.meaning desk.new).input_faults result }
