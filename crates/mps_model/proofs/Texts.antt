@@ -1,47 +1,48 @@
 -- The text of a program is that of the program of its values.
 use Rattle.std.proofs.Common.{◌≡◌, ℕ, zero, suc, ◌∙◌, ap, ap₂, refl, Bool, false, codes, List, [], ◌∷◌, ◌++◌, map, get_or}
-use Rattle.std.specs.List.{flat_map}
+use Rattle.written_texts.specs.Lines.{Line, indented, unless_empty, lines_text}
 use Rattle.mps_model.specs.Mps.{MpsRow, Entry, Column, Bound, Mps, entry_with, column_with, bound_with, with_values, no_column}
-use Rattle.mps_model.specs.Text.{section, data_line, bound_text, value_words, name_section, sense_section, row_line, entry_line, entry_lines, columns_text, change_text, markers_after, bound_line, unless_empty, mps_text_by}
+use Rattle.mps_model.specs.Text.{section, bound_text, value_words, name_lines, sense_lines, row_line, entry_line, entry_lines, column_lines, change_lines, markers_after, bound_line, mps_lines, mps_text_by}
 
 module _ {V W : Type 0} (text : W → List ℕ) (value : V → W) where
   abbrev text_of_value : V → List ℕ
   text_of_value x = text (value x)
 
-  entries_text : (rows : List MpsRow) (word : List ℕ) (es : List (Entry V)) → entry_lines text rows word (map (entry_with value) es) ≡ entry_lines text_of_value rows word es
-  entries_text rows word [] = refl
-  entries_text rows word (e ∷ es) = ap (λ x. entry_line text_of_value rows word e ++ x) (entries_text rows word es)
+  same_entries : (rows : List MpsRow) (word : List ℕ) (es : List (Entry V)) → entry_lines text rows word (map (entry_with value) es) ≡ entry_lines text_of_value rows word es
+  same_entries rows word [] = refl
+  same_entries rows word (e ∷ es) = ap (λ x. entry_line text_of_value rows word e ∷ x) (same_entries rows word es)
 
-  all_columns_text : (rows : List MpsRow) (before : Bool) (i : ℕ) (cs : List (Column V)) → columns_text text rows before i (map (column_with value) cs) ≡ columns_text text_of_value rows before i cs
-  unfolding columns_text
-  all_columns_text rows before i [] = refl
-  all_columns_text rows before i (c ∷ cs) =
-      ap₂ (λ x y. change_text before c.marked i ++ x ++ y) (entries_text rows c.name c.entries) (all_columns_text rows c.marked (markers_after before c.marked i) cs)
+  same_columns : (rows : List MpsRow) (before : Bool) (i : ℕ) (cs : List (Column V)) → column_lines text rows before i (map (column_with value) cs) ≡ column_lines text_of_value rows before i cs
+  unfolding column_lines
+  same_columns rows before i [] = refl
+  same_columns rows before i (c ∷ cs) =
+      ap₂ (λ x y. change_lines before c.marked i ++ x ++ y) (same_entries rows c.name c.entries) (same_columns rows c.marked (markers_after before c.marked i) cs)
 
   column_name_kept : (cs : List (Column V)) (j : ℕ) → (get_or (map (column_with value) cs) j no_column).name ≡ (get_or cs j no_column).name
   column_name_kept [] j = refl
   column_name_kept (c ∷ cs) zero = refl
   column_name_kept (c ∷ cs) (suc j) = column_name_kept cs j
 
-  bounds_text : (cs : List (Column V)) (bs : List (Bound V)) → flat_map (bound_line text (map (column_with value) cs)) (map (bound_with value) bs) ≡ flat_map (bound_line text_of_value cs) bs
-  bounds_text cs [] = refl
-  bounds_text cs (b ∷ bs) =
-      ap₂ (λ x y. data_line (bound_text b.kind ∷ codes "BND" ∷ x ∷ value_words b.kind (text (value b.value))) ++ y) (column_name_kept cs b.column) (bounds_text cs bs)
+  same_bounds : (cs : List (Column V)) (bs : List (Bound V)) → map (bound_line text (map (column_with value) cs)) (map (bound_with value) bs) ≡ map (bound_line text_of_value cs) bs
+  same_bounds cs [] = refl
+  same_bounds cs (b ∷ bs) =
+      ap₂ (λ x y. indented (bound_text b.kind ∷ codes "BND" ∷ x ∷ value_words b.kind (text (value b.value))) ∷ y) (column_name_kept cs b.column) (same_bounds cs bs)
 
-  unless_map : {A B : Type 0} (f : A → B) (xs : List A) (t : List ℕ) → unless_empty (map f xs) t ≡ unless_empty xs t
-  unless_map f [] t = refl
-  unless_map f (x ∷ xs) t = refl
+  unless_map : {A B : Type 0} (f : A → B) (xs : List A) (lines : List Line) → unless_empty (map f xs) lines ≡ unless_empty xs lines
+  unless_map f [] lines = refl
+  unless_map f (x ∷ xs) lines = refl
 
   -- a program is written as the program of its values is
+  same_lines : (m : Mps V) → mps_lines text (with_values value m) ≡ mps_lines text_of_value m
+  unfolding mps_lines with_values
+  same_lines m =
+      let head = name_lines m.name ++ sense_lines m.maximise ++ section (codes "ROWS") ∷ map row_line m.rows in
+      let ranges : unless_empty (map (entry_with value) m.ranges) (section (codes "RANGES") ∷ entry_lines text m.rows (codes "RNG") (map (entry_with value) m.ranges)) ≡ unless_empty m.ranges (section (codes "RANGES") ∷ entry_lines text_of_value m.rows (codes "RNG") m.ranges) =
+      unless_map (entry_with value) m.ranges _ ∙ ap (λ x. unless_empty m.ranges (section (codes "RANGES") ∷ x)) (same_entries m.rows (codes "RNG") m.ranges) in
+      let bounds : unless_empty (map (bound_with value) m.bounds) (section (codes "BOUNDS") ∷ map (bound_line text (map (column_with value) m.columns)) (map (bound_with value) m.bounds)) ≡ unless_empty m.bounds (section (codes "BOUNDS") ∷ map (bound_line text_of_value m.columns) m.bounds) =
+      unless_map (bound_with value) m.bounds _ ∙ ap (λ x. unless_empty m.bounds (section (codes "BOUNDS") ∷ x)) (same_bounds m.columns m.bounds) in
+      ap (λ x. x ++ section (codes "ENDATA") ∷ [])
+      (ap₂ ◌++◌ (ap₂ ◌++◌ (ap₂ (λ x y. head ++ section (codes "COLUMNS") ∷ x ++ section (codes "RHS") ∷ y) (same_columns m.rows false 0 m.columns) (same_entries m.rows (codes "RHS") m.rhs)) ranges) bounds)
+
   pub text_by_values : (m : Mps V) → mps_text_by text (with_values value m) ≡ mps_text_by text_of_value m
-  unfolding mps_text_by with_values
-  text_by_values m =
-      let before = name_section m.name ++ sense_section m.maximise ++ section (codes "ROWS") ++ flat_map row_line m.rows ++ section (codes "COLUMNS") in
-      let ranges_head = section (codes "RANGES") in
-      let bounds_head = section (codes "BOUNDS") in
-      let ranges : unless_empty (map (entry_with value) m.ranges) (ranges_head ++ entry_lines text m.rows (codes "RNG") (map (entry_with value) m.ranges)) ≡ unless_empty m.ranges (ranges_head ++ entry_lines text_of_value m.rows (codes "RNG") m.ranges) =
-      unless_map (entry_with value) m.ranges _ ∙ ap (λ x. unless_empty m.ranges (ranges_head ++ x)) (entries_text m.rows (codes "RNG") m.ranges) in
-      let bounds : unless_empty (map (bound_with value) m.bounds) (bounds_head ++ flat_map (bound_line text (map (column_with value) m.columns)) (map (bound_with value) m.bounds)) ≡ unless_empty m.bounds (bounds_head ++ flat_map (bound_line text_of_value m.columns) m.bounds) =
-      unless_map (bound_with value) m.bounds _ ∙ ap (λ x. unless_empty m.bounds (bounds_head ++ x)) (bounds_text m.columns m.bounds) in
-      ap (λ x. x ++ section (codes "ENDATA"))
-      (ap₂ ◌++◌ (ap₂ ◌++◌ (ap₂ (λ x y. before ++ x ++ section (codes "RHS") ++ y) (all_columns_text m.rows false 0 m.columns) (entries_text m.rows (codes "RHS") m.rhs)) ranges) bounds)
+  text_by_values m = ap lines_text (same_lines m)

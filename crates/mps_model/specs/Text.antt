@@ -1,20 +1,12 @@
--- The one written text of an MPS program, as bytes (own profile of free MPS).
-use Rattle.std.specs.Prelude.{ℕ, ◌+◌, Bool, true, false, List, [], ◌∷◌, ◌++◌, get_or, codes}
-use Rattle.std.specs.List.{flat_map}
+-- The one written text of an MPS program, line by line (own profile of free MPS).
+use Rattle.std.specs.Prelude.{ℕ, ◌+◌, Bool, true, false, List, [], ◌∷◌, ◌++◌, get_or, map, codes}
 use Rattle.std.specs.Fmt.{decimal}
+use Rattle.written_texts.specs.Lines.{Line, indented, unless_empty, lines_text}
 use Rattle.mps_model.specs.Mps.{RowKind, BoundKind, MpsRow, Entry, Column, Bound, Mps, no_row, no_column}
 use Rattle.mps_model.specs.declared.kinds.RowKind.TheVariants.{N, L, G, E}
 use Rattle.mps_model.specs.declared.kinds.BoundKind.TheVariants.{Lo, Up, Fx, Fr, Mi, Pl, Bv, Li, Ui}
 
--- ---- lines
--- a line of a section
-abbrev pub section : List ℕ → List ℕ
-section word = word ++ 10 ∷ []
-
--- a line of words, a space before each
-abbrev pub data_line : List (List ℕ) → List ℕ
-data_line words = flat_map (λ word. 32 ∷ word) words ++ 10 ∷ []
-
+-- ---- words
 -- the letter of a kind of row
 abbrev pub kind_text : RowKind → List ℕ
 kind_text N = codes "N"
@@ -51,30 +43,34 @@ abbrev pub row_name : List MpsRow → ℕ → List ℕ
 row_name rows i = (get_or rows i no_row).name
 
 -- ---- sections
+-- the line that begins a section; all other lines begin with a space
+abbrev pub section : List ℕ → Line
+section word = word ∷ []
+
 -- no line where the name is empty
-abbrev pub name_section : List ℕ → List ℕ
-name_section [] = []
-name_section (b ∷ name) = section (codes "NAME " ++ b ∷ name)
+abbrev pub name_lines : List ℕ → List Line
+name_lines [] = []
+name_lines (b ∷ name) = (codes "NAME" ∷ (b ∷ name) ∷ []) ∷ []
 
 -- the sense where the objective is maximised, nothing where it is minimised
-abbrev pub sense_section : Bool → List ℕ
-sense_section true = section (codes "OBJSENSE") ++ data_line (codes "MAX" ∷ [])
-sense_section false = []
+abbrev pub sense_lines : Bool → List Line
+sense_lines true = section (codes "OBJSENSE") ∷ indented (codes "MAX" ∷ []) ∷ []
+sense_lines false = []
 
 -- kind and name
-abbrev pub row_line : MpsRow → List ℕ
-row_line r = data_line (kind_text r.kind ∷ r.name ∷ [])
+abbrev pub row_line : MpsRow → Line
+row_line r = indented (kind_text r.kind ∷ r.name ∷ [])
 
 -- marker line i; the word is that of a beginning or an end
-abbrev pub marker_line : ℕ → List ℕ → List ℕ
-marker_line i word = data_line ((codes "M" ++ decimal i) ∷ codes "'MARKER'" ∷ word ∷ [])
+abbrev pub marker_line : ℕ → List ℕ → Line
+marker_line i word = indented ((codes "M" ++ decimal i) ∷ codes "'MARKER'" ∷ word ∷ [])
 
 -- the marker line between a column and the next one, by whether each is marked
-abbrev pub change_text : Bool → Bool → ℕ → List ℕ
-change_text false true i = marker_line i (codes "'INTORG'")
-change_text true false i = marker_line i (codes "'INTEND'")
-change_text false false i = []
-change_text true true i = []
+abbrev pub change_lines : Bool → Bool → ℕ → List Line
+change_lines false true i = marker_line i (codes "'INTORG'") ∷ []
+change_lines true false i = marker_line i (codes "'INTEND'") ∷ []
+change_lines false false i = []
+change_lines true true i = []
 
 -- how many marker lines stand after that place
 abbrev pub markers_after : Bool → Bool → ℕ → ℕ
@@ -83,38 +79,41 @@ markers_after true false i = i + 1
 markers_after false false i = i
 markers_after true true i = i
 
--- a section that is left out where its list is empty
-abbrev pub unless_empty : {A : Type 0} → List A → List ℕ → List ℕ
-unless_empty [] text = []
-unless_empty (x ∷ xs) text = text
-
 -- text is how a number is written
 module _ {V : Type 0} (text : V → List ℕ) where
   -- a word, the name of the row, and the number
-  abbrev pub entry_line : List MpsRow → List ℕ → Entry V → List ℕ
-  entry_line rows word e = data_line (word ∷ row_name rows e.row ∷ text e.value ∷ [])
+  abbrev pub entry_line : List MpsRow → List ℕ → Entry V → Line
+  entry_line rows word e = indented (word ∷ row_name rows e.row ∷ text e.value ∷ [])
 
-  -- a line for each entry
-  abbrev pub entry_lines : List MpsRow → List ℕ → List (Entry V) → List ℕ
-  entry_lines rows word entries = flat_map (entry_line rows word) entries
+  abbrev pub entry_lines : List MpsRow → List ℕ → List (Entry V) → List Line
+  entry_lines rows word entries = map (entry_line rows word) entries
 
   -- the columns after a marked or unmarked one, with i marker lines before them
-  unfoldable pub columns_text : List MpsRow → Bool → ℕ → List (Column V) → List ℕ
-  columns_text rows before i [] = change_text before false i
-  columns_text rows before i (c ∷ cs) = change_text before c.marked i ++ entry_lines rows c.name c.entries ++ columns_text rows c.marked (markers_after before c.marked i) cs
+  unfoldable pub column_lines : List MpsRow → Bool → ℕ → List (Column V) → List Line
+  column_lines rows before i [] = change_lines before false i
+  column_lines rows before i (c ∷ cs) =
+      change_lines before c.marked i
+      ++ entry_lines rows c.name c.entries
+      ++ column_lines rows c.marked (markers_after before c.marked i) cs
 
   -- kind, set name, column, and the number where the kind has one
-  abbrev pub bound_line : List (Column V) → Bound V → List ℕ
-  bound_line columns b = data_line (bound_text b.kind ∷ codes "BND" ∷ (get_or columns b.column no_column).name ∷ value_words b.kind (text b.value))
+  abbrev pub bound_line : List (Column V) → Bound V → Line
+  bound_line columns b =
+      let name = (get_or columns b.column no_column).name in
+      indented (bound_text b.kind ∷ codes "BND" ∷ name ∷ value_words b.kind (text b.value))
+
+  -- the lines of a program
+  unfoldable pub mps_lines : Mps V → List Line
+  mps_lines m =
+      name_lines m.name
+      ++ sense_lines m.maximise
+      ++ section (codes "ROWS") ∷ map row_line m.rows
+      ++ section (codes "COLUMNS") ∷ column_lines m.rows false 0 m.columns
+      ++ section (codes "RHS") ∷ entry_lines m.rows (codes "RHS") m.rhs
+      ++ unless_empty m.ranges (section (codes "RANGES") ∷ entry_lines m.rows (codes "RNG") m.ranges)
+      ++ unless_empty m.bounds (section (codes "BOUNDS") ∷ map (bound_line m.columns) m.bounds)
+      ++ section (codes "ENDATA") ∷ []
 
   -- the text of a program
-  unfoldable pub mps_text_by : Mps V → List ℕ
-  mps_text_by m =
-      name_section m.name
-      ++ sense_section m.maximise
-      ++ section (codes "ROWS") ++ flat_map row_line m.rows
-      ++ section (codes "COLUMNS") ++ columns_text m.rows false 0 m.columns
-      ++ section (codes "RHS") ++ entry_lines m.rows (codes "RHS") m.rhs
-      ++ unless_empty m.ranges (section (codes "RANGES") ++ entry_lines m.rows (codes "RNG") m.ranges)
-      ++ unless_empty m.bounds (section (codes "BOUNDS") ++ flat_map (bound_line m.columns) m.bounds)
-      ++ section (codes "ENDATA")
+  abbrev pub mps_text_by : Mps V → List ℕ
+  mps_text_by m = lines_text (mps_lines m)

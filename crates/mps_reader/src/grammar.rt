@@ -2,7 +2,7 @@
 ghost use Rattle.std.specs.Prelude.{◌≡◌, [], IfOk};
 ghost use Rattle.text_base.specs.Words.{texts};
 ghost use Rattle.mps_reader.specs.Grammar.{standing, mps_rules, SaysMps, line_tests};
-ghost use Rattle.mps_reader.specs.Held.{TakesWords};
+ghost use Rattle.text_base.specs.Judged.{Takes};
 ghost use Rattle.mps_reader.specs.Steps.{after_words};
 
 use crate::fault::MpsReason;
@@ -88,7 +88,7 @@ impl MpsGrammar {
 
     // Takes a line that holds words.
     fn take_words(&mut self, data_line: bool, words: &[&[u8]]) -> Result<(), Stop<MpsReason>>
-        ensures { TakesWords (line_tests self.old data_line (texts words.now)) (after_words self.old data_line (texts words.now)) result self.new }
+        ensures { Takes (line_tests self.old data_line (texts words.now)) (after_words self.old data_line (texts words.now)) result self.new }
     {
         if self.is_broken {
             return Err(Stop::Memory);

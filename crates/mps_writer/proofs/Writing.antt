@@ -2,14 +2,15 @@ use Rattle.std.proofs.Common.{[], ◌≡◌, ℕ, suc, ◌+◌, ◌<◌, ◌≤�
 use Rattle.std.proofs.lemmas.List.{length-map, get_or-map, drop_all}
 use Rattle.mps_model.specs.Mps.{Bound, Entry, Column, MpsRow, Mps, with_values}
 use Rattle.mps_model.specs.declared.kinds.BoundKind.{BoundKind}
-use Rattle.mps_model.specs.Text.{unless_empty, entry_lines, change_text, markers_after, columns_text, mps_text_by}
+use Rattle.mps_model.specs.Text.{entry_lines, change_lines, markers_after, column_lines, mps_text_by}
 use Rattle.mps_model.proofs.Texts.{text_by_values}
 use Rattle.exact_numbers.specs.Values.{dec_value, value_text}
 use Rattle.exact_numbers.proofs.Spelling.{value_text-decimal}
 use Rattle.exact_numbers.specs.declared.dec.Dec.{Dec}
 use Rattle.mps_model.specs.Built.{bound_of, entry_of}
 use Rattle.mps_model.specs.Valid.{AreColumns}
-use Rattle.mps_writer.specs.Written.{text_of}
+use Rattle.written_texts.specs.Lines.{Line, lines_text, text_of, unless_empty}
+use Rattle.written_texts.proofs.Writing.{lines_after, rest_written}
 
 pub markers_more : (b m : Bool) (i : ℕ) → markers_after b m i ≤ i + 1
 markers_more false true i = omega arith
@@ -25,30 +26,27 @@ terms_in_rows n ts es e h = λ k d l.
 
 module _ (rows : List MpsRow) (cols : List (Column Dec)) (before : Bool) (i index : ℕ) where
   pub column_written : (c : Column Dec) (out0 out1 out2 total word : List ℕ) (ts : List (Entry Dec)) (marked next : Bool) (n : ℕ) → index < length cols → c ≡ get_or cols index c →
-      out0 ++ columns_text text_of rows before i (drop index cols) ≡ total →
+      out0 ++ lines_text (column_lines text_of rows before i (drop index cols)) ≡ total →
       marked ≡ c.marked → next ≡ c.marked → word ≡ c.name → ts ≡ c.entries → n ≡ markers_after before marked i →
-      out1 ≡ out0 ++ change_text before marked i → out2 ≡ out1 ++ entry_lines text_of rows word ts →
-      out2 ++ columns_text text_of rows next n (drop (index + 1) cols) ≡ total
-  unfolding columns_text
+      out1 ≡ out0 ++ lines_text (change_lines before marked i) → out2 ≡ out1 ++ lines_text (entry_lines text_of rows word ts) →
+      out2 ++ lines_text (column_lines text_of rows next n (drop (index + 1) cols)) ≡ total
+  unfolding column_lines
   column_written c out0 out1 out2 total word ts marked next n h is start m m2 w t k first second =
-      let rest = columns_text text_of rows c.marked (markers_after before c.marked i) (drop (suc index) cols) in
-      let change = change_text before c.marked i in
+      let rest = column_lines text_of rows c.marked (markers_after before c.marked i) (drop (suc index) cols) in
+      let change = change_lines before c.marked i in
       let lines = entry_lines text_of rows c.name c.entries in
       let split : drop index cols ≡ c ∷ drop (suc index) cols = drop-cons cols index c h ∙ ap (λ x. x ∷ drop (suc index) cols) (sym is) in
-      let now : out2 ≡ out0 ++ change ++ lines = second ∙ ap₂ ◌++◌ (first ∙ ap (λ b. out0 ++ change_text before b i) m) (ap₂ (entry_lines text_of rows) w t) in
-      let after : columns_text text_of rows next n (drop (index + 1) cols) ≡ rest =
-      ap (λ x. columns_text text_of rows next n (drop x cols)) (add-one index) ∙ ap₂ (λ b x. columns_text text_of rows b x (drop (suc index) cols)) m2 (k ∙ ap (λ b. markers_after before b i) m) in
-      ap₂ ◌++◌ now after
-      ∙ append_assoc (out0 ++ change) lines rest
-      ∙ append_assoc out0 change (lines ++ rest)
-      ∙ ap (λ x. out0 ++ x) (sym (append_assoc change lines rest) ∙ sym (ap (λ cs. columns_text text_of rows before i cs) split))
-      ∙ start
+      let now : out2 ≡ out0 ++ lines_text (change ++ lines) =
+      lines_after out0 out1 out2 change lines (first ∙ ap (λ b. out0 ++ lines_text (change_lines before b i)) m) (second ∙ ap₂ (λ w es. out1 ++ lines_text (entry_lines text_of rows w es)) w t) in
+      let after : column_lines text_of rows next n (drop (index + 1) cols) ≡ rest =
+      ap (λ x. column_lines text_of rows next n (drop x cols)) (add-one index) ∙ ap₂ (λ b x. column_lines text_of rows b x (drop (suc index) cols)) m2 (k ∙ ap (λ b. markers_after before b i) m) in
+      ap (λ ls. out2 ++ lines_text ls) after ∙ rest_written out0 out2 total (change ++ lines) rest (ap (λ cs. out0 ++ lines_text (column_lines text_of rows before i cs)) (sym split) ∙ start) now
 
 pub last_change : (rows : List MpsRow) (before : Bool) (i : ℕ) (cols : List (Column Dec)) (index : ℕ) (out0 out1 total : List ℕ) → length cols ≤ index →
-    out0 ++ columns_text text_of rows before i (drop index cols) ≡ total → out1 ≡ out0 ++ change_text before false i → out1 ≡ total
-unfolding columns_text
+    out0 ++ lines_text (column_lines text_of rows before i (drop index cols)) ≡ total → out1 ≡ out0 ++ lines_text (change_lines before false i) → out1 ≡ total
+unfolding column_lines
 last_change rows before i cols index out0 out1 total h start last =
-    last ∙ sym (ap (λ cs. out0 ++ columns_text text_of rows before i cs) (drop_all index cols h)) ∙ start
+    last ∙ sym (ap (λ cs. out0 ++ lines_text (column_lines text_of rows before i cs)) (drop_all index cols h)) ∙ start
 
 pub column_rows : (n : ℕ) (cols : List (Column Dec)) (index : ℕ) (c : Column Dec) (ts : List (ℕ × Dec)) → index < length cols → AreColumns n cols → c ≡ get_or cols index c →
     map entry_of ts ≡ c.entries → All (λ t. t.0 < n) ts
@@ -59,11 +57,7 @@ bounds_in_columns n ts bs e h = λ k d l.
     let m : k < length bs = subst (λ es. k < length es) e (omega (arith, length-map ts bound_of)) in
     subst (λ (x : Bound Dec). x.column < n) (ap (λ es. get_or es k (bound_of d)) (sym e) ∙ get_or-map bound_of ts k d (bound_of d) l) (h k (bound_of d) m)
 
--- ---- sections, one after the other
-pub section_written : (before after text done : List ℕ) → after ≡ before ++ text → before ≡ done → after ≡ done ++ text
-section_written before after text done now start = now ∙ ap (λ x. x ++ text) start
-
-pub unless_map : {A B : Type 0} (f : A → B) (xs : List A) (ys : List B) (text : List ℕ) → map f xs ≡ ys → unless_empty xs text ≡ unless_empty ys text
+pub unless_map : {A B : Type 0} (f : A → B) (xs : List A) (ys : List B) (text : List Line) → map f xs ≡ ys → unless_empty xs text ≡ unless_empty ys text
 unless_map f [] ys text e = ap (λ ys. unless_empty ys text) e
 unless_map f (x ∷ xs) ys text e = ap (λ ys. unless_empty ys text) e
 

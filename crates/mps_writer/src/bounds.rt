@@ -1,14 +1,13 @@
 // The bounds of the columns.
 ghost use Rattle.std.specs.Prelude.{◌≡◌, ◌<◌, ◌++◌, ◌∷◌, [], length, OnOk, map, codes, All};
-ghost use Rattle.std.specs.List.{flat_map};
 ghost use Rattle.mps_model.specs.Built.{bound_of};
-ghost use Rattle.mps_model.specs.Text.{bound_line, data_line, bound_text, value_words, section, unless_empty};
-ghost use Rattle.mps_writer.specs.Written.{text_of};
+ghost use Rattle.mps_model.specs.Text.{bound_line, bound_text, value_words, section};
+ghost use Rattle.written_texts.specs.Lines.{indented, line_text, lines_text, text_of, unless_empty};
 
-use crate::lines::{put, put_dec, put_word};
 use exact_numbers::Dec;
 use mps_model::{BoundKind, MpsColumn};
 use std::alloc::AllocError;
+use written_texts::{put, put_end, put_line, put_next, put_next_dec};
 
 fn kind_word(kind: BoundKind) -> &'static [u8]
     ensures { result.now ≡ bound_text kind }
@@ -33,26 +32,27 @@ fn put_bound(
     kind: BoundKind,
     value: Dec,
 ) -> Result<(), AllocError>
-    ensures { OnOk result (out.new.items ≡ out.old.items ++ data_line (bound_text kind ∷ codes "BND" ∷ column.now ∷ value_words kind (text_of value))) }
+    ensures { OnOk result (out.new.items ≡ out.old.items ++ line_text
+        (indented (bound_text kind ∷ codes "BND" ∷ column.now ∷ value_words kind (text_of value)))) }
 {
-    put_word(out, kind_word(kind))?;
+    put_next(out, kind_word(kind))?;
     put(out, b" BND")?;
-    put_word(out, column)?;
+    put_next(out, column)?;
     match kind {
         BoundKind::Fr | BoundKind::Mi | BoundKind::Pl | BoundKind::Bv => {}
-        _ => put_dec(out, value)?,
+        _ => put_next_dec(out, value)?,
     }
-    out.push(b'\n')?;
-    Ok(())
+    put_end(out)
 }
 
-fn put_bounds(
+fn put_bound_lines(
     out: &mut Vec<u8>,
     columns: &[MpsColumn],
     bounds: &[(BoundKind, u32, Dec)],
 ) -> Result<(), AllocError>
     requires { All (λ t. t.1 < length columns.now) bounds.now }
-    ensures { OnOk result (out.new.items ≡ out.old.items ++ flat_map (bound_line text_of columns.now) (map bound_of bounds.now)) }
+    ensures { OnOk result (out.new.items ≡ out.old.items ++ lines_text
+        (map (bound_line text_of columns.now) (map bound_of bounds.now))) }
 {
     for bound in bounds {
         let name = columns[bound.1 as usize].name();
@@ -61,18 +61,19 @@ fn put_bounds(
     Ok(())
 }
 
-// The section of the bounds; nothing where there is none.
-pub(crate) fn put_bound_section(
+// The bounds; nothing where there is none.
+pub(crate) fn put_bounds(
     out: &mut Vec<u8>,
     columns: &[MpsColumn],
     bounds: &[(BoundKind, u32, Dec)],
 ) -> Result<(), AllocError>
     requires { All (λ t. t.1 < length columns.now) bounds.now }
-    ensures { OnOk result (out.new.items ≡ out.old.items ++ unless_empty bounds.now (section (codes "BOUNDS") ++ flat_map (bound_line text_of columns.now) (map bound_of bounds.now))) }
+    ensures { OnOk result (out.new.items ≡ out.old.items ++ lines_text (unless_empty bounds.now
+        (section (codes "BOUNDS") ∷ map (bound_line text_of columns.now) (map bound_of bounds.now)))) }
 {
-    if !bounds.is_empty() {
-        put(out, b"BOUNDS\n")?;
-        put_bounds(out, columns, bounds)?;
+    if bounds.is_empty() {
+        return Ok(());
     }
-    Ok(())
+    put_line(out, b"BOUNDS")?;
+    put_bound_lines(out, columns, bounds)
 }

@@ -1,24 +1,22 @@
 // The columns, with a line before and after each marked stretch.
-ghost use Rattle.std.specs.Prelude.{◌≡◌, ◌<◌, ◌^◌, ◌++◌, length, OnOk, IfOk, All, false};
-ghost use Rattle.mps_model.specs.Text.{marker_line, change_text, markers_after, columns_text};
+ghost use Rattle.std.specs.Prelude.{◌≡◌, ◌<◌, ◌^◌, ◌++◌, ◌∷◌, length, codes, OnOk, IfOk, All, false};
+ghost use Rattle.mps_model.specs.Text.{section, marker_line, change_lines, markers_after, column_lines};
 ghost use Rattle.mps_model.specs.Valid.{AreColumns};
-ghost use Rattle.mps_writer.specs.Written.{text_of};
+ghost use Rattle.written_texts.specs.Lines.{line_text, lines_text, text_of};
 
-use crate::lines::{put, put_entries, put_word};
-use itoa::Buffer;
+use crate::lines::put_entries;
 use mps_model::{MpsColumn, MpsRow};
 use std::alloc::AllocError;
+use written_texts::{put, put_end, put_line, put_next, put_number};
 
 fn put_marker(out: &mut Vec<u8>, i: u32, word: &[u8]) -> Result<(), AllocError>
-    ensures { OnOk result (out.new.items ≡ out.old.items ++ marker_line i word.now) }
+    ensures { OnOk result (out.new.items ≡ out.old.items ++ line_text (marker_line i word.now)) }
 {
-    let mut digits = Buffer::new();
     put(out, b" M")?;
-    put(out, digits.format(i).as_bytes())?;
+    put_number(out, i as u64)?;
     put(out, b" 'MARKER'")?;
-    put_word(out, word)?;
-    out.push(b'\n')?;
-    Ok(())
+    put_next(out, word)?;
+    put_end(out)
 }
 
 // The marker line between two columns, where one is marked and the other is not; answers the number of marker lines so far.
@@ -29,7 +27,7 @@ fn put_change(
     markers: u32,
 ) -> Result<u32, AllocError>
     requires { markers < 2 ^ 31 }
-    ensures { IfOk result (λ n. (n ≡ markers_after before marked markers) × (out.new.items ≡ out.old.items ++ change_text before marked markers)) }
+    ensures { IfOk result (λ n. (n ≡ markers_after before marked markers) × (out.new.items ≡ out.old.items ++ lines_text (change_lines before marked markers))) }
 {
     match (before, marked) {
         (false, true) => {
@@ -44,13 +42,13 @@ fn put_change(
     }
 }
 
-pub(crate) fn put_columns(
+fn put_column_lines(
     out: &mut Vec<u8>,
     rows: &[MpsRow],
     columns: &[MpsColumn],
 ) -> Result<(), AllocError>
     requires { AreColumns (length rows.now) columns.now }
-    ensures { OnOk result (out.new.items ≡ out.old.items ++ columns_text text_of rows.now false 0 columns.now) }
+    ensures { OnOk result (out.new.items ≡ out.old.items ++ lines_text (column_lines text_of rows.now false 0 columns.now)) }
 {
     let mut before = false;
     let mut markers = 0;
@@ -62,4 +60,17 @@ pub(crate) fn put_columns(
     }
     put_change(out, before, false, markers)?;
     Ok(())
+}
+
+pub(crate) fn put_columns(
+    out: &mut Vec<u8>,
+    rows: &[MpsRow],
+    columns: &[MpsColumn],
+) -> Result<(), AllocError>
+    requires { AreColumns (length rows.now) columns.now }
+    ensures { OnOk result (out.new.items ≡ out.old.items ++ lines_text
+        (section (codes "COLUMNS") ∷ column_lines text_of rows.now false 0 columns.now)) }
+{
+    put_line(out, b"COLUMNS")?;
+    put_column_lines(out, rows, columns)
 }

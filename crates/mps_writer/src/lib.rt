@@ -1,12 +1,11 @@
 //! The written text of MPS programs: free MPS, one spelling for each program.
 #![tactic(auto)]
 
-ghost use Rattle.std.specs.Prelude.{◌≡◌, ◌++◌, OnOk, IfOk};
-ghost use Rattle.std.specs.List.{flat_map};
+ghost use Rattle.std.specs.Prelude.{◌≡◌, ◌++◌, ◌∷◌, OnOk, IfOk, map, codes};
 ghost use Rattle.exact_numbers.specs.Values.{dec_value, value_text};
 ghost use Rattle.mps_model.specs.Mps.{with_values};
-ghost use Rattle.mps_model.specs.Text.{mps_text_by, name_section, sense_section, row_line};
-ghost use Rattle.mps_writer.specs.Written.{text_of};
+ghost use Rattle.mps_model.specs.Text.{mps_text_by, name_lines, sense_lines, section, row_line};
+ghost use Rattle.written_texts.specs.Lines.{line_text, lines_text, text_of};
 
 mod bounds;
 mod columns;
@@ -14,27 +13,28 @@ mod lines;
 #[cfg(test)]
 mod tests;
 
-use bounds::put_bound_section;
+use bounds::put_bounds;
 use columns::put_columns;
-use lines::{put, put_entries, put_ranges, put_word};
+use lines::{put_ranges, put_rhs};
 use mps_model::{Mps, MpsRow, RowKind};
 use std::alloc::{AllocError, Global};
+use written_texts::{put, put_end, put_line, put_next};
 
 // The line of the name; none where the name is empty.
 fn put_name(out: &mut Vec<u8>, mps: &Mps) -> Result<(), AllocError>
-    ensures { OnOk result (out.new.items ≡ out.old.items ++ name_section mps.now.name) }
+    ensures { OnOk result (out.new.items ≡ out.old.items ++ lines_text (name_lines mps.now.name)) }
 {
     if let Some(name) = mps.name() {
-        put(out, b"NAME ")?;
-        put(out, name.bytes())?;
-        out.push(b'\n')?;
+        put(out, b"NAME")?;
+        put_next(out, name.bytes())?;
+        put_end(out)?;
     }
     Ok(())
 }
 
 // The sense where the objective is maximised; nothing where it is minimised.
 fn put_sense(out: &mut Vec<u8>, maximise: bool) -> Result<(), AllocError>
-    ensures { OnOk result (out.new.items ≡ out.old.items ++ sense_section maximise) }
+    ensures { OnOk result (out.new.items ≡ out.old.items ++ lines_text (sense_lines maximise)) }
 {
     if maximise {
         put(out, b"OBJSENSE\n MAX\n")?;
@@ -43,7 +43,7 @@ fn put_sense(out: &mut Vec<u8>, maximise: bool) -> Result<(), AllocError>
 }
 
 fn put_row(out: &mut Vec<u8>, row: &MpsRow) -> Result<(), AllocError>
-    ensures { OnOk result (out.new.items ≡ out.old.items ++ row_line row.now) }
+    ensures { OnOk result (out.new.items ≡ out.old.items ++ line_text (row_line row.now)) }
 {
     let kind: &[u8] = match row.kind {
         RowKind::N => b"N",
@@ -51,19 +51,26 @@ fn put_row(out: &mut Vec<u8>, row: &MpsRow) -> Result<(), AllocError>
         RowKind::G => b"G",
         RowKind::E => b"E",
     };
-    put_word(out, kind)?;
-    put_word(out, row.name.bytes())?;
-    out.push(b'\n')?;
-    Ok(())
+    put_next(out, kind)?;
+    put_next(out, row.name.bytes())?;
+    put_end(out)
 }
 
-fn put_rows(out: &mut Vec<u8>, rows: &[MpsRow]) -> Result<(), AllocError>
-    ensures { OnOk result (out.new.items ≡ out.old.items ++ flat_map row_line rows.now) }
+fn put_row_lines(out: &mut Vec<u8>, rows: &[MpsRow]) -> Result<(), AllocError>
+    ensures { OnOk result (out.new.items ≡ out.old.items ++ lines_text (map row_line rows.now)) }
 {
     for row in rows {
         put_row(out, row)?;
     }
     Ok(())
+}
+
+fn put_rows(out: &mut Vec<u8>, rows: &[MpsRow]) -> Result<(), AllocError>
+    ensures { OnOk result (out.new.items
+        ≡ out.old.items ++ lines_text (section (codes "ROWS") ∷ map row_line rows.now)) }
+{
+    put_line(out, b"ROWS")?;
+    put_row_lines(out, rows)
 }
 
 /// The one written text of a program.
@@ -79,14 +86,11 @@ pub fn write_mps(alloc: Global, mps: &Mps) -> Result<Vec<u8>, AllocError>
     let mut out = Vec::new(alloc);
     put_name(&mut out, mps)?;
     put_sense(&mut out, mps.maximise())?;
-    put(&mut out, b"ROWS\n")?;
     put_rows(&mut out, rows)?;
-    put(&mut out, b"COLUMNS\n")?;
     put_columns(&mut out, rows, columns)?;
-    put(&mut out, b"RHS\n")?;
-    put_entries(&mut out, rows, b"RHS", rhs)?;
+    put_rhs(&mut out, rows, rhs)?;
     put_ranges(&mut out, rows, ranges)?;
-    put_bound_section(&mut out, columns, bounds)?;
-    put(&mut out, b"ENDATA\n")?;
+    put_bounds(&mut out, columns, bounds)?;
+    put_line(&mut out, b"ENDATA")?;
     Ok(out)
 }

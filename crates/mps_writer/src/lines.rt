@@ -1,45 +1,22 @@
-// Words, and lines of entries.
+// Lines of entries.
 ghost use Rattle.std.specs.Prelude.{◌≡◌, ◌<◌, ◌++◌, ◌∷◌, [], length, OnOk, map, codes, All};
 ghost use Rattle.mps_model.specs.Built.{entry_of};
-ghost use Rattle.mps_model.specs.Text.{data_line, entry_lines, section, unless_empty};
-ghost use Rattle.mps_writer.specs.Written.{text_of};
+ghost use Rattle.mps_model.specs.Text.{entry_lines, section};
+ghost use Rattle.written_texts.specs.Lines.{indented, line_text, lines_text, text_of, unless_empty};
 
-use exact_numbers::{Dec, NumText};
+use exact_numbers::Dec;
 use mps_model::MpsRow;
 use std::alloc::AllocError;
-
-pub(crate) fn put(out: &mut Vec<u8>, text: &[u8]) -> Result<(), AllocError>
-    ensures { OnOk result (out.new.items ≡ out.old.items ++ text.now) }
-{
-    out.extend_from_slice(text)?;
-    Ok(())
-}
-
-// A space and a word.
-pub(crate) fn put_word(out: &mut Vec<u8>, word: &[u8]) -> Result<(), AllocError>
-    ensures { OnOk result (out.new.items ≡ out.old.items ++ 32 ∷ word.now) }
-{
-    out.push(b' ')?;
-    put(out, word)
-}
-
-pub(crate) fn put_dec(out: &mut Vec<u8>, value: Dec) -> Result<(), AllocError>
-    ensures { OnOk result (out.new.items ≡ out.old.items ++ 32 ∷ text_of value) }
-{
-    let mut text = NumText::new();
-    value.write_to(&mut text);
-    put_word(out, text.bytes())
-}
+use written_texts::{put_end, put_line, put_next, put_next_dec};
 
 // A word, the name of a row, and a number.
 fn put_entry(out: &mut Vec<u8>, word: &[u8], row: &[u8], value: Dec) -> Result<(), AllocError>
-    ensures { OnOk result (out.new.items ≡ out.old.items ++ data_line (word.now ∷ row.now ∷ text_of value ∷ [])) }
+    ensures { OnOk result (out.new.items ≡ out.old.items ++ line_text (indented (word.now ∷ row.now ∷ text_of value ∷ []))) }
 {
-    put_word(out, word)?;
-    put_word(out, row)?;
-    put_dec(out, value)?;
-    out.push(b'\n')?;
-    Ok(())
+    put_next(out, word)?;
+    put_next(out, row)?;
+    put_next_dec(out, value)?;
+    put_end(out)
 }
 
 pub(crate) fn put_entries(
@@ -49,7 +26,7 @@ pub(crate) fn put_entries(
     entries: &[(u32, Dec)],
 ) -> Result<(), AllocError>
     requires { All (λ t. t.0 < length rows.now) entries.now }
-    ensures { OnOk result (out.new.items ≡ out.old.items ++ entry_lines text_of rows.now word.now (map entry_of entries.now)) }
+    ensures { OnOk result (out.new.items ≡ out.old.items ++ lines_text (entry_lines text_of rows.now word.now (map entry_of entries.now))) }
 {
     for entry in entries {
         let row = &rows[entry.0 as usize];
@@ -58,18 +35,33 @@ pub(crate) fn put_entries(
     Ok(())
 }
 
-// The section of the ranges; nothing where there is none.
+// The right sides.
+pub(crate) fn put_rhs(
+    out: &mut Vec<u8>,
+    rows: &[MpsRow],
+    rhs: &[(u32, Dec)],
+) -> Result<(), AllocError>
+    requires { All (λ t. t.0 < length rows.now) rhs.now }
+    ensures { OnOk result (out.new.items ≡ out.old.items ++ lines_text
+        (section (codes "RHS") ∷ entry_lines text_of rows.now (codes "RHS") (map entry_of rhs.now))) }
+{
+    put_line(out, b"RHS")?;
+    put_entries(out, rows, b"RHS", rhs)
+}
+
+// The ranges; nothing where there is none.
 pub(crate) fn put_ranges(
     out: &mut Vec<u8>,
     rows: &[MpsRow],
     ranges: &[(u32, Dec)],
 ) -> Result<(), AllocError>
     requires { All (λ t. t.0 < length rows.now) ranges.now }
-    ensures { OnOk result (out.new.items ≡ out.old.items ++ unless_empty ranges.now (section (codes "RANGES") ++ entry_lines text_of rows.now (codes "RNG") (map entry_of ranges.now))) }
+    ensures { OnOk result (out.new.items ≡ out.old.items ++ lines_text (unless_empty ranges.now
+        (section (codes "RANGES") ∷ entry_lines text_of rows.now (codes "RNG") (map entry_of ranges.now)))) }
 {
-    if !ranges.is_empty() {
-        put(out, b"RANGES\n")?;
-        put_entries(out, rows, b"RNG", ranges)?;
+    if ranges.is_empty() {
+        return Ok(());
     }
-    Ok(())
+    put_line(out, b"RANGES")?;
+    put_entries(out, rows, b"RNG", ranges)
 }

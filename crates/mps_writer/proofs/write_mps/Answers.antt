@@ -1,13 +1,13 @@
-use Rattle.std.proofs.Common.{◌≡◌, ◌<◌, ◌++◌, ◌∙◌, ap, ap₂, false, length, subst, sym, All, codes}
-use Rattle.std.specs.List.{flat_map}
+use Rattle.std.proofs.Common.{◌≡◌, ◌<◌, ◌++◌, ◌∷◌, [], ◌∙◌, ap, ap₂, false, length, map, subst, sym, All, codes}
+use Rattle.written_texts.specs.Lines.{lines_text, text_of, unless_empty}
+use Rattle.written_texts.proofs.Writing.{lines_after, line_after}
 use Rattle.mps_model.specs.Built.{entry_of, bound_of}
-use Rattle.mps_model.specs.Text.{mps_text_by, name_section, sense_section, section, row_line, columns_text, entry_lines, bound_line, unless_empty}
-use Rattle.mps_writer.specs.Written.{text_of}
-use Rattle.mps_writer.proofs.Writing.{terms_in_rows, bounds_in_columns, section_written, unless_map, text_of_values}
+use Rattle.mps_model.specs.Text.{mps_lines, name_lines, sense_lines, section, row_line, column_lines, entry_lines, bound_line}
+use Rattle.mps_writer.proofs.Writing.{terms_in_rows, bounds_in_columns, unless_map, text_of_values}
 use Rattle.mps_writer.proofs.write_mps.Goals as goal
 
-pub put_entries-requires : goal.put_entries-requires
-put_entries-requires c =
+pub put_rhs-requires : goal.put_rhs-requires
+put_rhs-requires c =
     subst (λ n. All (λ t. t.0 < length n) c.rhs-rhs.result.now) (sym c.rows-rows.ensures.value) (terms_in_rows (length c.args.mps.now.rows) c.rhs-rhs.result.now c.args.mps.now.rhs c.rhs-rhs.ensures.value c.rhs-rhs.ensures.valid.part.rhs.within)
 
 pub put_ranges-requires : goal.put_ranges-requires
@@ -15,35 +15,33 @@ put_ranges-requires c =
     subst (λ n. All (λ t. t.0 < length n) c.ranges-ranges.result.now) (sym c.rows-rows.ensures.value)
     (terms_in_rows (length c.args.mps.now.rows) c.ranges-ranges.result.now c.args.mps.now.ranges c.ranges-ranges.ensures.value c.ranges-ranges.ensures.valid.part.ranges.entries.within)
 
-pub put_bound_section-requires : goal.put_bound_section-requires
-put_bound_section-requires c =
+pub put_bounds-requires : goal.put_bounds-requires
+put_bounds-requires c =
     subst (λ n. All (λ t. t.1 < length n) c.bounds-bounds.result.now) (sym c.columns-columns.ensures.value)
     (bounds_in_columns (length c.args.mps.now.columns) c.bounds-bounds.result.now c.args.mps.now.bounds c.bounds-bounds.ensures.value c.bounds-bounds.ensures.valid.part.bounds.within)
 
 pub returns-clause-spelling : goal.returns-clause-spelling
-unfolding mps_text_by
+unfolding mps_lines
 returns-clause-spelling c =
     let m = c.args.mps.now in
     let r : c.rows-rows.result.now ≡ m.rows = c.rows-rows.ensures.value in
-    let name : c.put_name.new.out.items ≡ name_section m.name = c.in_ok-put_name.ensures ∙ ap (λ x. x ++ name_section m.name) c.new-out.ensures.items in
-    let sense = section_written _ _ (sense_section m.maximise) _ (c.in_ok-put_sense.ensures ∙ ap (λ b. c.put_name.new.out.items ++ sense_section b) c.maximise.ensures) name in
-    let head = section_written _ _ (section (codes "ROWS")) _ c.in_ok-put.ensures sense in
-    let rows = section_written _ _ (flat_map row_line m.rows) _ (c.in_ok-put_rows.ensures ∙ ap (λ x. c.put.new.out.items ++ flat_map row_line x) r) head in
-    let column_head = section_written _ _ (section (codes "COLUMNS")) _ c.in_ok-put-2.ensures rows in
-    let columns = section_written _ _ (columns_text text_of m.rows false 0 m.columns) _
-    (c.in_ok-put_columns.ensures ∙ ap₂ (λ x y. c.put-2.new.out.items ++ columns_text text_of x false 0 y) r c.columns-columns.ensures.value) column_head in
-    let rhs_head = section_written _ _ (section (codes "RHS")) _ c.in_ok-put-3.ensures columns in
-    let rhs = section_written _ _ (entry_lines text_of m.rows (codes "RHS") m.rhs) _
-    (c.in_ok-put_entries.ensures ∙ ap₂ (λ x y. c.put-3.new.out.items ++ entry_lines text_of x (codes "RHS") y) r c.rhs-rhs.ensures.value) rhs_head in
-    let ranges = section_written _ _ (unless_empty m.ranges (section (codes "RANGES") ++ entry_lines text_of m.rows (codes "RNG") m.ranges)) _
-    (c.in_ok-put_ranges.ensures ∙ ap (λ x. c.put_entries.new.out.items ++ x)
+    let name : c.put_name.new.out.items ≡ lines_text (name_lines m.name) = c.in_ok-put_name.ensures ∙ ap (λ x. x ++ lines_text (name_lines m.name)) c.new-out.ensures.items in
+    let sense = lines_after [] _ _ _ (sense_lines m.maximise) name (c.in_ok-put_sense.ensures ∙ ap (λ b. c.put_name.new.out.items ++ lines_text (sense_lines b)) c.maximise.ensures) in
+    let rows = lines_after [] _ _ _ (section (codes "ROWS") ∷ map row_line m.rows) sense
+    (c.in_ok-put_rows.ensures ∙ ap (λ x. c.put_sense.new.out.items ++ lines_text (section (codes "ROWS") ∷ map row_line x)) r) in
+    let columns = lines_after [] _ _ _ (section (codes "COLUMNS") ∷ column_lines text_of m.rows false 0 m.columns) rows
+    (c.in_ok-put_columns.ensures ∙ ap₂ (λ x y. c.put_rows.new.out.items ++ lines_text (section (codes "COLUMNS") ∷ column_lines text_of x false 0 y)) r c.columns-columns.ensures.value) in
+    let rhs = lines_after [] _ _ _ (section (codes "RHS") ∷ entry_lines text_of m.rows (codes "RHS") m.rhs) columns
+    (c.in_ok-put_rhs.ensures ∙ ap₂ (λ x y. c.put_columns.new.out.items ++ lines_text (section (codes "RHS") ∷ entry_lines text_of x (codes "RHS") y)) r c.rhs-rhs.ensures.value) in
+    let ranges = lines_after [] _ _ _ (unless_empty m.ranges (section (codes "RANGES") ∷ entry_lines text_of m.rows (codes "RNG") m.ranges)) rhs
+    (c.in_ok-put_ranges.ensures ∙ ap (λ x. c.put_rhs.new.out.items ++ lines_text x)
     (unless_map entry_of c.ranges-ranges.result.now m.ranges _ c.ranges-ranges.ensures.value
-    ∙ ap₂ (λ x y. unless_empty m.ranges (section (codes "RANGES") ++ entry_lines text_of x (codes "RNG") y)) r c.ranges-ranges.ensures.value)) rhs in
-    let bounds = section_written _ _ (unless_empty m.bounds (section (codes "BOUNDS") ++ flat_map (bound_line text_of m.columns) m.bounds)) _
-    (c.in_ok-put_bound_section.ensures ∙ ap (λ x. c.put_ranges.new.out.items ++ x)
+    ∙ ap₂ (λ x y. unless_empty m.ranges (section (codes "RANGES") ∷ entry_lines text_of x (codes "RNG") y)) r c.ranges-ranges.ensures.value)) in
+    let bounds = lines_after [] _ _ _ (unless_empty m.bounds (section (codes "BOUNDS") ∷ map (bound_line text_of m.columns) m.bounds)) ranges
+    (c.in_ok-put_bounds.ensures ∙ ap (λ x. c.put_ranges.new.out.items ++ lines_text x)
     (unless_map bound_of c.bounds-bounds.result.now m.bounds _ c.bounds-bounds.ensures.value
-    ∙ ap₂ (λ x y. unless_empty m.bounds (section (codes "BOUNDS") ++ flat_map (bound_line text_of x) y)) c.columns-columns.ensures.value c.bounds-bounds.ensures.value)) ranges in
-    section_written _ _ (section (codes "ENDATA")) _ c.in_ok-put-4.ensures bounds
+    ∙ ap₂ (λ x y. unless_empty m.bounds (section (codes "BOUNDS") ∷ map (bound_line text_of x) y)) c.columns-columns.ensures.value c.bounds-bounds.ensures.value)) in
+    line_after [] _ _ _ (section (codes "ENDATA")) bounds c.in_ok-put_line.ensures
 
 pub returns-clause-text : goal.returns-clause-text
 returns-clause-text c = returns-clause-spelling c ∙ text_of_values c.args.mps.now

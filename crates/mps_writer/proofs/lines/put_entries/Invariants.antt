@@ -1,8 +1,8 @@
 use Rattle.std.proofs.Common.{◌≡◌, ◌++◌, map, take}
+use Rattle.written_texts.specs.Lines.{lines_text, text_of}
 use Rattle.mps_model.specs.Text.{entry_lines}
 use Rattle.mps_model.specs.Built.{entry_of}
-use Rattle.mps_writer.specs.Written.{text_of}
 use Rattle.mps_writer.proofs.lines.put_entries.Given as goal
 
 abbrev pub invariant-loop-entry : goal.invariant-loop-entry
-invariant-loop-entry l = l.out.items ≡ l.initial.out.items ++ entry_lines text_of l.rows l.word (map entry_of (take l.entry-index l.entries))
+invariant-loop-entry l = l.out.items ≡ l.initial.out.items ++ lines_text (entry_lines text_of l.rows l.word (map entry_of (take l.entry-index l.entries)))

@@ -1,9 +1,0 @@
-use Rattle.std.proofs.Common.{◌≡◌, ◌++◌, map, take}
-use Rattle.std.specs.List.{flat_map}
-use Rattle.mps_model.specs.Text.{bound_line}
-use Rattle.mps_model.specs.Built.{bound_of}
-use Rattle.mps_writer.specs.Written.{text_of}
-use Rattle.mps_writer.proofs.bounds.put_bounds.Given as goal
-
-abbrev pub invariant-loop-bound : goal.invariant-loop-bound
-invariant-loop-bound l = l.out.items ≡ l.initial.out.items ++ flat_map (bound_line text_of l.columns) (map bound_of (take l.bound-index l.bounds))

@@ -1,0 +1,5 @@
+pub mod LineLemmas
+pub mod NumbersRead
+pub mod WordLemmas
+pub mod Writing
+pub mod WrittenWords

@@ -1,0 +1,10 @@
+//! Written texts: lines of words, a space between words and LF after each line.
+#![tactic(auto)]
+
+pub mod laws;
+mod words;
+
+pub use words::{
+    put, put_dec, put_end, put_line, put_next, put_next_dec, put_next_number, put_next_numbers,
+    put_next_signed, put_number, put_signed,
+};
