@@ -2,11 +2,11 @@
 ghost use Rattle.std.specs.Prelude.{◌≡◌, ℕ, ◌<◌, ◌≤◌, ◌++◌, option_to_list, length, filter_map, slice_index, IfOk, IfErr, None, Some};
 ghost use Rattle.text_base.specs.Judged.{first_reason};
 ghost use Rattle.text_base.specs.Words.{texts};
-ghost use Rattle.nl_header.specs.Numbers.{signed_of};
+ghost use Rattle.exact_numbers.specs.Numbers.{signed_of};
 ghost use Rattle.nl_header.specs.Head.{begins_with, option_count, options_of, first_line_tests};
 
 use crate::fault::HeadFault;
-use crate::numbers::{signed_of, whole_of};
+use exact_numbers::{signed_of, whole_of};
 use nl_model::{Options, has_second_three};
 
 /// At most so many options.

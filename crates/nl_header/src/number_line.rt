@@ -6,8 +6,8 @@ ghost use Rattle.nl_header.specs.Head.{number_in, limit_of_row, number_tests, wo
 ghost use Rattle.nl_header.specs.Reading.{put_in};
 
 use crate::fault::HeadFault;
-use crate::numbers::whole_of;
 use code_tables::{Field, FieldRow, Table, field_at};
+use exact_numbers::whole_of;
 use text_base::words;
 
 /// From this place on no line has a field.
