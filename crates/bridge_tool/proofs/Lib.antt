@@ -1,7 +1,9 @@
 pub mod Decided
+pub mod Exporting
 pub mod Headline
 pub mod Known
 pub mod Meaning
 pub mod Numbers
 pub mod Outcomes
+pub mod Rewriting
 pub mod Working
