@@ -1,5 +1,5 @@
 -- What reading an .nl text answers, and what a reader of one stands for.
-use Rattle.std.specs.Prelude.{ℕ, List, Option, IsSome, Result, Ok, Err, refl}
+use Rattle.std.specs.Prelude.{ℕ, List, Option, option_map, IsSome, Result, Ok, Err, refl}
 use Rattle.std.specs.Coded.{Coded, code_by, coded×, coded_option}
 use Rattle.text_base.specs.contracts.lines.Lines.{the_row as lines_row}
 use Rattle.text_base.specs.declared.stop.Stop.{Stop}
@@ -62,6 +62,10 @@ pub record Reading : Type 0 where
   pub lines : LinesState
   pub progress : Progress
   pub stopped : Option (Stop (TextFault Refusal))
+
+-- why the reader stopped, where it did
+abbrev pub stop_in : Reading → Option (Stop NlFault)
+stop_in r = option_map stop_of r.stopped
 
 -- the reader was fed this text
 abbrev pub IsFed : Reading → List ℕ → Type 0
