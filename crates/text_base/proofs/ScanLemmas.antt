@@ -11,7 +11,7 @@ use Rattle.text_base.specs.declared.lines.LineFault.{LineFault}
 use Rattle.text_base.specs.declared.lines.LineFault.TheVariants.{LineTooLong, InputTooLong}
 use Rattle.text_base.specs.declared.lines.Taken.{Taken}
 use Rattle.text_base.specs.declared.lines.Taken.TheVariants.{Line, More, Fault}
-use Rattle.text_base.specs.Lines.{trimmed, Scan, no_lines, next_byte, scan, LinesState, new_state, Keeps, StandsFor, GoesOn, taken_of, front_of, TakesMore, TakesLine, Faulted, TakesNow, TakesBy, Takes}
+use Rattle.text_base.specs.Lines.{trimmed, Scan, no_lines, next_byte, scan, LinesState, new_state, Keeps, StandsFor, GoesOn, taken_of, front_of, TakesMore, TakesLine, Faulted, TakesNow, TakesBy, TakesPiece}
 
 abbrev pub steps : Scan → List ℕ → Scan
 steps c bytes = fold next_byte c bytes
@@ -228,10 +228,10 @@ follows-by None c s after piece taken e k takes = follows-now c s after piece ta
 follows-by (Some fault) c s after piece taken e k takes = rw takes.0 (follows-again c s after piece fault e k takes.1)
 
 -- a reader of lines that stood for a text stands for it with what was taken
-pub taken_text : (s after : LinesState) (piece text : List ℕ) (taken : Taken) → Takes s piece taken after → StandsFor text s → StandsFor (text ++ taken_of taken piece) after
+pub taken_text : (s after : LinesState) (piece text : List ℕ) (taken : Taken) → TakesPiece s piece taken after → StandsFor text s → StandsFor (text ++ taken_of taken piece) after
 taken_text s after piece text taken takes stands = rw (scan-append text (taken_of taken piece)) (follows-by s.fault (scan text) s after piece taken refl stands takes).0
 
-pub taken_lines : (s after : LinesState) (piece text : List ℕ) (taken : Taken) → Takes s piece taken after → StandsFor text s → GoesOn (scan text) (scan (text ++ taken_of taken piece)) taken after
+pub taken_lines : (s after : LinesState) (piece text : List ℕ) (taken : Taken) → TakesPiece s piece taken after → StandsFor text s → GoesOn (scan text) (scan (text ++ taken_of taken piece)) taken after
 taken_lines s after piece text taken takes stands = rw (scan-append text (taken_of taken piece)) (follows-by s.fault (scan text) s after piece taken refl stands takes).1
 
 pub stands_new : (rest : List ℕ) → rest ≡ [] → StandsFor [] (record new_state { rest = rest })

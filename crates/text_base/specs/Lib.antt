@@ -11,4 +11,5 @@ pub mod Reading
 pub mod Cut
 pub mod Names
 pub mod TextLines
+pub mod Stamps
 pub mod Host

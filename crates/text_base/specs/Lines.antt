@@ -122,8 +122,8 @@ TakesBy None s piece taken after = TakesNow s piece taken after
 TakesBy (Some fault) s piece taken after = (taken ≡ Fault fault) × (after ≡ s)
 
 -- after a fault each piece answers it again
-abbrev pub Takes : LinesState → List ℕ → Taken → LinesState → Type 0
-Takes s piece taken after = TakesBy s.fault s piece taken after
+abbrev pub TakesPiece : LinesState → List ℕ → Taken → LinesState → Type 0
+TakesPiece s piece taken after = TakesBy s.fault s piece taken after
 
 -- what the end of the text leaves: the bytes after the last line end, if there are any, are the line
 abbrev pub end_done : LinesState → LinesState

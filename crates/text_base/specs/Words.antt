@@ -1,6 +1,7 @@
 -- The words of a line, and its comment.
-use Rattle.std.specs.Prelude.{take, ◌==◌, ℕ, Bool, true, ◌&&◌, ◌||◌, List, [], ◌∷◌, if◌then◌else◌, map}
+use Rattle.std.specs.Prelude.{take, ◌==◌, ℕ, Bool, true, ◌&&◌, ◌||◌, List, [], ◌∷◌, if◌then◌else◌, map, slice_index_or}
 use Rattle.std.specs.Borrow.{Bor}
+use Rattle.std.specs.Str.{bytes_eq}
 use Rattle.text_base.specs.declared.blanks.TheConstants.{LONGEST_ROW}
 
 -- a space or a tab
@@ -29,6 +30,14 @@ texts words = map (λ w. w.now) words
 -- the first twelve words, or all where there are fewer
 abbrev pub row_of : List ℕ → List (List ℕ)
 row_of line = take LONGEST_ROW (words_of line)
+
+-- the word at a place, counted from 0; past the last word, the empty one
+abbrev pub word_at : List (List ℕ) → ℕ → List ℕ
+word_at words i = slice_index_or words i []
+
+-- the first word is this one
+abbrev pub begins : List (List ℕ) → List ℕ → Bool
+begins words keyword = bytes_eq (word_at words 0) keyword
 
 -- without the blanks at the front
 abbrev pub without_blanks : List ℕ → List ℕ

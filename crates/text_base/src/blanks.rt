@@ -1,6 +1,6 @@
-// The words of a line, and the line without its comment or its first blanks.
+// The words of a line and of a row, and the line without its comment or its first blanks.
 ghost use Rattle.std.specs.Prelude.{◌≡◌, ◌≤◌, length, take};
-ghost use Rattle.text_base.specs.Words.{words_of, row_of, texts, is_blank, without_blanks, without_comment};
+ghost use Rattle.text_base.specs.Words.{words_of, row_of, texts, word_at, begins, is_blank, without_blanks, without_comment};
 
 use crate::runs::Words;
 use std::marker::Model;
@@ -68,6 +68,23 @@ fn fill_words<'a>(line: &'a [u8], row: &mut [&'a [u8]]) -> usize
         count += 1;
     }
     count
+}
+
+/// The word at a place, counted from 0; past the last word, the empty one.
+pub fn word_at<'a>(words: &[&'a [u8]], place: usize) -> &'a [u8]
+    ensures { result.now ≡ word_at (texts words.now) place }
+{
+    match words.get(place) {
+        Some(word) => word,
+        None => b"".as_slice(),
+    }
+}
+
+/// Whether the first word is this one.
+pub fn begins(words: &[&[u8]], keyword: &[u8]) -> bool
+    ensures { result ≡ begins (texts words.now) keyword.now }
+{
+    word_at(words, 0) == keyword
 }
 
 fn is_blank(byte: u8) -> bool

@@ -1,6 +1,6 @@
 // The lines of a text that comes in pieces.
 ghost use Rattle.std.specs.Prelude.{◌≡◌, ◌+◌, ◌-◌, ◌<◌, ◌≤◌, ◌^◌, ◌++◌, ◌==◌, List, ℕ, position, [], length, take, IfOk, IfSome, IsSome, IsTrue, ◌↔◌, None, Some, IsNone, false, true};
-ghost use Rattle.text_base.specs.Lines.{new_state, StandsFor, Keeps, Scan, GoesOn, IfLine, taken_of, scan, number_of, trimmed, front_of, Takes, end_done};
+ghost use Rattle.text_base.specs.Lines.{new_state, StandsFor, Keeps, Scan, GoesOn, IfLine, taken_of, scan, number_of, trimmed, front_of, TakesPiece, end_done};
 
 use std::alloc::{AllocError, Global};
 use std::marker::Model;
@@ -95,7 +95,7 @@ impl Lines {
 
     /// Takes bytes until a line ends or the piece is used.
     pub fn take(&mut self, piece: &[u8]) -> Taken
-        ensures exact { Takes self.old piece.now result self.new }
+        ensures exact { TakesPiece self.old piece.now result self.new }
         ensures within { IfLine result (λ n. (0 < n) × (n ≤ length piece.now) × IsSome self.new.line) }
 
         // However the text was cut into pieces, the lines are its lines.
@@ -106,7 +106,7 @@ impl Lines {
     }
 
     fn take_piece(&mut self, piece: &[u8]) -> Taken
-        ensures { Takes self.old piece.now result self.new }
+        ensures { TakesPiece self.old piece.now result self.new }
     {
         if let Some(fault) = self.fault {
             return Taken::Fault(fault);

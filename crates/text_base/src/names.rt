@@ -62,6 +62,15 @@ impl Name {
         Ok(Name { bytes })
     }
 
+    /// The name with these bytes, which are those of a name.
+    pub fn tested(alloc: Global, text: &[u8]) -> Result<Name, AllocError>
+        requires { IsName text.now }
+        ensures { IfOk result (λ name. name ≡ text.now) }
+    {
+        let bytes = Vec::from_slice(alloc, text)?;
+        Ok(Name { bytes })
+    }
+
     /// The bytes of the name.
     pub fn bytes(&self) -> &[u8]
         ensures value { result.now ≡ self.now }
