@@ -13,3 +13,5 @@ pub mod Signs
 pub mod Spelling
 pub mod Reading
 pub mod Wholes
+pub mod NumberLemmas
+pub mod WholeLemmas

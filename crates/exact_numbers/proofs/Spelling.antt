@@ -1,5 +1,5 @@
 -- The one spelling of the value of a Dec.
-use Rattle.std.proofs.Common.{◌≡◌, ◌≢◌, ℕ, zero, suc, ◌+◌, ◌*◌, ◌/◌, ◌%◌, ◌^◌, ◌<◌, ◌≤◌, ◌⊎◌, ◌&&◌, ◌||◌, not, nat_le, lit<, lt_of_le_of_lt, inl, inr, ⊎_elim, ◌∙◌, sym, ap, ap₂, refl, arith, subst, ℤ, pos, negsuc, ◌+ℤ◌, ◌-ℤ◌, ◌*ℤ◌, ◌≤ℤ◌, ◌<ℤ◌, neg_ℤ, unsigned_abs, int_div, nat_eq, Bool, true, false, cond, mul_comm, mul-pos, pow-add}
+use Rattle.std.proofs.Common.{◌≡◌, ◌≢◌, ℕ, zero, suc, ◌+◌, ◌*◌, ◌/◌, ◌%◌, ◌^◌, ◌<◌, ◌≤◌, ◌&&◌, ◌||◌, not, nat_le, ⊎_elim, ◌∙◌, sym, ap, ap₂, refl, arith, subst, ℤ, pos, negsuc, ◌+ℤ◌, ◌-ℤ◌, ◌*ℤ◌, ◌≤ℤ◌, ◌<ℤ◌, neg_ℤ, unsigned_abs, int_div, nat_eq, Bool, true, false, cond, mul_comm, mul-pos, pow-add}
 use Rattle.std.proofs.Math.Nat.{mul-mod_left, eq_of_mul-eq-mul_right, div-add-mod', mul-div_cancel, zero-div}
 use Rattle.std.proofs.lemmas.Bool.Decides.{nat_tests}
 use Rattle.std.proofs.lemmas.Bool.{cases_eq}
@@ -7,13 +7,14 @@ use Rattle.std.proofs.lemmas.Int.{ints, by_lt_z, unsigned_abs-mul}
 use borrow.Author.Differences.{up, down, same_in}
 use Rattle.fractions.specs.Rational.{ℚ, decimal_value}
 use Rattle.exact_numbers.specs.Decimal.{IsDec}
-use Rattle.exact_numbers.specs.Values.{Decimal, is_multiple, mantissa_at, exponent_below, decimal_of, value_text, is_small, is_spelled, fits_dec, FitsDec}
+use Rattle.exact_numbers.specs.Values.{Decimal, is_multiple, mantissa_at, exponent_below, decimal_of, value_text, is_spelled, fits_dec, FitsDec}
+use Rattle.exact_numbers.specs.Spelled.{second_of_both, spelled_of}
 use Rattle.exact_numbers.specs.Written.{dec_text}
 use Rattle.exact_numbers.proofs.Pairs.{scaled}
 use Rattle.exact_numbers.proofs.Tens.{ten-pos, zeros-le}
 use Rattle.exact_numbers.proofs.Signed.{sizes_of, times_twice}
 use Rattle.exact_numbers.proofs.Decimals.{abs_is}
-use Rattle.exact_numbers.proofs.Bridge.{Is, decimal_is, zero_decimal, small_of, small_out, both_true, and_true}
+use Rattle.exact_numbers.proofs.Bridge.{Is, decimal_is, zero_decimal, small_of, both_true}
 use Rattle.exact_numbers.proofs.Fractions.{signed_times}
 use Rattle.fractions.proofs.Values.{own_value, same_value}
 use Rattle.fractions.proofs.Arithmetic.{zero_top, top_zero}
@@ -40,19 +41,9 @@ eq_out a b e = grind (arith, nat_tests)
 le_true : (a b : ℕ) → a ≤ b → nat_le a b ≡ true
 le_true a b h = grind (arith, nat_tests)
 
-le_out : (a b : ℕ) → nat_le a b ≡ true → a ≤ b
-le_out a b e = grind (arith, nat_tests)
-
 or_right : (a b : Bool) → b ≡ true → a || b ≡ true
 or_right true b h = refl
 or_right false b h = h
-
-or_true : (a b : Bool) → a || b ≡ true → (a ≡ true) ⊎ (b ≡ true)
-or_true true b h = inl refl
-or_true false b h = inr h
-
-clash : (b : Bool) → b ≡ true → b ≡ false → ⊥
-clash b p q = cc
 
 -- ---- the exponent
 module _ (x : ℚ) (m e : ℤ) (h : Is x (scaled m e)) where
@@ -161,43 +152,21 @@ spelled_in m e dec = ⊎_elim zero_case other (cases_eq (unsigned_abs m % 10) 0)
     other : unsigned_abs m % 10 ≢ 0 → is_spelled m e ≡ true
     other odd = or_right _ _ (both_true _ _ (both_true _ _ (small_of _ dec.mantissa) (le_true _ _ dec.exponent)) (ap not (eq_false _ _ odd)))
 
-spelled_out : (m e : ℤ) → is_spelled m e ≡ true → IsDec m e
-spelled_out m e h = ⊎_elim zero_case other (or_true _ _ h)
-  where
-    zero_case : (nat_eq (unsigned_abs m) 0 && nat_eq (unsigned_abs e) 0) ≡ true → IsDec m e
-    zero_case h =
-        let both = and_true _ _ h in
-        let a : unsigned_abs m ≡ 0 = eq_out _ _ both.0 in
-        let b : unsigned_abs e ≡ 0 = eq_out _ _ both.1 in
-        record {
-          mantissa = let none : unsigned_abs m ≤ 0 = omega arith in lt_of_le_of_lt none (lit< tt);
-          exponent = omega arith;
-          shortest = λ z. (same_in m (pos 0) (omega (arith, abs_is m, a)), same_in e (pos 0) (omega (arith, abs_is e, b)));
-        }
-
-    other : (is_small (unsigned_abs m) && nat_le (unsigned_abs e) 400 && not (nat_eq (unsigned_abs m % 10) 0)) ≡ true → IsDec m e
-    other h =
-        let last = and_true _ _ h in
-        let both = and_true _ _ last.0 in
-        record {
-          mantissa = small_out _ both.0;
-          exponent = le_out _ _ both.1;
-          shortest = λ z. absurd (let same = ap not (eq_true _ _ z) in clash _ (last.1) same);
-        }
-
 pub fits_dec_in : (x : ℚ) → FitsDec x → fits_dec x ≡ true
 unfolding fits_dec
 fits_dec_in x f = subst (λ y. (is_spelled (decimal_of y).mantissa (decimal_of y).exponent && is_multiple y (decimal_of y).exponent) ≡ true) f.same
     (subst (λ d. (is_spelled d.mantissa d.exponent && is_multiple (decimal_value f.m f.e) d.exponent) ≡ true) (sym (decimal_of-decimal f.m f.e f.dec))
     (both_true _ _ (spelled_in f.m f.e f.dec) (multiple_at (decimal_value f.m f.e) f.m f.e (decimal_is f.m f.e))))
 
-pub fits_dec_out : (x : ℚ) → fits_dec x ≡ true → FitsDec x
+pub fits_dec-value : (x : ℚ) → fits_dec x ≡ true → decimal_value (decimal_of x).mantissa (decimal_of x).exponent ≡ x
 unfolding fits_dec
+fits_dec-value x h = value_of_spelling x (second_of_both _ _ h)
+
+pub fits_dec_out : (x : ℚ) → fits_dec x ≡ true → FitsDec x
 fits_dec_out x h =
-    let both = and_true _ _ h in
     record {
       m = (decimal_of x).mantissa;
       e = (decimal_of x).exponent;
-      dec = spelled_out _ _ both.0;
-      same = value_of_spelling x both.1;
+      dec = spelled_of x h;
+      same = fits_dec-value x h;
     }

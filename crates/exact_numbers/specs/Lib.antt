@@ -3,3 +3,5 @@ pub mod Decimal
 pub mod Written
 pub mod Values
 pub mod Text
+pub mod Spelled
+pub mod Numbers
