@@ -5,5 +5,6 @@ pub mod FirstReasons
 pub mod JudgedLemmas
 pub mod ReadingLemmas
 pub mod CutLemmas
+pub mod LineLemmas
 pub mod CutLines
 pub mod MarkLemmas

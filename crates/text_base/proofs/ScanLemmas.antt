@@ -11,6 +11,7 @@ use Rattle.text_base.specs.declared.lines.LineFault.{LineFault}
 use Rattle.text_base.specs.declared.lines.LineFault.TheVariants.{LineTooLong, InputTooLong}
 use Rattle.text_base.specs.declared.lines.Taken.{Taken}
 use Rattle.text_base.specs.declared.lines.Taken.TheVariants.{Line, More, Fault}
+use Rattle.text_base.specs.Cut.{HasNoEnd}
 use Rattle.text_base.specs.Lines.{trimmed, Scan, no_lines, next_byte, scan, LinesState, new_state, Keeps, StandsFor, GoesOn, taken_of, front_of, TakesMore, TakesLine, Faulted, TakesNow, TakesBy, TakesPiece}
 
 abbrev pub steps : Scan → List ℕ → Scan
@@ -50,10 +51,6 @@ next-more c b e h n l = rw (e, leb_not (2 ^ 31) c.total h, n, leb_not 65536 (len
 
 -- ---- several bytes
 
-abbrev pub NoEnd : List ℕ → Type 0
-NoEnd [] = Unit {0}
-NoEnd (b ∷ bytes) = ((b == 10) ≡ false) × NoEnd bytes
-
 pub steps-fault : (c : Scan) (f : LineFault) (bytes : List ℕ) → c.fault ≡ Some f → steps c bytes ≡ c
 steps-fault c f [] e = refl
 steps-fault c f (b ∷ bytes) e = rw (next-fault c f b e) (steps-fault c f bytes e)
@@ -62,7 +59,7 @@ same_scan : (a b : Scan) → a.lines ≡ b.lines → a.rest ≡ b.rest → a.tot
 same_scan a b p q r s = λ i. record { lines = p i; rest = q i; total = r i; fault = s i }
 
 -- bytes of a line
-pub steps-more : (c : Scan) (bytes : List ℕ) → c.fault ≡ None → NoEnd bytes → length c.rest + length bytes ≤ 65536 → c.total + length bytes ≤ 2 ^ 31
+pub steps-more : (c : Scan) (bytes : List ℕ) → c.fault ≡ None → HasNoEnd bytes → length c.rest + length bytes ≤ 65536 → c.total + length bytes ≤ 2 ^ 31
     → steps c bytes ≡ record { lines = c.lines; rest = c.rest ++ bytes; total = c.total + length bytes; fault = None }
 steps-more c [] e n l t = same_scan _ _ refl (sym (append-nil c.rest)) (omega arith) e
 steps-more c (b ∷ bytes) e n l t =
@@ -72,7 +69,7 @@ steps-more c (b ∷ bytes) e n l t =
     rw one (more ∙ same_scan _ _ refl (append_assoc c.rest (b ∷ []) bytes) (omega arith) refl)
 
 -- bytes up to a line end
-pub steps-line : (c : Scan) (bytes : List ℕ) (b : ℕ) → c.fault ≡ None → NoEnd bytes → (b == 10) ≡ true → length c.rest + length bytes ≤ 65536 → c.total + length bytes < 2 ^ 31
+pub steps-line : (c : Scan) (bytes : List ℕ) (b : ℕ) → c.fault ≡ None → HasNoEnd bytes → (b == 10) ≡ true → length c.rest + length bytes ≤ 65536 → c.total + length bytes < 2 ^ 31
     → steps c (bytes ++ b ∷ []) ≡ record { lines = c.lines ++ trimmed (c.rest ++ bytes) ∷ []; rest = []; total = (c.total + length bytes) + 1; fault = None }
 steps-line c bytes b e n is l t =
     let more = steps-more c bytes e n l (omega arith) in
@@ -80,7 +77,7 @@ steps-line c bytes b e n is l t =
     fold-append next_byte c bytes (b ∷ []) ∙ ap (λ (s : Scan). steps s (b ∷ [])) more ∙ next-line next b refl t is
 
 -- bytes up to one that is a fault
-pub steps-stop : (c : Scan) (bytes : List ℕ) (b : ℕ) (more : List ℕ) (f : LineFault) → c.fault ≡ None → NoEnd bytes → length c.rest + length bytes ≤ 65536 → c.total + length bytes ≤ 2 ^ 31
+pub steps-stop : (c : Scan) (bytes : List ℕ) (b : ℕ) (more : List ℕ) (f : LineFault) → c.fault ≡ None → HasNoEnd bytes → length c.rest + length bytes ≤ 65536 → c.total + length bytes ≤ 2 ^ 31
     → next_byte (record { lines = c.lines; rest = c.rest ++ bytes; total = c.total + length bytes; fault = None }) b ≡ record { lines = c.lines; rest = c.rest ++ bytes; total = c.total + length bytes; fault = Some f }
     → steps c (bytes ++ b ∷ more) ≡ record { lines = c.lines; rest = c.rest ++ bytes; total = c.total + length bytes; fault = Some f }
 steps-stop c bytes b more f e n l t h =
@@ -102,24 +99,24 @@ IsBack (b ∷ bytes) = (b == 10) ≡ true
 
 -- a piece is a front without a line end, and what follows it
 abbrev Parted : List ℕ → Type 0
-Parted piece = (back : List ℕ) × (piece ≡ front_of piece ++ back) × IsBack back × NoEnd (front_of piece)
+Parted piece = (back : List ℕ) × (piece ≡ front_of piece ++ back) × IsBack back × HasNoEnd (front_of piece)
 
 parted : (piece : List ℕ) → Parted piece
 parted [] = ([], refl, tt, tt)
 parted (b ∷ piece) = by (parted piece) (b == 10) refl
   where
     by : Parted piece → (t : Bool) → (b == 10) ≡ t → Parted (b ∷ piece)
-    by p true e = let f = front_end b piece e in (b ∷ piece, sym (ap (λ (x : List ℕ). x ++ b ∷ piece) f), e, subst NoEnd (sym f) tt)
-    by p false e = let f = front_more b piece e in (p.0, ap (λ (x : List ℕ). b ∷ x) p.1 ∙ sym (ap (λ (x : List ℕ). x ++ p.0) f), p.2, subst NoEnd (sym f) (e, p.3))
+    by p true e = let f = front_end b piece e in (b ∷ piece, sym (ap (λ (x : List ℕ). x ++ b ∷ piece) f), e, subst HasNoEnd (sym f) tt)
+    by p false e = let f = front_more b piece e in (p.0, ap (λ (x : List ℕ). b ∷ x) p.1 ∙ sym (ap (λ (x : List ℕ). x ++ p.0) f), p.2, subst HasNoEnd (sym f) (e, p.3))
 
-no_end-take : (k : ℕ) (bytes : List ℕ) → NoEnd bytes → NoEnd (take k bytes)
+pub no_end-take : (k : ℕ) (bytes : List ℕ) → HasNoEnd bytes → HasNoEnd (take k bytes)
 no_end-take zero bytes n = tt
 no_end-take (suc k) [] n = tt
 no_end-take (suc k) (b ∷ bytes) n = (n.0, no_end-take k bytes n.1)
 
 -- the bytes from place k on begin with one
 abbrev From : List ℕ → ℕ → Type 0
-From bytes k = (b : ℕ) × (more : List ℕ) × (bytes ≡ take k bytes ++ b ∷ more) × (NoEnd bytes → (b == 10) ≡ false)
+From bytes k = (b : ℕ) × (more : List ℕ) × (bytes ≡ take k bytes ++ b ∷ more) × (HasNoEnd bytes → (b == 10) ≡ false)
 
 from : (bytes : List ℕ) (k : ℕ) → k < length bytes → From bytes k
 from [] k lt = absurd (omega arith)
@@ -134,7 +131,7 @@ follows-more : (c : Scan) (s after : LinesState) (piece : List ℕ) → s.fault 
 follows-more c s after piece e k takes =
     let p = parted piece in
     let none : c.fault ≡ None = sym k.fault ∙ e in
-    let plain : NoEnd piece = subst NoEnd takes.0 p.3 in
+    let plain : HasNoEnd piece = subst HasNoEnd takes.0 p.3 in
     let h = steps-more c piece none plain (rw (← k.rest e) takes.1) (rw (← k.total e) takes.2) in
     rw (h, takes.3) (record { count = k.count; fault = e; rest = λ _. ap (λ (r : List ℕ). r ++ piece) (k.rest e); total = λ _. ap (λ (n : ℕ). n + length piece) (k.total e); awaits = λ fault is. refl }, (refl, refl))
 
@@ -166,22 +163,22 @@ follows-line c s after piece n e k takes =
 
 -- bytes of the piece that are in the line, and then one that is not
 abbrev StopsAt : List ℕ → ℕ → Type 0
-StopsAt piece k = (b : ℕ) × (more : List ℕ) × (piece ≡ take k piece ++ b ∷ more) × NoEnd (take k piece)
+StopsAt piece k = (b : ℕ) × (more : List ℕ) × (piece ≡ take k piece ++ b ∷ more) × HasNoEnd (take k piece)
 
-stops-front : (piece : List ℕ) (k : ℕ) → k < length (front_of piece) → (b : ℕ) × (more : List ℕ) × (piece ≡ take k piece ++ b ∷ more) × NoEnd (take k piece) × ((b == 10) ≡ false)
+stops-front : (piece : List ℕ) (k : ℕ) → k < length (front_of piece) → (b : ℕ) × (more : List ℕ) × (piece ≡ take k piece ++ b ∷ more) × HasNoEnd (take k piece) × ((b == 10) ≡ false)
 stops-front piece k lt =
     let p = parted piece in
     let f = from (front_of piece) k lt in
     let same : take k piece ≡ take k (front_of piece) = ap (take k) p.1 ∙ take-append-le k (front_of piece) p.0 (omega arith) in
     let whole : piece ≡ take k (front_of piece) ++ f.0 ∷ (f.1 ++ p.0) = p.1 ∙ ap (λ (x : List ℕ). x ++ p.0) f.2 ∙ append_assoc (take k (front_of piece)) (f.0 ∷ f.1) p.0 in
-    (f.0, f.1 ++ p.0, whole ∙ ap (λ (x : List ℕ). x ++ f.0 ∷ (f.1 ++ p.0)) (sym same), subst NoEnd (sym same) (no_end-take k (front_of piece) p.3), f.3 p.3)
+    (f.0, f.1 ++ p.0, whole ∙ ap (λ (x : List ℕ). x ++ f.0 ∷ (f.1 ++ p.0)) (sym same), subst HasNoEnd (sym same) (no_end-take k (front_of piece) p.3), f.3 p.3)
 
 stops-piece : (piece : List ℕ) (k : ℕ) → k < length piece → k ≤ length (front_of piece) → StopsAt piece k
 stops-piece piece k lt le =
     let p = parted piece in
     let f = from piece k lt in
     let same : take k piece ≡ take k (front_of piece) = ap (take k) p.1 ∙ take-append-le k (front_of piece) p.0 le in
-    (f.0, f.1, f.2, subst NoEnd (sym same) (no_end-take k (front_of piece) p.3))
+    (f.0, f.1, f.2, subst HasNoEnd (sym same) (no_end-take k (front_of piece) p.3))
 
 stopped : (c : Scan) (s after : LinesState) (piece more : List ℕ) (fault : LineFault) → Keeps c s → after.fault ≡ Some fault → after.count ≡ s.count → after.line ≡ None
     → (rest : List ℕ) (total : ℕ) → steps c piece ≡ record { lines = c.lines; rest = rest; total = total; fault = Some fault } → Follows c piece (Fault fault) after

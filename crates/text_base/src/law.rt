@@ -1,9 +1,10 @@
 // What holds of every grammar, of the lines of every text, and of the texts that a desk in memory stores.
-ghost use Rattle.std.specs.Prelude.{◌≡◌, List, ℕ, ◌++◌, Some, false};
+ghost use Rattle.std.specs.Prelude.{◌≡◌, ◌≤◌, ◌^◌, List, ℕ, ◌++◌, length, Some, false};
+ghost use Rattle.std.specs.List.{AllByRecursion};
 ghost use Rattle.std.specs.Str.{bytes_eq};
 ghost use Rattle.text_base.specs.Memory.{text_named, with_text};
-ghost use Rattle.text_base.specs.Cut.{IsCut};
-ghost use Rattle.text_base.specs.Judged.{Rules, HasOneOutcome};
+ghost use Rattle.text_base.specs.Cut.{IsCut, IsTextLine, lines_text};
+ghost use Rattle.text_base.specs.Judged.{Rules, HasOneOutcome, End};
 ghost use Rattle.text_base.specs.Lines.{scan};
 ghost use Rattle.text_base.specs.Reading.{lines_of, last_of, lines_so_far, last_so_far, HasFault, HasFaultSoFar};
 ghost use Rattle.text_base.specs.declared.fault.TextFault.{TextFault};
@@ -23,6 +24,18 @@ pub fn fault_stays<R>()
 /// The lines of a text are the text, cut at each LF.
 pub fn lines_are_the_text()
     ensures { (text : List ℕ) → IsCut text (scan text) }
+{}
+
+/// Each line of a text is one line, and has at most 65,536 bytes.
+pub fn lines_are_lines()
+    ensures whole { (text : List ℕ) → AllByRecursion IsTextLine (lines_of text) }
+    ensures so_far { (text : List ℕ) → AllByRecursion IsTextLine (lines_so_far text) }
+{}
+
+/// Lines that are written, each with its LF, are read as themselves.
+pub fn written_lines_are_read()
+    ensures lines { (lines : List (List ℕ)) → AllByRecursion IsTextLine lines → length (lines_text lines) ≤ 2 ^ 31 → lines_of (lines_text lines) ≡ lines }
+    ensures end { (lines : List (List ℕ)) → AllByRecursion IsTextLine lines → length (lines_text lines) ≤ 2 ^ 31 → last_of (lines_text lines) ≡ End }
 {}
 
 /// A text that is stored is found by its name, and each other name keeps its text.
