@@ -14,6 +14,8 @@ grammar_of reader = reader.grammar
 abbrev pub stopped_by : {G R V : Type 0} → Reader G R V → Option (Stop (TextFault R))
 stopped_by reader = reader.stopped
 
--- it was fed this text: it goes on behind its lines, or keeps its first fault; after want of memory nothing is said
-abbrev pub HasTaken : {G R V : Type 0} → Rules R → (G → List (List ℕ) → Type 0) → Reader G R V → List ℕ → Type 0
+-- it was fed this text: it goes on behind its lines, or keeps its first fault; after want of
+-- memory nothing is said
+abbrev pub HasTaken : {G R V : Type 0} → Rules R → (G → List (List ℕ) → Type 0) → Reader G R V
+    → List ℕ → Type 0
 HasTaken rules took reader text = Stands reader.stopped rules (took reader.grammar) reader.lines text
