@@ -8,8 +8,6 @@ mod number_line;
 mod numbers;
 mod reader;
 mod rules;
-#[cfg(test)]
-mod tests;
 
 pub use fault::HeadFault;
 pub use kinds::kinds_of;
