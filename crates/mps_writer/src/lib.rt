@@ -10,8 +10,6 @@ ghost use Rattle.written_texts.specs.Lines.{line_text, lines_text};
 mod bounds;
 mod columns;
 mod lines;
-#[cfg(test)]
-mod tests;
 
 use bounds::put_bounds;
 use columns::put_columns;
