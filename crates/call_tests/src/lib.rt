@@ -3,7 +3,21 @@
 #![tactic(auto)]
 
 #[cfg(test)]
+mod commands;
+#[cfg(test)]
+mod exports;
+#[cfg(test)]
+mod headers;
+#[cfg(test)]
+mod nl_texts;
+#[cfg(test)]
 mod numbers;
+#[cfg(test)]
+mod parts;
+#[cfg(test)]
+mod segments;
+#[cfg(test)]
+mod stages;
 #[cfg(test)]
 mod tables;
 #[cfg(test)]

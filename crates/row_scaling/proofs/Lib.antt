@@ -15,7 +15,6 @@ pub mod RowFitLemmas
 pub mod RowLemmas
 pub mod ScaleLemmas
 pub mod TermLemmas
-pub mod TestLemmas
 pub mod TieLemmas
 pub mod VariableLemmas
 pub mod WholeDecimals

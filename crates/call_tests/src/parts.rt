@@ -1,11 +1,11 @@
-// Each call that can want memory, with memory to spare, and the rules of headers.
+// The parts of a file, given one by one.
 ghost use Rattle.std.specs.Prelude.{◌≡◌, IfOk};
 ghost use Rattle.nl_meaning.specs.Trees.{number};
 
-use crate::{
+use exact_numbers::Dec;
+use nl_model::{
     Counts, Decs, Def, Expr, ExprBuilder, Header, Interval, NlBuilder, Node, Options, Suffix, Terms,
 };
-use exact_numbers::Dec;
 use std::alloc::{AllocError, Global};
 use std::test::Fail;
 use text_base::Name;
@@ -49,6 +49,32 @@ fn accepts(counts: Counts) -> bool {
     Header::new(Options::new(), counts).is_some()
 }
 
+#[test]
+fn headers_keep_the_rules(rt: HostRuntime) {
+    let cases = [
+        (COUNTS, true),
+        (Counts { nlvci: 2, ..COUNTS }, false),
+        (Counts { niv: 2, ..COUNTS }, false),
+        (
+            Counts {
+                n_con: 1_048_576,
+                ..COUNTS
+            },
+            true,
+        ),
+        (
+            Counts {
+                n_con: 1_048_577,
+                ..COUNTS
+            },
+            false,
+        ),
+    ];
+    for (counts, wanted) in cases {
+        assert_eq!(rt; accepts(counts), wanted, "at {counts:?}");
+    }
+}
+
 fn started(alloc: Global) -> Result<NlBuilder, Fail> {
     let header = Header::new(Options::new(), COUNTS).ok_or("refused")?;
     let builder = NlBuilder::new(alloc, header)?;
@@ -57,11 +83,12 @@ fn started(alloc: Global) -> Result<NlBuilder, Fail> {
 
 // Adds an interval of a constraint and one of a variable.
 fn add_sides(builder: &mut NlBuilder) -> Result<(), AllocError> {
+    let free = Interval { lo: None, hi: None };
     if builder.sides() < builder.header().counts().n_con {
-        builder.side(Interval { lo: None, hi: None })?;
+        builder.side(free)?;
     }
     if builder.bounds() < builder.header().counts().n_var {
-        builder.bound(Interval { lo: None, hi: None })?;
+        builder.bound(free)?;
     }
     Ok(())
 }
@@ -75,15 +102,14 @@ fn add_term(builder: &mut NlBuilder, value: Dec) -> Result<(), AllocError> {
     Ok(())
 }
 
-// Adds a suffix without values.
-fn add_suffix(builder: &mut NlBuilder, alloc: Global, name: Name) -> Result<(), AllocError> {
-    if !builder.has_suffix(4, name.bytes()) {
-        builder.suffix(Suffix {
-            kind: 4,
-            name,
-            values: Terms::new(alloc),
-        })?;
-    }
+#[test]
+fn a_builder_takes_sides_and_terms(rt: HostRuntime) -> Result<(), Fail> {
+    let mut builder = started(rt.alloc())?;
+    add_sides(&mut builder)?;
+    assert_eq!(rt; builder.sides(), 1);
+    assert_eq!(rt; builder.bounds(), 1);
+    add_term(&mut builder, Dec::of_whole(5))?;
+    assert_eq!(rt; builder.terms(), 1);
     Ok(())
 }
 
@@ -97,6 +123,14 @@ fn guessed(alloc: Global, header: Header, value: Dec) -> Result<NlBuilder, Alloc
         builder.primal_guess(0, value)?;
     }
     Ok(builder)
+}
+
+#[test]
+fn a_builder_takes_guesses(rt: HostRuntime) -> Result<(), Fail> {
+    let header = Header::new(Options::new(), COUNTS).ok_or("refused")?;
+    let builder = guessed(rt.alloc(), header, Dec::of_whole(5))?;
+    assert!(rt; !builder.has_body(0));
+    Ok(())
 }
 
 // The expression of one number.
@@ -125,77 +159,29 @@ fn add_definition(builder: &mut NlBuilder, alloc: Global, value: Dec) -> Result<
 
 #[test]
 fn a_builder_takes_a_definition(rt: HostRuntime) -> Result<(), Fail> {
-    let value = Dec::new(5, 0).ok_or("no decimal")?;
     let mut builder = started(rt.alloc())?;
-    add_definition(&mut builder, rt.alloc(), value)?;
+    add_definition(&mut builder, rt.alloc(), Dec::of_whole(5))?;
     assert!(rt; builder.has_def(2));
     assert!(rt; !builder.has_def(3));
     Ok(())
 }
 
-#[test]
-fn headers_keep_the_rules(rt: HostRuntime) {
-    assert!(rt; accepts(COUNTS));
-    assert!(rt;
-        !accepts(Counts { nlvci: 2, ..COUNTS }),
-        "more whole variables than the group has"
-    );
-    assert!(rt;
-        !accepts(Counts {
-            n_con: 1_048_577,
-            ..COUNTS
-        })
-    );
-    assert!(rt;
-        accepts(Counts {
-            n_con: 1_048_576,
-            ..COUNTS
-        })
-    );
-    assert!(rt;
-        !accepts(Counts { niv: 2, ..COUNTS }),
-        "more grouped variables than there are"
-    );
-}
-
-#[test]
-fn lists_hold_their_items(rt: HostRuntime) -> Result<(), Fail> {
-    let value = Dec::new(3, 0).ok_or("no decimal")?;
-    let mut terms = Terms::new(rt.alloc());
-    terms.push((7, value))?;
-    assert_eq!(rt; terms.len(), 1);
-    let mut values = Decs::new(rt.alloc());
-    values.push(value)?;
-    assert_eq!(rt; values.len(), 1);
-    Ok(())
-}
-
-#[test]
-fn an_expression_awaits_its_nodes(rt: HostRuntime) -> Result<(), Fail> {
-    let mut builder = ExprBuilder::new(rt.alloc());
-    builder.push(Node::Var(0))?;
-    assert_eq!(rt; builder.wants(), 0);
-    Ok(())
-}
-
-#[test]
-fn a_builder_takes_parts(rt: HostRuntime) -> Result<(), Fail> {
-    let value = Dec::new(5, 0).ok_or("no decimal")?;
-    let mut builder = started(rt.alloc())?;
-    add_sides(&mut builder)?;
-    assert_eq!(rt; builder.sides(), 1);
-    assert_eq!(rt; builder.bounds(), 1);
-    add_term(&mut builder, value)?;
-    assert_eq!(rt; builder.terms(), 1);
+// Adds a suffix without values.
+fn add_suffix(builder: &mut NlBuilder, alloc: Global, name: Name) -> Result<(), AllocError> {
+    if !builder.has_suffix(4, name.bytes()) {
+        builder.suffix(Suffix {
+            kind: 4,
+            name,
+            values: Terms::new(alloc),
+        })?;
+    }
     Ok(())
 }
 
 #[test]
 fn a_builder_takes_a_suffix(rt: HostRuntime) -> Result<(), Fail> {
     let mut builder = started(rt.alloc())?;
-    let Ok(name) = Name::of(rt.alloc(), b"a") else {
-        return Ok(());
-    };
+    let name = Name::of(rt.alloc(), b"a").ok().ok_or("no name")?;
     add_suffix(&mut builder, rt.alloc(), name)?;
     assert!(rt; builder.has_suffix(8, b"a"));
     assert!(rt; !builder.has_suffix(1, b"a"));
@@ -203,10 +189,13 @@ fn a_builder_takes_a_suffix(rt: HostRuntime) -> Result<(), Fail> {
 }
 
 #[test]
-fn a_builder_takes_guesses(rt: HostRuntime) -> Result<(), Fail> {
-    let value = Dec::new(5, 0).ok_or("no decimal")?;
-    let header = Header::new(Options::new(), COUNTS).ok_or("refused")?;
-    let builder = guessed(rt.alloc(), header, value)?;
-    assert!(rt; !builder.has_body(0));
+fn lists_hold_their_items(rt: HostRuntime) -> Result<(), Fail> {
+    let value = Dec::of_whole(3);
+    let mut terms = Terms::new(rt.alloc());
+    terms.push((7, value))?;
+    assert_eq!(rt; terms.items(), [(7, value)].as_slice());
+    let mut values = Decs::new(rt.alloc());
+    values.push(value)?;
+    assert_eq!(rt; values.items(), [value].as_slice());
     Ok(())
 }

@@ -1,4 +1,4 @@
-use Rattle.linear_fold.proofs.tests.a_multiple_is_added.Given as goal
+use Rattle.call_tests.proofs.stages.a_multiple_is_added.Given as goal
 
 -- the ledger is the blank's
 abbrev pub ghosts-doubled : goal.ghosts-doubled
