@@ -11,8 +11,6 @@ ghost use Rattle.mps_writer.specs.Written.{text_of};
 mod bounds;
 mod columns;
 mod lines;
-#[cfg(test)]
-mod tests;
 
 use bounds::put_bound_section;
 use columns::put_columns;

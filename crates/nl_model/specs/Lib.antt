@@ -4,7 +4,9 @@ pub mod File
 pub mod FileCode
 pub mod FilePlaces
 pub mod HeaderRules
+pub mod HeaderWords
 pub mod Kinds
 pub mod Nodes
 pub mod Rules
+pub mod SuffixKinds
 pub mod TreeCode

@@ -1,5 +1,5 @@
 -- What each .nl file keeps: indices in range, orders, and no repeats (Gay 2005, "Writing .nl Files"; the limits are this project's own).
-use Rattle.std.specs.Prelude.{◌≡◌, ◌≢◌, ℕ, ◌+◌, ◌%◌, ◌^◌, ◌<◌, ◌≤◌, Bool, false, ◌&&◌, ◌==◌, IsTrue, List, [], ◌∷◌, ◌++◌, length, sum_by, All, AllPairs, Option, Some, None, IfSome, if◌then◌else◌}
+use Rattle.std.specs.Prelude.{◌≡◌, ◌≢◌, ℕ, ◌+◌, ◌^◌, ◌<◌, ◌≤◌, Bool, false, ◌&&◌, ◌==◌, IsTrue, List, [], ◌∷◌, ◌++◌, length, sum_by, All, AllPairs, Option, Some, None, IfSome}
 use Rattle.std.specs.List.{list_any}
 use Rattle.std.specs.Str.{bytes_eq}
 use Rattle.fractions.specs.Rational.{◌≤ℚ◌}
@@ -11,6 +11,7 @@ use Rattle.nl_model.specs.declared.interval.Interval.{Interval}
 use Rattle.nl_model.specs.File.{Term, Objective, Definition, Suffix, File}
 use Rattle.nl_model.specs.HeaderRules.{is_header, defined_count}
 use Rattle.nl_model.specs.Nodes.{IsTreeFormed}
+use Rattle.nl_model.specs.SuffixKinds.{has_same_objects, object_limit}
 
 -- limits: terms of all constraints together, and terms of one other owner
 abbrev pub most_terms : ℕ
@@ -92,14 +93,13 @@ pub record AreGuesses (n : ℕ) (ts : List Term) : Type 0 where
   pub below : AreTermsBelow n ts
   pub apart : AreIndicesApart ts
 
--- what the low two bits of a kind say of the objects of a suffix: variables, constraints, objectives, or the problem
+-- how many objects of a file a suffix of this kind is for
 abbrev pub object_count : Counts → ℕ → ℕ
-object_count c kind =
-    (if kind % 4 == 0 then c.n_var else (if kind % 4 == 1 then c.n_con else (if kind % 4 == 2 then c.n_obj else 1)))
+object_count c kind = object_limit c.n_var c.n_con c.n_obj kind
 
 -- the same name for the same objects
 abbrev pub is_suffix_of : ℕ → List ℕ → Suffix → Bool
-is_suffix_of kind name s = (s.kind % 4 == kind % 4) && bytes_eq s.name name
+is_suffix_of kind name s = has_same_objects s.kind kind && bytes_eq s.name name
 
 abbrev pub has_suffix : List Suffix → ℕ → List ℕ → Bool
 has_suffix ss kind name = list_any (is_suffix_of kind name) ss

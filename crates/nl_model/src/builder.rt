@@ -1,16 +1,19 @@
 // Files that are being built.
 ghost use Rattle.std.specs.Prelude.{◌≡◌, ◌≢◌, ◌+◌, ◌<◌, ◌≤◌, ◌^◌, ◌++◌, ◌∷◌, [], length, get_or, false, Some, All, OnOk, OnErr, IfOk, slice_set};
 ghost use Rattle.nl_model.specs.HeaderRules.{defined_count};
+ghost use Rattle.nl_model.specs.HeaderWords.{header_counts, header_options};
 ghost use Rattle.nl_model.specs.Draft.{empty_draft, is_given, IsDraft};
 ghost use Rattle.nl_model.specs.Rules.{AreIndicesApart, AreTermsBelow, IsOrdered, IsTreeWithin, has_suffix, is_defined, is_suffix_of, most_terms, object_count, term_count};
 
 use crate::definition::Def;
 use crate::expr::Expr;
-use crate::header::{Header, defined_count};
+use crate::header::Header;
+use crate::header_rules::defined_count;
 use crate::interval::Interval;
 use crate::objective::Objective;
 use crate::places::{lists, marks, places};
 use crate::suffix::Suffix;
+use crate::suffix_kinds::has_same_objects;
 use crate::terms::Terms;
 use exact_numbers::Dec;
 use std::alloc::{AllocError, Global};
@@ -54,13 +57,13 @@ impl Model for NlBuilder {
 fn is_suffix_of(suffix: &Suffix, kind: u8, name: &[u8]) -> bool
     ensures { result ≡ is_suffix_of kind name.now suffix.now }
 {
-    suffix.kind % 4 == kind % 4 && suffix.name.bytes() == name
+    has_same_objects(suffix.kind, kind) && suffix.name.bytes() == name
 }
 
 impl NlBuilder {
     /// A file of this header with no parts, and the places of bodies, objectives and terms.
     pub fn new(alloc: Global, header: Header) -> Result<NlBuilder, AllocError>
-        ensures { IfOk result (λ b. b ≡ empty_draft header.options header.counts) }
+        ensures { IfOk result (λ b. b ≡ empty_draft (header_options header) (header_counts header)) }
     {
         let counts = *header.counts();
         let rows = counts.n_con as usize;
@@ -214,8 +217,8 @@ impl NlBuilder {
 
     /// The header, and what holds of each draft.
     pub fn header(&self) -> &Header
-        ensures options { result.now.options ≡ self.now.options }
-        ensures counts { result.now.counts ≡ self.now.counts }
+        ensures options { header_options result.now ≡ self.now.options }
+        ensures counts { header_counts result.now ≡ self.now.counts }
         ensures draft { IsDraft self.now }
     {
         &self.header

@@ -1,6 +1,7 @@
 // Files.
 ghost use Rattle.std.specs.Prelude.{◌≡◌, ◌<◌, length, Some, IsSome, All, slice_get, option_copied, option_map};
 ghost use Rattle.nl_model.specs.Draft.{file_of};
+ghost use Rattle.nl_model.specs.HeaderWords.{header_counts, header_options};
 ghost use Rattle.nl_model.specs.Rules.{term_count, IsFile};
 
 use crate::builder::NlBuilder;
@@ -47,8 +48,8 @@ impl Model for NlFile {
 impl NlFile {
     /// The header, and what holds of each file.
     pub fn header(&self) -> &Header
-        ensures options { result.now.options ≡ self.now.options }
-        ensures counts { result.now.counts ≡ self.now.counts }
+        ensures options { header_options result.now ≡ self.now.options }
+        ensures counts { header_counts result.now ≡ self.now.counts }
         ensures file { IsFile self.now }
     {
         &self.header

@@ -1,5 +1,6 @@
-use crate::{Dec, Frac, NumFault, NumText, lcm, read_dec, read_whole};
-use std::cmp::Ordering;
+// Numbers as texts, and worked sums and products.
+
+use exact_numbers::{Dec, Frac, NumFault, NumText, read_dec, read_whole};
 use std::test::Fail;
 
 const LARGEST: i128 = 170141183460469231731687303715884105727;
@@ -62,7 +63,7 @@ fn numbers_are_written(rt: HostRuntime) -> Result<(), Fail> {
 }
 
 #[test]
-fn faults(rt: HostRuntime) {
+fn texts_that_are_no_numbers(rt: HostRuntime) {
     assert_eq!(rt; read_dec(b"."), Err(NumFault::NotNumber));
     assert_eq!(rt; read_dec(b"1e"), Err(NumFault::NotNumber));
     assert_eq!(rt; read_dec(b"1.2.3"), Err(NumFault::NotNumber));
@@ -79,7 +80,7 @@ fn faults(rt: HostRuntime) {
 }
 
 #[test]
-fn fractions(rt: HostRuntime) -> Result<(), Fail> {
+fn sums_and_products(rt: HostRuntime) -> Result<(), Fail> {
     let third = Frac::new(1, 3).ok_or("third")?;
     let sixth = Frac::new(-1, -6).ok_or("sixth")?;
     let half = third.add(sixth).ok_or("sum")?;
@@ -97,18 +98,6 @@ fn fractions(rt: HostRuntime) -> Result<(), Fail> {
 }
 
 #[test]
-fn limits_of_fractions(rt: HostRuntime) -> Result<(), Fail> {
-    let largest = Frac::new(LARGEST, 1).ok_or("largest")?;
-    assert!(rt; largest.add(Frac::one()).is_none());
-    assert!(rt; largest.div(Frac::zero()).is_none());
-    assert!(rt; Frac::new(1, 0).is_none());
-    assert!(rt; Frac::new(1, i128::MIN).is_none());
-    assert_eq!(rt; lcm(12, 18), Some(36));
-    assert_eq!(rt; lcm(LARGEST, 2), None);
-    Ok(())
-}
-
-#[test]
 fn conversions(rt: HostRuntime) -> Result<(), Fail> {
     let eighth = Frac::of_dec(Dec::new(125, -3).ok_or("dec")?).ok_or("frac")?;
     assert_eq!(rt; eighth.num(), 1);
@@ -119,36 +108,5 @@ fn conversions(rt: HostRuntime) -> Result<(), Fail> {
     assert!(rt; Frac::of_dec(Dec::new(2, 38).ok_or("wide")?).is_none());
     assert!(rt; Frac::new(1, 3).ok_or("third")?.to_dec().is_none());
     assert_eq!(rt; Frac::new(1, 60).ok_or("sixtieth")?.cofactor(), 3);
-    Ok(())
-}
-
-#[test]
-fn decimals(rt: HostRuntime) -> Result<(), Fail> {
-    let thousand = Dec::of_whole(1000);
-    assert_eq!(rt; thousand.m(), 1);
-    assert_eq!(rt; thousand.e(), 3);
-    let product = thousand.times(-15).ok_or("product")?;
-    assert_eq!(rt; product.m(), -15);
-    assert_eq!(rt; product.neg().m(), 15);
-    assert!(rt; product.is_whole() && product.is_negative());
-    assert!(rt; Dec::new(5, 400).ok_or("large")?.times(2).is_none());
-    assert!(rt; Dec::of_whole(2).times(1 << 126).is_none());
-    assert!(rt; Dec::new(1, 401).is_none());
-    assert!(rt; Dec::new(i128::MIN, 0).is_none());
-    assert!(rt; Dec::zero().is_zero());
-    Ok(())
-}
-
-#[test]
-fn orders(rt: HostRuntime) -> Result<(), Fail> {
-    let small = Dec::new(-3, 400).ok_or("small")?;
-    let large = Dec::new(1, -400).ok_or("large")?;
-    assert_eq!(rt; small.order(large), Ordering::Less);
-    assert_eq!(rt; large.order(small), Ordering::Greater);
-    assert_eq!(rt; large.order(large), Ordering::Equal);
-    assert!(rt; !large.is_whole());
-    let third = Frac::new(1, 3).ok_or("third")?;
-    let near = Frac::new(56713727820156410577229101238628035242, LARGEST).ok_or("near")?;
-    assert_eq!(rt; near.order(third), Ordering::Less);
     Ok(())
 }

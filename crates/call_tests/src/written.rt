@@ -1,8 +1,9 @@
+// A program that is built part by part, and its text.
 ghost use Rattle.std.specs.Prelude.{◌≡◌};
 
-use crate::write_mps;
 use exact_numbers::Dec;
 use mps_model::{BoundKind, MpsBuilder, RowKind};
+use mps_writer::write_mps;
 use std::alloc::Global;
 use std::process::Abort;
 use std::test::Fail;

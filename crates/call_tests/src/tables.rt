@@ -1,6 +1,6 @@
 // Rows of the tables, as "Writing .nl Files" prints them.
 
-use crate::{
+use code_tables::{
     Field, OpClass, Operands, class_of, field_at, header_table, opcode_table, operands_of,
 };
 use std::test::Fail;
