@@ -3,12 +3,8 @@
 
 mod answer;
 mod command;
-#[cfg(test)]
-mod examples;
 mod exporting;
 mod laws;
-#[cfg(test)]
-mod tests;
 mod told;
 mod top;
 mod transfer;

@@ -1,7 +1,7 @@
 -- The exact numbers that a Dec and a Frac are, and which numbers they hold.
 use Rattle.std.specs.Ordering.{int_cmp}
 use Rattle.std.specs.declared.cmp.Ordering.{Ordering}
-use Rattle.std.specs.Prelude.{◌≡◌, ℕ, zero, suc, ◌*◌, ◌%◌, ◌<◌, ◌^◌, ℤ, pos, negsuc, ◌*ℤ◌, ◌-ℤ◌, neg_ℤ, unsigned_abs, int_div, Bool, ◌&&◌, ◌||◌, not, nat_eq, nat_le, if◌then◌else◌, List}
+use Rattle.std.specs.Prelude.{◌≡◌, ℕ, zero, suc, ◌*◌, ◌%◌, ◌<◌, ◌^◌, ℤ, pos, negsuc, ◌*ℤ◌, ◌-ℤ◌, neg_ℤ, unsigned_abs, int_div, Bool, true, false, ◌&&◌, ◌||◌, not, nat_eq, nat_le, if◌then◌else◌, List, Option, MatchOption, ◌⊎◌}
 use Rattle.fractions.specs.Rational.{ℚ, over, whole, ◌*ℚ◌, decimal_value, above_zero, below_zero}
 pub use Rattle.fractions.specs.Fits.{is_small, fits, least_multiple, parts_fit, sum_over_multiple, sum_fits}
 use Rattle.exact_numbers.specs.Decimal.{IsDec}
@@ -12,6 +12,16 @@ use Rattle.exact_numbers.specs.declared.frac.Frac.{Frac}
 -- m * 10 ^ e
 abbrev pub dec_value : Dec → ℚ
 dec_value d = decimal_value d.m d.e
+
+-- m and e, and their one written text
+abbrev pub mantissa_of : Dec → ℤ
+mantissa_of d = d.m
+
+abbrev pub exponent_of : Dec → ℤ
+exponent_of d = d.e
+
+abbrev pub text_of : Dec → List ℕ
+text_of d = dec_text d.m d.e
 
 -- num / den
 abbrev pub frac_value : Frac → ℚ
@@ -28,6 +38,23 @@ pub record FitsDec (x : ℚ) : Type 0 where
 pub record IsInReach (d : Dec) (k : ℤ) : Type 0 where
   pub size : unsigned_abs (d.m *ℤ k) < 2 ^ 127
   pub dec : FitsDec (dec_value d *ℚ whole k)
+
+-- the answer is x where the test holds, and none where it does not
+abbrev pub IsFracWhere : Bool → Option Frac → ℚ → Type 0
+IsFracWhere test result x = MatchOption result (test ≡ false) (λ f. (test ≡ true) × (frac_value f ≡ x))
+
+-- the answer is x, and none exactly where x does not fit
+abbrev pub IsFracOf : Option Frac → ℚ → Type 0
+IsFracOf result x = IsFracWhere (fits x) result x
+
+-- the answer is x, and none exactly where the divisor is 0 or x does not fit
+abbrev pub IsQuotientOf : Type 0 → Option Frac → ℚ → Type 0
+IsQuotientOf is_zero result x =
+    MatchOption result (is_zero ⊎ (fits x ≡ false)) (λ f. (is_zero → ⊥) × (fits x ≡ true) × (frac_value f ≡ x))
+
+-- the answer is x, and none exactly where no Dec has the value
+abbrev pub IsDecOf : Option Dec → ℚ → Type 0
+IsDecOf result x = MatchOption result (FitsDec x → ⊥) (λ d. dec_value d ≡ x)
 
 -- num / den, where den is not 0
 abbrev pub quotient : ℤ → ℤ → ℚ

@@ -2,7 +2,7 @@ ghost use Rattle.std.specs.Prelude.{◌≡◌, ◌≢◌, ℕ, pos, ◌+◌, ◌
 ghost use Rattle.exact_numbers.specs.Decimal.{signed};
 ghost use Rattle.fractions.specs.Rational.{over, zero_ℚ, one_ℚ, ◌+ℚ◌, ◌-ℚ◌, ◌*ℚ◌, ◌<ℚ◌, neg_ℚ, inverse_of};
 ghost use Rattle.exact_numbers.specs.Fraction.{IsFrac, IsLcm};
-ghost use Rattle.exact_numbers.specs.Values.{frac_value, fits, sum_fits, quotient};
+ghost use Rattle.exact_numbers.specs.Values.{frac_value, IsFracWhere, IsFracOf, IsQuotientOf, sum_fits, quotient};
 
 use crate::frac::Frac;
 use crate::gcd::gcd;
@@ -11,8 +11,7 @@ use crate::mantissa::{MAX_SIZE, with_sign};
 // The fraction of a sign, a numerator's size and a denominator.
 fn reduced(negative: bool, num: u128, den: u128) -> Option<Frac>
     requires { 0 < den }
-    ensures { MatchOption result (fits (over (signed negative num) den) ≡ false)
-        (λ f. (fits (over (signed negative num) den) ≡ true) × (frac_value f ≡ over (signed negative num) den)) }
+    ensures { IsFracOf result (over (signed negative num) den) }
 {
     let common = gcd(num, den);
     let size = num / common;
@@ -71,8 +70,7 @@ fn bounded_sum(a: i128, b: i128) -> Option<i128>
 impl Frac {
     /// The fraction num / den; none where den is 0 or the pair in lowest terms does not fit.
     pub fn new(num: i128, den: i128) -> Option<Frac>
-        ensures { MatchOption result ((den ≡ pos 0) ⊎ (fits (quotient num den) ≡ false))
-            (λ f. (den ≢ pos 0) × (fits (quotient num den) ≡ true) × (frac_value f ≡ quotient num den)) }
+        ensures { IsQuotientOf (den ≡ pos 0) result (quotient num den) }
     {
         if den == 0 {
             return None;
@@ -84,7 +82,6 @@ impl Frac {
         )
     }
 
-    // 0 / 1
     /// 0.
     pub fn zero() -> Frac
         ensures { frac_value result ≡ zero_ℚ }
@@ -141,9 +138,8 @@ impl Frac {
     fn add_whole(self, other: Frac) -> Option<Frac>
         requires first { self.den ≡ 1 }
         requires second { other.den ≡ 1 }
-        ensures { MatchOption result (sum_fits (frac_value self) (frac_value other) ≡ false)
-            (λ f. (sum_fits (frac_value self) (frac_value other) ≡ true)
-            × (frac_value f ≡ frac_value self +ℚ frac_value other)) }
+        ensures { IsFracWhere (sum_fits (frac_value self) (frac_value other)) result
+            (frac_value self +ℚ frac_value other) }
     {
         let Some(sum) = bounded_sum(self.num, other.num) else {
             return None;
@@ -155,9 +151,7 @@ impl Frac {
     fn mul_whole(self, other: Frac) -> Option<Frac>
         requires first { self.den ≡ 1 }
         requires second { other.den ≡ 1 }
-        ensures { MatchOption result (fits (frac_value self *ℚ frac_value other) ≡ false)
-            (λ f. (fits (frac_value self *ℚ frac_value other) ≡ true)
-            × (frac_value f ≡ frac_value self *ℚ frac_value other)) }
+        ensures { IsFracOf result (frac_value self *ℚ frac_value other) }
     {
         let Some(size) = bounded_product(self.num.unsigned_abs(), other.num.unsigned_abs()) else {
             return None;
@@ -168,9 +162,7 @@ impl Frac {
     /// The product; none exactly where it does not fit. Sizes are cancelled crosswise first, so that
     /// no larger number is formed.
     pub fn mul(self, other: Frac) -> Option<Frac>
-        ensures { MatchOption result (fits (frac_value self *ℚ frac_value other) ≡ false)
-            (λ f. (fits (frac_value self *ℚ frac_value other) ≡ true)
-            × (frac_value f ≡ frac_value self *ℚ frac_value other)) }
+        ensures { IsFracOf result (frac_value self *ℚ frac_value other) }
     {
         if self.den == 1 && other.den == 1 {
             return self.mul_whole(other);
@@ -190,9 +182,8 @@ impl Frac {
 
     /// The sum; none exactly where a part of it over the least common denominator is out of range.
     pub fn add(self, other: Frac) -> Option<Frac>
-        ensures { MatchOption result (sum_fits (frac_value self) (frac_value other) ≡ false)
-            (λ f. (sum_fits (frac_value self) (frac_value other) ≡ true)
-            × (frac_value f ≡ frac_value self +ℚ frac_value other)) }
+        ensures { IsFracWhere (sum_fits (frac_value self) (frac_value other)) result
+            (frac_value self +ℚ frac_value other) }
     {
         if self.den == 1 && other.den == 1 {
             return self.add_whole(other);
@@ -218,9 +209,8 @@ impl Frac {
     /// The difference; none exactly where a part of it over the least common denominator is out of
     /// range.
     pub fn sub(self, other: Frac) -> Option<Frac>
-        ensures { MatchOption result (sum_fits (frac_value self) (neg_ℚ (frac_value other)) ≡ false)
-            (λ f. (sum_fits (frac_value self) (neg_ℚ (frac_value other)) ≡ true)
-            × (frac_value f ≡ frac_value self -ℚ frac_value other)) }
+        ensures { IsFracWhere (sum_fits (frac_value self) (neg_ℚ (frac_value other))) result
+            (frac_value self -ℚ frac_value other) }
     {
         self.add(other.neg())
     }
@@ -235,11 +225,8 @@ impl Frac {
 
     /// The quotient; none exactly where the divisor is 0 or it does not fit.
     pub fn div(self, other: Frac) -> Option<Frac>
-        ensures { MatchOption result
-            ((frac_value other ≡ zero_ℚ) ⊎ (fits (frac_value self *ℚ inverse_of (frac_value other)) ≡ false))
-            (λ f. (frac_value other ≢ zero_ℚ)
-            × (fits (frac_value self *ℚ inverse_of (frac_value other)) ≡ true)
-            × (frac_value f ≡ frac_value self *ℚ inverse_of (frac_value other))) }
+        ensures { IsQuotientOf (frac_value other ≡ zero_ℚ) result
+            (frac_value self *ℚ inverse_of (frac_value other)) }
     {
         if other.num == 0 {
             return None;

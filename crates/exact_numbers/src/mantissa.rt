@@ -1,7 +1,7 @@
 ghost use Rattle.std.specs.Prelude.{◌≡◌, ◌≢◌, ℕ, ◌+◌, ◌*◌, ◌%◌, ◌<◌, ◌≤◌, ◌^◌, MatchOption, SomeIff, unsigned_abs, neg_ℤ, IsTrue, ◌↔◌, ◌*ℤ◌};
 ghost use Rattle.fractions.specs.Rational.{whole, zero_ℚ, ◌*ℚ◌, ◌<ℚ◌, neg_ℚ, decimal_value, IsWhole};
 ghost use Rattle.exact_numbers.specs.Decimal.{signed};
-ghost use Rattle.exact_numbers.specs.Values.{dec_value, FitsDec, IsInReach};
+ghost use Rattle.exact_numbers.specs.Values.{dec_value, exponent_of, mantissa_of, IsDecOf, IsInReach};
 
 use crate::dec::Dec;
 
@@ -90,7 +90,7 @@ impl Dec {
 
     /// The Dec of the value m * 10 ^ e; none exactly where there is none.
     pub fn new(m: i128, e: i32) -> Option<Dec>
-        ensures { MatchOption result (FitsDec (decimal_value m e) → ⊥) (λ d. dec_value d ≡ decimal_value m e) }
+        ensures { IsDecOf result (decimal_value m e) }
     {
         if m == 0 {
             return Some(Dec { m: 0, e: 0 });
@@ -108,14 +108,14 @@ impl Dec {
 
     /// The mantissa, whose last digit is not 0 unless this is 0.
     pub fn m(self) -> i128
-        ensures { result ≡ self.m }
+        ensures { result ≡ mantissa_of self }
     {
         self.m
     }
 
     /// The exponent of ten, from -400 to 400.
     pub fn e(self) -> i16
-        ensures { result ≡ self.e }
+        ensures { result ≡ exponent_of self }
     {
         self.e
     }

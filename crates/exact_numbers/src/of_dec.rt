@@ -1,6 +1,6 @@
 ghost use Rattle.std.specs.Prelude.{◌≡◌, ◌≢◌, ℕ, ◌+◌, ◌-◌, ◌*◌, ◌%◌, ◌^◌, ◌<◌, ◌≤◌, MatchOption, SomeIff, true, false, pos, ◌<ℤ◌, unsigned_abs};
 ghost use Rattle.exact_numbers.specs.Fraction.{IsCofactor};
-ghost use Rattle.exact_numbers.specs.Values.{dec_value, frac_value, fits, FitsDec};
+ghost use Rattle.exact_numbers.specs.Values.{dec_value, frac_value, IsDecOf, IsFracOf};
 
 use crate::arithmetic::{bounded_product, paired};
 use crate::dec::Dec;
@@ -48,8 +48,7 @@ fn cancel(n: u128, factor: u128, times: u32) -> Cancelled
 impl Frac {
     /// The fraction that a decimal number is; none exactly where it does not fit.
     pub fn of_dec(d: Dec) -> Option<Frac>
-        ensures { MatchOption result (fits (dec_value d) ≡ false)
-            (λ f. (fits (dec_value d) ≡ true) × (frac_value f ≡ dec_value d)) }
+        ensures { IsFracOf result (dec_value d) }
     {
         let size = d.m.unsigned_abs();
         let negative = d.m < 0;
@@ -83,7 +82,7 @@ impl Frac {
 
     /// The decimal number of the same value; none exactly where no Dec has it.
     pub fn to_dec(self) -> Option<Dec>
-        ensures { MatchOption result (FitsDec (frac_value self) → ⊥) (λ d. dec_value d ≡ frac_value self) }
+        ensures { IsDecOf result (frac_value self) }
     {
         let twos = cancel(self.den, 2, 127);
         let fives = cancel(twos.rest, 5, 127);

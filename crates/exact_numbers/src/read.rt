@@ -3,7 +3,7 @@ ghost use Rattle.std.specs.List.{before_first, after_first, position_or_len};
 ghost use Rattle.std.specs.Str.Parse.{AllDigits, digits_value, digits_value_after};
 ghost use Rattle.fractions.specs.Rational.{decimal_value};
 ghost use Rattle.exact_numbers.specs.Decimal.{signed};
-ghost use Rattle.exact_numbers.specs.Values.{dec_value, FitsDec};
+ghost use Rattle.exact_numbers.specs.Values.{dec_value, IsDecOf};
 ghost use Rattle.exact_numbers.specs.Text.{begins_minus, after_sign, is_mark, is_point, IsExponent, exponent_value, IsDecText, text_value, DecFault, IsCapped, cap, IsWholeText, WholeFault};
 
 use crate::dec::Dec;
@@ -178,8 +178,8 @@ fn dec_of_digits(negative: bool, whole: &[u8], fraction: &[u8], exponent: i128) 
     requires fraction { AllDigits 10 fraction.now }
     requires low { neg_ℤ (pos cap) ≤ℤ exponent }
     requires high { exponent ≤ℤ pos cap }
-    ensures { let value = decimal_value (signed negative (digits_value 10 (whole.now ++ fraction.now))) (exponent -ℤ pos (length fraction.now)) in
-        MatchOption result (FitsDec value → ⊥) (λ d. dec_value d ≡ value) }
+    ensures { IsDecOf result (decimal_value (signed negative (digits_value 10 (whole.now ++ fraction.now)))
+        (exponent -ℤ pos (length fraction.now))) }
 {
     let fraction_kept = kept_length(fraction);
     let whole_kept = kept_before(whole, fraction_kept);
@@ -201,7 +201,8 @@ fn dec_of_digits(negative: bool, whole: &[u8], fraction: &[u8], exponent: i128) 
 
 /// The number of a decimal text; too wide exactly where the text is one and no Dec has its value.
 pub fn read_dec(text: &[u8]) -> Result<Dec, NumFault>
-    ensures { MatchResult result (λ d. IsDecText text.now × (dec_value d ≡ text_value text.now)) (λ f. DecFault f text.now) }
+    ensures { MatchResult result (λ d. IsDecText text.now × (dec_value d ≡ text_value text.now))
+        (λ f. DecFault f text.now) }
 {
     let body = without_sign(text);
     let mark = mark_place(body);
@@ -226,7 +227,8 @@ pub fn read_dec(text: &[u8]) -> Result<Dec, NumFault>
 
 /// The whole number that digits alone are, up to 2 ^ 31 - 1.
 pub fn read_whole(text: &[u8]) -> Result<u32, NumFault>
-    ensures { MatchResult result (λ n. IsWholeText text.now × (n ≡ digits_value 10 text.now) × (n < 2 ^ 31)) (λ f. WholeFault f text.now) }
+    ensures { MatchResult result (λ n. IsWholeText text.now × (n ≡ digits_value 10 text.now) × (n < 2 ^ 31))
+        (λ f. WholeFault f text.now) }
 {
     if text.is_empty() || !are_digits(text) {
         return Err(NumFault::NotNumber);

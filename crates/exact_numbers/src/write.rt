@@ -1,6 +1,6 @@
 ghost use Rattle.std.specs.Prelude.{◌≡◌, ℕ, ℤ, ◌+◌, ◌-◌, ◌<◌, ◌≤◌, List, [], ◌∷◌, ◌++◌, length, take, unsigned_abs};
-ghost use Rattle.exact_numbers.specs.Values.{dec_value, frac_value, value_text};
-ghost use Rattle.exact_numbers.specs.Written.{zeros, with_point, padded, scaled_text, dec_text, frac_text};
+ghost use Rattle.exact_numbers.specs.Values.{frac_value, text_of};
+ghost use Rattle.exact_numbers.specs.Written.{zeros, with_point, padded, scaled_text, frac_text};
 
 use crate::dec::Dec;
 use crate::frac::Frac;
@@ -50,8 +50,7 @@ fn append_scaled(out: &mut NumText, digits: &[u8], e: i16)
 impl Dec {
     /// Replaces the text by the one spelling of this number.
     pub fn write_to(self, out: &mut NumText)
-        ensures spelling { out.new ≡ dec_text self.m self.e }
-        ensures text { out.new ≡ value_text (dec_value self) }
+        ensures { out.new ≡ text_of self }
     {
         out.clear();
         if self.m() < 0 {

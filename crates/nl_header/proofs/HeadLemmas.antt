@@ -5,15 +5,16 @@ use Rattle.std.proofs.lemmas.List.Elements.{filter_map-append}
 use Rattle.std.proofs.lemmas.Bool.{eqb-true, ltb-true, ltb-false}
 use Rattle.std.specs.Prelude.{option_to_list, find, option_map, nat_lt}
 use Rattle.std.specs.List.{list_all, cons_option}
+use Rattle.std.specs.Option.{option_or}
 use Rattle.text_base.specs.Words.{texts}
 use Rattle.text_base.specs.Judged.{first_reason}
 use Rattle.code_tables.specs.declared.field.Field.{Field}
 use Rattle.code_tables.specs.declared.field.FieldRow.{FieldRow}
 use Rattle.code_tables.specs.Header.{header_rows, field_at, field_in}
 use Rattle.nl_header.specs.declared.fault.HeadFault.{HeadFault}
-use Rattle.nl_header.specs.Numbers.{whole_of, signed_of}
-use Rattle.nl_header.proofs.NumberLemmas.{first_of_both, second_of_both}
-use Rattle.nl_header.specs.Head.{number_in, word_tests, words_fault, or_else, number_after, no_row}
+use Rattle.exact_numbers.specs.Numbers.{whole_of, signed_of}
+use Rattle.exact_numbers.proofs.NumberLemmas.{first_of_both, second_of_both}
+use Rattle.nl_header.specs.Head.{number_in, word_tests, words_fault, number_after, no_row}
 use Rattle.nl_header.specs.Reading.{put_in}
 use Rattle.std.proofs.Math.Nat.{suc_inj}
 
@@ -64,13 +65,14 @@ find-past (r ∷ rows) line place small past =
     by true false e rest lt = rest
     by false false e rest lt = rest
 
-header_places : list_all (λ r. nat_lt r.place 7) header_rows ≡ true
+-- no field stands at place 7 or later
+pub header_places : list_all (λ r. nat_lt r.place 7) header_rows ≡ true
 unfolding header_rows
 header_places = refl
 
 field_at-past : (line place : ℕ) → 7 ≤ place → field_at line place ≡ None
 unfolding field_at header_rows
-field_at-past line place past = find-past header_rows line place refl past
+field_at-past line place past = find-past header_rows line place header_places past
 
 pub words_fault-past : (line place : ℕ) (words : List (List ℕ)) → 7 ≤ place → words_fault line place words ≡ words_fault line 7 words
 unfolding words_fault
@@ -80,7 +82,7 @@ words_fault-past line place (word ∷ words) past =
     ap (λ f. first_reason (word_tests f word)) (field_at-past line place past ∙ sym (field_at-past line 7 (omega arith))) in
     let rest : words_fault line (place + 1) words ≡ words_fault line (7 + 1) words =
     words_fault-past line (place + 1) words (omega (arith, past)) ∙ sym (words_fault-past line (7 + 1) words (omega arith)) in
-    ap (λ f. or_else f (words_fault line (place + 1) words)) here ∙ ap (or_else (first_reason (word_tests (field_at line 7) word))) rest
+    ap (λ f. option_or f (words_fault line (place + 1) words)) here ∙ ap (option_or (first_reason (word_tests (field_at line 7) word))) rest
 
 words_fault-next : (line place : ℕ) (words : List (List ℕ)) → place ≤ 7 → words_fault line (min (place + 1) 7) words ≡ words_fault line (place + 1) words
 words_fault-next line place words small = by (nat_lt place 7) refl
@@ -99,14 +101,14 @@ next-small place next e = omega (arith, e)
 pub words_fault-at : (line place : ℕ) (words rest : List (List ℕ)) (word : List ℕ) (field : Option Field) (all : Option HeadFault) (f : HeadFault) → words_fault line place words ≡ all → words ≡ word ∷ rest → field ≡ field_at line place → first_reason (word_tests field word) ≡ Some f → all ≡ Some f
 unfolding words_fault
 words_fault-at line place words rest word field all f same split is here =
-    sym same ∙ ap (words_fault line place) split ∙ ap (λ g. or_else (first_reason (word_tests g word)) (words_fault line (place + 1) rest)) (sym is) ∙ ap (λ g. or_else g (words_fault line (place + 1) rest)) here
+    sym same ∙ ap (words_fault line place) split ∙ ap (λ g. option_or (first_reason (word_tests g word)) (words_fault line (place + 1) rest)) (sym is) ∙ ap (λ g. option_or g (words_fault line (place + 1) rest)) here
 
 pub words_fault-on : (line place next : ℕ) (words rest : List (List ℕ)) (word : List ℕ) (field : Option Field) (all : Option HeadFault) → words_fault line place words ≡ all → words ≡ word ∷ rest → field ≡ field_at line place → first_reason (word_tests field word) ≡ None → place ≤ 7 → next ≡ min (place + 1) 7 → words_fault line next rest ≡ all
 unfolding words_fault
 words_fault-on line place next words rest word field all same split is here small step =
     ap (λ p. words_fault line p rest) step ∙ words_fault-next line place rest small
-    ∙ sym (ap (λ g. or_else g (words_fault line (place + 1) rest)) here)
-    ∙ sym (ap (λ g. or_else (first_reason (word_tests g word)) (words_fault line (place + 1) rest)) (sym is))
+    ∙ sym (ap (λ g. option_or g (words_fault line (place + 1) rest)) here)
+    ∙ sym (ap (λ g. option_or (first_reason (word_tests g word)) (words_fault line (place + 1) rest)) (sym is))
     ∙ sym (ap (words_fault line place) split) ∙ same
 
 pub words_fault-end : (line place : ℕ) (words : List (List ℕ)) (all : Option HeadFault) → words_fault line place words ≡ all → words ≡ [] → all ≡ None

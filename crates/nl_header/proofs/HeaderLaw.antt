@@ -2,10 +2,13 @@
 use Rattle.std.proofs.Common.{◌≡◌, ◌∙◌, ℕ, zero, suc, ne_eqb, ◌+◌, ◌-◌, ◌<◌, ◌≤◌, ◌^◌, ◌==◌, ◌&&◌, Bool, true, false, not, cond, List, [], ◌∷◌, ◌++◌, length, get_or, map, take, drop, Option, Some, None, refl, sym, ap, subst, arith, unwrap_or, ℤ}
 use Rattle.std.specs.Prelude.{nat_lt, nat_le, is_none, max}
 use Rattle.std.specs.List.{list_all}
+use Rattle.std.specs.Option.{option_or}
 use Rattle.std.proofs.lemmas.List.{get_or-take, get_or_append_left, take-append-le, take_more, length-append, length-take}
 use Rattle.std.proofs.lemmas.Bool.{eqb-true, lt-ltb, ltb-true, ltb-false, le-ltb, le-leb, leb-true}
 use Rattle.std.proofs.lemmas.Option.{none-some}
 use Rattle.text_base.specs.Judged.{first_reason}
+use Rattle.text_base.specs.Words.{word_at}
+use Rattle.text_base.proofs.FirstReasons.{none_head}
 use Rattle.code_tables.specs.declared.field.Field.{Field}
 use Rattle.code_tables.specs.declared.field.FieldRow.{FieldRow}
 use Rattle.code_tables.specs.Header.{header_rows, field_at}
@@ -13,33 +16,24 @@ use Rattle.nl_model.specs.declared.counts.Counts.{Counts}
 use Rattle.nl_model.specs.HeaderRules.{are_options, has_second_three, are_numbers, has_no_refused, are_sizes_within, are_shared_within, are_whole_within, are_definitions_within, is_header}
 use Rattle.nl_header.specs.declared.fault.HeadFault.{HeadFault}
 use Rattle.nl_header.specs.declared.fault.HeadFault.TheVariants.{BadHeaderNumber, BinaryFile, BadFirstLine, Options, RefusedCount, TooLarge, CountsDisagree}
-use Rattle.nl_header.specs.Numbers.{whole_of, are_digits}
+use Rattle.exact_numbers.specs.Numbers.{whole_of, are_digits}
 use Rattle.std.specs.Str.Parse.{digits_value}
-use Rattle.nl_header.specs.Head.{number_in, number_at, word_at, line_at, words_fault, word_tests, number_tests, limit_of, or_else, rule_tests, number_line_fault, line_fault, first_line_tests, options_in, options_of, counts_in, counts_by, has_options, option_count}
+use Rattle.nl_header.specs.Head.{number_in, number_at, line_at, words_fault, word_tests, number_tests, limit_of, limit_of_row, begins_with, is_short, rule_tests, number_line_fault, line_fault, first_line_tests, options_in, options_of, counts_in, counts_by, has_options, option_count}
 use Rattle.nl_header.specs.Reading.{AreClean, last_rule}
-use Rattle.nl_header.proofs.NumberLemmas.{both, first_of_both, second_of_both}
+use Rattle.exact_numbers.proofs.NumberLemmas.{both, first_of_both, second_of_both}
 
 abbrev Lines : Type 0
 Lines = List (List (List ℕ))
 
 -- ---- What no fault says.
 
-else-first : (a b : Option HeadFault) → or_else a b ≡ None → a ≡ None
+else-first : (a b : Option HeadFault) → option_or a b ≡ None → a ≡ None
 else-first None b e = refl
 else-first (Some f) b e = e
 
-else-second : (a b : Option HeadFault) → or_else a b ≡ None → b ≡ None
+else-second : (a b : Option HeadFault) → option_or a b ≡ None → b ≡ None
 else-second None b e = e
 else-second (Some f) b e = absurd (none-some f (sym e))
-
--- the first of some tests does not hold, and neither do the rest
-test-no : (t : Bool) (f : HeadFault) (o : Option HeadFault) → cond t (Some f) o ≡ None → t ≡ false
-test-no true f o e = absurd (none-some f (sym e))
-test-no false f o e = refl
-
-test-rest : (t : Bool) (f : HeadFault) (o : Option HeadFault) → cond t (Some f) o ≡ None → o ≡ None
-test-rest true f o e = absurd (none-some f (sym e))
-test-rest false f o e = e
 
 not-false : (t : Bool) → not t ≡ false → t ≡ true
 not-false true e = refl
@@ -61,7 +55,7 @@ zero-number (Some f) = by f.zero
 
 word-number : (field : Option Field) (word : List ℕ) → first_reason (word_tests field word) ≡ None → first_reason (number_tests field (unwrap_or (whole_of word) 0)) ≡ None
 unfolding word_tests
-word-number field word clean = test-rest (is_none (whole_of word)) BadHeaderNumber _ clean
+word-number field word clean = (none_head (is_none (whole_of word)) BadHeaderNumber (number_tests field (unwrap_or (whole_of word) 0)) clean).1
 
 whole_of-nil : whole_of [] ≡ None
 unfolding whole_of
@@ -117,7 +111,7 @@ words-clean line counts ws clean = else-first _ _ clean
 
 rules-clean : (line : ℕ) (counts : Counts) (ws : List (List ℕ)) → number_line_fault line counts ws ≡ None → first_reason (rule_tests line counts) ≡ None
 unfolding number_line_fault
-rules-clean line counts ws clean = test-rest _ BadHeaderNumber _ (else-second _ _ clean)
+rules-clean line counts ws clean = (none_head (is_short header_rows line (length ws)) BadHeaderNumber (rule_tests line counts) (else-second _ _ clean)).1
 
 -- the number at a place of a line that is not the first
 number-of : (lines : Lines) (n place : ℕ) → 0 < n → n < 9 → 0 < place → AreNineClean lines → first_reason (number_tests (field_at (n + 1) place) (number_at lines (n + 1) place)) ≡ None
@@ -127,12 +121,13 @@ number-of lines n place some lt here clean = number-clean (n + 1) place (line_at
 
 is-zero : (row : ℕ) (required : Bool) (n : ℕ) → first_reason (number_tests (Some (record { row = row; required = required; zero = true })) n) ≡ None → (n == 0) ≡ true
 unfolding number_tests
-is-zero row required n clean = not-false (n == 0) (test-no _ RefusedCount _ clean)
+is-zero row required n clean = not-false (n == 0) (none_head (not (n == 0)) RefusedCount ((nat_lt (limit_of_row row) n, TooLarge) ∷ []) clean).0
 
 is-within : (row limit : ℕ) (required : Bool) (n : ℕ) → limit_of (Some (record { row = row; required = required; zero = false })) ≡ limit → first_reason (number_tests (Some (record { row = row; required = required; zero = false })) n) ≡ None → nat_le n limit ≡ true
 unfolding number_tests
 is-within row limit required n same clean =
-    le-leb n limit (omega (arith, same, ltb-false (limit_of (Some (record { row = row; required = required; zero = false }))) n (test-no _ TooLarge None (test-rest (false && not (n == 0)) RefusedCount _ clean))))
+    let few : nat_lt (limit_of_row row) n ≡ false = (none_head (nat_lt (limit_of_row row) n) TooLarge [] clean).0 in
+    le-leb n limit (omega (arith, same, ltb-false (limit_of_row row) n few))
 
 no-refused : (lines : Lines) → AreNineClean lines → has_no_refused (counts_in lines) ≡ true
 unfolding counts_in counts_by field_at header_rows
@@ -168,7 +163,7 @@ small-word word = by (are_digits word && nat_lt (digits_value 10 word) (2 ^ 31))
 
 all-small : (lines : Lines) (rows : List FieldRow) → list_all (λ n. nat_lt n (2 ^ 31)) (map (λ r. number_at lines r.line r.place) rows) ≡ true
 all-small lines [] = refl
-all-small lines (r ∷ rows) = both _ _ (lt-ltb (number_at lines r.line r.place) (2 ^ 31) (small-word (word_at (line_at lines r.line) r.place))) (all-small lines rows)
+all-small lines (r ∷ rows) = both _ _ (lt-ltb (number_at lines r.line r.place) (2 ^ 31) (small-word (word_at (line_at lines r.line) (r.place - 1)))) (all-small lines rows)
 
 numbers-are : (lines : Lines) → are_numbers (counts_in lines) ≡ true
 unfolding counts_in counts_by header_rows
@@ -195,11 +190,11 @@ whole-is lines = refl
 
 rule-five : (counts : Counts) → first_reason (rule_tests 5 counts) ≡ None → are_shared_within counts ≡ true
 unfolding rule_tests
-rule-five counts clean = not-false _ (test-no (not (are_shared_within counts)) CountsDisagree _ clean)
+rule-five counts clean = not-false _ (none_head (not (are_shared_within counts)) CountsDisagree ((false, CountsDisagree) ∷ (false, TooLarge) ∷ []) clean).0
 
 rule-seven : (counts : Counts) → first_reason (rule_tests 7 counts) ≡ None → are_whole_within counts ≡ true
 unfolding rule_tests
-rule-seven counts clean = not-false _ (test-no (not (are_whole_within counts)) CountsDisagree _ clean)
+rule-seven counts clean = not-false _ (none_head (not (are_whole_within counts)) CountsDisagree ((false, TooLarge) ∷ []) clean).0
 
 shared-within : (lines : Lines) → AreNineClean lines → are_shared_within (counts_in lines) ≡ true
 shared-within lines clean =
@@ -226,8 +221,10 @@ options-from os c d has =
 first-options : (ws : List (List ℕ)) → first_reason (first_line_tests ws) ≡ None → are_options (options_of ws) ≡ true
 unfolding first_line_tests
 first-options ws clean =
+    let has = has_options ws (unwrap_or (option_count ws) 0) in
+    let last : List (Bool × HeadFault) = (not has, Options) ∷ [] in
     options-from (options_of ws) (unwrap_or (option_count ws) 0) _
-    (not-false _ (test-no (not (has_options ws (unwrap_or (option_count ws) 0))) Options None (test-rest _ BadFirstLine _ (test-rest _ BinaryFile _ clean))))
+    (not-false has (none_head (not has) Options [] (none_head (is_none (option_count ws)) BadFirstLine last (none_head (begins_with 98 (word_at ws 0)) BinaryFile ((is_none (option_count ws), BadFirstLine) ∷ last) clean).1).1).0)
 
 first-fault : (lines : Lines) → line_fault (take 0 lines) (get_or lines 0 []) ≡ first_reason (first_line_tests (get_or lines 0 []))
 unfolding line_fault

@@ -1,4 +1,3 @@
-pub mod NumberLemmas
 pub mod HeadLemmas
 pub mod ReaderLemmas
 pub mod HeaderLaw

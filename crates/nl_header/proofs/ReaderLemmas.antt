@@ -2,12 +2,13 @@
 use Rattle.std.proofs.Common.{◌≡◌, ◌∙◌, ℕ, ◌+◌, ◌-◌, ◌<◌, ◌≤◌, ◌==◌, ◌&&◌, ◌||◌, Bool, true, false, not, cond, List, [], ◌∷◌, ◌++◌, length, get_or, map, take, drop, Option, Some, None, refl, sym, ap, arith, unwrap_or, Bor, ℤ}
 use Rattle.std.specs.Prelude.{nat_lt, nat_le, is_none}
 use Rattle.std.specs.List.{list_all}
+use Rattle.std.specs.Option.{option_or}
 use Rattle.std.proofs.lemmas.List.{get_or_past, length-map, get_or-take, get_or_append_left, take-append-le, length-append, length-take, length-drop, take_all}
 use Rattle.std.proofs.Math.Seq.{get_or-append_seam}
 use Rattle.std.proofs.Math.Bool.{and-false}
 use Rattle.std.proofs.lemmas.Option.{none-some}
 use Rattle.std.proofs.lemmas.Bool.{eqb-true, eqb-false, lt-ltb, ltb-true, ltb-false, le-ltb, leb-true, leb-false}
-use Rattle.text_base.specs.Words.{texts, words_of, row_of}
+use Rattle.text_base.specs.Words.{texts, word_at, words_of, row_of}
 use Rattle.text_base.specs.Judged.{first_reason}
 use Rattle.code_tables.specs.declared.field.FieldRow.{FieldRow}
 use Rattle.code_tables.specs.Header.{header_rows}
@@ -15,10 +16,11 @@ use Rattle.nl_model.specs.declared.counts.Counts.{Counts}
 use Rattle.nl_model.specs.HeaderRules.{has_second_three}
 use Rattle.nl_header.specs.declared.fault.HeadFault.{HeadFault}
 use Rattle.nl_header.specs.declared.fault.HeadFault.TheVariants.{BadHeaderNumber, BinaryFile, BadFirstLine, Options}
-use Rattle.nl_header.specs.Numbers.{whole_of}
-use Rattle.nl_header.specs.Head.{number_in, number_at, word_at, line_at, number_after, words_fault, or_else, is_short, rule_tests, number_line_fault, line_fault, first_line_tests, options_in, options_of, counts_in, counts_by, has_options, option_count, begins_with}
+use Rattle.exact_numbers.specs.Numbers.{whole_of}
+use Rattle.nl_header.specs.Head.{number_in, number_at, line_at, number_after, words_fault, is_short, rule_tests, number_line_fault, line_fault, first_line_tests, options_in, options_of, counts_in, counts_by, has_options, option_count, begins_with}
 use Rattle.nl_header.specs.Reading.{Taken, IsReading, AreClean, numbers_in, put_in, counts_from, GoesOn}
-use Rattle.nl_header.proofs.NumberLemmas.{first_of_both, second_of_both}
+use Rattle.exact_numbers.proofs.NumberLemmas.{first_of_both, second_of_both}
+use Rattle.nl_header.proofs.HeadLemmas.{header_places}
 
 -- ---- No line.
 
@@ -34,19 +36,15 @@ nothing_read options none = record {
 
 -- ---- The first twelve words stand for all.
 
-header_places : list_all (λ r. nat_lt r.place 7) header_rows ≡ true
-unfolding header_rows
-header_places = refl
-
 header_lines : list_all (λ r. nat_lt 0 r.line) header_rows ≡ true
 unfolding header_rows
 header_lines = refl
 
-word_at-row : (ws : List (List ℕ)) (place : ℕ) → place < 7 → word_at (take 12 ws) place ≡ word_at ws place
-word_at-row ws place lt = get_or-take 12 ws (place - 1) [] (omega (arith, lt))
+word_at-row : (ws : List (List ℕ)) (i : ℕ) → i < 12 → word_at (take 12 ws) i ≡ word_at ws i
+word_at-row ws i lt = get_or-take 12 ws i [] lt
 
 number_after-row : (r : FieldRow) (line : ℕ) (ws : List (List ℕ)) (n : ℕ) → r.place < 7 → number_after r line (take 12 ws) n ≡ number_after r line ws n
-number_after-row r line ws n lt = ap (λ w. cond (r.line == line) (unwrap_or (whole_of w) 0) n) (word_at-row ws r.place lt)
+number_after-row r line ws n lt = ap (λ w. cond (r.line == line) (unwrap_or (whole_of w) 0) n) (word_at-row ws (r.place - 1) (omega (arith, lt)))
 
 put_in-row-by : (rows : List FieldRow) (line : ℕ) (ws : List (List ℕ)) (numbers : List ℕ) → list_all (λ r. nat_lt r.place 7) rows ≡ true → put_in rows line (take 12 ws) numbers ≡ put_in rows line ws numbers
 unfolding put_in
@@ -83,18 +81,18 @@ short_at t u rows line text words short is same e =
 
 pub line_words : (line : ℕ) (counts : Counts) (ws : List (List ℕ)) (f : HeadFault) → words_fault line 1 ws ≡ Some f → number_line_fault line counts ws ≡ Some f
 unfolding number_line_fault
-line_words line counts ws f e = ap (λ g. or_else g (first_reason ((is_short header_rows line (length ws), BadHeaderNumber) ∷ rule_tests line counts))) e
+line_words line counts ws f e = ap (λ g. option_or g (first_reason ((is_short header_rows line (length ws), BadHeaderNumber) ∷ rule_tests line counts))) e
 
 pub line_short : (line : ℕ) (counts : Counts) (ws : List (List ℕ)) → words_fault line 1 ws ≡ None → is_short header_rows line (length ws) ≡ true → number_line_fault line counts ws ≡ Some BadHeaderNumber
 unfolding number_line_fault
 line_short line counts ws e short =
-    ap (λ g. or_else g (first_reason ((is_short header_rows line (length ws), BadHeaderNumber) ∷ rule_tests line counts))) e
+    ap (λ g. option_or g (first_reason ((is_short header_rows line (length ws), BadHeaderNumber) ∷ rule_tests line counts))) e
     ∙ ap (λ t. cond t (Some BadHeaderNumber) (first_reason (rule_tests line counts))) short
 
 pub line_rules : (line : ℕ) (counts : Counts) (ws : List (List ℕ)) (o : Option HeadFault) → words_fault line 1 ws ≡ None → is_short header_rows line (length ws) ≡ false → first_reason (rule_tests line counts) ≡ o → number_line_fault line counts ws ≡ o
 unfolding number_line_fault
 line_rules line counts ws o e short rules =
-    ap (λ g. or_else g (first_reason ((is_short header_rows line (length ws), BadHeaderNumber) ∷ rule_tests line counts))) e
+    ap (λ g. option_or g (first_reason ((is_short header_rows line (length ws), BadHeaderNumber) ∷ rule_tests line counts))) e
     ∙ ap (λ t. cond t (Some BadHeaderNumber) (first_reason (rule_tests line counts))) short ∙ rules
 
 -- ---- One more line.
@@ -154,7 +152,7 @@ no_options ws c many =
     ap (λ t. (t && (length (options_of ws) == c)) && not (has_second_three (options_of ws))) (too-many c (length (drop 1 ws)) (omega (arith, length-drop 1 ws, many)))
 
 option_count-row : (ws : List (List ℕ)) → option_count (take 12 ws) ≡ option_count ws
-option_count-row ws = ap (λ w. cond (begins_with 103 w) (whole_of (drop 1 w)) None) (word_at-row ws 1 (omega arith))
+option_count-row ws = ap (λ w. cond (begins_with 103 w) (whole_of (drop 1 w)) None) (word_at-row ws 0 (omega arith))
 
 never : (a b : Bool) (x y z : HeadFault) → first_reason ((a, x) ∷ (b, y) ∷ (true, z) ∷ []) ≡ None → ⊥
 never true b x y z e = none-some _ (sym e)
@@ -169,9 +167,9 @@ first_reason-row ws = by (nat_le (length ws) 12) refl
     by true e = ap (λ w. first_reason (first_line_tests w)) (take-all 12 ws (leb-true _ _ e))
     by false e =
         let many : 13 ≤ length ws = omega (arith, leb-false _ _ e) in
-        ap (λ w. first_reason ((begins_with 98 w, BinaryFile) ∷ (is_none (option_count (take 12 ws)), BadFirstLine) ∷ (not (has_options (take 12 ws) (unwrap_or (option_count (take 12 ws)) 0)), Options) ∷ [])) (word_at-row ws 1 (omega arith))
-        ∙ ap (λ o. first_reason ((begins_with 98 (word_at ws 1), BinaryFile) ∷ (is_none o, BadFirstLine) ∷ (not (has_options (take 12 ws) (unwrap_or o 0)), Options) ∷ [])) (option_count-row ws)
-        ∙ ap (λ t. first_reason ((begins_with 98 (word_at ws 1), BinaryFile) ∷ (is_none (option_count ws), BadFirstLine) ∷ (not t, Options) ∷ []))
+        ap (λ w. first_reason ((begins_with 98 w, BinaryFile) ∷ (is_none (option_count (take 12 ws)), BadFirstLine) ∷ (not (has_options (take 12 ws) (unwrap_or (option_count (take 12 ws)) 0)), Options) ∷ [])) (word_at-row ws 0 (omega arith))
+        ∙ ap (λ o. first_reason ((begins_with 98 (word_at ws 0), BinaryFile) ∷ (is_none o, BadFirstLine) ∷ (not (has_options (take 12 ws) (unwrap_or o 0)), Options) ∷ [])) (option_count-row ws)
+        ∙ ap (λ t. first_reason ((begins_with 98 (word_at ws 0), BinaryFile) ∷ (is_none (option_count ws), BadFirstLine) ∷ (not t, Options) ∷ []))
         (no_options (take 12 ws) (unwrap_or (option_count ws) 0) (omega (arith, length-take 12 ws, many)) ∙ sym (no_options ws (unwrap_or (option_count ws) 0) (omega (arith, many))))
 
 pub first_row-whole : (ws : List (List ℕ)) → first_reason (first_line_tests ws) ≡ None → take 12 ws ≡ ws
@@ -182,8 +180,8 @@ first_row-whole ws clean = by (nat_le (length ws) 12) refl
     by true e = take-all 12 ws (leb-true _ _ e)
     by false e =
         let many : 6 ≤ length ws = omega (arith, leb-false _ _ e) in
-        absurd (never (begins_with 98 (word_at ws 1)) (is_none (option_count ws)) BinaryFile BadFirstLine Options
-        (ap (λ t. first_reason ((begins_with 98 (word_at ws 1), BinaryFile) ∷ (is_none (option_count ws), BadFirstLine) ∷ (not t, Options) ∷ [])) (sym (no_options ws (unwrap_or (option_count ws) 0) many)) ∙ clean))
+        absurd (never (begins_with 98 (word_at ws 0)) (is_none (option_count ws)) BinaryFile BadFirstLine Options
+        (ap (λ t. first_reason ((begins_with 98 (word_at ws 0), BinaryFile) ∷ (is_none (option_count ws), BadFirstLine) ∷ (not t, Options) ∷ [])) (sym (no_options ws (unwrap_or (option_count ws) 0) many)) ∙ clean))
 
 -- ---- All lines so far.
 

@@ -1,22 +1,19 @@
 -- What the ten header lines of an .nl file say (Gay 2005, "Writing .nl Files"), and what is wrong with one.
 -- A line is the list of its words; lines, places and rows are counted from 1. Which numbers are refused, and the order of faults, are this project's own.
-use Rattle.std.specs.Prelude.{ℕ, ◌+◌, ◌-◌, ◌^◌, ◌==◌, Bool, true, false, not, ◌&&◌, ◌||◌, nat_lt, nat_le, ℤ, List, [], ◌∷◌, ◌++◌, length, drop, slice_index, slice_index_or, find, Option, Some, None, is_none, unwrap_or, if◌then◌else◌, codes}
+use Rattle.std.specs.Prelude.{◌≡◌, ℕ, ◌+◌, ◌-◌, ◌^◌, ◌==◌, Bool, true, false, not, ◌&&◌, ◌||◌, nat_lt, nat_le, ℤ, List, [], ◌∷◌, ◌++◌, length, drop, slice_index, slice_index_or, find, Option, Some, None, is_none, Result, Ok, Err, unwrap_or, if◌then◌else◌, codes}
 use Rattle.std.specs.List.{list_any, filter_map}
 use Rattle.std.specs.Str.{bytes_eq}
-use Rattle.std.specs.Option.{option_map_or}
+use Rattle.std.specs.Option.{option_map_or, option_or}
 use Rattle.text_base.specs.Judged.{first_reason}
+use Rattle.text_base.specs.Words.{word_at}
 use Rattle.code_tables.specs.declared.field.Field.{Field}
 use Rattle.code_tables.specs.declared.field.FieldRow.{FieldRow}
 use Rattle.code_tables.specs.Header.{header, header_rows, field_at}
 use Rattle.nl_model.specs.declared.counts.Counts.{Counts}
 use Rattle.nl_model.specs.HeaderRules.{has_second_three, are_shared_within, are_whole_within, are_definitions_within}
-use Rattle.nl_header.specs.Numbers.{whole_of, signed_of}
+use Rattle.exact_numbers.specs.Numbers.{whole_of, signed_of}
 use Rattle.nl_header.specs.declared.fault.HeadFault.{HeadFault}
 use Rattle.nl_header.specs.declared.fault.HeadFault.TheVariants.{BinaryFile, BadFirstLine, Options, BadHeaderNumber, CountsDisagree, RefusedCount, TooLarge}
-
--- a word past the last is empty
-abbrev pub word_at : List (List ℕ) → ℕ → List ℕ
-word_at words place = slice_index_or words (place - 1) []
 
 abbrev pub line_at : List (List (List ℕ)) → ℕ → List (List ℕ)
 line_at lines line = slice_index_or lines (line - 1) []
@@ -25,7 +22,7 @@ line_at lines line = slice_index_or lines (line - 1) []
 
 -- a field that is missing is 0
 abbrev pub number_in : List (List ℕ) → ℕ → ℕ
-number_in words place = unwrap_or (whole_of (word_at words place)) 0
+number_in words place = unwrap_or (whole_of (word_at words (place - 1))) 0
 
 abbrev pub number_at : List (List (List ℕ)) → ℕ → ℕ → ℕ
 number_at lines line place = number_in (line_at lines line) place
@@ -92,12 +89,17 @@ options_in lines = options_of (line_at lines 1)
 
 -- ---- What is wrong with a line: the first test that holds gives the fault.
 
+-- what judging answers: the fault; or that all but `rest` of the rules is kept
+abbrev pub Judges : Option HeadFault → Option HeadFault → Result (Unit {0}) HeadFault → Type 0
+Judges fault rest (Ok u) = fault ≡ rest
+Judges fault rest (Err f) = fault ≡ Some f
+
 abbrev pub begins_with : ℕ → List ℕ → Bool
 begins_with byte word = slice_index word 0 == byte
 
 -- `g`, and directly after it the number of options
 abbrev pub option_count : List (List ℕ) → Option ℕ
-option_count words = if begins_with 103 (word_at words 1) then whole_of (drop 1 (word_at words 1)) else None
+option_count words = if begins_with 103 (word_at words 0) then whole_of (drop 1 (word_at words 0)) else None
 
 -- so many words after the first, at most four, which are signed whole numbers and the second of which is not 3
 abbrev pub has_options : List (List ℕ) → ℕ → Bool
@@ -106,7 +108,7 @@ has_options words count =
 
 unfoldable pub first_line_tests : List (List ℕ) → List (Bool × HeadFault)
 first_line_tests words =
-    (begins_with 98 (word_at words 1), BinaryFile)
+    (begins_with 98 (word_at words 0), BinaryFile)
     ∷ (is_none (option_count words), BadFirstLine)
     ∷ (not (has_options words (unwrap_or (option_count words) 0)), Options) ∷ []
 
@@ -133,15 +135,10 @@ number_tests field number =
 unfoldable pub word_tests : Option Field → List ℕ → List (Bool × HeadFault)
 word_tests field word = (is_none (whole_of word), BadHeaderNumber) ∷ number_tests field (unwrap_or (whole_of word) 0)
 
--- the first of two faults
-abbrev pub or_else : {A : Type 0} → Option A → Option A → Option A
-or_else None other = other
-or_else (Some x) other = Some x
-
 -- the first fault of the words of a line from a place on
 unfoldable pub words_fault : ℕ → ℕ → List (List ℕ) → Option HeadFault
 words_fault line place [] = None
-words_fault line place (word ∷ words) = or_else (first_reason (word_tests (field_at line place) word)) (words_fault line (place + 1) words)
+words_fault line place (word ∷ words) = option_or (first_reason (word_tests (field_at line place) word)) (words_fault line (place + 1) words)
 
 -- a field that must be there has no word
 unfoldable pub is_short : List FieldRow → ℕ → ℕ → Bool
@@ -157,7 +154,7 @@ rule_tests line counts =
 -- the first fault of a line of numbers, where the counts are those of all lines up to it
 unfoldable pub number_line_fault : ℕ → Counts → List (List ℕ) → Option HeadFault
 number_line_fault line counts words =
-    or_else (words_fault line 1 words)
+    option_or (words_fault line 1 words)
     (first_reason ((is_short header_rows line (length words), BadHeaderNumber) ∷ rule_tests line counts))
 
 -- the first fault of the header line that comes after these

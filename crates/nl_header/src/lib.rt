@@ -5,13 +5,9 @@ mod fault;
 mod first_line;
 mod kinds;
 mod number_line;
-mod numbers;
 mod reader;
 mod rules;
-#[cfg(test)]
-mod tests;
 
 pub use fault::HeadFault;
 pub use kinds::kinds_of;
-pub use numbers::{signed_of, whole_of};
 pub use reader::HeaderReader;

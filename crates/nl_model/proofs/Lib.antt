@@ -5,3 +5,4 @@ pub mod Headers
 pub mod OneList
 pub mod Opcodes
 pub mod Prefixes
+pub mod UseLemmas

@@ -10,3 +10,4 @@ pub mod Nodes
 pub mod Rules
 pub mod SuffixKinds
 pub mod TreeCode
+pub mod UseCounts

@@ -31,8 +31,6 @@ mod pairs;
 mod pending;
 mod places;
 mod seen;
-#[cfg(test)]
-mod tests;
 mod words;
 
 pub use awaited::Awaited;

@@ -16,7 +16,6 @@ pub mod RowFitLemmas
 pub mod RowLemmas
 pub mod ScaleLemmas
 pub mod TermLemmas
-pub mod TestLemmas
 pub mod TieLemmas
 pub mod VariableLemmas
 pub mod WholeDecimals

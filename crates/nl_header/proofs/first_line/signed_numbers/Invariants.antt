@@ -1,6 +1,6 @@
 use Rattle.std.proofs.Common.{◌≡◌, ◌≤◌, length, take, filter_map}
 use Rattle.text_base.specs.Words.{texts}
-use Rattle.nl_header.specs.Numbers.{signed_of}
+use Rattle.exact_numbers.specs.Numbers.{signed_of}
 use Rattle.nl_header.proofs.first_line.signed_numbers.Given as goal
 
 abbrev pub invariant-words : goal.invariant-words

@@ -1,0 +1,3 @@
+pub mod ColumnSums
+mod Examples
+pub mod Writing
