@@ -3,8 +3,6 @@
 
 mod answer;
 mod command;
-#[cfg(test)]
-mod examples;
 mod export;
 mod laws;
 mod mps;
@@ -13,8 +11,6 @@ mod nl;
 mod nl_input;
 mod nl_told;
 mod one_file;
-#[cfg(test)]
-mod tests;
 mod told;
 mod top;
 mod transfer;

@@ -6,8 +6,6 @@ mod field;
 mod header;
 mod opcodes;
 mod table;
-#[cfg(test)]
-mod tests;
 
 pub use class::{OpClass, OpcodeRow, Operands};
 pub use field::{Field, FieldRow};

@@ -1,6 +1,6 @@
 -- Decimal numbers as reduced pairs.
 use Prim.Native.Nat.{◌∣◌}
-use Rattle.std.proofs.Common.{◌≡◌, ◌≢◌, ℕ, zero, suc, ◌+◌, ◌-◌, ◌*◌, ◌/◌, ◌%◌, ◌^◌, ◌<◌, ◌≤◌, ◌⊎◌, ◌∙◌, sym, ap, ap₂, refl, arith, ℤ, pos, negsuc, ◌*ℤ◌, unsigned_abs, subst, ⊎_elim, inl, inr, int_lt, pow-suc, pow-add, mul_assoc, mul_comm, mul-le-mul_left, mul-pos, add-one, lit<, le-mul_of_pos_right, one-mul, lt_of_lt_of_le, lt_of_le_of_lt, lit≤}
+use Rattle.std.proofs.Common.{◌≡◌, ◌≢◌, ℕ, zero, suc, ◌+◌, ◌-◌, ◌*◌, ◌/◌, ◌%◌, ◌^◌, ◌<◌, ◌≤◌, ◌⊎◌, ◌∙◌, sym, ap, ap₂, refl, arith, ℤ, pos, negsuc, ◌*ℤ◌, ◌≤ℤ◌, ◌<ℤ◌, unsigned_abs, subst, ⊎_elim, inl, inr, int_lt, pow-suc, pow-add, mul_assoc, mul_comm, mul-le-mul_left, mul-pos, add-one, lit<, le-mul_of_pos_right, one-mul, lt_of_lt_of_le, lt_of_le_of_lt, lit≤}
 use Rattle.std.proofs.Math.Nat.{pow-le-pow_right, pow-zero, one-le-pow, div-add-mod', dvd-mul_left, dvd-mul_right, dvd-mul_right_of_dvd, eq-zero_of_zero-dvd}
 use Rattle.std.proofs.lemmas.Bool.{cases_lt}
 use Rattle.std.proofs.lemmas.Nat.{mul-pow}
@@ -13,7 +13,8 @@ use Rattle.std.specs.Int.{w16, w128}
 use mir.Val.{SFits}
 use Rattle.exact_numbers.proofs.Coprime.{coprime-mul, dvd_other}
 use Rattle.exact_numbers.proofs.Signed.{times_twice}
-use Rattle.exact_numbers.proofs.Decimals.{scaled-bottom}
+use Rattle.exact_numbers.proofs.Decimals.{abs_is, scaled-bottom}
+use Rattle.std.proofs.lemmas.Int.{ints}
 use borrow.Author.Differences.{up, down}
 use Rattle.exact_numbers.proofs.Fractions.{only_coprime, is_frac_signed, signed_times, signed_self, sized_fits}
 
@@ -135,6 +136,20 @@ of_whole m e k p q = of_pair m e _ 1 (lit< tt) (coprime-one _) (whole_same m e k
 
 pub of_part : (m e : ℤ) (k a b rest : ℕ) → up e ≡ 0 → down e ≡ k → Reduced10 (unsigned_abs m) k a b rest → OfDec m e rest (2 ^ a * 5 ^ b)
 of_part m e k a b rest p q r = of_pair m e rest (2 ^ a * 5 ^ b) r.above r.coprime (part_same m e k a b rest p q r)
+
+-- from the exponent alone
+pub whole_of_dec : (m e : ℤ) → pos 0 ≤ℤ e → OfDec m e (unsigned_abs m * 10 ^ unsigned_abs e) 1
+whole_of_dec m e h = let parts = abs_is e in of_whole m e (unsigned_abs e) (omega (arith, ints)) (omega (arith, ints))
+
+-- and from what two calls of `cancel` ensure
+pub part_of_dec : (m e : ℤ) (n k a b t rest : ℕ) → e <ℤ pos 0 → n ≡ unsigned_abs m → k ≡ unsigned_abs e → a ≤ k → b ≤ k
+    → n ≡ t * 2 ^ (k - a) → t ≡ rest * 5 ^ (k - b) → (0 < a → t % 2 ≢ 0) → (0 < b → rest % 5 ≢ 0)
+    → OfDec m e rest (2 ^ a * 5 ^ b) × (rest ≤ unsigned_abs m)
+part_of_dec m e n k a b t rest h same size within second whole part twos fives =
+    let r = reduced10 n k a b t rest within second whole part twos fives in
+    let s : Reduced10 (unsigned_abs m) k a b rest = subst (λ x. Reduced10 x k a b rest) same r in
+    let parts = abs_is e in
+    (of_part m e k a b rest (omega (arith, ints)) (omega (arith, ints, size)) s, s.small)
 
 pub mantissa_fits : (m e : ℤ) → IsDec m e → SFits w128 m
 mantissa_fits m e h = sized_fits m h.mantissa

@@ -1,6 +1,7 @@
 -- Reduced pairs that are finite decimals.
 use Prim.Native.Nat.{◌∣◌}
-use Rattle.std.proofs.Common.{◌≡◌, ◌≢◌, ℕ, zero, suc, ◌-◌, ◌*◌, ◌%◌, ◌^◌, ◌<◌, ◌≤◌, ◌⊎◌, ◌∙◌, sym, ap, ap₂, arith, ℤ, pos, ◌*ℤ◌, unsigned_abs, subst, ⊎_elim, int_lt, pow-suc, pow-add, mul_comm, mul-one}
+use Rattle.std.proofs.Common.{◌≡◌, ◌≢◌, ℕ, zero, suc, ◌-◌, ◌*◌, ◌%◌, ◌^◌, ◌<◌, ◌≤◌, ◌⊎◌, inl, inr, max, ◌∙◌, sym, ap, ap₂, arith, ℤ, pos, neg_ℤ, ◌*ℤ◌, unsigned_abs, subst, ⊎_elim, int_lt, pow-suc, pow-add, mul_comm, mul-one, one-mul}
+use Rattle.std.proofs.lemmas.Int.{ints}
 use Rattle.std.proofs.Math.Nat.{dvd-mul_left, dvd-mul_right, dvd-mul_right_of_dvd}
 use Rattle.std.proofs.lemmas.Bool.{cases_lt}
 use Rattle.std.proofs.lemmas.Nat.{mul-pow}
@@ -96,3 +97,34 @@ module _ (n : ℤ) (d i j p : ℕ) (frac : IsFrac n d) (whole : d ≡ 2 ^ i * 5 
       let size = size_of s k in
       let only = only_value (pair n d) (signed s k) f frac.above (λ h. raised_odd top wide (ap (λ u. u % 10) (sym size) ∙ h)) (raised_same f x y) fits in
       omega (arith, only.0, size, wide)
+
+-- the denominator is 2 ^ i * 5 ^ j, and p is the greater of both
+pub record Places (d i j p : ℕ) : Type 0 where
+  pub whole : d ≡ 2 ^ i * 5 ^ j
+  pub top : (p ≡ i) ⊎ (p ≡ j)
+  pub first : i ≤ p
+  pub second : j ≤ p
+
+pub places_of : (d t c i j p : ℕ) → d ≡ t * 2 ^ i → t ≡ c * 5 ^ j → c ≡ 1 → p ≡ max i j → Places d i j p
+places_of d t c i j p twos fives none e =
+    record {
+      whole = twos ∙ ap (λ x. x * 2 ^ i) (fives ∙ ap (λ x. x * 5 ^ j) none ∙ one-mul (5 ^ j)) ∙ mul_comm (5 ^ j) (2 ^ i);
+      top = ⊎_elim (λ l. inr (omega (arith, e))) (λ g. inl (omega (arith, e))) (cases_lt i j);
+      first = omega (arith, e);
+      second = omega (arith, e);
+    }
+
+module _ (n : ℤ) (d i j p : ℕ) (frac : IsFrac n d) (q : Places d i j p) where
+  up_none : up (neg_ℤ (pos p)) ≡ 0
+  up_none = omega (arith, ints)
+
+  down_all : down (neg_ℤ (pos p)) ≡ p
+  down_all = omega (arith, ints)
+
+  pub no_dec_above : 2 ^ 127 ≤ unsigned_abs n * 2 ^ (p - i) * 5 ^ (p - j) → HasDec (pair n d) → ⊥
+  no_dec_above wide = raised_only n d i j p frac q.whole q.first q.second q.top (neg_ℤ (pos p)) up_none down_all wide
+
+  pub same_at : (m f : ℤ) → m ≡ signed (int_lt n (pos 0)) (unsigned_abs n * 2 ^ (p - i) * 5 ^ (p - j)) → f ≡ neg_ℤ (pos p) → SameValue (scaled m f) (pair n d)
+  same_at m f sign plain =
+      subst (λ x. SameValue (scaled x f) (pair n d)) (sym sign)
+      (raised_same n d i j p frac q.whole q.first q.second f (ap up plain ∙ up_none) (ap down plain ∙ down_all))

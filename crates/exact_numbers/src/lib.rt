@@ -12,8 +12,6 @@ mod numbers;
 mod of_dec;
 mod order;
 mod read;
-#[cfg(test)]
-mod tests;
 mod write;
 
 pub use arithmetic::lcm;

@@ -1,12 +1,13 @@
 -- The sides that a program's rows and columns have.
 use Rattle.std.proofs.Common.{◌≡◌, ℕ, zero, suc, ◌+◌, ◌<◌, ◌∙◌, sym, ap, ap₂, refl, arith, Bool, true, false, cond, nat_eq, List, [], ◌∷◌, ◌++◌, length, get_or, Option, Some, None, pos, negsuc, ◌⊎◌, ⊎_elim, ◌||◌, ◌&&◌}
+use Rattle.std.specs.Option.{option_or}
 use Rattle.std.proofs.lemmas.Bool.{eq-eqb, ne_eqb}
 use Rattle.std.proofs.lemmas.Int.{ints}
 use Rattle.fractions.specs.Rational.{ℚ, zero_ℚ, whole, ◌+ℚ◌, ◌-ℚ◌, neg_ℚ, ◌≤ℚ◌, unless_zero}
 use Rattle.fractions.proofs.Arithmetic.{+ℚ_comm, +ℚ_assoc, +ℚ_zero, +ℚ-neg, -ℚ_lem, zero_top, difference_above}
 use Rattle.linear_programs.specs.Linear.{Interval, AreOrdered, Variable}
 use Rattle.mps_model.specs.declared.kinds.BoundKind.{BoundKind}
-use Rattle.mps_model.specs.Mps.{row_sides, is_negative, size_of, Bound, side_set, lower_set, upper_set, or_else, usual_lower, given, has_whole_record, is_below_zero}
+use Rattle.mps_model.specs.Mps.{row_sides, is_negative, size_of, Bound, side_set, lower_set, upper_set, usual_lower, given, has_whole_record, is_below_zero}
 use Rattle.mps_model.specs.declared.kinds.BoundKind.TheVariants.{Lo, Up, Fx, Fr, Mi, Pl}
 use Rattle.exported_program.specs.Program.{nonzero, range_of, rhs_of, kind_of, two_sided, column_bounds, fixed_or_both, bound_record, bounds_of}
 
@@ -52,11 +53,11 @@ row_sides_back (Some l) (Some u) h =
 -- the records of column j say nothing of column p
 skip : (sets : BoundKind → ℚ → Option (Option ℚ)) (p j : ℕ) (kind : BoundKind) (v : ℚ) (rest : List (Bound ℚ)) → nat_eq j p ≡ false → side_set sets p (bound_record kind j v ∷ rest) ≡ side_set sets p rest
 unfolding side_set
-skip sets p j kind v rest e = ap (λ b. or_else (cond b (sets kind v) None) (side_set sets p rest)) e
+skip sets p j kind v rest e = ap (λ b. option_or (cond b (sets kind v) None) (side_set sets p rest)) e
 
-keep : (sets : BoundKind → ℚ → Option (Option ℚ)) (j : ℕ) (kind : BoundKind) (v : ℚ) (rest : List (Bound ℚ)) → side_set sets j (bound_record kind j v ∷ rest) ≡ or_else (sets kind v) (side_set sets j rest)
+keep : (sets : BoundKind → ℚ → Option (Option ℚ)) (j : ℕ) (kind : BoundKind) (v : ℚ) (rest : List (Bound ℚ)) → side_set sets j (bound_record kind j v ∷ rest) ≡ option_or (sets kind v) (side_set sets j rest)
 unfolding side_set
-keep sets j kind v rest = ap (λ b. or_else (cond b (sets kind v) None) (side_set sets j rest)) (eq-eqb j j refl)
+keep sets j kind v rest = ap (λ b. option_or (cond b (sets kind v) None) (side_set sets j rest)) (eq-eqb j j refl)
 
 module _ (sets : BoundKind → ℚ → Option (Option ℚ)) (p j : ℕ) where
   skip_both : (l u : ℚ) (o : Option ℚ) (rest : List (Bound ℚ)) → nat_eq j p ≡ false → side_set sets p (fixed_or_both j l u o ++ rest) ≡ side_set sets p rest

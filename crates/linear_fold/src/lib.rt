@@ -16,8 +16,6 @@ mod owners;
 mod pad;
 mod program;
 mod shortcuts;
-#[cfg(test)]
-mod tests;
 mod wide;
 mod work;
 

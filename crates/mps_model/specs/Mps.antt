@@ -1,5 +1,7 @@
 -- MPS programs, and what they mean (the usual MPS manuals; the signs of ranges and of upper bounds below 0 are an own profile).
 use Rattle.std.specs.Prelude.{ℕ, suc, ◌<◌, ℤ, pos, negsuc, nat_eq, Bool, true, false, cond, ◌||◌, ◌&&◌, IsTrue, List, [], ◌∷◌, length, map, get_or, Option, Some, None}
+use Rattle.std.specs.Option.{option_or}
+pub use Rattle.fractions.specs.Functions.{or_zero}
 use Rattle.fractions.specs.Rational.{ℚ, zero_ℚ, one_ℚ, ◌+ℚ◌, ◌-ℚ◌, ◌*ℚ◌, neg_ℚ, IsWhole}
 use Rattle.fractions.specs.Sums.{sum_over, sum_below}
 pub use Rattle.mps_model.specs.declared.kinds.RowKind.{RowKind}
@@ -83,11 +85,6 @@ unfoldable pub at_row : {V : Type 0} → ℕ → List (Entry V) → Option V
 at_row i [] = None
 at_row i (e ∷ es) = cond (nat_eq e.row i) (Some e.value) (at_row i es)
 
--- 0 where there is none
-abbrev pub or_zero : Option ℚ → ℚ
-or_zero None = zero_ℚ
-or_zero (Some x) = x
-
 -- nothing asks for a column past the last
 abbrev pub no_column : {V : Type 0} → Column V
 no_column = record { name = []; marked = false; entries = [] }
@@ -150,15 +147,10 @@ upper_set Lo v = None
 upper_set Li v = None
 upper_set Mi v = None
 
--- the first that is there
-abbrev pub or_else : {A : Type 0} → Option A → Option A → Option A
-or_else (Some x) o = Some x
-or_else None o = o
-
 -- the side that the first record of column j that sets one sets
 unfoldable pub side_set : (BoundKind → ℚ → Option (Option ℚ)) → ℕ → List (Bound ℚ) → Option (Option ℚ)
 side_set sets j [] = None
-side_set sets j (b ∷ bs) = or_else (cond (nat_eq b.column j) (sets b.kind b.value) None) (side_set sets j bs)
+side_set sets j (b ∷ bs) = option_or (cond (nat_eq b.column j) (sets b.kind b.value) None) (side_set sets j bs)
 
 -- without a record: 0, but no lower side where the upper one is below 0
 abbrev pub usual_lower : Option (Option ℚ) → Option ℚ

@@ -1,15 +1,15 @@
-use Rattle.std.proofs.Common.{[], ◌≡◌, ℕ, suc, ◌+◌, ◌<◌, ◌≤◌, ◌∙◌, sym, ap, ap₂, subst, arith, Bool, true, false, List, ◌∷◌, ◌++◌, length, get_or, drop, map, All, append_assoc, add-one, drop-cons}
+use Rattle.std.proofs.Common.{[], ◌≡◌, ℕ, suc, ◌+◌, ◌<◌, ◌≤◌, ◌∙◌, sym, ap, ap₂, subst, arith, Bool, true, false, List, ◌∷◌, ◌++◌, length, get_or, drop, map, All, add-one, drop-cons}
 use Rattle.std.proofs.lemmas.List.{length-map, get_or-map, drop_all}
 use Rattle.mps_model.specs.Mps.{Bound, Entry, Column, MpsRow, Mps, with_values}
 use Rattle.mps_model.specs.declared.kinds.BoundKind.{BoundKind}
 use Rattle.mps_model.specs.Text.{entry_lines, change_lines, markers_after, column_lines, mps_text_by}
 use Rattle.mps_model.proofs.Texts.{text_by_values}
-use Rattle.exact_numbers.specs.Values.{dec_value, value_text}
+use Rattle.exact_numbers.specs.Values.{dec_value, text_of, value_text}
 use Rattle.exact_numbers.proofs.Spelling.{value_text-decimal}
 use Rattle.exact_numbers.specs.declared.dec.Dec.{Dec}
 use Rattle.mps_model.specs.Built.{bound_of, entry_of}
 use Rattle.mps_model.specs.Valid.{AreColumns}
-use Rattle.written_texts.specs.Lines.{Line, lines_text, text_of, unless_empty}
+use Rattle.written_texts.specs.Lines.{Line, lines_text, unless_empty}
 use Rattle.written_texts.proofs.Writing.{lines_after, rest_written}
 
 pub markers_more : (b m : Bool) (i : ℕ) → markers_after b m i ≤ i + 1

@@ -2,7 +2,8 @@
 ghost use Rattle.std.specs.Prelude.{◌≡◌, ◌<◌, ◌^◌, ◌++◌, ◌∷◌, length, codes, OnOk, IfOk, All, false};
 ghost use Rattle.mps_model.specs.Text.{section, marker_line, change_lines, markers_after, column_lines};
 ghost use Rattle.mps_model.specs.Valid.{AreColumns};
-ghost use Rattle.written_texts.specs.Lines.{line_text, lines_text, text_of};
+ghost use Rattle.exact_numbers.specs.Values.{text_of};
+ghost use Rattle.written_texts.specs.Lines.{line_text, lines_text};
 
 use crate::lines::put_entries;
 use mps_model::{MpsColumn, MpsRow};

@@ -2,16 +2,14 @@
 #![tactic(auto)]
 
 ghost use Rattle.std.specs.Prelude.{◌≡◌, ◌++◌, ◌∷◌, OnOk, IfOk, map, codes};
-ghost use Rattle.exact_numbers.specs.Values.{dec_value, value_text};
+ghost use Rattle.exact_numbers.specs.Values.{dec_value, text_of, value_text};
 ghost use Rattle.mps_model.specs.Mps.{with_values};
 ghost use Rattle.mps_model.specs.Text.{mps_text_by, name_lines, sense_lines, section, row_line};
-ghost use Rattle.written_texts.specs.Lines.{line_text, lines_text, text_of};
+ghost use Rattle.written_texts.specs.Lines.{line_text, lines_text};
 
 mod bounds;
 mod columns;
 mod lines;
-#[cfg(test)]
-mod tests;
 
 use bounds::put_bounds;
 use columns::put_columns;

@@ -1,6 +1,6 @@
 -- What the ten header lines of an .nl file say (Gay 2005, "Writing .nl Files"), and what is wrong with one.
 -- A line is the list of its words; lines, places and rows are counted from 1. Which numbers are refused, and the order of faults, are this project's own.
-use Rattle.std.specs.Prelude.{ℕ, ◌+◌, ◌-◌, ◌^◌, ◌==◌, Bool, true, false, not, ◌&&◌, ◌||◌, nat_lt, nat_le, ℤ, List, [], ◌∷◌, ◌++◌, length, drop, slice_index, slice_index_or, find, Option, Some, None, is_none, unwrap_or, if◌then◌else◌, codes}
+use Rattle.std.specs.Prelude.{◌≡◌, ℕ, ◌+◌, ◌-◌, ◌^◌, ◌==◌, Bool, true, false, not, ◌&&◌, ◌||◌, nat_lt, nat_le, ℤ, List, [], ◌∷◌, ◌++◌, length, drop, slice_index, slice_index_or, find, Option, Some, None, is_none, Result, Ok, Err, unwrap_or, if◌then◌else◌, codes}
 use Rattle.std.specs.List.{list_any, filter_map}
 use Rattle.std.specs.Str.{bytes_eq}
 use Rattle.std.specs.Option.{option_map_or, option_or}
@@ -88,6 +88,11 @@ unfoldable pub options_in : List (List (List ℕ)) → List ℤ
 options_in lines = options_of (line_at lines 1)
 
 -- ---- What is wrong with a line: the first test that holds gives the fault.
+
+-- what judging answers: the fault; or that all but `rest` of the rules is kept
+abbrev pub Judges : Option HeadFault → Option HeadFault → Result (Unit {0}) HeadFault → Type 0
+Judges fault rest (Ok u) = fault ≡ rest
+Judges fault rest (Err f) = fault ≡ Some f
 
 abbrev pub begins_with : ℕ → List ℕ → Bool
 begins_with byte word = slice_index word 0 == byte

@@ -1,6 +1,6 @@
 // The first header line: the letter of text files, and the options.
-ghost use Rattle.std.specs.Prelude.{◌≡◌, ℕ, ◌<◌, ◌≤◌, ◌++◌, option_to_list, length, filter_map, slice_index, IfOk, IfErr, None, Some};
-ghost use Rattle.text_base.specs.Judged.{first_reason};
+ghost use Rattle.std.specs.Prelude.{◌≡◌, ℕ, ◌<◌, ◌≤◌, ◌++◌, option_to_list, length, filter_map, slice_index};
+ghost use Rattle.text_base.specs.Judged.{Decides};
 ghost use Rattle.text_base.specs.Words.{texts};
 ghost use Rattle.exact_numbers.specs.Numbers.{signed_of};
 ghost use Rattle.nl_header.specs.Head.{begins_with, option_count, options_of, first_line_tests};
@@ -60,8 +60,7 @@ fn signed_numbers(words: &[&[u8]]) -> Options
 #[tactic(auto, unfolding(crate::specs::Head::first_line_tests))]
 pub fn read_first(words: &[&[u8]]) -> Result<Options, HeadFault>
     requires { 0 < length words.now }
-    ensures ok { IfOk result (λ o. (first_reason (first_line_tests (texts words.now)) ≡ None) × (o ≡ options_of (texts words.now))) }
-    ensures err { IfErr result (λ f. first_reason (first_line_tests (texts words.now)) ≡ Some f) }
+    ensures { Decides (first_line_tests (texts words.now)) (λ o. o ≡ options_of (texts words.now)) result }
 {
     if begins_with(b'b', words[0]) {
         return Err(HeadFault::BinaryFile);

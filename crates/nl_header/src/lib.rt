@@ -7,8 +7,6 @@ mod kinds;
 mod number_line;
 mod reader;
 mod rules;
-#[cfg(test)]
-mod tests;
 
 pub use fault::HeadFault;
 pub use kinds::kinds_of;

@@ -1,8 +1,8 @@
 // The header lines of numbers, judged and kept by the table of fields.
-ghost use Rattle.std.specs.Prelude.{◌≡◌, ℕ, ◌<◌, ◌≤◌, ◌==◌, ◌+◌, min, length, slice_index, slice_index_or, if◌then◌else◌, OnOk, IfErr, None, Some};
+ghost use Rattle.std.specs.Prelude.{◌≡◌, ℕ, ◌<◌, ◌≤◌, ◌==◌, ◌+◌, min, length, slice_index, slice_index_or, if◌then◌else◌, None};
 ghost use Rattle.text_base.specs.Judged.{first_reason};
 ghost use Rattle.text_base.specs.Words.{words_of, texts};
-ghost use Rattle.nl_header.specs.Head.{number_in, limit_of_row, number_tests, word_tests, words_fault, is_short, no_row, number_after};
+ghost use Rattle.nl_header.specs.Head.{Judges, number_in, limit_of_row, number_tests, word_tests, words_fault, is_short, no_row, number_after};
 ghost use Rattle.nl_header.specs.Reading.{put_in};
 
 use crate::fault::HeadFault;
@@ -28,8 +28,7 @@ fn limit_of_row(row: u32) -> u32
 // Judges a number where a field stands.
 #[tactic(auto, unfolding(crate::specs::Head::number_tests))]
 fn judge_number(field: Option<Field>, number: u32) -> Result<(), HeadFault>
-    ensures ok { OnOk result (first_reason (number_tests field number) ≡ None) }
-    ensures err { IfErr result (λ f. first_reason (number_tests field number) ≡ Some f) }
+    ensures { Judges (first_reason (number_tests field number)) None result }
 {
     let Some(field) = field else {
         if number != 0 {
@@ -49,8 +48,7 @@ fn judge_number(field: Option<Field>, number: u32) -> Result<(), HeadFault>
 // Judges a word where a field stands.
 #[tactic(auto, unfolding(crate::specs::Head::word_tests))]
 fn judge_word(field: Option<Field>, word: &[u8]) -> Result<(), HeadFault>
-    ensures ok { OnOk result (first_reason (word_tests field word.now) ≡ None) }
-    ensures err { IfErr result (λ f. first_reason (word_tests field word.now) ≡ Some f) }
+    ensures { Judges (first_reason (word_tests field word.now)) None result }
 {
     let Some(number) = whole_of(word) else {
         return Err(HeadFault::BadHeaderNumber);
@@ -71,8 +69,7 @@ fn next_place(place: u32) -> u32
 
 /// Judges the words of a line from the left.
 pub fn judge_words(line: u32, text: &[u8]) -> Result<(), HeadFault>
-    ensures ok { OnOk result (words_fault line 1 (words_of text.now) ≡ None) }
-    ensures err { IfErr result (λ f. words_fault line 1 (words_of text.now) ≡ Some f) }
+    ensures { Judges (words_fault line 1 (words_of text.now)) None result }
 {
     let mut rest = words(text);
     let mut place = 1u32;

@@ -3,7 +3,7 @@ ghost use Rattle.std.specs.Prelude.{◌≡◌, ℕ, ◌<◌, ◌≤◌, ◌+◌,
 ghost use Rattle.text_base.specs.Judged.{first_reason};
 ghost use Rattle.text_base.specs.Words.{words_of, row_of};
 ghost use Rattle.code_tables.specs.Header.{header_rows};
-ghost use Rattle.nl_header.specs.Head.{first_line_tests, number_line_fault, options_of};
+ghost use Rattle.nl_header.specs.Head.{Judges, first_line_tests, number_line_fault, options_of};
 ghost use Rattle.nl_header.specs.Reading.{IsReading, Takes, HasCounted, Closes, put_in, counts_from, last_rule};
 
 use crate::fault::HeadFault;
@@ -62,9 +62,12 @@ impl HeaderReader {
     // Takes the first line.
     fn take_first(&mut self, row: &Row<'_>) -> Result<(), HeadFault>
         requires { 0 < length row.now }
-        ensures ok { OnOk result (first_reason (first_line_tests row.now) ≡ None) }
-        ensures err { IfErr result (λ f. first_reason (first_line_tests row.now) ≡ Some f) }
-        ensures step { OnOk result (self.new ≡ record self.old { lines = 1; options = options_of row.now; numbers = put_in header_rows 1 row.now self.old.numbers }) }
+        ensures judges { Judges (first_reason (first_line_tests row.now)) None result }
+        ensures step { OnOk result (self.new ≡ record self.old {
+          lines = 1;
+          options = options_of row.now;
+          numbers = put_in header_rows 1 row.now self.old.numbers;
+        }) }
         ensures same { OnErr result (self.new ≡ self.old) }
     {
         match read_first(row.words()) {
@@ -80,9 +83,15 @@ impl HeaderReader {
     fn take_numbers(&mut self, text: &[u8], row: &Row<'_>) -> Result<Counts, HeadFault>
         requires row { row.now ≡ row_of text.now }
         requires lines { self.old.lines < 10 }
-        ensures ok { IfOk result (λ counts. (counts ≡ counts_from self.new.numbers) × (number_line_fault (self.old.lines + 1) counts (words_of text.now) ≡ last_rule (self.old.lines + 1) counts)) }
-        ensures step { OnOk result (self.new ≡ record self.old { numbers = put_in header_rows (self.old.lines + 1) row.now self.old.numbers }) }
-        ensures err { IfErr result (λ f. number_line_fault (self.old.lines + 1) (counts_from (put_in header_rows (self.old.lines + 1) row.now self.old.numbers)) (words_of text.now) ≡ Some f) }
+        ensures ok { IfOk result (λ counts. (counts ≡ counts_from self.new.numbers)
+            × (number_line_fault (self.old.lines + 1) counts (words_of text.now)
+            ≡ last_rule (self.old.lines + 1) counts)) }
+        ensures step { OnOk result (self.new ≡ record self.old {
+          numbers = put_in header_rows (self.old.lines + 1) row.now self.old.numbers;
+        }) }
+        ensures err { IfErr result (λ f. number_line_fault (self.old.lines + 1)
+            (counts_from (put_in header_rows (self.old.lines + 1) row.now self.old.numbers))
+            (words_of text.now) ≡ Some f) }
         ensures same { OnErr result (self.new ≡ self.old) }
     {
         let line = self.lines + 1;
@@ -116,7 +125,8 @@ impl HeaderReader {
     fn take(&mut self, text: &[u8]) -> Result<Option<Header>, HeadFault>
         requires words { 0 < length (words_of text.now) }
         requires more { self.old.lines < 10 }
-        ensures takes { (before : List (List (List ℕ))) → IsReading self.old before → Takes before (words_of text.now) result self.new }
+        ensures takes { (before : List (List (List ℕ))) → IsReading self.old before
+            → Takes before (words_of text.now) result self.new }
         ensures count { HasCounted self.old.lines result self.new.lines }
     {
         let row = Row::of(text);
@@ -132,11 +142,13 @@ impl HeaderReader {
         }
     }
 
-    /// Takes the next header line, without its comment, and answers the header at the tenth. After a fault it answers that fault again.
+    /// Takes the next header line, without its comment, and answers the header at the tenth. After a
+    /// fault it answers that fault again.
     pub fn line(&mut self, text: &[u8]) -> Result<Option<Header>, HeadFault>
         requires words { 0 < length (words_of text.now) }
         requires more { self.old.lines < 10 }
-        ensures takes { (before : List (List (List ℕ))) → IsReading self.old before → Takes before (words_of text.now) result self.new }
+        ensures takes { (before : List (List (List ℕ))) → IsReading self.old before
+            → Takes before (words_of text.now) result self.new }
         ensures count { HasCounted self.old.lines result self.new.lines }
         ensures fault { IfErr result (λ f. self.new.fault ≡ Some f) }
         ensures again { IfSome self.old.fault (λ f. (result ≡ Err f) × (self.new ≡ self.old)) }

@@ -1,9 +1,9 @@
 // The counts of the lines, and the rules between them.
-ghost use Rattle.std.specs.Prelude.{◌≡◌, length, OnOk, IfErr, None, Some, ◌≤◌};
+ghost use Rattle.std.specs.Prelude.{◌≡◌, length, ◌≤◌};
 ghost use Rattle.text_base.specs.Judged.{first_reason};
 ghost use Rattle.text_base.specs.Words.{words_of, row_of};
 ghost use Rattle.code_tables.specs.Header.{header_rows};
-ghost use Rattle.nl_header.specs.Head.{number_line_fault, rule_tests};
+ghost use Rattle.nl_header.specs.Head.{Judges, number_line_fault, rule_tests};
 ghost use Rattle.nl_header.specs.Reading.{counts_from, last_rule};
 
 use crate::fault::HeadFault;
@@ -55,8 +55,7 @@ pub fn counts_of(numbers: &[u32; 32]) -> Counts
 // Judges the rules of the lines before the last.
 #[tactic(auto, unfolding(crate::specs::Head::rule_tests, crate::specs::Reading::last_rule))]
 fn judge_rules(line: u32, counts: &Counts) -> Result<(), HeadFault>
-    ensures ok { OnOk result (first_reason (rule_tests line counts.now) ≡ last_rule line counts.now) }
-    ensures err { IfErr result (λ f. first_reason (rule_tests line counts.now) ≡ Some f) }
+    ensures { Judges (first_reason (rule_tests line counts.now)) (last_rule line counts.now) result }
 {
     if line == 5 && !are_shared_within(counts) {
         return Err(HeadFault::CountsDisagree);
@@ -67,11 +66,11 @@ fn judge_rules(line: u32, counts: &Counts) -> Result<(), HeadFault>
     Ok(())
 }
 
-/// Judges a line of numbers, but for the rule of the last line. The counts are those of all lines up to it.
+/// Judges a line of numbers, but for the rule of the last line. The counts are those of all lines up to
+/// it.
 pub fn judge_line(line: u32, text: &[u8], row: &Row<'_>, counts: &Counts) -> Result<(), HeadFault>
     requires { row.now ≡ row_of text.now }
-    ensures ok { OnOk result (number_line_fault line counts.now (words_of text.now) ≡ last_rule line counts.now) }
-    ensures err { IfErr result (λ f. number_line_fault line counts.now (words_of text.now) ≡ Some f) }
+    ensures { Judges (number_line_fault line counts.now (words_of text.now)) (last_rule line counts.now) result }
 {
     if let Err(fault) = judge_words(line, text) {
         return Err(fault);

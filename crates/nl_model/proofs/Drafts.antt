@@ -5,7 +5,7 @@ use Rattle.std.proofs.lemmas.List.{length_push, get_or_default}
 use Rattle.std.proofs.lemmas.List.Elements.{All-push, All-set, All-get_or, All-head, All-tail, All-cons, All-nil}
 use Rattle.std.proofs.lemmas.List.Sums.{sum_by-set}
 use Rattle.nl_model.specs.File.{Term, Objective}
-use Rattle.nl_model.specs.Rules.{AreTermsBelow, term_count, most_terms, IsTreeKnown, IsFile}
+use Rattle.nl_model.specs.Rules.{AreTerms, AreTermsBelow, term_count, most_terms, IsTreeKnown, IsFile}
 use Rattle.nl_model.specs.Draft.{Draft, IsDraft, given, file_of}
 use Rattle.nl_model.specs.Built.{IsKept}
 
@@ -29,26 +29,17 @@ rows_more rows i t old row inside e f =
     let same : length (get_or rows i old) ≡ length old = ap length (sym e) in
     omega arith
 
--- one more term of a constraint
-pub kept-term : (d : Draft) (marks : List Bool) (count i : ℕ) (t : Term) (old row : List Term) → IsKept d marks count → i < d.counts.n_con → t.0 < d.counts.n_var
-    → term_count d.terms < most_terms → old ≡ get_or d.terms i old → row ≡ old ++ t ∷ [] → IsKept (record d { terms = set d.terms i row }) marks (count + 1)
-kept-term d marks count i t old row k con var few e f =
-    let inside : i < length d.terms = omega (arith, k.draft.terms.rows) in
-    let more = rows_more d.terms i t old row inside e f in
+-- a draft with other terms
+kept-terms : (d : Draft) (marks : List Bool) (count now : ℕ) (terms slopes : List (List Term)) → IsKept d marks count → AreTerms d.counts terms slopes → now ≡ term_count terms
+    → IsKept (record d { terms = terms; slopes = slopes }) marks now
+kept-terms d marks count now terms slopes k fine counted =
     record {
       draft = record {
         ruled = k.draft.ruled;
         definitions = k.draft.definitions;
         bodies = k.draft.bodies;
         objectives = k.draft.objectives;
-        terms = record {
-          rows = length-set d.terms i row ∙ k.draft.terms.rows;
-          costs = k.draft.terms.costs;
-          terms_below = row_below d.counts.n_var d.terms i t old row k.draft.terms.terms_below inside var e f;
-          slopes_below = k.draft.terms.slopes_below;
-          few_terms = omega (arith, more, few);
-          few_slopes = k.draft.terms.few_slopes;
-        };
+        terms = fine;
         side_count = k.draft.side_count;
         sides = k.draft.sides;
         bound_count = k.draft.bound_count;
@@ -59,8 +50,25 @@ kept-term d marks count i t old row k con var few e f =
       };
       mark_count = k.mark_count;
       marked = k.marked;
-      counted = ap (λ n. n + 1) k.counted ∙ sym more;
+      counted = counted;
     }
+
+-- one more term of a constraint
+pub kept-term : (d : Draft) (marks : List Bool) (count i : ℕ) (t : Term) (old row : List Term) → IsKept d marks count → i < d.counts.n_con → t.0 < d.counts.n_var
+    → term_count d.terms < most_terms → old ≡ get_or d.terms i old → row ≡ old ++ t ∷ [] → IsKept (record d { terms = set d.terms i row }) marks (count + 1)
+kept-term d marks count i t old row k con var few e f =
+    let inside : i < length d.terms = omega (arith, k.draft.terms.rows) in
+    let more = rows_more d.terms i t old row inside e f in
+    kept-terms d marks count (count + 1) (set d.terms i row) d.slopes k
+    (record {
+      rows = length-set d.terms i row ∙ k.draft.terms.rows;
+      costs = k.draft.terms.costs;
+      terms_below = row_below d.counts.n_var d.terms i t old row k.draft.terms.terms_below inside var e f;
+      slopes_below = k.draft.terms.slopes_below;
+      few_terms = omega (arith, more, few);
+      few_slopes = k.draft.terms.few_slopes;
+    })
+    (ap (λ n. n + 1) k.counted ∙ sym more)
 
 -- one more term of an objective
 pub kept-slope : (d : Draft) (marks : List Bool) (count i : ℕ) (t : Term) (old row : List Term) → IsKept d marks count → i < d.counts.n_obj → t.0 < d.counts.n_var
@@ -69,32 +77,16 @@ kept-slope d marks count i t old row k con var few e f =
     let inside : i < length d.slopes = omega (arith, k.draft.terms.costs) in
     let more = row_more old row t f in
     let same : length (get_or d.slopes i []) ≡ length old = ap length (get_or_default d.slopes i [] old inside ∙ sym e) in
-    record {
-      draft = record {
-        ruled = k.draft.ruled;
-        definitions = k.draft.definitions;
-        bodies = k.draft.bodies;
-        objectives = k.draft.objectives;
-        terms = record {
-          rows = k.draft.terms.rows;
-          costs = length-set d.slopes i row ∙ k.draft.terms.costs;
-          terms_below = k.draft.terms.terms_below;
-          slopes_below = row_below d.counts.n_var d.slopes i t old row k.draft.terms.slopes_below inside var e f;
-          few_terms = k.draft.terms.few_terms;
-          few_slopes = All-set (λ ts. length ts ≤ most_terms) d.slopes i row (omega (arith, more, few, same)) k.draft.terms.few_slopes;
-        };
-        side_count = k.draft.side_count;
-        sides = k.draft.sides;
-        bound_count = k.draft.bound_count;
-        bounds = k.draft.bounds;
-        dual_guesses = k.draft.dual_guesses;
-        primal_guesses = k.draft.primal_guesses;
-        suffixes = k.draft.suffixes;
-      };
-      mark_count = k.mark_count;
-      marked = k.marked;
-      counted = k.counted;
-    }
+    kept-terms d marks count count d.terms (set d.slopes i row) k
+    (record {
+      rows = k.draft.terms.rows;
+      costs = length-set d.slopes i row ∙ k.draft.terms.costs;
+      terms_below = k.draft.terms.terms_below;
+      slopes_below = row_below d.counts.n_var d.slopes i t old row k.draft.terms.slopes_below inside var e f;
+      few_terms = k.draft.terms.few_terms;
+      few_slopes = All-set (λ ts. length ts ≤ most_terms) d.slopes i row (omega (arith, more, few, same)) k.draft.terms.few_slopes;
+    })
+    k.counted
 
 -- ---- the whole file
 pub given_length : (os : List (Option Objective)) → All IsSome os → length (given os) ≡ length os

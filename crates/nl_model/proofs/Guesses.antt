@@ -35,8 +35,10 @@ suffixes-push c ss s more h fine fresh e =
     clash : (b : Bool) → b ≡ true → b ≡ false → ⊥
     clash b p q = cc
 
-pub kept-dual : (d : Draft) (marks : List Bool) (count : ℕ) (ts : List Term) → IsKept d marks count → AreGuesses d.counts.n_con ts → IsKept (record d { dual_guesses = ts }) marks count
-kept-dual d marks count ts k h =
+-- a draft with other guesses and suffixes
+kept-lists : (d : Draft) (marks : List Bool) (count : ℕ) (duals primals : List Term) (ss : List Suffix) → IsKept d marks count → AreGuesses d.counts.n_con duals
+    → AreGuesses d.counts.n_var primals → AreSuffixes d.counts ss → IsKept (record d { dual_guesses = duals; primal_guesses = primals; suffixes = ss }) marks count
+kept-lists d marks count duals primals ss k dual primal suffix =
     record {
       draft = record {
         ruled = k.draft.ruled;
@@ -48,55 +50,20 @@ kept-dual d marks count ts k h =
         sides = k.draft.sides;
         bound_count = k.draft.bound_count;
         bounds = k.draft.bounds;
-        dual_guesses = h;
-        primal_guesses = k.draft.primal_guesses;
-        suffixes = k.draft.suffixes;
+        dual_guesses = dual;
+        primal_guesses = primal;
+        suffixes = suffix;
       };
       mark_count = k.mark_count;
       marked = k.marked;
       counted = k.counted;
     }
+
+pub kept-dual : (d : Draft) (marks : List Bool) (count : ℕ) (ts : List Term) → IsKept d marks count → AreGuesses d.counts.n_con ts → IsKept (record d { dual_guesses = ts }) marks count
+kept-dual d marks count ts k h = kept-lists d marks count ts d.primal_guesses d.suffixes k h k.draft.primal_guesses k.draft.suffixes
 
 pub kept-primal : (d : Draft) (marks : List Bool) (count : ℕ) (ts : List Term) → IsKept d marks count → AreGuesses d.counts.n_var ts → IsKept (record d { primal_guesses = ts }) marks count
-kept-primal d marks count ts k h =
-    record {
-      draft = record {
-        ruled = k.draft.ruled;
-        definitions = k.draft.definitions;
-        bodies = k.draft.bodies;
-        objectives = k.draft.objectives;
-        terms = k.draft.terms;
-        side_count = k.draft.side_count;
-        sides = k.draft.sides;
-        bound_count = k.draft.bound_count;
-        bounds = k.draft.bounds;
-        dual_guesses = k.draft.dual_guesses;
-        primal_guesses = h;
-        suffixes = k.draft.suffixes;
-      };
-      mark_count = k.mark_count;
-      marked = k.marked;
-      counted = k.counted;
-    }
+kept-primal d marks count ts k h = kept-lists d marks count d.dual_guesses ts d.suffixes k k.draft.dual_guesses h k.draft.suffixes
 
 pub kept-suffix : (d : Draft) (marks : List Bool) (count : ℕ) (ts : List Suffix) → IsKept d marks count → AreSuffixes d.counts ts → IsKept (record d { suffixes = ts }) marks count
-kept-suffix d marks count ts k h =
-    record {
-      draft = record {
-        ruled = k.draft.ruled;
-        definitions = k.draft.definitions;
-        bodies = k.draft.bodies;
-        objectives = k.draft.objectives;
-        terms = k.draft.terms;
-        side_count = k.draft.side_count;
-        sides = k.draft.sides;
-        bound_count = k.draft.bound_count;
-        bounds = k.draft.bounds;
-        dual_guesses = k.draft.dual_guesses;
-        primal_guesses = k.draft.primal_guesses;
-        suffixes = h;
-      };
-      mark_count = k.mark_count;
-      marked = k.marked;
-      counted = k.counted;
-    }
+kept-suffix d marks count ts k h = kept-lists d marks count d.dual_guesses d.primal_guesses ts k k.draft.dual_guesses k.draft.primal_guesses h

@@ -21,8 +21,6 @@ mod places;
 mod suffix;
 mod suffix_kinds;
 mod terms;
-#[cfg(test)]
-mod tests;
 
 pub use at::{At, Owner};
 pub use builder::NlBuilder;

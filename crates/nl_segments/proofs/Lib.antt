@@ -38,3 +38,6 @@ pub mod HeadBegun
 pub mod HeadRefusal
 pub mod HeadSeen
 pub mod HeadLaw
+pub mod CleanRows
+pub mod CleanTexts
+pub mod TreePieces

@@ -6,6 +6,7 @@ use Rattle.std.proofs.lemmas.Bool.{ltb-true}
 use Rattle.std.proofs.lemmas.List.{append-nil, length-map, length_push, map-append, take-append-le}
 use Rattle.std.proofs.lemmas.List.Elements.{All-push}
 use Rattle.text_base.specs.Judged.{first_reason}
+use Rattle.text_base.proofs.FirstReasons.{none_first}
 use Rattle.nl_header.specs.Head.{counts_in}
 use Rattle.nl_model.specs.declared.counts.Counts.{Counts}
 use Rattle.nl_model.specs.declared.node.Node.{Node}
@@ -38,7 +39,7 @@ use Rattle.nl_segments.proofs.PairLines.{at, opened, judged_by, row_after, last_
 use Rattle.nl_segments.proofs.TreeFresh.{fresh_tree}
 use Rattle.nl_segments.specs.declared.fault.NlReason.TheVariants.{TooLarge}
 use Rattle.nl_model.specs.Draft.{Draft}
-use Rattle.nl_segments.proofs.NodeLemmas.{first_fine, node_known}
+use Rattle.nl_segments.proofs.NodeLemmas.{node_known}
 use Rattle.nl_segments.proofs.NodeSteps.{no, in_tree, beyond, IsInTree, in_tree_of, tree_nodes, IsRowMore, IsTreeStep, row_held}
 
 -- ---- the last piece
@@ -237,7 +238,7 @@ pub record IsRead (b : Body) (words : List (List ℕ)) (cur : Current) (r : Node
   pub fine : first_reason (counted_node_tests b.draft.counts b.draft b.nodes words) ≡ None
 
 form_fine : (b : Body) (words : List (List ℕ)) (cur : Current) (r : NodeRow) → IsRead b words cur r → first_reason (node_form_tests b.draft.counts b.draft words) ≡ None
-form_fine b words cur r h = first_fine (node_form_tests b.draft.counts b.draft words) ((nat_le (2 ^ 22) b.nodes, for_reason TooLarge) ∷ []) h.fine
+form_fine b words cur r h = none_first (node_form_tests b.draft.counts b.draft words) ((nat_le (2 ^ 22) b.nodes, for_reason TooLarge) ∷ []) h.fine
 
 pub next_known : (s : Standing) (b : Body) (words : List (List ℕ)) (line : ℕ) (cur next : Current) (r : NodeRow) → IsHeld s b → IsRead b words cur r → next ≡ with_node_row cur line r
     → All (IsNodeKnown b.draft.counts.n_var b.draft.definitions) next.nodes

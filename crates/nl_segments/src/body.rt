@@ -5,7 +5,6 @@ ghost use Rattle.nl_model.specs.Draft.{IsDraft};
 ghost use Rattle.nl_segments.specs.declared.head.Head.{Head};
 ghost use Rattle.nl_segments.specs.Heads.{is_head};
 ghost use Rattle.nl_segments.specs.Held.{IsHeld, IsHeaderOf, only_header, TakesRow, HasRow, Finishes};
-ghost use Rattle.nl_segments.specs.Reader.{HasLines};
 ghost use Rattle.nl_segments.specs.Taking.{body_awaits};
 ghost use Rattle.nl_segments.specs.Tests.{for_reason, index_limit};
 ghost use Rattle.nl_segments.specs.Ending.{body_end_tests};
@@ -167,8 +166,7 @@ impl BodyReader {
 
     /// The file and the lines of its places, at the end of the text.
     pub(crate) fn finish(self) -> Result<NlRead, Stop<Refusal>>
-        ensures finishes { Finishes self result }
-        ensures lines { IfOk result HasLines }
+        ensures { Finishes self result }
     {
         if self.is_broken {
             return Err(Stop::Memory);

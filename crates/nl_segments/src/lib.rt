@@ -31,14 +31,12 @@ mod pairs;
 mod pending;
 mod places;
 mod seen;
-#[cfg(test)]
-mod tests;
 mod words;
 
 pub use awaited::Awaited;
 pub use fault::{NlFault, NlReason, Refusal};
 pub use head::Head;
-pub use law::{one_line_more, one_reading};
+pub use law::{one_line_more, one_reading, places_have_lines, trees_are_pieces};
 pub use nl_read::NlRead;
 pub use nl_reader::{NlReader, read_nl};
 pub use places::Places;

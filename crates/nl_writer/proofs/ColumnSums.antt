@@ -1,15 +1,10 @@
 -- The sums of the uses of variables are the numbers of terms up to each variable.
-use Rattle.std.proofs.Common.{◌≡◌, ◌∙◌, ℕ, zero, suc, ◌+◌, ◌<◌, ◌≤◌, Bool, true, false, ◌==◌, List, [], ◌∷◌, length, filter, get_or, drop, take, sum_by, nat_le, nat_lt, refl, sym, ap, ap₂, arith, drop-cons}
-use Rattle.std.proofs.lemmas.Bool.Decides.{nat_tests}
-use Rattle.std.proofs.Common.{◌-◌, ◌++◌, append_assoc, append-nil, Some}
+use Rattle.std.proofs.Common.{◌≡◌, ◌∙◌, ℕ, zero, suc, ◌+◌, ◌<◌, List, [], ◌∷◌, length, get_or, drop, take, refl, sym, ap, ap₂, arith}
+use Rattle.std.proofs.Common.{◌-◌, ◌++◌, append_assoc, append-nil}
 use Rattle.std.specs.Prelude.{codes}
-use Rattle.std.specs.List.{slice_get}
-use Rattle.std.proofs.lemmas.Option.{slice_get_within, get_or_from_slice_get}
-use Rattle.std.proofs.lemmas.List.{length-take-le, get_or-take, take_more, take-append-drop, drop_all, take_all}
-use Rattle.std.proofs.lemmas.List.Sums.{sum_by-cons, sum_by-append}
+use Rattle.std.proofs.lemmas.List.{length-take-le, get_or-take, drop_all, take_all}
 use Rattle.std.specs.Fmt.{decimal}
 use Rattle.nl_model.specs.File.{Term}
-use Rattle.nl_model.specs.Rules.{term_count}
 use Rattle.written_texts.specs.Lines.{Line, lines_text}
 use Rattle.nl_model.specs.UseCounts.{terms_up_to, use_count}
 use Rattle.nl_model.proofs.UseLemmas.{below, split_rows, next_rows, nothing_below}

@@ -1,9 +1,8 @@
 -- Lines that are written one after the other.
-use Rattle.std.proofs.Common.{[], ◌≡◌, ℕ, ◌+◌, ◌<◌, ◌≤◌, ◌∙◌, refl, sym, ap, ap₂, subst, List, ◌∷◌, ◌++◌, length, map, drop, append_assoc, append-nil, add-one, drop-cons, Some}
+use Rattle.std.proofs.Common.{◌≡◌, ℕ, ◌+◌, ◌<◌, ◌≤◌, ◌∙◌, refl, sym, ap, ap₂, subst, List, ◌∷◌, ◌++◌, length, drop, append_assoc, append-nil, add-one, drop-cons, Some}
 use Rattle.std.specs.Prelude.{ℤ, Bool, Option, None, unwrap_or}
 use Rattle.std.specs.Option.{option_map}
 use Rattle.std.proofs.lemmas.Grind.{flat_map-append}
-use Rattle.std.proofs.lemmas.List.Folds.{flat_map-map}
 use Rattle.nl_model.specs.declared.counts.Counts.{Counts}
 use Rattle.nl_model.specs.File.{Objective}
 use Rattle.std.proofs.lemmas.List.{drop_all}

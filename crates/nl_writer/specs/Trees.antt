@@ -9,7 +9,8 @@ use Rattle.nl_meaning.specs.Trees.{Tree, number, variable, defined, operator, Tr
 use Rattle.nl_model.specs.Nodes.{opcode_of}
 use Rattle.nl_model.specs.declared.node.Node.{Node}
 use Rattle.nl_model.specs.declared.node.Node.TheVariants.{Num, Var, Defined, Op}
-use Rattle.written_texts.specs.Lines.{Line, text_of}
+use Rattle.exact_numbers.specs.Values.{text_of}
+use Rattle.written_texts.specs.Lines.{Line}
 
 -- the number of operands stands on the next line
 abbrev pub is_counted : Option Operands → Bool

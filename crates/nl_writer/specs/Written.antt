@@ -11,7 +11,8 @@ use Rattle.nl_model.specs.declared.counts.Counts.{Counts}
 use Rattle.nl_model.specs.declared.interval.Interval.{Interval}
 use Rattle.nl_model.specs.File.{Term, Objective, Definition, Suffix, File}
 use Rattle.nl_model.specs.UseCounts.{terms_up_to}
-use Rattle.written_texts.specs.Lines.{Line, unless_empty, lines_text, text_of}
+use Rattle.exact_numbers.specs.Values.{text_of}
+use Rattle.written_texts.specs.Lines.{Line, unless_empty, lines_text}
 use Rattle.nl_writer.specs.Trees.{tree_lines}
 
 -- ---- The header.

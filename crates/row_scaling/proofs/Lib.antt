@@ -8,7 +8,6 @@ pub mod FactoredLemmas
 pub mod FitLemmas
 pub mod LawLemmas
 pub mod LinearLemmas
-pub mod NameLemmas
 pub mod NumberLemmas
 pub mod ObjectiveLemmas
 pub mod ProgramLemmas
@@ -16,7 +15,6 @@ pub mod RowFitLemmas
 pub mod RowLemmas
 pub mod ScaleLemmas
 pub mod TermLemmas
-pub mod TestLemmas
 pub mod TieLemmas
 pub mod VariableLemmas
 pub mod WholeDecimals

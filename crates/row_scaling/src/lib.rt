@@ -19,8 +19,6 @@ mod scaled;
 mod scaled_rows;
 mod scaled_terms;
 mod sides;
-#[cfg(test)]
-mod tests;
 
 pub use export::program;
 pub use laws::{plain_program, tied_row_is_scaled};

@@ -112,7 +112,7 @@ trimmed-line bytes h = record {
   no_cr = trimmed-free (trimmed bytes) (free-trimmed bytes);
 }
 
-trimmed-text_line : (bytes : List ℕ) → IsLine bytes → IsTextLine (trimmed bytes)
+pub trimmed-text_line : (bytes : List ℕ) → IsLine bytes → IsTextLine (trimmed bytes)
 trimmed-text_line bytes h = record {
   one = trimmed-line bytes h.0;
   short = omega (arith, h.1, length-take (length bytes - suffix_len (λ b. b == 13) bytes) bytes);

@@ -3,7 +3,7 @@ use Rattle.std.proofs.Common.{◌≡◌, ◌∙◌, ℕ, zero, suc, ◌+◌, ◌
 use Rattle.std.specs.List.{fold}
 use Rattle.std.specs.Prelude.{◌==◌, is_some, if◌then◌else◌}
 use Rattle.std.proofs.lemmas.List.{append-nil, length-append, take-append-le, length-take}
-use Rattle.std.proofs.Math.Seq.{take-append-add}
+use Rattle.std.proofs.Math.Seq.{take-append-add, take-append_seam}
 use Rattle.std.proofs.lemmas.List.Sums.{fold-append, take_while-cons}
 use Rattle.std.specs.declared.option.Option.{Option}
 use Rattle.std.specs.declared.option.Option.TheVariants.{None, Some}
@@ -109,10 +109,24 @@ parted (b ∷ piece) = by (parted piece) (b == 10) refl
     by p true e = let f = front_end b piece e in (b ∷ piece, sym (ap (λ (x : List ℕ). x ++ b ∷ piece) f), e, subst HasNoEnd (sym f) tt)
     by p false e = let f = front_more b piece e in (p.0, ap (λ (x : List ℕ). b ∷ x) p.1 ∙ sym (ap (λ (x : List ℕ). x ++ p.0) f), p.2, subst HasNoEnd (sym f) (e, p.3))
 
+pub no_end-append : (xs ys : List ℕ) → HasNoEnd xs → HasNoEnd ys → HasNoEnd (xs ++ ys)
+no_end-append [] ys h g = g
+no_end-append (x ∷ xs) ys h g = (h.0, no_end-append xs ys h.1 g)
+
 pub no_end-take : (k : ℕ) (bytes : List ℕ) → HasNoEnd bytes → HasNoEnd (take k bytes)
 no_end-take zero bytes n = tt
 no_end-take (suc k) [] n = tt
 no_end-take (suc k) (b ∷ bytes) n = (n.0, no_end-take k bytes n.1)
+
+pub no_end_none : (bytes : List ℕ) → bytes ≡ [] → HasNoEnd bytes
+no_end_none bytes e = rw e tt
+
+-- bytes before the first line end, behind others
+pub no_end_front : (kept piece all : List ℕ) (n : ℕ) → all ≡ kept ++ take n piece → n ≡ length (front_of piece) → HasNoEnd kept → HasNoEnd all
+no_end_front kept piece all n is len h =
+    let p = parted piece in
+    let front : take n piece ≡ front_of piece = ap (λ k. take k piece) len ∙ ap (take (length (front_of piece))) p.1 ∙ take-append_seam (front_of piece) p.0 in
+    rw (is, front) (no_end-append kept (front_of piece) h p.3)
 
 -- the bytes from place k on begin with one
 abbrev From : List ℕ → ℕ → Type 0

@@ -13,3 +13,4 @@ pub mod Names
 pub mod TextLines
 pub mod Stamps
 pub mod Host
+pub mod Readers

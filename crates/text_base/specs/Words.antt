@@ -3,6 +3,7 @@ use Rattle.std.specs.Prelude.{take, ◌==◌, ℕ, Bool, true, ◌&&◌, ◌||�
 use Rattle.std.specs.Borrow.{Bor}
 use Rattle.std.specs.Str.{bytes_eq}
 use Rattle.text_base.specs.declared.blanks.TheConstants.{LONGEST_ROW}
+use Rattle.text_base.specs.declared.runs.Words.{Words}
 
 -- a space or a tab
 abbrev pub is_blank : ℕ → Bool
@@ -26,6 +27,10 @@ words_of (b ∷ bytes) = if is_blank b then words_of bytes else onto_word b (end
 -- what words that are lent stand for
 abbrev pub texts : List (Bor (List ℕ)) → List (List ℕ)
 texts words = map (λ w. w.now) words
+
+-- the words that an iterator has left
+abbrev pub words_left : Words → List (List ℕ)
+words_left words = words_of words.rest.now
 
 -- the first twelve words, or all where there are fewer
 abbrev pub row_of : List ℕ → List (List ℕ)

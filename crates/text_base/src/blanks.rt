@@ -1,6 +1,6 @@
 // The words of a line and of a row, and the line without its comment or its first blanks.
 ghost use Rattle.std.specs.Prelude.{◌≡◌, ◌≤◌, length, take};
-ghost use Rattle.text_base.specs.Words.{words_of, row_of, texts, word_at, begins, is_blank, without_blanks, without_comment};
+ghost use Rattle.text_base.specs.Words.{words_of, words_left, row_of, texts, word_at, begins, is_blank, without_blanks, without_comment};
 
 use crate::runs::Words;
 use std::marker::Model;
@@ -10,7 +10,7 @@ pub const LONGEST_ROW: usize = 12;
 
 /// The words of a line, in order.
 pub fn words(line: &[u8]) -> Words<'_>
-    ensures { words_of result.rest.now ≡ words_of line.now }
+    ensures { words_left result ≡ words_of line.now }
 {
     Words { rest: line }
 }

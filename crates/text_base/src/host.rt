@@ -1,6 +1,7 @@
 // The desk of a process: files, standard output and standard error. It tells no bytes.
-ghost use Rattle.std.specs.Prelude.{◌≡◌, IsNone, is_some, is_ok};
+ghost use Rattle.std.specs.Prelude.{◌≡◌, false, is_ok};
 ghost use Rattle.text_base.specs.Desk.{HasStartCause, OnlyInput, Starts};
+ghost use Rattle.text_base.specs.Host.{has_text};
 
 use crate::{Desk, Failed};
 use std::fs::File;
@@ -19,7 +20,7 @@ pub struct HostDesk {
 impl HostDesk {
     /// A desk with no current text.
     pub fn new(rt: HostRuntime) -> Self
-        ensures current { IsNone result.file }
+        ensures current { has_text result ≡ false }
         ensures input { (⟦<HostDesk as Desk>⟧.meaning result).input_faults ≡ 0 }
         ensures output { (⟦<HostDesk as Desk>⟧.meaning result).output_faults ≡ 0 }
         ensures message { (⟦<HostDesk as Desk>⟧.meaning result).message_faults ≡ 0 }
@@ -43,7 +44,7 @@ impl Desk for HostDesk {
 
     // A text is current exactly after an `Ok`.
     fn start(&mut self, name: &str) -> Result<(), Failed>
-        ensures current { is_some self.new.file ≡ is_ok result }
+        ensures current { has_text self.new ≡ is_ok result }
         ensures text { Starts (host_meaning self.old).texts name.now (host_meaning self.new).left result }
         ensures cause { HasStartCause (host_meaning self.old).texts name.now
             (host_meaning self.old).input_faults (host_meaning self.new).input_faults result }

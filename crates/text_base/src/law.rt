@@ -34,8 +34,10 @@ pub fn lines_are_lines()
 
 /// Lines that are written, each with its LF, are read as themselves.
 pub fn written_lines_are_read()
-    ensures lines { (lines : List (List ℕ)) → AllByRecursion IsTextLine lines → length (lines_text lines) ≤ 2 ^ 31 → lines_of (lines_text lines) ≡ lines }
-    ensures end { (lines : List (List ℕ)) → AllByRecursion IsTextLine lines → length (lines_text lines) ≤ 2 ^ 31 → last_of (lines_text lines) ≡ End }
+    ensures lines { (lines : List (List ℕ)) → AllByRecursion IsTextLine lines
+        → length (lines_text lines) ≤ 2 ^ 31 → lines_of (lines_text lines) ≡ lines }
+    ensures end { (lines : List (List ℕ)) → AllByRecursion IsTextLine lines
+        → length (lines_text lines) ≤ 2 ^ 31 → last_of (lines_text lines) ≡ End }
 {}
 
 /// A text that is stored is found by its name, and each other name keeps its text.

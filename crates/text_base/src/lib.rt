@@ -15,8 +15,6 @@ mod reader;
 mod runs;
 mod steps;
 mod stop;
-#[cfg(test)]
-mod tests;
 mod text_lines;
 
 pub use blanks::{LONGEST_ROW, Row, begins, skip_blanks, strip_comment, word_at, words};

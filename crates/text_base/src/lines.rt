@@ -1,5 +1,6 @@
 // The lines of a text that comes in pieces.
 ghost use Rattle.std.specs.Prelude.{◌≡◌, ◌+◌, ◌-◌, ◌<◌, ◌≤◌, ◌^◌, ◌++◌, ◌==◌, List, ℕ, position, [], length, take, IfOk, IfSome, IsSome, IsTrue, ◌↔◌, None, Some, IsNone, false, true};
+ghost use Rattle.text_base.specs.Cut.{IsTextLine};
 ghost use Rattle.text_base.specs.Lines.{new_state, StandsFor, Keeps, Scan, GoesOn, IfLine, taken_of, scan, number_of, trimmed, front_of, TakesPiece, end_done};
 
 use std::alloc::{AllocError, Global};
@@ -161,7 +162,8 @@ impl Lines {
     /// The line that was given.
     pub fn line(&self) -> &[u8]
         requires { IsSome self.now.line }
-        ensures { Some result.now ≡ self.now.line }
+        ensures value { Some result.now ≡ self.now.line }
+        ensures one { IsTextLine result.now }
     {
         trim(&self.line)
     }

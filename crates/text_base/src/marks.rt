@@ -4,8 +4,8 @@ ghost use Rattle.std.specs.Prelude.{◌≡◌, ◌<◌, ◌≤◌, ℕ, max, len
 use std::alloc::{AllocError, Global};
 use std::marker::Model;
 
-/// A mark for each index below a length. An index is marked where its stamp is the current one, so that all marks are taken
-/// away in one step.
+/// A mark for each index below a length. An index is marked where its stamp is the current one,
+/// so that all marks are taken away in one step.
 #[derive(Drop)]
 pub struct Marks {
     stamps: Vec<u32>,
@@ -74,7 +74,8 @@ impl Marks {
         self.stamp += 1;
     }
 
-    /// Takes all marks away, and makes room for each index below a limit. Want of memory changes nothing.
+    /// Takes all marks away, and makes room for each index below a limit.
+    /// Want of memory changes nothing.
     pub fn begin(&mut self, alloc: Global, limit: u32) -> Result<(), AllocError>
         ensures marks { OnOk result (self.new ≡ replicate (max (length self.old) limit) false) }
         ensures room { OnOk result (limit ≤ length self.new) }

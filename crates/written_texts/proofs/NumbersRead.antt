@@ -6,7 +6,7 @@ use Rattle.exact_numbers.proofs.NumberLemmas.{dec_of-some, digits_are, whole_of-
 use Rattle.exact_numbers.proofs.Reading.{is_reading}
 use Rattle.exact_numbers.specs.Numbers.{are_digits, dec_of, whole_of}
 use Rattle.exact_numbers.specs.declared.dec.Dec.{Dec}
-use Rattle.written_texts.specs.Lines.{text_of}
+use Rattle.exact_numbers.specs.Values.{text_of}
 
 wide : (n : ℕ) → n < 2 ^ 31 → n < 10 ^ 64
 wide n small = lt_trans small (lit< tt)

@@ -1,15 +1,16 @@
 -- Numbers that are written are words, and no comments.
 use Rattle.std.proofs.Common.{◌≡◌, ℕ, zero, suc, ◌+◌, ◌-◌, ◌^◌, ◌<◌, ◌≤◌, ◌==◌, Bool, true, false, cond, List, [], ◌∷◌, ◌++◌, length, take, drop, refl, arith, nat_le, int_lt, unsigned_abs, ℤ, pos, negsuc, lt_trans, lt_of_le_of_lt, lit<, length-append}
-use Rattle.std.proofs.lemmas.Bool.{le-leb, and_from}
+use Rattle.std.proofs.lemmas.Bool.{le-leb, ltb-true, and_from}
 use Rattle.std.proofs.lemmas.Bool.Decides.{nat_tests}
 use Rattle.std.proofs.lemmas.Fmt.{decimal_is_IsNumeral_wide}
 use Rattle.std.specs.Fmt.{decimal, signed_decimal}
 use Rattle.std.specs.Str.Parse.{AllDigits}
 use Rattle.exact_numbers.proofs.Texts.{digit_byte}
+use Rattle.exact_numbers.specs.Numbers.{has_31_bits}
 use Rattle.exact_numbers.specs.Written.{zeros, with_point, padded, scaled_text}
 use Rattle.exact_numbers.specs.declared.dec.Dec.{Dec}
 use Rattle.text_base.specs.Names.{has_name_bytes}
-use Rattle.written_texts.specs.Lines.{text_of}
+use Rattle.exact_numbers.specs.Values.{text_of}
 use Rattle.written_texts.specs.Words.{IsKeptWord, IsWritten}
 
 -- digits, letters, signs and points: no blank, and no `#`
@@ -71,6 +72,14 @@ word-lettered b n low small = plain-word (b ∷ decimal n) (omega arith) (low, p
 pub word-signed : (z : ℤ) → unsigned_abs z < 10 ^ 64 → IsKeptWord (signed_decimal z)
 word-signed (pos n) small = word-decimal n small
 word-signed (negsuc n) small = word-lettered 45 (suc n) (omega arith) small
+
+-- of 31 bits and a sign
+pub word-signed_31 : (z : ℤ) → has_31_bits z ≡ true → IsKeptWord (signed_decimal z)
+word-signed_31 (pos n) e = word-signed (pos n) (lt_trans (ltb-true n (2 ^ 31) e) (lit< tt))
+word-signed_31 (negsuc n) e =
+    let small = ltb-true n (2 ^ 31) e in
+    let near : suc n ≤ 2 ^ 31 = omega arith in
+    word-signed (negsuc n) (lt_of_le_of_lt near (lit< tt))
 
 plain-scaled : (ds : List ℕ) (e : ℤ) → IsPlain ds → unsigned_abs e ≤ 400 → IsPlain (scaled_text ds e)
 plain-scaled ds (pos k) p h = by (nat_le k 20)

@@ -1,8 +1,6 @@
 -- Lines of words, and their written text.
 use Rattle.std.specs.Prelude.{ℕ, List, [], ◌∷◌, ◌++◌}
 use Rattle.std.specs.List.{flat_map, join_with_byte}
-use Rattle.exact_numbers.specs.declared.dec.Dec.{Dec}
-use Rattle.exact_numbers.specs.Written.{dec_text}
 
 -- a line, as its words
 abbrev pub Line : Type 0
@@ -27,7 +25,3 @@ lines_text lines = flat_map line_text lines
 abbrev pub unless_empty : {A : Type 0} → List A → List Line → List Line
 unless_empty [] lines = []
 unless_empty (x ∷ xs) lines = lines
-
--- the one spelling of a number
-abbrev pub text_of : Dec → List ℕ
-text_of d = dec_text d.m d.e

@@ -7,7 +7,8 @@ ghost use Rattle.text_base.specs.Reading.{lines_of, last_of};
 ghost use Rattle.text_base.specs.Words.{words_of, without_comment};
 ghost use Rattle.exact_numbers.specs.declared.dec.Dec.{Dec};
 ghost use Rattle.exact_numbers.specs.Numbers.{dec_of, has_31_bits, signed_of, whole_of};
-ghost use Rattle.written_texts.specs.Lines.{Line, indented, lines_text, spaced, text_of};
+ghost use Rattle.exact_numbers.specs.Values.{text_of};
+ghost use Rattle.written_texts.specs.Lines.{Line, indented, lines_text, spaced};
 ghost use Rattle.written_texts.specs.Words.{IsWord, IsKeptWord, IsWordLine};
 
 /// Words with a space between them, or a space before each, are read as themselves, and as no comment.

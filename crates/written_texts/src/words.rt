@@ -2,7 +2,8 @@
 ghost use Rattle.std.specs.Prelude.{◌≡◌, ◌++◌, ◌∷◌, [], OnOk};
 ghost use Rattle.std.specs.List.{flat_map};
 ghost use Rattle.std.specs.Fmt.{decimal, signed_decimal};
-ghost use Rattle.written_texts.specs.Lines.{line_text, text_of};
+ghost use Rattle.exact_numbers.specs.Values.{text_of};
+ghost use Rattle.written_texts.specs.Lines.{line_text};
 
 use exact_numbers::{Dec, NumText};
 use itoa::Buffer;

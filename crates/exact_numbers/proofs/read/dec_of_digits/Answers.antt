@@ -1,4 +1,4 @@
-use Rattle.std.proofs.Common.{arith, ◌≡◌, ◌≢◌, ℕ, ℤ, pos, ◌+◌, ◌-◌, ◌*◌, ◌<◌, ◌≤◌, ◌^◌, ◌++◌, ◌-ℤ◌, ◌+ℤ◌, length, take, subst, sym, ap, ◌∙◌, le_trans, to_z-of_z, to_z, of_z, w32, zero-mul}
+use Rattle.std.proofs.Common.{arith, List, get_or, ◌≡◌, ◌≢◌, ℕ, ℤ, pos, ◌+◌, ◌-◌, ◌*◌, ◌<◌, ◌≤◌, ◌^◌, ◌++◌, ◌-ℤ◌, ◌+ℤ◌, length, take, subst, sym, ap, ◌∙◌, le_trans, to_z-of_z, to_z, of_z, w32, zero-mul}
 use Rattle.std.specs.Int.{w128}
 use Rattle.std.proofs.lemmas.Int.{ints}
 use Rattle.std.specs.Str.Parse.{AllDigits, digits_value, digits_value_after}
@@ -26,31 +26,35 @@ too_wide b whole fraction w f e dw df k wide fits =
     let only = only_signed b _ _ _ e (kept-value whole fraction w f k) (kept-shortest whole fraction w f dw df k some) fits in
     omega (arith, only.0)
 
+-- what is kept, as the two calls ensure it
+kept_of : (whole fraction : List ℕ) (w f : ℕ) → f ≤ length fraction → ((k : ℕ) → f ≤ k → k < length fraction → get_or fraction k 0 ≡ 48) → (0 < f → get_or fraction (f - 1) 0 ≢ 48)
+    → w ≤ length whole → ((k : ℕ) → w ≤ k → k < length whole → get_or whole k 0 ≡ 48) → (f ≡ 0 → 0 < w → get_or whole (w - 1) 0 ≢ 48) → (0 < f → w ≡ length whole) → Kept whole fraction w f
+kept_of whole fraction w f a b d e g h i = record {
+  within = a;
+  zeros = b;
+  shortest = d;
+  whole_within = e;
+  whole_zeros = g;
+  whole_shortest = h;
+  all_whole = i;
+}
+
+size_of_kept : (whole fraction : List ℕ) (w f front size : ℕ) → front ≡ digits_value_after 10 0 (take w whole) → size ≡ digits_value_after 10 front (take f fraction) → size ≡ kept_number whole fraction w f
+size_of_kept whole fraction w f front size first second = second ∙ ap (λ n. digits_value_after 10 n (take f fraction)) first
+
 pub returns-in_default : goal.returns-in_default
 returns-in_default c = not_dec _ _ (decimal_is _ _) (λ fits.
-    let k : Kept c.args.whole.now c.args.fraction.now c.kept_before-whole_kept.result c.kept_length-fraction_kept.result = record {
-      within = c.kept_length-fraction_kept.ensures.within;
-      zeros = c.kept_length-fraction_kept.ensures.zeros;
-      shortest = c.kept_length-fraction_kept.ensures.shortest;
-      whole_within = c.kept_before-whole_kept.ensures.within;
-      whole_zeros = c.kept_before-whole_kept.ensures.zeros;
-      whole_shortest = c.kept_before-whole_kept.ensures.shortest;
-      all_whole = c.kept_before-whole_kept.ensures.all;
-    } in
+    let after = c.kept_length-fraction_kept.ensures in
+    let before = c.kept_before-whole_kept.ensures in
+    let k = kept_of _ _ _ _ after.within after.zeros after.shortest before.within before.zeros before.shortest before.all in
     let n = digits_value_after 10 0 (take c.kept_before-whole_kept.result c.args.whole.now) in
     too_wide c.args.negative c.args.whole.now c.args.fraction.now _ _ _ c.requires.whole c.requires.fraction k (le_trans (lt_or_le n c.in_default.ensures) (after-ge n (take c.kept_length-fraction_kept.result c.args.fraction.now))) fits)
 
 pub returns-in_default-with_digits : goal.returns-in_default-with_digits
 returns-in_default-with_digits c = not_dec _ _ (decimal_is _ _) (λ fits.
-    let k : Kept c.args.whole.now c.args.fraction.now c.kept_before-whole_kept.result c.kept_length-fraction_kept.result = record {
-      within = c.kept_length-fraction_kept.ensures.within;
-      zeros = c.kept_length-fraction_kept.ensures.zeros;
-      shortest = c.kept_length-fraction_kept.ensures.shortest;
-      whole_within = c.kept_before-whole_kept.ensures.within;
-      whole_zeros = c.kept_before-whole_kept.ensures.zeros;
-      whole_shortest = c.kept_before-whole_kept.ensures.shortest;
-      all_whole = c.kept_before-whole_kept.ensures.all;
-    } in
+    let after = c.kept_length-fraction_kept.ensures in
+    let before = c.kept_before-whole_kept.ensures in
+    let k = kept_of _ _ _ _ after.within after.zeros after.shortest before.within before.zeros before.shortest before.all in
     let f = c.kept_length-fraction_kept.result in
     let front = c.in-Some.ensures.1 in
     let wide = lt_or_le (digits_value_after 10 c.in-Some.front (take f c.args.fraction.now)) c.in_default-with_digits.ensures in
@@ -58,17 +62,10 @@ returns-in_default-with_digits c = not_dec _ _ (decimal_is _ _) (λ fits.
 
 pub returns-then-size-eq0 : goal.returns-then-size-eq0
 returns-then-size-eq0 c =
-    let k : Kept c.args.whole.now c.args.fraction.now c.kept_before-whole_kept.result c.kept_length-fraction_kept.result = record {
-      within = c.kept_length-fraction_kept.ensures.within;
-      zeros = c.kept_length-fraction_kept.ensures.zeros;
-      shortest = c.kept_length-fraction_kept.ensures.shortest;
-      whole_within = c.kept_before-whole_kept.ensures.within;
-      whole_zeros = c.kept_before-whole_kept.ensures.zeros;
-      whole_shortest = c.kept_before-whole_kept.ensures.shortest;
-      all_whole = c.kept_before-whole_kept.ensures.all;
-    } in
-    let size : c.in-Some-with_digits.size ≡ kept_number c.args.whole.now c.args.fraction.now c.kept_before-whole_kept.result c.kept_length-fraction_kept.result =
-    c.in-Some-with_digits.ensures.1 ∙ ap (λ n. digits_value_after 10 n (take c.kept_length-fraction_kept.result c.args.fraction.now)) c.in-Some.ensures.1 in
+    let after = c.kept_length-fraction_kept.ensures in
+    let before = c.kept_before-whole_kept.ensures in
+    let k = kept_of _ _ _ _ after.within after.zeros after.shortest before.within before.zeros before.shortest before.all in
+    let size = size_of_kept c.args.whole.now c.args.fraction.now _ _ _ _ c.in-Some.ensures.1 c.in-Some-with_digits.ensures.1 in
     let none : digits_value 10 (c.args.whole.now ++ c.args.fraction.now) ≡ 0 = kept-value _ _ _ _ k ∙ ap (λ n. n * 10 ^ (length c.args.fraction.now - c.kept_length-fraction_kept.result + (length c.args.whole.now - c.kept_before-whole_kept.result))) (sym size ∙ c.if-size-eq0.true) ∙ zero-mul _ in
     let e = c.args.exponent -ℤ pos (length c.args.fraction.now) in
     let n = digits_value 10 (c.args.whole.now ++ c.args.fraction.now) in
@@ -76,17 +73,10 @@ returns-then-size-eq0 c =
 
 pub returns-then-place-ltminus1000 : goal.returns-then-place-ltminus1000
 returns-then-place-ltminus1000 c = not_dec _ _ (decimal_is _ _) (λ fits.
-    let k : Kept c.args.whole.now c.args.fraction.now c.kept_before-whole_kept.result c.kept_length-fraction_kept.result = record {
-      within = c.kept_length-fraction_kept.ensures.within;
-      zeros = c.kept_length-fraction_kept.ensures.zeros;
-      shortest = c.kept_length-fraction_kept.ensures.shortest;
-      whole_within = c.kept_before-whole_kept.ensures.within;
-      whole_zeros = c.kept_before-whole_kept.ensures.zeros;
-      whole_shortest = c.kept_before-whole_kept.ensures.shortest;
-      all_whole = c.kept_before-whole_kept.ensures.all;
-    } in
-    let size : c.in-Some-with_digits.size ≡ kept_number c.args.whole.now c.args.fraction.now c.kept_before-whole_kept.result c.kept_length-fraction_kept.result =
-    c.in-Some-with_digits.ensures.1 ∙ ap (λ n. digits_value_after 10 n (take c.kept_length-fraction_kept.result c.args.fraction.now)) c.in-Some.ensures.1 in
+    let after = c.kept_length-fraction_kept.ensures in
+    let before = c.kept_before-whole_kept.ensures in
+    let k = kept_of _ _ _ _ after.within after.zeros after.shortest before.within before.zeros before.shortest before.all in
+    let size = size_of_kept c.args.whole.now c.args.fraction.now _ _ _ _ c.in-Some.ensures.1 c.in-Some-with_digits.ensures.1 in
     let some : kept_number c.args.whole.now c.args.fraction.now c.kept_before-whole_kept.result c.kept_length-fraction_kept.result ≢ 0 = λ z. c.if-size-eq0.false (size ∙ z) in
     let z = length c.args.fraction.now - c.kept_length-fraction_kept.result + (length c.args.whole.now - c.kept_before-whole_kept.result) in
     let e = c.args.exponent -ℤ pos (length c.args.fraction.now) in
@@ -99,17 +89,10 @@ returns-then-place-ltminus1000 c = not_dec _ _ (decimal_is _ _) (λ fits.
 
 pub returns : goal.returns
 returns c =
-    let k : Kept c.args.whole.now c.args.fraction.now c.kept_before-whole_kept.result c.kept_length-fraction_kept.result = record {
-      within = c.kept_length-fraction_kept.ensures.within;
-      zeros = c.kept_length-fraction_kept.ensures.zeros;
-      shortest = c.kept_length-fraction_kept.ensures.shortest;
-      whole_within = c.kept_before-whole_kept.ensures.within;
-      whole_zeros = c.kept_before-whole_kept.ensures.zeros;
-      whole_shortest = c.kept_before-whole_kept.ensures.shortest;
-      all_whole = c.kept_before-whole_kept.ensures.all;
-    } in
-    let size : c.in-Some-with_digits.size ≡ kept_number c.args.whole.now c.args.fraction.now c.kept_before-whole_kept.result c.kept_length-fraction_kept.result =
-    c.in-Some-with_digits.ensures.1 ∙ ap (λ n. digits_value_after 10 n (take c.kept_length-fraction_kept.result c.args.fraction.now)) c.in-Some.ensures.1 in
+    let after = c.kept_length-fraction_kept.ensures in
+    let before = c.kept_before-whole_kept.ensures in
+    let k = kept_of _ _ _ _ after.within after.zeros after.shortest before.within before.zeros before.shortest before.all in
+    let size = size_of_kept c.args.whole.now c.args.fraction.now _ _ _ _ c.in-Some.ensures.1 c.in-Some-with_digits.ensures.1 in
     let z = length c.args.fraction.now - c.kept_length-fraction_kept.result + (length c.args.whole.now - c.kept_before-whole_kept.result) in
     let e = c.args.exponent -ℤ pos (length c.args.fraction.now) in
     let n = digits_value 10 (c.args.whole.now ++ c.args.fraction.now) in

@@ -1,5 +1,6 @@
 use Rattle.std.proofs.Common.{◌≡◌, ◌++◌, map, take}
-use Rattle.written_texts.specs.Lines.{lines_text, text_of}
+use Rattle.exact_numbers.specs.Values.{text_of}
+use Rattle.written_texts.specs.Lines.{lines_text}
 use Rattle.mps_model.specs.Text.{entry_lines}
 use Rattle.mps_model.specs.Built.{entry_of}
 use Rattle.mps_writer.proofs.lines.put_entries.Given as goal

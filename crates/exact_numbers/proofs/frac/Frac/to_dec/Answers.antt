@@ -1,22 +1,16 @@
-use Rattle.std.proofs.Common.{rules, arith, ◌≡◌, ◌⊎◌, ℕ, pos, neg_ℤ, ◌-◌, ◌-ℤ◌, ◌*◌, ◌^◌, ◌≤◌, max, ◌∙◌, sym, ap, subst, inl, inr, ⊎_elim, SFits, to_z, of_z, to_z-of_z, unsigned_abs, one-mul, mul_comm, le-mul_of_pos_right, int_lt, w32}
+use Rattle.std.proofs.Common.{rules, arith, ◌≡◌, pos, neg_ℤ, ◌-◌, ◌-ℤ◌, ◌*◌, ◌^◌, ◌≤◌, ◌∙◌, ap, SFits, to_z, of_z, to_z-of_z, unsigned_abs, le-mul_of_pos_right, int_lt, w32}
 use Rattle.std.proofs.Math.Nat.{one-le-pow}
 use Rattle.std.proofs.Common.{lit<}
 use Rattle.std.specs.Int.{w128}
 use Rattle.std.proofs.lemmas.Int.{ints}
-use Rattle.std.proofs.lemmas.Bool.{cases_lt}
-use borrow.Author.Differences.{up, down}
-use Rattle.exact_numbers.proofs.Pairs.{SameValue, pair, scaled}
 use Rattle.exact_numbers.specs.Decimal.{signed}
 use Rattle.exact_numbers.proofs.Fractions.{frac_fits}
 use Rattle.exact_numbers.proofs.OfDec.{cofactor_of}
-use Rattle.exact_numbers.proofs.ToDec.{finite, raised_only, raised_same}
+use Rattle.exact_numbers.proofs.ToDec.{finite, places_of, no_dec_above, same_at}
 use Rattle.exact_numbers.specs.Values.{frac_value}
 use Rattle.fractions.proofs.Values.{own_value}
 use Rattle.exact_numbers.proofs.Bridge.{not_dec, same_dec_value, match_dec}
 use Rattle.exact_numbers.proofs.frac.Frac.to_dec.Goals as goal
-
-either : (p i j : ℕ) → p ≡ max i j → (p ≡ i) ⊎ (p ≡ j)
-either p i j e = ⊎_elim (λ l. inr (omega (arith, e))) (λ g. inl (omega (arith, e))) (cases_lt i j)
 
 pub returns-then-fives-ne1 : goal.returns-then-fives-ne1
 returns-then-fives-ne1 c = not_dec _ _ (own_value (frac_value c.args.self)) (λ fits.
@@ -25,70 +19,40 @@ returns-then-fives-ne1 c = not_dec _ _ (own_value (frac_value c.args.self)) (λ 
 
 pub returns-in_default : goal.returns-in_default
 returns-in_default c = not_dec _ _ (own_value (frac_value c.args.self)) (λ fits.
-    let fm : SFits w128 c.args.self.num = frac_fits _ _ c.args.self.spelled in
-    let size : c.unsigned_abs.result ≡ unsigned_abs c.args.self.num = search rules in
+    let q = places_of c.args.self.den _ _ _ _ c.max-places.result c.cancel-twos.ensures.whole c.cancel-fives.ensures.whole c.if-fives-ne1.false c.max-places.ensures in
+    let size : c.unsigned_abs.result ≡ unsigned_abs c.args.self.num = (let fm : SFits w128 c.args.self.num = frac_fits _ _ c.args.self.spelled in search rules) in
     let i = 127 - c.cancel-twos.result.left in
     let j = 127 - c.cancel-fives.result.left in
     let p = c.max-places.result in
-    let whole : c.args.self.den ≡ 2 ^ i * 5 ^ j =
-    c.cancel-twos.ensures.whole ∙ ap (λ x. x * 2 ^ i) (c.cancel-fives.ensures.whole ∙ ap (λ x. x * 5 ^ j) c.if-fives-ne1.false ∙ one-mul (5 ^ j)) ∙ mul_comm (5 ^ j) (2 ^ i) in
-    let top : (p ≡ i) ⊎ (p ≡ j) = either p i j c.max-places.ensures in
-    let first : i ≤ p = omega (arith, c.max-places.ensures) in
-    let second : j ≤ p = omega (arith, c.max-places.ensures) in
-    let f = neg_ℤ (pos p) in
-    let above : up f ≡ 0 = omega (arith, ints) in
-    let below : down f ≡ p = omega (arith, ints) in
     let n = unsigned_abs c.args.self.num in
     let wide : 2 ^ 127 ≤ n * 2 ^ (p - i) * 5 ^ (p - j) = omega (arith, c.in_default.ensures, ap (λ x. x * 2 ^ (p - i)) size, le-mul_of_pos_right (n * 2 ^ (p - i)) (one-le-pow (p - j) 5 (lit< tt))) in
-    raised_only c.args.self.num c.args.self.den i j p c.args.self.spelled whole first second top f above below wide fits)
+    no_dec_above c.args.self.num c.args.self.den i j p c.args.self.spelled q wide fits)
 
 pub returns-in_default-grown : goal.returns-in_default-grown
 returns-in_default-grown c = not_dec _ _ (own_value (frac_value c.args.self)) (λ fits.
-    let fm : SFits w128 c.args.self.num = frac_fits _ _ c.args.self.spelled in
-    let size : c.unsigned_abs.result ≡ unsigned_abs c.args.self.num = search rules in
+    let q = places_of c.args.self.den _ _ _ _ c.max-places.result c.cancel-twos.ensures.whole c.cancel-fives.ensures.whole c.if-fives-ne1.false c.max-places.ensures in
+    let size : c.unsigned_abs.result ≡ unsigned_abs c.args.self.num = (let fm : SFits w128 c.args.self.num = frac_fits _ _ c.args.self.spelled in search rules) in
     let i = 127 - c.cancel-twos.result.left in
     let j = 127 - c.cancel-fives.result.left in
     let p = c.max-places.result in
-    let whole : c.args.self.den ≡ 2 ^ i * 5 ^ j =
-    c.cancel-twos.ensures.whole ∙ ap (λ x. x * 2 ^ i) (c.cancel-fives.ensures.whole ∙ ap (λ x. x * 5 ^ j) c.if-fives-ne1.false ∙ one-mul (5 ^ j)) ∙ mul_comm (5 ^ j) (2 ^ i) in
-    let top : (p ≡ i) ⊎ (p ≡ j) = either p i j c.max-places.ensures in
-    let first : i ≤ p = omega (arith, c.max-places.ensures) in
-    let second : j ≤ p = omega (arith, c.max-places.ensures) in
-    let f = neg_ℤ (pos p) in
-    let above : up f ≡ 0 = omega (arith, ints) in
-    let below : down f ≡ p = omega (arith, ints) in
-    let n = unsigned_abs c.args.self.num in
     let start = c.in-Some.ensures.1 ∙ ap (λ x. x * 2 ^ (p - i)) size in
-    let wide : 2 ^ 127 ≤ n * 2 ^ (p - i) * 5 ^ (p - j) = omega (arith, c.in_default-grown.ensures, ap (λ x. x * 5 ^ (p - j)) start) in
-    raised_only c.args.self.num c.args.self.den i j p c.args.self.spelled whole first second top f above below wide fits)
+    let wide : 2 ^ 127 ≤ unsigned_abs c.args.self.num * 2 ^ (p - i) * 5 ^ (p - j) = omega (arith, c.in_default-grown.ensures, ap (λ x. x * 5 ^ (p - j)) start) in
+    no_dec_above c.args.self.num c.args.self.den i j p c.args.self.spelled q wide fits)
 
 pub returns : goal.returns
 returns c =
+    let q = places_of c.args.self.den _ _ _ _ c.max-places.result c.cancel-twos.ensures.whole c.cancel-fives.ensures.whole c.if-fives-ne1.false c.max-places.ensures in
     let fm : SFits w128 c.args.self.num = frac_fits _ _ c.args.self.spelled in
     let size : c.unsigned_abs.result ≡ unsigned_abs c.args.self.num = search rules in
     let i = 127 - c.cancel-twos.result.left in
     let j = 127 - c.cancel-fives.result.left in
     let p = c.max-places.result in
-    let whole : c.args.self.den ≡ 2 ^ i * 5 ^ j =
-    c.cancel-twos.ensures.whole ∙ ap (λ x. x * 2 ^ i) (c.cancel-fives.ensures.whole ∙ ap (λ x. x * 5 ^ j) c.if-fives-ne1.false ∙ one-mul (5 ^ j)) ∙ mul_comm (5 ^ j) (2 ^ i) in
-    let top : (p ≡ i) ⊎ (p ≡ j) = either p i j c.max-places.ensures in
-    let first : i ≤ p = omega (arith, c.max-places.ensures) in
-    let second : j ≤ p = omega (arith, c.max-places.ensures) in
-    let f = neg_ℤ (pos p) in
-    let above : up f ≡ 0 = omega (arith, ints) in
-    let below : down f ≡ p = omega (arith, ints) in
-    let n = unsigned_abs c.args.self.num in
     let start = c.in-Some.ensures.1 ∙ ap (λ x. x * 2 ^ (p - i)) size in
     let made = c.in-Some-grown.ensures.1 ∙ ap (λ x. x * 5 ^ (p - j)) start in
     let m = to_z w128 (of_z w128 c.with_sign.result) in
-    let e = to_z w32 (of_z w32 (pos 0 -ℤ to_z w32 c.max-places.result)) in
-    let plain : e ≡ f = omega (arith, ints, c.max-places.ensures) in
-    let up_e : up e ≡ 0 = ap up plain ∙ above in
-    let down_e : down e ≡ p = ap down plain ∙ below in
+    let e = to_z w32 (of_z w32 (pos 0 -ℤ to_z w32 p)) in
+    let plain : e ≡ neg_ℤ (pos p) = omega (arith, ints, c.max-places.ensures) in
     let s = int_lt c.args.self.num (pos 0) in
-    let k = n * 2 ^ (p - i) * 5 ^ (p - j) in
-    let sign : m ≡ signed s k =
+    let sign : m ≡ signed s (unsigned_abs c.args.self.num * 2 ^ (p - i) * 5 ^ (p - j)) =
     to_z-of_z {w = w128} (record { sfits = c.with_sign.type_inv }) ∙ c.with_sign.ensures ∙ ap (λ x. signed (int_lt x (pos 0)) c.in-Some-grown.size) (to_z-of_z fm) ∙ ap (signed s) made in
-    let value : SameValue (scaled m e) (pair c.args.self.num c.args.self.den) =
-    subst (λ x. SameValue (scaled x e) (pair c.args.self.num c.args.self.den)) (sym sign) (raised_same c.args.self.num c.args.self.den i j p c.args.self.spelled whole first second e up_e down_e) in
-    match_dec c.new.result _ _ (same_dec_value m e _ _ (own_value (frac_value c.args.self)) value) c.new.ensures
+    match_dec c.new.result _ _ (same_dec_value m e _ _ (own_value (frac_value c.args.self)) (same_at c.args.self.num c.args.self.den i j p c.args.self.spelled q m e sign plain)) c.new.ensures

@@ -1,0 +1,26 @@
+//! Tests of the crates below: values from outside, printed texts, and each call that can want memory with memory to
+//! spare.
+#![tactic(auto)]
+
+#[cfg(test)]
+mod commands;
+#[cfg(test)]
+mod exports;
+#[cfg(test)]
+mod headers;
+#[cfg(test)]
+mod nl_texts;
+#[cfg(test)]
+mod numbers;
+#[cfg(test)]
+mod parts;
+#[cfg(test)]
+mod segments;
+#[cfg(test)]
+mod stages;
+#[cfg(test)]
+mod tables;
+#[cfg(test)]
+mod texts;
+#[cfg(test)]
+mod written;

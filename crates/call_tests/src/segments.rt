@@ -1,0 +1,140 @@
+// Segments of .nl texts: what a whole text says, and the first fault of others.
+
+use crate::nl_texts::{header, text_of};
+use exact_numbers::Dec;
+use nl_model::{NlFile, Terms};
+use nl_segments::{NlFault, NlReader, NlReason, read_nl};
+use std::alloc::Global;
+use std::test::Fail;
+use text_base::Stop;
+
+/// The first fault of a text, and its line.
+pub(crate) fn fault_of(alloc: Global, text: &[u8]) -> Option<(NlReason, u32)> {
+    match read_nl(alloc, text) {
+        Err(Stop::Fault(fault)) => Some((fault.reason, fault.line)),
+        _ => None,
+    }
+}
+
+#[test]
+fn faults_of_segments(rt: HostRuntime) -> Result<(), Fail> {
+    let sizes = header("2 1 1", "2 2", "0");
+    let cases = [
+        ("O00 01\n", NlReason::ShortSegment, 12),
+        ("k2\n", NlReason::BadHead, 11),
+        ("r1\n", NlReason::BadHead, 11),
+        ("S256 1 a\n", NlReason::BadHead, 11),
+        ("J1 1\n", NlReason::IndexOut, 11),
+        ("S5 1 a\n0 2.5\n0 1\n", NlReason::ExtraLine, 13),
+        ("S1 1 a\n0 2.5\n", NlReason::BadNumber, 12),
+        ("S2 1 a\n1 2\n", NlReason::IndexOut, 12),
+        ("S1 1 a\n0 2\nS5 1 a\n", NlReason::RepeatedSegment, 13),
+        ("k1\n7 1\n", NlReason::BadLine, 12),
+        ("C0\no54\n0\n", NlReason::BadNumber, 13),
+        ("r\n0 2 1\n", NlReason::EmptyInterval, 12),
+        ("d1\n0 1\nx2\n0 1\n0 2\n", NlReason::RepeatedIndex, 15),
+        ("C0\nf0\n", NlReason::RefusedLeaf, 12),
+        ("C0\nv2\n", NlReason::IndexOut, 12),
+    ];
+    for (body, reason, line) in cases {
+        let text = text_of(rt.alloc(), &sizes, body)?;
+        assert_eq!(rt;
+            fault_of(rt.alloc(), text.as_bytes()),
+            Some((reason, line)),
+            "at {body}"
+        );
+    }
+    Ok(())
+}
+
+// Each segment once.
+const BODY: &str =
+    "V2 1 7\n0 2\nn5\nC0\no0\nv2 # the defined one\nv1\nO0 1\nn3\nd1\n0 4\nx2\n0 6\n1 7\nr\n1 10\nb\n2 0\n3\nk1\n1\nJ0 2\n0 1\n1 2\nG0 2\n0 3\n1 4\nS4 1 a\n1 0.5";
+
+fn are_terms(terms: &Terms, wanted: &[(u32, Dec)]) -> bool {
+    terms.items() == wanted
+}
+
+// Whether the parts are those of the text.
+fn holds_body(file: &NlFile) -> Option<bool> {
+    let counts = *file.header().counts();
+    if counts.n_var != 2 || counts.n_con != 1 || counts.n_obj != 1 {
+        return None;
+    }
+    let [definition] = file.defs() else {
+        return None;
+    };
+    let [suffix] = file.suffixes() else {
+        return None;
+    };
+    let tree = file.body(0)?;
+    let side = file.side(0);
+    let bound = file.bound(0);
+    let half = Dec::new(5, -1)?;
+    Some(
+        definition.index == 2
+            && definition.usage == 7
+            && are_terms(&definition.terms, &[(0, Dec::of_whole(2))])
+            && tree.nodes().len() == 3
+            && file.objective(0).nodes().len() == 1
+            && file.maximise(0)
+            && are_terms(file.dual_guesses(), &[(0, Dec::of_whole(4))])
+            && are_terms(
+                file.primal_guesses(),
+                &[(0, Dec::of_whole(6)), (1, Dec::of_whole(7))],
+            )
+            && side.lo.is_none()
+            && side.hi == Some(Dec::of_whole(10))
+            && bound.lo == Some(Dec::zero())
+            && bound.hi.is_none()
+            && are_terms(
+                file.terms(0),
+                &[(0, Dec::of_whole(1)), (1, Dec::of_whole(2))],
+            )
+            && are_terms(
+                file.slopes(0),
+                &[(0, Dec::of_whole(3)), (1, Dec::of_whole(4))],
+            )
+            && suffix.kind == 4
+            && suffix.name.bytes() == b"a".as_slice()
+            && are_terms(&suffix.values, &[(1, half)]),
+    )
+}
+
+#[test]
+fn each_segment_is_read(rt: HostRuntime) -> Result<(), Fail> {
+    let text = text_of(rt.alloc(), &header("2 1 1", "2 2", "1"), BODY)?;
+    let read = read_nl(rt.alloc(), text.as_bytes()).ok().ok_or("refused")?;
+    assert_eq!(rt; holds_body(&read.file), Some(true));
+    Ok(())
+}
+
+#[test]
+fn a_text_is_read_in_bytes(rt: HostRuntime) -> Result<(), Fail> {
+    let text = text_of(rt.alloc(), &header("2 1 1", "2 2", "1"), BODY)?;
+    let mut reader = NlReader::new(rt.alloc())?;
+    for byte in text.as_bytes() {
+        assert!(rt; reader.feed(&[*byte]).is_ok());
+    }
+    let read = reader.finish().ok().ok_or("refused")?;
+    assert_eq!(rt; holds_body(&read.file), Some(true));
+    Ok(())
+}
+
+// Whether this is the fault of line 1 for this reason.
+fn is_fault<T: Drop>(answer: Result<T, Stop<NlFault>>, reason: NlReason) -> bool {
+    match answer {
+        Err(Stop::Fault(fault)) => fault.reason == reason && fault.line == 1,
+        _ => false,
+    }
+}
+
+#[test]
+fn a_reader_keeps_its_fault(rt: HostRuntime) -> Result<(), Fail> {
+    let mut reader = NlReader::new(rt.alloc())?;
+    assert!(rt; reader.feed(b"b3 1 1 0").is_ok());
+    assert!(rt; is_fault(reader.feed(b"\n"), NlReason::BinaryFile));
+    assert!(rt; is_fault(reader.feed(b"\n"), NlReason::BinaryFile));
+    assert!(rt; is_fault(reader.finish(), NlReason::BinaryFile));
+    Ok(())
+}

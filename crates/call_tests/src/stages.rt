@@ -1,0 +1,58 @@
+// The stages of an export, one after the other.
+ghost use Rattle.std.specs.Prelude.{◌≡◌, ◌<◌};
+
+use crate::nl_texts::{KNAPSACK, KNAPSACK_WRITTEN};
+use exact_numbers::Frac;
+use linear_fold::{Form, Pad, Wide, fold_all};
+use mps_writer::write_mps;
+use nl_segments::read_nl;
+use row_scaling::{program, scale_rows};
+use std::alloc::Global;
+use std::marker::Brand;
+use std::test::Fail;
+use text_base::{Blank, Ledger, Steps, Stop};
+
+// Adds twice a constant to the open form 0, and closes it.
+fn doubled<L: Ledger>(alloc: Global, value: Frac, blank: Blank) -> Result<Frac, Stop<Wide>>
+    requires name { blank.name ≡ L.name }
+    requires parts { blank.parts ≡ L.parts }
+    requires some { 0 < blank.parts }
+{
+    let mut steps = Steps::<L>::new(blank);
+    let other = Form::of_constant(alloc, value);
+    let mut sum = Form::on_pad(Pad::new(alloc, 4)?);
+    let two = Frac::one().add(Frac::one()).ok_or(Stop::Memory)?;
+    sum.add_scaled(&other, two, &mut steps)?;
+    let (closed, _pad) = sum.close()?;
+    Ok(closed.constant())
+}
+
+#[test]
+fn a_multiple_is_added(rt: HostRuntime) -> Result<(), Fail> {
+    let three = Frac::new(3, 1).ok_or("three")?;
+    let sum = doubled::<Brand>(rt.alloc(), three, Blank::new(1));
+    let six = Frac::new(6, 1).ok_or("six")?;
+    assert_eq!(rt; sum, Ok(six));
+    Ok(())
+}
+
+// The written text of a file with its first objective.
+fn exported<L: Ledger>(alloc: Global, text: &str, blank: Blank) -> Option<Vec<u8>>
+    requires name { blank.name ≡ L.name }
+    requires parts { blank.parts ≡ L.parts }
+    requires some { 0 < blank.parts }
+{
+    let mut steps = Steps::<L>::new(blank);
+    let read = read_nl(alloc, text.as_bytes()).ok()?;
+    let linear = fold_all(alloc, &read.file, 0, &mut steps).ok()?;
+    let scaled = scale_rows(alloc, &linear).ok()?;
+    let mps = program(alloc, &scaled).ok()?;
+    write_mps(alloc, &mps).ok()
+}
+
+#[test]
+fn a_file_goes_through_all_stages(rt: HostRuntime) -> Result<(), Fail> {
+    let written = exported::<Brand>(rt.alloc(), KNAPSACK, Blank::new(1)).ok_or("stopped")?;
+    assert_eq!(rt; written.as_slice(), KNAPSACK_WRITTEN.as_bytes());
+    Ok(())
+}

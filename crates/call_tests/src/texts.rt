@@ -1,0 +1,128 @@
+// The desk, lines, words, names and the reader of lines.
+ghost use Rattle.std.specs.Prelude.{◌≡◌, List, ℕ, length, None};
+
+use std::test::Fail;
+use text_base::{
+    BadName, Desk, Failed, Grammar, LineFault, Lines, MemoryDesk, Name, Row, Stop, Taken,
+    TextFault, TextLines, read, read_pieces, strip_comment, words,
+};
+
+#[test]
+fn desk_gives_texts_in_cuts(rt: HostRuntime) -> Result<(), Fail> {
+    let mut desk = MemoryDesk::new(rt.alloc(), 0)?;
+    desk.put("a", b"older")?;
+    desk.put("a", b"abcd")?;
+    desk.cut(1)?;
+    desk.fail(2)?;
+    let mut buf = [0; 8];
+    assert_eq!(rt; desk.start("a"), Ok(()));
+    assert_eq!(rt; desk.read(&mut buf), Ok(1));
+    assert_eq!(rt; desk.read(&mut buf), Err(Failed));
+    assert_eq!(rt; desk.read(&mut buf), Ok(3));
+    assert_eq!(rt; buf[0], b'b');
+    assert_eq!(rt; desk.read(&mut buf), Ok(0));
+    assert_eq!(rt; desk.start("b"), Err(Failed));
+    Ok(())
+}
+
+#[test]
+fn lines_lose_their_returns(rt: HostRuntime) -> Result<(), Fail> {
+    let mut lines = Lines::new(rt.alloc())?;
+    assert_eq!(rt; lines.take(b"a\rb\r\r\nc\r"), Taken::Line(6));
+    assert_eq!(rt; lines.line(), b"a\rb".as_slice());
+    assert_eq!(rt; lines.number(), 1);
+    Ok(())
+}
+
+#[test]
+fn names_have_1_to_255_bytes(rt: HostRuntime) -> Result<(), Fail> {
+    let alloc = rt.alloc();
+    let most = vec![in alloc; b'!'; 255]?;
+    let more = vec![in alloc; b'!'; 256]?;
+    let name = Name::of(alloc, &most)?;
+    let copy = name.copy(alloc)?;
+    assert_eq!(rt; copy.bytes(), most.as_slice());
+    for text in [more.as_slice(), b"".as_slice(), b"a b".as_slice()] {
+        let bad = Name::of(alloc, text);
+        assert!(rt; matches!(&bad, Err(Stop::Fault(BadName))));
+    }
+    Ok(())
+}
+
+#[test]
+fn text_lines_keep_each_line(rt: HostRuntime) -> Result<(), Fail> {
+    let mut lines = TextLines::new(rt.alloc());
+    lines.push(b"")?;
+    lines.push(b"c d")?;
+    assert_eq!(rt; lines.len(), 2);
+    assert_eq!(rt; lines.get(1), b"c d".as_slice());
+    Ok(())
+}
+
+#[test]
+fn words_stand_between_blanks(rt: HostRuntime) {
+    let mut rest = words(b" a\tbc#  ");
+    assert_eq!(rt; rest.next(), Some(b"a".as_slice()));
+    assert_eq!(rt; rest.next(), Some(b"bc#".as_slice()));
+    assert_eq!(rt; rest.next(), None);
+    let row = Row::of(b"1 2 3 4 5 6 7 8 9 10 11 12 13");
+    assert_eq!(rt; row.words().len(), 12);
+    assert_eq!(rt; strip_comment(b"a#b #c"), b"a#b ".as_slice());
+    assert_eq!(rt; strip_comment(b"# a"), b"".as_slice());
+}
+
+// How many lines a text has.
+#[derive(Drop)]
+struct LineCount {
+    count: u32,
+}
+
+impl Grammar for LineCount {
+    type Reason = LineFault;
+
+    type Value = u32;
+
+    ghost Setting = { Unit {0} };
+
+    ghost setting = { λ _. tt };
+
+    ghost rules = { λ _. record { at_line = λ _ _. None; at_fault = λ _ fault. fault; at_end = λ _. None } };
+
+    ghost took = { λ s lines. s.count ≡ length lines };
+
+    ghost says = { λ _ lines value. value ≡ length lines };
+
+    fn take(&mut self, _line: &[u8], number: u32) -> Result<(), Stop<LineFault>> {
+        self.count = number;
+        Ok(())
+    }
+
+    fn line_fault(&self, fault: LineFault) -> LineFault {
+        fault
+    }
+
+    fn finish(self) -> Result<u32, Stop<LineFault>> {
+        Ok(self.count)
+    }
+}
+
+#[test]
+fn a_reader_gives_each_line(rt: HostRuntime) -> Result<(), Fail> {
+    let alloc = rt.alloc();
+    assert_eq!(rt; read(alloc, LineCount { count: 0 }, b"a\n\nb"), Ok(3));
+    assert_eq!(rt; read(alloc, LineCount { count: 0 }, b"a\n"), Ok(1));
+    let most = vec![in alloc; b'x'; 65_536]?;
+    assert_eq!(rt; read(alloc, LineCount { count: 0 }, &most), Ok(1));
+    let ends = vec![in alloc; b'\n'; 2]?;
+    let long = vec![in alloc; b'x'; 65_537]?;
+    let pieces = vec![in alloc; ends, long]?;
+    let fault = TextFault {
+        reason: LineFault::LineTooLong,
+        line: 3,
+    };
+    assert_eq!(rt;
+        read_pieces(alloc, LineCount { count: 0 }, &pieces),
+        Err(Stop::Fault(fault))
+    );
+    Ok(())
+}

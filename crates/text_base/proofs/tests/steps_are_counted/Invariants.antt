@@ -1,5 +1,0 @@
-use Rattle.text_base.proofs.tests.steps_are_counted.Given as goal
-
--- the ledger is the blank's
-abbrev pub ghosts-count_two : goal.ghosts-count_two
-ghosts-count_two a = record { name = a.blank.name; parts = a.blank.parts }
