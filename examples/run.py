@@ -270,6 +270,17 @@ def mps_cases():
     yield refused("a column again", FRONT + [" X R 2"], "line 8: column again", *MPS)
 
 
+def nl_cases():
+    def again(name, counts, body, out):
+        return name, text(file(counts, body)), ("nl", "FILE"), 0, text(file(counts, out)).decode(), ""
+
+    yield again("slopes, written", (1, 0, 1, 0, 0, 0, 1, 0), "O0 0 / n5 / b / 3 / G0 1 / 0 2", "O0 0 / n5 / b / 3 / k0 / G0 1 / 0 2")
+    pieces = "d1 / 0 1.5 / x1 / 0 2 / S0 1 sstatus / 0 3 / r / 3 / b / 3"
+    yield again("pieces in order", (1, 1, 0, 0, 0, 0, 0, 0), pieces, "S0 1 sstatus / 0 3 / d1 / 0 1.5 / x1 / 0 2 / r / 3 / b / 3 / k0")
+    yield refused("no number", one_term("."), "line 16: bad number", "nl", "FILE")
+    yield bad_words("nl and a number", "nl", "FILE", "0")
+
+
 def run(program, folder, case):
     name, content, words, status, out, told = case
     path = os.path.join(folder, "FILE")
@@ -290,7 +301,7 @@ def main():
     if len(sys.argv) != 2:
         sys.exit(__doc__)
     program = os.path.abspath(sys.argv[1])
-    cases = [*small_cases(), *header_cases(), *reader_cases(), *fold_cases(), *scale_cases(), *mps_cases()]
+    cases = [*small_cases(), *header_cases(), *reader_cases(), *fold_cases(), *scale_cases(), *mps_cases(), *nl_cases()]
     with tempfile.TemporaryDirectory() as folder:
         failed = sum(not run(program, folder, case) for case in cases)
     print(f"{len(cases)} examples, {failed} failed")

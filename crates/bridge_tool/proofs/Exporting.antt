@@ -26,14 +26,14 @@ use Rattle.nl_segments.specs.declared.fault.Refusal.{Refusal}
 use Rattle.row_scaling.specs.Scaling.{HasNoScaleFault, HasScaleFault, IsExportOf}
 use Rattle.row_scaling.specs.declared.scale_fault.ScaleFault.{ScaleFault}
 use Rattle.bridge_tool.specs.Export.{Counts, IsExported}
-use Rattle.bridge_tool.specs.OneFile.{AreDecided}
 use Rattle.bridge_tool.specs.Refusal.{HasTextRefusal, HasFoldRefusal, HasScaleRefusal, IsRefused}
 use Rattle.bridge_tool.specs.NlTold.{nl_line, fold_line, scale_line}
 use Rattle.bridge_tool.proofs.Decided.{IsDecided, decimal_decided, scaling_decided, scales_without_fault, one_scale_fault}
+use Rattle.bridge_tool.proofs.Decisions.{AreDecided}
 
 -- ---- texts
 
-outcome_of_text : (text : List ℕ) → HasOneOutcome nl_rules (lines_of text) (last_of text)
+pub outcome_of_text : (text : List ℕ) → HasOneOutcome nl_rules (lines_of text) (last_of text)
 outcome_of_text text = one_outcome nl_rules (lines_of text) (last_of text)
 
 pub not_both : (text : List ℕ) (value : NlValue) (fault : NlFault) → IsNl text value → HasNlFault text fault → ⊥
@@ -49,7 +49,7 @@ same_places text a b h k = h.said.places ∙ sym k.said.places
 line_by : ℕ → Refusal → List ℕ
 line_by line r = nl_line (record { reason = r.reason; line = line; opcode = r.opcode })
 
-same_nl_line : (text : List ℕ) (a b : NlFault) → HasNlFault text a → HasNlFault text b → nl_line a ≡ nl_line b
+pub same_nl_line : (text : List ℕ) (a b : NlFault) → HasNlFault text a → HasNlFault text b → nl_line a ≡ nl_line b
 unfolding line_by
 same_nl_line text a b h k =
     let ra : Refusal = record { reason = a.reason; opcode = a.opcode } in
@@ -143,10 +143,10 @@ by_fold text k value None read e = by_scaling text k value read e (scaling_decid
 by_fold text k value (Some fault) read e =
     inr (fold_line value.places (named_fault value.file fault), inr (inl (record { value = value; fault = named_fault value.file fault; read = read; first = ap (option_map (named_fault value.file)) e; told = refl })))
 
-value_of_text : List ℕ → NlValue
+pub value_of_text : List ℕ → NlValue
 value_of_text text = record { file = file_of (said (standing (lines_of text))); places = place_lines (counts_of (standing (lines_of text))) (standing (lines_of text)).pieces }
 
-clean_text : (text : List ℕ) → IsClean nl_rules (lines_of text) (last_of text) → IsNl text (value_of_text text)
+pub clean_text : (text : List ℕ) → IsClean nl_rules (lines_of text) (last_of text) → IsNl text (value_of_text text)
 unfolding value_of_text
 clean_text text clean = record { clean = clean; said = record { file = refl; places = refl } }
 

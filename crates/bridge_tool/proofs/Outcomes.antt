@@ -1,17 +1,20 @@
 -- Words come to exactly one outcome.
 use Rattle.std.proofs.Common.{◌≡◌, ◌∙◌, inl, inr, ◌⊎◌, ℕ, List, take, Option, Some, None, true, false, Bool, refl, sym, ap, subst}
 use Rattle.text_base.specs.Desk.{Texts}
-use Rattle.bridge_tool.specs.Command.{Command, Export, Mps, command_of}
+use Rattle.bridge_tool.specs.Command.{Command, Export, Mps, Nl, command_of}
 use Rattle.bridge_tool.specs.Commands.{promise_of, promise_by, ComesTo}
 use Rattle.bridge_tool.specs.Export.{IsExported}
 use Rattle.bridge_tool.specs.Mps.{IsRewritten, IsMpsRefused}
-use Rattle.bridge_tool.specs.OneFile.{TextComesTo, FileComesTo, DeskComesTo, AreDecided}
+use Rattle.bridge_tool.specs.Nl.{IsNlRewritten}
+use Rattle.bridge_tool.specs.OneFile.{TextComesTo, FileComesTo, DeskComesTo}
 use Rattle.bridge_tool.specs.Outcome.{Outcome, BadWords, Untold, NoText, Refused, Done}
 use Rattle.bridge_tool.specs.Promise.{Promise}
-use Rattle.bridge_tool.specs.Refusal.{IsRefused}
+use Rattle.bridge_tool.specs.Refusal.{HasTextRefusal, IsRefused}
 use Rattle.bridge_tool.specs.declared.transfer.TheConstants.{LIMIT}
 use Rattle.bridge_tool.proofs.Exporting.{export_decided}
-use Rattle.bridge_tool.proofs.Rewriting.{mps_decided}
+use Rattle.bridge_tool.proofs.NlRewriting.{nl_decided}
+use Rattle.bridge_tool.proofs.MpsRewriting.{mps_decided}
+use Rattle.bridge_tool.proofs.Decisions.{AreDecided}
 
 -- an outcome of a command whose texts are told
 abbrev pub IsPlain : Outcome → Type 0
@@ -67,11 +70,13 @@ Any outcome = Unit {0}
 -- with the texts of a desk that tells them
 pub told_has_one : (texts : Texts) (c : Command) → HasOne IsPlain (promise_of (Some texts) c).comes
 told_has_one texts (Export file k) = desk_has_one (λ t. IsExported t k) (λ t. IsRefused t k) (export_decided k) texts file
+told_has_one texts (Nl file) = desk_has_one IsNlRewritten HasTextRefusal nl_decided texts file
 told_has_one texts (Mps file) = desk_has_one IsRewritten IsMpsRefused mps_decided texts file
 
 -- with those of one that does not
 untold_has_one : (c : Command) → HasOne Any (promise_of None c).comes
 untold_has_one (Export file k) = record { outcome = Untold false; comes_to = refl; is = tt; one = λ other j. j }
+untold_has_one (Nl file) = record { outcome = Untold false; comes_to = refl; is = tt; one = λ other j. j }
 untold_has_one (Mps file) = record { outcome = Untold false; comes_to = refl; is = tt; one = λ other j. j }
 
 any_of : (comes : Outcome → Type 0) → HasOne IsPlain comes → HasOne Any comes

@@ -7,7 +7,7 @@ use Rattle.text_base.specs.Desk.{Meaning, Texts, Rose, IsUnknown, OnlyInput, Onl
 use Rattle.text_base.specs.declared.stop.Stop.{Stop}
 use Rattle.text_base.specs.declared.stop.Stop.TheVariants.{Fault as IsFault, Memory as IsMemory}
 use Rattle.bridge_tool.specs.Answer.{IsWorked, Missed, Ends, EndsWriting, HasWritten, HasStopped, status_of, told_by}
-use Rattle.bridge_tool.specs.OneFile.{text_of, IfText, TextComesTo, FileComesTo, DeskComesTo, AreDecided, Judges, file_promise}
+use Rattle.bridge_tool.specs.OneFile.{text_of, IfText, TextComesTo, FileComesTo, DeskComesTo, Judges, file_promise}
 use Rattle.bridge_tool.specs.Outcome.{Outcome, BadWords, Untold, NoText, Refused, Done, Status, Written, IsQuiet, Told, line_of}
 use Rattle.bridge_tool.specs.Promise.{Promise}
 use Rattle.bridge_tool.specs.Transfer.{HasRead, HasReadCause, AppendsPart, TellsLine}
@@ -17,6 +17,7 @@ use Rattle.bridge_tool.specs.declared.transfer.Unread.{Unread}
 use Rattle.bridge_tool.specs.declared.transfer.Unread.TheVariants.{Fault, Memory}
 use Rattle.bridge_tool.specs.declared.transfer.TheConstants.{LIMIT}
 use Rattle.bridge_tool.proofs.Outcomes.{HasOne, text_has_one}
+use Rattle.bridge_tool.proofs.Decisions.{AreDecided}
 
 -- with such a status nothing is said of what is written
 nothing_written : (o : Outcome) (old new : Option (List ℕ)) (status : ℕ) → (status ≤ 1 → ⊥) → (status ≡ 5 → ⊥) → Written o old new status
@@ -305,3 +306,7 @@ not_none o x e f = absurd cc
 pub on_ok : {T E : Type 0} (r : Result T E) (P Q : Type 0) → (P → Q) → OnOk r P → OnOk r Q
 on_ok (Ok t) P Q f h = f h
 on_ok (Err e) P Q f h = tt
+
+pub on_any : {T E : Type 0} (r : Result T E) (P : Type 0) → P → OnOk r P
+on_any (Ok t) P h = h
+on_any (Err e) P h = tt

@@ -1,8 +1,9 @@
 -- The command export: what an .nl text is exported as, and that this means the same.
-use Rattle.std.specs.Prelude.{◌≡◌, ◌↔◌, ℕ, ◌+◌, ◌≤◌, ◌^◌, false, List, [], ◌∷◌, ◌++◌, length, Option, Some, None}
+use Rattle.std.specs.Prelude.{◌≡◌, ◌↔◌, ℕ, ◌+◌, ◌≤◌, false, List, [], ◌∷◌, ◌++◌, length, Option, Some, None}
 use Rattle.fractions.specs.Rational.{ℚ}
 use Rattle.exact_numbers.specs.Values.{value_text, dec_value}
 use Rattle.exact_numbers.specs.declared.dec.Dec.{Dec}
+use Rattle.export_round_trip.specs.ReadAs.{IsReadAs}
 use Rattle.exported_program.specs.Export.{IsDecimal}
 use Rattle.file_meaning.specs.Expressions.{maximises}
 use Rattle.file_meaning.specs.FoldFaults.{fold_fault, has_objective}
@@ -12,8 +13,6 @@ use Rattle.linear_fold.specs.FoldedFaults.{step_bound}
 use Rattle.mps_model.specs.Mps.{Mps, IsMpsFeasible, mps_objective, with_values}
 use Rattle.mps_model.specs.Text.{mps_text_by}
 use Rattle.mps_model.specs.Valid.{IsMps}
-use Rattle.mps_reader.specs.Reader.{IsMpsText}
-use Rattle.mps_reader.specs.Written.{mps_text}
 use Rattle.nl_model.specs.File.{File}
 use Rattle.nl_segments.specs.Grammar.{NlValue}
 use Rattle.nl_segments.specs.Reader.{IsNl, HasNlFault}
@@ -52,24 +51,17 @@ pub record MeansTheFile (f : File) (k : ℕ) (m : Mps ℚ) : Type 0 where
   pub plain : IsDecimal (linear_of f k) → IsSameProgram f k m
   pub tied : (IsDecimal (linear_of f k) → ⊥) → IsTiedProgram f k m
 
--- the bytes are the one written text of a decimal program with these values
+-- the bytes are the written text of this program, whose values are those of a whole decimal program
 pub record IsTextOf (bytes : List ℕ) (program : Mps ℚ) : Type 0 where
   pub decimal : Mps Dec
   pub valid : IsMps dec_value decimal
   pub values : with_values dec_value decimal ≡ program
-  pub written : bytes ≡ mps_text decimal
   pub text : bytes ≡ mps_text_by value_text program
-
--- the bytes are an MPS text that says this program
-pub record SaysProgram (bytes : List ℕ) (program : Mps ℚ) : Type 0 where
-  pub decimal : Mps Dec
-  pub says : IsMpsText bytes decimal
-  pub same : with_values dec_value decimal ≡ program
 
 -- what is exported means what the file means, and reading the bytes gives the program
 pub record IsExportMeant (text : List ℕ) (k : ℕ) : Type 0 where
   pub file : (bytes : List ℕ) (e : IsExported text k bytes) → MeansTheFile e.value.file k e.program
-  pub back : (bytes : List ℕ) (e : IsExported text k bytes) → length bytes ≤ 2 ^ 31 → SaysProgram bytes e.program
+  pub back : (bytes : List ℕ) (e : IsExported text k bytes) → IsReadAs bytes e.program
 
 -- Steps are counted for the file that the text says, up to its bound; a text that says none is not folded, nor is a file
 -- without objective k.

@@ -4,6 +4,7 @@ pub mod Commands
 pub mod Export
 pub mod Mps
 pub mod MpsTold
+pub mod Nl
 pub mod NlTold
 pub mod OneFile
 pub mod Outcome

@@ -1,5 +1,5 @@
 -- Commands of one file.
-use Rattle.std.specs.Prelude.{◌≡◌, ◌⊎◌, ℕ, Bool, true, false, List, take, IfSome, Result, Ok, Err}
+use Rattle.std.specs.Prelude.{◌≡◌, ℕ, Bool, true, false, List, take, IfSome, Result, Ok, Err}
 use Rattle.std.specs.Global.{Vec}
 use Rattle.std.specs.declared.option.Option.{Option}
 use Rattle.std.specs.declared.option.Option.TheVariants.{None, Some}
@@ -48,13 +48,6 @@ module _ (accepts refuses : List ℕ → List ℕ → Type 0) where
     counts = counts;
     means = IfText texts file means;
   }
-
-  -- each text is accepted with one list of bytes, or refused with one line
-  pub record AreDecided : Type 0 where
-    pub accepted : (text a b : List ℕ) → accepts text a → accepts text b → a ≡ b
-    pub refused : (text a b : List ℕ) → refuses text a → refuses text b → a ≡ b
-    pub either : (text : List ℕ) → ((bytes : List ℕ) × accepts text bytes) ⊎ ((line : List ℕ) × refuses text line)
-    pub apart : (text bytes line : List ℕ) → accepts text bytes → refuses text line → ⊥
 
   -- what judging a text answers: the bytes to write, or the line to tell; of want of memory nothing is said
   abbrev pub Judges : List ℕ → Result (Vec ℕ) (Stop (Vec ℕ)) → Type 0

@@ -7,6 +7,7 @@ mod export;
 mod laws;
 mod mps;
 mod mps_told;
+mod nl;
 mod nl_input;
 mod nl_told;
 mod one_file;

@@ -1,4 +1,4 @@
-use Rattle.bridge_tool.proofs.Rewriting.{mps_meant}
+use Rattle.bridge_tool.proofs.MpsRewriting.{mps_meant}
 use Rattle.bridge_tool.proofs.mps.judge.Goals as goal
 
 pub returns-in_ok-out-in-Ok-clause-means : goal.returns-in_ok-out-in-Ok-clause-means

@@ -1,4 +1,4 @@
-use Rattle.bridge_tool.proofs.Rewriting.{mps_decided}
+use Rattle.bridge_tool.proofs.MpsRewriting.{mps_decided}
 use Rattle.bridge_tool.proofs.Working.{file_worked}
 use Rattle.bridge_tool.proofs.mps.rewrite.Goals as goal
 

@@ -15,7 +15,7 @@ use Rattle.text_base.specs.declared.fault.TextFault.{TextFault}
 use Rattle.text_base.proofs.JudgedLemmas.{one_outcome}
 use Rattle.bridge_tool.specs.Mps.{IsMpsMeant, IsRewritten, IsMpsRefused}
 use Rattle.bridge_tool.specs.MpsTold.{mps_line}
-use Rattle.bridge_tool.specs.OneFile.{AreDecided}
+use Rattle.bridge_tool.proofs.Decisions.{AreDecided}
 
 outcome_of_text : (text : List ℕ) → HasOneOutcome mps_rules (lines_of text) (last_of text)
 outcome_of_text text = one_outcome mps_rules (lines_of text) (last_of text)
