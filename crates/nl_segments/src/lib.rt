@@ -20,19 +20,15 @@ mod head_rules;
 mod heads;
 mod intervals;
 mod law;
-mod marks;
 mod nl_read;
 mod nl_reader;
 mod node_row;
 mod nodes;
-mod numbers;
 mod owner_lines;
 mod pairs;
 mod pending;
 mod places;
 mod seen;
-#[cfg(test)]
-mod tests;
 mod words;
 
 pub use awaited::Awaited;
