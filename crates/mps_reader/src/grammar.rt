@@ -88,7 +88,8 @@ impl MpsGrammar {
 
     // Takes a line that holds words.
     fn take_words(&mut self, data_line: bool, words: &[&[u8]]) -> Result<(), Stop<MpsReason>>
-        ensures { Takes (line_tests self.old data_line (texts words.now)) (after_words self.old data_line (texts words.now)) result self.new }
+        ensures { Takes (line_tests self.old data_line (texts words.now))
+            (after_words self.old data_line (texts words.now)) result self.new }
     {
         if self.is_broken {
             return Err(Stop::Memory);
