@@ -18,8 +18,9 @@ use Rattle.nl_segments.specs.declared.awaited.Awaited.TheVariants.{Nothing, Pair
 use Rattle.nl_segments.specs.declared.head.Head.{Head}
 use Rattle.nl_segments.specs.declared.head.Head.TheVariants.{Body as BodyHead, Objective, Definition, DualGuesses, PrimalGuesses, Sides, Bounds, ColumnCounts, Terms, Slopes, Suffix}
 use Rattle.nl_segments.specs.declared.fault.NlReason.TheVariants.{ShortSegment, RepeatedIndex, TooLarge}
-use Rattle.nl_segments.specs.Numbers.{are_digits, whole_of}
-use Rattle.nl_segments.specs.Rows.{Row, row_words, word_at}
+use Rattle.exact_numbers.specs.Numbers.{are_digits, whole_of}
+use Rattle.nl_segments.specs.Rows.{Row, row_words}
+use Rattle.text_base.specs.Words.{word_at}
 use Rattle.nl_segments.specs.Heads.{is_head, head_of, name_in, is_in_range}
 use Rattle.nl_segments.specs.Nodes.{Placed, Pending, node_in, opcode_in, pending_in, nodes_from, nodes_of, pending_from, only_nodes}
 use Rattle.nl_segments.specs.Pieces.{Piece, awaited_in, awaited_of, has_tree, is_complete, is_nothing, last_piece, line_count, line_kind, pair_count, pair_in, piece_nodes, piece_pairs, piece_pending, extended, tree_awaits, tree_rows, with_row}
@@ -33,7 +34,7 @@ use Rattle.nl_segments.proofs.HeadLaw.{all_complete, sound_begun}
 use Rattle.nl_segments.proofs.NodeLemmas.{node_formed, opcode_counted}
 use Rattle.nl_segments.proofs.NodeSteps.{no, in_tree, lines_before, IsInTree, tree_nodes, sound_row}
 use Rattle.nl_segments.proofs.OpcodeLemmas.{counted_fit}
-use Rattle.nl_segments.proofs.PairHeld.{is_line_kind, sound_no_pair}
+use Rattle.nl_segments.proofs.PairHeld.{IsBefore, before_lines, is_line_kind, sound_no_pair}
 use Rattle.nl_segments.proofs.PairJudging.{IsIndex, below_limit, index_of, pair_found}
 use Rattle.nl_segments.proofs.PairLines.{awaited-last, other_last, last_of, last_sound, sound_longer}
 use Rattle.nl_segments.proofs.PairPiece.{IsNextPair, sound_pair}
@@ -44,28 +45,6 @@ use Rattle.nl_segments.proofs.PieceLemmas.{split, longer, extended-append}
 abbrev is_pair : Awaited → Bool
 is_pair Pair = true
 is_pair kind = false
-
--- before its lines are there, it awaits one of them
-record IsBefore (c : Counts) (p : Piece) (kind : Awaited) : Type 0 where
-  within : length p.rows < line_count c p.head
-  same_kind : line_kind p.head ≡ kind
-
-no_line : (ns : List Placed) (q : Option Pending) → is_line_kind (tree_awaits ns q) ≡ false
-no_line ns (Some q) = refl
-no_line ns None = by (awaited (only_nodes ns) == 0) refl
-  where
-    by : (t : Bool) → (awaited (only_nodes ns) == 0) ≡ t → is_line_kind (tree_awaits ns None) ≡ false
-    by true e = rw e refl
-    by false e = rw e refl
-
-before_lines : (c : Counts) (p : Piece) (kind : Awaited) → awaited_in c p ≡ kind → is_line_kind kind ≡ true → IsBefore c p kind
-unfolding awaited_in
-before_lines c p kind e line = by (nat_lt (length p.rows) (line_count c p.head)) (has_tree p.head) refl e
-  where
-    by : (t u : Bool) → nat_lt (length p.rows) (line_count c p.head) ≡ t → (if t then line_kind p.head else (if u then tree_awaits (piece_nodes c p) (piece_pending p) else Nothing)) ≡ kind → IsBefore c p kind
-    by true u q is = record { within = ltb-true _ _ q; same_kind = is }
-    by false true q is = absurd (no (sym (ap is_line_kind is ∙ line) ∙ no_line (piece_nodes c p) (piece_pending p)))
-    by false false q is = absurd (no (sym (ap is_line_kind is ∙ line)))
 
 -- after them, it awaits a row of its expression
 record IsInside (c : Counts) (p : Piece) (kind : Awaited) : Type 0 where

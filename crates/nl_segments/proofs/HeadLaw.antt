@@ -27,14 +27,14 @@ use Rattle.nl_segments.specs.Steps.{after_body_row}
 use Rattle.nl_segments.specs.Tests.{Tests, for_reason, is_suffix, is_linear, is_same_piece, is_repeated, index_limit, has_index, head_form_tests, formed_head_tests, head_tests, row_tests}
 use Rattle.nl_segments.specs.Held.{Body, IsSoundPiece, AreSound, IsOpen, IsLast, IsMarked, IsNodeLeft, IsHeld, HoldsSome, IsRowOf, HasRow, words_refusal, use_count}
 use Rattle.nl_segments.specs.HeadSteps.{has_come, has_come_suffix, held_head_tests, formed_tests, held_refusal, begun_current, begun_name, begun_count, begun_draft, with_begun_head}
-use Rattle.nl_segments.proofs.PieceLemmas.{split, last-append, lines-append}
+use Rattle.nl_segments.proofs.PieceLemmas.{split, last-append, lines-append, take_none}
 use Rattle.nl_segments.proofs.DraftLemmas.{draft_counts}
-use Rattle.nl_segments.proofs.PlaceLemmas.{place_begun}
+use Rattle.nl_segments.proofs.PlaceLemmas.{owner_there, place_begun}
 use Rattle.nl_segments.specs.Taking.{body_awaits}
 use Rattle.nl_segments.proofs.CurrentLemmas.{begun}
 use Rattle.nl_segments.proofs.EndLemmas.{last_awaits}
 use Rattle.nl_segments.proofs.HeadSuffixes.{suffixes_come}
-use Rattle.nl_segments.proofs.HeadSeen.{seen_begun, any_name, within_marks, owner_there}
+use Rattle.nl_segments.proofs.HeadSeen.{seen_begun, any_name, within_marks}
 use Rattle.nl_segments.proofs.HeadBegun.{new_piece, no_pairs, whole_at_once, draft_begun, terms_begun, nodes_begun, pairs_begun, count_begun, columns_begun}
 use Rattle.nl_segments.proofs.HeadRefusal.{IsNew, is_new}
 
@@ -156,11 +156,8 @@ sound_piece c head name line range =
       range = range;
       below = rw none (λ k d lt. absurd (omega (arith, lt)));
       once = λ t. rw none (λ i j d lt within. absurd (omega (arith, within)));
-      pairs = rw (none, no_taken head) refl;
+      pairs = rw (none, take_none (pair_count head)) refl;
     }
-  where
-    no_taken : (head : Head) → take {A = Row} (pair_count head) [] ≡ []
-    no_taken head = take_all (pair_count head) [] (omega arith)
 
 pub sound_begun : (c : Counts) (pieces : List Piece) (head : Head) (name : List ℕ) (line : ℕ) → AreSound c pieces → All (λ q. is_complete c q ≡ true) pieces → is_in_range c head ≡ true → is_repeated pieces head name ≡ false
     → AreSound c (pieces ++ new_piece head name line ∷ [])

@@ -29,7 +29,9 @@ use Rattle.nl_segments.specs.Tests.{is_same_piece}
 use Rattle.nl_segments.specs.Held.{AreSound, IsSoundPiece}
 use Rattle.nl_segments.proofs.PieceLemmas.{draft-append, lines-append}
 use Rattle.nl_segments.proofs.DraftLemmas.{draft_counts}
-use Rattle.nl_segments.proofs.PlaceLemmas.{place_counts}
+use Rattle.nl_segments.specs.PlaceSteps.{HasOwner}
+use Rattle.nl_segments.proofs.HeadBegun.{some_line}
+use Rattle.nl_segments.proofs.PlaceLemmas.{owner_there}
 use Rattle.nl_segments.proofs.FreshLaw.{none_before, fresh_terms, fresh_slopes}
 use Rattle.std.proofs.lemmas.List.{get_or_past}
 use Rattle.std.proofs.lemmas.List.Elements.{All-cons, All-drop, All-map, All-take}
@@ -37,19 +39,6 @@ use Rattle.std.proofs.lemmas.Option.{slice_get_past, slice_get-get_or}
 use Rattle.nl_segments.proofs.LineLaw.{AreLines, IsLined, AllLined, AreDefs, tree_nodes, with_tree_at, with_row_at, defs_push, node_there, term_there}
 
 -- ---- one piece
-
-pub never_nothing : (h : Head) → is_nothing (line_kind h) ≡ false
-never_nothing (BodyHead i) = refl
-never_nothing (ObjectiveHead k m) = refl
-never_nothing (DefinitionHead i j u) = refl
-never_nothing (DualGuesses n) = refl
-never_nothing (PrimalGuesses n) = refl
-never_nothing Sides = refl
-never_nothing Bounds = refl
-never_nothing (ColumnCounts n) = refl
-never_nothing (Terms i n) = refl
-never_nothing (Slopes k n) = refl
-never_nothing (Suffix a n) = refl
 
 placed_nodes : (ns : List Placed) (q : Option Pending) → is_nothing (tree_awaits ns q) ≡ true → tree_size (tree_of (only_nodes ns)) ≤ length (only_lines ns)
 placed_nodes [] None e = absurd cc
@@ -68,7 +57,7 @@ unfolding awaited_in
 whole_nodes c p t whole = by (nat_lt (length p.rows) (line_count c p.head)) refl
   where
     by : (l : Bool) → nat_lt (length p.rows) (line_count c p.head) ≡ l → tree_size (piece_tree c p) ≤ length (node_lines c p)
-    by true e = absurd (let done : is_nothing (line_kind p.head) ≡ true = rw e at whole in let none = never_nothing p.head in cc)
+    by true e = absurd (let done : is_nothing (line_kind p.head) ≡ true = rw e at whole in let none = some_line p.head in cc)
     by false e = placed_nodes (piece_nodes c p) (piece_pending p) (tree_part (has_tree p.head) (tree_awaits (piece_nodes c p) (piece_pending p)) t (rw e at whole))
 
 -- its lines, and those of its nodes and terms, are such ones
@@ -140,13 +129,6 @@ IsUnused d (Terms i n) = get_or d.terms i [] ≡ []
 IsUnused d (Slopes k n) = get_or d.slopes k [] ≡ []
 IsUnused d head = Unit {0}
 
-abbrev IsPlaced : PlaceLines → Head → Type 0
-IsPlaced l (BodyHead i) = i < length l.constraints
-IsPlaced l (ObjectiveHead k m) = k < length l.objectives
-IsPlaced l (Terms i n) = i < length l.constraints
-IsPlaced l (Slopes k n) = k < length l.objectives
-IsPlaced l head = Unit {0}
-
 some_head : (head : Option ℕ) (line : ℕ) → IsSome (option_or head (Some line))
 some_head None line = refl
 some_head (Some n) line = refl
@@ -159,7 +141,7 @@ some_and : (P : ℕ → Type 0) (head : Option ℕ) → IsSome head → IfSome h
 some_and P None some h = absurd cc
 some_and P (Some n) some h = h
 
-step : (P : ℕ → Type 0) (c : Counts) (d : Draft) (l : PlaceLines) (p : Piece) (h : Head) → d.counts ≡ c → p.head ≡ h → IsWhole P c p → IsUnused d h → IsPlaced l h → AreLined P d l → AreLined P (said_by d p h) (lines_by c l p h)
+step : (P : ℕ → Type 0) (c : Counts) (d : Draft) (l : PlaceLines) (p : Piece) (h : Head) → d.counts ≡ c → p.head ≡ h → IsWhole P c p → IsUnused d h → HasOwner l h → AreLined P d l → AreLined P (said_by d p h) (lines_by c l p h)
 step P c d l p (BodyHead i) n e w free place old =
     let size = whole_nodes c p (rw e refl) w.whole in
     rw (n, w.whole) (record {
@@ -251,20 +233,6 @@ unused o c before name (Terms i n) e = fresh_terms o c before i n name e
 unused o c before name (Slopes k n) e = fresh_slopes o c before k n name e
 unused o c before name (Suffix a n) e = tt
 
-placed : (c : Counts) (before : List Piece) (h : Head) → is_in_range c h ≡ true → IsPlaced (place_lines c before) h
-unfolding is_in_range
-placed c before (BodyHead i) r = rw (place_counts c before).0 (ltb-true i c.n_con r)
-placed c before (ObjectiveHead k m) r = rw (place_counts c before).1 (ltb-true k c.n_obj r)
-placed c before (DefinitionHead i j u) r = tt
-placed c before (DualGuesses n) r = tt
-placed c before (PrimalGuesses n) r = tt
-placed c before Sides r = tt
-placed c before Bounds r = tt
-placed c before (ColumnCounts n) r = tt
-placed c before (Terms i n) r = rw (place_counts c before).0 (ltb-true i c.n_con r)
-placed c before (Slopes k n) r = rw (place_counts c before).1 (ltb-true k c.n_obj r)
-placed c before (Suffix a n) r = tt
-
 abbrev Lined : (ℕ → Type 0) → List ℤ → Counts → List Piece → Type 0
 Lined P o c ps = AreLined P (draft_of o c ps) (place_lines c ps)
 
@@ -273,7 +241,7 @@ lined P o c before [] h a w = subst (Lined P o c) (sym (append-nil before)) h
 lined P o c before (p ∷ rest) h a w =
     let next : Lined P o c (before ++ p ∷ []) =
     rw (draft-append o c before p, lines-append c before p)
-    (step P c (draft_of o c before) (place_lines c before) p p.head (draft_counts o c before) refl w.0 (unused o c before p.name p.head a.0) (placed c before p.head w.0.range) h) in
+    (step P c (draft_of o c before) (place_lines c before) p p.head (draft_counts o c before) refl w.0 (unused o c before p.name p.head a.0) (owner_there c before p.head w.0.range) h) in
     subst (Lined P o c) (append_assoc before (p ∷ []) rest) (lined P o c (before ++ p ∷ []) rest next a.1 w.1)
 
 pub always : {A : Type 0} (n j : ℕ) (x : A) → get_or (replicate n x) j x ≡ x

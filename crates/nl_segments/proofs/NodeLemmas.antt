@@ -20,8 +20,8 @@ use Rattle.nl_segments.specs.declared.fault.NlReason.TheVariants.{TooLarge, Inde
 use Rattle.nl_segments.specs.declared.fault.Refusal.{Refusal}
 use Rattle.nl_segments.specs.Heads.{is_among, letter_of, own_number}
 use Rattle.nl_segments.specs.Held.{IsNodeKnown}
-use Rattle.nl_segments.specs.Nodes.{counted_opcode, fixed_node, variable_node, node_in, opcode_in, leaf_text}
-use Rattle.nl_segments.specs.Numbers.{dec_of_text, dec_of_signed}
+use Rattle.nl_segments.specs.Nodes.{counted_opcode, fixed_node, variable_node, node_in, opcode_in, leaf_text, dec_of_signed}
+use Rattle.exact_numbers.specs.Numbers.{dec_of}
 use Rattle.nl_segments.specs.Tests.{Tests, for_reason, is_node_form, is_undefined, leaf_tests, node_form_tests, number_tests, opcode_tests, variable_tests}
 use Rattle.nl_segments.proofs.OpcodeLemmas.{one_fits, two_fit}
 
@@ -75,7 +75,7 @@ variable_known c d (Some i) node e t =
 -- the node by what its letter is
 abbrev leaf : Counts → List (List ℕ) → Bool → Bool → Bool → Bool → Option Node
 leaf c words n s v o =
-    if n then option_map Num (dec_of_text (leaf_text words)) else
+    if n then option_map Num (dec_of (leaf_text words)) else
     if s then option_map Num (dec_of_signed (leaf_text words)) else
     if v then option_map (variable_node c.n_var) (own_number words) else
     if o then option_and_then (λ o. fixed_node o (operands_of o)) (own_number words) else None
@@ -86,9 +86,9 @@ leaf_known c d words node e t =
     by (letter_of words == 110) ((letter_of words == 115) || (letter_of words == 108)) (letter_of words == 118) (letter_of words == 111) e t
   where
     by : (n s v o : Bool) → leaf c words n s v o ≡ Some node
-        → first_reason (if n then number_tests (dec_of_text (leaf_text words)) else (if v then variable_tests c d (own_number words) else (if o then opcode_tests (own_number words) else number_tests (dec_of_signed (leaf_text words))))) ≡ None
+        → first_reason (if n then number_tests (dec_of (leaf_text words)) else (if v then variable_tests c d (own_number words) else (if o then opcode_tests (own_number words) else number_tests (dec_of_signed (leaf_text words))))) ≡ None
         → IsNodeKnown c.n_var d.definitions node
-    by true s v o e t = number_known c.n_var d.definitions (dec_of_text (leaf_text words)) node e
+    by true s v o e t = number_known c.n_var d.definitions (dec_of (leaf_text words)) node e
     by false true v o e t = number_known c.n_var d.definitions (dec_of_signed (leaf_text words)) node e
     by false false true o e t = variable_known c d (own_number words) node e t
     by false false false true e t = opcode_known c.n_var d.definitions (own_number words) node e
@@ -131,7 +131,7 @@ unfolding node_in
 node_formed c words node e = by (letter_of words == 110) ((letter_of words == 115) || (letter_of words == 108)) (letter_of words == 118) (letter_of words == 111) e
   where
     by : (n s v o : Bool) → leaf c words n s v o ≡ Some node → IsNode node
-    by true s v o e = number_formed (dec_of_text (leaf_text words)) node e
+    by true s v o e = number_formed (dec_of (leaf_text words)) node e
     by false true v o e = number_formed (dec_of_signed (leaf_text words)) node e
     by false false true o e = variable_formed c.n_var (own_number words) node e
     by false false false true e = opcode_formed (own_number words) node e

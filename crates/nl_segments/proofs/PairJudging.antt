@@ -11,10 +11,10 @@ use Rattle.nl_model.specs.File.{Term}
 use Rattle.nl_segments.specs.declared.fault.NlReason.TheVariants.{TooLarge, RepeatedIndex}
 use Rattle.nl_segments.specs.declared.fault.Refusal.{Refusal}
 use Rattle.nl_segments.specs.declared.head.Head.{Head}
-use Rattle.nl_segments.specs.Numbers.{are_digits, dec_of_text, whole_of}
-use Rattle.nl_segments.specs.Rows.{word_at}
+use Rattle.exact_numbers.specs.Numbers.{are_digits, dec_of, whole_of, is_whole}
+use Rattle.text_base.specs.Words.{word_at}
 use Rattle.nl_segments.specs.Pieces.{Piece, pair_in, piece_pairs}
-use Rattle.nl_segments.specs.Tests.{Tests, for_reason, has_index, holds_once, index_limit, is_below, is_full, is_whole, pair_form_tests, pair_tests, wants_whole}
+use Rattle.nl_segments.specs.Tests.{Tests, for_reason, has_index, holds_once, index_limit, is_below, is_full, pair_form_tests, pair_tests, wants_whole}
 use Rattle.nl_segments.specs.PairSteps.{next_pair_tests}
 use Rattle.nl_segments.specs.Held.{IsMarked}
 
@@ -22,9 +22,9 @@ use Rattle.nl_segments.specs.Held.{IsMarked}
 
 pub index_of : (words : List (List ℕ)) (t : Term) → pair_in words ≡ Some t → whole_of (word_at words 0) ≡ Some t.0
 unfolding pair_in
-index_of words t e = by (whole_of (word_at words 0)) (dec_of_text (word_at words 1)) refl refl
+index_of words t e = by (whole_of (word_at words 0)) (dec_of (word_at words 1)) refl refl
   where
-    by : (i : Option ℕ) (d : Option Dec) → whole_of (word_at words 0) ≡ i → dec_of_text (word_at words 1) ≡ d → whole_of (word_at words 0) ≡ Some t.0
+    by : (i : Option ℕ) (d : Option Dec) → whole_of (word_at words 0) ≡ i → dec_of (word_at words 1) ≡ d → whole_of (word_at words 0) ≡ Some t.0
     by None d p q = absurd (let none : None ≡ Some t = rw p at e in cc)
     by (Some i) None p q = absurd (let none : None ≡ Some t = rw (p, q) at e in cc)
     by (Some i) (Some d) p q = let same : Some (i, d) ≡ Some t = rw (p, q) at e in p ∙ ap (λ (o : Option Term). Some (unwrap_or {T = Term} o (i, d)).0) same
@@ -83,9 +83,9 @@ pub pair_found : (limit : ℕ) (whole : Bool) (words : List (List ℕ)) → firs
 unfolding pair_form_tests pair_in
 pair_found limit whole words e =
     let none = none_each (pair_form_tests limit whole words) e in
-    by (below_limit limit (whole_of (word_at words 0)) none.1.0) (dec_of_text (word_at words 1)) refl none.1.1.0
+    by (below_limit limit (whole_of (word_at words 0)) none.1.0) (dec_of (word_at words 1)) refl none.1.1.0
   where
-    by : IsIndex limit (whole_of (word_at words 0)) → (o : Option Dec) → dec_of_text (word_at words 1) ≡ o → (is_none o || (whole && not (option_map_or is_whole o true))) ≡ false → IsPair limit words
+    by : IsIndex limit (whole_of (word_at words 0)) → (o : Option Dec) → dec_of (word_at words 1) ≡ o → (is_none o || (whole && not (option_map_or is_whole o true))) ≡ false → IsPair limit words
     by i None q f = absurd cc
     by i (Some d) q f = record { term = (i.index, d); says = rw (i.is, q) refl; below = i.below }
 

@@ -14,7 +14,6 @@ use crate::awaited::Awaited;
 use crate::current::Current;
 use crate::ending::{are_sums, is_short};
 use crate::fault::{NlReason, Refusal};
-use crate::marks::Marks;
 use crate::nl_read::NlRead;
 use crate::nodes::refusal;
 use crate::places::Places;
@@ -23,7 +22,7 @@ use crate::words::is_head;
 use nl_model::{Counts, Header, NlBuilder, defined_count};
 use std::alloc::{AllocError, Global};
 use std::marker::Model;
-use text_base::{Name, Stop};
+use text_base::{Marks, Name, Stop};
 
 /// The rows of the body so far: the file, the last piece where it is not complete, and what judging the next row needs.
 #[derive(Drop)]
