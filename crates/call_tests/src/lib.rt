@@ -9,11 +9,19 @@ mod exports;
 #[cfg(test)]
 mod headers;
 #[cfg(test)]
+mod mps_commands;
+#[cfg(test)]
+mod mps_texts;
+#[cfg(test)]
 mod nl_texts;
 #[cfg(test)]
 mod numbers;
 #[cfg(test)]
 mod parts;
+#[cfg(test)]
+mod programs;
+#[cfg(test)]
+mod rewritten;
 #[cfg(test)]
 mod segments;
 #[cfg(test)]

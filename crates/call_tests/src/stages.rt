@@ -37,22 +37,28 @@ fn a_multiple_is_added(rt: HostRuntime) -> Result<(), Fail> {
 }
 
 // The written text of a file with its first objective.
-fn exported<L: Ledger>(alloc: Global, text: &str, blank: Blank) -> Option<Vec<u8>>
-    requires name { blank.name ≡ L.name }
-    requires parts { blank.parts ≡ L.parts }
-    requires some { 0 < blank.parts }
-{
-    let mut steps = Steps::<L>::new(blank);
+fn exported<L: Ledger>(alloc: Global, text: &str, steps: &mut Steps<L>) -> Option<Vec<u8>> {
     let read = read_nl(alloc, text.as_bytes()).ok()?;
-    let linear = fold_all(alloc, &read.file, 0, &mut steps).ok()?;
+    let linear = fold_all(alloc, &read.file, 0, steps).ok()?;
     let scaled = scale_rows(alloc, &linear).ok()?;
     let mps = program(alloc, &scaled).ok()?;
     write_mps(alloc, &mps).ok()
 }
 
+fn is_exported<L: Ledger>(alloc: Global, text: &str, written: &str, blank: Blank) -> bool
+    requires name { blank.name ≡ L.name }
+    requires parts { blank.parts ≡ L.parts }
+    requires some { 0 < blank.parts }
+{
+    let mut steps = Steps::<L>::new(blank);
+    match exported(alloc, text, &mut steps) {
+        Some(out) => out.as_slice() == written.as_bytes(),
+        None => false,
+    }
+}
+
 #[test]
-fn a_file_goes_through_all_stages(rt: HostRuntime) -> Result<(), Fail> {
-    let written = exported::<Brand>(rt.alloc(), KNAPSACK, Blank::new(1)).ok_or("stopped")?;
-    assert_eq!(rt; written.as_slice(), KNAPSACK_WRITTEN.as_bytes());
-    Ok(())
+fn a_file_goes_through_all_stages(rt: HostRuntime) {
+    let same = is_exported::<Brand>(rt.alloc(), KNAPSACK, KNAPSACK_WRITTEN, Blank::new(1));
+    assert!(rt; same);
 }
