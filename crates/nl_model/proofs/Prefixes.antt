@@ -54,7 +54,7 @@ pub awaited-push : (w : ℕ) (ns : List Node) (n : Node) → awaited_after w (ns
 awaited-push w [] n = refl
 awaited-push w (m ∷ ns) n = awaited-push (w - 1 + operand_count m) ns n
 
-IsRun-push : (w : ℕ) (ns : List Node) (n : Node) → IsRun w ns → 0 < awaited_after w ns → IsNode n → IsRun w (ns ++ n ∷ [])
+pub IsRun-push : (w : ℕ) (ns : List Node) (n : Node) → IsRun w ns → 0 < awaited_after w ns → IsNode n → IsRun w (ns ++ n ∷ [])
 IsRun-push w [] n r some fine = (some, fine, tt)
 IsRun-push w (m ∷ ns) n r some fine = (r.0, r.1, IsRun-push (w - 1 + operand_count m) ns n r.2 some fine)
 
@@ -164,10 +164,14 @@ alone t ns p =
     let nothing = none_empty c.tail c.rest in
     subst P (sym (c.joined ∙ ap (λ ms. c.head ++ ms) nothing ∙ append-nil c.head)) c.first
 
+pub prefix_of_run : (ns : List Node) → IsRun 1 ns → awaited ns ≡ 0 → IsPrefix (tree_of ns) ns
+prefix_of_run ns run e =
+    let formed = nodes_formed 1 ns run e in
+    let one = only (trees_of ns) (length-trees 1 ns run e) in
+    let P : List Tree → Type 0 = λ ts. ArePrefixes (as_trees ts) ns in
+    alone (tree_of ns) ns (subst P one (forest ns formed))
+
 pub nodes_of_run : (ns : List Node) (wants : ℕ) → AreNodesBegun ns wants → awaited ns ≡ 0 → AreNodesOf (tree_of ns) ns
 nodes_of_run ns wants b e =
-    let formed = nodes_formed 1 ns b.run e in
-    let one = only (trees_of ns) (length-trees 1 ns b.run e) in
-    let P : List Tree → Type 0 = λ ts. ArePrefixes (as_trees ts) ns in
-    let whole = alone (tree_of ns) ns (subst P one (forest ns formed)) in
-    record { prefix = whole; trees = one; formed = formed; tree_formed = tree_formed whole; few = b.few }
+    let whole = prefix_of_run ns b.run e in
+    record { prefix = whole; trees = nodes_are_tree (tree_of ns) ns whole; formed = nodes_formed 1 ns b.run e; tree_formed = tree_formed whole; few = b.few }

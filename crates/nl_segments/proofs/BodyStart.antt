@@ -27,7 +27,7 @@ use Rattle.nl_segments.proofs.CurrentLemmas.{awaits}
 
 -- ---- no rows
 
-no_piece_sound : (c : Counts) → AreSound c []
+pub no_piece_sound : (c : Counts) → AreSound c []
 no_piece_sound c =
     record {
       each = λ k d lt. absurd (omega (arith, lt));

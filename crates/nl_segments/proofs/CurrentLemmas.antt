@@ -12,13 +12,14 @@ use Rattle.nl_segments.specs.declared.node_row.NodeRow.{NodeRow}
 use Rattle.nl_segments.specs.declared.node_row.NodeRow.TheVariants.{Whole, Counted}
 use Rattle.std.specs.Prelude.{is_some, unwrap_or}
 use Rattle.nl_model.specs.declared.node.Node.TheVariants.{Op}
-use Rattle.nl_segments.specs.Numbers.{whole_of}
-use Rattle.nl_segments.specs.Rows.{Row, row_words, word_at}
+use Rattle.exact_numbers.specs.Numbers.{whole_of}
+use Rattle.nl_segments.specs.Rows.{Row, row_words}
+use Rattle.text_base.specs.Words.{word_at}
 use Rattle.nl_segments.specs.Nodes.{Placed, Pending, node_in, opcode_in, pending_in, placed_in, with_operands, nodes_from, pending_from, only_nodes}
 use Rattle.nl_segments.specs.NodeRows.{IsRow}
 use Rattle.nl_segments.specs.Pieces.{Piece, pair_count, line_count, has_tree, tree_rows, piece_nodes, piece_pending, piece_pairs, pair_in, awaited_in}
 use Rattle.nl_segments.specs.Current.{Current, current_awaits, new_current, less_line, with_node_row, with_operand_count, IsCurrent}
-use Rattle.nl_segments.proofs.PieceLemmas.{longer}
+use Rattle.nl_segments.proofs.PieceLemmas.{drop_none, longer}
 
 -- ---- awaited
 
@@ -187,9 +188,6 @@ with_count c p cur row q k h tree late some is =
     (ap (λ o. cur.nodes ++ Op q.opcode (unwrap_or o 0) ∷ []) (sym is) ∙ ap (λ o. cur.nodes ++ only_nodes (last_nodes c.n_var o row)) (sym some))
     (ap (λ o. last_pending o row) (sym some))
 
-drop_nil : (n : ℕ) → drop {A = Row} n [] ≡ []
-drop_nil n = drop_all n [] (omega arith)
-
 no_nodes : (n : ℕ) → [] ≡ only_nodes (nodes_from n None [])
 unfolding nodes_from
 no_nodes n = refl
@@ -203,5 +201,5 @@ pub begun : (c : Counts) (head : Head) (name : List ℕ) (line : ℕ) → IsCurr
 begun c head name line = by (has_tree head) refl
   where
     by : (t : Bool) → has_tree head ≡ t → IsCurrent c (record { head = head; name = name; line = line; rows = [] }) (new_current head line (line_count c head))
-    by true e = record { head = refl; line = refl; left = omega arith; nodes = rw (e, drop_nil (pair_count head)) (no_nodes c.n_var); pending = rw (e, drop_nil (pair_count head)) no_pending }
+    by true e = record { head = refl; line = refl; left = omega arith; nodes = rw (e, drop_none (pair_count head)) (no_nodes c.n_var); pending = rw (e, drop_none (pair_count head)) no_pending }
     by false e = record { head = refl; line = refl; left = omega arith; nodes = rw e (no_nodes c.n_var); pending = rw e no_pending }

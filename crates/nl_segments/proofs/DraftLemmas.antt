@@ -25,7 +25,7 @@ complete_counts d more p e = by (is_complete d.counts p) refl
     by true t = rw t e
     by false t = rw t refl
 
-piece_counts : (d : Draft) (p : Piece) (h : Head) → (said_by d p h).counts ≡ d.counts
+pub piece_counts : (d : Draft) (p : Piece) (h : Head) → (said_by d p h).counts ≡ d.counts
 piece_counts d p (Body i) = complete_counts d _ p refl
 piece_counts d p (Objective k m) = complete_counts d _ p refl
 piece_counts d p (Definition i j u) = complete_counts d _ p refl

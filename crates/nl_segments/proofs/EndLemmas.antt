@@ -156,7 +156,7 @@ some_there : (o : Option Objective) → is_some o ≡ true → IsSome o
 some_there None e = absurd cc
 some_there (Some x) e = refl
 
-all_given : (os : List (Option Objective)) → list_all is_some os ≡ true → All IsSome os
+pub all_given : (os : List (Option Objective)) → list_all is_some os ≡ true → All IsSome os
 all_given os e k d lt = by (is_some (get_or os k d)) refl
   where
     by : (t : Bool) → is_some (get_or os k d) ≡ t → IsSome (get_or os k d)
@@ -169,7 +169,7 @@ parts_of b e =
     four (for_reason ShortSegment) (for_reason Missing) (for_reason NonzeroCount) (for_reason BadColumnCount)
     (is_nothing (body_awaits b.current)) (is_short b.draft) (term_count b.draft.terms == b.draft.counts.nzc) (are_sums b.uses 0 0 b.columns) e
 
-short_parts : (d : Draft) → is_short d ≡ false → (list_all is_some d.objectives ≡ true) × (nat_lt (length d.sides) d.counts.n_con ≡ false) × (nat_lt (length d.bounds) d.counts.n_var ≡ false)
+pub short_parts : (d : Draft) → is_short d ≡ false → (list_all is_some d.objectives ≡ true) × (nat_lt (length d.sides) d.counts.n_con ≡ false) × (nat_lt (length d.bounds) d.counts.n_var ≡ false)
 short_parts d e = three (list_all is_some d.objectives) (nat_lt (length d.sides) d.counts.n_con) (nat_lt (length d.bounds) d.counts.n_var) e
 
 pub is_ready : (b : Body) → IsDraft b.draft → first_reason (body_end_tests b) ≡ None → IsReady b.draft

@@ -17,6 +17,7 @@ use Rattle.nl_segments.specs.Tests.{for_reason}
 use Rattle.nl_segments.specs.Held.{Body, Progress, IsHeld, IsHeaderOf, only_header, HoldsBy, HoldsStanding, TakesRow, Finishes}
 use Rattle.nl_segments.specs.Steps.{after, after_header_row}
 use Rattle.nl_segments.specs.Taking.{TakesAnyRow, TakesHeaderRow}
+use Rattle.nl_segments.proofs.PieceLemmas.{some_are}
 use Rattle.nl_segments.proofs.StandingLemmas.{standing-more}
 
 -- ---- the header
@@ -58,9 +59,6 @@ row_in_body t old new row (Err (Fault f)) takes = λ s h. rw (in_body s old h) (
 row_in_body t old new row (Err Memory) takes = tt
 
 -- ---- a line
-
-some_are : (n : ℕ) → (suc n == 0) ≡ false
-some_are n = grind arith
 
 row_begins : (words : List (List ℕ)) → not (length (take 12 words) == 0) ≡ not (length words == 0)
 row_begins [] = refl

@@ -15,26 +15,20 @@ use Rattle.nl_segments.specs.Rows.{Row}
 use Rattle.nl_segments.specs.Saying.{if_complete, said_by, draft_of}
 use Rattle.nl_segments.specs.Tests.{node_total, pair_total, suffix_count, all_column_counts, column_counts, is_suffix}
 use Rattle.nl_segments.specs.HeadSteps.{begun_draft, begun_count}
-use Rattle.nl_segments.proofs.PieceLemmas.{draft-append}
+use Rattle.nl_segments.proofs.PieceLemmas.{draft-append, drop_none, some_are, take_none}
 use Rattle.nl_segments.proofs.TotalLemmas.{nodes-append, pairs-append, pairs-other}
 
 abbrev pub new_piece : Head → List ℕ → ℕ → Piece
 new_piece head name line = record { head = head; name = name; line = line; rows = [] }
 
-take_nil : (n : ℕ) → take {A = Row} n [] ≡ []
-take_nil n = take_all n [] (omega arith)
-
-drop_nil : (n : ℕ) → drop {A = Row} n [] ≡ []
-drop_nil n = drop_all n [] (omega arith)
-
 pub no_pairs : (head : Head) (name : List ℕ) (line : ℕ) → piece_pairs (new_piece head name line) ≡ []
-no_pairs head name line = rw (take_nil (pair_count head)) refl
+no_pairs head name line = rw (take_none (pair_count head)) refl
 
 no_rows : (head : Head) (name : List ℕ) (line : ℕ) → tree_rows (new_piece head name line) ≡ []
 no_rows head name line = by (has_tree head) refl
   where
     by : (t : Bool) → has_tree head ≡ t → tree_rows (new_piece head name line) ≡ []
-    by true e = rw e (drop_nil (pair_count head))
+    by true e = rw e (drop_none (pair_count head))
     by false e = rw e refl
 
 pub no_nodes : (c : Counts) (head : Head) (name : List ℕ) (line : ℕ) → piece_nodes c (new_piece head name line) ≡ []
@@ -47,7 +41,7 @@ no_pending head name line = ap (pending_from None) (no_rows head name line)
 
 -- ---- whether it is complete
 
-some_line : (head : Head) → is_nothing (line_kind head) ≡ false
+pub some_line : (head : Head) → is_nothing (line_kind head) ≡ false
 some_line (Body i) = refl
 some_line (Objective k m) = refl
 some_line (Definition i j u) = refl
@@ -75,13 +69,6 @@ whole_at_once c head name line = by (nat_lt 0 (line_count c head)) (has_tree hea
 by_complete : (d more : Draft) (p : Piece) (b : Bool) → is_complete d.counts p ≡ b → if_complete d p more ≡ (if b then more else d)
 by_complete d more p b e = rw e refl
 
-not_none : (n : ℕ) → (suc n == 0) ≡ false
-not_none n = by (suc n == 0) refl
-  where
-    by : (t : Bool) → (suc n == 0) ≡ t → (suc n == 0) ≡ false
-    by true e = absurd (let wrong = eqb-true (suc n) 0 e in omega (arith, wrong))
-    by false e = e
-
 some_left : (n : ℕ) → not (nat_lt 0 (suc n)) ≡ false
 some_left n = ap not (lt-ltb 0 (suc n) (omega arith))
 
@@ -103,7 +90,7 @@ said_begun d (Slopes k n) name line =
 said_begun d (Suffix k zero) name line = by_complete d _ (new_piece (Suffix k zero) name line) true (whole_at_once d.counts (Suffix k zero) name line)
 said_begun d (Suffix k (suc n)) name line =
     by_complete d _ (new_piece (Suffix k (suc n)) name line) false (whole_at_once d.counts (Suffix k (suc n)) name line ∙ some_left n)
-    ∙ ap (λ b. if b then record d { suffixes = d.suffixes ++ record { kind = k; name = name; values = [] } ∷ [] } else d) (sym (not_none n))
+    ∙ ap (λ b. if b then record d { suffixes = d.suffixes ++ record { kind = k; name = name; values = [] } ∷ [] } else d) (sym (some_are n))
 
 pub draft_begun : (o : List ℤ) (c : Counts) (pieces : List Piece) (head : Head) (name : List ℕ) (line : ℕ) → draft_of o c (pieces ++ new_piece head name line ∷ []) ≡ begun_draft (draft_of o c pieces) head name
 draft_begun o c pieces head name line = draft-append o c pieces (new_piece head name line) ∙ said_begun (draft_of o c pieces) head name line
@@ -121,7 +108,7 @@ terms_begun d (ColumnCounts n) name = refl
 terms_begun d (Terms i n) name = refl
 terms_begun d (Slopes k n) name = refl
 terms_begun d (Suffix k zero) name = refl
-terms_begun d (Suffix k (suc n)) name = ap (λ b. (if b then record d { suffixes = d.suffixes ++ record { kind = k; name = name; values = [] } ∷ [] } else d).terms) (not_none n)
+terms_begun d (Suffix k (suc n)) name = ap (λ b. (if b then record d { suffixes = d.suffixes ++ record { kind = k; name = name; values = [] } ∷ [] } else d).terms) (some_are n)
 
 -- ---- how much there is
 

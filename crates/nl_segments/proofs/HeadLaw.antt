@@ -6,6 +6,7 @@ use Rattle.std.proofs.lemmas.List.{length-replicate, take_all}
 use Rattle.std.proofs.lemmas.List.Elements.{All-push}
 use Rattle.std.proofs.lemmas.List.Quantifiers.{all_pairs_push}
 use Rattle.text_base.specs.Judged.{first_reason}
+use Rattle.text_base.proofs.FirstReasons.{same_reasons}
 use Rattle.nl_header.specs.Head.{options_in}
 use Rattle.nl_model.specs.declared.counts.Counts.{Counts}
 use Rattle.nl_model.specs.Draft.{Draft}
@@ -26,33 +27,40 @@ use Rattle.nl_segments.specs.Steps.{after_body_row}
 use Rattle.nl_segments.specs.Tests.{Tests, for_reason, is_suffix, is_linear, is_same_piece, is_repeated, index_limit, has_index, head_form_tests, formed_head_tests, head_tests, row_tests}
 use Rattle.nl_segments.specs.Held.{Body, IsSoundPiece, AreSound, IsOpen, IsLast, IsMarked, IsNodeLeft, IsHeld, HoldsSome, IsRowOf, HasRow, words_refusal, use_count}
 use Rattle.nl_segments.specs.HeadSteps.{has_come, has_come_suffix, held_head_tests, formed_tests, held_refusal, begun_current, begun_name, begun_count, begun_draft, with_begun_head}
-use Rattle.nl_segments.proofs.PieceLemmas.{split, last-append, lines-append}
+use Rattle.nl_segments.proofs.PieceLemmas.{split, last-append, lines-append, take_none}
 use Rattle.nl_segments.proofs.DraftLemmas.{draft_counts}
-use Rattle.nl_segments.proofs.PlaceLemmas.{place_begun}
+use Rattle.nl_segments.proofs.PlaceLemmas.{owner_there, place_begun}
+use Rattle.nl_segments.specs.Taking.{body_awaits}
 use Rattle.nl_segments.proofs.CurrentLemmas.{begun}
+use Rattle.nl_segments.proofs.EndLemmas.{last_awaits}
 use Rattle.nl_segments.proofs.HeadSuffixes.{suffixes_come}
-use Rattle.nl_segments.proofs.HeadSeen.{seen_begun, any_name, within_marks, owner_there}
+use Rattle.nl_segments.proofs.HeadSeen.{seen_begun, any_name, within_marks}
 use Rattle.nl_segments.proofs.HeadBegun.{new_piece, no_pairs, whole_at_once, draft_begun, terms_begun, nodes_begun, pairs_begun, count_begun, columns_begun}
 use Rattle.nl_segments.proofs.HeadRefusal.{IsNew, is_new}
 
 -- ---- no piece is open
 
-no_piece : (pieces : List Piece) → last_piece pieces ≡ None → pieces ≡ []
+pub no_piece : (pieces : List Piece) → last_piece pieces ≡ None → pieces ≡ []
 unfolding last_piece
 no_piece [] e = refl
 no_piece (p ∷ []) e = absurd cc
 no_piece (p ∷ q ∷ pieces) e = absurd (let wrong = ap (λ ps. length ps) (no_piece (q ∷ pieces) e) in omega (arith, wrong))
 
-pub all_complete : (s : Standing) (b : Body) → IsHeld s b → b.current ≡ None → All (λ q. is_complete (counts_of s) q ≡ true) s.pieces
-all_complete s b h closed = by (last_piece s.pieces) refl
+-- nothing is awaited: each piece is complete
+pub all_complete : (c : Counts) (pieces : List Piece) → AreSound c pieces → is_nothing (awaited_of c pieces) ≡ true → All (λ q. is_complete c q ≡ true) pieces
+all_complete c pieces h e = by (last_piece pieces) refl
   where
-    by : (o : Option Piece) → last_piece s.pieces ≡ o → All (λ q. is_complete (counts_of s) q ≡ true) s.pieces
-    by None e = subst (λ ps. All (λ q. is_complete (counts_of s) q ≡ true) ps) (sym (no_piece s.pieces e)) (λ k d lt. absurd (omega (arith, lt)))
-    by (Some p) e =
-        let parts = split s.pieces p e in
-        let whole : is_complete (counts_of s) p ≡ true = subst (λ o. IsLast (counts_of s) b.draft b.name o None) e (subst (λ o. IsLast (counts_of s) b.draft b.name (last_piece s.pieces) o) closed h.last) in
-        subst (λ ps. All (λ q. is_complete (counts_of s) q ≡ true) ps) (sym parts.whole)
-        (All-push (λ q. is_complete (counts_of s) q ≡ true) parts.before p (h.sound.complete parts.before p parts.whole) whole)
+    by : (o : Option Piece) → last_piece pieces ≡ o → All (λ q. is_complete c q ≡ true) pieces
+    by None q = subst (All (λ q. is_complete c q ≡ true)) (sym (no_piece pieces q)) (λ k d lt. absurd (omega (arith, lt)))
+    by (Some p) q =
+        let parts = split pieces p q in
+        subst (All (λ q. is_complete c q ≡ true)) (sym parts.whole)
+        (All-push (λ q. is_complete c q ≡ true) parts.before p (h.complete parts.before p parts.whole) (rw q at e))
+
+closed_complete : (s : Standing) (b : Body) → IsHeld s b → b.current ≡ None → All (λ q. is_complete (counts_of s) q ≡ true) s.pieces
+closed_complete s b h closed =
+    all_complete (counts_of s) s.pieces h.sound
+    (last_awaits (counts_of s) b.draft b.name s.pieces (last_piece s.pieces) b.current refl h.last ∙ ap (λ o. is_nothing (body_awaits o)) closed)
 
 -- what came is what is repeated
 pub come_repeated : (s : Standing) (b : Body) (head : Head) (name : List ℕ) → IsHeld s b → b.current ≡ None → is_in_range (counts_of s) head ≡ true
@@ -70,7 +78,7 @@ come_repeated s b head name h closed range = by (is_suffix head) refl
     suffix (ColumnCounts n) e = absurd cc
     suffix (Terms i n) e = absurd cc
     suffix (Slopes k n) e = absurd cc
-    suffix (Suffix kind n) e = ap (λ (d : Draft). has_suffix d.suffixes kind name) h.draft ∙ suffixes_come (options_in s.header) (counts_of s) kind n name s.pieces (all_complete s b h closed)
+    suffix (Suffix kind n) e = ap (λ (d : Draft). has_suffix d.suffixes kind name) h.draft ∙ suffixes_come (options_in s.header) (counts_of s) kind n name s.pieces (closed_complete s b h closed)
 
     by : (t : Bool) → is_suffix head ≡ t → has_come b.seen b.draft.suffixes head name ≡ is_repeated s.pieces head name
     by true e = suffix head e
@@ -91,14 +99,6 @@ same_formed : (s : Standing) (b : Body) (o : Option Head) (name : List ℕ) → 
     → first_reason (formed_head_tests (counts_of s) s.pieces name o) ≡ first_reason (formed_tests (counts_of s) b.seen b.draft.suffixes b.suffixes name o)
 same_formed s b None name h closed = refl
 same_formed s b (Some head) name h closed = same_tests s b head name h closed
-
-same_after : (xs ys zs : Tests) → first_reason ys ≡ first_reason zs → first_reason (xs ++ ys) ≡ first_reason (xs ++ zs)
-same_after [] ys zs e = e
-same_after (x ∷ xs) ys zs e = by x.0 refl (same_after xs ys zs e)
-  where
-    by : (t : Bool) → x.0 ≡ t → first_reason (xs ++ ys) ≡ first_reason (xs ++ zs) → first_reason ((x ∷ xs) ++ ys) ≡ first_reason ((x ∷ xs) ++ zs)
-    by true s rest = rw s refl
-    by false s rest = rw s rest
 
 -- a piece is open where one is held
 awaits_by : (c : Counts) (pieces : List Piece) (d : Draft) (name : Option (List ℕ)) (l : Option Piece) (o : Option Current) → last_piece pieces ≡ l → IsLast c d name l o → not (is_nothing (awaited_of c pieces)) ≡ is_some o
@@ -122,9 +122,9 @@ same_refusal s b words h first =
         → first_reason ((is_some b.current, for_reason ShortSegment) ∷ (head_form_tests (counts_of s) words ++ formed_head_tests (counts_of s) s.pieces (name_in words) (head_of (counts_of s) words)))
         ≡ held_refusal (counts_of s) (is_some b.current) b.seen b.draft.suffixes b.suffixes words
     by None e =
-        rw e (same_after (head_form_tests (counts_of s) words) (formed_head_tests (counts_of s) s.pieces (name_in words) (head_of (counts_of s) words))
+        rw e (same_reasons (head_form_tests (counts_of s) words) (head_form_tests (counts_of s) words) (formed_head_tests (counts_of s) s.pieces (name_in words) (head_of (counts_of s) words))
         (formed_tests (counts_of s) b.seen b.draft.suffixes b.suffixes (name_in words) (head_of (counts_of s) words))
-        (same_formed s b (head_of (counts_of s) words) (name_in words) h e))
+        refl (λ none. same_formed s b (head_of (counts_of s) words) (name_in words) h e))
     by (Some cur) e = rw e refl
 
 -- ---- the pieces with a head more
@@ -156,19 +156,15 @@ sound_piece c head name line range =
       range = range;
       below = rw none (λ k d lt. absurd (omega (arith, lt)));
       once = λ t. rw none (λ i j d lt within. absurd (omega (arith, within)));
-      pairs = rw (none, no_taken head) refl;
+      pairs = rw (none, take_none (pair_count head)) refl;
     }
-  where
-    no_taken : (head : Head) → take {A = Row} (pair_count head) [] ≡ []
-    no_taken head = take_all (pair_count head) [] (omega arith)
 
-pub sound_begun : (s : Standing) (b : Body) (head : Head) (name : List ℕ) (line : ℕ) → IsHeld s b → b.current ≡ None → is_in_range (counts_of s) head ≡ true → is_repeated s.pieces head name ≡ false
-    → AreSound (counts_of s) (s.pieces ++ new_piece head name line ∷ [])
-sound_begun s b head name line h closed range fresh = record {
-  each = All-push (IsSoundPiece (counts_of s)) s.pieces (new_piece head name line) h.sound.each (sound_piece (counts_of s) head name line range);
-  apart = all_pairs_push (λ p q. is_same_piece q.head q.name p ≡ false) s.pieces (new_piece head name line) h.sound.apart (none_of (is_same_piece head name) s.pieces fresh);
-  complete = λ before p e. subst (λ ps. All (λ q. is_complete (counts_of s) q ≡ true) ps)
-      (sym (front-append s.pieces (new_piece head name line)) ∙ ap front e ∙ front-append before p) (all_complete s b h closed);
+pub sound_begun : (c : Counts) (pieces : List Piece) (head : Head) (name : List ℕ) (line : ℕ) → AreSound c pieces → All (λ q. is_complete c q ≡ true) pieces → is_in_range c head ≡ true → is_repeated pieces head name ≡ false
+    → AreSound c (pieces ++ new_piece head name line ∷ [])
+sound_begun c pieces head name line h whole range fresh = record {
+  each = All-push (IsSoundPiece c) pieces (new_piece head name line) h.each (sound_piece c head name line range);
+  apart = all_pairs_push (λ p q. is_same_piece q.head q.name p ≡ false) pieces (new_piece head name line) h.apart (none_of (is_same_piece head name) pieces fresh);
+  complete = λ before p e. subst (λ ps. All (λ q. is_complete c q ≡ true) ps) (sym (front-append pieces (new_piece head name line)) ∙ ap front e ∙ front-append before p) whole;
 }
 
 -- ---- the last piece
@@ -222,7 +218,7 @@ held_begun s b head name line h closed range fresh =
     let draft : begun_draft b.draft head name ≡ said (with_new s head name line) = ap (λ d. begun_draft d head name) h.draft ∙ sym (draft_begun (options_in s.header) (counts_of s) s.pieces head name line) in
     record {
       body = h.body;
-      sound = sound_begun s b head name line h closed range fresh;
+      sound = sound_begun (counts_of s) s.pieces head name line h.sound (closed_complete s b h closed) range fresh;
       draft = draft;
       counts = ap (λ (d : Draft). d.counts) draft ∙ draft_counts (options_in s.header) (counts_of s) (s.pieces ++ new_piece head name line ∷ []);
       last = subst (λ c. IsLast (counts_of s) (begun_draft b.draft head name) (begun_name head name) (last_piece (s.pieces ++ new_piece head name line ∷ [])) (begun_current c head line)) (sym h.counts)

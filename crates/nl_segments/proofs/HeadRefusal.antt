@@ -2,7 +2,9 @@
 use Rattle.std.proofs.Common.{◌≡◌, ◌∙◌, ℕ, ◌<◌, Bool, true, false, ◌&&◌, List, [], ◌∷◌, ◌++◌, refl, sym, ap, arith, Some, None}
 use Rattle.std.specs.Prelude.{not, nat_le, codes}
 use Rattle.std.specs.Str.{bytes_eq}
+use Rattle.std.proofs.lemmas.Bool.{not-false}
 use Rattle.text_base.specs.Judged.{first_reason}
+use Rattle.text_base.proofs.FirstReasons.{none_head, none_first, reason_before, reason_after}
 use Rattle.nl_model.specs.declared.counts.Counts.{Counts}
 use Rattle.nl_model.specs.File.{Suffix}
 use Rattle.nl_segments.specs.declared.fault.NlReason.TheVariants.{TooLarge, RepeatedSegment, IndexOut, ShortSegment, SosSuffix}
@@ -12,38 +14,6 @@ use Rattle.nl_segments.specs.Heads.{head_of, name_in, is_in_range}
 use Rattle.nl_segments.specs.HeadSteps.{has_come, held_head_tests, formed_tests, held_refusal}
 use Rattle.nl_segments.specs.SeenSegments.{Segments}
 use Rattle.nl_segments.specs.Tests.{Tests, for_reason, is_suffix, head_form_tests}
-
--- ---- reasons
-
-pub reason_before : (xs ys : Tests) (r : Refusal) → first_reason xs ≡ Some r → first_reason (xs ++ ys) ≡ Some r
-reason_before [] ys r e = absurd cc
-reason_before (x ∷ xs) ys r e = by x.0 refl (reason_before xs ys r)
-  where
-    by : (t : Bool) → x.0 ≡ t → (first_reason xs ≡ Some r → first_reason (xs ++ ys) ≡ Some r) → first_reason ((x ∷ xs) ++ ys) ≡ Some r
-    by true s rest = rw s (rw s at e)
-    by false s rest = rw s (rest (rw s at e))
-
-pub reason_after : (xs ys : Tests) → first_reason xs ≡ None → first_reason (xs ++ ys) ≡ first_reason ys
-reason_after [] ys e = refl
-reason_after (x ∷ xs) ys e = by x.0 refl (reason_after xs ys)
-  where
-    by : (t : Bool) → x.0 ≡ t → (first_reason xs ≡ None → first_reason (xs ++ ys) ≡ first_reason ys) → first_reason ((x ∷ xs) ++ ys) ≡ first_reason ys
-    by true s rest = absurd (let wrong : Some x.1 ≡ None = rw s at e in cc)
-    by false s rest = rw s (rest (rw s at e))
-
--- no reason before, where there is none
-pub none_first : (xs ys : Tests) → first_reason (xs ++ ys) ≡ None → first_reason xs ≡ None
-none_first [] ys e = refl
-none_first (x ∷ xs) ys e = by x.0 refl (none_first xs ys)
-  where
-    by : (t : Bool) → x.0 ≡ t → (first_reason (xs ++ ys) ≡ None → first_reason xs ≡ None) → first_reason (x ∷ xs) ≡ None
-    by true s rest = absurd (let wrong : Some x.1 ≡ None = rw s at e in cc)
-    by false s rest = rw s (rest (rw s at e))
-
--- the first test of those that give no reason
-none_head : (b : Bool) (r : Refusal) (xs : Tests) → first_reason ((b, r) ∷ xs) ≡ None → (b ≡ false) × (first_reason xs ≡ None)
-none_head true r xs e = absurd cc
-none_head false r xs e = (refl, e)
 
 -- no test of a head holds
 all_false : (a b d f : Bool) → first_reason ((a, for_reason IndexOut) ∷ (b, for_reason SosSuffix) ∷ (d, for_reason RepeatedSegment) ∷ (f, for_reason TooLarge) ∷ []) ≡ None
@@ -73,10 +43,6 @@ pub record IsNew (c : Counts) (is_open : Bool) (seen : Segments) (suffixes : Lis
   pub fresh : has_come seen suffixes head name ≡ false
   pub few : is_suffix head ≡ true → count < 1024
 
-not_false : (b : Bool) → not b ≡ false → b ≡ true
-not_false true e = refl
-not_false false e = absurd cc
-
 below : (b : Bool) (count : ℕ) → (b && nat_le 1024 count) ≡ false → b ≡ true → count < 1024
 below b count e t = let f : nat_le 1024 count ≡ false = rw t at e in by (nat_le 1024 count) refl f
   where
@@ -93,7 +59,7 @@ is_new c is_open seen suffixes count words head is e =
     let none = all_false (not (is_in_range c head)) (is_suffix head && bytes_eq (name_in words) (codes "sosno")) (has_come seen suffixes head (name_in words)) (is_suffix head && nat_le 1024 count) tests in
     record {
       closed = first.0;
-      range = not_false (is_in_range c head) none.0;
+      range = not-false (is_in_range c head) none.0;
       fresh = none.1;
       few = below (is_suffix head) count none.2;
     }

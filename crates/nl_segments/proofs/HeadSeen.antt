@@ -10,7 +10,7 @@ use Rattle.nl_model.specs.declared.counts.Counts.{Counts}
 use Rattle.nl_segments.specs.declared.head.Head.{Head}
 use Rattle.nl_segments.specs.declared.head.Head.TheVariants.{Body, Objective, Definition, DualGuesses, PrimalGuesses, Sides, Bounds, ColumnCounts, Terms, Slopes, Suffix}
 use Rattle.nl_segments.specs.Heads.{head_of, name_in, is_in_range, numbered_head, counted_head, bare_head, objective_head, definition_head, column_head, suffix_head, with_sense, letter_of, own_number, number_at}
-use Rattle.nl_segments.specs.Rows.{word_at}
+use Rattle.text_base.specs.Words.{word_at}
 use Rattle.nl_segments.specs.Pieces.{Piece}
 use Rattle.nl_segments.specs.PlaceSteps.{HasOwner}
 use Rattle.nl_segments.specs.Saying.{place_lines}
@@ -103,22 +103,6 @@ seen_begun c s pieces g name line seen range = each
 pub any_name : (head : Head) (name : List ℕ) (pieces : List Piece) → is_suffix head ≡ false → list_any (is_same_piece head []) pieces ≡ list_any (is_same_piece head name) pieces
 any_name head name [] f = refl
 any_name head name (p ∷ pieces) f = rw f (ap (λ b. (is_same_head head p.head && true) || b) (any_name head name pieces f))
-
--- ---- owners
-
-pub owner_there : (c : Counts) (pieces : List Piece) (h : Head) → is_in_range c h ≡ true → HasOwner (place_lines c pieces) h
-unfolding is_in_range
-owner_there c pieces (Body i) e = rw (place_counts c pieces).0 (ltb-true i c.n_con e)
-owner_there c pieces (Objective k m) e = rw (place_counts c pieces).1 (ltb-true k c.n_obj e)
-owner_there c pieces (Definition i j u) e = tt
-owner_there c pieces (DualGuesses n) e = tt
-owner_there c pieces (PrimalGuesses n) e = tt
-owner_there c pieces Sides e = tt
-owner_there c pieces Bounds e = tt
-owner_there c pieces (ColumnCounts n) e = tt
-owner_there c pieces (Terms i n) e = rw (place_counts c pieces).0 (ltb-true i c.n_con e)
-owner_there c pieces (Slopes k n) e = rw (place_counts c pieces).1 (ltb-true k c.n_obj e)
-owner_there c pieces (Suffix k n) e = tt
 
 -- ---- names
 

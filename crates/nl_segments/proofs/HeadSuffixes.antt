@@ -14,6 +14,7 @@ use Rattle.nl_segments.specs.declared.head.Head.TheVariants.{Body, Objective, De
 use Rattle.nl_segments.specs.Pieces.{Piece, is_complete}
 use Rattle.nl_segments.specs.Tests.{is_same_head, is_same_piece}
 use Rattle.nl_segments.specs.Saying.{said_by, with_piece, draft_of}
+use Rattle.nl_segments.proofs.DraftLemmas.{piece_counts}
 use Rattle.nl_segments.proofs.FreshLaw.{either}
 
 or_none : (m : Bool) → m ≡ (m || false)
@@ -30,19 +31,6 @@ swapped i k = by (i == k) refl
         other : (t : Bool) → (k == i) ≡ t → (k == i) ≡ false
         other false s = s
         other true s = absurd (eqb-false i k e (sym (eqb-true k i s)))
-
-counts_kept : (d : Draft) (p : Piece) (h : Head) → (said_by d p h).counts ≡ d.counts
-counts_kept d p (Body i) = either (λ x. x.counts ≡ d.counts) d _ p refl refl
-counts_kept d p (Objective k m) = either (λ x. x.counts ≡ d.counts) d _ p refl refl
-counts_kept d p (Definition i j u) = either (λ x. x.counts ≡ d.counts) d _ p refl refl
-counts_kept d p (DualGuesses n) = refl
-counts_kept d p (PrimalGuesses n) = refl
-counts_kept d p Sides = refl
-counts_kept d p Bounds = refl
-counts_kept d p (ColumnCounts n) = refl
-counts_kept d p (Terms i n) = refl
-counts_kept d p (Slopes k n) = refl
-counts_kept d p (Suffix k n) = either (λ x. x.counts ≡ d.counts) d _ p refl refl
 
 -- with a piece more that is complete
 one_more : (kind n : ℕ) (name : List ℕ) (d : Draft) (p : Piece) (h : Head) → is_complete d.counts p ≡ true
@@ -66,7 +54,7 @@ fold_suffixes : (c : Counts) (kind n : ℕ) (name : List ℕ) (pieces : List Pie
 fold_suffixes c kind n name [] d same all = or_none (has_suffix d.suffixes kind name)
 fold_suffixes c kind n name (p ∷ pieces) d same all =
     let first : is_complete d.counts p ≡ true = ap (λ k. is_complete k p) same ∙ all 0 p (omega arith) in
-    fold_suffixes c kind n name pieces (with_piece d p) (counts_kept d p p.head ∙ same) (λ k x lt. all (suc k) x (omega (arith, lt)))
+    fold_suffixes c kind n name pieces (with_piece d p) (piece_counts d p p.head ∙ same) (λ k x lt. all (suc k) x (omega (arith, lt)))
     ∙ ap (λ b. b || list_any (is_same_piece (Suffix kind n) name) pieces) (one_more kind n name d p p.head first)
     ∙ or_assoc (has_suffix d.suffixes kind name) (is_same_piece (Suffix kind n) name p) (list_any (is_same_piece (Suffix kind n) name) pieces)
 

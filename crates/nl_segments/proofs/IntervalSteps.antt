@@ -13,8 +13,9 @@ use Rattle.nl_segments.specs.declared.awaited.Awaited.TheVariants.{ColumnCount, 
 use Rattle.nl_segments.specs.declared.head.Head.{Head}
 use Rattle.nl_segments.specs.declared.head.Head.TheVariants.{Body as BodyHead, Objective, Definition, DualGuesses, PrimalGuesses, Sides, Bounds, ColumnCounts, Terms, Slopes, Suffix}
 use Rattle.nl_segments.specs.declared.fault.Refusal.{Refusal}
-use Rattle.nl_segments.specs.Numbers.{whole_of}
-use Rattle.nl_segments.specs.Rows.{Row, row_words, word_at}
+use Rattle.exact_numbers.specs.Numbers.{whole_of}
+use Rattle.nl_segments.specs.Rows.{Row, row_words}
+use Rattle.text_base.specs.Words.{word_at}
 use Rattle.nl_segments.specs.Heads.{is_head}
 use Rattle.nl_segments.specs.Pieces.{Piece, pair_count, line_count, line_kind, interval_in, piece_counts, piece_intervals}
 use Rattle.nl_segments.specs.Tests.{all_column_counts, column_counts, column_tests, holds_once, interval_form_tests, interval_tests, is_binary, is_sides}

@@ -1,5 +1,4 @@
 pub mod NumberLemmas
-pub mod WholeLemmas
 pub mod StandingLemmas
 pub mod StartLemmas
 pub mod StopLemmas
@@ -13,7 +12,6 @@ pub mod Examples
 pub mod PieceLemmas
 pub mod OpcodeLemmas
 pub mod CurrentLemmas
-pub mod MarkLemmas
 pub mod DraftLemmas
 pub mod PlaceLemmas
 pub mod SeenLemmas
@@ -38,3 +36,6 @@ pub mod HeadBegun
 pub mod HeadRefusal
 pub mod HeadSeen
 pub mod HeadLaw
+pub mod CleanRows
+pub mod CleanTexts
+pub mod TreePieces

@@ -1,8 +1,9 @@
 -- Rows of expressions: their tests, and what is known of their nodes.
-use Rattle.std.proofs.Common.{◌≡◌, ℕ, ◌+◌, ◌<◌, ◌≤◌, ◌^◌, ◌==◌, Bool, true, false, not, ◌||◌, List, [], ◌∷◌, ◌++◌, refl, ap, subst, arith, nat_lt, nat_le, Option, Some, None}
+use Rattle.std.proofs.Common.{◌≡◌, ◌∙◌, ℕ, ◌+◌, ◌<◌, ◌≤◌, ◌^◌, ◌==◌, Bool, true, false, not, ◌||◌, List, [], ◌∷◌, ◌++◌, refl, sym, ap, subst, arith, nat_lt, nat_le, Option, Some, None}
 use Rattle.std.specs.Prelude.{if◌then◌else◌, option_map, option_and_then, unwrap_or, codes}
-use Rattle.std.proofs.lemmas.Bool.{le-leb, leb-true, ltb-true, ltb-false, not-false}
+use Rattle.std.proofs.lemmas.Bool.{eqb-true, le-leb, leb-true, ltb-true, ltb-false, not-false}
 use Rattle.text_base.specs.Judged.{first_reason}
+use Rattle.text_base.proofs.FirstReasons.{none_head}
 use Rattle.code_tables.specs.Opcodes.{operands_of}
 use Rattle.code_tables.specs.declared.class.Operands.{Operands}
 use Rattle.code_tables.specs.declared.class.Operands.TheVariants.{One, Two, Counted as OnNextLine}
@@ -13,40 +14,18 @@ use Rattle.nl_model.specs.declared.node.Node.TheVariants.{Num}
 use Rattle.nl_model.specs.Draft.{Draft}
 use Rattle.nl_model.specs.File.{Definition}
 use Rattle.nl_model.specs.HeaderRules.{defined_count}
+use Rattle.nl_model.specs.Nodes.{IsNode}
 use Rattle.nl_model.specs.Rules.{is_defined}
 use Rattle.nl_segments.specs.declared.fault.NlReason.TheVariants.{TooLarge, IndexOut, Undefined, BadLine, RefusedLeaf}
 use Rattle.nl_segments.specs.declared.fault.Refusal.{Refusal}
 use Rattle.nl_segments.specs.Heads.{is_among, letter_of, own_number}
 use Rattle.nl_segments.specs.Held.{IsNodeKnown}
-use Rattle.nl_segments.specs.Nodes.{fixed_node, variable_node, node_in, leaf_text}
-use Rattle.nl_segments.specs.Numbers.{dec_of_text, dec_of_signed}
+use Rattle.nl_segments.specs.Nodes.{counted_opcode, fixed_node, variable_node, node_in, opcode_in, leaf_text, dec_of_signed}
+use Rattle.exact_numbers.specs.Numbers.{dec_of}
 use Rattle.nl_segments.specs.Tests.{Tests, for_reason, is_node_form, is_undefined, leaf_tests, node_form_tests, number_tests, opcode_tests, variable_tests}
+use Rattle.nl_segments.proofs.OpcodeLemmas.{one_fits, two_fit}
 
--- ---- the first of more tests
-
-if_some : (b : Bool) (x r : Refusal) (o w : Option Refusal) → (o ≡ Some r → w ≡ Some r) → (if b then Some x else o) ≡ Some r → (if b then Some x else w) ≡ Some r
-if_some true x r o w f e = e
-if_some false x r o w f e = f e
-
-if_none : (b : Bool) (x : Refusal) (o w z : Option Refusal) → (o ≡ None → w ≡ z) → (if b then Some x else o) ≡ None → (if b then Some x else w) ≡ z
-if_none true x o w z f e = absurd cc
-if_none false x o w z f e = f e
-
-pub first_some : (xs ys : Tests) (r : Refusal) → first_reason xs ≡ Some r → first_reason (xs ++ ys) ≡ Some r
-first_some [] ys r e = absurd cc
-first_some (t ∷ xs) ys r e = if_some t.0 t.1 r (first_reason xs) (first_reason (xs ++ ys)) (first_some xs ys r) e
-
-pub first_none : (xs ys : Tests) → first_reason xs ≡ None → first_reason (xs ++ ys) ≡ first_reason ys
-first_none [] ys e = refl
-first_none (t ∷ xs) ys e = if_none t.0 t.1 (first_reason xs) (first_reason (xs ++ ys)) (first_reason ys) (first_none xs ys) e
-
-pub first_fine : (xs ys : Tests) → first_reason (xs ++ ys) ≡ None → first_reason xs ≡ None
-first_fine [] ys e = refl
-first_fine (t ∷ xs) ys e = if_none t.0 t.1 (first_reason (xs ++ ys)) (first_reason xs) None (first_fine xs ys) e
-
-pub later_none : (b : Bool) (x : Refusal) (xs : Tests) → first_reason ((b, x) ∷ xs) ≡ None → first_reason xs ≡ None
-later_none true x xs e = absurd cc
-later_none false x xs e = e
+-- ---- the number of nodes
 
 pub too_large : (n : ℕ) → 2 ^ 22 ≤ n → first_reason ((nat_le (2 ^ 22) n, for_reason TooLarge) ∷ []) ≡ Some (for_reason TooLarge)
 too_large n le = rw (le-leb (2 ^ 22) n le) refl
@@ -96,7 +75,7 @@ variable_known c d (Some i) node e t =
 -- the node by what its letter is
 abbrev leaf : Counts → List (List ℕ) → Bool → Bool → Bool → Bool → Option Node
 leaf c words n s v o =
-    if n then option_map Num (dec_of_text (leaf_text words)) else
+    if n then option_map Num (dec_of (leaf_text words)) else
     if s then option_map Num (dec_of_signed (leaf_text words)) else
     if v then option_map (variable_node c.n_var) (own_number words) else
     if o then option_and_then (λ o. fixed_node o (operands_of o)) (own_number words) else None
@@ -107,9 +86,9 @@ leaf_known c d words node e t =
     by (letter_of words == 110) ((letter_of words == 115) || (letter_of words == 108)) (letter_of words == 118) (letter_of words == 111) e t
   where
     by : (n s v o : Bool) → leaf c words n s v o ≡ Some node
-        → first_reason (if n then number_tests (dec_of_text (leaf_text words)) else (if v then variable_tests c d (own_number words) else (if o then opcode_tests (own_number words) else number_tests (dec_of_signed (leaf_text words))))) ≡ None
+        → first_reason (if n then number_tests (dec_of (leaf_text words)) else (if v then variable_tests c d (own_number words) else (if o then opcode_tests (own_number words) else number_tests (dec_of_signed (leaf_text words))))) ≡ None
         → IsNodeKnown c.n_var d.definitions node
-    by true s v o e t = number_known c.n_var d.definitions (dec_of_text (leaf_text words)) node e
+    by true s v o e t = number_known c.n_var d.definitions (dec_of (leaf_text words)) node e
     by false true v o e t = number_known c.n_var d.definitions (dec_of_signed (leaf_text words)) node e
     by false false true o e t = variable_known c d (own_number words) node e t
     by false false false true e t = opcode_known c.n_var d.definitions (own_number words) node e
@@ -119,5 +98,63 @@ pub node_known : (c : Counts) (d : Draft) (words : List (List ℕ)) (node : Node
 unfolding node_form_tests
 node_known c d words node e t =
     leaf_known c d words node e
-    (later_none (not (is_node_form words)) (for_reason BadLine) (leaf_tests c d words)
-    (later_none (is_among (codes "fh") (letter_of words)) (for_reason RefusedLeaf) ((not (is_node_form words), for_reason BadLine) ∷ leaf_tests c d words) t))
+    (none_head (not (is_node_form words)) (for_reason BadLine) (leaf_tests c d words)
+    (none_head (is_among (codes "fh") (letter_of words)) (for_reason RefusedLeaf) ((not (is_node_form words), for_reason BadLine) ∷ leaf_tests c d words) t).1).1
+
+-- ---- rows are nodes
+
+number_formed : (o : Option Dec) (node : Node) → option_map Num o ≡ Some node → IsNode node
+number_formed None node e = absurd cc
+number_formed (Some d) node e = subst IsNode (ap (λ o. unwrap_or o node) e) tt
+
+variable_formed : (n : ℕ) (o : Option ℕ) (node : Node) → option_map (variable_node n) o ≡ Some node → IsNode node
+variable_formed n None node e = absurd cc
+variable_formed n (Some i) node e = subst IsNode (ap (λ o. unwrap_or o node) e) (by (nat_lt i n) refl)
+  where
+    by : (b : Bool) → nat_lt i n ≡ b → IsNode (variable_node n i)
+    by true q = rw q tt
+    by false q = rw q tt
+
+operation_formed : (o : ℕ) (k : Option Operands) (node : Node) → operands_of o ≡ k → fixed_node o k ≡ Some node → IsNode node
+operation_formed o None node is e = absurd cc
+operation_formed o (Some One) node is e = subst IsNode (ap (λ o. unwrap_or o node) e) (one_fits o One is refl)
+operation_formed o (Some Two) node is e = subst IsNode (ap (λ o. unwrap_or o node) e) (two_fit o Two is refl)
+operation_formed o (Some OnNextLine) node is e = absurd cc
+
+opcode_formed : (o : Option ℕ) (node : Node) → option_and_then (λ o. fixed_node o (operands_of o)) o ≡ Some node → IsNode node
+opcode_formed None node e = absurd cc
+opcode_formed (Some o) node e = operation_formed o (operands_of o) node refl e
+
+-- a node that a row alone is has as many operands as its class wants
+pub node_formed : (c : Counts) (words : List (List ℕ)) (node : Node) → node_in c.n_var words ≡ Some node → IsNode node
+unfolding node_in
+node_formed c words node e = by (letter_of words == 110) ((letter_of words == 115) || (letter_of words == 108)) (letter_of words == 118) (letter_of words == 111) e
+  where
+    by : (n s v o : Bool) → leaf c words n s v o ≡ Some node → IsNode node
+    by true s v o e = number_formed (dec_of (leaf_text words)) node e
+    by false true v o e = number_formed (dec_of_signed (leaf_text words)) node e
+    by false false true o e = variable_formed c.n_var (own_number words) node e
+    by false false false true e = opcode_formed (own_number words) node e
+    by false false false false e = absurd cc
+
+-- an opcode that awaits its number of operands
+pub record IsCounted (n : ℕ) (words : List (List ℕ)) (opcode : ℕ) : Type 0 where
+  pub operands : operands_of opcode ≡ Some OnNextLine
+  pub none : node_in n words ≡ None
+
+pub opcode_counted : (n : ℕ) (words : List (List ℕ)) (opcode : ℕ) → opcode_in words ≡ Some opcode → IsCounted n words opcode
+unfolding node_in opcode_in
+opcode_counted n words opcode e = by (letter_of words == 111) (own_number words) refl refl
+  where
+    with_operands : (m : ℕ) (k : Option Operands) → operands_of m ≡ k → letter_of words ≡ 111 → own_number words ≡ Some m → counted_opcode m k ≡ Some opcode → IsCounted n words opcode
+    with_operands m None q l w f = absurd cc
+    with_operands m (Some One) q l w f = absurd cc
+    with_operands m (Some Two) q l w f = absurd cc
+    with_operands m (Some OnNextLine) q l w f =
+        let same : m ≡ opcode = ap (λ o. unwrap_or o m) f in
+        record { operands = ap operands_of (sym same) ∙ q; none = rw (l, w, q) refl }
+
+    by : (b : Bool) (o : Option ℕ) → (letter_of words == 111) ≡ b → own_number words ≡ o → IsCounted n words opcode
+    by false o q w = absurd (let none : None ≡ Some opcode = rw q at e in cc)
+    by true None q w = absurd (let none : None ≡ Some opcode = rw (q, w) at e in cc)
+    by true (Some m) q w = with_operands m (operands_of m) refl (eqb-true (letter_of words) 111 q) w (rw (q, w) at e)

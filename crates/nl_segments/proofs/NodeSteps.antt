@@ -41,7 +41,7 @@ in_tree IntervalLine = false
 in_tree NodeLine = true
 in_tree OperandCount = true
 
-lines_before : (h : Head) → in_tree (line_kind h) ≡ false
+pub lines_before : (h : Head) → in_tree (line_kind h) ≡ false
 lines_before (BodyHead i) = refl
 lines_before (Objective k m) = refl
 lines_before (Definition i j u) = refl
@@ -86,7 +86,7 @@ tree_nodes c p row t = ap (λ rs. nodes_from c.n_var None rs) (late_tree p row t
 
 -- ---- the pieces
 
-sound_row : (c : Counts) (p : Piece) (row : Row) → IsInTree c p → IsSoundPiece c p → IsSoundPiece c (longer p row)
+pub sound_row : (c : Counts) (p : Piece) (row : Row) → IsInTree c p → IsSoundPiece c p → IsSoundPiece c (longer p row)
 sound_row c p row t h =
     let same = late_pairs p row t.early in
     record {

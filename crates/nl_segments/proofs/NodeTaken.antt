@@ -6,6 +6,7 @@ use Rattle.std.proofs.lemmas.Bool.{ltb-true}
 use Rattle.std.proofs.lemmas.List.{append-nil, length-map, length_push, map-append, take-append-le}
 use Rattle.std.proofs.lemmas.List.Elements.{All-push}
 use Rattle.text_base.specs.Judged.{first_reason}
+use Rattle.text_base.proofs.FirstReasons.{none_first}
 use Rattle.nl_header.specs.Head.{counts_in}
 use Rattle.nl_model.specs.declared.counts.Counts.{Counts}
 use Rattle.nl_model.specs.declared.node.Node.{Node}
@@ -16,9 +17,10 @@ use Rattle.nl_segments.specs.declared.head.Head.{Head}
 use Rattle.nl_segments.specs.declared.head.Head.TheVariants.{Body as BodyHead, Objective, Definition, DualGuesses, PrimalGuesses, Sides, Bounds, ColumnCounts, Terms, Slopes, Suffix}
 use Rattle.nl_segments.specs.declared.node_row.NodeRow.{NodeRow}
 use Rattle.nl_segments.specs.declared.node_row.NodeRow.TheVariants.{Whole, Counted}
-use Rattle.nl_segments.specs.Rows.{Row, row_words, word_at}
+use Rattle.nl_segments.specs.Rows.{Row, row_words}
+use Rattle.text_base.specs.Words.{word_at}
 use Rattle.nl_segments.specs.Heads.{is_head, is_in_range}
-use Rattle.nl_segments.specs.Numbers.{whole_of}
+use Rattle.exact_numbers.specs.Numbers.{whole_of}
 use Rattle.nl_segments.specs.Nodes.{Placed, Pending, only_lines, node_in, opcode_in}
 use Rattle.nl_segments.specs.NodeRows.{IsRow}
 use Rattle.nl_segments.specs.Pieces.{Piece, has_tree, pair_count, piece_nodes, piece_pending}
@@ -32,13 +34,13 @@ use Rattle.nl_segments.specs.TreeSteps.{IsFresh, IsSettled, row_count, with_row_
 use Rattle.nl_segments.specs.Held.{Body, IsHeld, IsNodeKnown, IsNodeLeft, IsRowOf, words_refusal}
 use Rattle.nl_segments.proofs.CurrentLemmas.{last_nodes, with_node, with_count}
 use Rattle.nl_segments.proofs.PieceLemmas.{longer, lines-append}
-use Rattle.nl_segments.proofs.PlaceLemmas.{place_counts, place_node, place_same}
+use Rattle.nl_segments.proofs.PlaceLemmas.{owner_there, place_node, place_same}
 use Rattle.nl_segments.proofs.TotalLemmas.{nodes-append}
 use Rattle.nl_segments.proofs.PairLines.{at, opened, judged_by, row_after, last_sound}
 use Rattle.nl_segments.proofs.TreeFresh.{fresh_tree}
 use Rattle.nl_segments.specs.declared.fault.NlReason.TheVariants.{TooLarge}
 use Rattle.nl_model.specs.Draft.{Draft}
-use Rattle.nl_segments.proofs.NodeLemmas.{first_fine, node_known}
+use Rattle.nl_segments.proofs.NodeLemmas.{node_known}
 use Rattle.nl_segments.proofs.NodeSteps.{no, in_tree, beyond, IsInTree, in_tree_of, tree_nodes, IsRowMore, IsTreeStep, row_held}
 
 -- ---- the last piece
@@ -77,23 +79,6 @@ pending_few s b cur q h e some = subst (λ o. IfSome o (λ q. b.nodes < 2 ^ 22))
 
 -- ---- places
 
-owner_by : (c : Counts) (l : PlaceLines) (h : Head) → length l.constraints ≡ c.n_con → length l.objectives ≡ c.n_obj → is_in_range c h ≡ true → HasOwner l h
-unfolding is_in_range
-owner_by c l (BodyHead i) x y e = subst (λ n. i < n) (sym x) (ltb-true i c.n_con e)
-owner_by c l (Objective k m) x y e = subst (λ n. k < n) (sym y) (ltb-true k c.n_obj e)
-owner_by c l (Definition i j u) x y e = tt
-owner_by c l (DualGuesses n) x y e = tt
-owner_by c l (PrimalGuesses n) x y e = tt
-owner_by c l Sides x y e = tt
-owner_by c l Bounds x y e = tt
-owner_by c l (ColumnCounts n) x y e = tt
-owner_by c l (Terms i n) x y e = subst (λ k. i < k) (sym x) (ltb-true i c.n_con e)
-owner_by c l (Slopes i n) x y e = subst (λ k. i < k) (sym y) (ltb-true i c.n_obj e)
-owner_by c l (Suffix k n) x y e = tt
-
-pub owner_at : (c : Counts) (pieces : List Piece) (h : Head) → is_in_range c h ≡ true → HasOwner (place_lines c pieces) h
-owner_at c pieces h e = let counts = place_counts c pieces in owner_by c (place_lines c pieces) h counts.0 counts.1 e
-
 positive_push : {X : Type 0} (xs : List X) (x : X) → 0 < length (xs ++ x ∷ [])
 positive_push xs x = omega (arith, length_push xs x)
 
@@ -116,7 +101,7 @@ has_owner s b cur h held e same =
     let at_last = subst (λ x. IsHeld x b) o.whole held in
     let range = (last_sound (counts_of s) o.before o.piece at_last.sound).range in
     let head = same ∙ o.is_open.current.head in
-    subst (λ l. HasOwner l h) (sym held.places) (owner_at (counts_of s) s.pieces h (ap (is_in_range (counts_of s)) head ∙ range))
+    subst (λ l. HasOwner l h) (sym held.places) (owner_there (counts_of s) s.pieces h (ap (is_in_range (counts_of s)) head ∙ range))
 
 pub has_begun : (s : Standing) (b : Body) (cur : Current) (h : Head) → IsHeld s b → b.current ≡ Some cur → h ≡ cur.head → HasBegun b.places h
 has_begun s b cur h held e same =
@@ -137,7 +122,7 @@ lines_one header before p row b cur x h head t nodes =
     let l = place_lines c before in
     ap (λ l. with_node_line l x.line cur.head) (h.places ∙ lines-append c before p)
     ∙ ap (with_node_line (lines_by c l p p.head) x.line) head
-    ∙ sym (place_node c l p row x.line p.head (owner_at c before p.head (last_sound c before p h.sound).range) t.tree
+    ∙ sym (place_node c l p row x.line p.head (owner_there c before p.head (last_sound c before p h.sound).range) t.tree
     (ap only_lines nodes ∙ map-append (λ (n : Placed). n.line) (piece_nodes c p) (x ∷ [])) (same_terms c p row t))
 
 lines_none : (header : List (List (List ℕ))) (before : List Piece) (p : Piece) (row : Row) (b : Body) → IsHeld (at header (before ++ p ∷ [])) b → IsInTree (counts_in header) p
@@ -237,7 +222,7 @@ pub record IsRead (b : Body) (words : List (List ℕ)) (cur : Current) (r : Node
   pub fine : first_reason (counted_node_tests b.draft.counts b.draft b.nodes words) ≡ None
 
 form_fine : (b : Body) (words : List (List ℕ)) (cur : Current) (r : NodeRow) → IsRead b words cur r → first_reason (node_form_tests b.draft.counts b.draft words) ≡ None
-form_fine b words cur r h = first_fine (node_form_tests b.draft.counts b.draft words) ((nat_le (2 ^ 22) b.nodes, for_reason TooLarge) ∷ []) h.fine
+form_fine b words cur r h = none_first (node_form_tests b.draft.counts b.draft words) ((nat_le (2 ^ 22) b.nodes, for_reason TooLarge) ∷ []) h.fine
 
 pub next_known : (s : Standing) (b : Body) (words : List (List ℕ)) (line : ℕ) (cur next : Current) (r : NodeRow) → IsHeld s b → IsRead b words cur r → next ≡ with_node_row cur line r
     → All (IsNodeKnown b.draft.counts.n_var b.draft.definitions) next.nodes

@@ -24,7 +24,8 @@ use Rattle.nl_segments.specs.Held.{Body, HasRow, HoldsSome, IsAwaiting, IsHeld, 
 use Rattle.nl_segments.proofs.DraftLemmas.{draft_before, says_whole}
 use Rattle.nl_segments.proofs.FreshLaw.{none_before, fresh_dual, fresh_primal}
 use Rattle.nl_segments.proofs.HeadSuffixes.{suffixes_come}
-use Rattle.nl_segments.proofs.PairDraft.{owner_there, begun_there}
+use Rattle.nl_segments.proofs.PairDraft.{begun_there}
+use Rattle.nl_segments.proofs.PlaceLemmas.{owner_there}
 use Rattle.nl_segments.proofs.PairHeld.{early}
 use Rattle.nl_segments.proofs.PairLaw.{terms_few, slopes_few, uses_few}
 use Rattle.nl_segments.proofs.PairLines.{at, Opened, opened, awaits_as, last_sound}

@@ -27,7 +27,7 @@ use Rattle.nl_segments.proofs.FreshLaw.{either}
 use Rattle.nl_segments.proofs.PairLaw.{use_more}
 use Rattle.nl_segments.proofs.PairPiece.{IsNextPair, few_rows}
 use Rattle.nl_segments.proofs.PieceLemmas.{longer, lines-append}
-use Rattle.nl_segments.proofs.PlaceLemmas.{place_term, place_counts}
+use Rattle.nl_segments.proofs.PlaceLemmas.{place_term, place_counts, owner_there}
 
 -- ---- a defined variable is not complete by its terms alone
 
@@ -207,20 +207,6 @@ users_kept (Slopes i k) uses j = refl
 users_kept (Suffix kind k) uses j = refl
 
 -- ---- lines
-
-pub owner_there : (c : Counts) (pieces : List Piece) (head : Head) → is_in_range c head ≡ true → HasOwner (place_lines c pieces) head
-unfolding is_in_range
-owner_there c pieces (Body i) e = let all = place_counts c pieces in let lt = ltb-true _ _ e in omega arith
-owner_there c pieces (Objective k m) e = let all = place_counts c pieces in let lt = ltb-true _ _ e in omega arith
-owner_there c pieces (Terms i n) e = let all = place_counts c pieces in let lt = ltb-true _ _ e in omega arith
-owner_there c pieces (Slopes k n) e = let all = place_counts c pieces in let lt = ltb-true _ _ e in omega arith
-owner_there c pieces (Definition i j u) e = tt
-owner_there c pieces (DualGuesses n) e = tt
-owner_there c pieces (PrimalGuesses n) e = tt
-owner_there c pieces Sides e = tt
-owner_there c pieces Bounds e = tt
-owner_there c pieces (ColumnCounts n) e = tt
-owner_there c pieces (Suffix k n) e = tt
 
 pub begun_there : (c : Counts) (before : List Piece) (p : Piece) → HasBegun (place_lines c (before ++ p ∷ [])) p.head
 begun_there c before p = subst (λ l. HasBegun l p.head) (sym (lines-append c before p)) (by p.head)

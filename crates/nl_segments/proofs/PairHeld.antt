@@ -1,6 +1,6 @@
 -- What is held after a line that comes before any expression.
 use Rattle.std.proofs.Common.{◌≡◌, ◌∙◌, ℕ, ◌-◌, ◌+◌, ◌<◌, ◌≤◌, ◌==◌, Bool, true, false, List, [], ◌∷◌, ◌++◌, length, refl, sym, ap, subst, arith, nat_lt, Option, Some, None, get_or, All, take}
-use Rattle.std.specs.Prelude.{IfSome, ◌^◌}
+use Rattle.std.specs.Prelude.{IfSome, if◌then◌else◌, ◌^◌}
 use Rattle.std.specs.List.{list_any}
 use Rattle.std.proofs.lemmas.Bool.{ltb-true}
 use Rattle.nl_model.specs.declared.counts.Counts.{Counts}
@@ -9,11 +9,11 @@ use Rattle.nl_model.specs.Draft.{Draft}
 use Rattle.nl_model.specs.Nodes.{awaited}
 use Rattle.nl_model.specs.Rules.{AreTermsBelow, AreIndicesApart, most_terms}
 use Rattle.nl_segments.specs.declared.awaited.Awaited.{Awaited}
-use Rattle.nl_segments.specs.declared.awaited.Awaited.TheVariants.{Pair, ColumnCount, Interval as IntervalLine}
+use Rattle.nl_segments.specs.declared.awaited.Awaited.TheVariants.{Nothing, Pair, ColumnCount, Interval as IntervalLine}
 use Rattle.nl_segments.specs.declared.head.Head.{Head}
 use Rattle.nl_segments.specs.Rows.{Row}
-use Rattle.nl_segments.specs.Nodes.{Pending, nodes_of, only_lines}
-use Rattle.nl_segments.specs.Pieces.{Piece, is_complete, is_nothing, line_count, line_kind, has_tree, pair_count, piece_pairs}
+use Rattle.nl_segments.specs.Nodes.{Pending, Placed, nodes_of, only_lines, only_nodes}
+use Rattle.nl_segments.specs.Pieces.{Piece, awaited_in, is_complete, is_nothing, line_count, line_kind, has_tree, pair_count, piece_nodes, piece_pairs, piece_pending, tree_awaits}
 use Rattle.nl_segments.specs.Tests.{all_column_counts, index_limit, is_same_piece, is_linear, is_suffix, pair_total}
 use Rattle.nl_segments.specs.Saying.{place_lines}
 use Rattle.nl_segments.specs.Grammar.{counts_of, said}
@@ -36,20 +36,30 @@ is_line_kind ColumnCount = true
 is_line_kind IntervalLine = true
 is_line_kind kind = false
 
-no_line : (nodes : List Node) (pending : Option Pending) → is_line_kind (nodes_await nodes pending) ≡ false
-no_line nodes (Some q) = refl
-no_line nodes None = by (awaited nodes == 0) refl
+-- before its lines are there, it awaits one of them
+pub record IsBefore (c : Counts) (p : Piece) (kind : Awaited) : Type 0 where
+  pub within : length p.rows < line_count c p.head
+  pub same_kind : line_kind p.head ≡ kind
+
+never : true ≡ false → ⊥
+never e = cc
+
+no_line : (ns : List Placed) (q : Option Pending) → is_line_kind (tree_awaits ns q) ≡ false
+no_line ns (Some q) = refl
+no_line ns None = by (awaited (only_nodes ns) == 0) refl
   where
-    by : (t : Bool) → (awaited nodes == 0) ≡ t → is_line_kind (nodes_await nodes None) ≡ false
+    by : (t : Bool) → (awaited (only_nodes ns) == 0) ≡ t → is_line_kind (tree_awaits ns None) ≡ false
     by true e = rw e refl
     by false e = rw e refl
 
-none_left : (cur : Current) → nat_lt 0 cur.left ≡ false → is_line_kind (current_awaits cur) ≡ false
-none_left cur f = by (has_tree cur.head) refl
+pub before_lines : (c : Counts) (p : Piece) (kind : Awaited) → awaited_in c p ≡ kind → is_line_kind kind ≡ true → IsBefore c p kind
+unfolding awaited_in
+before_lines c p kind e line = by (nat_lt (length p.rows) (line_count c p.head)) (has_tree p.head) refl e
   where
-    by : (t : Bool) → has_tree cur.head ≡ t → is_line_kind (current_awaits cur) ≡ false
-    by true e = rw (f, e) (no_line cur.nodes cur.pending)
-    by false e = rw (f, e) refl
+    by : (t u : Bool) → nat_lt (length p.rows) (line_count c p.head) ≡ t → (if t then line_kind p.head else (if u then tree_awaits (piece_nodes c p) (piece_pending p) else Nothing)) ≡ kind → IsBefore c p kind
+    by true u q is = record { within = ltb-true _ _ q; same_kind = is }
+    by false true q is = absurd (never (sym (ap is_line_kind is ∙ line) ∙ no_line (piece_nodes c p) (piece_pending p)))
+    by false false q is = absurd (never (sym (ap is_line_kind is ∙ line)))
 
 pub record IsEarly (c : Counts) (p : Piece) (cur : Current) (kind : Awaited) : Type 0 where
   pub left : 0 < cur.left
@@ -57,18 +67,9 @@ pub record IsEarly (c : Counts) (p : Piece) (cur : Current) (kind : Awaited) : T
   pub same_kind : line_kind p.head ≡ kind
 
 pub early : (c : Counts) (p : Piece) (cur : Current) (kind : Awaited) → IsCurrent c p cur → current_awaits cur ≡ kind → is_line_kind kind ≡ true → IsEarly c p cur kind
-early c p cur kind h e is = by (nat_lt 0 cur.left) refl
-  where
-    by : (t : Bool) → nat_lt 0 cur.left ≡ t → IsEarly c p cur kind
-    by true t =
-        let lt : 0 < cur.left = ltb-true 0 cur.left t in
-        let same : cur.left ≡ line_count c p.head - length p.rows = h.left in
-        record {
-          left = lt;
-          within = omega arith;
-          same_kind = ap line_kind (sym h.head) ∙ (rw t at e);
-        }
-    by false f = absurd (let not_line : is_line_kind kind ≡ false = ap is_line_kind (sym e) ∙ none_left cur f in cc)
+early c p cur kind h e is =
+    let b = before_lines c p kind (sym (awaits c p cur h) ∙ e) is in
+    record { left = omega (arith, h.left, b.within); within = b.within; same_kind = b.same_kind }
 
 -- ---- the piece with the line
 

@@ -63,7 +63,7 @@ awaits_as b cur kind e h = subst (λ o. IsSomeAnd o (λ c. current_awaits c ≡ 
 
 -- ---- the tests of the row
 
-awaited-last : (c : Counts) (pieces : List Piece) (p : Piece) → last_piece pieces ≡ Some p → awaited_of c pieces ≡ awaited_in c p
+pub awaited-last : (c : Counts) (pieces : List Piece) (p : Piece) → last_piece pieces ≡ Some p → awaited_of c pieces ≡ awaited_in c p
 awaited-last c pieces p e = rw e refl
 
 pub judged_by : (s : Standing) (b : Body) (cur : Current) (words : List (List ℕ)) (kind : Awaited) (o : Opened s b cur) → is_head words ≡ false → current_awaits cur ≡ kind
@@ -81,12 +81,16 @@ row_after header before p row plain = rw plain (ap (at header) (extended-append 
 
 -- ---- what stays
 
-sound_each : (c : Counts) (before : List Piece) (p q : Piece) → All (IsSoundPiece c) (before ++ p ∷ []) → IsSoundPiece c q → All (IsSoundPiece c) (before ++ q ∷ [])
-sound_each c before p q h new = All-push (IsSoundPiece c) before q
-    (λ k d lt. subst (IsSoundPiece c) (get_or_append_left before (p ∷ []) d k lt) (h k d (omega (arith, lt, length-append before (p ∷ []))))) new
+-- with another last one
+pub other_last : {X : Type 0} (P : X → Type 0) (before : List X) (p q : X) → All P (before ++ p ∷ []) → P q → All P (before ++ q ∷ [])
+other_last P before p q h new = All-push P before q
+    (λ k d lt. subst P (get_or_append_left before (p ∷ []) d k lt) (h k d (omega (arith, lt, length-append before (p ∷ []))))) new
+
+pub last_of : {X : Type 0} (P : X → Type 0) (before : List X) (p : X) → All P (before ++ p ∷ []) → P p
+last_of P before p h = subst P (get_or-append_seam before p [] p) (h (length before) p (omega (arith, length-append before (p ∷ []))))
 
 pub last_sound : (c : Counts) (before : List Piece) (p : Piece) → AreSound c (before ++ p ∷ []) → IsSoundPiece c p
-last_sound c before p h = subst (IsSoundPiece c) (get_or-append_seam before p [] p) (h.each (length before) p (omega (arith, length-append before (p ∷ []))))
+last_sound c before p h = last_of (IsSoundPiece c) before p h.each
 
 abbrev Apart : Piece → Piece → Type 0
 Apart p q = is_same_piece q.head q.name p ≡ false
@@ -122,7 +126,7 @@ same_front xs ys p q e = sym (front xs p) ∙ ap without_last e ∙ front ys q
 pub sound_longer : (c : Counts) (before : List Piece) (p : Piece) (row : Row) → AreSound c (before ++ p ∷ []) → IsSoundPiece c (longer p row) → AreSound c (before ++ longer p row ∷ [])
 sound_longer c before p row h new =
     record {
-      each = sound_each c before p (longer p row) h.each new;
+      each = other_last (IsSoundPiece c) before p (longer p row) h.each new;
       apart = all_pairs_push Apart before (longer p row) (apart_before before p h.apart) (apart_last before p h.apart);
       complete = λ b q e. subst (All (λ q. is_complete c q ≡ true)) (same_front before b (longer p row) q e) (complete_before c before p h);
     }

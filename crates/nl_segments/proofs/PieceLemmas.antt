@@ -1,5 +1,6 @@
 -- The pieces as those before the last, and the last.
-use Rattle.std.proofs.Common.{◌≡◌, List, [], ◌∷◌, ◌++◌, refl, ap, Some}
+use Rattle.std.proofs.Common.{◌≡◌, ℕ, suc, ◌==◌, false, List, [], ◌∷◌, ◌++◌, take, drop, refl, ap, arith, Some}
+use Rattle.std.proofs.lemmas.List.{drop_all, take_all}
 use Rattle.std.specs.Prelude.{ℤ, unwrap_or}
 use Rattle.std.proofs.lemmas.List.Sums.{fold-append}
 use Rattle.nl_model.specs.declared.counts.Counts.{Counts}
@@ -37,6 +38,16 @@ unfolding extended
 extended-append [] p row = refl
 extended-append (q ∷ []) p row = refl
 extended-append (q ∷ r ∷ before) p row = ap (λ ps. q ∷ ps) (extended-append (r ∷ before) p row)
+
+-- of no rows none are taken, and none are left
+pub take_none : (n : ℕ) → take {A = Row} n [] ≡ []
+take_none n = take_all n [] (omega arith)
+
+pub drop_none : (n : ℕ) → drop {A = Row} n [] ≡ []
+drop_none n = drop_all n [] (omega arith)
+
+pub some_are : (n : ℕ) → (suc n == 0) ≡ false
+some_are n = grind arith
 
 -- ---- what is said
 

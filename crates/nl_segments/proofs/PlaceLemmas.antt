@@ -2,17 +2,19 @@
 use Rattle.std.proofs.Common.{◌≡◌, ◌∙◌, ℕ, ◌-◌, ◌<◌, true, List, [], ◌∷◌, ◌++◌, length, take, drop, refl, sym, ap, ap₂, arith, Some, get_or, slice_set}
 use Rattle.std.specs.Option.{option_or}
 use Rattle.std.specs.List.{fold}
+use Rattle.std.proofs.lemmas.Bool.{ltb-true}
 use Rattle.std.proofs.lemmas.List.{length-append, length-set, length-replicate, take_all, drop_all}
 use Rattle.nl_model.specs.declared.counts.Counts.{Counts}
 use Rattle.nl_segments.specs.declared.head.Head.{Head}
 use Rattle.nl_segments.specs.declared.head.Head.TheVariants.{Body, Objective, Definition, DualGuesses, PrimalGuesses, Sides, Bounds, ColumnCounts, Terms, Slopes, Suffix}
+use Rattle.nl_segments.specs.Heads.{is_in_range}
 use Rattle.nl_segments.specs.Rows.{Row}
 use Rattle.nl_segments.specs.Nodes.{nodes_from}
 use Rattle.nl_segments.specs.Pieces.{Piece, has_tree}
 use Rattle.nl_segments.specs.Tests.{is_linear}
 use Rattle.nl_segments.specs.Saying.{OwnerLines, PlaceLines, no_lines, empty_lines, node_lines, term_lines, with_tree_lines, with_term_lines, with_slope_lines, changed, lines_by, place_lines}
 use Rattle.nl_segments.specs.PlaceSteps.{HasOwner, with_begun, with_node_line, with_term_line, more_nodes, more_terms}
-use Rattle.nl_segments.proofs.PieceLemmas.{longer}
+use Rattle.nl_segments.proofs.PieceLemmas.{drop_none, longer, take_none}
 use Rattle.nl_segments.proofs.DraftLemmas.{set_again, get_set}
 
 -- ---- owners
@@ -37,19 +39,13 @@ changed_last f xs x y e = by xs ∙ ap (changed f (xs ++ x ∷ [])) (omega (arit
 
 -- ---- a head
 
-no_rows : (n : ℕ) → take {A = Row} n [] ≡ []
-no_rows n = take_all n [] (omega arith)
-
-drop_rows : (n : ℕ) → drop {A = Row} n [] ≡ []
-drop_rows n = drop_all n [] (omega arith)
-
 pub place_begun : (c : Counts) (l : PlaceLines) (head : Head) (name : List ℕ) (line : ℕ) → lines_by c l (record { head = head; name = name; line = line; rows = [] }) head ≡ with_begun l line head
 unfolding nodes_from
 place_begun c l (Body i) name line = refl
 place_begun c l (Objective k m) name line = refl
-place_begun c l (Definition i j u) name line = rw (drop_rows j, no_rows j) refl
-place_begun c l (Terms i n) name line = rw (no_rows n) refl
-place_begun c l (Slopes k n) name line = rw (no_rows n) refl
+place_begun c l (Definition i j u) name line = rw (drop_none j, take_none j) refl
+place_begun c l (Terms i n) name line = rw (take_none n) refl
+place_begun c l (Slopes k n) name line = rw (take_none n) refl
 place_begun c l (DualGuesses n) name line = refl
 place_begun c l (PrimalGuesses n) name line = refl
 place_begun c l Sides name line = refl
@@ -152,3 +148,19 @@ fold_counted c (p ∷ pieces) l =
 pub place_counts : (c : Counts) (pieces : List Piece) → (length (place_lines c pieces).constraints ≡ c.n_con) × (length (place_lines c pieces).objectives ≡ c.n_obj)
 unfolding place_lines
 place_counts c pieces = let all = fold_counted c pieces (empty_lines c) in (all.0 ∙ length-replicate c.n_con _, all.1 ∙ length-replicate c.n_obj _)
+
+-- ---- owners of heads
+
+pub owner_there : (c : Counts) (pieces : List Piece) (h : Head) → is_in_range c h ≡ true → HasOwner (place_lines c pieces) h
+unfolding is_in_range
+owner_there c pieces (Body i) e = rw (place_counts c pieces).0 (ltb-true i c.n_con e)
+owner_there c pieces (Objective k m) e = rw (place_counts c pieces).1 (ltb-true k c.n_obj e)
+owner_there c pieces (Definition i j u) e = tt
+owner_there c pieces (DualGuesses n) e = tt
+owner_there c pieces (PrimalGuesses n) e = tt
+owner_there c pieces Sides e = tt
+owner_there c pieces Bounds e = tt
+owner_there c pieces (ColumnCounts n) e = tt
+owner_there c pieces (Terms i n) e = rw (place_counts c pieces).0 (ltb-true i c.n_con e)
+owner_there c pieces (Slopes k n) e = rw (place_counts c pieces).1 (ltb-true k c.n_obj e)
+owner_there c pieces (Suffix k n) e = tt

@@ -1,6 +1,6 @@
 -- Faults of a text, as the reader answers them.
 use Rattle.std.proofs.Common.{◌≡◌, ℕ, List}
-use Rattle.std.specs.Prelude.{Ok, Err}
+use Rattle.std.specs.Prelude.{Err}
 use Rattle.text_base.specs.Stopped.{IfFault}
 use Rattle.text_base.specs.declared.stop.Stop.{Stop}
 use Rattle.text_base.specs.declared.stop.Stop.TheVariants.{Fault, Memory}
@@ -8,9 +8,8 @@ use Rattle.text_base.specs.declared.fault.TextFault.{TextFault}
 use Rattle.text_base.specs.Reading.{HasFaultSoFar, Reads}
 use Rattle.nl_segments.specs.declared.fault.NlFault.{NlFault}
 use Rattle.nl_segments.specs.declared.fault.Refusal.{Refusal}
-use Rattle.nl_segments.specs.declared.nl_read.NlRead.{NlRead}
 use Rattle.nl_segments.specs.Grammar.{nl_rules, SaysFile}
-use Rattle.nl_segments.specs.Reader.{stop_of, ReadsNl, HasNlFaultSoFar, HasLines, value_of}
+use Rattle.nl_segments.specs.Reader.{stop_of, ReadsNl, HasNlFaultSoFar, value_of}
 
 -- what is known of the stop with which a text was fed is known of the one that is answered
 fault_so_far : (P Q : List ℕ → Type 0) (more : List ℕ → List ℕ) → ((text : List ℕ) → Q text → P text) → (stop : Stop (TextFault Refusal))
@@ -26,11 +25,7 @@ answered_so_far P Q more within stop answer e h = rw e (fault_so_far P Q more wi
 
 -- and of one that is answered at the end
 pub answered : (text : List ℕ) (stop : Stop (TextFault Refusal)) (answer : Stop NlFault) → answer ≡ stop_of stop
-    → Reads nl_rules (λ lines r. SaysFile lines (value_of r) × HasLines r) text (Err stop)
+    → Reads nl_rules (λ lines r. SaysFile lines (value_of r)) text (Err stop)
     → ReadsNl text (Err answer)
 answered text (Fault f) answer e h = rw e h
 answered text Memory answer e h = rw e tt
-
--- a text that is read says what it says
-pub read_lines : (text : List ℕ) (r : NlRead) → Reads nl_rules (λ lines r. SaysFile lines (value_of r) × HasLines r) text (Ok r) → HasLines r
-read_lines text r h = h.said.1

@@ -6,8 +6,8 @@ use Rattle.nl_model.specs.declared.counts.Counts.{Counts}
 use Rattle.nl_model.specs.HeaderRules.{defined_count}
 use Rattle.nl_segments.specs.declared.head.Head.{Head}
 use Rattle.nl_segments.specs.declared.head.Head.TheVariants.{Body, Objective, Definition, DualGuesses, PrimalGuesses, Sides, Bounds, ColumnCounts, Terms, Slopes, Suffix}
-use Rattle.nl_segments.specs.Numbers.{whole_of}
-use Rattle.nl_segments.specs.Rows.{word_at}
+use Rattle.exact_numbers.specs.Numbers.{whole_of}
+use Rattle.text_base.specs.Words.{word_at}
 
 -- the first byte of the first word
 abbrev pub letter_of : List (List ℕ) → ℕ

@@ -8,7 +8,6 @@ pub mod Held
 pub mod HeldCode
 pub mod NodeRows
 pub mod Nodes
-pub mod Numbers
 pub mod Pieces
 pub mod PairSteps
 pub mod PlaceSteps
@@ -16,7 +15,6 @@ pub mod Reader
 pub mod Rows
 pub mod Saying
 pub mod SeenSegments
-pub mod Stamps
 pub mod Steps
 pub mod Taking
 pub mod Tests

@@ -7,8 +7,11 @@ use Rattle.code_tables.specs.declared.class.Operands.TheVariants.{One, Two, Coun
 use Rattle.nl_model.specs.declared.node.Node.{Node}
 use Rattle.nl_model.specs.declared.node.Node.TheVariants.{Num, Var, Defined, Op}
 pub use Rattle.nl_segments.specs.declared.pending.Pending.{Pending}
-use Rattle.nl_segments.specs.Numbers.{whole_of, dec_of_text, dec_of_signed}
-use Rattle.nl_segments.specs.Rows.{Row, row_words, word_at}
+use Rattle.fractions.specs.Rational.{whole}
+use Rattle.exact_numbers.specs.declared.dec.Dec.{Dec}
+use Rattle.exact_numbers.specs.Numbers.{whole_of, signed_of, dec_from, dec_of}
+use Rattle.nl_segments.specs.Rows.{Row, row_words}
+use Rattle.text_base.specs.Words.{word_at}
 use Rattle.nl_segments.specs.Heads.{letter_of, own_number}
 
 -- a node, and the line where it stands
@@ -38,11 +41,15 @@ counted_opcode o (Some One) = None
 counted_opcode o (Some Two) = None
 counted_opcode o (Some Counted) = Some o
 
+-- the Dec that a signed whole number is
+unfoldable pub dec_of_signed : List ℕ → Option Dec
+dec_of_signed text = option_and_then (λ z. dec_from (whole z)) (signed_of text)
+
 -- the node that a row alone is, in a file of n variables: `n` and a decimal text, `s` or `l` and a signed whole number, `v` and an index, or `o` and an opcode
 unfoldable pub node_in : ℕ → List (List ℕ) → Option Node
 node_in n words =
     let letter = letter_of words in
-    if letter == 110 then option_map Num (dec_of_text (leaf_text words)) else
+    if letter == 110 then option_map Num (dec_of (leaf_text words)) else
     if (letter == 115) || (letter == 108) then option_map Num (dec_of_signed (leaf_text words)) else
     if letter == 118 then option_map (variable_node n) (own_number words) else
     if letter == 111 then option_and_then (λ o. fixed_node o (operands_of o)) (own_number words) else None

@@ -7,8 +7,8 @@ use Rattle.nl_model.specs.Rules.{AreIndicesApart, AreTermsBelow, has_suffix, mos
 use Rattle.nl_segments.specs.declared.fault.NlReason.TheVariants.{TooLarge, RepeatedIndex}
 use Rattle.nl_segments.specs.declared.head.Head.{Head}
 use Rattle.nl_segments.specs.declared.head.Head.TheVariants.{DualGuesses, PrimalGuesses, Terms, Slopes, Suffix}
-use Rattle.nl_segments.specs.Numbers.{whole_of}
-use Rattle.nl_segments.specs.Rows.{word_at}
+use Rattle.exact_numbers.specs.Numbers.{whole_of}
+use Rattle.text_base.specs.Words.{word_at}
 use Rattle.nl_segments.specs.Pieces.{is_nothing}
 use Rattle.nl_segments.specs.Tests.{Tests, for_reason, holds_once, index_limit, is_linear, is_suffix, pair_form_tests, wants_whole}
 use Rattle.nl_segments.specs.Current.{Current, current_awaits, less_line, with_pair}

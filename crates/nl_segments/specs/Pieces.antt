@@ -11,8 +11,9 @@ use Rattle.nl_segments.specs.declared.awaited.Awaited.{Awaited}
 use Rattle.nl_segments.specs.declared.awaited.Awaited.TheVariants.{Nothing, Pair, ColumnCount, Interval as IntervalLine, Node as NodeLine, OperandCount}
 use Rattle.nl_segments.specs.declared.head.Head.{Head}
 use Rattle.nl_segments.specs.declared.head.Head.TheVariants.{Body, Objective, Definition, DualGuesses, PrimalGuesses, Sides, Bounds, ColumnCounts, Terms, Slopes, Suffix}
-use Rattle.nl_segments.specs.Numbers.{whole_of, dec_of_text}
-use Rattle.nl_segments.specs.Rows.{Row, row_words, word_at}
+use Rattle.exact_numbers.specs.Numbers.{whole_of, dec_of}
+use Rattle.nl_segments.specs.Rows.{Row, row_words}
+use Rattle.text_base.specs.Words.{word_at}
 use Rattle.nl_segments.specs.Heads.{is_head, head_of, name_in}
 use Rattle.nl_segments.specs.Nodes.{Placed, Pending, nodes_of, pending_of, only_nodes}
 
@@ -123,7 +124,7 @@ awaited_of c pieces = awaited_by c (last_piece pieces)
 
 -- `index value`
 unfoldable pub pair_in : List (List ℕ) → Option Term
-pair_in words = option_and_then (λ i. option_map (λ d. (i, d)) (dec_of_text (word_at words 1))) (whole_of (word_at words 0))
+pair_in words = option_and_then (λ i. option_map (λ d. (i, d)) (dec_of (word_at words 1))) (whole_of (word_at words 0))
 
 abbrev pub piece_pairs : Piece → List Term
 piece_pairs p = filter_map (λ r. pair_in (row_words r)) (take (pair_count p.head) p.rows)
@@ -137,11 +138,11 @@ between (Some lo) (Some hi) = Some (record { lo = Some lo; hi = Some hi })
 unfoldable pub interval_in : List (List ℕ) → Option Interval
 interval_in words =
     let kind = word_at words 0 in
-    if bytes_eq kind (codes "0") then between (dec_of_text (word_at words 1)) (dec_of_text (word_at words 2)) else
-    if bytes_eq kind (codes "1") then option_map (λ hi. record { lo = None; hi = Some hi }) (dec_of_text (word_at words 1)) else
-    if bytes_eq kind (codes "2") then option_map (λ lo. record { lo = Some lo; hi = None }) (dec_of_text (word_at words 1)) else
+    if bytes_eq kind (codes "0") then between (dec_of (word_at words 1)) (dec_of (word_at words 2)) else
+    if bytes_eq kind (codes "1") then option_map (λ hi. record { lo = None; hi = Some hi }) (dec_of (word_at words 1)) else
+    if bytes_eq kind (codes "2") then option_map (λ lo. record { lo = Some lo; hi = None }) (dec_of (word_at words 1)) else
     if bytes_eq kind (codes "3") then Some (record { lo = None; hi = None }) else
-    if bytes_eq kind (codes "4") then between (dec_of_text (word_at words 1)) (dec_of_text (word_at words 1)) else None
+    if bytes_eq kind (codes "4") then between (dec_of (word_at words 1)) (dec_of (word_at words 1)) else None
 
 abbrev pub piece_intervals : Piece → List Interval
 piece_intervals p = filter_map (λ r. interval_in (row_words r)) p.rows

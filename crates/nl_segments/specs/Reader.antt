@@ -1,5 +1,6 @@
 -- What reading an .nl text answers, and what a reader of one stands for.
-use Rattle.std.specs.Prelude.{ℕ, List, Option, IsSome, Result, Ok, Err, refl}
+use Rattle.std.specs.Prelude.{◌≡◌, ◌<◌, ◌≤◌, ℕ, List, Option, Some, option_map, slice_get, IsSome, IsSomeAnd, Result, Ok, Err, refl}
+use Rattle.std.specs.List.{Contains}
 use Rattle.std.specs.Coded.{Coded, code_by, coded×, coded_option}
 use Rattle.text_base.specs.contracts.lines.Lines.{the_row as lines_row}
 use Rattle.text_base.specs.declared.stop.Stop.{Stop}
@@ -8,12 +9,21 @@ use Rattle.text_base.specs.declared.fault.TextFault.{TextFault}
 use Rattle.text_base.specs.Lines.{LinesState}
 use Rattle.text_base.specs.Reading.{Stands, IsRead, HasFault, HasFaultSoFar}
 use Rattle.nl_model.specs.declared.at.At.{At}
-use Rattle.nl_model.specs.FilePlaces.{HasPlace}
+use Rattle.nl_model.specs.declared.at.Owner.{Owner}
+use Rattle.nl_model.specs.declared.at.Owner.TheVariants.{Con, Def, Obj}
+use Rattle.nl_model.specs.File.{File}
+use Rattle.nl_model.specs.FilePlaces.{HasPlace, tree_at}
+use Rattle.nl_model.specs.Nodes.{IsPrefix}
+use Rattle.nl_meaning.specs.Trees.{Tree}
+use Rattle.nl_segments.specs.declared.head.Head.{Head}
+use Rattle.nl_segments.specs.declared.head.Head.TheVariants.{Body, Definition, Objective}
+use Rattle.nl_segments.specs.Nodes.{only_nodes}
+use Rattle.nl_segments.specs.Pieces.{Piece, piece_nodes}
 use Rattle.nl_segments.specs.declared.fault.NlFault.{NlFault}
 use Rattle.nl_segments.specs.declared.fault.Refusal.{Refusal}
 use Rattle.nl_segments.specs.declared.nl_read.NlRead.{NlRead}
 use Rattle.nl_segments.specs.Saying.{line_of}
-use Rattle.nl_segments.specs.Grammar.{standing, nl_rules, NlValue, SaysFile}
+use Rattle.nl_segments.specs.Grammar.{Standing, standing, counts_of, nl_rules, NlValue, SaysFile}
 use Rattle.nl_segments.specs.Held.{Progress, HoldsStanding}
 use Rattle.nl_segments.specs.HeldCode.{progress_code, stop_code}
 
@@ -48,6 +58,28 @@ ReadsNl text (Err Memory) = Unit {0}
 abbrev pub HasLines : NlRead → Type 0
 HasLines r = (at : At) → HasPlace r.file at → IsSome (line_of r.places at)
 
+-- each place of the file has its line, which is one of so many lines
+abbrev pub HasLinesUpTo : ℕ → NlValue → Type 0
+HasLinesUpTo count v = (at : At) → HasPlace v.file at → IsSomeAnd (line_of v.places at) (λ line. (0 < line) × (line ≤ count))
+
+-- a head begins the expression of an owner of the file
+abbrev pub BeginsTree : File → Owner → Head → Type 0
+BeginsTree f (Con i) (Body k) = k ≡ i
+BeginsTree f (Obj k) (Objective j maximise) = j ≡ k
+BeginsTree f (Def i) (Definition index j usage) = option_map (λ d. d.index) (slice_get f.definitions i) ≡ Some index
+BeginsTree f owner head = ⊥
+
+-- a tree of an owner has, in prefix form, the nodes of the rows of a piece that begins its expression
+pub record HasPiece (s : Standing) (f : File) (owner : Owner) (t : Tree) : Type 0 where
+  pub piece : Piece
+  pub among : Contains s.pieces piece
+  pub begins : BeginsTree f owner piece.head
+  pub nodes : IsPrefix t (only_nodes (piece_nodes (counts_of s) piece))
+
+-- each expression of the file is read from a piece
+abbrev pub HasPieces : Standing → File → Type 0
+HasPieces s f = (owner : Owner) (t : Tree) → tree_at f owner ≡ Some t → HasPiece s f owner t
+
 -- ---- readers
 
 abbrev pub fault_of : TextFault Refusal → NlFault
@@ -62,6 +94,10 @@ pub record Reading : Type 0 where
   pub lines : LinesState
   pub progress : Progress
   pub stopped : Option (Stop (TextFault Refusal))
+
+-- why the reader stopped, where it did
+abbrev pub stop_in : Reading → Option (Stop NlFault)
+stop_in r = option_map stop_of r.stopped
 
 -- the reader was fed this text
 abbrev pub IsFed : Reading → List ℕ → Type 0

@@ -1,5 +1,5 @@
 -- The rows of an .nl text: its lines that hold words, without their comments. The first ten are the header, and the others are the body.
-use Rattle.std.specs.Prelude.{ℕ, ◌+◌, ◌==◌, not, Bool, List, [], ◌∷◌, length, take, drop, map, slice_index_or, if◌then◌else◌}
+use Rattle.std.specs.Prelude.{ℕ, ◌+◌, ◌==◌, not, Bool, List, [], ◌∷◌, length, take, drop, map, if◌then◌else◌}
 use Rattle.text_base.specs.Words.{words_of, row_of, without_comment}
 
 -- the number of the line in the text, counted from 1, and its text without the comment
@@ -30,7 +30,3 @@ body_rows rows = drop 10 rows
 -- the words of a row of the body; those past the twelfth never matter
 abbrev pub row_words : Row → List (List ℕ)
 row_words r = row_of r.text
-
--- the word at a place, counted from 0; past the last word, the empty one
-abbrev pub word_at : List (List ℕ) → ℕ → List ℕ
-word_at words i = slice_index_or words i []

@@ -16,6 +16,7 @@ use Rattle.nl_model.specs.Draft.{Draft}
 use Rattle.nl_model.specs.File.{Term}
 use Rattle.nl_model.specs.HeaderRules.{defined_count}
 use Rattle.nl_model.specs.Kinds.{kind_of}
+use Rattle.nl_model.specs.SuffixKinds.{has_same_objects, wants_whole as is_whole_kind}
 use Rattle.nl_model.specs.Rules.{is_defined, object_count, most_terms, term_count}
 use Rattle.nl_segments.specs.declared.awaited.Awaited.{Awaited}
 use Rattle.nl_segments.specs.declared.awaited.Awaited.TheVariants.{Nothing, Pair, ColumnCount, Interval as IntervalLine, Node as NodeLine, OperandCount}
@@ -24,10 +25,10 @@ use Rattle.nl_segments.specs.declared.fault.NlReason.TheVariants.{TooLarge, Unkn
 use Rattle.nl_segments.specs.declared.fault.Refusal.{Refusal}
 use Rattle.nl_segments.specs.declared.head.Head.{Head}
 use Rattle.nl_segments.specs.declared.head.Head.TheVariants.{Body, Objective, Definition, DualGuesses, PrimalGuesses, Sides, Bounds, ColumnCounts, Terms, Slopes, Suffix}
-use Rattle.nl_segments.specs.Numbers.{are_digits, whole_of, dec_of_text, dec_of_signed}
-use Rattle.nl_segments.specs.Rows.{word_at}
+use Rattle.exact_numbers.specs.Numbers.{are_digits, whole_of, dec_of, is_whole}
+use Rattle.nl_segments.specs.Nodes.{dec_of_signed, leaf_text}
+use Rattle.text_base.specs.Words.{word_at}
 use Rattle.nl_segments.specs.Heads.{letter_of, is_among, is_head, is_segment_letter, is_refused_letter, own_number, head_of, name_in, is_in_range}
-use Rattle.nl_segments.specs.Nodes.{leaf_text}
 use Rattle.nl_segments.specs.Pieces.{Piece, awaited_of, is_nothing, last_piece, piece_nodes, piece_pairs, piece_counts, interval_in}
 
 abbrev pub Tests : Type 0
@@ -81,7 +82,7 @@ is_same_head Bounds Bounds = Bool.true
 is_same_head (ColumnCounts m) (ColumnCounts n) = Bool.true
 is_same_head (Terms i m) (Terms k n) = i == k
 is_same_head (Slopes i m) (Slopes k n) = i == k
-is_same_head (Suffix a m) (Suffix b n) = a % 4 == b % 4
+is_same_head (Suffix a m) (Suffix b n) = has_same_objects a b
 is_same_head a b = Bool.false
 
 -- a suffix is the same where its name is, too
@@ -121,7 +122,7 @@ index_limit c head = c.n_var
 
 -- each value of a suffix is whole unless the bit of value 4 is there
 abbrev pub wants_whole : Head → Bool
-wants_whole (Suffix kind n) = (kind / 4) % 2 == 0
+wants_whole (Suffix kind n) = is_whole_kind kind
 wants_whole head = Bool.false
 
 -- an index comes once in a piece
@@ -130,9 +131,6 @@ holds_once (DualGuesses n) = Bool.true
 holds_once (PrimalGuesses n) = Bool.true
 holds_once (Suffix kind n) = Bool.true
 holds_once head = Bool.false
-
-abbrev pub is_whole : Dec → Bool
-is_whole d = (dec_value d).bottom == 1
 
 abbrev pub has_index : List Term → ℕ → Bool
 has_index terms i = list_any (λ t. t.0 == i) terms
@@ -145,7 +143,7 @@ is_full pieces head =
 -- of the words alone, where indices are below a limit and values may have to be whole
 unfoldable pub pair_form_tests : ℕ → Bool → List (List ℕ) → Tests
 pair_form_tests limit whole_only words =
-    let value = dec_of_text (word_at words 1) in
+    let value = dec_of (word_at words 1) in
     (not (length words == 2 && are_digits (word_at words 0)), for_reason BadLine)
     ∷ (not (is_below limit (whole_of (word_at words 0))), for_reason IndexOut)
     ∷ (is_none value || (whole_only && not (option_map_or is_whole value Bool.true)), for_reason BadNumber) ∷ []
@@ -246,7 +244,7 @@ opcode_tests opcode =
 abbrev pub leaf_tests : Counts → Draft → List (List ℕ) → Tests
 leaf_tests c d words =
     let letter = letter_of words in
-    if letter == 110 then number_tests (dec_of_text (leaf_text words)) else
+    if letter == 110 then number_tests (dec_of (leaf_text words)) else
     if letter == 118 then variable_tests c d (own_number words) else
     if letter == 111 then opcode_tests (own_number words) else
     number_tests (dec_of_signed (leaf_text words))

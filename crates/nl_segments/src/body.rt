@@ -5,7 +5,6 @@ ghost use Rattle.nl_model.specs.Draft.{IsDraft};
 ghost use Rattle.nl_segments.specs.declared.head.Head.{Head};
 ghost use Rattle.nl_segments.specs.Heads.{is_head};
 ghost use Rattle.nl_segments.specs.Held.{IsHeld, IsHeaderOf, only_header, TakesRow, HasRow, Finishes};
-ghost use Rattle.nl_segments.specs.Reader.{HasLines};
 ghost use Rattle.nl_segments.specs.Taking.{body_awaits};
 ghost use Rattle.nl_segments.specs.Tests.{for_reason, index_limit};
 ghost use Rattle.nl_segments.specs.Ending.{body_end_tests};
@@ -15,7 +14,6 @@ use crate::awaited::Awaited;
 use crate::current::Current;
 use crate::ending::{are_sums, is_short};
 use crate::fault::{NlReason, Refusal};
-use crate::marks::Marks;
 use crate::nl_read::NlRead;
 use crate::nodes::refusal;
 use crate::places::Places;
@@ -24,7 +22,7 @@ use crate::words::is_head;
 use nl_model::{Counts, Header, NlBuilder, defined_count};
 use std::alloc::{AllocError, Global};
 use std::marker::Model;
-use text_base::{Name, Stop};
+use text_base::{Marks, Name, Stop};
 
 /// The rows of the body so far: the file, the last piece where it is not complete, and what judging the next row needs.
 #[derive(Drop)]
@@ -167,8 +165,7 @@ impl BodyReader {
 
     /// The file and the lines of its places, at the end of the text.
     pub(crate) fn finish(self) -> Result<NlRead, Stop<Refusal>>
-        ensures finishes { Finishes self result }
-        ensures lines { IfOk result HasLines }
+        ensures { Finishes self result }
     {
         if self.is_broken {
             return Err(Stop::Memory);

@@ -17,10 +17,9 @@ use crate::head_rules::{is_suffix, line_count};
 use crate::heads::{is_in_range, read_head};
 use crate::nodes::refusal;
 use crate::seen::Seen;
-use crate::words::word_at;
 use nl_model::{Counts, NlBuilder, Suffix, Terms};
 use std::alloc::{AllocError, Global};
-use text_base::{Name, Stop};
+use text_base::{Name, Stop, word_at};
 
 /// A file has at most so many suffixes.
 const MOST_SUFFIXES: u32 = 1024;

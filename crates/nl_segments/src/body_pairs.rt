@@ -20,13 +20,12 @@ use crate::head::Head;
 use crate::head_rules::{
     holds_once, index_limit, is_full, is_linear, is_suffix, keeps_pairs, wants_whole,
 };
-use crate::marks::Marks;
 use crate::nodes::refusal;
 use crate::pairs::read_pair;
 use exact_numbers::Dec;
 use nl_model::{Counts, NlBuilder, Suffix};
 use std::alloc::AllocError;
-use text_base::{Name, Stop};
+use text_base::{Marks, Name, Stop};
 
 // Whether the index came before, where it comes once.
 fn is_repeated(head: Head, marks: &Marks, index: u32) -> bool

@@ -1,13 +1,14 @@
 // Lines of one whole number.
 ghost use Rattle.std.specs.Prelude.{◌≡◌, ◌<◌, ◌≤◌, ◌^◌, Some, None, IfOk, IfErr, OnOk};
 ghost use Rattle.text_base.specs.Judged.{first_reason};
-ghost use Rattle.text_base.specs.Words.{texts};
-ghost use Rattle.nl_segments.specs.Numbers.{whole_of};
-ghost use Rattle.nl_segments.specs.Rows.{word_at};
+ghost use Rattle.text_base.specs.Words.{texts, word_at};
+ghost use Rattle.exact_numbers.specs.Numbers.{whole_of};
 ghost use Rattle.nl_segments.specs.Tests.{for_reason, column_tests, operand_tests};
 
 use crate::fault::NlReason;
-use crate::words::{are_digits, number_at, word_at};
+use crate::words::number_at;
+use exact_numbers::are_digits;
+use text_base::word_at;
 
 /// An operator has at most so many operands.
 const MOST_OPERANDS: u32 = 4_194_304;

@@ -3,7 +3,7 @@ ghost use Rattle.std.specs.Prelude.{◌≡◌, ◌<◌, [], length, None};
 ghost use Rattle.text_base.specs.Words.{words_of, row_of};
 ghost use Rattle.nl_segments.specs.Grammar.{standing, nl_rules, SaysFile, fault_refusal, reason_of};
 ghost use Rattle.nl_segments.specs.Held.{HoldsStanding};
-ghost use Rattle.nl_segments.specs.Reader.{value_of, HasLines};
+ghost use Rattle.nl_segments.specs.Reader.{value_of};
 ghost use Rattle.nl_segments.specs.Taking.{TakesHeaderRow, TakesAnyRow};
 
 use crate::body::BodyReader;
@@ -68,7 +68,7 @@ impl Grammar for NlGrammar {
 
     ghost took = { λ g lines. HoldsStanding (standing lines) g };
 
-    ghost says = { λ s lines r. SaysFile lines (value_of r) × HasLines r };
+    ghost says = { λ s lines r. SaysFile lines (value_of r) };
 
     fn take(&mut self, line: &[u8], number: u32) -> Result<(), Stop<Refusal>> {
         let text = strip_comment(line);

@@ -1,33 +1,15 @@
 // What a head says of the lines after it.
 ghost use Rattle.std.specs.Prelude.{◌≡◌};
-ghost use Rattle.nl_model.specs.Rules.{object_count};
 ghost use Rattle.nl_segments.specs.Held.{keeps_pairs};
 ghost use Rattle.nl_segments.specs.PairSteps.{is_full_at};
 ghost use Rattle.nl_segments.specs.Pieces.{line_count, pair_count};
 ghost use Rattle.nl_segments.specs.Tests.{holds_once, index_limit, is_linear, is_suffix, wants_whole};
 
 use crate::head::Head;
-use nl_model::Counts;
+use nl_model::{Counts, object_limit};
 
 // There are at most so many linear terms, and so many values of suffixes.
 const MOST_TERMS: u32 = 4_194_304;
-
-// How many objects of a kind there are.
-fn object_count(counts: &Counts, kind: u8) -> u32
-    ensures { result ≡ object_count counts.now kind }
-{
-    let objects = kind % 4;
-    if objects == 0 {
-        return counts.n_var;
-    }
-    if objects == 1 {
-        return counts.n_con;
-    }
-    if objects == 2 {
-        return counts.n_obj;
-    }
-    1
-}
 
 /// The indices of pairs are below this.
 pub(crate) fn index_limit(counts: &Counts, head: Head) -> u32
@@ -35,7 +17,7 @@ pub(crate) fn index_limit(counts: &Counts, head: Head) -> u32
 {
     match head {
         Head::DualGuesses(_) => counts.n_con,
-        Head::Suffix(kind, _) => object_count(counts, kind),
+        Head::Suffix(kind, _) => object_limit(counts.n_var, counts.n_con, counts.n_obj, kind),
         _ => counts.n_var,
     }
 }
@@ -45,7 +27,7 @@ pub(crate) fn wants_whole(head: Head) -> bool
     ensures { result ≡ wants_whole head }
 {
     match head {
-        Head::Suffix(kind, _) => (kind / 4) % 2 == 0,
+        Head::Suffix(kind, _) => nl_model::wants_whole(kind),
         _ => false,
     }
 }

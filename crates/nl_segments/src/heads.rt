@@ -9,11 +9,9 @@ ghost use Rattle.nl_segments.specs.declared.head.Head.TheVariants.{Body, DualGue
 
 use crate::fault::NlReason;
 use crate::head::Head;
-use crate::words::{
-    is_refused_letter, is_segment_letter, letter_of, number_at, own_number, word_at,
-};
+use crate::words::{is_refused_letter, is_segment_letter, letter_of, number_at, own_number};
 use nl_model::Counts;
-use text_base::is_name;
+use text_base::{is_name, word_at};
 
 // The head of a letter alone.
 fn bare_head(head: Head, words: &[&[u8]]) -> Option<Head>

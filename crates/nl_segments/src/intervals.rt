@@ -2,18 +2,16 @@
 ghost use Rattle.std.specs.Prelude.{◌≡◌, false, option_map, Some, None, IfOk, IfErr, OnOk, codes};
 ghost use Rattle.std.specs.Str.{bytes_eq};
 ghost use Rattle.text_base.specs.Judged.{first_reason};
-ghost use Rattle.text_base.specs.Words.{texts};
+ghost use Rattle.text_base.specs.Words.{texts, word_at};
 ghost use Rattle.exact_numbers.specs.Values.{dec_value};
 ghost use Rattle.nl_segments.specs.Pieces.{between, interval_in};
-ghost use Rattle.nl_segments.specs.Rows.{word_at};
 ghost use Rattle.nl_segments.specs.Tests.{for_reason, has_sides, is_empty, is_within_unit, is_value_below, interval_form_tests};
 
 use crate::fault::NlReason;
-use crate::numbers::dec_of_text;
-use crate::words::word_at;
-use exact_numbers::Dec;
+use exact_numbers::{Dec, dec_of};
 use nl_model::Interval;
 use std::cmp::Ordering;
+use text_base::word_at;
 
 // Whether the value of one is below that of the other.
 fn is_value_below(a: Dec, b: Dec) -> bool
@@ -94,9 +92,9 @@ fn interval_in(words: &[&[u8]]) -> Option<Interval>
     ensures { result ≡ interval_in (texts words.now) }
 {
     let kind = word_at(words, 0);
-    let first = dec_of_text(word_at(words, 1));
+    let first = dec_of(word_at(words, 1));
     if kind == b"0".as_slice() {
-        return between(first, dec_of_text(word_at(words, 2)));
+        return between(first, dec_of(word_at(words, 2)));
     }
     if kind == b"1".as_slice() {
         return up_to(first);

@@ -1,9 +1,10 @@
 // A reader of .nl texts.
 ghost use Rattle.std.specs.Prelude.{◌≡◌, ◌++◌, List, ℕ, [], IfOk, IfErr, IfSome, OnOk, Err};
+ghost use Rattle.std.specs.Result.{result_err};
 ghost use Rattle.text_base.specs.Stopped.{IfFault};
 ghost use Rattle.text_base.specs.Reading.{IsFreeSoFar};
 ghost use Rattle.nl_segments.specs.Grammar.{nl_rules};
-ghost use Rattle.nl_segments.specs.Reader.{IsFed, ReadsNl, HasNlFaultSoFar, HasLines, stop_of, fault_of};
+ghost use Rattle.nl_segments.specs.Reader.{IsFed, ReadsNl, HasNlFaultSoFar, HasLines, stop_of, stop_in, fault_of};
 
 use crate::fault::{NlFault, Refusal};
 use crate::grammar::NlGrammar;
@@ -71,8 +72,9 @@ impl NlReader {
         // No line that has ended has a fault, and no line fault is reached; or it is the first fault.
         ensures fine { OnOk result ((text : List ℕ) → IsFed self.old text → IsFreeSoFar nl_rules (text ++ piece.now)) }
         ensures fault { IfErr result (λ stop. IfFault stop (λ fault. (text : List ℕ) → IsFed self.old text → HasNlFaultSoFar (text ++ piece.now) fault)) }
-        ensures kept { IfErr result (λ stop. IfSome self.new.stopped (λ found. stop ≡ stop_of found)) }
-        ensures sticky { IfSome self.old.stopped (λ found. result ≡ Err (stop_of found)) }
+        // It keeps the stop that it answers, and no other.
+        ensures kept { stop_in self.new ≡ result_err result }
+        ensures sticky { IfSome (stop_in self.old) (λ stop. result ≡ Err stop) }
     {
         if let Err(stop) = self.reader.feed(piece) {
             return Err(stop_of(stop));
@@ -84,7 +86,7 @@ impl NlReader {
     pub fn finish(self) -> Result<NlRead, Stop<NlFault>>
         ensures reads { (text : List ℕ) → IsFed self text → ReadsNl text result }
         ensures lines { IfOk result HasLines }
-        ensures sticky { IfSome self.stopped (λ found. result ≡ Err (stop_of found)) }
+        ensures sticky { IfSome (stop_in self) (λ stop. result ≡ Err stop) }
     {
         match self.reader.finish() {
             Ok(read) => Ok(read),

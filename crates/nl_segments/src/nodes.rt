@@ -5,17 +5,16 @@ ghost use Rattle.text_base.specs.Words.{texts};
 ghost use Rattle.code_tables.specs.Opcodes.{operands_of};
 ghost use Rattle.nl_model.specs.declared.node.Node.TheVariants.{Num};
 ghost use Rattle.nl_segments.specs.Heads.{is_among};
-ghost use Rattle.nl_segments.specs.Nodes.{fixed_node, counted_opcode, variable_node, node_in, opcode_in};
+ghost use Rattle.nl_segments.specs.Nodes.{dec_of_signed, fixed_node, counted_opcode, variable_node, node_in, opcode_in};
 ghost use Rattle.nl_segments.specs.NodeRows.{IsRow, IsFormedRow};
 ghost use Rattle.nl_segments.specs.Tests.{for_reason, is_node_form, is_undefined, number_tests, variable_tests, opcode_tests, leaf_tests, node_form_tests};
 
 use crate::fault::{NlReason, Refusal};
 use crate::heads::defined_end;
 use crate::node_row::NodeRow;
-use crate::numbers::{dec_of_signed, dec_of_text};
-use crate::words::{are_digits, leaf_text, letter_of, own_number};
+use crate::words::{leaf_text, letter_of, own_number};
 use code_tables::{Operands, operands_of};
-use exact_numbers::Dec;
+use exact_numbers::{Dec, are_digits, dec_of, signed_of};
 use nl_model::{Counts, NlBuilder, Node};
 
 // A reason other than a refused opcode.
@@ -58,6 +57,16 @@ fn is_node_form(words: &[&[u8]]) -> bool
         return true;
     }
     are_digits(leaf_text(words))
+}
+
+// The number of a signed whole number.
+fn dec_of_signed(word: &[u8]) -> Option<Dec>
+    ensures { result ≡ dec_of_signed word.now }
+{
+    match signed_of(word) {
+        Some(number) => Some(Dec::of_whole(number as i64)),
+        None => None,
+    }
 }
 
 // A number.
@@ -151,7 +160,7 @@ fn read_leaf(words: &[&[u8]], builder: &NlBuilder) -> Result<NodeRow, Refusal>
     ensures fault { IfErr result (λ r. first_reason (leaf_tests builder.now.counts builder.now (texts words.now)) ≡ Some r) }
 {
     match letter_of(words) {
-        b'n' => read_number(dec_of_text(leaf_text(words))),
+        b'n' => read_number(dec_of(leaf_text(words))),
         b'v' => read_variable(builder, own_number(words)),
         b'o' => read_opcode(own_number(words)),
         _ => read_number(dec_of_signed(leaf_text(words))),

@@ -3,12 +3,13 @@ ghost use Rattle.std.specs.Prelude.{◌≡◌, ◌<◌, ◌&&◌, not, Some, Non
 ghost use Rattle.text_base.specs.Judged.{first_reason};
 ghost use Rattle.text_base.specs.Words.{texts};
 ghost use Rattle.nl_segments.specs.Pieces.{pair_in};
-ghost use Rattle.nl_segments.specs.Tests.{for_reason, is_whole, pair_form_tests};
+ghost use Rattle.nl_segments.specs.Tests.{for_reason, pair_form_tests};
+ghost use Rattle.exact_numbers.specs.Numbers.{is_whole};
 
 use crate::fault::NlReason;
-use crate::numbers::dec_of_text;
-use crate::words::{are_digits, number_at, word_at};
-use exact_numbers::Dec;
+use crate::words::number_at;
+use exact_numbers::{Dec, are_digits, dec_of};
+use text_base::word_at;
 
 fn is_whole(value: Dec) -> bool
     ensures { result ≡ is_whole value }
@@ -44,7 +45,7 @@ pub(crate) fn read_pair(
     if index >= limit {
         return Err(NlReason::IndexOut);
     }
-    let Some(value) = dec_of_text(word_at(words, 1)) else {
+    let Some(value) = dec_of(word_at(words, 1)) else {
         return Err(NlReason::BadNumber);
     };
     if is_refused(value, whole_only) {

@@ -1,23 +1,11 @@
 // Words of rows.
 ghost use Rattle.std.specs.Prelude.{◌≡◌, slice_index, drop, codes};
 ghost use Rattle.text_base.specs.Words.{texts};
-ghost use Rattle.nl_segments.specs.Rows.{word_at};
-ghost use Rattle.nl_segments.specs.Numbers.{are_digits, whole_of};
 ghost use Rattle.nl_segments.specs.Heads.{letter_of, own_number, number_at, is_among, is_head, is_refused_letter, is_segment_letter};
 ghost use Rattle.nl_segments.specs.Nodes.{leaf_text};
 
-use exact_numbers::{NumFault, read_whole};
-use nl_header::whole_of;
-
-/// The word at a place, counted from 0; past the last word, the empty one.
-pub(crate) fn word_at<'a>(words: &[&'a [u8]], place: usize) -> &'a [u8]
-    ensures { result.now ≡ word_at (texts words.now) place }
-{
-    match words.get(place) {
-        Some(word) => word,
-        None => b"".as_slice(),
-    }
-}
+use exact_numbers::whole_of;
+use text_base::word_at;
 
 // The first byte; 0 where there is none.
 fn first_byte(word: &[u8]) -> u8
@@ -65,17 +53,6 @@ pub(crate) fn number_at(words: &[&[u8]], place: usize) -> Option<u32>
     ensures { result ≡ number_at (texts words.now) place }
 {
     whole_of(word_at(words, place))
-}
-
-/// One digit or more, and nothing else.
-pub(crate) fn are_digits(word: &[u8]) -> bool
-    ensures { result ≡ are_digits word.now }
-{
-    match read_whole(word) {
-        Ok(_) => true,
-        Err(NumFault::TooWide) => true,
-        Err(NumFault::NotNumber) => false,
-    }
 }
 
 /// Whether a row is a head.

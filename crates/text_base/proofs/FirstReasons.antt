@@ -1,6 +1,7 @@
 -- The first test that holds, of lists of tests.
 use Rattle.std.proofs.Common.{◌≡◌, ◌∙◌, Bool, true, false, List, [], ◌∷◌, ◌++◌, Option, Some, None, Result, Ok, Err, refl, sym}
 use Rattle.std.specs.Prelude.{map, option_map}
+use Rattle.std.specs.List.{AllByRecursion}
 use Rattle.text_base.specs.declared.stop.Stop.{Stop}
 use Rattle.text_base.specs.declared.stop.Stop.TheVariants.{Fault, Memory}
 use Rattle.text_base.specs.Judged.{first_reason, Takes}
@@ -17,6 +18,11 @@ reason_next b r tests e = rw e refl
 pub none_head : {R : Type 0} (b : Bool) (r : R) (tests : List (Bool × R)) → first_reason ((b, r) ∷ tests) ≡ None → (b ≡ false) × (first_reason tests ≡ None)
 none_head true r tests e = absurd cc
 none_head false r tests e = (refl, e)
+
+-- no reason: no test holds
+pub none_each : {R : Type 0} (tests : List (Bool × R)) → first_reason tests ≡ None → AllByRecursion (λ t. t.0 ≡ false) tests
+none_each [] e = tt
+none_each (x ∷ xs) e = let h = none_head x.0 x.1 xs e in (h.0, none_each xs h.1)
 
 -- ---- two lists of tests
 

@@ -1,5 +1,5 @@
 use Rattle.exact_numbers.specs.Values.{dec_value}
-use Rattle.nl_segments.proofs.WholeLemmas.{whole_by}
+use Rattle.exact_numbers.proofs.WholeLemmas.{whole_by}
 use Rattle.nl_segments.proofs.pairs.is_whole.Goals as goal
 
 pub returns : goal.returns

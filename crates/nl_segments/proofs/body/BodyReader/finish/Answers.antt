@@ -6,11 +6,10 @@ use Rattle.nl_model.specs.Rules.{term_count}
 use Rattle.nl_segments.specs.Ending.{body_end_tests}
 use Rattle.nl_segments.specs.Held.{Body}
 use Rattle.nl_segments.proofs.EndLemmas.{missing, finished, is_ready}
-use Rattle.nl_segments.proofs.LinesHeld.{has_lines}
 use Rattle.nl_segments.proofs.body.BodyReader.finish.Goals as goal
 
-pub returns-in-Err-clause-finishes : goal.returns-in-Err-clause-finishes
-returns-in-Err-clause-finishes c = missing c.args.self c.args.self refl c.judge_end.ensures.draft c.refusal.result (c.in-Err.ensures.fault ∙ ap Some (sym c.refusal.ensures))
+pub returns-in-Err : goal.returns-in-Err
+returns-in-Err c = missing c.args.self c.args.self refl c.judge_end.ensures.draft c.refusal.result (c.in-Err.ensures.fault ∙ ap Some (sym c.refusal.ensures))
 
 pub finish-requires-clause-objectives : goal.finish-requires-clause-objectives
 finish-requires-clause-objectives c =
@@ -20,12 +19,7 @@ pub finish-requires-clause-terms : goal.finish-requires-clause-terms
 finish-requires-clause-terms c =
     subst (λ (b : Body). term_count b.draft.terms ≡ b.draft.counts.nzc) (sym c.self.view_is) (is_ready c.args.self c.judge_end.ensures.draft c.in_default.ensures.fine).terms
 
-pub returns-clause-finishes : goal.returns-clause-finishes
-returns-clause-finishes c =
+pub returns : goal.returns
+returns c =
     finished _ c.args.self c.self.view_is (subst (λ (b : Body). IsDraft b.draft) (sym c.self.view_is) c.judge_end.ensures.draft)
     (subst (λ b. first_reason (body_end_tests b) ≡ None) (sym c.self.view_is) c.in_default.ensures.fine) c.finish.result c.finish.ensures
-
-pub returns-clause-lines : goal.returns-clause-lines
-returns-clause-lines c =
-    has_lines _ c.args.self c.self.view_is (c.self.invariant c.if-self.false)
-    c.in_default.ensures.fine c.finish.result c.finish.ensures (is_ready c.args.self c.judge_end.ensures.draft c.in_default.ensures.fine).objectives

@@ -1,14 +1,13 @@
 use Rattle.std.proofs.Common.{◌≡◌, ◌∙◌, sym, ap, subst, refl, arith, false, Option, Some, None, List, ℕ}
 use Rattle.text_base.specs.Judged.{first_reason}
-use Rattle.text_base.specs.Words.{texts}
+use Rattle.text_base.specs.Words.{texts, word_at}
 use Rattle.nl_segments.specs.declared.awaited.Awaited.TheVariants.{OperandCount}
 use Rattle.nl_segments.specs.contracts.body.BodyReader.{the_view}
 use Rattle.nl_segments.specs.Current.{Current}
 use Rattle.nl_segments.specs.Heads.{is_head}
 use Rattle.nl_segments.specs.Held.{Body, IsAwaiting, IsHeld}
 use Rattle.nl_segments.specs.Nodes.{Pending}
-use Rattle.nl_segments.specs.Numbers.{whole_of}
-use Rattle.nl_segments.specs.Rows.{word_at}
+use Rattle.exact_numbers.specs.Numbers.{whole_of}
 use Rattle.nl_segments.specs.Tests.{operand_tests}
 use Rattle.nl_segments.proofs.PairLines.{awaiting, awaits_as, holds_again}
 use Rattle.nl_segments.proofs.NodeTaken.{IsCounted, has_owner, has_begun, counted_fresh, counted_known, operands_judged, count_taken, nodes_few, pending_few}
