@@ -237,6 +237,50 @@ def scale_cases():
     yield refused("a wide objective", file((2, 0, 1, 0, 0, 0, 2, 0), wide), "objective 0: objective too wide")
 
 
+PAIRS = [
+    "* two pairs per line", "NAME          TEST", "ROWS", " N  COST", " E  R1", " L  R2", "COLUMNS", "    X  COST  1.0  R1  2",
+    "    X  R2  1", "    Y  COST  -3  R2  1e0", "RHS", "    R1  10  R2  7", "RANGES", "    RG  R1  -2", "BOUNDS", " UP BN X -4", "ENDATA",
+]
+PAIRS_MPS = (
+    "NAME TEST\nROWS\n N COST\n E R1\n L R2\nCOLUMNS\n X COST 1\n X R1 2\n X R2 1\n Y COST -3\n Y R2 1\nRHS\n RHS R1 10\n"
+    " RHS R2 7\nRANGES\n RNG R1 -2\nBOUNDS\n UP BND X -4\nENDATA\n"
+)
+MPS = ("mps", "FILE")
+FRONT = ["ROWS", " N C", " L R", " N F", "COLUMNS", " X C 1 R 1", " Y R 1"]
+
+
+def mps_cases():
+    yield written("an MPS text", PAIRS, PAIRS_MPS, *MPS)
+    yield written("an MPS text by CR LF", PAIRS, PAIRS_MPS, *MPS, end="\r\n")
+    for out in [PAIRS_MPS, KNAPSACK_MPS, small_mps("10")]:
+        yield "written again", out.encode(), MPS, 0, out, ""
+    for count in range(17):
+        yield refused(f"{count} lines", PAIRS[:count], f"line {count + 1}: no end", *MPS)
+    yield "no MPS file", b"", ("mps", "missing.mps"), 4, "", "input fault\n"
+    yield bad_words("mps alone", "mps")
+    yield bad_words("mps and a number", "mps", "FILE", "0")
+    yield refused("no objective", ["ROWS", " L R", "COLUMNS"], "line 3: no objective", *MPS)
+    yield refused("words after COLUMNS", ["ROWS", " L R", "COLUMNS x"], "line 3: bad section", *MPS)
+    yield refused("an unknown row", FRONT + ["RHS", " R 1 Q x"], "line 9: unknown row", *MPS)
+    yield refused("a bad number", FRONT + ["RHS", " R 1 R x"], "line 9: bad number", *MPS)
+    yield refused("a repeated entry", FRONT + ["RHS", " R 1 R 1"], "line 9: repeated entry", *MPS)
+    yield refused("a second set", FRONT + ["RHS", " S R 1", " C 1"], "line 10: second set", *MPS)
+    yield refused("a range on a free row", FRONT + ["RANGES", " F x"], "line 9: range on free row", *MPS)
+    yield refused("a repeated bound", FRONT + ["BOUNDS", " UP X 1", " FX X 1"], "line 10: repeated bound", *MPS)
+    yield refused("a column again", FRONT + [" X R 2"], "line 8: column again", *MPS)
+
+
+def nl_cases():
+    def again(name, counts, body, out):
+        return name, text(file(counts, body)), ("nl", "FILE"), 0, text(file(counts, out)).decode(), ""
+
+    yield again("slopes, written", (1, 0, 1, 0, 0, 0, 1, 0), "O0 0 / n5 / b / 3 / G0 1 / 0 2", "O0 0 / n5 / b / 3 / k0 / G0 1 / 0 2")
+    pieces = "d1 / 0 1.5 / x1 / 0 2 / S0 1 sstatus / 0 3 / r / 3 / b / 3"
+    yield again("pieces in order", (1, 1, 0, 0, 0, 0, 0, 0), pieces, "S0 1 sstatus / 0 3 / d1 / 0 1.5 / x1 / 0 2 / r / 3 / b / 3 / k0")
+    yield refused("no number", one_term("."), "line 16: bad number", "nl", "FILE")
+    yield bad_words("nl and a number", "nl", "FILE", "0")
+
+
 def run(program, folder, case):
     name, content, words, status, out, told = case
     path = os.path.join(folder, "FILE")
@@ -257,7 +301,7 @@ def main():
     if len(sys.argv) != 2:
         sys.exit(__doc__)
     program = os.path.abspath(sys.argv[1])
-    cases = [*small_cases(), *header_cases(), *reader_cases(), *fold_cases(), *scale_cases()]
+    cases = [*small_cases(), *header_cases(), *reader_cases(), *fold_cases(), *scale_cases(), *mps_cases(), *nl_cases()]
     with tempfile.TemporaryDirectory() as folder:
         failed = sum(not run(program, folder, case) for case in cases)
     print(f"{len(cases)} examples, {failed} failed")

@@ -6,13 +6,13 @@ use Rattle.std.proofs.lemmas.List.{get_or_past}
 use Rattle.std.proofs.lemmas.List.Elements.{All-nil, All-cons, All-head, All-tail}
 use Rattle.fractions.specs.Fits.{fits, sum_fits}
 use Rattle.fractions.specs.Rational.{ℚ, neg_ℚ, whole, ◌-ℚ◌, ◌*ℚ◌}
-use Rattle.linear_programs.specs.Linear.{Row, Linear, variable_count}
+use Rattle.linear_programs.specs.Linear.{Row, Linear, variable_count, no_row, row_at}
 use Rattle.exact_numbers.specs.Values.{FitsDec, fits_dec}
 use Rattle.exact_numbers.proofs.Spelling.{fits_dec_in, fits_dec_out}
 use Rattle.exported_program.specs.Export.{ScaledFits, SideFits, RangeFits, IfSide, IfBoth, RowFits, ExportFits, IsRowTooWide, IsDecimal, ObjectiveFits, IsObjectiveTooWide, factor_of_row, factor_of_objective}
 use Rattle.exported_program.specs.Factor.{coefficients_below, objective_numbers}
 use Rattle.exported_program.specs.Program.{nonzero, scaled_side}
-use Rattle.exported_program.specs.Return.{is_exported, row_at, no_file_row}
+use Rattle.exported_program.specs.Return.{is_exported}
 use Rattle.row_scaling.specs.Scaling.{HasNoScaleFault, HasScaleFault}
 use Rattle.row_scaling.specs.declared.scale_fault.ScaleFault.{ScaleFault}
 use Rattle.row_scaling.specs.declared.scale_fault.ScaleFault.TheVariants.{RowTooWide, ObjectiveTooWide}
@@ -109,7 +109,7 @@ rows_below f (suc n) = elim (rows_below f n) [
 
 -- a row past the last is not exported
 past : (f : Linear) (i : ℕ) → length f.rows ≤ i → ExportFits f i
-past f i le = λ h. absurd (untrue (subst (λ (r : Row). IsTrue (is_exported r)) (get_or_past f.rows i no_file_row le) h))
+past f i le = λ h. absurd (untrue (subst (λ (r : Row). IsTrue (is_exported r)) (get_or_past f.rows i no_row le) h))
 
 every_row : (f : Linear) → ((i : ℕ) → i < length f.rows → ExportFits f i) → (i : ℕ) → ExportFits f i
 every_row f h i = elim (cases_lt i (length f.rows)) [ inl lt ↦ h i lt | inr le ↦ past f i le ]

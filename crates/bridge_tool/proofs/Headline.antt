@@ -1,69 +1,89 @@
 -- The headline, from the clauses of the top call.
-use Rattle.std.proofs.Common.{◌≡◌, ◌≢◌, ◌∙◌, inl, inr, ◌⊎◌, ℕ, ◌≤◌, Bool, true, List, take, Option, Some, None, IfSome, refl, sym, ap, subst, arith}
+use Rattle.std.proofs.Common.{◌≡◌, ◌≢◌, ◌∙◌, inl, inr, ◌⊎◌, ℕ, ◌≤◌, Bool, true, false, List, Option, Some, None, refl, sym, ap, subst, arith}
 use Rattle.std.specs.Io.KnownBytes.{Appends}
-use Rattle.nl_model.specs.Rules.{IsFile}
-use Rattle.nl_segments.specs.Grammar.{NlValue}
-use Rattle.nl_segments.specs.Reader.{IsNl}
-use Rattle.text_base.specs.Desk.{Texts}
-use Rattle.bridge_tool.specs.Command.{Request, export_of}
-use Rattle.bridge_tool.specs.Outcome.{Outcome, BadWords, Untold, NoText, Refused, Done, TextComesTo, FileComesTo, ExportComesTo, CommandComesTo, ComesTo, Answers, IsQuiet, Status, Told, Written, text_of, verdict_status}
-use Rattle.bridge_tool.specs.declared.transfer.TheConstants.{LIMIT}
-use Rattle.bridge_tool.proofs.Meaning.{exports_mean}
-use Rattle.bridge_tool.proofs.Outcomes.{exported_or_refused, one_text, some_outcome_of_text}
+use Rattle.text_base.specs.Desk.{Meaning, Rose, Texts}
+use Rattle.bridge_tool.specs.Command.{Command}
+use Rattle.bridge_tool.specs.Commands.{promise_of, promise_by}
+use Rattle.bridge_tool.specs.Outcome.{Outcome, BadWords, Untold, NoText, Refused, Done, verdict_status}
+use Rattle.bridge_tool.specs.Promise.{Promise, Answers}
+use Rattle.bridge_tool.proofs.Outcomes.{HasOne, IsPlain, told_has_one}
+use Rattle.bridge_tool.proofs.Working.{IsAnswered}
 
--- what the named text comes to is what the words come to
-pub comes_to : (told : Option Texts) (words : List (List ℕ)) (texts : Texts) (command : Request) (text : List ℕ) (o : Outcome) → told ≡ Some texts → export_of words ≡ Some command → texts command.file ≡ Some text → TextComesTo (take LIMIT text) command.objective o → ComesTo told words o
-comes_to told words texts command text o p q r h =
-    let file : FileComesTo (texts command.file) command.objective o = subst (λ (t : Option (List ℕ)). FileComesTo t command.objective o) (sym r) h in
-    let export : ExportComesTo told command o = subst (λ (t : Option Texts). ExportComesTo t command o) (sym p) file in
-    subst (λ (e : Option Request). CommandComesTo told e o) (sym q) export
+module _ (p : Promise) (old new : Meaning) (status : ℕ) (a : IsAnswered p old new status) (memory : status ≢ 6) (no_input : Rose old.input_faults new.input_faults → ⊥) (no_output : Rose old.output_faults new.output_faults → ⊥) where
+  no_text : p.comes NoText → ((other : Outcome) → p.comes other → other ≡ NoText) → Answers p old new status
+  no_text h one =
+      let four : status ≡ 4 = elim (a.which NoText h) [ inl e ↦ e | inr e ↦ absurd (memory e) ] in
+      let is_not : (holds : Bool) (bytes : List ℕ) → p.comes (Done holds bytes) → ⊥ = λ holds bytes c. let e = one (Done holds bytes) c in absurd cc in
+      record {
+        done = (λ z. absurd (omega (arith, z, four)), λ e. absurd (is_not true e.0 e.1));
+        denied = (λ z. absurd (omega (arith, z, four)), λ e. absurd (is_not false e.0 e.1));
+        wrote = λ holds bytes c. absurd (is_not holds bytes c);
+        means = λ z. absurd (omega (arith, z, four));
+        other = inr (inr (record { none = h; four = four; tells = record { quiet = a.quiet (inr (inr (inl four))); told = rw four at (a.told NoText h) } }));
+      }
 
-pub at_text : (told : Option Texts) (e : Option Request) (texts : Texts) (command : Request) (text : List ℕ) (P : List ℕ → Type 0) → told ≡ Some texts → e ≡ Some command → texts command.file ≡ Some text → IfSome (text_of told e) P → P text
-at_text told e texts command text P p q r h =
-    let one : IfSome (text_of (Some texts) e) P = subst (λ (t : Option Texts). IfSome (text_of t e) P) p h in
-    let two : IfSome (text_of (Some texts) (Some command)) P = subst (λ (x : Option Request). IfSome (text_of (Some texts) x) P) q one in
-    subst (λ (t : Option (List ℕ)). IfSome t P) r two
+  refused : (line : List ℕ) → p.comes (Refused line) → ((other : Outcome) → p.comes other → other ≡ Refused line) → Answers p old new status
+  refused line h one =
+      let two : status ≡ 2 = elim (a.which (Refused line) h) [ inl e ↦ e | inr q ↦ elim q [ inl e ↦ absurd (memory e) | inr f ↦ absurd (no_input f.1) ] ] in
+      let is_not : (holds : Bool) (bytes : List ℕ) → p.comes (Done holds bytes) → ⊥ = λ holds bytes c. let e = one (Done holds bytes) c in absurd cc in
+      record {
+        done = (λ z. absurd (omega (arith, z, two)), λ e. absurd (is_not true e.0 e.1));
+        denied = (λ z. absurd (omega (arith, z, two)), λ e. absurd (is_not false e.0 e.1));
+        wrote = λ holds bytes c. absurd (is_not holds bytes c);
+        means = λ z. absurd (omega (arith, z, two));
+        other = inr (inl (record { line = line; refused = h; two = two; tells = record { quiet = a.quiet (inl two); told = rw two at (a.told (Refused line) h) } }));
+      }
 
-by_outcome : (text : List ℕ) (k : ℕ) (o : Outcome) (status : ℕ) (ow nw ot nt : Option (List ℕ)) (before now : ℕ) (input output : Type 0)
-    → TextComesTo text k o
-    → Status o input output status
-    → Written o ow nw status
-    → (IsQuiet status → nw ≡ ow)
-    → Told o ot nt before now status
-    → (status ≤ 1 → nt ≡ ot)
-    → (status ≡ 0 → (value : NlValue) → IsNl text value → IsFile value.file)
-    → status ≢ 6 → (input → ⊥) → (output → ⊥)
-    → Answers text k ow nw ot nt before now status
-by_outcome text k BadWords status ow nw ot nt before now input output h which written quiet told silent files memory no_input no_output = absurd h
-by_outcome text k Untold status ow nw ot nt before now input output h which written quiet told silent files memory no_input no_output = absurd h
-by_outcome text k NoText status ow nw ot nt before now input output h which written quiet told silent files memory no_input no_output = absurd h
-by_outcome text k (Refused line) status ow nw ot nt before now input output h which written quiet told silent files memory no_input no_output =
-    let two : status ≡ 2 = elim which [ inl e ↦ e | inr p ↦ elim p [ inl e ↦ absurd (memory e) | inr f ↦ absurd (no_input f.1) ] ] in
-    record {
-      done = (λ none. absurd (omega (arith, none, two)), λ e. absurd (exported_or_refused text k e.0 line e.1 h));
-      wrote = λ bytes e. absurd (exported_or_refused text k bytes line e h);
-      means = λ bytes e. absurd (exported_or_refused text k bytes line e h);
-      other = inr (two, record { line = line; refused = h; quiet = quiet (inl two); told = rw two at told });
-    }
-by_outcome text k (Done holds bytes) status ow nw ot nt before now input output h which written quiet told silent files memory no_input no_output =
-    let verdict : status ≡ verdict_status holds = elim which [ inl e ↦ e | inr p ↦ elim p [ inl e ↦ absurd (memory e) | inr q ↦ elim q [ inl f ↦ absurd (no_input f.1) | inr f ↦ absurd (no_output f.1) ] ] ] in
-    let zero : status ≡ 0 = verdict ∙ ap verdict_status h.0 in
-    record {
-      done = (λ none. (bytes, h.1), λ e. zero);
-      wrote = λ other e. (subst (λ (l : List ℕ). Appends ow nw l) (one_text text k bytes other h.1 e) (written.0 (omega (arith, zero))), silent (omega (arith, zero)));
-      means = λ other e. exports_mean text k other e (files zero e.value e.read);
-      other = inl zero;
-    }
+  verdict : (holds : Bool) (bytes : List ℕ) → p.comes (Done holds bytes) → status ≡ verdict_status holds
+  verdict holds bytes h = elim (a.which (Done holds bytes) h) [ inl e ↦ e | inr q ↦ elim q [ inl e ↦ absurd (memory e) | inr r ↦ elim r [ inl f ↦ absurd (no_input f.1) | inr f ↦ absurd (no_output f.1) ] ] ]
 
-pub answers : (text : List ℕ) (k : ℕ) (status : ℕ) (ow nw ot nt : Option (List ℕ)) (before now : ℕ) (input output : Type 0)
-    → ((o : Outcome) → TextComesTo text k o → Status o input output status)
-    → ((o : Outcome) → TextComesTo text k o → Written o ow nw status)
-    → (IsQuiet status → nw ≡ ow)
-    → ((o : Outcome) → TextComesTo text k o → Told o ot nt before now status)
-    → (status ≤ 1 → nt ≡ ot)
-    → (status ≡ 0 → (value : NlValue) → IsNl text value → IsFile value.file)
-    → status ≢ 6 → (input → ⊥) → (output → ⊥)
-    → Answers text k ow nw ot nt before now status
-answers text k status ow nw ot nt before now input output which written quiet told silent files memory no_input no_output =
-    let o = some_outcome_of_text text k in
-    by_outcome text k o.0 status ow nw ot nt before now input output o.1 (which o.0 o.1) (written o.0 o.1) quiet (told o.0 o.1) silent files memory no_input no_output
+  low : (holds : Bool) → verdict_status holds ≤ 1
+  low true = omega arith
+  low false = omega arith
+
+  wrote : (holds : Bool) (bytes : List ℕ) → p.comes (Done holds bytes) → Appends old.written new.written bytes × (new.told ≡ old.told)
+  wrote holds bytes h =
+      let le : status ≤ 1 = subst (λ (n : ℕ). n ≤ 1) (sym (verdict holds bytes h)) (low holds) in
+      ((a.written (Done holds bytes) h).0 le, a.silent le)
+
+  done : (bytes : List ℕ) → p.comes (Done true bytes) → Answers p old new status
+  done bytes h =
+      let is : status ≡ 0 = verdict true bytes h in
+      record {
+        done = (λ z. (bytes, h), λ e. is);
+        denied = (λ z. absurd (omega (arith, z, is)), λ e. verdict false e.0 e.1);
+        wrote = wrote;
+        means = a.means;
+        other = inl (omega (arith, is));
+      }
+
+  denied : (bytes : List ℕ) → p.comes (Done false bytes) → Answers p old new status
+  denied bytes h =
+      let is : status ≡ 1 = verdict false bytes h in
+      record {
+        done = (λ z. absurd (omega (arith, z, is)), λ e. verdict true e.0 e.1);
+        denied = (λ z. (bytes, h), λ e. is);
+        wrote = wrote;
+        means = a.means;
+        other = inl (omega (arith, is));
+      }
+
+  by_outcome : (o : Outcome) → p.comes o → IsPlain o → ((other : Outcome) → p.comes other → other ≡ o) → Answers p old new status
+  by_outcome BadWords h is one = absurd is
+  by_outcome (Untold judges) h is one = absurd is
+  by_outcome NoText h is one = no_text h one
+  by_outcome (Refused line) h is one = refused line h one
+  by_outcome (Done true bytes) h is one = done bytes h
+  by_outcome (Done false bytes) h is one = denied bytes h
+
+  pub answers : HasOne IsPlain p.comes → Answers p old new status
+  answers h = by_outcome h.outcome h.comes_to h.is h.one
+
+-- what is answered for words is the headline of their command
+pub at_command : (told : Option Texts) (asked : Option Command) (texts : Texts) (command : Command) (old new : Meaning) (status : ℕ) → told ≡ Some texts → asked ≡ Some command
+    → IsAnswered (promise_by told asked) old new status → status ≢ 6 → (Rose old.input_faults new.input_faults → ⊥) → (Rose old.output_faults new.output_faults → ⊥)
+    → Answers (promise_of (Some texts) command) old new status
+at_command told asked texts command old new status is known a memory no_input no_output =
+    let one : IsAnswered (promise_by (Some texts) asked) old new status = subst (λ (t : Option Texts). IsAnswered (promise_by t asked) old new status) is a in
+    let two : IsAnswered (promise_by (Some texts) (Some command)) old new status = subst (λ (c : Option Command). IsAnswered (promise_by (Some texts) c) old new status) known one in
+    answers (promise_of (Some texts) command) old new status two memory no_input no_output (told_has_one texts command)

@@ -1,7 +1,11 @@
 pub mod Decided
+pub mod Decisions
+pub mod Exporting
 pub mod Headline
 pub mod Known
 pub mod Meaning
+pub mod MpsRewriting
+pub mod NlRewriting
 pub mod Numbers
 pub mod Outcomes
 pub mod Working

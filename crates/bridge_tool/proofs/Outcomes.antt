@@ -1,212 +1,94 @@
--- A text comes to exactly one outcome.
-use Rattle.std.proofs.Common.{◌≡◌, ◌∙◌, inl, inr, ◌⊎◌, ℕ, ◌+◌, ◌≤◌, List, ◌++◌, codes, take, Option, Some, None, true, Bool, refl, sym, ap, subst}
-use Rattle.std.specs.Prelude.{option_map}
-use Rattle.fractions.specs.Rational.{ℚ}
-use Rattle.linear_programs.specs.Linear.{Linear}
-use Rattle.exact_numbers.specs.Values.{value_text}
-use Rattle.exported_program.specs.Export.{IsDecimal, factor_of_row, factor_of_objective}
-use Rattle.exported_program.specs.Program.{program, tied_program}
-use Rattle.mps_model.specs.Mps.{Mps}
-use Rattle.mps_model.specs.Text.{mps_text_by}
+-- Words come to exactly one outcome.
+use Rattle.std.proofs.Common.{◌≡◌, ◌∙◌, inl, inr, ◌⊎◌, ℕ, List, take, Option, Some, None, true, false, Bool, refl, sym, ap, subst}
 use Rattle.text_base.specs.Desk.{Texts}
-use Rattle.text_base.specs.Judged.{HasOneOutcome, HasFaultAt, IsClean}
-use Rattle.text_base.specs.Reading.{lines_of, last_of}
-use Rattle.text_base.specs.declared.fault.TextFault.{TextFault}
-use Rattle.text_base.proofs.JudgedLemmas.{one_outcome}
-use Rattle.file_meaning.specs.FoldFaults.{fold_fault, FoldFault as FileFault}
-use Rattle.file_meaning.specs.LinearFile.{linear_of}
-use Rattle.linear_fold.specs.FoldedFaults.{first_fold_fault, named_fault, step_bound}
-use Rattle.linear_fold.specs.declared.fold_fault.FoldFault.{FoldFault}
-use Rattle.nl_model.specs.File.{File}
-use Rattle.nl_segments.specs.Grammar.{nl_rules, NlValue, SaysFile, standing, said, counts_of}
-use Rattle.nl_segments.specs.Saying.{place_lines}
-use Rattle.nl_model.specs.Draft.{file_of}
-use Rattle.nl_segments.specs.Reader.{IsNl, HasNlFault}
-use Rattle.nl_segments.specs.declared.fault.NlFault.{NlFault}
-use Rattle.nl_segments.specs.declared.fault.Refusal.{Refusal}
-use Rattle.row_scaling.specs.Scaling.{HasNoScaleFault, HasScaleFault, IsExportOf}
-use Rattle.row_scaling.specs.declared.scale_fault.ScaleFault.{ScaleFault}
-use Rattle.bridge_tool.specs.Command.{Request, export_of}
+use Rattle.bridge_tool.specs.Command.{Command, Export, Mps, Nl, command_of}
+use Rattle.bridge_tool.specs.Commands.{promise_of, promise_by, ComesTo}
 use Rattle.bridge_tool.specs.Export.{IsExported}
-use Rattle.bridge_tool.specs.Refusal.{HasTextRefusal, HasFoldRefusal, HasScaleRefusal, IsRefused}
-use Rattle.bridge_tool.specs.Told.{nl_line, fold_line, scale_line, refused_at, reason_text, opcode_text}
-use Rattle.bridge_tool.specs.Outcome.{Counts, Outcome, BadWords, Untold, NoText, Refused, Done, TextComesTo, FileComesTo, ExportComesTo, CommandComesTo, ComesTo}
+use Rattle.bridge_tool.specs.Mps.{IsRewritten, IsMpsRefused}
+use Rattle.bridge_tool.specs.Nl.{IsNlRewritten}
+use Rattle.bridge_tool.specs.OneFile.{TextComesTo, FileComesTo, DeskComesTo}
+use Rattle.bridge_tool.specs.Outcome.{Outcome, BadWords, Untold, NoText, Refused, Done}
+use Rattle.bridge_tool.specs.Promise.{Promise}
+use Rattle.bridge_tool.specs.Refusal.{HasTextRefusal, IsRefused}
 use Rattle.bridge_tool.specs.declared.transfer.TheConstants.{LIMIT}
-use Rattle.bridge_tool.proofs.Decided.{IsDecided, decimal_decided, scaling_decided, scales_without_fault, one_scale_fault}
+use Rattle.bridge_tool.proofs.Exporting.{export_decided}
+use Rattle.bridge_tool.proofs.NlRewriting.{nl_decided}
+use Rattle.bridge_tool.proofs.MpsRewriting.{mps_decided}
+use Rattle.bridge_tool.proofs.Decisions.{AreDecided}
 
--- ---- texts
+-- an outcome of a command whose texts are told
+abbrev pub IsPlain : Outcome → Type 0
+IsPlain BadWords = ⊥
+IsPlain (Untold judges) = ⊥
+IsPlain NoText = Unit {0}
+IsPlain (Refused line) = Unit {0}
+IsPlain (Done holds bytes) = Unit {0}
 
-outcome_of_text : (text : List ℕ) → HasOneOutcome nl_rules (lines_of text) (last_of text)
-outcome_of_text text = one_outcome nl_rules (lines_of text) (last_of text)
+-- exactly one outcome, which is of this kind
+pub record HasOne (kind comes : Outcome → Type 0) : Type 0 where
+  pub outcome : Outcome
+  pub comes_to : comes outcome
+  pub is : kind outcome
+  pub one : (other : Outcome) → comes other → other ≡ outcome
 
-pub not_both : (text : List ℕ) (value : NlValue) (fault : NlFault) → IsNl text value → HasNlFault text fault → ⊥
-not_both text value fault h k = (outcome_of_text text).not_both h.clean fault.line _ k
+module _ (accepts refuses : List ℕ → List ℕ → Type 0) (d : AreDecided accepts refuses) where
+  one_accepted : (text bytes : List ℕ) → accepts text bytes → (other : Outcome) → TextComesTo accepts refuses text other → other ≡ Done true bytes
+  one_accepted text bytes h BadWords j = absurd j
+  one_accepted text bytes h (Untold judges) j = absurd j
+  one_accepted text bytes h NoText j = absurd j
+  one_accepted text bytes h (Refused line) j = absurd (d.apart text bytes line h j)
+  one_accepted text bytes h (Done true other) j = ap (Done true) (d.accepted text other bytes j h)
+  one_accepted text bytes h (Done false other) j = absurd j
 
-pub same_file : (text : List ℕ) (a b : NlValue) → IsNl text a → IsNl text b → a.file ≡ b.file
-same_file text a b h k = h.said.file ∙ sym k.said.file
+  one_refused : (text line : List ℕ) → refuses text line → (other : Outcome) → TextComesTo accepts refuses text other → other ≡ Refused line
+  one_refused text line h BadWords j = absurd j
+  one_refused text line h (Untold judges) j = absurd j
+  one_refused text line h NoText j = absurd j
+  one_refused text line h (Refused other) j = ap Refused (d.refused text other line j h)
+  one_refused text line h (Done true other) j = absurd (d.apart text other line j h)
+  one_refused text line h (Done false other) j = absurd j
 
-same_places : (text : List ℕ) (a b : NlValue) → IsNl text a → IsNl text b → a.places ≡ b.places
-same_places text a b h k = h.said.places ∙ sym k.said.places
+  pub text_has_one : (text : List ℕ) → HasOne IsPlain (TextComesTo accepts refuses text)
+  text_has_one text = elim (d.either text) [
+    | inl h ↦ record { outcome = Done true h.0; comes_to = h.1; is = tt; one = one_accepted text h.0 h.1 }
+    | inr h ↦ record { outcome = Refused h.0; comes_to = h.1; is = tt; one = one_refused text h.0 h.1 }
+  ]
 
--- the line of a fault, by its line and its reason
-line_by : ℕ → Refusal → List ℕ
-line_by line r = nl_line (record { reason = r.reason; line = line; opcode = r.opcode })
+  file_has_one : (text : Option (List ℕ)) → HasOne IsPlain (FileComesTo (TextComesTo accepts refuses) text)
+  file_has_one None = record { outcome = NoText; comes_to = refl; is = tt; one = λ other j. j }
+  file_has_one (Some text) = text_has_one (take LIMIT text)
 
-same_nl_line : (text : List ℕ) (a b : NlFault) → HasNlFault text a → HasNlFault text b → nl_line a ≡ nl_line b
-unfolding line_by
-same_nl_line text a b h k =
-    let ra : Refusal = record { reason = a.reason; opcode = a.opcode } in
-    let rb : Refusal = record { reason = b.reason; opcode = b.opcode } in
-    let same = (outcome_of_text text).one_fault a.line b.line ra rb h k in
-    ap (λ (n : ℕ). line_by n ra) same.0 ∙ ap (line_by b.line) same.1
-
--- ---- the fold
-
-named : (f : File) (o : Option FileFault) (fault : FoldFault) → o ≡ None → option_map (named_fault f) o ≡ Some fault → ⊥
-named f None fault e is = absurd cc
-named f (Some x) fault e is = absurd cc
-
-pub folds_without_fault : (f : File) (k : ℕ) (fault : FoldFault) → fold_fault f k ≡ None → first_fold_fault f k ≡ Some fault → ⊥
-folds_without_fault f k fault e is = named f (fold_fault f k) fault e is
-
-folds_of_one_text : (text : List ℕ) (k : ℕ) (a b : NlValue) (fault : FoldFault) → IsNl text a → IsNl text b → fold_fault a.file k ≡ None → first_fold_fault b.file k ≡ Some fault → ⊥
-folds_of_one_text text k a b fault ra rb e is = folds_without_fault a.file k fault e (subst (λ (f : File). first_fold_fault f k ≡ Some fault) (sym (same_file text a b ra rb)) is)
-
-same_some : {A : Type 0} (a b : A) (o : Option A) → o ≡ Some a → o ≡ Some b → a ≡ b
-same_some a b o e f = cc
-
-same_fold_line : (text : List ℕ) (k : ℕ) (a b : List ℕ) → HasFoldRefusal text k a → HasFoldRefusal text k b → a ≡ b
-same_fold_line text k a b h j =
-    let file = same_file text h.value j.value h.read j.read in
-    let places = same_places text h.value j.value h.read j.read in
-    let other : first_fold_fault j.value.file k ≡ Some h.fault = subst (λ (f : File). first_fold_fault f k ≡ Some h.fault) file h.first in
-    let fault : h.fault ≡ j.fault = same_some h.fault j.fault (first_fold_fault j.value.file k) other j.first in
-    h.told ∙ ap (λ p. fold_line p h.fault) places ∙ ap (fold_line j.value.places) fault ∙ sym j.told
-
--- ---- scaling
-
-same_scale_line : (text : List ℕ) (k : ℕ) (a b : List ℕ) → HasScaleRefusal text k a → HasScaleRefusal text k b → a ≡ b
-same_scale_line text k a b h j =
-    let file = same_file text h.value j.value h.read j.read in
-    let other : HasScaleFault (linear_of j.value.file k) h.fault = subst (λ (f : File). HasScaleFault (linear_of f k) h.fault) file h.first in
-    h.told ∙ ap (scale_line k) (one_scale_fault (linear_of j.value.file k) h.fault j.fault other j.first) ∙ sym j.told
-
--- ---- refusals
-
-pub one_line : (text : List ℕ) (k : ℕ) (a b : List ℕ) → IsRefused text k a → IsRefused text k b → a ≡ b
-one_line text k a b (inl h) (inl j) = h.told ∙ same_nl_line text h.fault j.fault h.first j.first ∙ sym j.told
-one_line text k a b (inl h) (inr (inl j)) = absurd (not_both text j.value h.fault j.read h.first)
-one_line text k a b (inl h) (inr (inr j)) = absurd (not_both text j.value h.fault j.read h.first)
-one_line text k a b (inr (inl h)) (inl j) = absurd (not_both text h.value j.fault h.read j.first)
-one_line text k a b (inr (inl h)) (inr (inl j)) = same_fold_line text k a b h j
-one_line text k a b (inr (inl h)) (inr (inr j)) = absurd (folds_of_one_text text k j.value h.value h.fault j.read h.read j.folded h.first)
-one_line text k a b (inr (inr h)) (inl j) = absurd (not_both text h.value j.fault h.read j.first)
-one_line text k a b (inr (inr h)) (inr (inl j)) = absurd (folds_of_one_text text k h.value j.value j.fault h.read j.read h.folded j.first)
-one_line text k a b (inr (inr h)) (inr (inr j)) = same_scale_line text k a b h j
-
-pub exported_or_refused : (text : List ℕ) (k : ℕ) (bytes line : List ℕ) → IsExported text k bytes → IsRefused text k line → ⊥
-exported_or_refused text k bytes line e (inl h) = not_both text e.value h.fault e.read h.first
-exported_or_refused text k bytes line e (inr (inl h)) = folds_of_one_text text k e.value h.value h.fault e.read h.read e.folded h.first
-exported_or_refused text k bytes line e (inr (inr h)) =
-    let file = same_file text h.value e.value h.read e.read in
-    scales_without_fault (linear_of e.value.file k) h.fault e.scaled (subst (λ (f : File). HasScaleFault (linear_of f k) h.fault) file h.first)
-
--- ---- programs
-
-by_decimal : (f : Linear) (m n : Mps ℚ) → IsExportOf f m → IsExportOf f n → IsDecided (IsDecimal f) → m ≡ n
-by_decimal f m n h k (inl d) = h.plain d ∙ sym (k.plain d)
-by_decimal f m n h k (inr d) = h.tied d ∙ sym (k.tied d)
-
-pub one_text : (text : List ℕ) (k : ℕ) (a b : List ℕ) → IsExported text k a → IsExported text k b → a ≡ b
-one_text text k a b h j =
-    let file = same_file text h.value j.value h.read j.read in
-    let other : IsExportOf (linear_of j.value.file k) h.program = subst (λ (f : File). IsExportOf (linear_of f k) h.program) file h.exports in
-    h.written ∙ ap (mps_text_by value_text) (by_decimal (linear_of j.value.file k) h.program j.program other j.exports (decimal_decided (linear_of j.value.file k))) ∙ sym j.written
-
--- ---- outcomes
-
-pub one_outcome_of_text : (text : List ℕ) (k : ℕ) (a b : Outcome) → TextComesTo text k a → TextComesTo text k b → a ≡ b
-one_outcome_of_text text k BadWords b h j = absurd h
-one_outcome_of_text text k Untold b h j = absurd h
-one_outcome_of_text text k NoText b h j = absurd h
-one_outcome_of_text text k (Refused line) BadWords h j = absurd j
-one_outcome_of_text text k (Refused line) Untold h j = absurd j
-one_outcome_of_text text k (Refused line) NoText h j = absurd j
-one_outcome_of_text text k (Refused line) (Refused other) h j = ap Refused (one_line text k line other h j)
-one_outcome_of_text text k (Refused line) (Done holds bytes) h j = absurd (exported_or_refused text k bytes line j.1 h)
-one_outcome_of_text text k (Done holds bytes) BadWords h j = absurd j
-one_outcome_of_text text k (Done holds bytes) Untold h j = absurd j
-one_outcome_of_text text k (Done holds bytes) NoText h j = absurd j
-one_outcome_of_text text k (Done holds bytes) (Refused line) h j = absurd (exported_or_refused text k bytes line h.1 j)
-one_outcome_of_text text k (Done holds bytes) (Done verdict other) h j = ap (λ (v : Bool). Done v bytes) (h.0 ∙ sym j.0) ∙ ap (Done verdict) (one_text text k bytes other h.1 j.1)
-
--- the program of a linear program
-exported : (f : Linear) → IsDecided (IsDecimal f) → (m : Mps ℚ) × IsExportOf f m
-exported f (inl d) = (program f (factor_of_row f), record { plain = λ p. refl; tied = λ n. absurd (n d) })
-exported f (inr n) = (tied_program f (factor_of_row f) (factor_of_objective f), record { plain = λ d. absurd (n d); tied = λ p. refl })
-
-by_scaling : (text : List ℕ) (k : ℕ) (value : NlValue) → IsNl text value → fold_fault value.file k ≡ None → (HasNoScaleFault (linear_of value.file k) ⊎ ((fault : ScaleFault) × HasScaleFault (linear_of value.file k) fault)) → (outcome : Outcome) × TextComesTo text k outcome
-by_scaling text k value read folded (inl fine) =
-    let m = exported (linear_of value.file k) (decimal_decided (linear_of value.file k)) in
-    (Done true (mps_text_by value_text m.0), (refl, record { value = value; program = m.0; read = read; folded = folded; scaled = fine; exports = m.1; written = refl }))
-by_scaling text k value read folded (inr wide) =
-    (Refused (scale_line k wide.0), inr (inr (record { value = value; fault = wide.0; read = read; folded = folded; first = wide.1; told = refl })))
-
-by_fold : (text : List ℕ) (k : ℕ) (value : NlValue) (o : Option FileFault) → IsNl text value → fold_fault value.file k ≡ o → (outcome : Outcome) × TextComesTo text k outcome
-by_fold text k value None read e = by_scaling text k value read e (scaling_decided (linear_of value.file k))
-by_fold text k value (Some fault) read e =
-    (Refused (fold_line value.places (named_fault value.file fault)), inr (inl (record { value = value; fault = named_fault value.file fault; read = read; first = ap (option_map (named_fault value.file)) e; told = refl })))
-
-value_of_text : List ℕ → NlValue
-value_of_text text = record { file = file_of (said (standing (lines_of text))); places = place_lines (counts_of (standing (lines_of text))) (standing (lines_of text)).pieces }
-
-clean_text : (text : List ℕ) → IsClean nl_rules (lines_of text) (last_of text) → IsNl text (value_of_text text)
-unfolding value_of_text
-clean_text text clean = record { clean = clean; said = record { file = refl; places = refl } }
-
-pub some_outcome_of_text : (text : List ℕ) (k : ℕ) → (outcome : Outcome) × TextComesTo text k outcome
-some_outcome_of_text text k = elim (outcome_of_text text).some [
-  | inl clean ↦ by_fold text k (value_of_text text) (fold_fault (value_of_text text).file k) (clean_text text clean) refl
-  | inr found ↦
-      let fault : NlFault = record { reason = found.1.reason; line = found.0; opcode = found.1.opcode } in
-      (Refused (nl_line fault), inl (record { fault = fault; first = found.2; told = refl }))
-]
+  pub desk_has_one : (texts : Texts) (file : List ℕ) → HasOne IsPlain (DeskComesTo (TextComesTo accepts refuses) (Some texts) file)
+  desk_has_one texts file = file_has_one (texts file)
 
 -- ---- commands
 
-one_outcome_of_file : (text : Option (List ℕ)) (k : ℕ) (a b : Outcome) → FileComesTo text k a → FileComesTo text k b → a ≡ b
-one_outcome_of_file None k a b h j = h ∙ sym j
-one_outcome_of_file (Some text) k a b h j = one_outcome_of_text (take LIMIT text) k a b h j
+-- any kind
+abbrev pub Any : Outcome → Type 0
+Any outcome = Unit {0}
 
-pub one_outcome_of_export : (texts : Option Texts) (e : Request) (a b : Outcome) → ExportComesTo texts e a → ExportComesTo texts e b → a ≡ b
-one_outcome_of_export None e a b h j = h ∙ sym j
-one_outcome_of_export (Some texts) e a b h j = one_outcome_of_file (texts e.file) e.objective a b h j
+-- with the texts of a desk that tells them
+pub told_has_one : (texts : Texts) (c : Command) → HasOne IsPlain (promise_of (Some texts) c).comes
+told_has_one texts (Export file k) = desk_has_one (λ t. IsExported t k) (λ t. IsRefused t k) (export_decided k) texts file
+told_has_one texts (Nl file) = desk_has_one IsNlRewritten HasTextRefusal nl_decided texts file
+told_has_one texts (Mps file) = desk_has_one IsRewritten IsMpsRefused mps_decided texts file
 
-one_outcome_of_command : (texts : Option Texts) (e : Option Request) (a b : Outcome) → CommandComesTo texts e a → CommandComesTo texts e b → a ≡ b
-one_outcome_of_command texts None a b h j = h ∙ sym j
-one_outcome_of_command texts (Some e) a b h j = one_outcome_of_export texts e a b h j
+-- with those of one that does not
+untold_has_one : (c : Command) → HasOne Any (promise_of None c).comes
+untold_has_one (Export file k) = record { outcome = Untold false; comes_to = refl; is = tt; one = λ other j. j }
+untold_has_one (Nl file) = record { outcome = Untold false; comes_to = refl; is = tt; one = λ other j. j }
+untold_has_one (Mps file) = record { outcome = Untold false; comes_to = refl; is = tt; one = λ other j. j }
 
-pub one_outcome_of_words : (texts : Option Texts) (words : List (List ℕ)) (a b : Outcome) → ComesTo texts words a → ComesTo texts words b → a ≡ b
-one_outcome_of_words texts words a b h j = one_outcome_of_command texts (export_of words) a b h j
+any_of : (comes : Outcome → Type 0) → HasOne IsPlain comes → HasOne Any comes
+any_of comes h = record { outcome = h.outcome; comes_to = h.comes_to; is = tt; one = h.one }
 
-some_outcome_of_file : (text : Option (List ℕ)) (k : ℕ) → (outcome : Outcome) × FileComesTo text k outcome
-some_outcome_of_file None k = (NoText, refl)
-some_outcome_of_file (Some text) k = some_outcome_of_text (take LIMIT text) k
+has_one : (texts : Option Texts) (c : Option Command) → HasOne Any (promise_by texts c).comes
+has_one texts None = record { outcome = BadWords; comes_to = refl; is = tt; one = λ other j. j }
+has_one None (Some c) = untold_has_one c
+has_one (Some texts) (Some c) = any_of (promise_of (Some texts) c).comes (told_has_one texts c)
 
-some_outcome_of_command : (texts : Option Texts) (e : Option Request) → (outcome : Outcome) × CommandComesTo texts e outcome
-some_outcome_of_command texts None = (BadWords, refl)
-some_outcome_of_command None (Some e) = (Untold, refl)
-some_outcome_of_command (Some texts) (Some e) = some_outcome_of_file (texts e.file) e.objective
+pub some_outcome : (texts : Option Texts) (words : List (List ℕ)) → (outcome : Outcome) × ComesTo texts words outcome
+some_outcome texts words = let h = has_one texts (command_of words) in (h.outcome, h.comes_to)
 
-pub some_outcome_of_words : (texts : Option Texts) (words : List (List ℕ)) → (outcome : Outcome) × ComesTo texts words outcome
-some_outcome_of_words texts words = some_outcome_of_command texts (export_of words)
-
--- ---- steps
-
--- the file that was read is the one that the text says
-pub counts_of_read : (text : List ℕ) (value : NlValue) (old new : ℕ) → IsNl text value → new ≤ old + step_bound value.file → Counts text old new
-counts_of_read text value old new read below =
-    record {
-      folded = λ other h. subst (λ (f : File). new ≤ old + step_bound f) (same_file text value other read h) below;
-      faulty = λ fault h. absurd (not_both text value fault read h);
-    }
+pub one_outcome : (texts : Option Texts) (words : List (List ℕ)) (a b : Outcome) → ComesTo texts words a → ComesTo texts words b → a ≡ b
+one_outcome texts words a b p q = let h = has_one texts (command_of words) in h.one a p ∙ sym (h.one b q)

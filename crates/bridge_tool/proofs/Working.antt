@@ -1,104 +1,257 @@
 -- What each way to end a command says of its outcome and of the desk.
-use Rattle.std.proofs.Common.{◌≡◌, ◌≢◌, ◌∙◌, inl, inr, ◌⊎◌, ℕ, zero, suc, ◌+◌, ◌<◌, ◌≤◌, List, true, take, drop, Option, Some, None, IfSome, Result, Ok, Err, refl, sym, ap, subst, arith}
+use Rattle.std.proofs.Common.{◌≡◌, ◌≢◌, ◌∙◌, inl, inr, ◌⊎◌, ℕ, zero, suc, ◌+◌, ◌<◌, ◌≤◌, List, Bool, true, false, take, drop, Option, Some, None, IfSome, OnOk, Result, Ok, Err, refl, sym, ap, subst, arith}
 use Rattle.std.proofs.lemmas.Bool.{cases_lt}
 use Rattle.std.specs.Global.{Vec}
 use Rattle.std.specs.Io.KnownBytes.{Appends}
-use Rattle.linear_fold.specs.FoldedFaults.{step_bound}
-use Rattle.nl_model.specs.Rules.{IsFile}
-use Rattle.nl_segments.specs.Grammar.{NlValue}
-use Rattle.nl_segments.specs.Reader.{IsNl}
 use Rattle.text_base.specs.Desk.{Meaning, Texts, Rose, IsUnknown, OnlyInput, OnlyOutput, OnlyMessages, HasCause}
-use Rattle.bridge_tool.specs.Answer.{IsWorked, status_of, told_by}
-use Rattle.bridge_tool.specs.Command.{Request, request, export_of}
-use Rattle.bridge_tool.specs.Outcome.{Outcome, BadWords, Untold, NoText, Refused, Done, TextComesTo, FileComesTo, ExportComesTo, CommandComesTo, ComesTo, Status, Written, IsQuiet, Counts, Told, line_of, text_of}
-use Rattle.bridge_tool.specs.Transfer.{HasRead, HasReadCause, AppendsAll, AppendsPart, TellsLine}
+use Rattle.text_base.specs.declared.stop.Stop.{Stop}
+use Rattle.text_base.specs.declared.stop.Stop.TheVariants.{Fault as IsFault, Memory as IsMemory}
+use Rattle.bridge_tool.specs.Answer.{IsWorked, Missed, Ends, EndsWriting, HasWritten, HasStopped, status_of, told_by}
+use Rattle.bridge_tool.specs.OneFile.{text_of, IfText, TextComesTo, FileComesTo, DeskComesTo, Judges, file_promise}
+use Rattle.bridge_tool.specs.Outcome.{Outcome, BadWords, Untold, NoText, Refused, Done, Status, Written, IsQuiet, Told, line_of}
+use Rattle.bridge_tool.specs.Promise.{Promise}
+use Rattle.bridge_tool.specs.Transfer.{HasRead, HasReadCause, AppendsPart, TellsLine}
 use Rattle.bridge_tool.specs.declared.answer.Answer.{Answer}
 use Rattle.bridge_tool.specs.declared.answer.Answer.TheVariants.{Done as IsDone, Refused as IsRefusal, BadWords as HasBadWords, InputFault, OutputFault, NoMemory}
 use Rattle.bridge_tool.specs.declared.transfer.Unread.{Unread}
 use Rattle.bridge_tool.specs.declared.transfer.Unread.TheVariants.{Fault, Memory}
 use Rattle.bridge_tool.specs.declared.transfer.TheConstants.{LIMIT}
-use Rattle.bridge_tool.proofs.Outcomes.{one_outcome_of_text}
+use Rattle.bridge_tool.proofs.Outcomes.{HasOne, text_has_one}
+use Rattle.bridge_tool.proofs.Decisions.{AreDecided}
 
 -- with such a status nothing is said of what is written
 nothing_written : (o : Outcome) (old new : Option (List ℕ)) (status : ℕ) → (status ≤ 1 → ⊥) → (status ≡ 5 → ⊥) → Written o old new status
 nothing_written BadWords old new status low five = tt
-nothing_written Untold old new status low five = tt
+nothing_written (Untold judges) old new status low five = tt
 nothing_written NoText old new status low five = tt
 nothing_written (Refused line) old new status low five = tt
 nothing_written (Done holds bytes) old new status low five = (λ le. absurd (low le), λ e. absurd (five e))
 
+-- not the outcome of bad words
+IsKnown : Outcome → Type 0
+IsKnown o = o ≢ BadWords
+
+fault_status : (o : Outcome) (input output : Type 0) → IsKnown o → input → Status o input output 4
+unfolding IsKnown
+fault_status BadWords input output known rose = absurd (known refl)
+fault_status (Untold judges) input output known rose = inr (inr (inr (inr (inl (refl, rose)))))
+fault_status NoText input output known rose = inl refl
+fault_status (Refused line) input output known rose = inr (inr (refl, rose))
+fault_status (Done holds bytes) input output known rose = inr (inr (inl (refl, rose)))
+
+memory_status : (o : Outcome) (input output : Type 0) → IsKnown o → Status o input output 6
+unfolding IsKnown
+memory_status BadWords input output known = absurd (known refl)
+memory_status (Untold judges) input output known = inr (inr (inr (inl refl)))
+memory_status NoText input output known = inr refl
+memory_status (Refused line) input output known = inr (inl refl)
+memory_status (Done holds bytes) input output known = inr (inl refl)
+
+module _ (accepts refuses : List ℕ → List ℕ → Type 0) where
+  text_known : (text : List ℕ) (o : Outcome) → TextComesTo accepts refuses text o → IsKnown o
+  unfolding IsKnown
+  text_known text BadWords h = absurd h
+  text_known text (Untold judges) h = λ e. absurd cc
+  text_known text NoText h = λ e. absurd cc
+  text_known text (Refused line) h = λ e. absurd cc
+  text_known text (Done holds bytes) h = λ e. absurd cc
+
+  file_known : (text : Option (List ℕ)) (o : Outcome) → FileComesTo (TextComesTo accepts refuses) text o → IsKnown o
+  unfolding IsKnown
+  file_known None o h = λ e. absurd cc
+  file_known (Some text) o h = text_known (take LIMIT text) o h
+
+  desk_known : (texts : Option Texts) (file : List ℕ) (o : Outcome) → DeskComesTo (TextComesTo accepts refuses) texts file o → IsKnown o
+  unfolding IsKnown
+  desk_known None file o h = λ e. absurd cc
+  desk_known (Some texts) file o h = file_known (texts file) o h
+
+  no_text : (texts : Option Texts) (file : List ℕ) (o : Outcome) → IsUnknown texts file → DeskComesTo (TextComesTo accepts refuses) texts file o → o ≡ NoText
+  no_text None file o unknown h = absurd unknown
+  no_text (Some texts) file o unknown h = subst (λ (t : Option (List ℕ)). FileComesTo (TextComesTo accepts refuses) t o) unknown h
+
+  missed_status : (texts : Option Texts) (file : List ℕ) (o : Outcome) (input output : Type 0) → (input ⊎ IsUnknown texts file) → DeskComesTo (TextComesTo accepts refuses) texts file o → Status o input output 4
+  missed_status texts file o input output (inl rose) h = fault_status o input output (desk_known texts file o h) rose
+  missed_status texts file o input output (inr unknown) h = rw (no_text texts file o unknown h) (inl refl)
+
+  -- the text was not read
+  pub missed_worked : (T : Type 0) (file : List ℕ) (counts : ℕ → ℕ → Type 0) (means : List ℕ → Type 0) (old new : Meaning) (unread : Unread) (answer : Answer)
+      → HasReadCause {T = T} (IsUnknown old.texts file) old.input_faults new.input_faults (Err unread) → OnlyInput old new → Missed unread answer
+      → IsWorked (file_promise accepts refuses old.texts file counts means) old new answer
+  missed_worked T file counts means old new Fault answer cause rest is =
+      subst (IsWorked (file_promise accepts refuses old.texts file counts means) old new) (sym is) (record {
+        status = λ o h. missed_status old.texts file o _ _ cause.stop h;
+        written = λ o h. nothing_written o _ _ 4 (λ le. absurd (omega (arith, le))) (λ e. absurd (omega (arith, e)));
+        line = λ o h. refl;
+        quiet = λ q. rest.written;
+        left = λ q. absurd (elim q [ inl le ↦ omega (arith, le) | inr e ↦ omega (arith, e) ]);
+        means = λ e. absurd (omega (arith, e));
+        input_later = cause.later;
+        output_later = omega (arith, rest.output_faults);
+        input = λ lt. refl;
+        output = λ lt. absurd (omega (arith, lt, rest.output_faults));
+        texts = rest.texts;
+        told = rest.told;
+        messages = rest.message_faults;
+      })
+  missed_worked T file counts means old new Memory answer cause rest is =
+      subst (IsWorked (file_promise accepts refuses old.texts file counts means) old new) (sym is) (record {
+        status = λ o h. memory_status o _ _ (desk_known old.texts file o h);
+        written = λ o h. nothing_written o _ _ 6 (λ le. absurd (omega (arith, le))) (λ e. absurd (omega (arith, e)));
+        line = λ o h. refl;
+        quiet = λ q. rest.written;
+        left = λ q. absurd (elim q [ inl le ↦ omega (arith, le) | inr e ↦ omega (arith, e) ]);
+        means = λ e. absurd (omega (arith, e));
+        input_later = cause.later;
+        output_later = omega (arith, rest.output_faults);
+        input = λ lt. absurd (omega (arith, lt, cause.stop));
+        output = λ lt. absurd (omega (arith, lt, rest.output_faults));
+        texts = rest.texts;
+        told = rest.told;
+        messages = rest.message_faults;
+      })
+
 -- ---- ends after the text was judged
 
-at_file : (texts : Texts) (file text bytes : List ℕ) (k : ℕ) (o : Outcome) → texts file ≡ Some text → bytes ≡ take LIMIT text → FileComesTo (texts file) k o → TextComesTo bytes k o
-at_file texts file text bytes k o named front h =
-    let there = subst (λ (t : Option (List ℕ)). FileComesTo t k o) named h in
-    subst (λ (t : List ℕ). TextComesTo t k o) (sym front) there
-
--- the desk tells nothing, or the outcome is that of the text that was read
-pub known : (texts : Option Texts) (file : List ℕ) (k : ℕ) (left : Option (List ℕ)) (fed : List ℕ → Type 0) (o x : Outcome) → HasRead texts file LIMIT left fed → ((text : List ℕ) → fed text → TextComesTo text k x) → ExportComesTo texts (request file k) o → (o ≡ Untold) ⊎ (o ≡ x)
-known None file k left fed o x read is h = inl h
-known (Some texts) file k left fed o x read is h = inr (one_outcome_of_text read.bytes k o x (at_file texts file read.read.text read.bytes k o read.read.named read.read.front h) (is read.bytes read.taken))
-
-pub worked_refusal : (file : List ℕ) (k : ℕ) (old new : Meaning) (left : Option (List ℕ)) (fed : List ℕ → Type 0) (line : Vec ℕ) → HasRead old.texts file LIMIT left fed → ((text : List ℕ) → fed text → TextComesTo text k (Refused line.items)) → new.input_faults ≡ old.input_faults → OnlyInput old new → IsWorked (ExportComesTo old.texts (request file k)) old new (IsRefusal line)
-worked_refusal file k old new left fed line read is same rest =
-    record {
-      status = λ o h. elim (known old.texts file k left fed o (Refused line.items) read is h) [ inl e ↦ rw e (inr (inl refl)) | inr e ↦ rw e (inl refl) ];
-      written = λ o h. nothing_written o _ _ 2 (λ le. absurd (omega (arith, le))) (λ e. absurd (omega (arith, e)));
-      line = λ o h. elim (known old.texts file k left fed o (Refused line.items) read is h) [ inl e ↦ rw e tt | inr e ↦ rw e refl ];
-      quiet = λ q. rest.written;
-      input_later = omega (arith, same);
-      output_later = omega (arith, rest.output_faults);
-      input = λ lt. absurd (omega (arith, lt, same));
-      output = λ lt. absurd (omega (arith, lt, rest.output_faults));
-      texts = rest.texts;
-      told = rest.told;
-      messages = rest.message_faults;
-    }
-
-pub worked_done : (file : List ℕ) (k : ℕ) (old mid new : Meaning) (left : Option (List ℕ)) (fed : List ℕ → Type 0) (bytes : List ℕ) → HasRead old.texts file LIMIT left fed → ((text : List ℕ) → fed text → TextComesTo text k (Done true bytes)) → mid.input_faults ≡ old.input_faults → OnlyInput old mid → Appends mid.written new.written bytes → new.output_faults ≡ mid.output_faults → OnlyOutput mid new → IsWorked (ExportComesTo old.texts (request file k)) old new IsDone
-worked_done file k old mid new left fed bytes read is same rest appends count more =
-    let all : Appends old.written new.written bytes = subst (λ (w : Option (List ℕ)). Appends w new.written bytes) rest.written appends in
-    record {
-      status = λ o h. elim (known old.texts file k left fed o (Done true bytes) read is h) [ inl e ↦ rw e (inl refl) | inr e ↦ rw e (inl refl) ];
-      written = λ o h. elim (known old.texts file k left fed o (Done true bytes) read is h) [ inl e ↦ rw e tt | inr e ↦ rw e (λ le. all, λ five. absurd (omega (arith, five))) ];
-      line = λ o h. tt;
-      quiet = λ q. absurd (elim q [ inl e ↦ omega (arith, e) | inr p ↦ elim p [ inl e ↦ omega (arith, e) | inr r ↦ elim r [ inl e ↦ omega (arith, e) | inr e ↦ omega (arith, e) ] ] ]);
-      input_later = omega (arith, same, more.input_faults);
-      output_later = omega (arith, count, rest.output_faults);
-      input = λ lt. absurd (omega (arith, lt, same, more.input_faults));
-      output = λ lt. absurd (omega (arith, lt, count, rest.output_faults));
-      texts = more.texts ∙ rest.texts;
-      told = more.told ∙ rest.told;
-      messages = more.message_faults ∙ rest.message_faults;
-    }
-
-pub worked_output : (file : List ℕ) (k : ℕ) (old mid new : Meaning) (left : Option (List ℕ)) (fed : List ℕ → Type 0) (bytes : List ℕ) → HasRead old.texts file LIMIT left fed → ((text : List ℕ) → fed text → TextComesTo text k (Done true bytes)) → mid.input_faults ≡ old.input_faults → OnlyInput old mid → AppendsPart mid.written new.written bytes → mid.output_faults ≤ new.output_faults → Rose mid.output_faults new.output_faults → OnlyOutput mid new → IsWorked (ExportComesTo old.texts (request file k)) old new OutputFault
-worked_output file k old mid new left fed bytes read is same rest part later rose more =
-    let front : AppendsPart old.written new.written bytes = subst (λ (w : Option (List ℕ)). AppendsPart w new.written bytes) rest.written part in
-    let up : Rose old.output_faults new.output_faults = subst (λ (n : ℕ). Rose n new.output_faults) rest.output_faults rose in
-    record {
-      status = λ o h. elim (known old.texts file k left fed o (Done true bytes) read is h) [ inl e ↦ rw e (inr (inr (inr (inr (refl, up))))) | inr e ↦ rw e (inr (inr (inr (refl, up)))) ];
-      written = λ o h. elim (known old.texts file k left fed o (Done true bytes) read is h) [ inl e ↦ rw e tt | inr e ↦ rw e (λ le. absurd (omega (arith, le)), λ five. front) ];
-      line = λ o h. refl;
-      quiet = λ q. absurd (elim q [ inl e ↦ omega (arith, e) | inr p ↦ elim p [ inl e ↦ omega (arith, e) | inr r ↦ elim r [ inl e ↦ omega (arith, e) | inr e ↦ omega (arith, e) ] ] ]);
-      input_later = omega (arith, same, more.input_faults);
-      output_later = omega (arith, later, rest.output_faults);
-      input = λ lt. absurd (omega (arith, lt, same, more.input_faults));
-      output = λ lt. refl;
-      texts = more.texts ∙ rest.texts;
-      told = more.told ∙ rest.told;
-      messages = more.message_faults ∙ rest.message_faults;
-    }
-
--- ---- what was read
-
-at_named : (texts : Texts) (file text : List ℕ) (P : List ℕ → Type 0) → texts file ≡ Some text → P text → IfSome (texts file) P
-at_named texts file text P named h = subst (λ (t : Option (List ℕ)). IfSome t P) (sym named) h
-
 -- what holds of each text that was fed holds of the one that was read
-pub holds_of_read : (texts : Option Texts) (file : List ℕ) (k : ℕ) (left : Option (List ℕ)) (fed P : List ℕ → Type 0) → HasRead texts file LIMIT left fed → ((text : List ℕ) → fed text → P text) → IfSome (text_of texts (Some (request file k))) (λ text. P (take LIMIT text))
-holds_of_read None file k left fed P read h = tt
-holds_of_read (Some texts) file k left fed P read h = at_named texts file read.read.text (λ text. P (take LIMIT text)) read.read.named (subst P read.read.front (h read.bytes read.taken))
+pub holds_of_read : (texts : Option Texts) (file : List ℕ) (left : Option (List ℕ)) (fed P : List ℕ → Type 0) → HasRead texts file LIMIT left fed → ((text : List ℕ) → fed text → P text) → IfText texts file P
+holds_of_read None file left fed P read h = tt
+holds_of_read (Some texts) file left fed P read h =
+    subst (λ (t : Option (List ℕ)). IfSome t (λ text. P (take LIMIT text))) (sym read.read.named) (subst P read.read.front (h read.bytes read.taken))
+
+same_some : {A : Type 0} (a b : A) → Some a ≡ Some b → a ≡ b
+same_some a b e = cc
+
+-- what is left is the rest of the text that was read
+rest_left : (texts : Option Texts) (file : List ℕ) (left : Option (List ℕ)) (fed : List ℕ → Type 0) (text : List ℕ) → HasRead texts file LIMIT left fed → text_of texts file ≡ Some text → left ≡ Some (drop LIMIT text)
+rest_left None file left fed text read is = absurd cc
+rest_left (Some texts) file left fed text read is =
+    read.read.rest ∙ ap (λ t. Some (drop LIMIT t)) (same_some read.read.text text (sym read.read.named ∙ is))
+
+module _ (accepts refuses : List ℕ → List ℕ → Type 0) (d : AreDecided accepts refuses) where
+  at_file : (texts : Texts) (file text bytes : List ℕ) (o : Outcome) → texts file ≡ Some text → bytes ≡ take LIMIT text → FileComesTo (TextComesTo accepts refuses) (texts file) o → TextComesTo accepts refuses bytes o
+  at_file texts file text bytes o named front h =
+      let there = subst (λ (t : Option (List ℕ)). FileComesTo (TextComesTo accepts refuses) t o) named h in
+      subst (λ (t : List ℕ). TextComesTo accepts refuses t o) (sym front) there
+
+  -- the desk tells nothing, or the outcome is that of the text that was read
+  known : (texts : Option Texts) (file : List ℕ) (left : Option (List ℕ)) (fed : List ℕ → Type 0) (o x : Outcome) → HasRead texts file LIMIT left fed → ((text : List ℕ) → fed text → TextComesTo accepts refuses text x) → DeskComesTo (TextComesTo accepts refuses) texts file o → (o ≡ Untold false) ⊎ (o ≡ x)
+  known None file left fed o x read is h = inl h
+  known (Some texts) file left fed o x read is h =
+      let one = text_has_one accepts refuses d read.bytes in
+      inr (one.one o (at_file texts file read.read.text read.bytes o read.read.named read.read.front h) ∙ sym (one.one x (is read.bytes read.taken)))
+
+  -- the command has read its text, which comes to this outcome
+  record HasJudged (file : List ℕ) (old mid : Meaning) (x : Outcome) : Type 1 where
+    fed : List ℕ → Type 0
+    read : HasRead old.texts file LIMIT mid.left fed
+    is : (text : List ℕ) → fed text → TextComesTo accepts refuses text x
+    same : mid.input_faults ≡ old.input_faults
+    rest : OnlyInput old mid
+
+  knows : (file : List ℕ) (old mid : Meaning) (o x : Outcome) → HasJudged file old mid x → DeskComesTo (TextComesTo accepts refuses) old.texts file o → (o ≡ Untold false) ⊎ (o ≡ x)
+  knows file old mid o x h c = known old.texts file mid.left h.fed o x h.read h.is c
+
+  refused_worked : (file : List ℕ) (counts : ℕ → ℕ → Type 0) (means : List ℕ → Type 0) (old mid : Meaning) (line : Vec ℕ) → HasJudged file old mid (Refused line.items) → IsWorked (file_promise accepts refuses old.texts file counts means) old mid (IsRefusal line)
+  refused_worked file counts means old mid line j =
+      record {
+        status = λ o h. elim (knows file old mid o (Refused line.items) j h) [ inl e ↦ rw e (inr (inr (inl refl))) | inr e ↦ rw e (inl refl) ];
+        written = λ o h. nothing_written o _ _ 2 (λ le. absurd (omega (arith, le))) (λ e. absurd (omega (arith, e)));
+        line = λ o h. elim (knows file old mid o (Refused line.items) j h) [ inl e ↦ rw e tt | inr e ↦ rw e refl ];
+        quiet = λ q. j.rest.written;
+        left = λ q text is. rest_left old.texts file mid.left j.fed text j.read is;
+        means = λ e. absurd (omega (arith, e));
+        input_later = omega (arith, j.same);
+        output_later = omega (arith, j.rest.output_faults);
+        input = λ lt. absurd (omega (arith, lt, j.same));
+        output = λ lt. absurd (omega (arith, lt, j.rest.output_faults));
+        texts = j.rest.texts;
+        told = j.rest.told;
+        messages = j.rest.message_faults;
+      }
+
+  memory_worked : (file : List ℕ) (counts : ℕ → ℕ → Type 0) (means : List ℕ → Type 0) (old mid : Meaning) → mid.input_faults ≡ old.input_faults → OnlyInput old mid → IsWorked (file_promise accepts refuses old.texts file counts means) old mid NoMemory
+  memory_worked file counts means old mid same rest =
+      record {
+        status = λ o h. memory_status o _ _ (desk_known accepts refuses old.texts file o h);
+        written = λ o h. nothing_written o _ _ 6 (λ le. absurd (omega (arith, le))) (λ e. absurd (omega (arith, e)));
+        line = λ o h. refl;
+        quiet = λ q. rest.written;
+        left = λ q. absurd (elim q [ inl le ↦ omega (arith, le) | inr e ↦ omega (arith, e) ]);
+        means = λ e. absurd (omega (arith, e));
+        input_later = omega (arith, same);
+        output_later = omega (arith, rest.output_faults);
+        input = λ lt. absurd (omega (arith, lt, same));
+        output = λ lt. absurd (omega (arith, lt, rest.output_faults));
+        texts = rest.texts;
+        told = rest.told;
+        messages = rest.message_faults;
+      }
+
+  loud : (status : ℕ) → IsQuiet status → ((status ≡ 0) ⊎ (status ≡ 5)) → ⊥
+  loud status q (inl z) = elim q [ inl e ↦ absurd (omega (arith, e, z)) | inr p ↦ elim p [ inl e ↦ absurd (omega (arith, e, z)) | inr r ↦ elim r [ inl e ↦ absurd (omega (arith, e, z)) | inr e ↦ absurd (omega (arith, e, z)) ] ] ]
+  loud status q (inr z) = elim q [ inl e ↦ absurd (omega (arith, e, z)) | inr p ↦ elim p [ inl e ↦ absurd (omega (arith, e, z)) | inr r ↦ elim r [ inl e ↦ absurd (omega (arith, e, z)) | inr e ↦ absurd (omega (arith, e, z)) ] ] ]
+
+  done_worked : (file : List ℕ) (counts : ℕ → ℕ → Type 0) (means : List ℕ → Type 0) (old mid new : Meaning) (bytes : List ℕ) → HasJudged file old mid (Done true bytes) → IfText old.texts file means → HasWritten bytes mid new → IsWorked (file_promise accepts refuses old.texts file counts means) old new (IsDone true)
+  done_worked file counts means old mid new bytes j meant h =
+      let all : Appends old.written new.written bytes = subst (λ (w : Option (List ℕ)). Appends w new.written bytes) j.rest.written h.all in
+      record {
+        status = λ o c. elim (knows file old mid o (Done true bytes) j c) [ inl e ↦ rw e (inl refl) | inr e ↦ rw e (inl refl) ];
+        written = λ o c. elim (knows file old mid o (Done true bytes) j c) [ inl e ↦ rw e tt | inr e ↦ rw e (λ le. all, λ five. absurd (omega (arith, five))) ];
+        line = λ o c. tt;
+        quiet = λ q. absurd (loud 0 q (inl refl));
+        left = λ q text is. h.rest.left ∙ rest_left old.texts file mid.left j.fed text j.read is;
+        means = λ e. meant;
+        input_later = omega (arith, j.same, h.rest.input_faults);
+        output_later = omega (arith, h.count, j.rest.output_faults);
+        input = λ lt. absurd (omega (arith, lt, j.same, h.rest.input_faults));
+        output = λ lt. absurd (omega (arith, lt, h.count, j.rest.output_faults));
+        texts = h.rest.texts ∙ j.rest.texts;
+        told = h.rest.told ∙ j.rest.told;
+        messages = h.rest.message_faults ∙ j.rest.message_faults;
+      }
+
+  output_worked : (file : List ℕ) (counts : ℕ → ℕ → Type 0) (means : List ℕ → Type 0) (old mid new : Meaning) (bytes : List ℕ) → HasJudged file old mid (Done true bytes) → HasStopped bytes mid new → IsWorked (file_promise accepts refuses old.texts file counts means) old new OutputFault
+  output_worked file counts means old mid new bytes j h =
+      let front : AppendsPart old.written new.written bytes = subst (λ (w : Option (List ℕ)). AppendsPart w new.written bytes) j.rest.written h.part in
+      let up : Rose old.output_faults new.output_faults = subst (λ (n : ℕ). Rose n new.output_faults) j.rest.output_faults h.rose in
+      record {
+        status = λ o c. elim (knows file old mid o (Done true bytes) j c) [ inl e ↦ rw e (inr (inr (inr (inr (inr (refl, up)))))) | inr e ↦ rw e (inr (inr (inr (refl, up)))) ];
+        written = λ o c. elim (knows file old mid o (Done true bytes) j c) [ inl e ↦ rw e tt | inr e ↦ rw e (λ le. absurd (omega (arith, le)), λ five. front) ];
+        line = λ o c. refl;
+        quiet = λ q. absurd (loud 5 q (inr refl));
+        left = λ q text is. h.rest.left ∙ rest_left old.texts file mid.left j.fed text j.read is;
+        means = λ e. absurd (omega (arith, e));
+        input_later = omega (arith, j.same, h.rest.input_faults);
+        output_later = omega (arith, h.later, j.rest.output_faults);
+        input = λ lt. absurd (omega (arith, lt, j.same, h.rest.input_faults));
+        output = λ lt. refl;
+        texts = h.rest.texts ∙ j.rest.texts;
+        told = h.rest.told ∙ j.rest.told;
+        messages = h.rest.message_faults ∙ j.rest.message_faults;
+      }
+
+  wrote_worked : (file : List ℕ) (counts : ℕ → ℕ → Type 0) (means : List ℕ → Type 0) (old mid new : Meaning) (bytes : List ℕ) (answer : Answer) → HasJudged file old mid (Done true bytes) → IfText old.texts file means → EndsWriting true bytes mid new answer → IsWorked (file_promise accepts refuses old.texts file counts means) old new answer
+  wrote_worked file counts means old mid new bytes (IsDone holds) j meant h = rw (h.0) (done_worked file counts means old mid new bytes j meant h.1)
+  wrote_worked file counts means old mid new bytes OutputFault j meant h = output_worked file counts means old mid new bytes j h
+  wrote_worked file counts means old mid new bytes (IsRefusal line) j meant h = absurd h
+  wrote_worked file counts means old mid new bytes HasBadWords j meant h = absurd h
+  wrote_worked file counts means old mid new bytes InputFault j meant h = absurd h
+  wrote_worked file counts means old mid new bytes NoMemory j meant h = absurd h
+
+  -- a command of one file that judged its text so
+  pub file_worked : (file : List ℕ) (counts : ℕ → ℕ → Type 0) (means : List ℕ → Type 0) (old mid new : Meaning) (fed : List ℕ → Type 0) (judged : Result (Vec ℕ) (Stop (Vec ℕ))) (answer : Answer)
+      → HasRead old.texts file LIMIT mid.left fed → mid.input_faults ≡ old.input_faults → OnlyInput old mid
+      → ((text : List ℕ) → fed text → Judges accepts refuses text judged)
+      → OnOk judged ((text : List ℕ) → fed text → means text)
+      → Ends judged mid new answer
+      → IsWorked (file_promise accepts refuses old.texts file counts means) old new answer
+  file_worked file counts means old mid new fed (Ok out) answer read same rest judges meant ends =
+      wrote_worked file counts means old mid new out.items answer (record { fed = fed; read = read; is = judges; same = same; rest = rest }) (holds_of_read old.texts file mid.left fed means read meant) ends
+  file_worked file counts means old mid new fed (Err (IsFault line)) answer read same rest judges meant ends =
+      rw (ends.0, ends.1) (refused_worked file counts means old mid line (record { fed = fed; read = read; is = judges; same = same; rest = rest }))
+  file_worked file counts means old mid new fed (Err IsMemory) answer read same rest judges meant ends =
+      rw (ends.0, ends.1) (memory_worked file counts means old mid same rest)
 
 -- ---- the line
 
@@ -115,19 +268,20 @@ told_by_status : (o : Outcome) (status : ℕ) (line : List ℕ) (P : List ℕ �
 told_by_status o status line P is (inl lt) tells = same_line (line_of o status) line P is (tells lt)
 told_by_status o status line P is (inr le) tells = rw (line_none o status le) tt
 
--- what the top call says of its outcome
-pub record IsAnswered (comes : Outcome → Type 0) (old new : Meaning) (status : ℕ) : Type 0 where
-  pub which : (o : Outcome) → comes o → Status o (Rose old.input_faults new.input_faults) (Rose old.output_faults new.output_faults) status
-  pub written : (o : Outcome) → comes o → Written o old.written new.written status
+-- what the top call says of its promise
+pub record IsAnswered (p : Promise) (old new : Meaning) (status : ℕ) : Type 0 where
+  pub which : (o : Outcome) → p.comes o → Status o (Rose old.input_faults new.input_faults) (Rose old.output_faults new.output_faults) status
+  pub written : (o : Outcome) → p.comes o → Written o old.written new.written status
   pub quiet : IsQuiet status → new.written ≡ old.written
-  pub told : (o : Outcome) → comes o → Told o old.told new.told old.message_faults new.message_faults status
+  pub told : (o : Outcome) → p.comes o → Told o old.told new.told old.message_faults new.message_faults status
   pub silent : status ≤ 1 → new.told ≡ old.told
+  pub means : status ≡ 0 → p.means
 
-answered_so : (comes : Outcome → Type 0) (old mid new : Meaning) (answer : Answer) → IsWorked comes old mid answer
+answered_so : (p : Promise) (old mid new : Meaning) (answer : Answer) → IsWorked p old mid answer
     → (1 < status_of answer → TellsLine mid.told new.told mid.message_faults new.message_faults (told_by answer))
     → (status_of answer ≤ 1 → new.told ≡ mid.told)
-    → OnlyMessages mid new → IsAnswered comes old new (status_of answer)
-answered_so comes old mid new answer h tells silent rest =
+    → OnlyMessages mid new → IsAnswered p old new (status_of answer)
+answered_so p old mid new answer h tells silent rest =
     let P : List ℕ → Type 0 = λ line. TellsLine old.told new.told old.message_faults new.message_faults line in
     let tells_old : 1 < status_of answer → P (told_by answer) = λ lt. subst (λ (n : ℕ). TellsLine old.told new.told n new.message_faults (told_by answer)) h.messages (subst (λ (t : Option (List ℕ)). TellsLine t new.told mid.message_faults new.message_faults (told_by answer)) h.told (tells lt)) in
     record {
@@ -136,14 +290,23 @@ answered_so comes old mid new answer h tells silent rest =
       quiet = λ q. rest.written ∙ h.quiet q;
       told = λ o c. told_by_status o (status_of answer) (told_by answer) P (h.line o c) (cases_lt 1 (status_of answer)) tells_old;
       silent = λ le. silent le ∙ h.told;
+      means = λ e. h.means e;
     }
 
-pub answered : (comes : Outcome → Type 0) (old mid new : Meaning) (answer : Answer) (status : ℕ) → IsWorked comes old mid answer → status ≡ status_of answer
+pub answered : (p : Promise) (old mid new : Meaning) (answer : Answer) (status : ℕ) → IsWorked p old mid answer → status ≡ status_of answer
     → (1 < status → TellsLine mid.told new.told mid.message_faults new.message_faults (told_by answer))
     → (status ≤ 1 → new.told ≡ mid.told)
-    → OnlyMessages mid new → IsAnswered comes old new status
-answered comes old mid new answer status h is tells silent rest =
-    subst (IsAnswered comes old new) (sym is) (answered_so comes old mid new answer h (λ lt. tells (subst (λ (n : ℕ). 1 < n) (sym is) lt)) (λ le. silent (subst (λ (n : ℕ). n ≤ 1) (sym is) le)) rest)
+    → OnlyMessages mid new → IsAnswered p old new status
+answered p old mid new answer status h is tells silent rest =
+    subst (IsAnswered p old new) (sym is) (answered_so p old mid new answer h (λ lt. tells (subst (λ (n : ℕ). 1 < n) (sym is) lt)) (λ le. silent (subst (λ (n : ℕ). n ≤ 1) (sym is) le)) rest)
 
 pub not_none : {A : Type 0} (o : Option A) (x : A) → o ≡ None → o ≡ Some x → ⊥
 not_none o x e f = absurd cc
+
+pub on_ok : {T E : Type 0} (r : Result T E) (P Q : Type 0) → (P → Q) → OnOk r P → OnOk r Q
+on_ok (Ok t) P Q f h = f h
+on_ok (Err e) P Q f h = tt
+
+pub on_any : {T E : Type 0} (r : Result T E) (P : Type 0) → P → OnOk r P
+on_any (Ok t) P h = h
+on_any (Err e) P h = tt

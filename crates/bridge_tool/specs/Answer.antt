@@ -1,12 +1,21 @@
 -- How a command ends: its status, its line, and what it did.
-use Rattle.std.specs.Prelude.{◌≡◌, ◌<◌, ◌≤◌, ℕ, List, [], codes, IfSome}
-use Rattle.text_base.specs.Desk.{Meaning, Rose}
-use Rattle.bridge_tool.specs.Outcome.{Outcome, Status, Written, IsQuiet, line_of}
+use Rattle.std.specs.Prelude.{◌≡◌, ◌⊎◌, ◌<◌, ◌≤◌, ℕ, Bool, true, List, [], codes, drop, IfSome, Some, Result, Ok, Err}
+use Rattle.std.specs.Global.{Vec}
+use Rattle.std.specs.Io.KnownBytes.{Appends}
+use Rattle.text_base.specs.Desk.{Meaning, OnlyOutput, Rose}
+use Rattle.text_base.specs.declared.stop.Stop.{Stop}
+use Rattle.text_base.specs.declared.stop.Stop.TheVariants.{Fault, Memory}
+use Rattle.bridge_tool.specs.Outcome.{Outcome, Status, Written, IsQuiet, line_of, verdict_status}
+use Rattle.bridge_tool.specs.Promise.{Promise}
+use Rattle.bridge_tool.specs.Transfer.{AppendsPart}
 use Rattle.bridge_tool.specs.declared.answer.Answer.{Answer}
 use Rattle.bridge_tool.specs.declared.answer.Answer.TheVariants.{Done, Refused, BadWords, InputFault, OutputFault, NoMemory}
+use Rattle.bridge_tool.specs.declared.transfer.TheConstants.{LIMIT}
+use Rattle.bridge_tool.specs.declared.transfer.Unread.{Unread}
+use Rattle.bridge_tool.specs.declared.transfer.Unread.TheVariants.{Fault as UnreadFault, Memory as UnreadMemory}
 
 abbrev pub status_of : Answer → ℕ
-status_of Done = 0
+status_of (Done holds) = verdict_status holds
 status_of (Refused line) = 2
 status_of BadWords = 3
 status_of InputFault = 4
@@ -15,19 +24,21 @@ status_of NoMemory = 6
 
 -- the line to tell, which is empty where nothing is told
 abbrev pub told_by : Answer → List ℕ
-told_by Done = []
+told_by (Done holds) = []
 told_by (Refused line) = line.items
 told_by BadWords = codes "bad words\n"
 told_by InputFault = codes "input fault\n"
 told_by OutputFault = codes "output fault\n"
 told_by NoMemory = codes "no memory\n"
 
--- a command that comes to such outcomes was worked, but for its line
-pub record IsWorked (comes : Outcome → Type 0) (old new : Meaning) (answer : Answer) : Type 0 where
-  pub status : (outcome : Outcome) → comes outcome → Status outcome (Rose old.input_faults new.input_faults) (Rose old.output_faults new.output_faults) (status_of answer)
-  pub written : (outcome : Outcome) → comes outcome → Written outcome old.written new.written (status_of answer)
-  pub line : (outcome : Outcome) → comes outcome → IfSome (line_of outcome (status_of answer)) (λ line. line ≡ told_by answer)
+-- the command with this promise was worked, but for its line
+pub record IsWorked (p : Promise) (old new : Meaning) (answer : Answer) : Type 0 where
+  pub status : (outcome : Outcome) → p.comes outcome → Status outcome (Rose old.input_faults new.input_faults) (Rose old.output_faults new.output_faults) (status_of answer)
+  pub written : (outcome : Outcome) → p.comes outcome → Written outcome old.written new.written (status_of answer)
+  pub line : (outcome : Outcome) → p.comes outcome → IfSome (line_of outcome (status_of answer)) (λ line. line ≡ told_by answer)
   pub quiet : IsQuiet (status_of answer) → new.written ≡ old.written
+  pub left : (status_of answer ≤ 2) ⊎ (status_of answer ≡ 5) → (text : List ℕ) → p.last text → new.left ≡ Some (drop LIMIT text)
+  pub means : status_of answer ≡ 0 → p.means
   pub input_later : old.input_faults ≤ new.input_faults
   pub output_later : old.output_faults ≤ new.output_faults
   pub input : old.input_faults < new.input_faults → status_of answer ≡ 4
@@ -35,3 +46,38 @@ pub record IsWorked (comes : Outcome → Type 0) (old new : Meaning) (answer : A
   pub texts : new.texts ≡ old.texts
   pub told : new.told ≡ old.told
   pub messages : new.message_faults ≡ old.message_faults
+
+-- ---- ends
+
+-- the answer where a text was not read
+abbrev pub Missed : Unread → Answer → Type 0
+Missed UnreadFault answer = answer ≡ InputFault
+Missed UnreadMemory answer = answer ≡ NoMemory
+
+-- all the bytes were written
+pub record HasWritten (bytes : List ℕ) (old new : Meaning) : Type 0 where
+  pub all : Appends old.written new.written bytes
+  pub count : new.output_faults ≡ old.output_faults
+  pub rest : OnlyOutput old new
+
+-- an output call failed, and a part of the bytes was written
+pub record HasStopped (bytes : List ℕ) (old new : Meaning) : Type 0 where
+  pub part : AppendsPart old.written new.written bytes
+  pub later : old.output_faults ≤ new.output_faults
+  pub rose : Rose old.output_faults new.output_faults
+  pub rest : OnlyOutput old new
+
+-- the end of a command with this verdict and these bytes
+abbrev pub EndsWriting : Bool → List ℕ → Meaning → Meaning → Answer → Type 0
+EndsWriting verdict bytes old new (Done holds) = (holds ≡ verdict) × HasWritten bytes old new
+EndsWriting verdict bytes old new OutputFault = HasStopped bytes old new
+EndsWriting verdict bytes old new (Refused line) = ⊥
+EndsWriting verdict bytes old new BadWords = ⊥
+EndsWriting verdict bytes old new InputFault = ⊥
+EndsWriting verdict bytes old new NoMemory = ⊥
+
+-- the end of a command that was judged so
+abbrev pub Ends : Result (Vec ℕ) (Stop (Vec ℕ)) → Meaning → Meaning → Answer → Type 0
+Ends (Ok bytes) old new answer = EndsWriting true bytes.items old new answer
+Ends (Err (Fault line)) old new answer = (answer ≡ Refused line) × (new ≡ old)
+Ends (Err Memory) old new answer = (answer ≡ NoMemory) × (new ≡ old)

@@ -1,8 +1,15 @@
 pub mod Answer
 pub mod Command
+pub mod Commands
 pub mod Export
+pub mod Mps
+pub mod MpsTold
+pub mod Nl
+pub mod NlTold
+pub mod OneFile
 pub mod Outcome
+pub mod Promise
 pub mod Refusal
-pub mod Told
 pub mod Stages
+pub mod Told
 pub mod Transfer

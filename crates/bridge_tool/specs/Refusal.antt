@@ -1,8 +1,5 @@
--- Why a text is refused: its first fault, and the line that is told.
-use Rattle.std.specs.Prelude.{◌≡◌, ◌⊎◌, ℕ, List, Result, Ok, Err, Some, None}
-use Rattle.std.specs.Global.{Vec}
-use Rattle.text_base.specs.declared.stop.Stop.{Stop}
-use Rattle.text_base.specs.declared.stop.Stop.TheVariants.{Fault, Memory}
+-- Why an .nl text is refused: its first fault, and the line that is told.
+use Rattle.std.specs.Prelude.{◌≡◌, ◌⊎◌, ℕ, List, Some, None}
 use Rattle.file_meaning.specs.FoldFaults.{fold_fault}
 use Rattle.file_meaning.specs.LinearFile.{linear_of}
 use Rattle.linear_fold.specs.FoldedFaults.{first_fold_fault}
@@ -12,8 +9,7 @@ use Rattle.nl_segments.specs.Reader.{IsNl, HasNlFault}
 use Rattle.nl_segments.specs.declared.fault.NlFault.{NlFault}
 use Rattle.row_scaling.specs.Scaling.{HasScaleFault}
 use Rattle.row_scaling.specs.declared.scale_fault.ScaleFault.{ScaleFault}
-use Rattle.bridge_tool.specs.Export.{IsExported}
-use Rattle.bridge_tool.specs.Told.{nl_line, fold_line, scale_line}
+use Rattle.bridge_tool.specs.NlTold.{nl_line, fold_line, scale_line}
 
 -- the text itself has a fault
 pub record HasTextRefusal (text line : List ℕ) : Type 0 where
@@ -41,9 +37,3 @@ pub record HasScaleRefusal (text : List ℕ) (k : ℕ) (line : List ℕ) : Type 
 -- a text with objective k is refused with this line
 abbrev pub IsRefused : List ℕ → ℕ → List ℕ → Type 0
 IsRefused text k line = HasTextRefusal text line ⊎ HasFoldRefusal text k line ⊎ HasScaleRefusal text k line
-
--- what judging a text with objective k answers: bytes to write, or a line to tell; of want of memory nothing is said
-abbrev pub Judges : List ℕ → ℕ → Result (Vec ℕ) (Stop (Vec ℕ)) → Type 0
-Judges text k (Ok bytes) = IsExported text k bytes.items
-Judges text k (Err (Fault line)) = IsRefused text k line.items
-Judges text k (Err Memory) = Unit {0}

@@ -14,7 +14,7 @@ use Rattle.row_scaling.specs.Exported.{exported_as}
 use Rattle.row_scaling.specs.Scaled.{ScaledValue}
 use Rattle.row_scaling.specs.Scaling.{HasNoScaleFault, HasScaleFault, IsExportOf}
 use Rattle.row_scaling.specs.declared.scale_fault.ScaleFault.{ScaleFault}
-use Rattle.bridge_tool.specs.Told.{fold_line, scale_line}
+use Rattle.bridge_tool.specs.NlTold.{fold_line, scale_line}
 
 -- the file folds, to this linear program
 pub record HasFolded (value : NlValue) (k : ℕ) (l : LinearValue) : Type 0 where

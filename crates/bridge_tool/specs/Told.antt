@@ -1,83 +1,14 @@
--- The lines that are told.
-use Rattle.std.specs.Prelude.{ℕ, List, [], ◌++◌, codes, Option, Some, None}
+-- The lines that tell a refusal.
+use Rattle.std.specs.Prelude.{ℕ, nat_lt, List, [], ◌++◌, codes, if◌then◌else◌}
 use Rattle.std.specs.Fmt.{decimal}
-use Rattle.nl_model.specs.declared.at.At.{At}
-use Rattle.nl_segments.specs.declared.fault.NlFault.{NlFault}
-use Rattle.nl_segments.specs.declared.fault.NlReason.{NlReason}
-use Rattle.nl_segments.specs.declared.fault.NlReason.TheVariants.{BinaryFile, BadFirstLine, Options, BadHeaderNumber, CountsDisagree, RefusedCount, TooLarge, LineTooLong, UnknownSegment, RefusedSegment, RepeatedSegment, BadHead, IndexOut, BadLine, BadNumber, ShortSegment, ExtraLine, RefusedOpcode, RefusedLeaf, Undefined, Complementarity, EmptyInterval, BinaryBounds, RepeatedIndex, SosSuffix, Missing, NonzeroCount, ColumnCount, InputTooLong, EndInHeader}
-use Rattle.nl_segments.specs.Saying.{PlaceLines, line_of}
-use Rattle.linear_fold.specs.declared.fold_fault.FoldFault.{FoldFault}
-use Rattle.linear_fold.specs.declared.fold_fault.FoldFault.TheVariants.{Nonlinear, DivideByZero, TooWide, RefusedPower, FoldTooLarge, NoSuchObjective}
-use Rattle.row_scaling.specs.declared.scale_fault.ScaleFault.{ScaleFault}
-use Rattle.row_scaling.specs.declared.scale_fault.ScaleFault.TheVariants.{RowTooWide, ObjectiveTooWide}
 
--- what is said of a fault of an .nl text
-abbrev pub reason_text : NlReason → List ℕ
-reason_text BinaryFile = codes "binary file"
-reason_text BadFirstLine = codes "bad first line"
-reason_text Options = codes "refused options"
-reason_text BadHeaderNumber = codes "bad header number"
-reason_text CountsDisagree = codes "counts disagree"
-reason_text RefusedCount = codes "refused count"
-reason_text TooLarge = codes "too large"
-reason_text LineTooLong = codes "line too long"
-reason_text UnknownSegment = codes "unknown segment"
-reason_text RefusedSegment = codes "refused segment"
-reason_text RepeatedSegment = codes "repeated segment"
-reason_text BadHead = codes "bad segment head"
-reason_text IndexOut = codes "index out of range"
-reason_text BadLine = codes "bad line"
-reason_text BadNumber = codes "bad number"
-reason_text ShortSegment = codes "short segment"
-reason_text ExtraLine = codes "extra line"
-reason_text RefusedOpcode = codes "refused opcode"
-reason_text RefusedLeaf = codes "refused leaf"
-reason_text Undefined = codes "undefined"
-reason_text Complementarity = codes "complementarity"
-reason_text EmptyInterval = codes "empty interval"
-reason_text BinaryBounds = codes "binary bounds"
-reason_text RepeatedIndex = codes "repeated index"
-reason_text SosSuffix = codes "special ordered sets"
-reason_text Missing = codes "missing segment"
-reason_text NonzeroCount = codes "nonzero count"
-reason_text ColumnCount = codes "column count"
-reason_text InputTooLong = codes "input too long"
-reason_text EndInHeader = codes "end in header"
+-- The file of a fault, by its number among the files of the words; the first file is not named.
+abbrev pub file_text : ℕ → List ℕ
+file_text file = if nat_lt 1 file then codes "file " ++ decimal file ++ codes " " else []
 
--- the number of a refused opcode, after a blank
-abbrev pub opcode_text : NlReason → ℕ → List ℕ
-opcode_text RefusedOpcode opcode = codes " " ++ decimal opcode
-opcode_text reason opcode = []
+-- how a refusal begins: the file, at what, and its number
+abbrev pub refused_at : ℕ → List ℕ → ℕ → List ℕ
+refused_at file what number = codes "refused " ++ file_text file ++ what ++ codes " " ++ decimal number ++ codes ": "
 
--- how a refusal begins: at what, and its number
-abbrev pub refused_at : List ℕ → ℕ → List ℕ
-refused_at what number = codes "refused " ++ what ++ codes " " ++ decimal number ++ codes ": "
-
-abbrev pub refusal : List ℕ → ℕ → List ℕ → List ℕ
-refusal what number text = refused_at what number ++ text ++ codes "\n"
-
--- the line of a fault of an .nl text
-abbrev pub nl_line : NlFault → List ℕ
-nl_line f = refused_at (codes "line") f.line ++ reason_text f.reason ++ opcode_text f.reason f.opcode ++ codes "\n"
-
-abbrev pub or_zero : Option ℕ → ℕ
-or_zero None = 0
-or_zero (Some line) = line
-
--- a fault at a place of the file, by the place's line; each place that is asked for has one
-abbrev pub placed_line : PlaceLines → At → List ℕ → List ℕ
-placed_line places at text = refusal (codes "line") (or_zero (line_of places at)) text
-
--- the line of a fault of the fold
-abbrev pub fold_line : PlaceLines → FoldFault → List ℕ
-fold_line places (Nonlinear at) = placed_line places at (codes "nonlinear")
-fold_line places (DivideByZero at) = placed_line places at (codes "division by zero")
-fold_line places (TooWide at) = placed_line places at (codes "too wide")
-fold_line places (RefusedPower at) = placed_line places at (codes "refused power")
-fold_line places (FoldTooLarge at) = placed_line places at (codes "fold too large")
-fold_line places (NoSuchObjective k) = refusal (codes "objective") k (codes "no such objective")
-
--- the line of a fault of scaling, with objective k
-abbrev pub scale_line : ℕ → ScaleFault → List ℕ
-scale_line k (RowTooWide i) = refusal (codes "row") i (codes "row too wide")
-scale_line k ObjectiveTooWide = refusal (codes "objective") k (codes "objective too wide")
+abbrev pub refusal : ℕ → List ℕ → ℕ → List ℕ → List ℕ
+refusal file what number text = refused_at file what number ++ text ++ codes "\n"

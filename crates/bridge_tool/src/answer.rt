@@ -2,10 +2,10 @@
 ghost use Rattle.std.specs.Prelude.{◌≡◌};
 ghost use Rattle.bridge_tool.specs.Answer.{status_of, told_by};
 
-/// How a command ends; with the line of a refusal.
+/// How a command ends: whether the verdict is yes, or the line of a refusal, or what failed.
 #[derive(Drop)]
 pub(crate) enum Answer {
-    Done,
+    Done(bool),
     Refused(Vec<u8>),
     BadWords,
     InputFault,
@@ -19,7 +19,8 @@ impl Answer {
         ensures { result ≡ status_of self.now }
     {
         match self {
-            Answer::Done => 0,
+            Answer::Done(true) => 0,
+            Answer::Done(false) => 1,
             Answer::Refused(_) => 2,
             Answer::BadWords => 3,
             Answer::InputFault => 4,
@@ -33,7 +34,7 @@ impl Answer {
         ensures { result.now ≡ told_by self.now }
     {
         match self {
-            Answer::Done => b"",
+            Answer::Done(_) => b"",
             Answer::Refused(line) => line,
             Answer::BadWords => b"bad words\n",
             Answer::InputFault => b"input fault\n",

@@ -2,8 +2,9 @@
 ghost use Rattle.std.specs.Prelude.{◌≡◌, List, ℕ, Option};
 ghost use Rattle.nl_model.specs.Rules.{IsFile};
 ghost use Rattle.text_base.specs.Desk.{Texts};
+ghost use Rattle.bridge_tool.specs.Commands.{ComesTo};
 ghost use Rattle.bridge_tool.specs.Export.{IsExported, MeansTheFile};
-ghost use Rattle.bridge_tool.specs.Outcome.{ComesTo, Outcome};
+ghost use Rattle.bridge_tool.specs.Outcome.{Outcome};
 
 /// Words come to exactly one outcome, whatever texts a desk has.
 pub fn one_outcome()

@@ -3,13 +3,19 @@
 
 mod answer;
 mod command;
-mod exporting;
+mod export;
 mod laws;
+mod mps;
+mod mps_told;
+mod nl;
+mod nl_input;
+mod nl_told;
+mod one_file;
 mod told;
 mod top;
 mod transfer;
 
-pub use command::{Export, export_of, plain_number};
+pub use command::{Command, command_of, plain_number};
 pub use laws::{one_outcome, programs_mean_their_files};
 pub use top::bridge;
 pub use transfer::{Feed, Unread, feed_text, tell_line, write_all};

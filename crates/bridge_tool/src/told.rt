@@ -1,68 +1,43 @@
-// The lines of refusals.
-ghost use Rattle.std.specs.Prelude.{◌≡◌, ◌++◌, IfOk, IsSome, OnOk};
-ghost use Rattle.linear_fold.specs.FoldedFaults.{HasFaultPlace};
-ghost use Rattle.nl_segments.specs.Reader.{HasLines};
-ghost use Rattle.nl_segments.specs.Saying.{line_of};
-ghost use Rattle.bridge_tool.specs.Told.{fold_line, nl_line, opcode_text, placed_line, reason_text, refusal, refused_at, scale_line};
+// The lines that tell a refusal.
+ghost use Rattle.std.specs.Prelude.{◌≡◌, ◌++◌, IfOk, OnOk};
+ghost use Rattle.bridge_tool.specs.Told.{file_text, refusal, refused_at};
 
 use itoa::Buffer;
-use linear_fold::FoldFault;
-use nl_model::At;
-use nl_segments::{NlFault, NlRead, NlReason};
-use row_scaling::ScaleFault;
 use std::alloc::{AllocError, Global};
 
-// What is said of a fault of an .nl text.
-fn reason_text(reason: NlReason) -> &'static [u8]
-    ensures { result.now ≡ reason_text reason }
-{
-    match reason {
-        NlReason::BinaryFile => b"binary file",
-        NlReason::BadFirstLine => b"bad first line",
-        NlReason::Options => b"refused options",
-        NlReason::BadHeaderNumber => b"bad header number",
-        NlReason::CountsDisagree => b"counts disagree",
-        NlReason::RefusedCount => b"refused count",
-        NlReason::TooLarge => b"too large",
-        NlReason::LineTooLong => b"line too long",
-        NlReason::UnknownSegment => b"unknown segment",
-        NlReason::RefusedSegment => b"refused segment",
-        NlReason::RepeatedSegment => b"repeated segment",
-        NlReason::BadHead => b"bad segment head",
-        NlReason::IndexOut => b"index out of range",
-        NlReason::BadLine => b"bad line",
-        NlReason::BadNumber => b"bad number",
-        NlReason::ShortSegment => b"short segment",
-        NlReason::ExtraLine => b"extra line",
-        NlReason::RefusedOpcode => b"refused opcode",
-        NlReason::RefusedLeaf => b"refused leaf",
-        NlReason::Undefined => b"undefined",
-        NlReason::Complementarity => b"complementarity",
-        NlReason::EmptyInterval => b"empty interval",
-        NlReason::BinaryBounds => b"binary bounds",
-        NlReason::RepeatedIndex => b"repeated index",
-        NlReason::SosSuffix => b"special ordered sets",
-        NlReason::Missing => b"missing segment",
-        NlReason::NonzeroCount => b"nonzero count",
-        NlReason::ColumnCount => b"column count",
-        NlReason::InputTooLong => b"input too long",
-        NlReason::EndInHeader => b"end in header",
-    }
-}
-
-fn put(line: &mut Vec<u8>, text: &[u8]) -> Result<(), AllocError>
+/// Appends a text to a line.
+pub(crate) fn put(line: &mut Vec<u8>, text: &[u8]) -> Result<(), AllocError>
     ensures { OnOk result (line.new.items ≡ line.old.items ++ text.now) }
 {
     line.extend_from_slice(text)?;
     Ok(())
 }
 
-// How a refusal begins: at what, and its number.
-fn refused_at(alloc: Global, what: &[u8], number: u32) -> Result<Vec<u8>, AllocError>
-    ensures { IfOk result (λ line. line.items ≡ refused_at what.now number) }
+// The file of a fault; the first file is not named.
+fn put_file(line: &mut Vec<u8>, file: u32) -> Result<(), AllocError>
+    ensures { OnOk result (line.new.items ≡ line.old.items ++ file_text file) }
+{
+    if file > 1 {
+        let mut digits = Buffer::new();
+        put(line, b"file ")?;
+        put(line, digits.format(file).as_bytes())?;
+        put(line, b" ")?;
+    }
+    Ok(())
+}
+
+/// How a refusal begins: the file, at what, and its number.
+pub(crate) fn refused_at(
+    alloc: Global,
+    file: u32,
+    what: &[u8],
+    number: u32,
+) -> Result<Vec<u8>, AllocError>
+    ensures { IfOk result (λ line. line.items ≡ refused_at file what.now number) }
 {
     let mut digits = Buffer::new();
     let mut line = Vec::from_slice(alloc, b"refused ")?;
+    put_file(&mut line, file)?;
     put(&mut line, what)?;
     put(&mut line, b" ")?;
     put(&mut line, digits.format(number).as_bytes())?;
@@ -70,82 +45,18 @@ fn refused_at(alloc: Global, what: &[u8], number: u32) -> Result<Vec<u8>, AllocE
     Ok(line)
 }
 
-fn refusal(alloc: Global, what: &[u8], number: u32, text: &[u8]) -> Result<Vec<u8>, AllocError>
-    ensures { IfOk result (λ line. line.items ≡ refusal what.now number text.now) }
+/// The line of a refusal of this file.
+pub(crate) fn refusal(
+    alloc: Global,
+    file: u32,
+    what: &[u8],
+    number: u32,
+    text: &[u8],
+) -> Result<Vec<u8>, AllocError>
+    ensures { IfOk result (λ line. line.items ≡ refusal file what.now number text.now) }
 {
-    let mut line = refused_at(alloc, what, number)?;
+    let mut line = refused_at(alloc, file, what, number)?;
     put(&mut line, text)?;
     put(&mut line, b"\n")?;
     Ok(line)
-}
-
-// The number of a refused opcode, after a blank.
-fn put_opcode(line: &mut Vec<u8>, reason: NlReason, opcode: u32) -> Result<(), AllocError>
-    ensures { OnOk result (line.new.items ≡ line.old.items ++ opcode_text reason opcode) }
-{
-    if reason == NlReason::RefusedOpcode {
-        let mut digits = Buffer::new();
-        put(line, b" ")?;
-        put(line, digits.format(opcode).as_bytes())?;
-    }
-    Ok(())
-}
-
-/// The line of a fault of an .nl text.
-pub(crate) fn nl_line(alloc: Global, fault: NlFault) -> Result<Vec<u8>, AllocError>
-    ensures { IfOk result (λ line. line.items ≡ nl_line fault) }
-{
-    let mut line = refused_at(alloc, b"line", fault.line)?;
-    put(&mut line, reason_text(fault.reason))?;
-    put_opcode(&mut line, fault.reason, fault.opcode)?;
-    put(&mut line, b"\n")?;
-    Ok(line)
-}
-
-// The line of a fault at a place.
-fn placed_line(alloc: Global, read: &NlRead, at: At, text: &[u8]) -> Result<Vec<u8>, AllocError>
-    requires { IsSome (line_of read.now.places at) }
-    ensures { IfOk result (λ line. line.items ≡ placed_line read.now.places at text.now) }
-{
-    let number = read.places.line(at);
-    refusal(alloc, b"line", number, text)
-}
-
-/// The line of a fault of the fold.
-pub(crate) fn fold_line(
-    alloc: Global,
-    read: &NlRead,
-    fault: FoldFault,
-) -> Result<Vec<u8>, AllocError>
-    requires lines { HasLines read.now }
-    requires place { HasFaultPlace read.now.file fault }
-    ensures { IfOk result (λ line. line.items ≡ fold_line read.now.places fault) }
-{
-    match fault {
-        FoldFault::Nonlinear(at) => placed_line(alloc, read, at, b"nonlinear"),
-        FoldFault::DivideByZero(at) => placed_line(alloc, read, at, b"division by zero"),
-        FoldFault::TooWide(at) => placed_line(alloc, read, at, b"too wide"),
-        FoldFault::RefusedPower(at) => placed_line(alloc, read, at, b"refused power"),
-        FoldFault::FoldTooLarge(at) => placed_line(alloc, read, at, b"fold too large"),
-        FoldFault::NoSuchObjective(k) => refusal(alloc, b"objective", k, b"no such objective"),
-    }
-}
-
-/// The line of a fault of scaling with this objective.
-pub(crate) fn scale_line(
-    alloc: Global,
-    objective: u32,
-    fault: ScaleFault,
-) -> Result<Vec<u8>, AllocError>
-    ensures { IfOk result (λ line. line.items ≡ scale_line objective fault) }
-{
-    match fault {
-        ScaleFault::RowTooWide(i) => refusal(alloc, b"row", i, b"row too wide"),
-        ScaleFault::ObjectiveTooWide => refusal(
-            alloc,
-            b"objective",
-            objective,
-            b"objective too wide",
-        ),
-    }
 }

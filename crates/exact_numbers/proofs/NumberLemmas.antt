@@ -8,7 +8,7 @@ use Rattle.std.proofs.lemmas.Str.{IsUtf8-from_ascii}
 use Rattle.std.proofs.lemmas.Str.Ascii.{IsAscii-nil, IsAscii-cons}
 use Rattle.std.proofs.lemmas.Fmt.{IsAscii-from_digits, parse-signed_decimal}
 use Rattle.std.specs.Fmt.{signed_decimal}
-use Rattle.std.specs.Prelude.{Ok, Err, MatchOption}
+use Rattle.std.specs.Prelude.{Result, Ok, Err, MatchOption}
 use lib.Signed.{mag}
 use Rattle.std.specs.Str.{IsAscii, IsUtf8}
 use Rattle.std.specs.Str.Parse.{AllDigits, digits_value, signed_digits_value, without_leading_sign, IsNumeral}
@@ -24,10 +24,8 @@ use Rattle.exact_numbers.specs.declared.read.NumFault.{NumFault}
 use Rattle.exact_numbers.specs.declared.read.NumFault.TheVariants.{NotNumber, TooWide}
 use Rattle.exact_numbers.proofs.Spelling.{decimal_of-decimal, fits_dec_in, fits_dec_out, fits_dec-value}
 pub use Rattle.exact_numbers.specs.Spelled.{first_of_both, second_of_both}
+pub use Rattle.exact_numbers.proofs.Bridge.{both_true as both}
 use Rattle.exact_numbers.specs.Numbers.{are_digits, are_any_digits, is_exponent, is_dec_text, dec_where, dec_from, dec_of, whole_of, signed_of, has_31_bits}
-
-pub both : (a b : Bool) → a ≡ true → b ≡ true → (a && b) ≡ true
-both a b e f = rw (e, f) refl
 
 pub any_digits : (word : List ℕ) → AllDigits 10 word → are_any_digits word ≡ true
 any_digits [] d = refl
@@ -135,6 +133,10 @@ signed_of-signed_decimal z small = by (are_digits (without_leading_sign (signed_
     fits : FitsSigned w32 z
     fits = fits-from_31 z small
 
+    value : Result ℤ ℕ → ℤ
+    value (Ok y) = y
+    value (Err n) = z
+
     size : (y : ℤ) → has_31_bits y ≡ true → mag y < 2 ^ 63
     size (pos n) e = let lt = ltb-true n (2 ^ 31) e in omega arith
     size (negsuc n) e = let lt = ltb-true n (2 ^ 31) e in omega arith
@@ -143,8 +145,9 @@ signed_of-signed_decimal z small = by (are_digits (without_leading_sign (signed_
     by true e =
         let d : are_digits (without_leading_sign (signed_decimal z)) ≡ true = first_of_both _ _ e in
         let is : IsNumeral 10 (without_leading_sign (signed_decimal z)) = (are_digits-some _ d, are_digits-all _ d) in
-        let read = parse-signed_decimal {E = ℕ} w32 z (signed_decimal z) (Ok (signed_digits_value 10 (signed_decimal z))) fits (size z small) refl ((is, fits-from_31 _ (second_of_both _ _ e)), refl) in
-        rw e (let same : signed_digits_value 10 (signed_decimal z) ≡ z = cc in ap Some same)
+        let ok : Result ℤ ℕ = Ok (signed_digits_value 10 (signed_decimal z)) in
+        let read : ok ≡ Ok z = parse-signed_decimal w32 z (signed_decimal z) ok fits (size z small) refl ((is, fits-from_31 _ (second_of_both _ _ e)), refl) in
+        rw e (ap (λ r. Some (value r)) read)
     by false e =
         let isnt : (IsNumeral 10 (without_leading_sign (signed_decimal z)) × FitsSigned w32 (signed_digits_value 10 (signed_decimal z))) → ⊥ =
         λ h. (let t : (are_digits (without_leading_sign (signed_decimal z)) && has_31_bits (signed_digits_value 10 (signed_decimal z))) ≡ true = both _ _ (digits_are _ h.0.0 h.0.1) (fits-31 _ h.1) in absurd cc) in

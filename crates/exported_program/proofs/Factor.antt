@@ -6,19 +6,14 @@ use Rattle.std.proofs.lemmas.Bool.{eqb-true, eqb-false, cases_lt, cases_Bool}
 use Rattle.std.proofs.lemmas.Int.{ints, unsigned_abs-mul}
 use Rattle.std.proofs.lemmas.Nat.Gcd.{dvd_trans, dvd_refl, dvd_antisymm, le_of_dvd}
 use Rattle.std.proofs.lemmas.List.Elements.{All-nil, All-cons, All-head, All-tail}
+use Rattle.fractions.specs.Fits.{least_multiple}
 use Rattle.fractions.specs.Divisors.{AreCoprime, gcd_of}
 use Rattle.fractions.specs.Lowest.{is_gcd, dvd_other, coprime-swap, Reduced, reduced_lem}
 use Rattle.fractions.specs.Rational.{ℚ, whole, ◌*ℚ◌, decimal_value, above_zero, below_zero}
 use Rattle.fractions.proofs.Arithmetic.{decimal_value_lem}
-use Rattle.fractions.proofs.Values.{HasValue, own_value, whole_value, product_value, scaled_value, same_over}
-use Rattle.exported_program.specs.Factor.{IsFinite, IsLeastFactor, steps_to_cofactor, cofactor_of, lcm_of, least_factor}
-
-coprime-mul : (a b c : ℕ) → AreCoprime a b → AreCoprime a c → AreCoprime a (b * c)
-coprime-mul a b c h k d p q = k d p (dvd_other d b c (λ e r s. h e (dvd_trans e r p) s) q)
-
-coprime-pow : (n f k : ℕ) → AreCoprime n f → AreCoprime n (f ^ k)
-coprime-pow n f zero h = subst (λ x. AreCoprime n x) (sym (pow-zero f)) (λ d p q. eq-one_of_dvd-one q)
-coprime-pow n f (suc k) h = subst (λ x. AreCoprime n x) (sym (pow-suc f k)) (coprime-mul n (f ^ k) f (coprime-pow n f k h) h)
+use Rattle.fractions.proofs.Coprimes.{coprime-pow}
+use Rattle.fractions.proofs.Values.{HasValue, sizes_of, own_value, whole_value, product_value, scaled_value, same_over}
+use Rattle.exported_program.specs.Factor.{IsFinite, IsLeastFactor, steps_to_cofactor, cofactor_of, least_factor}
 
 ten-pos : (k : ℕ) → 0 < 10 ^ k
 ten-pos zero = subst (λ x. 0 < x) (sym (pow-zero 10)) (omega arith)
@@ -84,9 +79,6 @@ unfolding cofactor_of
 split_of n h = split_steps n n h (omega arith)
 
 -- ---- finite decimals by their denominators
-sizes : (a b : ℤ) (m n : ℕ) → a *ℤ pos m ≡ b *ℤ pos n → unsigned_abs a * m ≡ unsigned_abs b * n
-sizes a b m n e = sym (unsigned_abs-mul a (pos m)) ∙ ap unsigned_abs e ∙ unsigned_abs-mul b (pos n)
-
 record IsTenth (x : ℚ) : Type 0 where
   e : ℕ
   tens : x.bottom ∣ 10 ^ e
@@ -94,7 +86,7 @@ record IsTenth (x : ℚ) : Type 0 where
 tenth_of : (x : ℚ) → IsFinite x → IsTenth x
 tenth_of x h =
     let v : HasValue x (h.m *ℤ pos (10 ^ above_zero h.e)) (10 ^ below_zero h.e) = subst (λ y. HasValue y (h.m *ℤ pos (10 ^ above_zero h.e)) (10 ^ below_zero h.e)) (sym h.same) (decimal_value_lem h.m h.e) in
-    let size : unsigned_abs x.top * 10 ^ below_zero h.e ≡ unsigned_abs (h.m *ℤ pos (10 ^ above_zero h.e)) * x.bottom = sizes x.top (h.m *ℤ pos (10 ^ above_zero h.e)) (10 ^ below_zero h.e) x.bottom v.equal in
+    let size : unsigned_abs x.top * 10 ^ below_zero h.e ≡ unsigned_abs (h.m *ℤ pos (10 ^ above_zero h.e)) * x.bottom = sizes_of x.top (h.m *ℤ pos (10 ^ above_zero h.e)) (10 ^ below_zero h.e) x.bottom v.equal in
     record {
       e = below_zero h.e;
       tens = dvd_other x.bottom (unsigned_abs x.top) (10 ^ below_zero h.e) (coprime-swap (unsigned_abs x.top) x.bottom x.lowest)
@@ -136,7 +128,7 @@ module _ (k : ℕ) (x : ℚ) where
   product_sizes =
       let y = whole (pos k) *ℚ x in
       let v = product_value (whole_value (pos k)) (own_value x) in
-      ap (λ n. unsigned_abs y.top * n) (sym (one-mul x.bottom)) ∙ sizes y.top (pos k *ℤ x.top) (1 * x.bottom) y.bottom v.equal ∙ ap (λ n. n * y.bottom) (unsigned_abs-mul (pos k) x.top)
+      ap (λ n. unsigned_abs y.top * n) (sym (one-mul x.bottom)) ∙ sizes_of y.top (pos k *ℤ x.top) (1 * x.bottom) y.bottom v.equal ∙ ap (λ n. n * y.bottom) (unsigned_abs-mul (pos k) x.top)
 
   to_multiple : (e : ℕ) → (whole (pos k) *ℚ x).bottom ∣ 10 ^ e → x.bottom ∣ k * 10 ^ e
   to_multiple e h =
@@ -204,11 +196,10 @@ lcm_by a b g r =
         let left : b / g ∣ a / g * (k / a) = dvd_of_mul-dvd-mul_right (b / g) r.above within in
         subst (λ x. a * (b / g) ∣ x) split (mul-dvd-mul_left (b / g) a (dvd_other (b / g) (a / g) (k / a) (coprime-swap (a / g) (b / g) r.coprime) left))
 
-pub is_lcm : (a b : ℕ) → 0 < b → IsLeastMultiple a b (lcm_of a b)
-unfolding lcm_of
+pub is_lcm : (a b : ℕ) → 0 < b → IsLeastMultiple a b (least_multiple a b)
 is_lcm a b h = lcm_by a b (gcd_of a b) (reduced_lem a b h)
 
-cofactor_above : (n : ℕ) → 0 < n → 0 < cofactor_of n
+pub cofactor_above : (n : ℕ) → 0 < n → 0 < cofactor_of n
 cofactor_above n h = let s = split_of n h in ⊎_elim (λ l. l) (λ (z : cofactor_of n ≤ 0). absurd (gone (cofactor_of n) s.rest n (omega arith) (sym s.whole) h)) (cases_lt 0 (cofactor_of n))
   where
     gone : (c r n : ℕ) → c ≡ 0 → c * r ≡ n → 0 < n → ⊥
@@ -216,7 +207,7 @@ cofactor_above n h = let s = split_of n h in ⊎_elim (λ l. l) (λ (z : cofacto
     gone (suc c) r n z e h = omega arith
 
 pub factor_above : (xs : List ℚ) → 0 < least_factor xs
-unfolding least_factor lcm_of
+unfolding least_factor
 factor_above [] = omega arith
 factor_above (x ∷ xs) = mul-pos (cofactor_above x.bottom x.above) (reduced_lem (cofactor_of x.bottom) (least_factor xs) (factor_above xs)).some
 

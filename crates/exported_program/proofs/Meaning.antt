@@ -1,7 +1,7 @@
 -- What a program of scaled rows means.
-use Rattle.std.proofs.Common.{◌≡◌, ℕ, zero, suc, ◌<◌, ◌∙◌, sym, ap, ap₂, subst, refl, arith, Bool, true, false, List, [], ◌∷◌, length, get_or, ◌||◌, All, IsTrue}
+use Rattle.std.proofs.Common.{◌≡◌, ℕ, zero, suc, ◌<◌, ◌∙◌, sym, ap, ap₂, subst, refl, arith, Bool, true, false, List, [], length, get_or, ◌||◌, All, IsTrue}
 use Rattle.std.proofs.Math.ListN.{get_or-map}
-use Rattle.std.proofs.lemmas.List.{length-map}
+use Rattle.std.proofs.lemmas.List.{get_or_default, length-map}
 use Rattle.fractions.specs.Rational.{ℚ, zero_ℚ, ◌+ℚ◌, ◌-ℚ◌, ◌*ℚ◌, neg_ℚ, IsWhole}
 use Rattle.fractions.specs.Sums.{sum_below}
 use Rattle.fractions.proofs.Arithmetic.{+ℚ_comm, neg-neg, -ℚ_lem}
@@ -87,11 +87,6 @@ module _ (rows : List ScaledRow) (objective : Form) (vs : List Variable) (maximi
   first_kind = refl
 
 -- inside a list the default does not matter
-same_default : {A : Type 0} (xs : List A) (k : ℕ) (d e : A) → k < length xs → get_or xs k d ≡ get_or xs k e
-same_default [] k d e h = absurd (omega arith)
-same_default (x ∷ xs) zero d e h = refl
-same_default (x ∷ xs) (suc k) d e h = same_default xs k d e (omega arith)
-
 -- a point of the program
 pub record HoldsAt (scaled : List ScaledRow) (vs : List Variable) (xs : List ℚ) : Type 0 where
   pub rows : All (ScaledHolds (length vs) xs) scaled
@@ -106,7 +101,7 @@ feasible_there rows objective vs maximise xs o s =
       rows = λ k d h.
           let e = row_sides_are rows objective vs maximise k h (o k no_scaled h) in
           let held = s.rows (suc k) (omega (arith, rows_count rows objective vs maximise)) in
-          subst (λ r. ScaledHolds (length vs) xs r) (same_default rows k no_scaled d h)
+          subst (λ r. ScaledHolds (length vs) xs r) (get_or_default rows k no_scaled d h)
           (subst (λ v. IsInside (get_or rows k no_scaled).side v) (row_sum rows objective vs maximise xs k no_scaled h)
           (subst (λ t. IsInside t (row_value m xs (suc k))) e held));
       bounds = λ j h. subst (λ t. IsInside t (value_at xs j)) (bounds_are rows objective vs maximise j h) (s.bounds j (omega (arith, columns_count rows objective vs maximise)));

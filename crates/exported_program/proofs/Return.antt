@@ -4,10 +4,10 @@ use Rattle.std.proofs.Math.ListN.{get_or-append}
 use Rattle.fractions.specs.Rational.{ℚ, zero_ℚ, whole, ◌+ℚ◌, ◌-ℚ◌, ◌*ℚ◌, neg_ℚ}
 use Rattle.fractions.proofs.Arithmetic.{+ℚ_comm, +ℚ_assoc, +ℚ_zero, +ℚ-neg, -ℚ_lem, *ℚ_assoc, *ℚ_comm, *ℚ_zero, zero-*ℚ}
 use Rattle.fractions.proofs.Adding.{sum_below_all_zero}
-use Rattle.linear_programs.specs.Linear.{Form, Row, Linear, form_value, linear_part, value_at, variable_count, IsLinear}
+use Rattle.linear_programs.specs.Linear.{Form, Row, Linear, form_value, linear_part, value_at, variable_count, IsLinear, no_row, row_at}
 use Rattle.mps_model.specs.Mps.{row_value}
 use Rattle.exported_program.specs.Program.{ScaledRow, scaled_row, exported_rows, program, tied_program, tie, z_form, z_variable}
-use Rattle.exported_program.specs.Return.{is_exported, no_file_row, row_at, place_of, program_row, dual_of}
+use Rattle.exported_program.specs.Return.{is_exported, place_of, program_row, dual_of}
 use Rattle.exported_program.proofs.Scaling.{linear_scaled}
 use Rattle.exported_program.proofs.Meaning.{row_sum, no_scaled}
 use Rattle.exported_program.proofs.Export.{linear_more, one_more}
@@ -17,8 +17,8 @@ record StandsAt (scaled : List ScaledRow) (p : ℕ) (r : ScaledRow) : Type 0 whe
   inside : p < length scaled
   there : get_or scaled p no_scaled ≡ r
 
-stands : (factor : ℕ → ℕ) (j : ℕ) (rows : List Row) (i : ℕ) → i < length rows → is_exported (get_or rows i no_file_row) ≡ true →
-    StandsAt (exported_rows factor j rows) (place_of rows i) (scaled_row (factor (j + i)) (get_or rows i no_file_row))
+stands : (factor : ℕ → ℕ) (j : ℕ) (rows : List Row) (i : ℕ) → i < length rows → is_exported (get_or rows i no_row) ≡ true →
+    StandsAt (exported_rows factor j rows) (place_of rows i) (scaled_row (factor (j + i)) (get_or rows i no_row))
 unfolding exported_rows place_of
 stands factor j [] i h e = absurd (omega arith)
 stands factor j (r ∷ rs) zero h e =
@@ -26,8 +26,8 @@ stands factor j (r ∷ rs) zero h e =
     (record { inside = omega arith; there = ap (λ k. scaled_row (factor k) r) (omega arith) })
 stands factor j (r ∷ rs) (suc i) h e =
     let ih = stands factor (suc j) rs i (omega arith) e in
-    let there : get_or (exported_rows factor (suc j) rs) (place_of rs i) no_scaled ≡ scaled_row (factor (j + suc i)) (get_or rs i no_file_row) = ih.there ∙ ap (λ k. scaled_row (factor k) (get_or rs i no_file_row)) (omega arith) in
-    elim (is_exported r) as (λ b. StandsAt (cond b (scaled_row (factor j) r ∷ exported_rows factor (suc j) rs) (exported_rows factor (suc j) rs)) (cond b (suc (place_of rs i)) (place_of rs i)) (scaled_row (factor (j + suc i)) (get_or rs i no_file_row)))
+    let there : get_or (exported_rows factor (suc j) rs) (place_of rs i) no_scaled ≡ scaled_row (factor (j + suc i)) (get_or rs i no_row) = ih.there ∙ ap (λ k. scaled_row (factor k) (get_or rs i no_row)) (omega arith) in
+    elim (is_exported r) as (λ b. StandsAt (cond b (scaled_row (factor j) r ∷ exported_rows factor (suc j) rs) (exported_rows factor (suc j) rs)) (cond b (suc (place_of rs i)) (place_of rs i)) (scaled_row (factor (j + suc i)) (get_or rs i no_row)))
     [ true ↦ record { inside = omega (arith, ih.inside); there = there } | false ↦ record { inside = ih.inside; there = there } ]
 
 -- the body less its value at the point 0
@@ -80,5 +80,5 @@ law_of_return_tied f factor g s w i xs z linear count h e =
     ∙ ap (λ (t : ScaledRow). linear_part t.coefficient (length (f.variables ++ z_variable ∷ [])) (xs ++ z ∷ [])) (get_or-append first (t ∷ []) no_scaled (place_of f.rows i) at.inside ∙ at.there ∙ ap (λ t. scaled_row (factor t) r) (omega arith))
     ∙ linear_scaled k r.body.coefficient (length (f.variables ++ z_variable ∷ [])) (xs ++ z ∷ [])
     ∙ ap (λ m. k *ℚ linear_part r.body.coefficient m (xs ++ z ∷ [])) (one_more f.variables z_variable)
-    ∙ ap (λ v. k *ℚ v) (linear_more n xs z count r.body.coefficient r.body.coefficient (λ j h. refl) ∙ ap (λ c. v +ℚ c *ℚ z) (linear.within i no_file_row h n (omega arith)) ∙ ap (λ c. v +ℚ c) (zero-*ℚ z) ∙ +ℚ_zero v) in
+    ∙ ap (λ v. k *ℚ v) (linear_more n xs z count r.body.coefficient r.body.coefficient (λ j h. refl) ∙ ap (λ c. v +ℚ c *ℚ z) (linear.within i no_row h n (omega arith)) ∙ ap (λ c. v +ℚ c) (zero-*ℚ z) ∙ +ℚ_zero v) in
     ap (λ t. dual_of s w (factor i) *ℚ t) (body_less r.body n xs) ∙ regroup s w k v ∙ ap (λ t. s *ℚ w *ℚ t) (sym row)

@@ -3,12 +3,12 @@ use Rattle.std.specs.Prelude.{◌≡◌, ℕ, ◌<◌, ◌^◌, pos, IsTrue, Opt
 use Rattle.fractions.specs.Fits.{fits, sum_fits}
 use Rattle.fractions.specs.Rational.{neg_ℚ, ℚ, whole, ◌-ℚ◌, ◌*ℚ◌}
 use Rattle.exported_program.specs.Factor.{least_factor, row_numbers, objective_numbers, coefficients_below}
-use Rattle.linear_programs.specs.Linear.{Row, Linear, variable_count}
+use Rattle.linear_programs.specs.Linear.{Row, Linear, variable_count, row_at}
 use Rattle.mps_model.specs.Mps.{Mps, with_values}
 use Rattle.exact_numbers.specs.declared.dec.Dec.{Dec}
 use Rattle.exact_numbers.specs.Values.{dec_value, FitsDec}
 use Rattle.exported_program.specs.Program.{program, tied_program, scaled_side, nonzero}
-use Rattle.exported_program.specs.Return.{is_exported, row_at}
+use Rattle.exported_program.specs.Return.{is_exported}
 
 -- ---- factors
 abbrev pub factor_of_row : Linear → ℕ → ℕ

@@ -1,6 +1,7 @@
 -- Whole numbers that make fractions finite decimals.
-use Rattle.std.specs.Prelude.{◌≡◌, ℕ, zero, suc, ◌*◌, ◌/◌, ◌<◌, ◌≤◌, nat_eq, cond, ℤ, pos, List, [], ◌∷◌, ◌++◌, Option, Some, None, All}
+use Rattle.std.specs.Prelude.{◌≡◌, ℕ, zero, suc, ◌/◌, ◌<◌, ◌≤◌, nat_eq, cond, ℤ, pos, List, [], ◌∷◌, ◌++◌, Option, Some, None, All}
 use Rattle.fractions.specs.Divisors.{gcd_of}
+use Rattle.fractions.specs.Fits.{least_multiple}
 use Rattle.fractions.specs.Rational.{ℚ, whole, ◌-ℚ◌, ◌*ℚ◌, decimal_value}
 use Rattle.linear_programs.specs.Linear.{Form, Row}
 
@@ -48,11 +49,7 @@ steps_to_cofactor (suc k) n = cond (nat_eq (gcd_of n 10) 1) n (steps_to_cofactor
 unfoldable pub cofactor_of : ℕ → ℕ
 cofactor_of n = steps_to_cofactor n n
 
--- the least common multiple, of numbers above 0
-unfoldable pub lcm_of : ℕ → ℕ → ℕ
-lcm_of a b = a * (b / gcd_of a b)
-
 -- the least common multiple of the cofactors of the denominators
 unfoldable pub least_factor : List ℚ → ℕ
 least_factor [] = 1
-least_factor (x ∷ xs) = lcm_of (cofactor_of x.bottom) (least_factor xs)
+least_factor (x ∷ xs) = least_multiple (cofactor_of x.bottom) (least_factor xs)

@@ -1,7 +1,6 @@
 pub mod Example
 pub mod Export
 pub mod Factor
-pub mod Names
 pub mod Program
 pub mod Return
 pub mod Terms

@@ -1,20 +1,13 @@
 -- Where an exported row stands in the program, and its dual.
-use Rattle.std.specs.Prelude.{ℕ, zero, suc, pos, Bool, cond, List, [], ◌∷◌, get_or}
-use Rattle.fractions.specs.Rational.{ℚ, whole, zero_ℚ, ◌*ℚ◌}
-use Rattle.linear_programs.specs.Linear.{Row, Linear, unbounded}
+use Rattle.std.specs.Prelude.{ℕ, zero, suc, pos, Bool, cond, List, [], ◌∷◌}
+use Rattle.fractions.specs.Rational.{ℚ, whole, ◌*ℚ◌}
+use Rattle.linear_programs.specs.Linear.{Row, Linear}
+pub use Rattle.linear_programs.specs.Linear.{row_at}
 use Rattle.exported_program.specs.Program.{has_side}
 
 -- the row has a finite side
 abbrev pub is_exported : Row → Bool
 is_exported r = has_side r.side.lower r.side.upper
-
--- nothing asks for a row past the last
-abbrev pub no_file_row : Row
-no_file_row = record { name = []; body = record { constant = zero_ℚ; coefficient = λ j. zero_ℚ }; side = unbounded }
-
--- row i of the file
-abbrev pub row_at : Linear → ℕ → Row
-row_at f i = get_or f.rows i no_file_row
 
 -- how many of the rows before row i are exported
 unfoldable pub place_of : List Row → ℕ → ℕ

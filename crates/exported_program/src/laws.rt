@@ -2,7 +2,7 @@
 ghost use Rattle.std.specs.Prelude.{◌≢◌, ◌^◌};
 ghost use Rattle.text_base.specs.Names.{IsName};
 ghost use Rattle.mps_model.specs.Valid.{marker_word};
-ghost use Rattle.exported_program.specs.Names.{constraint_name, variable_name};
+ghost use Rattle.linear_programs.specs.Names.{row_name, variable_name};
 ghost use Rattle.exported_program.specs.Program.{nl_name, obj_name, z_name, zdef_name};
 ghost use Rattle.std.specs.Prelude.{◌≡◌, ◌↔◌, ℕ, ◌<◌, pos, List, [], ◌∷◌, ◌++◌, length, All, IsTrue};
 ghost use Prim.Native.Nat.{◌∣◌};
@@ -10,13 +10,13 @@ ghost use Rattle.fractions.specs.Divisors.{AreCoprime};
 ghost use Rattle.fractions.specs.Rational.{ℚ, whole, ◌-ℚ◌, ◌*ℚ◌};
 ghost use Rattle.exported_program.specs.Example.{spelled, knapsack, knapsack_text};
 ghost use Rattle.exported_program.specs.Factor.{IsFinite, IsLeastFactor, least_factor, cofactor_of};
-ghost use Rattle.linear_programs.specs.Linear.{Linear, IsLinear, IsFeasible, objective_value, variable_count, form_value};
+ghost use Rattle.linear_programs.specs.Linear.{Linear, IsLinear, IsFeasible, objective_value, variable_count, form_value, row_at};
 ghost use Rattle.exported_program.specs.Export.{IsProgramOf, IsDecimal};
 ghost use Rattle.exact_numbers.specs.declared.dec.Dec.{Dec};
 ghost use Rattle.exact_numbers.specs.Values.{dec_value};
 ghost use Rattle.mps_model.specs.Mps.{Mps, with_values, IsMpsFeasible, mps_objective, row_value};
 ghost use Rattle.exported_program.specs.Program.{program, tied_program};
-ghost use Rattle.exported_program.specs.Return.{dual_of, is_exported, row_at, program_row};
+ghost use Rattle.exported_program.specs.Return.{dual_of, is_exported, program_row};
 ghost use Rattle.mps_model.specs.Text.{mps_text_by};
 
 /// The exported program has the file's points, objective and sense, whatever the factors above 0.
@@ -61,7 +61,7 @@ pub fn decimal_program_keeps_meaning()
 
 /// The names of the program, its rows and its columns are names.
 pub fn names_are_names()
-    ensures constraints { (i : ℕ) → i < 2 ^ 32 → IsName (constraint_name i) }
+    ensures constraints { (i : ℕ) → i < 2 ^ 32 → IsName (row_name i) }
     ensures variables { (j : ℕ) → j < 2 ^ 32 → IsName (variable_name j) }
     ensures program { IsName nl_name }
     ensures objective { IsName obj_name }
@@ -71,11 +71,11 @@ pub fn names_are_names()
 
 /// No two rows have one name, nor have two columns, and no row is named as a marker line is.
 pub fn names_differ()
-    ensures constraints { (i j : ℕ) → i < 2 ^ 32 → j < 2 ^ 32 → constraint_name i ≡ constraint_name j → i ≡ j }
+    ensures constraints { (i j : ℕ) → i < 2 ^ 32 → j < 2 ^ 32 → row_name i ≡ row_name j → i ≡ j }
     ensures variables { (i j : ℕ) → i < 2 ^ 32 → j < 2 ^ 32 → variable_name i ≡ variable_name j → i ≡ j }
-    ensures objective { (i : ℕ) → constraint_name i ≢ obj_name }
-    ensures tied_row { (i : ℕ) → constraint_name i ≢ zdef_name }
+    ensures objective { (i : ℕ) → row_name i ≢ obj_name }
+    ensures tied_row { (i : ℕ) → row_name i ≢ zdef_name }
     ensures tied_column { (j : ℕ) → variable_name j ≢ z_name }
     ensures objective_and_tied_row { obj_name ≢ zdef_name }
-    ensures markers { ((i : ℕ) → constraint_name i ≢ marker_word) × (obj_name ≢ marker_word) × (zdef_name ≢ marker_word) }
+    ensures markers { ((i : ℕ) → row_name i ≢ marker_word) × (obj_name ≢ marker_word) × (zdef_name ≢ marker_word) }
 {}

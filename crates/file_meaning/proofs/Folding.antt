@@ -1,13 +1,16 @@
 -- A file without a fold fault is linear.
-use Rattle.std.proofs.Common.{◌≡◌, ℕ, zero, suc, ◌+◌, ◌<◌, ◌∙◌, ap, refl, subst, arith, Bool, true, false, if◌then◌else◌, Option, Some, None, List, [], ◌∷◌, ◌++◌}
+use Rattle.std.proofs.Common.{◌≡◌, ℕ, zero, suc, ◌+◌, ◌<◌, ◌∙◌, ap, refl, subst, arith, Bool, true, false, if◌then◌else◌, Option, Some, None, List, [], ◌∷◌, ◌++◌, slice_get, take}
 use Rattle.std.specs.Option.{option_or}
 use Rattle.linear_programs.specs.Linear.{value_at}
 use Rattle.nl_meaning.specs.declared.Fault.{Fault}
 use Rattle.nl_meaning.specs.Faults.{expression_fault, definitions_fault, line_of, line_with_terms, expression_line}
-use Rattle.nl_meaning.specs.Trees.{Point, Known, nothing_known, with_value, Expression, Definition, expression_value, known_values, expression_val, IsExpressionFormed, AreDefined, IsOneOf, indices_of}
+use Rattle.nl_meaning.specs.Parts.{IsPart, IsLinearTree}
+use Rattle.nl_meaning.specs.Trees.{Tree, Point, Known, nothing_known, with_value, Expression, Definition, expression_value, known_values, expression_val, IsExpressionFormed, AreDefined, IsOneOf, indices_of}
 use Rattle.nl_meaning.specs.Lines.{line_value}
 use Rattle.nl_meaning.proofs.LineLemmas.{line_by_lem}
-use Rattle.nl_meaning.proofs.Linear.{HasValues, option_or-none, known_linear, expression_linear}
+use Rattle.fractions.proofs.Tests.{option_or-none}
+use Rattle.nl_meaning.proofs.Linear.{AreLinear, HasValues, known_linear, none_linear, expression_linear}
+use Rattle.nl_meaning.proofs.PartLemmas.{definition_parts, part_linear}
 use Rattle.nl_model.specs.File.{File}
 use Rattle.file_meaning.specs.Expressions.{definitions_of, body_of, objective_of}
 use Rattle.file_meaning.specs.FoldFaults.{Owner, definition, FoldFault, no_such_objective, Owned, owned_line, coefficient_count, at_owner, owners_fault, owned_definitions, owned_body, owned_objective, defined_line, owners_of, has_objective, fold_fault}
@@ -62,27 +65,53 @@ clean_line n ds above clean x formed fault =
     line_by_lem n (expression_val ds x) (line_with_terms (line_of (known_values ds) x.tree) x.terms)
     (expression_linear n (known_values ds) (indices_of ds) (known_linear n ds above clean) x formed fault)
 
-pub clean_has_lines : (f : File) (k : ℕ) → IsFormedFile f k → fold_fault f k ≡ None → HasLines f k
+-- nothing that is folded has a fault
+record IsClean (f : File) (k : ℕ) : Type 0 where
+  definitions : definitions_fault (λ at. nothing_known) f.counts.n_var (definitions_of f) ≡ None
+  bodies : (i : ℕ) → i < f.counts.n_con → expression_fault (known_values (definitions_of f)) f.counts.n_var (body_of f i) ≡ None
+  objective : expression_fault (known_values (definitions_of f)) f.counts.n_var (objective_of f k) ≡ None
+
+is_clean : (f : File) (k : ℕ) → fold_fault f k ≡ None → IsClean f k
 unfolding fold_fault
-clean_has_lines f k formed clean =
+is_clean f k clean =
     let n = f.counts.n_var in
     let ds = definitions_of f in
     let free = with_objective (has_objective f k) (owners_fault n 0 (owners_of f k)) k clean in
     let defs = definitions_clean n (λ at. nothing_known) 0 ds (elements_from (owned_body f) 0 f.counts.n_con ++ owned_objective f k ∷ []) 0 free in
     let bodies = bodies_clean n (owned_body f) 0 f.counts.n_con (owned_objective f k ∷ []) defs.1 defs.2 in
-    let last = expression_clean n bodies.1 (owned_objective f k) [] bodies.2 in
     record {
-      bodies = λ i h xs. clean_line n ds formed.definitions defs.0 (body_of f i) (formed.bodies i h) (subst (λ j. expression_fault (known_values ds) n (body_of f j) ≡ None) (omega arith) (bodies.0 i h)) (value_at xs) ∙ ap Some (form_value_lem n (expression_line ds (body_of f i)) xs);
-      objective = λ xs. clean_line n ds formed.definitions defs.0 (objective_of f k) formed.objective last (value_at xs) ∙ ap Some (form_value_lem n (expression_line ds (objective_of f k)) xs);
+      definitions = defs.0;
+      bodies = λ i h. subst (λ j. expression_fault (known_values ds) n (body_of f j) ≡ None) (omega arith) (bodies.0 i h);
+      objective = expression_clean n bodies.1 (owned_objective f k) [] bodies.2;
     }
 
--- each defined variable has the values of its line
-pub defined_has_line : (f : File) (k : ℕ) → IsFormedFile f k → fold_fault f k ≡ None → (i : ℕ) → IsOneOf i (indices_of (definitions_of f)) → (at : Point) → known_values (definitions_of f) at i ≡ Some (line_value f.counts.n_var (defined_line f i) at)
-unfolding fold_fault
-defined_has_line f k formed clean i among =
-    let n = f.counts.n_var in
-    let ds = definitions_of f in
-    let free = with_objective (has_objective f k) (owners_fault n 0 (owners_of f k)) k clean in
-    let defs = definitions_clean n (λ at. nothing_known) 0 ds (elements_from (owned_body f) 0 f.counts.n_con ++ owned_objective f k ∷ []) 0 free in
-    let r = known_linear n ds formed.definitions defs.0 i among in
-    line_by_lem n (λ at. known_values ds at i) r.0 r.1
+module _ (f : File) (k : ℕ) (formed : IsFormedFile f k) (clean : fold_fault f k ≡ None) where
+  pub clean_has_lines : HasLines f k
+  clean_has_lines =
+      let n = f.counts.n_var in
+      let ds = definitions_of f in
+      let free = is_clean f k clean in
+      record {
+        bodies = λ i h xs. clean_line n ds formed.definitions free.definitions (body_of f i) (formed.bodies i h) (free.bodies i h) (value_at xs) ∙ ap Some (form_value_lem n (expression_line ds (body_of f i)) xs);
+        objective = λ xs. clean_line n ds formed.definitions free.definitions (objective_of f k) formed.objective free.objective (value_at xs) ∙ ap Some (form_value_lem n (expression_line ds (objective_of f k)) xs);
+      }
+
+  known_lines : AreLinear f.counts.n_var (known_values (definitions_of f)) (indices_of (definitions_of f))
+  known_lines = known_linear f.counts.n_var (definitions_of f) formed.definitions (is_clean f k clean).definitions
+
+  -- each defined variable has the values of its line
+  pub defined_has_line : (i : ℕ) → IsOneOf i (indices_of (definitions_of f)) → (at : Point) → known_values (definitions_of f) at i ≡ Some (line_value f.counts.n_var (defined_line f i) at)
+  defined_has_line i among = (let r = known_lines i among in line_by_lem f.counts.n_var (λ at. known_values (definitions_of f) at i) r.0 r.1)
+
+  -- each part of a tree is linear
+  pub definition_parts_are_linear : (i : ℕ) (d : Definition) → slice_get (definitions_of f) i ≡ Some d → (u : Tree) → IsPart u d.expression.tree → IsLinearTree f.counts.n_var (take i (definitions_of f)) u
+  definition_parts_are_linear = definition_parts f.counts.n_var (λ at. nothing_known) [] (none_linear f.counts.n_var) (definitions_of f) formed.definitions (is_clean f k clean).definitions
+
+  expression_parts : (x : Expression) → IsExpressionFormed f.counts.n_var (indices_of (definitions_of f)) x → expression_fault (known_values (definitions_of f)) f.counts.n_var x ≡ None → (u : Tree) → IsPart u x.tree → IsLinearTree f.counts.n_var (definitions_of f) u
+  expression_parts x within free = part_linear f.counts.n_var (known_values (definitions_of f)) (indices_of (definitions_of f)) known_lines 0 x.tree within.tree (option_or-none _ _ free).0
+
+  pub body_parts_are_linear : (i : ℕ) → i < f.counts.n_con → (u : Tree) → IsPart u (body_of f i).tree → IsLinearTree f.counts.n_var (definitions_of f) u
+  body_parts_are_linear i h = expression_parts (body_of f i) (formed.bodies i h) ((is_clean f k clean).bodies i h)
+
+  pub objective_parts_are_linear : (u : Tree) → IsPart u (objective_of f k).tree → IsLinearTree f.counts.n_var (definitions_of f) u
+  objective_parts_are_linear = expression_parts (objective_of f k) formed.objective (is_clean f k clean).objective

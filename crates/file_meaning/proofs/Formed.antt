@@ -1,6 +1,6 @@
 -- What holds of each file gives what the laws ask of it: sides are ordered, indices are in range.
-use Rattle.std.proofs.Common.{◌≡◌, ℕ, ◌<◌, ◌≤◌, ◌⊎◌, inl, inr, ⊎_elim, ◌∙◌, sym, refl, subst, Bool, true, false, ◌||◌, ◌==◌, IsTrue, Option, Some, None, IfSome, List, [], ◌∷◌, ◌++◌, map, length, get_or, All}
-use Rattle.std.proofs.lemmas.Bool.{cases_lt, eqb-true}
+use Rattle.std.proofs.Common.{◌≡◌, ℕ, ◌<◌, ◌≤◌, inl, inr, ⊎_elim, ◌∙◌, sym, subst, true, false, ◌==◌, IsTrue, Option, Some, None, IfSome, List, [], ◌∷◌, ◌++◌, map, length, get_or, All}
+use Rattle.std.proofs.lemmas.Bool.{cases_lt, eqb-true, or_cases}
 use Rattle.std.proofs.lemmas.List.{get_or_past}
 use Rattle.std.proofs.lemmas.List.Elements.{All-head, All-tail}
 use Rattle.std.proofs.lemmas.List.Folds.{list_any-append}
@@ -39,15 +39,11 @@ formed_by : (n : ℕ) (ds : List Definition) (is : List ℕ) → AreAmong ds is 
 formed_by n ds is among t ts h below = record { tree = tree_formed n ds is among t h.formed h.within; terms = terms_formed n ts below }
 
 -- ---- definitions
-or-true : (a b : Bool) → (a || b) ≡ true → (a ≡ true) ⊎ (b ≡ true)
-or-true true b e = inl refl
-or-true false b e = inr e
-
 one_more : (ds : List Definition) (is : List ℕ) → AreAmong ds is → (d : Definition) → AreAmong (ds ++ d ∷ []) (d.index ∷ is)
 one_more ds is among d i h =
     ⊎_elim (λ (e : is_defined ds i ≡ true). inr (among i e))
-    (λ (e : is_defined (d ∷ []) i ≡ true). ⊎_elim (λ (g : d.index == i ≡ true). inl (sym (eqb-true d.index i g))) (λ (g : false ≡ true). absurd (let clash : false ≡ true = g in cc)) (or-true (d.index == i) false e))
-    (or-true (is_defined ds i) (is_defined (d ∷ []) i) (sym (list_any-append (λ x. x.index == i) ds (d ∷ [])) ∙ h))
+    (λ (e : is_defined (d ∷ []) i ≡ true). ⊎_elim (λ (g : d.index == i ≡ true). inl (sym (eqb-true d.index i g))) (λ (g : false ≡ true). absurd (let clash : false ≡ true = g in cc)) (or_cases (d.index == i) false e))
+    (or_cases (is_defined ds i) (is_defined (d ∷ []) i) (sym (list_any-append (λ x. x.index == i) ds (d ∷ [])) ∙ h))
 
 definitions_formed : (n k : ℕ) (known : List Definition) (is : List ℕ) → AreAmong known is → (ds : List Definition) → AreDefinitions n k known ds → AreDefined n is (map definition_of ds)
 definitions_formed n k known is among [] h = tt
@@ -63,7 +59,7 @@ kept (d ∷ ds) is i h = kept ds (d.index ∷ is) i (inr h)
 all_among : (ds : List Definition) (is : List ℕ) → AreAmong ds (indices_after is (map definition_of ds))
 all_among [] is i h = absurd (let clash : false ≡ true = h in cc)
 all_among (d ∷ ds) is i h =
-    ⊎_elim (λ (g : d.index == i ≡ true). kept ds (d.index ∷ is) i (inl (sym (eqb-true d.index i g)))) (λ (g : is_defined ds i ≡ true). all_among ds (d.index ∷ is) i g) (or-true (d.index == i) (is_defined ds i) h)
+    ⊎_elim (λ (g : d.index == i ≡ true). kept ds (d.index ∷ is) i (inl (sym (eqb-true d.index i g)))) (λ (g : is_defined ds i ≡ true). all_among ds (d.index ∷ is) i g) (or_cases (d.index == i) (is_defined ds i) h)
 
 -- ---- bodies and objectives
 zero_formed : (n : ℕ) (is : List ℕ) → IsFormed n is (tree_or_zero None)

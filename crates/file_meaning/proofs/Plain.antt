@@ -1,6 +1,7 @@
 -- Files whose trees are numbers are linear.
 use Rattle.std.proofs.Common.{◌≡◌, ℕ, ◌∙◌, sym, ap, ap₂, refl, Bool, true, false, ◌==◌, nat_eq, cond, Some, List, [], ◌∷◌}
 use Rattle.exact_numbers.specs.Values.{dec_value}
+use Rattle.fractions.specs.Functions.{or_zero}
 use Rattle.fractions.specs.Rational.{ℚ, zero_ℚ, ◌+ℚ◌, ◌*ℚ◌, ◌-ℚ◌, decimal_value}
 use Rattle.fractions.specs.Sums.{sum_over}
 use Rattle.fractions.proofs.Arithmetic.{*ℚ_zero, *ℚ_one, +ℚ_zero}
@@ -8,7 +9,7 @@ use Rattle.fractions.proofs.Adding.{sum_over-map, sum_over_same, sum_over-zero}
 use Rattle.fractions.proofs.Ring.{ring, v, ◌⊕◌, ◌⊖◌}
 use Rattle.linear_programs.specs.Linear.{value_at, linear_part, form_value}
 use Rattle.nl_meaning.specs.Faults.{expression_line, constant_line, line_with_terms}
-use Rattle.nl_meaning.specs.Lines.{Line, line_value, origin, unit_point, one_if, or_zero}
+use Rattle.nl_meaning.specs.Lines.{Line, line_value, origin, unit_point, one_if}
 use Rattle.nl_meaning.specs.Trees.{Point, Tree, number, variable, defined, operator, Expression, Definition, known_values, val, expression_val, AreTermsBelow}
 use Rattle.nl_meaning.proofs.LineLemmas.{line_by_lem}
 use Rattle.nl_meaning.proofs.Linear.{HasValues, constant_value, terms_added}

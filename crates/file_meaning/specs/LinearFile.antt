@@ -1,9 +1,9 @@
 -- The linear program of an .nl file, by the values of its bodies and of an objective.
 use Rattle.std.specs.Prelude.{◌≡◌, ℕ, zero, suc, ◌<◌, nat_eq, cond, List, [], ◌∷◌, Some}
-use Rattle.std.specs.Fmt.{decimal}
 use Rattle.fractions.specs.Rational.{ℚ, zero_ℚ, decimal_value}
 use Rattle.fractions.specs.Sums.{sum_over}
 use Rattle.linear_programs.specs.Linear.{Form, Row, Variable, Linear, form_value, AreOrdered}
+pub use Rattle.linear_programs.specs.Names.{row_name, variable_name}
 use Rattle.exact_numbers.specs.Values.{dec_value}
 use Rattle.nl_meaning.specs.Faults.{expression_line}
 use Rattle.nl_meaning.specs.Lines.{Line}
@@ -21,14 +21,6 @@ body_form f i = form_of_line (expression_line (definitions_of f) (body_of f i))
 
 abbrev pub objective_form : File → ℕ → Form
 objective_form f k = form_of_line (expression_line (definitions_of f) (objective_of f k))
-
--- c and the number
-abbrev pub row_name : ℕ → List ℕ
-row_name i = 99 ∷ decimal i
-
--- x and the number
-abbrev pub variable_name : ℕ → List ℕ
-variable_name j = 120 ∷ decimal j
 
 abbrev pub row_of : File → ℕ → Row
 row_of f i = record { name = row_name i; body = body_form f i; side = side_of f i }

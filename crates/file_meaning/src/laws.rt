@@ -1,9 +1,10 @@
 // Each law is proved by a function with an empty body.
-ghost use Rattle.std.specs.Prelude.{◌≡◌, ◌<◌, ◌↔◌, ℕ, List, [], None, Some, get_or};
+ghost use Rattle.std.specs.Prelude.{◌≡◌, ◌<◌, ◌↔◌, ℕ, List, [], None, Some, get_or, slice_get, take};
 ghost use Rattle.fractions.specs.Rational.{ℚ};
 ghost use Rattle.linear_programs.specs.Linear.{IsLinear, IsFeasible as IsFeasibleProgram, IsRelaxed as IsRelaxedProgram, objective_value as program_objective};
 ghost use Rattle.nl_meaning.specs.Lines.{line_value};
-ghost use Rattle.nl_meaning.specs.Trees.{IsOneOf, Point, indices_of, known_values};
+ghost use Rattle.nl_meaning.specs.Parts.{IsLinearTree, IsPart};
+ghost use Rattle.nl_meaning.specs.Trees.{Definition, IsOneOf, Point, Tree, indices_of, known_values};
 ghost use Rattle.nl_model.specs.File.{File};
 ghost use Rattle.nl_model.specs.Rules.{IsFile};
 ghost use Rattle.file_meaning.specs.Expressions.{body_of, definitions_of, maximises, objective_of};
@@ -33,6 +34,21 @@ pub fn plain_files_are_linear()
 pub fn files_without_faults_are_linear()
     ensures defined { (f : File) (k : ℕ) → IsFormedFile f k → fold_fault f k ≡ None → (i : ℕ) → IsOneOf i (indices_of (definitions_of f)) → (at : Point) → known_values (definitions_of f) at i ≡ Some (line_value f.counts.n_var (defined_line f i) at) }
     ensures lines { (f : File) (k : ℕ) → IsFormedFile f k → fold_fault f k ≡ None → HasLines f k }
+{}
+
+// In a file without a fold fault each part of each tree that is folded has at every point its value at 0 and the sum of
+// its coefficients times the variables. The tree of a definition may use the definitions before it.
+pub fn parts_are_linear()
+    ensures definitions { (f : File) (k : ℕ) → IsFormedFile f k → fold_fault f k ≡ None →
+        (i : ℕ) (d : Definition) → slice_get (definitions_of f) i ≡ Some d →
+        (u : Tree) → IsPart u d.expression.tree →
+        IsLinearTree f.counts.n_var (take i (definitions_of f)) u }
+    ensures bodies { (f : File) (k : ℕ) → IsFormedFile f k → fold_fault f k ≡ None →
+        (i : ℕ) → i < f.counts.n_con → (u : Tree) → IsPart u (body_of f i).tree →
+        IsLinearTree f.counts.n_var (definitions_of f) u }
+    ensures objective { (f : File) (k : ℕ) → IsFormedFile f k → fold_fault f k ≡ None →
+        (u : Tree) → IsPart u (objective_of f k).tree →
+        IsLinearTree f.counts.n_var (definitions_of f) u }
 {}
 
 // Each file that a builder makes has ordered sides and indices in range, whichever objective is chosen.

@@ -11,6 +11,7 @@ is_small k = nat_lt k (2 ^ 127)
 abbrev pub fits : ℚ → Bool
 fits x = is_small (unsigned_abs x.top) && is_small x.bottom
 
+-- the least common multiple, of numbers above 0
 abbrev pub least_multiple : ℕ → ℕ → ℕ
 least_multiple a b = a * (b / gcd_of a b)
 

@@ -1,7 +1,12 @@
 -- Powers, least and greatest, whole parts and absolute values.
-use Rattle.std.specs.Prelude.{ℕ, zero, suc, ℤ, pos, negsuc, ◌*ℤ◌, int_lt, Bool, ◌==◌, if◌then◌else◌, nat_lt, List, [], ◌∷◌, Option, Some, None}
+use Rattle.std.specs.Prelude.{ℕ, zero, suc, ℤ, pos, negsuc, ◌*ℤ◌, int_lt, Bool, true, false, ◌==◌, if◌then◌else◌, nat_lt, List, [], ◌∷◌, Option, Some, None}
 use Rattle.std.specs.Int.{int_div_euclid}
-use Rattle.fractions.specs.Rational.{ℚ, one_ℚ, whole, ◌*ℚ◌, neg_ℚ}
+use Rattle.fractions.specs.Rational.{ℚ, zero_ℚ, one_ℚ, whole, ◌*ℚ◌, neg_ℚ}
+
+-- the number, and 0 where there is none
+abbrev pub or_zero : Option ℚ → ℚ
+or_zero None = zero_ℚ
+or_zero (Some x) = x
 
 -- x to the n; x to the 0 is 1
 unfoldable pub power_of : ℚ → ℕ → ℚ
@@ -15,6 +20,14 @@ small_exponent (negsuc n) = None
 
 abbrev pub exponent_of : ℚ → Option ℕ
 exponent_of x = (if x.bottom == 1 then small_exponent x.top else None)
+
+abbrev pub is_pos_zero : ℤ → Bool
+is_pos_zero (pos zero) = true
+is_pos_zero (pos (suc n)) = false
+is_pos_zero (negsuc n) = false
+
+abbrev pub is_zero : ℚ → Bool
+is_zero x = is_pos_zero x.top
 
 -- x is below y
 abbrev pub is_below : ℚ → ℚ → Bool

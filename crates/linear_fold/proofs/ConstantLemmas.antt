@@ -5,29 +5,28 @@ use Rattle.std.specs.Prelude.{int_lt}
 use Rattle.std.specs.Ordering.{int_cmp}
 use Rattle.std.specs.declared.cmp.Ordering.TheVariants.{Less, Equal, Greater}
 use Rattle.std.proofs.Math.Nat.{pow-succ', pow-zero, zero-mul, div-le_self}
-use Rattle.std.proofs.lemmas.Bool.{ltb-true}
+use Rattle.std.proofs.lemmas.Bool.{ltb-true, and_from, and_parts, false_from_ne_true, lt-ltb}
 use Rattle.std.proofs.lemmas.Int.{ints, unsigned_abs-mul}
 use Rattle.exact_numbers.specs.declared.frac.Frac.{Frac}
 use Rattle.exact_numbers.specs.Values.{frac_value, order_of}
-use Rattle.exact_numbers.proofs.Coprime.{coprime-mul, coprime-swap}
 use Rattle.fractions.specs.Divisors.{AreCoprime}
-use Rattle.fractions.specs.Lowest.{one_coprime}
-use Rattle.fractions.specs.Fits.{fits, is_small}
-use Rattle.fractions.specs.Functions.{exponent_of, power_of, is_below, lesser_of, greater_of, least_of, greatest_of, floor_of, ceiling_of, absolute_of, without_sign}
+use Rattle.fractions.specs.Lowest.{coprime-swap}
+use Rattle.fractions.specs.Fits.{fits}
+use Rattle.fractions.specs.Functions.{exponent_of, or_zero, power_of, is_below, lesser_of, greater_of, least_of, greatest_of, floor_of, ceiling_of, absolute_of, without_sign}
 use lib.IntN.{*ℤ-one, zero-*ℤ}
 use Rattle.fractions.specs.Rational.{ℚ, whole, ◌<ℚ◌, over, zero_ℚ, one_ℚ, ◌*ℚ◌, neg_ℚ}
+use Rattle.fractions.proofs.Coprimes.{coprime-mul, coprime-pow}
+use Rattle.fractions.proofs.Extremes.{power_of-zero, power_of-suc}
 use Rattle.fractions.proofs.Arithmetic.{over_lowest, over_parts}
 use Rattle.nl_meaning.specs.Faults.{constant_line, constants_line, nonlinear_unless, operator_fault, operator_line, power_fault, too_wide_unless}
 use Rattle.nl_meaning.specs.declared.Reason.TheVariants.{RefusedPower, TooWide}
-use Rattle.nl_meaning.specs.Lines.{Line, is_constant, are_constant, constants_of, or_zero}
+use Rattle.nl_meaning.specs.Lines.{Line, is_constant, are_constant, constants_of}
 use Rattle.nl_meaning.specs.Trees.{on_values}
-use Rattle.nl_meaning.proofs.LineLemmas.{and-true}
 use Rattle.code_tables.specs.declared.class.OpClass.{OpClass}
 use Rattle.code_tables.specs.declared.class.OpClass.TheVariants.{Least, Greatest, Power}
 use Rattle.linear_fold.specs.declared.form.Form.{Form}
 use Rattle.linear_fold.specs.Forms.{form_line, is_open, IsZeroFrom}
 use Rattle.linear_fold.specs.Operates.{AreClosed, AreZeroFrom, IsValueOf}
-use Rattle.linear_fold.proofs.FracLemmas.{both_true, not_true}
 use Rattle.linear_fold.proofs.Operators.{fault_first}
 
 -- ---- signs
@@ -119,23 +118,11 @@ unfolding greater_of
 greater_same x = chosen_same (is_below x x) x
 
 -- ---- powers
-power_zero : (x : ℚ) → power_of x 0 ≡ one_ℚ
-unfolding power_of
-power_zero x = refl
-
-power_suc : (x : ℚ) (n : ℕ) → power_of x (suc n) ≡ x *ℚ power_of x n
-unfolding power_of
-power_suc x n = refl
-
 pub power_first : (x : ℚ) (f : Frac) → frac_value f ≡ one_ℚ → frac_value f ≡ power_of x 0
-power_first x f e = e ∙ sym (power_zero x)
+power_first x f e = e ∙ sym (power_of-zero x)
 
 pub power_next : (x : ℚ) (n : ℕ) (p y : ℚ) → y ≡ power_of x n → p ≡ x *ℚ y → p ≡ power_of x (n + 1)
-power_next x n p y e f = f ∙ ap (λ z. x *ℚ z) e ∙ sym (power_suc x n) ∙ ap (power_of x) (omega arith)
-
-coprime_power : (a b n : ℕ) → AreCoprime a b → AreCoprime a (b ^ n)
-coprime_power a b zero h = subst (AreCoprime a) (sym (pow-zero b)) (one_coprime a)
-coprime_power a b (suc n) h = subst (AreCoprime a) (sym (pow-succ' b n)) (coprime-mul a b (b ^ n) h (coprime_power a b n h))
+power_next x n p y e f = f ∙ ap (λ z. x *ℚ z) e ∙ sym (power_of-suc x n) ∙ ap (power_of x) (omega arith)
 
 product_parts : (x y : ℚ) → AreCoprime (unsigned_abs x.top * unsigned_abs y.top) (x.bottom * y.bottom) → (unsigned_abs (x *ℚ y).top ≡ unsigned_abs x.top * unsigned_abs y.top) × ((x *ℚ y).bottom ≡ x.bottom * y.bottom)
 unfolding ◌*ℚ◌
@@ -152,16 +139,10 @@ power_parts x (suc n) =
     let r = power_parts x n in
     let a = unsigned_abs x.top in
     let b = x.bottom in
-    let first : AreCoprime a (b * b ^ n) = coprime-mul a b (b ^ n) x.lowest (coprime_power a b n x.lowest) in
-    let second : AreCoprime (b * b ^ n) (a * a ^ n) = coprime-mul (b * b ^ n) a (a ^ n) (coprime-swap a (b * b ^ n) first) (coprime_power (b * b ^ n) a n (coprime-swap a (b * b ^ n) first)) in
+    let first : AreCoprime a (b * b ^ n) = coprime-mul a b (b ^ n) x.lowest (coprime-pow a b n x.lowest) in
+    let second : AreCoprime (b * b ^ n) (a * a ^ n) = coprime-mul (b * b ^ n) a (a ^ n) (coprime-swap a (b * b ^ n) first) (coprime-pow (b * b ^ n) a n (coprime-swap a (b * b ^ n) first)) in
     let whole_parts = product_parts x (power_of x n) (subst (λ u. AreCoprime (unsigned_abs x.top * u) (x.bottom * (power_of x n).bottom)) (sym r.0) (subst (λ v. AreCoprime (unsigned_abs x.top * unsigned_abs x.top ^ n) (x.bottom * v)) (sym r.1) (coprime-swap (b * b ^ n) (a * a ^ n) second))) in
     (whole_parts.0 ∙ ap (λ u. a * u) r.0 ∙ sym (pow-succ' a n), whole_parts.1 ∙ ap (λ v. b * v) r.1 ∙ sym (pow-succ' b n))
-
-small_out : (k : ℕ) → is_small k ≡ true → k < 2 ^ 127
-small_out k e = ltb-true k (2 ^ 127) e
-
-small_in : (k : ℕ) → k < 2 ^ 127 → is_small k ≡ true
-small_in k h = grind (arith, ltb-true)
 
 shrink : (a p m : ℕ) → 0 < a → a * p < m → p < m
 shrink zero p m some h = absurd (omega arith)
@@ -177,22 +158,22 @@ bottom_before b n some h = shrink b (b ^ n) (2 ^ 127) some (subst (λ k. k < 2 ^
 
 fits_before : (x : ℚ) (n : ℕ) → fits (power_of x (suc n)) ≡ true → fits (power_of x n) ≡ true
 fits_before x n e =
-    let both = and-true _ _ e in
+    let both = and_parts _ _ e in
     let here = power_parts x n in
     let next = power_parts x (suc n) in
-    both_true _ _
-    (small_in _ (subst (λ k. k < 2 ^ 127) (sym here.0) (size_before (unsigned_abs x.top) n (subst (λ k. k < 2 ^ 127) next.0 (small_out _ both.0)))))
-    (small_in _ (subst (λ k. k < 2 ^ 127) (sym here.1) (bottom_before x.bottom n x.above (subst (λ k. k < 2 ^ 127) next.1 (small_out _ both.1)))))
+    and_from _ _
+    (lt-ltb _ (2 ^ 127) (subst (λ k. k < 2 ^ 127) (sym here.0) (size_before (unsigned_abs x.top) n (subst (λ k. k < 2 ^ 127) next.0 (ltb-true _ (2 ^ 127) both.0)))))
+    (lt-ltb _ (2 ^ 127) (subst (λ k. k < 2 ^ 127) (sym here.1) (bottom_before x.bottom n x.above (subst (λ k. k < 2 ^ 127) next.1 (ltb-true _ (2 ^ 127) both.1)))))
 
 wide_more : (x : ℚ) (m d : ℕ) → fits (power_of x m) ≡ false → fits (power_of x (m + d)) ≡ false
 wide_more x m zero e = subst (λ k. fits (power_of x k) ≡ false) (omega arith) e
 wide_more x m (suc d) e =
     subst (λ k. fits (power_of x k) ≡ false) (omega arith)
-    (not_true (fits (power_of x (suc (m + d)))) (λ t. (let clash : true ≡ false = sym (fits_before x (m + d) t) ∙ wide_more x m d e in cc)))
+    (false_from_ne_true (fits (power_of x (suc (m + d)))) (λ t. (let clash : true ≡ false = sym (fits_before x (m + d) t) ∙ wide_more x m d e in cc)))
 
 pub power_wide : (x : ℚ) (m n : ℕ) (y : ℚ) → m < n → y ≡ power_of x m → fits (x *ℚ y) ≡ false → fits (power_of x n) ≡ false
 power_wide x m n y l e w =
-    let next : fits (power_of x (suc m)) ≡ false = ap fits (power_suc x m ∙ ap (λ z. x *ℚ z) (sym e)) ∙ w in
+    let next : fits (power_of x (suc m)) ≡ false = ap fits (power_of-suc x m ∙ ap (λ z. x *ℚ z) (sym e)) ∙ w in
     let total : suc m + (n - suc m) ≡ n = omega arith in
     subst (λ k. fits (power_of x k) ≡ false) total (wide_more x (suc m) (n - suc m) next)
 
@@ -206,7 +187,7 @@ whole_is num z y e f = f ∙ over_whole z ∙ ap whole e
 
 whole_small : (n : ℤ) → unsigned_abs n < 2 ^ 127 → fits (whole n) ≡ true
 unfolding whole
-whole_small n h = both_true _ _ (small_in (unsigned_abs n) h) refl
+whole_small n h = and_from _ _ (lt-ltb (unsigned_abs n) (2 ^ 127) h) refl
 
 pub whole_fits : (num z : ℤ) → z ≡ num → unsigned_abs num < 2 ^ 127 → fits (over z 1) ≡ false → ⊥
 whole_fits num z e small wide =
@@ -234,7 +215,7 @@ pub made_of : (n : ℕ) (c : OpClass) (ls : List Line) (l : Line) (v : ℚ) → 
 made_of n c ls l v e f g = (ap nonlinear_unless e, g ∙ ap (λ o. constant_line (or_zero o)) (sym f))
 
 pub one_constant : (n : ℕ) (l : Line) → is_constant n l ≡ true → are_constant n (l ∷ []) ≡ true
-one_constant n l e = both_true _ _ e refl
+one_constant n l e = and_from _ _ e refl
 
 -- ---- the best of many: how it is chosen is a pair of functions with their laws
 pub record Choice : Type 0 where
@@ -348,7 +329,7 @@ ceiling_is x = refl
 -- ---- powers of forms
 module _ (n : ℕ) (a b : Line) (ca : is_constant n a ≡ true) (cb : is_constant n b ≡ true) where
   both : are_constant n (a ∷ b ∷ []) ≡ true
-  both = both_true _ _ ca (both_true _ _ cb refl)
+  both = and_from _ _ ca (and_from _ _ cb refl)
 
   pub power_refused : (y : ℚ) → y ≡ b.constant → exponent_of y ≡ None → operator_fault n Power (a ∷ b ∷ []) ≡ Some RefusedPower
   power_refused y e x = fault_first _ _ _ both ∙ ap (power_fault a.constant) (ap exponent_of (sym e) ∙ x)

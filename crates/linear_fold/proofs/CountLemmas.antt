@@ -1,6 +1,6 @@
 -- How many coefficients a line has.
 use Rattle.std.proofs.Common.{◌≡◌, ◌≢◌, ℕ, zero, suc, ◌+◌, ◌<◌, ◌≤◌, ◌∙◌, sym, ap, ap₂, refl, arith, ⊎_elim, true, if◌then◌else◌, List, [], ◌∷◌, length}
-use Rattle.std.proofs.lemmas.Bool.{cases_eq, cases_lt}
+use Rattle.std.proofs.lemmas.Bool.{cases_eq, cases_lt, false_from_ne_true}
 use Rattle.exact_numbers.specs.Values.{frac_value}
 use Rattle.fractions.specs.Rational.{ℚ, whole, zero_ℚ}
 use Rattle.nl_meaning.specs.Lines.{Line, is_zero}
@@ -12,7 +12,6 @@ use Rattle.linear_fold.specs.Forms.{form_line, form_terms}
 use Rattle.linear_fold.specs.Operates.{IsWithin}
 use Rattle.linear_fold.specs.Programs.{IsFormOver}
 use Rattle.linear_fold.proofs.CoefLemmas.{found_apart, found_before, found_same}
-use Rattle.linear_fold.proofs.FracLemmas.{not_true}
 use Rattle.linear_fold.proofs.Scaled.{closed_coef}
 
 abbrev one_where : ℚ → ℕ
@@ -26,7 +25,7 @@ zero_is_none : (x : ℚ) → x ≡ zero_ℚ → one_where x ≡ 0
 zero_is_none x e = ap one_where e ∙ ap (λ b. if b then 0 else 1) zero_test
 
 other_is_one : (x : ℚ) → x ≢ zero_ℚ → one_where x ≡ 1
-other_is_one x n = ap (λ b. if b then 0 else 1) (not_true (is_zero x) (λ e. n (is_zero-true x e)))
+other_is_one x n = ap (λ b. if b then 0 else 1) (false_from_ne_true (is_zero x) (λ e. n (is_zero-true x e)))
 
 pub count_zero : (n : ℕ) (l : Line) → ((j : ℕ) → j < n → l.coef j ≡ zero_ℚ) → coefficient_count n l ≡ 0
 count_zero zero l h = refl

@@ -1,10 +1,10 @@
 -- The forms of definitions in their places, and owners that are folded one after the other.
-use Rattle.std.proofs.Common.{◌≡◌, ◌≢◌, ◌⊎◌, inl, inr, ℕ, zero, suc, ◌+◌, ◌-◌, ◌*◌, ◌<◌, ◌≤◌, ◌∙◌, sym, ap, refl, subst, arith, ◌^◌, ⊎_elim, Bool, true, false, ◌||◌, ◌==◌, if◌then◌else◌, Option, Some, None, option_map, List, [], ◌∷◌, ◌++◌, map, length, take, set, replicate, get_or, slice_get, length-append, get_or-set_same, get_or-set_other, eq-eqb}
+use Rattle.std.proofs.Common.{◌≡◌, ◌≢◌, ℕ, zero, suc, ◌+◌, ◌-◌, ◌*◌, ◌<◌, ◌≤◌, ◌∙◌, sym, ap, refl, subst, arith, ◌^◌, ⊎_elim, Bool, true, false, ◌||◌, ◌==◌, if◌then◌else◌, Option, Some, None, option_map, List, [], ◌∷◌, ◌++◌, map, length, take, set, replicate, get_or, slice_get, length-append, get_or-set_same, get_or-set_other, eq-eqb}
 use Rattle.std.specs.Option.{option_map_or}
 use Rattle.std.proofs.Math.ListN.{length-set}
 use Rattle.std.proofs.Math.Seq.{take-suc}
 use Rattle.std.proofs.Math.Nat.{mul-le-mul_left}
-use Rattle.std.proofs.lemmas.Bool.{cases_eq, eqb-true, ne_eqb}
+use Rattle.std.proofs.lemmas.Bool.{cases_eq, eqb-true, ne_eqb, or_cases}
 use Rattle.std.proofs.lemmas.List.{length-replicate, length-take-le}
 use Rattle.std.proofs.lemmas.Option.{slice_get_read}
 use Rattle.std.proofs.lemmas.List.Sums.{sum_by-append, sum_by-set, sum_by-take-le, sum_by_more}
@@ -67,10 +67,6 @@ some-inj x y e = ap (λ o. option_map_or (λ z. z) o x) e
 or-false : (a b : Bool) → a || b ≡ false → (a ≡ false) × (b ≡ false)
 or-false true b e = cc
 or-false false b e = (refl, e)
-
-or-true : (a b : Bool) → a || b ≡ true → (a ≡ true) ⊎ (b ≡ true)
-or-true true b e = inl refl
-or-true false b e = inr e
 
 or-none : (b : Bool) → b || false ≡ b
 or-none true = refl
@@ -143,7 +139,7 @@ module _ (f : File) (ds : List Definition) (d : Definition) (slots : List (Optio
   given_now : (i : ℕ) → is_defined (ds ++ d ∷ []) i ≡ true → IsGiven n slots_now i
   given_now i e =
       ⊎_elim (λ (h : is_defined ds i ≡ true). old_given i (s.given i h)) (λ (h : d.index == i ≡ true). subst (IsGiven n slots_now) (eqb-true d.index i h) new_given)
-      (or-true (is_defined ds i) (d.index == i) (sym (is_now i) ∙ e))
+      (or_cases (is_defined ds i) (d.index == i) (sym (is_now i) ∙ e))
 
   free_now : (i : ℕ) → is_defined (ds ++ d ∷ []) i ≡ false → n ≤ i → get_or slots_now (i - n) None ≡ None
   free_now i e from =

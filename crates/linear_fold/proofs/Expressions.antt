@@ -12,6 +12,7 @@ use Rattle.nl_meaning.specs.declared.Fault.{Fault}
 use Rattle.nl_meaning.specs.Lines.{Line, line_value}
 use Rattle.nl_meaning.specs.Faults.{constant_line, fault_at, too_wide_unless, line_with, line_with_terms, terms_fault, tree_fault, products_fit}
 use Rattle.nl_meaning.specs.Trees.{Point, Known, Tree, Trees, LinearTerm, AreTermsBelow, tree_size, trees_size, tree_value}
+use Rattle.fractions.proofs.Tests.{option_or-none_right}
 use Rattle.nl_meaning.proofs.Linear.{terms_added}
 use Rattle.nl_meaning.proofs.LineLemmas.{apart-eqb}
 use Rattle.nl_model.specs.declared.node.Node.{Node}
@@ -69,10 +70,6 @@ module _ (z : Line) (empty : z ≡ zero_line) (a : Line) (k : ℚ) (one : k ≡ 
       cc
 
 -- ---- terms
-option_or-none_right : (f : Option Fault) → option_or f None ≡ f
-option_or-none_right None = refl
-option_or-none_right (Some x) = refl
-
 pub add_more : (a new : Line) (i : ℕ) (t : LinearTerm) (ts : List LinearTerm) → (terms_fault a i (t ∷ []) ≡ None) × (new ≡ line_with_terms a (t ∷ [])) → (terms_fault new (i + 1) ts ≡ terms_fault a i (t ∷ ts)) × (line_with_terms new ts ≡ line_with_terms a (t ∷ ts))
 add_more a new i t ts h = (
   ap (λ l. terms_fault l (i + 1) ts) h.1 ∙ ap (λ f. option_or f (terms_fault (line_with_terms a (t ∷ [])) (i + 1) ts)) (sym h.0 ∙ option_or-none_right _),

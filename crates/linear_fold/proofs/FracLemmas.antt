@@ -1,13 +1,14 @@
 -- Numbers that fit, and sums with 0.
-use Rattle.std.proofs.Common.{◌≡◌, ℕ, zero, suc, ◌/◌, ◌<◌, ◌^◌, ◌∙◌, sym, ap, ap₂, refl, subst, arith, Bool, true, false, ◌&&◌, ℤ, pos, negsuc, ◌+ℤ◌, ◌*ℤ◌, neg_ℤ, unsigned_abs, Option, Some, None, List, [], ◌∷◌, lit<, one-mul}
+use Rattle.std.proofs.Common.{◌≡◌, ℕ, zero, suc, ◌/◌, ◌<◌, ◌∙◌, sym, ap, ap₂, refl, subst, Bool, true, false, ◌&&◌, ℤ, pos, negsuc, ◌+ℤ◌, ◌*ℤ◌, neg_ℤ, unsigned_abs, Option, Some, None, List, [], ◌∷◌, lit<, one-mul}
+use Rattle.std.proofs.lemmas.Bool.{and_from, and_parts, false_from_ne_true}
 use Prim.Native.Nat.{◌∣◌}
 use Rattle.std.proofs.Math.Nat.{dvd-mul_right, div_self}
 use Rattle.std.proofs.lemmas.Nat.Gcd.{dvd_refl}
 use lib.IntN.{*ℤ-one, zero-*ℤ, +ℤ_idr, +ℤ_idl}
-use Rattle.std.proofs.lemmas.Bool.{ltb-true}
 use Rattle.exact_numbers.specs.declared.frac.Frac.{Frac}
 use Rattle.exact_numbers.specs.Fraction.{IsLcm}
 use Rattle.exact_numbers.specs.Values.{frac_value}
+use Rattle.exact_numbers.proofs.Bridge.{frac_fits_lem}
 use Rattle.exact_numbers.proofs.Coprime.{same_lcm}
 use Rattle.exact_numbers.proofs.Fractions.{lcm_of}
 use Rattle.fractions.specs.Divisors.{AreCoprime, gcd_of}
@@ -17,22 +18,8 @@ use Rattle.fractions.specs.Rational.{ℚ, whole, neg_ℚ, zero_ℚ}
 use Rattle.fractions.proofs.Arithmetic.{over_lowest}
 use Rattle.linear_fold.specs.Coefs.{Term, found, value_or_zero, coef_in}
 use Rattle.linear_fold.specs.Places.{place_in}
-use Rattle.nl_meaning.proofs.LineLemmas.{and-true, is_zero-true}
+use Rattle.nl_meaning.proofs.LineLemmas.{is_zero-true}
 use Rattle.nl_meaning.specs.Lines.{is_zero}
-
-small-true : (k : ℕ) → k < 2 ^ 127 → is_small k ≡ true
-small-true k h = grind (arith, ltb-true)
-
-pub both_true : (a b : Bool) → a ≡ true → b ≡ true → a && b ≡ true
-both_true true b p q = q
-both_true false b p q = cc
-
-pub frac_fits : (f : Frac) → fits (frac_value f) ≡ true
-frac_fits f = both_true _ _ (small-true _ f.spelled.size) (small-true _ f.spelled.small)
-
-pub not_true : (b : Bool) → (b ≡ true → ⊥) → b ≡ false
-not_true true n = absurd (n refl)
-not_true false n = refl
 
 lcm_is : (a b : ℕ) → 0 < a → 0 < b → IsLcm a b (least_multiple a b)
 lcm_is a b p q = (lcm_of a b (gcd_of a b) p q (is_gcd a b)).0
@@ -45,12 +32,12 @@ fits_zero = refl
 with_zero : (x : ℚ) (m : ℕ) → m ≡ x.bottom → fits x ≡ true → sum_over_multiple m x zero_ℚ ≡ true
 unfolding whole lib.IntN.one
 with_zero x m e f =
-    let both = and-true _ _ f in
+    let both = and_parts _ _ f in
     subst (λ n. sum_over_multiple n x zero_ℚ ≡ true) (sym e)
     (let one : x.top *ℤ pos (x.bottom / x.bottom) ≡ x.top = ap (λ n. x.top *ℤ pos n) (div_self x.above) ∙ *ℤ-one x.top in
     let none : pos 0 *ℤ pos (x.bottom / 1) ≡ pos 0 = zero-*ℤ (pos (x.bottom / 1)) in
     let sum : x.top +ℤ pos 0 ≡ x.top = +ℤ_idr x.top in
-    ap₂ (λ p q. parts_fit x.bottom p q) one none ∙ both_true _ _ (both_true _ _ (both_true _ _ both.1 both.0) refl) (ap (λ p. is_small (unsigned_abs p)) sum ∙ both.0))
+    ap₂ (λ p q. parts_fit x.bottom p q) one none ∙ and_from _ _ (and_from _ _ (and_from _ _ both.1 both.0) refl) (ap (λ p. is_small (unsigned_abs p)) sum ∙ both.0))
 
 pub sum_fits_zero : (x : ℚ) → fits x ≡ true → sum_fits x zero_ℚ ≡ true
 unfolding whole
@@ -63,12 +50,12 @@ sum_fits_zero x f =
 zero_with : (x : ℚ) (m : ℕ) → m ≡ x.bottom → fits x ≡ true → sum_over_multiple m zero_ℚ x ≡ true
 unfolding whole lib.IntN.one
 zero_with x m e f =
-    let both = and-true _ _ f in
+    let both = and_parts _ _ f in
     subst (λ n. sum_over_multiple n zero_ℚ x ≡ true) (sym e)
     (let one : x.top *ℤ pos (x.bottom / x.bottom) ≡ x.top = ap (λ n. x.top *ℤ pos n) (div_self x.above) ∙ *ℤ-one x.top in
     let none : pos 0 *ℤ pos (x.bottom / 1) ≡ pos 0 = zero-*ℤ (pos (x.bottom / 1)) in
     let sum : pos 0 +ℤ x.top ≡ x.top = +ℤ_idl x.top in
-    ap₂ (λ p q. parts_fit x.bottom q p) one none ∙ both_true _ _ (both_true _ _ (both_true _ _ both.1 refl) both.0) (ap (λ p. is_small (unsigned_abs p)) sum ∙ both.0))
+    ap₂ (λ p q. parts_fit x.bottom q p) one none ∙ and_from _ _ (and_from _ _ (and_from _ _ both.1 refl) both.0) (ap (λ p. is_small (unsigned_abs p)) sum ∙ both.0))
 
 pub zero_sum_fits : (x : ℚ) → fits x ≡ true → sum_fits zero_ℚ x ≡ true
 unfolding whole
@@ -89,21 +76,21 @@ fits_neg x =
     ap₂ (λ t b. is_small (unsigned_abs t) && is_small b) parts.0 parts.1 ∙ ap (λ n. is_small n && is_small x.bottom) (neg_size x.top)
 
 pub sum_with_zero : (f : Frac) (x : ℚ) → x ≡ zero_ℚ → sum_fits (frac_value f) x ≡ true
-sum_with_zero f x e = ap (sum_fits (frac_value f)) e ∙ sum_fits_zero (frac_value f) (frac_fits f)
+sum_with_zero f x e = ap (sum_fits (frac_value f)) e ∙ sum_fits_zero (frac_value f) (frac_fits_lem f)
 
 pub zero_frac_fits : (f : Frac) → sum_fits zero_ℚ (frac_value f) ≡ true
-zero_frac_fits f = zero_sum_fits (frac_value f) (frac_fits f)
+zero_frac_fits f = zero_sum_fits (frac_value f) (frac_fits_lem f)
 
 pub fits_or_zero : (o : Option Frac) → fits (value_or_zero o) ≡ true
 fits_or_zero None = fits_zero
-fits_or_zero (Some f) = frac_fits f
+fits_or_zero (Some f) = frac_fits_lem f
 
 pub coef_fits : (ts : List Term) (j : ℕ) → fits (coef_in ts j) ≡ true
 coef_fits ts j = fits_or_zero (found ts j)
 
 pub place_fits : (ps : List Frac) (j : ℕ) → fits (place_in ps j) ≡ true
 place_fits [] j = fits_zero
-place_fits (p ∷ ps) zero = frac_fits p
+place_fits (p ∷ ps) zero = frac_fits_lem p
 place_fits (p ∷ ps) (suc j) = place_fits ps j
 
 pub zero_test : (x : ℚ) → x ≡ zero_ℚ → is_zero x ≡ true
@@ -111,4 +98,4 @@ unfolding whole
 zero_test x h = ap is_zero h
 
 pub nonzero_test : (x : ℚ) (r : Bool) → (x ≡ zero_ℚ → r ≡ true) → r ≡ false → is_zero x ≡ false
-nonzero_test x r f e = not_true _ (λ y. (let clash : true ≡ false = sym (f (is_zero-true x y)) ∙ e in cc))
+nonzero_test x r f e = false_from_ne_true _ (λ y. (let clash : true ≡ false = sym (f (is_zero-true x y)) ∙ e in cc))

@@ -1,6 +1,6 @@
 -- What the operators on forms come to.
 use Rattle.std.proofs.Common.{◌≡◌, ℕ, zero, suc, ◌+◌, ◌*◌, ◌<◌, ◌≤◌, ◌∙◌, sym, ap, ap₂, refl, subst, Bool, true, false, ◌&&◌, Option, Some, Result, Ok, Err, IfOk, List, [], ◌∷◌, map, drop, get_or, length, ⊎_elim, arith, add-one, drop-cons, if◌then◌else◌}
-use Rattle.std.proofs.lemmas.Bool.{cases_lt}
+use Rattle.std.proofs.lemmas.Bool.{cases_lt, and_from, and_parts, false_from_ne_true}
 use Rattle.std.proofs.Math.Nat.{mul-le-mul_left}
 use Rattle.text_base.specs.declared.stop.Stop.{Stop}
 use Rattle.text_base.specs.declared.stop.Stop.TheVariants.{Fault, Memory}
@@ -12,7 +12,7 @@ use Rattle.nl_meaning.specs.declared.Reason.{Reason}
 use Rattle.nl_meaning.specs.declared.Reason.TheVariants.{Nonlinear, DivideByZero}
 use Rattle.nl_meaning.specs.Faults.{line_sum, line_scaled, line_neg, sums_fit, products_fit, running_sums_fit, running_line, too_wide_unless, operator_fault}
 use Rattle.nl_meaning.specs.Lines.{Line, is_zero, is_constant}
-use Rattle.nl_meaning.proofs.LineLemmas.{all_below-true, and-true}
+use Rattle.nl_meaning.proofs.LineLemmas.{all_below-true}
 use Rattle.linear_fold.specs.declared.form.Form.{Form}
 use Rattle.linear_fold.specs.declared.operate.Outcome.{Outcome}
 use Rattle.linear_fold.specs.declared.operate.Outcome.TheVariants.{Linear, Refused}
@@ -22,7 +22,8 @@ use Rattle.linear_fold.specs.Forms.{form_line, form_terms, place_count, IsZeroFr
 use Rattle.linear_fold.specs.declared.form.Kept.{Kept}
 use Rattle.linear_fold.specs.declared.form.Kept.TheVariants.{Closed, Open}
 use Rattle.linear_fold.specs.Operates.{zero_line, IsWithin, AreWithin, AreClosed, AreZeroFrom, SumsTo, ComesTo, Operates}
-use Rattle.linear_fold.proofs.FracLemmas.{frac_fits, both_true, not_true, fits_zero, sum_fits_zero, zero_sum_fits, fits_neg}
+use Rattle.exact_numbers.proofs.Bridge.{frac_fits_lem}
+use Rattle.linear_fold.proofs.FracLemmas.{fits_zero, sum_fits_zero, zero_sum_fits, fits_neg}
 use Rattle.linear_fold.proofs.Scaled.{same_line, kept_fits, closed_coef, few_terms, all_below-intro}
 
 pub record FitsLine (l : Line) : Type 0 where
@@ -30,7 +31,7 @@ pub record FitsLine (l : Line) : Type 0 where
   pub coefs : (j : ℕ) → fits (l.coef j) ≡ true
 
 pub form_fits : (f : Form) → FitsLine (form_line f)
-form_fits f = record { constant = frac_fits f.constant; coefs = λ j. kept_fits f.kept j }
+form_fits f = record { constant = frac_fits_lem f.constant; coefs = λ j. kept_fits f.kept j }
 
 pub neg_fits : (l : Line) → FitsLine l → FitsLine (line_neg l)
 neg_fits l h = record { constant = fits_neg l.constant ∙ h.constant; coefs = λ j. fits_neg (l.coef j) ∙ h.coefs j }
@@ -65,12 +66,12 @@ zero_line_sum a = same_line _ _ (zero-+ℚ a.constant) (λ j. zero-+ℚ (a.coef 
 module _ (a b : Line) (k : ℚ) (kb : Line) (is : line_scaled k b ≡ kb) (small : FitsLine kb) (n : ℕ) (za : IsZeroFrom n a) (zb : IsZeroFrom n b) where
   sum_ok : (l : Line) → ScaledSumFits a k b × (l ≡ line_sum a (line_scaled k b)) → (sums_fit n a kb ≡ true) × (l ≡ line_sum a kb)
   sum_ok l h =
-      (ap (sums_fit n a) (sym is) ∙ both_true _ _ h.0.sum (all_below-intro (λ j. sum_fits (a.coef j) (k *ℚ b.coef j)) n (λ j p. h.0.sums j)), h.1 ∙ ap (line_sum a) is)
+      (ap (sums_fit n a) (sym is) ∙ and_from _ _ h.0.sum (all_below-intro (λ j. sum_fits (a.coef j) (k *ℚ b.coef j)) n (λ j p. h.0.sums j)), h.1 ∙ ap (line_sum a) is)
 
   sum_wide : ¬ (ScaledSumFits a k b) → sums_fit n a kb ≡ false
   sum_wide wide =
-      not_true _ (λ t.
-      let both = and-true _ _ (ap (sums_fit n a) is ∙ t) in
+      false_from_ne_true _ (λ t.
+      let both = and_parts _ _ (ap (sums_fit n a) is ∙ t) in
       let parts : FitsLine (line_scaled k b) = subst FitsLine (sym is) small in
       wide (record {
         product = parts.constant;
@@ -92,14 +93,14 @@ module _ (a b : Line) (k : ℚ) (kb : Line) (is : line_scaled k b ≡ kb) (small
 module _ (z : Line) (empty : z ≡ zero_line) (a : Line) (k : ℚ) (n : ℕ) (za : IsZeroFrom n a) where
   scaled_ok : (l : Line) → ScaledSumFits z k a × (l ≡ line_sum z (line_scaled k a)) → (products_fit n k a ≡ true) × (l ≡ line_scaled k a)
   scaled_ok l h = (
-    both_true _ _ h.0.product (all_below-intro (λ j. fits (k *ℚ a.coef j)) n (λ j p. h.0.products j)),
+    and_from _ _ h.0.product (all_below-intro (λ j. fits (k *ℚ a.coef j)) n (λ j p. h.0.products j)),
     h.1 ∙ ap (λ y. line_sum y (line_scaled k a)) empty ∙ zero_line_sum (line_scaled k a),
   )
 
   scaled_wide : ¬ (ScaledSumFits z k a) → products_fit n k a ≡ false
   scaled_wide wide =
-      not_true _ (λ t.
-      let both = and-true _ _ t in
+      false_from_ne_true _ (λ t.
+      let both = and_parts _ _ t in
       let each : (j : ℕ) → fits (k *ℚ a.coef j) ≡ true = λ j.
       ⊎_elim
       (λ (l : j < n). all_below-true (λ i. fits (k *ℚ a.coef i)) n both.1 j l)
@@ -255,13 +256,13 @@ pub negation_comes : (n : ℕ) (a : Line) (o : Outcome) (k : ℚ) → line_scale
 negation_comes n a (Linear f) k is small h = (refl, h.1 ∙ is, h.2)
 negation_comes n a (Refused r) k is small h =
     let parts : FitsLine (line_scaled k a) = subst FitsLine (sym is) (neg_fits a small) in
-    let good : products_fit n k a ≡ true = both_true _ _ parts.constant (all_below-intro (λ j. fits (k *ℚ a.coef j)) n (λ j p. parts.coefs j)) in
+    let good : products_fit n k a ≡ true = and_from _ _ parts.constant (all_below-intro (λ j. fits (k *ℚ a.coef j)) n (λ j p. parts.coefs j)) in
     let clash : true ≡ false = sym good ∙ h.0 in
     cc
 
 -- the sum from 0 is the sum from the first
 zero_sums_fit : (n : ℕ) (a : Line) → FitsLine a → sums_fit n zero_line a ≡ true
-zero_sums_fit n a h = both_true _ _ (zero_sum_fits a.constant h.constant) (all_below-intro (λ j. sum_fits zero_ℚ (a.coef j)) n (λ j p. zero_sum_fits (a.coef j) (h.coefs j)))
+zero_sums_fit n a h = and_from _ _ (zero_sum_fits a.constant h.constant) (all_below-intro (λ j. sum_fits zero_ℚ (a.coef j)) n (λ j p. zero_sum_fits (a.coef j) (h.coefs j)))
 
 from_first : (n : ℕ) (a : Line) (ls : List Line) → FitsLine a → running_sums_fit n zero_line (a ∷ ls) ≡ running_sums_fit n a ls
 from_first n a ls h = ap₂ (λ b c. b && running_sums_fit n c ls) (zero_sums_fit n a h) (zero_line_sum a)
@@ -305,7 +306,7 @@ times_within n i m from old new terms l a b c =
 pub copy_fits : (n : ℕ) (k : ℚ) (a : Line) → k ≡ one_ℚ → FitsLine a → products_fit n k a ≡ true
 copy_fits n k a e small =
     let parts : FitsLine (line_scaled k a) = subst FitsLine (sym (scaled_by_one k a e)) small in
-    both_true _ _ parts.constant (all_below-intro (λ j. fits (k *ℚ a.coef j)) n (λ j p. parts.coefs j))
+    and_from _ _ parts.constant (all_below-intro (λ j. fits (k *ℚ a.coef j)) n (λ j p. parts.coefs j))
 
 -- ---- the forms of many
 pub closed_of : (n : ℕ) (fs : List Form) → AreWithin n fs → AreClosed fs

@@ -1,6 +1,6 @@
 -- The steps over the terms of a form come to the sum with its multiple.
 use Rattle.std.proofs.Common.{◌≡◌, ◌≢◌, ℕ, zero, suc, ◌+◌, ◌<◌, ◌≤◌, ◌∙◌, sym, ap, ap₂, refl, subst, arith, Bool, true, false, Some, None, Result, Ok, Err, ◌==◌, List, [], ◌∷◌, length, ⊎_elim}
-use Rattle.std.proofs.lemmas.Bool.{cases_eq, cases_lt}
+use Rattle.std.proofs.lemmas.Bool.{cases_eq, cases_lt, and_from, and_parts, false_from_ne_true}
 use Rattle.text_base.specs.declared.stop.Stop.{Stop}
 use Rattle.text_base.specs.declared.stop.Stop.TheVariants.{Fault, Memory}
 use Rattle.exact_numbers.specs.declared.frac.Frac.{Frac}
@@ -10,7 +10,7 @@ use Rattle.fractions.specs.Rational.{ℚ, whole, zero_ℚ, ◌+ℚ◌, ◌*ℚ�
 use Rattle.fractions.proofs.Arithmetic.{*ℚ_one, *ℚ_zero, +ℚ_zero}
 use Rattle.nl_meaning.specs.Faults.{constant_line, line_sum, line_scaled, line_with}
 use Rattle.nl_meaning.specs.Lines.{Line, all_below, is_zero, is_constant}
-use Rattle.nl_meaning.proofs.LineLemmas.{same-eqb, apart-eqb, and-true, all_below-true, is_zero-true}
+use Rattle.nl_meaning.proofs.LineLemmas.{same-eqb, apart-eqb, all_below-true, is_zero-true}
 use Rattle.linear_fold.specs.declared.form.Kept.{Kept}
 use Rattle.linear_fold.specs.declared.form.Kept.TheVariants.{Closed, Open}
 use Rattle.linear_fold.specs.declared.wide.Wide.{Wide}
@@ -18,7 +18,7 @@ use Rattle.linear_fold.specs.Coefs.{Term, found, value_or_zero, coef_in, AreAsce
 use Rattle.linear_fold.specs.Places.{place_in, AreZeros}
 use Rattle.linear_fold.specs.Forms.{kept_coef, is_kept_open, kept_terms, IsZeroFrom, HasPlaces, AreWithin, ScaledSumFits, stepped, step_fits, adds_fit, with_scaled, SumsUp, AddsScaled}
 use Rattle.linear_fold.proofs.CoefLemmas.{apart_test, found_same, found_apart, found_before}
-use Rattle.linear_fold.proofs.FracLemmas.{both_true, not_true, sum_fits_zero, fits_zero, coef_fits, place_fits}
+use Rattle.linear_fold.proofs.FracLemmas.{sum_fits_zero, fits_zero, coef_fits, place_fits}
 
 -- lines with one constant and the same coefficients are one line
 pub same_line : (a b : Line) → a.constant ≡ b.constant → ((j : ℕ) → a.coef j ≡ b.coef j) → a ≡ b
@@ -44,8 +44,8 @@ one_fits : (a : Line) (k : ℚ) (ts : List Term) (j : ℕ) → fits (a.coef j) �
 one_fits a k [] j small e =
     (ap fits (*ℚ_zero k) ∙ fits_zero, ap (sum_fits (a.coef j)) (*ℚ_zero k) ∙ sum_fits_zero (a.coef j) small)
 one_fits a k (t ∷ ts) j small e =
-    let both = and-true _ _ e in
-    let here = and-true _ _ both.0 in
+    let both = and_parts _ _ e in
+    let here = and_parts _ _ both.0 in
     ⊎_elim
     (λ (same : j ≡ t.0).
     let f : coef_in (t ∷ ts) j ≡ frac_value t.1 = ap value_or_zero (found_same t ts j same) in
@@ -62,7 +62,7 @@ steps_fit : (a : Line) (k : ℚ) (ts : List Term) → AreApart ts → ((j : ℕ)
 steps_fit a k [] apart h = refl
 steps_fit a k (t ∷ ts) apart h =
     let here = h t.0 t.1 (found_same t ts t.0 refl) in
-    both_true _ _ (both_true _ _ here.0 here.1)
+    and_from _ _ (and_from _ _ here.0 here.1)
     (steps_fit (stepped a k t) k ts apart.1
     (λ j f is.
     let other : j ≢ t.0 = λ e. (let clash : None ≡ Some f = sym apart.0 ∙ ap (found ts) (sym e) ∙ is in cc) in
@@ -123,15 +123,15 @@ module _ (a b : Line) (sum k : ℚ) (ts : List Term) (small : (j : ℕ) → fits
 -- ---- a form after one term
 pub term_added : (a new : Line) (k : ℚ) (t : Term) (scaled : ℚ) → scaled ≡ k *ℚ frac_value t.1 → fits (k *ℚ frac_value t.1) ≡ true → new.constant ≡ a.constant → (sum_fits (a.coef t.0) scaled ≡ true) × ((i : ℕ) → new.coef i ≡ (line_with a t.0 scaled).coef i) → (step_fits a k t ≡ true) × (new ≡ stepped a k t)
 term_added a new k t scaled is small constant h = (
-  both_true _ _ small (ap (sum_fits (a.coef t.0)) (sym is) ∙ h.0),
+  and_from _ _ small (ap (sum_fits (a.coef t.0)) (sym is) ∙ h.0),
   same_line _ _ constant (λ i. h.1 i ∙ ap (λ x. (line_with a t.0 x).coef i) is),
 )
 
 pub term_wide : (a : Line) (k : ℚ) (t : Term) (scaled : ℚ) → scaled ≡ k *ℚ frac_value t.1 → sum_fits (a.coef t.0) scaled ≡ false → step_fits a k t ≡ false
-term_wide a k t scaled is e = not_true _ (λ h. let both = and-true _ _ h in (let clash : true ≡ false = sym both.1 ∙ ap (sum_fits (a.coef t.0)) (sym is) ∙ e in cc))
+term_wide a k t scaled is e = false_from_ne_true _ (λ h. let both = and_parts _ _ h in (let clash : true ≡ false = sym both.1 ∙ ap (sum_fits (a.coef t.0)) (sym is) ∙ e in cc))
 
 pub product_wide : (a : Line) (k : ℚ) (t : Term) → fits (k *ℚ frac_value t.1) ≡ false → step_fits a k t ≡ false
-product_wide a k t e = not_true _ (λ h. let both = and-true _ _ h in (let clash : true ≡ false = sym both.0 ∙ e in cc))
+product_wide a k t e = false_from_ne_true _ (λ h. let both = and_parts _ _ h in (let clash : true ≡ false = sym both.0 ∙ e in cc))
 
 -- ---- places
 pub within_terms : (k : Kept) (ts : List Term) (l : Line) → AreAscending 0 ts → ((j : ℕ) → l.coef j ≡ coef_in ts j) → HasPlaces k l → AreWithin k ts
@@ -152,10 +152,10 @@ zero_places ps c e z = same_line (record { constant = c; coef = place_in ps }) (
 -- ---- constant forms
 pub all_below-intro : (p : ℕ → Bool) (n : ℕ) → ((j : ℕ) → j < n → p j ≡ true) → all_below p n ≡ true
 all_below-intro p zero h = refl
-all_below-intro p (suc n) h = both_true _ _ (all_below-intro p n (λ j l. h j (omega arith))) (h n (omega arith))
+all_below-intro p (suc n) h = and_from _ _ (all_below-intro p n (λ j l. h j (omega arith))) (h n (omega arith))
 
 pub all_below-false : (p : ℕ → Bool) (n j : ℕ) → j < n → p j ≡ false → all_below p n ≡ false
-all_below-false p n j h e = not_true _ (λ t. (let clash : true ≡ false = sym (all_below-true p n t j h) ∙ e in cc))
+all_below-false p n j h e = false_from_ne_true _ (λ t. (let clash : true ≡ false = sym (all_below-true p n t j h) ∙ e in cc))
 
 abbrev pub is_nil : List Term → Bool
 is_nil [] = true
@@ -175,7 +175,7 @@ constant_test c (Closed []) e a n z = sym (all_below-intro (λ j. is_zero zero_�
 constant_test c (Closed (t ∷ ts)) e a n z =
     let there : coef_in (t ∷ ts) t.0 ≡ frac_value t.1 = ap value_or_zero (found_same t ts t.0 refl) in
     ⊎_elim
-    (λ (l : t.0 < n). sym (all_below-false (λ j. is_zero (coef_in (t ∷ ts) j)) n t.0 l (ap is_zero there ∙ not_true _ (λ y. a.1 (is_zero-true (frac_value t.1) y)))))
+    (λ (l : t.0 < n). sym (all_below-false (λ j. is_zero (coef_in (t ∷ ts) j)) n t.0 l (ap is_zero there ∙ false_from_ne_true _ (λ y. a.1 (is_zero-true (frac_value t.1) y)))))
     (λ (g : n ≤ t.0). absurd (a.1 (sym there ∙ z t.0 g)))
     (cases_lt t.0 n)
 

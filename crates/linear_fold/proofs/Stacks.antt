@@ -1,5 +1,5 @@
 -- Stacks with the top at the end.
-use Rattle.std.proofs.Common.{◌≡◌, ℕ, zero, suc, ◌+◌, ◌-◌, ◌*◌, ◌<◌, ◌≤◌, ◌∙◌, sym, ap, ap₂, refl, subst, subst₂, is_some, true, false, Result, Ok, Err, IfOk, List, [], ◌∷◌, ◌++◌, reverse, take, drop, length, None, Some, Option, arith, append_assoc, append-nil, length-append, length-drop, drop-cons, get_or}
+use Rattle.std.proofs.Common.{◌≡◌, ℕ, zero, suc, ◌+◌, ◌-◌, ◌*◌, ◌<◌, ◌≤◌, ◌∙◌, sym, ap, ap₂, refl, subst, subst₂, is_some, true, false, List, [], ◌∷◌, ◌++◌, reverse, take, drop, length, None, Some, Option, arith, append_assoc, append-nil, length-append, length-drop, drop-cons, get_or}
 use Rattle.std.specs.Option.{option_or}
 use Rattle.std.proofs.lemmas.List.{reverse-append, length-reverse}
 use Rattle.std.proofs.Math.Nat.{mul-le-mul_left}
@@ -7,6 +7,7 @@ use Rattle.code_tables.specs.Opcodes.{class_of}
 use Rattle.nl_meaning.specs.declared.Fault.{Fault}
 use Rattle.nl_meaning.specs.Faults.{trees_fault}
 use Rattle.nl_meaning.specs.Trees.{Tree, Trees, Point, Known, operator, tree_size, trees_size, first_trees}
+use Rattle.fractions.proofs.Tests.{option_or-none_right}
 use Rattle.nl_model.specs.declared.node.Node.{Node}
 use Rattle.nl_model.specs.declared.node.Node.TheVariants.{Num, Var, Defined, Op}
 use Rattle.nl_model.specs.Nodes.{AreNodesFormed, trees_of, with_node}
@@ -26,10 +27,6 @@ pub record Taking (count : ℕ) (start : List Entry) (k : ℕ) (stack : List Ent
 
 pub top_first : (stack new : List Entry) (x : Entry) → stack ≡ new ++ x ∷ [] → reverse stack ≡ x ∷ reverse new
 top_first stack new x e = ap reverse e ∙ reverse-append new (x ∷ [])
-
-option_or-none_right : (f : Option Fault) → option_or f None ≡ f
-option_or-none_right None = refl
-option_or-none_right (Some x) = refl
 
 option_or_assoc : (f g h : Option Fault) → option_or (option_or f g) h ≡ option_or f (option_or g h)
 option_or_assoc None g h = refl
@@ -122,10 +119,6 @@ operator_step known n place o k trees es rest forms broken e room is_forms is_br
       h ts (subst₂ (λ fs b. AreOperands known n (place + 1) ts fs b) (sym is_forms) (sym is_broken) (operands_are known n (place + 1) k trees es room folded)),
       subst₂ (λ j es. AreFolded known n j (drop k trees) es) (omega arith) (sym is_rest) (rest_are known n (place + 1) k trees es room folded),
     )
-
-pub if_ok : {T E : Type 0} (r : Result T E) (P Q : T → Type 0) → ((x : T) → P x → Q x) → IfOk r P → IfOk r Q
-if_ok (Ok x) P Q f h = f x h
-if_ok (Err e) P Q f h = h
 
 pub operator_size : (o : ℕ) (k : ℕ) (trees : List Tree) (stack new : List Entry) → k ≤ length stack → length trees ≡ length stack → reverse new ≡ drop k (reverse stack) → length (with_node (Op o k) trees) ≡ 1 + length new
 operator_size o k trees stack new room same rest =

@@ -9,6 +9,7 @@ use Rattle.text_base.specs.declared.stop.Stop.{Stop}
 use Rattle.text_base.specs.declared.stop.Stop.TheVariants.{Fault, Memory}
 use Rattle.linear_fold.specs.declared.wide.Wide.{Wide}
 use Rattle.linear_fold.specs.declared.form.Form.{Form}
+use Rattle.linear_fold.specs.declared.form.FormTerms.{FormTerms}
 use Rattle.linear_fold.specs.declared.form.Kept.{Kept}
 use Rattle.linear_fold.specs.declared.form.Kept.TheVariants.{Closed, Open}
 use Rattle.linear_fold.specs.Coefs.{Term, AreBelow, coef_in}
@@ -45,6 +46,10 @@ kept_terms (Open ps) = []
 -- the terms of a closed form
 abbrev pub form_terms : Form → List Term
 form_terms f = kept_terms f.kept
+
+-- the terms that are still to come
+abbrev pub terms_left : FormTerms → List Term
+terms_left ts = ts.rest.now
 
 -- no coefficient from n on
 abbrev pub IsZeroFrom : ℕ → Line → Type 0

@@ -2,11 +2,14 @@
 use Rattle.std.specs.Prelude.{◌≡◌, ℕ, suc, ◌+◌, ◌≤◌, ◌^◌, Bool, false, List, [], ◌∷◌, length, All}
 use Rattle.std.specs.List.{sum_by}
 use Rattle.linear_programs.specs.Linear.{Form as LinearForm, Row, Variable, Linear}
+use Rattle.linear_programs.specs.Names.{row_name, variable_name}
 use Rattle.nl_model.specs.declared.interval.Interval.{Interval}
 use Rattle.nl_model.specs.declared.kind.Kind.{Kind}
+use Rattle.nl_model.specs.File.{File}
+use Rattle.nl_model.specs.Kinds.{kind_of}
 use Rattle.nl_model.specs.Rules.{IsOrdered}
 use Rattle.file_meaning.specs.Meaning.{interval_of, is_whole_kind}
-use Rattle.file_meaning.specs.LinearFile.{form_of_line, row_name, variable_name}
+use Rattle.file_meaning.specs.LinearFile.{elements_from, form_of_line}
 use Rattle.linear_fold.specs.declared.form.Form.{Form}
 use Rattle.linear_fold.specs.Coefs.{AreBelow}
 use Rattle.linear_fold.specs.Forms.{form_line, form_terms, is_open}
@@ -45,6 +48,10 @@ linear_value l =
       objective = form_of l.objective;
       maximise = l.maximise;
     }
+
+-- the kinds of a file's variables, in order
+abbrev pub kinds_in : File → List Kind
+kinds_in f = elements_from (kind_of f.counts) 0 f.counts.n_var
 
 -- a closed form of the first n variables
 pub record IsFormOver (n : ℕ) (f : Form) : Type 0 where

@@ -6,7 +6,7 @@ ghost use Rattle.std.specs.Iterator.{YieldsFirst, item_count};
 ghost use Rattle.nl_meaning.specs.Faults.{constant_line, line_with, line_scaled, line_sum};
 ghost use Rattle.nl_meaning.specs.Lines.{is_constant};
 ghost use Rattle.linear_fold.specs.Coefs.{AddsAt, AreAscending};
-ghost use Rattle.linear_fold.specs.Forms.{AddsScaled, AreWithin, HasPlace, HasRoom, IsZeroFrom, SumsUp, form_line, form_terms, is_open, place_count};
+ghost use Rattle.linear_fold.specs.Forms.{AddsScaled, AreWithin, HasPlace, HasRoom, IsZeroFrom, SumsUp, form_line, form_terms, is_open, place_count, terms_left};
 
 use crate::coefficients::Coefficients;
 use crate::pad::Pad;
@@ -98,7 +98,7 @@ impl Form {
     /// The terms of a closed form, ascending by variable.
     pub fn terms(&self) -> FormTerms<'_>
         requires { is_open self.now ≡ false }
-        ensures terms { result.rest.now ≡ form_terms self.now }
+        ensures terms { terms_left result ≡ form_terms self.now }
         ensures ascending { AreAscending 0 (form_terms self.now) }
     {
         FormTerms {
@@ -298,9 +298,9 @@ pub struct FormTerms<'a> {
 impl Iterator for FormTerms<'_> {
     type Item = (u32, Frac);
 
-    ghost next_gives = { YieldsFirst (λ s. s.rest.now) };
+    ghost next_gives = { YieldsFirst terms_left };
 
-    ghost remaining = { item_count (λ s. s.rest.now) };
+    ghost remaining = { item_count terms_left };
 
     fn next(&mut self) -> Option<(u32, Frac)> {
         match self.rest {

@@ -1,15 +1,14 @@
 // The fold of a whole file.
-ghost use Rattle.std.specs.Prelude.{◌≡◌, ◌+◌, ◌<◌, ◌≤◌, ◌==◌, ◌&&◌, ◌||◌, IfOk, IfErr, OnOk, None, Some, nat_lt, true};
+ghost use Rattle.std.specs.Prelude.{◌≡◌, ◌+◌, ◌<◌, ◌≤◌, ◌==◌, ◌&&◌, ◌||◌, IfOk, IfErr, OnOk, None, Some, nat_lt, false, true};
 ghost use Rattle.text_base.specs.Stopped.{IfFault};
 ghost use Rattle.nl_model.specs.HeaderRules.{AreCounts};
-ghost use Rattle.nl_model.specs.Kinds.{kind_of};
 ghost use Rattle.nl_model.specs.Rules.{IsFile};
 ghost use Rattle.file_meaning.specs.Expressions.{maximises};
 ghost use Rattle.file_meaning.specs.FoldFaults.{fold_fault, has_objective};
-ghost use Rattle.file_meaning.specs.LinearFile.{elements_from, linear_of, HasLines};
+ghost use Rattle.file_meaning.specs.LinearFile.{linear_of, HasLines};
 ghost use Rattle.linear_fold.specs.FoldedFaults.{first_fold_fault, HasFaultPlace, step_bound};
 ghost use Rattle.linear_fold.specs.OwnerFolds.{AreFormsOf};
-ghost use Rattle.linear_fold.specs.Programs.{linear_value};
+ghost use Rattle.linear_fold.specs.Programs.{kinds_in, linear_value};
 
 use crate::bodies::fold_forms;
 use crate::definitions::empty_folder;
@@ -68,7 +67,7 @@ fn bounds_of(alloc: Global, file: &NlFile) -> Result<Vec<Interval>, AllocError>
 
 // The kinds of all variables.
 fn all_kinds(alloc: Global, file: &NlFile) -> Result<Vec<Kind>, AllocError>
-    ensures { IfOk result (λ v. v.items ≡ elements_from (kind_of file.now.counts) 0 file.now.counts.n_var) }
+    ensures { IfOk result (λ v. v.items ≡ kinds_in file.now) }
 {
     let header = file.header();
     let counts = header.counts();
@@ -92,6 +91,9 @@ fn assemble(
     requires forms { AreFormsOf file.now objective bodies.items form }
     ensures linear { IfOk result (λ l. linear_value l ≡ linear_of file.now objective) }
     ensures number { IfOk result (λ l. l.number ≡ objective) }
+    ensures sides { IfOk result (λ l. l.sides ≡ file.now.sides) }
+    ensures bounds { IfOk result (λ l. l.bounds ≡ file.now.bounds) }
+    ensures kinds { IfOk result (λ l. l.kinds ≡ kinds_in file.now) }
 {
     let sides = sides_of(alloc, file)?;
     let bounds = bounds_of(alloc, file)?;
@@ -107,9 +109,12 @@ pub fn fold_all<L: Ledger>(
     objective: u32,
     steps: &mut Steps<L>,
 ) -> Result<Linear, Stop<FoldFault>>
-    // The linear program of the file, which has no fault.
+    // The linear program of the file, which has no fault; sides, bounds and kinds are the file's own.
     ensures linear { IfOk result (λ l. linear_value l ≡ linear_of file.now objective) }
     ensures number { IfOk result (λ l. l.number ≡ objective) }
+    ensures sides { IfOk result (λ l. l.sides ≡ file.now.sides) }
+    ensures bounds { IfOk result (λ l. l.bounds ≡ file.now.bounds) }
+    ensures kinds { IfOk result (λ l. l.kinds ≡ kinds_in file.now) }
     ensures fine { OnOk result (fold_fault file.now objective ≡ None) }
 
     // At every assignment each body and the objective have the values of their forms.
@@ -119,8 +124,10 @@ pub fn fold_all<L: Ledger>(
     ensures fault { IfErr result (λ stop. IfFault stop (λ fault. first_fold_fault file.now objective ≡ Some fault)) }
     ensures place { IfErr result (λ stop. IfFault stop (λ fault. HasFaultPlace file.now fault)) }
 
+    // No step is counted where there is no such objective.
     ensures above { steps.old ≤ steps.new }
     ensures below { steps.new ≤ steps.old + step_bound file.now }
+    ensures none { has_objective file.now objective ≡ false → steps.new ≡ steps.old }
 {
     if !has_objective(file.header().counts(), objective) {
         return Err(Stop::Fault(FoldFault::NoSuchObjective(objective)));

@@ -1,6 +1,7 @@
 -- MPS programs, and what they mean (the usual MPS manuals; the signs of ranges and of upper bounds below 0 are an own profile).
 use Rattle.std.specs.Prelude.{ℕ, suc, ◌<◌, ℤ, pos, negsuc, nat_eq, Bool, true, false, cond, ◌||◌, ◌&&◌, IsTrue, List, [], ◌∷◌, length, map, get_or, Option, Some, None}
 use Rattle.std.specs.Option.{option_or}
+pub use Rattle.fractions.specs.Functions.{or_zero}
 use Rattle.fractions.specs.Rational.{ℚ, zero_ℚ, one_ℚ, ◌+ℚ◌, ◌-ℚ◌, ◌*ℚ◌, neg_ℚ, IsWhole}
 use Rattle.fractions.specs.Sums.{sum_over, sum_below}
 pub use Rattle.mps_model.specs.declared.kinds.RowKind.{RowKind}
@@ -83,11 +84,6 @@ size_of x = cond (is_negative x) (neg_ℚ x) x
 unfoldable pub at_row : {V : Type 0} → ℕ → List (Entry V) → Option V
 at_row i [] = None
 at_row i (e ∷ es) = cond (nat_eq e.row i) (Some e.value) (at_row i es)
-
--- 0 where there is none
-abbrev pub or_zero : Option ℚ → ℚ
-or_zero None = zero_ℚ
-or_zero (Some x) = x
 
 -- nothing asks for a column past the last
 abbrev pub no_column : {V : Type 0} → Column V

@@ -1,5 +1,6 @@
 -- What the ten header lines of an .nl file say (Gay 2005, "Writing .nl Files"), and what is wrong with one.
--- A line is the list of its words; lines, places and rows are counted from 1. Which numbers are refused, and the order of faults, are this project's own.
+-- A line is the list of its words; lines, places and rows are counted from 1. Which numbers are refused,
+-- and the order of faults, are this project's own.
 use Rattle.std.specs.Prelude.{◌≡◌, ℕ, ◌+◌, ◌-◌, ◌^◌, ◌==◌, Bool, true, false, not, ◌&&◌, ◌||◌, nat_lt, nat_le, ℤ, List, [], ◌∷◌, ◌++◌, length, drop, slice_index, slice_index_or, find, Option, Some, None, is_none, Result, Ok, Err, unwrap_or, if◌then◌else◌, codes}
 use Rattle.std.specs.List.{list_any, filter_map}
 use Rattle.std.specs.Str.{bytes_eq}
@@ -104,7 +105,8 @@ option_count words = if begins_with 103 (word_at words 0) then whole_of (drop 1 
 -- so many words after the first, at most four, which are signed whole numbers and the second of which is not 3
 abbrev pub has_options : List (List ℕ) → ℕ → Bool
 has_options words count =
-    nat_le count 4 && (length (drop 1 words) == count) && (length (options_of words) == count) && not (has_second_three (options_of words))
+    nat_le count 4 && (length (drop 1 words) == count) && (length (options_of words) == count)
+    && not (has_second_three (options_of words))
 
 unfoldable pub first_line_tests : List (List ℕ) → List (Bool × HeadFault)
 first_line_tests words =
@@ -133,12 +135,14 @@ number_tests field number =
 
 -- of one word where a field stands
 unfoldable pub word_tests : Option Field → List ℕ → List (Bool × HeadFault)
-word_tests field word = (is_none (whole_of word), BadHeaderNumber) ∷ number_tests field (unwrap_or (whole_of word) 0)
+word_tests field word =
+    (is_none (whole_of word), BadHeaderNumber) ∷ number_tests field (unwrap_or (whole_of word) 0)
 
 -- the first fault of the words of a line from a place on
 unfoldable pub words_fault : ℕ → ℕ → List (List ℕ) → Option HeadFault
 words_fault line place [] = None
-words_fault line place (word ∷ words) = option_or (first_reason (word_tests (field_at line place) word)) (words_fault line (place + 1) words)
+words_fault line place (word ∷ words) =
+    option_or (first_reason (word_tests (field_at line place) word)) (words_fault line (place + 1) words)
 
 -- a field that must be there has no word
 unfoldable pub is_short : List FieldRow → ℕ → ℕ → Bool

@@ -5,6 +5,7 @@ use Rattle.code_tables.specs.Header.{header_rows}
 use Rattle.text_base.specs.Judged.{first_reason}
 use Rattle.nl_model.specs.declared.counts.Counts.{Counts}
 use Rattle.nl_model.specs.declared.header.Header.{Header}
+use Rattle.nl_model.specs.HeaderWords.{header_options, header_counts}
 use Rattle.nl_model.specs.HeaderRules.{are_definitions_within, is_header}
 use Rattle.nl_header.specs.declared.fault.HeadFault.{HeadFault}
 use Rattle.nl_header.specs.declared.fault.HeadFault.TheVariants.{TooLarge}
@@ -36,8 +37,8 @@ pub record IsReading (s : Taken) (lines : List (List (List ℕ))) : Type 0 where
 -- the header that ten lines say
 pub record SaysHeader (lines : List (List (List ℕ))) (header : Header) : Type 0 where
   pub count : length lines ≡ 10
-  pub options : header.options ≡ options_in lines
-  pub counts : header.counts ≡ counts_in lines
+  pub options : header_options header ≡ options_in lines
+  pub counts : header_counts header ≡ counts_in lines
 
 -- a line without a fault that is not the last
 pub record GoesOn (before : List (List (List ℕ))) (words : List (List ℕ)) (after : Taken) : Type 0 where
@@ -113,6 +114,9 @@ last_rule line counts = first_reason ((line == 10 && not (are_definitions_within
 
 -- how a line of numbers ends where only the rule of the last line can be broken
 abbrev pub Closes : Taken → Counts → Result (Option Header) HeadFault → Taken → Type 0
-Closes old counts (Ok None) new = (old.lines + 1 < 10) × (new ≡ record old { lines = old.lines + 1 })
-Closes old counts (Ok (Some header)) new = (old.lines ≡ 9) × (header.options ≡ old.options) × (header.counts ≡ counts) × (new.lines ≡ 10)
-Closes old counts (Err fault) new = (old.lines ≡ 9) × (fault ≡ TooLarge) × (is_header old.options counts ≡ false) × (new.lines ≡ old.lines)
+Closes old counts (Ok None) new =
+    (old.lines + 1 < 10) × (new ≡ record old { lines = old.lines + 1 })
+Closes old counts (Ok (Some header)) new =
+    (old.lines ≡ 9) × (header_options header ≡ old.options) × (header_counts header ≡ counts) × (new.lines ≡ 10)
+Closes old counts (Err fault) new =
+    (old.lines ≡ 9) × (fault ≡ TooLarge) × (is_header old.options counts ≡ false) × (new.lines ≡ old.lines)

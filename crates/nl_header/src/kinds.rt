@@ -1,5 +1,6 @@
 // The kinds of variables, by the groups in which they stand.
 ghost use Rattle.std.specs.Prelude.{◌≡◌, ◌<◌};
+ghost use Rattle.nl_model.specs.HeaderWords.{header_counts};
 ghost use Rattle.nl_model.specs.Kinds.{kind_of};
 
 use nl_model::{Header, Kind};
@@ -21,8 +22,8 @@ macro_rules! kind_at {
 /// only; then linear, binary, integer.
 #[tactic(auto, unfolding(nl_model::specs::Kinds::kind_of))]
 pub fn kinds_of(header: &Header, var: u32) -> Kind
-    requires { var < header.now.counts.n_var }
-    ensures { result ≡ kind_of header.now.counts var }
+    requires { var < (header_counts header.now).n_var }
+    ensures { result ≡ kind_of (header_counts header.now) var }
 {
     let counts = header.counts();
     let mut place = var;

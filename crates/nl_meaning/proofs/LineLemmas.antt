@@ -1,37 +1,24 @@
 -- Sums and multiples of lines, and the line that a function of points has.
-use Rattle.std.proofs.Common.{◌≡◌, ◌≢◌, ℕ, zero, suc, ◌<◌, ⊎_elim, ◌≤◌, ◌∙◌, sym, ap, ap₂, refl, arith, Bool, true, false, ◌&&◌, ℤ, pos, negsuc, Option, Some, ◌==◌}
+use Rattle.std.proofs.Common.{◌≡◌, ◌≢◌, ℕ, zero, suc, ◌<◌, ⊎_elim, ◌≤◌, ◌∙◌, sym, ap, ap₂, refl, arith, Bool, true, false, Option, Some, ◌==◌}
+use Rattle.fractions.specs.Functions.{or_zero}
 use Rattle.fractions.specs.Rational.{ℚ, zero_ℚ, one_ℚ, ◌+ℚ◌, ◌-ℚ◌, ◌*ℚ◌, neg_ℚ}
-use Rattle.std.proofs.lemmas.Bool.{cases_lt, eq-eqb, eqb-true}
+use Rattle.std.proofs.lemmas.Bool.{cases_lt, eq-eqb, eqb-true, and_parts}
 use Rattle.fractions.specs.Sums.{sum_below}
-use Rattle.fractions.proofs.Arithmetic.{+ℚ_assoc, +ℚ_zero, *ℚ-+ℚ, +ℚ-*ℚ, *ℚ_assoc, *ℚ_zero, zero-*ℚ, *ℚ_one, neg-*ℚ, neg-+ℚ, zero_top, top_zero, -ℚ_lem, +ℚ-neg}
+use Rattle.fractions.proofs.Arithmetic.{+ℚ_assoc, +ℚ_zero, *ℚ-+ℚ, +ℚ-*ℚ, *ℚ_assoc, *ℚ_zero, zero-*ℚ, *ℚ_one, neg-*ℚ, neg-+ℚ, -ℚ_lem, +ℚ-neg}
 use Rattle.fractions.proofs.Adding.{+ℚ_swap, sum_below_same, sum_below-+ℚ, sum_below-*ℚ, sum_below-neg, sum_below_all_zero, sum_below_one}
+pub use Rattle.fractions.proofs.Tests.{is_zero-true, is_zero-false}
 use Rattle.fractions.proofs.Ring.{ring, v, ◌⊕◌, ◌⊖◌}
-use Rattle.nl_meaning.specs.Lines.{origin, unit_point, one_if, Line, line_value, line_by, or_zero, all_below, is_pos_zero, is_zero, is_constant, are_constant, constants_of, line_values}
+use Rattle.nl_meaning.specs.Lines.{origin, unit_point, one_if, Line, line_value, line_by, all_below, is_zero, is_constant, are_constant, constants_of, line_values}
 use Rattle.nl_meaning.specs.Faults.{line_sum, line_scaled, line_neg, line_with}
 use Rattle.nl_meaning.specs.Trees.{Point}
 use Rattle.std.proofs.Common.{List, [], ◌∷◌}
 
 -- ---- tests
-pub and-true : (a b : Bool) → a && b ≡ true → (a ≡ true) × (b ≡ true)
-and-true true b e = (refl, e)
-and-true false b e = cc
-
 pub all_below-true : (p : ℕ → Bool) (n : ℕ) → all_below p n ≡ true → (j : ℕ) → j < n → p j ≡ true
 all_below-true p zero e j h = absurd (omega arith)
 all_below-true p (suc n) e j h =
-    let both = and-true (all_below p n) (p n) e in
+    let both = and_parts (all_below p n) (p n) e in
     ⊎_elim (λ (l : j < n). all_below-true p n both.0 j l) (λ (g : n ≤ j). let same : n ≡ j = omega arith in ap p (sym same) ∙ both.1) (cases_lt j n)
-
-pos_zero-true : (z : ℤ) → is_pos_zero z ≡ true → z ≡ pos 0
-pos_zero-true (pos zero) e = refl
-pos_zero-true (pos (suc n)) e = cc
-pos_zero-true (negsuc n) e = cc
-
-pub is_zero-true : (x : ℚ) → is_zero x ≡ true → x ≡ zero_ℚ
-is_zero-true x e = zero_top x (pos_zero-true x.top e)
-
-pub is_zero-false : (x : ℚ) → is_zero x ≡ false → x ≢ zero_ℚ
-is_zero-false x e h = let f : true ≡ false = ap is_pos_zero (sym (top_zero x h)) ∙ e in cc
 
 pub same-eqb : (j : ℕ) → one_if (j == j) ≡ one_ℚ
 same-eqb j = ap one_if (eq-eqb j j refl)
@@ -75,7 +62,7 @@ module _ (n : ℕ) (at : Point) where
   pub line_values-constant : (ls : List Line) → are_constant n ls ≡ true → line_values n at ls ≡ constants_of ls
   line_values-constant [] e = refl
   line_values-constant (l ∷ ls) e =
-      let both = and-true (is_constant n l) (are_constant n ls) e in
+      let both = and_parts (is_constant n l) (are_constant n ls) e in
       ap₂ ◌∷◌ (line_value-constant l both.0) (line_values-constant ls both.1)
 
   -- one part of a sum alone

@@ -1,17 +1,17 @@
 -- A tree without a fault is linear: at every point it has the value of its line.
 use Rattle.std.proofs.Common.{◌≡◌, ℕ, ◌+◌, ◌<◌, ◌⊎◌, inl, inr, ⊎_elim, ◌∙◌, sym, ap, ap₂, refl, subst, arith, Bool, true, false, ◌==◌, Option, Some, None, List, [], ◌∷◌, length, option_and_then, if◌then◌else◌}
-use Rattle.std.specs.Option.{option_or}
 use Rattle.std.proofs.lemmas.Bool.{eq-eqb}
 use Rattle.code_tables.specs.declared.class.OpClass.{OpClass}
 use Rattle.code_tables.specs.declared.class.OpClass.TheVariants.{Sum, Difference, Product, Quotient, Negation, List as SumOfAll, Power, Least, Greatest, Floor, Ceiling, Absolute, Refused}
-use Rattle.fractions.specs.Functions.{exponent_of, power_of}
+use Rattle.fractions.specs.Functions.{exponent_of, or_zero, power_of}
 use Rattle.fractions.specs.Rational.{ℚ, zero_ℚ, one_ℚ, ◌+ℚ◌, ◌*ℚ◌, inverse_of, quotient_of, decimal_value}
 use Rattle.fractions.specs.Sums.{sum_below, sum_of_all}
 use Rattle.fractions.proofs.Arithmetic.{+ℚ_assoc, +ℚ_zero, zero-+ℚ, *ℚ_comm, zero-*ℚ, one-*ℚ, -ℚ_lem, quotient_some}
+use Rattle.fractions.proofs.Tests.{option_or-none}
 use Rattle.fractions.proofs.Adding.{sum_over_nil, sum_over_cons, sum_below_all_zero}
 use Rattle.nl_meaning.specs.declared.Reason.{Reason}
 use Rattle.nl_meaning.specs.declared.Reason.TheVariants.{Nonlinear, DivideByZero}
-use Rattle.nl_meaning.specs.Lines.{Line, line_value, line_values, some_values, is_zero, is_constant, are_constant, constants_of, or_zero}
+use Rattle.nl_meaning.specs.Lines.{Line, line_value, line_values, some_values, is_zero, is_constant, are_constant, constants_of}
 use Rattle.nl_meaning.specs.Faults.{nonlinear_unless, power_fault, constant_line, constants_line, running_line, operator_line, line_sum, line_scaled, line_neg, line_with, line_with_terms, operator_fault, fault_at, line_of, lines_of, tree_fault, trees_fault, expression_fault, definitions_fault, first_fault, first_expression_fault, coef, constant_of, expression_line}
 use Rattle.nl_meaning.specs.Trees.{Point, Known, nothing_known, with_value, Tree, number, variable, defined, operator, Trees, none, more, all_there, on_values, operator_value, tree_value, trees_values, LinearTerm, Expression, Definition, terms_value, expression_value, values_after, known_values, val, expression_val, tree_size, count_of, HasCount, IsOneOf, IsFormed, AreFormed, AreTermsBelow, IsExpressionFormed, indices_after, indices_of, AreDefined}
 use Rattle.nl_meaning.proofs.LineLemmas.{is_zero-false, line_value-sum, line_value-scaled, line_value-neg, line_value-constant, line_values-constant, line_value-with, line_by_lem}
@@ -121,10 +121,6 @@ operator_has_line n Absolute (a ∷ b ∷ ls) h e = absurd (omega arith)
 operator_has_line n Refused ls h e = absurd h
 
 -- ---- trees
-pub option_or-none : {T : Type 0} (f g : Option T) → option_or f g ≡ None → (f ≡ None) × (g ≡ None)
-option_or-none {T} None g e = (refl, e)
-option_or-none {T} (Some x) g e = cc
-
 fault_at-none : (i : ℕ) (r : Option Reason) → fault_at i r ≡ None → r ≡ None
 fault_at-none i None e = refl
 fault_at-none i (Some r) e = cc
@@ -186,7 +182,7 @@ expression_linear n known is linear x formed clean =
     terms_added n known x (line_of known x.tree) formed.terms (tree_linear n known is linear 0 x.tree formed.tree free.0)
 
 -- one more definition with a line
-more_linear : (n : ℕ) (known : Point → Known) (is : List ℕ) → AreLinear n known is → (i : ℕ) (f : Point → Option ℚ) (l : Line) → HasValues n f l → AreLinear n (λ at. with_value (known at) i (f at)) (i ∷ is)
+pub more_linear : (n : ℕ) (known : Point → Known) (is : List ℕ) → AreLinear n known is → (i : ℕ) (f : Point → Option ℚ) (l : Line) → HasValues n f l → AreLinear n (λ at. with_value (known at) i (f at)) (i ∷ is)
 more_linear n known is linear i f l values k among = by (k == i) refl
   where
     by : (b : Bool) → k == i ≡ b → (m : Line) × HasValues n (λ at. if b then f at else known at k) m

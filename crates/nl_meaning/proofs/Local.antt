@@ -1,11 +1,12 @@
 -- The value of an expression depends only on the variables and the defined variables that it may use.
 use Rattle.std.proofs.Common.{◌≡◌, ℕ, ◌<◌, ◌≤◌, ⊎_elim, ◌∙◌, sym, ap, ap₂, refl, arith, Bool, true, false, ◌==◌, if◌then◌else◌, Option, Some, List, [], ◌∷◌, option_and_then}
 use Rattle.std.proofs.lemmas.Bool.{eq-eqb}
+use Rattle.fractions.specs.Functions.{or_zero}
 use Rattle.fractions.specs.Rational.{ℚ, zero_ℚ, ◌+ℚ◌, ◌-ℚ◌, ◌*ℚ◌}
 use Rattle.fractions.proofs.Arithmetic.{+ℚ-neg, -ℚ_lem}
 use Rattle.fractions.proofs.Adding.{sum_over_nil, sum_over_cons}
 use Rattle.nl_meaning.specs.Faults.{expression_line}
-use Rattle.nl_meaning.specs.Lines.{origin, unit_point, or_zero}
+use Rattle.nl_meaning.specs.Lines.{origin, unit_point}
 use Rattle.nl_meaning.specs.Trees.{Point, Known, nothing_known, with_value, Tree, number, variable, defined, operator, Trees, none, more, operator_value, tree_value, trees_values, LinearTerm, Expression, Definition, terms_value, expression_value, values_after, known_values, expression_val, IsOneOf, IsFormed, AreFormed, AreTermsBelow, IsExpressionFormed, indices_after, indices_of, AreDefined}
 use Rattle.nl_meaning.proofs.LineLemmas.{apart-eqb}
 

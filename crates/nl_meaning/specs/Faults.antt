@@ -4,12 +4,12 @@ use Rattle.std.specs.Option.{option_or}
 use Rattle.code_tables.specs.declared.class.OpClass.{OpClass}
 use Rattle.code_tables.specs.declared.class.OpClass.TheVariants.{Sum, Difference, Product, Quotient, Negation, List as SumOfAll, Power, Least, Greatest, Floor, Ceiling, Absolute}
 use Rattle.fractions.specs.Fits.{fits, sum_fits}
-use Rattle.fractions.specs.Functions.{exponent_of, power_of}
+use Rattle.fractions.specs.Functions.{exponent_of, or_zero, power_of}
 use Rattle.fractions.specs.Rational.{ℚ, zero_ℚ, ◌+ℚ◌, ◌*ℚ◌, neg_ℚ, inverse_of, decimal_value}
 use Rattle.nl_meaning.specs.declared.Fault.{Fault}
 use Rattle.nl_meaning.specs.declared.Reason.{Reason}
 use Rattle.nl_meaning.specs.declared.Reason.TheVariants.{Nonlinear, DivideByZero, TooWide, RefusedPower}
-use Rattle.nl_meaning.specs.Lines.{Line, line_by, all_below, is_zero, is_constant, are_constant, constants_of, one_if, or_zero}
+use Rattle.nl_meaning.specs.Lines.{Line, line_by, all_below, is_zero, is_constant, are_constant, constants_of, one_if}
 use Rattle.nl_meaning.specs.Trees.{Tree, number, variable, defined, operator, Trees, none, more, Point, Known, nothing_known, with_value, LinearTerm, Expression, Definition, on_values, tree_value, known_values, val, expression_value, expression_val, tree_size}
 
 abbrev pub too_wide_unless : Bool → Option Reason

@@ -1,5 +1,7 @@
 -- Linear functions of a point.
-use Rattle.std.specs.Prelude.{ℕ, zero, suc, ℤ, pos, negsuc, Bool, true, false, ◌&&◌, ◌==◌, Option, Some, None, List, [], ◌∷◌}
+use Rattle.std.specs.Prelude.{ℕ, zero, suc, Bool, true, false, ◌&&◌, ◌==◌, Option, Some, List, [], ◌∷◌}
+pub use Rattle.fractions.specs.Functions.{is_zero}
+use Rattle.fractions.specs.Functions.{or_zero}
 use Rattle.fractions.specs.Rational.{ℚ, zero_ℚ, one_ℚ, ◌+ℚ◌, ◌-ℚ◌, ◌*ℚ◌}
 use Rattle.fractions.specs.Sums.{sum_below}
 use Rattle.nl_meaning.specs.Trees.{Point}
@@ -24,10 +26,6 @@ pub record Line : Type 0 where
 abbrev pub line_value : ℕ → Line → Point → ℚ
 line_value n l at = l.constant +ℚ sum_below (λ j. l.coef j *ℚ at j) n
 
-abbrev pub or_zero : Option ℚ → ℚ
-or_zero None = zero_ℚ
-or_zero (Some x) = x
-
 abbrev pub line_values : ℕ → Point → List Line → List ℚ
 line_values n at [] = []
 line_values n at (l ∷ ls) = line_value n l at ∷ line_values n at ls
@@ -45,14 +43,6 @@ line_by f = record { constant = or_zero (f origin); coef = λ j. or_zero (f (uni
 abbrev pub all_below : (ℕ → Bool) → ℕ → Bool
 all_below p zero = true
 all_below p (suc n) = all_below p n && p n
-
-abbrev pub is_pos_zero : ℤ → Bool
-is_pos_zero (pos zero) = true
-is_pos_zero (pos (suc n)) = false
-is_pos_zero (negsuc n) = false
-
-abbrev pub is_zero : ℚ → Bool
-is_zero x = is_pos_zero x.top
 
 -- no coefficient but 0
 abbrev pub is_constant : ℕ → Line → Bool

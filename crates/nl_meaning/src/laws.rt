@@ -6,12 +6,14 @@ ghost use Rattle.nl_meaning.specs.declared.Reason.TheVariants.{Nonlinear, Refuse
 ghost use Rattle.nl_meaning.specs.Example.{power_and_least};
 ghost use Rattle.nl_meaning.specs.Faults.{coef, constant_of, expression_line, first_expression_fault, first_fault};
 ghost use Rattle.nl_meaning.specs.Lines.{line_value};
+ghost use Rattle.nl_meaning.specs.Parts.{IsLinearTree, IsPart};
 ghost use Rattle.nl_meaning.specs.Trees.{AreDefined, Definition, Expression, IsExpressionFormed, IsFormed, Point, Tree, expression_val, indices_of, number, val, variable};
 
 // A tree without a fault has a value at every point: its value at 0 and the sum of its coefficients times the variables.
-// The same holds of a tree with linear terms.
+// The same holds of each of its parts, and of a tree with linear terms.
 pub fn trees_are_linear()
     ensures trees { (n : ℕ) (ds : List Definition) (t : Tree) → AreDefined n [] ds → IsFormed n (indices_of ds) t → first_fault n ds t ≡ None → (at : Point) → val ds t at ≡ Some (constant_of ds t +ℚ sum_below (λ j. coef ds t j *ℚ at j) n) }
+    ensures parts { (n : ℕ) (ds : List Definition) (t u : Tree) → AreDefined n [] ds → IsFormed n (indices_of ds) t → first_fault n ds t ≡ None → IsPart u t → IsLinearTree n ds u }
     ensures expressions { (n : ℕ) (ds : List Definition) (x : Expression) → AreDefined n [] ds → IsExpressionFormed n (indices_of ds) x → first_expression_fault n ds x ≡ None → (at : Point) → expression_val ds x at ≡ Some (line_value n (expression_line ds x) at) }
 {}
 

@@ -10,7 +10,7 @@ use Rattle.mps_model.specs.Built.{CanAddRow}
 use Rattle.exported_program.specs.Program.{ScaledRow, kind_of, mps_row, with_entry, entries_of}
 use Rattle.exact_numbers.specs.declared.dec.Dec.{Dec}
 use Rattle.exact_numbers.specs.Values.{dec_value}
-use Rattle.file_meaning.specs.LinearFile.{row_name}
+use Rattle.linear_programs.specs.Names.{row_name}
 use Rattle.row_scaling.specs.declared.row.FactoredRow.{FactoredRow}
 use Rattle.row_scaling.specs.Rows.{side_value}
 use Rattle.row_scaling.specs.Exported.{exported_from, scaled_row_of}

@@ -11,7 +11,7 @@ use Rattle.mps_model.specs.Valid.{IsOtherColumn, HasEntries, entry_count}
 use Rattle.exported_program.specs.Program.{ScaledRow, columns_of, column_entries, or_obj_zero, entries_of, with_entry, nonzero, z_name, z_variable}
 use Rattle.exact_numbers.specs.declared.dec.Dec.{Dec}
 use Rattle.exact_numbers.specs.Values.{dec_value}
-use Rattle.file_meaning.specs.LinearFile.{variable_name}
+use Rattle.linear_programs.specs.Names.{variable_name}
 use Rattle.row_scaling.specs.declared.row.Tie.{Tie}
 use Rattle.row_scaling.specs.Rows.{TermOf}
 use Rattle.row_scaling.specs.Scaled.{ScaledValue, IsScaled, term_count}

@@ -11,7 +11,8 @@ use Rattle.exact_numbers.specs.declared.dec.Dec.{Dec}
 use Rattle.exact_numbers.specs.declared.frac.Frac.{Frac}
 use Rattle.exact_numbers.specs.Values.{frac_value}
 use Rattle.nl_model.specs.declared.interval.Interval.{Interval}
-use Rattle.file_meaning.specs.LinearFile.{row_name, coefficient_of}
+use Rattle.file_meaning.specs.LinearFile.{coefficient_of}
+use Rattle.linear_programs.specs.Names.{row_name}
 use Rattle.linear_fold.specs.Coefs.{AreAscending, AreBelow}
 use Rattle.linear_fold.specs.declared.form.Form.{Form}
 use Rattle.linear_fold.specs.Forms.{form_line, form_terms, is_open}

@@ -8,7 +8,6 @@ pub mod FactoredLemmas
 pub mod FitLemmas
 pub mod LawLemmas
 pub mod LinearLemmas
-pub mod NameLemmas
 pub mod NumberLemmas
 pub mod ObjectiveLemmas
 pub mod ProgramLemmas

@@ -1,5 +1,6 @@
 -- The linear program of a folded file, row by row.
 use Rattle.std.proofs.Common.{⊎_elim, length-append, ◌≡◌, ℕ, zero, suc, ◌+◌, ◌<◌, ◌≤◌, ◌∙◌, sym, ap, ap₂, refl, subst, arith, true, false, IsTrue, List, [], ◌∷◌, ◌++◌, length, get_or, drop, Option, Some, None}
+use Rattle.std.proofs.lemmas.List.{get_or_default}
 use Rattle.std.proofs.Math.Seq.{get_or-append_seam}
 use Rattle.std.proofs.Math.ListN.{get_or-append}
 use Rattle.std.proofs.lemmas.Bool.{cases_lt}
@@ -7,10 +8,10 @@ use Rattle.std.proofs.lemmas.List.Sums.{sum_by-cons, sum_by-append}
 use Rattle.text_base.specs.Stopped.{IfFault}
 use Rattle.text_base.specs.declared.stop.Stop.{Stop}
 use Rattle.text_base.specs.declared.stop.Stop.TheVariants.{Fault, Memory}
-use Rattle.linear_programs.specs.Linear.{Row, Linear, variable_count}
+use Rattle.linear_programs.specs.Linear.{Row, Linear, variable_count, no_row, row_at}
 use Rattle.exported_program.specs.Export.{ExportFits, RowFits}
 use Rattle.exported_program.specs.Program.{has_side}
-use Rattle.exported_program.specs.Return.{is_exported, row_at, no_file_row}
+use Rattle.exported_program.specs.Return.{is_exported}
 use Rattle.nl_model.specs.declared.interval.Interval.{Interval}
 use Rattle.nl_model.specs.declared.kind.Kind.{Kind}
 use Rattle.linear_fold.specs.Coefs.{AreBelow}
@@ -23,7 +24,6 @@ use Rattle.row_scaling.specs.declared.scale_fault.ScaleFault.TheVariants.{RowToo
 use Rattle.row_scaling.specs.Factored.{AreScaledRows, IsFactored, IsScaledAt, body_term_count, factor_for, row_for, term_count_of}
 use Rattle.row_scaling.specs.Scaled.{row_term_count}
 use Rattle.row_scaling.specs.Scaling.{HasScaleFault}
-use Rattle.row_scaling.proofs.ColumnLemmas.{same_default}
 use Rattle.row_scaling.proofs.RowLemmas.{rest_of}
 use Rattle.row_scaling.specs.Rows.{side_value}
 
@@ -55,7 +55,7 @@ module _ (l : LinearValue) (is : IsLinear l) where
   module _ (i : ℕ) (b : Form) (s : Interval) (h : i < length l.bodies) (e : b ≡ get_or l.bodies i b) (f : s ≡ get_or l.sides i s) where
     pub row_is : row_at (linear_value l) i ≡ row_for i b s
     unfolding linear_value
-    row_is = rows_there 0 i l.bodies l.sides b s no_file_row h is.sides e f ∙ ap (λ k. row_for k b s) (omega arith)
+    row_is = rows_there 0 i l.bodies l.sides b s no_row h is.sides e f ∙ ap (λ k. row_for k b s) (omega arith)
 
     form_over : IsFormOver (length l.bounds) b
     form_over = subst (IsFormOver (length l.bounds)) (sym e) (is.bodies i b h)
@@ -98,7 +98,7 @@ pub one_row_more : (l : LinearValue) (rows new : List (Option FactoredRow)) (i :
 one_row_more l rows new i o a h e s few =
     let d = get_or l.bodies i l.objective in
     let split : body_term_count (drop i l.bodies) ≡ length (form_terms d) + body_term_count (drop (i + 1) l.bodies) =
-    ap body_term_count (rest_of l.bodies i d h (same_default l.bodies i l.objective d h)) ∙ sum_by-cons (λ f. length (form_terms f)) d (drop (i + 1) l.bodies) in
+    ap body_term_count (rest_of l.bodies i d h (get_or_default l.bodies i l.objective d h)) ∙ sum_by-cons (λ f. length (form_terms f)) d (drop (i + 1) l.bodies) in
     let more : row_term_count new ≡ row_term_count rows + term_count_of o =
     ap row_term_count e ∙ sum_by-append term_count_of rows (o ∷ []) ∙ ap (λ n. row_term_count rows + n) (sum_by-cons term_count_of o [] ∙ omega arith) in
     let bound = few l.objective in

@@ -7,8 +7,7 @@ use Rattle.fractions.specs.Rational.{ℚ, zero_ℚ, one_ℚ, whole, over, decima
 use Rattle.fractions.proofs.Signed.{times_cancel, times_twice}
 use Rattle.fractions.proofs.Values.{HasValue, same_crosswise, equal_tops, same_value, whole_value}
 use Rattle.fractions.proofs.Arithmetic.{decimal_value_lem, over_parts}
-use Rattle.linear_fold.proofs.FracLemmas.{both_true}
-use Rattle.std.proofs.lemmas.Bool.{ltb-true}
+use Rattle.std.proofs.lemmas.Bool.{ltb-true, and_from}
 use Rattle.exported_program.specs.Program.{nonzero}
 use Rattle.exported_program.proofs.Sides.{nonzero_cases}
 use Rattle.exact_numbers.specs.declared.dec.Dec.{Dec}
@@ -73,7 +72,7 @@ over_one z = over_parts (whole z)
 
 pub whole_fits : (z : ℤ) → unsigned_abs z < 2 ^ 127 → fits (over z 1) ≡ true
 unfolding whole
-whole_fits z h = ap fits (over_one z) ∙ both_true (is_small (unsigned_abs z)) (is_small 1) (grind (arith, ltb-true)) refl
+whole_fits z h = ap fits (over_one z) ∙ and_from (is_small (unsigned_abs z)) (is_small 1) (grind (arith, ltb-true)) refl
 
 pub over_one_is : (x : ℚ) (z : ℤ) → x ≡ over z 1 → x ≡ whole z
 over_one_is x z e = e ∙ over_one z

@@ -17,7 +17,7 @@ use Rattle.linear_fold.specs.declared.form.Form.{Form}
 use Rattle.linear_fold.specs.declared.wide.Wide.{Wide}
 use Rattle.linear_fold.specs.Forms.{form_line, form_terms, is_open}
 use Rattle.linear_fold.specs.Programs.{LinearValue, IsLinear, form_of, linear_value}
-use Rattle.linear_fold.proofs.FracLemmas.{frac_fits}
+use Rattle.exact_numbers.proofs.Bridge.{frac_fits_lem}
 use Rattle.row_scaling.specs.declared.objectives.TiedObjective.{TiedObjective}
 use Rattle.row_scaling.specs.declared.row.ScaledObjective.{ScaledObjective}
 use Rattle.row_scaling.specs.Factored.{AreTiedFit, IsObjectiveTimes, IsTooWide, numbers_of}
@@ -34,7 +34,7 @@ both_wide b (Err (Fault w)) tied h = record { tied = tied; wide = h }
 both_wide b (Err Memory) tied h = tt
 
 as_one : (x : Frac) → FitsDec (frac_value x) → NumberFits one_ℚ (frac_value x)
-as_one x h = record { frac = ap fits (one-*ℚ (frac_value x)) ∙ frac_fits x; dec = subst FitsDec (sym (one-*ℚ (frac_value x))) h }
+as_one x h = record { frac = ap fits (one-*ℚ (frac_value x)) ∙ frac_fits_lem x; dec = subst FitsDec (sym (one-*ℚ (frac_value x))) h }
 
 all_as_one : (ts : List Term) → All FitsDec (coefficients_in ts) → All (NumberFits one_ℚ) (coefficients_in ts)
 all_as_one [] h = All-nil (NumberFits one_ℚ)

@@ -1,20 +1,20 @@
 -- The scaled program of a folded file.
-use Rattle.std.proofs.Common.{Bool, inl, inr, ◌≡◌, ◌≢◌, ◌⊎◌, ℕ, zero, suc, ◌+◌, ◌<◌, ◌≤◌, ◌^◌, ◌∙◌, sym, ap, ap₂, refl, subst, arith, true, false, cond, IsTrue, ⊎_elim, List, [], ◌∷◌, ◌++◌, length, get_or, IfSome, pos, Option, Some, None}
+use Rattle.std.proofs.Common.{Bool, inl, inr, ◌≡◌, ◌≢◌, ◌⊎◌, ℕ, suc, ◌+◌, ◌<◌, ◌≤◌, ◌^◌, ◌∙◌, sym, ap, ap₂, refl, subst, arith, true, false, cond, IsTrue, ⊎_elim, List, [], ◌∷◌, ◌++◌, length, get_or, IfSome, pos, Option, Some, None}
+use Rattle.std.proofs.lemmas.List.{get_or_default, get_or_past}
 use Rattle.std.specs.Option.{option_map}
-use Rattle.std.proofs.lemmas.Bool.{cases_lt}
+use Rattle.std.proofs.lemmas.Bool.{cases_lt, false_from_ne_true}
 use Rattle.fractions.specs.Rational.{ℚ, zero_ℚ, one_ℚ, whole, ◌*ℚ◌}
 use Rattle.fractions.proofs.Arithmetic.{one-*ℚ}
-use Rattle.linear_programs.specs.Linear.{Row, Linear, variable_count}
+use Rattle.linear_programs.specs.Linear.{Row, Linear, variable_count, no_row, row_at as row_of_program}
 use Rattle.exported_program.specs.Export.{ExportFits, IsDecimal, ObjectiveFits, IsObjectiveTooWide, factor_of_row, factor_of_objective}
 use Rattle.exported_program.specs.Factor.{least_factor}
 use Rattle.exported_program.specs.Program.{exported_rows, has_side, program, program_of, scaled_row, tie as tie_row, tied_program, z_form, z_variable}
-use Rattle.exported_program.specs.Return.{is_exported, no_file_row, row_at as row_of_program}
+use Rattle.exported_program.specs.Return.{is_exported}
 use Rattle.nl_model.specs.declared.interval.Interval.{Interval}
 use Rattle.nl_model.specs.declared.kind.Kind.{Kind}
 use Rattle.linear_fold.specs.Coefs.{AreAscending}
 use Rattle.linear_fold.specs.Forms.{form_line, form_terms}
 use Rattle.linear_fold.specs.Programs.{LinearValue, IsLinear, linear_value, variables_from}
-use Rattle.linear_fold.proofs.FracLemmas.{not_true}
 use Rattle.file_meaning.specs.LinearFile.{coefficient_of}
 use Rattle.row_scaling.specs.declared.row.FactoredRow.{FactoredRow}
 use Rattle.row_scaling.specs.declared.row.ScaledObjective.{ScaledObjective}
@@ -23,7 +23,6 @@ use Rattle.row_scaling.specs.Exported.{exported_as, exported_from, form_of, scal
 use Rattle.row_scaling.specs.Factored.{AreScaledRows, IsObjectiveTimes, IsScaledAt, IsTiedOrPlain, IsTiedTo, IsTooWide, body_term_count, numbers_of}
 use Rattle.row_scaling.specs.Scaled.{ScaledValue, IsRowOver, IsScaled, IsTie, row_term_count}
 use Rattle.row_scaling.specs.Scaling.{HasLeastFactors, HasNoScaleFault, IsExportOf, IsScaledOf}
-use Rattle.row_scaling.proofs.ColumnLemmas.{same_default}
 use Rattle.row_scaling.proofs.FactoredLemmas.{multiplier_some}
 use Rattle.row_scaling.proofs.FitLemmas.{kept_coefficient}
 use Rattle.row_scaling.proofs.LawLemmas.{plain_as, tied_as_scaled}
@@ -32,24 +31,19 @@ use Rattle.row_scaling.proofs.ObjectiveLemmas.{decimal_back, decimal_there, fact
 use Rattle.row_scaling.proofs.TermLemmas.{times_below, times_coefficient, times_length, times_sparse}
 use Rattle.row_scaling.proofs.TieLemmas.{one_not_zero}
 
-beyond : {A : Type 0} (xs : List A) (i : ℕ) (d : A) → length xs ≤ i → get_or xs i d ≡ d
-beyond [] i d h = refl
-beyond (x ∷ xs) zero d h = absurd (omega (arith, h))
-beyond (x ∷ xs) (suc i) d h = beyond xs i d (omega (arith, h))
-
 -- ---- rows
 -- row k times its factor, where it is exported
 abbrev IsRowAt : (ℕ → ℕ) → ℕ → Row → Option FactoredRow → Type 0
 IsRowAt factor k r None = ¬ IsTrue (is_exported r)
 IsRowAt factor k r (Some x) = IsTrue (is_exported r) × (scaled_row_of k x.row ≡ scaled_row (factor k) r)
 
-same_from : (factor : ℕ → ℕ) (p : ℕ) (os : List (Option FactoredRow)) (rs : List Row) → length os ≡ length rs → ((i k : ℕ) → k ≡ p + i → i < length os → IsRowAt factor k (get_or rs i no_file_row) (get_or os i None)) → exported_from p os ≡ exported_rows factor p rs
+same_from : (factor : ℕ → ℕ) (p : ℕ) (os : List (Option FactoredRow)) (rs : List Row) → length os ≡ length rs → ((i k : ℕ) → k ≡ p + i → i < length os → IsRowAt factor k (get_or rs i no_row) (get_or os i None)) → exported_from p os ≡ exported_rows factor p rs
 unfolding exported_rows
 same_from factor p [] [] n h = refl
 same_from factor p [] (r ∷ rs) n h = absurd (omega (arith, n))
 same_from factor p (o ∷ os) [] n h = absurd (omega (arith, n))
 same_from factor p (None ∷ os) (r ∷ rs) n h =
-    let none : has_side r.side.lower r.side.upper ≡ false = not_true (has_side r.side.lower r.side.upper) (h 0 p (omega arith) (omega arith)) in
+    let none : has_side r.side.lower r.side.upper ≡ false = false_from_ne_true (has_side r.side.lower r.side.upper) (h 0 p (omega arith) (omega arith)) in
     same_from factor (suc p) os rs (omega (arith, n)) (λ i k e l. h (suc i) k (omega (arith, e)) (omega (arith, l)))
     ∙ ap (λ b. cond b (scaled_row (factor p) r ∷ exported_rows factor (suc p) rs) (exported_rows factor (suc p) rs)) (sym none)
 same_from factor p (Some x ∷ os) (r ∷ rs) n h =
@@ -66,7 +60,7 @@ module _ (f : Linear) (rows : List (Option FactoredRow)) (r : AreScaledRows f ro
   same_rows = same_from (factor_of_row f) 0 rows f.rows r.count (λ i k e l. row_at_of f i k (get_or rows i None) (e ∙ omega arith) (r.scaled i l))
 
   not_past : (i : ℕ) → length rows ≤ i → IsTrue (is_exported (row_of_program f i)) → ⊥
-  not_past i h t = let none : false ≡ true = sym (ap is_exported (beyond f.rows i no_file_row (omega (arith, h, r.count)))) ∙ t in cc
+  not_past i h t = let none : false ≡ true = sym (ap is_exported (get_or_past f.rows i no_row (omega (arith, h, r.count)))) ∙ t in cc
 
   all_fit : (i : ℕ) → ExportFits f i
   all_fit i = ⊎_elim (λ (h : i < length rows). scaled_fits f i (get_or rows i None) (r.scaled i h)) (λ (h : length rows ≤ i). λ t. absurd (not_past i h t)) (cases_lt i (length rows))
@@ -83,7 +77,7 @@ module _ (f : Linear) (rows : List (Option FactoredRow)) (r : AreScaledRows f ro
   factors_there i t = ⊎_elim (λ (h : i < length rows). factor_there i (get_or rows i None) (r.scaled i h) t) (λ (h : length rows ≤ i). absurd (not_past i h t)) (cases_lt i (length rows))
 
   no_factors : (i : ℕ) → (IsTrue (is_exported (row_of_program f i)) → ⊥) → option_map (λ x. x.factor) (get_or rows i None) ≡ None
-  no_factors i t = ⊎_elim (λ (h : i < length rows). no_factor i (get_or rows i None) (r.scaled i h) t) (λ (h : length rows ≤ i). ap (option_map (λ x. x.factor)) (beyond rows i None h)) (cases_lt i (length rows))
+  no_factors i t = ⊎_elim (λ (h : i < length rows). no_factor i (get_or rows i None) (r.scaled i h) t) (λ (h : length rows ≤ i). ap (option_map (λ x. x.factor)) (get_or_past rows i None h)) (cases_lt i (length rows))
 
 -- ---- the objective
 abbrev pub value_of : LinearValue → List (Option FactoredRow) → ScaledObjective → Option Tie → ScaledValue
@@ -133,7 +127,7 @@ module _ (l : LinearValue) (is : IsLinear l) (up : AreAscending 0 (form_terms l.
         let bound = is.few_coefficients in
         let count = r.count ∙ row_count l is in
         record {
-          rows = λ k d g. subst (λ x. IfSome x (λ y. IsRowOver (length l.bounds) y.row)) (same_default rows k None d g) (over_at k (get_or rows k None) (r.scaled k g));
+          rows = λ k d g. subst (λ x. IfSome x (λ y. IsRowOver (length l.bounds) y.row)) (get_or_default rows k None d g) (over_at k (get_or rows k None) (r.scaled k g));
           sparse = times_sparse m.q m.some 0 (form_terms l.objective) o.terms m.times.terms up;
           below = times_below m.q (length l.bounds) (form_terms l.objective) o.terms m.times.terms is.objective.below;
           tie = tie_of l o t h;

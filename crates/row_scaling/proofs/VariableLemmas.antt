@@ -1,5 +1,5 @@
 use Rattle.std.proofs.Common.{◌≡◌, ℕ, zero, suc, ◌+◌, ◌<◌, ◌∙◌, sym, ap, ap₂, refl, arith, subst, List, [], ◌∷◌, ◌++◌, length, drop, get_or, append_assoc, append-nil, All, map, Some, None, ⊎_elim, add-one}
-use Rattle.std.proofs.lemmas.List.{map-append, drop_all}
+use Rattle.std.proofs.lemmas.List.{map-append, drop_all, get_or_default}
 use Rattle.fractions.specs.Rational.{ℚ, zero_ℚ, ◌-ℚ◌}
 use Rattle.linear_programs.specs.Linear.{Variable}
 use Rattle.mps_model.specs.Mps.{Bound, Mps, bound_with}
@@ -12,7 +12,7 @@ use Rattle.nl_model.specs.declared.interval.Interval.{Interval}
 use Rattle.nl_model.specs.declared.kind.Kind.{Kind}
 use Rattle.nl_model.specs.declared.kind.Kind.TheVariants.{Continuous}
 use Rattle.linear_fold.specs.Programs.{variables_from}
-use Rattle.file_meaning.specs.LinearFile.{variable_name}
+use Rattle.linear_programs.specs.Names.{variable_name}
 use Rattle.file_meaning.specs.Meaning.{is_whole_kind, interval_of}
 use Rattle.row_scaling.specs.declared.row.Tie.{Tie}
 use Rattle.row_scaling.specs.Rows.{side_value}
@@ -20,7 +20,6 @@ use Rattle.row_scaling.specs.Scaled.{ScaledValue}
 use Rattle.row_scaling.specs.Exported.{tied_variables, program_variables}
 use Rattle.row_scaling.specs.Filling.{AreBoundsAdded}
 use Rattle.row_scaling.proofs.RowLemmas.{rest_of}
-use Rattle.row_scaling.proofs.ColumnLemmas.{same_default}
 use Rattle.row_scaling.proofs.WholeLemmas.{no_difference}
 
 -- ---- the variables from variable j on
@@ -36,7 +35,7 @@ left_more s j b k h l first second =
     ∙ ap (λ n. variable_of j b k ∷ (variables_from n (drop (j + 1) s.bounds) (drop (j + 1) s.kinds) ++ tied_variables s.tie)) (sym (add-one j))
 
 pub there : {A : Type 0} (xs : List A) (j : ℕ) (d : A) → j < length xs → get_or xs j d ≡ get_or xs j (get_or xs j d)
-there xs j d h = same_default xs j d (get_or xs j d) h
+there xs j d h = get_or_default xs j d (get_or xs j d) h
 
 pub left_end : (s : ScaledValue) (j : ℕ) → j ≡ length s.bounds → left_variables s j ≡ tied_variables s.tie
 left_end s j e = ap (λ bs. variables_from j bs (drop j s.kinds) ++ tied_variables s.tie) (drop_all j s.bounds (omega (arith, e)))

@@ -5,7 +5,8 @@ use Rattle.linear_programs.specs.Linear.{Form, Variable}
 use Rattle.mps_model.specs.Mps.{Mps}
 use Rattle.exported_program.specs.Program.{ScaledRow, program_of, then_at, z_form, z_variable, zdef_name}
 use Rattle.exact_numbers.specs.Values.{dec_value}
-use Rattle.file_meaning.specs.LinearFile.{coefficient_of, row_name}
+use Rattle.file_meaning.specs.LinearFile.{coefficient_of}
+use Rattle.linear_programs.specs.Names.{row_name}
 use Rattle.file_meaning.specs.Meaning.{interval_of}
 use Rattle.linear_fold.specs.Programs.{variables_from}
 use Rattle.row_scaling.specs.declared.row.FactoredRow.{FactoredRow}

@@ -1,10 +1,10 @@
 -- What scaling the rows of a folded file answers.
 use Rattle.std.specs.Prelude.{◌≡◌, ◌⊎◌, ℕ, ℤ, pos, IsTrue, Option, Some, None}
 use Rattle.std.specs.Option.{option_map}
-use Rattle.linear_programs.specs.Linear.{Linear}
+use Rattle.linear_programs.specs.Linear.{Linear, row_at as row_of_program}
 use Rattle.exported_program.specs.Export.{ExportFits, IsDecimal, ObjectiveFits, IsRowTooWide, IsObjectiveTooWide, factor_of_row, factor_of_objective}
 use Rattle.exported_program.specs.Program.{program, tied_program}
-use Rattle.exported_program.specs.Return.{is_exported, row_at as row_of_program}
+use Rattle.exported_program.specs.Return.{is_exported}
 use Rattle.mps_model.specs.Mps.{Mps}
 use Rattle.fractions.specs.Rational.{ℚ}
 use Rattle.row_scaling.specs.declared.scale_fault.ScaleFault.{ScaleFault}

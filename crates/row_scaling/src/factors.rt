@@ -2,7 +2,8 @@
 ghost use Rattle.std.specs.Prelude.{◌≡◌, ◌≤◌, ◌^◌, ◌++◌, ◌∷◌, List, MatchOption, pos, unsigned_abs, ◌<ℤ◌, false};
 ghost use Rattle.fractions.specs.Rational.{ℚ};
 ghost use Rattle.exact_numbers.specs.Values.{frac_value};
-ghost use Rattle.exported_program.specs.Factor.{cofactor_of, lcm_of, least_factor};
+ghost use Rattle.exported_program.specs.Factor.{cofactor_of, least_factor};
+ghost use Rattle.fractions.specs.Fits.{least_multiple};
 ghost use Rattle.linear_fold.specs.Coefs.{AreAscending};
 ghost use Rattle.linear_fold.specs.Forms.{form_line, form_terms, is_open};
 ghost use Rattle.row_scaling.specs.Fitting.{coefficients_in, frac_side, listed};
@@ -14,7 +15,7 @@ use linear_fold::Form;
 // The least multiple of a factor that makes one number more a finite decimal; none where it is beyond the greatest size.
 fn with_number(factor: i128, number: Frac) -> Option<i128>
     requires { pos 0 <ℤ factor }
-    ensures { MatchOption result (2 ^ 127 ≤ lcm_of (unsigned_abs factor) (cofactor_of (frac_value number).bottom)) (λ k. k ≡ pos (lcm_of (unsigned_abs factor) (cofactor_of (frac_value number).bottom))) }
+    ensures { MatchOption result (2 ^ 127 ≤ least_multiple (unsigned_abs factor) (cofactor_of (frac_value number).bottom)) (λ k. k ≡ pos (least_multiple (unsigned_abs factor) (cofactor_of (frac_value number).bottom))) }
 {
     let cofactor = number.cofactor();
     if cofactor == 1 {

@@ -3,7 +3,7 @@ ghost use Rattle.std.specs.Prelude.{◌≡◌, ℕ, ◌+◌, ◌<◌, ◌≤◌,
 ghost use Rattle.mps_model.specs.Valid.{IsOtherRow};
 ghost use Rattle.mps_model.specs.declared.kinds.RowKind.TheVariants.{N};
 ghost use Rattle.exported_program.specs.Program.{kind_of, mps_row, obj_name, zdef_name};
-ghost use Rattle.file_meaning.specs.LinearFile.{row_name};
+ghost use Rattle.linear_programs.specs.Names.{row_name};
 ghost use Rattle.row_scaling.specs.Exported.{exported_from, program_rows, tied_rows};
 ghost use Rattle.row_scaling.specs.Rows.{side_value};
 

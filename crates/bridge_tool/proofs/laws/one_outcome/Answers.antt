@@ -1,8 +1,8 @@
-use Rattle.bridge_tool.proofs.Outcomes.{some_outcome_of_words, one_outcome_of_words}
+use Rattle.bridge_tool.proofs.Outcomes.{some_outcome, one_outcome}
 use Rattle.bridge_tool.proofs.laws.one_outcome.Goals as goal
 
 pub returns-clause-some : goal.returns-clause-some
-returns-clause-some c = some_outcome_of_words
+returns-clause-some c = some_outcome
 
 pub returns-clause-one : goal.returns-clause-one
-returns-clause-one c = one_outcome_of_words
+returns-clause-one c = one_outcome

@@ -3,7 +3,7 @@ use Rattle.exact_numbers.specs.Values.{frac_value}
 use Rattle.fractions.specs.Fits.{fits}
 use Rattle.fractions.specs.Functions.{power_of}
 use Rattle.linear_fold.proofs.ConstantLemmas.{power_first, power_next, power_wide}
-use Rattle.linear_fold.proofs.FracLemmas.{frac_fits}
+use Rattle.exact_numbers.proofs.Bridge.{frac_fits_lem}
 use Rattle.linear_fold.proofs.constants.power_of.Goals as goal
 
 pub loop-init : goal.loop-init
@@ -19,4 +19,4 @@ pub returns : goal.returns
 returns c =
     let done : c.loop.counter ≡ c.args.n = (let h = c.loop-test.false in let k = c.loop.auto.counter-end in omega arith) in
     let is : frac_value c.loop.power ≡ power_of (frac_value c.args.x) c.args.n = c.loop.invariant.power_is ∙ ap (power_of (frac_value c.args.x)) done in
-    (ap fits (sym is) ∙ frac_fits c.loop.power, is)
+    (ap fits (sym is) ∙ frac_fits_lem c.loop.power, is)

@@ -1,5 +1,5 @@
 use Rattle.std.proofs.Common.{◌∙◌, ap}
-use Rattle.linear_fold.specs.Programs.{linear_value}
+use Rattle.linear_fold.specs.Programs.{LinearValue, linear_value}
 use Rattle.linear_fold.proofs.ProgramLemmas.{is_linear, is_program}
 use Rattle.linear_fold.proofs.program.assemble.Goals as goal
 
@@ -11,3 +11,12 @@ pub returns-clause-linear : goal.returns-clause-linear
 returns-clause-linear c =
     ap linear_value c.of_parts.ensures
     ∙ is_program c.args.file.now c.requires.file c.args.objective c.args.bodies.items c.args.form c.requires.forms c.is_maximised-maximise.result c.in_ok-sides.sides.items c.in_ok-bounds.bounds.items c.in_ok-kinds.kinds.items c.is_maximised-maximise.ensures c.in_ok-sides.ensures c.in_ok-bounds.ensures c.in_ok-kinds.ensures
+
+pub returns-clause-sides : goal.returns-clause-sides
+returns-clause-sides c = ap (λ (l : LinearValue). l.sides) c.of_parts.ensures ∙ c.in_ok-sides.ensures
+
+pub returns-clause-bounds : goal.returns-clause-bounds
+returns-clause-bounds c = ap (λ (l : LinearValue). l.bounds) c.of_parts.ensures ∙ c.in_ok-bounds.ensures
+
+pub returns-clause-kinds : goal.returns-clause-kinds
+returns-clause-kinds c = ap (λ (l : LinearValue). l.kinds) c.of_parts.ensures ∙ c.in_ok-kinds.ensures

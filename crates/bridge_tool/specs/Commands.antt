@@ -1,0 +1,38 @@
+-- What each command promises, and what words promise.
+use Rattle.std.specs.Prelude.{◌≡◌, ℕ, List}
+use Rattle.std.specs.declared.option.Option.{Option}
+use Rattle.std.specs.declared.option.Option.TheVariants.{None, Some}
+use Rattle.text_base.specs.Desk.{Texts}
+use Rattle.bridge_tool.specs.Command.{Command, Export, Mps, Nl, command_of}
+use Rattle.bridge_tool.specs.Export.{export_promise}
+use Rattle.bridge_tool.specs.Mps.{mps_promise}
+use Rattle.bridge_tool.specs.Nl.{nl_promise}
+use Rattle.bridge_tool.specs.Outcome.{Outcome, BadWords}
+use Rattle.bridge_tool.specs.Promise.{Promise}
+
+-- at a desk with these texts
+abbrev pub promise_of : Option Texts → Command → Promise
+promise_of texts (Export file objective) = export_promise texts file objective
+promise_of texts (Nl file) = nl_promise texts file
+promise_of texts (Mps file) = mps_promise texts file
+
+-- the words are in no row of the command table
+abbrev pub bad_words : Promise
+bad_words = record {
+  comes = λ outcome. outcome ≡ BadWords;
+  last = λ text. ⊥;
+  counts = λ old new. new ≡ old;
+  means = ⊥;
+}
+
+abbrev pub promise_by : Option Texts → Option Command → Promise
+promise_by texts None = bad_words
+promise_by texts (Some command) = promise_of texts command
+
+-- what words promise at a desk with these texts
+abbrev pub promise : Option Texts → List (List ℕ) → Promise
+promise texts words = promise_by texts (command_of words)
+
+-- what these words come to at a desk with these texts
+abbrev pub ComesTo : Option Texts → List (List ℕ) → Outcome → Type 0
+ComesTo texts words outcome = (promise texts words).comes outcome

@@ -1,0 +1,77 @@
+// The command mps: from an MPS text to the one written form of what it says, or to the line to tell.
+ghost use Rattle.std.specs.Prelude.{◌≡◌, ◌≢◌, List, ℕ, IfOk, OnOk};
+ghost use Rattle.text_base.specs.Desk.{IsUnknown, OnlyInput};
+ghost use Rattle.mps_reader.specs.Reader.{IsFed};
+ghost use Rattle.bridge_tool.specs.Answer.{IsWorked, status_of};
+ghost use Rattle.bridge_tool.specs.Mps.{IsMpsMeant, IsMpsRefused, IsRewritten, mps_promise};
+ghost use Rattle.bridge_tool.specs.OneFile.{Judges};
+ghost use Rattle.bridge_tool.specs.Transfer.{HasRead, HasReadCause};
+
+use crate::answer::Answer;
+use crate::mps_told::mps_line;
+use crate::one_file::{end, missed, read};
+use crate::transfer::{Feed, LIMIT, Unread};
+use mps_reader::MpsReader;
+use mps_writer::write_mps;
+use std::alloc::Global;
+use text_base::{Desk, Stop};
+
+impl Feed for MpsReader {
+    ghost use Rattle.mps_reader.specs.Reader.{IsFed};
+
+    ghost fed = { IsFed };
+
+    fn take(&mut self, piece: &[u8]) {
+        // The reader keeps an error, and answers it at the end.
+        let _ = self.feed(piece);
+    }
+}
+
+/// Feeds a reader the named text.
+pub(crate) fn read_mps<D: Desk>(
+    alloc: Global,
+    desk: &mut D,
+    file: &str,
+) -> Result<MpsReader, Unread>
+    ensures text { IfOk result (λ reader. HasRead (D.meaning desk.old).texts file.now LIMIT (D.meaning desk.new).left (IsFed reader)) }
+    ensures cause { HasReadCause (IsUnknown (D.meaning desk.old).texts file.now)
+        (D.meaning desk.old).input_faults (D.meaning desk.new).input_faults result }
+    ensures rest { OnlyInput (D.meaning desk.old) (D.meaning desk.new) }
+{
+    let reader = MpsReader::new(alloc)?;
+    read(alloc, desk, file, reader)
+}
+
+// The bytes to write for the text that a reader was fed, or the line to tell.
+fn judge(alloc: Global, reader: MpsReader) -> Result<Vec<u8>, Stop<Vec<u8>>>
+    ensures judges { (text : List ℕ) → IsFed reader text → Judges IsRewritten IsMpsRefused text result }
+    ensures means { OnOk result ((text : List ℕ) → IsFed reader text → IsMpsMeant text) }
+{
+    match reader.finish() {
+        Ok(mps) => {
+            let _ = mps.rows();
+            let out = write_mps(alloc, &mps)?;
+            Ok(out)
+        }
+        Err(Stop::Memory) => Err(Stop::Memory),
+        Err(Stop::Fault(fault)) => {
+            let line = mps_line(alloc, 1, fault)?;
+            Err(Stop::Fault(line))
+        }
+    }
+}
+
+/// Writes an MPS file again: reads its text, judges it, and writes what it comes to. Tells nothing.
+pub(crate) fn rewrite<D: Desk>(alloc: Global, file: &str, desk: &mut D) -> Answer
+    ensures worked { IsWorked (mps_promise (D.meaning desk.old).texts file.now)
+        (D.meaning desk.old) (D.meaning desk.new) result }
+    ensures known { status_of result ≢ 3 }
+{
+    match read_mps(alloc, desk, file) {
+        Ok(reader) => {
+            let judged = judge(alloc, reader);
+            end(desk, judged)
+        }
+        Err(unread) => missed(unread),
+    }
+}

@@ -1,0 +1,58 @@
+// What all commands share that read files: feeding a reader, and ending with what was judged.
+ghost use Rattle.std.specs.Prelude.{[], IfOk};
+ghost use Rattle.text_base.specs.Desk.{IsUnknown, OnlyInput};
+ghost use Rattle.bridge_tool.specs.Answer.{Ends, EndsWriting, Missed};
+ghost use Rattle.bridge_tool.specs.Transfer.{HasRead, HasReadCause};
+
+use crate::answer::Answer;
+use crate::transfer::{Feed, LIMIT, Unread, feed_text, write_all};
+use std::alloc::Global;
+use text_base::{Desk, Stop};
+
+/// Feeds a new reader the named text.
+pub(crate) fn read<D: Desk, R: Feed + Drop>(
+    alloc: Global,
+    desk: &mut D,
+    file: &str,
+    mut reader: R,
+) -> Result<R, Unread>
+    requires { R.fed reader [] }
+    ensures text { IfOk result (λ reader. HasRead (D.meaning desk.old).texts file.now LIMIT (D.meaning desk.new).left (R.fed reader)) }
+    ensures cause { HasReadCause (IsUnknown (D.meaning desk.old).texts file.now)
+        (D.meaning desk.old).input_faults (D.meaning desk.new).input_faults result }
+    ensures rest { OnlyInput (D.meaning desk.old) (D.meaning desk.new) }
+{
+    feed_text(alloc, desk, file, &mut reader)?;
+    Ok(reader)
+}
+
+/// The answer where a text was not read.
+pub(crate) fn missed(unread: Unread) -> Answer
+    ensures { Missed unread result }
+{
+    match unread {
+        Unread::Fault => Answer::InputFault,
+        Unread::Memory => Answer::NoMemory,
+    }
+}
+
+/// Writes the bytes, for this verdict.
+pub(crate) fn write_out<D: Desk>(desk: &mut D, holds: bool, bytes: &[u8]) -> Answer
+    ensures { EndsWriting holds bytes.now (D.meaning desk.old) (D.meaning desk.new) result }
+{
+    match write_all(desk, bytes) {
+        Ok(()) => Answer::Done(holds),
+        Err(_) => Answer::OutputFault,
+    }
+}
+
+/// Ends with the bytes to write, or with the line to tell.
+pub(crate) fn end<D: Desk>(desk: &mut D, judged: Result<Vec<u8>, Stop<Vec<u8>>>) -> Answer
+    ensures { Ends judged (D.meaning desk.old) (D.meaning desk.new) result }
+{
+    match judged {
+        Ok(out) => write_out(desk, true, &out),
+        Err(Stop::Fault(line)) => Answer::Refused(line),
+        Err(Stop::Memory) => Answer::NoMemory,
+    }
+}

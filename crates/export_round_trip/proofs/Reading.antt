@@ -1,0 +1,107 @@
+-- What is exported is read as what was exported.
+use Rattle.std.proofs.Common.{◌≡◌, ◌∙◌, inl, inr, ◌⊎◌, ℕ, ◌≤◌, Bool, true, false, List, [], ◌∷◌, ◌++◌, length, map, refl, sym, ap, subst, arith}
+use Rattle.std.specs.Prelude.{All}
+use Rattle.std.proofs.lemmas.List.Elements.{All-nil, All-cons, All-head, All-tail, All-append}
+use Rattle.fractions.specs.Rational.{ℚ}
+use Rattle.linear_programs.specs.Linear.{Linear, variable_count}
+use Rattle.exact_numbers.specs.declared.dec.Dec.{Dec}
+use Rattle.exact_numbers.specs.Values.{dec_value, value_text, FitsDec, fits_dec}
+use Rattle.exact_numbers.proofs.Spelling.{fits_dec_in, fits_dec_out, value_text-decimal}
+use Rattle.exported_program.specs.Export.{IsDecimal, IsProgramOf, factor_of_row, factor_of_objective}
+use Rattle.exported_program.specs.Factor.{objective_numbers}
+use Rattle.exported_program.specs.Program.{ScaledRow, program, tied_program, exported_rows, scaled_row, tie, z_form, z_variable}
+use Rattle.file_meaning.specs.LinearFile.{linear_of}
+use Rattle.mps_model.specs.Mps.{MpsRow, Column, Mps, column_with, with_values}
+use Rattle.mps_model.specs.Text.{mps_text_by}
+use Rattle.mps_model.specs.Valid.{IsMps}
+use Rattle.mps_model.proofs.Texts.{text_by_values}
+use Rattle.mps_reader.specs.Reader.{IsMpsText}
+use Rattle.written_texts.specs.Lines.{text_of}
+use Rattle.mps_reader.specs.Written.{HasShortNames, mps_text}
+use Rattle.mps_reader.proofs.RoomLemmas.{room}
+use Rattle.mps_reader.proofs.RoundTrip.{written_again}
+use Rattle.nl_model.specs.File.{File}
+use Rattle.nl_model.specs.Rules.{IsFile}
+use Rattle.nl_model.proofs.Headers.{counts_of_header}
+use Rattle.export_round_trip.specs.ReadAs.{IsReadAs}
+use Rattle.export_round_trip.proofs.Names.{ShortRow, ShortVariable, ShortScaled, ShortMpsRow, ShortColumn, rows_of_file, variables_of_file, rows_exported, rows_of_program, columns_of_program}
+
+-- ---- whether the objective is decimal
+
+fits : (x : ℚ) → FitsDec x ⊎ (FitsDec x → ⊥)
+fits x = by (fits_dec x) refl
+  where
+    by : (b : Bool) → fits_dec x ≡ b → FitsDec x ⊎ (FitsDec x → ⊥)
+    by true e = inl (fits_dec_out x e)
+    by false e = inr (λ h. absurd (let yes = fits_dec_in x h in cc))
+
+all_fit : (xs : List ℚ) → All FitsDec xs ⊎ (All FitsDec xs → ⊥)
+all_fit [] = inl (All-nil FitsDec)
+all_fit (x ∷ xs) = by (fits x) (all_fit xs)
+  where
+    by : (FitsDec x ⊎ (FitsDec x → ⊥)) → (All FitsDec xs ⊎ (All FitsDec xs → ⊥)) → All FitsDec (x ∷ xs) ⊎ (All FitsDec (x ∷ xs) → ⊥)
+    by (inl h) (inl rest) = inl (All-cons FitsDec x xs h rest)
+    by (inl h) (inr rest) = inr (λ all. rest (All-tail FitsDec x xs all))
+    by (inr h) rest = inr (λ all. h (All-head FitsDec x xs all))
+
+-- ---- names
+
+-- a program with short names
+record IsShort (m : Mps ℚ) : Type 0 where
+  rows : All ShortMpsRow m.rows
+  columns : All (ShortColumn {ℚ}) m.columns
+
+plain_short : (f : Linear) (factor : ℕ → ℕ) → All ShortRow f.rows → All ShortVariable f.variables → IsShort (program f factor)
+plain_short f factor rows vs =
+    let exported = exported_rows factor 0 f.rows in
+    record {
+      rows = rows_of_program exported f.objective f.variables f.maximise (rows_exported factor 0 f.rows rows);
+      columns = columns_of_program exported f.objective f.variables f.maximise vs;
+    }
+
+tied_short : (f : Linear) (factor : ℕ → ℕ) (g : ℕ) → All ShortRow f.rows → All ShortVariable f.variables → IsShort (tied_program f factor g)
+tied_short f factor g rows vs =
+    let n = variable_count f in
+    let exported = exported_rows factor 0 f.rows in
+    let last : List ScaledRow = scaled_row g (tie n f.objective) ∷ [] in
+    let last_row : All ShortScaled last = All-cons ShortScaled (scaled_row g (tie n f.objective)) [] (omega arith) (All-nil ShortScaled) in
+    let last_column : All ShortVariable (z_variable ∷ []) = All-cons ShortVariable z_variable [] (omega arith) (All-nil ShortVariable) in
+    record {
+      rows = rows_of_program (exported ++ last) (z_form n) (f.variables ++ z_variable ∷ []) f.maximise (All-append ShortScaled exported last (rows_exported factor 0 f.rows rows) last_row);
+      columns = columns_of_program (exported ++ last) (z_form n) (f.variables ++ z_variable ∷ []) f.maximise (All-append ShortVariable f.variables (z_variable ∷ []) vs last_column);
+    }
+
+columns_named : (cs : List (Column Dec)) → All (ShortColumn {ℚ}) (map (column_with dec_value) cs) → All (ShortColumn {Dec}) cs
+columns_named [] h = All-nil (ShortColumn {Dec})
+columns_named (c ∷ cs) h =
+    All-cons (ShortColumn {Dec}) c cs (All-head (ShortColumn {ℚ}) (column_with dec_value c) (map (column_with dec_value) cs) h)
+    (columns_named cs (All-tail (ShortColumn {ℚ}) (column_with dec_value c) (map (column_with dec_value) cs) h))
+
+of_values : (m : Mps Dec) → IsShort (with_values dec_value m) → HasShortNames m
+unfolding with_values
+of_values m h = record { rows = h.rows; columns = columns_named m.columns h.columns }
+
+by_objective : (l : Linear) (m : Mps Dec) → All ShortRow l.rows → All ShortVariable l.variables → IsProgramOf l m → (IsDecimal l ⊎ (IsDecimal l → ⊥)) → HasShortNames m
+by_objective l m rows vs is (inl d) = of_values m (subst IsShort (sym (is.plain d)) (plain_short l (factor_of_row l) rows vs))
+by_objective l m rows vs is (inr n) = of_values m (subst IsShort (sym (is.tied n)) (tied_short l (factor_of_row l) (factor_of_objective l) rows vs))
+
+pub short_names : (f : File) (k : ℕ) (m : Mps Dec) → IsFile f → IsProgramOf (linear_of f k) m → HasShortNames m
+short_names f k m file is =
+    let l = linear_of f k in
+    let counts = counts_of_header f.options f.counts file.ruled in
+    by_objective l m (rows_of_file f k counts.constraints) (variables_of_file f k counts.variables) is (all_fit (objective_numbers (variable_count l) l.objective))
+
+-- ---- reading
+
+same_texts : (λ d. value_text (dec_value d)) ≡ text_of
+same_texts = λ i. λ d. value_text-decimal d.m d.e d.spelled i
+
+text_of_values : (m : Mps Dec) → mps_text m ≡ mps_text_by value_text (with_values dec_value m)
+text_of_values m = ap (λ t. mps_text_by t m) (sym same_texts) ∙ sym (text_by_values value_text dec_value m)
+
+pub read_back : (f : File) (k : ℕ) (m : Mps Dec) → IsFile f → IsProgramOf (linear_of f k) m → IsMps dec_value m → IsReadAs (mps_text_by value_text (with_values dec_value m)) (with_values dec_value m)
+read_back f k m file is valid = record {
+  program = m;
+  says = subst (λ (t : List ℕ). IsMpsText t m) (text_of_values m) (written_again m (record { valid = valid; room = room m valid (short_names f k m file is) }));
+  values = refl;
+}

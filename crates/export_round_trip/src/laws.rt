@@ -1,0 +1,23 @@
+// Each law is proved by a function with an empty body.
+ghost use Rattle.std.specs.Prelude.{ℕ};
+ghost use Rattle.exact_numbers.specs.declared.dec.Dec.{Dec};
+ghost use Rattle.exact_numbers.specs.Values.{dec_value, value_text};
+ghost use Rattle.exported_program.specs.Export.{IsProgramOf};
+ghost use Rattle.file_meaning.specs.LinearFile.{linear_of};
+ghost use Rattle.mps_model.specs.Mps.{Mps, with_values};
+ghost use Rattle.mps_model.specs.Text.{mps_text_by};
+ghost use Rattle.mps_model.specs.Valid.{IsMps};
+ghost use Rattle.mps_reader.specs.Written.{HasShortNames};
+ghost use Rattle.nl_model.specs.File.{File};
+ghost use Rattle.nl_model.specs.Rules.{IsFile};
+ghost use Rattle.export_round_trip.specs.ReadAs.{IsReadAs};
+
+/// The rows and columns of an exported program have names of at most eight bytes.
+pub fn exported_names_are_short()
+    ensures { (f : File) (k : ℕ) (m : Mps Dec) → IsFile f → IsProgramOf (linear_of f k) m → HasShortNames m }
+{}
+
+/// The written text of an exported program is read as the program.
+pub fn exported_is_read()
+    ensures { (f : File) (k : ℕ) (m : Mps Dec) → IsFile f → IsProgramOf (linear_of f k) m → IsMps dec_value m → IsReadAs (mps_text_by value_text (with_values dec_value m)) (with_values dec_value m) }
+{}

@@ -1,0 +1,4 @@
+//! What a file is exported as is read as what was exported.
+#![tactic(auto)]
+
+pub mod laws;

@@ -1,0 +1,24 @@
+//! Reading MPS texts, one line after the other: the program, or the first fault.
+#![tactic(auto)]
+
+mod bounds;
+mod columns;
+mod fault;
+mod grammar;
+mod keyword;
+pub mod laws;
+mod names;
+mod pairs;
+mod reader;
+mod rows;
+mod sections;
+mod side_lines;
+mod sides;
+mod state;
+mod words;
+
+pub use fault::{MpsFault, MpsReason};
+pub use grammar::MpsGrammar;
+pub use keyword::Keyword;
+pub use reader::MpsReader;
+pub use sides::Sides;
