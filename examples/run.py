@@ -281,6 +281,25 @@ def nl_cases():
     yield bad_words("nl and a number", "nl", "FILE", "0")
 
 
+def output(program, folder, content, *words):
+    """What the program writes on this file, or None where it refuses."""
+    with open(os.path.join(folder, "AGAIN"), "wb") as stream:
+        stream.write(content)
+    done = subprocess.run([program, *words], cwd=folder, capture_output=True, timeout=600)
+    return done.stdout if done.returncode == 0 else None
+
+
+def is_written_again(program, folder, content, exported, words):
+    """What was exported is written again unchanged by `mps`, and the written .nl text by `nl`, which is exported as the same."""
+    file = output(program, folder, content, "nl", "AGAIN")
+    return (
+        output(program, folder, exported, "mps", "AGAIN") == exported
+        and file is not None
+        and output(program, folder, file, "nl", "AGAIN") == file
+        and output(program, folder, file, "export", "AGAIN", *words[2:]) == exported
+    )
+
+
 def run(program, folder, case):
     name, content, words, status, out, told = case
     path = os.path.join(folder, "FILE")
@@ -290,7 +309,10 @@ def run(program, folder, case):
     done = subprocess.run([program, *words], cwd=folder, capture_output=True, timeout=600)
     got = (done.returncode, done.stdout.decode(), done.stderr.decode())
     if got == (status, out, told):
-        return True
+        if status or words[0] != "export" or is_written_again(program, folder, content, done.stdout, words):
+            return True
+        print(f"{name}: is not written again as the same")
+        return False
     print(f"{name}: wanted {status} {told!r}, got {got[0]} {got[2][:200]!r}")
     if got[1] != out:
         print(f"  wanted {out[:400]!r}\n  got    {got[1][:400]!r}")
