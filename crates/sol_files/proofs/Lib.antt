@@ -1,0 +1,16 @@
+pub mod LastLemmas
+pub mod ReadyLemmas
+pub mod MessageLemmas
+pub mod RowLemmas
+pub mod BodyLemmas
+pub mod PieceLemmas
+pub mod WriteLemmas
+pub mod MarkedLemmas
+pub mod StandingLemmas
+pub mod JudgingLemmas
+pub mod ReadingLemmas
+pub mod ShortWords
+pub mod Reached
+pub mod NumbersReached
+pub mod SuffixesReached
+pub mod RoundTrip
