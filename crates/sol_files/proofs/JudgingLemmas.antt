@@ -1,17 +1,18 @@
 -- A value is judged by marks as by the values that came.
-use Rattle.std.proofs.Common.{◌≡◌, ℕ, ◌<◌, Bool, true, false, not, List, [], ◌∷◌, get_or, Option, Some, None, refl}
-use Rattle.std.specs.Prelude.{unwrap_or, nat_le, ◌^◌, ◌==◌, ◌||◌, ◌&&◌, is_none, length}
+use Rattle.std.proofs.Common.{◌≡◌, ◌∙◌, ℕ, ◌<◌, Bool, true, false, not, List, [], ◌∷◌, get_or, Option, Some, None, Result, Ok, Err, refl, sym}
+use Rattle.std.specs.Prelude.{IfErr, OnOk, unwrap_or, nat_le, ◌^◌, ◌==◌, ◌||◌, ◌&&◌, is_none, length}
 use Rattle.std.specs.Option.{option_map_or}
 use Rattle.std.proofs.lemmas.Bool.{ltb-true, not-false}
 use Rattle.text_base.specs.Judged.{first_reason}
 use Rattle.exact_numbers.specs.Numbers.{are_digits, dec_of, whole_of, is_whole}
 use Rattle.sol_files.specs.declared.fault.Refusal.{Refusal}
 use Rattle.sol_files.specs.declared.fault.Refusal.TheVariants.{Here}
+use Rattle.sol_files.specs.declared.fault.SolReason.{SolReason}
 use Rattle.sol_files.specs.declared.fault.SolReason.TheVariants.{BadLine, BadNumber, IndexOut, RepeatedIndex, TooLarge}
 use Rattle.sol_files.specs.Rows.{Row, number_in}
 use Rattle.text_base.specs.Words.{word_at}
 use Rattle.sol_files.specs.Standing.{Standing}
-use Rattle.sol_files.specs.Tests.{is_below, has_index, index_limit, last_kind, last_values, value_tests}
+use Rattle.sol_files.specs.Tests.{Tests, is_below, has_index, index_limit, last_kind, last_values, value_tests}
 use Rattle.nl_model.specs.SuffixKinds.{wants_whole}
 use Rattle.sol_files.specs.Judging.{marked_value_tests}
 use Rattle.sol_files.specs.Held.{AreMarked}
@@ -36,3 +37,12 @@ judged s m limit whole_only count words h e f g =
     (get_or m (number_in words 0) false) (has_index (last_values s.sol.suffixes) (number_in words 0)) (nat_le (2 ^ 22) s.value_count)
     (Here BadLine) (Here BadNumber) (Here IndexOut) (Here BadNumber) (Here RepeatedIndex) (Here TooLarge)
     (λ fine. h.each (number_in words 0) (below_by (index_limit s.sol) (whole_of (word_at words 0)) (not-false _ fine))))
+
+-- what is said of one list of tests holds of another with the same first reason
+pub judged_ok : {A : Type 0} (r : Result A SolReason) (xs ys : Tests) → first_reason xs ≡ first_reason ys → OnOk r (first_reason xs ≡ None) → OnOk r (first_reason ys ≡ None)
+judged_ok (Ok x) xs ys e h = sym e ∙ h
+judged_ok (Err stop) xs ys e h = tt
+
+pub judged_err : {A : Type 0} (r : Result A SolReason) (xs ys : Tests) → first_reason xs ≡ first_reason ys → IfErr r (λ reason. first_reason xs ≡ Some (Here reason)) → IfErr r (λ reason. first_reason ys ≡ Some (Here reason))
+judged_err (Ok x) xs ys e h = tt
+judged_err (Err reason) xs ys e h = sym e ∙ h

@@ -1,4 +1,5 @@
--- The parts of a .sol text: the message, the rows of numbers after the line `Options`, and a piece for each suffix.
+-- The parts of a .sol text: the message, the rows of numbers after the line `Options`, and a piece
+-- for each suffix.
 use Rattle.std.specs.Prelude.{ℕ, ◌+◌, ◌-◌, ◌==◌, Bool, true, false, not, ◌&&◌, nat_le, nat_lt, List, [], ◌∷◌, ◌++◌, length, Option, Some, None, slice_get, slice_index_or, if◌then◌else◌, codes}
 use Rattle.std.specs.List.{fold, before_first, after_first, list_any}
 use Rattle.std.specs.Str.{bytes_eq}
@@ -31,7 +32,9 @@ without_blank_end [] = []
 without_blank_end (line ∷ []) = if length line == 0 then [] else line ∷ []
 without_blank_end (line ∷ next ∷ lines) = line ∷ without_blank_end (next ∷ lines)
 
--- ---- The rows of numbers, by their place. Row 0 has the number of options, k, and rows 1 to k are the options. The next four have the number of constraints, of duals, of variables and of primals. Then come the duals, the primals, and what follows them.
+-- ---- The rows of numbers, by their place. Row 0 has the number of options, k, and rows 1 to k are
+-- the options. The next four have the number of constraints, of duals, of variables and of
+-- primals. Then come the duals, the primals, and what follows them.
 
 -- the number that row i begins with
 abbrev pub row_number : List Row → ℕ → ℕ
@@ -52,7 +55,8 @@ variable_count rows = row_number rows (option_count rows + 3)
 abbrev pub primal_count : List Row → ℕ
 primal_count rows = row_number rows (option_count rows + 4)
 
--- what row i is, after k options, with d duals and p primals; a number says how many of its kind are left
+-- what row i is, after k options, with d duals and p primals; a number says how many of its kind
+-- are left
 abbrev pub row_at : ℕ → ℕ → ℕ → ℕ → Awaited
 row_at k d p i =
     if i == 0 then OptionCount else
@@ -67,7 +71,8 @@ row_at k d p i =
 abbrev pub rows_await : List Row → Awaited
 rows_await rows = row_at (option_count rows) (dual_count rows) (primal_count rows) (length rows)
 
--- ---- A suffix: its first line, and the lines after it. The first of them is its name, then come the lines of its table, and then its values.
+-- ---- A suffix: its first line, and the lines after it. The first of them is its name, then come the
+-- lines of its table, and then its values.
 
 pub record Piece : Type 0 where
   pub head : Row
@@ -75,11 +80,13 @@ pub record Piece : Type 0 where
 
 -- so many lines of a table and so many values are left
 abbrev pub rest_awaits : ℕ → ℕ → Awaited
-rest_awaits tables values = if nat_lt 0 tables then Table tables values else if nat_lt 0 values then Values values else Tail
+rest_awaits tables values = if nat_lt 0 tables then Table tables values else
+    if nat_lt 0 values then Values values else Tail
 
 -- what line i after the first is
 abbrev pub line_at : SuffixHead → ℕ → Awaited
-line_at head i = if i == 0 then Name head else rest_awaits ((head.table_lines + 1) - i) (head.value_count - (i - (head.table_lines + 1)))
+line_at head i = if i == 0 then Name head else
+    rest_awaits ((head.table_lines + 1) - i) (head.value_count - (i - (head.table_lines + 1)))
 
 abbrev pub piece_awaits : Piece → Awaited
 piece_awaits p = line_at (head_in p.head) (length p.lines)
@@ -131,15 +138,22 @@ new_piece row = record { head = row; lines = [] }
 
 -- a line with words belongs to the last suffix, or to the rows of numbers where none has begun
 abbrev pub with_row_line : Body → List ℕ → Body
-with_row_line b line = if length b.pieces == 0 then record b { rows = b.rows ++ row_of line ∷ [] } else to_last_piece b line
+with_row_line b line = if length b.pieces == 0 then record b {
+  rows = b.rows ++ row_of line
+      ∷ [];
+} else to_last_piece b line
 
--- A line more. The name and the table of a suffix are taken as they are; any other line counts only where it has words. A suffix begins where nothing else must come.
+-- A line more. The name and the table of a suffix are taken as they are; any other line counts only
+-- where it has words. A suffix begins where nothing else must come.
 abbrev pub with_line : Body → List ℕ → Body
 with_line b line =
     let row = row_of line in
     if is_raw (body_awaits b) then to_last_piece b line else
     if length row == 0 then b else
-    if is_tail (body_awaits b) && begins row (codes "suffix") then record b { pieces = b.pieces ++ new_piece row ∷ [] } else
+    if is_tail (body_awaits b) && begins row (codes "suffix") then record b {
+      pieces = b.pieces
+          ++ new_piece row ∷ [];
+    } else
     with_row_line b line
 
 unfoldable pub body_from : List (List ℕ) → Body

@@ -28,7 +28,10 @@ both None b = None
 
 -- `objno number code`
 abbrev pub objno_in : Row → Option (ℤ × ℤ)
-objno_in words = if begins words (codes "objno") then both (signed_of (word_at words 1)) (signed_of (word_at words 2)) else None
+objno_in words =
+    if begins words (codes "objno")
+    then both (signed_of (word_at words 1)) (signed_of (word_at words 2))
+    else None
 
 -- `suffix kind values namelen tablen tablelines`
 abbrev pub head_in : Row → SuffixHead
@@ -43,4 +46,6 @@ head_in words =
 
 -- `index value`
 unfoldable pub pair_in : Row → Option (ℕ × Dec)
-pair_in words = option_and_then (λ i. option_map (λ d. (i, d)) (dec_of (word_at words 1))) (whole_of (word_at words 0))
+pair_in words =
+    option_and_then (λ i. option_map (λ d. (i, d)) (dec_of (word_at words 1)))
+    (whole_of (word_at words 0))

@@ -28,9 +28,11 @@ rows_past rows = drop (option_count rows + 5 + dual_count rows + primal_count ro
 
 -- the values among the lines after the name
 abbrev pub values_in : ℕ → ℕ → List (List ℕ) → List (ℕ × Dec)
-values_in tables values lines = filter_map (λ line. pair_in (row_of line)) (take values (drop tables lines))
+values_in tables values lines =
+    filter_map (λ line. pair_in (row_of line)) (take values (drop tables lines))
 
--- a suffix whose first line says this, with its name line and the lines after it, as far as they came
+-- a suffix whose first line says this, with its name line and the lines after it, as far as they
+-- came
 abbrev pub suffix_by : SuffixHead → List (List ℕ) → Option SolSuffix
 suffix_by head [] = None
 suffix_by head (name ∷ lines) =

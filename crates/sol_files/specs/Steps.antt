@@ -27,7 +27,8 @@ options_await left = if nat_lt 0 left then Options left else Constraints
 
 -- so many duals and primals are left
 abbrev pub values_await : ℕ → ℕ → Awaited
-values_await duals primals = if nat_lt 0 duals then Duals duals else if nat_lt 0 primals then Primals primals else Tail
+values_await duals primals = if nat_lt 0 duals then Duals duals else
+    if nat_lt 0 primals then Primals primals else Tail
 
 -- ---- the message
 
@@ -41,7 +42,10 @@ lines_with lines line = if length line == 0 then lines else lines ++ line ∷ []
 abbrev pub after_message : Standing → List ℕ → Standing
 after_message s line =
     if is_options line then record s { awaited = OptionCount; is_held_back = false }
-    else record s { is_held_back = length line == 0; sol = record s.sol { message = lines_with (s.sol.message ++ held_lines s.is_held_back) line } }
+    else record s {
+      is_held_back = length line == 0;
+      sol = record s.sol { message = lines_with (s.sol.message ++ held_lines s.is_held_back) line };
+    }
 
 -- ---- rows of numbers
 
@@ -49,33 +53,57 @@ abbrev pub after_option_count : Standing → Row → Standing
 after_option_count s words = record s { awaited = options_await (number_in words 0) }
 
 abbrev pub after_option : Standing → ℕ → Row → Standing
-after_option s left words = record s { awaited = options_await (left - 1); sol = record s.sol { options = s.sol.options ++ listed (option_in words) } }
+after_option s left words =
+    record s {
+      awaited = options_await (left - 1);
+      sol = record s.sol { options = s.sol.options ++ listed (option_in words) };
+    }
 
 abbrev pub after_constraints : Standing → Row → Standing
-after_constraints s words = record s { awaited = DualCount; sol = record s.sol { n_con = number_in words 0 } }
+after_constraints s words =
+    record s { awaited = DualCount; sol = record s.sol { n_con = number_in words 0 } }
 
 abbrev pub after_dual_count : Standing → Row → Standing
 after_dual_count s words = record s { awaited = Variables; dual_count = number_in words 0 }
 
 abbrev pub after_variables : Standing → Row → Standing
-after_variables s words = record s { awaited = PrimalCount; sol = record s.sol { n_var = number_in words 0 } }
+after_variables s words =
+    record s { awaited = PrimalCount; sol = record s.sol { n_var = number_in words 0 } }
 
 abbrev pub after_primal_count : Standing → Row → Standing
-after_primal_count s words = record s { awaited = values_await s.dual_count (number_in words 0); primal_count = number_in words 0 }
+after_primal_count s words =
+    record s {
+      awaited = values_await s.dual_count (number_in words 0);
+      primal_count = number_in words 0;
+    }
 
 abbrev pub after_dual : Standing → ℕ → Row → Standing
-after_dual s left words = record s { awaited = values_await (left - 1) s.primal_count; sol = record s.sol { duals = s.sol.duals ++ listed (value_in words) } }
+after_dual s left words =
+    record s {
+      awaited = values_await (left - 1) s.primal_count;
+      sol = record s.sol { duals = s.sol.duals ++ listed (value_in words) };
+    }
 
 abbrev pub after_primal : Standing → ℕ → Row → Standing
-after_primal s left words = record s { awaited = values_await 0 (left - 1); sol = record s.sol { primals = s.sol.primals ++ listed (value_in words) } }
+after_primal s left words =
+    record s {
+      awaited = values_await 0 (left - 1);
+      sol = record s.sol { primals = s.sol.primals ++ listed (value_in words) };
+    }
 
 -- ---- suffixes
 
 abbrev pub after_objno : Standing → Row → Standing
-after_objno s words = record s { sol = record s.sol { objno = or_else s.sol.objno (objno_in words) } }
+after_objno s words =
+    record s { sol = record s.sol { objno = or_else s.sol.objno (objno_in words) } }
 
 abbrev pub after_suffix_head : Standing → Row → Standing
-after_suffix_head s words = record s { awaited = Name (head_in words); suffix_count = s.suffix_count + 1; table_count = s.table_count + (head_in words).table_lines }
+after_suffix_head s words =
+    record s {
+      awaited = Name (head_in words);
+      suffix_count = s.suffix_count + 1;
+      table_count = s.table_count + (head_in words).table_lines;
+    }
 
 -- any other row that may come there
 abbrev pub after_tail : Standing → Row → Standing
@@ -117,7 +145,9 @@ abbrev pub after_value : Standing → ℕ → Row → Standing
 after_value s left words =
     record s {
       awaited = rest_awaits 0 (left - 1);
-      sol = record s.sol { suffixes = change_last (with_values (listed (pair_in words))) s.sol.suffixes };
+      sol = record s.sol {
+        suffixes = change_last (with_values (listed (pair_in words))) s.sol.suffixes;
+      };
       value_count = s.value_count + length (listed (pair_in words));
     }
 

@@ -1,4 +1,5 @@
--- What is wrong with a line: the first test that holds gives the reason. The order is this project's own.
+-- What is wrong with a line: the first test that holds gives the reason. The order is this
+-- project's own.
 use Rattle.std.specs.Prelude.{ℕ, ◌+◌, ◌^◌, ◌==◌, ℤ, pos, Bool, not, ◌&&◌, ◌||◌, nat_le, nat_lt, List, [], ◌∷◌, ◌++◌, length, Option, is_some, is_none, if◌then◌else◌, codes}
 use Rattle.std.specs.List.{list_any}
 use Rattle.std.specs.Option.{option_map_or}
@@ -27,14 +28,21 @@ Tests = List (Bool × Refusal)
 
 -- ---- The message has at most 65,536 lines.
 
--- Line 65,537 is one too many, unless it is empty: it is no message line where `Options` comes next. So an empty line 65,537 is judged when the next line is seen: by that line where it is anything else, by its line fault, or by the end of the text. The fault is then late, and is told for line 65,537.
+-- Line 65,537 is one too many, unless it is empty: it is no message line where `Options` comes
+-- next. So an empty line 65,537 is judged when the next line is seen: by that line where it is
+-- anything else, by its line fault, or by the end of the text. The fault is then late, and is told
+-- for line 65,537.
 abbrev pub is_over : Standing → Bool
 is_over s = is_message s.awaited && (message_count s == 65537)
 
 abbrev pub message_tests : Standing → List ℕ → Tests
 message_tests s line =
     (is_over s && not (is_options line), Late)
-    ∷ ((message_count s == 65536) && not (is_options line) && not (length line == 0), Here TooLarge) ∷ []
+    ∷ (
+      (message_count s == 65536) && not (is_options line)
+          && not (length line == 0),
+      Here TooLarge,
+    ) ∷ []
 
 -- ---- Lines of one word.
 
@@ -72,7 +80,8 @@ abbrev pub is_given_count : ℕ → ℕ → Bool
 is_given_count full n = (n == 0) || (n == full)
 
 abbrev pub given_tests : ℕ → Row → Tests
-given_tests full words = size_tests words ++ (not (is_given_count full (number_in words 0)), Here CountsDisagree) ∷ []
+given_tests full words = size_tests words
+    ++ (not (is_given_count full (number_in words 0)), Here CountsDisagree) ∷ []
 
 abbrev pub dec_tests : Row → Tests
 dec_tests words =
@@ -85,16 +94,22 @@ abbrev pub objno_tests : Bool → Row → Tests
 objno_tests is_past words =
     (is_past, Here Extra)
     ∷ (not (length words == 3), Here BadLine)
-    ∷ (is_none (signed_of (word_at words 1)) || is_none (signed_of (word_at words 2)), Here BadNumber) ∷ []
+    ∷ (
+      is_none (signed_of (word_at words 1))
+          || is_none (signed_of (word_at words 2)),
+      Here BadNumber,
+    ) ∷ []
 
 abbrev pub are_all_digits : Row → Bool
 are_all_digits words =
-    are_digits (word_at words 1) && are_digits (word_at words 2) && are_digits (word_at words 3) && are_digits (word_at words 4) && are_digits (word_at words 5)
+    are_digits (word_at words 1) && are_digits (word_at words 2) && are_digits (word_at words 3)
+    && are_digits (word_at words 4) && are_digits (word_at words 5)
 
 -- the kind is below 256, and the number of values and the two lengths below 2^31
 abbrev pub are_head_numbers : Row → Bool
 are_head_numbers words =
-    is_below 256 (whole_of (word_at words 1)) && is_some (whole_of (word_at words 2)) && is_some (whole_of (word_at words 3)) && is_some (whole_of (word_at words 4))
+    is_below 256 (whole_of (word_at words 1)) && is_some (whole_of (word_at words 2))
+    && is_some (whole_of (word_at words 3)) && is_some (whole_of (word_at words 4))
 
 -- after so many table lines, there is room for as many more as the number says
 abbrev pub has_table_room : ℕ → Option ℕ → Bool
@@ -112,7 +127,8 @@ suffix_tests suffixes tables words =
 -- nothing else may come; `objno` comes once, and before all suffixes
 unfoldable pub tail_tests : Standing → Row → Tests
 tail_tests s words =
-    if begins words (codes "objno") then objno_tests (is_some s.sol.objno || nat_lt 0 s.suffix_count) words else
+    if begins words (codes "objno") then objno_tests (is_some s.sol.objno
+    || nat_lt 0 s.suffix_count) words else
     if begins words (codes "suffix") then suffix_tests s.suffix_count s.table_count words else
     (Bool.true, Here Extra) ∷ []
 
@@ -132,7 +148,11 @@ pair_tests limit whole_only words =
     (not (length words == 2), Here BadLine)
     ∷ (not (are_digits (word_at words 0)), Here BadNumber)
     ∷ (not (is_below limit (whole_of (word_at words 0))), Here IndexOut)
-    ∷ (is_none value || (whole_only && not (option_map_or is_whole value Bool.true)), Here BadNumber) ∷ []
+    ∷ (
+      is_none value || (whole_only
+          && not (option_map_or is_whole value Bool.true)),
+      Here BadNumber,
+    ) ∷ []
 
 -- the kind and the values of the last suffix
 abbrev pub last_kind : List SolSuffix → ℕ

@@ -19,7 +19,8 @@ use Rattle.nl_model.specs.SuffixKinds.{object_limit, wants_whole}
 
 abbrev pub head_line : SolSuffix → List ℕ
 head_line s =
-    spaced (codes "suffix" ∷ decimal s.kind ∷ decimal (length s.values) ∷ decimal s.name_len ∷ decimal s.table_len ∷ decimal (length s.table) ∷ [])
+    spaced (codes "suffix" ∷ decimal s.kind ∷ decimal (length s.values) ∷ decimal s.name_len
+    ∷ decimal s.table_len ∷ decimal (length s.table) ∷ [])
 
 abbrev pub value_line : ℕ × Dec → List ℕ
 value_line t = spaced (decimal t.0 ∷ text_of t.1 ∷ [])
@@ -33,13 +34,15 @@ objno_lines (Some t) = spaced (codes "objno" ∷ signed_decimal t.0 ∷ signed_d
 
 -- the numbers of constraints, duals, variables and primals
 abbrev pub size_lines : Sol → List (List ℕ)
-size_lines s = decimal s.n_con ∷ decimal (length s.duals) ∷ decimal s.n_var ∷ decimal (length s.primals) ∷ []
+size_lines s = decimal s.n_con ∷ decimal (length s.duals) ∷ decimal s.n_var
+    ∷ decimal (length s.primals) ∷ []
 
 -- the lines after the message
 abbrev pub body_text_lines : Sol → List (List ℕ)
 body_text_lines s =
     (([] ∷ codes "Options" ∷ decimal (length s.options) ∷ []) ++ map signed_decimal s.options)
-    ++ size_lines s ++ map text_of s.duals ++ map text_of s.primals ++ objno_lines s.objno ++ flat_map suffix_lines s.suffixes
+    ++ size_lines s ++ map text_of s.duals ++ map text_of s.primals ++ objno_lines s.objno
+    ++ flat_map suffix_lines s.suffixes
 
 unfoldable pub sol_lines : Sol → List (List ℕ)
 sol_lines s = s.message ++ body_text_lines s
@@ -53,7 +56,8 @@ sol_text s = lines_text (sol_lines s)
 unfoldable pub are_values : ℕ → Bool → List (ℕ × Dec) → List (ℕ × Dec) → Bool
 are_values limit whole_only before [] = true
 are_values limit whole_only before (t ∷ ts) =
-    (nat_lt t.0 limit && not (has_index before t.0)) && (not whole_only || is_whole t.1) && are_values limit whole_only (before ++ t ∷ []) ts
+    (nat_lt t.0 limit && not (has_index before t.0)) && (not whole_only || is_whole t.1)
+    && are_values limit whole_only (before ++ t ∷ []) ts
 
 -- a line of a text that is not `Options`
 pub record IsSaidLine (line : List ℕ) : Type 0 where
@@ -66,7 +70,8 @@ pub record IsWritableSuffix (n_var n_con : ℕ) (s : SolSuffix) : Type 0 where
   pub name_len : s.name_len < 2 ^ 31
   pub table_len : s.table_len < 2 ^ 31
   pub table : AllByRecursion IsTextLine s.table
-  pub values : are_values (object_limit n_var n_con 256 s.kind) (wants_whole s.kind) [] s.values ≡ true
+  pub values : are_values (object_limit n_var n_con 256 s.kind) (wants_whole s.kind) [] s.values
+      ≡ true
 
 abbrev pub IsSignedPair : ℤ × ℤ → Type 0
 IsSignedPair t = (has_31_bits t.0 ≡ true) × (has_31_bits t.1 ≡ true)

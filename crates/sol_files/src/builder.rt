@@ -32,7 +32,16 @@ impl Model for SolBuilder {
 
     ghost Value = { SolValue };
 
-    ghost view = { λ s. record { message = s.message; options = s.options; n_con = s.n_con; duals = s.duals; n_var = s.n_var; primals = s.primals; objno = s.objno; suffixes = s.suffixes.items } };
+    ghost view = { λ s. record {
+      message = s.message;
+      options = s.options;
+      n_con = s.n_con;
+      duals = s.duals;
+      n_var = s.n_var;
+      primals = s.primals;
+      objno = s.objno;
+      suffixes = s.suffixes.items;
+    } };
 }
 
 impl SolBuilder {
@@ -58,7 +67,8 @@ impl SolBuilder {
         ensures ok { OnOk result (self.new ≡ with_message self.old line.now) }
         ensures err { OnErr result (self.new ≡ self.old) }
     {
-        self.add_line(line)
+        self.message.push(line)?;
+        Ok(())
     }
 
     /// Adds the value of the next constraint.
@@ -85,7 +95,8 @@ impl SolBuilder {
         ensures ok { OnOk result (self.new ≡ with_suffix self.old suffix) }
         ensures err { OnErr result (self.new ≡ self.old) }
     {
-        self.add_suffix(suffix)
+        self.suffixes.push(suffix)?;
+        Ok(())
     }
 
     /// Sets the number of the objective and the solver's code.
@@ -113,55 +124,45 @@ impl SolBuilder {
     }
 }
 
-// What a reader of a text adds: a line is what the text has.
+// What a reader of a text adds.
 impl SolBuilder {
-    /// Adds any line to the message.
-    pub(crate) fn add_line(&mut self, line: &[u8]) -> Result<(), AllocError>
-        ensures ok { OnOk result (self.new ≡ with_message self.old line.now) }
-        ensures err { OnErr result (self.new ≡ self.old) }
-    {
-        self.message.push(line)?;
-        Ok(())
-    }
-
     // Adds an empty line that was held back.
     fn release(&mut self, is_held_back: bool) -> Result<(), AllocError>
-        ensures ok { OnOk result (self.new ≡ record self.old { message = self.old.message ++ held_lines is_held_back }) }
+        ensures ok { OnOk result (self.new
+            ≡ record self.old { message = self.old.message ++ held_lines is_held_back }) }
         ensures err { OnErr result (self.new ≡ self.old) }
     {
         if is_held_back {
-            return self.add_line(b"");
+            return self.say(b"");
         }
         Ok(())
     }
 
     // Adds a line, unless it is empty.
     fn add_some(&mut self, line: &[u8]) -> Result<(), AllocError>
-        ensures ok { OnOk result (self.new ≡ record self.old { message = lines_with self.old.message line.now }) }
+        requires { IsMessageLine line.now }
+        ensures ok { OnOk result (self.new
+            ≡ record self.old { message = lines_with self.old.message line.now }) }
         ensures err { OnErr result (self.new ≡ self.old) }
     {
         if line.is_empty() {
             return Ok(());
         }
-        self.add_line(line)
+        self.say(line)
     }
 
     /// Adds an empty line that was held back, and then a line, unless that is empty.
     pub(crate) fn add_lines(&mut self, is_held_back: bool, line: &[u8]) -> Result<(), AllocError>
-        ensures ok { OnOk result (self.new ≡ record self.old { message = lines_with (self.old.message ++ held_lines is_held_back) line.now }) }
+        requires { IsMessageLine line.now }
+        ensures ok { OnOk result (self.new
+            ≡ record self.old {
+              message = lines_with (self.old.message
+                  ++ held_lines is_held_back) line.now;
+            }) }
         ensures others { record self.new { message = [] } ≡ record self.old { message = [] } }
     {
         self.release(is_held_back)?;
         self.add_some(line)?;
-        Ok(())
-    }
-
-    /// Adds any suffix.
-    pub(crate) fn add_suffix(&mut self, suffix: SolSuffix) -> Result<(), AllocError>
-        ensures ok { OnOk result (self.new ≡ with_suffix self.old suffix) }
-        ensures err { OnErr result (self.new ≡ self.old) }
-    {
-        self.suffixes.push(suffix)?;
         Ok(())
     }
 
@@ -190,7 +191,10 @@ impl SolBuilder {
     /// Adds a line to the table of the last suffix.
     pub(crate) fn add_table_line(&mut self, line: &[u8]) -> Result<(), AllocError>
         requires { 0 < length self.old.suffixes }
-        ensures ok { OnOk result (self.new ≡ record self.old { suffixes = change_last (with_table_line line.now) self.old.suffixes }) }
+        ensures ok { OnOk result (self.new
+            ≡ record self.old {
+              suffixes = change_last (with_table_line line.now) self.old.suffixes;
+            }) }
         ensures err { OnErr result (self.new ≡ self.old) }
     {
         let last = self.suffixes.len() - 1;
@@ -202,7 +206,8 @@ impl SolBuilder {
     /// Adds a value to the last suffix.
     pub(crate) fn add_value(&mut self, pair: (u32, Dec)) -> Result<(), AllocError>
         requires { 0 < length self.old.suffixes }
-        ensures ok { OnOk result (self.new ≡ record self.old { suffixes = change_last (with_value pair) self.old.suffixes }) }
+        ensures ok { OnOk result (self.new
+            ≡ record self.old { suffixes = change_last (with_value pair) self.old.suffixes }) }
         ensures err { OnErr result (self.new ≡ self.old) }
     {
         let last = self.suffixes.len() - 1;

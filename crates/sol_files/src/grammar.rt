@@ -1,7 +1,7 @@
 // The grammar of .sol texts, a line at a time.
 ghost use Rattle.std.specs.Prelude.{◌≡◌, ◌&&◌, ◌==◌, ◌<◌, ◌≤◌, not, [], List, ℕ, length, true, false, None, Some, IfOk, IfErr, OnOk};
-ghost use Rattle.text_base.specs.Judged.{first_reason};
-ghost use Rattle.text_base.specs.Stopped.{IfFault};
+ghost use Rattle.text_base.specs.Judged.{Takes, first_reason};
+ghost use Rattle.text_base.specs.Cut.{IsTextLine};
 ghost use Rattle.text_base.specs.Words.{row_of, texts, begins};
 ghost use Rattle.sol_files.specs.Sol.{Sol};
 ghost use Rattle.sol_files.specs.Parts.{is_options};
@@ -22,7 +22,8 @@ use text_base::{Grammar, LineFault, Marks, Row, Stop};
 /// The message has at most so many lines.
 const MOST_LINES: usize = 65_536;
 
-/// What was read of a .sol text: what it says so far, the line that comes next, and what judging further lines needs.
+/// What was read of a .sol text: what it says so far, the line that comes next, and what judging
+/// further lines needs.
 #[derive(Drop)]
 pub struct SolGrammar {
     pub(crate) alloc: Global,
@@ -160,7 +161,8 @@ impl SolGrammar {
 
     // What is said, at the end of the text.
     fn end(self) -> Result<Sol, Refusal>
-        ensures sol { IfOk result (λ sol. (sol ≡ self.sol) × (first_reason (end_tests self) ≡ None)) }
+        ensures sol { IfOk result (λ sol. (sol ≡ self.sol) × (first_reason (end_tests self)
+            ≡ None)) }
         ensures fault { IfErr result (λ refusal. first_reason (end_tests self) ≡ Some refusal) }
     {
         if self.is_over() {
@@ -176,9 +178,9 @@ impl SolGrammar {
     // Takes a line.
     #[tactic(auto, unfolding(crate::specs::Tests::line_tests_at, crate::specs::Steps::after_at))]
     fn take_line(&mut self, line: &[u8]) -> Result<(), Stop<Refusal>>
-        ensures fine { OnOk result (first_reason (line_tests self.old line.now) ≡ None) }
-        ensures step { OnOk result (self.new ≡ after self.old line.now) }
-        ensures fault { IfErr result (λ stop. IfFault stop (λ refusal. first_reason (line_tests self.old line.now) ≡ Some refusal)) }
+        requires { IsTextLine line.now }
+        ensures { Takes (line_tests self.old line.now)
+            (after self.old line.now) result self.new }
     {
         match self.awaited {
             Awaited::Message => self.take_message(line),
@@ -190,10 +192,10 @@ impl SolGrammar {
 
     // Takes a line of the message, or `Options`.
     fn take_message(&mut self, line: &[u8]) -> Result<(), Stop<Refusal>>
-        requires { self.old.awaited ≡ Awaited.Message }
-        ensures fine { OnOk result (first_reason (message_tests self.old line.now) ≡ None) }
-        ensures step { OnOk result (self.new ≡ after_message self.old line.now) }
-        ensures fault { IfErr result (λ stop. IfFault stop (λ refusal. first_reason (message_tests self.old line.now) ≡ Some refusal)) }
+        requires awaited { self.old.awaited ≡ Awaited.Message }
+        requires line { IsTextLine line.now }
+        ensures { Takes (message_tests self.old line.now)
+            (after_message self.old line.now) result self.new }
     {
         if is_options(line) {
             self.begin_body();
@@ -210,7 +212,8 @@ impl SolGrammar {
     // The line `Options`.
     fn begin_body(&mut self)
         requires { self.old.awaited ≡ Awaited.Message }
-        ensures { self.new ≡ record self.old { awaited = Awaited.OptionCount; is_held_back = false } }
+        ensures { self.new
+            ≡ record self.old { awaited = Awaited.OptionCount; is_held_back = false } }
     {
         self.awaited = Awaited::OptionCount;
         self.is_held_back = false;
@@ -220,7 +223,8 @@ impl SolGrammar {
     fn judge_message(&self, line: &[u8]) -> Result<(), Refusal>
         requires { is_options line.now ≡ false }
         ensures fine { OnOk result (first_reason (message_tests self.now line.now) ≡ None) }
-        ensures fault { IfErr result (λ refusal. first_reason (message_tests self.now line.now) ≡ Some refusal) }
+        ensures fault { IfErr result (λ refusal. first_reason (message_tests self.now line.now)
+            ≡ Some refusal) }
     {
         if self.is_over() {
             return Err(Refusal::Late);
@@ -233,9 +237,8 @@ impl SolGrammar {
 
     // Takes a row, where the awaited line is neither one of the message nor taken as it is.
     fn take_words(&mut self, words: &[&[u8]]) -> Result<(), Stop<Refusal>>
-        ensures fine { OnOk result (first_reason (row_line_tests self.old.awaited self.old (texts words.now)) ≡ None) }
-        ensures step { OnOk result (self.new ≡ after_row_line self.old.awaited self.old (texts words.now)) }
-        ensures fault { IfErr result (λ stop. IfFault stop (λ refusal. first_reason (row_line_tests self.old.awaited self.old (texts words.now)) ≡ Some refusal)) }
+        ensures { Takes (row_line_tests self.old.awaited self.old (texts words.now))
+            (after_row_line self.old.awaited self.old (texts words.now)) result self.new }
     {
         if words.is_empty() {
             return Ok(());
@@ -246,9 +249,8 @@ impl SolGrammar {
     // Takes a row with a word.
     #[tactic(auto, unfolding(crate::specs::Tests::row_tests, crate::specs::Steps::after_row))]
     fn take_row(&mut self, words: &[&[u8]]) -> Result<(), Stop<Refusal>>
-        ensures fine { OnOk result (first_reason (row_tests self.old.awaited self.old (texts words.now)) ≡ None) }
-        ensures step { OnOk result (self.new ≡ after_row self.old.awaited self.old (texts words.now)) }
-        ensures fault { IfErr result (λ stop. IfFault stop (λ refusal. first_reason (row_tests self.old.awaited self.old (texts words.now)) ≡ Some refusal)) }
+        ensures { Takes (row_tests self.old.awaited self.old (texts words.now))
+            (after_row self.old.awaited self.old (texts words.now)) result self.new }
     {
         match self.awaited {
             Awaited::OptionCount => self.take_option_count(words),

@@ -1,7 +1,6 @@
 // The lines with options and counts.
-ghost use Rattle.std.specs.Prelude.{◌≡◌, None, Some, IfErr, OnOk, length};
-ghost use Rattle.text_base.specs.Judged.{first_reason};
-ghost use Rattle.text_base.specs.Stopped.{IfFault};
+ghost use Rattle.std.specs.Prelude.{◌≡◌, length};
+ghost use Rattle.text_base.specs.Judged.{Takes};
 ghost use Rattle.text_base.specs.Words.{texts};
 ghost use Rattle.sol_files.specs.Tests.{count_tests, dec_tests, given_tests, option_tests, size_tests};
 ghost use Rattle.sol_files.specs.Steps.{after_constraints, after_dual, after_dual_count, after_option, after_option_count, after_primal, after_primal_count, after_variables, options_await, values_await};
@@ -39,9 +38,8 @@ impl SolGrammar {
     /// The number of options.
     pub(crate) fn take_option_count(&mut self, words: &[&[u8]]) -> Result<(), Stop<Refusal>>
         requires { self.old.awaited ≡ Awaited.OptionCount }
-        ensures fine { OnOk result (first_reason (count_tests (texts words.now)) ≡ None) }
-        ensures step { OnOk result (self.new ≡ after_option_count self.old (texts words.now)) }
-        ensures fault { IfErr result (λ stop. IfFault stop (λ refusal. first_reason (count_tests (texts words.now)) ≡ Some refusal)) }
+        ensures { Takes (count_tests (texts words.now))
+            (after_option_count self.old (texts words.now)) result self.new }
     {
         let count = match read_option_count(words) {
             Ok(count) => count,
@@ -54,9 +52,8 @@ impl SolGrammar {
     /// An option.
     pub(crate) fn take_option(&mut self, words: &[&[u8]], left: u32) -> Result<(), Stop<Refusal>>
         requires { self.old.awaited ≡ Awaited.Options left }
-        ensures fine { OnOk result (first_reason (option_tests (length self.old.sol.options) (texts words.now)) ≡ None) }
-        ensures step { OnOk result (self.new ≡ after_option self.old left (texts words.now)) }
-        ensures fault { IfErr result (λ stop. IfFault stop (λ refusal. first_reason (option_tests (length self.old.sol.options) (texts words.now)) ≡ Some refusal)) }
+        ensures { Takes (option_tests (length self.old.sol.options) (texts words.now))
+            (after_option self.old left (texts words.now)) result self.new }
     {
         let value = match read_option(words, self.draft.option_count()) {
             Ok(value) => value,
@@ -70,9 +67,8 @@ impl SolGrammar {
     /// The number of constraints.
     pub(crate) fn take_constraints(&mut self, words: &[&[u8]]) -> Result<(), Stop<Refusal>>
         requires { self.old.awaited ≡ Awaited.Constraints }
-        ensures fine { OnOk result (first_reason (size_tests (texts words.now)) ≡ None) }
-        ensures step { OnOk result (self.new ≡ after_constraints self.old (texts words.now)) }
-        ensures fault { IfErr result (λ stop. IfFault stop (λ refusal. first_reason (size_tests (texts words.now)) ≡ Some refusal)) }
+        ensures { Takes (size_tests (texts words.now))
+            (after_constraints self.old (texts words.now)) result self.new }
     {
         let count = match read_size(words) {
             Ok(count) => count,
@@ -86,9 +82,8 @@ impl SolGrammar {
     /// How many duals are given.
     pub(crate) fn take_dual_count(&mut self, words: &[&[u8]]) -> Result<(), Stop<Refusal>>
         requires { self.old.awaited ≡ Awaited.DualCount }
-        ensures fine { OnOk result (first_reason (given_tests self.old.sol.n_con (texts words.now)) ≡ None) }
-        ensures step { OnOk result (self.new ≡ after_dual_count self.old (texts words.now)) }
-        ensures fault { IfErr result (λ stop. IfFault stop (λ refusal. first_reason (given_tests self.old.sol.n_con (texts words.now)) ≡ Some refusal)) }
+        ensures { Takes (given_tests self.old.sol.n_con (texts words.now))
+            (after_dual_count self.old (texts words.now)) result self.new }
     {
         let count = match read_given(words, self.draft.n_con()) {
             Ok(count) => count,
@@ -102,9 +97,8 @@ impl SolGrammar {
     /// The number of variables.
     pub(crate) fn take_variables(&mut self, words: &[&[u8]]) -> Result<(), Stop<Refusal>>
         requires { self.old.awaited ≡ Awaited.Variables }
-        ensures fine { OnOk result (first_reason (size_tests (texts words.now)) ≡ None) }
-        ensures step { OnOk result (self.new ≡ after_variables self.old (texts words.now)) }
-        ensures fault { IfErr result (λ stop. IfFault stop (λ refusal. first_reason (size_tests (texts words.now)) ≡ Some refusal)) }
+        ensures { Takes (size_tests (texts words.now))
+            (after_variables self.old (texts words.now)) result self.new }
     {
         let count = match read_size(words) {
             Ok(count) => count,
@@ -118,9 +112,8 @@ impl SolGrammar {
     /// How many primals are given.
     pub(crate) fn take_primal_count(&mut self, words: &[&[u8]]) -> Result<(), Stop<Refusal>>
         requires { self.old.awaited ≡ Awaited.PrimalCount }
-        ensures fine { OnOk result (first_reason (given_tests self.old.sol.n_var (texts words.now)) ≡ None) }
-        ensures step { OnOk result (self.new ≡ after_primal_count self.old (texts words.now)) }
-        ensures fault { IfErr result (λ stop. IfFault stop (λ refusal. first_reason (given_tests self.old.sol.n_var (texts words.now)) ≡ Some refusal)) }
+        ensures { Takes (given_tests self.old.sol.n_var (texts words.now))
+            (after_primal_count self.old (texts words.now)) result self.new }
     {
         let count = match read_given(words, self.draft.n_var()) {
             Ok(count) => count,
@@ -134,9 +127,8 @@ impl SolGrammar {
     /// A dual.
     pub(crate) fn take_dual(&mut self, words: &[&[u8]], left: u32) -> Result<(), Stop<Refusal>>
         requires { self.old.awaited ≡ Awaited.Duals left }
-        ensures fine { OnOk result (first_reason (dec_tests (texts words.now)) ≡ None) }
-        ensures step { OnOk result (self.new ≡ after_dual self.old left (texts words.now)) }
-        ensures fault { IfErr result (λ stop. IfFault stop (λ refusal. first_reason (dec_tests (texts words.now)) ≡ Some refusal)) }
+        ensures { Takes (dec_tests (texts words.now))
+            (after_dual self.old left (texts words.now)) result self.new }
     {
         let value = match read_value(words) {
             Ok(value) => value,
@@ -150,9 +142,8 @@ impl SolGrammar {
     /// A primal.
     pub(crate) fn take_primal(&mut self, words: &[&[u8]], left: u32) -> Result<(), Stop<Refusal>>
         requires { self.old.awaited ≡ Awaited.Primals left }
-        ensures fine { OnOk result (first_reason (dec_tests (texts words.now)) ≡ None) }
-        ensures step { OnOk result (self.new ≡ after_primal self.old left (texts words.now)) }
-        ensures fault { IfErr result (λ stop. IfFault stop (λ refusal. first_reason (dec_tests (texts words.now)) ≡ Some refusal)) }
+        ensures { Takes (dec_tests (texts words.now))
+            (after_primal self.old left (texts words.now)) result self.new }
     {
         let value = match read_value(words) {
             Ok(value) => value,

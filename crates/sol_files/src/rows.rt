@@ -23,7 +23,8 @@ pub(crate) fn read_option_count(words: &[&[u8]]) -> Result<u32, SolReason>
     ensures value { IfOk result (λ n. n ≡ number_in (texts words.now) 0) }
     ensures most { IfOk result (λ n. n ≤ 9) }
     ensures fine { OnOk result (first_reason (count_tests (texts words.now)) ≡ None) }
-    ensures fault { IfErr result (λ r. first_reason (count_tests (texts words.now)) ≡ Some (Here r)) }
+    ensures fault { IfErr result (λ r. first_reason (count_tests (texts words.now))
+        ≡ Some (Here r)) }
 {
     let word = word_at(words, 0);
     if words.len() != 1 {
@@ -45,7 +46,8 @@ pub(crate) fn read_option_count(words: &[&[u8]]) -> Result<u32, SolReason>
 pub(crate) fn read_option(words: &[&[u8]], before: usize) -> Result<i32, SolReason>
     ensures value { IfOk result (λ z. option_in (texts words.now) ≡ Some z) }
     ensures fine { OnOk result (first_reason (option_tests before (texts words.now)) ≡ None) }
-    ensures fault { IfErr result (λ r. first_reason (option_tests before (texts words.now)) ≡ Some (Here r)) }
+    ensures fault { IfErr result (λ r. first_reason (option_tests before (texts words.now))
+        ≡ Some (Here r)) }
 {
     if words.len() != 1 {
         return Err(SolReason::BadLine);
@@ -63,7 +65,8 @@ pub(crate) fn read_option(words: &[&[u8]], before: usize) -> Result<i32, SolReas
 pub(crate) fn read_size(words: &[&[u8]]) -> Result<u32, SolReason>
     ensures value { IfOk result (λ n. n ≡ number_in (texts words.now) 0) }
     ensures fine { OnOk result (first_reason (size_tests (texts words.now)) ≡ None) }
-    ensures fault { IfErr result (λ r. first_reason (size_tests (texts words.now)) ≡ Some (Here r)) }
+    ensures fault { IfErr result (λ r. first_reason (size_tests (texts words.now))
+        ≡ Some (Here r)) }
 {
     let word = word_at(words, 0);
     if words.len() != 1 {
@@ -86,7 +89,8 @@ pub(crate) fn read_given(words: &[&[u8]], full: u32) -> Result<u32, SolReason>
     ensures value { IfOk result (λ n. n ≡ number_in (texts words.now) 0) }
     ensures given { IfOk result (λ n. IsEmptyOrFull full n) }
     ensures fine { OnOk result (first_reason (given_tests full (texts words.now)) ≡ None) }
-    ensures fault { IfErr result (λ r. first_reason (given_tests full (texts words.now)) ≡ Some (Here r)) }
+    ensures fault { IfErr result (λ r. first_reason (given_tests full (texts words.now))
+        ≡ Some (Here r)) }
 {
     let count = match read_size(words) {
         Ok(count) => count,
@@ -115,9 +119,11 @@ pub(crate) fn read_value(words: &[&[u8]]) -> Result<Dec, SolReason>
 
 /// An `objno` line, where one may still come or is past.
 pub(crate) fn read_objno(words: &[&[u8]], is_past: bool) -> Result<(i32, i32), SolReason>
-    ensures value { IfOk result (λ t. both (signed_of (word_at (texts words.now) 1)) (signed_of (word_at (texts words.now) 2)) ≡ Some t) }
+    ensures value { IfOk result
+        (λ t. both (signed_of (word_at (texts words.now) 1)) (signed_of (word_at (texts words.now) 2)) ≡ Some t) }
     ensures fine { OnOk result (first_reason (objno_tests is_past (texts words.now)) ≡ None) }
-    ensures fault { IfErr result (λ r. first_reason (objno_tests is_past (texts words.now)) ≡ Some (Here r)) }
+    ensures fault { IfErr result (λ r. first_reason (objno_tests is_past (texts words.now))
+        ≡ Some (Here r)) }
 {
     if is_past {
         return Err(SolReason::Extra);

@@ -97,8 +97,10 @@ pub(crate) fn read_head(
     ensures head { IfOk result (λ h. h ≡ head_in (texts words.now)) }
     ensures few { OnOk result (suffixes < 1024) }
     ensures room { IfOk result (λ h. tables + h.table_lines ≤ 65536) }
-    ensures fine { OnOk result (first_reason (suffix_tests suffixes tables (texts words.now)) ≡ None) }
-    ensures fault { IfErr result (λ r. first_reason (suffix_tests suffixes tables (texts words.now)) ≡ Some (Here r)) }
+    ensures fine { OnOk result (first_reason (suffix_tests suffixes tables (texts words.now))
+        ≡ None) }
+    ensures fault { IfErr result
+        (λ r. first_reason (suffix_tests suffixes tables (texts words.now)) ≡ Some (Here r)) }
 {
     if words.len() != 6 {
         return Err(SolReason::BadLine);
@@ -131,7 +133,8 @@ fn is_refused(value: Dec, whole_only: bool) -> bool
     whole_only && !is_whole(value)
 }
 
-/// The index and the value of a row, where indices are below a limit and values may have to be whole.
+/// The index and the value of a row, where indices are below a limit and values may have to be
+/// whole.
 #[tactic(auto, unfolding(crate::specs::Rows::pair_in))]
 pub(crate) fn read_pair(
     words: &[&[u8]],
@@ -141,8 +144,10 @@ pub(crate) fn read_pair(
     ensures pair { IfOk result (λ t. pair_in (texts words.now) ≡ Some t) }
     ensures index { IfOk result (λ t. t.0 ≡ number_in (texts words.now) 0) }
     ensures below { IfOk result (λ t. t.0 < limit) }
-    ensures fine { OnOk result (first_reason (pair_tests limit whole_only (texts words.now)) ≡ None) }
-    ensures fault { IfErr result (λ r. first_reason (pair_tests limit whole_only (texts words.now)) ≡ Some (Here r)) }
+    ensures fine { OnOk result (first_reason (pair_tests limit whole_only (texts words.now))
+        ≡ None) }
+    ensures fault { IfErr result
+        (λ r. first_reason (pair_tests limit whole_only (texts words.now)) ≡ Some (Here r)) }
 {
     if words.len() != 2 {
         return Err(SolReason::BadLine);

@@ -1,8 +1,7 @@
 // The lines after the values: `objno`, and the suffixes.
 ghost use Rattle.std.specs.Prelude.{◌≡◌, ◌<◌, ◌≤◌, ◌||◌, length, true, is_some, nat_lt, None, Some, IfOk, IfErr, OnOk, codes};
-ghost use Rattle.text_base.specs.Judged.{first_reason};
+ghost use Rattle.text_base.specs.Judged.{Takes, first_reason};
 ghost use Rattle.text_base.specs.Names.{IsName};
-ghost use Rattle.text_base.specs.Stopped.{IfFault};
 ghost use Rattle.text_base.specs.Words.{texts, begins, word_at};
 ghost use Rattle.sol_files.specs.declared.fault.Refusal.TheVariants.{Here};
 ghost use Rattle.sol_files.specs.Rows.{pair_in};
@@ -43,7 +42,8 @@ fn read_name<'a>(words: &[&'a [u8]]) -> Result<&'a [u8], SolReason>
     ensures name { IfOk result (λ w. w.now ≡ word_at (texts words.now) 0) }
     ensures is { IfOk result (λ w. IsName w.now) }
     ensures fine { OnOk result (first_reason (name_tests (texts words.now)) ≡ None) }
-    ensures fault { IfErr result (λ r. first_reason (name_tests (texts words.now)) ≡ Some (Here r)) }
+    ensures fault { IfErr result (λ r. first_reason (name_tests (texts words.now))
+        ≡ Some (Here r)) }
 {
     let word = word_at(words, 0);
     if words.len() != 1 || !is_name(word) {
@@ -53,7 +53,7 @@ fn read_name<'a>(words: &[&'a [u8]]) -> Result<&'a [u8], SolReason>
 }
 
 // The pair of a row, after these marks.
-fn judge_value(
+fn judge_pair(
     words: &[&[u8]],
     limit: u32,
     whole_only: bool,
@@ -64,8 +64,11 @@ fn judge_value(
     ensures pair { IfOk result (λ t. pair_in (texts words.now) ≡ Some t) }
     ensures below { IfOk result (λ t. t.0 < limit) }
     ensures room { OnOk result (count < 4194304) }
-    ensures fine { OnOk result (first_reason (marked_value_tests limit whole_only marks.now count (texts words.now)) ≡ None) }
-    ensures fault { IfErr result (λ r. first_reason (marked_value_tests limit whole_only marks.now count (texts words.now)) ≡ Some (Here r)) }
+    ensures fine { OnOk result
+        (first_reason (marked_value_tests limit whole_only marks.now count (texts words.now))
+        ≡ None) }
+    ensures fault { IfErr result
+        (λ r. first_reason (marked_value_tests limit whole_only marks.now count (texts words.now)) ≡ Some (Here r)) }
 {
     let pair = match read_pair(words, limit, whole_only) {
         Ok(pair) => pair,
@@ -85,9 +88,8 @@ impl SolGrammar {
     #[tactic(auto, unfolding(crate::specs::Tests::tail_tests))]
     pub(crate) fn take_tail(&mut self, words: &[&[u8]]) -> Result<(), Stop<Refusal>>
         requires { self.old.awaited ≡ Awaited.Tail }
-        ensures fine { OnOk result (first_reason (tail_tests self.old (texts words.now)) ≡ None) }
-        ensures step { OnOk result (self.new ≡ after_tail self.old (texts words.now)) }
-        ensures fault { IfErr result (λ stop. IfFault stop (λ refusal. first_reason (tail_tests self.old (texts words.now)) ≡ Some refusal)) }
+        ensures { Takes (tail_tests self.old (texts words.now))
+            (after_tail self.old (texts words.now)) result self.new }
     {
         if begins(words, b"objno") {
             return self.take_objno(words);
@@ -103,9 +105,9 @@ impl SolGrammar {
         requires awaited { self.old.awaited ≡ Awaited.Tail }
         requires keyword { begins (texts words.now) (codes "objno") ≡ true }
         ensures none { OnOk result (self.old.suffix_count ≡ 0) }
-        ensures fine { OnOk result (first_reason (objno_tests (is_some self.old.sol.objno || nat_lt 0 self.old.suffix_count) (texts words.now)) ≡ None) }
-        ensures step { OnOk result (self.new ≡ after_objno self.old (texts words.now)) }
-        ensures fault { IfErr result (λ stop. IfFault stop (λ refusal. first_reason (objno_tests (is_some self.old.sol.objno || nat_lt 0 self.old.suffix_count) (texts words.now)) ≡ Some refusal)) }
+        ensures takes { Takes (objno_tests (is_some self.old.sol.objno
+            || nat_lt 0 self.old.suffix_count) (texts words.now))
+            (after_objno self.old (texts words.now)) result self.new }
     {
         let is_past = self.draft.objno().is_some() || self.suffix_count > 0;
         let found = match read_objno(words, is_past) {
@@ -119,9 +121,8 @@ impl SolGrammar {
     // The first line of a suffix.
     fn take_head(&mut self, words: &[&[u8]]) -> Result<(), Stop<Refusal>>
         requires { self.old.awaited ≡ Awaited.Tail }
-        ensures fine { OnOk result (first_reason (suffix_tests self.old.suffix_count self.old.table_count (texts words.now)) ≡ None) }
-        ensures step { OnOk result (self.new ≡ after_suffix_head self.old (texts words.now)) }
-        ensures fault { IfErr result (λ stop. IfFault stop (λ refusal. first_reason (suffix_tests self.old.suffix_count self.old.table_count (texts words.now)) ≡ Some refusal)) }
+        ensures { Takes (suffix_tests self.old.suffix_count self.old.table_count (texts words.now))
+            (after_suffix_head self.old (texts words.now)) result self.new }
     {
         let head = match read_head(words, self.suffix_count, self.table_count) {
             Ok(head) => head,
@@ -140,9 +141,8 @@ impl SolGrammar {
         head: SuffixHead,
     ) -> Result<(), Stop<Refusal>>
         requires { self.old.awaited ≡ Awaited.Name head }
-        ensures fine { OnOk result (first_reason (name_tests (texts words.now)) ≡ None) }
-        ensures step { OnOk result (self.new ≡ after_name self.old head (texts words.now)) }
-        ensures fault { IfErr result (λ stop. IfFault stop (λ refusal. first_reason (name_tests (texts words.now)) ≡ Some refusal)) }
+        ensures { Takes (name_tests (texts words.now))
+            (after_name self.old head (texts words.now)) result self.new }
     {
         let word = match read_name(words) {
             Ok(word) => word,
@@ -156,7 +156,7 @@ impl SolGrammar {
             head.kind,
         );
         self.marks.begin(self.alloc, limit)?;
-        self.draft.add_suffix(SolSuffix {
+        self.draft.suffix(SolSuffix {
             kind: head.kind,
             name,
             name_len: head.name_len,
@@ -214,16 +214,29 @@ impl SolGrammar {
         wants_whole(self.last_kind())
     }
 
+    // The pair of a row, after the values that came.
+    fn judge_value(&self, words: &[&[u8]], left: u32) -> Result<(u32, Dec), SolReason>
+        requires { self.now.awaited ≡ Awaited.Values left }
+        ensures pair { IfOk result (λ t. pair_in (texts words.now) ≡ Some t) }
+        ensures below { IfOk result (λ t. t.0 < index_limit self.now.sol) }
+        ensures room { OnOk result (self.now.value_count < 4194304) }
+        ensures fine { OnOk result (first_reason (value_tests self.now (texts words.now)) ≡ None) }
+        ensures fault { IfErr result (λ r. first_reason (value_tests self.now (texts words.now))
+            ≡ Some (Here r)) }
+    {
+        let count = self.value_count;
+        let limit = self.index_limit();
+        let whole_only = self.wants_whole();
+        judge_pair(words, limit, whole_only, &self.marks, count)
+    }
+
     /// A value of a suffix.
     pub(crate) fn take_value(&mut self, words: &[&[u8]], left: u32) -> Result<(), Stop<Refusal>>
         requires { self.old.awaited ≡ Awaited.Values left }
-        ensures fine { OnOk result (first_reason (value_tests self.old (texts words.now)) ≡ None) }
-        ensures step { OnOk result (self.new ≡ after_value self.old left (texts words.now)) }
-        ensures fault { IfErr result (λ stop. IfFault stop (λ refusal. first_reason (value_tests self.old (texts words.now)) ≡ Some refusal)) }
+        ensures { Takes (value_tests self.old (texts words.now))
+            (after_value self.old left (texts words.now)) result self.new }
     {
-        let limit = self.index_limit();
-        let whole_only = self.wants_whole();
-        let pair = match judge_value(words, limit, whole_only, &self.marks, self.value_count) {
+        let pair = match self.judge_value(words, left) {
             Ok(pair) => pair,
             Err(reason) => return Err(here(reason)),
         };

@@ -45,14 +45,16 @@ fn put_lines(out: &mut Vec<u8>, lines: &TextLines) -> Result<(), AllocError>
 
 // A line of an option alone.
 fn put_option(out: &mut Vec<u8>, option: i32) -> Result<(), AllocError>
-    ensures { OnOk result (out.new.items ≡ out.old.items ++ lines_text (signed_decimal option ∷ [])) }
+    ensures { OnOk result (out.new.items
+        ≡ out.old.items ++ lines_text (signed_decimal option ∷ [])) }
 {
     put_signed(out, option)?;
     put_end(out)
 }
 
 fn put_options(out: &mut Vec<u8>, options: &[i32]) -> Result<(), AllocError>
-    ensures { OnOk result (out.new.items ≡ out.old.items ++ lines_text (map signed_decimal options.now)) }
+    ensures { OnOk result (out.new.items
+        ≡ out.old.items ++ lines_text (map signed_decimal options.now)) }
 {
     for option in options {
         put_option(out, *option)?;
@@ -83,7 +85,8 @@ fn put_objno(out: &mut Vec<u8>, objno: Option<(i32, i32)>) -> Result<(), AllocEr
 
 // The first line of a suffix.
 fn put_head(out: &mut Vec<u8>, suffix: &SolSuffix) -> Result<(), AllocError>
-    ensures { OnOk result (out.new.items ≡ out.old.items ++ lines_text (head_line suffix.now ∷ [])) }
+    ensures { OnOk result (out.new.items
+        ≡ out.old.items ++ lines_text (head_line suffix.now ∷ [])) }
 {
     put(out, b"suffix")?;
     put_next_number(out, suffix.kind as u64)?;
@@ -104,7 +107,8 @@ fn put_pair(out: &mut Vec<u8>, pair: (u32, Dec)) -> Result<(), AllocError>
 }
 
 fn put_pairs(out: &mut Vec<u8>, values: &[(u32, Dec)]) -> Result<(), AllocError>
-    ensures { OnOk result (out.new.items ≡ out.old.items ++ lines_text (map value_line values.now)) }
+    ensures { OnOk result (out.new.items
+        ≡ out.old.items ++ lines_text (map value_line values.now)) }
 {
     for pair in values {
         put_pair(out, *pair)?;
@@ -123,7 +127,8 @@ fn put_suffix(out: &mut Vec<u8>, suffix: &SolSuffix) -> Result<(), AllocError>
 }
 
 fn put_suffixes(out: &mut Vec<u8>, suffixes: &[SolSuffix]) -> Result<(), AllocError>
-    ensures { OnOk result (out.new.items ≡ out.old.items ++ lines_text (flat_map suffix_lines suffixes.now)) }
+    ensures { OnOk result (out.new.items
+        ≡ out.old.items ++ lines_text (flat_map suffix_lines suffixes.now)) }
 {
     for suffix in suffixes {
         put_suffix(out, suffix)?;
@@ -144,7 +149,9 @@ fn put_sizes(out: &mut Vec<u8>, sol: &Sol) -> Result<(), AllocError>
 
 // An empty line, `Options`, and the options with their number.
 fn put_all_options(out: &mut Vec<u8>, options: &Options) -> Result<(), AllocError>
-    ensures { OnOk result (out.new.items ≡ out.old.items ++ lines_text (([] ∷ codes "Options" ∷ decimal (length options.now) ∷ []) ++ map signed_decimal options.now)) }
+    ensures { OnOk result (out.new.items
+        ≡ out.old.items ++ lines_text (([] ∷ codes "Options" ∷ decimal (length options.now)
+        ∷ []) ++ map signed_decimal options.now)) }
 {
     put(out, b"\nOptions\n")?;
     put_count(out, options.len())?;
