@@ -14,3 +14,7 @@ pub mod Reached
 pub mod NumbersReached
 pub mod SuffixesReached
 pub mod RoundTrip
+pub mod Kept
+pub mod KeptRows
+pub mod KeptTail
+pub mod KeptTexts
