@@ -1,17 +1,15 @@
 -- What is kept by rows of numbers.
-use Rattle.std.proofs.Common.{◌≡◌, ◌∙◌, ℕ, suc, zero, ◌+◌, ◌-◌, ◌<◌, ◌≤◌, ◌^◌, ℤ, pos, Bool, true, false, not, ◌&&◌, ◌||◌, cond, List, [], ◌∷◌, ◌++◌, length, Option, Some, None, inl, inr, refl, sym, ap, subst, arith, ◌==◌, nat_lt}
+use Rattle.std.proofs.Common.{◌≡◌, ℕ, ◌+◌, ◌-◌, ◌<◌, ◌≤◌, ◌^◌, ℤ, pos, Bool, true, false, not, ◌&&◌, ◌||◌, cond, List, [], ◌∷◌, ◌++◌, length, Option, Some, None, inl, inr, refl, subst, arith, ◌==◌, nat_lt}
 use Rattle.std.specs.Prelude.{IfSome, is_none, unwrap_or}
 use Rattle.std.specs.Ordering.{int_eq}
 use Rattle.std.specs.List.{AllByRecursion}
 use Rattle.std.proofs.lemmas.Bool.{ltb-true, ltb-false, eqb-true}
 use Rattle.std.proofs.lemmas.List.{length_push}
-use Rattle.exact_numbers.specs.declared.dec.Dec.{Dec}
 use Rattle.exact_numbers.specs.Numbers.{are_digits, dec_of, has_31_bits, signed_of, whole_of}
 use Rattle.std.specs.Str.Parse.{signed_digits_value, without_leading_sign}
 use Rattle.nl_model.specs.HeaderRules.{has_second_three}
 use Rattle.sol_files.specs.declared.fault.Refusal.{Refusal}
-use Rattle.sol_files.specs.declared.awaited.Awaited.{Awaited}
-use Rattle.sol_files.specs.declared.awaited.Awaited.TheVariants.{OptionCount, Options, Constraints, DualCount, Variables, PrimalCount, Duals, Primals, Tail}
+use Rattle.sol_files.specs.declared.awaited.Awaited.TheVariants.{OptionCount, Options, Constraints, DualCount, Variables, PrimalCount, Duals, Primals}
 use Rattle.text_base.specs.Words.{word_at}
 use Rattle.sol_files.specs.Rows.{Row, number_in}
 use Rattle.sol_files.specs.Standing.{Standing}
@@ -23,9 +21,9 @@ use Rattle.sol_files.specs.Written.{IsSignedPair}
 use Rattle.sol_files.specs.Tests.{row_tests, is_below, is_given_count, is_three}
 use Rattle.text_base.specs.Judged.{first_reason}
 use Rattle.sol_files.specs.Steps.{after_row, options_await, values_await}
-use Rattle.sol_files.specs.Held.{HasNoValues, HasDualCount, AwaitsDuals, AwaitsPrimals, IsReadyAt}
-use Rattle.sol_files.proofs.ReadyLemmas.{ready_counts, ready_dual, ready_primal, with_n_var}
-use Rattle.sol_files.proofs.Kept.{Speaks, HasOptions, HasNoSuffixes, HasSuffixes, NoneBegun, AreAllGiven, KeptAt, KeepsAt, Keeps, options_left}
+use Rattle.sol_files.specs.Held.{HasNoValues, IsReadyAt}
+use Rattle.sol_files.proofs.ReadyLemmas.{ready_counts, ready_dual, ready_primal}
+use Rattle.sol_files.proofs.Kept.{Speaks, HasOptions, HasNoSuffixes, HasSuffixes, NoneBegun, KeptAt, KeepsAt, Keeps}
 
 -- ---- tests without a reason
 

@@ -1,39 +1,35 @@
 -- What is kept by lines of the message, and by those after the values.
-use Rattle.std.proofs.Common.{◌≡◌, ◌∙◌, ℕ, suc, zero, ◌+◌, ◌-◌, ◌<◌, ◌≤◌, ◌^◌, ℤ, Bool, true, false, not, ◌&&◌, ◌||◌, cond, List, [], ◌∷◌, ◌++◌, length, Option, Some, None, refl, sym, ap, subst, arith, ◌==◌, nat_lt, nat_le, append_assoc}
+use Rattle.std.proofs.Common.{◌≡◌, ◌∙◌, ℕ, suc, ◌+◌, ◌-◌, ◌<◌, ◌≤◌, ◌^◌, ℤ, Bool, true, false, not, ◌&&◌, ◌||◌, cond, List, [], ◌∷◌, ◌++◌, length, Option, Some, None, refl, sym, ap, subst, arith, ◌==◌, nat_lt, append_assoc}
 use Rattle.std.specs.Prelude.{IfSome, is_none, is_some, unwrap_or, codes}
 use Rattle.std.specs.Option.{option_map_or}
 use Rattle.std.proofs.lemmas.Slice.Eq.{bytes_eq-Decides}
 use Rattle.std.specs.Str.Parse.{digits_value}
 use Rattle.std.specs.List.{AllByRecursion, sum_by}
-use Rattle.std.proofs.lemmas.Bool.{and_from, and_parts, ltb-true, ltb-false, leb-true, leb-false, eqb-true, eqb-false}
+use Rattle.std.proofs.lemmas.Bool.{and_from, and_parts, ltb-true, leb-true, leb-false, eqb-false}
 use Rattle.std.proofs.lemmas.List.{length_push, length-append, append-nil}
 use Rattle.std.proofs.lemmas.List.Sums.{sum_by-cons}
 use Rattle.exact_numbers.specs.declared.dec.Dec.{Dec}
-use Rattle.exact_numbers.specs.Numbers.{are_digits, dec_of, has_31_bits, is_whole, signed_of, whole_of}
+use Rattle.exact_numbers.specs.Numbers.{are_digits, dec_of, is_whole, signed_of, whole_of}
 use Rattle.nl_model.specs.SuffixKinds.{object_limit, wants_whole}
 use Rattle.text_base.specs.Cut.{IsTextLine}
 use Rattle.text_base.specs.Judged.{first_reason}
 use Rattle.text_base.proofs.FirstReasons.{none_each}
 use Rattle.text_base.specs.Names.{is_name}
 use Rattle.text_base.specs.Words.{word_at, begins}
-use Rattle.sol_files.specs.declared.fault.Refusal.{Refusal}
 use Rattle.sol_files.specs.declared.fault.Refusal.TheVariants.{Here, Late as IsLate}
-use Rattle.sol_files.specs.declared.fault.SolReason.TheVariants.{BadLine, BadNumber, Extra, IndexOut, RepeatedIndex, TooLarge}
-use Rattle.sol_files.specs.declared.awaited.Awaited.{Awaited}
-use Rattle.sol_files.specs.declared.awaited.Awaited.TheVariants.{Message, OptionCount, Tail, Name, Table, Values}
+use Rattle.sol_files.specs.declared.fault.SolReason.TheVariants.{Extra, TooLarge}
+use Rattle.sol_files.specs.declared.awaited.Awaited.TheVariants.{Message, Tail, Name, Table, Values}
 use Rattle.sol_files.specs.declared.awaited.SuffixHead.{SuffixHead}
 use Rattle.sol_files.specs.declared.suffix.SolSuffix.{SolSuffix}
-use Rattle.sol_files.specs.Sol.{Sol}
-use Rattle.sol_files.specs.Rows.{Row, number_in, both, objno_in, head_in, pair_in}
+use Rattle.sol_files.specs.Rows.{Row, number_in, both, objno_in, pair_in}
 use Rattle.sol_files.specs.Parts.{is_options, rest_awaits, change_last, last_of}
 use Rattle.sol_files.specs.Standing.{Standing, message_count}
 use Rattle.sol_files.specs.Built.{with_table_line}
 use Rattle.sol_files.specs.Tests.{row_tests, tail_tests, message_tests, name_tests, is_below, objno_tests, suffix_tests, has_table_room, are_head_numbers, has_index, index_limit, last_kind, last_values, value_tests}
 use Rattle.sol_files.specs.Steps.{after_message, after_row, after_name, after_table, after_objno, after_suffix_head, held_lines, lines_with, listed, or_else, named_suffix, with_values}
 use Rattle.sol_files.specs.Written.{IsSaidLine, IsSignedPair, IsWritableSuffix, are_values}
-use Rattle.sol_files.proofs.LastLemmas.{Ends, ends_with, change_last-end, last_of-end}
 use Rattle.sol_files.proofs.ShortWords.{row-line}
-use Rattle.sol_files.proofs.Kept.{Speaks, HasOptions, HasSuffixes, FitsHead, Given, Late, KeptAt, KeepsAt, Keeps}
+use Rattle.sol_files.proofs.Kept.{Speaks, HasOptions, Late, KeptAt, KeepsAt, Keeps}
 use Rattle.sol_files.proofs.KeptRows.{IsThere, all_push, fine_next, is_number, is_there, signed_of-fits, was_not}
 
 -- ---- the message

@@ -1,9 +1,9 @@
 -- A value that was read keeps the rules of values.
-use Rattle.std.proofs.Common.{◌≡◌, ◌∙◌, ℕ, zero, suc, ◌+◌, ◌<◌, ◌≤◌, Bool, true, false, not, cond, List, [], ◌∷◌, ◌++◌, length, take, drop, Option, Some, None, refl, sym, ap, subst, arith, ◌==◌}
+use Rattle.std.proofs.Common.{◌≡◌, ◌∙◌, ℕ, zero, suc, ◌<◌, ◌≤◌, Bool, true, false, cond, List, [], ◌∷◌, ◌++◌, length, take, drop, Option, Some, None, refl, sym, ap, subst, arith, ◌==◌}
 use Rattle.std.specs.List.{AllByRecursion}
 use Rattle.std.proofs.lemmas.List.{take_all, drop_all}
 use Rattle.text_base.specs.Cut.{IsTextLine}
-use Rattle.text_base.specs.Judged.{Last, Open, Bad, End, IsClean, first_reason, last_reason, reason_after}
+use Rattle.text_base.specs.Judged.{Last, End, IsClean, first_reason, last_reason, reason_after}
 use Rattle.text_base.specs.Lines.{scan}
 use Rattle.text_base.specs.Reading.{lines_of, last_of, last_by}
 use Rattle.text_base.specs.Words.{row_of}

@@ -107,7 +107,7 @@ module _ (message : List (List ℕ)) (rows : List Row) where
       }
 
   met_pieces : (pieces : List Piece) → met message (body_with pieces) ≡ made (awaits_after rows (last_of pieces)) (filter_map suffix_of pieces) (length pieces) (table_total pieces) (value_total pieces)
-  unfolding met made body_with sol_of
+  unfolding met made sol_of
   met_pieces pieces = refl
 
   same_made : (a a' : Awaited) (ss ss' : List SolSuffix) (c c' t t' v v' : ℕ) → a ≡ a' → ss ≡ ss' → c ≡ c' → t ≡ t' → v ≡ v' → made a ss c t v ≡ made a' ss' c' t' v'

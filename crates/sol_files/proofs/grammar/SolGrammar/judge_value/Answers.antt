@@ -1,8 +1,7 @@
-use Rattle.std.proofs.Common.{◌≡◌, ◌∙◌, ◌<◌, ap, sym, arith}
-use Rattle.std.specs.Prelude.{OnOk, IfOk, IfErr}
+use Rattle.std.proofs.Common.{ap, arith}
 use Rattle.text_base.specs.Words.{texts}
 use Rattle.sol_files.specs.Standing.{Standing}
-use Rattle.sol_files.specs.Tests.{index_limit, value_tests}
+use Rattle.sol_files.specs.Tests.{value_tests}
 use Rattle.sol_files.specs.Judging.{marked_value_tests}
 use Rattle.sol_files.proofs.ReadyLemmas.{value_awaited}
 use Rattle.sol_files.proofs.JudgingLemmas.{judged, judged_ok, judged_err}

@@ -8,7 +8,7 @@ use Rattle.sol_files.specs.Grammar.{sol_rules, SaysSol}
 use Rattle.sol_files.specs.Reader.{Reading, IsFed, ReadsSol}
 use Rattle.sol_files.specs.Told.{told_stop}
 use Rattle.sol_files.specs.Sol.{Sol}
-use Rattle.sol_files.specs.Written.{IsWritable, sol_text}
+use Rattle.sol_files.specs.Written.{sol_text}
 use Rattle.sol_files.proofs.RoundTrip.{answers_back}
 use Rattle.sol_files.proofs.reader.SolReader.finish.Goals as goal
 
