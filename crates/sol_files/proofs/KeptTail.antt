@@ -144,15 +144,18 @@ kept_head s words h f =
       objno = h.objno;
       rest = (
         record { kind = kind; name_len = number_in_31 words 3; table_len = number_in_31 words 4 },
-        (record { duals_given = given.duals_given; primals_given = given.primals_given }, record {
-          each = old.each;
-          begun = omega (arith, begun);
-          begun_room = omega (arith, room);
-          tables = omega (arith, rows);
-          table_room = omega (arith, tables);
-          values = old.values;
-          value_room = old.value_room;
-        }),
+        (
+          record { duals_given = given.duals_given; primals_given = given.primals_given },
+          record {
+            each = old.each;
+            begun = omega (arith, begun);
+            begun_room = omega (arith, room);
+            tables = omega (arith, rows);
+            table_room = omega (arith, tables);
+            values = old.values;
+            value_room = old.value_room;
+          },
+        ),
       );
     }
 
@@ -229,17 +232,18 @@ kept_name s head words h f =
     let begun = old.begun in
     let rows = old.tables in
     let values = old.values in
-    let one : IsWritableSuffix s.sol.n_var s.sol.n_con x = record { kind = fits.kind; name = (and_parts _ _ is).1; name_len = fits.name_len; table_len = fits.table_len; table = tt; values = refl } in
-    await_rest next head.table_lines head.value_count h.said h.options h.n_con h.n_var h.objno
-    (record { duals_given = given.duals_given; primals_given = given.primals_given }, record {
-      each = all_push (IsWritableSuffix s.sol.n_var s.sol.n_con) s.sol.suffixes x old.each one;
-      begun = omega (arith, begun, length_push s.sol.suffixes x);
-      begun_room = old.begun_room;
-      tables = omega (arith, rows, sum_push (λ (y : SolSuffix). length y.table) s.sol.suffixes x);
-      table_room = old.table_room;
-      values = omega (arith, values, sum_push (λ (y : SolSuffix). length y.values) s.sol.suffixes x);
-      value_room = old.value_room;
-    })
+    await_rest next head.table_lines head.value_count h.said h.options h.n_con h.n_var h.objno (
+      record { duals_given = given.duals_given; primals_given = given.primals_given },
+      record {
+        each = all_push (IsWritableSuffix s.sol.n_var s.sol.n_con) s.sol.suffixes x old.each (record { kind = fits.kind; name = (and_parts _ _ is).1; name_len = fits.name_len; table_len = fits.table_len; table = tt; values = refl });
+        begun = omega (arith, begun, length_push s.sol.suffixes x);
+        begun_room = old.begun_room;
+        tables = omega (arith, rows, sum_push (λ (y : SolSuffix). length y.table) s.sol.suffixes x);
+        table_room = old.table_room;
+        values = omega (arith, values, sum_push (λ (y : SolSuffix). length y.values) s.sol.suffixes x);
+        value_room = old.value_room;
+      },
+    )
 
 -- ---- changes of the last suffix
 
@@ -273,16 +277,18 @@ kept_table s tables values line text h =
     let sums = old.values in
     let kept : (x : SolSuffix) → IsWritableSuffix s.sol.n_var s.sol.n_con x → IsWritableSuffix s.sol.n_var s.sol.n_con (f x) =
     λ x w. record { kind = w.kind; name = w.name; name_len = w.name_len; table_len = w.table_len; table = all_push IsTextLine x.table line w.table text; values = w.values } in
-    await_rest (after_table s tables values line) (tables - 1) values h.said h.options h.n_con h.n_var h.objno
-    (record { duals_given = given.duals_given; primals_given = given.primals_given }, record {
-      each = all_changed (IsWritableSuffix s.sol.n_var s.sol.n_con) f s.sol.suffixes kept old.each;
-      begun = omega (arith, begun, length_changed f s.sol.suffixes);
-      begun_room = old.begun_room;
-      tables = omega (arith, some, rows, sum_changed (λ (y : SolSuffix). length y.table) f 1 s.sol.suffixes (λ x. omega (arith, length_push x.table line)));
-      table_room = old.table_room;
-      values = omega (arith, sums, sum_changed (λ (y : SolSuffix). length y.values) f 0 s.sol.suffixes (λ x. omega arith));
-      value_room = old.value_room;
-    })
+    await_rest (after_table s tables values line) (tables - 1) values h.said h.options h.n_con h.n_var h.objno (
+      record { duals_given = given.duals_given; primals_given = given.primals_given },
+      record {
+        each = all_changed (IsWritableSuffix s.sol.n_var s.sol.n_con) f s.sol.suffixes kept old.each;
+        begun = omega (arith, begun, length_changed f s.sol.suffixes);
+        begun_room = old.begun_room;
+        tables = omega (arith, some, rows, sum_changed (λ (y : SolSuffix). length y.table) f 1 s.sol.suffixes (λ x. omega (arith, length_push x.table line)));
+        table_room = old.table_room;
+        values = omega (arith, sums, sum_changed (λ (y : SolSuffix). length y.values) f 0 s.sol.suffixes (λ x. omega arith));
+        value_room = old.value_room;
+      },
+    )
 
 -- ---- a value
 
@@ -345,13 +351,15 @@ kept_value s left words h f =
     let sums = old.values in
     let next : Standing = record s { awaited = rest_awaits 0 (left - 1); sol = record s.sol { suffixes = change_last g s.sol.suffixes }; value_count = s.value_count + 1 } in
     subst (λ o. Keeps (record s { awaited = rest_awaits 0 (left - 1); sol = record s.sol { suffixes = change_last (with_values (listed o)) s.sol.suffixes }; value_count = s.value_count + length (listed o) })) (sym (pair_there words index.value number.value index.is number.is))
-    (await_rest next 0 (left - 1) h.said h.options h.n_con h.n_var h.objno
-    (record { duals_given = given.duals_given; primals_given = given.primals_given }, record {
-      each = each_value s.sol.n_var s.sol.n_con t s.sol.suffixes old.each below fresh whole;
-      begun = omega (arith, begun, length_changed g s.sol.suffixes);
-      begun_room = old.begun_room;
-      tables = omega (arith, rows, sum_changed (λ (y : SolSuffix). length y.table) g 0 s.sol.suffixes (λ x. omega arith));
-      table_room = old.table_room;
-      values = omega (arith, sums, sum_changed (λ (y : SolSuffix). length y.values) g 1 s.sol.suffixes (λ x. omega (arith, length_push x.values t)));
-      value_room = omega (arith, room);
-    }))
+    (await_rest next 0 (left - 1) h.said h.options h.n_con h.n_var h.objno (
+      record { duals_given = given.duals_given; primals_given = given.primals_given },
+      record {
+        each = each_value s.sol.n_var s.sol.n_con t s.sol.suffixes old.each below fresh whole;
+        begun = omega (arith, begun, length_changed g s.sol.suffixes);
+        begun_room = old.begun_room;
+        tables = omega (arith, rows, sum_changed (λ (y : SolSuffix). length y.table) g 0 s.sol.suffixes (λ x. omega arith));
+        table_room = old.table_room;
+        values = omega (arith, sums, sum_changed (λ (y : SolSuffix). length y.values) g 1 s.sol.suffixes (λ x. omega (arith, length_push x.values t)));
+        value_room = omega (arith, room);
+      },
+    ))

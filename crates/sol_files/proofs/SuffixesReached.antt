@@ -110,9 +110,7 @@ word_name word h =
 
 name_short : (word : List ℕ) → is_name word ≡ true → length word ≤ 65536
 name_short word h =
-    let parts = and_parts _ _ h in
-    let sizes = and_parts _ _ parts.0 in
-    let most : length word ≤ 255 = leb-true (length word) 255 sizes.1 in
+    let most : length word ≤ 255 = leb-true (length word) 255 (and_parts _ _ (and_parts _ _ h).0).1 in
     omega (arith, most)
 
 name_reached : (lines : List (List ℕ)) (s : Sol) (d p c t v : ℕ) (head : SuffixHead) (name : List ℕ) → is_name name ≡ true → IsReached lines (at (Name head) s d p c t v)
