@@ -1,5 +1,6 @@
 #!/usr/bin/env bash
 # Times the built program beside a plain converter in C, in one run, and prints the ratio, the growth and the peak.
+# Where `clp` is there (Debian's coinor-clp), it also times `mps`, which reads and writes, beside clp reading alone.
 #
 #     bench/run.sh PROGRAM [BASELINE]
 #
@@ -47,4 +48,17 @@ for form in list defined; do
     python3 "$here/generate.py" "$work/$form.nl" 100000 100000 10 "$form"
     read -r seconds peak <<<"$(measure "$program" export "$work/$form.nl")"
     echo "  1000000 terms as $form: $seconds s, $peak kilobytes"
+done
+
+command -v clp >/dev/null || { echo "clp is not there: mps is not timed"; exit 0; }
+for size in 100000 200000 400000; do
+    "$program" export "$work/$size.nl" | sed '1s/$/ FREE/' >"$work/$size.mps"
+    read -r seconds peak <<<"$(measure "$program" mps "$work/$size.mps")"
+    read -r beside other <<<"$(measure clp "$work/$size.mps" -quit)"
+    python3 - "$size" "$seconds" "$peak" "$beside" "$(stat -c %s "$work/$size.mps")" <<'P'
+import sys
+rows, seconds, peak, beside, size = (float(a) for a in sys.argv[1:])
+entries = rows * 10
+print(f"{entries:9.0f} entries ({size / 1e6:.0f} MB): mps {seconds:.2f} s beside {beside:.2f} s, ratio {seconds / beside:.2f}; peak {peak * 1024 / entries:.0f} bytes an entry")
+P
 done

@@ -32,7 +32,7 @@ def mps(body):
 
 
 def text(lines, end="\n"):
-    return (end.join(lines) + end).encode()
+    return "".join(line + end for line in lines).encode()
 
 
 KNAPSACK = """g3 1 1 0\t# problem knap

@@ -1,5 +1,5 @@
 -- The lines that tell faults of .nl texts, of the fold and of scaling; an .nl file is the first of its command.
-use Rattle.std.specs.Prelude.{ℕ, List, [], ◌++◌, codes, Option, Some, None}
+use Rattle.std.specs.Prelude.{ℕ, ◌<◌, ◌≤◌, List, [], ◌++◌, codes, Option, Some, None, IsSomeAnd}
 use Rattle.std.specs.Fmt.{decimal}
 use Rattle.nl_model.specs.declared.at.At.{At}
 use Rattle.nl_segments.specs.declared.fault.NlFault.{NlFault}
@@ -70,6 +70,19 @@ fold_line places (TooWide at) = placed_line places at (codes "too wide")
 fold_line places (RefusedPower at) = placed_line places at (codes "refused power")
 fold_line places (FoldTooLarge at) = placed_line places at (codes "fold too large")
 fold_line places (NoSuchObjective k) = refusal 1 (codes "objective") k (codes "no such objective")
+
+-- a place has a line, which is one of so many
+abbrev pub HasLineUpTo : ℕ → PlaceLines → At → Type 0
+HasLineUpTo count places at = IsSomeAnd (line_of places at) (λ line. (0 < line) × (line ≤ count))
+
+-- the place of a fault of the fold, where it has one, has such a line
+abbrev pub HasFaultLine : ℕ → PlaceLines → FoldFault → Type 0
+HasFaultLine count places (Nonlinear at) = HasLineUpTo count places at
+HasFaultLine count places (DivideByZero at) = HasLineUpTo count places at
+HasFaultLine count places (TooWide at) = HasLineUpTo count places at
+HasFaultLine count places (RefusedPower at) = HasLineUpTo count places at
+HasFaultLine count places (FoldTooLarge at) = HasLineUpTo count places at
+HasFaultLine count places (NoSuchObjective k) = Unit {0}
 
 -- the line of a fault of scaling, with objective k
 abbrev pub scale_line : ℕ → ScaleFault → List ℕ

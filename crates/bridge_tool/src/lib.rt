@@ -16,6 +16,6 @@ mod top;
 mod transfer;
 
 pub use command::{Command, command_of, plain_number};
-pub use laws::{one_outcome, programs_mean_their_files};
+pub use laws::{one_outcome, programs_mean_their_files, told_lines_are_lines};
 pub use top::bridge;
 pub use transfer::{Feed, Unread, feed_text, tell_line, write_all};

@@ -31,6 +31,16 @@ pub(crate) fn command(
     Ok(run::<Brand>(alloc, &all, desk, Blank::new(1)))
 }
 
+/// The first lines of a text.
+pub(crate) fn first_lines(alloc: Global, text: &str, count: usize) -> Result<String, AllocError> {
+    let mut out = String::new(alloc);
+    for line in text.lines().take(count) {
+        out.push_str(line)?;
+        out.push_str("\n")?;
+    }
+    Ok(out)
+}
+
 // Whether words are bad, by status and line.
 fn are_bad(alloc: Global, words: &[&str]) -> Result<bool, AllocError> {
     let mut desk = MemoryDesk::new(alloc, 100)?;

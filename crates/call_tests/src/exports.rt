@@ -1,7 +1,7 @@
 // Whole texts, with what is written or told for each.
 ghost use Rattle.std.specs.Prelude.{◌<◌};
 
-use crate::commands::command;
+use crate::commands::{command, first_lines};
 use crate::nl_texts::{KNAPSACK, KNAPSACK_WRITTEN, Sizes, header, one_row, text_of};
 use itoa::Buffer;
 use std::alloc::{AllocError, Global};
@@ -77,16 +77,6 @@ fn exports_a_knapsack(rt: HostRuntime) -> Result<(), Fail> {
     Ok(())
 }
 
-// The first lines of a text.
-fn first_lines(alloc: Global, text: &str, count: usize) -> Result<String, AllocError> {
-    let mut out = String::new(alloc);
-    for line in text.lines().take(count) {
-        out.push_str(line)?;
-        out.push_str("\n")?;
-    }
-    Ok(out)
-}
-
 // Whether the front of the knapsack is refused with this line.
 fn front_tells(alloc: Global, count: usize, told: &str) -> Result<bool, AllocError> {
     let text = first_lines(alloc, KNAPSACK, count)?;
@@ -118,11 +108,23 @@ fn refuses_texts(rt: HostRuntime) -> Result<(), Fail> {
             "r\n1 1\nb\n3\n3\n3\nJ0 3\n0 1\n1 1\n2 1\n2 1\nC0\nn0\n",
             "refused line 21: extra line\n",
         ),
-        (row, "r\n1 1\nb\n3\nJ0 1\n0 .\n", "refused line 16: bad number\n"),
-        (row, "r\n1 1\nb\n3\nJ0 1\n0 1e401\n", "refused line 16: bad number\n"),
+        (
+            row,
+            "r\n1 1\nb\n3\nJ0 1\n0 .\n",
+            "refused line 16: bad number\n",
+        ),
+        (
+            row,
+            "r\n1 1\nb\n3\nJ0 1\n0 1e401\n",
+            "refused line 16: bad number\n",
+        ),
         (row, "F0 1 -1 f\n", "refused line 11: refused segment\n"),
         (row, "r\n5 1 1\n", "refused line 12: complementarity\n"),
-        (row, "S0 1 sosno\n", "refused line 11: special ordered sets\n"),
+        (
+            row,
+            "S0 1 sosno\n",
+            "refused line 11: special ordered sets\n",
+        ),
         (row, "C0\no43\nv0\n", "refused line 12: refused opcode 43\n"),
     ];
     for (sizes, body, told) in cases {
@@ -210,7 +212,11 @@ fn refuses_expressions(rt: HostRuntime) -> Result<(), Fail> {
             "C0\no3\nv0\no1\nn2\nn2\nr\n1 1\nb\n3\n3\nJ0 2\n0 0\n1 0\n",
             "refused line 12: division by zero\n",
         ),
-        (row, "r\n1 1\nb\n3\nJ0 1\n0 2e38\n", "refused line 16: too wide\n"),
+        (
+            row,
+            "r\n1 1\nb\n3\nJ0 1\n0 2e38\n",
+            "refused line 16: too wide\n",
+        ),
         (
             row,
             "C0\no0\no5\nn1.5\nn0.5\no11\n2\nn4\no14\nn-7.5\nr\n1 10\nb\n3\nJ0 1\n0 1\n",
@@ -226,7 +232,11 @@ fn refuses_expressions(rt: HostRuntime) -> Result<(), Fail> {
             "C0\no0\no5\nn10\nn127\no11\n2\nn4\no14\nn-7.5\nr\n1 10\nb\n3\nJ0 1\n0 1\n",
             "refused line 13: too wide\n",
         ),
-        (row, "r\n1 2e38\nb\n3\nJ0 1\n0 1\n", "refused row 0: row too wide\n"),
+        (
+            row,
+            "r\n1 2e38\nb\n3\nJ0 1\n0 1\n",
+            "refused row 0: row too wide\n",
+        ),
         (
             header("2 0 1", "0 2", "0"),
             "O0 0\no0\no3\nv0\nn170141183460469231731687303715884105727\no3\nv1\nn170141183460469231731687303715884105723\nb\n3\n3\n",

@@ -3,11 +3,17 @@
 #![tactic(auto)]
 
 #[cfg(test)]
+mod certificates;
+#[cfg(test)]
 mod commands;
 #[cfg(test)]
 mod exports;
 #[cfg(test)]
 mod headers;
+#[cfg(test)]
+mod mps_commands;
+#[cfg(test)]
+mod mps_texts;
 #[cfg(test)]
 mod nl_texts;
 #[cfg(test)]
@@ -15,7 +21,13 @@ mod numbers;
 #[cfg(test)]
 mod parts;
 #[cfg(test)]
+mod programs;
+#[cfg(test)]
+mod rewritten;
+#[cfg(test)]
 mod segments;
+#[cfg(test)]
+mod sol_texts;
 #[cfg(test)]
 mod stages;
 #[cfg(test)]

@@ -1,6 +1,8 @@
 // Numbers as texts, and worked sums and products.
 
-use exact_numbers::{Dec, Frac, NumFault, NumText, read_dec, read_whole};
+use exact_numbers::{
+    Dec, Frac, NumFault, NumText, are_digits, dec_of, read_dec, read_whole, signed_of, whole_of,
+};
 use std::test::Fail;
 
 const LARGEST: i128 = 170141183460469231731687303715884105727;
@@ -109,4 +111,17 @@ fn conversions(rt: HostRuntime) -> Result<(), Fail> {
     assert!(rt; Frac::new(1, 3).ok_or("third")?.to_dec().is_none());
     assert_eq!(rt; Frac::new(1, 60).ok_or("sixtieth")?.cofactor(), 3);
     Ok(())
+}
+
+#[test]
+fn words_that_are_numbers(rt: HostRuntime) {
+    assert_eq!(rt; whole_of(b"007"), Some(7));
+    assert_eq!(rt; whole_of(b"2147483648"), None);
+    assert_eq!(rt; whole_of(b"+7"), None);
+    assert!(rt; are_digits(b"99999999999"));
+    assert_eq!(rt; signed_of(b"-2147483648"), Some(-2_147_483_648));
+    assert_eq!(rt; signed_of(b"2147483648"), None);
+    assert_eq!(rt; dec_of(b"-1.5e1"), Dec::new(-15, 0));
+    assert_eq!(rt; dec_of(b"1e401"), None);
+    assert_eq!(rt; dec_of(b"."), None);
 }

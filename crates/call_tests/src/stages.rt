@@ -5,6 +5,7 @@ use crate::nl_texts::{KNAPSACK, KNAPSACK_WRITTEN};
 use exact_numbers::Frac;
 use linear_fold::{Form, Pad, Wide, fold_all};
 use mps_writer::write_mps;
+use nl_model::NlFile;
 use nl_segments::read_nl;
 use row_scaling::{program, scale_rows};
 use std::alloc::Global;
@@ -37,22 +38,29 @@ fn a_multiple_is_added(rt: HostRuntime) -> Result<(), Fail> {
 }
 
 // The written text of a file with its first objective.
-fn exported<L: Ledger>(alloc: Global, text: &str, blank: Blank) -> Option<Vec<u8>>
+fn exported<L: Ledger>(alloc: Global, file: &NlFile, blank: Blank) -> Result<Vec<u8>, Fail>
     requires name { blank.name ≡ L.name }
     requires parts { blank.parts ≡ L.parts }
     requires some { 0 < blank.parts }
 {
     let mut steps = Steps::<L>::new(blank);
-    let read = read_nl(alloc, text.as_bytes()).ok()?;
-    let linear = fold_all(alloc, &read.file, 0, &mut steps).ok()?;
-    let scaled = scale_rows(alloc, &linear).ok()?;
-    let mps = program(alloc, &scaled).ok()?;
-    write_mps(alloc, &mps).ok()
+    let Ok(linear) = fold_all(alloc, file, 0, &mut steps) else {
+        return Err(Fail::from("fold"));
+    };
+    let Ok(scaled) = scale_rows(alloc, &linear) else {
+        return Err(Fail::from("scaling"));
+    };
+    let mps = program(alloc, &scaled)?;
+    let out = write_mps(alloc, &mps)?;
+    Ok(out)
 }
 
 #[test]
 fn a_file_goes_through_all_stages(rt: HostRuntime) -> Result<(), Fail> {
-    let written = exported::<Brand>(rt.alloc(), KNAPSACK, Blank::new(1)).ok_or("stopped")?;
+    let Ok(read) = read_nl(rt.alloc(), KNAPSACK.as_bytes()) else {
+        return Err(Fail::from("refused"));
+    };
+    let written = exported::<Brand>(rt.alloc(), &read.file, Blank::new(1))?;
     assert_eq!(rt; written.as_slice(), KNAPSACK_WRITTEN.as_bytes());
     Ok(())
 }

@@ -3,8 +3,8 @@ ghost use Rattle.std.specs.Prelude.{◌≡◌, List, ℕ, length, None};
 
 use std::test::Fail;
 use text_base::{
-    BadName, Desk, Failed, Grammar, LineFault, Lines, MemoryDesk, Name, Row, Stop, Taken,
-    TextFault, TextLines, read, read_pieces, strip_comment, words,
+    BadName, Desk, Failed, Grammar, LineFault, Lines, Marks, MemoryDesk, Name, Row, Stop, Taken,
+    TextFault, TextLines, is_name, read, read_pieces, strip_comment, words,
 };
 
 #[test]
@@ -46,6 +46,28 @@ fn names_have_1_to_255_bytes(rt: HostRuntime) -> Result<(), Fail> {
         let bad = Name::of(alloc, text);
         assert!(rt; matches!(&bad, Err(Stop::Fault(BadName))));
     }
+    Ok(())
+}
+
+#[test]
+fn a_tested_name(rt: HostRuntime) -> Result<(), Fail> {
+    let text = b"x[1]".as_slice();
+    if is_name(text) {
+        let name = Name::tested(rt.alloc(), text)?;
+        assert_eq!(rt; name.bytes(), text);
+        return Ok(());
+    }
+    panic!(rt; "the text is a name");
+}
+
+#[test]
+fn marks_are_taken_away_at_once(rt: HostRuntime) -> Result<(), Fail> {
+    let mut marks = Marks::new(rt.alloc(), 2)?;
+    marks.mark(1);
+    assert!(rt; marks.is_marked(1));
+    assert!(rt; !marks.is_marked(0));
+    marks.begin(rt.alloc(), 4)?;
+    assert!(rt; !marks.is_marked(1));
     Ok(())
 }
 

@@ -41,8 +41,8 @@ ShortScaled r = length r.name ≤ 8
 abbrev pub ShortMpsRow : MpsRow → Type 0
 ShortMpsRow r = length r.name ≤ 8
 
-abbrev pub ShortColumn : {V : Type 0} → Column V → Type 0
-ShortColumn c = length c.name ≤ 8
+abbrev pub ShortColumn : (V : Type 0) → Column V → Type 0
+ShortColumn V c = length c.name ≤ 8
 
 pub rows_exported : (factor : ℕ → ℕ) (i : ℕ) (rs : List Row) → All ShortRow rs → All ShortScaled (exported_rows factor i rs)
 unfolding exported_rows
@@ -54,11 +54,11 @@ rows_exported factor i (r ∷ rs) h = by (has_side r.side.lower r.side.upper) (r
     by true more = All-cons ShortScaled (scaled_row (factor i) r) (exported_rows factor (suc i) rs) (All-head ShortRow r rs h) more
     by false more = more
 
-columns_exported : (objective : Form) (rows : List ScaledRow) (j : ℕ) (vs : List Variable) → All ShortVariable vs → All (ShortColumn {ℚ}) (columns_of objective rows j vs)
+columns_exported : (objective : Form) (rows : List ScaledRow) (j : ℕ) (vs : List Variable) → All ShortVariable vs → All (ShortColumn ℚ) (columns_of objective rows j vs)
 unfolding columns_of
-columns_exported objective rows j [] h = All-nil (ShortColumn {ℚ})
+columns_exported objective rows j [] h = All-nil (ShortColumn ℚ)
 columns_exported objective rows j (v ∷ vs) h =
-    All-cons (ShortColumn {ℚ}) (record { name = v.name; marked = v.whole; entries = column_entries objective rows j }) (columns_of objective rows (suc j) vs)
+    All-cons (ShortColumn ℚ) (record { name = v.name; marked = v.whole; entries = column_entries objective rows j }) (columns_of objective rows (suc j) vs)
     (All-head ShortVariable v vs h) (columns_exported objective rows (suc j) vs (All-tail ShortVariable v vs h))
 
 pub rows_of_program : (rows : List ScaledRow) (objective : Form) (vs : List Variable) (maximise : Bool) → All ShortScaled rows → All ShortMpsRow (program_of rows objective vs maximise).rows
@@ -66,6 +66,6 @@ unfolding program_of
 rows_of_program rows objective vs maximise h =
     All-cons ShortMpsRow (record { name = obj_name; kind = N }) (map mps_row rows) (omega arith) (All-map ShortMpsRow mps_row rows h)
 
-pub columns_of_program : (rows : List ScaledRow) (objective : Form) (vs : List Variable) (maximise : Bool) → All ShortVariable vs → All (ShortColumn {ℚ}) (program_of rows objective vs maximise).columns
+pub columns_of_program : (rows : List ScaledRow) (objective : Form) (vs : List Variable) (maximise : Bool) → All ShortVariable vs → All (ShortColumn ℚ) (program_of rows objective vs maximise).columns
 unfolding program_of
 columns_of_program rows objective vs maximise h = columns_exported objective rows 0 vs h

@@ -5,7 +5,7 @@ use Rattle.std.proofs.lemmas.List.Elements.{All-nil, All-cons, All-head, All-tai
 use Rattle.fractions.specs.Rational.{ℚ}
 use Rattle.linear_programs.specs.Linear.{Linear, variable_count}
 use Rattle.exact_numbers.specs.declared.dec.Dec.{Dec}
-use Rattle.exact_numbers.specs.Values.{dec_value, value_text, FitsDec, fits_dec}
+use Rattle.exact_numbers.specs.Values.{dec_value, value_text, FitsDec, fits_dec, text_of}
 use Rattle.exact_numbers.proofs.Spelling.{fits_dec_in, fits_dec_out, value_text-decimal}
 use Rattle.exported_program.specs.Export.{IsDecimal, IsProgramOf, factor_of_row, factor_of_objective}
 use Rattle.exported_program.specs.Factor.{objective_numbers}
@@ -16,7 +16,6 @@ use Rattle.mps_model.specs.Text.{mps_text_by}
 use Rattle.mps_model.specs.Valid.{IsMps}
 use Rattle.mps_model.proofs.Texts.{text_by_values}
 use Rattle.mps_reader.specs.Reader.{IsMpsText}
-use Rattle.written_texts.specs.Lines.{text_of}
 use Rattle.mps_reader.specs.Written.{HasShortNames, mps_text}
 use Rattle.mps_reader.proofs.RoomLemmas.{room}
 use Rattle.mps_reader.proofs.RoundTrip.{written_again}
@@ -49,7 +48,7 @@ all_fit (x ∷ xs) = by (fits x) (all_fit xs)
 -- a program with short names
 record IsShort (m : Mps ℚ) : Type 0 where
   rows : All ShortMpsRow m.rows
-  columns : All (ShortColumn {ℚ}) m.columns
+  columns : All (ShortColumn ℚ) m.columns
 
 plain_short : (f : Linear) (factor : ℕ → ℕ) → All ShortRow f.rows → All ShortVariable f.variables → IsShort (program f factor)
 plain_short f factor rows vs =
@@ -71,11 +70,11 @@ tied_short f factor g rows vs =
       columns = columns_of_program (exported ++ last) (z_form n) (f.variables ++ z_variable ∷ []) f.maximise (All-append ShortVariable f.variables (z_variable ∷ []) vs last_column);
     }
 
-columns_named : (cs : List (Column Dec)) → All (ShortColumn {ℚ}) (map (column_with dec_value) cs) → All (ShortColumn {Dec}) cs
-columns_named [] h = All-nil (ShortColumn {Dec})
+columns_named : (cs : List (Column Dec)) → All (ShortColumn ℚ) (map (column_with dec_value) cs) → All (ShortColumn Dec) cs
+columns_named [] h = All-nil (ShortColumn Dec)
 columns_named (c ∷ cs) h =
-    All-cons (ShortColumn {Dec}) c cs (All-head (ShortColumn {ℚ}) (column_with dec_value c) (map (column_with dec_value) cs) h)
-    (columns_named cs (All-tail (ShortColumn {ℚ}) (column_with dec_value c) (map (column_with dec_value) cs) h))
+    All-cons (ShortColumn Dec) c cs (All-head (ShortColumn ℚ) (column_with dec_value c) (map (column_with dec_value) cs) h)
+    (columns_named cs (All-tail (ShortColumn ℚ) (column_with dec_value c) (map (column_with dec_value) cs) h))
 
 of_values : (m : Mps Dec) → IsShort (with_values dec_value m) → HasShortNames m
 unfolding with_values

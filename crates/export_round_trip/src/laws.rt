@@ -14,10 +14,13 @@ ghost use Rattle.export_round_trip.specs.ReadAs.{IsReadAs};
 
 /// The rows and columns of an exported program have names of at most eight bytes.
 pub fn exported_names_are_short()
-    ensures { (f : File) (k : ℕ) (m : Mps Dec) → IsFile f → IsProgramOf (linear_of f k) m → HasShortNames m }
+    ensures { (f : File) (k : ℕ) (m : Mps Dec) → IsFile f → IsProgramOf (linear_of f k) m
+        → HasShortNames m }
 {}
 
 /// The written text of an exported program is read as the program.
 pub fn exported_is_read()
-    ensures { (f : File) (k : ℕ) (m : Mps Dec) → IsFile f → IsProgramOf (linear_of f k) m → IsMps dec_value m → IsReadAs (mps_text_by value_text (with_values dec_value m)) (with_values dec_value m) }
+    ensures { (f : File) (k : ℕ) (m : Mps Dec) → IsFile f → IsProgramOf (linear_of f k) m
+        → IsMps dec_value m → IsReadAs (mps_text_by value_text (with_values dec_value m))
+        (with_values dec_value m) }
 {}

@@ -28,7 +28,8 @@ fn put_change(
     markers: u32,
 ) -> Result<u32, AllocError>
     requires { markers < 2 ^ 31 }
-    ensures { IfOk result (λ n. (n ≡ markers_after before marked markers) × (out.new.items ≡ out.old.items ++ lines_text (change_lines before marked markers))) }
+    ensures { IfOk result (λ n. (n ≡ markers_after before marked markers) × (out.new.items
+        ≡ out.old.items ++ lines_text (change_lines before marked markers))) }
 {
     match (before, marked) {
         (false, true) => {
@@ -49,7 +50,8 @@ fn put_column_lines(
     columns: &[MpsColumn],
 ) -> Result<(), AllocError>
     requires { AreColumns (length rows.now) columns.now }
-    ensures { OnOk result (out.new.items ≡ out.old.items ++ lines_text (column_lines text_of rows.now false 0 columns.now)) }
+    ensures { OnOk result (out.new.items
+        ≡ out.old.items ++ lines_text (column_lines text_of rows.now false 0 columns.now)) }
 {
     let mut before = false;
     let mut markers = 0;

@@ -12,7 +12,8 @@ use written_texts::{put_end, put_line, put_next, put_next_dec};
 
 // A word, the name of a row, and a number.
 fn put_entry(out: &mut Vec<u8>, word: &[u8], row: &[u8], value: Dec) -> Result<(), AllocError>
-    ensures { OnOk result (out.new.items ≡ out.old.items ++ line_text (indented (word.now ∷ row.now ∷ text_of value ∷ []))) }
+    ensures { OnOk result (out.new.items
+        ≡ out.old.items ++ line_text (indented (word.now ∷ row.now ∷ text_of value ∷ []))) }
 {
     put_next(out, word)?;
     put_next(out, row)?;
@@ -27,7 +28,9 @@ pub(crate) fn put_entries(
     entries: &[(u32, Dec)],
 ) -> Result<(), AllocError>
     requires { All (λ t. t.0 < length rows.now) entries.now }
-    ensures { OnOk result (out.new.items ≡ out.old.items ++ lines_text (entry_lines text_of rows.now word.now (map entry_of entries.now))) }
+    ensures { OnOk result (out.new.items
+        ≡ out.old.items ++ lines_text
+        (entry_lines text_of rows.now word.now (map entry_of entries.now))) }
 {
     for entry in entries {
         let row = &rows[entry.0 as usize];

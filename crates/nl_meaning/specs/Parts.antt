@@ -19,4 +19,6 @@ abbrev mutual
 
 -- at every point it has its value at 0 and the sum of its coefficients times the n variables
 abbrev pub IsLinearTree : ℕ → List Definition → Tree → Type 0
-IsLinearTree n ds t = (at : Point) → val ds t at ≡ Some (constant_of ds t +ℚ sum_below (λ j. coef ds t j *ℚ at j) n)
+IsLinearTree n ds t =
+    (at : Point) →
+    val ds t at ≡ Some (constant_of ds t +ℚ sum_below (λ j. coef ds t j *ℚ at j) n)

@@ -53,7 +53,8 @@ fn put_sums(out: &mut Vec<u8>, uses: &[u32]) -> Result<(), AllocError>
 
 // A line for each variable but the last; nothing where there is no variable.
 pub(crate) fn put_columns(alloc: Global, out: &mut Vec<u8>, file: &NlFile) -> Result<(), AllocError>
-    ensures { OnOk result (out.new.items ≡ out.old.items ++ lines_text (column_piece file.now.counts.n_var file.now.terms)) }
+    ensures { OnOk result (out.new.items
+        ≡ out.old.items ++ lines_text (column_piece file.now.counts.n_var file.now.terms)) }
 {
     let uses = uses_of(alloc, file)?;
     let count = uses.len();

@@ -12,7 +12,8 @@ use written_texts::{put_end, put_next_numbers, put_next_signed, put_number};
 
 // A line of a number and further ones.
 fn put_numbers(out: &mut Vec<u8>, first: u32, others: &[u32]) -> Result<(), AllocError>
-    ensures { OnOk result (out.new.items ≡ out.old.items ++ line_text (numbers (first ∷ others.now))) }
+    ensures { OnOk result (out.new.items
+        ≡ out.old.items ++ line_text (numbers (first ∷ others.now))) }
 {
     put_number(out, first as u64)?;
     put_next_numbers(out, others)?;
@@ -22,7 +23,8 @@ fn put_numbers(out: &mut Vec<u8>, first: u32, others: &[u32]) -> Result<(), Allo
 
 // Options, a space before each.
 fn put_next_options(out: &mut Vec<u8>, options: &[i32]) -> Result<(), AllocError>
-    ensures { OnOk result (out.new.items ≡ out.old.items ++ flat_map (λ z. 32 ∷ signed_decimal z) options.now) }
+    ensures { OnOk result (out.new.items
+        ≡ out.old.items ++ flat_map (λ z. 32 ∷ signed_decimal z) options.now) }
 {
     for option in options {
         put_next_signed(out, *option)?;
@@ -62,7 +64,8 @@ fn put_parts(out: &mut Vec<u8>, c: &Counts) -> Result<(), AllocError>
 }
 
 pub(crate) fn put_header(out: &mut Vec<u8>, file: &NlFile) -> Result<(), AllocError>
-    ensures { OnOk result (out.new.items ≡ out.old.items ++ lines_text (header_lines file.now.options file.now.counts)) }
+    ensures { OnOk result (out.new.items
+        ≡ out.old.items ++ lines_text (header_lines file.now.options file.now.counts)) }
 {
     let header = file.header();
     put_options(out, header.options().items())?;

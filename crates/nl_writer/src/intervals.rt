@@ -17,7 +17,8 @@ fn is_same(a: Dec, b: Dec) -> bool
 
 // A line of one side, or of two that are equal.
 fn put_side(out: &mut Vec<u8>, kind: &[u8], side: Dec) -> Result<(), AllocError>
-    ensures { OnOk result (out.new.items ≡ out.old.items ++ line_text (kind.now ∷ text_of side ∷ [])) }
+    ensures { OnOk result (out.new.items
+        ≡ out.old.items ++ line_text (kind.now ∷ text_of side ∷ [])) }
 {
     put(out, kind)?;
     put_next_dec(out, side)?;
@@ -26,7 +27,8 @@ fn put_side(out: &mut Vec<u8>, kind: &[u8], side: Dec) -> Result<(), AllocError>
 
 // A line of two sides.
 fn put_both(out: &mut Vec<u8>, lo: Dec, hi: Dec) -> Result<(), AllocError>
-    ensures { OnOk result (out.new.items ≡ out.old.items ++ line_text (codes "0" ∷ text_of lo ∷ text_of hi ∷ [])) }
+    ensures { OnOk result (out.new.items
+        ≡ out.old.items ++ line_text (codes "0" ∷ text_of lo ∷ text_of hi ∷ [])) }
 {
     put(out, b"0")?;
     put_next_dec(out, lo)?;
@@ -48,7 +50,8 @@ fn put_interval(out: &mut Vec<u8>, interval: Interval) -> Result<(), AllocError>
 
 // The intervals of the constraints; nothing where there is none.
 pub(crate) fn put_sides(out: &mut Vec<u8>, file: &NlFile) -> Result<(), AllocError>
-    ensures { OnOk result (out.new.items ≡ out.old.items ++ lines_text (interval_piece (codes "r") file.now.sides)) }
+    ensures { OnOk result (out.new.items
+        ≡ out.old.items ++ lines_text (interval_piece (codes "r") file.now.sides)) }
 {
     let count = file.header().counts().n_con;
     if count == 0 {
@@ -63,7 +66,8 @@ pub(crate) fn put_sides(out: &mut Vec<u8>, file: &NlFile) -> Result<(), AllocErr
 
 // The intervals of the variables; nothing where there is none.
 pub(crate) fn put_bounds(out: &mut Vec<u8>, file: &NlFile) -> Result<(), AllocError>
-    ensures { OnOk result (out.new.items ≡ out.old.items ++ lines_text (interval_piece (codes "b") file.now.bounds)) }
+    ensures { OnOk result (out.new.items
+        ≡ out.old.items ++ lines_text (interval_piece (codes "b") file.now.bounds)) }
 {
     let count = file.header().counts().n_var;
     if count == 0 {

@@ -25,7 +25,8 @@ fn put_suffix(out: &mut Vec<u8>, suffix: &Suffix) -> Result<(), AllocError>
 }
 
 pub(crate) fn put_suffixes(out: &mut Vec<u8>, suffixes: &[Suffix]) -> Result<(), AllocError>
-    ensures { OnOk result (out.new.items ≡ out.old.items ++ lines_text (flat_map suffix_piece suffixes.now)) }
+    ensures { OnOk result (out.new.items
+        ≡ out.old.items ++ lines_text (flat_map suffix_piece suffixes.now)) }
 {
     for suffix in suffixes {
         put_suffix(out, suffix)?;
@@ -34,7 +35,8 @@ pub(crate) fn put_suffixes(out: &mut Vec<u8>, suffixes: &[Suffix]) -> Result<(),
 }
 
 fn put_definition(out: &mut Vec<u8>, definition: &Def) -> Result<(), AllocError>
-    ensures { OnOk result (out.new.items ≡ out.old.items ++ lines_text (definition_piece definition.now)) }
+    ensures { OnOk result (out.new.items
+        ≡ out.old.items ++ lines_text (definition_piece definition.now)) }
 {
     let terms = definition.terms.items();
     put_lettered(out, b"V", definition.index as u64)?;
@@ -46,7 +48,8 @@ fn put_definition(out: &mut Vec<u8>, definition: &Def) -> Result<(), AllocError>
 }
 
 pub(crate) fn put_definitions(out: &mut Vec<u8>, definitions: &[Def]) -> Result<(), AllocError>
-    ensures { OnOk result (out.new.items ≡ out.old.items ++ lines_text (flat_map definition_piece definitions.now)) }
+    ensures { OnOk result (out.new.items
+        ≡ out.old.items ++ lines_text (flat_map definition_piece definitions.now)) }
 {
     for definition in definitions {
         put_definition(out, definition)?;
@@ -56,7 +59,8 @@ pub(crate) fn put_definitions(out: &mut Vec<u8>, definitions: &[Def]) -> Result<
 
 // The body of a constraint, where it was given.
 fn put_body(out: &mut Vec<u8>, con: u32, body: Option<&Expr>) -> Result<(), AllocError>
-    ensures { OnOk result (out.new.items ≡ out.old.items ++ lines_text (body_piece con (option_copied body.entry))) }
+    ensures { OnOk result (out.new.items
+        ≡ out.old.items ++ lines_text (body_piece con (option_copied body.entry))) }
 {
     let Some(tree) = body else {
         return Ok(());
@@ -67,7 +71,8 @@ fn put_body(out: &mut Vec<u8>, con: u32, body: Option<&Expr>) -> Result<(), Allo
 }
 
 pub(crate) fn put_bodies(out: &mut Vec<u8>, file: &NlFile) -> Result<(), AllocError>
-    ensures { OnOk result (out.new.items ≡ out.old.items ++ lines_text (by_number body_piece 0 file.now.bodies)) }
+    ensures { OnOk result (out.new.items
+        ≡ out.old.items ++ lines_text (by_number body_piece 0 file.now.bodies)) }
 {
     let count = file.header().counts().n_con;
     for con in 0..count {
@@ -83,7 +88,9 @@ fn sense_word(maximise: bool) -> &'static [u8]
 }
 
 fn put_objective(out: &mut Vec<u8>, k: u32, maximise: bool, tree: &Expr) -> Result<(), AllocError>
-    ensures { OnOk result (out.new.items ≡ out.old.items ++ lines_text (objective_piece k (record { maximise = maximise; tree = tree.now }))) }
+    ensures { OnOk result (out.new.items
+        ≡ out.old.items ++ lines_text
+        (objective_piece k (record { maximise = maximise; tree = tree.now }))) }
 {
     put_lettered(out, b"O", k as u64)?;
     put_next(out, sense_word(maximise))?;
@@ -92,7 +99,8 @@ fn put_objective(out: &mut Vec<u8>, k: u32, maximise: bool, tree: &Expr) -> Resu
 }
 
 pub(crate) fn put_objectives(out: &mut Vec<u8>, file: &NlFile) -> Result<(), AllocError>
-    ensures { OnOk result (out.new.items ≡ out.old.items ++ lines_text (by_number objective_piece 0 file.now.objectives)) }
+    ensures { OnOk result (out.new.items
+        ≡ out.old.items ++ lines_text (by_number objective_piece 0 file.now.objectives)) }
 {
     let count = file.header().counts().n_obj;
     for k in 0..count {
@@ -107,7 +115,8 @@ pub(crate) fn put_guesses(
     letter: &[u8],
     guesses: &Terms,
 ) -> Result<(), AllocError>
-    ensures { OnOk result (out.new.items ≡ out.old.items ++ lines_text (guess_piece letter.now guesses.now)) }
+    ensures { OnOk result (out.new.items
+        ≡ out.old.items ++ lines_text (guess_piece letter.now guesses.now)) }
 {
     let lines = guesses.items();
     if lines.is_empty() {
@@ -120,7 +129,8 @@ pub(crate) fn put_guesses(
 
 // The terms of a constraint or an objective; nothing where there is none.
 fn put_row(out: &mut Vec<u8>, letter: &[u8], number: u32, terms: &Terms) -> Result<(), AllocError>
-    ensures { OnOk result (out.new.items ≡ out.old.items ++ lines_text (term_piece letter.now number terms.now)) }
+    ensures { OnOk result (out.new.items
+        ≡ out.old.items ++ lines_text (term_piece letter.now number terms.now)) }
 {
     let lines = terms.items();
     if lines.is_empty() {
@@ -133,7 +143,8 @@ fn put_row(out: &mut Vec<u8>, letter: &[u8], number: u32, terms: &Terms) -> Resu
 }
 
 pub(crate) fn put_terms(out: &mut Vec<u8>, file: &NlFile) -> Result<(), AllocError>
-    ensures { OnOk result (out.new.items ≡ out.old.items ++ lines_text (by_number (term_piece (codes "J")) 0 file.now.terms)) }
+    ensures { OnOk result (out.new.items
+        ≡ out.old.items ++ lines_text (by_number (term_piece (codes "J")) 0 file.now.terms)) }
 {
     let count = file.header().counts().n_con;
     for con in 0..count {
@@ -143,7 +154,8 @@ pub(crate) fn put_terms(out: &mut Vec<u8>, file: &NlFile) -> Result<(), AllocErr
 }
 
 pub(crate) fn put_slopes(out: &mut Vec<u8>, file: &NlFile) -> Result<(), AllocError>
-    ensures { OnOk result (out.new.items ≡ out.old.items ++ lines_text (by_number (term_piece (codes "G")) 0 file.now.slopes)) }
+    ensures { OnOk result (out.new.items
+        ≡ out.old.items ++ lines_text (by_number (term_piece (codes "G")) 0 file.now.slopes)) }
 {
     let count = file.header().counts().n_obj;
     for k in 0..count {

@@ -30,7 +30,8 @@ fn put_operand_count(out: &mut Vec<u8>, count: u32) -> Result<(), AllocError>
 }
 
 fn put_lettered_line(out: &mut Vec<u8>, letter: &[u8], number: u32) -> Result<(), AllocError>
-    ensures { OnOk result (out.new.items ≡ out.old.items ++ line_text (lettered letter.now number ∷ [])) }
+    ensures { OnOk result (out.new.items
+        ≡ out.old.items ++ line_text (lettered letter.now number ∷ [])) }
 {
     put_lettered(out, letter, number as u64)?;
     put_end(out)
@@ -38,7 +39,8 @@ fn put_lettered_line(out: &mut Vec<u8>, letter: &[u8], number: u32) -> Result<()
 
 // An opcode, and its number of operands where the next line has it.
 fn put_operator(out: &mut Vec<u8>, opcode: u32, count: u32) -> Result<(), AllocError>
-    ensures { OnOk result (out.new.items ≡ out.old.items ++ lines_text (operator_lines opcode count)) }
+    ensures { OnOk result (out.new.items
+        ≡ out.old.items ++ lines_text (operator_lines opcode count)) }
 {
     put_lettered_line(out, b"o", opcode)?;
     if is_counted(opcode) {

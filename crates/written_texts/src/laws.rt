@@ -14,8 +14,10 @@ ghost use Rattle.written_texts.specs.Words.{IsWord, IsKeptWord, IsWordLine};
 /// Words with a space between them, or a space before each, are read as themselves, and as no comment.
 pub fn words_are_read()
     ensures words { (words : Line) → AllByRecursion IsWord words → words_of (spaced words) ≡ words }
-    ensures indented { (words : Line) → AllByRecursion IsWord words → words_of (spaced (indented words)) ≡ words }
-    ensures comments { (words : Line) → AllByRecursion IsKeptWord words → without_comment (spaced words) ≡ spaced words }
+    ensures indented { (words : Line)
+        → AllByRecursion IsWord words → words_of (spaced (indented words)) ≡ words }
+    ensures comments { (words : Line)
+        → AllByRecursion IsKeptWord words → without_comment (spaced words) ≡ spaced words }
 {}
 
 /// Numbers that are written are words, and no comments.
@@ -34,6 +36,10 @@ pub fn numbers_are_read()
 
 /// The lines of a written text are the lines that were written.
 pub fn lines_are_read()
-    ensures lines { (lines : List Line) → AllByRecursion IsWordLine lines → length (lines_text lines) ≤ 2 ^ 31 → lines_of (lines_text lines) ≡ map spaced lines }
-    ensures end { (lines : List Line) → AllByRecursion IsWordLine lines → length (lines_text lines) ≤ 2 ^ 31 → last_of (lines_text lines) ≡ End }
+    ensures lines { (lines : List Line)
+        → AllByRecursion IsWordLine lines → length (lines_text lines) ≤ 2 ^ 31
+        → lines_of (lines_text lines) ≡ map spaced lines }
+    ensures end { (lines : List Line)
+        → AllByRecursion IsWordLine lines → length (lines_text lines) ≤ 2 ^ 31
+        → last_of (lines_text lines) ≡ End }
 {}

@@ -60,7 +60,8 @@ pub fn put_next_number(out: &mut Vec<u8>, number: u64) -> Result<(), AllocError>
 
 /// Writes numbers, with a space before each.
 pub fn put_next_numbers(out: &mut Vec<u8>, numbers: &[u32]) -> Result<(), AllocError>
-    ensures { OnOk result (out.new.items ≡ out.old.items ++ flat_map (λ n. 32 ∷ decimal n) numbers.now) }
+    ensures { OnOk result (out.new.items
+        ≡ out.old.items ++ flat_map (λ n. 32 ∷ decimal n) numbers.now) }
 {
     for number in numbers {
         put_next_number(out, *number as u64)?;

@@ -1,0 +1,127 @@
+// The verdict on points of a small file, over its folded rows by columns.
+ghost use Rattle.std.specs.Prelude.{◌≡◌, ◌<◌};
+
+use crate::nl_texts::{one_row, text_of};
+use certificate_check::{
+    BoundVerdict, Columns, FitFault, Given, Goal, Spot, Verdict, certify, dual_bound, fit_counts,
+};
+use exact_numbers::{Dec, Frac};
+use linear_fold::fold_all;
+use nl_model::NlFile;
+use nl_segments::read_nl;
+use std::alloc::Global;
+use std::marker::Brand;
+use std::test::Fail;
+use text_base::{Blank, Ledger, Steps};
+
+// 2 x0 is at least 3, and x0 is at most 1.
+fn small_file(alloc: Global) -> Result<NlFile, Fail> {
+    let text = text_of(alloc, &one_row(), "r\n2 3\nb\n1 1\nJ0 1\n0 2\n")?;
+    let Ok(read) = read_nl(alloc, text.as_bytes()) else {
+        return Err(Fail::from("refused"));
+    };
+    Ok(read.file)
+}
+
+fn columns_of<L: Ledger>(alloc: Global, file: &NlFile, blank: Blank) -> Result<Columns, Fail>
+    requires name { blank.name ≡ L.name }
+    requires parts { blank.parts ≡ L.parts }
+    requires some { 0 < blank.parts }
+{
+    let mut steps = Steps::<L>::new(blank);
+    let Ok(linear) = fold_all(alloc, file, 0, &mut steps) else {
+        return Err(Fail::from("fold"));
+    };
+    let columns = Columns::of(alloc, &linear)?;
+    Ok(columns)
+}
+
+// The verdict, where the lists have the lengths of the columns.
+fn verdict_on(columns: &Columns, x: &[Dec], y: &[Dec]) -> Option<Verdict> {
+    if x.len() != columns.n_var() as usize || y.len() != columns.n_con() as usize {
+        return None;
+    }
+    Some(certify(columns, x, y))
+}
+
+// The bound for the objective 0, where the lists have the lengths of the columns.
+fn bound_on(
+    columns: &Columns,
+    lo: &[Option<Dec>],
+    hi: &[Option<Dec>],
+    y: &[Dec],
+) -> Option<BoundVerdict> {
+    if lo.len() != columns.n_var() as usize || hi.len() != columns.n_var() as usize {
+        return None;
+    }
+    if y.len() != columns.n_con() as usize {
+        return None;
+    }
+    Some(dual_bound(columns, Goal::Zero, lo, hi, y))
+}
+
+#[test]
+fn a_file_is_judged(rt: HostRuntime) -> Result<(), Fail> {
+    let file = small_file(rt.alloc())?;
+    let columns = columns_of::<Brand>(rt.alloc(), &file, Blank::new(1))?;
+    let one = Dec::of_whole(1);
+    let two = Dec::of_whole(2);
+    assert_eq!(rt;
+        verdict_on(&columns, &[one], &[one]),
+        Some(Verdict::RowBroken(0))
+    );
+    assert_eq!(rt;
+        verdict_on(&columns, &[two], &[one]),
+        Some(Verdict::BoundBroken(0))
+    );
+    let tiny = Dec::new(1, -400).ok_or("tiny")?;
+    assert_eq!(rt;
+        verdict_on(&columns, &[tiny], &[one]),
+        Some(Verdict::TooWide(Spot::Row(0)))
+    );
+    let first = Frac::one();
+    assert_eq!(rt;
+        bound_on(&columns, &[None], &[Some(one)], &[one]),
+        Some(BoundVerdict::Bound(first))
+    );
+    assert_eq!(rt;
+        bound_on(&columns, &[Some(one)], &[None], &[one]),
+        Some(BoundVerdict::BoundSideMissing(0))
+    );
+    Ok(())
+}
+
+#[test]
+fn counts_come_first(rt: HostRuntime) -> Result<(), Fail> {
+    let file = small_file(rt.alloc())?;
+    let full = Given {
+        n_con: 1,
+        n_var: 1,
+        duals: 1,
+        primals: 1,
+    };
+    let cases = [
+        (full, Ok(())),
+        (
+            Given {
+                n_var: 3,
+                primals: 0,
+                ..full
+            },
+            Err(FitFault::OtherCounts),
+        ),
+        (
+            Given {
+                duals: 0,
+                primals: 0,
+                ..full
+            },
+            Err(FitFault::NoPrimal),
+        ),
+        (Given { duals: 0, ..full }, Err(FitFault::NoDual)),
+    ];
+    for (given, wanted) in cases {
+        assert_eq!(rt; fit_counts(&file, given), wanted);
+    }
+    Ok(())
+}

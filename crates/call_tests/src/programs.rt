@@ -1,0 +1,68 @@
+// MPS texts that come in pieces.
+
+use crate::mps_texts::{PAIRS, PAIRS_WRITTEN};
+use mps_model::Mps;
+use mps_reader::{MpsFault, MpsReader, MpsReason};
+use mps_writer::write_mps;
+use std::alloc::Global;
+use std::test::Fail;
+use text_base::Stop;
+
+fn read_in_pieces(alloc: Global, text: &[u8], len: usize) -> Result<Mps, Stop<MpsFault>> {
+    let mut reader = MpsReader::new(alloc)?;
+    let mut rest = text;
+    for _ in 0..text.len() {
+        let (piece, more) = rest.split_at(rest.len().min(len));
+        // The reader keeps an error, and answers it at the end.
+        let _ = reader.feed(piece);
+        rest = more;
+    }
+    reader.finish()
+}
+
+// The text, without its last line end, is read in pieces of this length and written so.
+fn is_written_as(alloc: Global, text: &[u8], len: usize, written: &str) -> bool {
+    let (text, _) = text.split_at(text.len().saturating_sub(1));
+    match read_in_pieces(alloc, text, len) {
+        Ok(mps) => match write_mps(alloc, &mps) {
+            Ok(out) => out.as_slice() == written.as_bytes(),
+            Err(_) => false,
+        },
+        Err(_) => false,
+    }
+}
+
+#[test]
+fn a_program_in_pieces(rt: HostRuntime) {
+    for len in [1, 2, 3, 7, 1000] {
+        assert!(rt; is_written_as(rt.alloc(), PAIRS.as_bytes(), len, PAIRS_WRITTEN));
+    }
+}
+
+// The sense may stand in the section line.
+const MARKED: &str =
+    "OBJSENSE MAXIMIZE\nROWS\n N f\nCOLUMNS\n x f 1\n m 'MARKER' 'INTORG'\n y f 2\nRHS\nBOUNDS\n FR x\n LI y 3\nENDATA\n";
+
+const MARKED_WRITTEN: &str =
+    "OBJSENSE\n MAX\nROWS\n N f\nCOLUMNS\n x f 1\n M0 'MARKER' 'INTORG'\n y f 2\n M1 'MARKER' 'INTEND'\nRHS\nBOUNDS\n FR BND x\n LI BND y 3\nENDATA\n";
+
+#[test]
+fn columns_of_a_marked_stretch(rt: HostRuntime) {
+    assert!(rt; is_written_as(rt.alloc(), MARKED.as_bytes(), 4, MARKED_WRITTEN));
+}
+
+// A fault is answered once its line has ended, and again.
+#[test]
+fn a_fault_stays(rt: HostRuntime) -> Result<(), Fail> {
+    let mut reader = MpsReader::new(rt.alloc())?;
+    assert!(rt; reader.feed(b"ROWS\n X c0").is_ok());
+    assert!(rt; reader.feed(b"\n").is_err());
+    assert!(rt; reader.feed(b" N c1\n").is_err());
+    match reader.finish() {
+        Err(Stop::Fault(fault)) => {
+            assert_eq!(rt; (fault.reason, fault.line), (MpsReason::BadLine, 2));
+        }
+        _ => panic!(rt; "the line is bad"),
+    }
+    Ok(())
+}

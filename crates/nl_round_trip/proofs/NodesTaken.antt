@@ -1,0 +1,404 @@
+-- Written expressions are taken, node by node.
+use Rattle.std.proofs.Common.{◌≡◌, ◌∙◌, ℕ, ◌+◌, ◌-◌, ◌^◌, ◌<◌, ◌≤◌, ◌==◌, true, false, ℤ, List, [], ◌∷◌, ◌++◌, length, refl, sym, ap, ap₂, subst, arith, nat_lt, nat_le, Option, Some, None, length-append, append_assoc, append-nil, lt_trans, lit<}
+use Rattle.std.specs.Prelude.{codes, if◌then◌else◌}
+use Rattle.std.proofs.lemmas.Bool.{lt-ltb, le-leb}
+use Rattle.std.proofs.lemmas.Bool.Decides.{nat_tests}
+use Rattle.std.proofs.lemmas.List.{length-map, map-append}
+use Rattle.std.specs.Fmt.{decimal}
+use Rattle.std.specs.List.{AllByRecursion, flat_map}
+use Rattle.text_base.specs.Judged.{first_reason}
+use Rattle.code_tables.specs.Opcodes.{class_of, operands_of}
+use Rattle.code_tables.specs.declared.class.OpClass.{OpClass}
+use Rattle.code_tables.specs.declared.class.OpClass.TheVariants.{Sum, Difference, Product, Quotient, Negation, List as ListOf, Power, Least, Greatest, Floor, Ceiling, Absolute, Refused}
+use Rattle.code_tables.specs.declared.class.Operands.{Operands}
+use Rattle.code_tables.specs.declared.class.Operands.TheVariants.{One, Two, Counted as OnNextLine}
+use Rattle.exact_numbers.specs.declared.dec.Dec.{Dec}
+use Rattle.nl_meaning.specs.Trees.{HasCount}
+use Rattle.nl_model.specs.declared.counts.Counts.{Counts}
+use Rattle.nl_model.specs.declared.node.Node.{Node}
+use Rattle.nl_model.specs.declared.node.Node.TheVariants.{Num, Var, Defined, Op}
+use Rattle.nl_model.specs.Draft.{Draft}
+use Rattle.nl_model.specs.File.{Definition}
+use Rattle.nl_model.specs.HeaderRules.{defined_count}
+use Rattle.nl_model.specs.Nodes.{opcode_of, awaited, operand_count}
+use Rattle.nl_model.specs.Rules.{is_defined}
+use Rattle.nl_model.proofs.Opcodes.{opcode_of-known}
+use Rattle.nl_model.proofs.Prefixes.{awaited-push}
+use Rattle.nl_segments.specs.declared.awaited.Awaited.TheVariants.{Nothing, Node as NodeLine, OperandCount}
+use Rattle.nl_segments.specs.declared.head.Head.{Head}
+use Rattle.nl_segments.specs.declared.head.Head.TheVariants.{Body, Objective, Definition as DefinitionHead, DualGuesses, PrimalGuesses, Sides, Bounds, ColumnCounts, Terms, Slopes, Suffix}
+use Rattle.nl_segments.specs.Heads.{is_head}
+use Rattle.nl_segments.specs.declared.pending.Pending.{Pending}
+use Rattle.nl_segments.specs.Nodes.{node_in, opcode_in, fixed_node, counted_opcode, variable_node, only_nodes, nodes_from, pending_from}
+use Rattle.nl_segments.specs.Pieces.{Piece, awaited_in, tree_awaits, line_kind, line_count, pair_count, has_tree, tree_rows, piece_nodes, piece_pending, is_complete}
+use Rattle.nl_segments.specs.Rows.{Row}
+use Rattle.nl_segments.specs.Saying.{draft_of, with_piece, said_by, if_complete}
+use Rattle.nl_segments.specs.Tests.{for_reason, node_form_tests, node_tests, operand_tests, node_total}
+use Rattle.nl_segments.specs.declared.fault.NlReason.TheVariants.{TooLarge}
+use Rattle.nl_segments.proofs.CurrentLemmas.{tree_count, late_tree, last_nodes, last_pending, nodes-more, pending-more}
+use Rattle.text_base.proofs.FirstReasons.{reason_after}
+use Rattle.nl_segments.proofs.NodeLemmas.{not_large}
+use Rattle.nl_segments.proofs.PieceLemmas.{longer, draft-append}
+use Rattle.exact_numbers.specs.Values.{text_of}
+use Rattle.written_texts.specs.Lines.{Line}
+use Rattle.nl_writer.specs.Trees.{operator_lines, node_lines}
+use Rattle.written_texts.specs.Words.{IsWritten}
+use Rattle.written_texts.proofs.WordLemmas.{row-written}
+use Rattle.written_texts.proofs.WrittenWords.{word-lettered, word-number, word-decimal, written-one}
+use Rattle.nl_round_trip.specs.Taking.{row_at, rows_at, IsTaken}
+use Rattle.written_texts.proofs.NumbersRead.{whole_of-decimal, are_digits-decimal, dec_of-text}
+use Rattle.nl_round_trip.proofs.LinesTaken.{with_lines}
+use Rattle.nl_round_trip.proofs.PairsTaken.{decimal_no_head}
+use Rattle.nl_round_trip.proofs.StandingMore.{node_total-append}
+use Rattle.nl_round_trip.proofs.TakenLemmas.{taken_none, taken_then, IsLineFine, line_taken}
+
+-- ---- operators
+
+-- as many operands as a row of the table says
+abbrev FitsOperands : Option Operands → ℕ → Type 0
+FitsOperands None k = ⊥
+FitsOperands (Some One) k = k ≡ 1
+FitsOperands (Some Two) k = k ≡ 2
+FitsOperands (Some OnNextLine) k = 1 ≤ k
+
+operands_of-class : (c : OpClass) (k : ℕ) → HasCount c k → FitsOperands (operands_of (opcode_of c)) k × (opcode_of c ≤ 54)
+unfolding operands_of
+operands_of-class Sum k h = (h, omega arith)
+operands_of-class Difference k h = (h, omega arith)
+operands_of-class Product k h = (h, omega arith)
+operands_of-class Quotient k h = (h, omega arith)
+operands_of-class Negation k h = (h, omega arith)
+operands_of-class ListOf k h = (h, omega arith)
+operands_of-class Power k h = (h, omega arith)
+operands_of-class Least k h = (h, omega arith)
+operands_of-class Greatest k h = (h, omega arith)
+operands_of-class Floor k h = (h, omega arith)
+operands_of-class Ceiling k h = (h, omega arith)
+operands_of-class Absolute k h = (h, omega arith)
+operands_of-class Refused k h = absurd h
+
+known : (o k : ℕ) → HasCount (class_of o) k → class_of o ≡ Refused → ⊥
+known o k h e = subst (λ c. HasCount c k) e h
+
+operands_known : (o k : ℕ) → HasCount (class_of o) k → FitsOperands (operands_of o) k × (o ≤ 54)
+operands_known o k h = subst (λ p. FitsOperands (operands_of p) k × (p ≤ 54)) (opcode_of-known o (known o k h)) (operands_of-class (class_of o) k h)
+
+-- ---- the lines of nodes
+
+-- the words of a node; of an operator, its opcode
+abbrev pub node_words : Node → Line
+node_words (Num d) = (codes "n" ++ text_of d) ∷ []
+node_words (Var j) = (codes "v" ++ decimal j) ∷ []
+node_words (Defined i) = (codes "v" ++ decimal i) ∷ []
+node_words (Op o k) = (codes "o" ++ decimal o) ∷ []
+
+-- the node uses what is there
+abbrev pub IsNodeFine : Counts → List Definition → Node → Type 0
+IsNodeFine c ds (Num d) = Unit {0}
+IsNodeFine c ds (Var j) = j < c.n_var
+IsNodeFine c ds (Defined i) = (c.n_var ≤ i) × (i < c.n_var + defined_count c) × (is_defined ds i ≡ true)
+IsNodeFine c ds (Op o k) = HasCount (class_of o) k × (k ≤ 2 ^ 22)
+
+pub record HasFewIndices (c : Counts) : Type 0 where
+  pub variables : c.n_var ≤ 2 ^ 20
+  pub definitions : defined_count c ≤ 2 ^ 20
+
+le-false : (a b : ℕ) → b < a → nat_le a b ≡ false
+le-false a b lt = grind (arith, nat_tests)
+
+lt-false : (a b : ℕ) → b ≤ a → nat_lt a b ≡ false
+lt-false a b le = grind (arith, nat_tests)
+
+words_written : (c : Counts) (ds : List Definition) (m : Node) → HasFewIndices c → IsNodeFine c ds m → IsWritten (node_words m)
+words_written c ds (Num d) few h = written-one (codes "n" ++ text_of d) (word-number 110 d (omega arith))
+words_written c ds (Var j) few h = let small : j < 2 ^ 31 = omega arith in written-one (codes "v" ++ decimal j) (word-lettered 118 j (omega arith) (lt_trans small (lit< tt)))
+words_written c ds (Defined i) few h = let small : i < 2 ^ 31 = omega arith in written-one (codes "v" ++ decimal i) (word-lettered 118 i (omega arith) (lt_trans small (lit< tt)))
+words_written c ds (Op o k) few h =
+    let is = operands_known o k h.0 in
+    let small : o < 2 ^ 31 = omega (arith, is.1) in
+    written-one (codes "o" ++ decimal o) (word-lettered 111 o (omega arith) (lt_trans small (lit< tt)))
+
+no_head : (m : Node) → is_head (node_words m) ≡ false
+no_head (Num d) = refl
+no_head (Var j) = refl
+no_head (Defined i) = refl
+no_head (Op o k) = refl
+
+form_fine : (c : Counts) (d : Draft) (m : Node) → HasFewIndices c → IsNodeFine c d.definitions m → first_reason (node_form_tests c d (node_words m)) ≡ None
+unfolding node_form_tests
+form_fine c d (Num x) few h = rw (dec_of-text x) refl
+form_fine c d (Var j) few h =
+    let small : j < 2 ^ 31 = omega arith in
+    rw (are_digits-decimal j small, whole_of-decimal j small, lt-ltb j (c.n_var + defined_count c) (omega arith), le-false c.n_var j h) refl
+form_fine c d (Defined i) few h =
+    let small : i < 2 ^ 31 = omega arith in
+    rw (are_digits-decimal i small, whole_of-decimal i small, lt-ltb i (c.n_var + defined_count c) h.1, le-leb c.n_var i h.0, h.2) refl
+form_fine c d (Op o k) few h =
+    let is = operands_known o k h.0 in
+    by (operands_of o) refl is.0 (omega (arith, is.1))
+  where
+    by : (x : Option Operands) → operands_of o ≡ x → FitsOperands x k → o < 2 ^ 31 → first_reason (node_form_tests c d ((codes "o" ++ decimal o) ∷ [])) ≡ None
+    by None e f small = absurd f
+    by (Some x) e f small = rw (are_digits-decimal o small, whole_of-decimal o small, e) refl
+
+-- ---- a piece within its expression
+
+-- the piece has these nodes and this pending opcode
+pub record IsInTree (c : Counts) (p : Piece) (ns : List Node) (pending : Option Pending) : Type 0 where
+  pub tree : has_tree p.head ≡ true
+  pub late : pair_count p.head ≤ length p.rows
+  pub nodes : only_nodes (piece_nodes c p) ≡ ns
+  pub pend : piece_pending p ≡ pending
+
+pub in_tree-more : (c : Counts) (p : Piece) (ns : List Node) (pending : Option Pending) (row : Row) → IsInTree c p ns pending
+    → IsInTree c (longer p row) (ns ++ only_nodes (last_nodes c.n_var pending row)) (last_pending pending row)
+in_tree-more c p ns pending row h =
+    let rows = late_tree p row h.tree h.late in
+    let pend : pending_from None (tree_rows p) ≡ pending = h.pend in
+    record {
+      tree = h.tree;
+      late = omega (arith, h.late, length-append p.rows (row ∷ []));
+      nodes = ap (λ rs. only_nodes (nodes_from c.n_var None rs)) rows
+          ∙ ap only_nodes (nodes-more c.n_var None (tree_rows p) row)
+          ∙ map-append (λ n. n.node) (piece_nodes c p) (last_nodes c.n_var (pending_from None (tree_rows p)) row)
+          ∙ ap₂ (λ xs o. xs ++ only_nodes (last_nodes c.n_var o row)) h.nodes pend;
+      pend = ap (pending_from None) rows ∙ pending-more None (tree_rows p) row ∙ ap (λ o. last_pending o row) pend;
+    }
+
+pub tree_awaited : (c : Counts) (p : Piece) (ns : List Node) (pending : Option Pending) → IsInTree c p ns pending → awaited_in c p ≡ tree_awaits (piece_nodes c p) pending
+unfolding awaited_in
+tree_awaited c p ns pending h =
+    let past : nat_lt (length p.rows) (line_count c p.head) ≡ false = lt-false (length p.rows) (line_count c p.head) (omega (arith, h.late, tree_count c p.head h.tree)) in
+    ap₂ (λ b t. if b then line_kind p.head else (if t then tree_awaits (piece_nodes c p) (piece_pending p) else Nothing)) past h.tree
+    ∙ ap (tree_awaits (piece_nodes c p)) h.pend
+
+pub node_awaited : (c : Counts) (p : Piece) (ns : List Node) → IsInTree c p ns None → 0 < awaited ns → awaited_in c p ≡ NodeLine
+node_awaited c p ns h some =
+    let more : (awaited (only_nodes (piece_nodes c p)) == 0) ≡ false = rw h.nodes (not_zero (awaited ns) some) in
+    tree_awaited c p ns None h ∙ rw more refl
+  where
+    not_zero : (n : ℕ) → 0 < n → (n == 0) ≡ false
+    not_zero n lt = grind (arith, nat_tests)
+
+pub tree_done : (c : Counts) (p : Piece) (ns : List Node) → IsInTree c p ns None → awaited ns ≡ 0 → awaited_in c p ≡ Nothing
+tree_done c p ns h none =
+    let all : (awaited (only_nodes (piece_nodes c p)) == 0) ≡ true = rw (h.nodes, none) refl in
+    tree_awaited c p ns None h ∙ rw all refl
+
+pub count_awaited : (c : Counts) (p : Piece) (ns : List Node) (q : Pending) → IsInTree c p ns (Some q) → awaited_in c p ≡ OperandCount
+count_awaited c p ns q h = tree_awaited c p ns (Some q) h
+
+-- a piece that is not complete says nothing yet
+not_said : (d more : Draft) (p : Piece) → is_complete d.counts p ≡ false → if_complete d p more ≡ d
+not_said d more p e = rw e refl
+
+pub unsaid : (d : Draft) (p : Piece) → has_tree p.head ≡ true → is_complete d.counts p ≡ false → with_piece d p ≡ d
+unsaid d p tree e = by p.head tree
+  where
+    by : (h : Head) → has_tree h ≡ true → said_by d p h ≡ d
+    by (Body i) t = not_said d _ p e
+    by (Objective k m) t = not_said d _ p e
+    by (DefinitionHead i j u) t = not_said d _ p e
+    by (DualGuesses n) t = absurd cc
+    by (PrimalGuesses n) t = absurd cc
+    by Sides t = absurd cc
+    by Bounds t = absurd cc
+    by (ColumnCounts n) t = absurd cc
+    by (Terms i n) t = absurd cc
+    by (Slopes k n) t = absurd cc
+    by (Suffix k n) t = absurd cc
+
+-- the pieces before say the draft d, of a file with these counts
+pub record SaysBefore (o : List ℤ) (c : Counts) (before : List Piece) (d : Draft) : Type 0 where
+  pub said : draft_of o c before ≡ d
+  pub counts : d.counts ≡ c
+
+said_within : (o : List ℤ) (c : Counts) (before : List Piece) (d : Draft) (p : Piece) (ns : List Node) → SaysBefore o c before d → IsInTree c p ns None → 0 < awaited ns → draft_of o c (before ++ p ∷ []) ≡ d
+said_within o c before d p ns s h some =
+    let incomplete : is_complete d.counts p ≡ false = rw (s.counts, node_awaited c p ns h some) refl in
+    draft-append o c before p ∙ ap (λ d. with_piece d p) s.said ∙ unsaid d p h.tree incomplete
+
+node_room : (c : Counts) (before : List Piece) (p : Piece) (ns : List Node) (pending : Option Pending) → IsInTree c p ns pending → node_total c before + length ns < 2 ^ 22 → node_total c (before ++ p ∷ []) < 2 ^ 22
+node_room c before p ns pending h room =
+    let size : length (piece_nodes c p) ≡ length ns = sym (length-map (piece_nodes c p) (λ n. n.node)) ∙ ap (length {A = Node}) h.nodes in
+    omega (arith, node_total-append c before p, size, room)
+
+-- ---- the row of a node
+
+node_line : (o : List ℤ) (c : Counts) (before : List Piece) (d : Draft) (p : Piece) (ns : List Node) (m : Node) → HasFewIndices c → SaysBefore o c before d → IsInTree c p ns None → 0 < awaited ns
+    → IsNodeFine c d.definitions m → node_total c before + length ns < 2 ^ 22 → IsLineFine o c before p (node_words m) NodeLine
+unfolding node_tests
+node_line o c before d p ns m few s h some fine room =
+    let form : first_reason (node_form_tests c (draft_of o c (before ++ p ∷ [])) (node_words m)) ≡ None =
+    ap (λ e. first_reason (node_form_tests c e (node_words m))) (said_within o c before d p ns s h some) ∙ form_fine c d m few fine in
+    record {
+      written = words_written c d.definitions m few fine;
+      is = no_head m;
+      awaited = node_awaited c p ns h some;
+      fine = reason_after (node_form_tests c (draft_of o c (before ++ p ∷ [])) (node_words m)) ((nat_le (2 ^ 22) (node_total c (before ++ p ∷ [])), for_reason TooLarge) ∷ []) form ∙ not_large (node_total c (before ++ p ∷ [])) (node_room c before p ns None h room);
+    }
+
+-- what a row says after no pending opcode
+abbrev IsRead : ℕ → Line → Option Node → Option ℕ → Type 0
+IsRead n words node opcode = (node_in n words ≡ node) × (opcode_in words ≡ opcode)
+
+number_read : (n : ℕ) (d : Dec) → IsRead n (node_words (Num d)) (Some (Num d)) None
+unfolding node_in opcode_in
+number_read n d = (rw (dec_of-text d) refl, refl)
+
+variable_read : (n i : ℕ) → i < 2 ^ 31 → IsRead n ((codes "v" ++ decimal i) ∷ []) (Some (variable_node n i)) None
+unfolding node_in opcode_in
+variable_read n i small = (rw (whole_of-decimal i small) refl, refl)
+
+operator_read : (n o k : ℕ) (x : Operands) → o < 2 ^ 31 → operands_of o ≡ Some x → FitsOperands (Some x) k → IsRead n ((codes "o" ++ decimal o) ∷ []) (fixed_node o (Some x)) (counted_opcode o (Some x))
+unfolding node_in opcode_in
+operator_read n o k x small e f = (rw (whole_of-decimal o small, e) refl, rw (whole_of-decimal o small, e) refl)
+
+-- the piece with the row of a node alone
+alone_in : (c : Counts) (p : Piece) (ns : List Node) (m : Node) (n : ℕ) (words : Line) → IsInTree c p ns None → IsWritten words → IsRead c.n_var words (Some m) None → IsInTree c (longer p (row_at n words)) (ns ++ m ∷ []) None
+alone_in c p ns m n words h w r =
+    let row = row_at n words in
+    let more = in_tree-more c p ns None row h in
+    let words_is = row-written words w in
+    let nodes : only_nodes (last_nodes c.n_var None row) ≡ m ∷ [] = rw (words_is, r.0) refl in
+    let pend : last_pending None row ≡ None = rw (words_is, r.1) refl in
+    record { tree = more.tree; late = more.late; nodes = more.nodes ∙ ap (λ xs. ns ++ xs) nodes; pend = more.pend ∙ pend }
+
+-- lines that are taken within an expression, and the nodes after them
+pub record TakesNodes (o : List ℤ) (c : Counts) (before : List Piece) (p : Piece) (n : ℕ) (lines : List Line) (ns : List Node) : Type 0 where
+  pub taken : IsTaken o c (before ++ p ∷ []) n lines (before ++ with_lines p n lines ∷ [])
+  pub within : IsInTree c (with_lines p n lines) ns None
+
+one_row : (o : List ℤ) (c : Counts) (before : List Piece) (d : Draft) (p : Piece) (ns : List Node) (m r : Node) (n : ℕ) → HasFewIndices c → SaysBefore o c before d → IsInTree c p ns None → 0 < awaited ns
+    → IsNodeFine c d.definitions m → node_total c before + length ns < 2 ^ 22 → IsRead c.n_var (node_words m) (Some r) None → TakesNodes o c before p n (node_words m ∷ []) (ns ++ r ∷ [])
+one_row o c before d p ns m r n few s h some fine room read = record {
+  taken = line_taken o c before p n (node_words m) NodeLine (node_line o c before d p ns m few s h some fine room);
+  within = alone_in c p ns r n (node_words m) h (words_written c d.definitions m few fine) read;
+}
+
+-- ---- an opcode with its number of operands on the next row
+
+opcode_in_tree : (c : Counts) (p : Piece) (ns : List Node) (n o : ℕ) → o < 2 ^ 31 → operands_of o ≡ Some OnNextLine → IsWritten ((codes "o" ++ decimal o) ∷ []) → IsInTree c p ns None
+    → IsInTree c (longer p (row_at n ((codes "o" ++ decimal o) ∷ []))) ns (Some (record { opcode = o; line = n }))
+opcode_in_tree c p ns n o small e w h =
+    let words : Line = (codes "o" ++ decimal o) ∷ [] in
+    let row = row_at n words in
+    let more = in_tree-more c p ns None row h in
+    let read = operator_read c.n_var o 1 OnNextLine small e (omega arith) in
+    let words_is = row-written words w in
+    let nodes : only_nodes (last_nodes c.n_var None row) ≡ [] = rw (words_is, read.0) refl in
+    let pend : last_pending None row ≡ Some (record { opcode = o; line = n }) = rw (words_is, read.1) refl in
+    record { tree = more.tree; late = more.late; nodes = more.nodes ∙ ap (λ xs. ns ++ xs) nodes ∙ append-nil ns; pend = more.pend ∙ pend }
+
+count_fine : (k : ℕ) → 1 ≤ k → k ≤ 2 ^ 22 → first_reason (operand_tests (decimal k ∷ [])) ≡ None
+unfolding operand_tests
+count_fine k some few =
+    let small : k < 2 ^ 31 = omega arith in
+    rw (are_digits-decimal k small, whole_of-decimal k small, lt-ltb 0 k some, lt-ltb k (2 ^ 22 + 1) (omega arith)) refl
+
+count_line : (o : List ℤ) (c : Counts) (before : List Piece) (p : Piece) (ns : List Node) (q : Pending) (k : ℕ) → 1 ≤ k → k ≤ 2 ^ 22 → IsInTree c p ns (Some q) → IsLineFine o c before p (decimal k ∷ []) OperandCount
+count_line o c before p ns q k some few h =
+    let small : k < 2 ^ 31 = omega arith in
+    record {
+      written = written-one (decimal k) (word-decimal k (lt_trans small (lit< tt)));
+      is = decimal_no_head k [] small;
+      awaited = count_awaited c p ns q h;
+      fine = count_fine k some few;
+    }
+
+count_in_tree : (c : Counts) (p : Piece) (ns : List Node) (q : Pending) (n k : ℕ) → k < 2 ^ 31 → IsInTree c p ns (Some q) → IsInTree c (longer p (row_at n (decimal k ∷ []))) (ns ++ Op q.opcode k ∷ []) None
+count_in_tree c p ns q n k small h =
+    let words : Line = decimal k ∷ [] in
+    let row = row_at n words in
+    let more = in_tree-more c p ns (Some q) row h in
+    let words_is = row-written words (written-one (decimal k) (word-decimal k (lt_trans small (lit< tt)))) in
+    let nodes : only_nodes (last_nodes c.n_var (Some q) row) ≡ Op q.opcode k ∷ [] = rw (words_is, whole_of-decimal k small) refl in
+    record { tree = more.tree; late = more.late; nodes = more.nodes ∙ ap (λ xs. ns ++ xs) nodes; pend = more.pend }
+
+rows_at-append : (n : ℕ) (xs ys : List Line) → rows_at n (xs ++ ys) ≡ rows_at n xs ++ rows_at (n + length xs) ys
+rows_at-append n [] ys = ap (λ k. rows_at k ys) (omega arith)
+rows_at-append n (x ∷ xs) ys = ap (λ rs. row_at n x ∷ rs) (rows_at-append (n + 1) xs ys ∙ ap (λ k. rows_at (n + 1) xs ++ rows_at k ys) (omega arith))
+
+pub with_lines-append : (p : Piece) (n m : ℕ) (xs ys : List Line) → m ≡ n + length xs → with_lines (with_lines p n xs) m ys ≡ with_lines p n (xs ++ ys)
+with_lines-append p n m xs ys e =
+    ap (λ rs. record p { rows = rs }) (append_assoc p.rows (rows_at n xs) (rows_at m ys) ∙ ap (λ rs. p.rows ++ rs) (ap (λ k. rows_at n xs ++ rows_at k ys) e ∙ sym (rows_at-append n xs ys)))
+
+takes_then : (o : List ℤ) (c : Counts) (before : List Piece) (p : Piece) (n m : ℕ) (xs ys : List Line) (ns ms : List Node) → m ≡ n + length xs → TakesNodes o c before p n xs ns → TakesNodes o c before (with_lines p n xs) m ys ms
+    → TakesNodes o c before p n (xs ++ ys) ms
+takes_then o c before p n m xs ys ns ms e f g =
+    let same = with_lines-append p n m xs ys e in
+    record {
+      taken = subst (λ q. IsTaken o c (before ++ p ∷ []) n (xs ++ ys) (before ++ q ∷ [])) same
+          (taken_then o c (before ++ p ∷ []) (before ++ with_lines p n xs ∷ []) (before ++ with_lines (with_lines p n xs) m ys ∷ []) n m xs ys f.taken e g.taken);
+      within = subst (λ q. IsInTree c q ms None) same g.within;
+    }
+
+counted_rows : (o : List ℤ) (c : Counts) (before : List Piece) (d : Draft) (p : Piece) (ns : List Node) (opcode k n : ℕ) → HasFewIndices c → SaysBefore o c before d → IsInTree c p ns None → 0 < awaited ns
+    → IsNodeFine c d.definitions (Op opcode k) → node_total c before + length ns < 2 ^ 22 → operands_of opcode ≡ Some OnNextLine → opcode < 2 ^ 31 → 1 ≤ k
+    → TakesNodes o c before p n (((codes "o" ++ decimal opcode) ∷ []) ∷ (decimal k ∷ []) ∷ []) (ns ++ Op opcode k ∷ [])
+counted_rows o c before d p ns opcode k n few s h some fine room e small more =
+    let words : Line = (codes "o" ++ decimal opcode) ∷ [] in
+    let count : Line = decimal k ∷ [] in
+    let q : Pending = record { opcode = opcode; line = n } in
+    let first = longer p (row_at n words) in
+    let least : k < 2 ^ 31 = omega (arith, fine.1) in
+    let one = line_taken o c before p n words NodeLine (node_line o c before d p ns (Op opcode k) few s h some fine room) in
+    let in_first = opcode_in_tree c p ns n opcode small e (words_written c d.definitions (Op opcode k) few fine) h in
+    let two = line_taken o c before first (n + 1) count OperandCount (count_line o c before first ns q k more fine.1 in_first) in
+    let in_second = count_in_tree c first ns q (n + 1) k least in_first in
+    let same = with_lines-append p n (n + 1) (words ∷ []) (count ∷ []) refl in
+    record {
+      taken = subst (λ q. IsTaken o c (before ++ p ∷ []) n (words ∷ count ∷ []) (before ++ q ∷ [])) same
+          (taken_then o c (before ++ p ∷ []) (before ++ first ∷ []) (before ++ longer first (row_at (n + 1) count) ∷ []) n (n + 1) (words ∷ []) (count ∷ []) one refl two);
+      within = subst (λ q. IsInTree c q (ns ++ Op opcode k ∷ []) None) same in_second;
+    }
+
+-- ---- any node
+
+pub node_taken : (o : List ℤ) (c : Counts) (before : List Piece) (d : Draft) (p : Piece) (ns : List Node) (m : Node) (n : ℕ) → HasFewIndices c → SaysBefore o c before d → IsInTree c p ns None → 0 < awaited ns
+    → IsNodeFine c d.definitions m → node_total c before + length ns < 2 ^ 22 → TakesNodes o c before p n (node_lines m) (ns ++ m ∷ [])
+node_taken o c before d p ns (Num x) n few s h some fine room = one_row o c before d p ns (Num x) (Num x) n few s h some fine room (number_read c.n_var x)
+node_taken o c before d p ns (Var j) n few s h some fine room =
+    let read = variable_read c.n_var j (omega arith) in
+    let same : variable_node c.n_var j ≡ Var j = rw (lt-ltb j c.n_var fine) refl in
+    one_row o c before d p ns (Var j) (Var j) n few s h some fine room (read.0 ∙ ap Some same, read.1)
+node_taken o c before d p ns (Defined i) n few s h some fine room =
+    let read = variable_read c.n_var i (omega (arith, fine.0, fine.1)) in
+    let same : variable_node c.n_var i ≡ Defined i = rw (lt-false i c.n_var fine.0) refl in
+    one_row o c before d p ns (Defined i) (Defined i) n few s h some fine room (read.0 ∙ ap Some same, read.1)
+node_taken o c before d p ns (Op opcode k) n few s h some fine room =
+    let is = operands_known opcode k fine.0 in
+    by (operands_of opcode) refl is.0 (omega (arith, is.1))
+  where
+    by : (x : Option Operands) → operands_of opcode ≡ x → FitsOperands x k → opcode < 2 ^ 31 → TakesNodes o c before p n (operator_lines opcode k) (ns ++ Op opcode k ∷ [])
+    by None e f small = absurd f
+    by (Some One) e f small = rw e
+        (let read = operator_read c.n_var opcode k One small e f in
+        one_row o c before d p ns (Op opcode k) (Op opcode k) n few s h some fine room (read.0 ∙ ap (λ j. Some (Op opcode j)) (sym f), read.1))
+    by (Some Two) e f small = rw e
+        (let read = operator_read c.n_var opcode k Two small e f in
+        one_row o c before d p ns (Op opcode k) (Op opcode k) n few s h some fine room (read.0 ∙ ap (λ j. Some (Op opcode j)) (sym f), read.1))
+    by (Some OnNextLine) e f small = rw e (counted_rows o c before d p ns opcode k n few s h some fine room e small f)
+
+-- ---- any nodes
+
+-- a tree is awaited before each node
+abbrev pub AreAwaited : ℕ → List Node → Type 0
+AreAwaited w [] = Unit {0}
+AreAwaited w (m ∷ ms) = (0 < w) × AreAwaited (w - 1 + operand_count m) ms
+
+pub nodes_taken : (o : List ℤ) (c : Counts) (before : List Piece) (d : Draft) (p : Piece) (ns ms : List Node) (n : ℕ) → HasFewIndices c → SaysBefore o c before d → IsInTree c p ns None → AreAwaited (awaited ns) ms
+    → AllByRecursion (IsNodeFine c d.definitions) ms → node_total c before + (length ns + length ms) ≤ 2 ^ 22 → TakesNodes o c before p n (flat_map node_lines ms) (ns ++ ms)
+nodes_taken o c before d p ns [] n few s h w fine room =
+    let same : with_lines p n [] ≡ p = ap (λ rs. record p { rows = rs }) (append-nil p.rows) in
+    record {
+      taken = subst (λ q. IsTaken o c (before ++ p ∷ []) n [] (before ++ q ∷ [])) (sym same) (taken_none o c (before ++ p ∷ []) n);
+      within = subst (λ q. IsInTree c q (ns ++ []) None) (sym same) (subst (λ xs. IsInTree c p xs None) (sym (append-nil ns)) h);
+    }
+nodes_taken o c before d p ns (m ∷ ms) n few s h w fine room =
+    let one = node_taken o c before d p ns m n few s h w.0 fine.0 (omega (arith, room)) in
+    let next = ns ++ m ∷ [] in
+    let waits : AreAwaited (awaited next) ms = subst (λ k. AreAwaited k ms) (sym (awaited-push 1 ns m)) w.1 in
+    let more = nodes_taken o c before d (with_lines p n (node_lines m)) next ms (n + length (node_lines m)) few s one.within waits fine.1 (omega (arith, room, length-append ns (m ∷ []))) in
+    let all = takes_then o c before p n (n + length (node_lines m)) (node_lines m) (flat_map node_lines ms) next (next ++ ms) refl one more in
+    subst (λ xs. TakesNodes o c before p n (flat_map node_lines (m ∷ ms)) xs) (append_assoc ns (m ∷ []) ms) all

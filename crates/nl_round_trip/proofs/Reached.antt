@@ -1,0 +1,61 @@
+-- Lines without faults, and what they mean for the next one.
+use Rattle.std.proofs.Common.{◌≡◌, ◌∙◌, ℕ, ◌+◌, false, List, [], ◌∷◌, ◌++◌, length, map, refl, sym, ap, subst, arith, None, length-append, append_assoc, append-nil}
+use Rattle.std.specs.List.{AllByRecursion}
+use Rattle.text_base.specs.Judged.{Open, End, IsClean, first_reason}
+use Rattle.text_base.proofs.JudgedLemmas.{clean_none, clean_last, clean_more}
+use Rattle.nl_header.specs.Head.{options_in, counts_in}
+use Rattle.nl_segments.specs.Pieces.{Piece, with_row}
+use Rattle.nl_segments.specs.Saying.{draft_of}
+use Rattle.nl_segments.specs.Tests.{row_tests}
+use Rattle.nl_segments.specs.Grammar.{Standing, standing, line_refusal, end_refusal, is_in_header, nl_rules}
+use Rattle.nl_segments.specs.Steps.{after}
+use Rattle.nl_segments.proofs.StandingLemmas.{standing-more}
+use Rattle.written_texts.specs.Lines.{Line, spaced}
+use Rattle.written_texts.specs.Words.{IsWritten}
+use Rattle.written_texts.proofs.WordLemmas.{kept-spaced, some-written, row-written}
+use Rattle.nl_round_trip.specs.Taking.{row_at, AreFine, pieces_after}
+
+-- the lines have no fault, and mean this
+pub record IsReached (lines : List (List ℕ)) (s : Standing) : Type 0 where
+  pub clean : IsClean nl_rules lines Open
+  pub here : standing lines ≡ s
+
+pub reached_none : IsReached [] (standing [])
+reached_none = record { clean = clean_none nl_rules; here = refl }
+
+pub reached_more : (lines : List (List ℕ)) (s : Standing) (line : List ℕ) → IsReached lines s → line_refusal s line ≡ None → IsReached (lines ++ line ∷ []) (after s (length lines + 1) line)
+reached_more lines s line h e = record {
+  clean = clean_more nl_rules lines line h.clean (ap (λ s. line_refusal s line) h.here ∙ e);
+  here = standing-more lines line ∙ ap (λ s. after s (length lines + 1) line) h.here;
+}
+
+pub reached_end : (lines : List (List ℕ)) (s : Standing) → IsReached lines s → end_refusal s ≡ None → IsClean nl_rules lines End
+reached_end lines s h e = clean_last nl_rules lines End h.clean (ap end_refusal h.here ∙ e)
+
+-- ---- written lines of the body
+
+abbrev pub in_body : List (List (List ℕ)) → List Piece → Standing
+in_body header pieces = record { header = header; pieces = pieces }
+
+line_fine : (header : List (List (List ℕ))) (pieces : List Piece) (words : Line) → is_in_header (in_body header pieces) ≡ false → IsWritten words
+    → first_reason (row_tests (counts_in header) (draft_of (options_in header) (counts_in header) pieces) pieces words) ≡ None → line_refusal (in_body header pieces) (spaced words) ≡ None
+unfolding line_refusal
+line_fine header pieces words body w fine = rw (some-written words w, kept-spaced words w.each, body, row-written words w) fine
+
+line_after : (header : List (List (List ℕ))) (pieces : List Piece) (n : ℕ) (words : Line) → is_in_header (in_body header pieces) ≡ false → IsWritten words
+    → after (in_body header pieces) n (spaced words) ≡ in_body header (with_row (counts_in header) pieces (row_at n words))
+line_after header pieces n words body w = rw (some-written words w, kept-spaced words w.each, body) refl
+
+pub body_reached : (header : List (List (List ℕ))) (pieces : List Piece) (lines : List (List ℕ)) (n : ℕ) (body : List Line) → ((ps : List Piece) → is_in_header (in_body header ps) ≡ false)
+    → n ≡ length lines + 1 → AllByRecursion IsWritten body → IsReached lines (in_body header pieces) → AreFine (options_in header) (counts_in header) pieces n body
+    → IsReached (lines ++ map spaced body) (in_body header (pieces_after (counts_in header) pieces n body))
+body_reached header pieces lines n [] past e w h fine = subst (λ ls. IsReached ls (in_body header pieces)) (sym (append-nil lines)) h
+body_reached header pieces lines n (words ∷ body) past e w h fine =
+    let next = with_row (counts_in header) pieces (row_at n words) in
+    let one = reached_more lines (in_body header pieces) (spaced words) h (line_fine header pieces words (past pieces) w.0 fine.0) in
+    let here : after (in_body header pieces) (length lines + 1) (spaced words) ≡ in_body header next =
+    ap (λ k. after (in_body header pieces) k (spaced words)) (sym e) ∙ line_after header pieces n words (past pieces) w.0 in
+    let now : IsReached (lines ++ spaced words ∷ []) (in_body header next) = subst (IsReached (lines ++ spaced words ∷ [])) here one in
+    let count : n + 1 ≡ length (lines ++ spaced words ∷ []) + 1 = omega (arith, length-append lines (spaced words ∷ []), e) in
+    let more = body_reached header next (lines ++ spaced words ∷ []) (n + 1) body past count w.1 now fine.1 in
+    subst (λ ls. IsReached ls (in_body header (pieces_after (counts_in header) next (n + 1) body))) (append_assoc lines (spaced words ∷ []) (map spaced body)) more

@@ -1,0 +1,44 @@
+-- What pieces mean for the next one, piece by piece in the written order.
+use Rattle.std.specs.Prelude.{◌≡◌, ℕ, ◌+◌, ◌*◌, ◌^◌, ◌<◌, ℤ, List}
+use Rattle.std.specs.List.{AllByRecursion}
+use Rattle.nl_model.specs.declared.counts.Counts.{Counts}
+use Rattle.nl_model.specs.Draft.{Draft}
+use Rattle.nl_segments.specs.declared.awaited.Awaited.TheVariants.{Nothing}
+use Rattle.nl_segments.specs.declared.head.Head.{Head}
+use Rattle.nl_segments.specs.declared.head.Head.TheVariants.{Body, Objective, Definition, DualGuesses, PrimalGuesses, Sides, Bounds, ColumnCounts, Terms, Slopes, Suffix}
+use Rattle.nl_segments.specs.Pieces.{Piece, awaited_of}
+use Rattle.nl_segments.specs.Saying.{draft_of}
+use Rattle.nl_segments.specs.Tests.{is_linear, is_suffix, pair_total, node_total, suffix_count, all_column_counts}
+use Rattle.written_texts.specs.Lines.{Line}
+use Rattle.nl_round_trip.specs.Taking.{IsTaken}
+
+-- sections one after the other, and within some the pieces by their numbers
+abbrev pub rank : Head → ℕ
+rank (Suffix kind n) = 0
+rank (Definition i j usage) = 2 ^ 32
+rank (Body i) = 2 * 2 ^ 32 + i
+rank (Objective k maximise) = 3 * 2 ^ 32 + k
+rank (DualGuesses n) = 4 * 2 ^ 32
+rank (PrimalGuesses n) = 5 * 2 ^ 32
+rank Sides = 6 * 2 ^ 32
+rank Bounds = 7 * 2 ^ 32
+rank (ColumnCounts n) = 8 * 2 ^ 32
+rank (Terms i n) = 9 * 2 ^ 32 + i
+rank (Slopes k n) = 10 * 2 ^ 32 + k
+
+-- the pieces are complete, say the draft d, stand before what has a rank from `next` on, and hold so many linear terms, values of suffixes, nodes and suffixes
+pub record IsStanding (o : List ℤ) (c : Counts) (before : List Piece) (d : Draft) (next linear values nodes suffixes : ℕ) : Type 0 where
+  pub done : awaited_of c before ≡ Nothing
+  pub said : draft_of o c before ≡ d
+  pub ranks : AllByRecursion (λ p. rank p.head < next) before
+  pub terms_are : pair_total is_linear before ≡ linear
+  pub values_are : pair_total is_suffix before ≡ values
+  pub nodes_are : node_total c before ≡ nodes
+  pub suffixes_are : suffix_count before ≡ suffixes
+
+-- written lines that are taken, none of them a number of columns, and what the pieces mean after them
+pub record Reaches (o : List ℤ) (c : Counts) (before : List Piece) (n : ℕ) (lines : List Line) (d : Draft) (next linear values nodes suffixes : ℕ) : Type 0 where
+  pub after : List Piece
+  pub taken : IsTaken o c before n lines after
+  pub stands : IsStanding o c after d next linear values nodes suffixes
+  pub columns : all_column_counts after ≡ all_column_counts before
