@@ -27,6 +27,8 @@ mod rewritten;
 #[cfg(test)]
 mod segments;
 #[cfg(test)]
+mod sol_texts;
+#[cfg(test)]
 mod stages;
 #[cfg(test)]
 mod tables;

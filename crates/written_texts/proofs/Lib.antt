@@ -1,3 +1,4 @@
+pub mod Lengths
 pub mod LineLemmas
 pub mod NumbersRead
 pub mod WordLemmas

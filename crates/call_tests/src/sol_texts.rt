@@ -1,0 +1,190 @@
+// .sol texts that come in pieces, and a value that is built and written.
+ghost use Rattle.std.specs.Prelude.{◌≡◌, [], IfOk};
+
+use exact_numbers::Dec;
+use nl_model::{Options, Terms};
+use sol_files::{Sol, SolBuilder, SolFault, SolReader, SolReason, SolSuffix, write_sol};
+use std::alloc::{AllocError, Global};
+use std::process::Abort;
+use std::test::Fail;
+use text_base::{Name, Stop, TextLines};
+
+// Without a last line end.
+const SOLVED: &[u8] =
+    b"\nsolver: done\n\nOptions\n3\n1\n1\n0\n1\n0\n2\n2\n1.1102230246251565e-32\n2\nobjno 0 0\nsuffix 0 2 8 0 0\nsstatus\n0 1\n1 3";
+
+const WRITTEN: &[u8] =
+    b"\nsolver: done\n\nOptions\n3\n1\n1\n0\n1\n0\n2\n2\n11102230246251565e-48\n2\nobjno 0 0\nsuffix 0 2 8 0 0\nsstatus\n0 1\n1 3\n";
+
+fn read_in_pieces(alloc: Global, text: &[u8], len: usize) -> Result<Sol, Stop<SolFault>> {
+    let mut reader = SolReader::new(alloc)?;
+    let mut rest = text;
+    for _ in 0..text.len() {
+        let (piece, more) = rest.split_at(rest.len().min(len));
+        // The reader keeps an error, and answers it at the end.
+        let _ = reader.feed(piece);
+        rest = more;
+    }
+    reader.finish()
+}
+
+fn reason_of(read: Result<Sol, Stop<SolFault>>) -> Option<(SolReason, u32)> {
+    match read {
+        Err(Stop::Fault(fault)) => Some((fault.reason, fault.line)),
+        _ => None,
+    }
+}
+
+fn fault_in(rt: &HostRuntime, text: &[u8]) -> Option<(SolReason, u32)> {
+    reason_of(read_in_pieces(rt.alloc(), text, 100))
+}
+
+fn is_solved(sol: &Sol) -> bool {
+    sol.message().len() == 2
+        && sol.options().len() == 3
+        && sol.n_con() == 1
+        && sol.duals().len() == 0
+        && sol.n_var() == 2
+        && sol.primals().len() == 2
+        && sol.objno() == Some((0, 0))
+        && sol.suffixes().len() == 1
+}
+
+#[test]
+fn a_solved_file_in_pieces(rt: HostRuntime) {
+    for len in [1, 2, 3, 7, 1000] {
+        match read_in_pieces(rt.alloc(), SOLVED, len) {
+            Ok(sol) => assert!(rt; is_solved(&sol)),
+            Err(_) => panic!(rt; "the text is right"),
+        }
+    }
+}
+
+fn is_written(alloc: Global, sol: &Sol, text: &[u8]) -> Result<bool, AllocError> {
+    let written = write_sol(alloc, sol)?;
+    Ok(written.as_slice() == text)
+}
+
+#[test]
+fn a_solved_file_is_written(rt: HostRuntime) -> Result<(), Fail> {
+    match read_in_pieces(rt.alloc(), SOLVED, 1000) {
+        Ok(sol) => assert!(rt; is_written(rt.alloc(), &sol, WRITTEN)?),
+        Err(_) => panic!(rt; "the text is right"),
+    }
+    Ok(())
+}
+
+#[test]
+fn faults_of_numbers(rt: HostRuntime) {
+    assert!(rt; fault_in(&rt, &SOLVED[..62]) == Some((SolReason::Short, 14)));
+    assert!(rt; fault_in(&rt, b"done") == Some((SolReason::NoOptions, 2)));
+    assert!(rt; fault_in(&rt, b"Options\n3\n1\n3\n0") == Some((SolReason::Options, 4)));
+    assert!(rt; fault_in(&rt, b"Options\n10\n") == Some((SolReason::Options, 2)));
+    assert!(rt; fault_in(&rt, b"Options\n0\n2\n1\n") == Some((SolReason::CountsDisagree, 4)));
+    assert!(rt; fault_in(&rt, b"Options\n0\n1048577\n") == Some((SolReason::TooLarge, 3)));
+    assert!(rt; fault_in(&rt, b"Options\n0\nx\n") == Some((SolReason::BadNumber, 3)));
+}
+
+// No options, one constraint, one variable, and no values.
+fn fault_behind(rt: &HostRuntime, text: &[u8]) -> Option<(SolReason, u32)> {
+    let Ok(mut reader) = SolReader::new(rt.alloc()) else {
+        return None;
+    };
+    let _ = reader.feed(b"Options\n0\n1\n0\n1\n0\n");
+    let _ = reader.feed(text);
+    reason_of(reader.finish())
+}
+
+#[test]
+fn faults_behind_numbers(rt: HostRuntime) {
+    assert!(rt; fault_behind(&rt, b"x") == Some((SolReason::Extra, 7)));
+    assert!(rt; fault_behind(&rt, b"objno 0") == Some((SolReason::BadLine, 7)));
+    assert!(rt; fault_behind(&rt, b"objno 0 0\nobjno 0 0") == Some((SolReason::Extra, 8)));
+    assert!(rt; fault_behind(&rt, b"suffix 256 0 0 0 0") == Some((SolReason::BadNumber, 7)));
+    assert!(rt; fault_behind(&rt, b"suffix 0 0 0 0 65537") == Some((SolReason::TooLarge, 7)));
+    assert!(rt; fault_behind(&rt, b"suffix 0 0 0 0 1\n\n") == Some((SolReason::BadLine, 8)));
+}
+
+#[test]
+fn faults_of_suffix_values(rt: HostRuntime) {
+    let repeated = fault_behind(&rt, b"suffix 0 2 0 0 1\na\n\n\n0 1\n0 1");
+    assert!(rt; repeated == Some((SolReason::RepeatedIndex, 12)));
+    let out = fault_behind(&rt, b"suffix 0 2 0 0 0\na\n1 1");
+    assert!(rt; out == Some((SolReason::IndexOut, 9)));
+    let part = fault_behind(&rt, b"suffix 0 2 0 0 0\na\n0 0.5");
+    assert!(rt; part == Some((SolReason::BadNumber, 9)));
+    let real = fault_behind(&rt, b"suffix 4 1 0 0 0\na\n0 0.5");
+    assert!(rt; real.is_none());
+}
+
+// So many message lines, and then this text.
+fn fault_after(rt: &HostRuntime, lines: u32, text: &[u8]) -> Option<(SolReason, u32)> {
+    let Ok(mut reader) = SolReader::new(rt.alloc()) else {
+        return None;
+    };
+    for _ in 0..lines {
+        let _ = reader.feed(b"m\n");
+    }
+    let _ = reader.feed(text);
+    reason_of(reader.finish())
+}
+
+// An empty line before `Options` is no line of the message.
+#[test]
+fn the_longest_message(rt: HostRuntime) {
+    let large = Some((SolReason::TooLarge, 65_537));
+    assert!(rt; fault_after(&rt, 65_536, b"\nOptions\n0\n0\n0\n0\n0\n").is_none());
+    assert!(rt; fault_after(&rt, 65_536, b"Options\n0\n0\n0\n0\n0\n").is_none());
+    assert!(rt; fault_after(&rt, 65_536, b"m\nOptions\n") == large);
+    assert!(rt; fault_after(&rt, 65_536, b"\n\nOptions\n") == large);
+    assert!(rt; fault_after(&rt, 65_536, b"\n") == large);
+    assert!(rt; fault_after(&rt, 65_536, b"") == Some((SolReason::NoOptions, 65_537)));
+}
+
+// A fault is answered once its line has ended, and again.
+#[test]
+fn a_sol_fault_stays(rt: HostRuntime) {
+    let Ok(mut reader) = SolReader::new(rt.alloc()) else {
+        panic!(rt; "memory is wanting");
+    };
+    assert!(rt; reader.feed(b"Options\n10").is_ok());
+    assert!(rt; reader.feed(b"\n").is_err());
+    assert!(rt; reader.feed(b"0\n").is_err());
+    assert!(rt; reason_of(reader.finish()) == Some((SolReason::Options, 2)));
+}
+
+// A suffix without a table.
+fn slack(rt: &impl Abort, alloc: Global, value: Dec) -> Result<SolSuffix, AllocError>
+    ensures { IfOk result (λ s. s.table ≡ []) }
+{
+    let mut values = Terms::new(alloc);
+    values.push((0, value))?;
+    Ok(SolSuffix {
+        kind: 5,
+        name: Name::of(alloc, b"slack").expect(rt, "a name"),
+        name_len: 6,
+        table_len: 0,
+        table: TextLines::new(alloc),
+        values,
+    })
+}
+
+#[test]
+fn a_value_is_built(rt: HostRuntime) -> Result<(), Fail> {
+    let alloc = rt.alloc();
+    let half = Dec::new(5, -1).expect(&rt, "a number");
+    let mut options = Options::new();
+    options.push(-1);
+    let mut built = SolBuilder::new(alloc, options, 1, 1);
+    built.say(b"done")?;
+    built.dual(half)?;
+    built.primal(half)?;
+    built.set_objno(-1, 7);
+    built.suffix(slack(&rt, alloc, half)?)?;
+    let text = write_sol(alloc, &built.finish())?;
+    assert_eq!(rt;
+        text.as_slice(),
+        b"done\n\nOptions\n1\n-1\n1\n1\n1\n1\n0.5\n0.5\nobjno -1 7\nsuffix 5 1 6 0 0\nslack\n0 0.5\n".as_slice()
+    );
+    Ok(())
+}

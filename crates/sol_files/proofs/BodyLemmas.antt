@@ -1,0 +1,364 @@
+-- What a body means with a row of numbers more.
+use Rattle.std.proofs.Common.{◌≡◌, ◌∙◌, ℕ, ◌+◌, ◌-◌, ◌<◌, ◌≤◌, false, ℤ, List, [], ◌∷◌, ◌++◌, length, take, drop, Option, Some, None, refl, sym, ap, ap₂, arith}
+use Rattle.std.specs.Prelude.{slice_get, codes}
+use Rattle.std.specs.List.{filter_map}
+use Rattle.std.proofs.lemmas.List.{length_push, nil_from_length, drop_all}
+use Rattle.exact_numbers.specs.declared.dec.Dec.{Dec}
+use Rattle.exact_numbers.specs.Numbers.{whole_of}
+use Rattle.sol_files.specs.declared.awaited.Awaited.{Awaited}
+use Rattle.sol_files.specs.declared.awaited.Awaited.TheVariants.{Message, OptionCount, Options, Constraints, DualCount, Variables, PrimalCount, Duals, Primals, Tail, Name, Table, Values}
+use Rattle.sol_files.specs.Rows.{Row, number_in, option_in, value_in, objno_in}
+use Rattle.text_base.specs.Words.{begins}
+use Rattle.sol_files.specs.Parts.{Body, row_number, option_count, constraint_count, dual_count, variable_count, primal_count, row_at, rows_await, body_awaits}
+use Rattle.sol_files.specs.Saying.{option_rows, dual_rows, primal_rows, rows_past, sol_of, table_total, value_total}
+use Rattle.sol_files.specs.Standing.{Standing}
+use Rattle.sol_files.specs.Steps.{listed, or_else, options_await, values_await, after_row}
+use Rattle.sol_files.proofs.RowLemmas.{number-at, number-other, part_none, part_past, part_more, rest_none, rest_more, Place, first, option, constraints, duals, variables, primals, dual, primal, past, place, after_first_row, after_option_row, after_constraints_row, after_duals_row, after_variables_row, after_primals_row, after_dual_row, after_primal_row, after_past_row}
+
+-- what a message and a body mean for the next line
+unfoldable pub met : List (List ℕ) → Body → Standing
+met message b =
+    record {
+      awaited = body_awaits b;
+      is_held_back = false;
+      sol = sol_of message b;
+      dual_count = dual_count b.rows;
+      primal_count = primal_count b.rows;
+      suffix_count = length b.pieces;
+      table_count = table_total b.pieces;
+      value_count = value_total b.pieces;
+    }
+
+-- what rows of numbers mean
+record Numbers : Type 0 where
+  awaited : Awaited
+  options : List ℤ
+  n_con : ℕ
+  duals : List Dec
+  n_var : ℕ
+  primals : List Dec
+  objno : Option (ℤ × ℤ)
+  dual_count : ℕ
+  primal_count : ℕ
+
+numbers_of : List Row → Numbers
+numbers_of rows =
+    record {
+      awaited = rows_await rows;
+      options = filter_map option_in (option_rows rows);
+      n_con = constraint_count rows;
+      duals = filter_map value_in (dual_rows rows);
+      n_var = variable_count rows;
+      primals = filter_map value_in (primal_rows rows);
+      objno = slice_get (filter_map objno_in (rows_past rows)) 0;
+      dual_count = dual_count rows;
+      primal_count = primal_count rows;
+    }
+
+with_numbers : List (List ℕ) → Numbers → Standing
+with_numbers message n =
+    record {
+      awaited = n.awaited;
+      is_held_back = false;
+      sol = record { message = message; options = n.options; n_con = n.n_con; duals = n.duals; n_var = n.n_var; primals = n.primals; objno = n.objno; suffixes = [] };
+      dual_count = n.dual_count;
+      primal_count = n.primal_count;
+      suffix_count = 0;
+      table_count = 0;
+      value_count = 0;
+    }
+
+only_rows : List Row → Body
+only_rows rows = record { rows = rows; pieces = [] }
+
+met_rows : (message : List (List ℕ)) (rows : List Row) → met message (only_rows rows) ≡ with_numbers message (numbers_of rows)
+unfolding met only_rows with_numbers numbers_of sol_of
+met_rows message rows = refl
+
+same_numbers : (x y : Numbers) → x.awaited ≡ y.awaited → x.options ≡ y.options → x.n_con ≡ y.n_con → x.duals ≡ y.duals → x.n_var ≡ y.n_var → x.primals ≡ y.primals → x.objno ≡ y.objno → x.dual_count ≡ y.dual_count → x.primal_count ≡ y.primal_count → x ≡ y
+same_numbers x y a o c d v p n e f = λ i. record { awaited = a i; options = o i; n_con = c i; duals = d i; n_var = v i; primals = p i; objno = n i; dual_count = e i; primal_count = f i }
+
+-- ---- numbers of rows
+
+first_listed : {A : Type 0} (xs : List A) (o : Option A) → slice_get (xs ++ listed o) 0 ≡ or_else (slice_get xs 0) o
+first_listed [] None = refl
+first_listed [] (Some x) = refl
+first_listed (x ∷ xs) o = refl
+
+no_number : number_in [] 0 ≡ 0
+unfolding whole_of
+no_number = refl
+
+module _ (rows : List Row) (row : Row) (begun : 0 < length rows) where
+  option_count_kept : option_count (rows ++ row ∷ []) ≡ option_count rows
+  option_count_kept = number-other rows row 0 (λ e. omega (arith, e))
+
+  count_other : (j : ℕ) → (length rows ≡ option_count rows + j → ⊥) → row_number (rows ++ row ∷ []) (option_count (rows ++ row ∷ []) + j) ≡ row_number rows (option_count rows + j)
+  count_other j ne = ap (λ k. row_number (rows ++ row ∷ []) (k + j)) option_count_kept ∙ number-other rows row (option_count rows + j) ne
+
+  count_at : (j : ℕ) → length rows ≡ option_count rows + j → row_number (rows ++ row ∷ []) (option_count (rows ++ row ∷ []) + j) ≡ number_in row 0
+  count_at j e = ap (λ k. row_number (rows ++ row ∷ []) (k + j)) option_count_kept ∙ number-at rows row (option_count rows + j) e
+
+  options_same : option_count rows < length rows → filter_map option_in (option_rows (rows ++ row ∷ [])) ≡ filter_map option_in (option_rows rows)
+  options_same lt = ap (λ k. filter_map option_in (take k (drop 1 (rows ++ row ∷ [])))) option_count_kept ∙ part_past option_in rows row 1 (option_count rows) (omega arith)
+
+  options_more : length rows ≤ option_count rows → filter_map option_in (option_rows (rows ++ row ∷ [])) ≡ filter_map option_in (option_rows rows) ++ listed (option_in row)
+  options_more le = ap (λ k. filter_map option_in (take k (drop 1 (rows ++ row ∷ [])))) option_count_kept ∙ part_more option_in rows row 1 (option_count rows) (omega arith) (omega arith)
+
+  -- before the duals
+  duals_none : length rows < option_count rows + 5 → filter_map value_in (dual_rows (rows ++ row ∷ [])) ≡ filter_map value_in (dual_rows rows)
+  duals_none lt =
+      let len = length_push rows row in
+      part_none value_in (rows ++ row ∷ []) (option_count (rows ++ row ∷ []) + 5) (dual_count (rows ++ row ∷ [])) (omega (arith, option_count_kept))
+      ∙ sym (part_none value_in rows (option_count rows + 5) (dual_count rows) (omega arith))
+
+  primals_none : length rows < option_count rows + 5 → filter_map value_in (primal_rows (rows ++ row ∷ [])) ≡ filter_map value_in (primal_rows rows)
+  primals_none lt =
+      let len = length_push rows row in
+      part_none value_in (rows ++ row ∷ []) (option_count (rows ++ row ∷ []) + 5 + dual_count (rows ++ row ∷ [])) (primal_count (rows ++ row ∷ [])) (omega (arith, option_count_kept))
+      ∙ sym (part_none value_in rows (option_count rows + 5 + dual_count rows) (primal_count rows) (omega arith))
+
+  past_none : (from from' : ℕ) → length rows < from → length rows ≤ from' → filter_map objno_in (drop from (rows ++ row ∷ [])) ≡ filter_map objno_in (drop from' rows)
+  past_none from from' lt le = rest_none objno_in rows row from lt ∙ ap (filter_map objno_in) (drop_all from rows (omega arith) ∙ sym (drop_all from' rows le))
+
+  objno_none : length rows < option_count rows + 5 → slice_get (filter_map objno_in (rows_past (rows ++ row ∷ []))) 0 ≡ slice_get (filter_map objno_in (rows_past rows)) 0
+  objno_none lt =
+      ap (λ xs. slice_get xs 0)
+      (past_none (option_count (rows ++ row ∷ []) + 5 + dual_count (rows ++ row ∷ []) + primal_count (rows ++ row ∷ [])) (option_count rows + 5 + dual_count rows + primal_count rows) (omega (arith, option_count_kept)) (omega arith))
+
+  -- among the values
+  module _ (late : option_count rows + 5 ≤ length rows) where
+    dual_count_kept : dual_count (rows ++ row ∷ []) ≡ dual_count rows
+    dual_count_kept = count_other 2 (λ e. omega (arith, e))
+
+    primal_count_kept : primal_count (rows ++ row ∷ []) ≡ primal_count rows
+    primal_count_kept = count_other 4 (λ e. omega (arith, e))
+
+    dual_part : filter_map value_in (dual_rows (rows ++ row ∷ [])) ≡ filter_map value_in (take (dual_count rows) (drop (option_count rows + 5) (rows ++ row ∷ [])))
+    dual_part = ap₂ (λ d k. filter_map value_in (take d (drop (k + 5) (rows ++ row ∷ [])))) dual_count_kept option_count_kept
+
+    primal_part : filter_map value_in (primal_rows (rows ++ row ∷ [])) ≡ filter_map value_in (take (primal_count rows) (drop (option_count rows + 5 + dual_count rows) (rows ++ row ∷ [])))
+    primal_part =
+        ap₂ (λ p k. filter_map value_in (take p (drop (k + 5 + dual_count (rows ++ row ∷ [])) (rows ++ row ∷ [])))) primal_count_kept option_count_kept
+        ∙ ap (λ d. filter_map value_in (take (primal_count rows) (drop (option_count rows + 5 + d) (rows ++ row ∷ [])))) dual_count_kept
+
+    past_part : rows_past (rows ++ row ∷ []) ≡ drop (option_count rows + 5 + dual_count rows + primal_count rows) (rows ++ row ∷ [])
+    past_part =
+        ap₂ (λ p k. drop (k + 5 + dual_count (rows ++ row ∷ []) + p) (rows ++ row ∷ [])) primal_count_kept option_count_kept
+        ∙ ap (λ d. drop (option_count rows + 5 + d + primal_count rows) (rows ++ row ∷ [])) dual_count_kept
+
+    await_part : rows_await (rows ++ row ∷ []) ≡ row_at (option_count rows) (dual_count rows) (primal_count rows) (length rows + 1)
+    await_part =
+        ap₂ (λ k i. row_at k (dual_count (rows ++ row ∷ [])) (primal_count (rows ++ row ∷ [])) i) option_count_kept (length_push rows row)
+        ∙ ap₂ (λ d p. row_at (option_count rows) d p (length rows + 1)) dual_count_kept primal_count_kept
+
+    duals_more : length rows < option_count rows + 5 + dual_count rows → filter_map value_in (dual_rows (rows ++ row ∷ [])) ≡ filter_map value_in (dual_rows rows) ++ listed (value_in row)
+    duals_more lt = dual_part ∙ part_more value_in rows row (option_count rows + 5) (dual_count rows) late lt
+
+    duals_same : option_count rows + 5 + dual_count rows ≤ length rows → filter_map value_in (dual_rows (rows ++ row ∷ [])) ≡ filter_map value_in (dual_rows rows)
+    duals_same le = dual_part ∙ part_past value_in rows row (option_count rows + 5) (dual_count rows) le
+
+    primals_later : length rows < option_count rows + 5 + dual_count rows → filter_map value_in (primal_rows (rows ++ row ∷ [])) ≡ filter_map value_in (primal_rows rows)
+    primals_later lt =
+        primal_part
+        ∙ part_none value_in (rows ++ row ∷ []) (option_count rows + 5 + dual_count rows) (primal_count rows) (omega (arith, length_push rows row))
+        ∙ sym (part_none value_in rows (option_count rows + 5 + dual_count rows) (primal_count rows) (omega arith))
+
+    primals_more : option_count rows + 5 + dual_count rows ≤ length rows → length rows < option_count rows + 5 + dual_count rows + primal_count rows → filter_map value_in (primal_rows (rows ++ row ∷ [])) ≡ filter_map value_in (primal_rows rows) ++ listed (value_in row)
+    primals_more le lt = primal_part ∙ part_more value_in rows row (option_count rows + 5 + dual_count rows) (primal_count rows) le lt
+
+    primals_same : option_count rows + 5 + dual_count rows + primal_count rows ≤ length rows → filter_map value_in (primal_rows (rows ++ row ∷ [])) ≡ filter_map value_in (primal_rows rows)
+    primals_same le = primal_part ∙ part_past value_in rows row (option_count rows + 5 + dual_count rows) (primal_count rows) le
+
+    objno_later : length rows < option_count rows + 5 + dual_count rows + primal_count rows → slice_get (filter_map objno_in (rows_past (rows ++ row ∷ []))) 0 ≡ slice_get (filter_map objno_in (rows_past rows)) 0
+    objno_later lt = ap (λ rs. slice_get (filter_map objno_in rs) 0) past_part ∙ ap (λ xs. slice_get xs 0) (rest_none objno_in rows row (option_count rows + 5 + dual_count rows + primal_count rows) lt)
+
+    objno_more : option_count rows + 5 + dual_count rows + primal_count rows ≤ length rows → slice_get (filter_map objno_in (rows_past (rows ++ row ∷ []))) 0 ≡ or_else (slice_get (filter_map objno_in (rows_past rows)) 0) (objno_in row)
+    objno_more le =
+        ap (λ rs. slice_get (filter_map objno_in rs) 0) past_part ∙ ap (λ xs. slice_get xs 0) (rest_more objno_in rows row (option_count rows + 5 + dual_count rows + primal_count rows) le)
+        ∙ first_listed (filter_map objno_in (rows_past rows)) (objno_in row)
+
+-- ---- a row more
+
+-- before any row, each number is 0
+none_yet : (rows : List Row) (j : ℕ) → length rows ≡ 0 → row_number rows j ≡ 0
+none_yet rows j z = rw (nil_from_length rows z) no_number
+
+module _ (message : List (List ℕ)) (rows : List Row) (row : Row) where
+  abbrev Meets : Awaited → Type 0
+  Meets a = met message (only_rows (rows ++ row ∷ [])) ≡ after_row a (met message (only_rows rows)) row
+
+  -- what the numbers become
+  becomes : (n : Numbers) → numbers_of (rows ++ row ∷ []) ≡ n → met message (only_rows (rows ++ row ∷ [])) ≡ with_numbers message n
+  becomes n e = met_rows message (rows ++ row ∷ []) ∙ ap (with_numbers message) e
+
+  first_more : length rows ≡ 0 → Meets OptionCount
+  unfolding after_row with_numbers numbers_of met only_rows sol_of
+  first_more z =
+      let count : (j : ℕ) → (j ≡ 0 → ⊥) → row_number (rows ++ row ∷ []) j ≡ row_number rows j = λ j ne. number-other rows row j (λ e. ne (omega (arith, e, z))) in
+      let options : option_count (rows ++ row ∷ []) ≡ number_in row 0 = number-at rows row 0 z in
+      let len : length (rows ++ row ∷ []) ≡ 1 = omega (arith, length_push rows row) in
+      let other : (j : ℕ) → 0 < j → row_number (rows ++ row ∷ []) (option_count (rows ++ row ∷ []) + j) ≡ row_number rows (option_count rows + j) =
+      λ j lt. count (option_count (rows ++ row ∷ []) + j) (λ e. omega (arith, e, lt)) ∙ none_yet rows (option_count (rows ++ row ∷ []) + j) z ∙ sym (none_yet rows (option_count rows + j) z) in
+      becomes (record (numbers_of rows) { awaited = options_await (number_in row 0) })
+      (same_numbers (numbers_of (rows ++ row ∷ [])) (record (numbers_of rows) { awaited = options_await (number_in row 0) })
+      (ap₂ (λ k i. row_at k (dual_count (rows ++ row ∷ [])) (primal_count (rows ++ row ∷ [])) i) options len ∙ after_first_row (number_in row 0) (dual_count (rows ++ row ∷ [])) (primal_count (rows ++ row ∷ [])))
+      (part_none option_in (rows ++ row ∷ []) 1 (option_count (rows ++ row ∷ [])) (omega arith) ∙ sym (part_none option_in rows 1 (option_count rows) (omega arith)))
+      (other 1 (omega arith))
+      (part_none value_in (rows ++ row ∷ []) (option_count (rows ++ row ∷ []) + 5) (dual_count (rows ++ row ∷ [])) (omega arith) ∙ sym (part_none value_in rows (option_count rows + 5) (dual_count rows) (omega arith)))
+      (other 3 (omega arith))
+      (part_none value_in (rows ++ row ∷ []) (option_count (rows ++ row ∷ []) + 5 + dual_count (rows ++ row ∷ [])) (primal_count (rows ++ row ∷ [])) (omega arith) ∙ sym (part_none value_in rows (option_count rows + 5 + dual_count rows) (primal_count rows) (omega arith)))
+      (ap (λ rs. slice_get (filter_map objno_in rs) 0)
+      (drop_all (option_count (rows ++ row ∷ []) + 5 + dual_count (rows ++ row ∷ []) + primal_count (rows ++ row ∷ [])) (rows ++ row ∷ []) (omega arith) ∙ sym (drop_all (option_count rows + 5 + dual_count rows + primal_count rows) rows (omega arith))))
+      (other 2 (omega arith))
+      (other 4 (omega arith)))
+
+  module _ (begun : 0 < length rows) where
+    -- before the duals
+    early : (n : Numbers) (a : Awaited) → length rows < option_count rows + 5
+        → rows_await (rows ++ row ∷ []) ≡ n.awaited
+        → filter_map option_in (option_rows (rows ++ row ∷ [])) ≡ n.options
+        → constraint_count (rows ++ row ∷ []) ≡ n.n_con
+        → filter_map value_in (dual_rows rows) ≡ n.duals
+        → variable_count (rows ++ row ∷ []) ≡ n.n_var
+        → filter_map value_in (primal_rows rows) ≡ n.primals
+        → slice_get (filter_map objno_in (rows_past rows)) 0 ≡ n.objno
+        → dual_count (rows ++ row ∷ []) ≡ n.dual_count
+        → primal_count (rows ++ row ∷ []) ≡ n.primal_count
+        → met message (only_rows (rows ++ row ∷ [])) ≡ with_numbers message n
+    unfolding numbers_of
+    early n a lt e1 e2 e3 e4 e5 e6 e7 e8 e9 =
+        becomes n
+        (same_numbers (numbers_of (rows ++ row ∷ [])) n e1 e2 e3 (duals_none rows row begun lt ∙ e4) e5 (primals_none rows row begun lt ∙ e6) (objno_none rows row begun lt ∙ e7) e8 e9)
+
+    -- the row that is awaited, by what the numbers become
+    await_early : (k d p i : ℕ) → option_count rows ≡ k → length rows + 1 ≡ i → rows_await (rows ++ row ∷ []) ≡ row_at k (dual_count (rows ++ row ∷ [])) (primal_count (rows ++ row ∷ [])) i
+    await_early k d p i e f = ap₂ (λ k i. row_at k (dual_count (rows ++ row ∷ [])) (primal_count (rows ++ row ∷ [])) i) (option_count_kept rows row begun ∙ e) (length_push rows row ∙ f)
+
+    option_next : length rows ≤ option_count rows → Meets (Options ((option_count rows + 1) - length rows))
+    unfolding after_row with_numbers numbers_of met only_rows sol_of
+    option_next le =
+        early (record (numbers_of rows) { awaited = options_await (((option_count rows + 1) - length rows) - 1); options = filter_map option_in (option_rows rows) ++ listed (option_in row) }) OptionCount (omega arith)
+        (await_early (option_count rows) 0 0 (length rows + 1) refl refl ∙ after_option_row (option_count rows) (dual_count (rows ++ row ∷ [])) (primal_count (rows ++ row ∷ [])) (length rows) begun le)
+        (options_more rows row begun le)
+        (count_other rows row begun 1 (λ e. omega (arith, e)))
+        refl
+        (count_other rows row begun 3 (λ e. omega (arith, e)))
+        refl refl
+        (count_other rows row begun 2 (λ e. omega (arith, e)))
+        (count_other rows row begun 4 (λ e. omega (arith, e)))
+
+    constraints_next : length rows ≡ option_count rows + 1 → Meets Constraints
+    unfolding after_row with_numbers numbers_of met only_rows sol_of
+    constraints_next at =
+        early (record (numbers_of rows) { awaited = DualCount; n_con = number_in row 0 }) OptionCount (omega arith)
+        (await_early (option_count rows) 0 0 (option_count rows + 2) refl (omega arith) ∙ after_constraints_row (option_count rows) (dual_count (rows ++ row ∷ [])) (primal_count (rows ++ row ∷ [])))
+        (options_same rows row begun (omega arith))
+        (count_at rows row begun 1 at)
+        refl
+        (count_other rows row begun 3 (λ e. omega (arith, e)))
+        refl refl
+        (count_other rows row begun 2 (λ e. omega (arith, e)))
+        (count_other rows row begun 4 (λ e. omega (arith, e)))
+
+    duals_next : length rows ≡ option_count rows + 2 → Meets DualCount
+    unfolding after_row with_numbers numbers_of met only_rows sol_of
+    duals_next at =
+        early (record (numbers_of rows) { awaited = Variables; dual_count = number_in row 0 }) OptionCount (omega arith)
+        (await_early (option_count rows) 0 0 (option_count rows + 3) refl (omega arith) ∙ after_duals_row (option_count rows) (dual_count (rows ++ row ∷ [])) (primal_count (rows ++ row ∷ [])))
+        (options_same rows row begun (omega arith))
+        (count_other rows row begun 1 (λ e. omega (arith, e)))
+        refl
+        (count_other rows row begun 3 (λ e. omega (arith, e)))
+        refl refl
+        (count_at rows row begun 2 at)
+        (count_other rows row begun 4 (λ e. omega (arith, e)))
+
+    variables_next : length rows ≡ option_count rows + 3 → Meets Variables
+    unfolding after_row with_numbers numbers_of met only_rows sol_of
+    variables_next at =
+        early (record (numbers_of rows) { awaited = PrimalCount; n_var = number_in row 0 }) OptionCount (omega arith)
+        (await_early (option_count rows) 0 0 (option_count rows + 4) refl (omega arith) ∙ after_variables_row (option_count rows) (dual_count (rows ++ row ∷ [])) (primal_count (rows ++ row ∷ [])))
+        (options_same rows row begun (omega arith))
+        (count_other rows row begun 1 (λ e. omega (arith, e)))
+        refl
+        (count_at rows row begun 3 at)
+        refl refl
+        (count_other rows row begun 2 (λ e. omega (arith, e)))
+        (count_other rows row begun 4 (λ e. omega (arith, e)))
+
+    primals_next : length rows ≡ option_count rows + 4 → Meets PrimalCount
+    unfolding after_row with_numbers numbers_of met only_rows sol_of
+    primals_next at =
+        let duals : dual_count (rows ++ row ∷ []) ≡ dual_count rows = count_other rows row begun 2 (λ e. omega (arith, e)) in
+        let primals : primal_count (rows ++ row ∷ []) ≡ number_in row 0 = count_at rows row begun 4 at in
+        early (record (numbers_of rows) { awaited = values_await (dual_count rows) (number_in row 0); primal_count = number_in row 0 }) OptionCount (omega arith)
+        (await_early (option_count rows) 0 0 (option_count rows + 5) refl (omega arith) ∙ after_primals_row (option_count rows) (dual_count (rows ++ row ∷ [])) (primal_count (rows ++ row ∷ [])) ∙ ap₂ values_await duals primals)
+        (options_same rows row begun (omega arith))
+        (count_other rows row begun 1 (λ e. omega (arith, e)))
+        refl
+        (count_other rows row begun 3 (λ e. omega (arith, e)))
+        refl refl duals primals
+
+    -- among the values
+    late_next : (n : Numbers) → (late : option_count rows + 5 ≤ length rows)
+        → row_at (option_count rows) (dual_count rows) (primal_count rows) (length rows + 1) ≡ n.awaited
+        → filter_map option_in (option_rows rows) ≡ n.options
+        → constraint_count rows ≡ n.n_con
+        → filter_map value_in (dual_rows (rows ++ row ∷ [])) ≡ n.duals
+        → variable_count rows ≡ n.n_var
+        → filter_map value_in (primal_rows (rows ++ row ∷ [])) ≡ n.primals
+        → slice_get (filter_map objno_in (rows_past (rows ++ row ∷ []))) 0 ≡ n.objno
+        → dual_count rows ≡ n.dual_count
+        → primal_count rows ≡ n.primal_count
+        → met message (only_rows (rows ++ row ∷ [])) ≡ with_numbers message n
+    unfolding numbers_of
+    late_next n late e1 e2 e3 e4 e5 e6 e7 e8 e9 =
+        becomes n
+        (same_numbers (numbers_of (rows ++ row ∷ [])) n (await_part rows row begun late ∙ e1) (options_same rows row begun (omega arith) ∙ e2)
+        (count_other rows row begun 1 (λ e. omega (arith, e)) ∙ e3) e4 (count_other rows row begun 3 (λ e. omega (arith, e)) ∙ e5) e6 e7
+        (dual_count_kept rows row begun late ∙ e8) (primal_count_kept rows row begun late ∙ e9))
+
+    dual_next : option_count rows + 5 ≤ length rows → length rows < option_count rows + 5 + dual_count rows → Meets (Duals ((option_count rows + 5 + dual_count rows) - length rows))
+    unfolding after_row with_numbers numbers_of met only_rows sol_of
+    dual_next late lt =
+        late_next (record (numbers_of rows) { awaited = values_await (((option_count rows + 5 + dual_count rows) - length rows) - 1) (primal_count rows); duals = filter_map value_in (dual_rows rows) ++ listed (value_in row) }) late
+        (after_dual_row (option_count rows) (dual_count rows) (primal_count rows) (length rows) late lt)
+        refl refl (duals_more rows row begun late lt) refl (primals_later rows row begun late lt) (objno_later rows row begun late (omega arith)) refl refl
+
+    primal_next : option_count rows + 5 + dual_count rows ≤ length rows → length rows < option_count rows + 5 + dual_count rows + primal_count rows → Meets (Primals ((option_count rows + 5 + dual_count rows + primal_count rows) - length rows))
+    unfolding after_row with_numbers numbers_of met only_rows sol_of
+    primal_next le lt =
+        let late : option_count rows + 5 ≤ length rows = omega arith in
+        late_next (record (numbers_of rows) { awaited = values_await 0 (((option_count rows + 5 + dual_count rows + primal_count rows) - length rows) - 1); primals = filter_map value_in (primal_rows rows) ++ listed (value_in row) }) late
+        (after_primal_row (option_count rows) (dual_count rows) (primal_count rows) (length rows) le lt)
+        refl refl (duals_same rows row begun late le) refl (primals_more rows row begun late le lt) (objno_later rows row begun late lt) refl refl
+
+    past_next : rows_await rows ≡ Tail → begins row (codes "suffix") ≡ false → option_count rows + 5 + dual_count rows + primal_count rows ≤ length rows → Meets Tail
+    unfolding after_row with_numbers numbers_of met only_rows sol_of
+    past_next tail other le =
+        let late : option_count rows + 5 ≤ length rows = omega arith in
+        rw other
+        (late_next (record (numbers_of rows) { awaited = rows_await rows; objno = or_else (slice_get (filter_map objno_in (rows_past rows)) 0) (objno_in row) }) late
+        (after_past_row (option_count rows) (dual_count rows) (primal_count rows) (length rows) le ∙ sym tail)
+        refl refl (duals_same rows row begun late (omega arith)) refl (primals_same rows row begun late le) (objno_more rows row begun late le) refl refl)
+
+  -- a row without a piece before it
+  by_place : (a : Awaited) → rows_await rows ≡ a → (a ≡ Tail → begins row (codes "suffix") ≡ false) → Place (option_count rows) (dual_count rows) (primal_count rows) (length rows) a → Meets a
+  by_place Message e other h = elim h [ ]
+  by_place OptionCount e other (first z) = first_more z
+  by_place (Options left) e other (option lt le) = option_next lt le
+  by_place Constraints e other (constraints at) = constraints_next (omega arith) at
+  by_place DualCount e other (duals at) = duals_next (omega arith) at
+  by_place Variables e other (variables at) = variables_next (omega arith) at
+  by_place PrimalCount e other (primals at) = primals_next (omega arith) at
+  by_place (Duals left) e other (dual le lt) = dual_next (omega arith) le lt
+  by_place (Primals left) e other (primal le lt) = primal_next (omega arith) le lt
+  by_place Tail e other (past le) = past_next (omega arith) e (other refl) le
+  by_place (Name head) e other h = elim h [ ]
+  by_place (Table tables values) e other h = elim h [ ]
+  by_place (Values left) e other h = elim h [ ]
+
+  pub row_more : (rows_await rows ≡ Tail → begins row (codes "suffix") ≡ false) → met message (record { rows = rows ++ row ∷ []; pieces = [] }) ≡ after_row (rows_await rows) (met message (record { rows = rows; pieces = [] })) row
+  unfolding only_rows
+  row_more other = by_place (rows_await rows) refl other (place (option_count rows) (dual_count rows) (primal_count rows) (length rows))

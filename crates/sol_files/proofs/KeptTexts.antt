@@ -1,0 +1,174 @@
+-- A value that was read keeps the rules of values.
+use Rattle.std.proofs.Common.{◌≡◌, ◌∙◌, ℕ, zero, suc, ◌<◌, ◌≤◌, Bool, true, false, cond, List, [], ◌∷◌, ◌++◌, length, take, drop, Option, Some, None, refl, sym, ap, subst, arith, ◌==◌}
+use Rattle.std.specs.List.{AllByRecursion}
+use Rattle.std.proofs.lemmas.List.{take_all, drop_all}
+use Rattle.text_base.specs.Cut.{IsTextLine}
+use Rattle.text_base.specs.Judged.{Last, End, IsClean, first_reason, last_reason, reason_after}
+use Rattle.text_base.specs.Lines.{scan}
+use Rattle.text_base.specs.Reading.{lines_of, last_of, last_by}
+use Rattle.text_base.specs.Words.{row_of}
+use Rattle.text_base.specs.declared.lines.LineFault.{LineFault}
+use Rattle.text_base.proofs.FirstReasons.{none_each}
+use Rattle.text_base.proofs.LineLemmas.{lines_of-lines}
+use Rattle.sol_files.specs.declared.awaited.Awaited.{Awaited}
+use Rattle.sol_files.specs.declared.awaited.Awaited.TheVariants.{Message, OptionCount, Options, Constraints, DualCount, Variables, PrimalCount, Duals, Primals, Tail, Name, Table, Values}
+use Rattle.sol_files.specs.Sol.{Sol}
+use Rattle.sol_files.specs.Rows.{Row}
+use Rattle.sol_files.specs.Parts.{is_tail}
+use Rattle.sol_files.specs.Standing.{Standing, standing}
+use Rattle.sol_files.specs.Built.{empty_sol}
+use Rattle.sol_files.specs.Tests.{line_tests, line_tests_at, row_tests, row_line_tests, end_tests}
+use Rattle.sol_files.specs.Steps.{after, after_at, after_row, after_row_line}
+use Rattle.sol_files.specs.Grammar.{sol_rules}
+use Rattle.sol_files.specs.Reader.{IsSol}
+use Rattle.sol_files.specs.Written.{KeepsRules}
+use Rattle.sol_files.proofs.StandingLemmas.{standing-more, no_lines, with_draft}
+use Rattle.sol_files.proofs.Kept.{KeptAt, KeepsAt, Keeps}
+use Rattle.sol_files.proofs.KeptRows.{kept_count, kept_option, kept_constraints, kept_dual_count, kept_variables, kept_primal_count, kept_dual, kept_primal, was_not}
+use Rattle.sol_files.proofs.KeptTail.{kept_message, kept_tail, kept_name, kept_table, kept_value}
+
+-- ---- a line more
+
+row_kept : (a : Awaited) (s : Standing) (words : Row) → s.awaited ≡ a → KeepsAt a s → first_reason (row_tests a s words) ≡ None → Keeps (after_row a s words)
+unfolding after_row
+row_kept Message s words is h f = subst (λ x. KeepsAt x s) (sym is) h
+row_kept OptionCount s words is h f = kept_count s words h f
+row_kept (Options left) s words is h f = kept_option s left words h f
+row_kept Constraints s words is h f = kept_constraints s words h f
+row_kept DualCount s words is h f = kept_dual_count s words h f
+row_kept Variables s words is h f = kept_variables s words h f
+row_kept PrimalCount s words is h f = kept_primal_count s words h f
+row_kept (Duals left) s words is h f = kept_dual s left words h f
+row_kept (Primals left) s words is h f = kept_primal s left words h f
+row_kept Tail s words is h f = kept_tail s words is h f
+row_kept (Name head) s words is h f = subst (λ x. KeepsAt x s) (sym is) h
+row_kept (Table tables values) s words is h f = subst (λ x. KeepsAt x s) (sym is) h
+row_kept (Values left) s words is h f = kept_value s left words h f
+
+row_line_kept : (a : Awaited) (s : Standing) (words : Row) → s.awaited ≡ a → KeepsAt a s → first_reason (row_line_tests a s words) ≡ None → Keeps (after_row_line a s words)
+row_line_kept a s words is h f = by (length words == 0) f
+  where
+    by : (b : Bool) → first_reason (cond b [] (row_tests a s words)) ≡ None → Keeps (cond b s (after_row a s words))
+    by true g = subst (λ x. KeepsAt x s) (sym is) h
+    by false g = row_kept a s words is h g
+
+line_kept : (a : Awaited) (s : Standing) (line : List ℕ) → IsTextLine line → s.awaited ≡ a → KeepsAt a s → first_reason (line_tests_at a s line) ≡ None → Keeps (after_at a s line)
+unfolding line_tests_at after_at
+line_kept Message s line text is h f = kept_message s line text is h f
+line_kept (Name head) s line text is h f = kept_name s head (row_of line) h f
+line_kept (Table tables values) s line text is h f = kept_table s tables values line text h
+line_kept OptionCount s line text is h f = row_line_kept OptionCount s (row_of line) is h f
+line_kept (Options left) s line text is h f = row_line_kept (Options left) s (row_of line) is h f
+line_kept Constraints s line text is h f = row_line_kept Constraints s (row_of line) is h f
+line_kept DualCount s line text is h f = row_line_kept DualCount s (row_of line) is h f
+line_kept Variables s line text is h f = row_line_kept Variables s (row_of line) is h f
+line_kept PrimalCount s line text is h f = row_line_kept PrimalCount s (row_of line) is h f
+line_kept (Duals left) s line text is h f = row_line_kept (Duals left) s (row_of line) is h f
+line_kept (Primals left) s line text is h f = row_line_kept (Primals left) s (row_of line) is h f
+line_kept Tail s line text is h f = row_line_kept Tail s (row_of line) is h f
+line_kept (Values left) s line text is h f = row_line_kept (Values left) s (row_of line) is h f
+
+-- ---- all lines
+
+none_kept : Keeps (standing [])
+unfolding KeptAt
+none_kept = subst Keeps (sym no_lines) first
+  where
+    first : Keeps (with_draft (empty_sol [] 0 0))
+    first = record {
+      said = record { each = tt; room = omega arith; count = omega arith };
+      options = record { each = tt; second = refl; room = omega arith };
+      n_con = omega arith;
+      n_var = omega arith;
+      objno = tt;
+      rest = (record { duals = refl; primals = refl }, record { none = refl; begun = refl; tables = refl; values = refl });
+    }
+
+take_next : {A : Type 0} (i : ℕ) (xs : List A) (x : A) (rest : List A) → drop i xs ≡ x ∷ rest → (take (suc i) xs ≡ take i xs ++ x ∷ []) × (drop (suc i) xs ≡ rest)
+take_next zero [] x rest e = absurd cc
+take_next zero (y ∷ xs) x rest e = (ap (λ l. take 1 l) e, ap (drop 1) e)
+take_next (suc i) [] x rest e = absurd cc
+take_next (suc i) (y ∷ xs) x rest e = let more = take_next i xs x rest e in (ap (λ l. y ∷ l) more.0, more.1)
+
+rest_lines : (i : ℕ) (lines : List (List ℕ)) (line : List ℕ) (rest : List (List ℕ)) → drop i lines ≡ line ∷ rest → AllByRecursion IsTextLine lines → IsTextLine line
+rest_lines zero [] line rest e all = absurd cc
+rest_lines zero (l ∷ lines) line rest e all = subst IsTextLine (let same : l ≡ line = cc in same) all.0
+rest_lines (suc i) [] line rest e all = absurd cc
+rest_lines (suc i) (l ∷ lines) line rest e all = rest_lines i lines line rest e all.1
+
+some_left : {A : Type 0} (i : ℕ) (xs : List A) → i < length xs → (x : A) × (rest : List A) × (drop i xs ≡ x ∷ rest)
+some_left i [] lt = absurd (omega arith)
+some_left zero (x ∷ xs) lt = (x, xs, refl)
+some_left (suc i) (x ∷ xs) lt = some_left i xs (omega arith)
+
+front_kept : (lines : List (List ℕ)) (last : Last) → AllByRecursion IsTextLine lines → IsClean sol_rules lines last → (i : ℕ) → i ≤ length lines → Keeps (standing (take i lines))
+front_kept lines last all clean zero le = none_kept
+front_kept lines last all clean (suc i) le =
+    let left = some_left i lines (omega arith) in
+    let line = left.0 in
+    let s = standing (take i lines) in
+    let before : Keeps s = front_kept lines last all clean i (omega arith) in
+    let fine : first_reason (line_tests s line) ≡ None = ap (reason_after sol_rules last (take i lines)) (sym left.2) ∙ clean.clean i (omega arith) in
+    let next : Keeps (after s line) = line_kept s.awaited s line (rest_lines i lines line left.1 left.2 all) refl before fine in
+    subst Keeps (sym (standing-more (take i lines) line) ∙ ap standing (sym (take_next i lines line left.1 left.2).0)) next
+
+tail_of : (a : Awaited) → is_tail a ≡ true → a ≡ Tail
+tail_of Tail e = refl
+tail_of Message e = absurd cc
+tail_of OptionCount e = absurd cc
+tail_of (Options left) e = absurd cc
+tail_of Constraints e = absurd cc
+tail_of DualCount e = absurd cc
+tail_of Variables e = absurd cc
+tail_of PrimalCount e = absurd cc
+tail_of (Duals left) e = absurd cc
+tail_of (Primals left) e = absurd cc
+tail_of (Name head) e = absurd cc
+tail_of (Table tables values) e = absurd cc
+tail_of (Values left) e = absurd cc
+
+rules_kept : (s : Standing) → KeepsAt Tail s → KeepsRules s.sol
+unfolding KeptAt
+rules_kept s h =
+    let given = h.rest.0 in
+    let old = h.rest.1 in
+    let options = h.options.room in
+    let begun = old.begun in
+    let begun_room = old.begun_room in
+    let tables = old.tables in
+    let table_room = old.table_room in
+    let values = old.values in
+    let value_room = old.value_room in
+    record {
+      message = h.said.each;
+      message_room = h.said.room;
+      options = h.options.each;
+      option_room = omega (arith, options);
+      second = h.options.second;
+      n_con = h.n_con;
+      n_var = h.n_var;
+      given = record { duals = given.duals_given; primals = given.primals_given };
+      objno = h.objno;
+      suffixes = old.each;
+      suffix_room = omega (arith, begun, begun_room);
+      table_room = omega (arith, tables, table_room);
+      value_room = omega (arith, values, value_room);
+    }
+
+last_fine : (fault : Option LineFault) (lines : List (List ℕ)) → last_reason sol_rules lines (last_by fault End) ≡ None → first_reason (end_tests (standing lines)) ≡ None
+last_fine None lines e = e
+last_fine (Some fault) lines e = absurd cc
+
+pub read_keeps : (text : List ℕ) (sol : Sol) → IsSol text sol → KeepsRules sol
+unfolding last_of
+read_keeps text sol h =
+    let lines = lines_of text in
+    let s = standing lines in
+    let n = length lines in
+    let whole : take n lines ≡ lines = take_all n lines (omega arith) in
+    let kept : Keeps s = subst (λ ls. Keeps (standing ls)) whole (front_kept lines (last_of text) (lines_of-lines text) h.clean n (omega arith)) in
+    let at_last : last_reason sol_rules lines (last_of text) ≡ None =
+    ap (λ ls. last_reason sol_rules ls (last_of text)) (sym whole) ∙ ap (reason_after sol_rules (last_of text) (take n lines)) (sym (drop_all n lines (omega arith))) ∙ h.clean.clean n (omega arith) in
+    let tests = none_each (end_tests s) (last_fine (scan text).fault lines at_last) in
+    let tail = tail_of s.awaited (was_not (is_tail s.awaited) tests.1.1.0) in
+    subst KeepsRules (sym h.said) (rules_kept s (subst (λ a. KeepsAt a s) tail kept))

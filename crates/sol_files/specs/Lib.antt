@@ -1,0 +1,15 @@
+pub mod Sol
+pub mod Rows
+pub mod Parts
+pub mod Saying
+pub mod Standing
+pub mod Tests
+pub mod Grammar
+pub mod Steps
+pub mod Held
+pub mod Told
+pub mod Reader
+pub mod Built
+pub mod Written
+pub mod Fields
+pub mod Judging
