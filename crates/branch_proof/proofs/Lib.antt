@@ -6,4 +6,4 @@ pub mod Sides
 pub mod RoomLemmas
 pub mod Steps
 pub mod Proved
-pub mod OneTree
+pub mod TreeReading

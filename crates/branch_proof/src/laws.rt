@@ -10,6 +10,7 @@ ghost use Rattle.file_meaning.specs.Meaning.{IsRelaxed};
 ghost use Rattle.branch_proof.specs.Files.{IsBoundOn, IsProofIn, IsTrueOf};
 ghost use Rattle.branch_proof.specs.Leaves.{IsProved};
 ghost use Rattle.branch_proof.specs.Proofs.{IsProofOf, ProofTree, ProofValue, nodes_of, pairs_of};
+ghost use Rattle.branch_proof.specs.Trees.{tree_in};
 ghost use Rattle.branch_proof.specs.declared.leaf.ProofVerdict.TheVariants.{Yes};
 ghost use Rattle.branch_proof.specs.declared.proof.Claim.{Claim as ClaimValue};
 
@@ -41,7 +42,9 @@ pub fn claims_are_of_files()
         → IsProved (linear_of f k) claim Yes → IsTrueOf f k claim }
 {}
 
-/// Nodes in prefix order and the pairs of all leaves are those of one tree.
-pub fn proofs_have_one_tree()
-    ensures { (a b : ProofTree) → nodes_of a ≡ nodes_of b → pairs_of a ≡ pairs_of b → a ≡ b }
+/// Nodes in prefix order and the pairs of all leaves are those of one tree, which they are read back
+/// as.
+pub fn trees_are_read_back()
+    ensures { (p : ProofValue) (tree : ProofTree) → nodes_of tree ≡ p.nodes
+        → pairs_of tree ≡ p.pairs → tree_in p ≡ tree }
 {}

@@ -1,5 +1,5 @@
 -- Lines without faults, from a standing on.
-use Rattle.std.proofs.Common.{◌≡◌, ◌∙◌, ℕ, ◌+◌, List, [], ◌∷◌, ◌++◌, length, Option, Some, None, refl, sym, subst, arith, append_assoc, length-append}
+use Rattle.std.proofs.Common.{◌≡◌, ◌∙◌, ℕ, List, [], ◌∷◌, ◌++◌, length, Option, Some, None, refl, sym, subst, arith, append_assoc, length-append}
 use Rattle.std.proofs.lemmas.List.{take_at, drop_at}
 use Rattle.text_base.specs.declared.lines.LineFault.{LineFault}
 use Rattle.text_base.specs.Judged.{Last, End, IsClean, first_reason, last_reason, reason_after, reason_at}

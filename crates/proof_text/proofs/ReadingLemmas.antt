@@ -1,5 +1,5 @@
 -- Each text has one reading, and what a reader answers is a proof of its file.
-use Rattle.std.proofs.Common.{◌≡◌, ◌∙◌, ℕ, Bool, false, true, ◌||◌, not, List, ◌++◌, Option, Some, None, Result, Ok, Err, is_none, inl, inr, refl, sym, ap, ap₂, subst}
+use Rattle.std.proofs.Common.{◌≡◌, ◌∙◌, ℕ, Bool, false, ◌||◌, not, List, ◌++◌, Option, Some, None, Result, Ok, Err, is_none, inl, inr, refl, sym, ap₂, subst}
 use Rattle.std.specs.Prelude.{IfOk}
 use Rattle.text_base.specs.declared.stop.Stop.{Stop}
 use Rattle.text_base.specs.Reading.{Stands}

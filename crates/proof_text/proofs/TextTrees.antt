@@ -2,7 +2,6 @@
 -- left, and gives the subtrees and pairs that were awaited before them.
 use Rattle.std.proofs.Common.{◌≡◌, ◌∙◌, ℕ, zero, suc, ◌+◌, ◌-◌, ◌<◌, ◌≤◌, ◌^◌, ◌==◌, ℤ, Bool, true, false, cond, not, ◌&&◌, ◌||◌, nat_le, nat_lt, List, [], ◌∷◌, ◌++◌, length, get_or, Option, Some, None, is_none, IsTrue, All, codes, refl, sym, ap, ap₂, subst, arith, append-nil, append_assoc, length-append}
 use Rattle.std.proofs.lemmas.Bool.{lt-ltb, eqb-true}
-use Rattle.std.proofs.lemmas.List.{take_at, drop_at}
 use Rattle.std.proofs.lemmas.Slice.Eq.{bytes_eq-Decides}
 use Rattle.std.specs.Str.{bytes_eq}
 use Rattle.fractions.specs.Fits.{fits}
@@ -16,7 +15,6 @@ use Rattle.exact_numbers.specs.Numbers.{dec_of, whole_of}
 use Rattle.exact_numbers.specs.Values.{dec_value}
 use Rattle.nl_model.specs.File.{File}
 use Rattle.nl_model.specs.Kinds.{kind_of}
-use Rattle.nl_model.specs.declared.kind.Kind.{Kind}
 use Rattle.nl_model.specs.declared.kind.Kind.TheVariants.{Continuous}
 use Rattle.file_meaning.specs.LinearFile.{elements_from}
 use Rattle.file_meaning.specs.Meaning.{is_whole_kind, is_whole_variable}
@@ -32,7 +30,7 @@ use Rattle.proof_text.specs.declared.fault.ProofReason.TheVariants.{Extra}
 use Rattle.proof_text.specs.Reader.{IsProofText}
 use Rattle.proof_text.specs.Rows.{Row, claim_in, is_node_row, leaf_in, node_in, pair_in, value_claim}
 use Rattle.proof_text.specs.Setting.{Setting, setting_of}
-use Rattle.proof_text.specs.Standing.{IsSaid, Standing, is_whole_tree, nothing_yet, standing, standing_from, with_line, with_node, with_pair, with_row}
+use Rattle.proof_text.specs.Standing.{IsSaid, Standing, is_whole_tree, nothing_yet, standing_from, with_node, with_pair, with_row}
 use Rattle.proof_text.specs.Tests.{claim_tests, end_tests, is_pair_out, is_split_continuous, is_split_out, line_tests, node_tests, pair_tests, row_tests}
 use Rattle.proof_text.proofs.CleanLines.{IsFine, text_fine}
 
