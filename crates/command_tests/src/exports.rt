@@ -2,7 +2,7 @@
 ghost use Rattle.std.specs.Prelude.{◌<◌};
 
 use crate::commands::{command, first_lines};
-use crate::nl_texts::{KNAPSACK, KNAPSACK_WRITTEN, Sizes, header, one_row, text_of};
+use example_texts::nl_texts::{KNAPSACK, KNAPSACK_WRITTEN, Sizes, header, one_row, text_of};
 use itoa::Buffer;
 use std::alloc::{AllocError, Global};
 use std::test::Fail;

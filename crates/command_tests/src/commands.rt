@@ -1,8 +1,8 @@
 // Commands over a desk in memory.
 ghost use Rattle.std.specs.Prelude.{◌≡◌, ◌<◌};
 
-use crate::nl_texts::KNAPSACK;
 use bridge_tool::{bridge, feed_text, plain_number};
+use example_texts::nl_texts::KNAPSACK;
 use nl_segments::NlReader;
 use std::alloc::{AllocError, Global};
 use std::marker::Brand;

@@ -1,8 +1,8 @@
 // The command mps over a desk in memory: what is written or told for whole texts, and for their fronts.
 
 use crate::commands::{command, first_lines};
-use crate::mps_texts::{PAIRS, PAIRS_WRITTEN};
-use crate::nl_texts::KNAPSACK_WRITTEN;
+use example_texts::mps_texts::{PAIRS, PAIRS_WRITTEN};
+use example_texts::nl_texts::KNAPSACK_WRITTEN;
 use itoa::Buffer;
 use std::alloc::{AllocError, Global};
 use std::test::Fail;

@@ -1,4 +1,4 @@
-use Rattle.call_tests.proofs.commands.command.Given as goal
+use Rattle.command_tests.proofs.commands.command.Given as goal
 
 -- the ledger is the blank's
 abbrev pub ghosts-run : goal.ghosts-run
