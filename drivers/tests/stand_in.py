@@ -2,8 +2,9 @@
 """Stands in for `bridge` in tests: `export`, `return`, `check` and `prove` of small text .nl files
 without expressions beyond sums, products and quotients, in plain fractions.
 
-It is no part of what is shipped and proves nothing. It has neither the limits nor most refusals of
-`bridge`; what it writes for the models of `models.py` is compared with `bridge` where that is there.
+It is no part of what is shipped and proves nothing. It has neither the limits nor most refusals
+of `bridge`; what it writes for the models of `models.py` is compared with `bridge` where that is
+there.
 """
 
 from __future__ import annotations

@@ -90,7 +90,8 @@ class Replay(Job):
 
     def run(self, argv, log=LOG):
         type(self).argv = list(argv)
-        stored.put(self.run_of["files"], self.folder, "answer." if log == LOG else "phase1.")
+        start = "answer." if log == LOG else log[:-3]
+        stored.put(self.run_of["files"], self.folder, start)
         text = "\n".join(self.run_of["logs"].get(log, []))
         if log == LOG:
             self.log = text
