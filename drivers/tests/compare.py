@@ -26,11 +26,12 @@ from typing import NamedTuple
 
 BIN = os.path.join(os.path.dirname(os.path.abspath(__file__)), "..", "bin")
 CLOSE = 1e-6
+WORDS = {0: "optimal", 200: "infeasible", 300: "unbounded", 505: "takes no integers"}
 
 
 class Found(NamedTuple):
-    """What one way found: optimal, solved, infeasible, unbounded, refused, unknown or error; the
-    objective where there is one; the message; seconds."""
+    """What one way found: optimal, solved, infeasible, unbounded, refused, takes no integers,
+    unknown or error; the objective where there is one; the message; seconds."""
 
     word: str
     value: float | None
@@ -70,8 +71,7 @@ def driven(driver: str, path: str, seconds: float) -> Found:
         except OSError:
             return Found("error", None, err.strip()[-200:], took)
     code = int(rest.partition("\nobjno ")[2].split()[1])
-    word = ("optimal" if code < 100 else "infeasible" if code == 200 else "unbounded"
-            if code == 300 else "unknown" if code < 500 else "refused")
+    word = WORDS.get(code, "unknown" if code < 500 else "refused")
     figure = message.partition("; objective ")[2].split("\n")[0].split(" ")[0]
     value = None
     if figure and word == "optimal":
@@ -86,12 +86,10 @@ def optima(folder: str) -> dict[str, str]:
 
 
 def agrees(found: Found, known: str | None) -> str:
-    if known is None or found.word in ("unknown", "error"):
+    if known is None or found.word in ("unknown", "error", "takes no integers"):
         return "-"
     if known in ("infeasible", "unbounded", "refused"):
         return "same" if found.word == known else "DIFFERENT"
-    if found.word == "refused":         # such as a solver without integer variables
-        return "-"
     good = found.word == "optimal" and (known == "feasible" or near(found.value, float(known)))
     return "same" if good else "DIFFERENT"
 
