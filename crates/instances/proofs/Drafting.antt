@@ -1,10 +1,9 @@
 -- Rows of an instance, added one after the other.
-use Rattle.std.proofs.Common.{◌≡◌, ◌∙◌, ℕ, zero, suc, ◌+◌, ◌-◌, ◌%◌, ◌<◌, ◌≤◌, ◌==◌, Bool, true, false, pos, List, [], ◌∷◌, ◌++◌, map, length, get_or, replicate, Option, Some, None, refl, sym, ap, ap₂, subst, arith, append_assoc, append-nil}
+use Rattle.std.proofs.Common.{◌≡◌, ◌∙◌, ℕ, zero, suc, ◌+◌, ◌-◌, ◌%◌, ◌<◌, ◌≤◌, ◌==◌, Bool, true, false, pos, List, [], ◌∷◌, ◌++◌, length, get_or, replicate, Some, None, refl, sym, ap, ap₂, subst, arith, append_assoc, append-nil}
 use Rattle.std.proofs.Common.{ℤ, ◌*◌, All, IsSome}
 use Rattle.std.proofs.lemmas.List.Elements.{All-nil, All-cons}
 use Rattle.nl_model.specs.declared.counts.Counts.{Counts}
 use Rattle.std.specs.Prelude.{slice_set, is_some, option_and_then, slice_get, if◌then◌else◌}
-use Rattle.std.specs.List.{range_with_len}
 use Rattle.std.proofs.lemmas.List.{get_or_at, length-append, length-replicate, set_at}
 use Rattle.std.proofs.lemmas.List.FromFn.{length-map-range_with_len, map-range_with_len_more}
 use Rattle.std.proofs.lemmas.Option.{slice_get-get_or}
@@ -12,9 +11,9 @@ use Rattle.std.proofs.lemmas.Bool.{eqb-false}
 use Rattle.nl_meaning.specs.Trees.{Tree, number, defined}
 use Rattle.nl_model.specs.File.{Term}
 use Rattle.nl_model.specs.Draft.{Draft, is_given, empty_draft, file_of}
-use Rattle.nl_model.specs.Rules.{IsTreeWithin, is_defined, most_terms, term_count}
+use Rattle.nl_model.specs.Rules.{IsTreeWithin, is_defined, term_count}
 use Rattle.instances.specs.Draws.{row_of, state_after}
-use Rattle.instances.specs.Instance.{each, whole_dec, counts_of, chained, definition_of, body_of, terms_of, side_of, bound_of, slope_of, goal_of, instance}
+use Rattle.instances.specs.Instance.{each, whole_dec, counts_of, definition_of, body_of, terms_of, side_of, bound_of, slope_of, goal_of, instance}
 use Rattle.instances.specs.Making.{drafted, with_row, CanAddRow}
 use Rattle.instances.proofs.RowLemmas.{not_defined, is_one, terms_so_far}
 

@@ -1,15 +1,14 @@
 -- The numbers of an instance, and its header.
-use Rattle.std.proofs.Common.{◌≡◌, ◌∙◌, ℕ, ◌+◌, ◌-◌, ◌<◌, ◌≤◌, ◌^◌, max, ltb, leb, Bool, true, false, ◌&&◌, pos, List, [], ◌∷◌, ◌++◌, refl, sym, ap, ap₂, subst, arith}
+use Rattle.std.proofs.Common.{◌≡◌, ◌∙◌, ℕ, ◌+◌, ◌≤◌, ◌^◌, max, ltb, Bool, true, ◌&&◌, pos, List, [], ◌∷◌, ◌++◌, refl, sym, ap, ap₂, subst, arith}
 use Rattle.std.proofs.lemmas.Int.{ints}
 use Rattle.std.proofs.lemmas.Bool.{lt-ltb, le-leb}
 use Rattle.fractions.specs.Rational.{whole, zero_ℚ, ◌≤ℚ◌}
 use Rattle.fractions.proofs.Arithmetic.{whole-≤ℚ}
 use Rattle.exact_numbers.specs.declared.dec.Dec.{Dec}
-use Rattle.exact_numbers.specs.Numbers.{dec_from}
 use Rattle.exact_numbers.specs.Values.{Decimal, dec_value, decimal_of}
 use Rattle.exact_numbers.proofs.NumberLemmas.{dec_from-value}
 use Rattle.exact_numbers.proofs.Spelling.{decimal_of-decimal}
-use Rattle.nl_model.specs.HeaderRules.{is_header, are_options, are_numbers, has_no_refused, are_sizes_within, are_shared_within, are_whole_within, are_definitions_within, are_counts, defined_count}
+use Rattle.nl_model.specs.HeaderRules.{is_header, are_options, are_numbers, are_counts, defined_count}
 use Rattle.nl_meaning.specs.Trees.{Tree, number}
 use Rattle.nl_model.specs.Nodes.{tree_of}
 use Rattle.nl_model.specs.declared.node.Node.{Node}

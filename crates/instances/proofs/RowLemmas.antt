@@ -1,10 +1,9 @@
 -- What the rows so far of an instance keep.
-use Rattle.std.proofs.Common.{◌≡◌, ◌∙◌, ℕ, zero, suc, ◌+◌, ◌-◌, ◌*◌, ◌<◌, ◌≤◌, ◌==◌, Bool, true, false, ◌||◌, List, [], ◌∷◌, ◌++◌, map, length, replicate, inl, inr, ◌⊎◌, refl, sym, ap, ap₂, arith, sum_by}
-use Rattle.std.specs.List.{list_any, range_with_len}
+use Rattle.std.proofs.Common.{◌≡◌, ◌∙◌, ℕ, zero, suc, ◌+◌, ◌<◌, ◌≤◌, ◌==◌, Bool, true, false, ◌||◌, [], ◌++◌, map, length, replicate, inl, inr, ◌⊎◌, refl, ap, ap₂, arith}
+use Rattle.std.specs.List.{range_with_len}
 use Rattle.std.proofs.lemmas.Bool.{cases_order, eq-eqb, ne_eqb}
 use Rattle.std.proofs.lemmas.List.Folds.{sum_by-replicate}
 use Rattle.std.proofs.lemmas.List.Sums.{sum_by-append, sum_by-cons}
-use Rattle.nl_model.specs.File.{Term, Definition}
 use Rattle.nl_model.specs.Rules.{is_defined, term_count}
 use Rattle.instances.specs.Instance.{each, definition_of, terms_of}
 

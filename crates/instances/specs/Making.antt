@@ -1,5 +1,5 @@
 -- An instance that is being made: what its rows so far give, and when a row more can be added.
-use Rattle.std.specs.Prelude.{◌≡◌, ℕ, ◌+◌, ◌-◌, ◌<◌, ◌≤◌, Bool, false, pos, List, [], ◌∷◌, ◌++◌, length, get_or, Option, None, Some, slice_set, replicate}
+use Rattle.std.specs.Prelude.{◌≡◌, ℕ, ◌+◌, ◌-◌, ◌<◌, ◌≤◌, false, pos, [], ◌∷◌, ◌++◌, length, get_or, None, Some, slice_set, replicate}
 use Rattle.nl_meaning.specs.Trees.{defined}
 use Rattle.nl_model.specs.Draft.{Draft, is_given}
 use Rattle.nl_model.specs.Rules.{IsTreeWithin, is_defined, most_terms, term_count}

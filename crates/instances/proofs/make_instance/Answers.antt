@@ -1,4 +1,4 @@
-use Rattle.std.proofs.Common.{◌≡◌, ◌∙◌, ap₂, sym, subst}
+use Rattle.std.proofs.Common.{◌∙◌, ap₂, sym, subst}
 use Rattle.nl_model.specs.Draft.{Draft}
 use Rattle.instances.specs.Making.{CanAddRow, with_row}
 use Rattle.instances.specs.declared.draws.Row.{Row}

@@ -1,4 +1,4 @@
-use Rattle.std.proofs.Common.{◌≡◌, ◌∙◌, ◌<◌, ◌^◌, ap, arith, w64}
+use Rattle.std.proofs.Common.{◌∙◌, ◌<◌, ◌^◌, ap, arith, w64}
 use Rattle.std.proofs.lemmas.Int.{to_z_pos}
 use Rattle.fractions.specs.Rational.{whole}
 use Rattle.instances.proofs.NumberLemmas.{whole_is}
