@@ -1,11 +1,11 @@
 // The verdict on points of a small file, over its folded rows by columns.
 ghost use Rattle.std.specs.Prelude.{◌≡◌, ◌<◌};
 
-use crate::nl_texts::{one_row, text_of};
 use certificate_check::{
     BoundVerdict, Columns, FitFault, Given, Goal, Spot, Verdict, certify, dual_bound, fit_counts,
 };
 use exact_numbers::{Dec, Frac};
+use example_texts::nl_texts::{one_row, text_of};
 use linear_fold::fold_all;
 use nl_model::NlFile;
 use nl_segments::read_nl;

@@ -1,21 +1,10 @@
-//! Tests of the crates below: values from outside, printed texts, and each call that can want memory with memory to
-//! spare.
+//! Tests of library calls: values from outside, printed texts, and each call that can want memory with memory to spare.
 #![tactic(auto)]
 
 #[cfg(test)]
 mod certificates;
 #[cfg(test)]
-mod commands;
-#[cfg(test)]
-mod exports;
-#[cfg(test)]
 mod headers;
-#[cfg(test)]
-mod mps_commands;
-#[cfg(test)]
-mod mps_texts;
-#[cfg(test)]
-mod nl_texts;
 #[cfg(test)]
 mod numbers;
 #[cfg(test)]

@@ -1,6 +1,6 @@
 // MPS texts that come in pieces.
 
-use crate::mps_texts::{PAIRS, PAIRS_WRITTEN};
+use example_texts::mps_texts::{PAIRS, PAIRS_WRITTEN};
 use mps_model::Mps;
 use mps_reader::{MpsFault, MpsReader, MpsReason};
 use mps_writer::write_mps;

@@ -1,6 +1,6 @@
 // Files that are read and written again.
 
-use crate::nl_texts::{KNAPSACK, header, one_row, text_of};
+use example_texts::nl_texts::{KNAPSACK, header, one_row, text_of};
 use nl_segments::read_nl;
 use nl_writer::write_nl;
 use std::alloc::{AllocError, Global};

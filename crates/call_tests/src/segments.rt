@@ -1,7 +1,7 @@
 // Segments of .nl texts: what a whole text says, and the first fault of others.
 
-use crate::nl_texts::{header, text_of};
 use exact_numbers::Dec;
+use example_texts::nl_texts::{header, text_of};
 use nl_model::{NlFile, Terms};
 use nl_segments::{NlFault, NlReader, NlReason, read_nl};
 use std::alloc::Global;

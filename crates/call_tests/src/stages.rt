@@ -1,8 +1,8 @@
 // The stages of an export, one after the other.
 ghost use Rattle.std.specs.Prelude.{◌≡◌, ◌<◌};
 
-use crate::nl_texts::{KNAPSACK, KNAPSACK_WRITTEN};
 use exact_numbers::Frac;
+use example_texts::nl_texts::{KNAPSACK, KNAPSACK_WRITTEN};
 use linear_fold::{Form, Pad, Wide, fold_all};
 use mps_writer::write_mps;
 use nl_model::NlFile;

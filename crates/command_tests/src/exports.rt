@@ -1,0 +1,288 @@
+// Whole texts, with what is written or told for each.
+ghost use Rattle.std.specs.Prelude.{◌<◌};
+
+use crate::commands::{command, first_lines};
+use example_texts::nl_texts::{KNAPSACK, KNAPSACK_WRITTEN, Sizes, header, one_row, text_of};
+use itoa::Buffer;
+use std::alloc::{AllocError, Global};
+use std::test::Fail;
+use text_base::MemoryDesk;
+
+// Whether this was written and this was told.
+fn did(desk: &MemoryDesk, written: &str, told: &str) -> bool {
+    desk.written() == written.as_bytes() && desk.told() == told.as_bytes()
+}
+
+// Whether the text is exported as this.
+fn exports(alloc: Global, text: &str, written: &str) -> Result<bool, AllocError> {
+    let mut desk = MemoryDesk::new(alloc, 4000)?;
+    desk.put("a.nl", text.as_bytes())?;
+    let status = command(alloc, &mut desk, &["export", "a.nl"])?;
+    Ok(status == 0 && did(&desk, written, ""))
+}
+
+// Whether the text is refused with this line.
+fn refuses(alloc: Global, text: &str, told: &str) -> Result<bool, AllocError> {
+    let mut desk = MemoryDesk::new(alloc, 4000)?;
+    desk.put("a.nl", text.as_bytes())?;
+    let status = command(alloc, &mut desk, &["export", "a.nl"])?;
+    Ok(status == 2 && did(&desk, "", told))
+}
+
+fn writes(alloc: Global, sizes: &Sizes, body: &str, written: &str) -> Result<bool, AllocError> {
+    let text = text_of(alloc, sizes, body)?;
+    exports(alloc, text.as_str(), written)
+}
+
+fn tells(alloc: Global, sizes: &Sizes, body: &str, told: &str) -> Result<bool, AllocError> {
+    let text = text_of(alloc, sizes, body)?;
+    refuses(alloc, text.as_str(), told)
+}
+
+// A text with other line ends: CR LF, and none at the end.
+fn with_other_ends(alloc: Global, text: &str) -> Result<Vec<u8>, AllocError> {
+    let mut out = Vec::new(alloc);
+    for line in text.lines() {
+        if !out.is_empty() {
+            out.extend_from_slice(b"\r\n")?;
+        }
+        out.extend_from_slice(line.as_bytes())?;
+    }
+    Ok(out)
+}
+
+// Whether the text is exported so where each read gives at most so many bytes.
+fn exports_in_pieces(
+    alloc: Global,
+    text: &[u8],
+    most: usize,
+    written: &str,
+) -> Result<bool, AllocError> {
+    let mut desk = MemoryDesk::new(alloc, 4000)?;
+    desk.put("a.nl", text)?;
+    for _ in 0..text.len() {
+        desk.cut(most.max(1))?;
+    }
+    let status = command(alloc, &mut desk, &["export", "a.nl", "0"])?;
+    Ok(status == 0 && did(&desk, written, ""))
+}
+
+#[test]
+fn exports_a_knapsack(rt: HostRuntime) -> Result<(), Fail> {
+    let other = with_other_ends(rt.alloc(), KNAPSACK)?;
+    assert!(rt; exports(rt.alloc(), KNAPSACK, KNAPSACK_WRITTEN)?);
+    for most in [1, 2, 3, 7] {
+        assert!(rt; exports_in_pieces(rt.alloc(), &other, most, KNAPSACK_WRITTEN)?);
+    }
+    Ok(())
+}
+
+// Whether the front of the knapsack is refused with this line.
+fn front_tells(alloc: Global, count: usize, told: &str) -> Result<bool, AllocError> {
+    let text = first_lines(alloc, KNAPSACK, count)?;
+    refuses(alloc, text.as_str(), told)
+}
+
+#[test]
+fn refuses_texts(rt: HostRuntime) -> Result<(), Fail> {
+    let alloc = rt.alloc();
+    assert!(rt; front_tells(alloc, 23, "refused line 24: nonzero count\n")?);
+    assert!(rt; front_tells(alloc, 30, "refused line 31: short segment\n")?);
+    assert!(rt; front_tells(alloc, 5, "refused line 6: end in header\n")?);
+    assert!(rt; refuses(alloc, "b3 1 1 0\n", "refused line 1: binary file\n")?);
+    let row = one_row();
+    let three = header("3 1 0", "3 0", "0");
+    let cases = [
+        (
+            header("1 1 0", "0 0", "1"),
+            "C0\nv1\nV1 0 0\nn0\nr\n1 1\nb\n3\n",
+            "refused line 12: undefined\n",
+        ),
+        (
+            three,
+            "r\n1 1\nb\n3\n3\n3\nJ0 3\n0 1\n1 1\nC0\nn0\n",
+            "refused line 20: short segment\n",
+        ),
+        (
+            three,
+            "r\n1 1\nb\n3\n3\n3\nJ0 3\n0 1\n1 1\n2 1\n2 1\nC0\nn0\n",
+            "refused line 21: extra line\n",
+        ),
+        (
+            row,
+            "r\n1 1\nb\n3\nJ0 1\n0 .\n",
+            "refused line 16: bad number\n",
+        ),
+        (
+            row,
+            "r\n1 1\nb\n3\nJ0 1\n0 1e401\n",
+            "refused line 16: bad number\n",
+        ),
+        (row, "F0 1 -1 f\n", "refused line 11: refused segment\n"),
+        (row, "r\n5 1 1\n", "refused line 12: complementarity\n"),
+        (
+            row,
+            "S0 1 sosno\n",
+            "refused line 11: special ordered sets\n",
+        ),
+        (row, "C0\no43\nv0\n", "refused line 12: refused opcode 43\n"),
+    ];
+    for (sizes, body, told) in cases {
+        assert!(rt; tells(alloc, &sizes, body, told)?, "at {body}");
+    }
+    Ok(())
+}
+
+fn put_number(text: &mut String, number: usize) -> Result<(), AllocError> {
+    let mut digits = Buffer::new();
+    text.push_str(digits.format(number))?;
+    Ok(())
+}
+
+// A defined variable that is twice the one before it.
+fn put_double(text: &mut String, number: usize) -> Result<(), AllocError>
+    requires { 0 < number }
+{
+    text.push_str("V")?;
+    put_number(text, number)?;
+    text.push_str(" 0 0\no0\nv")?;
+    put_number(text, number - 1)?;
+    text.push_str("\nv")?;
+    put_number(text, number - 1)?;
+    text.push_str("\n")?;
+    Ok(())
+}
+
+// So many defined variables, each twice the one before it, and a row of the last.
+fn doubled(alloc: Global, count: usize) -> Result<String, AllocError> {
+    let mut text = String::new(alloc);
+    for number in 0..count {
+        put_double(&mut text, number + 1)?;
+    }
+    text.push_str("C0\nv")?;
+    put_number(&mut text, count)?;
+    text.push_str("\nr\n1 1\nb\n3\nJ0 1\n0 0\n")?;
+    Ok(text)
+}
+
+// Whether the objective of this number is refused for a file with one objective.
+fn misses_objective(alloc: Global) -> Result<bool, AllocError> {
+    let mut desk = MemoryDesk::new(alloc, 4000)?;
+    desk.put("a.nl", KNAPSACK.as_bytes())?;
+    let status = command(alloc, &mut desk, &["export", "a.nl", "1"])?;
+    Ok(status == 2 && did(&desk, "", "refused objective 1: no such objective\n"))
+}
+
+#[test]
+fn folds_definitions(rt: HostRuntime) -> Result<(), Fail> {
+    let alloc = rt.alloc();
+    let many = doubled(alloc, 100)?;
+    let more = doubled(alloc, 130)?;
+    assert!(rt;
+        writes(
+            alloc,
+            &header("1 1 0", "1 0", "100"),
+            many.as_str(),
+            "NAME nl\nROWS\n N obj\n L c0\nCOLUMNS\n x0 c0 1267650600228229401496703205376\nRHS\n RHS c0 1\nBOUNDS\n FR BND x0\nENDATA\n"
+        )?
+    );
+    assert!(rt;
+        tells(
+            alloc,
+            &header("1 1 0", "1 0", "130"),
+            more.as_str(),
+            "refused line 516: too wide\n"
+        )?
+    );
+    Ok(())
+}
+
+#[test]
+fn refuses_expressions(rt: HostRuntime) -> Result<(), Fail> {
+    let row = one_row();
+    let two = header("2 1 0", "2 0", "0");
+    let cases = [
+        (
+            two,
+            "C0\no2\nv0\nv1\nr\n1 1\nb\n3\n3\nJ0 2\n0 0\n1 0\n",
+            "refused line 12: nonlinear\n",
+        ),
+        (
+            two,
+            "C0\no3\nv0\no1\nn2\nn2\nr\n1 1\nb\n3\n3\nJ0 2\n0 0\n1 0\n",
+            "refused line 12: division by zero\n",
+        ),
+        (
+            row,
+            "r\n1 1\nb\n3\nJ0 1\n0 2e38\n",
+            "refused line 16: too wide\n",
+        ),
+        (
+            row,
+            "C0\no0\no5\nn1.5\nn0.5\no11\n2\nn4\no14\nn-7.5\nr\n1 10\nb\n3\nJ0 1\n0 1\n",
+            "refused line 13: refused power\n",
+        ),
+        (
+            row,
+            "C0\no0\no5\nv0\nn3\no11\n2\nn4\no14\nn-7.5\nr\n1 10\nb\n3\nJ0 1\n0 1\n",
+            "refused line 13: nonlinear\n",
+        ),
+        (
+            row,
+            "C0\no0\no5\nn10\nn127\no11\n2\nn4\no14\nn-7.5\nr\n1 10\nb\n3\nJ0 1\n0 1\n",
+            "refused line 13: too wide\n",
+        ),
+        (
+            row,
+            "r\n1 2e38\nb\n3\nJ0 1\n0 1\n",
+            "refused row 0: row too wide\n",
+        ),
+        (
+            header("2 0 1", "0 2", "0"),
+            "O0 0\no0\no3\nv0\nn170141183460469231731687303715884105727\no3\nv1\nn170141183460469231731687303715884105723\nb\n3\n3\n",
+            "refused objective 0: objective too wide\n",
+        ),
+    ];
+    for (sizes, body, told) in cases {
+        assert!(rt; tells(rt.alloc(), &sizes, body, told)?, "at {body}");
+    }
+    assert!(rt; misses_objective(rt.alloc())?);
+    Ok(())
+}
+
+#[test]
+fn exports_expressions(rt: HostRuntime) -> Result<(), Fail> {
+    let row = one_row();
+    let two = header("2 1 0", "2 0", "0");
+    let cases = [
+        (
+            two,
+            "C0\no2\nv0\no1\nv1\nv1\nr\n1 1\nb\n3\n3\nJ0 2\n0 0\n1 0\n",
+            "NAME nl\nROWS\n N obj\n L c0\nCOLUMNS\n x0 obj 0\n x1 obj 0\nRHS\n RHS c0 1\nBOUNDS\n FR BND x0\n FR BND x1\nENDATA\n",
+        ),
+        (
+            row,
+            "C0\no0\no5\nn1.5\nn3\no11\n2\nn4\no14\nn-7.5\nr\n1 10\nb\n3\nJ0 1\n0 1\n",
+            "NAME nl\nROWS\n N obj\n L c0\nCOLUMNS\n x0 c0 1\nRHS\n RHS c0 13.625\nBOUNDS\n FR BND x0\nENDATA\n",
+        ),
+        (
+            two,
+            "C0\no0\no3\nv0\nn3\nv1\nr\n1 1\nb\n3\n3\nJ0 2\n0 0\n1 0\n",
+            "NAME nl\nROWS\n N obj\n L c0\nCOLUMNS\n x0 c0 1\n x1 c0 3\nRHS\n RHS c0 3\nBOUNDS\n FR BND x0\n FR BND x1\nENDATA\n",
+        ),
+        (
+            header("1 2 0", "2 0", "0"),
+            "C0\nn2\nr\n0 1 7\n0 4 4\nb\n3\nJ0 1\n0 1\nJ1 1\n0 1\n",
+            "NAME nl\nROWS\n N obj\n G c0\n E c1\nCOLUMNS\n x0 c0 1\n x0 c1 1\nRHS\n RHS c0 -1\n RHS c1 4\nRANGES\n RNG c0 6\nBOUNDS\n FR BND x0\nENDATA\n",
+        ),
+        (
+            header("1 0 1", "0 1", "0"),
+            "O0 0\no3\nv0\nn3\nb\n3\nG0 1\n0 0\n",
+            "NAME nl\nROWS\n N obj\n E zdef\nCOLUMNS\n x0 zdef 1\n z obj 1\n z zdef -3\nRHS\nBOUNDS\n FR BND x0\n FR BND z\nENDATA\n",
+        ),
+    ];
+    for (sizes, body, written) in cases {
+        assert!(rt; writes(rt.alloc(), &sizes, body, written)?, "at {body}");
+    }
+    Ok(())
+}

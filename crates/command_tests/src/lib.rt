@@ -1,0 +1,9 @@
+//! Tests of the commands, on a desk in memory: what is written and told for whole texts.
+#![tactic(auto)]
+
+#[cfg(test)]
+mod commands;
+#[cfg(test)]
+mod exports;
+#[cfg(test)]
+mod mps_commands;

@@ -1,0 +1,159 @@
+// The command mps over a desk in memory: what is written or told for whole texts, and for their fronts.
+
+use crate::commands::{command, first_lines};
+use example_texts::mps_texts::{PAIRS, PAIRS_WRITTEN};
+use example_texts::nl_texts::KNAPSACK_WRITTEN;
+use itoa::Buffer;
+use std::alloc::{AllocError, Global};
+use std::test::Fail;
+use text_base::MemoryDesk;
+
+// Whether the text is written so where each read gives at most so many bytes.
+fn writes(alloc: Global, text: &str, most: usize, written: &str) -> Result<bool, AllocError> {
+    let mut desk = MemoryDesk::new(alloc, 4000)?;
+    desk.put("m.mps", text.as_bytes())?;
+    for _ in 0..text.len() {
+        desk.cut(most.max(1))?;
+    }
+    let status = command(alloc, &mut desk, &["mps", "m.mps"])?;
+    Ok(status == 0 && desk.written() == written.as_bytes() && desk.told().is_empty())
+}
+
+// Whether the text is refused with this line.
+fn refuses(alloc: Global, text: &str, told: &str) -> Result<bool, AllocError> {
+    let mut desk = MemoryDesk::new(alloc, 4000)?;
+    desk.put("m.mps", text.as_bytes())?;
+    let status = command(alloc, &mut desk, &["mps", "m.mps"])?;
+    Ok(status == 2 && desk.written().is_empty() && desk.told() == told.as_bytes())
+}
+
+#[test]
+fn writes_a_program_again(rt: HostRuntime) -> Result<(), Fail> {
+    let cases = [
+        (PAIRS, 4000, PAIRS_WRITTEN),
+        (PAIRS_WRITTEN, 4000, PAIRS_WRITTEN),
+        (KNAPSACK_WRITTEN, 4000, KNAPSACK_WRITTEN),
+        (PAIRS, 1, PAIRS_WRITTEN),
+        (PAIRS, 2, PAIRS_WRITTEN),
+        (PAIRS, 3, PAIRS_WRITTEN),
+        (PAIRS, 7, PAIRS_WRITTEN),
+    ];
+    for (text, most, written) in cases {
+        assert!(rt;
+            writes(rt.alloc(), text, most, written)?,
+            "in reads of {most}"
+        );
+    }
+    Ok(())
+}
+
+// The line that tells that the text ends too soon.
+fn no_end(alloc: Global, line: u32) -> Result<String, AllocError> {
+    let mut digits = Buffer::new();
+    let mut told = String::from_str(alloc, "refused line ")?;
+    told.push_str(digits.format(line))?;
+    told.push_str(": no end\n")?;
+    Ok(told)
+}
+
+// Whether the text of so many lines is refused at the line after them.
+fn ends_too_soon(alloc: Global, lines: u8) -> Result<bool, AllocError> {
+    let front = first_lines(alloc, PAIRS, usize::from(lines))?;
+    let told = no_end(alloc, u32::from(lines) + 1)?;
+    refuses(alloc, front.as_str(), told.as_str())
+}
+
+#[test]
+fn a_text_cut_after_a_line_has_no_end(rt: HostRuntime) -> Result<(), Fail> {
+    for lines in 0..17_u8 {
+        assert!(rt; ends_too_soon(rt.alloc(), lines)?);
+    }
+    Ok(())
+}
+
+// Whether so many bytes of the text are written, or refused with a line and nothing written.
+fn is_judged(alloc: Global, bytes: usize) -> Result<bool, AllocError> {
+    let text = PAIRS.as_bytes();
+    let (front, _) = text.split_at(bytes.min(text.len()));
+    let mut desk = MemoryDesk::new(alloc, 4000)?;
+    desk.put("m.mps", front)?;
+    let status = command(alloc, &mut desk, &["mps", "m.mps"])?;
+    if status == 0 {
+        return Ok(desk.written() == PAIRS_WRITTEN.as_bytes() && desk.told().is_empty());
+    }
+    Ok(status == 2 && desk.written().is_empty() && desk.told().ends_with(b"\n"))
+}
+
+#[test]
+fn a_text_cut_after_a_byte_is_written_or_refused(rt: HostRuntime) -> Result<(), Fail> {
+    for bytes in 0..PAIRS.len() {
+        assert!(rt; is_judged(rt.alloc(), bytes)?);
+    }
+    Ok(())
+}
+
+#[test]
+fn tells_the_first_fault_of_sections(rt: HostRuntime) -> Result<(), Fail> {
+    let cases = [
+        ("ROW\n", "refused line 1: bad section\n"),
+        ("COLUMNS x\n", "refused line 1: bad section\n"),
+        ("ROWS\n L R\nCOLUMNS x\n", "refused line 3: bad section\n"),
+        ("ROWS\n L R\nCOLUMNS\n", "refused line 3: no objective\n"),
+        ("OBJSENSE\n MOST\n", "refused line 2: bad line\n"),
+        ("ROWS\n N C\n N C\n", "refused line 3: repeated row\n"),
+    ];
+    for (text, told) in cases {
+        assert!(rt; refuses(rt.alloc(), text, told)?, "at {text}");
+    }
+    Ok(())
+}
+
+// A program of two columns, and after them these lines.
+fn with_end(alloc: Global, end: &str) -> Result<String, AllocError> {
+    let mut text = String::from_str(
+        alloc,
+        "ROWS\n N C\n L R\n N F\nCOLUMNS\n X C 1 R 1\n Y R 1\n",
+    )?;
+    text.push_str(end)?;
+    Ok(text)
+}
+
+#[test]
+fn tells_the_first_fault_after_columns(rt: HostRuntime) -> Result<(), Fail> {
+    let cases = [
+        (" X R 2\n", "refused line 8: column again\n"),
+        (" Y R 2\n", "refused line 8: repeated entry\n"),
+        (" Z Q x\n", "refused line 8: unknown row\n"),
+        (" M 'MARKER' 'INTEND'\n", "refused line 8: bad marker\n"),
+        ("", "refused line 8: no end\n"),
+        ("RHS\n R 1 R x\n", "refused line 9: bad number\n"),
+        ("RHS\n R 1 R 1\n", "refused line 9: repeated entry\n"),
+        ("RHS\n R 1 Q x\n", "refused line 9: unknown row\n"),
+        ("RHS\n S R 1\n C 1\n", "refused line 10: second set\n"),
+        ("RANGES\n F x\n", "refused line 9: range on free row\n"),
+        ("RANGES\n Q x\n", "refused line 9: unknown row\n"),
+        ("BOUNDS\n XX X 1\n", "refused line 9: bad bound kind\n"),
+        ("BOUNDS\n UP Z x\n", "refused line 9: unknown column\n"),
+        ("BOUNDS\n FR B X x\n", "refused line 9: bad number\n"),
+        (
+            "BOUNDS\n UP X 1\n FX X 1\n",
+            "refused line 10: repeated bound\n",
+        ),
+    ];
+    for (end, told) in cases {
+        let text = with_end(rt.alloc(), end)?;
+        assert!(rt; refuses(rt.alloc(), text.as_str(), told)?, "at {end}");
+    }
+    Ok(())
+}
+
+#[test]
+fn tells_bad_words_and_missing_files(rt: HostRuntime) -> Result<(), Fail> {
+    let alloc = rt.alloc();
+    let mut desk = MemoryDesk::new(alloc, 100)?;
+    assert_eq!(rt; command(alloc, &mut desk, &["mps", "m.mps"])?, 4);
+    assert_eq!(rt; command(alloc, &mut desk, &["mps"])?, 3);
+    assert_eq!(rt; command(alloc, &mut desk, &["mps", "m.mps", "0"])?, 3);
+    assert!(rt; desk.told() == b"input fault\nbad words\nbad words\n".as_slice());
+    Ok(())
+}

@@ -1,0 +1,5 @@
+//! Texts that the tests of several crates share.
+#![tactic(auto)]
+
+pub mod mps_texts;
+pub mod nl_texts;
