@@ -1,5 +1,5 @@
 -- What taking a line of each kind does to the whole.
-use Rattle.std.proofs.Common.{◌≡◌, ◌∙◌, ℕ, Bool, true, false, not, cond, eqb, List, [], ◌∷◌, length, Option, Some, None, Result, Ok, Err, refl, sym, ap, subst}
+use Rattle.std.proofs.Common.{◌≡◌, ◌∙◌, ℕ, Bool, true, false, cond, eqb, List, length, Option, Some, None, Result, Ok, Err, refl, sym, ap, subst}
 use Rattle.text_base.specs.Judged.{Takes, first_reason}
 use Rattle.text_base.specs.Names.{is_name}
 use Rattle.text_base.specs.Words.{row_of, word_at}

@@ -1,5 +1,5 @@
 -- A line more of suffixes.
-use Rattle.std.proofs.Common.{◌≡◌, ◌∙◌, ℕ, ◌%◌, Bool, true, false, ◌&&◌, ◌||◌, not, cond, eqb, List, [], ◌∷◌, ◌++◌, map, refl, sym, ap}
+use Rattle.std.proofs.Common.{◌≡◌, ◌∙◌, ◌%◌, Bool, true, false, ◌&&◌, ◌||◌, not, cond, eqb, List, [], ◌∷◌, ◌++◌, map, refl, sym, ap}
 use Rattle.std.specs.Prelude.{filter}
 use Rattle.std.specs.List.{list_any}
 use Rattle.std.specs.Str.{bytes_eq}
@@ -9,7 +9,6 @@ use Rattle.std.proofs.lemmas.List.Elements.{filter-append}
 use Rattle.std.proofs.lemmas.Slice.Eq.{bytes_eq-Decides}
 use Rattle.exact_numbers.proofs.NumberLemmas.{first_of_both, second_of_both}
 use Rattle.nl_model.specs.File.{Term, Suffix}
-use Rattle.nl_model.specs.Rules.{is_suffix_of}
 use Rattle.answer_file.specs.Entries.{SuffixLine}
 use Rattle.answer_file.specs.Suffixes.{is_same_suffix, first_lines, values_like, suffix_like, suffixes_of}
 use Rattle.answer_file.specs.Steps.{new_suffix, with_line, with_suffix_line}

@@ -1,5 +1,5 @@
 -- What the rows of an answer say, one by one.
-use Rattle.std.specs.Prelude.{ℕ, ◌==◌, Bool, true, false, nat_lt, List, [], ◌∷◌, length, drop, filter, slice_index_or, Option, Some, None, option_map, option_and_then, if◌then◌else◌, codes}
+use Rattle.std.specs.Prelude.{ℕ, Bool, true, false, nat_lt, List, length, drop, filter, Option, Some, None, option_map, if◌then◌else◌, codes}
 use Rattle.std.specs.List.{filter_map}
 use Rattle.std.specs.Str.{bytes_eq}
 use Rattle.text_base.specs.Words.{row_of, without_blanks, word_at}
@@ -8,7 +8,7 @@ use Rattle.exact_numbers.specs.Numbers.{whole_of, dec_of}
 use Rattle.answer_file.specs.declared.keyword.Keyword.{Keyword}
 use Rattle.answer_file.specs.declared.keyword.Keyword.TheVariants.{Status, Message, Sign, Objno, Col, Row, Suffix}
 use Rattle.answer_file.specs.declared.target.Target.{Target}
-use Rattle.answer_file.specs.declared.target.Target.TheVariants.{Tied, Place}
+use Rattle.answer_file.specs.declared.target.Target.TheVariants.{Place}
 use Rattle.answer_file.specs.Names.{Setting, column_target, row_target, object_target}
 
 -- ---- Words.

@@ -4,7 +4,6 @@ use Rattle.text_base.specs.declared.stop.Stop.{Stop}
 use Rattle.text_base.specs.declared.fault.TextFault.{TextFault}
 use Rattle.text_base.specs.Lines.{LinesState}
 use Rattle.text_base.specs.Reading.{Stands, Reads, IsRead}
-use Rattle.answer_file.specs.declared.answer.Answer.{Answer}
 use Rattle.answer_file.specs.declared.fault.AnswerReason.{AnswerReason}
 use Rattle.answer_file.specs.Names.{Setting}
 use Rattle.answer_file.specs.Grammar.{Standing, AnswerValue, standing, answer_rules, SaysAnswer}

@@ -1,5 +1,5 @@
 -- Values by place, and suffixes by their lines.
-use Rattle.std.specs.Prelude.{◌≡◌, ℕ, ◌%◌, ◌/◌, ◌==◌, Bool, false, not, ◌&&◌, List, [], ◌∷◌, map, filter, find, length, nat_eq, position, sum_by, slice_get, Option, Some, None, option_map, option_and_then, if◌then◌else◌}
+use Rattle.std.specs.Prelude.{◌≡◌, ℕ, ◌%◌, ◌==◌, Bool, not, ◌&&◌, List, [], ◌∷◌, map, filter, find, length, nat_eq, position, sum_by, slice_get, Option, option_map, option_and_then, if◌then◌else◌}
 use Rattle.std.specs.List.{list_any, range_with_len}
 use Rattle.std.specs.Str.{bytes_eq}
 use Rattle.exact_numbers.specs.declared.dec.Dec.{Dec}

@@ -3,7 +3,7 @@ use Rattle.std.proofs.Common.{◌≡◌, ◌⊎◌, inl, inr, ◌∙◌, ℕ, ze
 use Rattle.std.specs.Prelude.{slice_get, IfSome, ◌≤ℤ◌}
 use Rattle.std.proofs.lemmas.Int.{ints}
 use Rattle.std.proofs.lemmas.List.{length-append}
-use Rattle.fractions.specs.Rational.{ℚ, whole, zero_ℚ, ◌*ℚ◌}
+use Rattle.fractions.specs.Rational.{whole, zero_ℚ, ◌*ℚ◌}
 use Rattle.fractions.proofs.Arithmetic.{whole-*ℚ}
 use Rattle.exact_numbers.specs.declared.dec.Dec.{Dec}
 use Rattle.exact_numbers.specs.Values.{dec_value, IsInReach}
@@ -11,9 +11,9 @@ use Rattle.linear_programs.specs.Linear.{Linear}
 use Rattle.nl_model.specs.File.{File}
 use Rattle.file_meaning.specs.Expressions.{maximises}
 use Rattle.file_meaning.specs.LinearFile.{linear_of}
-use Rattle.exported_program.specs.Export.{IsDecimal, factor_of_row, factor_of_objective}
+use Rattle.exported_program.specs.Export.{factor_of_row, factor_of_objective}
 use Rattle.exported_program.specs.Program.{program_of, program, tied_program}
-use Rattle.exported_program.specs.Return.{is_exported, row_at, dual_of}
+use Rattle.exported_program.specs.Return.{is_exported, row_at}
 use Rattle.row_scaling.specs.Exported.{exported_as}
 use Rattle.row_scaling.specs.Scaled.{ScaledValue}
 use Rattle.row_scaling.specs.Scaling.{IsScaledOf, factor_at}

@@ -1,13 +1,11 @@
 -- The law of return, for the bodies of the file.
-use Rattle.std.proofs.Common.{◌≡◌, ◌∙◌, ℕ, zero, suc, ◌<◌, List, [], ◌∷◌, ◌++◌, length, get_or, IsTrue, Option, Some, None, refl, sym, ap, subst, arith}
+use Rattle.std.proofs.Common.{◌≡◌, ◌∙◌, ℕ, zero, suc, ◌<◌, List, [], ◌∷◌, length, get_or, IsTrue, Option, Some, None, sym, ap, subst, arith}
 use Rattle.std.specs.Prelude.{slice_get}
 use Rattle.fractions.specs.Rational.{ℚ, whole, ◌*ℚ◌, ◌-ℚ◌}
 use Rattle.linear_programs.specs.Linear.{Row, Linear, form_value, no_row, row_at, variable_count}
-use Rattle.mps_model.specs.Mps.{Mps, row_value}
 use Rattle.exact_numbers.specs.declared.dec.Dec.{Dec}
 use Rattle.exact_numbers.specs.Values.{dec_value}
 use Rattle.exported_program.specs.Export.{factor_of_row, factor_of_objective}
-use Rattle.exported_program.specs.Program.{program, tied_program}
 use Rattle.exported_program.specs.Return.{is_exported, dual_of}
 use Rattle.exported_program.proofs.Return.{law_of_return, law_of_return_tied}
 use Rattle.nl_model.specs.File.{File}
@@ -20,7 +18,7 @@ use Rattle.file_meaning.proofs.Files.{count_lem, linear_lem}
 use Rattle.file_meaning.proofs.Folding.{clean_has_lines}
 use Rattle.file_meaning.proofs.Formed.{file_formed}
 use Rattle.answer_file.specs.Grammar.{AnswerValue}
-use Rattle.dual_return.specs.Return.{AreDuals, IsDualTimes, MeanTheProgram, answered_change, linear_for, sign_of}
+use Rattle.dual_return.specs.Return.{AreDuals, IsDualTimes, MeanTheProgram, linear_for, sign_of}
 
 rows_count : (f : File) (k : ℕ) → length (linear_of f k).rows ≡ f.counts.n_con
 unfolding linear_of

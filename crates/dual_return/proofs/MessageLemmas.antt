@@ -1,23 +1,22 @@
 -- The message of an answer: lines of its text, none of them `Options`.
-use Rattle.std.proofs.Common.{◌≡◌, ◌∙◌, ℕ, zero, suc, ◌+◌, ◌<◌, ◌≤◌, Bool, true, false, ◌^◌, nat_le, cond, eqb, List, [], ◌∷◌, ◌++◌, length, take, drop, get_or, Option, Some, None, refl, sym, ap, subst, arith, add-one}
-use Rattle.std.specs.Prelude.{option_map, slice_get, codes}
+use Rattle.std.proofs.Common.{◌≡◌, ◌∙◌, ℕ, zero, suc, ◌<◌, ◌≤◌, Bool, true, false, ◌^◌, nat_le, cond, eqb, List, [], ◌∷◌, ◌++◌, length, take, drop, get_or, Option, Some, None, refl, sym, ap, subst, arith, add-one}
+use Rattle.std.specs.Prelude.{option_map, codes}
 use Rattle.std.specs.List.{AllByRecursion}
 use Rattle.std.specs.Str.{bytes_eq}
 use Rattle.std.proofs.lemmas.List.{take_more, take_all}
-use Rattle.text_base.specs.Judged.{Rules, Last, Open, Bad, End, IsClean, first_reason, reason_at, reason_after, last_reason}
+use Rattle.text_base.specs.Judged.{Last, IsClean, first_reason, reason_after}
 use Rattle.text_base.specs.Reading.{lines_of, last_of}
 use Rattle.text_base.specs.Words.{row_of, without_blanks, word_at}
 use Rattle.exact_numbers.specs.declared.dec.Dec.{Dec}
 use Rattle.exact_numbers.specs.Numbers.{dec_of}
-use Rattle.answer_file.specs.declared.fault.AnswerReason.{AnswerReason}
 use Rattle.answer_file.specs.declared.fault.AnswerReason.TheVariants.{BadLine, TooLarge}
 use Rattle.answer_file.specs.declared.keyword.Keyword.{Keyword}
 use Rattle.answer_file.specs.declared.keyword.Keyword.TheVariants.{Status, Message, Sign, Objno, Col, Row, Suffix}
 use Rattle.answer_file.specs.declared.target.Target.{Target}
 use Rattle.answer_file.specs.declared.target.Target.TheVariants.{Tied, Place}
 use Rattle.answer_file.specs.Names.{Setting, column_target, row_target, object_target}
-use Rattle.answer_file.specs.Entries.{Entry, StatusIs, MessageLine, SignIs, ObjectiveIs, ColumnValue, RowValue, SuffixValue, message_in, entry_by, entry_in, keyword_of, at_place, suffix_entry, suffix_in, status_in, sign_in, objective_in, kind_in}
-use Rattle.answer_file.specs.Grammar.{Standing, standing, first_tests, line_tests, row_tests, tests_by, message_tests, end_tests, answer_rules, AnswerValue, answer_of}
+use Rattle.answer_file.specs.Entries.{Entry, StatusIs, SignIs, ObjectiveIs, ColumnValue, RowValue, message_in, entry_by, entry_in, keyword_of, at_place, suffix_entry, suffix_in, status_in, sign_in, objective_in, kind_in}
+use Rattle.answer_file.specs.Grammar.{Standing, standing, first_tests, line_tests, row_tests, tests_by, message_tests, answer_rules, AnswerValue}
 use Rattle.answer_file.specs.Steps.{with_entry, with_said, after}
 use Rattle.answer_file.specs.Reading.{IsAnswer}
 use Rattle.answer_file.proofs.StandingLemmas.{standing-more, standing-none}

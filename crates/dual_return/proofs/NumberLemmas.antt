@@ -1,10 +1,9 @@
 -- The numbers of an answer are small.
-use Rattle.std.proofs.Common.{◌≡◌, ◌∙◌, ℕ, ◌<◌, ◌≤◌, ◌^◌, ◌&&◌, Bool, true, false, cond, eqb, ltb, List, [], length, Option, Some, None, refl, sym, ap, subst, arith}
+use Rattle.std.proofs.Common.{◌≡◌, ℕ, ◌<◌, ◌^◌, ◌&&◌, Bool, true, false, cond, eqb, ltb, List, [], length, Option, Some, None, refl, sym, ap, subst, arith}
 use Rattle.std.specs.Prelude.{IfSome, option_map, unwrap_or}
 use Rattle.std.specs.Option.{option_or}
 use Rattle.std.specs.Str.Parse.{digits_value}
 use Rattle.std.proofs.lemmas.Bool.{ltb-true}
-use Rattle.text_base.specs.Judged.{first_reason}
 use Rattle.text_base.specs.Reading.{lines_of}
 use Rattle.text_base.specs.Words.{row_of, word_at}
 use Rattle.exact_numbers.specs.declared.dec.Dec.{Dec}
@@ -16,7 +15,7 @@ use Rattle.answer_file.specs.declared.target.Target.{Target}
 use Rattle.answer_file.specs.declared.target.Target.TheVariants.{Tied, Place}
 use Rattle.answer_file.specs.Names.{Setting, column_target, row_target, object_target}
 use Rattle.answer_file.specs.Entries.{StatusIs, SignIs, ObjectiveIs, ColumnValue, RowValue, below, at_place, suffix_entry, suffix_in, status_in, sign_in, objective_in, kind_in, entry_by, entry_in, keyword_of}
-use Rattle.answer_file.specs.Grammar.{Standing, AnswerValue, standing, line_tests}
+use Rattle.answer_file.specs.Grammar.{Standing, AnswerValue, standing}
 use Rattle.answer_file.specs.Reading.{IsAnswer}
 use Rattle.answer_file.specs.Steps.{with_said, after}
 use Rattle.answer_file.proofs.StandingLemmas.{standing-none}

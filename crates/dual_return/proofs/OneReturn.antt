@@ -1,5 +1,5 @@
 -- Each answer for a file is returned as one .sol file, or has one first dual that is too wide.
-use Rattle.std.proofs.Common.{below_more, ◌≡◌, ◌⊎◌, inl, inr, ◌∙◌, ℕ, zero, suc, ◌+◌, ◌<◌, ◌≤◌, ◌^◌, ℤ, pos, ◌*ℤ◌, ◌||◌, Bool, true, false, cond, ltb, List, [], ◌∷◌, ◌++◌, length, map, get_or, IsTrue, Option, Some, None, is_some, refl, sym, ap, subst, arith}
+use Rattle.std.proofs.Common.{below_more, ◌≡◌, ◌⊎◌, inl, inr, ◌∙◌, ℕ, zero, suc, ◌<◌, ◌≤◌, ◌^◌, ℤ, pos, ◌*ℤ◌, ◌||◌, Bool, true, false, ltb, List, [], ◌∷◌, ◌++◌, length, map, get_or, IsTrue, Option, Some, None, is_some, refl, sym, ap, subst, arith}
 use Rattle.std.specs.Prelude.{slice_get, unsigned_abs, MatchOption}
 use Rattle.std.specs.List.{list_any}
 use Rattle.std.proofs.lemmas.Bool.{lt-ltb, ltb-true, ltb-false}
@@ -8,7 +8,7 @@ use Rattle.fractions.specs.Rational.{ℚ, whole, zero_ℚ, ◌*ℚ◌}
 use Rattle.fractions.proofs.Arithmetic.{whole-*ℚ}
 use Rattle.exact_numbers.specs.declared.dec.Dec.{Dec}
 use Rattle.exact_numbers.specs.Numbers.{dec_from}
-use Rattle.exact_numbers.specs.Values.{dec_value, fits_dec, FitsDec, IsInReach}
+use Rattle.exact_numbers.specs.Values.{dec_value, fits_dec, IsInReach}
 use Rattle.exact_numbers.proofs.Bridge.{zero_decimal}
 use Rattle.exact_numbers.proofs.NumberLemmas.{dec_from-some, dec_from-fits}
 use Rattle.exact_numbers.proofs.Spelling.{fits_dec_in, fits_dec_out}

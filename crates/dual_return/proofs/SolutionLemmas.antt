@@ -1,10 +1,10 @@
 -- All parts of a .sol file together.
-use Rattle.std.proofs.Common.{◌≡◌, ◌⊎◌, inl, inr, ◌∙◌, ℕ, ℤ, ◌≤◌, ◌&&◌, Bool, true, false, not, nat_le, List, [], ◌∷◌, ◌++◌, length, map, Option, IsTrue, sym, ap, subst, arith}
+use Rattle.std.proofs.Common.{◌≡◌, inl, inr, ◌∙◌, ℕ, ℤ, ◌≤◌, Bool, true, false, List, [], ◌++◌, length, Option, IsTrue, sym, ap, subst, arith}
 use Rattle.std.proofs.lemmas.Bool.{leb-true}
 use Rattle.exact_numbers.specs.declared.dec.Dec.{Dec}
 use Rattle.nl_model.specs.declared.counts.Counts.{Counts}
 use Rattle.nl_model.specs.File.{File}
-use Rattle.nl_model.specs.HeaderRules.{is_header, are_options, are_counts, has_second_three}
+use Rattle.nl_model.specs.HeaderRules.{is_header, are_options, are_counts}
 use Rattle.exact_numbers.proofs.NumberLemmas.{first_of_both}
 use Rattle.answer_file.specs.Grammar.{AnswerValue}
 use Rattle.sol_files.specs.Sol.{Sol}

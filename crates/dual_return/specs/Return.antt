@@ -15,7 +15,7 @@ use Rattle.exported_program.specs.Return.{is_exported, row_at, dual_of, program_
 use Rattle.file_meaning.specs.Meaning.{body_value}
 use Rattle.mps_model.specs.Mps.{Mps, row_value}
 use Rattle.row_scaling.specs.Scaled.{ScaledValue}
-use Rattle.row_scaling.specs.Scaling.{IsScaledOf, factor_at}
+use Rattle.row_scaling.specs.Scaling.{factor_at}
 use Rattle.answer_file.specs.Grammar.{AnswerValue}
 use Rattle.answer_file.specs.Names.{setting_of}
 use Rattle.answer_file.specs.Reading.{IsAnswer}

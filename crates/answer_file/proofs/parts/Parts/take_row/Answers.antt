@@ -1,4 +1,4 @@
-use Rattle.std.proofs.Common.{◌∙◌, List, ℕ, Option, Some, None, Err, sym, ap, subst, refl}
+use Rattle.std.proofs.Common.{◌∙◌, List, ℕ, Some, None, Err, sym, ap, subst, refl}
 use Rattle.text_base.specs.Judged.{Takes}
 use Rattle.text_base.specs.declared.stop.Stop.TheVariants.{Fault}
 use Rattle.answer_file.specs.declared.fault.AnswerReason.TheVariants.{BadLine}

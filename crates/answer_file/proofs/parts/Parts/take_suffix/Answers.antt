@@ -1,4 +1,4 @@
-use Rattle.std.proofs.Common.{◌∙◌, Some, sym, ap}
+use Rattle.std.proofs.Common.{◌∙◌, sym, ap}
 use Rattle.std.proofs.lemmas.List.{length-map}
 use Rattle.answer_file.proofs.PartLemmas.{suffix-taken}
 use Rattle.exact_numbers.specs.Numbers.{dec_of}
