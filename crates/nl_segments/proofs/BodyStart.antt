@@ -19,9 +19,10 @@ use Rattle.nl_segments.specs.Pieces.{Piece, last_piece, is_nothing, awaited_in, 
 use Rattle.nl_segments.specs.Saying.{empty_lines, draft_of, place_lines}
 use Rattle.nl_segments.specs.SeenSegments.{no_segments, has_segment, IsSeenIn}
 use Rattle.nl_segments.specs.Current.{Current}
-use Rattle.nl_segments.specs.Tests.{index_limit, is_suffix, for_reason, awaited_tests, line_tests, row_tests}
+use Rattle.nl_segments.specs.Tests.{index_limit, is_suffix, awaited_tests, line_tests, row_tests}
 use Rattle.nl_segments.specs.Grammar.{Standing, counts_of, said}
-use Rattle.nl_segments.specs.Held.{Body, IsHeld, IsHeaderOf, AreSound, IsLast, only_header, use_count, words_refusal}
+use Rattle.nl_model.specs.UseCounts.{use_count}
+use Rattle.nl_segments.specs.Held.{Body, IsHeld, IsHeaderOf, AreSound, IsLast, only_header, words_refusal}
 use Rattle.nl_segments.specs.Taking.{body_awaits}
 use Rattle.nl_segments.proofs.CurrentLemmas.{awaits}
 
@@ -138,10 +139,10 @@ last_nothing c d name pieces (Some p) (Some cur) q l e = rw q (sym (awaits c p c
 pub nothing_awaited : (s : Standing) (b : Body) → IsHeld s b → body_awaits b.current ≡ Nothing → awaited_of (counts_of s) s.pieces ≡ Nothing
 nothing_awaited s b h e = last_nothing (counts_of s) b.draft b.name s.pieces (last_piece s.pieces) b.current refl h.last e
 
-pub extra_line : (s : Standing) (b : Body) (words : List (List ℕ)) → is_head words ≡ false → body_awaits b.current ≡ Nothing → IsHeld s b → words_refusal s words ≡ Some (for_reason ExtraLine)
+pub extra_line : (s : Standing) (b : Body) (words : List (List ℕ)) → is_head words ≡ false → body_awaits b.current ≡ Nothing → IsHeld s b → words_refusal s words ≡ Some ExtraLine
 unfolding row_tests
 extra_line s b words plain e h = rw plain (by (last_piece s.pieces))
   where
-    by : (o : Option Piece) → first_reason (line_tests (counts_of s) (said s) s.pieces words o) ≡ Some (for_reason ExtraLine)
+    by : (o : Option Piece) → first_reason (line_tests (counts_of s) (said s) s.pieces words o) ≡ Some ExtraLine
     by None = refl
     by (Some p) = ap (λ a. first_reason (awaited_tests (counts_of s) (said s) s.pieces p words a)) (nothing_awaited s b h e)

@@ -24,7 +24,7 @@ use Rattle.text_base.specs.Words.{word_at}
 use Rattle.nl_segments.specs.Heads.{is_head, head_of, name_in, is_in_range}
 use Rattle.nl_segments.specs.Nodes.{Placed, Pending, node_in, opcode_in, pending_in, nodes_from, nodes_of, pending_from, only_nodes}
 use Rattle.nl_segments.specs.Pieces.{Piece, awaited_in, awaited_of, has_tree, is_complete, is_nothing, last_piece, line_count, line_kind, pair_count, pair_in, piece_nodes, piece_pairs, piece_pending, extended, tree_awaits, tree_rows, with_row}
-use Rattle.nl_segments.specs.Tests.{Tests, for_reason, is_full, awaited_tests, formed_head_tests, has_index, head_form_tests, head_tests, holds_once, index_limit, is_below, is_repeated, line_tests, node_tests, operand_tests, pair_form_tests, pair_tests, row_tests, wants_whole}
+use Rattle.nl_segments.specs.Tests.{Tests, is_full, awaited_tests, formed_head_tests, has_index, head_form_tests, head_tests, holds_once, index_limit, is_below, is_repeated, line_tests, node_tests, operand_tests, pair_form_tests, pair_tests, row_tests, wants_whole}
 use Rattle.nl_segments.specs.Current.{IsPending}
 use Rattle.nl_segments.specs.Held.{AreSound, IsSoundPiece}
 use Rattle.nl_segments.proofs.CurrentLemmas.{begun, early_tree, last_nodes, last_pending, late_tree, nodes-more, pending-more, tree_count}
@@ -175,7 +175,7 @@ clean_head : (c : Counts) (pieces : List Piece) (row : Row) → AreClean c piece
 unfolding head_tests head_form_tests
 clean_head c pieces row h is fine =
     let words = row_words row in
-    let closed = none_head (not (is_nothing (awaited_of c pieces))) (for_reason ShortSegment) (head_form_tests c words ++ formed_head_tests c pieces (name_in words) (head_of c words)) fine in
+    let closed = none_head (not (is_nothing (awaited_of c pieces))) ShortSegment (head_form_tests c words ++ formed_head_tests c pieces (name_in words) (head_of c words)) fine in
     let form = none_each (head_form_tests c words) (none_first (head_form_tests c words) (formed_head_tests c pieces (name_in words) (head_of c words)) closed.1) in
     let formed = none_second (head_form_tests c words) (formed_head_tests c pieces (name_in words) (head_of c words)) closed.1 in
     by (head_of c words) refl (not-false _ closed.0) form.1.1.0 formed
@@ -198,7 +198,7 @@ unfolding pair_tests
 next_pair c pieces p row b fine =
     let words = row_words row in
     let form = pair_form_tests (index_limit c p.head) (wants_whole p.head) words in
-    let rest : Tests = (holds_once p.head && has_index (piece_pairs p) (unwrap_or (whole_of (word_at words 0)) 0), for_reason RepeatedIndex) ∷ (is_full pieces p.head, for_reason TooLarge) ∷ [] in
+    let rest : Tests = (holds_once p.head && has_index (piece_pairs p) (unwrap_or (whole_of (word_at words 0)) 0), RepeatedIndex) ∷ (is_full pieces p.head, TooLarge) ∷ [] in
     let pair = pair_found (index_limit c p.head) (wants_whole p.head) words (none_first form rest fine) in
     let once = none_each rest (none_second form rest fine) in (
       pair.term,

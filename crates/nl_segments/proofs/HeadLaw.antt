@@ -24,9 +24,10 @@ use Rattle.nl_segments.specs.Current.{Current, new_current}
 use Rattle.nl_segments.specs.PlaceSteps.{with_begun, HasOwner}
 use Rattle.nl_segments.specs.Grammar.{Standing, counts_of, said}
 use Rattle.nl_segments.specs.Steps.{after_body_row}
-use Rattle.nl_segments.specs.Tests.{Tests, for_reason, is_suffix, is_linear, is_same_piece, is_repeated, index_limit, has_index, head_form_tests, formed_head_tests, head_tests, row_tests}
-use Rattle.nl_segments.specs.Held.{Body, IsSoundPiece, AreSound, IsOpen, IsLast, IsMarked, IsNodeLeft, IsHeld, HoldsSome, IsRowOf, HasRow, words_refusal, use_count}
-use Rattle.nl_segments.specs.HeadSteps.{has_come, has_come_suffix, held_head_tests, formed_tests, held_refusal, begun_current, begun_name, begun_count, begun_draft, with_begun_head}
+use Rattle.nl_segments.specs.Tests.{Tests, is_suffix, is_linear, is_same_piece, is_repeated, index_limit, has_index, head_form_tests, formed_head_tests, head_tests, row_tests}
+use Rattle.nl_model.specs.UseCounts.{use_count}
+use Rattle.nl_segments.specs.Held.{Body, IsSoundPiece, AreSound, IsOpen, IsLast, IsMarked, IsNodeLeft, IsHeld, HoldsSome, IsRowOf, HasRow, words_refusal}
+use Rattle.nl_segments.specs.HeadSteps.{has_come, has_come_suffix, held_head_tests, formed_tests, new_head_tests, begun_current, begun_name, begun_count, begun_draft, with_begun_head}
 use Rattle.nl_segments.proofs.PieceLemmas.{split, last-append, lines-append, take_none}
 use Rattle.nl_segments.proofs.DraftLemmas.{draft_counts}
 use Rattle.nl_segments.proofs.PlaceLemmas.{owner_there, place_begun}
@@ -108,19 +109,19 @@ awaits_by c pieces d name (Some p) None e h = rw e (ap not h)
 awaits_by c pieces d name (Some p) (Some cur) e h = rw e (ap not h.incomplete)
 
 head_reasons : (s : Standing) (words : List (List ℕ)) → is_head words ≡ true
-    → words_refusal s words ≡ first_reason ((not (is_nothing (awaited_of (counts_of s) s.pieces)), for_reason ShortSegment) ∷ (head_form_tests (counts_of s) words ++ formed_head_tests (counts_of s) s.pieces (name_in words) (head_of (counts_of s) words)))
+    → words_refusal s words ≡ first_reason ((not (is_nothing (awaited_of (counts_of s) s.pieces)), ShortSegment) ∷ (head_form_tests (counts_of s) words ++ formed_head_tests (counts_of s) s.pieces (name_in words) (head_of (counts_of s) words)))
 unfolding row_tests head_tests
 head_reasons s words first = rw first refl
 
 pub same_refusal : (s : Standing) (b : Body) (words : List (List ℕ)) → IsHeld s b → is_head words ≡ true
-    → words_refusal s words ≡ held_refusal b.draft.counts (is_some b.current) b.seen b.draft.suffixes b.suffixes words
+    → words_refusal s words ≡ first_reason (new_head_tests b.draft.counts (is_some b.current) b.seen b.draft.suffixes b.suffixes words)
 same_refusal s b words h first =
     head_reasons s words first
     ∙ rw (awaits_by (counts_of s) s.pieces b.draft b.name (last_piece s.pieces) b.current refl h.last, h.counts) (by b.current refl)
   where
     by : (o : Option Current) → b.current ≡ o
-        → first_reason ((is_some b.current, for_reason ShortSegment) ∷ (head_form_tests (counts_of s) words ++ formed_head_tests (counts_of s) s.pieces (name_in words) (head_of (counts_of s) words)))
-        ≡ held_refusal (counts_of s) (is_some b.current) b.seen b.draft.suffixes b.suffixes words
+        → first_reason ((is_some b.current, ShortSegment) ∷ (head_form_tests (counts_of s) words ++ formed_head_tests (counts_of s) s.pieces (name_in words) (head_of (counts_of s) words)))
+        ≡ first_reason (new_head_tests (counts_of s) (is_some b.current) b.seen b.draft.suffixes b.suffixes words)
     by None e =
         rw e (same_reasons (head_form_tests (counts_of s) words) (head_form_tests (counts_of s) words) (formed_head_tests (counts_of s) s.pieces (name_in words) (head_of (counts_of s) words))
         (formed_tests (counts_of s) b.seen b.draft.suffixes b.suffixes (name_in words) (head_of (counts_of s) words))
@@ -269,9 +270,9 @@ abbrev pub IsNewOf : Body → List (List ℕ) → Head → Type 0
 IsNewOf b words head = IsNew b.draft.counts (is_some b.current) b.seen b.draft.suffixes b.suffixes (name_in words) head
 
 pub new_of : (b : Body) (is_open : Bool) (words : List (List ℕ)) (head : Head) → is_open ≡ is_some b.current → head_of b.draft.counts words ≡ Some head
-    → held_refusal b.draft.counts is_open b.seen b.draft.suffixes b.suffixes words ≡ None → IsNewOf b words head
+    → first_reason (new_head_tests b.draft.counts is_open b.seen b.draft.suffixes b.suffixes words) ≡ None → IsNewOf b words head
 new_of b is_open words head e is none =
-    is_new b.draft.counts (is_some b.current) b.seen b.draft.suffixes b.suffixes words head is (ap (λ o. held_refusal b.draft.counts o b.seen b.draft.suffixes b.suffixes words) (sym e) ∙ none)
+    is_new b.draft.counts (is_some b.current) b.seen b.draft.suffixes b.suffixes words head is (ap (λ o. first_reason (new_head_tests b.draft.counts o b.seen b.draft.suffixes b.suffixes words)) (sym e) ∙ none)
 
 pub marks_there : (b : Body) (head : Head) → HoldsSome b → is_in_range b.draft.counts head ≡ true → IsSeenIn b.seen head
 marks_there b head h range = within_marks (counts_of h.0) b.seen h.0.pieces head h.1.seen (ap (λ c. is_in_range c head) (sym h.1.counts) ∙ range)

@@ -12,7 +12,7 @@ use Rattle.nl_model.specs.Kinds.{kind_of}
 use Rattle.nl_segments.specs.declared.awaited.Awaited.TheVariants.{ColumnCount, Interval as IntervalLine}
 use Rattle.nl_segments.specs.declared.head.Head.{Head}
 use Rattle.nl_segments.specs.declared.head.Head.TheVariants.{Body as BodyHead, Objective, Definition, DualGuesses, PrimalGuesses, Sides, Bounds, ColumnCounts, Terms, Slopes, Suffix}
-use Rattle.nl_segments.specs.declared.fault.Refusal.{Refusal}
+use Rattle.nl_segments.specs.declared.fault.NlReason.{NlReason}
 use Rattle.exact_numbers.specs.Numbers.{whole_of}
 use Rattle.nl_segments.specs.Rows.{Row, row_words}
 use Rattle.text_base.specs.Words.{word_at}
@@ -25,7 +25,8 @@ use Rattle.nl_segments.specs.Grammar.{Standing, counts_of, said}
 use Rattle.nl_segments.specs.Current.{Current, IsCurrent, current_awaits, less_line}
 use Rattle.nl_segments.specs.LineSteps.{unless_complete, with_interval, HasRoom, next_interval_tests}
 use Rattle.nl_segments.specs.Saying.{draft_of, said_by}
-use Rattle.nl_segments.specs.Held.{AreSound, Body, HoldsSome, IsAwaiting, IsHeld, IsNodeLeft, IsOpen, IsRowOf, use_count, words_refusal}
+use Rattle.nl_model.specs.UseCounts.{use_count}
+use Rattle.nl_segments.specs.Held.{AreSound, Body, HoldsSome, IsAwaiting, IsHeld, IsNodeLeft, IsOpen, IsRowOf, words_refusal}
 use Rattle.nl_segments.proofs.CurrentLemmas.{late_pairs, with_line}
 use Rattle.nl_segments.proofs.DraftLemmas.{draft_counts, with_bound, with_column, with_side}
 use Rattle.nl_segments.proofs.FreshLaw.{none_before, fresh_sides, fresh_bounds}
@@ -113,7 +114,7 @@ column_taken s old cur row k columns current e kind plain is columns_are current
     (subst (λ t. IsHeld t new) (sym (row_after s.header o.before o.piece row plain))
     (with_column_line s.header o.before o.piece row cur k old columns current held o.is_open e early is columns_are current_is))
 
-pub column_refused : (value : Body) (words : List (List ℕ)) (r : Refusal) → IsAwaiting ColumnCount value → is_head words ≡ false → first_reason (column_tests words) ≡ Some r
+pub column_refused : (value : Body) (words : List (List ℕ)) (r : NlReason) → IsAwaiting ColumnCount value → is_head words ≡ false → first_reason (column_tests words) ≡ Some r
     → (s : Standing) → IsHeld s value → words_refusal s words ≡ Some r
 column_refused value words r a plain e s h =
     let w = awaiting value ColumnCount a in
@@ -240,7 +241,7 @@ judged_interval s b cur words e kind plain h =
     let o = opened s b cur e h in
     judged_by s b cur words IntervalLine o plain kind ∙ ap first_reason (tests_held (counts_of s) o.piece cur words o.is_open.current (early (counts_of s) o.piece cur IntervalLine o.is_open.current kind refl))
 
-pub interval_refused : (value : Body) (cur : Current) (words : List (List ℕ)) (r : Refusal) → value.current ≡ Some cur → IsAwaiting IntervalLine value → is_head words ≡ false
+pub interval_refused : (value : Body) (cur : Current) (words : List (List ℕ)) (r : NlReason) → value.current ≡ Some cur → IsAwaiting IntervalLine value → is_head words ≡ false
     → first_reason (next_interval_tests value.draft.counts cur words) ≡ Some r → (s : Standing) → IsHeld s value → words_refusal s words ≡ Some r
 interval_refused value cur words r is a plain e s h =
     judged_interval s value cur words is (awaits_as value cur IntervalLine is a) plain h ∙ ap (λ c. first_reason (next_interval_tests c cur words)) (sym h.counts) ∙ e

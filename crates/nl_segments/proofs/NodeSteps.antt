@@ -24,7 +24,8 @@ use Rattle.nl_segments.specs.Tests.{all_column_counts, column_counts, has_index,
 use Rattle.nl_segments.specs.Saying.{PlaceLines, lines_by, place_lines, piece_tree, draft_of}
 use Rattle.nl_segments.specs.Current.{Current, IsCurrent, current_awaits, nodes_await}
 use Rattle.nl_segments.specs.TreeSteps.{IsSettled, with_tree}
-use Rattle.nl_segments.specs.Held.{Body, AreSeen, IsHeld, IsLast, IsMarked, IsNodeKnown, IsNodeLeft, IsOpen, IsSoundPiece, keeps_pairs, use_count}
+use Rattle.nl_model.specs.UseCounts.{use_count}
+use Rattle.nl_segments.specs.Held.{Body, AreSeen, IsHeld, IsLast, IsMarked, IsNodeKnown, IsNodeLeft, IsOpen, IsSoundPiece, keeps_pairs}
 use Rattle.nl_segments.proofs.CurrentLemmas.{awaits, late_tree, late_pairs, last_nodes, nodes-more, tree_count}
 use Rattle.nl_segments.proofs.DraftLemmas.{draft_counts, says_whole, draft_before, with_body, with_objective, with_definition}
 use Rattle.nl_segments.proofs.PieceLemmas.{longer, last-append, lines-append}

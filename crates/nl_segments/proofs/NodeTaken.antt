@@ -24,7 +24,7 @@ use Rattle.exact_numbers.specs.Numbers.{whole_of}
 use Rattle.nl_segments.specs.Nodes.{Placed, Pending, only_lines, node_in, opcode_in}
 use Rattle.nl_segments.specs.NodeRows.{IsRow}
 use Rattle.nl_segments.specs.Pieces.{Piece, has_tree, pair_count, piece_nodes, piece_pending}
-use Rattle.nl_segments.specs.Tests.{for_reason, node_form_tests, node_tests, operand_tests}
+use Rattle.nl_segments.specs.Tests.{node_form_tests, node_tests, operand_tests}
 use Rattle.nl_segments.specs.Saying.{PlaceLines, term_lines, lines_by, place_lines}
 use Rattle.nl_segments.specs.Grammar.{Standing, counts_of, said}
 use Rattle.nl_segments.specs.Steps.{after_body_row}
@@ -222,7 +222,7 @@ pub record IsRead (b : Body) (words : List (List ℕ)) (cur : Current) (r : Node
   pub fine : first_reason (counted_node_tests b.draft.counts b.draft b.nodes words) ≡ None
 
 form_fine : (b : Body) (words : List (List ℕ)) (cur : Current) (r : NodeRow) → IsRead b words cur r → first_reason (node_form_tests b.draft.counts b.draft words) ≡ None
-form_fine b words cur r h = none_first (node_form_tests b.draft.counts b.draft words) ((nat_le (2 ^ 22) b.nodes, for_reason TooLarge) ∷ []) h.fine
+form_fine b words cur r h = none_first (node_form_tests b.draft.counts b.draft words) ((nat_le (2 ^ 22) b.nodes, TooLarge) ∷ []) h.fine
 
 pub next_known : (s : Standing) (b : Body) (words : List (List ℕ)) (line : ℕ) (cur next : Current) (r : NodeRow) → IsHeld s b → IsRead b words cur r → next ≡ with_node_row cur line r
     → All (IsNodeKnown b.draft.counts.n_var b.draft.definitions) next.nodes

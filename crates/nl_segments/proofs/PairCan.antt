@@ -19,7 +19,7 @@ use Rattle.nl_segments.specs.Saying.{draft_of, place_lines, said_by}
 use Rattle.nl_segments.specs.Tests.{holds_once, index_limit, is_linear, is_same_piece, is_suffix}
 use Rattle.nl_segments.specs.Grammar.{Standing, counts_of}
 use Rattle.nl_segments.specs.Current.{Current}
-use Rattle.nl_segments.specs.PairSteps.{CanClose, CanGive, CanUse, is_full_at, with_given, with_kept}
+use Rattle.nl_segments.specs.PairSteps.{SaysFreshPair, CanClose, CanGive, CanUse, is_full_at, with_given, with_kept}
 use Rattle.nl_segments.specs.Held.{Body, HasRow, HoldsSome, IsAwaiting, IsHeld, IsMarked, keeps_pairs}
 use Rattle.nl_segments.proofs.DraftLemmas.{draft_before, says_whole}
 use Rattle.nl_segments.proofs.FreshLaw.{none_before, fresh_dual, fresh_primal}
@@ -273,14 +273,14 @@ can_take b cur head words line t same row h r =
 
 -- a pair that was read
 pub read_by : (value fields : Body) (cur : Current) (words : List (List ℕ)) (t : Term) (counts : Counts) (head : Head) (full : Bool) → fields ≡ value → fields.current ≡ Some cur → IsAwaiting Pair value
-    → counts ≡ fields.draft.counts → head ≡ cur.head → full ≡ is_full_at head fields.linear fields.values → pair_in words ≡ Some t → t.0 < index_limit counts head
-    → (holds_once head && get_or fields.marks t.0 false) ≡ false → full ≡ false → IsRead fields cur words t
-read_by value fields cur words t counts head full same current a counts_is head_is full_is says below fresh room =
+    → counts ≡ fields.draft.counts → head ≡ cur.head → full ≡ is_full_at head fields.linear fields.values → SaysFreshPair counts head fields.marks full words t
+    → IsRead fields cur words t
+read_by value fields cur words t counts head full same current a counts_is head_is full_is pair =
     record {
       current = current;
       awaits = subst (IsAwaiting Pair) (sym same) a;
-      says = says;
-      below = subst (λ k. t.0 < index_limit k cur.head) counts_is (subst (λ x. t.0 < index_limit counts x) head_is below);
-      fresh = ap (λ x. holds_once x && get_or fields.marks t.0 false) (sym head_is) ∙ fresh;
-      free = ap (λ x. is_full_at x fields.linear fields.values) (sym head_is) ∙ sym full_is ∙ room;
+      says = pair.says;
+      below = subst (λ k. t.0 < index_limit k cur.head) counts_is (subst (λ x. t.0 < index_limit counts x) head_is pair.below);
+      fresh = ap (λ x. holds_once x && get_or fields.marks t.0 false) (sym head_is) ∙ pair.fresh;
+      free = ap (λ x. is_full_at x fields.linear fields.values) (sym head_is) ∙ sym full_is ∙ pair.room;
     }

@@ -19,7 +19,8 @@ use Rattle.nl_segments.specs.PlaceSteps.{HasBegun, HasOwner, with_term_line}
 use Rattle.nl_segments.specs.Heads.{is_in_range}
 use Rattle.nl_segments.specs.Tests.{is_linear, is_suffix}
 use Rattle.nl_segments.specs.Current.{Current, current_awaits}
-use Rattle.nl_segments.specs.Held.{keeps_pairs, use_count}
+use Rattle.nl_model.specs.UseCounts.{use_count}
+use Rattle.nl_segments.specs.Held.{keeps_pairs}
 use Rattle.nl_segments.specs.PairSteps.{with_closed, with_given, with_suffix, with_use}
 use Rattle.nl_segments.proofs.CurrentLemmas.{early_tree}
 use Rattle.nl_segments.proofs.DraftLemmas.{draft_before, with_dual, with_primal, with_term, with_slope, with_suffix as suffix_said}

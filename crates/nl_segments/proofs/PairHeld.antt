@@ -20,7 +20,8 @@ use Rattle.nl_segments.specs.Grammar.{counts_of, said}
 use Rattle.nl_segments.specs.Current.{Current, IsCurrent, current_awaits, less_line, nodes_await}
 use Rattle.nl_segments.specs.SeenSegments.{IsSeenIn, has_segment}
 use Rattle.nl_segments.specs.LineSteps.{unless_complete}
-use Rattle.nl_segments.specs.Held.{Body, IsHeld, IsLast, IsMarked, IsNodeKnown, IsNodeLeft, IsOpen, IsSoundPiece, use_count}
+use Rattle.nl_model.specs.UseCounts.{use_count}
+use Rattle.nl_segments.specs.Held.{Body, IsHeld, IsLast, IsMarked, IsNodeKnown, IsNodeLeft, IsOpen, IsSoundPiece}
 use Rattle.nl_segments.proofs.CurrentLemmas.{awaits, early_tree, late_pairs, with_line}
 use Rattle.nl_segments.proofs.DraftLemmas.{draft_counts}
 use Rattle.nl_segments.proofs.PieceLemmas.{longer, last-append, lines-append}

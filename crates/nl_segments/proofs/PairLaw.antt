@@ -9,12 +9,13 @@ use Rattle.nl_model.specs.declared.counts.Counts.{Counts}
 use Rattle.nl_model.specs.Draft.{Draft, empty_draft}
 use Rattle.nl_model.specs.File.{Term}
 use Rattle.nl_model.specs.Rules.{term_count}
+use Rattle.nl_model.specs.UseCounts.{use_count, uses_in}
+use Rattle.nl_model.proofs.UseLemmas.{uses_in-most}
 use Rattle.nl_segments.specs.declared.head.Head.{Head}
 use Rattle.nl_segments.specs.declared.head.Head.TheVariants.{Body, Objective, Definition, DualGuesses, PrimalGuesses, Sides, Bounds, ColumnCounts, Terms, Slopes, Suffix}
 use Rattle.nl_segments.specs.Pieces.{Piece, is_complete, piece_pairs}
 use Rattle.nl_segments.specs.Saying.{if_complete, said_by, with_piece, draft_of}
 use Rattle.nl_segments.specs.Tests.{is_linear, pair_total}
-use Rattle.nl_segments.specs.Held.{use_count}
 
 -- ---- lists
 
@@ -33,22 +34,14 @@ sum_set f (r ∷ rows) (suc i) x lt =
     let b = sum_by-cons f r rows in
     omega arith
 
-filter_fewer : (p : Term → Bool) (ts : List Term) → length (filter p ts) ≤ length ts
-filter_fewer p [] = omega arith
-filter_fewer p (t ∷ ts) = by (p t) refl (filter_fewer p ts)
-  where
-    by : (b : Bool) → p t ≡ b → length (filter p ts) ≤ length ts → length (filter p (t ∷ ts)) ≤ length (t ∷ ts)
-    by true e h = rw e (omega arith)
-    by false e h = rw e (omega arith)
-
 -- ---- uses of variables
 
 pub uses_few : (rows : List (List Term)) (j : ℕ) → use_count rows j ≤ term_count rows
 uses_few [] j = omega arith
 uses_few (ts ∷ rows) j =
-    let a = sum_by-cons (λ ts. length (filter (λ t. t.0 == j) ts)) ts rows in
+    let a = sum_by-cons (λ ts. uses_in ts j) ts rows in
     let b = sum_by-cons {X = List Term} length ts rows in
-    let fewer = filter_fewer (λ t. t.0 == j) ts in
+    let fewer = uses_in-most ts j in
     let rest = uses_few rows j in
     omega arith
 
@@ -57,7 +50,7 @@ pub use_more : (rows : List (List Term)) (i j : ℕ) (t : Term) → i < length r
 use_more rows i j t lt = by (t.0 == j) refl
   where
     f : List Term → ℕ
-    f ts = length (filter (λ t. t.0 == j) ts)
+    f ts = uses_in ts j
 
     split : f (get_or rows i [] ++ t ∷ []) ≡ f (get_or rows i []) + f (t ∷ [])
     split = ap length (filter-append (λ t. t.0 == j) (get_or rows i []) (t ∷ [])) ∙ length-append (filter (λ t. t.0 == j) (get_or rows i [])) (filter (λ t. t.0 == j) (t ∷ []))

@@ -10,7 +10,7 @@ use Rattle.nl_model.specs.File.{Term}
 use Rattle.nl_model.specs.Rules.{most_terms}
 use Rattle.std.proofs.lemmas.Bool.{ltb-true}
 use Rattle.nl_segments.specs.declared.awaited.Awaited.TheVariants.{Pair}
-use Rattle.nl_segments.specs.declared.fault.Refusal.{Refusal}
+use Rattle.nl_segments.specs.declared.fault.NlReason.{NlReason}
 use Rattle.nl_segments.specs.declared.head.Head.{Head}
 use Rattle.nl_segments.specs.declared.head.Head.TheVariants.{Body as BodyHead, Objective, Definition, DualGuesses, PrimalGuesses, Sides, Bounds, ColumnCounts, Terms, Slopes, Suffix}
 use Rattle.nl_segments.specs.Rows.{Row}
@@ -24,7 +24,8 @@ use Rattle.nl_segments.specs.Steps.{after_body_row}
 use Rattle.nl_segments.specs.Current.{Current, current_awaits}
 use Rattle.nl_segments.specs.LineSteps.{unless_complete}
 use Rattle.nl_segments.specs.PairSteps.{is_full_at, next_pair_tests, one_more, with_closed, with_given, with_kept, with_mark, with_suffix, with_use}
-use Rattle.nl_segments.specs.Held.{Body, IsAwaiting, IsHeld, IsMarked, IsNodeKnown, IsNodeLeft, IsRowOf, use_count, words_refusal}
+use Rattle.nl_model.specs.UseCounts.{use_count}
+use Rattle.nl_segments.specs.Held.{Body, IsAwaiting, IsHeld, IsMarked, IsNodeKnown, IsNodeLeft, IsRowOf, words_refusal}
 use Rattle.nl_segments.proofs.CurrentLemmas.{awaits}
 use Rattle.nl_segments.proofs.DraftLemmas.{draft_counts}
 use Rattle.nl_segments.proofs.IntervalSteps.{columns-append}
@@ -220,7 +221,7 @@ judged_pair s b cur words full e a plain full_by h =
     ∙ same_pair_tests c s.pieces o.piece words b.marks full marks full_said
     ∙ sym (ap (λ k. first_reason (next_pair_tests k cur.head b.marks full words)) h.counts ∙ ap (λ x. first_reason (next_pair_tests c x b.marks full words)) head)
 
-pub pair_refused : (value : Body) (cur : Current) (words : List (List ℕ)) (full : Bool) (r : Refusal) → value.current ≡ Some cur → IsAwaiting Pair value → is_head words ≡ false
+pub pair_refused : (value : Body) (cur : Current) (words : List (List ℕ)) (full : Bool) (r : NlReason) → value.current ≡ Some cur → IsAwaiting Pair value → is_head words ≡ false
     → full ≡ is_full_at cur.head value.linear value.values → first_reason (next_pair_tests value.draft.counts cur.head value.marks full words) ≡ Some r
     → (s : Standing) → IsHeld s value → words_refusal s words ≡ Some r
 pair_refused value cur words full r e a plain full_by fault s h = judged_pair s value cur words full e a plain full_by h ∙ fault
@@ -239,12 +240,12 @@ pair_step value fields new cur words line t full same plain r full_by fine d s r
     )
 
 -- the tests of a row that was read, by the parts that reading took
-pub tests_by : (value fields : Body) (cur : Current) (words : List (List ℕ)) (counts : Counts) (head : Head) (full : Bool) (r : Option Refusal) → fields ≡ value → counts ≡ fields.draft.counts → head ≡ cur.head
+pub tests_by : (value fields : Body) (cur : Current) (words : List (List ℕ)) (counts : Counts) (head : Head) (full : Bool) (r : Option NlReason) → fields ≡ value → counts ≡ fields.draft.counts → head ≡ cur.head
     → first_reason (next_pair_tests counts head fields.marks full words) ≡ r → first_reason (next_pair_tests fields.draft.counts cur.head fields.marks full words) ≡ r
 tests_by value fields cur words counts head full r same counts_is head_is e =
     sym (ap (λ k. first_reason (next_pair_tests k head fields.marks full words)) counts_is ∙ ap (λ x. first_reason (next_pair_tests fields.draft.counts x fields.marks full words)) head_is) ∙ e
 
-pub refused_by : (value fields : Body) (cur : Current) (words : List (List ℕ)) (counts : Counts) (head : Head) (full : Bool) (r : Refusal) → fields ≡ value → fields.current ≡ Some cur → IsAwaiting Pair value → is_head words ≡ false
+pub refused_by : (value fields : Body) (cur : Current) (words : List (List ℕ)) (counts : Counts) (head : Head) (full : Bool) (r : NlReason) → fields ≡ value → fields.current ≡ Some cur → IsAwaiting Pair value → is_head words ≡ false
     → counts ≡ fields.draft.counts → head ≡ cur.head → full ≡ is_full_at head fields.linear fields.values → first_reason (next_pair_tests counts head fields.marks full words) ≡ Some r
     → (s : Standing) → IsHeld s value → words_refusal s words ≡ Some r
 refused_by value fields cur words counts head full r same current a plain counts_is head_is full_is fault s h =

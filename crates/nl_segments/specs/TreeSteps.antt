@@ -13,10 +13,12 @@ use Rattle.nl_segments.specs.declared.head.Head.TheVariants.{Body, Objective, De
 use Rattle.nl_segments.specs.declared.node_row.NodeRow.{NodeRow}
 use Rattle.nl_segments.specs.declared.node_row.NodeRow.TheVariants.{Whole, Counted}
 use Rattle.nl_segments.specs.Current.{Current, current_awaits}
+use Rattle.nl_segments.specs.NodeRows.{IsReadAs}
+use Rattle.nl_segments.specs.Nodes.{node_in, opcode_in}
 use Rattle.nl_segments.specs.Pieces.{is_nothing}
 use Rattle.nl_segments.specs.PlaceSteps.{with_node_line}
 use Rattle.nl_segments.specs.Saying.{PlaceLines}
-use Rattle.nl_segments.specs.Tests.{Tests, for_reason, node_form_tests}
+use Rattle.nl_segments.specs.Tests.{Tests, node_form_tests}
 
 -- a draft with the expression of a piece of this head, after these terms
 abbrev pub with_tree : Draft → Head → List Term → Tree → Draft
@@ -59,6 +61,11 @@ abbrev pub with_row_line : PlaceLines → ℕ → Head → NodeRow → PlaceLine
 with_row_line l line head (Whole n) = with_node_line l line head
 with_row_line l line head (Counted o) = l
 
+-- what a row is read as, where one more node has room
+pub record IsNextRow (c : Counts) (nodes : ℕ) (words : List (List ℕ)) (row : NodeRow) : Type 0 where
+  pub read : IsReadAs (node_in c.n_var words) (opcode_in words) row
+  pub few : nodes < 2 ^ 22
+
 -- what is wrong with a node, after so many nodes
 abbrev pub counted_node_tests : Counts → Draft → ℕ → List (List ℕ) → Tests
-counted_node_tests c d nodes words = node_form_tests c d words ++ (nat_le (2 ^ 22) nodes, for_reason TooLarge) ∷ []
+counted_node_tests c d nodes words = node_form_tests c d words ++ (nat_le (2 ^ 22) nodes, TooLarge) ∷ []

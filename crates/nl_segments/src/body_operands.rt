@@ -8,8 +8,7 @@ ghost use Rattle.nl_segments.specs.Held.{TakesRow, IsAwaiting, HasRow};
 use crate::body::BodyReader;
 use crate::body_nodes::settle;
 use crate::counts::read_operand_count;
-use crate::fault::Refusal;
-use crate::nodes::refusal;
+use crate::fault::NlReason;
 use text_base::Stop;
 
 impl BodyReader {
@@ -18,7 +17,7 @@ impl BodyReader {
         &mut self,
         words: &[&[u8]],
         line: u32,
-    ) -> Result<(), Stop<Refusal>>
+    ) -> Result<(), Stop<NlReason>>
         requires awaited { IsAwaiting OperandCount self.old }
         requires row { is_head (texts words.now) ≡ false }
         requires exists { HasRow (texts words.now) line }
@@ -30,7 +29,7 @@ impl BodyReader {
         }
         let count = match read_operand_count(words) {
             Ok(count) => count,
-            Err(reason) => return Err(Stop::Fault(refusal(reason))),
+            Err(reason) => return Err(Stop::Fault(reason)),
         };
         self.is_broken = true;
         let Some(mut current) = self.current.take() else {

@@ -25,12 +25,12 @@ pub returns-in-Err : goal.returns-in-Err
 returns-in-Err c s h =
     let a = awaiting c.args.self.now NodeLine c.requires.awaited in
     node_judged s c.args.self.now a.cur (texts c.args.words.now) h a.is a.awaits_it c.requires.row
-    ∙ subst (λ (b : Body). first_reason (counted_node_tests b.draft.counts b.draft b.nodes (texts c.args.words.now)) ≡ Some c.in-Err.refusal) c.self.view_is c.in-Err.ensures.fault
+    ∙ subst (λ (b : Body). first_reason (counted_node_tests b.draft.counts b.draft b.nodes (texts c.args.words.now)) ≡ Some c.in-Err.reason) c.self.view_is c.in-Err.ensures
 
 pub take_row-requires-clause-few : goal.take_row-requires-clause-few
 take_row-requires-clause-few c =
     let held = c.self.invariant c.if-self.false in
-    omega (arith, nodes_few held.0 (the_view c.self.inside) c.in-Some.current held.1 (sym c.take.ensures.value ∙ c.in-Some.is), c.in-Ok.ensures.few)
+    omega (arith, nodes_few held.0 (the_view c.self.inside) c.in-Some.current held.1 (sym c.take.ensures.value ∙ c.in-Some.is), c.in-Ok.ensures.1.few)
 
 pub add_row_line-requires-clause-owner : goal.add_row_line-requires-clause-owner
 add_row_line-requires-clause-owner c =
@@ -46,21 +46,21 @@ pub settle-requires-clause-fresh : goal.settle-requires-clause-fresh
 settle-requires-clause-fresh c whole =
     let held = c.self.invariant c.if-self.false in
     let words = texts c.args.words.now in
-    let is = read (the_view c.self.inside) c.args.self.now words c.in-Some.current c.in-Ok.row c.take.result c.self.view_is c.requires.awaited c.requires.row c.take.ensures.value c.in-Some.is c.in-Ok.ensures.row c.in-Ok.ensures.few c.in-Ok.ensures.fine in
+    let is = read (the_view c.self.inside) c.args.self.now words c.in-Some.current c.in-Ok.row c.take.result c.self.view_is c.requires.awaited c.requires.row c.take.ensures.value c.in-Some.is c.in-Ok.ensures.1.read.0 c.in-Ok.ensures.1.few c.in-Ok.ensures.0 in
     next_fresh held.0 (the_view c.self.inside) words c.args.line c.in-Some.current c.take_row.new.self c.in-Ok.row held.1 is c.in_ok-take_row.ensures
 
 pub settle-requires-clause-known : goal.settle-requires-clause-known
 settle-requires-clause-known c =
     let held = c.self.invariant c.if-self.false in
     let words = texts c.args.words.now in
-    let is = read (the_view c.self.inside) c.args.self.now words c.in-Some.current c.in-Ok.row c.take.result c.self.view_is c.requires.awaited c.requires.row c.take.ensures.value c.in-Some.is c.in-Ok.ensures.row c.in-Ok.ensures.few c.in-Ok.ensures.fine in
+    let is = read (the_view c.self.inside) c.args.self.now words c.in-Some.current c.in-Ok.row c.take.result c.self.view_is c.requires.awaited c.requires.row c.take.ensures.value c.in-Some.is c.in-Ok.ensures.1.read.0 c.in-Ok.ensures.1.few c.in-Ok.ensures.0 in
     next_known held.0 (the_view c.self.inside) words c.args.line c.in-Some.current c.take_row.new.self c.in-Ok.row held.1 is c.in_ok-take_row.ensures
 
 pub invariant_of-self-2 : goal.invariant_of-self-2
 invariant_of-self-2 c e =
     let words = texts c.args.words.now in
     let b = the_view c.self.inside in
-    let is = read b c.args.self.now words c.in-Some.current c.in-Ok.row c.take.result c.self.view_is c.requires.awaited c.requires.row c.take.ensures.value c.in-Some.is c.in-Ok.ensures.row c.in-Ok.ensures.few c.in-Ok.ensures.fine in
+    let is = read b c.args.self.now words c.in-Some.current c.in-Ok.row c.take.result c.self.view_is c.requires.awaited c.requires.row c.take.ensures.value c.in-Some.is c.in-Ok.ensures.1.read.0 c.in-Ok.ensures.1.few c.in-Ok.ensures.0 in
     holds_again b b _ words c.args.line refl c.requires.exists (c.self.invariant c.if-self.false)
     (node_taken b words c.args.line c.in-Some.current c.take_row.new.self c.in-Ok.row c.head-head.result c.row_count.result c.settle.new.builder c.in_ok-self-inside.field-0 c.add_row_line.new.places is
     c.in_ok-take_row.ensures c.head-head.ensures c.row_count.ensures c.in_ok-add_row_line.ensures c.in_ok-self-inside.ensures)
@@ -69,6 +69,6 @@ pub returns : goal.returns
 returns c s row of held =
     let words = texts c.args.words.now in
     let b = the_view c.self.inside in
-    let is = read b c.args.self.now words c.in-Some.current c.in-Ok.row c.take.result c.self.view_is c.requires.awaited c.requires.row c.take.ensures.value c.in-Some.is c.in-Ok.ensures.row c.in-Ok.ensures.few c.in-Ok.ensures.fine in
+    let is = read b c.args.self.now words c.in-Some.current c.in-Ok.row c.take.result c.self.view_is c.requires.awaited c.requires.row c.take.ensures.value c.in-Some.is c.in-Ok.ensures.1.read.0 c.in-Ok.ensures.1.few c.in-Ok.ensures.0 in
     node_taken b words c.args.line c.in-Some.current c.take_row.new.self c.in-Ok.row c.head-head.result c.row_count.result c.settle.new.builder c.in_ok-self-inside.field-0 c.add_row_line.new.places is
     c.in_ok-take_row.ensures c.head-head.ensures c.row_count.ensures c.in_ok-add_row_line.ensures c.in_ok-self-inside.ensures s row of (subst (IsHeld s) (sym c.self.view_is) held)

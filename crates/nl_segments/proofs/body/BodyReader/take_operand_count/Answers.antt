@@ -23,7 +23,7 @@ read b value words cur q k taken pending same kind other was is waits some count
 pub returns-in-Err : goal.returns-in-Err
 returns-in-Err c s h =
     let a = awaiting c.args.self.now OperandCount c.requires.awaited in
-    operands_judged s c.args.self.now a.cur (texts c.args.words.now) h a.is a.awaits_it c.requires.row ∙ c.in-Err.ensures.fault ∙ ap Some (sym c.refusal.ensures)
+    operands_judged s c.args.self.now a.cur (texts c.args.words.now) h a.is a.awaits_it c.requires.row ∙ c.in-Err.ensures
 
 pub take_operand_count-requires-clause-few : goal.take_operand_count-requires-clause-few
 take_operand_count-requires-clause-few c =
@@ -46,7 +46,7 @@ settle-requires-clause-fresh c whole =
     let held = c.self.invariant c.if-self.false in
     let words = texts c.args.words.now in
     let is = read (the_view c.self.inside) c.args.self.now words c.in-Some.current c.in-Some-pending.pending c.in-Ok.count c.take.result c.pending.result c.self.view_is c.requires.awaited c.requires.row c.take.ensures.value c.in-Some.is c.pending.ensures c.in-Some-pending.is
-    c.in-Ok.ensures.number c.in-Ok.ensures.fine in
+    c.in-Ok.ensures.1.says c.in-Ok.ensures.0 in
     counted_fresh held.0 (the_view c.self.inside) words c.in-Some.current c.take_operand_count.new.self c.in-Some-pending.pending c.in-Ok.count held.1 is c.in_ok-take_operand_count.ensures
 
 pub settle-requires-clause-known : goal.settle-requires-clause-known
@@ -54,7 +54,7 @@ settle-requires-clause-known c =
     let held = c.self.invariant c.if-self.false in
     let words = texts c.args.words.now in
     let is = read (the_view c.self.inside) c.args.self.now words c.in-Some.current c.in-Some-pending.pending c.in-Ok.count c.take.result c.pending.result c.self.view_is c.requires.awaited c.requires.row c.take.ensures.value c.in-Some.is c.pending.ensures c.in-Some-pending.is
-    c.in-Ok.ensures.number c.in-Ok.ensures.fine in
+    c.in-Ok.ensures.1.says c.in-Ok.ensures.0 in
     counted_known held.0 (the_view c.self.inside) words c.in-Some.current c.take_operand_count.new.self c.in-Some-pending.pending c.in-Ok.count held.1 is c.in_ok-take_operand_count.ensures
 
 pub invariant_of-self-2 : goal.invariant_of-self-2
@@ -62,7 +62,7 @@ invariant_of-self-2 c e =
     let words = texts c.args.words.now in
     let b = the_view c.self.inside in
     let is = read b c.args.self.now words c.in-Some.current c.in-Some-pending.pending c.in-Ok.count c.take.result c.pending.result c.self.view_is c.requires.awaited c.requires.row c.take.ensures.value c.in-Some.is c.pending.ensures c.in-Some-pending.is
-    c.in-Ok.ensures.number c.in-Ok.ensures.fine in
+    c.in-Ok.ensures.1.says c.in-Ok.ensures.0 in
     holds_again b b _ words c.args.line refl c.requires.exists (c.self.invariant c.if-self.false)
     (count_taken b words c.args.line c.in-Some.current c.take_operand_count.new.self c.in-Some-pending.pending c.in-Ok.count c.head-head.result c.settle.new.builder c.in_ok-self-inside.field-0 c.add_node.new.self is
     c.in_ok-take_operand_count.ensures c.head-head.ensures c.in_ok-add_node.ensures c.in_ok-self-inside.ensures)
@@ -72,6 +72,6 @@ returns c s row of held =
     let words = texts c.args.words.now in
     let b = the_view c.self.inside in
     let is = read b c.args.self.now words c.in-Some.current c.in-Some-pending.pending c.in-Ok.count c.take.result c.pending.result c.self.view_is c.requires.awaited c.requires.row c.take.ensures.value c.in-Some.is c.pending.ensures c.in-Some-pending.is
-    c.in-Ok.ensures.number c.in-Ok.ensures.fine in
+    c.in-Ok.ensures.1.says c.in-Ok.ensures.0 in
     count_taken b words c.args.line c.in-Some.current c.take_operand_count.new.self c.in-Some-pending.pending c.in-Ok.count c.head-head.result c.settle.new.builder c.in_ok-self-inside.field-0 c.add_node.new.self is
     c.in_ok-take_operand_count.ensures c.head-head.ensures c.in_ok-add_node.ensures c.in_ok-self-inside.ensures s row of (subst (IsHeld s) (sym c.self.view_is) held)
