@@ -51,14 +51,10 @@ seen_none c (Definition i j u) r f =
     let here = defined_place c.n_var (defined_count c) i r in
     let mark = unmarked (defined_count c) (i - c.n_var) here.1 in
     ((here.0, mark.0), mark.1)
-seen_none c (DualGuesses n) r f = (tt, refl)
-seen_none c (PrimalGuesses n) r f = (tt, refl)
-seen_none c Sides r f = (tt, refl)
-seen_none c Bounds r f = (tt, refl)
-seen_none c (ColumnCounts n) r f = (tt, refl)
 seen_none c (Terms i n) r f = unmarked c.n_con i (ltb-true i c.n_con r)
 seen_none c (Slopes k n) r f = unmarked c.n_obj k (ltb-true k c.n_obj r)
 seen_none c (Suffix kind n) r f = absurd cc
+seen_none c head r f = (tt, refl)
 
 no_use : (n j : ℕ) → use_count (replicate n []) j ≡ 0
 no_use zero j = refl

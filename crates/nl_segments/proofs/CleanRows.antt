@@ -219,14 +219,7 @@ no_pairs_in h kind e line other = of_head h (ap is_line_kind e ∙ line) (ap is_
     of_head Sides l o = refl
     of_head Bounds l o = refl
     of_head (ColumnCounts n) l o = refl
-    of_head (BodyHead i) l o = absurd cc
-    of_head (Objective k m) l o = absurd cc
-    of_head (Definition i j u) l o = absurd cc
-    of_head (DualGuesses n) l o = absurd cc
-    of_head (PrimalGuesses n) l o = absurd cc
-    of_head (Terms i n) l o = absurd cc
-    of_head (Slopes k n) l o = absurd cc
-    of_head (Suffix k n) l o = absurd cc
+    of_head head l o = absurd cc
 
 -- a row that the last piece awaits
 clean_line : (c : Counts) (d : Draft) (pieces before : List Piece) (p : Piece) (row : Row) (kind : Awaited) → AreClean c (before ++ p ∷ []) → awaited_in c p ≡ kind

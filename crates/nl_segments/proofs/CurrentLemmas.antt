@@ -47,13 +47,7 @@ early_tree c p row early = by p.head refl
         let few : length p.rows < j = rw e at early in
         rw e (drop_all j (p.rows ++ row ∷ []) (omega (arith, length-append p.rows (row ∷ []))) ∙ sym (drop_all j p.rows (omega arith)))
     by (DualGuesses n) e = rw e refl
-    by (PrimalGuesses n) e = rw e refl
-    by Sides e = rw e refl
-    by Bounds e = rw e refl
-    by (ColumnCounts n) e = rw e refl
-    by (Terms i n) e = rw e refl
-    by (Slopes k n) e = rw e refl
-    by (Suffix k n) e = rw e refl
+    by head e = rw e refl
 
 -- a row of the expression
 pub late_tree : (p : Piece) (row : Row) → has_tree p.head ≡ true → pair_count p.head ≤ length p.rows → tree_rows (longer p row) ≡ tree_rows p ++ row ∷ []
@@ -122,17 +116,10 @@ with_line c p cur row h early =
     }
 
 pub tree_count : (c : Counts) (h : Head) → has_tree h ≡ true → line_count c h ≡ pair_count h
-tree_count c (Body i) e = refl
-tree_count c (Objective k m) e = refl
-tree_count c (Definition i j u) e = refl
-tree_count c (DualGuesses n) e = refl
-tree_count c (PrimalGuesses n) e = refl
 tree_count c Sides e = absurd cc
 tree_count c Bounds e = absurd cc
 tree_count c (ColumnCounts n) e = absurd cc
-tree_count c (Terms i n) e = refl
-tree_count c (Slopes k n) e = refl
-tree_count c (Suffix k n) e = refl
+tree_count c head e = refl
 
 -- a row of the expression changes nodes and the pending opcode alone
 pub with_tree_row : (c : Counts) (p : Piece) (cur next : Current) (row : Row) → IsCurrent c p cur → has_tree p.head ≡ true → line_count c p.head ≤ length p.rows

@@ -43,16 +43,7 @@ no_pending head name line = ap (pending_from None) (no_rows head name line)
 
 pub some_line : (head : Head) → is_nothing (line_kind head) ≡ false
 some_line (Body i) = refl
-some_line (Objective k m) = refl
-some_line (Definition i j u) = refl
-some_line (DualGuesses n) = refl
-some_line (PrimalGuesses n) = refl
-some_line Sides = refl
-some_line Bounds = refl
-some_line (ColumnCounts n) = refl
-some_line (Terms i n) = refl
-some_line (Slopes k n) = refl
-some_line (Suffix k n) = refl
+some_line head = refl
 
 pub whole_at_once : (c : Counts) (head : Head) (name : List ℕ) (line : ℕ) → is_complete c (new_piece head name line) ≡ not (has_tree head || nat_lt 0 (line_count c head))
 unfolding awaited_in
@@ -140,16 +131,7 @@ count_begun pieces head name line = by (is_suffix head) refl
 
 no_columns : (head : Head) (name : List ℕ) (line : ℕ) → column_counts (new_piece head name line) head ≡ []
 no_columns (Body i) name line = refl
-no_columns (Objective k m) name line = refl
-no_columns (Definition i j u) name line = refl
-no_columns (DualGuesses n) name line = refl
-no_columns (PrimalGuesses n) name line = refl
-no_columns Sides name line = refl
-no_columns Bounds name line = refl
-no_columns (ColumnCounts n) name line = refl
-no_columns (Terms i n) name line = refl
-no_columns (Slopes k n) name line = refl
-no_columns (Suffix k n) name line = refl
+no_columns head name line = refl
 
 pub columns_begun : (pieces : List Piece) (head : Head) (name : List ℕ) (line : ℕ) → all_column_counts pieces ≡ all_column_counts (pieces ++ new_piece head name line ∷ [])
 columns_begun pieces head name line =

@@ -69,17 +69,8 @@ pub come_repeated : (s : Standing) (b : Body) (head : Head) (name : List ℕ) �
 come_repeated s b head name h closed range = by (is_suffix head) refl
   where
     suffix : (g : Head) → is_suffix g ≡ true → has_come b.seen b.draft.suffixes g name ≡ is_repeated s.pieces g name
-    suffix (BodyHead i) e = absurd cc
-    suffix (Objective k m) e = absurd cc
-    suffix (Definition i j u) e = absurd cc
-    suffix (DualGuesses n) e = absurd cc
-    suffix (PrimalGuesses n) e = absurd cc
-    suffix Sides e = absurd cc
-    suffix Bounds e = absurd cc
-    suffix (ColumnCounts n) e = absurd cc
-    suffix (Terms i n) e = absurd cc
-    suffix (Slopes k n) e = absurd cc
     suffix (Suffix kind n) e = ap (λ (d : Draft). has_suffix d.suffixes kind name) h.draft ∙ suffixes_come (options_in s.header) (counts_of s) kind n name s.pieces (closed_complete s b h closed)
+    suffix head e = absurd cc
 
     by : (t : Bool) → is_suffix head ≡ t → has_come b.seen b.draft.suffixes head name ≡ is_repeated s.pieces head name
     by true e = suffix head e
@@ -281,17 +272,8 @@ pub place_there : (b : Body) (head : Head) → HoldsSome b → is_in_range b.dra
 place_there b head h range = rw h.1.places (owner_there (counts_of h.0) h.0.pieces head (ap (λ c. is_in_range c head) (sym h.1.counts) ∙ range))
 
 pub fresh_suffix : (seen : Segments) (suffixes : List SuffixValue) (head : Head) (name : List ℕ) → has_come seen suffixes head name ≡ false → has_come_suffix suffixes head name ≡ false
-fresh_suffix seen suffixes (BodyHead i) name e = refl
-fresh_suffix seen suffixes (Objective k m) name e = refl
-fresh_suffix seen suffixes (Definition i j u) name e = refl
-fresh_suffix seen suffixes (DualGuesses n) name e = refl
-fresh_suffix seen suffixes (PrimalGuesses n) name e = refl
-fresh_suffix seen suffixes Sides name e = refl
-fresh_suffix seen suffixes Bounds name e = refl
-fresh_suffix seen suffixes (ColumnCounts n) name e = refl
-fresh_suffix seen suffixes (Terms i n) name e = refl
-fresh_suffix seen suffixes (Slopes k n) name e = refl
 fresh_suffix seen suffixes (Suffix kind n) name e = e
+fresh_suffix seen suffixes head name e = refl
 
 pub taken_some : (b : Body) (words : List (List ℕ)) (line : ℕ) (head : Head) → HasRow words line → is_head words ≡ true → head_of b.draft.counts words ≡ Some head → IsNewOf b words head
     → HoldsSome b → HoldsSome (with_begun_head b head (name_in words) line)

@@ -57,16 +57,7 @@ record IsColumnHead (h : Head) : Type 0 where
 
 column_head : (h : Head) → line_kind h ≡ ColumnCount → IsColumnHead h
 column_head (ColumnCounts n) e = record { count = n; is = refl }
-column_head (BodyHead i) e = absurd cc
-column_head (Objective k m) e = absurd cc
-column_head (Definition i j u) e = absurd cc
-column_head (DualGuesses n) e = absurd cc
-column_head (PrimalGuesses n) e = absurd cc
-column_head Sides e = absurd cc
-column_head Bounds e = absurd cc
-column_head (Terms i n) e = absurd cc
-column_head (Slopes k n) e = absurd cc
-column_head (Suffix k n) e = absurd cc
+column_head head e = absurd cc
 
 -- ---- a line of k
 
@@ -141,15 +132,7 @@ data IsIntervalHead (h : Head) : Type 0 where
 interval_head : (h : Head) → line_kind h ≡ IntervalLine → IsIntervalHead h
 interval_head Sides e = of_constraints refl
 interval_head Bounds e = of_variables refl
-interval_head (ColumnCounts n) e = absurd cc
-interval_head (BodyHead i) e = absurd cc
-interval_head (Objective k m) e = absurd cc
-interval_head (Definition i j u) e = absurd cc
-interval_head (DualGuesses n) e = absurd cc
-interval_head (PrimalGuesses n) e = absurd cc
-interval_head (Terms i n) e = absurd cc
-interval_head (Slopes k n) e = absurd cc
-interval_head (Suffix k n) e = absurd cc
+interval_head head e = absurd cc
 
 no_columns : (before : List Piece) (p : Piece) (row : Row) → IsIntervalHead p.head → all_column_counts (before ++ longer p row ∷ []) ≡ all_column_counts (before ++ p ∷ [])
 no_columns before p row i =

@@ -44,16 +44,7 @@ in_tree OperandCount = true
 
 pub lines_before : (h : Head) → in_tree (line_kind h) ≡ false
 lines_before (BodyHead i) = refl
-lines_before (Objective k m) = refl
-lines_before (Definition i j u) = refl
-lines_before (DualGuesses n) = refl
-lines_before (PrimalGuesses n) = refl
-lines_before Sides = refl
-lines_before Bounds = refl
-lines_before (ColumnCounts n) = refl
-lines_before (Terms i n) = refl
-lines_before (Slopes k n) = refl
-lines_before (Suffix k n) = refl
+lines_before head = refl
 
 pub no : true ≡ false → ⊥
 no e = cc
@@ -98,17 +89,8 @@ sound_row c p row t h =
     }
 
 no_columns : (p : Piece) (h : Head) → has_tree h ≡ true → column_counts p h ≡ []
-no_columns p (BodyHead i) e = refl
-no_columns p (Objective k m) e = refl
-no_columns p (Definition i j u) e = refl
-no_columns p (DualGuesses n) e = refl
-no_columns p (PrimalGuesses n) e = refl
-no_columns p Sides e = refl
-no_columns p Bounds e = refl
 no_columns p (ColumnCounts n) e = absurd cc
-no_columns p (Terms i n) e = refl
-no_columns p (Slopes k n) e = refl
-no_columns p (Suffix k n) e = refl
+no_columns p head e = refl
 
 columns_longer : (before : List Piece) (p : Piece) (row : Row) → has_tree p.head ≡ true → all_column_counts (before ++ longer p row ∷ []) ≡ all_column_counts (before ++ p ∷ [])
 columns_longer before p row tree =
@@ -132,14 +114,8 @@ pub tree_says : (h : Head) → has_tree h ≡ true → says_whole h ≡ true
 tree_says (BodyHead i) e = refl
 tree_says (Objective k m) e = refl
 tree_says (Definition i j u) e = refl
-tree_says (DualGuesses n) e = absurd cc
-tree_says (PrimalGuesses n) e = absurd cc
-tree_says Sides e = absurd cc
-tree_says Bounds e = absurd cc
-tree_says (ColumnCounts n) e = absurd cc
-tree_says (Terms i n) e = absurd cc
-tree_says (Slopes k n) e = absurd cc
 tree_says (Suffix k n) e = refl
+tree_says head e = absurd cc
 
 with_whole : (o : List ℤ) (c : Counts) (before : List Piece) (q : Piece) → has_tree q.head ≡ true → is_complete c q ≡ true
     → draft_of o c (before ++ q ∷ []) ≡ with_tree (draft_of o c before) q.head (piece_pairs q) (piece_tree c q)
@@ -152,40 +128,15 @@ with_whole o c before q tree whole = by q.head refl
     by (BodyHead i) e = with_body o c before q i e whole ∙ back (BodyHead i) e
     by (Objective k m) e = with_objective o c before q k m e whole ∙ back (Objective k m) e
     by (Definition i j u) e = with_definition o c before q i j u e whole ∙ back (Definition i j u) e
-    by (DualGuesses n) e = absurd (no (sym tree ∙ ap has_tree e))
-    by (PrimalGuesses n) e = absurd (no (sym tree ∙ ap has_tree e))
-    by Sides e = absurd (no (sym tree ∙ ap has_tree e))
-    by Bounds e = absurd (no (sym tree ∙ ap has_tree e))
-    by (ColumnCounts n) e = absurd (no (sym tree ∙ ap has_tree e))
-    by (Terms i n) e = absurd (no (sym tree ∙ ap has_tree e))
-    by (Slopes k n) e = absurd (no (sym tree ∙ ap has_tree e))
-    by (Suffix k n) e = absurd (no (sym tree ∙ ap has_tree e))
+    by head e = absurd (no (sym tree ∙ ap has_tree e))
 
 tree_pairs : (d : Draft) (h : Head) (ps qs : List Term) (t : Tree) → (IsTrue (keeps_pairs h) → ps ≡ qs) → with_tree d h ps t ≡ with_tree d h qs t
-tree_pairs d (BodyHead i) ps qs t e = refl
-tree_pairs d (Objective k m) ps qs t e = refl
 tree_pairs d (Definition i j u) ps qs t e = ap (λ ts. with_tree d (Definition i j u) ts t) (e refl)
-tree_pairs d (DualGuesses n) ps qs t e = refl
-tree_pairs d (PrimalGuesses n) ps qs t e = refl
-tree_pairs d Sides ps qs t e = refl
-tree_pairs d Bounds ps qs t e = refl
-tree_pairs d (ColumnCounts n) ps qs t e = refl
-tree_pairs d (Terms i n) ps qs t e = refl
-tree_pairs d (Slopes k n) ps qs t e = refl
-tree_pairs d (Suffix k n) ps qs t e = refl
+tree_pairs d head ps qs t e = refl
 
 tree_terms : (d : Draft) (h : Head) (ps : List Term) (t : Tree) → (with_tree d h ps t).terms ≡ d.terms
 tree_terms d (BodyHead i) ps t = refl
-tree_terms d (Objective k m) ps t = refl
-tree_terms d (Definition i j u) ps t = refl
-tree_terms d (DualGuesses n) ps t = refl
-tree_terms d (PrimalGuesses n) ps t = refl
-tree_terms d Sides ps t = refl
-tree_terms d Bounds ps t = refl
-tree_terms d (ColumnCounts n) ps t = refl
-tree_terms d (Terms i n) ps t = refl
-tree_terms d (Slopes k n) ps t = refl
-tree_terms d (Suffix k n) ps t = refl
+tree_terms d head ps t = refl
 
 settled_terms : (d : Draft) (next : Current) (kept : Option Current) (new : Draft) → IsSettled d next kept new → new.terms ≡ d.terms
 settled_terms d next None new s = ap (λ x. x.terms) s.1 ∙ tree_terms d next.head next.pairs (tree_of next.nodes)

@@ -83,17 +83,8 @@ positive_push : {X : Type 0} (xs : List X) (x : X) → 0 < length (xs ++ x ∷ [
 positive_push xs x = omega (arith, length_push xs x)
 
 begun_by : (c : Counts) (l : PlaceLines) (p : Piece) (h : Head) → HasBegun (lines_by c l p h) h
-begun_by c l p (BodyHead i) = tt
-begun_by c l p (Objective k m) = tt
 begun_by c l p (Definition i j u) = positive_push l.definitions _
-begun_by c l p (DualGuesses n) = tt
-begun_by c l p (PrimalGuesses n) = tt
-begun_by c l p Sides = tt
-begun_by c l p Bounds = tt
-begun_by c l p (ColumnCounts n) = tt
-begun_by c l p (Terms i n) = tt
-begun_by c l p (Slopes k n) = tt
-begun_by c l p (Suffix k n) = tt
+begun_by c l p head = tt
 
 pub has_owner : (s : Standing) (b : Body) (cur : Current) (h : Head) → IsHeld s b → b.current ≡ Some cur → h ≡ cur.head → HasOwner b.places h
 has_owner s b cur h held e same =

@@ -164,12 +164,7 @@ can_give_by s b cur row t n (Slopes i k) e =
     let vars = ap (λ k. k.n_var) n.held.counts in
     (omega arith, omega arith, slopes_room s b cur row t n i (ap is_linear e))
 can_give_by s b cur row t n (BodyHead i) e = tt
-can_give_by s b cur row t n (Objective k m) e = tt
-can_give_by s b cur row t n (Definition i j u) e = tt
-can_give_by s b cur row t n Sides e = tt
-can_give_by s b cur row t n Bounds e = tt
-can_give_by s b cur row t n (ColumnCounts k) e = tt
-can_give_by s b cur row t n (Suffix kind k) e = tt
+can_give_by s b cur row t n head e = tt
 
 pub can_give : (s : Standing) (b : Body) (cur : Current) (row : Row) (t : Term) → IsPairNext s b cur row t → CanGive b.draft cur.head t
 can_give s b cur row t n = subst (λ h. CanGive b.draft h t) (sym n.parts.is_open.current.head) (can_give_by s b cur row t n n.parts.piece.head refl)
@@ -196,15 +191,7 @@ can_close_by s b cur row t n (Suffix kind k) e =
       fresh = ap (has_suffix b.draft.suffixes kind) named ∙ fresh;
     }
 can_close_by s b cur row t n (BodyHead i) e = tt
-can_close_by s b cur row t n (Objective k m) e = tt
-can_close_by s b cur row t n (Definition i j u) e = tt
-can_close_by s b cur row t n (DualGuesses k) e = tt
-can_close_by s b cur row t n (PrimalGuesses k) e = tt
-can_close_by s b cur row t n Sides e = tt
-can_close_by s b cur row t n Bounds e = tt
-can_close_by s b cur row t n (ColumnCounts k) e = tt
-can_close_by s b cur row t n (Terms i k) e = tt
-can_close_by s b cur row t n (Slopes i k) e = tt
+can_close_by s b cur row t n head e = tt
 
 pub can_close : (s : Standing) (b : Body) (cur : Current) (row : Row) (t : Term) → IsPairNext s b cur row t → CanClose (with_given b.draft cur.head t) b.name (with_kept cur t) cur.head
 can_close s b cur row t n =
@@ -222,15 +209,7 @@ can_use_by s b cur row t n (Terms i k) e =
     let room = terms_room s b cur row t n (ap is_linear e) in
     (omega arith, omega arith)
 can_use_by s b cur row t n (BodyHead i) e = tt
-can_use_by s b cur row t n (Objective k m) e = tt
-can_use_by s b cur row t n (Definition i j u) e = tt
-can_use_by s b cur row t n (DualGuesses k) e = tt
-can_use_by s b cur row t n (PrimalGuesses k) e = tt
-can_use_by s b cur row t n Sides e = tt
-can_use_by s b cur row t n Bounds e = tt
-can_use_by s b cur row t n (ColumnCounts k) e = tt
-can_use_by s b cur row t n (Slopes i k) e = tt
-can_use_by s b cur row t n (Suffix kind k) e = tt
+can_use_by s b cur row t n head e = tt
 
 pub can_use : (s : Standing) (b : Body) (cur : Current) (row : Row) (t : Term) → IsPairNext s b cur row t → CanUse cur.head b.uses t.0
 can_use s b cur row t n = subst (λ h. CanUse h b.uses t.0) (sym n.parts.is_open.current.head) (can_use_by s b cur row t n n.parts.piece.head refl)

@@ -103,14 +103,9 @@ terms_by : (d : Draft) (p : Piece) (h : Head) → all_terms (said_by d p h) ≤ 
 terms_by d p (Body i) = kept_count all_terms d _ p 0 (omega arith)
 terms_by d p (Objective k m) = kept_count all_terms d _ p 0 (omega arith)
 terms_by d p (Definition i j u) = kept_count all_terms d _ p (length (piece_pairs p)) (omega arith)
-terms_by d p (DualGuesses n) = omega arith
-terms_by d p (PrimalGuesses n) = omega arith
-terms_by d p Sides = omega arith
-terms_by d p Bounds = omega arith
-terms_by d p (ColumnCounts n) = omega arith
 terms_by d p (Terms i n) = count_set d.terms i (piece_pairs p)
-terms_by d p (Slopes k n) = omega arith
 terms_by d p (Suffix k n) = kept_count all_terms d _ p 0 (omega arith)
+terms_by d p head = omega arith
 
 abbrev slopes_at : ℕ → Draft → ℕ
 slopes_at k d = length (get_or d.slopes k [])
@@ -119,14 +114,9 @@ slopes_by : (k : ℕ) (d : Draft) (p : Piece) (h : Head) → slopes_at k (said_b
 slopes_by k d p (Body i) = kept_count (slopes_at k) d _ p 0 (omega arith)
 slopes_by k d p (Objective i m) = kept_count (slopes_at k) d _ p 0 (omega arith)
 slopes_by k d p (Definition i j u) = kept_count (slopes_at k) d _ p (length (piece_pairs p)) (omega arith)
-slopes_by k d p (DualGuesses n) = omega arith
-slopes_by k d p (PrimalGuesses n) = omega arith
-slopes_by k d p Sides = omega arith
-slopes_by k d p Bounds = omega arith
-slopes_by k d p (ColumnCounts n) = omega arith
-slopes_by k d p (Terms i n) = omega arith
 slopes_by k d p (Slopes i n) = slopes_set d.slopes i k (piece_pairs p)
 slopes_by k d p (Suffix i n) = kept_count (slopes_at k) d _ p 0 (omega arith)
+slopes_by k d p head = omega arith
 
 total_first : (p : Piece) (pieces : List Piece) → pair_total is_linear (p ∷ pieces) ≡ linear_in p p.head + pair_total is_linear pieces
 total_first p pieces = by (is_linear p.head) refl

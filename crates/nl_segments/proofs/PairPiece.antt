@@ -25,17 +25,10 @@ use Rattle.nl_segments.proofs.PieceLemmas.{longer}
 -- ---- heads of pairs
 
 pub pair_lines : (c : Counts) (h : Head) → line_kind h ≡ Pair → line_count c h ≡ pair_count h
-pair_lines c (Body i) e = refl
-pair_lines c (Objective k m) e = refl
-pair_lines c (Definition i j u) e = refl
-pair_lines c (DualGuesses n) e = refl
-pair_lines c (PrimalGuesses n) e = refl
 pair_lines c Sides e = absurd cc
 pair_lines c Bounds e = absurd cc
 pair_lines c (ColumnCounts n) e = absurd cc
-pair_lines c (Terms i n) e = refl
-pair_lines c (Slopes k n) e = refl
-pair_lines c (Suffix k n) e = refl
+pair_lines c head e = refl
 
 -- ---- indices
 

@@ -65,16 +65,7 @@ columns_same before p row e = columns-append before (longer p row) ∙ by p.head
   where
     by : (h : Head) → p.head ≡ h → all_column_counts before ++ column_counts (longer p row) p.head ≡ all_column_counts before ++ column_counts p p.head
     by (ColumnCounts n) q = absurd (let other = ap line_kind q in cc)
-    by (BodyHead i) q = rw q refl
-    by (Objective k m) q = rw q refl
-    by (Definition i j u) q = rw q refl
-    by (DualGuesses n) q = rw q refl
-    by (PrimalGuesses n) q = rw q refl
-    by Sides q = rw q refl
-    by Bounds q = rw q refl
-    by (Terms i n) q = rw q refl
-    by (Slopes k n) q = rw q refl
-    by (Suffix k n) q = rw q refl
+    by head q = rw q refl
 
 still_few : (h : Head) (old new : ℕ) → old ≤ most_terms → (is_linear h ≡ true → old < most_terms) → new ≡ one_more (is_linear h) old → new ≤ most_terms
 still_few h old new le lt e = by (is_linear h) refl
@@ -108,29 +99,11 @@ definitions_kept d h t name cur = by (is_nothing (current_awaits cur)) refl
   where
     given : (h : Head) → (with_given d h t).definitions ≡ d.definitions
     given (DualGuesses n) = refl
-    given (PrimalGuesses n) = refl
-    given (Terms i n) = refl
-    given (Slopes i n) = refl
-    given (Suffix k n) = refl
-    given (BodyHead i) = refl
-    given (Objective k m) = refl
-    given (Definition i j u) = refl
-    given Sides = refl
-    given Bounds = refl
-    given (ColumnCounts n) = refl
+    given head = refl
 
     closed : (x : Draft) (h : Head) → (with_suffix x name cur h).definitions ≡ x.definitions
     closed x (Suffix k n) = refl
-    closed x (BodyHead i) = refl
-    closed x (Objective k m) = refl
-    closed x (Definition i j u) = refl
-    closed x (DualGuesses n) = refl
-    closed x (PrimalGuesses n) = refl
-    closed x Sides = refl
-    closed x Bounds = refl
-    closed x (ColumnCounts n) = refl
-    closed x (Terms i n) = refl
-    closed x (Slopes k n) = refl
+    closed x head = refl
 
     by : (b : Bool) → is_nothing (current_awaits cur) ≡ b → (with_closed (with_given d h t) name cur).definitions ≡ d.definitions
     by true e = rw e (closed (with_given d h t) cur.head ∙ given h)

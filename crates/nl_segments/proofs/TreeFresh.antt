@@ -84,13 +84,7 @@ fresh_by header before p b cur h held begun tree e = by h e
           few = few_kept before p b.linear cur.pairs (ap is_linear e) held.linear held.few_terms same;
         }
     by (DualGuesses n) e = tt
-    by (PrimalGuesses n) e = tt
-    by Sides e = tt
-    by Bounds e = tt
-    by (ColumnCounts n) e = tt
-    by (Terms i n) e = tt
-    by (Slopes k n) e = tt
-    by (Suffix k n) e = tt
+    by head e = tt
 
 -- what is kept after a row more has the same head and terms
 pub fresh_tree : (s : Standing) (b : Body) (cur next : Current) → IsHeld s b → b.current ≡ Some cur → has_tree cur.head ≡ true → next.head ≡ cur.head → next.pairs ≡ cur.pairs → IsFresh b.draft next.head next.pairs

@@ -6,7 +6,7 @@ ghost use Rattle.code_tables.specs.Opcodes.{operands_of};
 ghost use Rattle.nl_model.specs.declared.node.Node.TheVariants.{Num};
 ghost use Rattle.nl_segments.specs.Heads.{is_among};
 ghost use Rattle.nl_segments.specs.Nodes.{dec_of_signed, fixed_node, counted_opcode, variable_node, node_in, opcode_in};
-ghost use Rattle.nl_segments.specs.NodeRows.{IsReadAs};
+ghost use Rattle.nl_segments.specs.NodeRows.{IsFormedRow, IsReadAs, IsRow};
 ghost use Rattle.nl_segments.specs.Tests.{is_node_form, is_undefined, number_tests, variable_tests, opcode_tests, leaf_tests, node_form_tests};
 
 use crate::fault::NlReason;
@@ -108,7 +108,8 @@ fn read_variable(builder: &NlBuilder, index: Option<u32>) -> Result<NodeRow, NlR
 // What an opcode is with its operands.
 fn opcode_row(opcode: u32, operands: Operands) -> NodeRow
     requires { operands_of opcode ≡ Some operands }
-    ensures { IsReadAs (fixed_node opcode (Some operands)) (counted_opcode opcode (Some operands)) result }
+    ensures row { IsRow (fixed_node opcode (Some operands)) (counted_opcode opcode (Some operands)) result }
+    ensures formed { IsFormedRow result }
 {
     match operands {
         Operands::One => NodeRow::Whole(Node::Op(opcode, 1)),
