@@ -152,7 +152,7 @@ running_count c p row i fine h =
     by (Some q) e k some =
         let pends : IsPending (only_nodes (piece_nodes c p)) q = subst (λ o. IfSome o (IsPending (only_nodes (piece_nodes c p)))) e h.pending in
         let first : unwrap_or (whole_of (word_at (row_words row) 0)) 1 ≡ k.index = ap (λ o. unwrap_or o 1) k.is in
-        let fits = counted_fit (Some q) (only_nodes (piece_nodes c p)) q.opcode k.index pends refl refl (omega (arith, some)) (omega (arith, k.below)) in
+        let fits = counted_fit q.opcode k.index pends.0 (omega (arith, some)) (omega (arith, k.below)) in
         let last : IsRun 1 (only_nodes (piece_nodes c p) ++ Op q.opcode k.index ∷ []) = IsRun-push 1 (only_nodes (piece_nodes c p)) (Op q.opcode k.index) h.run pends.1 fits in
         running_row c p row (Some q) i.place e (rw k.is last) tt
 

@@ -53,7 +53,5 @@ one_fits o operands e is = (operands_fit o One (e ∙ ap Some is), lit≤ tt)
 pub two_fit : (o : ℕ) (operands : Operands) → operands_of o ≡ Some operands → operands ≡ Two → HasCount (class_of o) 2 × (2 ≤ 2 ^ 22)
 two_fit o operands e is = (operands_fit o Two (e ∙ ap Some is), lit≤ tt)
 
-pub counted_fit : (pending : Option Pending) (nodes : List Node) (o k : ℕ) → IfSome pending (IsPending nodes) → IfSome pending (λ p. p.opcode ≡ o) → IsSome pending → 0 < k → k ≤ 2 ^ 22
-    → HasCount (class_of o) k × (k ≤ 2 ^ 22)
-counted_fit None nodes o k h same some more most = absurd cc
-counted_fit (Some p) nodes o k h same some more most = (operands_fit o Counted (ap operands_of (sym same) ∙ h.0) k (omega (arith, more)), most)
+pub counted_fit : (o k : ℕ) → operands_of o ≡ Some Counted → 0 < k → k ≤ 2 ^ 22 → HasCount (class_of o) k × (k ≤ 2 ^ 22)
+counted_fit o k e more most = (operands_fit o Counted e k (omega (arith, more)), most)

@@ -3,12 +3,12 @@ ghost use Rattle.std.specs.Prelude.{◌≡◌, true, false, IfOk, OnOk, All};
 ghost use Rattle.text_base.specs.Judged.{Decides};
 ghost use Rattle.text_base.specs.Words.{texts};
 ghost use Rattle.nl_segments.specs.declared.awaited.Awaited.TheVariants.{Node, Nothing};
-ghost use Rattle.nl_segments.specs.Current.{current_awaits};
+ghost use Rattle.nl_segments.specs.Current.{current_awaits, with_node_row};
 ghost use Rattle.nl_segments.specs.Heads.{is_head};
 ghost use Rattle.nl_segments.specs.Held.{TakesRow, IsAwaiting, HasRow, IsNodeKnown};
 ghost use Rattle.nl_segments.specs.Pieces.{has_tree};
 ghost use Rattle.nl_segments.specs.PlaceSteps.{HasOwner, HasBegun};
-ghost use Rattle.nl_segments.specs.TreeSteps.{IsNextRow, MayTake, IsFresh, with_tree, IsSettled, row_count, with_row_line, counted_node_tests};
+ghost use Rattle.nl_segments.specs.TreeSteps.{CanTakeRow, IsNextRow, MayTake, IsFresh, with_tree, IsSettled, row_count, with_row_line, counted_node_tests};
 
 use crate::awaited::Awaited;
 use crate::body::BodyReader;
@@ -85,11 +85,8 @@ fn give_tree(
     Ok(())
 }
 
-/// The last piece, where it is not complete; else its expression is given to the file.
-pub(crate) fn settle(
-    builder: &mut NlBuilder,
-    current: Current,
-) -> Result<Option<Current>, AllocError>
+// The last piece, where it is not complete; else its expression is given to the file.
+fn settle(builder: &mut NlBuilder, current: Current) -> Result<Option<Current>, AllocError>
     requires tree { has_tree current.head ≡ true }
     requires fresh { current_awaits current ≡ Nothing → IsFresh builder.old current.head current.pairs }
     requires known { All (IsNodeKnown builder.old.counts.n_var builder.old.definitions) current.nodes }
@@ -103,6 +100,24 @@ pub(crate) fn settle(
     let tree = nodes.finish();
     give_tree(builder, head, terms, tree)?;
     Ok(None)
+}
+
+/// Takes a row of the expression of a piece, whose node or opcode stands in this line.
+pub(crate) fn take_row(
+    builder: &mut NlBuilder,
+    places: &mut Places,
+    current: Current,
+    row: NodeRow,
+    line: u32,
+) -> Result<Option<Current>, AllocError>
+    requires { CanTakeRow builder.old places.old current row line }
+    ensures places { OnOk result (places.new ≡ with_row_line places.old line current.head row) }
+    ensures settled { IfOk result (λ kept. IsSettled builder.old (with_node_row current line row) kept builder.new) }
+{
+    let mut current = current;
+    add_row_line(places, current.head(), row, line)?;
+    current.take_row(row, line)?;
+    settle(builder, current)
 }
 
 impl BodyReader {
@@ -121,14 +136,11 @@ impl BodyReader {
             Err(reason) => return Err(Stop::Fault(reason)),
         };
         self.is_broken = true;
-        let Some(mut current) = self.current.take() else {
+        let Some(current) = self.current.take() else {
             unreachable!();
         };
-        let head = current.head();
-        current.take_row(row, line)?;
         self.nodes += row_count(row);
-        add_row_line(&mut self.places, head, row, line)?;
-        self.current = settle(&mut self.builder, current)?;
+        self.current = take_row(&mut self.builder, &mut self.places, current, row, line)?;
         self.is_broken = false;
         Ok(())
     }

@@ -6,9 +6,11 @@ ghost use Rattle.nl_segments.specs.Heads.{is_head};
 ghost use Rattle.nl_segments.specs.Held.{TakesRow, IsAwaiting, HasRow};
 
 use crate::body::BodyReader;
-use crate::body_nodes::settle;
+use crate::body_nodes::take_row;
 use crate::counts::read_operand_count;
 use crate::fault::NlReason;
+use crate::node_row::NodeRow;
+use nl_model::Node;
 use text_base::Stop;
 
 impl BodyReader {
@@ -32,17 +34,21 @@ impl BodyReader {
             Err(reason) => return Err(Stop::Fault(reason)),
         };
         self.is_broken = true;
-        let Some(mut current) = self.current.take() else {
+        let Some(current) = self.current.take() else {
             unreachable!();
         };
         let Some(pending) = current.pending() else {
             unreachable!();
         };
-        let head = current.head();
-        current.take_operand_count(pending.opcode, count)?;
+        let row = NodeRow::Whole(Node::Op(pending.opcode, count));
         self.nodes += 1;
-        self.places.add_node(head, pending.line)?;
-        self.current = settle(&mut self.builder, current)?;
+        self.current = take_row(
+            &mut self.builder,
+            &mut self.places,
+            current,
+            row,
+            pending.line,
+        )?;
         self.is_broken = false;
         Ok(())
     }

@@ -16,7 +16,7 @@ returns-then-nodes-ge-MOST_NODES c =
 
 pub returns : goal.returns
 returns c = (
-      reason_after (node_form_tests c.args.builder.now.counts c.args.builder.now (texts c.args.words.now)) ((nat_le (2 ^ 22) c.args.nodes, TooLarge) ∷ []) c.in-Ok.ensures.0
-          ∙ not_large c.args.nodes c.if-nodes-ge-MOST_NODES.false,
-      record { read = c.in-Ok.ensures.1; few = c.if-nodes-ge-MOST_NODES.false },
-    )
+  reason_after (node_form_tests c.args.builder.now.counts c.args.builder.now (texts c.args.words.now)) ((nat_le (2 ^ 22) c.args.nodes, TooLarge) ∷ []) c.in-Ok.ensures.0
+      ∙ not_large c.args.nodes c.if-nodes-ge-MOST_NODES.false,
+  record { read = c.in-Ok.ensures.1; few = c.if-nodes-ge-MOST_NODES.false },
+)
