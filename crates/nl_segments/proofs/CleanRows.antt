@@ -32,9 +32,9 @@ use Rattle.nl_segments.proofs.BodyStart.{no_piece_sound}
 use Rattle.nl_segments.proofs.HeadBegun.{new_piece}
 use Rattle.nl_segments.proofs.HeadLaw.{all_complete, sound_begun}
 use Rattle.nl_segments.proofs.NodeLemmas.{node_formed, opcode_counted}
-use Rattle.nl_segments.proofs.NodeSteps.{no, in_tree, lines_before, IsInTree, tree_nodes, sound_row}
+use Rattle.nl_segments.proofs.NodeSteps.{in_tree, lines_before, IsInTree, tree_nodes}
 use Rattle.nl_segments.proofs.OpcodeLemmas.{counted_fit}
-use Rattle.nl_segments.proofs.PairHeld.{IsBefore, before_lines, is_line_kind, sound_no_pair}
+use Rattle.nl_segments.proofs.PairHeld.{IsBefore, before_lines, is_line_kind, never, none_within, sound_kept}
 use Rattle.nl_segments.proofs.PairJudging.{IsIndex, below_limit, index_of, pair_found}
 use Rattle.nl_segments.proofs.PairLines.{awaited-last, other_last, last_of, last_sound, sound_longer}
 use Rattle.nl_segments.proofs.PairPiece.{IsNextPair, sound_pair}
@@ -57,11 +57,11 @@ inside_tree c p kind e tree = by (nat_lt (length p.rows) (line_count c p.head)) 
   where
     by : (t u : Bool) → nat_lt (length p.rows) (line_count c p.head) ≡ t → has_tree p.head ≡ u → (if t then line_kind p.head else (if u then tree_awaits (piece_nodes c p) (piece_pending p) else Nothing)) ≡ kind
         → IsInside c p kind
-    by true u q r is = absurd (no (sym (ap in_tree is ∙ tree) ∙ lines_before p.head))
+    by true u q r is = absurd (never (sym (ap in_tree is ∙ tree) ∙ lines_before p.head))
     by false true q r is =
         let late = ltb-false _ _ q in
         record { place = record { tree = r; late = late; early = omega (arith, late, tree_count c p.head r) }; awaits = is }
-    by false false q r is = absurd (no (sym (ap in_tree is ∙ tree)))
+    by false false q r is = absurd (never (sym (ap in_tree is ∙ tree)))
 
 -- ---- the nodes of a piece
 
@@ -183,7 +183,7 @@ clean_head c pieces row h is fine =
     by : (o : Option Head) → head_of c (row_words row) ≡ o → is_nothing (awaited_of c pieces) ≡ true
         → is_none (head_of c (row_words row)) ≡ false → first_reason (formed_head_tests c pieces (name_in (row_words row)) (head_of c (row_words row))) ≡ None
         → AreClean c (with_row c pieces row)
-    by None e closed form formed = absurd (no (sym (ap is_none e) ∙ form ∙ refl))
+    by None e closed form formed = absurd (never (sym (ap is_none e) ∙ form ∙ refl))
     by (Some head) e closed form formed =
         let none = none_each (formed_head_tests c pieces (name_in (row_words row)) (Some head)) (rw e at formed) in
         let new = new_piece head (name_in (row_words row)) row.line in
@@ -231,16 +231,16 @@ clean_line c d pieces before p row Pair h e fine =
     clean_longer c before p row h (sound_pair c p row next.0 next.1 (last_sound c before p h.sound)) (running_line c p row b.within (last_of (IsRunning c) before p h.running))
 clean_line c d pieces before p row ColumnCount h e fine =
     let b = before_lines c p ColumnCount e refl in
-    clean_longer c before p row h (sound_no_pair c p row (no_pairs_in p.head ColumnCount b.same_kind refl refl) (last_sound c before p h.sound)) (running_line c p row b.within (last_of (IsRunning c) before p h.running))
+    clean_longer c before p row h (sound_kept c p row (none_within p (no_pairs_in p.head ColumnCount b.same_kind refl refl)) (last_sound c before p h.sound)) (running_line c p row b.within (last_of (IsRunning c) before p h.running))
 clean_line c d pieces before p row IntervalLine h e fine =
     let b = before_lines c p IntervalLine e refl in
-    clean_longer c before p row h (sound_no_pair c p row (no_pairs_in p.head IntervalLine b.same_kind refl refl) (last_sound c before p h.sound)) (running_line c p row b.within (last_of (IsRunning c) before p h.running))
+    clean_longer c before p row h (sound_kept c p row (none_within p (no_pairs_in p.head IntervalLine b.same_kind refl refl)) (last_sound c before p h.sound)) (running_line c p row b.within (last_of (IsRunning c) before p h.running))
 clean_line c d pieces before p row NodeLine h e fine =
     let i = inside_tree c p NodeLine e refl in
-    clean_longer c before p row h (sound_row c p row i.place (last_sound c before p h.sound)) (running_node c p row i (last_of (IsRunning c) before p h.running))
+    clean_longer c before p row h (sound_kept c p row i.place.early (last_sound c before p h.sound)) (running_node c p row i (last_of (IsRunning c) before p h.running))
 clean_line c d pieces before p row OperandCount h e fine =
     let i = inside_tree c p OperandCount e refl in
-    clean_longer c before p row h (sound_row c p row i.place (last_sound c before p h.sound)) (running_count c p row i fine (last_of (IsRunning c) before p h.running))
+    clean_longer c before p row h (sound_kept c p row i.place.early (last_sound c before p h.sound)) (running_count c p row i fine (last_of (IsRunning c) before p h.running))
 
 -- any row
 pub clean_row : (c : Counts) (d : Draft) (pieces : List Piece) (row : Row) → AreClean c pieces → first_reason (row_tests c d pieces (row_words row)) ≡ None → AreClean c (with_row c pieces row)

@@ -30,7 +30,7 @@ use Rattle.nl_segments.proofs.EndLemmas.{all_given, short_parts}
 use Rattle.nl_segments.proofs.HeadBegun.{new_piece}
 use Rattle.nl_segments.proofs.HeadLaw.{all_complete, no_piece}
 use Rattle.nl_segments.proofs.LinesHeld.{AreRowLines, lines_there}
-use Rattle.nl_segments.proofs.NodeSteps.{no}
+use Rattle.nl_segments.proofs.PairHeld.{never}
 use Rattle.nl_segments.proofs.PairLines.{last_of, other_last}
 use Rattle.nl_segments.proofs.PieceLemmas.{split, extended-append, longer}
 use Rattle.nl_segments.proofs.StandingLemmas.{standing-more}
@@ -82,7 +82,7 @@ step P s n line here h fine = by (holds_words line) (is_in_header s) refl refl
         let row : Row = record { line = n; text = without_comment line } in
         rw (e, q) (record {
           clean = clean_row (counts_of s) (said s) s.pieces row h.clean (rw (e, q) at fine);
-          none = λ t. absurd (no (sym t ∙ q));
+          none = λ t. absurd (never (sym t ∙ q));
           lines = row_lines P (counts_of s) s.pieces row here h.lines;
         })
 

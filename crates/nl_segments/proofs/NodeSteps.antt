@@ -1,4 +1,5 @@
 -- What a row of an expression does to what is held. In each lemma p is the last piece, after the pieces `before`.
+use Rattle.nl_segments.proofs.PairHeld.{columns_kept, never, same_totals, sound_kept}
 use Rattle.std.proofs.Common.{◌≡◌, ◌∙◌, ℕ, ◌+◌, ◌<◌, ◌≤◌, ◌^◌, Bool, true, false, List, [], ◌∷◌, ◌++◌, length, refl, sym, ap, subst, arith, nat_lt, Option, Some, None, get_or, All}
 use Rattle.std.specs.Prelude.{ℤ, if◌then◌else◌, IfSome, IsTrue}
 use Rattle.std.specs.List.{flat_map}
@@ -46,17 +47,14 @@ pub lines_before : (h : Head) → in_tree (line_kind h) ≡ false
 lines_before (BodyHead i) = refl
 lines_before head = refl
 
-pub no : true ≡ false → ⊥
-no e = cc
-
 pub beyond : (cur : Current) → in_tree (current_awaits cur) ≡ true → (cur.left ≡ 0) × (has_tree cur.head ≡ true)
 beyond cur e = by (nat_lt 0 cur.left) (has_tree cur.head) refl refl e
   where
     by : (t u : Bool) → nat_lt 0 cur.left ≡ t → has_tree cur.head ≡ u → in_tree (if t then line_kind cur.head else (if u then nodes_await cur.nodes cur.pending else Nothing)) ≡ true
         → (cur.left ≡ 0) × (has_tree cur.head ≡ true)
-    by true u q r e = absurd (no (sym e ∙ lines_before cur.head))
+    by true u q r e = absurd (never (sym e ∙ lines_before cur.head))
     by false true q r e = ((let le = ltb-false 0 cur.left q in omega arith), r)
-    by false false q r e = absurd (no (sym e))
+    by false false q r e = absurd (never (sym e))
 
 -- the lines before the expression of p are there
 pub record IsInTree (c : Counts) (p : Piece) : Type 0 where
@@ -78,35 +76,9 @@ tree_nodes c p row t = ap (λ rs. nodes_from c.n_var None rs) (late_tree p row t
 
 -- ---- the pieces
 
-pub sound_row : (c : Counts) (p : Piece) (row : Row) → IsInTree c p → IsSoundPiece c p → IsSoundPiece c (longer p row)
-sound_row c p row t h =
-    let same = late_pairs p row t.early in
-    record {
-      range = h.range;
-      below = subst (λ ts. AreTermsBelow (index_limit c p.head) ts) (sym same) h.below;
-      once = λ x. subst (λ ts. AreIndicesApart ts) (sym same) (h.once x);
-      pairs = ap (length {A = Term}) same ∙ h.pairs ∙ sym (ap (length {A = Row}) (take-append-le (pair_count p.head) p.rows (row ∷ []) t.early));
-    }
-
-no_columns : (p : Piece) (h : Head) → has_tree h ≡ true → column_counts p h ≡ []
-no_columns p (ColumnCounts n) e = absurd cc
-no_columns p head e = refl
-
-columns_longer : (before : List Piece) (p : Piece) (row : Row) → has_tree p.head ≡ true → all_column_counts (before ++ longer p row ∷ []) ≡ all_column_counts (before ++ p ∷ [])
-columns_longer before p row tree =
-    let f : Piece → List ℕ = λ p. column_counts p p.head in
-    flat_map-append f before (longer p row ∷ [])
-    ∙ ap (λ xs. flat_map f before ++ xs)
-    (flat_map-cons f (longer p row) [] ∙ ap (λ xs. xs ++ flat_map f []) (no_columns (longer p row) p.head tree ∙ sym (no_columns p p.head tree)) ∙ sym (flat_map-cons f p []))
-    ∙ sym (flat_map-append f before (p ∷ []))
-
-if_zero : (t : Bool) (a : ℕ) → (if t then a + 0 else a) ≡ a
-if_zero true a = omega arith
-if_zero false a = refl
-
-pairs_same : (counts : Head → Bool) (c : Counts) (before : List Piece) (p : Piece) (row : Row) → IsInTree c p → pair_total counts (before ++ longer p row ∷ []) ≡ pair_total counts (before ++ p ∷ [])
-pairs_same counts c before p row t =
-    pairs_longer counts before p row 0 (ap (length {A = Term}) (late_pairs p row t.early) ∙ omega arith) ∙ if_zero (counts p.head) (pair_total counts (before ++ p ∷ []))
+no_columns : (h : Head) → has_tree h ≡ true → line_kind h ≡ ColumnCount → ⊥
+no_columns (ColumnCounts n) e k = cc
+no_columns head e k = cc
 
 -- ---- the draft
 
@@ -128,7 +100,7 @@ with_whole o c before q tree whole = by q.head refl
     by (BodyHead i) e = with_body o c before q i e whole ∙ back (BodyHead i) e
     by (Objective k m) e = with_objective o c before q k m e whole ∙ back (Objective k m) e
     by (Definition i j u) e = with_definition o c before q i j u e whole ∙ back (Definition i j u) e
-    by head e = absurd (no (sym tree ∙ ap has_tree e))
+    by head e = absurd (never (sym tree ∙ ap has_tree e))
 
 tree_pairs : (d : Draft) (h : Head) (ps qs : List Term) (t : Tree) → (IsTrue (keeps_pairs h) → ps ≡ qs) → with_tree d h ps t ≡ with_tree d h qs t
 tree_pairs d (Definition i j u) ps qs t e = ap (λ ts. with_tree d (Definition i j u) ts t) (e refl)
@@ -211,7 +183,7 @@ row_held header before p row old new cur next more lines h begun m st place =
     let terms = settled_terms old.draft next new.current new.draft st.settled in
     record {
       body = h.body;
-      sound = sound_longer c before p row h.sound (sound_row c p row m.place (last_sound c before p h.sound));
+      sound = sound_longer c before p row h.sound (sound_kept c p row m.place.early (last_sound c before p h.sound));
       draft = said_so;
       counts = ap (λ d. d.counts) said_so ∙ draft_counts o c (before ++ q ∷ []);
       last = subst (λ l. IsLast c new.draft new.name l new.current) (sym (last-append before q)) (last_next c p row old new cur next more new.current begun m st.name st.settled);
@@ -220,10 +192,10 @@ row_held header before p row old new cur next more lines h begun m st place =
       room = λ head r. subst (λ (ms : List Bool). index_limit c head ≤ length ms) (sym st.marks) (h.room head r);
       seen = subst (λ x. AreSeen c x (before ++ q ∷ [])) (sym st.seen) (are_seen_longer c old before p row h.seen);
       nodes = omega (arith, st.nodes, h.nodes, nodes-append c before p, nodes-append c before q, ap (length {A = Placed}) m.nodes ∙ length-append (piece_nodes c p) more);
-      linear = st.linear ∙ h.linear ∙ sym (pairs_same is_linear c before p row m.place);
-      values = st.values ∙ h.values ∙ sym (pairs_same is_suffix c before p row m.place);
+      linear = st.linear ∙ h.linear ∙ sym (same_totals is_linear before p row (late_pairs p row m.place.early));
+      values = st.values ∙ h.values ∙ sym (same_totals is_suffix before p row (late_pairs p row m.place.early));
       suffixes = st.suffixes ∙ h.suffixes ∙ sym (suffixes_longer before p row);
-      columns = st.columns ∙ h.columns ∙ sym (columns_longer before p row m.place.tree);
+      columns = st.columns ∙ h.columns ∙ sym (columns_kept before p row (no_columns p.head m.place.tree));
       uses = λ j lt. ap (λ us. get_or us j 0) st.uses ∙ h.uses j lt ∙ ap (λ ts. use_count ts j) (sym terms);
       users = ap (length {A = ℕ}) st.uses ∙ h.users;
       places = st.places ∙ place ∙ sym (lines-append c before q);

@@ -1,4 +1,5 @@
 -- Taking a row of an expression: what is wrong with it, and what is held after it.
+use Rattle.nl_segments.proofs.PairHeld.{never}
 use Rattle.std.proofs.Common.{◌≡◌, ◌∙◌, ℕ, ◌+◌, ◌<◌, ◌≤◌, ◌^◌, ◌==◌, Bool, true, false, List, [], ◌∷◌, ◌++◌, length, map, refl, sym, ap, subst, arith, nat_le, Option, Some, None, All}
 use Rattle.std.specs.Prelude.{IfSome, if◌then◌else◌}
 use Rattle.std.proofs.lemmas.Bool.Decides.{nat_tests}
@@ -43,7 +44,7 @@ use Rattle.nl_segments.proofs.NodeLemmas.{node_known}
 use Rattle.nl_segments.proofs.OpcodeLemmas.{counted_fit}
 use Rattle.nl_model.specs.File.{Definition as DefinitionValue}
 use Rattle.nl_model.specs.Nodes.{awaited}
-use Rattle.nl_segments.proofs.NodeSteps.{no, in_tree, beyond, IsInTree, in_tree_of, tree_nodes, IsRowMore, IsTreeStep, row_held}
+use Rattle.nl_segments.proofs.NodeSteps.{in_tree, beyond, IsInTree, in_tree_of, tree_nodes, IsRowMore, IsTreeStep, row_held}
 
 -- ---- the last piece
 
@@ -66,7 +67,7 @@ pending_none cur e = by cur.pending refl
     by None q = q
     by (Some x) q =
         let facts = beyond cur (ap in_tree e) in
-        absurd (no (sym (ap counts_operands (pending_awaits cur x facts.0 facts.1 q)) ∙ ap counts_operands e))
+        absurd (never (sym (ap counts_operands (pending_awaits cur x facts.0 facts.1 q)) ∙ ap counts_operands e))
 
 pub nodes_few : (s : Standing) (b : Body) (cur : Current) → IsHeld s b → b.current ≡ Some cur → length cur.nodes ≤ b.nodes
 nodes_few s b cur h e =

@@ -9,7 +9,7 @@ use Rattle.nl_model.specs.Draft.{Draft}
 use Rattle.nl_model.specs.File.{Term}
 use Rattle.nl_model.specs.Rules.{most_terms}
 use Rattle.std.proofs.lemmas.Bool.{ltb-true}
-use Rattle.nl_segments.specs.declared.awaited.Awaited.TheVariants.{Pair}
+use Rattle.nl_segments.specs.declared.awaited.Awaited.TheVariants.{ColumnCount, Pair}
 use Rattle.nl_segments.specs.declared.fault.NlReason.{NlReason}
 use Rattle.nl_segments.specs.declared.head.Head.{Head}
 use Rattle.nl_segments.specs.declared.head.Head.TheVariants.{Body as BodyHead, Objective, Definition, DualGuesses, PrimalGuesses, Sides, Bounds, ColumnCounts, Terms, Slopes, Suffix}
@@ -28,10 +28,9 @@ use Rattle.nl_model.specs.UseCounts.{use_count}
 use Rattle.nl_segments.specs.Held.{Body, IsAwaiting, IsHeld, IsMarked, IsNodeKnown, IsNodeLeft, IsRowOf, words_refusal}
 use Rattle.nl_segments.proofs.CurrentLemmas.{awaits}
 use Rattle.nl_segments.proofs.DraftLemmas.{draft_counts}
-use Rattle.nl_segments.proofs.IntervalSteps.{columns-append}
 use Rattle.nl_segments.proofs.PairCan.{IsRead, IsPairNext, pair_next}
 use Rattle.nl_segments.proofs.PairDraft.{draft_lengths, draft_pair, terms_closed, uses_pair, users_kept, places_pair}
-use Rattle.nl_segments.proofs.PairHeld.{held_longer}
+use Rattle.nl_segments.proofs.PairHeld.{held_longer, columns_kept}
 use Rattle.nl_segments.proofs.PairJudging.{same_pair_tests}
 use Rattle.nl_segments.proofs.PairLines.{at, opened, awaits_as, judged_by, last_sound, pairs_longer, row_after}
 use Rattle.nl_segments.proofs.PairPiece.{IsNextPair, pairs_are, sound_pair, marks_kept, marked_pair, kept_fields, kept_current, kept_pairs}
@@ -59,13 +58,6 @@ total_more : (counts : Head → Bool) (before : List Piece) (p : Piece) (row : R
 total_more counts before p row c t old new n e is =
     is ∙ ap (one_more (counts p.head)) e
     ∙ sym (pairs_longer counts before p row 1 (ap length (pairs_are c p row t n) ∙ length-append (piece_pairs p) (t ∷ [])))
-
-columns_same : (before : List Piece) (p : Piece) (row : Row) → line_kind p.head ≡ Pair → all_column_counts (before ++ longer p row ∷ []) ≡ all_column_counts (before ++ p ∷ [])
-columns_same before p row e = columns-append before (longer p row) ∙ by p.head refl ∙ sym (columns-append before p)
-  where
-    by : (h : Head) → p.head ≡ h → all_column_counts before ++ column_counts (longer p row) p.head ≡ all_column_counts before ++ column_counts p p.head
-    by (ColumnCounts n) q = absurd (let other = ap line_kind q in cc)
-    by head q = rw q refl
 
 still_few : (h : Head) (old new : ℕ) → old ≤ most_terms → (is_linear h ≡ true → old < most_terms) → new ≡ one_more (is_linear h) old → new ≤ most_terms
 still_few h old new le lt e = by (is_linear h) refl
@@ -166,7 +158,7 @@ pair_held s old new cur row t n cur_is d =
       room = ap length marks ∙ marks_kept p.head old.marks t.0;
       linear = total_more is_linear before p row c t old.linear new.linear n.next h.linear linear;
       values = total_more is_suffix before p row c t old.values new.values n.next h.values values;
-      columns = d.columns ∙ h.columns ∙ sym (columns_same before p row n.next.same_kind);
+      columns = d.columns ∙ h.columns ∙ sym (columns_kept before p row (λ k. let clash : Pair ≡ ColumnCount = sym n.next.same_kind ∙ k in cc));
       uses = λ j lt. uses_done s old new cur row t n d j lt;
       users = ap length uses ∙ users_kept p.head old.uses t.0;
       places = places ∙ ap (λ l. with_term_line l row.line p.head) h.places ∙ places_pair c before p row t n.next n.range;
