@@ -13,7 +13,7 @@ use Rattle.nl_segments.specs.declared.awaited.Awaited.{Awaited}
 use Rattle.nl_segments.specs.declared.awaited.Awaited.TheVariants.{Nothing, Pair, ColumnCount, Interval, Node, OperandCount}
 use Rattle.nl_segments.specs.declared.fault.NlReason.TheVariants.{ExtraLine}
 use Rattle.nl_segments.specs.declared.head.Head.{Head}
-use Rattle.nl_segments.specs.declared.head.Head.TheVariants.{Body as BodyHead, Objective, Definition, DualGuesses, PrimalGuesses, Sides, Bounds, ColumnCounts, Terms, Slopes, Suffix}
+use Rattle.nl_segments.specs.declared.head.Head.TheVariants.{Body as BodyHead, Objective, Definition, Terms, Slopes, Suffix}
 use Rattle.nl_segments.specs.Heads.{is_head, is_in_range}
 use Rattle.nl_segments.specs.Pieces.{Piece, last_piece, is_nothing, awaited_in, awaited_of}
 use Rattle.nl_segments.specs.Saying.{empty_lines, draft_of, place_lines}

@@ -1,6 +1,6 @@
 -- Rows without a fault: the pieces that they say are sound, and a node of each expression was awaited where it came.
-use Rattle.std.proofs.Common.{◌≡◌, ◌∙◌, ℕ, ◌+◌, ◌<◌, ◌≤◌, ◌^◌, ◌==◌, Bool, true, false, not, ◌&&◌, ◌||◌, List, [], ◌∷◌, ◌++◌, length, refl, sym, ap, subst, arith, nat_lt, Option, Some, None, All, append-nil}
-use Rattle.std.specs.Prelude.{IfSome, IsTrue, is_none, option_and_then, unwrap_or, if◌then◌else◌}
+use Rattle.std.proofs.Common.{◌≡◌, ◌∙◌, ℕ, ◌+◌, ◌<◌, ◌^◌, ◌==◌, Bool, true, false, not, ◌&&◌, List, [], ◌∷◌, ◌++◌, length, refl, sym, ap, subst, arith, nat_lt, Option, Some, None, All, append-nil}
+use Rattle.std.specs.Prelude.{IfSome, is_none, unwrap_or, if◌then◌else◌}
 use Rattle.std.proofs.lemmas.Bool.{ltb-true, ltb-false, eqb-false, not-false}
 use Rattle.std.proofs.lemmas.List.{map-append}
 use Rattle.std.proofs.lemmas.List.Elements.{All-push}
@@ -16,18 +16,18 @@ use Rattle.nl_model.proofs.Prefixes.{IsRun-push}
 use Rattle.nl_segments.specs.declared.awaited.Awaited.{Awaited}
 use Rattle.nl_segments.specs.declared.awaited.Awaited.TheVariants.{Nothing, Pair, ColumnCount, Interval as IntervalLine, Node as NodeLine, OperandCount}
 use Rattle.nl_segments.specs.declared.head.Head.{Head}
-use Rattle.nl_segments.specs.declared.head.Head.TheVariants.{Body as BodyHead, Objective, Definition, DualGuesses, PrimalGuesses, Sides, Bounds, ColumnCounts, Terms, Slopes, Suffix}
+use Rattle.nl_segments.specs.declared.head.Head.TheVariants.{Sides, Bounds, ColumnCounts}
 use Rattle.nl_segments.specs.declared.fault.NlReason.TheVariants.{ShortSegment, RepeatedIndex, TooLarge}
-use Rattle.exact_numbers.specs.Numbers.{are_digits, whole_of}
+use Rattle.exact_numbers.specs.Numbers.{whole_of}
 use Rattle.nl_segments.specs.Rows.{Row, row_words}
 use Rattle.text_base.specs.Words.{word_at}
-use Rattle.nl_segments.specs.Heads.{is_head, head_of, name_in, is_in_range}
-use Rattle.nl_segments.specs.Nodes.{Placed, Pending, node_in, opcode_in, pending_in, nodes_from, nodes_of, pending_from, only_nodes}
-use Rattle.nl_segments.specs.Pieces.{Piece, awaited_in, awaited_of, has_tree, is_complete, is_nothing, last_piece, line_count, line_kind, pair_count, pair_in, piece_nodes, piece_pairs, piece_pending, extended, tree_awaits, tree_rows, with_row}
-use Rattle.nl_segments.specs.Tests.{Tests, is_full, awaited_tests, formed_head_tests, has_index, head_form_tests, head_tests, holds_once, index_limit, is_below, is_repeated, line_tests, node_tests, operand_tests, pair_form_tests, pair_tests, row_tests, wants_whole}
+use Rattle.nl_segments.specs.Heads.{is_head, head_of, name_in}
+use Rattle.nl_segments.specs.Nodes.{Placed, Pending, node_in, opcode_in, pending_in, nodes_of, pending_from, only_nodes}
+use Rattle.nl_segments.specs.Pieces.{Piece, awaited_in, awaited_of, has_tree, is_nothing, last_piece, line_count, line_kind, pair_count, piece_nodes, piece_pairs, piece_pending, extended, tree_awaits, tree_rows, with_row}
+use Rattle.nl_segments.specs.Tests.{Tests, is_full, awaited_tests, formed_head_tests, has_index, head_form_tests, head_tests, holds_once, index_limit, operand_tests, pair_form_tests, pair_tests, row_tests, wants_whole}
 use Rattle.nl_segments.specs.Current.{IsPending}
 use Rattle.nl_segments.specs.Held.{AreSound, IsSoundPiece}
-use Rattle.nl_segments.proofs.CurrentLemmas.{begun, early_tree, last_nodes, last_pending, late_tree, nodes-more, pending-more, tree_count}
+use Rattle.nl_segments.proofs.CurrentLemmas.{begun, early_tree, last_nodes, last_pending, late_tree, pending-more, tree_count}
 use Rattle.nl_segments.proofs.BodyStart.{no_piece_sound}
 use Rattle.nl_segments.proofs.HeadBegun.{new_piece}
 use Rattle.nl_segments.proofs.HeadLaw.{all_complete, sound_begun}

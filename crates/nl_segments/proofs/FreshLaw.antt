@@ -9,7 +9,7 @@ use Rattle.nl_model.specs.declared.counts.Counts.{Counts}
 use Rattle.nl_model.specs.Draft.{Draft, empty_draft, is_given}
 use Rattle.nl_model.specs.Rules.{is_defined}
 use Rattle.nl_segments.specs.declared.head.Head.{Head}
-use Rattle.nl_segments.specs.declared.head.Head.TheVariants.{Body, Objective, Definition, DualGuesses, PrimalGuesses, Sides, Bounds, ColumnCounts, Terms, Slopes, Suffix}
+use Rattle.nl_segments.specs.declared.head.Head.TheVariants.{Body, Objective, Definition, DualGuesses, PrimalGuesses, Sides, Bounds, Terms, Slopes, Suffix}
 use Rattle.nl_segments.specs.Pieces.{Piece, is_complete}
 use Rattle.nl_segments.specs.Tests.{is_suffix, is_same_head, is_same_piece}
 use Rattle.nl_segments.specs.Saying.{if_complete, said_by, with_piece, draft_of}

@@ -1,5 +1,5 @@
 -- What rows and the end do to the whole reader.
-use Rattle.std.proofs.Common.{◌≡◌, ◌∙◌, ℕ, suc, ◌+◌, true, false, List, [], ◌∷◌, ◌++◌, length, take, not, ◌==◌, Bor, refl, sym, ap, subst, arith, IfOk, IfErr, OnOk}
+use Rattle.std.proofs.Common.{◌≡◌, ◌∙◌, ℕ, ◌+◌, true, false, List, [], ◌∷◌, ◌++◌, length, take, not, ◌==◌, Bor, refl, sym, ap, subst, IfOk, IfErr, OnOk}
 use Rattle.std.specs.Prelude.{Some, None, Result, Ok, Err}
 use Rattle.std.proofs.lemmas.List.{length-map}
 use Rattle.text_base.specs.Stopped.{IfFault}

@@ -1,8 +1,8 @@
 -- What a piece without rows says.
-use Rattle.std.proofs.Common.{◌≡◌, ◌∙◌, ℕ, zero, suc, ◌==◌, Bool, true, false, ◌||◌, List, [], ◌∷◌, ◌++◌, length, take, drop, filter, refl, sym, ap, arith, nat_lt, get_or, slice_set, None}
+use Rattle.std.proofs.Common.{◌≡◌, ◌∙◌, ℕ, zero, suc, Bool, true, false, ◌||◌, List, [], ◌∷◌, ◌++◌, length, filter, refl, sym, ap, arith, nat_lt, get_or, slice_set, None}
 use Rattle.std.specs.Prelude.{ℤ, not, if◌then◌else◌}
-use Rattle.std.proofs.lemmas.Bool.{eqb-true, lt-ltb}
-use Rattle.std.proofs.lemmas.List.{append-nil, length-append, take_all, drop_all, set-get_or}
+use Rattle.std.proofs.lemmas.Bool.{lt-ltb}
+use Rattle.std.proofs.lemmas.List.{append-nil, length-append, set-get_or}
 use Rattle.std.proofs.lemmas.List.Elements.{filter-append}
 use Rattle.std.proofs.lemmas.Grind.{flat_map-append}
 use Rattle.nl_model.specs.declared.counts.Counts.{Counts}
@@ -11,7 +11,6 @@ use Rattle.nl_segments.specs.declared.head.Head.{Head}
 use Rattle.nl_segments.specs.declared.head.Head.TheVariants.{Body, Objective, Definition, DualGuesses, PrimalGuesses, Sides, Bounds, ColumnCounts, Terms, Slopes, Suffix}
 use Rattle.nl_segments.specs.Nodes.{nodes_from, pending_from}
 use Rattle.nl_segments.specs.Pieces.{Piece, awaited_in, is_nothing, is_complete, line_kind, line_count, has_tree, pair_count, tree_rows, piece_nodes, piece_pairs, piece_pending}
-use Rattle.nl_segments.specs.Rows.{Row}
 use Rattle.nl_segments.specs.Saying.{if_complete, said_by, draft_of}
 use Rattle.nl_segments.specs.Tests.{node_total, pair_total, suffix_count, all_column_counts, column_counts, is_suffix}
 use Rattle.nl_segments.specs.HeadSteps.{begun_draft, begun_count}

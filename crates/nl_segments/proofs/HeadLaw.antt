@@ -1,8 +1,8 @@
 -- What is held, with a head more.
-use Rattle.std.proofs.Common.{◌≡◌, ◌∙◌, ℕ, zero, suc, ◌<◌, ◌≤◌, Bool, true, false, ◌||◌, List, [], ◌∷◌, ◌++◌, length, take, replicate, refl, sym, ap, ap₂, arith, subst, nat_lt, get_or, Option, Some, None}
+use Rattle.std.proofs.Common.{◌≡◌, ◌∙◌, ℕ, zero, suc, ◌<◌, ◌≤◌, Bool, true, false, ◌||◌, List, [], ◌∷◌, ◌++◌, length, replicate, refl, sym, ap, ap₂, arith, subst, nat_lt, get_or, Option, Some, None}
 use Rattle.std.specs.Prelude.{not, IsTrue, IfSome, All, is_some}
 use Rattle.std.specs.List.{list_any}
-use Rattle.std.proofs.lemmas.List.{length-replicate, take_all}
+use Rattle.std.proofs.lemmas.List.{length-replicate}
 use Rattle.std.proofs.lemmas.List.Elements.{All-push}
 use Rattle.std.proofs.lemmas.List.Quantifiers.{all_pairs_push}
 use Rattle.text_base.specs.Judged.{first_reason}
@@ -14,7 +14,7 @@ use Rattle.nl_model.specs.File.{Suffix as SuffixValue}
 use Rattle.nl_model.specs.Rules.{has_suffix}
 use Rattle.nl_segments.specs.declared.fault.NlReason.TheVariants.{ShortSegment}
 use Rattle.nl_segments.specs.declared.head.Head.{Head}
-use Rattle.nl_segments.specs.declared.head.Head.TheVariants.{Body as BodyHead, Objective, Definition, DualGuesses, PrimalGuesses, Sides, Bounds, ColumnCounts, Terms, Slopes, Suffix}
+use Rattle.nl_segments.specs.declared.head.Head.TheVariants.{Suffix}
 use Rattle.nl_segments.specs.Heads.{is_head, head_of, name_in, is_in_range}
 use Rattle.nl_segments.specs.Rows.{Row, row_words}
 use Rattle.nl_segments.specs.Pieces.{Piece, last_piece, awaited_of, is_complete, is_nothing, has_tree, line_count, pair_count, with_row}
@@ -24,7 +24,7 @@ use Rattle.nl_segments.specs.Current.{Current, new_current}
 use Rattle.nl_segments.specs.PlaceSteps.{with_begun, HasOwner}
 use Rattle.nl_segments.specs.Grammar.{Standing, counts_of, said}
 use Rattle.nl_segments.specs.Steps.{after_body_row}
-use Rattle.nl_segments.specs.Tests.{Tests, is_suffix, is_linear, is_same_piece, is_repeated, index_limit, has_index, head_form_tests, formed_head_tests, head_tests, row_tests}
+use Rattle.nl_segments.specs.Tests.{is_suffix, is_linear, is_same_piece, is_repeated, index_limit, has_index, head_form_tests, formed_head_tests, head_tests, row_tests}
 use Rattle.nl_model.specs.UseCounts.{use_count}
 use Rattle.nl_segments.specs.Held.{Body, IsSoundPiece, AreSound, IsOpen, IsLast, IsMarked, IsNodeLeft, IsHeld, HoldsSome, IsRowOf, HasRow, words_refusal}
 use Rattle.nl_segments.specs.HeadSteps.{has_come, has_come_suffix, held_head_tests, formed_tests, new_head_tests, begun_current, begun_name, begun_count, begun_draft, with_begun_head}

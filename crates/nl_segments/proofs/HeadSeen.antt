@@ -2,7 +2,6 @@
 use Rattle.std.proofs.Common.{◌≡◌, ◌∙◌, ℕ, ◌-◌, ◌==◌, Bool, true, false, ◌&&◌, ◌||◌, List, [], ◌∷◌, ◌++◌, length, refl, sym, ap, ap₂, arith, Option, Some, None}
 use Rattle.std.specs.Prelude.{not, if◌then◌else◌, ◌+◌, nat_le, option_map, option_and_then}
 use Rattle.std.specs.List.{list_any}
-use Rattle.std.proofs.lemmas.Bool.{ltb-true}
 use Rattle.std.proofs.lemmas.List.{length-set}
 use Rattle.std.proofs.lemmas.List.Folds.{list_any-append}
 use Rattle.text_base.specs.Names.{IsName, is_name, has_name_bytes}
@@ -12,13 +11,10 @@ use Rattle.nl_segments.specs.declared.head.Head.TheVariants.{Body, Objective, De
 use Rattle.nl_segments.specs.Heads.{head_of, name_in, is_in_range, numbered_head, counted_head, bare_head, objective_head, definition_head, column_head, suffix_head, with_sense, letter_of, own_number, number_at}
 use Rattle.text_base.specs.Words.{word_at}
 use Rattle.nl_segments.specs.Pieces.{Piece}
-use Rattle.nl_segments.specs.PlaceSteps.{HasOwner}
-use Rattle.nl_segments.specs.Saying.{place_lines}
 use Rattle.nl_segments.specs.SeenSegments.{Segments, IsSeenIn, with_segment}
 use Rattle.nl_segments.specs.Tests.{is_suffix, is_same_head, is_same_piece}
 use Rattle.nl_segments.specs.Held.{AreSeen}
 use Rattle.nl_segments.proofs.HeadBegun.{new_piece}
-use Rattle.nl_segments.proofs.PlaceLemmas.{place_counts}
 use Rattle.nl_segments.proofs.SeenLemmas.{marked}
 
 -- ---- marks

@@ -1,5 +1,5 @@
 -- Rows of expressions: their tests, and what is known of their nodes.
-use Rattle.std.proofs.Common.{◌≡◌, ◌∙◌, ℕ, ◌+◌, ◌<◌, ◌≤◌, ◌^◌, ◌==◌, Bool, true, false, not, ◌||◌, List, [], ◌∷◌, ◌++◌, refl, sym, ap, subst, arith, nat_lt, nat_le, Option, Some, None}
+use Rattle.std.proofs.Common.{◌≡◌, ◌∙◌, ℕ, ◌+◌, ◌<◌, ◌≤◌, ◌^◌, ◌==◌, Bool, true, false, not, ◌||◌, List, [], ◌∷◌, refl, sym, ap, subst, arith, nat_lt, nat_le, Option, Some, None}
 use Rattle.std.specs.Prelude.{if◌then◌else◌, option_map, option_and_then, unwrap_or, codes}
 use Rattle.std.proofs.lemmas.Bool.{eqb-true, le-leb, leb-true, ltb-true, ltb-false, not-false}
 use Rattle.text_base.specs.Judged.{first_reason}
@@ -17,12 +17,11 @@ use Rattle.nl_model.specs.HeaderRules.{defined_count}
 use Rattle.nl_model.specs.Nodes.{IsNode}
 use Rattle.nl_model.specs.Rules.{is_defined}
 use Rattle.nl_segments.specs.declared.fault.NlReason.TheVariants.{TooLarge, IndexOut, Undefined, BadLine, RefusedLeaf}
-use Rattle.nl_segments.specs.declared.fault.NlReason.{NlReason}
 use Rattle.nl_segments.specs.Heads.{is_among, letter_of, own_number}
 use Rattle.nl_segments.specs.Held.{IsNodeKnown}
 use Rattle.nl_segments.specs.Nodes.{counted_opcode, fixed_node, variable_node, node_in, opcode_in, leaf_text, dec_of_signed}
 use Rattle.exact_numbers.specs.Numbers.{dec_of}
-use Rattle.nl_segments.specs.Tests.{Tests, is_node_form, is_undefined, leaf_tests, node_form_tests, number_tests, opcode_tests, variable_tests}
+use Rattle.nl_segments.specs.Tests.{is_node_form, is_undefined, leaf_tests, node_form_tests, number_tests, opcode_tests, variable_tests}
 use Rattle.nl_segments.proofs.OpcodeLemmas.{one_fits, two_fit}
 
 -- ---- the number of nodes

@@ -14,16 +14,16 @@ use Rattle.nl_model.specs.declared.node.Node.TheVariants.{Op}
 use Rattle.nl_segments.specs.declared.awaited.Awaited.{Awaited}
 use Rattle.nl_segments.specs.declared.awaited.Awaited.TheVariants.{Nothing, Pair, ColumnCount, Interval as IntervalLine, Node as NodeLine, OperandCount}
 use Rattle.nl_segments.specs.declared.head.Head.{Head}
-use Rattle.nl_segments.specs.declared.head.Head.TheVariants.{Body as BodyHead, Objective, Definition, DualGuesses, PrimalGuesses, Sides, Bounds, ColumnCounts, Terms, Slopes, Suffix}
+use Rattle.nl_segments.specs.declared.head.Head.TheVariants.{Definition}
 use Rattle.nl_segments.specs.declared.node_row.NodeRow.{NodeRow}
 use Rattle.nl_segments.specs.declared.node_row.NodeRow.TheVariants.{Whole, Counted}
-use Rattle.nl_segments.specs.Rows.{Row, row_words}
+use Rattle.nl_segments.specs.Rows.{Row}
 use Rattle.text_base.specs.Words.{word_at}
 use Rattle.nl_segments.specs.Heads.{is_head, is_in_range}
 use Rattle.exact_numbers.specs.Numbers.{whole_of}
 use Rattle.nl_segments.specs.Nodes.{Placed, Pending, only_lines, node_in, opcode_in}
 use Rattle.nl_segments.specs.NodeRows.{IsFormedRow, IsRow}
-use Rattle.nl_segments.specs.Pieces.{Piece, has_tree, pair_count, piece_nodes, piece_pending}
+use Rattle.nl_segments.specs.Pieces.{Piece, has_tree, pair_count, piece_nodes}
 use Rattle.nl_segments.specs.Tests.{SaysOperandCount, node_form_tests, node_tests, operand_tests}
 use Rattle.nl_segments.specs.Saying.{PlaceLines, term_lines, lines_by, place_lines}
 use Rattle.nl_segments.specs.Grammar.{Standing, counts_of, said}

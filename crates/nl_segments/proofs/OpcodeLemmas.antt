@@ -1,5 +1,5 @@
 -- Opcodes have as many operands as their classes want.
-use Rattle.std.proofs.Common.{◌≡◌, ℕ, ◌≤◌, Bool, true, false, eqb, cond, List, [], ◌∷◌, Some, None, Option, unwrap_or, find, ap, refl, lit≤, sym, subst, arith}
+use Rattle.std.proofs.Common.{◌≡◌, ℕ, ◌≤◌, Bool, true, false, eqb, cond, List, [], ◌∷◌, Some, Option, unwrap_or, find, ap, refl, lit≤, subst, arith}
 use Rattle.std.specs.Option.{option_map}
 use Rattle.std.specs.List.{AllByRecursion}
 use Rattle.code_tables.specs.Opcodes.{class_of, operands_of, opcodes}
@@ -9,11 +9,7 @@ use Rattle.code_tables.specs.declared.class.OpcodeRow.{OpcodeRow}
 use Rattle.code_tables.specs.declared.class.Operands.{Operands}
 use Rattle.code_tables.specs.declared.class.Operands.TheVariants.{One, Two, Counted}
 use Rattle.std.proofs.Common.{◌∙◌, ◌<◌, ◌^◌}
-use Rattle.std.specs.Prelude.{IfSome, IsSome}
 use Rattle.nl_meaning.specs.Trees.{HasCount}
-use Rattle.nl_model.specs.declared.node.Node.{Node}
-use Rattle.nl_segments.specs.Nodes.{Pending}
-use Rattle.nl_segments.specs.Current.{IsPending}
 
 -- the operands are as many as the class wants
 abbrev pub Fits : Operands → OpClass → Type 0

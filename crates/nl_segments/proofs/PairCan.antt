@@ -10,7 +10,7 @@ use Rattle.nl_model.specs.File.{Term}
 use Rattle.nl_model.specs.Rules.{AreIndicesApart, AreTermsBelow, has_suffix, most_terms, object_count, term_count}
 use Rattle.nl_segments.specs.declared.awaited.Awaited.TheVariants.{Pair}
 use Rattle.nl_segments.specs.declared.head.Head.{Head}
-use Rattle.nl_segments.specs.declared.head.Head.TheVariants.{Body as BodyHead, Objective, Definition, DualGuesses, PrimalGuesses, Sides, Bounds, ColumnCounts, Terms, Slopes, Suffix}
+use Rattle.nl_segments.specs.declared.head.Head.TheVariants.{Body as BodyHead, DualGuesses, PrimalGuesses, Terms, Slopes, Suffix}
 use Rattle.nl_segments.specs.Rows.{Row, row_words}
 use Rattle.nl_segments.specs.Heads.{is_in_range}
 use Rattle.nl_segments.specs.Pieces.{pair_in, piece_pairs}

@@ -10,12 +10,12 @@ use Rattle.nl_model.specs.Draft.{Draft, empty_draft}
 use Rattle.nl_model.specs.File.{Term}
 use Rattle.nl_segments.specs.declared.awaited.Awaited.TheVariants.{Nothing, Pair}
 use Rattle.nl_segments.specs.declared.head.Head.{Head}
-use Rattle.nl_segments.specs.declared.head.Head.TheVariants.{Body, Objective, Definition, DualGuesses, PrimalGuesses, Sides, Bounds, ColumnCounts, Terms, Slopes, Suffix}
+use Rattle.nl_segments.specs.declared.head.Head.TheVariants.{Body, Objective, Definition, DualGuesses, PrimalGuesses, Terms, Slopes, Suffix}
 use Rattle.nl_segments.specs.Rows.{Row}
 use Rattle.nl_segments.specs.Nodes.{only_lines, nodes_from, nodes_of, pending_from, pending_of}
 use Rattle.nl_segments.specs.Pieces.{Piece, awaited_in, is_complete, has_tree, is_nothing, line_count, line_kind, pair_count, piece_pairs, tree_awaits, tree_rows}
 use Rattle.nl_segments.specs.Saying.{node_lines, draft_of, said_by, with_piece, place_lines, lines_by, term_lines}
-use Rattle.nl_segments.specs.PlaceSteps.{HasBegun, HasOwner, with_term_line}
+use Rattle.nl_segments.specs.PlaceSteps.{HasBegun, with_term_line}
 use Rattle.nl_segments.specs.Heads.{is_in_range}
 use Rattle.nl_segments.specs.Tests.{is_linear, is_suffix}
 use Rattle.nl_segments.specs.Current.{Current, current_awaits}
@@ -28,7 +28,7 @@ use Rattle.nl_segments.proofs.FreshLaw.{either}
 use Rattle.nl_segments.proofs.PairLaw.{use_more}
 use Rattle.nl_segments.proofs.PairPiece.{IsNextPair, few_rows}
 use Rattle.nl_segments.proofs.PieceLemmas.{longer, lines-append}
-use Rattle.nl_segments.proofs.PlaceLemmas.{place_term, place_counts, owner_there}
+use Rattle.nl_segments.proofs.PlaceLemmas.{place_term, owner_there}
 
 -- ---- a defined variable is not complete by its terms alone
 

@@ -1,10 +1,9 @@
 -- What is held after a line that comes before any expression.
-use Rattle.std.proofs.Common.{◌≡◌, ◌∙◌, ℕ, ◌-◌, ◌+◌, ◌<◌, ◌≤◌, ◌==◌, Bool, true, false, List, [], ◌∷◌, ◌++◌, length, refl, sym, ap, subst, arith, nat_lt, Option, Some, None, get_or, All}
+use Rattle.std.proofs.Common.{◌≡◌, ◌∙◌, ℕ, ◌+◌, ◌<◌, ◌≤◌, ◌==◌, Bool, true, false, List, [], ◌∷◌, ◌++◌, length, refl, sym, ap, subst, arith, nat_lt, Option, Some, None, get_or, All}
 use Rattle.std.specs.Prelude.{IfSome, if◌then◌else◌, ◌^◌}
 use Rattle.std.specs.List.{list_any}
 use Rattle.std.proofs.lemmas.Bool.{ltb-true}
 use Rattle.nl_model.specs.declared.counts.Counts.{Counts}
-use Rattle.nl_model.specs.declared.node.Node.{Node}
 use Rattle.nl_model.specs.Draft.{Draft}
 use Rattle.nl_model.specs.Nodes.{awaited}
 use Rattle.nl_model.specs.Rules.{AreTermsBelow, AreIndicesApart, most_terms}
@@ -19,7 +18,7 @@ use Rattle.std.proofs.lemmas.List.{append_assoc, append-nil, take-append-le}
 use Rattle.nl_segments.specs.Tests.{all_column_counts, column_counts, index_limit, is_same_piece, is_linear, is_suffix, pair_total}
 use Rattle.nl_segments.specs.Saying.{place_lines}
 use Rattle.nl_segments.specs.Grammar.{counts_of, said}
-use Rattle.nl_segments.specs.Current.{Current, IsCurrent, current_awaits, less_line, nodes_await}
+use Rattle.nl_segments.specs.Current.{Current, IsCurrent, current_awaits, less_line}
 use Rattle.nl_segments.specs.SeenSegments.{IsSeenIn, has_segment}
 use Rattle.nl_segments.specs.LineSteps.{unless_complete}
 use Rattle.nl_model.specs.UseCounts.{use_count}

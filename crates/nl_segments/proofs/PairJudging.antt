@@ -1,6 +1,6 @@
 -- A pair is judged by what is held as it is by the pieces.
-use Rattle.std.proofs.Common.{◌≡◌, ◌∙◌, ℕ, ◌<◌, Bool, true, false, not, ◌&&◌, List, [], ◌∷◌, ◌++◌, length, refl, sym, ap, ap₂, Option, Some, None, get_or, nat_lt}
-use Rattle.std.specs.Prelude.{unwrap_or, is_none, ◌||◌, ◌==◌}
+use Rattle.std.proofs.Common.{◌≡◌, ◌∙◌, ℕ, ◌<◌, Bool, true, false, not, ◌&&◌, List, [], ◌∷◌, ◌++◌, refl, sym, ap, ap₂, Option, Some, None, get_or, nat_lt}
+use Rattle.std.specs.Prelude.{unwrap_or, is_none, ◌||◌}
 use Rattle.std.specs.Option.{option_map_or}
 use Rattle.std.proofs.lemmas.Bool.{ltb-true}
 use Rattle.text_base.specs.Judged.{first_reason}
@@ -11,7 +11,7 @@ use Rattle.nl_model.specs.File.{Term}
 use Rattle.nl_segments.specs.declared.fault.NlReason.TheVariants.{TooLarge, RepeatedIndex}
 use Rattle.nl_segments.specs.declared.fault.NlReason.{NlReason}
 use Rattle.nl_segments.specs.declared.head.Head.{Head}
-use Rattle.exact_numbers.specs.Numbers.{are_digits, dec_of, whole_of, is_whole}
+use Rattle.exact_numbers.specs.Numbers.{dec_of, whole_of, is_whole}
 use Rattle.text_base.specs.Words.{word_at}
 use Rattle.nl_segments.specs.Pieces.{Piece, pair_in, piece_pairs}
 use Rattle.nl_segments.specs.Tests.{Tests, has_index, holds_once, index_limit, is_below, is_full, pair_form_tests, pair_tests, wants_whole}

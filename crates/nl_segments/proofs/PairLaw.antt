@@ -12,7 +12,7 @@ use Rattle.nl_model.specs.Rules.{term_count}
 use Rattle.nl_model.specs.UseCounts.{use_count, uses_in}
 use Rattle.nl_model.proofs.UseLemmas.{uses_in-most}
 use Rattle.nl_segments.specs.declared.head.Head.{Head}
-use Rattle.nl_segments.specs.declared.head.Head.TheVariants.{Body, Objective, Definition, DualGuesses, PrimalGuesses, Sides, Bounds, ColumnCounts, Terms, Slopes, Suffix}
+use Rattle.nl_segments.specs.declared.head.Head.TheVariants.{Body, Objective, Definition, Terms, Slopes, Suffix}
 use Rattle.nl_segments.specs.Pieces.{Piece, is_complete, piece_pairs}
 use Rattle.nl_segments.specs.Saying.{if_complete, said_by, with_piece, draft_of}
 use Rattle.nl_segments.specs.Tests.{is_linear, pair_total}

@@ -12,7 +12,7 @@ use Rattle.nl_model.specs.File.{Term}
 use Rattle.nl_model.specs.Rules.{AreTermsBelow, AreIndicesApart}
 use Rattle.nl_segments.specs.declared.awaited.Awaited.TheVariants.{Pair}
 use Rattle.nl_segments.specs.declared.head.Head.{Head}
-use Rattle.nl_segments.specs.declared.head.Head.TheVariants.{Body, Objective, Definition, DualGuesses, PrimalGuesses, Sides, Bounds, ColumnCounts, Terms, Slopes, Suffix}
+use Rattle.nl_segments.specs.declared.head.Head.TheVariants.{Sides, Bounds, ColumnCounts}
 use Rattle.nl_segments.specs.Rows.{Row, row_words}
 use Rattle.nl_segments.specs.Pieces.{Piece, line_count, line_kind, pair_count, pair_in, piece_pairs}
 use Rattle.nl_segments.specs.Tests.{has_index, holds_once, index_limit}

@@ -12,13 +12,13 @@ use Rattle.std.proofs.lemmas.Bool.{ltb-true}
 use Rattle.nl_segments.specs.declared.awaited.Awaited.TheVariants.{ColumnCount, Pair}
 use Rattle.nl_segments.specs.declared.fault.NlReason.{NlReason}
 use Rattle.nl_segments.specs.declared.head.Head.{Head}
-use Rattle.nl_segments.specs.declared.head.Head.TheVariants.{Body as BodyHead, Objective, Definition, DualGuesses, PrimalGuesses, Sides, Bounds, ColumnCounts, Terms, Slopes, Suffix}
+use Rattle.nl_segments.specs.declared.head.Head.TheVariants.{DualGuesses, Terms, Suffix}
 use Rattle.nl_segments.specs.Rows.{Row}
 use Rattle.nl_segments.specs.Heads.{is_head, is_in_range}
-use Rattle.nl_segments.specs.Pieces.{Piece, is_nothing, line_kind, piece_pairs}
+use Rattle.nl_segments.specs.Pieces.{Piece, is_nothing, piece_pairs}
 use Rattle.nl_segments.specs.PlaceSteps.{with_term_line}
 use Rattle.nl_segments.specs.Saying.{draft_of}
-use Rattle.nl_segments.specs.Tests.{all_column_counts, column_counts, index_limit, is_full, is_linear, is_suffix, pair_total}
+use Rattle.nl_segments.specs.Tests.{index_limit, is_full, is_linear, is_suffix, pair_total}
 use Rattle.nl_segments.specs.Grammar.{Standing, counts_of}
 use Rattle.nl_segments.specs.Steps.{after_body_row}
 use Rattle.nl_segments.specs.Current.{Current, current_awaits}

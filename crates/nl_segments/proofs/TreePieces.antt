@@ -1,6 +1,6 @@
 -- Each expression of a file is read from a piece.
-use Rattle.std.proofs.Common.{◌≡◌, ◌∙◌, ℕ, zero, suc, ◌==◌, Bool, true, false, List, [], ◌∷◌, ◌++◌, length, refl, sym, ap, subst, nat_lt, slice_set, get_or, Option, Some, None, All, ◌⊎◌, inl, inr, append_assoc, append-nil}
-use Rattle.std.specs.Prelude.{ℤ, IsSome, slice_get, replicate, option_map, option_and_then, unwrap_or, if◌then◌else◌}
+use Rattle.std.proofs.Common.{◌≡◌, ◌∙◌, ℕ, zero, suc, ◌==◌, Bool, true, false, List, [], ◌∷◌, ◌++◌, length, refl, sym, ap, subst, nat_lt, slice_set, get_or, Option, Some, None, ◌⊎◌, inl, inr, append_assoc, append-nil}
+use Rattle.std.specs.Prelude.{ℤ, slice_get, option_map, unwrap_or, if◌then◌else◌}
 use Rattle.std.specs.List.{Contains}
 use Rattle.std.proofs.lemmas.Bool.{eqb-true}
 use Rattle.std.proofs.lemmas.List.Elements.{All-contains, Contains-append_left, Contains-push}
@@ -10,7 +10,7 @@ use Rattle.nl_meaning.specs.Trees.{Tree}
 use Rattle.nl_model.specs.declared.counts.Counts.{Counts}
 use Rattle.nl_model.specs.declared.at.Owner.{Owner}
 use Rattle.nl_model.specs.declared.at.Owner.TheVariants.{Con, Def, Obj}
-use Rattle.nl_model.specs.Draft.{Draft, empty_draft, file_of}
+use Rattle.nl_model.specs.Draft.{Draft, file_of}
 use Rattle.nl_model.specs.File.{Definition, File, Objective}
 use Rattle.nl_model.specs.FilePlaces.{tree_at}
 use Rattle.nl_model.specs.Nodes.{awaited, IsPrefix}

@@ -1,6 +1,6 @@
 -- What the reader of the body holds, and how this stands to what the lines mean.
-use Rattle.std.specs.Prelude.{◌≡◌, ℕ, ℤ, nat_lt, IsSomeAnd, ◌<◌, ◌≤◌, ◌^◌, ◌==◌, Bool, true, false, IsTrue, List, [], ◌∷◌, ◌++◌, length, take, get_or, filter, Option, Some, None, IfSome, Result, Ok, Err, All, AllPairs}
-use Rattle.std.specs.List.{list_any, sum_by}
+use Rattle.std.specs.Prelude.{◌≡◌, ℕ, ℤ, nat_lt, IsSomeAnd, ◌<◌, ◌≤◌, ◌^◌, Bool, true, false, IsTrue, List, [], ◌∷◌, ◌++◌, length, take, get_or, Option, Some, None, IfSome, Result, Ok, Err, All, AllPairs}
+use Rattle.std.specs.List.{list_any}
 use Rattle.text_base.specs.declared.stop.Stop.{Stop}
 use Rattle.text_base.specs.declared.stop.Stop.TheVariants.{Fault, Memory}
 use Rattle.text_base.specs.Judged.{first_reason}
@@ -10,7 +10,7 @@ use Rattle.nl_model.specs.declared.node.Node.TheVariants.{Num, Var, Defined, Op}
 use Rattle.nl_model.specs.Draft.{Draft, file_of}
 use Rattle.nl_header.specs.Head.{options_in, counts_in}
 use Rattle.nl_header.specs.Reading.{Taken, IsReading}
-use Rattle.nl_model.specs.File.{Term, Definition}
+use Rattle.nl_model.specs.File.{Definition}
 use Rattle.nl_model.specs.Rules.{AreTermsBelow, AreIndicesApart, is_defined, most_terms}
 use Rattle.nl_model.specs.UseCounts.{use_count}
 use Rattle.nl_segments.specs.declared.awaited.Awaited.{Awaited}

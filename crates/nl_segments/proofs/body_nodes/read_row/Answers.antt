@@ -1,4 +1,4 @@
-use Rattle.std.proofs.Common.{◌∙◌, ◌^◌, [], ◌∷◌, nat_le, ap, sym, Some}
+use Rattle.std.proofs.Common.{◌∙◌, ◌^◌, [], ◌∷◌, nat_le}
 use Rattle.text_base.specs.Words.{texts}
 use Rattle.nl_segments.specs.declared.fault.NlReason.TheVariants.{TooLarge}
 use Rattle.nl_segments.specs.Tests.{node_form_tests}

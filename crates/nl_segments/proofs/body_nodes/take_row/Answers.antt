@@ -1,10 +1,9 @@
-use Rattle.std.proofs.Common.{◌≡◌, ◌∙◌, sym, ap, subst, true, All}
-use Rattle.nl_segments.specs.declared.awaited.Awaited.TheVariants.{Nothing}
-use Rattle.nl_segments.specs.Current.{Current, current_awaits, with_node_row}
+use Rattle.std.proofs.Common.{◌∙◌, sym, ap, subst, All}
+use Rattle.nl_segments.specs.Current.{Current, current_awaits}
 use Rattle.nl_segments.specs.Held.{IsNodeKnown}
 use Rattle.nl_segments.specs.Pieces.{has_tree}
 use Rattle.nl_segments.specs.PlaceSteps.{HasBegun, HasOwner}
-use Rattle.nl_segments.specs.TreeSteps.{IsFresh, IsSettled, with_row_line}
+use Rattle.nl_segments.specs.TreeSteps.{IsFresh}
 use Rattle.nl_segments.proofs.CurrentLemmas.{row_fields}
 use Rattle.nl_segments.proofs.body_nodes.take_row.Goals as goal
 

@@ -1,4 +1,4 @@
-use Rattle.std.proofs.Common.{◌≡◌, ◌∙◌, refl, sym, ap, subst, Some, None, All}
+use Rattle.std.proofs.Common.{◌≡◌, refl, sym, subst, None, All}
 use Rattle.std.specs.Prelude.{IsSome}
 use Rattle.text_base.specs.Judged.{first_reason}
 use Rattle.nl_model.specs.Draft.{IsDraft}

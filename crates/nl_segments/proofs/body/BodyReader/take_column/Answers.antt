@@ -1,4 +1,3 @@
-use Rattle.std.proofs.Common.{◌∙◌, sym, ap, Some}
 use Rattle.nl_segments.proofs.IntervalSteps.{column_refused, column_step}
 use Rattle.nl_segments.proofs.PairLines.{holds_again}
 use Rattle.nl_segments.proofs.body.BodyReader.take_column.Goals as goal

@@ -1,4 +1,4 @@
-use Rattle.std.proofs.Common.{◌∙◌, refl, sym, ap, subst, Some}
+use Rattle.std.proofs.Common.{◌∙◌, refl, sym, ap, subst}
 use Rattle.text_base.specs.Judged.{first_reason}
 use Rattle.text_base.specs.Names.{IsName}
 use Rattle.text_base.specs.Words.{texts}

@@ -1,4 +1,4 @@
-use Rattle.std.proofs.Common.{◌∙◌, sym, ap, subst, Some}
+use Rattle.std.proofs.Common.{◌∙◌, sym, ap, subst}
 use Rattle.text_base.specs.Judged.{first_reason}
 use Rattle.text_base.specs.Words.{texts}
 use Rattle.nl_segments.specs.LineSteps.{next_interval_tests, with_interval, HasRoom}

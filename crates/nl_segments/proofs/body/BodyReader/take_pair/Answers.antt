@@ -1,4 +1,4 @@
-use Rattle.std.proofs.Common.{◌∙◌, sym, ap, subst, refl, ◌≤◌, length, Some, None}
+use Rattle.std.proofs.Common.{◌∙◌, sym, ap, subst, refl, ◌≤◌, length, None}
 use Rattle.nl_segments.specs.PairSteps.{is_full_at, one_more}
 use Rattle.nl_segments.specs.Tests.{index_limit}
 use Rattle.nl_segments.proofs.PairCan.{can_take, pair_room, read_by}
