@@ -1,5 +1,5 @@
 -- An .nl text is exported as one text, or refused with one line.
-use Rattle.std.proofs.Common.{◌≡◌, ◌∙◌, inl, inr, ◌⊎◌, ℕ, ◌+◌, ◌≤◌, List, ◌++◌, codes, take, Option, Some, None, true, false, Bool, refl, sym, ap, subst}
+use Rattle.std.proofs.Common.{◌≡◌, ◌∙◌, inl, inr, ◌⊎◌, ℕ, ◌+◌, ◌≤◌, List, ◌++◌, codes, take, Option, Some, None, true, false, Bool, refl, sym, ap, ap₂, subst}
 use Rattle.std.specs.Prelude.{option_map}
 use Rattle.fractions.specs.Rational.{ℚ}
 use Rattle.linear_programs.specs.Linear.{Linear}

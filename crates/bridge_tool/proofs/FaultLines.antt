@@ -17,6 +17,7 @@ use Rattle.bridge_tool.specs.Mps.{IsMpsRefused}
 use Rattle.bridge_tool.specs.MpsTold.{mps_reason_text}
 use Rattle.bridge_tool.specs.NlTold.{HasFaultLine, HasLineUpTo, fold_line, opcode_text, placed_line, reason_text, scale_line}
 use Rattle.bridge_tool.specs.Refusal.{HasTextRefusal, IsRefused}
+use Rattle.bridge_tool.specs.Told.{refused_at}
 use Rattle.bridge_tool.specs.ToldLines.{IsLineOf, TellsLine, TellsPlace}
 use Rattle.bridge_tool.proofs.FoldPlaces.{fold_placed}
 
@@ -38,7 +39,7 @@ text_told text told r = record {
   line = r.fault.line;
   why = reason_text r.fault.reason ++ opcode_text r.fault.reason;
   of_text = fault_line _ _ _ r.fault.line _ r.first.first;
-  same = r.told ∙ ap (λ ts. ts ++ codes "\n") (append_assoc _ (reason_text r.fault.reason) (opcode_text r.fault.reason));
+  same = r.told ∙ ap (λ ts. ts ++ codes "\n") (append_assoc (refused_at 1 (codes "line") r.fault.line) (reason_text r.fault.reason) (opcode_text r.fault.reason));
 }
 
 pub mps_told : (text told : List ℕ) → IsMpsRefused text told → TellsLine text told

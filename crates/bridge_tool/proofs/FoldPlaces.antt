@@ -99,7 +99,7 @@ few_after o None total e = by (nat_lt most_coefficients total) refl e
 
 owners_placed : (f : File) (os : List Owned) (before : ℕ) (x : FileFault) → AreOwned f os → before ≤ most_coefficients → owners_fault f.counts.n_var before os ≡ Some x → IsPlaced f x
 owners_placed f [] before x h few e = absurd cc
-owners_placed f (w ∷ os) before x h few e = by (owner_fault n total w) refl e
+owners_placed f (w ∷ os) before x h few e = by (owner_fault n total w) refl e (λ below. owners_placed f os (before + coefficient_count f.counts.n_var (owned_line w)) x h.1 below)
   where
     n : ℕ
     n = f.counts.n_var
@@ -107,9 +107,9 @@ owners_placed f (w ∷ os) before x h few e = by (owner_fault n total w) refl e
     total : ℕ
     total = before + coefficient_count n (owned_line w)
 
-    by : (r : Option FileFault) → owner_fault n total w ≡ r → option_or r (owners_fault n total os) ≡ Some x → IsPlaced f x
-    by None q e = owners_placed f os total x h.1 (few_after w.owner (at_owner w.owner (expression_fault w.known n w.expression)) total q) e
-    by (Some y) q e =
+    by : (r : Option FileFault) → owner_fault n total w ≡ r → option_or r (owners_fault n total os) ≡ Some x → (total ≤ most_coefficients → owners_fault n total os ≡ Some x → IsPlaced f x) → IsPlaced f x
+    by None q e rest = rest (few_after w.owner (at_owner w.owner (expression_fault w.known n w.expression)) total q) e
+    by (Some y) q e rest =
         subst (IsPlaced f) (same_some y x e)
         (placed f h.0.0 before y few (subst (λ v. owner_fault n (before + coefficient_count n (owned_line v)) v ≡ Some y) h.0.1 q))
 
