@@ -94,10 +94,10 @@ class Texts(Case):
 
     def test_bare_sol(self) -> None:
         self.put(MODELS["knap"].text)
-        text = sol.bare(self.stub + ".nl", 501, 0, ["bridge-cbc: no"])
+        text = sol.bare(self.stub + ".nl", 501, 2, ["bridge-cbc: no"])
         self.assertEqual(text.decode().split("\n"),
                          ["bridge-cbc: no", "", "Options", "3", "1", "1", "0", "1", "0", "3", "0",
-                          "objno 0 501", ""])
+                          "objno 2 501", ""])
         self.assertEqual(sol.with_message(text, ["a", "b"]),
                          text.replace(b"bridge-cbc: no", b"a\nb"))
         for broken in (b"", b"g3 1 1", b"g3 1 1 0\nx y\n", b"gx\n1 1\n"):
@@ -159,14 +159,15 @@ class Files(Case):
 
     def test_is_ours(self) -> None:
         """iproute2's `bridge` is passed over on the PATH."""
-        other, ours = os.path.join(self.folder, "other"), os.path.join(self.folder, "ours")
-        for folder, script in ((other, "echo usage >&2; exit 255"),
+        first, other, ours = (os.path.join(self.folder, n) for n in ("first", "other", "ours"))
+        for folder, script in ((first, "echo bad words >&2; exit 255"),
+                               (other, "echo usage >&2; exit 3"),
                                (ours, "echo bad words >&2; exit 3")):
             os.mkdir(folder)
             with open(os.path.join(folder, "bridge"), "w") as f:
                 f.write(f"#!/bin/sh\n{script}\n")
             os.chmod(os.path.join(folder, "bridge"), 0o755)
-        path = os.pathsep.join([other, ours])
+        path = os.pathsep.join([first, other, ours])
         with mock.patch.dict(os.environ, {"PATH": path, "BRIDGE": ""}):
             self.assertEqual(bridge.find("", []), [os.path.join(ours, "bridge")])
             self.assertEqual(bridge.find("a 'b c'", []), ["a", "b c"])
