@@ -83,7 +83,9 @@ class Answer:
         figure = self.outcome.objective
         if isinstance(figure, Fraction):
             text = str(figure)
-            return text if len(text) <= 40 else f"{shown(figure)} (a fraction of {len(text)} digits)"
+            if len(text) > 40:
+                text = f"{shown(figure)} (a fraction of {len(text)} digits)"
+            return text
         return f"{self.program.figure(self.values):.10g}"
 
     def body(self) -> list[str]:

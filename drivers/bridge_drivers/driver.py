@@ -34,6 +34,7 @@ class Driver:
         self.words = words.Words()
         self.clock = Clock(self.name)
         self.nl = self.sol = ""
+        self.is_put = False
 
     def main(self, argv: Sequence[str]) -> int:
         """The exit status."""
@@ -57,6 +58,8 @@ class Driver:
         except Exception as fault:      # a modelling system is told, whatever it was
             if self.options.outlev >= 2:
                 raise
+            if self.is_put:             # such as a closed output: the .sol stands
+                return Status.FAILED
             return self.failed(Failure(Code.FAULT, f"a fault of the driver: {fault!r} (outlev=2 "
                                                    "shows where)"))
 
@@ -76,7 +79,8 @@ class Driver:
     # before the run ----------------------------------------------------------------
 
     def take_options(self) -> None:
-        """An older .sol is removed before anything can go wrong: it must not pass for this run's."""
+        """An older .sol is removed before anything can go wrong: it must not pass for this
+        run's."""
         if self.words.ampl or self.words.save:
             self.remove_older()
         try:
@@ -173,6 +177,7 @@ class Driver:
             with open(part, "wb") as f:
                 f.write(sol)
             os.replace(part, self.sol)
+            self.is_put = True
         except OSError as fault:
             raise Failure(Code.FILE, f"{self.sol}: {fault.strerror}") from None
 

@@ -3,6 +3,7 @@
 from __future__ import annotations
 
 import os
+import shlex
 import signal
 import subprocess
 import sys
@@ -42,7 +43,7 @@ class Clock:
     def note(self, argv: Sequence[str], folder: str = "") -> None:
         if self.tells:
             where = f"  (in {folder})" if folder else ""
-            print(f"{self.name}: {time.monotonic() - self.began:.2f} s: {' '.join(argv)}{where}",
+            print(f"{self.name}: {time.monotonic() - self.began:.2f} s: {shlex.join(argv)}{where}",
                   flush=True)
 
     def summary(self) -> str:

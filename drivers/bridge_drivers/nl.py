@@ -6,6 +6,7 @@
 
 from __future__ import annotations
 
+import os
 import re
 import struct
 from typing import NamedTuple
@@ -55,6 +56,8 @@ def prepared(path: str, target: str, shorter: bool) -> Prepared:
             return Prepared(path, [])
         f.seek(0)
         data = f.read()
+    if os.path.exists(target) and os.path.samefile(path, target):
+        raise BadFile(f"{target} is the model itself, and would be overwritten: give another keep")
     if binary:
         try:
             text = text_of_binary(data)

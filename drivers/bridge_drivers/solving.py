@@ -2,6 +2,7 @@
 
 from __future__ import annotations
 
+import os
 import shlex
 from dataclasses import dataclass
 
@@ -40,7 +41,8 @@ class Solving:
     def result(self) -> Result:
         """The outcome. Failure where there is none."""
         try:
-            text_form = prepared(self.nl, f"{self.folder}/model.nl", bool(self.options.shortest))
+            text_form = prepared(self.nl, os.path.join(self.folder, "text.nl"),
+                                 bool(self.options.shortest))
         except BadFile as fault:
             raise Failure(Code.REFUSED, str(fault), Status.REFUSED) from None
         try:

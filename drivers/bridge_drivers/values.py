@@ -75,12 +75,11 @@ def text_of(value: Number) -> tuple[str, bool]:
 
 
 def snapped(value: Number, places: int = 9) -> Number:
-    """A double that lies within 1e-9 (times its size above 1) of a decimal of 9 places, as that
-    decimal; anything else as it is."""
+    """A double as the decimal of 9 places that lies within 1e-9 of it (a large one has fewer
+    places and stays); anything else as it is."""
     if not isinstance(value, float) or not math.isfinite(value):
         return value
-    near = round(value, places)
-    return near if abs(near - value) <= 1e-9 * max(1.0, abs(value)) else value
+    return round(value, places)
 
 
 def plain(fraction: str) -> str:

@@ -3,7 +3,8 @@
 That a model is infeasible is certified by weights of rows, for `bridge prove`: the duals of the
 program that minimises by how much the rows are missed. They may be multiplied by any positive
 number, so fractions become whole numbers and always have decimals. A bound for an integer program
-comes from the duals of its relaxation: whatever they are, `bridge check` makes a true bound of them.
+comes from the duals of its relaxation: whatever they are, `bridge check` makes a true bound of
+them.
 """
 
 from __future__ import annotations
@@ -63,10 +64,11 @@ def infeasible(bridge: Bridge, nl: str, job: Job) -> str:
         lines.append(f"row {row} {text}")
     # `return` multiplies each weight by the factor of its row: then they are of the file's rows.
     path = job.write("weights.txt", ("\n".join(lines) + "\n").encode())
-    duals = duals_of(bridge.text("return", nl, path))
+    duals = duals_of(job.clock.timed("return", bridge.text, "return", nl, path))
     pairs = [f"{i} {y}" for i, y in enumerate(duals) if y != "0"]
     proof = "\n".join(["proof 1", "infeasible", f"weights {len(pairs)}", *pairs]) + "\n"
-    verdict = bridge.verdict("prove", nl, job.write("weights.proof", proof.encode()))
+    verdict = job.clock.timed("prove", bridge.verdict, "prove", nl,
+                              job.write("weights.proof", proof.encode()))
     if verdict == "proved":
         return "certified infeasible"
     return f"not certified: the weights do not prove it ({verdict})"

@@ -5,8 +5,9 @@ from __future__ import annotations
 import copy
 import os
 import shutil
+from unittest import mock
 
-from support import HERE, Case, Sol
+from support import HERE, Case, Reply, StandIn
 from bridge_drivers import VERSION, solvers
 from models import MODELS
 import stored
@@ -118,6 +119,14 @@ class Failures(Case):
         self.put(b"neither\n")
         self.assertEqual(self.replay("cbc", "knap", self.stub, "-AMPL").returncode, 1)
 
+    def test_keep_never_overwrites_the_model(self) -> None:
+        self.stub = os.path.join(self.folder, "text")
+        self.put(b"b" + MODELS["knap"].text[1:])
+        before = os.listdir(self.folder)
+        ended = self.replay("cbc", "knap", self.stub, "keep=" + self.folder)
+        self.assertEqual((ended.returncode, os.listdir(self.folder)), (2, before))
+        self.assertIn("is the model itself", ended.stderr)
+
     def test_damaged_binary(self) -> None:
         self.put(b"b3 1 1 0\n 1 1 1 0 0\n")
         self.failure(501, 2, "ends too soon or is damaged", "cbc", "knap")
@@ -128,8 +137,8 @@ class Failures(Case):
         for driver, file, change in (
                 ("cbc", "answer.bin", lambda old: old[:-12]),
                 ("clp", "answer.txt", lambda old: ["who knows"]),
-                ("glpsol", "answer.txt", lambda old: [w.replace("j 1 b 4", "j 9 b 4") for w in old]),
-                ("esolver", "answer.sol", lambda old: [w.replace("4/5", "4/0") for w in old])):
+                ("glpsol", "answer.txt", lambda old: replaced(old, "j 1 b 4", "j 9 b 4")),
+                ("esolver", "answer.sol", lambda old: replaced(old, "4/5", "4/0"))):
             run = copy.deepcopy(stored.runs(driver)["diet"])
             run["files"][file] = change(run["files"][file])
             ended = self.replay(driver, "diet", self.stub, "-AMPL", run=run)
@@ -169,19 +178,105 @@ class Claims(Case):
         self.put(MODELS["thirds"].text)
         self.assertEqual(self.last("esolver", "thirds"),
                          "not certified: the exact answer has no such decimals")
-        self.assertRegex(self.sol().text, r"\n\d+ exact values have no decimal of at most 38 digits")
+        self.assertRegex(self.sol().text, r"\n\d+ exact values have no decimal of at most 38")
+
+    def test_integers_that_are_broken_or_not_whole(self) -> None:
+        self.put(MODELS["knap"].text)
+        for value, line, note in (
+                ("1", "not certified: constraint 0 is broken, which rounding may have done", ""),
+                ("0.25", "not certified: an integer variable is not whole",
+                 "1 integer variables are not within 1e-05 of a whole number")):
+            run = copy.deepcopy(stored.runs("lp_solve")["knap"])
+            lines = run["logs"]["solver.log"]
+            at = next(i for i, text in enumerate(lines) if text.startswith("x0 "))
+            others = "0" if note else "1"
+            lines[at:at + 3] = [f"x0 {value}", f"x1 {others}", f"x2 {others}"]
+            self.assertEqual(self.last("lp_solve", "knap", run=run), line)
+            self.assertIn(note, self.sol().text)
+
+    def test_each_verdict(self) -> None:
+        """What the line makes of each line of `check`, for a linear and for an integer program."""
+        feasible = "certified feasible"
+        wide = "not certified: exact values do not fit 128 bits "
+        for verdict, linear, whole in (
+                ("yes 9", "certified optimal: exactly 9", "certified optimal: exactly 9"),
+                ("gap 9 17/2", "not certified: the values are feasible with objective exactly 9, "
+                               "the duals prove only 8.5", feasible + ": objective exactly 9"),
+                ("row 1 has no side", "not certified: the dual of constraint 1 has the wrong sign",
+                 "not certified: the dual of constraint 1 has the wrong sign"),
+                ("bound 1 has no side", "not certified: the reduced cost of variable 1 has no "
+                                        "bound to rest on", feasible),
+                ("bound 1 broken", "not certified: a bound of variable 1 is broken, which rounding "
+                                   "may have done", "not certified: a bound of variable 1 is "
+                                   "broken, which rounding may have done"),
+                ("too wide at row 1", wide + "(too wide at row 1)", wide + "(too wide at row 1)"),
+                ("too wide at cost 1", wide + "(too wide at cost 1)", feasible),
+                ("too wide at total", wide + "(too wide at total)", feasible)):
+            reply = Reply(int(not verdict.startswith("yes")), verdict.encode() + b"\n", "")
+            with mock.patch.dict(StandIn.says, {"check": lambda text: reply}):
+                for name, line in (("product", linear), ("knap", whole)):
+                    self.put(MODELS[name].text)
+                    self.assertEqual(self.last("cbc", name), line)
+
+    def test_a_bridge_that_lacks_a_command_or_refuses(self) -> None:
+        def lacks(text: str) -> Reply:
+            return Reply(3, b"", "bad words")
+        self.put(MODELS["product"].text)
+        with mock.patch.dict(StandIn.says, {"check": lacks}):
+            self.assertEqual(self.last("cbc", "product"), "not certified: this bridge does not "
+                                                          "know the command `check` (bad words)")
+        with mock.patch.dict(StandIn.says, {"return": lacks}):
+            self.assertIn("return: this bridge does not know the command `return`",
+                          self.last("cbc", "product"))
+            self.assertEqual(self.sol().code, 507)
+        self.put(MODELS["infeasible"].text)
+        with mock.patch.dict(StandIn.says, {"prove": lacks}):
+            self.assertIn("does not know the command `prove`", self.last("cbc", "infeasible"))
+
+    def test_duals_that_do_not_fit(self) -> None:
+        """They are left out, which a line tells; the values are checked without them."""
+        def refuses(text: str) -> "Reply | None":
+            wide = "\nrow c0 1\n" in text
+            return Reply(2, b"", "refused row 0: dual too wide") if wide else None
+        self.put(MODELS["product"].text)
+        with mock.patch.dict(StandIn.says, {"return": refuses}):
+            line = self.last("clp", "product")
+        sol = self.sol()
+        self.assertIn("duals are left out: refused row 0: dual too wide (", sol.message[1])
+        self.assertEqual((line, len(sol.values), sol.duals, sol.suffixes),
+                         ("certified feasible", 2, [], {}))
+
+    def test_nearest_decimals_that_would_pass(self) -> None:
+        """Nothing is claimed of them all the same."""
+        self.put(MODELS["no_objective"].text)
+        run = copy.deepcopy(stored.runs("esolver")["no_objective"])
+        run["files"]["answer.sol"] = ["status OPTIMAL", "\tValue = 0", "VARS:", "x0 = 10/3",
+                                      "REDUCED COST:", "PI:", "SLACK:"]
+        self.assertEqual(self.last("esolver", "no_objective", run=run),
+                         "not certified: the exact answer has no such decimals")
+        self.assertEqual(float(self.sol().values[0]), 10 / 3)
+
+    def test_weights(self) -> None:
+        """Fractions are scaled; weights that prove nothing claim nothing."""
+        self.put(MODELS["infeasible"].text)
+        for value, weights, line in (
+                ("1", ["c0 = 1/3", "c1 = -1/3"], "certified infeasible"),
+                ("1", [], "not certified: the weights do not prove it (leaf 0 gap 0)"),
+                ("1", ["c0 = -1"], "not certified: the weights do not prove it "
+                                   "(leaf 0 row 0 has no side)"),
+                ("0", [], "not certified: QSopt_ex finds a point that satisfies all rows")):
+            run = copy.deepcopy(stored.runs("cbc")["infeasible"])
+            run["files"]["phase1.sol"] = ["status OPTIMAL", f"\tValue = {value}", "VARS:",
+                                          "REDUCED COST:", "PI:", *weights, "SLACK:"]
+            self.assertEqual(self.last("cbc", "infeasible", run=run), line)
 
     def test_bound(self) -> None:
         self.put(MODELS["knap"].text)
         run = copy.deepcopy(stored.runs("cbc")["knap"])
         relaxed = ["status OPTIMAL", "\tValue = 250/13", "VARS:", "x0 = 1", "REDUCED COST:",
                    "PI:", "c0 = 24/13", "SLACK:"]
-        run["files"]["phase1.sol"] = relaxed
         run["files"]["relaxed.sol"] = relaxed
-        from unittest import mock
-        with mock.patch("stored.put", side_effect=lambda files, folder, start: real_put(
-                files, folder, "relaxed." if start == "phase1." else start)):
-            line = self.last("cbc", "knap", "bound=1", run=run)
+        line = self.last("cbc", "knap", "bound=1", run=run)
         self.assertRegex(line, "^certified feasible: objective exactly 17; certified bound 19.2")
 
     def test_relax(self) -> None:
@@ -196,7 +291,6 @@ class Claims(Case):
 
     def test_infeasible_without_an_exact_solver(self) -> None:
         self.put(MODELS["infeasible"].text)
-        from unittest import mock
         with mock.patch("bridge_drivers.solvers.exact", lambda: None):
             self.assertEqual(self.last("cbc", "infeasible"),
                              "not certified: no exact solver (esolver) is installed, which would "
@@ -209,7 +303,8 @@ class Claims(Case):
                  "certified feasible: objective exactly 17"),
                 ("Stopped on time (no integer solution - continuous used) - objective value 17.0",
                  450, "not certified: there is no answer to check"),
-                ("Unbounded", 300, "not certified: bridge has no proof that a program is unbounded"),
+                ("Unbounded", 300,
+                 "not certified: bridge has no proof that a program is unbounded"),
                 ("Integer infeasible", 290, "not certified: the solver does not say which")):
             run = copy.deepcopy(stored.runs("cbc")["knap"])
             run["files"]["answer.txt"][0] = first
@@ -233,4 +328,5 @@ class Claims(Case):
                          "the binary .nl file was turned into text, which is not proved")
 
 
-real_put = stored.put
+def replaced(lines: list[str], old: str, new: str) -> list[str]:
+    return [line.replace(old, new) for line in lines]

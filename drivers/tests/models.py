@@ -32,7 +32,8 @@ def nl(variables, rows=(), objectives=(), trees: Mapping[int, Sequence[str]] = {
     for letter, items in (("J", rows), ("G", objectives)):
         for i, (_, _, terms) in enumerate(items):
             if terms:
-                out += [f"{letter}{i} {len(terms)}"] + [f"{j} {a}" for j, a in sorted(terms.items())]
+                out.append(f"{letter}{i} {len(terms)}")
+                out += [f"{j} {a}" for j, a in sorted(terms.items())]
     return ("\n".join(out) + "\n").encode()
 
 

@@ -33,7 +33,8 @@ class Processes(Case):
 
     def test_bridge_missing(self) -> None:
         self.put(MODELS["knap"].text)
-        for bridge, text in (("", "bridge was not found"), ("/nonexistent/bridge", "could not be run")):
+        for bridge, text in (("", "bridge was not found"),
+                             ("/nonexistent/bridge", "could not be run")):
             ended = self.drive("cbc", self.stub, "-AMPL", "solver=/bin/true",
                                BRIDGE=bridge, PATH="/nonexistent")
             if bridge or self.sol().code == 503:    # beside the drivers it may have been built
@@ -71,8 +72,9 @@ class Processes(Case):
         slow = self.script("cbc", f"echo $$ >{mark}; exec sleep 60")
         self.put(MODELS["knap"].text)
         for number, status in ((signal.SIGTERM, 143), (signal.SIGINT, 130)):
-            child = subprocess.Popen([sys.executable, os.path.join(BIN, "bridge-cbc"), self.stub,
-                                      "-AMPL", "-e", "solver=" + slow], stderr=subprocess.PIPE, text=True,
+            argv = [sys.executable, os.path.join(BIN, "bridge-cbc"), self.stub, "-AMPL", "-e",
+                    "solver=" + slow]
+            child = subprocess.Popen(argv, stderr=subprocess.PIPE, text=True,
                                      env={**os.environ, "BRIDGE": STAND_IN})
             for _ in range(600):
                 if os.path.exists(mark) and os.path.getsize(mark):

@@ -2,8 +2,9 @@
 """Stands in for `bridge` in tests: `export`, `return`, `check` and `prove` of small text .nl files
 without expressions beyond sums, products and quotients, in plain fractions.
 
-It is no part of what is shipped and proves nothing. It has neither the limits nor most refusals of
-`bridge`; what it writes for the models of `models.py` is compared with `bridge` where that is there.
+It is no part of what is shipped and proves nothing. It has neither the limits nor most refusals
+of `bridge`; what it writes for the models of `models.py` is compared with `bridge` where that is
+there.
 """
 
 from __future__ import annotations
@@ -89,7 +90,7 @@ class File:
         self.rows = [Form() for _ in range(self.m)]
         self.goals = [Form() for _ in range(self.objectives)]
         self.maximised = [False] * self.objectives
-        self.sides, self.bounds = [], []
+        self.sides, self.bounds, self.defined = [], [], {}
         self.at = 10
         while self.at < len(self.lines):
             self.segment()
@@ -103,6 +104,10 @@ class File:
         letter, numbers = words[0][0], [words[0][1:], *words[1:]]
         if letter == "C":
             self.rows[int(numbers[0])].add(self.tree())
+        elif letter == "V":
+            form = Form()
+            self.pairs(form, int(numbers[1]))
+            self.defined[int(numbers[0])] = form.add(self.tree())
         elif letter == "O":
             self.maximised[int(numbers[0])] = numbers[1] == "1"
             self.goals[int(numbers[0])].add(self.tree())
@@ -111,14 +116,17 @@ class File:
         elif letter == "b":
             self.bounds = [self.interval() for _ in range(self.n)]
         elif letter in "JG":
-            form = (self.rows if letter == "J" else self.goals)[int(numbers[0])]
-            for _ in range(int(numbers[1])):
-                j, a = self.next()[1]
-                form.terms[int(j)] = form.terms.get(int(j), Fraction(0)) + Fraction(a)
+            self.pairs((self.rows if letter == "J" else self.goals)[int(numbers[0])],
+                       int(numbers[1]))
         elif letter in "kdxS":
             self.at += int(numbers[1 if letter == "S" else 0])
         else:
             raise NotImplementedError(words)
+
+    def pairs(self, form: Form, count: int) -> None:
+        for _ in range(count):
+            j, a = self.next()[1]
+            form.terms[int(j)] = form.terms.get(int(j), Fraction(0)) + Fraction(a)
 
     def interval(self) -> tuple[Fraction | None, Fraction | None]:
         number, (kind, *words) = self.next()
@@ -134,6 +142,8 @@ class File:
         form = Form()
         if letter == "n":
             return Form(Fraction(rest))
+        if letter == "v" and int(rest) >= self.n:
+            return form.add(self.defined[int(rest)])
         if letter == "v":
             form.terms[int(rest)] = Fraction(1)
             return form

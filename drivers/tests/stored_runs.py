@@ -2,6 +2,8 @@
 
 from __future__ import annotations
 
+import os
+
 from support import LOOSE, Case, Replay
 from bridge_drivers import solvers
 from models import MODELS, is_solved
@@ -37,6 +39,9 @@ class StoredRuns(Case):
     def test_command_lines(self) -> None:
         """The words that solvers are called with, where options make them."""
         for driver, options, words in (
+                ("cbc", [], ["coin.mps", "-max", "-solve"]),
+                ("clp", [], ["coin.mps", "-max", "-solve"]),
+                ("glpsol", [], ["glpsol.mps", "--max", "-w"]),
                 ("cbc", ["timelim=9", "mipgap=0.1", "threads=2", "extra=-cuts off"],
                  ["-timeMode", "elapsed", "-sec", "9", "-ratio", "0.1", "-threads", "2", "-cuts",
                   "off", "-solve"]),
@@ -46,5 +51,25 @@ class StoredRuns(Case):
                 ("esolver", ["timelim=9"], ["/stored/esolver", "-R", "9", "-O"]),
                 ("lp_solve", ["timelim=9", "relax=1"], ["-noint", "-timeout", "9"])):
             self.put(MODELS["product"].text)
-            self.replay(driver, "product", self.stub, "-AMPL", "-e", *options)
-            self.assertIn(" ".join(words), " ".join(Replay.argv))
+            self.replay(driver, "product", self.stub, "-AMPL", "-e", *options,
+                        "keep=" + os.path.join(self.folder, "kept"))
+            folder = os.path.join(self.folder, "kept", "")
+            self.assertIn(" ".join(words), " ".join(Replay.argv).replace(folder, ""))
+        self.put(MODELS["diet"].text)
+        self.replay("glpsol", "diet", self.stub, "-AMPL", "-e")
+        self.assertIn("--min", Replay.argv)
+
+    def test_models_as_they_are_read(self) -> None:
+        """GLPK wants no OBJSENSE and adds the RHS of the objective row; COIN wants FREE."""
+        self.put(MODELS["product"].text)
+        kept = os.path.join(self.folder, "kept")
+        texts = {}
+        for driver, name in (("glpsol", "glpsol.mps"), ("cbc", "coin.mps"),
+                             ("lp_solve", "lp_solve.mps")):
+            self.replay(driver, "product", self.stub, "keep=" + kept)
+            with open(os.path.join(kept, name)) as f:
+                texts[driver] = f.read()
+        self.assertIn("\n RHS obj -5\n", texts["lp_solve"])
+        self.assertIn("\n RHS obj 5\n", texts["glpsol"])
+        self.assertNotIn("OBJSENSE", texts["glpsol"])
+        self.assertTrue(texts["cbc"].startswith("NAME nl FREE\nOBJSENSE\n MAX\n"))

@@ -13,7 +13,7 @@ import sys
 import tempfile
 import unittest
 from fractions import Fraction as F
-from typing import NamedTuple
+from typing import Callable, NamedTuple
 from unittest import mock
 
 HERE = os.path.dirname(os.path.abspath(__file__))
@@ -74,10 +74,18 @@ class Sol:
 
 
 class StandIn(Bridge):
-    """`bridge` in this process."""
+    """`bridge` in this process. `says` has the replies of commands that are not to be worked:
+    a function of the last file's text, which may answer None."""
+
+    says: dict[str, Callable[[str], "Reply | None"]] = {}
 
     def call(self, *words: str) -> Reply:
         self.note(["bridge", *words])
+        if words[0] in self.says:
+            with open(words[-1]) as f:
+                reply = self.says[words[0]](f.read())
+            if reply is not None:
+                return reply
         status, out, told = stand_in.answer(list(words))
         return Reply(status, out.encode(), told)
 
@@ -90,7 +98,8 @@ class Replay(Job):
 
     def run(self, argv, log=LOG):
         type(self).argv = list(argv)
-        stored.put(self.run_of["files"], self.folder, "answer." if log == LOG else "phase1.")
+        start = "answer." if log == LOG else log[:-3]
+        stored.put(self.run_of["files"], self.folder, start)
         text = "\n".join(self.run_of["logs"].get(log, []))
         if log == LOG:
             self.log = text
@@ -201,3 +210,20 @@ class Case(unittest.TestCase):
         elif name != "rowless":     # there bridge may want duals, of which there are none
             exact = values.exact_decimal(model.objective)
             self.assertRegex(last, f"^certified optimal: exactly {re.escape(exact)}( |$)")
+        if last.startswith("certified"):
+            self.judge_certified(last, sol)
+
+    def judge_certified(self, last: str, sol: Sol) -> None:
+        """What the line says, once more from the model and the .sol that was written."""
+        file = stand_in.File(self.stub + ".nl")
+        for row, sides in zip(file.rows, file.sides):
+            self.assertFalse(stand_in.outside(row.at(sol.values), *sides), last)
+        for value, sides in zip(sol.values, file.bounds):
+            self.assertFalse(stand_in.outside(value, *sides), last)
+        figure = re.search(r"exactly (\S+)", last)
+        if figure:
+            goal = stand_in.Linear(file, sol.objno).goal
+            self.assertEqual(goal.at(sol.values), F(figure.group(1)), last)
+        if last.startswith("certified optimal") and sol.duals:
+            verdict = stand_in.check(file, self.stub + ".sol")
+            self.assertEqual(verdict.split()[0], "yes", last)

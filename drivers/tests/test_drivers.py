@@ -20,7 +20,7 @@ sys.dont_write_bytecode = True
 os.environ["PYTHONDONTWRITEBYTECODE"] = "1"         # also where drivers are processes
 HERE = os.path.dirname(os.path.abspath(__file__))
 sys.path[:0] = [HERE]
-MODULES = ("units", "stored_runs", "manners", "processes", "end_to_end")
+MODULES = ("units", "stored_runs", "manners", "processes", "end_to_end", "pulp_class")
 
 
 def main() -> int:
@@ -33,7 +33,7 @@ def main() -> int:
     if bad:
         sys.stdout.write(stream.getvalue())
     skipped = len(result.skipped)
-    more = f", {skipped} skipped (no bridge or no solver)" if skipped else ""
+    more = f", {skipped} skipped for want of bridge, a solver or PuLP" if skipped else ""
     ended = f"{bad} failures" if bad else "ok"
     print(f"drivers: {result.testsRun} tests{more}: {ended}")
     return 1 if bad or not result.testsRun else 0

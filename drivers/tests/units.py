@@ -3,9 +3,11 @@
 from __future__ import annotations
 
 import os
+import struct
 from fractions import Fraction as F
+from unittest import mock
 
-from support import HERE, Case, StandIn
+from support import HERE, Case
 from bridge_drivers import binary_nl, bridge, nl, sol, values, words
 from bridge_drivers.bridge import Refused, Reply
 from bridge_drivers.options import BadOption, Options
@@ -92,10 +94,10 @@ class Texts(Case):
 
     def test_bare_sol(self) -> None:
         self.put(MODELS["knap"].text)
-        text = sol.bare(self.stub + ".nl", 501, 0, ["bridge-cbc: no"])
+        text = sol.bare(self.stub + ".nl", 501, 2, ["bridge-cbc: no"])
         self.assertEqual(text.decode().split("\n"),
                          ["bridge-cbc: no", "", "Options", "3", "1", "1", "0", "1", "0", "3", "0",
-                          "objno 0 501", ""])
+                          "objno 2 501", ""])
         self.assertEqual(sol.with_message(text, ["a", "b"]),
                          text.replace(b"bridge-cbc: no", b"a\nb"))
         for broken in (b"", b"g3 1 1", b"g3 1 1 0\nx y\n", b"gx\n1 1\n"):
@@ -123,8 +125,8 @@ class Files(Case):
 
     def test_big_endian(self) -> None:
         """The other byte order, and an S segment."""
-        import struct
-        head = b"b3 1 1 0\n 1 0 0 0 0\n 0 0\n 0 0\n 0 0 0\n 0 0 2 1\n 0 0 0 0 0\n 0 0\n 0 0\n 0 0 0 0 0\n"
+        head = b"b3 1 1 0\n 1 0 0 0 0\n 0 0\n 0 0\n 0 0 0\n 0 0 2 1\n" + \
+            b" 0 0 0 0 0\n 0 0\n 0 0\n 0 0 0 0 0\n"
         body = b"b0" + struct.pack(">dd", 0.5, 0.1 + 0.2) + \
             b"S" + struct.pack(">iii", 4, 1, 4) + b"rc\0\0" + struct.pack(">id", 0, 2.0)
         self.assertEqual(binary_nl.text_of_binary(head + body).decode().split("\n")[10:],
@@ -157,15 +159,15 @@ class Files(Case):
 
     def test_is_ours(self) -> None:
         """iproute2's `bridge` is passed over on the PATH."""
-        other, ours = os.path.join(self.folder, "other"), os.path.join(self.folder, "ours")
-        for folder, script in ((other, "echo usage >&2; exit 255"),
+        first, other, ours = (os.path.join(self.folder, n) for n in ("first", "other", "ours"))
+        for folder, script in ((first, "echo bad words >&2; exit 255"),
+                               (other, "echo usage >&2; exit 3"),
                                (ours, "echo bad words >&2; exit 3")):
             os.mkdir(folder)
             with open(os.path.join(folder, "bridge"), "w") as f:
                 f.write(f"#!/bin/sh\n{script}\n")
             os.chmod(os.path.join(folder, "bridge"), 0o755)
-        from unittest import mock
-        path = os.pathsep.join([other, ours])
+        path = os.pathsep.join([first, other, ours])
         with mock.patch.dict(os.environ, {"PATH": path, "BRIDGE": ""}):
             self.assertEqual(bridge.find("", []), [os.path.join(ours, "bridge")])
             self.assertEqual(bridge.find("a 'b c'", []), ["a", "b c"])
@@ -173,5 +175,5 @@ class Files(Case):
                              [os.path.join(other, "bridge")])
         with mock.patch.dict(os.environ, {"PATH": other, "BRIDGE": ""}):
             self.assertRaisesRegex(bridge.Missing, "is another program", bridge.find, "", [])
-        missing = StandIn.__bases__[0](["/nonexistent/bridge"], lambda argv: None)
+        missing = bridge.Bridge(["/nonexistent/bridge"], lambda argv: None)
         self.assertRaises(bridge.Missing, missing.call, "export", "x")

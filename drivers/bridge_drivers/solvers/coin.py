@@ -50,7 +50,8 @@ class Coin(Solver):
         except FileNotFoundError:
             raise Unclear("no saved answer") from None
         rows, columns = len(p.constraints), len(p.columns)
-        if len(data) != 16 + 16 * (rows + columns) or struct.unpack("=ii", data[:8]) != (rows, columns):
+        length = 16 + 16 * (rows + columns)
+        if len(data) != length or struct.unpack("=ii", data[:8]) != (rows, columns):
             raise Unclear("the saved answer is of another model")
         doubles = struct.unpack(f"={1 + 2 * (rows + columns)}d", data[8:])
         duals, values = 1 + rows, 1 + 2 * rows
