@@ -4,6 +4,7 @@
 mod answer;
 mod command;
 mod export;
+mod fixed;
 mod laws;
 mod mps;
 mod mps_told;
