@@ -1,5 +1,6 @@
 pub mod Decided
 pub mod Decisions
+pub mod Ending
 pub mod Exporting
 pub mod FaultLines
 pub mod Headline
@@ -8,5 +9,8 @@ pub mod Meaning
 pub mod MpsRewriting
 pub mod NlRewriting
 pub mod Numbers
+pub mod OneOutcome
 pub mod Outcomes
+pub mod SeveralFiles
+pub mod SolRewriting
 pub mod Working

@@ -10,6 +10,9 @@ pub mod OneFile
 pub mod Outcome
 pub mod Promise
 pub mod Refusal
+pub mod SeveralFiles
+pub mod Sol
+pub mod SolTold
 pub mod Stages
 pub mod Told
 pub mod Transfer

@@ -7,3 +7,5 @@ mod commands;
 mod exports;
 #[cfg(test)]
 mod mps_commands;
+#[cfg(test)]
+mod sol_commands;
