@@ -1,3 +1,4 @@
+pub mod Checking
 pub mod Decided
 pub mod Decisions
 pub mod Ending

@@ -1,4 +1,5 @@
 pub mod Answer
+pub mod Check
 pub mod Command
 pub mod Commands
 pub mod Export
@@ -16,3 +17,4 @@ pub mod SolTold
 pub mod Stages
 pub mod Told
 pub mod Transfer
+pub mod VerdictTold

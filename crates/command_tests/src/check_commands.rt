@@ -17,6 +17,7 @@ const LEAST: &str = "O0 0\nn0\nr\n2 4\nb\n0 0 3\n2 0\nJ0 2\n0 1\n1 1\nG0 2\n0 2\
 const MOST: &str = "O0 1\nn0\nr\n1 4\nb\n0 0 3\n1 3\nJ0 2\n0 1\n1 1\nG0 2\n0 2\n1 3\n";
 
 // What follows the options: the counts, the values and the objective's line.
+#[derive(Clone, Copy)]
 struct Case {
     body: &'static str,
     values: &'static str,
