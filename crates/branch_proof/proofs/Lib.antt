@@ -1,0 +1,9 @@
+pub mod BranchFiles
+pub mod Walks
+pub mod Boxes
+pub mod Spread
+pub mod Sides
+pub mod RoomLemmas
+pub mod Steps
+pub mod Proved
+pub mod TreeReading

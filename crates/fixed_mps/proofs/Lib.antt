@@ -1,0 +1,4 @@
+pub mod BlankEnd
+pub mod Examples
+pub mod FreeLines
+pub mod GrammarLemmas

@@ -1,0 +1,5 @@
+pub mod Examples
+pub mod DrawLemmas
+pub mod NumberLemmas
+pub mod RowLemmas
+pub mod Drafting

@@ -1,0 +1,77 @@
+-- Each text has one reading, and what a reader answers is a proof of its file.
+use Rattle.std.proofs.Common.{◌≡◌, ◌∙◌, ℕ, Bool, false, ◌||◌, not, List, ◌++◌, Option, Some, None, Result, Ok, Err, is_none, inl, inr, refl, sym, ap₂, subst}
+use Rattle.std.specs.Prelude.{IfOk}
+use Rattle.text_base.specs.declared.stop.Stop.{Stop}
+use Rattle.text_base.specs.Reading.{Stands}
+use Rattle.text_base.specs.declared.fault.TextFault.{TextFault}
+use Rattle.text_base.specs.Judged.{IsClean}
+use Rattle.text_base.specs.Reading.{lines_of, last_of}
+use Rattle.text_base.proofs.FirstReasons.{none_each}
+use Rattle.text_base.proofs.JudgedLemmas.{one_outcome}
+use Rattle.branch_proof.specs.declared.proof.Claim.{Claim}
+use Rattle.branch_proof.specs.declared.proof.ProofNode.{ProofNode}
+use Rattle.branch_proof.specs.Files.{IsProofIn}
+use Rattle.branch_proof.specs.Proofs.{Pair, ProofValue}
+use Rattle.nl_model.specs.File.{File}
+use Rattle.proof_text.specs.declared.fault.ProofReason.{ProofReason}
+use Rattle.proof_text.specs.Setting.{Setting, setting_of}
+use Rattle.proof_text.specs.Standing.{IsSaid, Standing, is_whole_tree, nothing_yet, standing}
+use Rattle.proof_text.specs.Tests.{end_tests}
+use Rattle.proof_text.specs.Grammar.{proof_rules}
+use Rattle.proof_text.specs.Reader.{HasOneReading, IsFed, IsProofText, Reading, ReadsProof}
+use Rattle.proof_text.proofs.CleanLines.{end_fine, text_fine}
+use Rattle.proof_text.proofs.GrammarLemmas.{read_for}
+use Rattle.proof_text.proofs.TextTrees.{text_is_proof}
+
+some_claim : (o : Option Claim) (b : Bool) → (is_none o || b) ≡ false → (c : Claim) × (o ≡ Some c)
+some_claim None b e = absurd cc
+some_claim (Some c) b e = (c, refl)
+
+parts : Claim → List ProofNode → List Pair → ProofValue
+parts c ns ps = record { claim = c; nodes = ns; pairs = ps }
+
+same_parts : (c d : Claim) (ns ms : List ProofNode) (ps qs : List Pair) → c ≡ d → ns ≡ ms → ps ≡ qs → parts c ns ps ≡ parts d ms qs
+same_parts c d ns ms ps qs e f g = cc
+
+one_said : (st : Standing) (p q : ProofValue) → IsSaid st p → IsSaid st q → p ≡ q
+unfolding parts
+one_said st p q h g = same_parts p.claim q.claim p.nodes q.nodes p.pairs q.pairs (let a = h.claim in let b = g.claim in cc) (h.nodes ∙ sym g.nodes) (h.pairs ∙ sym g.pairs)
+
+clean_said : (s : Setting) (text : List ℕ) → IsClean (proof_rules s) (lines_of text) (last_of text) → (p : ProofValue) × IsProofText s text p
+unfolding end_tests
+clean_said s text clean =
+    let st = standing (lines_of text) in
+    let tests = none_each (end_tests st) (end_fine s nothing_yet (lines_of text) (text_fine s text clean)) in
+    let claim = some_claim st.claim (not (is_whole_tree st)) tests.1.0 in
+    (record { claim = claim.0; nodes = st.nodes; pairs = st.pairs ++ st.own }, record { clean = clean; said = record { claim = claim.1; nodes = refl; pairs = refl } })
+
+fault_at : ℕ → ProofReason → TextFault ProofReason
+fault_at line reason = record { reason = reason; line = line }
+
+pub one_reading : (s : Setting) (text : List ℕ) → HasOneReading s text
+unfolding fault_at
+one_reading s text =
+    let one = one_outcome (proof_rules s) (lines_of text) (last_of text) in
+    record {
+      some = elim one.some [
+        | inl clean ↦ inl (clean_said s text clean)
+        | inr fault ↦ inr (record { reason = fault.1; line = fault.0 }, fault.2)
+      ];
+      not_both = λ p fault h f. one.not_both h.clean fault.line fault.reason f;
+      one_value = λ p q h g. one_said (standing (lines_of text)) p q h.said g.said;
+      one_fault = λ a b f g.
+          let same = one.one_fault a.line b.line a.reason b.reason f g in
+          ap₂ fault_at same.0 same.1;
+    }
+
+-- what is read for the setting of a file
+pub proof_from : (f : File) (text : List ℕ) (s : Setting) → s ≡ setting_of f → (result : Result ProofValue (Stop (TextFault ProofReason))) → ReadsProof s text result → IfOk result (λ p. IsProofIn f p)
+proof_from f text s same (Ok p) reads = text_is_proof f text p (subst (λ (t : Setting). IsProofText t text p) same reads)
+proof_from f text s same (Err stop) reads = tt
+
+-- the same for a reader
+pub proof_read : (inside held : Reading) (result : Result ProofValue (Stop (TextFault ProofReason))) → inside ≡ held
+    → ((text : List ℕ) → Stands inside.stopped (proof_rules inside.read.setting) (λ lines. inside.read.standing ≡ standing lines) inside.lines text → ReadsProof inside.read.setting text result)
+    → IfOk result (λ p. (f : File) (text : List ℕ) → IsFed (setting_of f) held text → IsProofIn f p)
+proof_read inside held (Ok p) same reads = λ f text fed. text_is_proof f text p (read_for inside held (Ok p) same reads (setting_of f) text fed)
+proof_read inside held (Err stop) same reads = tt

@@ -1,0 +1,27 @@
+-- The grammar of proof texts: which have no fault, what they say, and what is the first fault of
+-- the others.
+use Rattle.std.specs.Prelude.{ℕ, List}
+use Rattle.text_base.specs.Judged.{Rules, first_reason}
+use Rattle.text_base.specs.declared.lines.LineFault.{LineFault}
+use Rattle.text_base.specs.declared.lines.LineFault.TheVariants.{LineTooLong as LongLine, InputTooLong as LongInput}
+use Rattle.branch_proof.specs.Proofs.{ProofValue}
+use Rattle.proof_text.specs.declared.fault.ProofReason.{ProofReason}
+use Rattle.proof_text.specs.declared.fault.ProofReason.TheVariants.{LineTooLong, InputTooLong}
+use Rattle.proof_text.specs.Setting.{Setting}
+use Rattle.proof_text.specs.Standing.{IsSaid, standing}
+use Rattle.proof_text.specs.Tests.{end_tests, line_tests}
+
+abbrev pub reason_of : LineFault → ProofReason
+reason_of LongLine = LineTooLong
+reason_of LongInput = InputTooLong
+
+abbrev pub proof_rules : Setting → Rules ProofReason
+proof_rules s = record {
+  at_line = λ before line. first_reason (line_tests s (standing before) line);
+  at_fault = λ before fault. reason_of fault;
+  at_end = λ lines. first_reason (end_tests (standing lines));
+}
+
+-- these lines say this
+abbrev pub SaysProof : List (List ℕ) → ProofValue → Type 0
+SaysProof lines p = IsSaid (standing lines) p

@@ -1,0 +1,17 @@
+-- What proofs of a file are judged by.
+use Rattle.std.specs.Prelude.{ℕ, List}
+use Rattle.nl_model.specs.File.{File}
+use Rattle.nl_model.specs.Kinds.{kind_of}
+use Rattle.nl_model.specs.declared.kind.Kind.{Kind}
+use Rattle.file_meaning.specs.LinearFile.{elements_from}
+
+-- the number of constraints, and the kinds of the variables
+pub record Setting : Type 0 where
+  pub rows : ℕ
+  pub kinds : List Kind
+
+abbrev pub setting_of : File → Setting
+setting_of f = record {
+  rows = f.counts.n_con;
+  kinds = elements_from (kind_of f.counts) 0 f.counts.n_var;
+}

@@ -1,0 +1,85 @@
+-- The tests of a line, in their order: the first that holds gives the reason.
+use Rattle.std.specs.Prelude.{ℕ, ◌+◌, ◌^◌, ◌==◌, Bool, true, false, not, ◌&&◌, ◌||◌, nat_le, nat_lt, List, [], ◌∷◌, length, get_or, Option, Some, is_none, codes, if◌then◌else◌}
+use Rattle.std.specs.Option.{option_map_or}
+use Rattle.std.specs.Str.{bytes_eq}
+use Rattle.text_base.specs.Words.{row_of, word_at}
+use Rattle.nl_model.specs.declared.kind.Kind.{Kind}
+use Rattle.nl_model.specs.declared.kind.Kind.TheVariants.{Continuous}
+use Rattle.file_meaning.specs.Meaning.{is_whole_kind}
+use Rattle.branch_proof.specs.declared.proof.ProofNode.{ProofNode}
+use Rattle.branch_proof.specs.declared.proof.ProofNode.TheVariants.{Split}
+use Rattle.branch_proof.specs.Proofs.{Pair}
+use Rattle.proof_text.specs.declared.fault.ProofReason.{ProofReason}
+use Rattle.proof_text.specs.declared.fault.ProofReason.TheVariants.{BadFirst, BadLine, BadNumber, IndexOut, NotWhole, RepeatedIndex, Short, Extra, TooLarge}
+use Rattle.proof_text.specs.Setting.{Setting}
+use Rattle.proof_text.specs.Rows.{Row, claim_in, is_claim_row, is_node_row, node_in, pair_in}
+use Rattle.proof_text.specs.Standing.{Standing, has_pair, is_whole_tree}
+
+abbrev pub Tests : Type 0
+Tests = List (Bool × ProofReason)
+
+-- ---- the first row, and the claim
+
+abbrev pub is_first : Row → Bool
+is_first words =
+    (length words == 2)
+    && bytes_eq (word_at words 0) (codes "proof") && bytes_eq (word_at words 1) (codes "1")
+
+unfoldable pub first_tests : Row → Tests
+first_tests words = (not (is_first words), BadFirst) ∷ []
+
+unfoldable pub claim_tests : Row → Tests
+claim_tests words =
+    (not (is_claim_row words), BadLine) ∷ (is_none (claim_in words), BadNumber) ∷ []
+
+-- ---- nodes: at most 65,536
+
+abbrev pub is_split_out : List Kind → Option ProofNode → Bool
+is_split_out kinds (Some (Split j t)) = nat_le (length kinds) j
+is_split_out kinds other = false
+
+abbrev pub is_split_continuous : List Kind → Option ProofNode → Bool
+is_split_continuous kinds (Some (Split j t)) = not (is_whole_kind (get_or kinds j Continuous))
+is_split_continuous kinds other = false
+
+unfoldable pub node_tests : Setting → Standing → Row → Tests
+node_tests s st words =
+    (not (is_node_row st.claim words), BadLine)
+    ∷ (is_none (node_in words), BadNumber)
+    ∷ (is_split_out s.kinds (node_in words), IndexOut)
+    ∷ (is_split_continuous s.kinds (node_in words), NotWhole)
+    ∷ (nat_le (2 ^ 16) (length st.nodes), TooLarge) ∷ []
+
+-- ---- pairs: at most 2^22 in all
+
+abbrev pub is_pair_out : ℕ → Option Pair → Bool
+is_pair_out rows pair = option_map_or (λ p. nat_le rows p.0) pair false
+
+abbrev pub is_repeated : List Pair → Option Pair → Bool
+is_repeated own pair = option_map_or (λ p. has_pair own p.0) pair false
+
+unfoldable pub pair_tests : Setting → Standing → Row → Tests
+pair_tests s st words =
+    (not (length words == 2), BadLine)
+    ∷ (is_none (pair_in words), BadNumber)
+    ∷ (is_pair_out s.rows (pair_in words), IndexOut)
+    ∷ (is_repeated st.own (pair_in words), RepeatedIndex)
+    ∷ (nat_le (2 ^ 22) (length st.pairs + length st.own), TooLarge) ∷ []
+
+-- ---- all rows
+
+unfoldable pub row_tests : Setting → Standing → Row → Tests
+row_tests s st words =
+    if not st.begun then first_tests words
+    else if is_none st.claim then claim_tests words
+    else if is_whole_tree st then (true, Extra) ∷ []
+    else if nat_lt 0 st.left then pair_tests s st words
+    else node_tests s st words
+
+unfoldable pub line_tests : Setting → Standing → List ℕ → Tests
+line_tests s st line = if length (row_of line) == 0 then [] else row_tests s st (row_of line)
+
+-- the end of the text
+unfoldable pub end_tests : Standing → Tests
+end_tests st =
+    (not st.begun, BadFirst) ∷ (is_none st.claim || not (is_whole_tree st), Short) ∷ []

@@ -1,0 +1,19 @@
+// Laws of proof texts. Each is proved by a function with an empty body.
+ghost use Rattle.std.specs.Prelude.{List, ℕ};
+ghost use Rattle.nl_model.specs.File.{File};
+ghost use Rattle.branch_proof.specs.Files.{IsProofIn};
+ghost use Rattle.branch_proof.specs.Proofs.{ProofValue};
+ghost use Rattle.proof_text.specs.Reader.{HasOneReading, IsProofText};
+ghost use Rattle.proof_text.specs.Setting.{Setting, setting_of};
+
+/// Each text is one proof, or has one first fault.
+pub fn one_reading()
+    ensures { (s : Setting) (text : List ℕ) → HasOneReading s text }
+{}
+
+/// What is read for a file is a proof of the file: its nodes are those of one tree, in prefix
+/// order, whose splits are on whole variables and whose pairs are of constraints.
+pub fn texts_are_proofs()
+    ensures { (f : File) (text : List ℕ) (p : ProofValue)
+        → IsProofText (setting_of f) text p → IsProofIn f p }
+{}

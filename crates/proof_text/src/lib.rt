@@ -1,0 +1,13 @@
+//! The reader of proofs by branches.
+#![tactic(auto)]
+
+mod fault;
+mod grammar;
+pub mod laws;
+mod leaf_pairs;
+mod reader;
+mod rows;
+mod words;
+
+pub use fault::{ProofFault, ProofReason};
+pub use reader::{ProofReader, read_proof};

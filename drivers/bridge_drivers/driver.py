@@ -1,0 +1,198 @@
+"""The driver: `bridge-NAME stub [-AMPL] [option=value ..]`."""
+
+from __future__ import annotations
+
+import os
+import shutil
+import signal
+import sys
+import tempfile
+from typing import Sequence
+
+from . import VERSION, solvers, words
+from .bridge import Bridge, Missing, find
+from .codes import Code, Failure, Status
+from .job import Clock
+from .options import BadOption, Options
+from .sol import bare, with_message
+from .solving import Result, Solving
+
+HERE = os.path.dirname(os.path.dirname(os.path.abspath(__file__)))
+BESIDE = (os.path.join(HERE, "bin", "bridge"),
+          os.path.join(HERE, "..", "crates", "bridge", "out", "bridge"))
+
+
+class Driver:
+    """One call of bridge-NAME. Tests put other things in the place of `bridge` and the solver."""
+
+    make_solving = Solving
+
+    def __init__(self, name: str) -> None:
+        self.solver = solvers.load(name)
+        self.name = "bridge-" + name
+        self.options = Options(self.solver.options)
+        self.words = words.Words()
+        self.clock = Clock(self.name)
+        self.nl = self.sol = ""
+        self.is_put = False
+
+    def main(self, argv: Sequence[str]) -> int:
+        """The exit status."""
+        signal.signal(signal.SIGTERM, self.stop)
+        signal.signal(signal.SIGINT, self.stop)
+        self.words = words.read(argv)
+        if self.words.ask is not None:
+            sys.stdout.write(self.told(self.words.ask))
+            return Status.DONE
+        if self.words.stub is None:
+            sys.stderr.write(words.usage(self.name, self.solver.title))
+            return Status.BAD_WORDS
+        base = self.words.stub[:-3] if self.words.stub.endswith(".nl") else self.words.stub
+        self.nl, self.sol = base + ".nl", base + ".sol"
+        try:
+            self.take_options()
+            self.deliver(self.work())
+            return Status.DONE
+        except Failure as fault:
+            return self.failed(fault)
+        except Exception as fault:      # a modelling system is told, whatever it was
+            if self.options.outlev >= 2:
+                raise
+            if self.is_put:             # such as a closed output: the .sol stands
+                return Status.FAILED
+            return self.failed(Failure(Code.FAULT, f"a fault of the driver: {fault!r} (outlev=2 "
+                                                   "shows where)"))
+
+    def told(self, ask: str) -> str:
+        """What -v, -= and -? print."""
+        if ask == "-=":
+            return self.options.listing()
+        if ask == "-?":
+            return words.usage(self.name, self.solver.title)
+        place = shutil.which(self.solver.program) or "not found"
+        return f"{self.name} {VERSION} ({self.solver.title} {place})\n"
+
+    def stop(self, number: int, frame: object) -> None:
+        status = Status.INTERRUPTED if number == signal.SIGINT else Status.TERMINATED
+        raise Failure(Code.STOPPED, "interrupted", status)
+
+    # before the run ----------------------------------------------------------------
+
+    def take_options(self) -> None:
+        """An older .sol is removed before anything can go wrong: it must not pass for this
+        run's."""
+        if self.words.ampl or self.words.save:
+            self.remove_older()
+        try:
+            self.options.environment(self.name)
+            self.options.take(self.words.options)
+        except BadOption as fault:
+            raise Failure(Code.BAD_OPTION, str(fault), Status.BAD_WORDS) from None
+        if self.options.objno == 0:
+            raise Failure(Code.BAD_OPTION, "objno=0: solving without an objective is not offered",
+                          Status.BAD_WORDS)
+        self.clock.tells = self.options.outlev >= 2
+        if self.options.given and self.words.echo and not self.options.failexit:
+            print(f"{self.name} {VERSION}: {' '.join(self.options.given)}", flush=True)
+        if self.writes():
+            self.remove_older()
+
+    def remove_older(self) -> None:
+        try:
+            os.unlink(self.sol)
+        except FileNotFoundError:
+            pass
+        except OSError as fault:
+            raise Failure(Code.FILE, f"{self.sol}: {fault.strerror}") from None
+
+    def writes(self) -> bool:
+        return self.words.ampl or self.words.save or bool(self.options.wantsol & 1)
+
+    def find_bridge(self) -> Bridge:
+        try:
+            return Bridge(find(self.options.bridge, BESIDE), self.clock.note)
+        except Missing as fault:
+            raise Failure(Code.NOT_FOUND, str(fault)) from None
+
+    def find_solver(self) -> str:
+        """The absolute path, since the solver runs in another folder."""
+        named = self.options.solver or self.solver.program
+        place = shutil.which(named)
+        if place is None:
+            raise Failure(Code.NOT_FOUND, f"{named} was not found: install it or give solver=PATH")
+        return os.path.abspath(place)
+
+    # the run -----------------------------------------------------------------------
+
+    def work(self) -> Result:
+        if not os.path.exists(self.nl):
+            raise Failure(Code.FILE, f"{self.nl}: no such file", Status.NO_FILE)
+        bridge, solver_path = self.find_bridge(), self.find_solver()
+        folder = self.options.keep or tempfile.mkdtemp(prefix=self.name + "-")
+        try:
+            os.makedirs(folder, exist_ok=True)
+            return self.make_solving(self.solver, self.options, bridge, self.clock, self.nl,
+                                     solver_path, os.path.abspath(folder)).result()
+        except Missing as fault:
+            raise Failure(Code.NOT_FOUND, str(fault)) from None
+        except OSError as fault:
+            raise Failure(Code.FILE, f"{fault.filename or folder}: {fault.strerror}") from None
+        finally:
+            if not self.options.keep:
+                shutil.rmtree(folder, ignore_errors=True)
+
+    # after the run -----------------------------------------------------------------
+
+    def deliver(self, result: Result) -> None:
+        """The .sol at once or not at all, the message, and what wantsol asks for."""
+        o, lines = self.options, result.lines
+        if result.sol is None:
+            lines = [f"{self.name}: {lines[0]}", *lines[1:]]
+            sol = bare(self.nl, result.code, o.objno - 1, lines)
+        else:
+            sol = with_message(result.sol, lines)
+        if self.writes():
+            self.put(sol)
+        if o.keep:
+            with open(os.path.join(o.keep, "bridge.sol"), "wb") as f:
+                f.write(sol)
+        if (not self.words.ampl or o.failexit) and not o.wantsol & 8:
+            print("\n".join(lines), flush=True)
+        if result.answer is not None and not self.words.ampl:
+            self.show(result)
+        if self.clock.tells:
+            print(self.clock.summary(), flush=True)
+
+    def show(self, result: Result) -> None:
+        """Values of variables and duals of constraints, one a line."""
+        answer = result.answer
+        for wanted, texts, tied in ((2, answer.values, "z"), (4, answer.duals, "zdef")):
+            if self.options.wantsol & wanted and texts is not None:
+                sys.stdout.write("".join(f"{name} {text}\n" for name, text in texts.items()
+                                         if name != tied))
+
+    def put(self, sol: bytes) -> None:
+        part = self.sol + ".part"
+        try:
+            with open(part, "wb") as f:
+                f.write(sol)
+            os.replace(part, self.sol)
+            self.is_put = True
+        except OSError as fault:
+            raise Failure(Code.FILE, f"{self.sol}: {fault.strerror}") from None
+
+    def failed(self, fault: Failure) -> int:
+        """Told on standard error; with -AMPL also a .sol with the code, and exit 0 with it."""
+        line = f"{self.name}: {fault.text}"
+        sys.stderr.write(line + "\n")
+        if self.words.ampl and fault.code != Code.STOPPED and not self.options.failexit:
+            try:
+                self.put(bare(self.nl, fault.code, max(self.options.objno, 1) - 1, [line]))
+                return Status.DONE
+            except (Failure, OSError, ValueError, IndexError):
+                return fault.status
+        return fault.status
+
+
+def main(name: str) -> None:
+    sys.exit(int(Driver(name).main(sys.argv[1:])))

@@ -1,0 +1,123 @@
+"""A solver's run: the model, the options, a folder for its files, and its process."""
+
+from __future__ import annotations
+
+import os
+import shlex
+import signal
+import subprocess
+import sys
+import threading
+import time
+from typing import Callable, NamedTuple, Sequence
+
+from .options import Options
+from .program import Program
+
+LOG = "solver.log"
+
+
+class Ran(NamedTuple):
+    """How a solver's process ended. `killed` says that it went on past the time limit."""
+
+    status: int
+    log: str
+    killed: bool
+
+
+class Clock:
+    """Seconds spent in each part of a run, and notes of what was called when."""
+
+    def __init__(self, name: str) -> None:
+        self.name, self.began = name, time.monotonic()
+        self.spent: dict[str, float] = {}
+        self.tells = False
+
+    def timed(self, part: str, call: Callable, *words):
+        start = time.monotonic()
+        try:
+            return call(*words)
+        finally:
+            self.spent[part] = self.spent.get(part, 0.0) + time.monotonic() - start
+
+    def note(self, argv: Sequence[str], folder: str = "") -> None:
+        if self.tells:
+            where = f"  (in {folder})" if folder else ""
+            print(f"{self.name}: {time.monotonic() - self.began:.2f} s: {shlex.join(argv)}{where}",
+                  flush=True)
+
+    def summary(self) -> str:
+        parts = "".join(f"{part} {seconds:.2f}, " for part, seconds in self.spent.items())
+        return (f"{self.name}: seconds: {parts}all {time.monotonic() - self.began:.2f}; "
+                f"driver's own processor time {time.process_time():.2f}")
+
+
+class Job:
+    """What a solver's module works with: `program`, `options`, `solver` (its path), `extra`
+    (further words for it), and files in `folder`."""
+
+    def __init__(self, program: Program, options: Options, folder: str, solver: str,
+                 extra: Sequence[str], clock: Clock) -> None:
+        self.program, self.options, self.folder = program, options, folder
+        self.solver, self.extra, self.clock = solver, list(extra), clock
+        self.log = ""
+
+    def path(self, name: str) -> str:
+        return os.path.join(self.folder, name)
+
+    def write(self, name: str, data: bytes) -> str:
+        path = self.path(name)
+        with open(path, "wb") as f:
+            f.write(data)
+        return path
+
+    def run(self, argv: Sequence[str], log: str = LOG) -> Ran:
+        """One run of a solver in the folder, where paths of the folder become plain names. It is
+        killed a tenth and 5 seconds after `timelim` where it goes on."""
+        inside = self.folder + os.sep
+        argv = [w[len(inside):] if w.startswith(inside) else w for w in argv]
+        self.clock.note(argv, self.folder)
+        ran = self.clock.timed("solver", self.process, argv)
+        self.write(log, ran.log.encode("utf-8", "replace"))
+        if log == LOG:
+            self.log = ran.log
+        return ran
+
+    def process(self, argv: Sequence[str]) -> Ran:
+        killed = threading.Event()
+        child = subprocess.Popen(argv, stdin=subprocess.DEVNULL, stdout=subprocess.PIPE,
+                                 stderr=subprocess.STDOUT, cwd=self.folder,
+                                 start_new_session=True)
+
+        def late() -> None:
+            killed.set()
+            kill(child)
+        timer = threading.Timer(self.options.timelim * 1.1 + 5, late)
+        if self.options.timelim:
+            timer.daemon = True
+            timer.start()
+        lines = []
+        assert child.stdout is not None
+        try:
+            for data in child.stdout:
+                line = data.decode("utf-8", "replace")
+                lines.append(line)
+                if self.options.outlev:
+                    sys.stdout.write(line)
+            status = child.wait()
+        finally:                    # also where a signal ends the driver
+            timer.cancel()
+            if child.poll() is None:
+                kill(child)
+                child.wait()
+            child.stdout.close()
+        sys.stdout.flush()
+        return Ran(status, "".join(lines), killed.is_set())
+
+
+def kill(child: subprocess.Popen) -> None:
+    """The solver and what it started, which may hold its output open."""
+    try:
+        os.killpg(child.pid, signal.SIGKILL)
+    except (ProcessLookupError, PermissionError):
+        child.kill()

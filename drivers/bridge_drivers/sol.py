@@ -1,0 +1,36 @@
+"""The two .sol texts that are not written by `bridge`: one without values, after a refusal, and
+one whose message has its last lines, which are known only after `bridge check` read it."""
+
+from __future__ import annotations
+
+from typing import Sequence
+
+from .nl import header
+
+MARK = b"\nOptions\n"
+
+
+def bare(nl: str, code: int, objective: int, message: Sequence[str]) -> bytes:
+    """A .sol that has a code and no values, for the .nl file at this path."""
+    head = header(nl)
+    lines = [*message, "", "Options", str(len(head.options)), *head.options,
+             str(head.constraints), "0", str(head.variables), "0", f"objno {objective} {code}"]
+    return encoded(lines)
+
+
+def with_message(sol: bytes, message: Sequence[str]) -> bytes:
+    """The same .sol under another message; an empty line ends it."""
+    return encoded(message) + sol[sol.index(MARK):]
+
+
+def duals_of(sol: bytes) -> list[str]:
+    """The dual values of a .sol that `bridge return` wrote, in the order of the constraints."""
+    lines = sol.decode().split("\n")
+    at = lines.index("Options")
+    at += 2 + int(lines[at + 1])
+    count = int(lines[at + 1])
+    return lines[at + 4:at + 4 + count]
+
+
+def encoded(lines: Sequence[str]) -> bytes:
+    return ("\n".join(lines) + "\n").encode("utf-8", "surrogateescape")

@@ -1,0 +1,102 @@
+"""What a solver's module answers, and what it is given."""
+
+from __future__ import annotations
+
+import re
+from dataclasses import dataclass, field
+from fractions import Fraction
+from typing import TYPE_CHECKING, Mapping, NamedTuple, Sequence
+
+from ..codes import Code
+from ..options import Option
+from ..values import Number
+
+if TYPE_CHECKING:
+    from ..job import Job
+
+# AMPL's statuses of the basis
+BASIC, SUPERBASIC, LOWER, UPPER, EQUAL = 1, 2, 3, 4, 5
+
+
+class Unclear(Exception):
+    """The solver's answer was not understood, or there is none."""
+
+
+@dataclass
+class Outcome:
+    """What a solver answered, its values by name of column or row.
+
+    `text` says the code in words. `duals` and `costs` are rates of change of the objective, for
+    both senses, as AMPL wants them. The basis is in AMPL's statuses, for all columns and rows.
+    """
+
+    code: Code
+    text: str
+    values: Mapping[str, Number] | None = None
+    duals: Mapping[str, Number] | None = None
+    costs: Mapping[str, Number] | None = None
+    column_basis: Mapping[str, int] | None = None
+    row_basis: Mapping[str, int] | None = None
+    objective: Number | None = None
+    notes: list[str] = field(default_factory=list)
+
+
+class Duals(NamedTuple):
+    """The optimal value of a linear program, with a dual of each row, exactly."""
+
+    value: Fraction
+    duals: dict[str, Fraction]
+
+
+class Solver:
+    """A solver. `solve` writes the model as it reads it, runs it, and reads its answer."""
+
+    program = ""                        # the executable; also its title where that is not said
+    title = ""                          # in messages
+    integers = True                     # takes integer columns
+    exact = False                       # answers fractions, and has `exact_duals`
+    options: Sequence[Option] = ()      # its own
+    version = ""                        # a pattern whose one group is the version in the log
+
+    def named(self, log: str) -> str:
+        """The title, with the version where the log has it."""
+        found = re.search(self.version, log) if self.version else None
+        return self.title + (" " + found.group(1) if found else "")
+
+    def solve(self, job: Job) -> Outcome:
+        raise NotImplementedError
+
+    def exact_duals(self, job: Job, name: str, text: bytes) -> Duals | None:
+        """An optimum of another program with the same rows, in files that begin with `name`;
+        None where there is none."""
+        raise NotImplementedError
+
+
+def row_side(kind: str, letter: str) -> int:
+    """The status of a row off the basis: by its kind where that tells it alone, else by the
+    letter U or L of a basis file."""
+    return {"E": EQUAL, "L": UPPER}.get(kind, UPPER if letter == "U" else LOWER)
+
+
+def stopped(why: str, has_point: bool) -> tuple[Code, str]:
+    """Code and words of a run that a limit ended."""
+    if has_point:
+        return Code.LIMIT_WITH_POINT, f"stopped at {why} with a feasible solution"
+    return Code.LIMIT, f"stopped at {why} without a feasible solution"
+
+
+def read_lines(path: str) -> list[str] | None:
+    """The lines of an answer, None where the solver wrote none."""
+    try:
+        with open(path, encoding="utf-8", errors="replace") as f:
+            return f.read().splitlines()
+    except FileNotFoundError:
+        return None
+
+
+def first_line(log: str, pattern: str) -> str:
+    """The first line of a log that has the pattern: the solver's own complaint."""
+    for line in log.splitlines():
+        if re.search(pattern, line, re.I):
+            return line.strip()
+    return "it wrote no answer"

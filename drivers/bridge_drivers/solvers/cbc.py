@@ -1,0 +1,34 @@
+"""CBC, COIN-OR's branch and cut: mixed integer programs."""
+
+from __future__ import annotations
+
+from ..job import Job
+from ..options import Option
+from .base import Outcome
+from .coin import Coin
+
+
+class Cbc(Coin):
+    program, title = "cbc", "CBC"
+    version = r"Version: (\S+)"
+    options = (Option("mipgap", 0.0, float, "relative gap at which the search stops"),
+               Option("threads", 0, int, "threads of the search"))
+
+    def solve(self, job: Job) -> Outcome:
+        options = job.options
+        words = [job.solver] + self.model(job)
+        if options.timelim:
+            words += ["-timeMode", "elapsed", "-sec", f"{options.timelim:g}"]
+        if options.own["mipgap"]:
+            words += ["-ratio", f"{options.own['mipgap']:g}"]
+        if options.own["threads"]:
+            words += ["-threads", str(options.own["threads"])]
+        words += job.extra
+        words += ["-initialSolve" if options.relax else "-solve"] + self.answers(job)
+        if options.relax or not job.program.whole:
+            words += self.basis_file(job)
+        ran = job.run(words + ["-quit"])
+        return self.answer(job, ran.log, ran.killed)
+
+
+SOLVER = Cbc()

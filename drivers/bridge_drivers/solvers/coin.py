@@ -1,0 +1,111 @@
+"""What CBC and CLP share: both read with CoinUtils and save answers as CLP does."""
+
+from __future__ import annotations
+
+import struct
+from typing import TYPE_CHECKING, NamedTuple
+
+from ..codes import Code
+from .base import (BASIC, LOWER, UPPER, Outcome, Solver, Unclear, first_line, read_lines, row_side,
+                   stopped)
+
+if TYPE_CHECKING:
+    from ..job import Job
+    from ..program import Program
+
+COMPLAINT = r"Bad image|No match|Unknown|Unable to open|errors? on input|infeasible bound"
+LIMITS = {"time": "the time limit", "iterations": "the iteration limit", "nodes": "the node limit",
+          "gap": "the gap limit", "solutions": "the solution limit"}
+
+
+class Saved(NamedTuple):
+    """By name: values of columns, duals of rows, reduced costs of columns."""
+
+    values: dict[str, float]
+    duals: dict[str, float]
+    costs: dict[str, float]
+
+
+class Coin(Solver):
+    def model(self, job: Job) -> list[str]:
+        """The words that name the model. To CoinUtils a `NAME nl` line means fixed columns, and
+        OBJSENSE it ignores."""
+        path = job.write("coin.mps", job.program.free_name())
+        return [path, "-max"] if job.program.maximise else [path]
+
+    def answers(self, job: Job) -> list[str]:
+        """The words for the files of an answer, which `answer` reads."""
+        return ["-solution", job.path("answer.txt"), "-saveSolution", job.path("answer.bin")]
+
+    def basis_file(self, job: Job) -> list[str]:
+        return ["-basisOut", job.path("answer.bas")]
+
+    def saved(self, job: Job) -> Saved:
+        """The doubles of -saveSolution (-solution prints 8 digits): two ints, rows and columns,
+        the objective, row activities, row duals, columns, reduced costs."""
+        p = job.program
+        try:
+            with open(job.path("answer.bin"), "rb") as f:
+                data = f.read()
+        except FileNotFoundError:
+            raise Unclear("no saved answer") from None
+        rows, columns = len(p.constraints), len(p.columns)
+        length = 16 + 16 * (rows + columns)
+        if len(data) != length or struct.unpack("=ii", data[:8]) != (rows, columns):
+            raise Unclear("the saved answer is of another model")
+        doubles = struct.unpack(f"={1 + 2 * (rows + columns)}d", data[8:])
+        duals, values = 1 + rows, 1 + 2 * rows
+        return Saved(dict(zip(p.columns, doubles[values:values + columns])),
+                     dict(zip(p.constraints, doubles[duals:values])),
+                     dict(zip(p.columns, doubles[values + columns:])))
+
+    def answer(self, job: Job, log: str, killed: bool) -> Outcome:
+        """The outcome, whose status is the first line of -solution."""
+        lines = read_lines(job.path("answer.txt"))
+        if not lines:
+            if killed:
+                return Outcome(*stopped("the time limit", False))
+            raise Unclear(first_line(log, COMPLAINT))
+        status, _, figure = lines[0].strip().partition(" - objective value ")
+        low = status.lower()
+        objective = float(figure) if figure else None
+        linear = not job.program.whole or bool(job.options.relax)
+        if low == "optimal":
+            saved = self.saved(job)
+            if not linear:
+                return Outcome(Code.SOLVED, "optimal solution", saved.values, objective=objective)
+            columns, rows = basis(job.program, job.path("answer.bas"))
+            return Outcome(Code.SOLVED, "optimal solution", *saved, columns, rows, objective)
+        if low.startswith("integer infeasible"):
+            if "infeasible or unbounded" in log and "Continuous objective value is" not in log:
+                return Outcome(Code.INFEASIBLE_OR_UNBOUNDED, "infeasible or unbounded")
+            return Outcome(Code.INFEASIBLE, "integer infeasible")
+        if low.startswith("infeasible"):
+            return Outcome(Code.INFEASIBLE, "infeasible")
+        if low.startswith("unbounded"):
+            return Outcome(Code.UNBOUNDED, "unbounded")
+        if low.startswith("stopped on ") and "difficult" not in low:
+            why = LIMITS.get(low.split()[2], "a limit")
+            if linear or "no integer solution" in low:
+                return Outcome(*stopped(why, False))
+            return Outcome(*stopped(why, True), self.saved(job).values, objective=objective)
+        raise Unclear(f"it ended with `{lines[0].strip()}`")
+
+
+def basis(program: Program, path: str) -> tuple[dict[str, int] | None, dict[str, int] | None]:
+    """AMPL's statuses of an MPS basis: columns at their lower side and rows basic, but for
+    the lines of the file."""
+    lines = read_lines(path)
+    if lines is None:
+        return None, None
+    columns = dict.fromkeys(program.columns, LOWER)
+    rows = dict.fromkeys(program.constraints, BASIC)
+    for words in (line.split() for line in lines if line.startswith(" ") and line.strip()):
+        if words[0] in ("XU", "XL"):
+            if words[1] in columns:
+                columns[words[1]] = BASIC
+            if words[2] in rows:
+                rows[words[2]] = row_side(program.kinds[words[2]], words[0][1])
+        elif words[0] in ("BS", "UL") and words[1] in columns:
+            columns[words[1]] = BASIC if words[0] == "BS" else UPPER
+    return columns, rows

@@ -1,0 +1,107 @@
+"""QSopt_ex's esolver: linear programs in exact rational arithmetic. It relaxes integer columns
+without a word, prints only what is not 0, and ignores the RHS of the objective row."""
+
+from __future__ import annotations
+
+import shutil
+from fractions import Fraction
+
+from ..codes import Code
+from ..job import Job
+from ..program import Program
+from .base import Duals, Outcome, Solver, Unclear, first_line, read_lines, stopped
+from .coin import basis
+
+SECTIONS = ("VARS", "REDUCED COST", "PI", "SLACK")
+
+
+class Esolver(Solver):
+    program, title = "esolver", "QSopt_ex"
+    version = r"Using QSopt_ex (\S+)"
+    integers, exact = False, True
+
+    def solve(self, job: Job) -> Outcome:
+        p, options = job.program, job.options
+        out, basis_file = job.path("answer.sol"), job.path("answer.bas")
+        path = job.write("esolver.mps", filled(p))
+        words = [job.solver]
+        if options.timelim:
+            words += ["-R", f"{options.timelim:g}"]
+        ran = job.run(words + job.extra + ["-O", out, "-b", basis_file, path])
+        lines = read_lines(out)
+        if lines is None:
+            if ran.killed:
+                return Outcome(*stopped("the time limit", False))
+            raise Unclear(first_line(ran.log, "error"))
+        status = status_of(lines)
+        if status == "INFEASIBLE":
+            return Outcome(Code.INFEASIBLE, "infeasible")
+        if status == "UNBOUNDED":
+            return Outcome(Code.UNBOUNDED, "unbounded")
+        if status != "OPTIMAL":
+            if ran.killed or options.timelim:
+                return Outcome(*stopped("a limit", False))
+            raise Unclear(f"it ended with `{lines[0] if lines else ''}`")
+        value, parts = parsed(lines)
+        columns, rows = basis(p, basis_file)
+        return Outcome(Code.SOLVED, "optimal solution", complete(p.columns, parts["VARS"]),
+                       complete(p.constraints, parts["PI"]),
+                       complete(p.columns, parts["REDUCED COST"]), columns, rows,
+                       value - Fraction(p.objective_rhs))
+
+    def exact_duals(self, job: Job, name: str, text: bytes) -> Duals | None:
+        place = shutil.which(self.program)
+        if place is None or not job.program.constraints:
+            return None
+        out = job.path(name + ".sol")
+        seconds = job.options.timelim or 600
+        job.run([place, "-R", f"{seconds:g}", "-O", out, job.write(name + ".mps", text)],
+                name + ".log")
+        lines = read_lines(out)
+        if not lines or status_of(lines) != "OPTIMAL":
+            return None
+        try:
+            value, parts = parsed(lines)
+        except (ValueError, ZeroDivisionError):
+            return None
+        return Duals(value, complete(job.program.constraints, parts["PI"]))
+
+
+def filled(program: Program) -> bytes:
+    """The text, with a row and a column where there are none: without them it is a `Data Error`."""
+    text = program.text
+    if not program.constraints:
+        text = text.replace(b"\nCOLUMNS\n", b"\n L none\nCOLUMNS\n", 1)
+    if not program.columns:
+        text = text.replace(b"\nCOLUMNS\n", b"\nCOLUMNS\n none obj 0\n", 1)
+    return text
+
+
+def status_of(lines: list[str]) -> str:
+    """The last word of the first line, `status OPTIMAL`."""
+    words = lines[0].split() if lines else []
+    return words[-1] if words else ""
+
+
+def parsed(lines: list[str]) -> tuple[Fraction, dict[str, dict[str, Fraction]]]:
+    """The line `Value = p/q`, and the lines `NAME = p/q` of each section."""
+    parts: dict[str, dict[str, Fraction]] = {name: {} for name in SECTIONS}
+    value, part = Fraction(0), None
+    for line in lines:
+        word, equal, figure = line.strip().partition(" = ")
+        if not equal:
+            part = parts.get(word.rstrip(":"), part)
+        elif word == "Value":
+            value = Fraction(figure)
+        elif part is not None:
+            part[word] = Fraction(figure)
+    return value, parts
+
+
+def complete(names: list[str], given: dict[str, Fraction]) -> dict[str, Fraction]:
+    """A value of each name, 0 where none was printed."""
+    zero = Fraction(0)
+    return {name: given.get(name, zero) for name in names}
+
+
+SOLVER = Esolver()

@@ -1,0 +1,78 @@
+"""lp_solve: mixed integer programs. Its printed answers have six digits, and 1e30 is infinite."""
+
+from __future__ import annotations
+
+import math
+
+from ..codes import Code
+from ..job import Job
+from .base import Outcome, Solver, Unclear, first_line, stopped
+
+INFINITE = 1e29
+NOTE = "lp_solve prints six digits"
+
+
+class LpSolve(Solver):
+    program, title = "lp_solve", "lp_solve"
+
+    def solve(self, job: Job) -> Outcome:
+        options, p = job.options, job.program
+        # Without -mps_negobjconst it adds the RHS of the objective row.
+        words = [job.solver, "-fmps", job.write("lp_solve.mps", p.text), "-S4", "-mps_negobjconst"]
+        if options.relax:
+            words += ["-noint"]
+        if options.timelim:
+            words += ["-timeout", str(math.ceil(options.timelim))]
+        ran = job.run(words + job.extra)
+        if "problem is infeasible" in ran.log:
+            return Outcome(Code.INFEASIBLE, "infeasible")
+        if "problem is unbounded" in ran.log:
+            return Outcome(Code.UNBOUNDED, "unbounded")
+        if "\nActual values of the variables:\n" not in ran.log:
+            if ran.killed or options.timelim:
+                return Outcome(*stopped("a limit", False))
+            raise Unclear(first_line(ran.log, r"\S"))
+        parts = parsed(ran.log)
+        objective = objective_of(ran.log)
+        if abs(objective) >= INFINITE:
+            return Outcome(Code.UNBOUNDED, "unbounded")
+        values = parts["values"]
+        if set(values) != set(p.columns):
+            raise Unclear("not all columns have a value")
+        duals = {name: y for name, y in parts["duals"].items() if name in p.kinds}
+        costs = {name: d for name, d in parts["duals"].items() if name not in p.kinds}
+        if p.whole and not options.relax or set(duals) != set(p.constraints):
+            return Outcome(Code.SOLVED, "optimal solution", values, objective=objective,
+                           notes=[NOTE])
+        return Outcome(Code.SOLVED, "optimal solution", values, duals, costs, objective=objective,
+                       notes=[NOTE])
+
+
+def objective_of(log: str) -> float:
+    for line in log.splitlines():
+        if line.startswith("Value of objective function:"):
+            return float(line.split()[-1])
+    return 0.0
+
+
+def parsed(log: str) -> dict[str, dict[str, float]]:
+    """The lines `NAME NUMBER ..` under the headings of values and of duals, which end with an
+    empty line; duals of rows and costs of columns stand in one list."""
+    parts: dict[str, dict[str, float]] = {"values": {}, "duals": {}}
+    part = None
+    for line in log.splitlines():
+        words = line.split()
+        if line.startswith("Actual values of the variables"):
+            part = parts["values"]
+        elif line.startswith("Actual values of the constraints"):
+            part = None
+        elif words[:1] == ["Dual"]:
+            part = parts["duals"]
+        elif not words:
+            part = None
+        elif part is not None and len(words) >= 2:
+            part[words[0]] = float(words[1])
+    return parts
+
+
+SOLVER = LpSolve()

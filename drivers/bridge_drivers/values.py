@@ -1,0 +1,87 @@
+"""Values of solvers as decimal texts that `bridge` reads: whole numbers up to 2^127 - 1 times a
+power of ten from -400 to 400."""
+
+from __future__ import annotations
+
+import decimal
+import math
+from fractions import Fraction
+from typing import Union
+
+Number = Union[int, float, Fraction]
+
+MOST_DIGITS = 2 ** 127 - 1
+MOST_PLACES = 400
+NEAR = decimal.Context(prec=17, Emin=-10 ** 6, Emax=10 ** 6, rounding=decimal.ROUND_HALF_EVEN)
+
+
+class BadValue(Exception):
+    """A value that no decimal stands for: infinite, or not a number."""
+
+
+def exact_decimal(value: Fraction) -> str | None:
+    """The decimal text of a fraction, or None where it has none that `bridge` holds."""
+    rest, twos, fives = value.denominator, 0, 0
+    twos = (rest & -rest).bit_length() - 1
+    rest >>= twos
+    while rest % 5 == 0:
+        rest //= 5
+        fives += 1
+    places = max(twos, fives)
+    if rest != 1 or places > MOST_PLACES:
+        return None
+    digits = value.numerator * 10 ** places // value.denominator
+    if abs(digits) > MOST_DIGITS:
+        return with_zeros(digits) if places == 0 else None
+    if places == 0:
+        return str(digits)
+    if places > 30:
+        return f"{digits}e-{places}"
+    text = str(abs(digits)).rjust(places + 1, "0")
+    return ("-" if digits < 0 else "") + text[:-places] + "." + text[-places:]
+
+
+def with_zeros(whole: int) -> str | None:
+    """A wide whole number that is a narrower one times a power of ten."""
+    digits = str(abs(whole)).rstrip("0")
+    zeros = len(str(abs(whole))) - len(digits)
+    if int(digits) > MOST_DIGITS or zeros > MOST_PLACES:
+        return None
+    return f"{'-' if whole < 0 else ''}{digits}e{zeros}"
+
+
+def near_decimal(value: Fraction) -> str:
+    """The nearest decimal of 17 digits; 0 for what lies below 1e-380."""
+    d = NEAR.divide(decimal.Decimal(value.numerator), decimal.Decimal(value.denominator))
+    if d == 0 or d.adjusted() < -380:
+        return "0"
+    if d.adjusted() > 380:
+        raise BadValue("a value above 1e380")
+    return str(d.normalize(NEAR))
+
+
+def text_of(value: Number) -> tuple[str, bool]:
+    """(text, exact). A double is told as its shortest decimal, which counts as exact: what is
+    checked is what is written. False says that a fraction has only a nearest decimal."""
+    if isinstance(value, float):
+        if not math.isfinite(value):
+            raise BadValue(str(value))
+        if value == 0:
+            return "0", True
+        text = repr(value)
+        return (text[:-2] if text.endswith(".0") else text), True
+    text = exact_decimal(Fraction(value))
+    return (text, True) if text is not None else (near_decimal(value), False)
+
+
+def snapped(value: Number, places: int = 9) -> Number:
+    """A double as the decimal of 9 places that lies within 1e-9 of it (a large one has fewer
+    places and stays); anything else as it is."""
+    if not isinstance(value, float) or not math.isfinite(value):
+        return value
+    return round(value, places)
+
+
+def plain(fraction: str) -> str:
+    """The text `p/q` of a verdict as a decimal, where it has one."""
+    return exact_decimal(Fraction(fraction)) or fraction

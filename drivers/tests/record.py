@@ -1,0 +1,55 @@
+#!/usr/bin/env python3
+"""Stores one run of each installed solver on each small model, for test_drivers.py.
+
+    record.py [NAME ..]         the drivers, all where none is named; BRIDGE as for the drivers
+"""
+
+from __future__ import annotations
+
+import os
+import shutil
+import subprocess
+import sys
+import tempfile
+
+HERE = os.path.dirname(os.path.abspath(__file__))
+sys.path[:0] = [os.path.join(HERE, ".."), HERE]
+
+from bridge_drivers import solvers          # noqa: E402
+from models import MODELS, is_solved        # noqa: E402
+import stored                               # noqa: E402
+
+
+def run(driver: str, name: str) -> dict:
+    model = MODELS[name]
+    with tempfile.TemporaryDirectory() as folder:
+        stub, kept = os.path.join(folder, "stub"), os.path.join(folder, "kept")
+        with open(stub + ".nl", "wb") as f:
+            f.write(model.text)
+        program = os.path.join(HERE, "..", "bin", "bridge-" + driver)
+        subprocess.run([sys.executable, program, stub, "-AMPL", "-e", "keep=" + kept,
+                        *model.options], stdout=subprocess.DEVNULL, check=True)
+        files, logs = {}, {}
+        for file in sorted(os.listdir(kept)):
+            with open(os.path.join(kept, file), "rb") as f:
+                data = f.read()
+            if file.endswith(".log"):
+                logs[file] = data.decode("utf-8", "replace").split("\n")
+            elif file.startswith(stored.PREFIXES) and not file.endswith(".mps"):
+                files[file] = stored.content(data)
+    return {"options": model.options, "logs": logs, "files": files}
+
+
+def main() -> None:
+    for driver in sys.argv[1:] or solvers.NAMES:
+        solver = solvers.load(driver)
+        if not shutil.which(solver.program):
+            print(f"{driver}: not installed, its stored runs stay")
+            continue
+        names = [n for n in MODELS if is_solved(n) and (MODELS[n].linear or solver.integers)]
+        stored.save(driver, {name: run(driver, name) for name in names})
+        print(f"{driver}: {len(names)} runs stored")
+
+
+if __name__ == "__main__":
+    main()

@@ -1,0 +1,75 @@
+"""Each stored run of each solver through the whole driver, with the stand-in for `bridge`."""
+
+from __future__ import annotations
+
+import os
+
+from support import LOOSE, Case, Replay
+from bridge_drivers import solvers
+from models import MODELS, is_solved
+import stored
+
+
+class StoredRuns(Case):
+    def test_all(self) -> None:
+        for driver in solvers.NAMES:
+            names = [n for n in MODELS if not is_solved(n) or not MODELS[n].linear
+                     and not solvers.load(driver).integers]
+            for name in [*stored.runs(driver), *names]:
+                with self.subTest(driver=driver, model=name):
+                    self.put(MODELS[name].text)
+                    ended = self.replay(driver, name, self.stub, "-AMPL", *MODELS[name].options)
+                    self.assertEqual(ended.returncode, 0, ended.stderr)
+                    self.judge(driver, name, True, driver not in LOOSE)
+
+    def test_every_driver_has_runs(self) -> None:
+        for driver in solvers.NAMES:
+            linear = {n for n in MODELS if is_solved(n) and MODELS[n].linear}
+            self.assertLessEqual(linear, set(stored.runs(driver)), driver)
+
+    def test_basis(self) -> None:
+        """Basic columns and rows as AMPL's statuses, the same from four solvers."""
+        for driver in ("cbc", "clp", "glpsol", "esolver"):
+            self.put(MODELS["product"].text)
+            self.replay(driver, "product", self.stub, "-AMPL")
+            suffixes = self.sol().suffixes
+            self.assertEqual(suffixes[(0, "sstatus")], {0: 1, 1: 4}, driver)
+            self.assertEqual(suffixes[(1, "sstatus")], {0: 4, 1: 1}, driver)
+
+    def test_command_lines(self) -> None:
+        """The words that solvers are called with, where options make them."""
+        for driver, options, words in (
+                ("cbc", [], ["coin.mps", "-max", "-solve"]),
+                ("clp", [], ["coin.mps", "-max", "-solve"]),
+                ("glpsol", [], ["glpsol.mps", "--max", "-w"]),
+                ("cbc", ["timelim=9", "mipgap=0.1", "threads=2", "extra=-cuts off"],
+                 ["-timeMode", "elapsed", "-sec", "9", "-ratio", "0.1", "-threads", "2", "-cuts",
+                  "off", "-solve"]),
+                ("glpsol", ["timelim=8.5", "relax=1", "xcheck=1"],
+                 ["--nomip", "--tmlim", "9", "--xcheck"]),
+                ("clp", ["timelim=9"], ["-sec", "9", "-solve"]),
+                ("esolver", ["timelim=9"], ["/stored/esolver", "-R", "9", "-O"]),
+                ("lp_solve", ["timelim=9", "relax=1"], ["-noint", "-timeout", "9"])):
+            self.put(MODELS["product"].text)
+            self.replay(driver, "product", self.stub, "-AMPL", "-e", *options,
+                        "keep=" + os.path.join(self.folder, "kept"))
+            folder = os.path.join(self.folder, "kept", "")
+            self.assertIn(" ".join(words), " ".join(Replay.argv).replace(folder, ""))
+        self.put(MODELS["diet"].text)
+        self.replay("glpsol", "diet", self.stub, "-AMPL", "-e")
+        self.assertIn("--min", Replay.argv)
+
+    def test_models_as_they_are_read(self) -> None:
+        """GLPK wants no OBJSENSE and adds the RHS of the objective row; COIN wants FREE."""
+        self.put(MODELS["product"].text)
+        kept = os.path.join(self.folder, "kept")
+        texts = {}
+        for driver, name in (("glpsol", "glpsol.mps"), ("cbc", "coin.mps"),
+                             ("lp_solve", "lp_solve.mps")):
+            self.replay(driver, "product", self.stub, "keep=" + kept)
+            with open(os.path.join(kept, name)) as f:
+                texts[driver] = f.read()
+        self.assertIn("\n RHS obj -5\n", texts["lp_solve"])
+        self.assertIn("\n RHS obj 5\n", texts["glpsol"])
+        self.assertNotIn("OBJSENSE", texts["glpsol"])
+        self.assertTrue(texts["cbc"].startswith("NAME nl FREE\nOBJSENSE\n MAX\n"))

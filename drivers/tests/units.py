@@ -1,0 +1,179 @@
+"""Decimals, options, words, exported texts, binary files, .sol texts, verdicts in words."""
+
+from __future__ import annotations
+
+import os
+import struct
+from fractions import Fraction as F
+from unittest import mock
+
+from support import HERE, Case
+from bridge_drivers import binary_nl, bridge, nl, sol, values, words
+from bridge_drivers.bridge import Refused, Reply
+from bridge_drivers.options import BadOption, Options
+from bridge_drivers.program import Program
+from models import MODELS
+import stand_in
+
+BINARY = os.path.join(HERE, "binary")
+
+
+class Decimals(Case):
+    def test_exact_and_nearest(self) -> None:
+        most = 2 ** 127 - 1
+        for value, text, exact in (
+                (F(1, 4), "0.25", True), (F(-13, 2), "-6.5", True), (F(7), "7", True),
+                (F(-3, 40), "-0.075", True), (F(0), "0", True), (-0.0, "0", True),
+                (0.1, "0.1", True), (2.0, "2", True), (1e-300, "1e-300", True), (3, "3", True),
+                (F(1, 2 ** 50), None, True), (F(most), str(most), True),
+                (F(7 * 10 ** 40), "7e40", True), (F(-10 ** 400), "-1e400", True),
+                (F(1, 3), "0.33333333333333333", False), (F(1, 2 ** 60), None, False),
+                (F(10 ** 30, 7), None, False), (F(2 ** 127), None, False),
+                (F(1, 3 * 10 ** 390), "0", False)):
+            got, is_exact = values.text_of(value)
+            self.assertEqual(is_exact, exact, value)
+            if text is not None:
+                self.assertEqual(got, text)
+            if exact and isinstance(value, F):
+                self.assertEqual(F(got), value)
+            else:
+                self.assertLessEqual(abs(F(got) - F(value)), max(abs(F(value)) / 10 ** 16,
+                                                                 F(1, 10 ** 380)))
+        for bad in (float("inf"), float("nan"), F(10 ** 400, 7)):
+            self.assertRaises(values.BadValue, values.text_of, bad)
+
+    def test_snapped(self) -> None:
+        self.assertEqual(values.snapped(1.9999999999999998), 2.0)
+        self.assertEqual(values.snapped(0.30000000000000004), 0.3)
+        self.assertEqual(values.snapped(1 / 3), round(1 / 3, 9))
+        self.assertEqual(values.snapped(F(1, 3)), F(1, 3))
+        self.assertEqual(values.plain("22/5"), "4.4")
+        self.assertEqual(values.plain("1/3"), "1/3")
+
+
+class Texts(Case):
+    def test_options(self) -> None:
+        o = Options()
+        o.take(["timelim=3", "-outlev", "1", "--keep", "a b", "objno", "=", "2", "check", "=0"])
+        self.assertEqual((o.timelim, o.outlev, o.keep, o.objno, o.check), (3.0, 1, "a b", 2, 0))
+        for bad in (["outlev"], ["outlev=x"], ["timelim=-1"], ["nosuch=1"], ["timelim=nan"]):
+            self.assertRaises(BadOption, Options().take, bad)
+
+    def test_words(self) -> None:
+        w = words.read(["-timelim", "3", "a/model.nl", "-AMPL", "outlev=1", "-e", "check", "0"])
+        self.assertEqual((w.stub, w.ampl, w.echo, w.save, w.ask), ("a/model.nl", True, False,
+                                                                   False, None))
+        self.assertEqual(w.options, ["-timelim", "3", "outlev=1", "check", "0"])
+        self.assertEqual(words.read(["-=", "-v"]).ask, "-=")
+
+    def test_program(self) -> None:
+        p = Program(b"NAME nl\nOBJSENSE\n MAX\nROWS\n N obj\n L c0\nCOLUMNS\n x0 obj 2\n"
+                    b" M0 'MARKER' 'INTORG'\n x1 c0 1\n x2 obj 5\n x2 c0 1\n"
+                    b" M1 'MARKER' 'INTEND'\n z c0 1\nRHS\n RHS obj -3\n RHS c0 1\nENDATA\n")
+        self.assertEqual((p.rows, p.columns, p.whole),
+                         (["obj", "c0"], ["x0", "x1", "x2", "z"], {"x1", "x2"}))
+        self.assertEqual((p.maximise, p.costs, p.objective_rhs),
+                         (True, {"x0": "2", "x2": "5"}, "-3"))
+        self.assertEqual(p.figure({"x0": "1", "x2": "0.5"}), 7.5)
+        self.assertTrue(p.free_name().startswith(b"NAME nl FREE\nOBJSENSE"))
+        self.assertNotIn(b"OBJSENSE", p.without_sense())
+        empty = Program(b"NAME nl\nROWS\n N obj\nCOLUMNS\nRHS\nENDATA\n")
+        self.assertEqual((empty.columns, empty.constraints, empty.whole), ([], [], set()))
+
+    def test_refusals(self) -> None:
+        def line(status: int, told: str) -> str:
+            return Refused("return", Reply(status, b"", told)).line()
+        self.assertEqual(line(2, "refused line 12: nonlinear"),
+                         "refused line 12: nonlinear (the model is not linear there)")
+        self.assertEqual(line(2, "refused line 9: refused opcode 39"),
+                         "refused line 9: refused opcode 39 (an operator that is not linear)")
+        self.assertEqual(line(3, "bad words"),
+                         "this bridge does not know the command `return` (bad words)")
+        self.assertEqual(line(6, ""), "want of memory")
+        self.assertEqual(line(-9, ""), "`bridge return` was stopped by signal 9")
+
+    def test_bare_sol(self) -> None:
+        self.put(MODELS["knap"].text)
+        text = sol.bare(self.stub + ".nl", 501, 2, ["bridge-cbc: no"])
+        self.assertEqual(text.decode().split("\n"),
+                         ["bridge-cbc: no", "", "Options", "3", "1", "1", "0", "1", "0", "3", "0",
+                          "objno 2 501", ""])
+        self.assertEqual(sol.with_message(text, ["a", "b"]),
+                         text.replace(b"bridge-cbc: no", b"a\nb"))
+        for broken in (b"", b"g3 1 1", b"g3 1 1 0\nx y\n", b"gx\n1 1\n"):
+            self.put(broken)
+            self.assertRaises((ValueError, IndexError), sol.bare, self.stub + ".nl", 501, 0, [""])
+
+
+class Files(Case):
+    def test_binary(self) -> None:
+        names = [n for n in sorted(os.listdir(BINARY)) if n.endswith(".bin.nl")]
+        self.assertTrue(names)
+        for name in names:
+            target = self.stub + ".nl"
+            got = nl.prepared(os.path.join(BINARY, name), target, False)
+            self.assertIn("not proved", got.notes[0])
+            with open(got.path, "rb") as a, \
+                    open(os.path.join(BINARY, name[:-7] + ".text.nl"), "rb") as b:
+                self.assertEqual(a.read(), b.read(), name)
+            with open(os.path.join(BINARY, name), "rb") as f:
+                data = f.read()
+            for cut in (data[:-3], data[:100], data + b"?", b"b"):
+                with open(self.stub + ".cut.nl", "wb") as f:
+                    f.write(cut)
+                self.assertRaises(nl.BadFile, nl.prepared, self.stub + ".cut.nl", target, False)
+
+    def test_big_endian(self) -> None:
+        """The other byte order, and an S segment."""
+        head = b"b3 1 1 0\n 1 0 0 0 0\n 0 0\n 0 0\n 0 0 0\n 0 0 2 1\n" + \
+            b" 0 0 0 0 0\n 0 0\n 0 0\n 0 0 0 0 0\n"
+        body = b"b0" + struct.pack(">dd", 0.5, 0.1 + 0.2) + \
+            b"S" + struct.pack(">iii", 4, 1, 4) + b"rc\0\0" + struct.pack(">id", 0, 2.0)
+        self.assertEqual(binary_nl.text_of_binary(head + body).decode().split("\n")[10:],
+                         ["b", "0 0.5 0.30000000000000004", "S4 1 rc", "0 2", ""])
+
+    def test_shortest_numbers(self) -> None:
+        for old, new, count in (
+                (b"0 0.90000000000000002\nn6.4000000000000004\n", b"0 0.9\nn6.4\n", 2),
+                (b"1 -0.10000000000000001\n", b"1 -0.1\n", 1),
+                (b"1 9.0000000000000002e-06\n", b"1 9e-06\n", 1)):
+            self.assertEqual(nl.shortest_numbers(old), (new, count))
+        same = b"0 0.123456789 1.5\n3 123456789012345678\nx0.90000000000000002\n"
+        self.assertEqual(nl.shortest_numbers(same), (same, 0))
+
+    def test_stand_in(self) -> None:
+        """The verdicts of a worked example, one for each phase of the check."""
+        self.put(b"g3 1 1 0\n 2 1 1 0 0\n 0 0\n 0 0\n 0 0 0\n 0 0 0 1\n 0 0 0 0 0\n 2 2\n 0 0\n"
+                 b" 0 0 0 0 0\nC0\nn0\nO0 0\nn0\nr\n2 4\nb\n0 0 3\n2 0\nJ0 2\n0 1\n1 1\nG0 2\n"
+                 b"0 2\n1 3\n")
+        for primals, dual, verdict in (("3 1", "3", "yes 9"), ("3 1", "2.5", "gap 9 17/2"),
+                                       ("0 4", "3", "gap 12 9"), ("3 0", "3", "row 0 broken"),
+                                       ("4 0", "3", "bound 0 broken"),
+                                       ("3 1", "-1", "row 0 has no side"),
+                                       ("3 1", "4", "bound 1 has no side")):
+            lines = ["m", "", "Options", "3", "1", "1", "0", "1", "1", "2", "2", dual,
+                     *primals.split(), "objno 0 0", ""]
+            self.put("\n".join(lines).encode(), ".sol")
+            status, out, _ = stand_in.answer(["check", self.stub + ".nl", self.stub + ".sol"])
+            self.assertEqual((status, out), (int(verdict != "yes 9"), verdict + "\n"))
+
+    def test_is_ours(self) -> None:
+        """iproute2's `bridge` is passed over on the PATH."""
+        first, other, ours = (os.path.join(self.folder, n) for n in ("first", "other", "ours"))
+        for folder, script in ((first, "echo bad words >&2; exit 255"),
+                               (other, "echo usage >&2; exit 3"),
+                               (ours, "echo bad words >&2; exit 3")):
+            os.mkdir(folder)
+            with open(os.path.join(folder, "bridge"), "w") as f:
+                f.write(f"#!/bin/sh\n{script}\n")
+            os.chmod(os.path.join(folder, "bridge"), 0o755)
+        path = os.pathsep.join([first, other, ours])
+        with mock.patch.dict(os.environ, {"PATH": path, "BRIDGE": ""}):
+            self.assertEqual(bridge.find("", []), [os.path.join(ours, "bridge")])
+            self.assertEqual(bridge.find("a 'b c'", []), ["a", "b c"])
+            self.assertEqual(bridge.find("", [os.path.join(other, "bridge")]),
+                             [os.path.join(other, "bridge")])
+        with mock.patch.dict(os.environ, {"PATH": other, "BRIDGE": ""}):
+            self.assertRaisesRegex(bridge.Missing, "is another program", bridge.find, "", [])
+        missing = bridge.Bridge(["/nonexistent/bridge"], lambda argv: None)
+        self.assertRaises(bridge.Missing, missing.call, "export", "x")
