@@ -1,13 +1,14 @@
 -- What a .sol text shows of an .nl text: one outcome, and what a yes means.
-use Rattle.std.proofs.Common.{◌≡◌, ◌∙◌, inl, inr, ◌⊎◌, ℕ, ◌+◌, ◌<◌, ◌≤◌, ◌==◌, ℤ, pos, negsuc, Bool, true, false, List, length, if◌then◌else◌, Option, Some, None, Result, Ok, Err, refl, sym, ap, ap₂, subst, arith, ints}
+use Rattle.std.proofs.Common.{◌≡◌, ◌∙◌, inl, inr, ◌⊎◌, ℕ, ◌+◌, ◌<◌, ◌≤◌, ◌==◌, ℤ, pos, negsuc, Bool, true, false, List, length, if◌then◌else◌, Option, Some, None, Result, Ok, Err, refl, sym, ap, ap₂, subst, arith}
 use Rattle.std.specs.Prelude.{◌&&◌, ◌<ℤ◌, nat_lt, option_map, IfOk, IsTrue}
 use Rattle.std.specs.Global.{Vec}
 use Rattle.std.proofs.lemmas.Bool.{eqb-true, ltb-false}
+use Rattle.std.proofs.lemmas.Int.{ints}
 use Rattle.fractions.specs.Rational.{ℚ}
 use Rattle.duality.specs.Verdict.{Verdict, verdict, yes, gap, refused}
 use Rattle.linear_programs.specs.Linear.{row_count, variable_count}
 use Rattle.exact_numbers.specs.declared.dec.Dec.{Dec}
-use Rattle.text_base.specs.Desk.{Texts}
+use Rattle.text_base.specs.Desk.{Meaning, Texts}
 use Rattle.text_base.specs.declared.stop.Stop.{Stop}
 use Rattle.text_base.specs.declared.stop.Stop.TheVariants.{Fault, Memory}
 use Rattle.certificate_check.specs.Terms.{values_of}
@@ -24,20 +25,24 @@ use Rattle.linear_fold.specs.declared.fold_fault.FoldFault.{FoldFault}
 use Rattle.nl_model.specs.File.{File}
 use Rattle.nl_model.specs.Rules.{IsFile}
 use Rattle.nl_segments.specs.Grammar.{NlValue}
-use Rattle.nl_segments.specs.Reader.{IsNl}
+use Rattle.nl_segments.specs.Reader.{IsNl, value_of}
+use Rattle.nl_segments.specs.declared.nl_read.NlRead.{NlRead}
 use Rattle.sol_files.specs.Built.{AreGiven, IsEmptyOrFull}
 use Rattle.sol_files.specs.Reader.{IsSol}
 use Rattle.sol_files.specs.Sol.{Sol}
-use Rattle.bridge_tool.specs.Check.{IsCertified, by_fit, by_fold, by_number, by_verdict, check_outcome, check_told, most_steps, objective_number, shown, steps_by_fit, steps_by_number, unfit}
+use Rattle.bridge_tool.specs.Answer.{IsWorked, EndsVerdict}
+use Rattle.bridge_tool.specs.Check.{IsCertified, by_fit, by_fold, by_number, by_verdict, check_outcome, check_promise, check_told, most_steps, objective_number, shown, steps_by_fit, steps_by_number, unfit}
 use Rattle.bridge_tool.specs.Outcome.{Outcome, Refused, Done}
+use Rattle.bridge_tool.specs.Promise.{Promise}
 use Rattle.bridge_tool.specs.Refusal.{HasTextRefusal}
 use Rattle.bridge_tool.specs.Sol.{IsSolRefused}
-use Rattle.bridge_tool.specs.SeveralFiles.{Comes}
+use Rattle.bridge_tool.specs.SeveralFiles.{Comes, ReadsFile, after_file, ends, itself}
 use Rattle.bridge_tool.specs.Stages.{Folds, HasFolded}
 use Rattle.bridge_tool.specs.VerdictTold.{fit_line, is_yes, negative_line, verdict_line}
 use Rattle.bridge_tool.proofs.NlRewriting.{nl_read}
 use Rattle.bridge_tool.proofs.OneOutcome.{HasOne, IsPlain}
-use Rattle.bridge_tool.proofs.SeveralFiles.{IsSound, sound_after, sound_end}
+use Rattle.bridge_tool.specs.declared.answer.Answer.{Answer}
+use Rattle.bridge_tool.proofs.SeveralFiles.{HasComeDown, IsSound, begun, counted, ended, further, idle, sound_after, sound_end, stopped}
 use Rattle.bridge_tool.proofs.SolRewriting.{sol_read}
 
 -- ---- one outcome
@@ -89,14 +94,14 @@ module _ (nl : NlValue) (s : Sol) (fits : unfit nl s ≡ None) where
   same = let t = both_true _ _ tests.0 in (eqb-true _ _ t.0, eqb-true _ _ t.1)
 
   pub all_primals : (k : ℕ) → IsEmptyOrFull s.n_var (length s.primals) → length s.primals ≡ variable_count (linear_of nl.file k)
-  all_primals k given = full nl.file.counts.n_var (length s.primals) (subst (λ (n : ℕ). IsEmptyOrFull n (length s.primals)) (sym same.1) given) tests.1.0 ∙ sym (count_lem nl.file k)
+  all_primals k given = full nl.file.counts.n_var (length s.primals) (subst (λ (n : ℕ). IsEmptyOrFull n (length s.primals)) (sym same.1) given) tests.1 ∙ sym (count_lem nl.file k)
 
   rows_counted : (k : ℕ) → row_count (linear_of nl.file k) ≡ nl.file.counts.n_con
   unfolding linear_of
   rows_counted k = elements_length (row_of nl.file) 0 nl.file.counts.n_con
 
   pub all_duals : (k : ℕ) → IsEmptyOrFull s.n_con (length s.duals) → length s.duals ≡ row_count (linear_of nl.file k)
-  all_duals k given = full nl.file.counts.n_con (length s.duals) (subst (λ (n : ℕ). IsEmptyOrFull n (length s.duals)) (sym same.0) given) tests.1.1 ∙ sym (rows_counted k)
+  all_duals k given = full nl.file.counts.n_con (length s.duals) (subst (λ (n : ℕ). IsEmptyOrFull n (length s.duals)) (sym same.0) given) tests.2 ∙ sym (rows_counted k)
 
 -- ---- a yes
 
@@ -183,6 +188,41 @@ module _ (nl : NlValue) (s : Sol) where
 
   -- a verdict that is yes means what it should; this command gives verdicts
   pub meant_so : (r : Result (Bool × Vec ℕ) (Stop (Vec ℕ))) → IsFile nl.file → Comes (λ outcome. outcome ≡ check_outcome nl s) r
-      → IfOk r (λ t. ((t.0 ≡ true) ⊎ IsTrue true) × ((texts : Texts) → t.0 ≡ true → IsCertified nl s))
-  meant_so (Ok t) file h = (inr refl, λ texts e. certified_by nl s file t.1.items (sym h ∙ ap (λ b. Done b t.1.items) e))
+      → IfOk r (λ t. ((t.0 ≡ true) ⊎ IsTrue true) × (t.0 ≡ true → IsCertified nl s))
+  meant_so (Ok t) file h = (inr refl, λ e. certified_by nl s file t.1.items (sym h ∙ ap (λ b. Done b t.1.items) e))
   meant_so (Err stop) file h = tt
+
+-- ---- the command at work
+
+-- what is left once the file was read
+abbrev after_nl : List ℕ → Texts → NlValue → Promise
+after_nl sol texts file = after_file IsSol (IsSolRefused 2) texts sol (λ solution. ends texts sol (λ outcome. outcome ≡ check_outcome file solution) (λ old new. new ≤ old + most_steps file solution) (IsCertified file solution))
+
+pub idle_check : (nl sol : List ℕ) (texts : Option Texts) (n : ℕ) → (check_promise texts nl sol).counts n n
+idle_check nl sol texts n = idle (check_told nl sol) true (check_sound nl sol) texts n
+
+module _ (nl sol : List ℕ) (old before : Meaning) (read : NlRead) (first : ReadsFile value_of IsNl HasTextRefusal nl old before (Ok read)) where
+  down : HasComeDown (check_told nl sol) true (λ texts. after_nl sol texts (value_of read)) old before
+  down = further (check_told nl sol) true value_of IsNl HasTextRefusal nl (after_nl sol) old old before (begun (check_told nl sol) true old) read first
+
+  -- the solution ends the command
+  pub stopped_at_sol : (mid : Meaning) (answer : Answer) → ReadsFile {R = Sol} itself IsSol (IsSolRefused 2) sol before mid (Err answer) → IsWorked (check_promise old.texts nl sol) old mid answer
+  stopped_at_sol mid answer second =
+      stopped (check_told nl sol) true (check_sound nl sol) itself IsSol (IsSolRefused 2) sol
+      (λ texts solution. ends texts sol (λ outcome. outcome ≡ check_outcome (value_of read) solution) (λ old new. new ≤ old + most_steps (value_of read) solution) (IsCertified (value_of read) solution))
+      old before mid down answer second
+
+  module _ (mid : Meaning) (solution : Sol) (second : ReadsFile itself IsSol (IsSolRefused 2) sol before mid (Ok solution)) where
+    -- both were judged
+    pub ended_check : (new : Meaning) (judged : Result (Bool × Vec ℕ) (Stop (Vec ℕ))) (answer : Answer) → Comes (λ outcome. outcome ≡ check_outcome (value_of read) solution) judged → IsFile read.file → EndsVerdict judged mid new answer
+        → IsWorked (check_promise old.texts nl sol) old new answer
+    ended_check new judged answer comes file end =
+        ended (check_told nl sol) true (check_sound nl sol) itself IsSol (IsSolRefused 2) sol
+        (λ s outcome. outcome ≡ check_outcome (value_of read) s) (λ s old new. new ≤ old + most_steps (value_of read) s) (λ s. IsCertified (value_of read) s)
+        old before mid down solution second new judged answer comes (meant_so (value_of read) solution judged file comes) end
+
+    pub counted_check : (m n : ℕ) → n ≤ m + most_steps (value_of read) solution → (check_promise old.texts nl sol).counts m n
+    counted_check m n le =
+        counted (check_told nl sol) true (check_sound nl sol) itself IsSol (IsSolRefused 2) sol
+        (λ s outcome. outcome ≡ check_outcome (value_of read) s) (λ s old new. new ≤ old + most_steps (value_of read) s) (λ s. IsCertified (value_of read) s)
+        old before mid down solution second m n le

@@ -96,7 +96,7 @@ fn certified<L: Ledger>(
     requires fits { unfit (value_of read) sol.now ≡ None }
     ensures comes { Comes (λ outcome. outcome ≡ by_fold (value_of read) sol.now objective (first_fold_fault read.file objective)) result }
     ensures above { steps.old ≤ steps.new }
-    ensures counts { steps.new ≤ steps.old + steps_by_number (value_of read) objective }
+    ensures counts { steps.new ≤ steps.old + steps_by_number (value_of read) (pos objective) }
 {
     let x = sol.primals();
     let y = sol.duals();

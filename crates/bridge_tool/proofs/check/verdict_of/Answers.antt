@@ -10,5 +10,5 @@ certify-requires-clause-numbers c = c.requires.numbers ∙ ap variable_count (sy
 pub certify-requires-clause-duals : goal.certify-requires-clause-duals
 certify-requires-clause-duals c = c.requires.duals ∙ ap row_count (sym c.in_ok-columns.ensures)
 
-pub returns-clause : goal.returns-clause
-returns-clause c = c.certify.ensures.exact ∙ ap (λ (f : Linear). verdict f (values_of c.args.x.now) (values_of c.args.y.now)) c.in_ok-columns.ensures
+pub returns : goal.returns
+returns c = c.certify.ensures.exact ∙ ap (λ (f : Linear). verdict f (values_of c.args.x.now) (values_of c.args.y.now)) c.in_ok-columns.ensures
