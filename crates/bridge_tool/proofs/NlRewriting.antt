@@ -3,6 +3,7 @@ use Rattle.std.proofs.Common.{◌≡◌, ◌∙◌, inl, inr, ◌⊎◌, ℕ, Li
 use Rattle.nl_segments.specs.Grammar.{NlValue}
 use Rattle.nl_segments.specs.Reader.{IsNl}
 use Rattle.nl_segments.specs.declared.fault.NlFault.{NlFault}
+use Rattle.nl_segments.specs.Reader.{fault_of}
 use Rattle.nl_writer.specs.Written.{nl_text}
 use Rattle.bridge_tool.specs.Nl.{IsNlRewritten}
 use Rattle.bridge_tool.specs.NlTold.{nl_line}
@@ -22,8 +23,8 @@ nl_read = record {
   either = λ text. elim (outcome_of_text text).some [
     | inl clean ↦ inl (value_of_text text, clean_text text clean)
     | inr found ↦
-        let fault : NlFault = record { reason = found.1.reason; line = found.0; opcode = found.1.opcode } in
-        inr (nl_line fault, record { fault = fault; first = found.2; told = refl })
+        let fault : NlFault = fault_of (record { reason = found.1; line = found.0 }) in
+        inr (nl_line fault, record { fault = fault; first = record { first = found.2; opcode = refl }; told = refl })
   ];
   apart = λ text value line h k. not_both text value k.fault h k.first;
 }

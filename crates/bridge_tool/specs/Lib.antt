@@ -3,6 +3,7 @@ pub mod Check
 pub mod Command
 pub mod Commands
 pub mod Export
+pub mod Fixed
 pub mod Mps
 pub mod MpsTold
 pub mod Nl
@@ -16,5 +17,6 @@ pub mod Sol
 pub mod SolTold
 pub mod Stages
 pub mod Told
+pub mod ToldLines
 pub mod Transfer
 pub mod VerdictTold

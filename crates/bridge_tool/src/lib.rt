@@ -5,6 +5,7 @@ mod answer;
 mod check;
 mod command;
 mod export;
+mod fixed;
 mod laws;
 mod mps;
 mod mps_told;

@@ -8,6 +8,8 @@ mod commands;
 #[cfg(test)]
 mod exports;
 #[cfg(test)]
+mod fixed_commands;
+#[cfg(test)]
 mod mps_commands;
 #[cfg(test)]
 mod sol_commands;
