@@ -3,6 +3,7 @@ pub mod Decisions
 pub mod Exporting
 pub mod FaultLines
 pub mod Headline
+pub mod Importing
 pub mod Known
 pub mod Meaning
 pub mod MpsRewriting

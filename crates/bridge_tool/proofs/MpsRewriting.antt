@@ -17,7 +17,7 @@ use Rattle.bridge_tool.specs.Mps.{IsMpsMeant, IsRewritten, IsMpsRefused}
 use Rattle.bridge_tool.specs.MpsTold.{mps_line}
 use Rattle.bridge_tool.proofs.Decisions.{AreDecided}
 
-outcome_of_text : (text : List ℕ) → HasOneOutcome mps_rules (lines_of text) (last_of text)
+pub outcome_of_text : (text : List ℕ) → HasOneOutcome mps_rules (lines_of text) (last_of text)
 outcome_of_text text = one_outcome mps_rules (lines_of text) (last_of text)
 
 pub same_value : (text : List ℕ) (m n : Mps Dec) → IsMpsText text m → IsMpsText text n → m ≡ n

@@ -4,6 +4,8 @@
 mod answer;
 mod command;
 mod export;
+mod import;
+mod import_told;
 mod laws;
 mod mps;
 mod mps_told;

@@ -1,0 +1,7 @@
+use Rattle.bridge_tool.proofs.Importing.{import_decided, import_meant}
+use Rattle.bridge_tool.proofs.Working.{file_worked, on_any}
+use Rattle.bridge_tool.proofs.import.import_file.Goals as goal
+
+pub returns-in-Ok-clause-worked : goal.returns-in-Ok-clause-worked
+returns-in-Ok-clause-worked g c =
+    file_worked _ _ import_decided _ _ _ _ _ _ _ _ _ c.in-Ok.ensures.text c.in-Ok.ensures.cause.ok c.in-Ok.ensures.rest c.judge-judged.ensures (on_any _ _ (λ text fed. import_meant text)) c.end.ensures
