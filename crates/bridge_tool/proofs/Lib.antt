@@ -2,6 +2,7 @@ pub mod Decided
 pub mod Decisions
 pub mod Exporting
 pub mod FaultLines
+pub mod FoldPlaces
 pub mod Headline
 pub mod Importing
 pub mod Known
