@@ -6,8 +6,6 @@ mod certificates;
 #[cfg(test)]
 mod headers;
 #[cfg(test)]
-mod imports;
-#[cfg(test)]
 mod numbers;
 #[cfg(test)]
 mod parts;

@@ -6,6 +6,4 @@ mod commands;
 #[cfg(test)]
 mod exports;
 #[cfg(test)]
-mod import_commands;
-#[cfg(test)]
 mod mps_commands;
