@@ -7,11 +7,13 @@ use Rattle.mps_import.proofs.LawLemmas.{feasible_lem, objective_lem, sense_lem}
 use Rattle.mps_import.specs.declared.import_fault.ImportFault.{ImportFault}
 use Rattle.mps_import.specs.Faults.{import_fault}
 use Rattle.mps_import.specs.Import.{import_of}
-use Rattle.mps_reader.specs.Grammar.{standing}
+use Rattle.mps_reader.specs.Grammar.{mps_rules, standing}
 use Rattle.mps_reader.specs.Reader.{IsMpsText, HasMpsFault}
 use Rattle.mps_reader.specs.declared.fault.MpsReason.{MpsReason}
 use Rattle.nl_writer.specs.Written.{nl_text}
-use Rattle.text_base.specs.Reading.{lines_of}
+use Rattle.text_base.specs.Judged.{HasOneOutcome}
+use Rattle.text_base.specs.Reading.{lines_of, last_of}
+use Rattle.text_base.proofs.JudgedLemmas.{one_outcome}
 use Rattle.text_base.specs.declared.fault.TextFault.{TextFault}
 use Rattle.text_base.specs.declared.stop.Stop.{Stop}
 use Rattle.text_base.specs.declared.stop.Stop.TheVariants.{Fault, Memory}
@@ -21,7 +23,13 @@ use Rattle.bridge_tool.specs.Mps.{IsMpsRefused}
 use Rattle.bridge_tool.specs.MpsTold.{mps_line}
 use Rattle.bridge_tool.specs.OneFile.{Judges}
 use Rattle.bridge_tool.proofs.Decisions.{AreDecided}
-use Rattle.bridge_tool.proofs.MpsRewriting.{mps_decided, outcome_of_text, same_value}
+use Rattle.bridge_tool.proofs.MpsRewriting.{mps_decided}
+
+outcome_of_text : (text : List ℕ) → HasOneOutcome mps_rules (lines_of text) (last_of text)
+outcome_of_text text = one_outcome mps_rules (lines_of text) (last_of text)
+
+same_value : (text : List ℕ) (m n : Mps Dec) → IsMpsText text m → IsMpsText text n → m ≡ n
+same_value text m n h k = h.said ∙ sym k.said
 
 pub import_meant : (text : List ℕ) → IsImportMeant text
 import_meant text m read clean = record { feasible = λ xs. feasible_lem m clean xs; objective = λ xs. objective_lem m xs; sense = sense_lem m }

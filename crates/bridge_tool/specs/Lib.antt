@@ -4,6 +4,7 @@ pub mod Commands
 pub mod Export
 pub mod Import
 pub mod ImportTold
+pub mod Fixed
 pub mod Mps
 pub mod MpsTold
 pub mod Nl

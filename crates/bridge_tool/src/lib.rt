@@ -6,6 +6,7 @@ mod command;
 mod export;
 mod import;
 mod import_told;
+mod fixed;
 mod laws;
 mod mps;
 mod mps_told;

@@ -3,7 +3,7 @@ ghost use Rattle.std.specs.Prelude.{◌≡◌, ◌≢◌, List, ℕ, IfOk, OnOk}
 ghost use Rattle.text_base.specs.Desk.{IsUnknown, OnlyInput};
 ghost use Rattle.mps_reader.specs.Reader.{IsFed};
 ghost use Rattle.bridge_tool.specs.Answer.{IsWorked, status_of};
-ghost use Rattle.bridge_tool.specs.Mps.{IsMpsMeant, IsMpsRefused, IsRewritten, mps_promise};
+ghost use Rattle.bridge_tool.specs.Mps.{IsMeantRead, IsMpsMeant, IsMpsRefused, IsRewritten, JudgesRead, mps_promise};
 ghost use Rattle.bridge_tool.specs.OneFile.{Judges};
 ghost use Rattle.bridge_tool.specs.Transfer.{HasRead, HasReadCause};
 
@@ -11,7 +11,8 @@ use crate::answer::Answer;
 use crate::mps_told::mps_line;
 use crate::one_file::{end, missed, read};
 use crate::transfer::{Feed, LIMIT, Unread};
-use mps_reader::MpsReader;
+use mps_model::Mps;
+use mps_reader::{MpsFault, MpsReader};
 use mps_writer::write_mps;
 use std::alloc::Global;
 use text_base::{Desk, Stop};
@@ -42,12 +43,15 @@ pub(crate) fn read_mps<D: Desk>(
     read(alloc, desk, file, reader)
 }
 
-// The bytes to write for the text that a reader was fed, or the line to tell.
-fn judge(alloc: Global, reader: MpsReader) -> Result<Vec<u8>, Stop<Vec<u8>>>
-    ensures judges { (text : List ℕ) → IsFed reader text → Judges IsRewritten IsMpsRefused text result }
-    ensures means { OnOk result ((text : List ℕ) → IsFed reader text → IsMpsMeant text) }
+/// The bytes to write for what was read, or the line to tell.
+pub(crate) fn judge_read(
+    alloc: Global,
+    read: Result<Mps, Stop<MpsFault>>,
+) -> Result<Vec<u8>, Stop<Vec<u8>>>
+    ensures judges { JudgesRead read result }
+    ensures means { OnOk result (IsMeantRead read) }
 {
-    match reader.finish() {
+    match read {
         Ok(mps) => {
             let _ = mps.rows();
             let out = write_mps(alloc, &mps)?;
@@ -59,6 +63,15 @@ fn judge(alloc: Global, reader: MpsReader) -> Result<Vec<u8>, Stop<Vec<u8>>>
             Err(Stop::Fault(line))
         }
     }
+}
+
+// The bytes to write for the text that a reader was fed, or the line to tell.
+fn judge(alloc: Global, reader: MpsReader) -> Result<Vec<u8>, Stop<Vec<u8>>>
+    ensures judges { (text : List ℕ) → IsFed reader text → Judges IsRewritten IsMpsRefused text result }
+    ensures means { OnOk result ((text : List ℕ) → IsFed reader text → IsMpsMeant text) }
+{
+    let read = reader.finish();
+    judge_read(alloc, read)
 }
 
 /// Writes an MPS file again: reads its text, judges it, and writes what it comes to. Tells nothing.

@@ -4,6 +4,8 @@
 #[cfg(test)]
 mod certificates;
 #[cfg(test)]
+mod fixed_texts;
+#[cfg(test)]
 mod headers;
 #[cfg(test)]
 mod numbers;

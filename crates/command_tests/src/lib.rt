@@ -6,4 +6,6 @@ mod commands;
 #[cfg(test)]
 mod exports;
 #[cfg(test)]
+mod fixed_commands;
+#[cfg(test)]
 mod mps_commands;

@@ -1,0 +1,72 @@
+// The command fixed over a desk in memory.
+
+use crate::commands::{command, first_lines};
+use example_texts::mps_texts::{FIXED, FIXED_WRITTEN};
+use std::alloc::{AllocError, Global};
+use std::test::Fail;
+use text_base::MemoryDesk;
+
+// Whether the text is written so, or refused with this line.
+fn comes_to(alloc: Global, text: &str, written: &str, told: &str) -> Result<bool, AllocError> {
+    let mut desk = MemoryDesk::new(alloc, 4000)?;
+    desk.put("m.mps", text.as_bytes())?;
+    let status = command(alloc, &mut desk, &["fixed", "m.mps"])?;
+    let wanted = if told.is_empty() { 0 } else { 2 };
+    Ok(status == wanted && desk.written() == written.as_bytes() && desk.told() == told.as_bytes())
+}
+
+// The example with another line 7.
+fn with_line(alloc: Global, line: &str) -> Result<String, AllocError> {
+    let mut text = String::new(alloc);
+    for (i, each) in FIXED.lines().enumerate() {
+        text.push_str(if i == 6 { line } else { each })?;
+        text.push_str("\n")?;
+    }
+    Ok(text)
+}
+
+#[test]
+fn keeps_to_the_fields(rt: HostRuntime) -> Result<(), Fail> {
+    let alloc = rt.alloc();
+    let cases = [
+        // Nothing counts after column 61, and CRs end no word.
+        "    X         COST               1.0   LIM1               2.0",
+        "    X         COST               1.0   LIM1               2.0 more",
+        "    X         COST               1.0   LIM1               2.0\r\r",
+        "    X         COST       1.0           LIM1      2.0",
+    ];
+    for line in cases {
+        let text = with_line(alloc, line)?;
+        assert!(rt;
+            comes_to(alloc, text.as_str(), FIXED_WRITTEN, "")?,
+            "at {line}"
+        );
+    }
+    Ok(())
+}
+
+#[test]
+fn tells_a_line_that_leaves_the_fields(rt: HostRuntime) -> Result<(), Fail> {
+    let alloc = rt.alloc();
+    let cases = [
+        "    X         COST               1.0  LIM1                2.0",
+        "    X         COST               1.0   LIM1\t              2.0",
+        "    X   Y     COST               1.0   LIM1               2.0",
+        "    X       x COST               1.0   LIM1               2.0",
+    ];
+    for line in cases {
+        let text = with_line(alloc, line)?;
+        assert!(rt;
+            comes_to(alloc, text.as_str(), "", "refused line 7: bad line\n")?,
+            "at {line}"
+        );
+    }
+    Ok(())
+}
+
+#[test]
+fn tells_that_fixed_columns_have_no_end(rt: HostRuntime) -> Result<(), Fail> {
+    let text = first_lines(rt.alloc(), FIXED, 13)?;
+    assert!(rt; comes_to(rt.alloc(), text.as_str(), "", "refused line 14: no end\n")?);
+    Ok(())
+}
