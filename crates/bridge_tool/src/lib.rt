@@ -4,9 +4,9 @@
 mod answer;
 mod command;
 mod export;
+mod fixed;
 mod import;
 mod import_told;
-mod fixed;
 mod laws;
 mod mps;
 mod mps_told;
