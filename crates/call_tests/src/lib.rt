@@ -2,6 +2,8 @@
 #![tactic(auto)]
 
 #[cfg(test)]
+mod branch_proofs;
+#[cfg(test)]
 mod certificates;
 #[cfg(test)]
 mod fixed_texts;
