@@ -13,6 +13,7 @@ pub mod MpsRewriting
 pub mod NlRewriting
 pub mod Numbers
 pub mod OneOutcome
+pub mod Proving
 pub mod Outcomes
 pub mod SeveralFiles
 pub mod SolRewriting

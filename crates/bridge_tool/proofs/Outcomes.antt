@@ -1,7 +1,7 @@
 -- Words come to exactly one outcome.
 use Rattle.std.proofs.Common.{◌≡◌, ◌∙◌, inl, inr, ◌⊎◌, ℕ, List, take, Option, Some, None, true, false, Bool, refl, sym, ap, subst}
 use Rattle.text_base.specs.Desk.{Texts}
-use Rattle.bridge_tool.specs.Command.{Command, Check, Export, Fixed, Mps, Nl, Sol, command_of, Import}
+use Rattle.bridge_tool.specs.Command.{Command, Check, Export, Fixed, Mps, Nl, Sol, command_of, Import, Prove}
 use Rattle.bridge_tool.specs.Commands.{promise_of, promise_by, ComesTo}
 use Rattle.bridge_tool.specs.Export.{IsExported}
 use Rattle.bridge_tool.specs.Import.{IsImportRefused, IsImported}
@@ -20,6 +20,7 @@ use Rattle.bridge_tool.proofs.Importing.{import_decided}
 use Rattle.bridge_tool.proofs.NlRewriting.{nl_decided}
 use Rattle.bridge_tool.proofs.MpsRewriting.{fixed_decided, mps_decided}
 use Rattle.bridge_tool.proofs.Decisions.{AreDecided}
+use Rattle.bridge_tool.proofs.Proving.{prove_sound}
 use Rattle.bridge_tool.proofs.OneOutcome.{HasOne, IsPlain, desk_has_one}
 use Rattle.bridge_tool.proofs.SolRewriting.{sol_decided}
 
@@ -37,6 +38,7 @@ told_has_one texts (Mps file) = desk_has_one IsRewritten IsMpsRefused mps_decide
 told_has_one texts (Sol file) = desk_has_one IsSolRewritten (IsSolRefused 1) sol_decided texts file
 told_has_one texts (Check nl sol) = (check_sound nl sol texts).one
 told_has_one texts (Import file) = desk_has_one IsImported IsImportRefused import_decided texts file
+told_has_one texts (Prove nl proof) = (prove_sound nl proof texts).one
 told_has_one texts (Fixed file) = desk_has_one IsFixedRewritten IsFixedRefused fixed_decided texts file
 
 -- with those of one that does not
@@ -47,6 +49,7 @@ untold_has_one (Mps file) = record { outcome = Untold false; comes_to = refl; is
 untold_has_one (Sol file) = record { outcome = Untold false; comes_to = refl; is = tt; one = λ other j. j }
 untold_has_one (Check nl sol) = record { outcome = Untold true; comes_to = refl; is = tt; one = λ other j. j }
 untold_has_one (Import file) = record { outcome = Untold false; comes_to = refl; is = tt; one = λ other j. j }
+untold_has_one (Prove nl proof) = record { outcome = Untold true; comes_to = refl; is = tt; one = λ other j. j }
 untold_has_one (Fixed file) = record { outcome = Untold false; comes_to = refl; is = tt; one = λ other j. j }
 
 any_of : (comes : Outcome → Type 0) → HasOne IsPlain comes → HasOne Any comes

@@ -13,6 +13,8 @@ pub mod NlTold
 pub mod OneFile
 pub mod Outcome
 pub mod Promise
+pub mod ProofTold
+pub mod Prove
 pub mod Refusal
 pub mod SeveralFiles
 pub mod Sol

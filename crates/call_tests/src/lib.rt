@@ -3,6 +3,7 @@
 
 #[cfg(test)]
 mod answers;
+mod branch_proofs;
 #[cfg(test)]
 mod certificates;
 #[cfg(test)]

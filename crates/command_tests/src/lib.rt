@@ -13,3 +13,5 @@ mod fixed_commands;
 mod mps_commands;
 #[cfg(test)]
 mod sol_commands;
+#[cfg(test)]
+mod proof_commands;
