@@ -3,6 +3,7 @@
 
 #[cfg(test)]
 mod answers;
+#[cfg(test)]
 mod branch_proofs;
 #[cfg(test)]
 mod certificates;
