@@ -1,12 +1,16 @@
 pub mod Decided
 pub mod Decisions
+pub mod Ending
 pub mod Exporting
 pub mod FaultLines
 pub mod Headline
 pub mod Known
+pub mod Making
 pub mod Meaning
 pub mod MpsRewriting
 pub mod NlRewriting
 pub mod Numbers
+pub mod OneOutcome
 pub mod Outcomes
+pub mod Summing
 pub mod Working

@@ -16,7 +16,7 @@ use Rattle.bridge_tool.specs.declared.answer.Answer.TheVariants.{Done as IsDone,
 use Rattle.bridge_tool.specs.declared.transfer.Unread.{Unread}
 use Rattle.bridge_tool.specs.declared.transfer.Unread.TheVariants.{Fault, Memory}
 use Rattle.bridge_tool.specs.declared.transfer.TheConstants.{LIMIT}
-use Rattle.bridge_tool.proofs.Outcomes.{HasOne, text_has_one}
+use Rattle.bridge_tool.proofs.OneOutcome.{HasOne, text_has_one}
 use Rattle.bridge_tool.proofs.Decisions.{AreDecided}
 
 -- with such a status nothing is said of what is written

@@ -2,9 +2,10 @@
 use Rattle.std.specs.Prelude.{◌≡◌, ℕ, List}
 use Rattle.std.specs.declared.option.Option.{Option}
 use Rattle.std.specs.declared.option.Option.TheVariants.{None, Some}
-use Rattle.text_base.specs.Desk.{Texts}
-use Rattle.bridge_tool.specs.Command.{Command, Export, Mps, Nl, command_of}
+use Rattle.text_base.specs.Desk.{Meaning, Texts}
+use Rattle.bridge_tool.specs.Command.{Command, Export, Make, Mps, Nl, command_of}
 use Rattle.bridge_tool.specs.Export.{export_promise}
+use Rattle.bridge_tool.specs.Make.{LeavesInput, make_promise}
 use Rattle.bridge_tool.specs.Mps.{mps_promise}
 use Rattle.bridge_tool.specs.Nl.{nl_promise}
 use Rattle.bridge_tool.specs.Outcome.{Outcome, BadWords}
@@ -15,6 +16,7 @@ abbrev pub promise_of : Option Texts → Command → Promise
 promise_of texts (Export file objective) = export_promise texts file objective
 promise_of texts (Nl file) = nl_promise texts file
 promise_of texts (Mps file) = mps_promise texts file
+promise_of texts (Make seed size) = make_promise seed size
 
 -- the words are in no row of the command table
 abbrev pub bad_words : Promise
@@ -36,3 +38,9 @@ promise texts words = promise_by texts (command_of words)
 -- what these words come to at a desk with these texts
 abbrev pub ComesTo : Option Texts → List (List ℕ) → Outcome → Type 0
 ComesTo texts words outcome = (promise texts words).comes outcome
+
+-- a command that reads no file leaves the input as it was
+abbrev pub Leaves : Option Command → Meaning → Meaning → ℕ → Type 0
+Leaves None old new status = Unit {0}
+Leaves (Some (Make seed size)) old new status = LeavesInput old new status
+Leaves (Some command) old new status = Unit {0}

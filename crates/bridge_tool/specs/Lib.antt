@@ -2,6 +2,7 @@ pub mod Answer
 pub mod Command
 pub mod Commands
 pub mod Export
+pub mod Make
 pub mod Mps
 pub mod MpsTold
 pub mod Nl
