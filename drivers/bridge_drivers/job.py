@@ -15,6 +15,7 @@ from .options import Options
 from .program import Program
 
 LOG = "solver.log"
+ANSWERS = ("answer.", "phase1.", "relaxed.")        # what files that solvers write begin with
 
 
 class Ran(NamedTuple):
@@ -61,6 +62,9 @@ class Job:
         self.program, self.options, self.folder = program, options, folder
         self.solver, self.extra, self.clock = solver, list(extra), clock
         self.log = ""
+        for name in os.listdir(folder):     # a kept folder may hold another run's answer
+            if name.startswith(ANSWERS):
+                os.unlink(self.path(name))
 
     def path(self, name: str) -> str:
         return os.path.join(self.folder, name)

@@ -1,4 +1,5 @@
-"""Each small model through `bridge` and each installed solver; skipped where one is missing."""
+"""Each small model through `bridge` and each installed solver; skipped where BRIDGE is not set or
+a solver is missing."""
 
 from __future__ import annotations
 
@@ -10,15 +11,11 @@ import unittest
 
 from support import HERE, LOOSE, Case
 from bridge_drivers import solvers
-from bridge_drivers.bridge import Missing, find
-from bridge_drivers.driver import BESIDE
+from bridge_drivers.bridge import find
 from models import MODELS, is_solved
 import stand_in
 
-try:
-    BRIDGE = find("", BESIDE)
-except Missing:
-    BRIDGE = []
+BRIDGE = find("", []) if os.environ.get("BRIDGE") else []
 
 
 def knows(command: str) -> bool:
@@ -42,7 +39,7 @@ class EndToEnd(Case):
                    driver not in LOOSE and knows("check"))
 
 
-@unittest.skipUnless(knows("export"), "no bridge")
+@unittest.skipUnless(knows("export"), "BRIDGE is not set")
 class Exported(Case):
     def test_stand_in_writes_the_same(self) -> None:
         """The exported texts of the models, which the stored runs rest on."""

@@ -119,6 +119,14 @@ class Failures(Case):
         self.put(b"neither\n")
         self.assertEqual(self.replay("cbc", "knap", self.stub, "-AMPL").returncode, 1)
 
+    def test_an_older_answer_in_a_kept_folder_is_not_read(self) -> None:
+        self.put(MODELS["knap"].text)
+        keep = "keep=" + os.path.join(self.folder, "kept")
+        for name, code in (("knap", 0), ("nothing", 506)):
+            for driver in ("cbc", "glpsol"):
+                self.replay(driver, name, self.stub, "-AMPL", keep)
+                self.assertEqual(self.sol().code, code)
+
     def test_keep_never_overwrites_the_model(self) -> None:
         self.stub = os.path.join(self.folder, "text")
         self.put(b"b" + MODELS["knap"].text[1:])

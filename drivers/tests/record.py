@@ -16,6 +16,7 @@ HERE = os.path.dirname(os.path.abspath(__file__))
 sys.path[:0] = [os.path.join(HERE, ".."), HERE]
 
 from bridge_drivers import solvers          # noqa: E402
+from bridge_drivers.job import ANSWERS      # noqa: E402
 from models import MODELS, is_solved        # noqa: E402
 import stored                               # noqa: E402
 
@@ -35,7 +36,7 @@ def run(driver: str, name: str) -> dict:
                 data = f.read()
             if file.endswith(".log"):
                 logs[file] = data.decode("utf-8", "replace").split("\n")
-            elif file.startswith(stored.PREFIXES) and not file.endswith(".mps"):
+            elif file.startswith(ANSWERS) and not file.endswith(".mps"):
                 files[file] = stored.content(data)
     return {"options": model.options, "logs": logs, "files": files}
 

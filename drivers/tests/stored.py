@@ -9,7 +9,6 @@ import os
 from typing import Union
 
 FOLDER = os.path.join(os.path.dirname(os.path.abspath(__file__)), "stored")
-PREFIXES = ("answer.", "phase1.")       # files that a solver writes
 Content = Union[str, list]
 
 

@@ -4,9 +4,9 @@
     test_drivers.py [NAME ..]       names of tests, as unittest takes them; all where there are none
 
 They need neither solver nor `bridge` nor network: stored runs and a stand-in take their places.
-Where BRIDGE names the program (or it stands beside the drivers), each small model also runs
-through it and each solver that is installed. Nothing is written into this folder. Quiet but for
-the last line; the status is 1 where a test fails.
+Where BRIDGE names the program, each small model also runs through it and each solver that is
+installed. Nothing is written into this folder. Quiet but for the last line; the status is 1 where
+a test fails.
 """
 
 from __future__ import annotations

@@ -1,5 +1,5 @@
 -- An .nl text is exported as one text, or refused with one line.
-use Rattle.std.proofs.Common.{◌≡◌, ◌∙◌, inl, inr, ◌⊎◌, ℕ, ◌+◌, ◌≤◌, List, ◌++◌, codes, take, Option, Some, None, true, false, Bool, refl, sym, ap, subst}
+use Rattle.std.proofs.Common.{◌≡◌, ◌∙◌, inl, inr, ◌⊎◌, ℕ, ◌+◌, ◌≤◌, List, ◌++◌, codes, take, Option, Some, None, true, false, Bool, refl, sym, ap, ap₂, subst}
 use Rattle.std.specs.Prelude.{option_map}
 use Rattle.fractions.specs.Rational.{ℚ}
 use Rattle.linear_programs.specs.Linear.{Linear}
@@ -20,9 +20,8 @@ use Rattle.nl_model.specs.File.{File}
 use Rattle.nl_segments.specs.Grammar.{nl_rules, NlValue, SaysFile, standing, said, counts_of}
 use Rattle.nl_segments.specs.Saying.{place_lines}
 use Rattle.nl_model.specs.Draft.{file_of}
-use Rattle.nl_segments.specs.Reader.{IsNl, HasNlFault}
+use Rattle.nl_segments.specs.Reader.{IsNl, HasNlFault, fault_of}
 use Rattle.nl_segments.specs.declared.fault.NlFault.{NlFault}
-use Rattle.nl_segments.specs.declared.fault.Refusal.{Refusal}
 use Rattle.row_scaling.specs.Scaling.{HasNoScaleFault, HasScaleFault, IsExportOf}
 use Rattle.row_scaling.specs.declared.scale_fault.ScaleFault.{ScaleFault}
 use Rattle.bridge_tool.specs.Export.{Counts, IsExported}
@@ -37,7 +36,7 @@ pub outcome_of_text : (text : List ℕ) → HasOneOutcome nl_rules (lines_of tex
 outcome_of_text text = one_outcome nl_rules (lines_of text) (last_of text)
 
 pub not_both : (text : List ℕ) (value : NlValue) (fault : NlFault) → IsNl text value → HasNlFault text fault → ⊥
-not_both text value fault h k = (outcome_of_text text).not_both h.clean fault.line _ k
+not_both text value fault h k = (outcome_of_text text).not_both h.clean fault.line _ k.first
 
 pub same_file : (text : List ℕ) (a b : NlValue) → IsNl text a → IsNl text b → a.file ≡ b.file
 same_file text a b h k = h.said.file ∙ sym k.said.file
@@ -45,17 +44,10 @@ same_file text a b h k = h.said.file ∙ sym k.said.file
 same_places : (text : List ℕ) (a b : NlValue) → IsNl text a → IsNl text b → a.places ≡ b.places
 same_places text a b h k = h.said.places ∙ sym k.said.places
 
--- the line of a fault, by its line and its reason
-line_by : ℕ → Refusal → List ℕ
-line_by line r = nl_line (record { reason = r.reason; line = line; opcode = r.opcode })
-
 pub same_nl_line : (text : List ℕ) (a b : NlFault) → HasNlFault text a → HasNlFault text b → nl_line a ≡ nl_line b
-unfolding line_by
 same_nl_line text a b h k =
-    let ra : Refusal = record { reason = a.reason; opcode = a.opcode } in
-    let rb : Refusal = record { reason = b.reason; opcode = b.opcode } in
-    let same = (outcome_of_text text).one_fault a.line b.line ra rb h k in
-    ap (λ (n : ℕ). line_by n ra) same.0 ∙ ap (line_by b.line) same.1
+    let same = (outcome_of_text text).one_fault a.line b.line a.reason b.reason h.first k.first in
+    ap₂ (λ line reason. nl_line (record { reason = reason; line = line; opcode = 0 })) same.0 same.1
 
 -- ---- the fold
 
@@ -155,8 +147,8 @@ unfolding IsJudged
 judged text k = elim (outcome_of_text text).some [
   | inl clean ↦ by_fold text k (value_of_text text) (fold_fault (value_of_text text).file k) (clean_text text clean) refl
   | inr found ↦
-      let fault : NlFault = record { reason = found.1.reason; line = found.0; opcode = found.1.opcode } in
-      inr (nl_line fault, inl (record { fault = fault; first = found.2; told = refl }))
+      let fault : NlFault = fault_of (record { reason = found.1; line = found.0 }) in
+      inr (nl_line fault, inl (record { fault = fault; first = record { first = found.2; opcode = refl }; told = refl }))
 ]
 
 pub export_decided : (k : ℕ) → AreDecided (λ text. IsExported text k) (λ text. IsRefused text k)

@@ -3,6 +3,7 @@ pub mod Decisions
 pub mod Ending
 pub mod Exporting
 pub mod FaultLines
+pub mod FoldPlaces
 pub mod Headline
 pub mod Known
 pub mod Making

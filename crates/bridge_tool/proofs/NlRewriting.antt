@@ -1,6 +1,7 @@
 -- An .nl text is written as one text, or refused with one line.
 use Rattle.std.proofs.Common.{◌≡◌, ◌∙◌, inl, inr, ◌⊎◌, ℕ, List, refl, sym, ap}
 use Rattle.nl_segments.specs.declared.fault.NlFault.{NlFault}
+use Rattle.nl_segments.specs.Reader.{fault_of}
 use Rattle.nl_writer.specs.Written.{nl_text}
 use Rattle.bridge_tool.specs.Nl.{IsNlRewritten}
 use Rattle.bridge_tool.specs.NlTold.{nl_line}
@@ -15,8 +16,8 @@ nl_decided = record {
   either = λ text. elim (outcome_of_text text).some [
     | inl clean ↦ inl (nl_text (value_of_text text).file, record { value = value_of_text text; read = clean_text text clean; written = refl })
     | inr found ↦
-        let fault : NlFault = record { reason = found.1.reason; line = found.0; opcode = found.1.opcode } in
-        inr (nl_line fault, record { fault = fault; first = found.2; told = refl })
+        let fault : NlFault = fault_of (record { reason = found.1; line = found.0 }) in
+        inr (nl_line fault, record { fault = fault; first = record { first = found.2; opcode = refl }; told = refl })
   ];
   apart = λ text bytes line h k. not_both text h.value k.fault h.read k.first;
 }

@@ -13,4 +13,5 @@ pub mod Promise
 pub mod Refusal
 pub mod Stages
 pub mod Told
+pub mod ToldLines
 pub mod Transfer

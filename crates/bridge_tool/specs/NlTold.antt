@@ -31,7 +31,7 @@ reason_text BadLine = codes "bad line"
 reason_text BadNumber = codes "bad number"
 reason_text ShortSegment = codes "short segment"
 reason_text ExtraLine = codes "extra line"
-reason_text RefusedOpcode = codes "refused opcode"
+reason_text (RefusedOpcode opcode) = codes "refused opcode"
 reason_text RefusedLeaf = codes "refused leaf"
 reason_text Undefined = codes "undefined"
 reason_text Complementarity = codes "complementarity"
@@ -46,13 +46,13 @@ reason_text InputTooLong = codes "input too long"
 reason_text EndInHeader = codes "end in header"
 
 -- the number of a refused opcode, after a blank
-abbrev pub opcode_text : NlReason → ℕ → List ℕ
-opcode_text RefusedOpcode opcode = codes " " ++ decimal opcode
-opcode_text reason opcode = []
+abbrev pub opcode_text : NlReason → List ℕ
+opcode_text (RefusedOpcode opcode) = codes " " ++ decimal opcode
+opcode_text reason = []
 
 -- the line of a fault of an .nl text
 abbrev pub nl_line : NlFault → List ℕ
-nl_line f = refused_at 1 (codes "line") f.line ++ reason_text f.reason ++ opcode_text f.reason f.opcode ++ codes "\n"
+nl_line f = refused_at 1 (codes "line") f.line ++ reason_text f.reason ++ opcode_text f.reason ++ codes "\n"
 
 abbrev pub or_zero : Option ℕ → ℕ
 or_zero None = 0

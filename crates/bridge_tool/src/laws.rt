@@ -9,8 +9,11 @@ ghost use Rattle.text_base.specs.Desk.{Texts};
 ghost use Rattle.text_base.specs.Reading.{lines_of};
 ghost use Rattle.bridge_tool.specs.Commands.{ComesTo};
 ghost use Rattle.bridge_tool.specs.Export.{IsExported, MeansTheFile};
+ghost use Rattle.bridge_tool.specs.Mps.{IsMpsRefused};
 ghost use Rattle.bridge_tool.specs.NlTold.{HasFaultLine};
 ghost use Rattle.bridge_tool.specs.Outcome.{Outcome};
+ghost use Rattle.bridge_tool.specs.Refusal.{HasTextRefusal, IsRefused};
+ghost use Rattle.bridge_tool.specs.ToldLines.{TellsLine, TellsPlace};
 
 /// Words come to exactly one outcome, whatever texts a desk has.
 pub fn one_outcome()
@@ -23,7 +26,10 @@ pub fn programs_mean_their_files()
     ensures { (text : List ℕ) (k : ℕ) (bytes : List ℕ) (e : IsExported text k bytes) → IsFile e.value.file → MeansTheFile e.value.file k e.program }
 {}
 
-/// A fault of the fold at a place of the file of a text is told with one of the text's lines, and never with line 0.
+/// What is told of a text that is refused names one of the text's lines, and never line 0; an export may name a row or the objective instead. A fault of the fold at a place of the file stands at one of its lines.
 pub fn told_lines_are_lines()
-    ensures { (text : List ℕ) (value : NlValue) (fault : FoldFault) → IsNl text value → HasFaultPlace value.file fault → HasFaultLine (length (lines_of text)) value.places fault }
+    ensures export { (text : List ℕ) (k : ℕ) (told : List ℕ) → IsRefused text k told → TellsPlace text told }
+    ensures nl { (text told : List ℕ) → HasTextRefusal text told → TellsLine text told }
+    ensures mps { (text told : List ℕ) → IsMpsRefused text told → TellsLine text told }
+    ensures places { (text : List ℕ) (value : NlValue) (fault : FoldFault) → IsNl text value → HasFaultPlace value.file fault → HasFaultLine (length (lines_of text)) value.places fault }
 {}

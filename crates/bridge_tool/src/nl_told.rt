@@ -35,7 +35,7 @@ fn reason_text(reason: NlReason) -> &'static [u8]
         NlReason::BadNumber => b"bad number",
         NlReason::ShortSegment => b"short segment",
         NlReason::ExtraLine => b"extra line",
-        NlReason::RefusedOpcode => b"refused opcode",
+        NlReason::RefusedOpcode(_) => b"refused opcode",
         NlReason::RefusedLeaf => b"refused leaf",
         NlReason::Undefined => b"undefined",
         NlReason::Complementarity => b"complementarity",
@@ -52,10 +52,10 @@ fn reason_text(reason: NlReason) -> &'static [u8]
 }
 
 // The number of a refused opcode, after a blank.
-fn put_opcode(line: &mut Vec<u8>, reason: NlReason, opcode: u32) -> Result<(), AllocError>
-    ensures { OnOk result (line.new.items ≡ line.old.items ++ opcode_text reason opcode) }
+fn put_opcode(line: &mut Vec<u8>, reason: NlReason) -> Result<(), AllocError>
+    ensures { OnOk result (line.new.items ≡ line.old.items ++ opcode_text reason) }
 {
-    if reason == NlReason::RefusedOpcode {
+    if let NlReason::RefusedOpcode(opcode) = reason {
         let mut digits = Buffer::new();
         put(line, b" ")?;
         put(line, digits.format(opcode).as_bytes())?;
@@ -69,7 +69,7 @@ pub(crate) fn nl_line(alloc: Global, fault: NlFault) -> Result<Vec<u8>, AllocErr
 {
     let mut line = refused_at(alloc, 1, b"line", fault.line)?;
     put(&mut line, reason_text(fault.reason))?;
-    put_opcode(&mut line, fault.reason, fault.opcode)?;
+    put_opcode(&mut line, fault.reason)?;
     put(&mut line, b"\n")?;
     Ok(line)
 }

@@ -33,7 +33,7 @@ use Rattle.nl_segments.specs.Nodes.{node_in, opcode_in, fixed_node, counted_opco
 use Rattle.nl_segments.specs.Pieces.{Piece, awaited_in, tree_awaits, line_kind, line_count, pair_count, has_tree, tree_rows, piece_nodes, piece_pending, is_complete}
 use Rattle.nl_segments.specs.Rows.{Row}
 use Rattle.nl_segments.specs.Saying.{draft_of, with_piece, said_by, if_complete}
-use Rattle.nl_segments.specs.Tests.{for_reason, node_form_tests, node_tests, operand_tests, node_total}
+use Rattle.nl_segments.specs.Tests.{node_form_tests, node_tests, operand_tests, node_total}
 use Rattle.nl_segments.specs.declared.fault.NlReason.TheVariants.{TooLarge}
 use Rattle.nl_segments.proofs.CurrentLemmas.{tree_count, late_tree, last_nodes, last_pending, nodes-more, pending-more}
 use Rattle.text_base.proofs.FirstReasons.{reason_after}
@@ -235,7 +235,7 @@ node_line o c before d p ns m few s h some fine room =
       written = words_written c d.definitions m few fine;
       is = no_head m;
       awaited = node_awaited c p ns h some;
-      fine = reason_after (node_form_tests c (draft_of o c (before ++ p ∷ [])) (node_words m)) ((nat_le (2 ^ 22) (node_total c (before ++ p ∷ [])), for_reason TooLarge) ∷ []) form ∙ not_large (node_total c (before ++ p ∷ [])) (node_room c before p ns None h room);
+      fine = reason_after (node_form_tests c (draft_of o c (before ++ p ∷ [])) (node_words m)) ((nat_le (2 ^ 22) (node_total c (before ++ p ∷ [])), TooLarge) ∷ []) form ∙ not_large (node_total c (before ++ p ∷ [])) (node_room c before p ns None h room);
     }
 
 -- what a row says after no pending opcode

@@ -13,15 +13,16 @@ use Rattle.nl_segments.specs.declared.awaited.Awaited.{Awaited}
 use Rattle.nl_segments.specs.declared.awaited.Awaited.TheVariants.{Nothing, Pair, ColumnCount, Interval, Node, OperandCount}
 use Rattle.nl_segments.specs.declared.fault.NlReason.TheVariants.{ExtraLine}
 use Rattle.nl_segments.specs.declared.head.Head.{Head}
-use Rattle.nl_segments.specs.declared.head.Head.TheVariants.{Body as BodyHead, Objective, Definition, DualGuesses, PrimalGuesses, Sides, Bounds, ColumnCounts, Terms, Slopes, Suffix}
+use Rattle.nl_segments.specs.declared.head.Head.TheVariants.{Body as BodyHead, Objective, Definition, Terms, Slopes, Suffix}
 use Rattle.nl_segments.specs.Heads.{is_head, is_in_range}
 use Rattle.nl_segments.specs.Pieces.{Piece, last_piece, is_nothing, awaited_in, awaited_of}
 use Rattle.nl_segments.specs.Saying.{empty_lines, draft_of, place_lines}
 use Rattle.nl_segments.specs.SeenSegments.{no_segments, has_segment, IsSeenIn}
 use Rattle.nl_segments.specs.Current.{Current}
-use Rattle.nl_segments.specs.Tests.{index_limit, is_suffix, for_reason, awaited_tests, line_tests, row_tests}
+use Rattle.nl_segments.specs.Tests.{index_limit, is_suffix, awaited_tests, line_tests, row_tests}
 use Rattle.nl_segments.specs.Grammar.{Standing, counts_of, said}
-use Rattle.nl_segments.specs.Held.{Body, IsHeld, IsHeaderOf, AreSound, IsLast, only_header, use_count, words_refusal}
+use Rattle.nl_model.specs.UseCounts.{use_count}
+use Rattle.nl_segments.specs.Held.{Body, IsHeld, IsHeaderOf, AreSound, IsLast, only_header, words_refusal}
 use Rattle.nl_segments.specs.Taking.{body_awaits}
 use Rattle.nl_segments.proofs.CurrentLemmas.{awaits}
 
@@ -50,14 +51,10 @@ seen_none c (Definition i j u) r f =
     let here = defined_place c.n_var (defined_count c) i r in
     let mark = unmarked (defined_count c) (i - c.n_var) here.1 in
     ((here.0, mark.0), mark.1)
-seen_none c (DualGuesses n) r f = (tt, refl)
-seen_none c (PrimalGuesses n) r f = (tt, refl)
-seen_none c Sides r f = (tt, refl)
-seen_none c Bounds r f = (tt, refl)
-seen_none c (ColumnCounts n) r f = (tt, refl)
 seen_none c (Terms i n) r f = unmarked c.n_con i (ltb-true i c.n_con r)
 seen_none c (Slopes k n) r f = unmarked c.n_obj k (ltb-true k c.n_obj r)
 seen_none c (Suffix kind n) r f = absurd cc
+seen_none c head r f = (tt, refl)
 
 no_use : (n j : ℕ) → use_count (replicate n []) j ≡ 0
 no_use zero j = refl
@@ -138,10 +135,10 @@ last_nothing c d name pieces (Some p) (Some cur) q l e = rw q (sym (awaits c p c
 pub nothing_awaited : (s : Standing) (b : Body) → IsHeld s b → body_awaits b.current ≡ Nothing → awaited_of (counts_of s) s.pieces ≡ Nothing
 nothing_awaited s b h e = last_nothing (counts_of s) b.draft b.name s.pieces (last_piece s.pieces) b.current refl h.last e
 
-pub extra_line : (s : Standing) (b : Body) (words : List (List ℕ)) → is_head words ≡ false → body_awaits b.current ≡ Nothing → IsHeld s b → words_refusal s words ≡ Some (for_reason ExtraLine)
+pub extra_line : (s : Standing) (b : Body) (words : List (List ℕ)) → is_head words ≡ false → body_awaits b.current ≡ Nothing → IsHeld s b → words_refusal s words ≡ Some ExtraLine
 unfolding row_tests
 extra_line s b words plain e h = rw plain (by (last_piece s.pieces))
   where
-    by : (o : Option Piece) → first_reason (line_tests (counts_of s) (said s) s.pieces words o) ≡ Some (for_reason ExtraLine)
+    by : (o : Option Piece) → first_reason (line_tests (counts_of s) (said s) s.pieces words o) ≡ Some ExtraLine
     by None = refl
     by (Some p) = ap (λ a. first_reason (awaited_tests (counts_of s) (said s) s.pieces p words a)) (nothing_awaited s b h e)

@@ -1,6 +1,6 @@
 -- Rows without a fault: the pieces that they say are sound, and a node of each expression was awaited where it came.
-use Rattle.std.proofs.Common.{◌≡◌, ◌∙◌, ℕ, ◌+◌, ◌<◌, ◌≤◌, ◌^◌, ◌==◌, Bool, true, false, not, ◌&&◌, ◌||◌, List, [], ◌∷◌, ◌++◌, length, refl, sym, ap, subst, arith, nat_lt, Option, Some, None, All, append-nil}
-use Rattle.std.specs.Prelude.{IfSome, IsTrue, is_none, option_and_then, unwrap_or, if◌then◌else◌}
+use Rattle.std.proofs.Common.{◌≡◌, ◌∙◌, ℕ, ◌+◌, ◌<◌, ◌^◌, ◌==◌, Bool, true, false, not, ◌&&◌, List, [], ◌∷◌, ◌++◌, length, refl, sym, ap, subst, arith, nat_lt, Option, Some, None, All, append-nil}
+use Rattle.std.specs.Prelude.{IfSome, is_none, unwrap_or, if◌then◌else◌}
 use Rattle.std.proofs.lemmas.Bool.{ltb-true, ltb-false, eqb-false, not-false}
 use Rattle.std.proofs.lemmas.List.{map-append}
 use Rattle.std.proofs.lemmas.List.Elements.{All-push}
@@ -16,25 +16,25 @@ use Rattle.nl_model.proofs.Prefixes.{IsRun-push}
 use Rattle.nl_segments.specs.declared.awaited.Awaited.{Awaited}
 use Rattle.nl_segments.specs.declared.awaited.Awaited.TheVariants.{Nothing, Pair, ColumnCount, Interval as IntervalLine, Node as NodeLine, OperandCount}
 use Rattle.nl_segments.specs.declared.head.Head.{Head}
-use Rattle.nl_segments.specs.declared.head.Head.TheVariants.{Body as BodyHead, Objective, Definition, DualGuesses, PrimalGuesses, Sides, Bounds, ColumnCounts, Terms, Slopes, Suffix}
+use Rattle.nl_segments.specs.declared.head.Head.TheVariants.{Sides, Bounds, ColumnCounts}
 use Rattle.nl_segments.specs.declared.fault.NlReason.TheVariants.{ShortSegment, RepeatedIndex, TooLarge}
-use Rattle.exact_numbers.specs.Numbers.{are_digits, whole_of}
+use Rattle.exact_numbers.specs.Numbers.{whole_of}
 use Rattle.nl_segments.specs.Rows.{Row, row_words}
 use Rattle.text_base.specs.Words.{word_at}
-use Rattle.nl_segments.specs.Heads.{is_head, head_of, name_in, is_in_range}
-use Rattle.nl_segments.specs.Nodes.{Placed, Pending, node_in, opcode_in, pending_in, nodes_from, nodes_of, pending_from, only_nodes}
-use Rattle.nl_segments.specs.Pieces.{Piece, awaited_in, awaited_of, has_tree, is_complete, is_nothing, last_piece, line_count, line_kind, pair_count, pair_in, piece_nodes, piece_pairs, piece_pending, extended, tree_awaits, tree_rows, with_row}
-use Rattle.nl_segments.specs.Tests.{Tests, for_reason, is_full, awaited_tests, formed_head_tests, has_index, head_form_tests, head_tests, holds_once, index_limit, is_below, is_repeated, line_tests, node_tests, operand_tests, pair_form_tests, pair_tests, row_tests, wants_whole}
+use Rattle.nl_segments.specs.Heads.{is_head, head_of, name_in}
+use Rattle.nl_segments.specs.Nodes.{Placed, Pending, node_in, opcode_in, pending_in, nodes_of, pending_from, only_nodes}
+use Rattle.nl_segments.specs.Pieces.{Piece, awaited_in, awaited_of, has_tree, is_nothing, last_piece, line_count, line_kind, pair_count, piece_nodes, piece_pairs, piece_pending, extended, tree_awaits, tree_rows, with_row}
+use Rattle.nl_segments.specs.Tests.{Tests, is_full, awaited_tests, formed_head_tests, has_index, head_form_tests, head_tests, holds_once, index_limit, operand_tests, pair_form_tests, pair_tests, row_tests, wants_whole}
 use Rattle.nl_segments.specs.Current.{IsPending}
 use Rattle.nl_segments.specs.Held.{AreSound, IsSoundPiece}
-use Rattle.nl_segments.proofs.CurrentLemmas.{begun, early_tree, last_nodes, last_pending, late_tree, nodes-more, pending-more, tree_count}
+use Rattle.nl_segments.proofs.CurrentLemmas.{begun, early_tree, last_nodes, last_pending, late_tree, pending-more, tree_count}
 use Rattle.nl_segments.proofs.BodyStart.{no_piece_sound}
 use Rattle.nl_segments.proofs.HeadBegun.{new_piece}
 use Rattle.nl_segments.proofs.HeadLaw.{all_complete, sound_begun}
 use Rattle.nl_segments.proofs.NodeLemmas.{node_formed, opcode_counted}
-use Rattle.nl_segments.proofs.NodeSteps.{no, in_tree, lines_before, IsInTree, tree_nodes, sound_row}
+use Rattle.nl_segments.proofs.NodeSteps.{in_tree, lines_before, IsInTree, tree_nodes}
 use Rattle.nl_segments.proofs.OpcodeLemmas.{counted_fit}
-use Rattle.nl_segments.proofs.PairHeld.{IsBefore, before_lines, is_line_kind, sound_no_pair}
+use Rattle.nl_segments.proofs.PairHeld.{IsBefore, before_lines, is_line_kind, never, none_within, sound_kept}
 use Rattle.nl_segments.proofs.PairJudging.{IsIndex, below_limit, index_of, pair_found}
 use Rattle.nl_segments.proofs.PairLines.{awaited-last, other_last, last_of, last_sound, sound_longer}
 use Rattle.nl_segments.proofs.PairPiece.{IsNextPair, sound_pair}
@@ -57,11 +57,11 @@ inside_tree c p kind e tree = by (nat_lt (length p.rows) (line_count c p.head)) 
   where
     by : (t u : Bool) → nat_lt (length p.rows) (line_count c p.head) ≡ t → has_tree p.head ≡ u → (if t then line_kind p.head else (if u then tree_awaits (piece_nodes c p) (piece_pending p) else Nothing)) ≡ kind
         → IsInside c p kind
-    by true u q r is = absurd (no (sym (ap in_tree is ∙ tree) ∙ lines_before p.head))
+    by true u q r is = absurd (never (sym (ap in_tree is ∙ tree) ∙ lines_before p.head))
     by false true q r is =
         let late = ltb-false _ _ q in
         record { place = record { tree = r; late = late; early = omega (arith, late, tree_count c p.head r) }; awaits = is }
-    by false false q r is = absurd (no (sym (ap in_tree is ∙ tree)))
+    by false false q r is = absurd (never (sym (ap in_tree is ∙ tree)))
 
 -- ---- the nodes of a piece
 
@@ -152,7 +152,7 @@ running_count c p row i fine h =
     by (Some q) e k some =
         let pends : IsPending (only_nodes (piece_nodes c p)) q = subst (λ o. IfSome o (IsPending (only_nodes (piece_nodes c p)))) e h.pending in
         let first : unwrap_or (whole_of (word_at (row_words row) 0)) 1 ≡ k.index = ap (λ o. unwrap_or o 1) k.is in
-        let fits = counted_fit (Some q) (only_nodes (piece_nodes c p)) q.opcode k.index pends refl refl (omega (arith, some)) (omega (arith, k.below)) in
+        let fits = counted_fit q.opcode k.index pends.0 (omega (arith, some)) (omega (arith, k.below)) in
         let last : IsRun 1 (only_nodes (piece_nodes c p) ++ Op q.opcode k.index ∷ []) = IsRun-push 1 (only_nodes (piece_nodes c p)) (Op q.opcode k.index) h.run pends.1 fits in
         running_row c p row (Some q) i.place e (rw k.is last) tt
 
@@ -175,7 +175,7 @@ clean_head : (c : Counts) (pieces : List Piece) (row : Row) → AreClean c piece
 unfolding head_tests head_form_tests
 clean_head c pieces row h is fine =
     let words = row_words row in
-    let closed = none_head (not (is_nothing (awaited_of c pieces))) (for_reason ShortSegment) (head_form_tests c words ++ formed_head_tests c pieces (name_in words) (head_of c words)) fine in
+    let closed = none_head (not (is_nothing (awaited_of c pieces))) ShortSegment (head_form_tests c words ++ formed_head_tests c pieces (name_in words) (head_of c words)) fine in
     let form = none_each (head_form_tests c words) (none_first (head_form_tests c words) (formed_head_tests c pieces (name_in words) (head_of c words)) closed.1) in
     let formed = none_second (head_form_tests c words) (formed_head_tests c pieces (name_in words) (head_of c words)) closed.1 in
     by (head_of c words) refl (not-false _ closed.0) form.1.1.0 formed
@@ -183,7 +183,7 @@ clean_head c pieces row h is fine =
     by : (o : Option Head) → head_of c (row_words row) ≡ o → is_nothing (awaited_of c pieces) ≡ true
         → is_none (head_of c (row_words row)) ≡ false → first_reason (formed_head_tests c pieces (name_in (row_words row)) (head_of c (row_words row))) ≡ None
         → AreClean c (with_row c pieces row)
-    by None e closed form formed = absurd (no (sym (ap is_none e) ∙ form ∙ refl))
+    by None e closed form formed = absurd (never (sym (ap is_none e) ∙ form ∙ refl))
     by (Some head) e closed form formed =
         let none = none_each (formed_head_tests c pieces (name_in (row_words row)) (Some head)) (rw e at formed) in
         let new = new_piece head (name_in (row_words row)) row.line in
@@ -198,7 +198,7 @@ unfolding pair_tests
 next_pair c pieces p row b fine =
     let words = row_words row in
     let form = pair_form_tests (index_limit c p.head) (wants_whole p.head) words in
-    let rest : Tests = (holds_once p.head && has_index (piece_pairs p) (unwrap_or (whole_of (word_at words 0)) 0), for_reason RepeatedIndex) ∷ (is_full pieces p.head, for_reason TooLarge) ∷ [] in
+    let rest : Tests = (holds_once p.head && has_index (piece_pairs p) (unwrap_or (whole_of (word_at words 0)) 0), RepeatedIndex) ∷ (is_full pieces p.head, TooLarge) ∷ [] in
     let pair = pair_found (index_limit c p.head) (wants_whole p.head) words (none_first form rest fine) in
     let once = none_each rest (none_second form rest fine) in (
       pair.term,
@@ -219,14 +219,7 @@ no_pairs_in h kind e line other = of_head h (ap is_line_kind e ∙ line) (ap is_
     of_head Sides l o = refl
     of_head Bounds l o = refl
     of_head (ColumnCounts n) l o = refl
-    of_head (BodyHead i) l o = absurd cc
-    of_head (Objective k m) l o = absurd cc
-    of_head (Definition i j u) l o = absurd cc
-    of_head (DualGuesses n) l o = absurd cc
-    of_head (PrimalGuesses n) l o = absurd cc
-    of_head (Terms i n) l o = absurd cc
-    of_head (Slopes k n) l o = absurd cc
-    of_head (Suffix k n) l o = absurd cc
+    of_head head l o = absurd cc
 
 -- a row that the last piece awaits
 clean_line : (c : Counts) (d : Draft) (pieces before : List Piece) (p : Piece) (row : Row) (kind : Awaited) → AreClean c (before ++ p ∷ []) → awaited_in c p ≡ kind
@@ -238,16 +231,16 @@ clean_line c d pieces before p row Pair h e fine =
     clean_longer c before p row h (sound_pair c p row next.0 next.1 (last_sound c before p h.sound)) (running_line c p row b.within (last_of (IsRunning c) before p h.running))
 clean_line c d pieces before p row ColumnCount h e fine =
     let b = before_lines c p ColumnCount e refl in
-    clean_longer c before p row h (sound_no_pair c p row (no_pairs_in p.head ColumnCount b.same_kind refl refl) (last_sound c before p h.sound)) (running_line c p row b.within (last_of (IsRunning c) before p h.running))
+    clean_longer c before p row h (sound_kept c p row (none_within p (no_pairs_in p.head ColumnCount b.same_kind refl refl)) (last_sound c before p h.sound)) (running_line c p row b.within (last_of (IsRunning c) before p h.running))
 clean_line c d pieces before p row IntervalLine h e fine =
     let b = before_lines c p IntervalLine e refl in
-    clean_longer c before p row h (sound_no_pair c p row (no_pairs_in p.head IntervalLine b.same_kind refl refl) (last_sound c before p h.sound)) (running_line c p row b.within (last_of (IsRunning c) before p h.running))
+    clean_longer c before p row h (sound_kept c p row (none_within p (no_pairs_in p.head IntervalLine b.same_kind refl refl)) (last_sound c before p h.sound)) (running_line c p row b.within (last_of (IsRunning c) before p h.running))
 clean_line c d pieces before p row NodeLine h e fine =
     let i = inside_tree c p NodeLine e refl in
-    clean_longer c before p row h (sound_row c p row i.place (last_sound c before p h.sound)) (running_node c p row i (last_of (IsRunning c) before p h.running))
+    clean_longer c before p row h (sound_kept c p row i.place.early (last_sound c before p h.sound)) (running_node c p row i (last_of (IsRunning c) before p h.running))
 clean_line c d pieces before p row OperandCount h e fine =
     let i = inside_tree c p OperandCount e refl in
-    clean_longer c before p row h (sound_row c p row i.place (last_sound c before p h.sound)) (running_count c p row i fine (last_of (IsRunning c) before p h.running))
+    clean_longer c before p row h (sound_kept c p row i.place.early (last_sound c before p h.sound)) (running_count c p row i fine (last_of (IsRunning c) before p h.running))
 
 -- any row
 pub clean_row : (c : Counts) (d : Draft) (pieces : List Piece) (row : Row) → AreClean c pieces → first_reason (row_tests c d pieces (row_words row)) ≡ None → AreClean c (with_row c pieces row)

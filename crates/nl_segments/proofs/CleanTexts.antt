@@ -1,25 +1,23 @@
 -- What lines without a fault mean, and that each place of the file that they say has its line.
-use Rattle.std.proofs.Common.{◌≡◌, ◌∙◌, ℕ, ◌+◌, ◌<◌, ◌≤◌, Bool, true, false, not, List, [], ◌∷◌, ◌++◌, length, refl, sym, ap, subst, arith, Option, Some, None, All, append_assoc, append-nil}
+use Rattle.std.proofs.Common.{◌≡◌, ◌∙◌, ℕ, ◌+◌, ◌<◌, ◌≤◌, Bool, true, false, List, [], ◌∷◌, ◌++◌, length, refl, sym, ap, subst, arith, Option, Some, None, All, append_assoc, append-nil}
 use Rattle.std.specs.Prelude.{IsSome, IsSomeAnd, Ok}
 use Rattle.std.proofs.lemmas.Bool.{not-false}
 use Rattle.std.proofs.lemmas.List.{drop_all, drop_at, length-append, take_all, take_at}
 use Rattle.std.proofs.lemmas.List.Elements.{All-push}
 use Rattle.text_base.specs.declared.lines.LineFault.{LineFault}
-use Rattle.text_base.specs.Judged.{Last, first_reason, IsClean, last_reason, reason_at}
+use Rattle.text_base.specs.Judged.{Last, IsClean, last_reason, reason_at}
 use Rattle.text_base.specs.Lines.{scan}
 use Rattle.text_base.specs.Reading.{last_of as last_line, lines_of, Reads}
 use Rattle.text_base.specs.Words.{without_comment}
 use Rattle.text_base.proofs.FirstReasons.{none_each}
 use Rattle.nl_header.specs.Head.{options_in}
 use Rattle.nl_model.specs.declared.counts.Counts.{Counts}
-use Rattle.nl_model.specs.declared.at.At.{At}
-use Rattle.nl_model.specs.Draft.{file_of}
 use Rattle.nl_model.specs.FilePlaces.{HasPlace}
 use Rattle.nl_segments.specs.declared.head.Head.{Head}
 use Rattle.nl_segments.specs.declared.nl_read.NlRead.{NlRead}
 use Rattle.nl_segments.specs.Rows.{Row, holds_words, row_words, rows_from}
 use Rattle.nl_segments.specs.Heads.{is_head, head_of, name_in}
-use Rattle.nl_segments.specs.Pieces.{Piece, awaited_of, extended, is_complete, is_nothing, last_piece, pieces_of, with_row}
+use Rattle.nl_segments.specs.Pieces.{Piece, extended, is_complete, last_piece, pieces_of, with_row}
 use Rattle.nl_segments.specs.Saying.{line_of}
 use Rattle.nl_segments.specs.Tests.{end_tests}
 use Rattle.nl_segments.specs.Grammar.{NlValue, Standing, counts_of, end_refusal, is_in_header, line_refusal, nl_rules, said, SaysFile, standing}
@@ -30,7 +28,7 @@ use Rattle.nl_segments.proofs.EndLemmas.{all_given, short_parts}
 use Rattle.nl_segments.proofs.HeadBegun.{new_piece}
 use Rattle.nl_segments.proofs.HeadLaw.{all_complete, no_piece}
 use Rattle.nl_segments.proofs.LinesHeld.{AreRowLines, lines_there}
-use Rattle.nl_segments.proofs.NodeSteps.{no}
+use Rattle.nl_segments.proofs.PairHeld.{never}
 use Rattle.nl_segments.proofs.PairLines.{last_of, other_last}
 use Rattle.nl_segments.proofs.PieceLemmas.{split, extended-append, longer}
 use Rattle.nl_segments.proofs.StandingLemmas.{standing-more}
@@ -82,7 +80,7 @@ step P s n line here h fine = by (holds_words line) (is_in_header s) refl refl
         let row : Row = record { line = n; text = without_comment line } in
         rw (e, q) (record {
           clean = clean_row (counts_of s) (said s) s.pieces row h.clean (rw (e, q) at fine);
-          none = λ t. absurd (no (sym t ∙ q));
+          none = λ t. absurd (never (sym t ∙ q));
           lines = row_lines P (counts_of s) s.pieces row here h.lines;
         })
 

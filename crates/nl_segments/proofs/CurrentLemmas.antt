@@ -1,5 +1,5 @@
 -- What is held of a piece, and what a row more does to it.
-use Rattle.std.proofs.Common.{◌≡◌, ◌∙◌, ℕ, ◌-◌, ◌<◌, ◌≤◌, Bool, true, false, cond, List, [], ◌∷◌, ◌++◌, length, take, drop, refl, sym, ap, ap₂, arith, nat_lt, Option, Some, None}
+use Rattle.std.proofs.Common.{◌≡◌, ◌∙◌, ℕ, ◌-◌, ◌<◌, ◌≤◌, Bool, true, false, List, [], ◌∷◌, ◌++◌, length, take, refl, sym, ap, ap₂, arith, nat_lt, Option, Some, None}
 use Rattle.std.specs.List.{filter_map, cons_option}
 use Rattle.std.proofs.lemmas.Bool.{ltb-true, ltb-false, lt-ltb}
 use Rattle.std.proofs.lemmas.List.{append-nil, length-append, map-append, take-append-le, take_all, drop_all, drop-append-le}
@@ -7,10 +7,11 @@ use Rattle.std.proofs.lemmas.List.Elements.{filter_map-append}
 use Rattle.nl_model.specs.declared.counts.Counts.{Counts}
 use Rattle.nl_model.specs.File.{Term}
 use Rattle.nl_segments.specs.declared.head.Head.{Head}
-use Rattle.nl_segments.specs.declared.head.Head.TheVariants.{Body, Objective, Definition, DualGuesses, PrimalGuesses, Sides, Bounds, ColumnCounts, Terms, Slopes, Suffix}
+use Rattle.nl_segments.specs.declared.head.Head.TheVariants.{Body, Objective, Definition, DualGuesses, Sides, Bounds, ColumnCounts}
 use Rattle.nl_segments.specs.declared.node_row.NodeRow.{NodeRow}
 use Rattle.nl_segments.specs.declared.node_row.NodeRow.TheVariants.{Whole, Counted}
-use Rattle.std.specs.Prelude.{is_some, unwrap_or}
+use Rattle.std.specs.Prelude.{option_map, unwrap_or}
+use Rattle.nl_model.specs.declared.node.Node.{Node}
 use Rattle.nl_model.specs.declared.node.Node.TheVariants.{Op}
 use Rattle.exact_numbers.specs.Numbers.{whole_of}
 use Rattle.nl_segments.specs.Rows.{Row, row_words}
@@ -18,7 +19,7 @@ use Rattle.text_base.specs.Words.{word_at}
 use Rattle.nl_segments.specs.Nodes.{Placed, Pending, node_in, opcode_in, pending_in, placed_in, with_operands, nodes_from, pending_from, only_nodes}
 use Rattle.nl_segments.specs.NodeRows.{IsRow}
 use Rattle.nl_segments.specs.Pieces.{Piece, pair_count, line_count, has_tree, tree_rows, piece_nodes, piece_pending, piece_pairs, pair_in, awaited_in}
-use Rattle.nl_segments.specs.Current.{Current, current_awaits, new_current, less_line, with_node_row, with_operand_count, IsCurrent}
+use Rattle.nl_segments.specs.Current.{Current, current_awaits, new_current, less_line, with_node_row, IsCurrent}
 use Rattle.nl_segments.proofs.PieceLemmas.{drop_none, longer}
 
 -- ---- awaited
@@ -47,13 +48,7 @@ early_tree c p row early = by p.head refl
         let few : length p.rows < j = rw e at early in
         rw e (drop_all j (p.rows ++ row ∷ []) (omega (arith, length-append p.rows (row ∷ []))) ∙ sym (drop_all j p.rows (omega arith)))
     by (DualGuesses n) e = rw e refl
-    by (PrimalGuesses n) e = rw e refl
-    by Sides e = rw e refl
-    by Bounds e = rw e refl
-    by (ColumnCounts n) e = rw e refl
-    by (Terms i n) e = rw e refl
-    by (Slopes k n) e = rw e refl
-    by (Suffix k n) e = rw e refl
+    by head e = rw e refl
 
 -- a row of the expression
 pub late_tree : (p : Piece) (row : Row) → has_tree p.head ≡ true → pair_count p.head ≤ length p.rows → tree_rows (longer p row) ≡ tree_rows p ++ row ∷ []
@@ -122,17 +117,10 @@ with_line c p cur row h early =
     }
 
 pub tree_count : (c : Counts) (h : Head) → has_tree h ≡ true → line_count c h ≡ pair_count h
-tree_count c (Body i) e = refl
-tree_count c (Objective k m) e = refl
-tree_count c (Definition i j u) e = refl
-tree_count c (DualGuesses n) e = refl
-tree_count c (PrimalGuesses n) e = refl
 tree_count c Sides e = absurd cc
 tree_count c Bounds e = absurd cc
 tree_count c (ColumnCounts n) e = absurd cc
-tree_count c (Terms i n) e = refl
-tree_count c (Slopes k n) e = refl
-tree_count c (Suffix k n) e = refl
+tree_count c head e = refl
 
 -- a row of the expression changes nodes and the pending opcode alone
 pub with_tree_row : (c : Counts) (p : Piece) (cur next : Current) (row : Row) → IsCurrent c p cur → has_tree p.head ≡ true → line_count c p.head ≤ length p.rows
@@ -152,41 +140,56 @@ with_tree_row c p cur next row h tree late head line left nodes pending =
       pending = pending ∙ sym (ap (pending_from None) rows ∙ pending-more None (tree_rows p) row);
     }
 
+-- ---- a row of the expression, whose node or opcode stands in this line
+
+abbrev pub row_placed : ℕ → NodeRow → List Placed
+row_placed line (Whole n) = record { node = n; line = line } ∷ []
+row_placed line (Counted o) = []
+
+-- a row of a piece means this, after what is held of the piece
+pub record IsRowStep (n : ℕ) (cur : Current) (row : Row) (r : NodeRow) (line : ℕ) : Type 0 where
+  pub nodes : last_nodes n cur.pending row ≡ row_placed line r
+  pub pending : (with_node_row cur line r).pending ≡ last_pending cur.pending row
+
 -- a node, or an opcode that awaits its number of operands
-row_nodes : (n : ℕ) (row : Row) (r : NodeRow) (cur : Current) → IsRow (node_in n (row_words row)) (opcode_in (row_words row)) r
-    → ((with_node_row cur row.line r).nodes ≡ cur.nodes ++ only_nodes (last_nodes n None row)) × ((with_node_row cur row.line r).pending ≡ cond (is_some (opcode_in (row_words row))) (pending_in row) cur.pending)
-row_nodes n row (Whole node) cur h = rw (h.0, h.1) (refl, refl)
-row_nodes n row (Counted o) cur h = rw (h.0, h.1) (sym (append-nil cur.nodes), refl)
-
-none_pending : (row : Row) (pending : Option Pending) → pending ≡ None → cond (is_some (opcode_in (row_words row))) (pending_in row) pending ≡ pending_in row
-none_pending row pending e = by (opcode_in (row_words row)) refl
-  where
-    by : (o : Option ℕ) → opcode_in (row_words row) ≡ o → cond (is_some (opcode_in (row_words row))) (pending_in row) pending ≡ pending_in row
-    by None h = rw h e
-    by (Some o) h = rw h refl
-
-kept_fields : (cur : Current) (line : ℕ) (r : NodeRow) → ((with_node_row cur line r).head ≡ cur.head) × ((with_node_row cur line r).line ≡ cur.line) × ((with_node_row cur line r).left ≡ cur.left)
-kept_fields cur line (Whole n) = (refl, refl, refl)
-kept_fields cur line (Counted o) = (refl, refl, refl)
-
-pub with_node : (c : Counts) (p : Piece) (cur : Current) (row : Row) (r : NodeRow) → IsCurrent c p cur → has_tree p.head ≡ true → line_count c p.head ≤ length p.rows
-    → piece_pending p ≡ None → IsRow (node_in c.n_var (row_words row)) (opcode_in (row_words row)) r
-    → IsCurrent c (longer p row) (with_node_row cur row.line r)
-with_node c p cur row r h tree late none is =
-    let facts = row_nodes c.n_var row r cur is in
-    let kept = kept_fields cur row.line r in
-    with_tree_row c p cur (with_node_row cur row.line r) row h tree late kept.0 kept.1 kept.2
-    (facts.0 ∙ ap (λ o. cur.nodes ++ only_nodes (last_nodes c.n_var o row)) (sym none))
-    (facts.1 ∙ none_pending row cur.pending (h.pending ∙ none) ∙ ap (λ o. last_pending o row) (sym none))
+pub node_step : (n : ℕ) (cur : Current) (row : Row) (r : NodeRow) → cur.pending ≡ None → IsRow (node_in n (row_words row)) (opcode_in (row_words row)) r → IsRowStep n cur row r row.line
+node_step n cur row (Whole m) none is = record {
+  nodes = ap (λ o. last_nodes n o row) none ∙ ap (λ o. cons_option (option_map (λ (m : Node). record { node = m; line = row.line }) o) []) is.0;
+  pending = sym (ap (λ o. last_pending o row) none ∙ ap (λ o. option_map (λ (o : ℕ). record { opcode = o; line = row.line }) o) is.1);
+}
+node_step n cur row (Counted o) none is = record {
+  nodes = ap (λ o. last_nodes n o row) none ∙ ap (λ o. cons_option (option_map (λ (m : Node). record { node = m; line = row.line }) o) []) is.0;
+  pending = sym (ap (λ o. last_pending o row) none ∙ ap (λ o. option_map (λ (o : ℕ). record { opcode = o; line = row.line }) o) is.1);
+}
 
 -- the number of operands of the opcode that awaits it
-pub with_count : (c : Counts) (p : Piece) (cur : Current) (row : Row) (q : Pending) (k : ℕ) → IsCurrent c p cur → has_tree p.head ≡ true → line_count c p.head ≤ length p.rows
-    → piece_pending p ≡ Some q → whole_of (word_at (row_words row) 0) ≡ Some k
-    → IsCurrent c (longer p row) (with_operand_count cur q.opcode k)
-with_count c p cur row q k h tree late some is =
-    with_tree_row c p cur (with_operand_count cur q.opcode k) row h tree late refl refl refl
-    (ap (λ o. cur.nodes ++ Op q.opcode (unwrap_or o 0) ∷ []) (sym is) ∙ ap (λ o. cur.nodes ++ only_nodes (last_nodes c.n_var o row)) (sym some))
-    (ap (λ o. last_pending o row) (sym some))
+pub count_step : (n : ℕ) (cur : Current) (row : Row) (q : Pending) (k : ℕ) → cur.pending ≡ Some q → whole_of (word_at (row_words row) 0) ≡ Some k → IsRowStep n cur row (Whole (Op q.opcode k)) q.line
+count_step n cur row q k some is = record {
+  nodes = ap (λ o. last_nodes n o row) some ∙ ap (λ (o : Option ℕ). (let y : Placed = record { node = Op q.opcode (unwrap_or o 0); line = q.line } in y) ∷ []) is;
+  pending = sym (ap (λ o. last_pending o row) some);
+}
+
+row_nodes : (cur : Current) (line : ℕ) (r : NodeRow) → (with_node_row cur line r).nodes ≡ cur.nodes ++ only_nodes (row_placed line r)
+row_nodes cur line (Whole n) = refl
+row_nodes cur line (Counted o) = sym (append-nil cur.nodes)
+
+pub record SameFields (cur next : Current) : Type 0 where
+  pub head : next.head ≡ cur.head
+  pub line : next.line ≡ cur.line
+  pub left : next.left ≡ cur.left
+  pub pairs : next.pairs ≡ cur.pairs
+
+pub row_fields : (cur : Current) (line : ℕ) (r : NodeRow) → SameFields cur (with_node_row cur line r)
+row_fields cur line (Whole n) = record { head = refl; line = refl; left = refl; pairs = refl }
+row_fields cur line (Counted o) = record { head = refl; line = refl; left = refl; pairs = refl }
+
+pub with_row : (c : Counts) (p : Piece) (cur : Current) (row : Row) (r : NodeRow) (line : ℕ) → IsCurrent c p cur → has_tree p.head ≡ true → line_count c p.head ≤ length p.rows → IsRowStep c.n_var cur row r line
+    → IsCurrent c (longer p row) (with_node_row cur line r)
+with_row c p cur row r line h tree late step =
+    let same = row_fields cur line r in
+    with_tree_row c p cur (with_node_row cur line r) row h tree late same.head same.line same.left
+    (row_nodes cur line r ∙ ap (λ ms. cur.nodes ++ only_nodes ms) (sym step.nodes ∙ ap (λ o. last_nodes c.n_var o row) h.pending))
+    (step.pending ∙ ap (λ o. last_pending o row) h.pending)
 
 no_nodes : (n : ℕ) → [] ≡ only_nodes (nodes_from n None [])
 unfolding nodes_from

@@ -29,14 +29,8 @@ pub piece_counts : (d : Draft) (p : Piece) (h : Head) → (said_by d p h).counts
 piece_counts d p (Body i) = complete_counts d _ p refl
 piece_counts d p (Objective k m) = complete_counts d _ p refl
 piece_counts d p (Definition i j u) = complete_counts d _ p refl
-piece_counts d p (DualGuesses n) = refl
-piece_counts d p (PrimalGuesses n) = refl
-piece_counts d p Sides = refl
-piece_counts d p Bounds = refl
-piece_counts d p (ColumnCounts n) = refl
-piece_counts d p (Terms i n) = refl
-piece_counts d p (Slopes k n) = refl
 piece_counts d p (Suffix k n) = complete_counts d _ p refl
+piece_counts d p head = refl
 
 fold_counts : (pieces : List Piece) (d : Draft) → (fold with_piece d pieces).counts ≡ d.counts
 fold_counts [] d = refl
@@ -153,13 +147,7 @@ nothing_yet d c p (Body i) e w f = unsaid d _ c p e f
 nothing_yet d c p (Objective k m) e w f = unsaid d _ c p e f
 nothing_yet d c p (Definition i j u) e w f = unsaid d _ c p e f
 nothing_yet d c p (Suffix k n) e w f = unsaid d _ c p e f
-nothing_yet d c p (DualGuesses n) e w f = absurd cc
-nothing_yet d c p (PrimalGuesses n) e w f = absurd cc
-nothing_yet d c p Sides e w f = absurd cc
-nothing_yet d c p Bounds e w f = absurd cc
-nothing_yet d c p (ColumnCounts n) e w f = absurd cc
-nothing_yet d c p (Terms i n) e w f = absurd cc
-nothing_yet d c p (Slopes k n) e w f = absurd cc
+nothing_yet d c p head e w f = absurd cc
 
 -- the draft before such a piece is complete
 pub draft_before : (o : List ℤ) (c : Counts) (before : List Piece) (p : Piece) → says_whole p.head ≡ true → is_complete c p ≡ false → draft_of o c (before ++ p ∷ []) ≡ draft_of o c before

@@ -1,5 +1,5 @@
 -- What is missing at the end, by what the reader of the body holds.
-use Rattle.std.proofs.Common.{◌≡◌, ◌∙◌, ℕ, zero, suc, ◌+◌, ◌<◌, ◌≤◌, Bool, true, false, not, ◌&&◌, ◌==◌, List, [], ◌∷◌, length, filter, get_or, sum_by, All, nat_le, nat_lt, refl, sym, ap, ap₂, subst, arith, add-one, Option, Some, None}
+use Rattle.std.proofs.Common.{◌≡◌, ◌∙◌, ℕ, zero, suc, ◌+◌, ◌<◌, ◌≤◌, Bool, true, false, not, ◌&&◌, ◌==◌, List, [], ◌∷◌, length, get_or, All, nat_lt, refl, sym, ap, ap₂, subst, arith, add-one, Option, Some, None}
 use Rattle.std.proofs.lemmas.Bool.{ltb-true, ltb-false, eqb-true}
 use Rattle.std.proofs.lemmas.Bool.Decides.{nat_tests}
 use Rattle.std.proofs.lemmas.List.{get_or_past}
@@ -11,62 +11,22 @@ use Rattle.nl_model.specs.declared.counts.Counts.{Counts}
 use Rattle.nl_model.specs.Draft.{Draft, IsDraft, is_given, file_of}
 use Rattle.nl_model.specs.File.{Term, Objective, File}
 use Rattle.nl_model.specs.Rules.{AreTermsBelow, term_count}
-use Rattle.nl_segments.specs.declared.fault.Refusal.{Refusal}
+use Rattle.nl_model.specs.UseCounts.{terms_up_to, use_count, uses_in}
+use Rattle.nl_model.proofs.UseLemmas.{below, split_rows, next_rows, nothing_below}
+use Rattle.nl_segments.specs.declared.fault.NlReason.{NlReason}
 use Rattle.nl_segments.specs.declared.fault.NlReason.TheVariants.{ShortSegment, Missing, NonzeroCount, ColumnCount as BadColumnCount}
 use Rattle.nl_segments.specs.Saying.{place_lines}
 use Rattle.std.proofs.lemmas.List.Folds.{list_all_at}
 use Rattle.nl_segments.specs.Pieces.{Piece, last_piece, is_nothing, awaited_of}
 use Rattle.nl_segments.specs.Current.{Current}
-use Rattle.nl_segments.specs.Tests.{terms_up_to, are_column_counts, is_short, for_reason, end_tests}
+use Rattle.nl_segments.specs.Tests.{are_column_counts, is_short, end_tests}
 use Rattle.nl_segments.specs.Grammar.{Standing, counts_of, said}
-use Rattle.nl_segments.specs.Held.{Body, IsHeld, IsLast, use_count, end_refusal_of}
+use Rattle.nl_segments.specs.Held.{Body, IsHeld, IsLast, end_refusal_of}
 use Rattle.nl_segments.specs.Taking.{body_awaits}
 use Rattle.nl_segments.specs.Ending.{are_sums, body_end_tests, IsReady}
 use Rattle.nl_segments.proofs.CurrentLemmas.{awaits}
 
 -- ---- the numbers of columns
-
--- how many terms have a variable below j
-abbrev below : List (List Term) → ℕ → ℕ
-below rows j = sum_by (λ terms. length (filter (λ t. nat_lt t.0 j) terms)) rows
-
-next_test : (x j : ℕ) → nat_lt x (j + 1) ≡ nat_le x j
-next_test x j = grind (arith, nat_tests)
-
-split_row : (ts : List Term) (j : ℕ) → length (filter (λ t. nat_le t.0 j) ts) ≡ length (filter (λ t. nat_lt t.0 j) ts) + length (filter (λ t. t.0 == j) ts)
-split_row [] j = refl
-split_row (t ∷ ts) j = by (nat_lt t.0 j) (t.0 == j) refl refl (split_row ts j)
-  where
-    by : (l e : Bool) → nat_lt t.0 j ≡ l → (t.0 == j) ≡ e → length (filter (λ t. nat_le t.0 j) ts) ≡ length (filter (λ t. nat_lt t.0 j) ts) + length (filter (λ t. t.0 == j) ts)
-        → length (filter (λ t. nat_le t.0 j) (t ∷ ts)) ≡ length (filter (λ t. nat_lt t.0 j) (t ∷ ts)) + length (filter (λ t. t.0 == j) (t ∷ ts))
-    by true true p q more = absurd (grind (arith, nat_tests))
-    by true false p q more = let r : nat_le t.0 j ≡ true = grind (arith, nat_tests) in rw (p, q, r) (omega (arith, more))
-    by false true p q more = let r : nat_le t.0 j ≡ true = grind (arith, nat_tests) in rw (p, q, r) (omega (arith, more))
-    by false false p q more = let r : nat_le t.0 j ≡ false = grind (arith, nat_tests) in rw (p, q, r) more
-
-split_rows : (rows : List (List Term)) (j : ℕ) → terms_up_to rows j ≡ below rows j + use_count rows j
-split_rows [] j = refl
-split_rows (ts ∷ rows) j = rw (sum_by-cons (λ terms. length (filter (λ t. nat_le t.0 j) terms)) ts rows, sum_by-cons (λ terms. length (filter (λ t. nat_lt t.0 j) terms)) ts rows, sum_by-cons (λ terms. length (filter (λ t. t.0 == j) terms)) ts rows) (let a = split_row ts j in let b = split_rows rows j in omega arith)
-
-next_row : (ts : List Term) (j : ℕ) → length (filter (λ t. nat_lt t.0 (j + 1)) ts) ≡ length (filter (λ t. nat_le t.0 j) ts)
-next_row [] j = refl
-next_row (t ∷ ts) j = by (nat_le t.0 j) refl (next_row ts j)
-  where
-    by : (l : Bool) → nat_le t.0 j ≡ l → length (filter (λ t. nat_lt t.0 (j + 1)) ts) ≡ length (filter (λ t. nat_le t.0 j) ts) → length (filter (λ t. nat_lt t.0 (j + 1)) (t ∷ ts)) ≡ length (filter (λ t. nat_le t.0 j) (t ∷ ts))
-    by true p more = let q : nat_lt t.0 (j + 1) ≡ true = next_test t.0 j ∙ p in rw (p, q) (ap suc more)
-    by false p more = let q : nat_lt t.0 (j + 1) ≡ false = next_test t.0 j ∙ p in rw (p, q) more
-
-next_rows : (rows : List (List Term)) (j : ℕ) → below rows (j + 1) ≡ terms_up_to rows j
-next_rows [] j = refl
-next_rows (ts ∷ rows) j = rw (sum_by-cons (λ terms. length (filter (λ t. nat_lt t.0 (j + 1)) terms)) ts rows, sum_by-cons (λ terms. length (filter (λ t. nat_le t.0 j) terms)) ts rows) (ap₂ (λ a b. a + b) (next_row ts j) (next_rows rows j))
-
-none_below : (ts : List Term) → length (filter (λ t. nat_lt t.0 0) ts) ≡ 0
-none_below [] = refl
-none_below (t ∷ ts) = let q : nat_lt t.0 0 ≡ false = grind (arith, nat_tests) in rw q (none_below ts)
-
-nothing_below : (rows : List (List Term)) → below rows 0 ≡ 0
-nothing_below [] = refl
-nothing_below (ts ∷ rows) = rw (sum_by-cons (λ terms. length (filter (λ t. nat_lt t.0 0) terms)) ts rows) (let a = none_below ts in let b = nothing_below rows in omega arith)
 
 are_sums_counts : (uses : List ℕ) (rows : List (List Term)) → ((j : ℕ) → get_or uses j 0 ≡ use_count rows j) → (ns : List ℕ) (j before : ℕ) → before ≡ below rows j
     → are_sums uses j before ns ≡ are_column_counts rows j ns
@@ -82,7 +42,7 @@ are_sums_counts uses rows h (n ∷ ns) j before e =
 
 -- ---- uses of variables that there are not
 
-unused : (n j : ℕ) (ts : List Term) → AreTermsBelow n ts → n ≤ j → length (filter (λ t. t.0 == j) ts) ≡ 0
+unused : (n j : ℕ) (ts : List Term) → AreTermsBelow n ts → n ≤ j → uses_in ts j ≡ 0
 unused n j [] h le = refl
 unused n j (t ∷ ts) h le =
     let here : t.0 < n = h 0 t (omega arith) in
@@ -94,7 +54,7 @@ none_used n j [] h le = refl
 none_used n j (ts ∷ rows) h le =
     let a = unused n j ts (h 0 ts (omega arith)) le in
     let b = none_used n j rows (λ k d lt. h (suc k) d (omega (arith, lt))) le in
-    rw (sum_by-cons (λ terms. length (filter (λ t. t.0 == j) terms)) ts rows) (omega arith)
+    rw (sum_by-cons (λ terms. uses_in terms j) ts rows) (omega arith)
 
 all_uses : (n : ℕ) (uses : List ℕ) (rows : List (List Term)) → length uses ≡ n → All (AreTermsBelow n) rows → ((j : ℕ) → j < n → get_or uses j 0 ≡ use_count rows j) → (j : ℕ) → get_or uses j 0 ≡ use_count rows j
 all_uses n uses rows e low h j = by (nat_lt j n) refl
@@ -112,7 +72,7 @@ last_awaits c d name pieces None (Some cur) q l = absurd l
 last_awaits c d name pieces (Some p) None q l = rw q l
 last_awaits c d name pieces (Some p) (Some cur) q l = rw q (ap is_nothing (sym (awaits c p cur l.current)))
 
-same_first : (A B C D : Refusal) (p q r t u v w x : Bool) → p ≡ u → q ≡ v → r ≡ w → t ≡ x
+same_first : (A B C D : NlReason) (p q r t u v w x : Bool) → p ≡ u → q ≡ v → r ≡ w → t ≡ x
     → first_reason ((not p, A) ∷ (q, B) ∷ (not r, C) ∷ (not t, D) ∷ []) ≡ first_reason ((not u, A) ∷ (v, B) ∷ (not w, C) ∷ (not x, D) ∷ [])
 same_first A B C D p q r t u v w x e f g h = rw (e, f, g, h) refl
 
@@ -140,7 +100,7 @@ given_at (o ∷ os) (suc k) lt = given_at os k (omega (arith, lt))
 
 -- ---- what holds where nothing is missing
 
-four : (A B C D : Refusal) (p q r t : Bool) → first_reason ((not p, A) ∷ (q, B) ∷ (not r, C) ∷ (not t, D) ∷ []) ≡ None → (p ≡ true) × (q ≡ false) × (r ≡ true)
+four : (A B C D : NlReason) (p q r t : Bool) → first_reason ((not p, A) ∷ (q, B) ∷ (not r, C) ∷ (not t, D) ∷ []) ≡ None → (p ≡ true) × (q ≡ false) × (r ≡ true)
 four A B C D false q r t e = absurd cc
 four A B C D true true r t e = absurd cc
 four A B C D true false false t e = absurd cc
@@ -166,7 +126,7 @@ all_given os e k d lt = by (is_some (get_or os k d)) refl
 -- each test but the last
 parts_of : (b : Body) → first_reason (body_end_tests b) ≡ None → (is_nothing (body_awaits b.current) ≡ true) × (is_short b.draft ≡ false) × ((term_count b.draft.terms == b.draft.counts.nzc) ≡ true)
 parts_of b e =
-    four (for_reason ShortSegment) (for_reason Missing) (for_reason NonzeroCount) (for_reason BadColumnCount)
+    four ShortSegment Missing NonzeroCount BadColumnCount
     (is_nothing (body_awaits b.current)) (is_short b.draft) (term_count b.draft.terms == b.draft.counts.nzc) (are_sums b.uses 0 0 b.columns) e
 
 pub short_parts : (d : Draft) → is_short d ≡ false → (list_all is_some d.objectives ≡ true) × (nat_lt (length d.sides) d.counts.n_con ≡ false) × (nat_lt (length d.bounds) d.counts.n_var ≡ false)
@@ -193,7 +153,7 @@ not_given os k lt g = given_at os k lt ∙ rw g refl
 
 -- ---- what the end answers
 
-pub missing : (b same : Body) → b ≡ same → IsDraft b.draft → (r : Refusal) → first_reason (body_end_tests b) ≡ Some r → (s : Standing) → IsHeld s same → end_refusal_of s ≡ Some r
+pub missing : (b same : Body) → b ≡ same → IsDraft b.draft → (r : NlReason) → first_reason (body_end_tests b) ≡ Some r → (s : Standing) → IsHeld s same → end_refusal_of s ≡ Some r
 missing b same e d r f s h = end_by s b d (subst (IsHeld s) (sym e) h) ∙ f
 
 pub finished : (b same : Body) → b ≡ same → IsDraft b.draft → first_reason (body_end_tests b) ≡ None → (f : File) → f ≡ file_of b.draft

@@ -9,7 +9,7 @@ use Rattle.nl_model.specs.declared.counts.Counts.{Counts}
 use Rattle.nl_model.specs.Draft.{Draft, empty_draft, is_given}
 use Rattle.nl_model.specs.Rules.{is_defined}
 use Rattle.nl_segments.specs.declared.head.Head.{Head}
-use Rattle.nl_segments.specs.declared.head.Head.TheVariants.{Body, Objective, Definition, DualGuesses, PrimalGuesses, Sides, Bounds, ColumnCounts, Terms, Slopes, Suffix}
+use Rattle.nl_segments.specs.declared.head.Head.TheVariants.{Body, Objective, Definition, DualGuesses, PrimalGuesses, Sides, Bounds, Terms, Slopes, Suffix}
 use Rattle.nl_segments.specs.Pieces.{Piece, is_complete}
 use Rattle.nl_segments.specs.Tests.{is_suffix, is_same_head, is_same_piece}
 use Rattle.nl_segments.specs.Saying.{if_complete, said_by, with_piece, draft_of}
@@ -80,14 +80,8 @@ body_kept : (i : ℕ) (d : Draft) (p : Piece) (h : Head) → is_same_head (Body 
 body_kept i d p (Body k) e f = either (λ x. is_given x.bodies i ≡ false) d _ p f (given_other d.bodies i k _ (eqb-false i k e) ∙ f)
 body_kept i d p (Objective k m) e f = either (λ x. is_given x.bodies i ≡ false) d _ p f f
 body_kept i d p (Definition k j u) e f = either (λ x. is_given x.bodies i ≡ false) d _ p f f
-body_kept i d p (DualGuesses m) e f = f
-body_kept i d p (PrimalGuesses m) e f = f
-body_kept i d p Sides e f = f
-body_kept i d p Bounds e f = f
-body_kept i d p (ColumnCounts m) e f = f
-body_kept i d p (Terms k m) e f = f
-body_kept i d p (Slopes k m) e f = f
 body_kept i d p (Suffix k m) e f = either (λ x. is_given x.bodies i ≡ false) d _ p f f
+body_kept i d p head e f = f
 
 pub fresh_body : (o : List ℤ) (c : Counts) (pieces : List Piece) (i : ℕ) (name : List ℕ) → list_any (is_same_piece (Body i) name) pieces ≡ false → is_given (draft_of o c pieces).bodies i ≡ false
 unfolding draft_of
@@ -98,14 +92,8 @@ objective_kept : (i : ℕ) (n : Bool) (d : Draft) (p : Piece) (h : Head) → is_
 objective_kept i n d p (Body k) e f = either (λ x. is_given x.objectives i ≡ false) d _ p f f
 objective_kept i n d p (Objective k m) e f = either (λ x. is_given x.objectives i ≡ false) d _ p f (given_other d.objectives i k _ (eqb-false i k e) ∙ f)
 objective_kept i n d p (Definition k j u) e f = either (λ x. is_given x.objectives i ≡ false) d _ p f f
-objective_kept i n d p (DualGuesses m) e f = f
-objective_kept i n d p (PrimalGuesses m) e f = f
-objective_kept i n d p Sides e f = f
-objective_kept i n d p Bounds e f = f
-objective_kept i n d p (ColumnCounts m) e f = f
-objective_kept i n d p (Terms k m) e f = f
-objective_kept i n d p (Slopes k m) e f = f
 objective_kept i n d p (Suffix k m) e f = either (λ x. is_given x.objectives i ≡ false) d _ p f f
+objective_kept i n d p head e f = f
 
 pub fresh_objective : (o : List ℤ) (c : Counts) (pieces : List Piece) (i : ℕ) (n : Bool) (name : List ℕ) → list_any (is_same_piece (Objective i n) name) pieces ≡ false → is_given (draft_of o c pieces).objectives i ≡ false
 unfolding draft_of
@@ -116,14 +104,8 @@ definition_kept : (i l v : ℕ) (d : Draft) (p : Piece) (h : Head) → is_same_h
 definition_kept i l v d p (Body k) e f = either (λ x. is_defined x.definitions i ≡ false) d _ p f f
 definition_kept i l v d p (Objective k m) e f = either (λ x. is_defined x.definitions i ≡ false) d _ p f f
 definition_kept i l v d p (Definition k j u) e f = either (λ x. is_defined x.definitions i ≡ false) d _ p f (list_any-append (λ x. x.index == i) d.definitions _ ∙ rw (f, unlike_swapped i k e) refl)
-definition_kept i l v d p (DualGuesses m) e f = f
-definition_kept i l v d p (PrimalGuesses m) e f = f
-definition_kept i l v d p Sides e f = f
-definition_kept i l v d p Bounds e f = f
-definition_kept i l v d p (ColumnCounts m) e f = f
-definition_kept i l v d p (Terms k m) e f = f
-definition_kept i l v d p (Slopes k m) e f = f
 definition_kept i l v d p (Suffix k m) e f = either (λ x. is_defined x.definitions i ≡ false) d _ p f f
+definition_kept i l v d p head e f = f
 
 pub fresh_definition : (o : List ℤ) (c : Counts) (pieces : List Piece) (i l v : ℕ) (name : List ℕ) → list_any (is_same_piece (Definition i l v) name) pieces ≡ false → is_defined (draft_of o c pieces).definitions i ≡ false
 unfolding draft_of
@@ -135,13 +117,8 @@ dual_kept n d p (Body k) e f = either (λ x. x.dual_guesses ≡ []) d _ p f f
 dual_kept n d p (Objective k m) e f = either (λ x. x.dual_guesses ≡ []) d _ p f f
 dual_kept n d p (Definition k j u) e f = either (λ x. x.dual_guesses ≡ []) d _ p f f
 dual_kept n d p (DualGuesses m) e f = absurd cc
-dual_kept n d p (PrimalGuesses m) e f = f
-dual_kept n d p Sides e f = f
-dual_kept n d p Bounds e f = f
-dual_kept n d p (ColumnCounts m) e f = f
-dual_kept n d p (Terms k m) e f = f
-dual_kept n d p (Slopes k m) e f = f
 dual_kept n d p (Suffix k m) e f = either (λ x. x.dual_guesses ≡ []) d _ p f f
+dual_kept n d p head e f = f
 
 pub fresh_dual : (o : List ℤ) (c : Counts) (pieces : List Piece) (n : ℕ) (name : List ℕ) → list_any (is_same_piece (DualGuesses n) name) pieces ≡ false → (draft_of o c pieces).dual_guesses ≡ []
 unfolding draft_of
@@ -152,14 +129,9 @@ primal_kept : (n : ℕ) (d : Draft) (p : Piece) (h : Head) → is_same_head (Pri
 primal_kept n d p (Body k) e f = either (λ x. x.primal_guesses ≡ []) d _ p f f
 primal_kept n d p (Objective k m) e f = either (λ x. x.primal_guesses ≡ []) d _ p f f
 primal_kept n d p (Definition k j u) e f = either (λ x. x.primal_guesses ≡ []) d _ p f f
-primal_kept n d p (DualGuesses m) e f = f
 primal_kept n d p (PrimalGuesses m) e f = absurd cc
-primal_kept n d p Sides e f = f
-primal_kept n d p Bounds e f = f
-primal_kept n d p (ColumnCounts m) e f = f
-primal_kept n d p (Terms k m) e f = f
-primal_kept n d p (Slopes k m) e f = f
 primal_kept n d p (Suffix k m) e f = either (λ x. x.primal_guesses ≡ []) d _ p f f
+primal_kept n d p head e f = f
 
 pub fresh_primal : (o : List ℤ) (c : Counts) (pieces : List Piece) (n : ℕ) (name : List ℕ) → list_any (is_same_piece (PrimalGuesses n) name) pieces ≡ false → (draft_of o c pieces).primal_guesses ≡ []
 unfolding draft_of
@@ -170,14 +142,9 @@ sides_kept : (d : Draft) (p : Piece) (h : Head) → is_same_head Sides h ≡ fal
 sides_kept d p (Body k) e f = either (λ x. x.sides ≡ []) d _ p f f
 sides_kept d p (Objective k m) e f = either (λ x. x.sides ≡ []) d _ p f f
 sides_kept d p (Definition k j u) e f = either (λ x. x.sides ≡ []) d _ p f f
-sides_kept d p (DualGuesses m) e f = f
-sides_kept d p (PrimalGuesses m) e f = f
 sides_kept d p Sides e f = absurd cc
-sides_kept d p Bounds e f = f
-sides_kept d p (ColumnCounts m) e f = f
-sides_kept d p (Terms k m) e f = f
-sides_kept d p (Slopes k m) e f = f
 sides_kept d p (Suffix k m) e f = either (λ x. x.sides ≡ []) d _ p f f
+sides_kept d p head e f = f
 
 pub fresh_sides : (o : List ℤ) (c : Counts) (pieces : List Piece) (name : List ℕ) → list_any (is_same_piece Sides name) pieces ≡ false → (draft_of o c pieces).sides ≡ []
 unfolding draft_of
@@ -188,14 +155,9 @@ bounds_kept : (d : Draft) (p : Piece) (h : Head) → is_same_head Bounds h ≡ f
 bounds_kept d p (Body k) e f = either (λ x. x.bounds ≡ []) d _ p f f
 bounds_kept d p (Objective k m) e f = either (λ x. x.bounds ≡ []) d _ p f f
 bounds_kept d p (Definition k j u) e f = either (λ x. x.bounds ≡ []) d _ p f f
-bounds_kept d p (DualGuesses m) e f = f
-bounds_kept d p (PrimalGuesses m) e f = f
-bounds_kept d p Sides e f = f
 bounds_kept d p Bounds e f = absurd cc
-bounds_kept d p (ColumnCounts m) e f = f
-bounds_kept d p (Terms k m) e f = f
-bounds_kept d p (Slopes k m) e f = f
 bounds_kept d p (Suffix k m) e f = either (λ x. x.bounds ≡ []) d _ p f f
+bounds_kept d p head e f = f
 
 pub fresh_bounds : (o : List ℤ) (c : Counts) (pieces : List Piece) (name : List ℕ) → list_any (is_same_piece Bounds name) pieces ≡ false → (draft_of o c pieces).bounds ≡ []
 unfolding draft_of
@@ -206,14 +168,9 @@ terms_kept : (i n : ℕ) (d : Draft) (p : Piece) (h : Head) → is_same_head (Te
 terms_kept i n d p (Body k) e f = either (λ x. get_or x.terms i [] ≡ []) d _ p f f
 terms_kept i n d p (Objective k m) e f = either (λ x. get_or x.terms i [] ≡ []) d _ p f f
 terms_kept i n d p (Definition k j u) e f = either (λ x. get_or x.terms i [] ≡ []) d _ p f f
-terms_kept i n d p (DualGuesses m) e f = f
-terms_kept i n d p (PrimalGuesses m) e f = f
-terms_kept i n d p Sides e f = f
-terms_kept i n d p Bounds e f = f
-terms_kept i n d p (ColumnCounts m) e f = f
 terms_kept i n d p (Terms k m) e f = get_or-set_other d.terms k i _ [] (eqb-false i k e) ∙ f
-terms_kept i n d p (Slopes k m) e f = f
 terms_kept i n d p (Suffix k m) e f = either (λ x. get_or x.terms i [] ≡ []) d _ p f f
+terms_kept i n d p head e f = f
 
 pub fresh_terms : (o : List ℤ) (c : Counts) (pieces : List Piece) (i n : ℕ) (name : List ℕ) → list_any (is_same_piece (Terms i n) name) pieces ≡ false → get_or (draft_of o c pieces).terms i [] ≡ []
 unfolding draft_of
@@ -224,14 +181,9 @@ slopes_kept : (i n : ℕ) (d : Draft) (p : Piece) (h : Head) → is_same_head (S
 slopes_kept i n d p (Body k) e f = either (λ x. get_or x.slopes i [] ≡ []) d _ p f f
 slopes_kept i n d p (Objective k m) e f = either (λ x. get_or x.slopes i [] ≡ []) d _ p f f
 slopes_kept i n d p (Definition k j u) e f = either (λ x. get_or x.slopes i [] ≡ []) d _ p f f
-slopes_kept i n d p (DualGuesses m) e f = f
-slopes_kept i n d p (PrimalGuesses m) e f = f
-slopes_kept i n d p Sides e f = f
-slopes_kept i n d p Bounds e f = f
-slopes_kept i n d p (ColumnCounts m) e f = f
-slopes_kept i n d p (Terms k m) e f = f
 slopes_kept i n d p (Slopes k m) e f = get_or-set_other d.slopes k i _ [] (eqb-false i k e) ∙ f
 slopes_kept i n d p (Suffix k m) e f = either (λ x. get_or x.slopes i [] ≡ []) d _ p f f
+slopes_kept i n d p head e f = f
 
 pub fresh_slopes : (o : List ℤ) (c : Counts) (pieces : List Piece) (i n : ℕ) (name : List ℕ) → list_any (is_same_piece (Slopes i n) name) pieces ≡ false → get_or (draft_of o c pieces).slopes i [] ≡ []
 unfolding draft_of

@@ -1,5 +1,5 @@
 -- What rows and the end do to the whole reader.
-use Rattle.std.proofs.Common.{◌≡◌, ◌∙◌, ℕ, suc, ◌+◌, true, false, List, [], ◌∷◌, ◌++◌, length, take, not, ◌==◌, Bor, refl, sym, ap, subst, arith, IfOk, IfErr, OnOk}
+use Rattle.std.proofs.Common.{◌≡◌, ◌∙◌, ℕ, ◌+◌, true, false, List, [], ◌∷◌, ◌++◌, length, take, not, ◌==◌, Bor, refl, sym, ap, subst, IfOk, IfErr, OnOk}
 use Rattle.std.specs.Prelude.{Some, None, Result, Ok, Err}
 use Rattle.std.proofs.lemmas.List.{length-map}
 use Rattle.text_base.specs.Stopped.{IfFault}
@@ -8,12 +8,11 @@ use Rattle.text_base.specs.declared.stop.Stop.TheVariants.{Fault, Memory}
 use Rattle.text_base.specs.Words.{words_of, row_of, texts, without_comment}
 use Rattle.nl_header.specs.Reading.{Taken, IsReading, Takes}
 use Rattle.nl_model.specs.declared.header.Header.{Header}
-use Rattle.nl_segments.specs.declared.fault.Refusal.{Refusal}
+use Rattle.nl_segments.specs.declared.fault.NlReason.{NlReason}
 use Rattle.nl_segments.specs.declared.nl_read.NlRead.{NlRead}
 use Rattle.nl_segments.specs.Rows.{Row, holds_words}
 use Rattle.nl_segments.specs.Grammar.{Standing, standing, is_in_header, line_refusal, header_refusal, end_refusal}
 use Rattle.nl_segments.specs.declared.fault.NlReason.TheVariants.{EndInHeader}
-use Rattle.nl_segments.specs.Tests.{for_reason}
 use Rattle.nl_segments.specs.Held.{Body, Progress, IsHeld, IsHeaderOf, only_header, HoldsBy, HoldsStanding, TakesRow, Finishes}
 use Rattle.nl_segments.specs.Steps.{after, after_header_row}
 use Rattle.nl_segments.specs.Taking.{TakesAnyRow, TakesHeaderRow}
@@ -47,12 +46,12 @@ body_begun g row header after b none takes begun s h =
 in_body : (s : Standing) (b : Body) → IsHeld s b → is_in_header s ≡ false
 in_body s b h = h.body
 
-pub row_in_header : (old : Progress) (row : Row) (r : Result (Unit {0}) (Stop Refusal)) (new : Progress) → old.body ≡ None → TakesHeaderRow old row r new → TakesAnyRow old row r new
+pub row_in_header : (old : Progress) (row : Row) (r : Result (Unit {0}) (Stop NlReason)) (new : Progress) → old.body ≡ None → TakesHeaderRow old row r new → TakesAnyRow old row r new
 row_in_header old row (Ok u) new none takes = λ s h. rw (before_body s old none h).header (takes s h)
 row_in_header old row (Err (Fault f)) new none takes = λ s h. rw (before_body s old none h).header (takes s h)
 row_in_header old row (Err Memory) new none takes = tt
 
-pub row_in_body : (t : Taken) (old new : Body) (row : Row) (r : Result (Unit {0}) (Stop Refusal)) → TakesRow old (row_of row.text) row.line r new
+pub row_in_body : (t : Taken) (old new : Body) (row : Row) (r : Result (Unit {0}) (Stop NlReason)) → TakesRow old (row_of row.text) row.line r new
     → TakesAnyRow (record { header = t; body = Some old }) row r (record { header = t; body = Some new })
 row_in_body t old new row (Ok u) takes = λ s h. rw (in_body s old h) (takes s row (record { same_words = refl; same_line = refl }) h)
 row_in_body t old new row (Err (Fault f)) takes = λ s h. rw (in_body s old h) (takes s h)
@@ -76,21 +75,21 @@ pub no_row_fine : (s : Standing) (line : List ℕ) → holds_words line ≡ fals
 unfolding line_refusal
 no_row_fine s line none = rw none refl
 
-pub row_taken : (old new : Progress) (line : List ℕ) (n : ℕ) (r : Result (Unit {0}) (Stop Refusal)) → holds_words line ≡ true
+pub row_taken : (old new : Progress) (line : List ℕ) (n : ℕ) (r : Result (Unit {0}) (Stop NlReason)) → holds_words line ≡ true
     → TakesAnyRow old (record { line = n; text = without_comment line }) r new
     → OnOk r ((lines : List (List ℕ)) → n ≡ length lines + 1 → HoldsStanding (standing lines) old → HoldsStanding (standing (lines ++ line ∷ [])) new)
 row_taken old new line n (Ok u) some takes = λ lines e h.
     subst (λ s. HoldsStanding s new) (sym (standing-more lines line ∙ rw (some, ← e) refl)) (takes (standing lines) h).1
 row_taken old new line n (Err stop) some takes = tt
 
-pub row_fine : (old new : Progress) (line : List ℕ) (n : ℕ) (r : Result (Unit {0}) (Stop Refusal)) → holds_words line ≡ true
+pub row_fine : (old new : Progress) (line : List ℕ) (n : ℕ) (r : Result (Unit {0}) (Stop NlReason)) → holds_words line ≡ true
     → TakesAnyRow old (record { line = n; text = without_comment line }) r new
     → OnOk r ((lines : List (List ℕ)) → n ≡ length lines + 1 → HoldsStanding (standing lines) old → line_refusal (standing lines) line ≡ None)
 unfolding line_refusal
 row_fine old new line n (Ok u) some takes = λ lines e h. rw some (takes (standing lines) h).0
 row_fine old new line n (Err stop) some takes = tt
 
-pub row_fault : (old new : Progress) (line : List ℕ) (n : ℕ) (r : Result (Unit {0}) (Stop Refusal)) → holds_words line ≡ true
+pub row_fault : (old new : Progress) (line : List ℕ) (n : ℕ) (r : Result (Unit {0}) (Stop NlReason)) → holds_words line ≡ true
     → TakesAnyRow old (record { line = n; text = without_comment line }) r new
     → IfErr r (λ stop. IfFault stop (λ reason. (lines : List (List ℕ)) → n ≡ length lines + 1 → HoldsStanding (standing lines) old → line_refusal (standing lines) line ≡ Some reason))
 unfolding line_refusal
@@ -100,14 +99,14 @@ row_fault old new line n (Err Memory) some takes = tt
 
 -- ---- the end
 
-pub end_in_header : (s : Standing) (g : Progress) → g.body ≡ None → HoldsStanding s g → end_refusal s ≡ Some (for_reason EndInHeader)
+pub end_in_header : (s : Standing) (g : Progress) → g.body ≡ None → HoldsStanding s g → end_refusal s ≡ Some EndInHeader
 unfolding end_refusal
 end_in_header s g none h = rw (before_body s g none h).header refl
 
 body_held : (s : Standing) (g : Progress) (b : Body) → g.body ≡ Some b → HoldsStanding s g → IsHeld s b
 body_held s g b e h = subst (HoldsBy s g.header) e h
 
-pub end_fine : (g : Progress) (given b : Body) → given ≡ b → g.body ≡ Some b → (r : Result NlRead (Stop Refusal)) → Finishes given r
+pub end_fine : (g : Progress) (given b : Body) → given ≡ b → g.body ≡ Some b → (r : Result NlRead (Stop NlReason)) → Finishes given r
     → IfOk r (λ value. (lines : List (List ℕ)) → HoldsStanding (standing lines) g → end_refusal (standing lines) ≡ None)
 unfolding end_refusal
 end_fine g given b same e (Ok value) finishes = λ lines h.
@@ -115,7 +114,7 @@ end_fine g given b same e (Ok value) finishes = λ lines h.
     rw (in_body (standing lines) b held) ((subst (λ x. Finishes x (Ok value)) same finishes) (standing lines) held).0
 end_fine g given b same e (Err stop) finishes = tt
 
-pub end_fault : (g : Progress) (given b : Body) → given ≡ b → g.body ≡ Some b → (r : Result NlRead (Stop Refusal)) → Finishes given r
+pub end_fault : (g : Progress) (given b : Body) → given ≡ b → g.body ≡ Some b → (r : Result NlRead (Stop NlReason)) → Finishes given r
     → IfErr r (λ stop. IfFault stop (λ reason. (lines : List (List ℕ)) → HoldsStanding (standing lines) g → end_refusal (standing lines) ≡ Some reason))
 unfolding end_refusal
 end_fault g given b same e (Ok value) finishes = tt

@@ -1,8 +1,8 @@
 -- What a piece without rows says.
-use Rattle.std.proofs.Common.{◌≡◌, ◌∙◌, ℕ, zero, suc, ◌==◌, Bool, true, false, ◌||◌, List, [], ◌∷◌, ◌++◌, length, take, drop, filter, refl, sym, ap, arith, nat_lt, get_or, slice_set, None}
+use Rattle.std.proofs.Common.{◌≡◌, ◌∙◌, ℕ, zero, suc, Bool, true, false, ◌||◌, List, [], ◌∷◌, ◌++◌, length, filter, refl, sym, ap, arith, nat_lt, get_or, slice_set, None}
 use Rattle.std.specs.Prelude.{ℤ, not, if◌then◌else◌}
-use Rattle.std.proofs.lemmas.Bool.{eqb-true, lt-ltb}
-use Rattle.std.proofs.lemmas.List.{append-nil, length-append, take_all, drop_all, set-get_or}
+use Rattle.std.proofs.lemmas.Bool.{lt-ltb}
+use Rattle.std.proofs.lemmas.List.{append-nil, length-append, set-get_or}
 use Rattle.std.proofs.lemmas.List.Elements.{filter-append}
 use Rattle.std.proofs.lemmas.Grind.{flat_map-append}
 use Rattle.nl_model.specs.declared.counts.Counts.{Counts}
@@ -11,7 +11,6 @@ use Rattle.nl_segments.specs.declared.head.Head.{Head}
 use Rattle.nl_segments.specs.declared.head.Head.TheVariants.{Body, Objective, Definition, DualGuesses, PrimalGuesses, Sides, Bounds, ColumnCounts, Terms, Slopes, Suffix}
 use Rattle.nl_segments.specs.Nodes.{nodes_from, pending_from}
 use Rattle.nl_segments.specs.Pieces.{Piece, awaited_in, is_nothing, is_complete, line_kind, line_count, has_tree, pair_count, tree_rows, piece_nodes, piece_pairs, piece_pending}
-use Rattle.nl_segments.specs.Rows.{Row}
 use Rattle.nl_segments.specs.Saying.{if_complete, said_by, draft_of}
 use Rattle.nl_segments.specs.Tests.{node_total, pair_total, suffix_count, all_column_counts, column_counts, is_suffix}
 use Rattle.nl_segments.specs.HeadSteps.{begun_draft, begun_count}
@@ -43,16 +42,7 @@ no_pending head name line = ap (pending_from None) (no_rows head name line)
 
 pub some_line : (head : Head) → is_nothing (line_kind head) ≡ false
 some_line (Body i) = refl
-some_line (Objective k m) = refl
-some_line (Definition i j u) = refl
-some_line (DualGuesses n) = refl
-some_line (PrimalGuesses n) = refl
-some_line Sides = refl
-some_line Bounds = refl
-some_line (ColumnCounts n) = refl
-some_line (Terms i n) = refl
-some_line (Slopes k n) = refl
-some_line (Suffix k n) = refl
+some_line head = refl
 
 pub whole_at_once : (c : Counts) (head : Head) (name : List ℕ) (line : ℕ) → is_complete c (new_piece head name line) ≡ not (has_tree head || nat_lt 0 (line_count c head))
 unfolding awaited_in
@@ -140,16 +130,7 @@ count_begun pieces head name line = by (is_suffix head) refl
 
 no_columns : (head : Head) (name : List ℕ) (line : ℕ) → column_counts (new_piece head name line) head ≡ []
 no_columns (Body i) name line = refl
-no_columns (Objective k m) name line = refl
-no_columns (Definition i j u) name line = refl
-no_columns (DualGuesses n) name line = refl
-no_columns (PrimalGuesses n) name line = refl
-no_columns Sides name line = refl
-no_columns Bounds name line = refl
-no_columns (ColumnCounts n) name line = refl
-no_columns (Terms i n) name line = refl
-no_columns (Slopes k n) name line = refl
-no_columns (Suffix k n) name line = refl
+no_columns head name line = refl
 
 pub columns_begun : (pieces : List Piece) (head : Head) (name : List ℕ) (line : ℕ) → all_column_counts pieces ≡ all_column_counts (pieces ++ new_piece head name line ∷ [])
 columns_begun pieces head name line =

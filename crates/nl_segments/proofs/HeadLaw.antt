@@ -1,8 +1,8 @@
 -- What is held, with a head more.
-use Rattle.std.proofs.Common.{◌≡◌, ◌∙◌, ℕ, zero, suc, ◌<◌, ◌≤◌, Bool, true, false, ◌||◌, List, [], ◌∷◌, ◌++◌, length, take, replicate, refl, sym, ap, ap₂, arith, subst, nat_lt, get_or, Option, Some, None}
+use Rattle.std.proofs.Common.{◌≡◌, ◌∙◌, ℕ, zero, suc, ◌<◌, ◌≤◌, Bool, true, false, ◌||◌, List, [], ◌∷◌, ◌++◌, length, replicate, refl, sym, ap, ap₂, arith, subst, nat_lt, get_or, Option, Some, None}
 use Rattle.std.specs.Prelude.{not, IsTrue, IfSome, All, is_some}
 use Rattle.std.specs.List.{list_any}
-use Rattle.std.proofs.lemmas.List.{length-replicate, take_all}
+use Rattle.std.proofs.lemmas.List.{length-replicate}
 use Rattle.std.proofs.lemmas.List.Elements.{All-push}
 use Rattle.std.proofs.lemmas.List.Quantifiers.{all_pairs_push}
 use Rattle.text_base.specs.Judged.{first_reason}
@@ -14,7 +14,7 @@ use Rattle.nl_model.specs.File.{Suffix as SuffixValue}
 use Rattle.nl_model.specs.Rules.{has_suffix}
 use Rattle.nl_segments.specs.declared.fault.NlReason.TheVariants.{ShortSegment}
 use Rattle.nl_segments.specs.declared.head.Head.{Head}
-use Rattle.nl_segments.specs.declared.head.Head.TheVariants.{Body as BodyHead, Objective, Definition, DualGuesses, PrimalGuesses, Sides, Bounds, ColumnCounts, Terms, Slopes, Suffix}
+use Rattle.nl_segments.specs.declared.head.Head.TheVariants.{Suffix}
 use Rattle.nl_segments.specs.Heads.{is_head, head_of, name_in, is_in_range}
 use Rattle.nl_segments.specs.Rows.{Row, row_words}
 use Rattle.nl_segments.specs.Pieces.{Piece, last_piece, awaited_of, is_complete, is_nothing, has_tree, line_count, pair_count, with_row}
@@ -24,9 +24,10 @@ use Rattle.nl_segments.specs.Current.{Current, new_current}
 use Rattle.nl_segments.specs.PlaceSteps.{with_begun, HasOwner}
 use Rattle.nl_segments.specs.Grammar.{Standing, counts_of, said}
 use Rattle.nl_segments.specs.Steps.{after_body_row}
-use Rattle.nl_segments.specs.Tests.{Tests, for_reason, is_suffix, is_linear, is_same_piece, is_repeated, index_limit, has_index, head_form_tests, formed_head_tests, head_tests, row_tests}
-use Rattle.nl_segments.specs.Held.{Body, IsSoundPiece, AreSound, IsOpen, IsLast, IsMarked, IsNodeLeft, IsHeld, HoldsSome, IsRowOf, HasRow, words_refusal, use_count}
-use Rattle.nl_segments.specs.HeadSteps.{has_come, has_come_suffix, held_head_tests, formed_tests, held_refusal, begun_current, begun_name, begun_count, begun_draft, with_begun_head}
+use Rattle.nl_segments.specs.Tests.{is_suffix, is_linear, is_same_piece, is_repeated, index_limit, has_index, head_form_tests, formed_head_tests, head_tests, row_tests}
+use Rattle.nl_model.specs.UseCounts.{use_count}
+use Rattle.nl_segments.specs.Held.{Body, IsSoundPiece, AreSound, IsOpen, IsLast, IsMarked, IsNodeLeft, IsHeld, HoldsSome, IsRowOf, HasRow, words_refusal}
+use Rattle.nl_segments.specs.HeadSteps.{has_come, has_come_suffix, held_head_tests, formed_tests, new_head_tests, begun_current, begun_name, begun_count, begun_draft, with_begun_head}
 use Rattle.nl_segments.proofs.PieceLemmas.{split, last-append, lines-append, take_none}
 use Rattle.nl_segments.proofs.DraftLemmas.{draft_counts}
 use Rattle.nl_segments.proofs.PlaceLemmas.{owner_there, place_begun}
@@ -68,17 +69,8 @@ pub come_repeated : (s : Standing) (b : Body) (head : Head) (name : List ℕ) �
 come_repeated s b head name h closed range = by (is_suffix head) refl
   where
     suffix : (g : Head) → is_suffix g ≡ true → has_come b.seen b.draft.suffixes g name ≡ is_repeated s.pieces g name
-    suffix (BodyHead i) e = absurd cc
-    suffix (Objective k m) e = absurd cc
-    suffix (Definition i j u) e = absurd cc
-    suffix (DualGuesses n) e = absurd cc
-    suffix (PrimalGuesses n) e = absurd cc
-    suffix Sides e = absurd cc
-    suffix Bounds e = absurd cc
-    suffix (ColumnCounts n) e = absurd cc
-    suffix (Terms i n) e = absurd cc
-    suffix (Slopes k n) e = absurd cc
     suffix (Suffix kind n) e = ap (λ (d : Draft). has_suffix d.suffixes kind name) h.draft ∙ suffixes_come (options_in s.header) (counts_of s) kind n name s.pieces (closed_complete s b h closed)
+    suffix head e = absurd cc
 
     by : (t : Bool) → is_suffix head ≡ t → has_come b.seen b.draft.suffixes head name ≡ is_repeated s.pieces head name
     by true e = suffix head e
@@ -108,19 +100,19 @@ awaits_by c pieces d name (Some p) None e h = rw e (ap not h)
 awaits_by c pieces d name (Some p) (Some cur) e h = rw e (ap not h.incomplete)
 
 head_reasons : (s : Standing) (words : List (List ℕ)) → is_head words ≡ true
-    → words_refusal s words ≡ first_reason ((not (is_nothing (awaited_of (counts_of s) s.pieces)), for_reason ShortSegment) ∷ (head_form_tests (counts_of s) words ++ formed_head_tests (counts_of s) s.pieces (name_in words) (head_of (counts_of s) words)))
+    → words_refusal s words ≡ first_reason ((not (is_nothing (awaited_of (counts_of s) s.pieces)), ShortSegment) ∷ (head_form_tests (counts_of s) words ++ formed_head_tests (counts_of s) s.pieces (name_in words) (head_of (counts_of s) words)))
 unfolding row_tests head_tests
 head_reasons s words first = rw first refl
 
 pub same_refusal : (s : Standing) (b : Body) (words : List (List ℕ)) → IsHeld s b → is_head words ≡ true
-    → words_refusal s words ≡ held_refusal b.draft.counts (is_some b.current) b.seen b.draft.suffixes b.suffixes words
+    → words_refusal s words ≡ first_reason (new_head_tests b.draft.counts (is_some b.current) b.seen b.draft.suffixes b.suffixes words)
 same_refusal s b words h first =
     head_reasons s words first
     ∙ rw (awaits_by (counts_of s) s.pieces b.draft b.name (last_piece s.pieces) b.current refl h.last, h.counts) (by b.current refl)
   where
     by : (o : Option Current) → b.current ≡ o
-        → first_reason ((is_some b.current, for_reason ShortSegment) ∷ (head_form_tests (counts_of s) words ++ formed_head_tests (counts_of s) s.pieces (name_in words) (head_of (counts_of s) words)))
-        ≡ held_refusal (counts_of s) (is_some b.current) b.seen b.draft.suffixes b.suffixes words
+        → first_reason ((is_some b.current, ShortSegment) ∷ (head_form_tests (counts_of s) words ++ formed_head_tests (counts_of s) s.pieces (name_in words) (head_of (counts_of s) words)))
+        ≡ first_reason (new_head_tests (counts_of s) (is_some b.current) b.seen b.draft.suffixes b.suffixes words)
     by None e =
         rw e (same_reasons (head_form_tests (counts_of s) words) (head_form_tests (counts_of s) words) (formed_head_tests (counts_of s) s.pieces (name_in words) (head_of (counts_of s) words))
         (formed_tests (counts_of s) b.seen b.draft.suffixes b.suffixes (name_in words) (head_of (counts_of s) words))
@@ -269,9 +261,9 @@ abbrev pub IsNewOf : Body → List (List ℕ) → Head → Type 0
 IsNewOf b words head = IsNew b.draft.counts (is_some b.current) b.seen b.draft.suffixes b.suffixes (name_in words) head
 
 pub new_of : (b : Body) (is_open : Bool) (words : List (List ℕ)) (head : Head) → is_open ≡ is_some b.current → head_of b.draft.counts words ≡ Some head
-    → held_refusal b.draft.counts is_open b.seen b.draft.suffixes b.suffixes words ≡ None → IsNewOf b words head
+    → first_reason (new_head_tests b.draft.counts is_open b.seen b.draft.suffixes b.suffixes words) ≡ None → IsNewOf b words head
 new_of b is_open words head e is none =
-    is_new b.draft.counts (is_some b.current) b.seen b.draft.suffixes b.suffixes words head is (ap (λ o. held_refusal b.draft.counts o b.seen b.draft.suffixes b.suffixes words) (sym e) ∙ none)
+    is_new b.draft.counts (is_some b.current) b.seen b.draft.suffixes b.suffixes words head is (ap (λ o. first_reason (new_head_tests b.draft.counts o b.seen b.draft.suffixes b.suffixes words)) (sym e) ∙ none)
 
 pub marks_there : (b : Body) (head : Head) → HoldsSome b → is_in_range b.draft.counts head ≡ true → IsSeenIn b.seen head
 marks_there b head h range = within_marks (counts_of h.0) b.seen h.0.pieces head h.1.seen (ap (λ c. is_in_range c head) (sym h.1.counts) ∙ range)
@@ -280,17 +272,8 @@ pub place_there : (b : Body) (head : Head) → HoldsSome b → is_in_range b.dra
 place_there b head h range = rw h.1.places (owner_there (counts_of h.0) h.0.pieces head (ap (λ c. is_in_range c head) (sym h.1.counts) ∙ range))
 
 pub fresh_suffix : (seen : Segments) (suffixes : List SuffixValue) (head : Head) (name : List ℕ) → has_come seen suffixes head name ≡ false → has_come_suffix suffixes head name ≡ false
-fresh_suffix seen suffixes (BodyHead i) name e = refl
-fresh_suffix seen suffixes (Objective k m) name e = refl
-fresh_suffix seen suffixes (Definition i j u) name e = refl
-fresh_suffix seen suffixes (DualGuesses n) name e = refl
-fresh_suffix seen suffixes (PrimalGuesses n) name e = refl
-fresh_suffix seen suffixes Sides name e = refl
-fresh_suffix seen suffixes Bounds name e = refl
-fresh_suffix seen suffixes (ColumnCounts n) name e = refl
-fresh_suffix seen suffixes (Terms i n) name e = refl
-fresh_suffix seen suffixes (Slopes k n) name e = refl
 fresh_suffix seen suffixes (Suffix kind n) name e = e
+fresh_suffix seen suffixes head name e = refl
 
 pub taken_some : (b : Body) (words : List (List ℕ)) (line : ℕ) (head : Head) → HasRow words line → is_head words ≡ true → head_of b.draft.counts words ≡ Some head → IsNewOf b words head
     → HoldsSome b → HoldsSome (with_begun_head b head (name_in words) line)

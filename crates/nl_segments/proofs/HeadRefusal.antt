@@ -8,15 +8,15 @@ use Rattle.text_base.proofs.FirstReasons.{none_head, none_first, reason_before, 
 use Rattle.nl_model.specs.declared.counts.Counts.{Counts}
 use Rattle.nl_model.specs.File.{Suffix}
 use Rattle.nl_segments.specs.declared.fault.NlReason.TheVariants.{TooLarge, RepeatedSegment, IndexOut, ShortSegment, SosSuffix}
-use Rattle.nl_segments.specs.declared.fault.Refusal.{Refusal}
+use Rattle.nl_segments.specs.declared.fault.NlReason.{NlReason}
 use Rattle.nl_segments.specs.declared.head.Head.{Head}
 use Rattle.nl_segments.specs.Heads.{head_of, name_in, is_in_range}
-use Rattle.nl_segments.specs.HeadSteps.{has_come, held_head_tests, formed_tests, held_refusal}
+use Rattle.nl_segments.specs.HeadSteps.{has_come, held_head_tests, formed_tests, new_head_tests}
 use Rattle.nl_segments.specs.SeenSegments.{Segments}
-use Rattle.nl_segments.specs.Tests.{Tests, for_reason, is_suffix, head_form_tests}
+use Rattle.nl_segments.specs.Tests.{is_suffix, head_form_tests}
 
 -- no test of a head holds
-all_false : (a b d f : Bool) → first_reason ((a, for_reason IndexOut) ∷ (b, for_reason SosSuffix) ∷ (d, for_reason RepeatedSegment) ∷ (f, for_reason TooLarge) ∷ []) ≡ None
+all_false : (a b d f : Bool) → first_reason ((a, IndexOut) ∷ (b, SosSuffix) ∷ (d, RepeatedSegment) ∷ (f, TooLarge) ∷ []) ≡ None
     → (a ≡ false) × (d ≡ false) × (f ≡ false)
 all_false true b d f e = absurd cc
 all_false false true d f e = absurd cc
@@ -26,13 +26,13 @@ all_false false false false false e = (refl, refl, refl)
 
 -- ---- the head of words
 
-pub form_fault : (c : Counts) (is_open : Bool) (seen : Segments) (suffixes : List Suffix) (count : ℕ) (words : List (List ℕ)) (r : Refusal)
-    → is_open ≡ false → first_reason (head_form_tests c words) ≡ Some r → held_refusal c is_open seen suffixes count words ≡ Some r
+pub form_fault : (c : Counts) (is_open : Bool) (seen : Segments) (suffixes : List Suffix) (count : ℕ) (words : List (List ℕ)) (r : NlReason)
+    → is_open ≡ false → first_reason (head_form_tests c words) ≡ Some r → first_reason (new_head_tests c is_open seen suffixes count words) ≡ Some r
 form_fault c is_open seen suffixes count words r f e = rw f (reason_before (head_form_tests c words) (formed_tests c seen suffixes count (name_in words) (head_of c words)) r e)
 
 pub form_fine : (c : Counts) (is_open : Bool) (seen : Segments) (suffixes : List Suffix) (count : ℕ) (words : List (List ℕ)) (head : Head)
     → is_open ≡ false → first_reason (head_form_tests c words) ≡ None → head_of c words ≡ Some head
-    → held_refusal c is_open seen suffixes count words ≡ first_reason (held_head_tests c seen suffixes count (name_in words) head)
+    → first_reason (new_head_tests c is_open seen suffixes count words) ≡ first_reason (held_head_tests c seen suffixes count (name_in words) head)
 form_fine c is_open seen suffixes count words head f e is =
     rw f (reason_after (head_form_tests c words) (formed_tests c seen suffixes count (name_in words) (head_of c words)) e ∙ ap (λ o. first_reason (formed_tests c seen suffixes count (name_in words) o)) is)
 
@@ -51,9 +51,9 @@ below b count e t = let f : nat_le 1024 count ≡ false = rw t at e in by (nat_l
     by false s w = grind arith
 
 pub is_new : (c : Counts) (is_open : Bool) (seen : Segments) (suffixes : List Suffix) (count : ℕ) (words : List (List ℕ)) (head : Head)
-    → head_of c words ≡ Some head → held_refusal c is_open seen suffixes count words ≡ None → IsNew c is_open seen suffixes count (name_in words) head
+    → head_of c words ≡ Some head → first_reason (new_head_tests c is_open seen suffixes count words) ≡ None → IsNew c is_open seen suffixes count (name_in words) head
 is_new c is_open seen suffixes count words head is e =
-    let first = none_head is_open (for_reason ShortSegment) (head_form_tests c words ++ formed_tests c seen suffixes count (name_in words) (head_of c words)) e in
+    let first = none_head is_open ShortSegment (head_form_tests c words ++ formed_tests c seen suffixes count (name_in words) (head_of c words)) e in
     let fine = none_first (head_form_tests c words) (formed_tests c seen suffixes count (name_in words) (head_of c words)) first.1 in
     let tests : first_reason (held_head_tests c seen suffixes count (name_in words) head) ≡ None = sym (form_fine c is_open seen suffixes count words head first.0 fine is) ∙ e in
     let none = all_false (not (is_in_range c head)) (is_suffix head && bytes_eq (name_in words) (codes "sosno")) (has_come seen suffixes head (name_in words)) (is_suffix head && nat_le 1024 count) tests in

@@ -2,7 +2,6 @@
 use Rattle.std.proofs.Common.{◌≡◌, ◌∙◌, ℕ, ◌-◌, ◌==◌, Bool, true, false, ◌&&◌, ◌||◌, List, [], ◌∷◌, ◌++◌, length, refl, sym, ap, ap₂, arith, Option, Some, None}
 use Rattle.std.specs.Prelude.{not, if◌then◌else◌, ◌+◌, nat_le, option_map, option_and_then}
 use Rattle.std.specs.List.{list_any}
-use Rattle.std.proofs.lemmas.Bool.{ltb-true}
 use Rattle.std.proofs.lemmas.List.{length-set}
 use Rattle.std.proofs.lemmas.List.Folds.{list_any-append}
 use Rattle.text_base.specs.Names.{IsName, is_name, has_name_bytes}
@@ -12,13 +11,10 @@ use Rattle.nl_segments.specs.declared.head.Head.TheVariants.{Body, Objective, De
 use Rattle.nl_segments.specs.Heads.{head_of, name_in, is_in_range, numbered_head, counted_head, bare_head, objective_head, definition_head, column_head, suffix_head, with_sense, letter_of, own_number, number_at}
 use Rattle.text_base.specs.Words.{word_at}
 use Rattle.nl_segments.specs.Pieces.{Piece}
-use Rattle.nl_segments.specs.PlaceSteps.{HasOwner}
-use Rattle.nl_segments.specs.Saying.{place_lines}
 use Rattle.nl_segments.specs.SeenSegments.{Segments, IsSeenIn, with_segment}
 use Rattle.nl_segments.specs.Tests.{is_suffix, is_same_head, is_same_piece}
 use Rattle.nl_segments.specs.Held.{AreSeen}
 use Rattle.nl_segments.proofs.HeadBegun.{new_piece}
-use Rattle.nl_segments.proofs.PlaceLemmas.{place_counts}
 use Rattle.nl_segments.proofs.SeenLemmas.{marked}
 
 -- ---- marks
@@ -36,41 +32,22 @@ same_marks : (s : Segments) (g : Head) → SameMarks s (with_segment s g)
 same_marks s (Body i) = record { first = refl; bodies = length-set s.bodies i true; objectives = refl; definitions = refl; terms = refl; slopes = refl }
 same_marks s (Objective k m) = record { first = refl; bodies = refl; objectives = length-set s.objectives k true; definitions = refl; terms = refl; slopes = refl }
 same_marks s (Definition i j u) = record { first = refl; bodies = refl; objectives = refl; definitions = length-set s.definitions (i - s.first_defined) true; terms = refl; slopes = refl }
-same_marks s (DualGuesses n) = record { first = refl; bodies = refl; objectives = refl; definitions = refl; terms = refl; slopes = refl }
-same_marks s (PrimalGuesses n) = record { first = refl; bodies = refl; objectives = refl; definitions = refl; terms = refl; slopes = refl }
-same_marks s Sides = record { first = refl; bodies = refl; objectives = refl; definitions = refl; terms = refl; slopes = refl }
-same_marks s Bounds = record { first = refl; bodies = refl; objectives = refl; definitions = refl; terms = refl; slopes = refl }
-same_marks s (ColumnCounts n) = record { first = refl; bodies = refl; objectives = refl; definitions = refl; terms = refl; slopes = refl }
 same_marks s (Terms i n) = record { first = refl; bodies = refl; objectives = refl; definitions = refl; terms = length-set s.terms i true; slopes = refl }
 same_marks s (Slopes k n) = record { first = refl; bodies = refl; objectives = refl; definitions = refl; terms = refl; slopes = length-set s.slopes k true }
-same_marks s (Suffix k n) = record { first = refl; bodies = refl; objectives = refl; definitions = refl; terms = refl; slopes = refl }
+same_marks s head = record { first = refl; bodies = refl; objectives = refl; definitions = refl; terms = refl; slopes = refl }
 
 still_within : (s t : Segments) (h : Head) → SameMarks s t → IsSeenIn s h → IsSeenIn t h
 still_within s t (Body i) e w = rw e.bodies w
 still_within s t (Objective k m) e w = rw e.objectives w
 still_within s t (Definition i j u) e w = rw (e.first, e.definitions) w
-still_within s t (DualGuesses n) e w = w
-still_within s t (PrimalGuesses n) e w = w
-still_within s t Sides e w = w
-still_within s t Bounds e w = w
-still_within s t (ColumnCounts n) e w = w
 still_within s t (Terms i n) e w = rw e.terms w
 still_within s t (Slopes k n) e w = rw e.slopes w
-still_within s t (Suffix k n) e w = w
+still_within s t head e w = w
 
 -- a suffix has no mark
 suffix_within : (s : Segments) (h : Head) → is_suffix h ≡ true → IsSeenIn s h
-suffix_within s (Body i) e = absurd cc
-suffix_within s (Objective k m) e = absurd cc
-suffix_within s (Definition i j u) e = absurd cc
-suffix_within s (DualGuesses n) e = absurd cc
-suffix_within s (PrimalGuesses n) e = absurd cc
-suffix_within s Sides e = absurd cc
-suffix_within s Bounds e = absurd cc
-suffix_within s (ColumnCounts n) e = absurd cc
-suffix_within s (Terms i n) e = absurd cc
-suffix_within s (Slopes k n) e = absurd cc
 suffix_within s (Suffix k n) e = tt
+suffix_within s head e = absurd cc
 
 pub within_marks : (c : Counts) (s : Segments) (pieces : List Piece) (h : Head) → AreSeen c s pieces → is_in_range c h ≡ true → IsSeenIn s h
 within_marks c s pieces h seen range = by (is_suffix h) refl

@@ -1,18 +1,19 @@
 -- What is held after the number of a column, and after an interval.
 use Rattle.std.proofs.Common.{◌≡◌, ◌∙◌, ℕ, ℤ, ◌<◌, ◌≤◌, ◌-◌, Bool, true, false, List, [], ◌∷◌, ◌++◌, length, refl, sym, ap, subst, arith, Option, Some, None}
-use Rattle.std.specs.Prelude.{IsTrue, IfSome}
+use Rattle.std.specs.Prelude.{IfSome}
 use Rattle.std.specs.List.{filter_map, cons_option}
-use Rattle.std.proofs.lemmas.List.{append_assoc, append-nil}
+use Rattle.std.proofs.lemmas.List.{append_assoc}
 use Rattle.std.proofs.lemmas.List.Elements.{filter_map-append}
 use Rattle.nl_header.specs.Head.{options_in}
 use Rattle.nl_model.specs.declared.counts.Counts.{Counts}
 use Rattle.nl_model.specs.declared.interval.Interval.{Interval}
 use Rattle.nl_model.specs.Draft.{Draft}
 use Rattle.nl_model.specs.Kinds.{kind_of}
+use Rattle.nl_segments.specs.declared.awaited.Awaited.{Awaited}
 use Rattle.nl_segments.specs.declared.awaited.Awaited.TheVariants.{ColumnCount, Interval as IntervalLine}
 use Rattle.nl_segments.specs.declared.head.Head.{Head}
-use Rattle.nl_segments.specs.declared.head.Head.TheVariants.{Body as BodyHead, Objective, Definition, DualGuesses, PrimalGuesses, Sides, Bounds, ColumnCounts, Terms, Slopes, Suffix}
-use Rattle.nl_segments.specs.declared.fault.Refusal.{Refusal}
+use Rattle.nl_segments.specs.declared.head.Head.TheVariants.{Sides, Bounds, ColumnCounts}
+use Rattle.nl_segments.specs.declared.fault.NlReason.{NlReason}
 use Rattle.exact_numbers.specs.Numbers.{whole_of}
 use Rattle.nl_segments.specs.Rows.{Row, row_words}
 use Rattle.text_base.specs.Words.{word_at}
@@ -25,20 +26,16 @@ use Rattle.nl_segments.specs.Grammar.{Standing, counts_of, said}
 use Rattle.nl_segments.specs.Current.{Current, IsCurrent, current_awaits, less_line}
 use Rattle.nl_segments.specs.LineSteps.{unless_complete, with_interval, HasRoom, next_interval_tests}
 use Rattle.nl_segments.specs.Saying.{draft_of, said_by}
-use Rattle.nl_segments.specs.Held.{AreSound, Body, HoldsSome, IsAwaiting, IsHeld, IsNodeLeft, IsOpen, IsRowOf, use_count, words_refusal}
+use Rattle.nl_model.specs.UseCounts.{use_count}
+use Rattle.nl_segments.specs.Held.{AreSound, Body, HoldsSome, IsAwaiting, IsHeld, IsNodeLeft, IsOpen, IsRowOf, words_refusal}
 use Rattle.nl_segments.proofs.CurrentLemmas.{late_pairs, with_line}
 use Rattle.nl_segments.proofs.DraftLemmas.{draft_counts, with_bound, with_column, with_side}
 use Rattle.nl_segments.proofs.FreshLaw.{none_before, fresh_sides, fresh_bounds}
 use Rattle.nl_segments.proofs.PieceLemmas.{longer, draft-append}
 use Rattle.nl_segments.proofs.PairLines.{at, opened, awaiting, awaits_as, judged_by, row_after, last_sound}
-use Rattle.nl_segments.proofs.PairHeld.{IsEarly, early, held_longer, same_totals, sound_no_pair, places_no_pair, open_line}
+use Rattle.nl_segments.proofs.PairHeld.{IsEarly, early, held_longer, same_totals, places_no_pair, open_line, columns-append, columns_kept, is_line_kind, none_within, sound_kept}
 
 -- ---- the numbers of columns
-
-pub columns-append : (before : List Piece) (p : Piece) → all_column_counts (before ++ p ∷ []) ≡ all_column_counts before ++ column_counts p p.head
-columns-append [] p = append-nil (column_counts p p.head)
-columns-append (q ∷ before) p =
-    ap (λ ns. column_counts q q.head ++ ns) (columns-append before p) ∙ sym (append_assoc (column_counts q q.head) (all_column_counts before) (column_counts p p.head))
 
 column_more : (before : List Piece) (p : Piece) (row : Row) (n k : ℕ) → p.head ≡ ColumnCounts n → whole_of (word_at (row_words row) 0) ≡ Some k
     → all_column_counts (before ++ longer p row ∷ []) ≡ all_column_counts (before ++ p ∷ []) ++ k ∷ []
@@ -56,42 +53,33 @@ record IsColumnHead (h : Head) : Type 0 where
 
 column_head : (h : Head) → line_kind h ≡ ColumnCount → IsColumnHead h
 column_head (ColumnCounts n) e = record { count = n; is = refl }
-column_head (BodyHead i) e = absurd cc
-column_head (Objective k m) e = absurd cc
-column_head (Definition i j u) e = absurd cc
-column_head (DualGuesses n) e = absurd cc
-column_head (PrimalGuesses n) e = absurd cc
-column_head Sides e = absurd cc
-column_head Bounds e = absurd cc
-column_head (Terms i n) e = absurd cc
-column_head (Slopes k n) e = absurd cc
-column_head (Suffix k n) e = absurd cc
+column_head head e = absurd cc
 
 -- ---- a line of k
 
-with_column_line : (header : List (List (List ℕ))) (before : List Piece) (p : Piece) (row : Row) (cur : Current) (k : ℕ) (old : Body) (columns : List ℕ) (current : Option Current)
-    → IsHeld (at header (before ++ p ∷ [])) old → IsOpen (counts_of (at header [])) old.draft old.name p cur → old.current ≡ Some cur → IsEarly (counts_of (at header [])) p cur ColumnCount
-    → whole_of (word_at (row_words row) 0) ≡ Some k → columns ≡ old.columns ++ k ∷ [] → current ≡ unless_complete (less_line cur)
-    → IsHeld (at header (before ++ longer p row ∷ [])) (record old { columns = columns; current = current })
-with_column_line header before p row cur k old columns current h o cur_is e is columns_are current_is =
+-- a line that is no pair changes the draft or the numbers of columns, where p is the last piece
+with_plain_line : (header : List (List (List ℕ))) (before : List Piece) (p : Piece) (row : Row) (cur : Current) (kind : Awaited) (old : Body) (draft : Draft) (columns : List ℕ) (current : Option Current)
+    → IsHeld (at header (before ++ p ∷ [])) old → IsOpen (counts_of (at header [])) old.draft old.name p cur → old.current ≡ Some cur → IsEarly (counts_of (at header [])) p cur kind
+    → pair_count p.head ≡ 0 → holds_once p.head ≡ false → draft ≡ said (at header (before ++ longer p row ∷ [])) → draft.definitions ≡ old.draft.definitions → draft.terms ≡ old.draft.terms
+    → columns ≡ all_column_counts (before ++ longer p row ∷ []) → current ≡ unless_complete (less_line cur)
+    → IsHeld (at header (before ++ longer p row ∷ [])) (record old { draft = draft; columns = columns; current = current })
+with_plain_line header before p row cur kind old draft columns current h o cur_is e none once draft_is definitions terms columns_are current_is =
     let c = counts_of (at header []) in
-    let head = column_head p.head e.same_kind in
-    let none : pair_count p.head ≡ 0 = ap pair_count head.is in
-    let same_draft = with_column (options_in header) c before p row head.count head.is in
-    let pairs = late_pairs p row (let none = none in omega arith) in
-    held_longer header before p row (less_line cur) old (record old { columns = columns; current = current }) h
-    (sound_no_pair c p row none (last_sound c before p h.sound)) e.within
+    let late = none_within p none in
+    let pairs = late_pairs p row late in
+    held_longer header before p row (less_line cur) old (record old { draft = draft; columns = columns; current = current }) h
+    (sound_kept c p row late (last_sound c before p h.sound)) e.within
     (record {
-      draft = h.draft ∙ sym same_draft;
+      draft = draft_is;
       current = current_is;
       is_current = with_line c p cur row o.current e.within;
-      open_if = open_line c old.draft old.draft old.name p row cur o e.within none refl;
-      marks = λ t. absurd (let clash : false ≡ true = subst (λ x. IsTrue (holds_once x)) head.is t in cc);
+      open_if = open_line c old.draft draft old.name p row cur o e.within none definitions;
+      marks = λ t. absurd (let other = once in cc);
       room = refl;
       linear = h.linear ∙ sym (same_totals _ before p row pairs);
       values = h.values ∙ sym (same_totals _ before p row pairs);
-      columns = columns_are ∙ ap (λ ns. ns ++ k ∷ []) h.columns ∙ sym (column_more before p row head.count k head.is is);
-      uses = h.uses;
+      columns = columns_are;
+      uses = λ j lt. h.uses j lt ∙ sym (ap (λ rows. use_count rows j) terms);
       users = refl;
       places = h.places ∙ sym (places_no_pair c before p row none e.within);
       seen = refl;
@@ -101,19 +89,30 @@ with_column_line header before p row cur k old columns current h o cur_is e is c
       few_terms = h.few_terms;
     })
 
+-- the last piece is opened, where it awaits a line before any expression
+line_taken : (s : Standing) (old new : Body) (cur : Current) (row : Row) (kind : Awaited) → is_line_kind kind ≡ true → old.current ≡ Some cur → current_awaits cur ≡ kind → is_head (row_words row) ≡ false
+    → ((before : List Piece) (p : Piece) → IsHeld (at s.header (before ++ p ∷ [])) old → IsOpen (counts_of s) old.draft old.name p cur → IsEarly (counts_of s) p cur kind → IsHeld (at s.header (before ++ longer p row ∷ [])) new)
+    → IsHeld s old → IsHeld (after_body_row s row) new
+line_taken s old new cur row kind is_line e awaits plain step h =
+    let o = opened s old cur e h in
+    let held = subst (λ t. IsHeld t old) o.whole h in
+    subst (λ t. IsHeld (after_body_row t row) new) (sym o.whole)
+    (subst (λ t. IsHeld t new) (sym (row_after s.header o.before o.piece row plain))
+    (step o.before o.piece held o.is_open (early (counts_of s) o.piece cur kind o.is_open.current awaits is_line)))
+
+-- ---- a line of k
+
 column_taken : (s : Standing) (old : Body) (cur : Current) (row : Row) (k : ℕ) (columns : List ℕ) (current : Option Current) → old.current ≡ Some cur → current_awaits cur ≡ ColumnCount
     → is_head (row_words row) ≡ false → whole_of (word_at (row_words row) 0) ≡ Some k → columns ≡ old.columns ++ k ∷ [] → current ≡ unless_complete (less_line cur)
     → IsHeld s old → IsHeld (after_body_row s row) (record old { columns = columns; current = current })
-column_taken s old cur row k columns current e kind plain is columns_are current_is h =
-    let o = opened s old cur e h in
-    let new : Body = record old { columns = columns; current = current } in
-    let held = subst (λ t. IsHeld t old) o.whole h in
-    let early = early (counts_of s) o.piece cur ColumnCount o.is_open.current kind refl in
-    subst (λ t. IsHeld (after_body_row t row) new) (sym o.whole)
-    (subst (λ t. IsHeld t new) (sym (row_after s.header o.before o.piece row plain))
-    (with_column_line s.header o.before o.piece row cur k old columns current held o.is_open e early is columns_are current_is))
+column_taken s old cur row k columns current e kind plain is columns_are current_is =
+    line_taken s old (record old { columns = columns; current = current }) cur row ColumnCount refl e kind plain (λ before p held now early.
+    let head = column_head p.head early.same_kind in
+    with_plain_line s.header before p row cur ColumnCount old old.draft columns current held now e early (ap pair_count head.is) (ap holds_once head.is)
+    (held.draft ∙ sym (with_column (options_in s.header) (counts_of s) before p row head.count head.is)) refl refl
+    (columns_are ∙ ap (λ ns. ns ++ k ∷ []) held.columns ∙ sym (column_more before p row head.count k head.is is)) current_is)
 
-pub column_refused : (value : Body) (words : List (List ℕ)) (r : Refusal) → IsAwaiting ColumnCount value → is_head words ≡ false → first_reason (column_tests words) ≡ Some r
+pub column_refused : (value : Body) (words : List (List ℕ)) (r : NlReason) → IsAwaiting ColumnCount value → is_head words ≡ false → first_reason (column_tests words) ≡ Some r
     → (s : Standing) → IsHeld s value → words_refusal s words ≡ Some r
 column_refused value words r a plain e s h =
     let w = awaiting value ColumnCount a in
@@ -140,23 +139,7 @@ data IsIntervalHead (h : Head) : Type 0 where
 interval_head : (h : Head) → line_kind h ≡ IntervalLine → IsIntervalHead h
 interval_head Sides e = of_constraints refl
 interval_head Bounds e = of_variables refl
-interval_head (ColumnCounts n) e = absurd cc
-interval_head (BodyHead i) e = absurd cc
-interval_head (Objective k m) e = absurd cc
-interval_head (Definition i j u) e = absurd cc
-interval_head (DualGuesses n) e = absurd cc
-interval_head (PrimalGuesses n) e = absurd cc
-interval_head (Terms i n) e = absurd cc
-interval_head (Slopes k n) e = absurd cc
-interval_head (Suffix k n) e = absurd cc
-
-no_columns : (before : List Piece) (p : Piece) (row : Row) → IsIntervalHead p.head → all_column_counts (before ++ longer p row ∷ []) ≡ all_column_counts (before ++ p ∷ [])
-no_columns before p row i =
-    columns-append before (longer p row) ∙ ap (λ ns. all_column_counts before ++ ns) (by i) ∙ sym (columns-append before p)
-  where
-    by : IsIntervalHead p.head → column_counts (longer p row) p.head ≡ column_counts p p.head
-    by (of_constraints e) = rw e refl
-    by (of_variables e) = rw e refl
+interval_head head e = absurd cc
 
 never_once : (h : Head) → IsIntervalHead h → holds_once h ≡ false
 never_once h (of_constraints e) = rw e refl
@@ -175,51 +158,18 @@ same_parts : (d : Draft) (b : Bool) (i : Interval) → ((with_interval d b i).de
 same_parts d true i = (refl, refl)
 same_parts d false i = (refl, refl)
 
-with_interval_line : (header : List (List (List ℕ))) (before : List Piece) (p : Piece) (row : Row) (cur : Current) (i : Interval) (old : Body) (draft : Draft) (current : Option Current)
-    → IsHeld (at header (before ++ p ∷ [])) old → IsOpen (counts_of (at header [])) old.draft old.name p cur → old.current ≡ Some cur → IsEarly (counts_of (at header [])) p cur IntervalLine
-    → interval_in (row_words row) ≡ Some i → draft ≡ with_interval old.draft (is_sides cur.head) i → current ≡ unless_complete (less_line cur)
-    → IsHeld (at header (before ++ longer p row ∷ [])) (record old { draft = draft; current = current })
-with_interval_line header before p row cur i old draft current h o cur_is e is draft_is current_is =
-    let c = counts_of (at header []) in
-    let head = interval_head p.head e.same_kind in
-    let none : pair_count p.head ≡ 0 = no_pairs p.head head in
-    let d = said (at header (before ++ p ∷ [])) in
-    let said_is = interval_said (options_in header) c before p row i head is in
-    let parts = same_parts old.draft (is_sides cur.head) i in
-    let pairs = late_pairs p row (let none = none in omega arith) in
-    held_longer header before p row (less_line cur) old (record old { draft = draft; current = current }) h
-    (sound_no_pair c p row none (last_sound c before p h.sound)) e.within
-    (record {
-      draft = draft_is ∙ ap (λ x. with_interval x (is_sides cur.head) i) h.draft ∙ ap (λ x. with_interval d (is_sides x) i) o.current.head ∙ sym said_is;
-      current = current_is;
-      is_current = with_line c p cur row o.current e.within;
-      open_if = open_line c old.draft draft old.name p row cur o e.within none (ap (λ x. x.definitions) draft_is ∙ parts.0);
-      marks = λ t. absurd (let other = never_once p.head head in cc);
-      room = refl;
-      linear = h.linear ∙ sym (same_totals _ before p row pairs);
-      values = h.values ∙ sym (same_totals _ before p row pairs);
-      columns = h.columns ∙ sym (no_columns before p row head);
-      uses = λ j lt. h.uses j lt ∙ sym (ap (λ rows. use_count rows j) (ap (λ x. x.terms) draft_is ∙ parts.1));
-      users = refl;
-      places = h.places ∙ sym (places_no_pair c before p row none e.within);
-      seen = refl;
-      nodes = refl;
-      suffixes = refl;
-      few = subst (λ x. IsNodeLeft x old.nodes) cur_is h.few;
-      few_terms = h.few_terms;
-    })
-
 interval_taken : (s : Standing) (old : Body) (cur : Current) (row : Row) (i : Interval) (draft : Draft) (current : Option Current) → old.current ≡ Some cur → current_awaits cur ≡ IntervalLine
     → is_head (row_words row) ≡ false → interval_in (row_words row) ≡ Some i → draft ≡ with_interval old.draft (is_sides cur.head) i → current ≡ unless_complete (less_line cur)
     → IsHeld s old → IsHeld (after_body_row s row) (record old { draft = draft; current = current })
-interval_taken s old cur row i draft current e kind plain is draft_is current_is h =
-    let o = opened s old cur e h in
-    let new : Body = record old { draft = draft; current = current } in
-    let held = subst (λ t. IsHeld t old) o.whole h in
-    let early = early (counts_of s) o.piece cur IntervalLine o.is_open.current kind refl in
-    subst (λ t. IsHeld (after_body_row t row) new) (sym o.whole)
-    (subst (λ t. IsHeld t new) (sym (row_after s.header o.before o.piece row plain))
-    (with_interval_line s.header o.before o.piece row cur i old draft current held o.is_open e early is draft_is current_is))
+interval_taken s old cur row i draft current e kind plain is draft_is current_is =
+    line_taken s old (record old { draft = draft; current = current }) cur row IntervalLine refl e kind plain (λ before p held now early.
+    let head = interval_head p.head early.same_kind in
+    let parts = same_parts old.draft (is_sides cur.head) i in
+    with_plain_line s.header before p row cur IntervalLine old draft old.columns current held now e early (no_pairs p.head head) (never_once p.head head)
+    (draft_is ∙ ap (λ x. with_interval x (is_sides cur.head) i) held.draft ∙ ap (λ x. with_interval (said (at s.header (before ++ p ∷ []))) (is_sides x) i) now.current.head
+    ∙ sym (interval_said (options_in s.header) (counts_of s) before p row i head is))
+    (ap (λ x. x.definitions) draft_is ∙ parts.0) (ap (λ x. x.terms) draft_is ∙ parts.1)
+    (held.columns ∙ sym (columns_kept before p row (λ k. let clash : IntervalLine ≡ ColumnCount = sym early.same_kind ∙ k in cc))) current_is)
 
 -- the tests of the next interval, by what is held
 tests_held : (c : Counts) (p : Piece) (cur : Current) (words : List (List ℕ)) → IsCurrent c p cur → IsEarly c p cur IntervalLine → interval_tests c p words ≡ next_interval_tests c cur words
@@ -240,7 +190,7 @@ judged_interval s b cur words e kind plain h =
     let o = opened s b cur e h in
     judged_by s b cur words IntervalLine o plain kind ∙ ap first_reason (tests_held (counts_of s) o.piece cur words o.is_open.current (early (counts_of s) o.piece cur IntervalLine o.is_open.current kind refl))
 
-pub interval_refused : (value : Body) (cur : Current) (words : List (List ℕ)) (r : Refusal) → value.current ≡ Some cur → IsAwaiting IntervalLine value → is_head words ≡ false
+pub interval_refused : (value : Body) (cur : Current) (words : List (List ℕ)) (r : NlReason) → value.current ≡ Some cur → IsAwaiting IntervalLine value → is_head words ≡ false
     → first_reason (next_interval_tests value.draft.counts cur words) ≡ Some r → (s : Standing) → IsHeld s value → words_refusal s words ≡ Some r
 interval_refused value cur words r is a plain e s h =
     judged_interval s value cur words is (awaits_as value cur IntervalLine is a) plain h ∙ ap (λ c. first_reason (next_interval_tests c cur words)) (sym h.counts) ∙ e

@@ -221,17 +221,9 @@ all_whole P c (p ∷ ps) s w r =
     )
 
 unused : (o : List ℤ) (c : Counts) (before : List Piece) (name : List ℕ) (h : Head) → list_any (is_same_piece h name) before ≡ false → IsUnused (draft_of o c before) h
-unused o c before name (BodyHead i) e = tt
-unused o c before name (ObjectiveHead k m) e = tt
-unused o c before name (DefinitionHead i j u) e = tt
-unused o c before name (DualGuesses n) e = tt
-unused o c before name (PrimalGuesses n) e = tt
-unused o c before name Sides e = tt
-unused o c before name Bounds e = tt
-unused o c before name (ColumnCounts n) e = tt
 unused o c before name (Terms i n) e = fresh_terms o c before i n name e
 unused o c before name (Slopes k n) e = fresh_slopes o c before k n name e
-unused o c before name (Suffix a n) e = tt
+unused o c before name head e = tt
 
 abbrev Lined : (ℕ → Type 0) → List ℤ → Counts → List Piece → Type 0
 Lined P o c ps = AreLined P (draft_of o c ps) (place_lines c ps)

@@ -1,5 +1,5 @@
 -- Rows of expressions: their tests, and what is known of their nodes.
-use Rattle.std.proofs.Common.{◌≡◌, ◌∙◌, ℕ, ◌+◌, ◌<◌, ◌≤◌, ◌^◌, ◌==◌, Bool, true, false, not, ◌||◌, List, [], ◌∷◌, ◌++◌, refl, sym, ap, subst, arith, nat_lt, nat_le, Option, Some, None}
+use Rattle.std.proofs.Common.{◌≡◌, ◌∙◌, ℕ, ◌+◌, ◌<◌, ◌≤◌, ◌^◌, ◌==◌, Bool, true, false, not, ◌||◌, List, [], ◌∷◌, refl, sym, ap, subst, arith, nat_lt, nat_le, Option, Some, None}
 use Rattle.std.specs.Prelude.{if◌then◌else◌, option_map, option_and_then, unwrap_or, codes}
 use Rattle.std.proofs.lemmas.Bool.{eqb-true, le-leb, leb-true, ltb-true, ltb-false, not-false}
 use Rattle.text_base.specs.Judged.{first_reason}
@@ -17,23 +17,22 @@ use Rattle.nl_model.specs.HeaderRules.{defined_count}
 use Rattle.nl_model.specs.Nodes.{IsNode}
 use Rattle.nl_model.specs.Rules.{is_defined}
 use Rattle.nl_segments.specs.declared.fault.NlReason.TheVariants.{TooLarge, IndexOut, Undefined, BadLine, RefusedLeaf}
-use Rattle.nl_segments.specs.declared.fault.Refusal.{Refusal}
 use Rattle.nl_segments.specs.Heads.{is_among, letter_of, own_number}
 use Rattle.nl_segments.specs.Held.{IsNodeKnown}
 use Rattle.nl_segments.specs.Nodes.{counted_opcode, fixed_node, variable_node, node_in, opcode_in, leaf_text, dec_of_signed}
 use Rattle.exact_numbers.specs.Numbers.{dec_of}
-use Rattle.nl_segments.specs.Tests.{Tests, for_reason, is_node_form, is_undefined, leaf_tests, node_form_tests, number_tests, opcode_tests, variable_tests}
+use Rattle.nl_segments.specs.Tests.{is_node_form, is_undefined, leaf_tests, node_form_tests, number_tests, opcode_tests, variable_tests}
 use Rattle.nl_segments.proofs.OpcodeLemmas.{one_fits, two_fit}
 
 -- ---- the number of nodes
 
-pub too_large : (n : ℕ) → 2 ^ 22 ≤ n → first_reason ((nat_le (2 ^ 22) n, for_reason TooLarge) ∷ []) ≡ Some (for_reason TooLarge)
+pub too_large : (n : ℕ) → 2 ^ 22 ≤ n → first_reason ((nat_le (2 ^ 22) n, TooLarge) ∷ []) ≡ Some TooLarge
 too_large n le = rw (le-leb (2 ^ 22) n le) refl
 
-pub not_large : (n : ℕ) → n < 2 ^ 22 → first_reason ((nat_le (2 ^ 22) n, for_reason TooLarge) ∷ []) ≡ None
+pub not_large : (n : ℕ) → n < 2 ^ 22 → first_reason ((nat_le (2 ^ 22) n, TooLarge) ∷ []) ≡ None
 not_large n lt = by (nat_le (2 ^ 22) n) refl
   where
-    by : (b : Bool) → nat_le (2 ^ 22) n ≡ b → first_reason ((nat_le (2 ^ 22) n, for_reason TooLarge) ∷ []) ≡ None
+    by : (b : Bool) → nat_le (2 ^ 22) n ≡ b → first_reason ((nat_le (2 ^ 22) n, TooLarge) ∷ []) ≡ None
     by true e = absurd (let le = leb-true (2 ^ 22) n e in omega (arith, lt))
     by false e = rw e refl
 
@@ -67,7 +66,7 @@ variable_known c d None node e t = absurd cc
 variable_known c d (Some i) node e t =
     subst (IsNodeKnown c.n_var d.definitions) (ap (λ o. unwrap_or o node) e) (index_known c d i (by (nat_lt i (c.n_var + defined_count c)) (is_undefined c d i) refl t))
   where
-    by : (b u : Bool) → is_undefined c d i ≡ u → (if not b then Some (for_reason IndexOut) else (if u then Some (for_reason Undefined) else None)) ≡ None → is_undefined c d i ≡ false
+    by : (b u : Bool) → is_undefined c d i ≡ u → (if not b then Some IndexOut else (if u then Some Undefined else None)) ≡ None → is_undefined c d i ≡ false
     by b false e t = e
     by true true e t = absurd cc
     by false true e t = absurd cc
@@ -98,8 +97,8 @@ pub node_known : (c : Counts) (d : Draft) (words : List (List ℕ)) (node : Node
 unfolding node_form_tests
 node_known c d words node e t =
     leaf_known c d words node e
-    (none_head (not (is_node_form words)) (for_reason BadLine) (leaf_tests c d words)
-    (none_head (is_among (codes "fh") (letter_of words)) (for_reason RefusedLeaf) ((not (is_node_form words), for_reason BadLine) ∷ leaf_tests c d words) t).1).1
+    (none_head (not (is_node_form words)) BadLine (leaf_tests c d words)
+    (none_head (is_among (codes "fh") (letter_of words)) RefusedLeaf ((not (is_node_form words), BadLine) ∷ leaf_tests c d words) t).1).1
 
 -- ---- rows are nodes
 

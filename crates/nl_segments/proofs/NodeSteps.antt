@@ -1,35 +1,34 @@
 -- What a row of an expression does to what is held. In each lemma p is the last piece, after the pieces `before`.
+use Rattle.nl_segments.proofs.PairHeld.{columns_kept, never, same_totals, sound_kept}
 use Rattle.std.proofs.Common.{◌≡◌, ◌∙◌, ℕ, ◌+◌, ◌<◌, ◌≤◌, ◌^◌, Bool, true, false, List, [], ◌∷◌, ◌++◌, length, refl, sym, ap, subst, arith, nat_lt, Option, Some, None, get_or, All}
 use Rattle.std.specs.Prelude.{ℤ, if◌then◌else◌, IfSome, IsTrue}
-use Rattle.std.specs.List.{flat_map}
 use Rattle.std.proofs.lemmas.Bool.{ltb-false}
-use Rattle.std.proofs.lemmas.Grind.{flat_map-append}
-use Rattle.std.proofs.lemmas.List.Concat.{flat_map-cons}
-use Rattle.std.proofs.lemmas.List.{length-append, take-append-le}
+use Rattle.std.proofs.lemmas.List.{length-append}
 use Rattle.nl_header.specs.Head.{options_in, counts_in}
 use Rattle.nl_meaning.specs.Trees.{Tree}
 use Rattle.nl_model.specs.declared.counts.Counts.{Counts}
 use Rattle.nl_model.specs.Draft.{Draft}
 use Rattle.nl_model.specs.File.{Term}
 use Rattle.nl_model.specs.Nodes.{tree_of}
-use Rattle.nl_model.specs.Rules.{AreTermsBelow, AreIndicesApart, most_terms}
+use Rattle.nl_model.specs.Rules.{most_terms}
 use Rattle.nl_segments.specs.declared.awaited.Awaited.{Awaited}
 use Rattle.nl_segments.specs.declared.awaited.Awaited.TheVariants.{Nothing, Pair, ColumnCount, Interval as IntervalLine, Node as NodeLine, OperandCount}
 use Rattle.nl_segments.specs.declared.head.Head.{Head}
-use Rattle.nl_segments.specs.declared.head.Head.TheVariants.{Body as BodyHead, Objective, Definition, DualGuesses, PrimalGuesses, Sides, Bounds, ColumnCounts, Terms, Slopes, Suffix}
+use Rattle.nl_segments.specs.declared.head.Head.TheVariants.{Body as BodyHead, Objective, Definition, ColumnCounts, Suffix}
 use Rattle.nl_segments.specs.Rows.{Row}
 use Rattle.nl_segments.specs.Nodes.{Placed, nodes_from}
 use Rattle.nl_segments.specs.Pieces.{Piece, line_kind, line_count, pair_count, has_tree, is_nothing, is_complete, piece_nodes, piece_pending, piece_pairs}
-use Rattle.nl_segments.specs.Tests.{all_column_counts, column_counts, has_index, index_limit, is_linear, is_suffix, pair_total}
+use Rattle.nl_segments.specs.Tests.{has_index, index_limit, is_linear, is_suffix}
 use Rattle.nl_segments.specs.Saying.{PlaceLines, lines_by, place_lines, piece_tree, draft_of}
 use Rattle.nl_segments.specs.Current.{Current, IsCurrent, current_awaits, nodes_await}
 use Rattle.nl_segments.specs.TreeSteps.{IsSettled, with_tree}
-use Rattle.nl_segments.specs.Held.{Body, AreSeen, IsHeld, IsLast, IsMarked, IsNodeKnown, IsNodeLeft, IsOpen, IsSoundPiece, keeps_pairs, use_count}
+use Rattle.nl_model.specs.UseCounts.{use_count}
+use Rattle.nl_segments.specs.Held.{Body, AreSeen, IsHeld, IsLast, IsMarked, IsNodeKnown, IsNodeLeft, IsOpen, keeps_pairs}
 use Rattle.nl_segments.proofs.CurrentLemmas.{awaits, late_tree, late_pairs, last_nodes, nodes-more, tree_count}
 use Rattle.nl_segments.proofs.DraftLemmas.{draft_counts, says_whole, draft_before, with_body, with_objective, with_definition}
 use Rattle.nl_segments.proofs.PieceLemmas.{longer, last-append, lines-append}
 use Rattle.nl_segments.proofs.TotalLemmas.{nodes-append}
-use Rattle.nl_segments.proofs.PairLines.{at, last_sound, sound_longer, are_seen_longer, suffixes_longer, pairs_longer}
+use Rattle.nl_segments.proofs.PairLines.{at, last_sound, sound_longer, are_seen_longer, suffixes_longer}
 
 -- ---- where a row of an expression is awaited
 
@@ -43,28 +42,16 @@ in_tree OperandCount = true
 
 pub lines_before : (h : Head) → in_tree (line_kind h) ≡ false
 lines_before (BodyHead i) = refl
-lines_before (Objective k m) = refl
-lines_before (Definition i j u) = refl
-lines_before (DualGuesses n) = refl
-lines_before (PrimalGuesses n) = refl
-lines_before Sides = refl
-lines_before Bounds = refl
-lines_before (ColumnCounts n) = refl
-lines_before (Terms i n) = refl
-lines_before (Slopes k n) = refl
-lines_before (Suffix k n) = refl
-
-pub no : true ≡ false → ⊥
-no e = cc
+lines_before head = refl
 
 pub beyond : (cur : Current) → in_tree (current_awaits cur) ≡ true → (cur.left ≡ 0) × (has_tree cur.head ≡ true)
 beyond cur e = by (nat_lt 0 cur.left) (has_tree cur.head) refl refl e
   where
     by : (t u : Bool) → nat_lt 0 cur.left ≡ t → has_tree cur.head ≡ u → in_tree (if t then line_kind cur.head else (if u then nodes_await cur.nodes cur.pending else Nothing)) ≡ true
         → (cur.left ≡ 0) × (has_tree cur.head ≡ true)
-    by true u q r e = absurd (no (sym e ∙ lines_before cur.head))
+    by true u q r e = absurd (never (sym e ∙ lines_before cur.head))
     by false true q r e = ((let le = ltb-false 0 cur.left q in omega arith), r)
-    by false false q r e = absurd (no (sym e))
+    by false false q r e = absurd (never (sym e))
 
 -- the lines before the expression of p are there
 pub record IsInTree (c : Counts) (p : Piece) : Type 0 where
@@ -86,44 +73,9 @@ tree_nodes c p row t = ap (λ rs. nodes_from c.n_var None rs) (late_tree p row t
 
 -- ---- the pieces
 
-pub sound_row : (c : Counts) (p : Piece) (row : Row) → IsInTree c p → IsSoundPiece c p → IsSoundPiece c (longer p row)
-sound_row c p row t h =
-    let same = late_pairs p row t.early in
-    record {
-      range = h.range;
-      below = subst (λ ts. AreTermsBelow (index_limit c p.head) ts) (sym same) h.below;
-      once = λ x. subst (λ ts. AreIndicesApart ts) (sym same) (h.once x);
-      pairs = ap (length {A = Term}) same ∙ h.pairs ∙ sym (ap (length {A = Row}) (take-append-le (pair_count p.head) p.rows (row ∷ []) t.early));
-    }
-
-no_columns : (p : Piece) (h : Head) → has_tree h ≡ true → column_counts p h ≡ []
-no_columns p (BodyHead i) e = refl
-no_columns p (Objective k m) e = refl
-no_columns p (Definition i j u) e = refl
-no_columns p (DualGuesses n) e = refl
-no_columns p (PrimalGuesses n) e = refl
-no_columns p Sides e = refl
-no_columns p Bounds e = refl
-no_columns p (ColumnCounts n) e = absurd cc
-no_columns p (Terms i n) e = refl
-no_columns p (Slopes k n) e = refl
-no_columns p (Suffix k n) e = refl
-
-columns_longer : (before : List Piece) (p : Piece) (row : Row) → has_tree p.head ≡ true → all_column_counts (before ++ longer p row ∷ []) ≡ all_column_counts (before ++ p ∷ [])
-columns_longer before p row tree =
-    let f : Piece → List ℕ = λ p. column_counts p p.head in
-    flat_map-append f before (longer p row ∷ [])
-    ∙ ap (λ xs. flat_map f before ++ xs)
-    (flat_map-cons f (longer p row) [] ∙ ap (λ xs. xs ++ flat_map f []) (no_columns (longer p row) p.head tree ∙ sym (no_columns p p.head tree)) ∙ sym (flat_map-cons f p []))
-    ∙ sym (flat_map-append f before (p ∷ []))
-
-if_zero : (t : Bool) (a : ℕ) → (if t then a + 0 else a) ≡ a
-if_zero true a = omega arith
-if_zero false a = refl
-
-pairs_same : (counts : Head → Bool) (c : Counts) (before : List Piece) (p : Piece) (row : Row) → IsInTree c p → pair_total counts (before ++ longer p row ∷ []) ≡ pair_total counts (before ++ p ∷ [])
-pairs_same counts c before p row t =
-    pairs_longer counts before p row 0 (ap (length {A = Term}) (late_pairs p row t.early) ∙ omega arith) ∙ if_zero (counts p.head) (pair_total counts (before ++ p ∷ []))
+no_columns : (h : Head) → has_tree h ≡ true → line_kind h ≡ ColumnCount → ⊥
+no_columns (ColumnCounts n) e k = cc
+no_columns head e k = cc
 
 -- ---- the draft
 
@@ -131,14 +83,8 @@ pub tree_says : (h : Head) → has_tree h ≡ true → says_whole h ≡ true
 tree_says (BodyHead i) e = refl
 tree_says (Objective k m) e = refl
 tree_says (Definition i j u) e = refl
-tree_says (DualGuesses n) e = absurd cc
-tree_says (PrimalGuesses n) e = absurd cc
-tree_says Sides e = absurd cc
-tree_says Bounds e = absurd cc
-tree_says (ColumnCounts n) e = absurd cc
-tree_says (Terms i n) e = absurd cc
-tree_says (Slopes k n) e = absurd cc
 tree_says (Suffix k n) e = refl
+tree_says head e = absurd cc
 
 with_whole : (o : List ℤ) (c : Counts) (before : List Piece) (q : Piece) → has_tree q.head ≡ true → is_complete c q ≡ true
     → draft_of o c (before ++ q ∷ []) ≡ with_tree (draft_of o c before) q.head (piece_pairs q) (piece_tree c q)
@@ -151,40 +97,15 @@ with_whole o c before q tree whole = by q.head refl
     by (BodyHead i) e = with_body o c before q i e whole ∙ back (BodyHead i) e
     by (Objective k m) e = with_objective o c before q k m e whole ∙ back (Objective k m) e
     by (Definition i j u) e = with_definition o c before q i j u e whole ∙ back (Definition i j u) e
-    by (DualGuesses n) e = absurd (no (sym tree ∙ ap has_tree e))
-    by (PrimalGuesses n) e = absurd (no (sym tree ∙ ap has_tree e))
-    by Sides e = absurd (no (sym tree ∙ ap has_tree e))
-    by Bounds e = absurd (no (sym tree ∙ ap has_tree e))
-    by (ColumnCounts n) e = absurd (no (sym tree ∙ ap has_tree e))
-    by (Terms i n) e = absurd (no (sym tree ∙ ap has_tree e))
-    by (Slopes k n) e = absurd (no (sym tree ∙ ap has_tree e))
-    by (Suffix k n) e = absurd (no (sym tree ∙ ap has_tree e))
+    by head e = absurd (never (sym tree ∙ ap has_tree e))
 
 tree_pairs : (d : Draft) (h : Head) (ps qs : List Term) (t : Tree) → (IsTrue (keeps_pairs h) → ps ≡ qs) → with_tree d h ps t ≡ with_tree d h qs t
-tree_pairs d (BodyHead i) ps qs t e = refl
-tree_pairs d (Objective k m) ps qs t e = refl
 tree_pairs d (Definition i j u) ps qs t e = ap (λ ts. with_tree d (Definition i j u) ts t) (e refl)
-tree_pairs d (DualGuesses n) ps qs t e = refl
-tree_pairs d (PrimalGuesses n) ps qs t e = refl
-tree_pairs d Sides ps qs t e = refl
-tree_pairs d Bounds ps qs t e = refl
-tree_pairs d (ColumnCounts n) ps qs t e = refl
-tree_pairs d (Terms i n) ps qs t e = refl
-tree_pairs d (Slopes k n) ps qs t e = refl
-tree_pairs d (Suffix k n) ps qs t e = refl
+tree_pairs d head ps qs t e = refl
 
 tree_terms : (d : Draft) (h : Head) (ps : List Term) (t : Tree) → (with_tree d h ps t).terms ≡ d.terms
 tree_terms d (BodyHead i) ps t = refl
-tree_terms d (Objective k m) ps t = refl
-tree_terms d (Definition i j u) ps t = refl
-tree_terms d (DualGuesses n) ps t = refl
-tree_terms d (PrimalGuesses n) ps t = refl
-tree_terms d Sides ps t = refl
-tree_terms d Bounds ps t = refl
-tree_terms d (ColumnCounts n) ps t = refl
-tree_terms d (Terms i n) ps t = refl
-tree_terms d (Slopes k n) ps t = refl
-tree_terms d (Suffix k n) ps t = refl
+tree_terms d head ps t = refl
 
 settled_terms : (d : Draft) (next : Current) (kept : Option Current) (new : Draft) → IsSettled d next kept new → new.terms ≡ d.terms
 settled_terms d next None new s = ap (λ x. x.terms) s.1 ∙ tree_terms d next.head next.pairs (tree_of next.nodes)
@@ -259,7 +180,7 @@ row_held header before p row old new cur next more lines h begun m st place =
     let terms = settled_terms old.draft next new.current new.draft st.settled in
     record {
       body = h.body;
-      sound = sound_longer c before p row h.sound (sound_row c p row m.place (last_sound c before p h.sound));
+      sound = sound_longer c before p row h.sound (sound_kept c p row m.place.early (last_sound c before p h.sound));
       draft = said_so;
       counts = ap (λ d. d.counts) said_so ∙ draft_counts o c (before ++ q ∷ []);
       last = subst (λ l. IsLast c new.draft new.name l new.current) (sym (last-append before q)) (last_next c p row old new cur next more new.current begun m st.name st.settled);
@@ -268,10 +189,10 @@ row_held header before p row old new cur next more lines h begun m st place =
       room = λ head r. subst (λ (ms : List Bool). index_limit c head ≤ length ms) (sym st.marks) (h.room head r);
       seen = subst (λ x. AreSeen c x (before ++ q ∷ [])) (sym st.seen) (are_seen_longer c old before p row h.seen);
       nodes = omega (arith, st.nodes, h.nodes, nodes-append c before p, nodes-append c before q, ap (length {A = Placed}) m.nodes ∙ length-append (piece_nodes c p) more);
-      linear = st.linear ∙ h.linear ∙ sym (pairs_same is_linear c before p row m.place);
-      values = st.values ∙ h.values ∙ sym (pairs_same is_suffix c before p row m.place);
+      linear = st.linear ∙ h.linear ∙ sym (same_totals is_linear before p row (late_pairs p row m.place.early));
+      values = st.values ∙ h.values ∙ sym (same_totals is_suffix before p row (late_pairs p row m.place.early));
       suffixes = st.suffixes ∙ h.suffixes ∙ sym (suffixes_longer before p row);
-      columns = st.columns ∙ h.columns ∙ sym (columns_longer before p row m.place.tree);
+      columns = st.columns ∙ h.columns ∙ sym (columns_kept before p row (no_columns p.head m.place.tree));
       uses = λ j lt. ap (λ us. get_or us j 0) st.uses ∙ h.uses j lt ∙ ap (λ ts. use_count ts j) (sym terms);
       users = ap (length {A = ℕ}) st.uses ∙ h.users;
       places = st.places ∙ place ∙ sym (lines-append c before q);

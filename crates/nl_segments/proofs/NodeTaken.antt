@@ -1,8 +1,8 @@
 -- Taking a row of an expression: what is wrong with it, and what is held after it.
-use Rattle.std.proofs.Common.{◌≡◌, ◌∙◌, ℕ, ◌+◌, ◌<◌, ◌≤◌, ◌^◌, Bool, true, false, List, [], ◌∷◌, ◌++◌, length, map, refl, sym, ap, subst, arith, nat_le, Option, Some, None, All}
-use Rattle.std.specs.Prelude.{IfSome, option_map, unwrap_or}
-use Rattle.std.specs.List.{cons_option}
-use Rattle.std.proofs.lemmas.Bool.{ltb-true}
+use Rattle.nl_segments.proofs.PairHeld.{never}
+use Rattle.std.proofs.Common.{◌≡◌, ◌∙◌, ℕ, ◌+◌, ◌<◌, ◌≤◌, ◌^◌, ◌==◌, Bool, true, false, List, [], ◌∷◌, ◌++◌, length, map, refl, sym, ap, subst, arith, nat_le, Option, Some, None, All}
+use Rattle.std.specs.Prelude.{IfSome, if◌then◌else◌}
+use Rattle.std.proofs.lemmas.Bool.Decides.{nat_tests}
 use Rattle.std.proofs.lemmas.List.{append-nil, length-map, length_push, map-append, take-append-le}
 use Rattle.std.proofs.lemmas.List.Elements.{All-push}
 use Rattle.text_base.specs.Judged.{first_reason}
@@ -14,34 +14,37 @@ use Rattle.nl_model.specs.declared.node.Node.TheVariants.{Op}
 use Rattle.nl_segments.specs.declared.awaited.Awaited.{Awaited}
 use Rattle.nl_segments.specs.declared.awaited.Awaited.TheVariants.{Nothing, Pair, ColumnCount, Interval as IntervalLine, Node as NodeLine, OperandCount}
 use Rattle.nl_segments.specs.declared.head.Head.{Head}
-use Rattle.nl_segments.specs.declared.head.Head.TheVariants.{Body as BodyHead, Objective, Definition, DualGuesses, PrimalGuesses, Sides, Bounds, ColumnCounts, Terms, Slopes, Suffix}
+use Rattle.nl_segments.specs.declared.head.Head.TheVariants.{Definition}
 use Rattle.nl_segments.specs.declared.node_row.NodeRow.{NodeRow}
 use Rattle.nl_segments.specs.declared.node_row.NodeRow.TheVariants.{Whole, Counted}
-use Rattle.nl_segments.specs.Rows.{Row, row_words}
+use Rattle.nl_segments.specs.Rows.{Row}
 use Rattle.text_base.specs.Words.{word_at}
 use Rattle.nl_segments.specs.Heads.{is_head, is_in_range}
 use Rattle.exact_numbers.specs.Numbers.{whole_of}
 use Rattle.nl_segments.specs.Nodes.{Placed, Pending, only_lines, node_in, opcode_in}
-use Rattle.nl_segments.specs.NodeRows.{IsRow}
-use Rattle.nl_segments.specs.Pieces.{Piece, has_tree, pair_count, piece_nodes, piece_pending}
-use Rattle.nl_segments.specs.Tests.{for_reason, node_form_tests, node_tests, operand_tests}
+use Rattle.nl_segments.specs.NodeRows.{IsFormedRow, IsRow}
+use Rattle.nl_segments.specs.Pieces.{Piece, has_tree, pair_count, piece_nodes}
+use Rattle.nl_segments.specs.Tests.{SaysOperandCount, node_form_tests, node_tests, operand_tests}
 use Rattle.nl_segments.specs.Saying.{PlaceLines, term_lines, lines_by, place_lines}
 use Rattle.nl_segments.specs.Grammar.{Standing, counts_of, said}
 use Rattle.nl_segments.specs.Steps.{after_body_row}
-use Rattle.nl_segments.specs.Current.{Current, current_awaits, with_node_row, with_operand_count}
+use Rattle.nl_segments.specs.Current.{Current, IsPending, current_awaits, with_node_row}
 use Rattle.nl_segments.specs.PlaceSteps.{HasOwner, HasBegun, with_node_line}
-use Rattle.nl_segments.specs.TreeSteps.{IsFresh, IsSettled, row_count, with_row_line, counted_node_tests}
-use Rattle.nl_segments.specs.Held.{Body, IsHeld, IsNodeKnown, IsNodeLeft, IsRowOf, words_refusal}
-use Rattle.nl_segments.proofs.CurrentLemmas.{last_nodes, with_node, with_count}
+use Rattle.nl_segments.specs.TreeSteps.{CanTakeRow, IsNextRow, IsSettled, row_count, with_row_line, counted_node_tests}
+use Rattle.nl_segments.specs.Held.{Body, HoldsSome, IsAwaiting, IsHeld, IsNodeKnown, IsNodeLeft, IsRowOf, words_refusal}
+use Rattle.nl_segments.proofs.CurrentLemmas.{IsRowStep, count_step, last_nodes, node_step, row_fields, row_placed, with_row}
 use Rattle.nl_segments.proofs.PieceLemmas.{longer, lines-append}
 use Rattle.nl_segments.proofs.PlaceLemmas.{owner_there, place_node, place_same}
 use Rattle.nl_segments.proofs.TotalLemmas.{nodes-append}
-use Rattle.nl_segments.proofs.PairLines.{at, opened, judged_by, row_after, last_sound}
+use Rattle.nl_segments.proofs.PairLines.{at, awaits_as, opened, judged_by, row_after, last_sound}
 use Rattle.nl_segments.proofs.TreeFresh.{fresh_tree}
 use Rattle.nl_segments.specs.declared.fault.NlReason.TheVariants.{TooLarge}
 use Rattle.nl_model.specs.Draft.{Draft}
 use Rattle.nl_segments.proofs.NodeLemmas.{node_known}
-use Rattle.nl_segments.proofs.NodeSteps.{no, in_tree, beyond, IsInTree, in_tree_of, tree_nodes, IsRowMore, IsTreeStep, row_held}
+use Rattle.nl_segments.proofs.OpcodeLemmas.{counted_fit}
+use Rattle.nl_model.specs.File.{Definition as DefinitionValue}
+use Rattle.nl_model.specs.Nodes.{awaited}
+use Rattle.nl_segments.proofs.NodeSteps.{in_tree, beyond, IsInTree, in_tree_of, tree_nodes, IsRowMore, IsTreeStep, row_held}
 
 -- ---- the last piece
 
@@ -64,7 +67,7 @@ pending_none cur e = by cur.pending refl
     by None q = q
     by (Some x) q =
         let facts = beyond cur (ap in_tree e) in
-        absurd (no (sym (ap counts_operands (pending_awaits cur x facts.0 facts.1 q)) ∙ ap counts_operands e))
+        absurd (never (sym (ap counts_operands (pending_awaits cur x facts.0 facts.1 q)) ∙ ap counts_operands e))
 
 pub nodes_few : (s : Standing) (b : Body) (cur : Current) → IsHeld s b → b.current ≡ Some cur → length cur.nodes ≤ b.nodes
 nodes_few s b cur h e =
@@ -83,17 +86,8 @@ positive_push : {X : Type 0} (xs : List X) (x : X) → 0 < length (xs ++ x ∷ [
 positive_push xs x = omega (arith, length_push xs x)
 
 begun_by : (c : Counts) (l : PlaceLines) (p : Piece) (h : Head) → HasBegun (lines_by c l p h) h
-begun_by c l p (BodyHead i) = tt
-begun_by c l p (Objective k m) = tt
 begun_by c l p (Definition i j u) = positive_push l.definitions _
-begun_by c l p (DualGuesses n) = tt
-begun_by c l p (PrimalGuesses n) = tt
-begun_by c l p Sides = tt
-begun_by c l p Bounds = tt
-begun_by c l p (ColumnCounts n) = tt
-begun_by c l p (Terms i n) = tt
-begun_by c l p (Slopes k n) = tt
-begun_by c l p (Suffix k n) = tt
+begun_by c l p head = tt
 
 pub has_owner : (s : Standing) (b : Body) (cur : Current) (h : Head) → IsHeld s b → b.current ≡ Some cur → h ≡ cur.head → HasOwner b.places h
 has_owner s b cur h held e same =
@@ -114,93 +108,23 @@ has_begun s b cur h held e same =
 same_terms : (c : Counts) (p : Piece) (row : Row) → IsInTree c p → term_lines (longer p row) ≡ term_lines p
 same_terms c p row t = ap (map (λ r. r.line)) (take-append-le (pair_count p.head) p.rows (row ∷ []) t.early)
 
-lines_one : (header : List (List (List ℕ))) (before : List Piece) (p : Piece) (row : Row) (b : Body) (cur : Current) (x : Placed) → IsHeld (at header (before ++ p ∷ [])) b → cur.head ≡ p.head → IsInTree (counts_in header) p
-    → piece_nodes (counts_in header) (longer p row) ≡ piece_nodes (counts_in header) p ++ x ∷ []
-    → with_node_line b.places x.line cur.head ≡ lines_by (counts_in header) (place_lines (counts_in header) before) (longer p row) p.head
-lines_one header before p row b cur x h head t nodes =
+row_lines : (header : List (List (List ℕ))) (before : List Piece) (p : Piece) (row : Row) (b : Body) (cur : Current) (r : NodeRow) (line : ℕ) → IsHeld (at header (before ++ p ∷ [])) b → cur.head ≡ p.head → IsInTree (counts_in header) p
+    → piece_nodes (counts_in header) (longer p row) ≡ piece_nodes (counts_in header) p ++ row_placed line r
+    → with_row_line b.places line cur.head r ≡ lines_by (counts_in header) (place_lines (counts_in header) before) (longer p row) p.head
+row_lines header before p row b cur (Whole n) line h head t nodes =
     let c = counts_in header in
     let l = place_lines c before in
-    ap (λ l. with_node_line l x.line cur.head) (h.places ∙ lines-append c before p)
-    ∙ ap (with_node_line (lines_by c l p p.head) x.line) head
-    ∙ sym (place_node c l p row x.line p.head (owner_there c before p.head (last_sound c before p h.sound).range) t.tree
+    let x : Placed = record { node = n; line = line } in
+    ap (λ l. with_node_line l line cur.head) (h.places ∙ lines-append c before p)
+    ∙ ap (with_node_line (lines_by c l p p.head) line) head
+    ∙ sym (place_node c l p row line p.head (owner_there c before p.head (last_sound c before p h.sound).range) t.tree
     (ap only_lines nodes ∙ map-append (λ (n : Placed). n.line) (piece_nodes c p) (x ∷ [])) (same_terms c p row t))
-
-lines_none : (header : List (List (List ℕ))) (before : List Piece) (p : Piece) (row : Row) (b : Body) → IsHeld (at header (before ++ p ∷ [])) b → IsInTree (counts_in header) p
-    → piece_nodes (counts_in header) (longer p row) ≡ piece_nodes (counts_in header) p ++ [] → b.places ≡ lines_by (counts_in header) (place_lines (counts_in header) before) (longer p row) p.head
-lines_none header before p row b h t nodes =
+row_lines header before p row b cur (Counted o) line h head t nodes =
     let c = counts_in header in
     h.places ∙ lines-append c before p ∙ sym (place_same c (place_lines c before) p row p.head (ap only_lines (nodes ∙ append-nil (piece_nodes c p))) (same_terms c p row t))
 
--- ---- a row of a node
+-- ---- what is wrong with a row
 
-abbrev row_placed : ℕ → NodeRow → List Placed
-row_placed line (Whole n) = record { node = n; line = line } ∷ []
-row_placed line (Counted o) = []
-
-count_is : (line : ℕ) (r : NodeRow) → row_count r ≡ length (row_placed line r)
-count_is line (Whole n) = refl
-count_is line (Counted o) = refl
-
-pub row_head : (cur : Current) (line : ℕ) (r : NodeRow) → (with_node_row cur line r).head ≡ cur.head
-row_head cur line (Whole n) = refl
-row_head cur line (Counted o) = refl
-
-pub row_pairs : (cur : Current) (line : ℕ) (r : NodeRow) → (with_node_row cur line r).pairs ≡ cur.pairs
-row_pairs cur line (Whole n) = refl
-row_pairs cur line (Counted o) = refl
-
-last_is : (n : ℕ) (pending : Option Pending) (row : Row) (r : NodeRow) → pending ≡ None → IsRow (node_in n (row_words row)) (opcode_in (row_words row)) r → last_nodes n pending row ≡ row_placed row.line r
-last_is n pending row (Whole m) none is = ap (λ o. last_nodes n o row) none ∙ ap (λ o. cons_option (option_map (λ (m : Node). record { node = m; line = row.line }) o) []) is.0
-last_is n pending row (Counted o) none is = ap (λ o. last_nodes n o row) none ∙ ap (λ o. cons_option (option_map (λ (m : Node). record { node = m; line = row.line }) o) []) is.0
-
-known_with : (b : Body) (cur : Current) (r : NodeRow) (words : List (List ℕ)) (line : ℕ) → All (IsNodeKnown b.draft.counts.n_var b.draft.definitions) cur.nodes → IsRow (node_in b.draft.counts.n_var words) (opcode_in words) r
-    → first_reason (node_form_tests b.draft.counts b.draft words) ≡ None → All (IsNodeKnown b.draft.counts.n_var b.draft.definitions) (with_node_row cur line r).nodes
-known_with b cur (Whole n) words line known is fine = All-push (IsNodeKnown b.draft.counts.n_var b.draft.definitions) cur.nodes n known (node_known b.draft.counts b.draft words n is.0 fine)
-known_with b cur (Counted o) words line known is fine = known
-
-pub row_known : (s : Standing) (b : Body) (cur : Current) (r : NodeRow) (words : List (List ℕ)) (line : ℕ) → IsHeld s b → b.current ≡ Some cur → IsRow (node_in b.draft.counts.n_var words) (opcode_in words) r
-    → first_reason (node_form_tests b.draft.counts b.draft words) ≡ None → All (IsNodeKnown b.draft.counts.n_var b.draft.definitions) (with_node_row cur line r).nodes
-row_known s b cur r words line h e is fine =
-    let o = opened s b cur e h in
-    known_with b cur r words line (subst (λ (c : Counts). All (IsNodeKnown c.n_var b.draft.definitions) cur.nodes) (sym h.counts) o.is_open.known) is fine
-
-room_after : (cur : Current) (line nodes : ℕ) (r : NodeRow) → cur.pending ≡ None → nodes < 2 ^ 22 → IfSome (with_node_row cur line r).pending (λ q. nodes + length (row_placed line r) < 2 ^ 22)
-room_after cur line nodes (Whole n) none few = subst (λ (o : Option Pending). IfSome o (λ q. nodes + 1 < 2 ^ 22)) (sym none) tt
-room_after cur line nodes (Counted o) none few = omega (arith, few)
-
-row_lines : (header : List (List (List ℕ))) (before : List Piece) (p : Piece) (row : Row) (b : Body) (cur : Current) (r : NodeRow) → IsHeld (at header (before ++ p ∷ [])) b → cur.head ≡ p.head → IsInTree (counts_in header) p
-    → piece_nodes (counts_in header) (longer p row) ≡ piece_nodes (counts_in header) p ++ row_placed row.line r
-    → with_row_line b.places row.line cur.head r ≡ lines_by (counts_in header) (place_lines (counts_in header) before) (longer p row) p.head
-row_lines header before p row b cur (Whole n) h head t nodes = lines_one header before p row b cur (record { node = n; line = row.line }) h head t nodes
-row_lines header before p row b cur (Counted o) h head t nodes = lines_none header before p row b h t nodes
-
-pub row_taken : (s : Standing) (row : Row) (old new : Body) (cur : Current) (r : NodeRow) → IsHeld s old → old.current ≡ Some cur → current_awaits cur ≡ NodeLine → is_head (row_words row) ≡ false
-    → IsRow (node_in old.draft.counts.n_var (row_words row)) (opcode_in (row_words row)) r → first_reason (node_form_tests old.draft.counts old.draft (row_words row)) ≡ None → old.nodes < 2 ^ 22
-    → IsTreeStep old (with_node_row cur row.line r) (row_count r) (with_row_line old.places row.line cur.head r) new → IsHeld (after_body_row s row) new
-row_taken s row old new cur r h here kind other is fine few st =
-    let c = counts_of s in
-    let o = opened s old cur here h in
-    let p = o.piece in
-    let held = subst (λ x. IsHeld x old) o.whole h in
-    let place = in_tree_of c p cur o.is_open.current (ap in_tree kind) in
-    let none = pending_none cur kind in
-    let empty : piece_pending p ≡ None = sym o.is_open.current.pending ∙ none in
-    let read = subst (λ (x : Counts). IsRow (node_in x.n_var (row_words row)) (opcode_in (row_words row)) r) h.counts is in
-    let nodes = tree_nodes c p row place ∙ ap (λ ms. piece_nodes c p ++ ms) (last_is c.n_var (piece_pending p) row r empty read) in
-    let more : IsRowMore c p row old cur (with_node_row cur row.line r) (row_placed row.line r) = record {
-      place = place;
-      is_next = with_node c p cur row r o.is_open.current place.tree place.late empty read;
-      pairs = row_pairs cur row.line r;
-      known = subst (λ (x : Counts). All (IsNodeKnown x.n_var old.draft.definitions) (with_node_row cur row.line r).nodes) h.counts (row_known s old cur r (row_words row) row.line h here is fine);
-      nodes = nodes;
-      left = room_after cur row.line old.nodes r none few;
-    } in
-    let step = subst (λ n. IsTreeStep old (with_node_row cur row.line r) n (with_row_line old.places row.line cur.head r) new) (count_is row.line r) st in
-    let core = row_held s.header o.before p row old new cur (with_node_row cur row.line r) (row_placed row.line r) (with_row_line old.places row.line cur.head r) held o.is_open more step
-    (row_lines s.header o.before p row old cur r held o.is_open.current.head place nodes) in
-    subst (λ x. IsHeld (after_body_row x row) new) (sym o.whole) (subst (λ x. IsHeld x new) (sym (row_after s.header o.before p row other)) core)
-
--- what is wrong with the row
 pub node_judged : (s : Standing) (b : Body) (cur : Current) (words : List (List ℕ)) → IsHeld s b → b.current ≡ Some cur → current_awaits cur ≡ NodeLine → is_head words ≡ false
     → words_refusal s words ≡ first_reason (counted_node_tests b.draft.counts b.draft b.nodes words)
 unfolding node_tests
@@ -210,126 +134,156 @@ node_judged s b cur words h here kind other =
     ∙ ap (λ d. first_reason (counted_node_tests (counts_of s) d b.nodes words)) h.draft
     ∙ ap (λ n. first_reason (counted_node_tests (counts_of s) (said s) n words)) h.nodes)
 
--- ---- all of a row
-
--- a row of a node was read where it is awaited
-pub record IsRead (b : Body) (words : List (List ℕ)) (cur : Current) (r : NodeRow) : Type 0 where
-  pub here : b.current ≡ Some cur
-  pub kind : current_awaits cur ≡ NodeLine
-  pub other : is_head words ≡ false
-  pub row : IsRow (node_in b.draft.counts.n_var words) (opcode_in words) r
-  pub few : b.nodes < 2 ^ 22
-  pub fine : first_reason (counted_node_tests b.draft.counts b.draft b.nodes words) ≡ None
-
-form_fine : (b : Body) (words : List (List ℕ)) (cur : Current) (r : NodeRow) → IsRead b words cur r → first_reason (node_form_tests b.draft.counts b.draft words) ≡ None
-form_fine b words cur r h = none_first (node_form_tests b.draft.counts b.draft words) ((nat_le (2 ^ 22) b.nodes, for_reason TooLarge) ∷ []) h.fine
-
-pub next_known : (s : Standing) (b : Body) (words : List (List ℕ)) (line : ℕ) (cur next : Current) (r : NodeRow) → IsHeld s b → IsRead b words cur r → next ≡ with_node_row cur line r
-    → All (IsNodeKnown b.draft.counts.n_var b.draft.definitions) next.nodes
-next_known s b words line cur next r h read e =
-    subst (λ (k : Current). All (IsNodeKnown b.draft.counts.n_var b.draft.definitions) k.nodes) (sym e) (row_known s b cur r words line h read.here read.row (form_fine b words cur r read))
-
-pub next_fresh : (s : Standing) (b : Body) (words : List (List ℕ)) (line : ℕ) (cur next : Current) (r : NodeRow) → IsHeld s b → IsRead b words cur r → next ≡ with_node_row cur line r → IsFresh b.draft next.head next.pairs
-next_fresh s b words line cur next r h read e =
-    fresh_tree s b cur next h read.here (beyond cur (ap in_tree read.kind)).1 (ap (λ (k : Current). k.head) e ∙ row_head cur line r) (ap (λ (k : Current). k.pairs) e ∙ row_pairs cur line r)
-
-pub node_taken : (b : Body) (words : List (List ℕ)) (line : ℕ) (cur next : Current) (r : NodeRow) (head : Head) (count : ℕ) (draft : Draft) (kept : Option Current) (places : PlaceLines)
-    → IsRead b words cur r → next ≡ with_node_row cur line r → head ≡ cur.head → count ≡ row_count r → places ≡ with_row_line b.places line head r → IsSettled b.draft next kept draft
-    → (s : Standing) (row : Row) → IsRowOf row words line → IsHeld s b → (words_refusal s words ≡ None) × IsHeld (after_body_row s row) (record b { draft = draft; current = kept; nodes = b.nodes + count; places = places })
-node_taken b words line cur next r head count draft kept places read e same counted lines settled s row is h =
-    let step : IsTreeStep b (with_node_row cur line r) (row_count r) (with_row_line b.places line cur.head r) (record b { draft = draft; current = kept; nodes = b.nodes + count; places = places }) = record {
-      settled = subst (λ k. IsSettled b.draft k kept draft) e settled;
-      name = refl;
-      marks = refl;
-      seen = refl;
-      nodes = ap (λ n. b.nodes + n) counted;
-      linear = refl;
-      values = refl;
-      suffixes = refl;
-      columns = refl;
-      uses = refl;
-      places = lines ∙ ap (λ h. with_row_line b.places line h r) same;
-    } in
-    let w = sym is.same_words in (
-      node_judged s b cur words h read.here read.kind read.other ∙ read.fine,
-      row_taken s row b (record b { draft = draft; current = kept; nodes = b.nodes + count; places = places }) cur r h read.here read.kind (subst (λ ws. is_head ws ≡ false) w read.other)
-          (subst (λ ws. IsRow (node_in b.draft.counts.n_var ws) (opcode_in ws) r) w read.row)
-          (subst (λ ws. first_reason (node_form_tests b.draft.counts b.draft ws) ≡ None) w (form_fine b words cur r read)) read.few
-          (subst (λ n. IsTreeStep b (with_node_row cur n r) (row_count r) (with_row_line b.places n cur.head r) (record b { draft = draft; current = kept; nodes = b.nodes + count; places = places })) (sym is.same_line) step),
-    )
-
--- ---- the number of operands
-
 pub operands_judged : (s : Standing) (b : Body) (cur : Current) (words : List (List ℕ)) → IsHeld s b → b.current ≡ Some cur → current_awaits cur ≡ OperandCount → is_head words ≡ false
     → words_refusal s words ≡ first_reason (operand_tests words)
 operands_judged s b cur words h here kind other = judged_by s b cur words OperandCount (opened s b cur here h) other kind
 
-pub operands_known : (s : Standing) (b : Body) (cur : Current) (o k : ℕ) → IsHeld s b → b.current ≡ Some cur → All (IsNodeKnown b.draft.counts.n_var b.draft.definitions) (with_operand_count cur o k).nodes
-operands_known s b cur o k h e =
-    let q = opened s b cur e h in
-    All-push (IsNodeKnown b.draft.counts.n_var b.draft.definitions) cur.nodes (Op o k) (subst (λ (c : Counts). All (IsNodeKnown c.n_var b.draft.definitions) cur.nodes) (sym h.counts) q.is_open.known) tt
+-- ---- a row that was read
 
-pub operands_taken : (s : Standing) (row : Row) (old new : Body) (cur : Current) (q : Pending) (k : ℕ) → IsHeld s old → old.current ≡ Some cur → current_awaits cur ≡ OperandCount → cur.pending ≡ Some q → is_head (row_words row) ≡ false
-    → whole_of (word_at (row_words row) 0) ≡ Some k → IsTreeStep old (with_operand_count cur q.opcode k) 1 (with_node_line old.places q.line cur.head) new → IsHeld (after_body_row s row) new
-operands_taken s row old new cur q k h here kind some other is st =
-    let c = counts_of s in
-    let o = opened s old cur here h in
-    let p = o.piece in
-    let held = subst (λ x. IsHeld x old) o.whole h in
-    let place = in_tree_of c p cur o.is_open.current (ap in_tree kind) in
-    let full : piece_pending p ≡ Some q = sym o.is_open.current.pending ∙ some in
-    let x : Placed = record { node = Op q.opcode k; line = q.line } in
-    let nodes : piece_nodes c (longer p row) ≡ piece_nodes c p ++ x ∷ [] =
-    tree_nodes c p row place ∙ ap (λ ms. piece_nodes c p ++ ms) (ap (λ o. last_nodes c.n_var o row) full ∙ ap (λ (o : Option ℕ). (let y : Placed = record { node = Op q.opcode (unwrap_or o 0); line = q.line } in y) ∷ []) is) in
-    let more : IsRowMore c p row old cur (with_operand_count cur q.opcode k) (x ∷ []) = record {
-      place = place;
-      is_next = with_count c p cur row q k o.is_open.current place.tree place.late full is;
-      pairs = refl;
-      known = subst (λ (x : Counts). All (IsNodeKnown x.n_var old.draft.definitions) (with_operand_count cur q.opcode k).nodes) h.counts (operands_known s old cur q.opcode k h here);
-      nodes = nodes;
-      left = tt;
-    } in
-    let core = row_held s.header o.before p row old new cur (with_operand_count cur q.opcode k) (x ∷ []) (with_node_line old.places q.line cur.head) held o.is_open more st
-    (lines_one s.header o.before p row old cur x held o.is_open.current.head place nodes) in
-    subst (λ x. IsHeld (after_body_row x row) new) (sym o.whole) (subst (λ x. IsHeld x new) (sym (row_after s.header o.before p row other)) core)
+abbrev IsRowKnown : ℕ → List DefinitionValue → NodeRow → Type 0
+IsRowKnown n ds (Whole m) = IsNodeKnown n ds m
+IsRowKnown n ds (Counted o) = Unit {0}
 
--- the number was read where it is awaited
-pub record IsCounted (b : Body) (words : List (List ℕ)) (cur : Current) (q : Pending) (k : ℕ) : Type 0 where
+-- where a row of an expression is awaited, the row of these words in this line was read; its node or opcode stands in line `at_line`
+pub record IsRowRead (b : Body) (words : List (List ℕ)) (line : ℕ) (cur : Current) (r : NodeRow) (at_line : ℕ) : Type 0 where
   pub here : b.current ≡ Some cur
-  pub kind : current_awaits cur ≡ OperandCount
+  pub place : in_tree (current_awaits cur) ≡ true
+  pub wanted : 0 < awaited cur.nodes
   pub other : is_head words ≡ false
-  pub pending : cur.pending ≡ Some q
-  pub count : whole_of (word_at words 0) ≡ Some k
-  pub fine : first_reason (operand_tests words) ≡ None
+  pub formed : IsFormedRow r
+  pub known : IsRowKnown b.draft.counts.n_var b.draft.definitions r
+  pub few : b.nodes < 2 ^ 22
+  pub fine : (s : Standing) → IsHeld s b → words_refusal s words ≡ None
+  pub step : (row : Row) → IsRowOf row words line → IsRowStep b.draft.counts.n_var cur row r at_line
 
-pub counted_known : (s : Standing) (b : Body) (words : List (List ℕ)) (cur next : Current) (q : Pending) (k : ℕ) → IsHeld s b → IsCounted b words cur q k → next ≡ with_operand_count cur q.opcode k
-    → All (IsNodeKnown b.draft.counts.n_var b.draft.definitions) next.nodes
-counted_known s b words cur next q k h read e =
-    subst (λ (x : Current). All (IsNodeKnown b.draft.counts.n_var b.draft.definitions) x.nodes) (sym e) (operands_known s b cur q.opcode k h read.here)
+-- a node is wanted where one is awaited
+pub wanted_in : (cur : Current) → current_awaits cur ≡ NodeLine → 0 < awaited cur.nodes
+wanted_in cur e =
+    let facts = beyond cur (ap in_tree e) in
+    by (awaited cur.nodes == 0) refl (sym (rw (facts.0, facts.1, pending_none cur e) refl) ∙ e)
+  where
+    by : (b : Bool) → (awaited cur.nodes == 0) ≡ b → (if awaited cur.nodes == 0 then Nothing else NodeLine) ≡ NodeLine → 0 < awaited cur.nodes
+    by true q f = absurd (let none : Nothing ≡ NodeLine = rw q at f in cc)
+    by false q f = grind (arith, nat_tests)
 
-pub counted_fresh : (s : Standing) (b : Body) (words : List (List ℕ)) (cur next : Current) (q : Pending) (k : ℕ) → IsHeld s b → IsCounted b words cur q k → next ≡ with_operand_count cur q.opcode k → IsFresh b.draft next.head next.pairs
-counted_fresh s b words cur next q k h read e =
-    fresh_tree s b cur next h read.here (beyond cur (ap in_tree read.kind)).1 (ap (λ (x : Current). x.head) e) (ap (λ (x : Current). x.pairs) e)
+node_known_in : (b : Body) (words : List (List ℕ)) (r : NodeRow) → IsRow (node_in b.draft.counts.n_var words) (opcode_in words) r → first_reason (counted_node_tests b.draft.counts b.draft b.nodes words) ≡ None
+    → IsRowKnown b.draft.counts.n_var b.draft.definitions r
+node_known_in b words (Whole n) is fine = node_known b.draft.counts b.draft words n is.0 (none_first (node_form_tests b.draft.counts b.draft words) ((nat_le (2 ^ 22) b.nodes, TooLarge) ∷ []) fine)
+node_known_in b words (Counted o) is fine = tt
 
-pub count_taken : (b : Body) (words : List (List ℕ)) (line : ℕ) (cur next : Current) (q : Pending) (k : ℕ) (head : Head) (draft : Draft) (kept : Option Current) (places : PlaceLines)
-    → IsCounted b words cur q k → next ≡ with_operand_count cur q.opcode k → head ≡ cur.head → places ≡ with_node_line b.places q.line head → IsSettled b.draft next kept draft
-    → (s : Standing) (row : Row) → IsRowOf row words line → IsHeld s b → (words_refusal s words ≡ None) × IsHeld (after_body_row s row) (record b { draft = draft; current = kept; nodes = b.nodes + 1; places = places })
-count_taken b words line cur next q k head draft kept places read e same lines settled s row is h =
-    let step : IsTreeStep b (with_operand_count cur q.opcode k) 1 (with_node_line b.places q.line cur.head) (record b { draft = draft; current = kept; nodes = b.nodes + 1; places = places }) = record {
-      settled = subst (λ k. IsSettled b.draft k kept draft) e settled;
+-- a node, or an opcode that awaits its number of operands
+pub node_read : (b value : Body) (words : List (List ℕ)) (line : ℕ) (cur : Current) (r : NodeRow) (taken : Option Current) → b ≡ value → IsAwaiting NodeLine value → is_head words ≡ false → taken ≡ b.current → taken ≡ Some cur
+    → first_reason (counted_node_tests b.draft.counts b.draft b.nodes words) ≡ None → IsNextRow b.draft.counts b.nodes words r → IsRowRead b words line cur r line
+node_read b value words line cur r taken same awaits other was is fine next =
+    let here = sym was ∙ is in
+    let kind = awaits_as b cur NodeLine here (subst (IsAwaiting NodeLine) (sym same) awaits) in
+    record {
+      here = here;
+      place = ap in_tree kind;
+      wanted = wanted_in cur kind;
+      other = other;
+      formed = next.read.1;
+      known = node_known_in b words r next.read.0 fine;
+      few = next.few;
+      fine = λ s h. node_judged s b cur words h here kind other ∙ fine;
+      step = λ row o.
+          subst (λ n. IsRowStep b.draft.counts.n_var cur row r n) o.same_line
+          (node_step b.draft.counts.n_var cur row r (pending_none cur kind) (subst (λ ws. IsRow (node_in b.draft.counts.n_var ws) (opcode_in ws) r) (sym o.same_words) next.read.0));
+    }
+
+-- the number of operands of the opcode that awaits it
+pub count_read : (b value : Body) (words : List (List ℕ)) (line : ℕ) (cur : Current) (q : Pending) (k : ℕ) (taken : Option Current) (pending : Option Pending) → b ≡ value → IsAwaiting OperandCount value → is_head words ≡ false
+    → taken ≡ b.current → taken ≡ Some cur → pending ≡ cur.pending → pending ≡ Some q → IfSome cur.pending (IsPending cur.nodes) → HoldsSome b → first_reason (operand_tests words) ≡ None → SaysOperandCount words k
+    → IsRowRead b words line cur (Whole (Op q.opcode k)) q.line
+count_read b value words line cur q k taken pending same awaits other was is waits some opcode held fine count =
+    let here = sym was ∙ is in
+    let kind = awaits_as b cur OperandCount here (subst (IsAwaiting OperandCount) (sym same) awaits) in
+    let pending = sym waits ∙ some in
+    let counted : IsPending cur.nodes q = subst (λ o. IfSome o (IsPending cur.nodes)) pending opcode in
+    record {
+      here = here;
+      place = ap in_tree kind;
+      wanted = counted.1;
+      other = other;
+      formed = counted_fit q.opcode k counted.0 count.some count.few;
+      known = tt;
+      few = pending_few held.0 b cur q held.1 here pending;
+      fine = λ s h. operands_judged s b cur words h here kind other ∙ fine;
+      step = λ row o. count_step b.draft.counts.n_var cur row q k pending (ap (λ ws. whole_of (word_at ws 0)) o.same_words ∙ count.says);
+    }
+
+-- ---- the piece with it
+
+known_with : (n : ℕ) (ds : List DefinitionValue) (cur : Current) (r : NodeRow) (line : ℕ) → All (IsNodeKnown n ds) cur.nodes → IsRowKnown n ds r → All (IsNodeKnown n ds) (with_node_row cur line r).nodes
+known_with n ds cur (Whole m) line known is = All-push (IsNodeKnown n ds) cur.nodes m known is
+known_with n ds cur (Counted o) line known is = known
+
+row_known : (s : Standing) (b : Body) (words : List (List ℕ)) (line at_line : ℕ) (cur : Current) (r : NodeRow) → IsHeld s b → IsRowRead b words line cur r at_line
+    → All (IsNodeKnown b.draft.counts.n_var b.draft.definitions) (with_node_row cur at_line r).nodes
+row_known s b words line at_line cur r h read =
+    let o = opened s b cur read.here h in
+    known_with b.draft.counts.n_var b.draft.definitions cur r at_line (subst (λ (c : Counts). All (IsNodeKnown c.n_var b.draft.definitions) cur.nodes) (sym h.counts) o.is_open.known) read.known
+
+pub can_take : (b : Body) (words : List (List ℕ)) (line at_line : ℕ) (cur : Current) (r : NodeRow) → HoldsSome b → IsRowRead b words line cur r at_line → CanTakeRow b.draft b.places cur r at_line
+can_take b words line at_line cur r held read =
+    let s = held.0 in
+    let h = held.1 in
+    let tree = (beyond cur read.place).1 in
+    record {
+      wanted = read.wanted;
+      few = omega (arith, nodes_few s b cur h read.here, read.few);
+      formed = read.formed;
+      owner = has_owner s b cur cur.head h read.here refl;
+      begun = has_begun s b cur cur.head h read.here refl;
+      tree = tree;
+      fresh = λ whole. fresh_tree s b cur cur h read.here tree refl refl;
+      known = row_known s b words line at_line cur r h read;
+    }
+
+count_is : (line : ℕ) (r : NodeRow) → row_count r ≡ length (row_placed line r)
+count_is line (Whole n) = refl
+count_is line (Counted o) = refl
+
+room_after : (cur : Current) (line nodes : ℕ) (r : NodeRow) → nodes < 2 ^ 22 → IfSome (with_node_row cur line r).pending (λ q. nodes + length (row_placed line r) < 2 ^ 22)
+room_after cur line nodes (Whole n) few = tt
+room_after cur line nodes (Counted o) few = omega (arith, few)
+
+pub row_taken : (b : Body) (words : List (List ℕ)) (line at_line : ℕ) (cur : Current) (r : NodeRow) (count : ℕ) (draft : Draft) (kept : Option Current) (places : PlaceLines)
+    → IsRowRead b words line cur r at_line → count ≡ row_count r → places ≡ with_row_line b.places at_line cur.head r → IsSettled b.draft (with_node_row cur at_line r) kept draft
+    → (s : Standing) (row : Row) → IsRowOf row words line → IsHeld s b → (words_refusal s words ≡ None) × IsHeld (after_body_row s row) (record b { draft = draft; current = kept; nodes = b.nodes + count; places = places })
+row_taken b words line at_line cur r count draft kept places read counted lines settled s row is h =
+    let c = counts_of s in
+    let o = opened s b cur read.here h in
+    let p = o.piece in
+    let next = with_node_row cur at_line r in
+    let new : Body = record b { draft = draft; current = kept; nodes = b.nodes + count; places = places } in
+    let held = subst (λ x. IsHeld x b) o.whole h in
+    let place = in_tree_of c p cur o.is_open.current read.place in
+    let step : IsRowStep c.n_var cur row r at_line = subst (λ (k : Counts). IsRowStep k.n_var cur row r at_line) h.counts (read.step row is) in
+    let nodes = tree_nodes c p row place ∙ ap (λ ms. piece_nodes c p ++ ms) (ap (λ o. last_nodes c.n_var o row) (sym o.is_open.current.pending) ∙ step.nodes) in
+    let more : IsRowMore c p row b cur next (row_placed at_line r) = record {
+      place = place;
+      is_next = with_row c p cur row r at_line o.is_open.current place.tree place.late step;
+      pairs = (row_fields cur at_line r).pairs;
+      known = subst (λ (k : Counts). All (IsNodeKnown k.n_var b.draft.definitions) next.nodes) h.counts (row_known s b words line at_line cur r h read);
+      nodes = nodes;
+      left = room_after cur at_line b.nodes r read.few;
+    } in
+    let done : IsTreeStep b next (length (row_placed at_line r)) (with_row_line b.places at_line cur.head r) new = record {
+      settled = settled;
       name = refl;
       marks = refl;
       seen = refl;
-      nodes = refl;
+      nodes = ap (λ n. b.nodes + n) (counted ∙ count_is at_line r);
       linear = refl;
       values = refl;
       suffixes = refl;
       columns = refl;
       uses = refl;
-      places = lines ∙ ap (λ h. with_node_line b.places q.line h) same;
+      places = lines;
     } in
-    let w = sym is.same_words in (
-      operands_judged s b cur words h read.here read.kind read.other ∙ read.fine,
-      operands_taken s row b (record b { draft = draft; current = kept; nodes = b.nodes + 1; places = places }) cur q k h read.here read.kind read.pending (subst (λ ws. is_head ws ≡ false) w read.other)
-          (subst (λ ws. whole_of (word_at ws 0) ≡ Some k) w read.count) step,
+    let core = row_held s.header o.before p row b new cur next (row_placed at_line r) (with_row_line b.places at_line cur.head r) held o.is_open more done
+    (row_lines s.header o.before p row b cur r at_line held o.is_open.current.head place nodes) in (
+      read.fine s h,
+      subst (λ x. IsHeld (after_body_row x row) new) (sym o.whole) (subst (λ x. IsHeld x new) (sym (row_after s.header o.before p row (ap is_head is.same_words ∙ read.other))) core),
     )

@@ -1,5 +1,5 @@
 -- Opcodes have as many operands as their classes want.
-use Rattle.std.proofs.Common.{◌≡◌, ℕ, ◌≤◌, Bool, true, false, eqb, cond, List, [], ◌∷◌, Some, None, Option, unwrap_or, find, ap, refl, lit≤, sym, subst, arith}
+use Rattle.std.proofs.Common.{◌≡◌, ℕ, ◌≤◌, Bool, true, false, eqb, cond, List, [], ◌∷◌, Some, Option, unwrap_or, find, ap, refl, lit≤, subst, arith}
 use Rattle.std.specs.Option.{option_map}
 use Rattle.std.specs.List.{AllByRecursion}
 use Rattle.code_tables.specs.Opcodes.{class_of, operands_of, opcodes}
@@ -9,11 +9,7 @@ use Rattle.code_tables.specs.declared.class.OpcodeRow.{OpcodeRow}
 use Rattle.code_tables.specs.declared.class.Operands.{Operands}
 use Rattle.code_tables.specs.declared.class.Operands.TheVariants.{One, Two, Counted}
 use Rattle.std.proofs.Common.{◌∙◌, ◌<◌, ◌^◌}
-use Rattle.std.specs.Prelude.{IfSome, IsSome}
 use Rattle.nl_meaning.specs.Trees.{HasCount}
-use Rattle.nl_model.specs.declared.node.Node.{Node}
-use Rattle.nl_segments.specs.Nodes.{Pending}
-use Rattle.nl_segments.specs.Current.{IsPending}
 
 -- the operands are as many as the class wants
 abbrev pub Fits : Operands → OpClass → Type 0
@@ -53,7 +49,5 @@ one_fits o operands e is = (operands_fit o One (e ∙ ap Some is), lit≤ tt)
 pub two_fit : (o : ℕ) (operands : Operands) → operands_of o ≡ Some operands → operands ≡ Two → HasCount (class_of o) 2 × (2 ≤ 2 ^ 22)
 two_fit o operands e is = (operands_fit o Two (e ∙ ap Some is), lit≤ tt)
 
-pub counted_fit : (pending : Option Pending) (nodes : List Node) (o k : ℕ) → IfSome pending (IsPending nodes) → IfSome pending (λ p. p.opcode ≡ o) → IsSome pending → 0 < k → k ≤ 2 ^ 22
-    → HasCount (class_of o) k × (k ≤ 2 ^ 22)
-counted_fit None nodes o k h same some more most = absurd cc
-counted_fit (Some p) nodes o k h same some more most = (operands_fit o Counted (ap operands_of (sym same) ∙ h.0) k (omega (arith, more)), most)
+pub counted_fit : (o k : ℕ) → operands_of o ≡ Some Counted → 0 < k → k ≤ 2 ^ 22 → HasCount (class_of o) k × (k ≤ 2 ^ 22)
+counted_fit o k e more most = (operands_fit o Counted e k (omega (arith, more)), most)

@@ -10,7 +10,7 @@ use Rattle.nl_model.specs.File.{Term}
 use Rattle.nl_model.specs.Rules.{AreIndicesApart, AreTermsBelow, has_suffix, most_terms, object_count, term_count}
 use Rattle.nl_segments.specs.declared.awaited.Awaited.TheVariants.{Pair}
 use Rattle.nl_segments.specs.declared.head.Head.{Head}
-use Rattle.nl_segments.specs.declared.head.Head.TheVariants.{Body as BodyHead, Objective, Definition, DualGuesses, PrimalGuesses, Sides, Bounds, ColumnCounts, Terms, Slopes, Suffix}
+use Rattle.nl_segments.specs.declared.head.Head.TheVariants.{Body as BodyHead, DualGuesses, PrimalGuesses, Terms, Slopes, Suffix}
 use Rattle.nl_segments.specs.Rows.{Row, row_words}
 use Rattle.nl_segments.specs.Heads.{is_in_range}
 use Rattle.nl_segments.specs.Pieces.{pair_in, piece_pairs}
@@ -19,7 +19,7 @@ use Rattle.nl_segments.specs.Saying.{draft_of, place_lines, said_by}
 use Rattle.nl_segments.specs.Tests.{holds_once, index_limit, is_linear, is_same_piece, is_suffix}
 use Rattle.nl_segments.specs.Grammar.{Standing, counts_of}
 use Rattle.nl_segments.specs.Current.{Current}
-use Rattle.nl_segments.specs.PairSteps.{CanClose, CanGive, CanUse, is_full_at, with_given, with_kept}
+use Rattle.nl_segments.specs.PairSteps.{SaysFreshPair, CanClose, CanGive, CanUse, is_full_at, with_given, with_kept}
 use Rattle.nl_segments.specs.Held.{Body, HasRow, HoldsSome, IsAwaiting, IsHeld, IsMarked, keeps_pairs}
 use Rattle.nl_segments.proofs.DraftLemmas.{draft_before, says_whole}
 use Rattle.nl_segments.proofs.FreshLaw.{none_before, fresh_dual, fresh_primal}
@@ -164,12 +164,7 @@ can_give_by s b cur row t n (Slopes i k) e =
     let vars = ap (λ k. k.n_var) n.held.counts in
     (omega arith, omega arith, slopes_room s b cur row t n i (ap is_linear e))
 can_give_by s b cur row t n (BodyHead i) e = tt
-can_give_by s b cur row t n (Objective k m) e = tt
-can_give_by s b cur row t n (Definition i j u) e = tt
-can_give_by s b cur row t n Sides e = tt
-can_give_by s b cur row t n Bounds e = tt
-can_give_by s b cur row t n (ColumnCounts k) e = tt
-can_give_by s b cur row t n (Suffix kind k) e = tt
+can_give_by s b cur row t n head e = tt
 
 pub can_give : (s : Standing) (b : Body) (cur : Current) (row : Row) (t : Term) → IsPairNext s b cur row t → CanGive b.draft cur.head t
 can_give s b cur row t n = subst (λ h. CanGive b.draft h t) (sym n.parts.is_open.current.head) (can_give_by s b cur row t n n.parts.piece.head refl)
@@ -196,15 +191,7 @@ can_close_by s b cur row t n (Suffix kind k) e =
       fresh = ap (has_suffix b.draft.suffixes kind) named ∙ fresh;
     }
 can_close_by s b cur row t n (BodyHead i) e = tt
-can_close_by s b cur row t n (Objective k m) e = tt
-can_close_by s b cur row t n (Definition i j u) e = tt
-can_close_by s b cur row t n (DualGuesses k) e = tt
-can_close_by s b cur row t n (PrimalGuesses k) e = tt
-can_close_by s b cur row t n Sides e = tt
-can_close_by s b cur row t n Bounds e = tt
-can_close_by s b cur row t n (ColumnCounts k) e = tt
-can_close_by s b cur row t n (Terms i k) e = tt
-can_close_by s b cur row t n (Slopes i k) e = tt
+can_close_by s b cur row t n head e = tt
 
 pub can_close : (s : Standing) (b : Body) (cur : Current) (row : Row) (t : Term) → IsPairNext s b cur row t → CanClose (with_given b.draft cur.head t) b.name (with_kept cur t) cur.head
 can_close s b cur row t n =
@@ -222,15 +209,7 @@ can_use_by s b cur row t n (Terms i k) e =
     let room = terms_room s b cur row t n (ap is_linear e) in
     (omega arith, omega arith)
 can_use_by s b cur row t n (BodyHead i) e = tt
-can_use_by s b cur row t n (Objective k m) e = tt
-can_use_by s b cur row t n (Definition i j u) e = tt
-can_use_by s b cur row t n (DualGuesses k) e = tt
-can_use_by s b cur row t n (PrimalGuesses k) e = tt
-can_use_by s b cur row t n Sides e = tt
-can_use_by s b cur row t n Bounds e = tt
-can_use_by s b cur row t n (ColumnCounts k) e = tt
-can_use_by s b cur row t n (Slopes i k) e = tt
-can_use_by s b cur row t n (Suffix kind k) e = tt
+can_use_by s b cur row t n head e = tt
 
 pub can_use : (s : Standing) (b : Body) (cur : Current) (row : Row) (t : Term) → IsPairNext s b cur row t → CanUse cur.head b.uses t.0
 can_use s b cur row t n = subst (λ h. CanUse h b.uses t.0) (sym n.parts.is_open.current.head) (can_use_by s b cur row t n n.parts.piece.head refl)
@@ -273,14 +252,14 @@ can_take b cur head words line t same row h r =
 
 -- a pair that was read
 pub read_by : (value fields : Body) (cur : Current) (words : List (List ℕ)) (t : Term) (counts : Counts) (head : Head) (full : Bool) → fields ≡ value → fields.current ≡ Some cur → IsAwaiting Pair value
-    → counts ≡ fields.draft.counts → head ≡ cur.head → full ≡ is_full_at head fields.linear fields.values → pair_in words ≡ Some t → t.0 < index_limit counts head
-    → (holds_once head && get_or fields.marks t.0 false) ≡ false → full ≡ false → IsRead fields cur words t
-read_by value fields cur words t counts head full same current a counts_is head_is full_is says below fresh room =
+    → counts ≡ fields.draft.counts → head ≡ cur.head → full ≡ is_full_at head fields.linear fields.values → SaysFreshPair counts head fields.marks full words t
+    → IsRead fields cur words t
+read_by value fields cur words t counts head full same current a counts_is head_is full_is pair =
     record {
       current = current;
       awaits = subst (IsAwaiting Pair) (sym same) a;
-      says = says;
-      below = subst (λ k. t.0 < index_limit k cur.head) counts_is (subst (λ x. t.0 < index_limit counts x) head_is below);
-      fresh = ap (λ x. holds_once x && get_or fields.marks t.0 false) (sym head_is) ∙ fresh;
-      free = ap (λ x. is_full_at x fields.linear fields.values) (sym head_is) ∙ sym full_is ∙ room;
+      says = pair.says;
+      below = subst (λ k. t.0 < index_limit k cur.head) counts_is (subst (λ x. t.0 < index_limit counts x) head_is pair.below);
+      fresh = ap (λ x. holds_once x && get_or fields.marks t.0 false) (sym head_is) ∙ pair.fresh;
+      free = ap (λ x. is_full_at x fields.linear fields.values) (sym head_is) ∙ sym full_is ∙ pair.room;
     }

@@ -10,16 +10,17 @@ use Rattle.nl_model.specs.Draft.{Draft, empty_draft}
 use Rattle.nl_model.specs.File.{Term}
 use Rattle.nl_segments.specs.declared.awaited.Awaited.TheVariants.{Nothing, Pair}
 use Rattle.nl_segments.specs.declared.head.Head.{Head}
-use Rattle.nl_segments.specs.declared.head.Head.TheVariants.{Body, Objective, Definition, DualGuesses, PrimalGuesses, Sides, Bounds, ColumnCounts, Terms, Slopes, Suffix}
+use Rattle.nl_segments.specs.declared.head.Head.TheVariants.{Body, Objective, Definition, DualGuesses, PrimalGuesses, Terms, Slopes, Suffix}
 use Rattle.nl_segments.specs.Rows.{Row}
 use Rattle.nl_segments.specs.Nodes.{only_lines, nodes_from, nodes_of, pending_from, pending_of}
 use Rattle.nl_segments.specs.Pieces.{Piece, awaited_in, is_complete, has_tree, is_nothing, line_count, line_kind, pair_count, piece_pairs, tree_awaits, tree_rows}
 use Rattle.nl_segments.specs.Saying.{node_lines, draft_of, said_by, with_piece, place_lines, lines_by, term_lines}
-use Rattle.nl_segments.specs.PlaceSteps.{HasBegun, HasOwner, with_term_line}
+use Rattle.nl_segments.specs.PlaceSteps.{HasBegun, with_term_line}
 use Rattle.nl_segments.specs.Heads.{is_in_range}
 use Rattle.nl_segments.specs.Tests.{is_linear, is_suffix}
 use Rattle.nl_segments.specs.Current.{Current, current_awaits}
-use Rattle.nl_segments.specs.Held.{keeps_pairs, use_count}
+use Rattle.nl_model.specs.UseCounts.{use_count}
+use Rattle.nl_segments.specs.Held.{keeps_pairs}
 use Rattle.nl_segments.specs.PairSteps.{with_closed, with_given, with_suffix, with_use}
 use Rattle.nl_segments.proofs.CurrentLemmas.{early_tree}
 use Rattle.nl_segments.proofs.DraftLemmas.{draft_before, with_dual, with_primal, with_term, with_slope, with_suffix as suffix_said}
@@ -27,7 +28,7 @@ use Rattle.nl_segments.proofs.FreshLaw.{either}
 use Rattle.nl_segments.proofs.PairLaw.{use_more}
 use Rattle.nl_segments.proofs.PairPiece.{IsNextPair, few_rows}
 use Rattle.nl_segments.proofs.PieceLemmas.{longer, lines-append}
-use Rattle.nl_segments.proofs.PlaceLemmas.{place_term, place_counts, owner_there}
+use Rattle.nl_segments.proofs.PlaceLemmas.{place_term, owner_there}
 
 -- ---- a defined variable is not complete by its terms alone
 
@@ -49,16 +50,7 @@ not_closed d name cur f = by (is_nothing (current_awaits cur)) refl
   where
     same : (h : Head) → is_suffix h ≡ false → with_suffix d name cur h ≡ d
     same (Suffix k n) f = absurd cc
-    same (Body i) f = refl
-    same (Objective k m) f = refl
-    same (Definition i j u) f = refl
-    same (DualGuesses n) f = refl
-    same (PrimalGuesses n) f = refl
-    same Sides f = refl
-    same Bounds f = refl
-    same (ColumnCounts n) f = refl
-    same (Terms i n) f = refl
-    same (Slopes k n) f = refl
+    same head f = refl
 
     by : (b : Bool) → is_nothing (current_awaits cur) ≡ b → with_closed d name cur ≡ d
     by true e = rw e (same cur.head f)
@@ -114,10 +106,7 @@ draft_pair o c before p row t name cur n range unfinished head closes pairs name
             λ i. record (draft_of o c before) { suffixes = (draft_of o c before).suffixes ++ record { kind = kind; name = q i; values = ts i } ∷ [] })
             ∙ sym (suffix_said o c before (longer p row) kind k e f)
     by (Body i) e = absurd (let none = few _ e in omega arith)
-    by (Objective k m) e = absurd (let none = few _ e in omega arith)
-    by Sides e = absurd (let none = few _ e in omega arith)
-    by Bounds e = absurd (let none = few _ e in omega arith)
-    by (ColumnCounts k) e = absurd (let none = few _ e in omega arith)
+    by head e = absurd (let none = few _ e in omega arith)
 
 -- ---- a place for each constraint and objective
 
@@ -128,11 +117,7 @@ lengths_by d p (Body i) = (either (λ x. length x.terms ≡ length d.terms) d _ 
 lengths_by d p (Objective k m) = (either (λ x. length x.terms ≡ length d.terms) d _ p refl refl, either (λ x. length x.slopes ≡ length d.slopes) d _ p refl refl)
 lengths_by d p (Definition i j u) = (either (λ x. length x.terms ≡ length d.terms) d _ p refl refl, either (λ x. length x.slopes ≡ length d.slopes) d _ p refl refl)
 lengths_by d p (Suffix k n) = (either (λ x. length x.terms ≡ length d.terms) d _ p refl refl, either (λ x. length x.slopes ≡ length d.slopes) d _ p refl refl)
-lengths_by d p (DualGuesses n) = (refl, refl)
-lengths_by d p (PrimalGuesses n) = (refl, refl)
-lengths_by d p Sides = (refl, refl)
-lengths_by d p Bounds = (refl, refl)
-lengths_by d p (ColumnCounts n) = (refl, refl)
+lengths_by d p head = (refl, refl)
 
 fold_lengths : (pieces : List Piece) (d : Draft) → (length (fold with_piece d pieces).terms ≡ length d.terms) × (length (fold with_piece d pieces).slopes ≡ length d.slopes)
 fold_lengths [] d = (refl, refl)
@@ -152,16 +137,7 @@ terms_closed d name cur = by (is_nothing (current_awaits cur)) refl
   where
     same : (h : Head) → (with_suffix d name cur h).terms ≡ d.terms
     same (Suffix k n) = refl
-    same (Body i) = refl
-    same (Objective k m) = refl
-    same (Definition i j u) = refl
-    same (DualGuesses n) = refl
-    same (PrimalGuesses n) = refl
-    same Sides = refl
-    same Bounds = refl
-    same (ColumnCounts n) = refl
-    same (Terms i n) = refl
-    same (Slopes k n) = refl
+    same head = refl
 
     by : (b : Bool) → is_nothing (current_awaits cur) ≡ b → (with_closed d name cur).terms ≡ d.terms
     by true e = rw e (same cur.head)
@@ -183,28 +159,11 @@ uses_pair d (Terms i k) t uses j n con len below rows range h = by (t.0 == j) re
         get_or-set_other uses t.0 j (get_or uses t.0 0 + 1) 0 (λ s. eqb-false t.0 j e (sym s)) ∙ h
         ∙ sym (more ∙ ap (λ b. if b then use_count d.terms j + 1 else use_count d.terms j) e)
 uses_pair d (Body i) t uses j n con len below rows range h = h
-uses_pair d (Objective k m) t uses j n con len below rows range h = h
-uses_pair d (Definition i l u) t uses j n con len below rows range h = h
-uses_pair d (DualGuesses k) t uses j n con len below rows range h = h
-uses_pair d (PrimalGuesses k) t uses j n con len below rows range h = h
-uses_pair d Sides t uses j n con len below rows range h = h
-uses_pair d Bounds t uses j n con len below rows range h = h
-uses_pair d (ColumnCounts k) t uses j n con len below rows range h = h
-uses_pair d (Slopes i k) t uses j n con len below rows range h = h
-uses_pair d (Suffix kind k) t uses j n con len below rows range h = h
+uses_pair d head t uses j n con len below rows range h = h
 
 pub users_kept : (head : Head) (uses : List ℕ) (j : ℕ) → length (with_use head uses j) ≡ length uses
 users_kept (Terms i k) uses j = length-set uses j _
-users_kept (Body i) uses j = refl
-users_kept (Objective k m) uses j = refl
-users_kept (Definition i l u) uses j = refl
-users_kept (DualGuesses k) uses j = refl
-users_kept (PrimalGuesses k) uses j = refl
-users_kept Sides uses j = refl
-users_kept Bounds uses j = refl
-users_kept (ColumnCounts k) uses j = refl
-users_kept (Slopes i k) uses j = refl
-users_kept (Suffix kind k) uses j = refl
+users_kept head uses j = refl
 
 -- ---- lines
 
@@ -213,16 +172,7 @@ begun_there c before p = subst (λ l. HasBegun l p.head) (sym (lines-append c be
   where
     by : (h : Head) → HasBegun (lines_by c (place_lines c before) p h) h
     by (Definition i j u) = omega (arith, length-append (place_lines c before).definitions (record { head = Some p.line; nodes = node_lines c p; terms = term_lines p } ∷ []))
-    by (Body i) = tt
-    by (Objective k m) = tt
-    by (DualGuesses n) = tt
-    by (PrimalGuesses n) = tt
-    by Sides = tt
-    by Bounds = tt
-    by (ColumnCounts n) = tt
-    by (Terms i n) = tt
-    by (Slopes k n) = tt
-    by (Suffix k n) = tt
+    by head = tt
 
 pub places_pair : (c : Counts) (before : List Piece) (p : Piece) (row : Row) (t : Term) → IsNextPair c p row t → is_in_range c p.head ≡ true
     → with_term_line (place_lines c (before ++ p ∷ [])) row.line p.head ≡ place_lines c (before ++ longer p row ∷ [])
@@ -248,11 +198,7 @@ places_pair c before p row t n range =
     other (Terms i k) f few = absurd cc
     other (Slopes i k) f few = absurd cc
     other (Definition i j u) f few = absurd cc
-    other (Body i) f few = absurd (omega arith)
-    other (Objective k m) f few = absurd (omega arith)
-    other Sides f few = absurd (omega arith)
-    other Bounds f few = absurd (omega arith)
-    other (ColumnCounts k) f few = absurd (omega arith)
+    other head f few = absurd (omega arith)
 
     by : (b : Bool) → is_linear p.head ≡ b → with_term_line (lines_by c (place_lines c before) p p.head) row.line p.head ≡ lines_by c (place_lines c before) (longer p row) p.head
     by true e = sym (place_term c (place_lines c before) p row row.line p.head (owner_there c before p.head range) e nodes_same terms_more)

@@ -1,10 +1,9 @@
 -- What is held after a line that comes before any expression.
-use Rattle.std.proofs.Common.{◌≡◌, ◌∙◌, ℕ, ◌-◌, ◌+◌, ◌<◌, ◌≤◌, ◌==◌, Bool, true, false, List, [], ◌∷◌, ◌++◌, length, refl, sym, ap, subst, arith, nat_lt, Option, Some, None, get_or, All, take}
+use Rattle.std.proofs.Common.{◌≡◌, ◌∙◌, ℕ, ◌+◌, ◌<◌, ◌≤◌, ◌==◌, Bool, true, false, List, [], ◌∷◌, ◌++◌, length, refl, sym, ap, subst, arith, nat_lt, Option, Some, None, get_or, All}
 use Rattle.std.specs.Prelude.{IfSome, if◌then◌else◌, ◌^◌}
 use Rattle.std.specs.List.{list_any}
 use Rattle.std.proofs.lemmas.Bool.{ltb-true}
 use Rattle.nl_model.specs.declared.counts.Counts.{Counts}
-use Rattle.nl_model.specs.declared.node.Node.{Node}
 use Rattle.nl_model.specs.Draft.{Draft}
 use Rattle.nl_model.specs.Nodes.{awaited}
 use Rattle.nl_model.specs.Rules.{AreTermsBelow, AreIndicesApart, most_terms}
@@ -14,13 +13,16 @@ use Rattle.nl_segments.specs.declared.head.Head.{Head}
 use Rattle.nl_segments.specs.Rows.{Row}
 use Rattle.nl_segments.specs.Nodes.{Pending, Placed, nodes_of, only_lines, only_nodes}
 use Rattle.nl_segments.specs.Pieces.{Piece, awaited_in, is_complete, is_nothing, line_count, line_kind, has_tree, pair_count, piece_nodes, piece_pairs, piece_pending, tree_awaits}
-use Rattle.nl_segments.specs.Tests.{all_column_counts, index_limit, is_same_piece, is_linear, is_suffix, pair_total}
+use Rattle.nl_segments.specs.declared.head.Head.TheVariants.{ColumnCounts}
+use Rattle.std.proofs.lemmas.List.{append_assoc, append-nil, take-append-le}
+use Rattle.nl_segments.specs.Tests.{all_column_counts, column_counts, index_limit, is_same_piece, is_linear, is_suffix, pair_total}
 use Rattle.nl_segments.specs.Saying.{place_lines}
 use Rattle.nl_segments.specs.Grammar.{counts_of, said}
-use Rattle.nl_segments.specs.Current.{Current, IsCurrent, current_awaits, less_line, nodes_await}
+use Rattle.nl_segments.specs.Current.{Current, IsCurrent, current_awaits, less_line}
 use Rattle.nl_segments.specs.SeenSegments.{IsSeenIn, has_segment}
 use Rattle.nl_segments.specs.LineSteps.{unless_complete}
-use Rattle.nl_segments.specs.Held.{Body, IsHeld, IsLast, IsMarked, IsNodeKnown, IsNodeLeft, IsOpen, IsSoundPiece, use_count}
+use Rattle.nl_model.specs.UseCounts.{use_count}
+use Rattle.nl_segments.specs.Held.{Body, IsHeld, IsLast, IsMarked, IsNodeKnown, IsNodeLeft, IsOpen, IsSoundPiece}
 use Rattle.nl_segments.proofs.CurrentLemmas.{awaits, early_tree, late_pairs, with_line}
 use Rattle.nl_segments.proofs.DraftLemmas.{draft_counts}
 use Rattle.nl_segments.proofs.PieceLemmas.{longer, last-append, lines-append}
@@ -41,7 +43,7 @@ pub record IsBefore (c : Counts) (p : Piece) (kind : Awaited) : Type 0 where
   pub within : length p.rows < line_count c p.head
   pub same_kind : line_kind p.head ≡ kind
 
-never : true ≡ false → ⊥
+pub never : true ≡ false → ⊥
 never e = cc
 
 no_line : (ns : List Placed) (q : Option Pending) → is_line_kind (tree_awaits ns q) ≡ false
@@ -149,16 +151,32 @@ same_totals counts before p row e = by (counts p.head) refl
     by true t = pairs-append counts before (longer p row) t ∙ ap (λ ts. pair_total counts before + length ts) e ∙ sym (pairs-append counts before p t)
     by false t = pairs-other counts before (longer p row) t ∙ sym (pairs-other counts before p t)
 
--- the piece has no pairs
-pub sound_no_pair : (c : Counts) (p : Piece) (row : Row) → pair_count p.head ≡ 0 → IsSoundPiece c p → IsSoundPiece c (longer p row)
-sound_no_pair c p row e h =
-    let same = late_pairs p row (let none = e in omega arith) in
+pub none_within : (p : Piece) → pair_count p.head ≡ 0 → pair_count p.head ≤ length p.rows
+none_within p e = omega (arith, e)
+
+-- the pairs of the piece are there
+pub sound_kept : (c : Counts) (p : Piece) (row : Row) → pair_count p.head ≤ length p.rows → IsSoundPiece c p → IsSoundPiece c (longer p row)
+sound_kept c p row late h =
+    let same = late_pairs p row late in
     record {
       range = h.range;
       below = subst (AreTermsBelow (index_limit c p.head)) (sym same) h.below;
       once = λ t. subst AreIndicesApart (sym same) (h.once t);
-      pairs = ap length same ∙ h.pairs ∙ ap (λ (n : ℕ). length (take n p.rows)) e ∙ sym (ap (λ (n : ℕ). length (take n (p.rows ++ row ∷ []))) e);
+      pairs = ap length same ∙ h.pairs ∙ sym (ap (length {A = Row}) (take-append-le (pair_count p.head) p.rows (row ∷ []) late));
     }
+
+pub columns-append : (before : List Piece) (p : Piece) → all_column_counts (before ++ p ∷ []) ≡ all_column_counts before ++ column_counts p p.head
+columns-append [] p = append-nil (column_counts p p.head)
+columns-append (q ∷ before) p =
+    ap (λ ns. column_counts q q.head ++ ns) (columns-append before p) ∙ sym (append_assoc (column_counts q q.head) (all_column_counts before) (column_counts p p.head))
+
+-- the line of no column
+pub columns_kept : (before : List Piece) (p : Piece) (row : Row) → (line_kind p.head ≡ ColumnCount → ⊥) → all_column_counts (before ++ longer p row ∷ []) ≡ all_column_counts (before ++ p ∷ [])
+columns_kept before p row other = columns-append before (longer p row) ∙ ap (λ ns. all_column_counts before ++ ns) (by p.head refl) ∙ sym (columns-append before p)
+  where
+    by : (h : Head) → p.head ≡ h → column_counts (longer p row) p.head ≡ column_counts p p.head
+    by (ColumnCounts n) e = absurd (other (ap line_kind e))
+    by head e = rw e refl
 
 pub places_no_pair : (c : Counts) (before : List Piece) (p : Piece) (row : Row) → pair_count p.head ≡ 0 → length p.rows < line_count c p.head → place_lines c (before ++ longer p row ∷ []) ≡ place_lines c (before ++ p ∷ [])
 places_no_pair c before p row e within =
@@ -173,7 +191,7 @@ open_line c d e name p row cur h within none same f =
     record {
       incomplete = f;
       current = with_line c p cur row h.current within;
-      pairs = λ t. h.pairs t ∙ sym (late_pairs p row (let none = none in omega arith));
+      pairs = λ t. h.pairs t ∙ sym (late_pairs p row (none_within p none));
       known = subst (λ ds. All (IsNodeKnown c.n_var ds) cur.nodes) (sym same) h.known;
       named = h.named;
     }

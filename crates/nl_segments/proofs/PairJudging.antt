@@ -1,6 +1,6 @@
 -- A pair is judged by what is held as it is by the pieces.
-use Rattle.std.proofs.Common.{◌≡◌, ◌∙◌, ℕ, ◌<◌, Bool, true, false, not, ◌&&◌, List, [], ◌∷◌, ◌++◌, length, refl, sym, ap, ap₂, Option, Some, None, get_or, nat_lt}
-use Rattle.std.specs.Prelude.{unwrap_or, is_none, ◌||◌, ◌==◌}
+use Rattle.std.proofs.Common.{◌≡◌, ◌∙◌, ℕ, ◌<◌, Bool, true, false, not, ◌&&◌, List, [], ◌∷◌, ◌++◌, refl, sym, ap, ap₂, Option, Some, None, get_or, nat_lt}
+use Rattle.std.specs.Prelude.{unwrap_or, is_none, ◌||◌}
 use Rattle.std.specs.Option.{option_map_or}
 use Rattle.std.proofs.lemmas.Bool.{ltb-true}
 use Rattle.text_base.specs.Judged.{first_reason}
@@ -9,12 +9,12 @@ use Rattle.exact_numbers.specs.declared.dec.Dec.{Dec}
 use Rattle.nl_model.specs.declared.counts.Counts.{Counts}
 use Rattle.nl_model.specs.File.{Term}
 use Rattle.nl_segments.specs.declared.fault.NlReason.TheVariants.{TooLarge, RepeatedIndex}
-use Rattle.nl_segments.specs.declared.fault.Refusal.{Refusal}
+use Rattle.nl_segments.specs.declared.fault.NlReason.{NlReason}
 use Rattle.nl_segments.specs.declared.head.Head.{Head}
-use Rattle.exact_numbers.specs.Numbers.{are_digits, dec_of, whole_of, is_whole}
+use Rattle.exact_numbers.specs.Numbers.{dec_of, whole_of, is_whole}
 use Rattle.text_base.specs.Words.{word_at}
 use Rattle.nl_segments.specs.Pieces.{Piece, pair_in, piece_pairs}
-use Rattle.nl_segments.specs.Tests.{Tests, for_reason, has_index, holds_once, index_limit, is_below, is_full, pair_form_tests, pair_tests, wants_whole}
+use Rattle.nl_segments.specs.Tests.{Tests, has_index, holds_once, index_limit, is_below, is_full, pair_form_tests, pair_tests, wants_whole}
 use Rattle.nl_segments.specs.PairSteps.{next_pair_tests}
 use Rattle.nl_segments.specs.Held.{IsMarked}
 
@@ -30,7 +30,7 @@ index_of words t e = by (whole_of (word_at words 0)) (dec_of (word_at words 1)) 
     by (Some i) (Some d) p q = let same : Some (i, d) ≡ Some t = rw (p, q) at e in p ∙ ap (λ (o : Option Term). Some (unwrap_or {T = Term} o (i, d)).0) same
 
 abbrev last_tests : Bool → Bool → Tests
-last_tests repeated full = (repeated, for_reason RepeatedIndex) ∷ (full, for_reason TooLarge) ∷ []
+last_tests repeated full = (repeated, RepeatedIndex) ∷ (full, TooLarge) ∷ []
 
 module _ (c : Counts) (head : Head) (marks : List Bool) (full : Bool) (words : List (List ℕ)) (limit : ℕ) (whole : Bool) (limit_is : limit ≡ index_limit c head) (whole_is : whole ≡ wants_whole head) where
   abbrev form : Tests
@@ -42,17 +42,17 @@ module _ (c : Counts) (head : Head) (marks : List Bool) (full : Bool) (words : L
   next_is : next ≡ form ++ last_tests (holds_once head && get_or marks (unwrap_or (whole_of (word_at words 0)) 0) false) full
   next_is = ap₂ (λ l w. pair_form_tests l w words ++ last_tests (holds_once head && get_or marks (unwrap_or (whole_of (word_at words 0)) 0) false) full) (sym limit_is) (sym whole_is)
 
-  pub read_fault : (r : Refusal) → first_reason form ≡ Some r → first_reason next ≡ Some r
+  pub read_fault : (r : NlReason) → first_reason form ≡ Some r → first_reason next ≡ Some r
   read_fault r e = ap first_reason next_is ∙ reason_before form _ r e
 
   read_passed : (t : Term) → first_reason form ≡ None → pair_in words ≡ Some t → first_reason next ≡ first_reason (last_tests (holds_once head && get_or marks t.0 false) full)
   read_passed t e p =
       ap first_reason next_is ∙ reason_after form _ e ∙ ap (λ o. first_reason (last_tests (holds_once head && get_or marks (unwrap_or o 0) false) full)) (index_of words t p)
 
-  pub read_repeated : (t : Term) → first_reason form ≡ None → pair_in words ≡ Some t → (holds_once head && get_or marks t.0 false) ≡ true → first_reason next ≡ Some (for_reason RepeatedIndex)
+  pub read_repeated : (t : Term) → first_reason form ≡ None → pair_in words ≡ Some t → (holds_once head && get_or marks t.0 false) ≡ true → first_reason next ≡ Some RepeatedIndex
   read_repeated t e p r = read_passed t e p ∙ ap (λ b. first_reason (last_tests b full)) r
 
-  pub read_full : (t : Term) → first_reason form ≡ None → pair_in words ≡ Some t → (holds_once head && get_or marks t.0 false) ≡ false → full ≡ true → first_reason next ≡ Some (for_reason TooLarge)
+  pub read_full : (t : Term) → first_reason form ≡ None → pair_in words ≡ Some t → (holds_once head && get_or marks t.0 false) ≡ false → full ≡ true → first_reason next ≡ Some TooLarge
   read_full t e p r f = read_passed t e p ∙ ap₂ (λ b f. first_reason (last_tests b f)) r f
 
   pub read_fine : (t : Term) → first_reason form ≡ None → pair_in words ≡ Some t → (holds_once head && get_or marks t.0 false) ≡ false → full ≡ false → first_reason next ≡ None

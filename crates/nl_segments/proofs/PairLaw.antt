@@ -9,12 +9,13 @@ use Rattle.nl_model.specs.declared.counts.Counts.{Counts}
 use Rattle.nl_model.specs.Draft.{Draft, empty_draft}
 use Rattle.nl_model.specs.File.{Term}
 use Rattle.nl_model.specs.Rules.{term_count}
+use Rattle.nl_model.specs.UseCounts.{use_count, uses_in}
+use Rattle.nl_model.proofs.UseLemmas.{uses_in-most}
 use Rattle.nl_segments.specs.declared.head.Head.{Head}
-use Rattle.nl_segments.specs.declared.head.Head.TheVariants.{Body, Objective, Definition, DualGuesses, PrimalGuesses, Sides, Bounds, ColumnCounts, Terms, Slopes, Suffix}
+use Rattle.nl_segments.specs.declared.head.Head.TheVariants.{Body, Objective, Definition, Terms, Slopes, Suffix}
 use Rattle.nl_segments.specs.Pieces.{Piece, is_complete, piece_pairs}
 use Rattle.nl_segments.specs.Saying.{if_complete, said_by, with_piece, draft_of}
 use Rattle.nl_segments.specs.Tests.{is_linear, pair_total}
-use Rattle.nl_segments.specs.Held.{use_count}
 
 -- ---- lists
 
@@ -33,22 +34,14 @@ sum_set f (r ∷ rows) (suc i) x lt =
     let b = sum_by-cons f r rows in
     omega arith
 
-filter_fewer : (p : Term → Bool) (ts : List Term) → length (filter p ts) ≤ length ts
-filter_fewer p [] = omega arith
-filter_fewer p (t ∷ ts) = by (p t) refl (filter_fewer p ts)
-  where
-    by : (b : Bool) → p t ≡ b → length (filter p ts) ≤ length ts → length (filter p (t ∷ ts)) ≤ length (t ∷ ts)
-    by true e h = rw e (omega arith)
-    by false e h = rw e (omega arith)
-
 -- ---- uses of variables
 
 pub uses_few : (rows : List (List Term)) (j : ℕ) → use_count rows j ≤ term_count rows
 uses_few [] j = omega arith
 uses_few (ts ∷ rows) j =
-    let a = sum_by-cons (λ ts. length (filter (λ t. t.0 == j) ts)) ts rows in
+    let a = sum_by-cons (λ ts. uses_in ts j) ts rows in
     let b = sum_by-cons {X = List Term} length ts rows in
-    let fewer = filter_fewer (λ t. t.0 == j) ts in
+    let fewer = uses_in-most ts j in
     let rest = uses_few rows j in
     omega arith
 
@@ -57,7 +50,7 @@ pub use_more : (rows : List (List Term)) (i j : ℕ) (t : Term) → i < length r
 use_more rows i j t lt = by (t.0 == j) refl
   where
     f : List Term → ℕ
-    f ts = length (filter (λ t. t.0 == j) ts)
+    f ts = uses_in ts j
 
     split : f (get_or rows i [] ++ t ∷ []) ≡ f (get_or rows i []) + f (t ∷ [])
     split = ap length (filter-append (λ t. t.0 == j) (get_or rows i []) (t ∷ [])) ∙ length-append (filter (λ t. t.0 == j) (get_or rows i [])) (filter (λ t. t.0 == j) (t ∷ []))
@@ -110,14 +103,9 @@ terms_by : (d : Draft) (p : Piece) (h : Head) → all_terms (said_by d p h) ≤ 
 terms_by d p (Body i) = kept_count all_terms d _ p 0 (omega arith)
 terms_by d p (Objective k m) = kept_count all_terms d _ p 0 (omega arith)
 terms_by d p (Definition i j u) = kept_count all_terms d _ p (length (piece_pairs p)) (omega arith)
-terms_by d p (DualGuesses n) = omega arith
-terms_by d p (PrimalGuesses n) = omega arith
-terms_by d p Sides = omega arith
-terms_by d p Bounds = omega arith
-terms_by d p (ColumnCounts n) = omega arith
 terms_by d p (Terms i n) = count_set d.terms i (piece_pairs p)
-terms_by d p (Slopes k n) = omega arith
 terms_by d p (Suffix k n) = kept_count all_terms d _ p 0 (omega arith)
+terms_by d p head = omega arith
 
 abbrev slopes_at : ℕ → Draft → ℕ
 slopes_at k d = length (get_or d.slopes k [])
@@ -126,14 +114,9 @@ slopes_by : (k : ℕ) (d : Draft) (p : Piece) (h : Head) → slopes_at k (said_b
 slopes_by k d p (Body i) = kept_count (slopes_at k) d _ p 0 (omega arith)
 slopes_by k d p (Objective i m) = kept_count (slopes_at k) d _ p 0 (omega arith)
 slopes_by k d p (Definition i j u) = kept_count (slopes_at k) d _ p (length (piece_pairs p)) (omega arith)
-slopes_by k d p (DualGuesses n) = omega arith
-slopes_by k d p (PrimalGuesses n) = omega arith
-slopes_by k d p Sides = omega arith
-slopes_by k d p Bounds = omega arith
-slopes_by k d p (ColumnCounts n) = omega arith
-slopes_by k d p (Terms i n) = omega arith
 slopes_by k d p (Slopes i n) = slopes_set d.slopes i k (piece_pairs p)
 slopes_by k d p (Suffix i n) = kept_count (slopes_at k) d _ p 0 (omega arith)
+slopes_by k d p head = omega arith
 
 total_first : (p : Piece) (pieces : List Piece) → pair_total is_linear (p ∷ pieces) ≡ linear_in p p.head + pair_total is_linear pieces
 total_first p pieces = by (is_linear p.head) refl

@@ -12,7 +12,7 @@ use Rattle.nl_model.specs.File.{Term}
 use Rattle.nl_model.specs.Rules.{AreTermsBelow, AreIndicesApart}
 use Rattle.nl_segments.specs.declared.awaited.Awaited.TheVariants.{Pair}
 use Rattle.nl_segments.specs.declared.head.Head.{Head}
-use Rattle.nl_segments.specs.declared.head.Head.TheVariants.{Body, Objective, Definition, DualGuesses, PrimalGuesses, Sides, Bounds, ColumnCounts, Terms, Slopes, Suffix}
+use Rattle.nl_segments.specs.declared.head.Head.TheVariants.{Sides, Bounds, ColumnCounts}
 use Rattle.nl_segments.specs.Rows.{Row, row_words}
 use Rattle.nl_segments.specs.Pieces.{Piece, line_count, line_kind, pair_count, pair_in, piece_pairs}
 use Rattle.nl_segments.specs.Tests.{has_index, holds_once, index_limit}
@@ -25,17 +25,10 @@ use Rattle.nl_segments.proofs.PieceLemmas.{longer}
 -- ---- heads of pairs
 
 pub pair_lines : (c : Counts) (h : Head) → line_kind h ≡ Pair → line_count c h ≡ pair_count h
-pair_lines c (Body i) e = refl
-pair_lines c (Objective k m) e = refl
-pair_lines c (Definition i j u) e = refl
-pair_lines c (DualGuesses n) e = refl
-pair_lines c (PrimalGuesses n) e = refl
 pair_lines c Sides e = absurd cc
 pair_lines c Bounds e = absurd cc
 pair_lines c (ColumnCounts n) e = absurd cc
-pair_lines c (Terms i n) e = refl
-pair_lines c (Slopes k n) e = refl
-pair_lines c (Suffix k n) e = refl
+pair_lines c head e = refl
 
 -- ---- indices
 

@@ -9,28 +9,28 @@ use Rattle.nl_model.specs.Draft.{Draft}
 use Rattle.nl_model.specs.File.{Term}
 use Rattle.nl_model.specs.Rules.{most_terms}
 use Rattle.std.proofs.lemmas.Bool.{ltb-true}
-use Rattle.nl_segments.specs.declared.awaited.Awaited.TheVariants.{Pair}
-use Rattle.nl_segments.specs.declared.fault.Refusal.{Refusal}
+use Rattle.nl_segments.specs.declared.awaited.Awaited.TheVariants.{ColumnCount, Pair}
+use Rattle.nl_segments.specs.declared.fault.NlReason.{NlReason}
 use Rattle.nl_segments.specs.declared.head.Head.{Head}
-use Rattle.nl_segments.specs.declared.head.Head.TheVariants.{Body as BodyHead, Objective, Definition, DualGuesses, PrimalGuesses, Sides, Bounds, ColumnCounts, Terms, Slopes, Suffix}
+use Rattle.nl_segments.specs.declared.head.Head.TheVariants.{DualGuesses, Terms, Suffix}
 use Rattle.nl_segments.specs.Rows.{Row}
 use Rattle.nl_segments.specs.Heads.{is_head, is_in_range}
-use Rattle.nl_segments.specs.Pieces.{Piece, is_nothing, line_kind, piece_pairs}
+use Rattle.nl_segments.specs.Pieces.{Piece, is_nothing, piece_pairs}
 use Rattle.nl_segments.specs.PlaceSteps.{with_term_line}
 use Rattle.nl_segments.specs.Saying.{draft_of}
-use Rattle.nl_segments.specs.Tests.{all_column_counts, column_counts, index_limit, is_full, is_linear, is_suffix, pair_total}
+use Rattle.nl_segments.specs.Tests.{index_limit, is_full, is_linear, is_suffix, pair_total}
 use Rattle.nl_segments.specs.Grammar.{Standing, counts_of}
 use Rattle.nl_segments.specs.Steps.{after_body_row}
 use Rattle.nl_segments.specs.Current.{Current, current_awaits}
 use Rattle.nl_segments.specs.LineSteps.{unless_complete}
 use Rattle.nl_segments.specs.PairSteps.{is_full_at, next_pair_tests, one_more, with_closed, with_given, with_kept, with_mark, with_suffix, with_use}
-use Rattle.nl_segments.specs.Held.{Body, IsAwaiting, IsHeld, IsMarked, IsNodeKnown, IsNodeLeft, IsRowOf, use_count, words_refusal}
+use Rattle.nl_model.specs.UseCounts.{use_count}
+use Rattle.nl_segments.specs.Held.{Body, IsAwaiting, IsHeld, IsMarked, IsNodeKnown, IsNodeLeft, IsRowOf, words_refusal}
 use Rattle.nl_segments.proofs.CurrentLemmas.{awaits}
 use Rattle.nl_segments.proofs.DraftLemmas.{draft_counts}
-use Rattle.nl_segments.proofs.IntervalSteps.{columns-append}
 use Rattle.nl_segments.proofs.PairCan.{IsRead, IsPairNext, pair_next}
 use Rattle.nl_segments.proofs.PairDraft.{draft_lengths, draft_pair, terms_closed, uses_pair, users_kept, places_pair}
-use Rattle.nl_segments.proofs.PairHeld.{held_longer}
+use Rattle.nl_segments.proofs.PairHeld.{held_longer, columns_kept}
 use Rattle.nl_segments.proofs.PairJudging.{same_pair_tests}
 use Rattle.nl_segments.proofs.PairLines.{at, opened, awaits_as, judged_by, last_sound, pairs_longer, row_after}
 use Rattle.nl_segments.proofs.PairPiece.{IsNextPair, pairs_are, sound_pair, marks_kept, marked_pair, kept_fields, kept_current, kept_pairs}
@@ -58,22 +58,6 @@ total_more : (counts : Head → Bool) (before : List Piece) (p : Piece) (row : R
 total_more counts before p row c t old new n e is =
     is ∙ ap (one_more (counts p.head)) e
     ∙ sym (pairs_longer counts before p row 1 (ap length (pairs_are c p row t n) ∙ length-append (piece_pairs p) (t ∷ [])))
-
-columns_same : (before : List Piece) (p : Piece) (row : Row) → line_kind p.head ≡ Pair → all_column_counts (before ++ longer p row ∷ []) ≡ all_column_counts (before ++ p ∷ [])
-columns_same before p row e = columns-append before (longer p row) ∙ by p.head refl ∙ sym (columns-append before p)
-  where
-    by : (h : Head) → p.head ≡ h → all_column_counts before ++ column_counts (longer p row) p.head ≡ all_column_counts before ++ column_counts p p.head
-    by (ColumnCounts n) q = absurd (let other = ap line_kind q in cc)
-    by (BodyHead i) q = rw q refl
-    by (Objective k m) q = rw q refl
-    by (Definition i j u) q = rw q refl
-    by (DualGuesses n) q = rw q refl
-    by (PrimalGuesses n) q = rw q refl
-    by Sides q = rw q refl
-    by Bounds q = rw q refl
-    by (Terms i n) q = rw q refl
-    by (Slopes k n) q = rw q refl
-    by (Suffix k n) q = rw q refl
 
 still_few : (h : Head) (old new : ℕ) → old ≤ most_terms → (is_linear h ≡ true → old < most_terms) → new ≡ one_more (is_linear h) old → new ≤ most_terms
 still_few h old new le lt e = by (is_linear h) refl
@@ -107,29 +91,11 @@ definitions_kept d h t name cur = by (is_nothing (current_awaits cur)) refl
   where
     given : (h : Head) → (with_given d h t).definitions ≡ d.definitions
     given (DualGuesses n) = refl
-    given (PrimalGuesses n) = refl
-    given (Terms i n) = refl
-    given (Slopes i n) = refl
-    given (Suffix k n) = refl
-    given (BodyHead i) = refl
-    given (Objective k m) = refl
-    given (Definition i j u) = refl
-    given Sides = refl
-    given Bounds = refl
-    given (ColumnCounts n) = refl
+    given head = refl
 
     closed : (x : Draft) (h : Head) → (with_suffix x name cur h).definitions ≡ x.definitions
     closed x (Suffix k n) = refl
-    closed x (BodyHead i) = refl
-    closed x (Objective k m) = refl
-    closed x (Definition i j u) = refl
-    closed x (DualGuesses n) = refl
-    closed x (PrimalGuesses n) = refl
-    closed x Sides = refl
-    closed x Bounds = refl
-    closed x (ColumnCounts n) = refl
-    closed x (Terms i n) = refl
-    closed x (Slopes k n) = refl
+    closed x head = refl
 
     by : (b : Bool) → is_nothing (current_awaits cur) ≡ b → (with_closed (with_given d h t) name cur).definitions ≡ d.definitions
     by true e = rw e (closed (with_given d h t) cur.head ∙ given h)
@@ -192,7 +158,7 @@ pair_held s old new cur row t n cur_is d =
       room = ap length marks ∙ marks_kept p.head old.marks t.0;
       linear = total_more is_linear before p row c t old.linear new.linear n.next h.linear linear;
       values = total_more is_suffix before p row c t old.values new.values n.next h.values values;
-      columns = d.columns ∙ h.columns ∙ sym (columns_same before p row n.next.same_kind);
+      columns = d.columns ∙ h.columns ∙ sym (columns_kept before p row (λ k. let clash : Pair ≡ ColumnCount = sym n.next.same_kind ∙ k in cc));
       uses = λ j lt. uses_done s old new cur row t n d j lt;
       users = ap length uses ∙ users_kept p.head old.uses t.0;
       places = places ∙ ap (λ l. with_term_line l row.line p.head) h.places ∙ places_pair c before p row t n.next n.range;
@@ -220,7 +186,7 @@ judged_pair s b cur words full e a plain full_by h =
     ∙ same_pair_tests c s.pieces o.piece words b.marks full marks full_said
     ∙ sym (ap (λ k. first_reason (next_pair_tests k cur.head b.marks full words)) h.counts ∙ ap (λ x. first_reason (next_pair_tests c x b.marks full words)) head)
 
-pub pair_refused : (value : Body) (cur : Current) (words : List (List ℕ)) (full : Bool) (r : Refusal) → value.current ≡ Some cur → IsAwaiting Pair value → is_head words ≡ false
+pub pair_refused : (value : Body) (cur : Current) (words : List (List ℕ)) (full : Bool) (r : NlReason) → value.current ≡ Some cur → IsAwaiting Pair value → is_head words ≡ false
     → full ≡ is_full_at cur.head value.linear value.values → first_reason (next_pair_tests value.draft.counts cur.head value.marks full words) ≡ Some r
     → (s : Standing) → IsHeld s value → words_refusal s words ≡ Some r
 pair_refused value cur words full r e a plain full_by fault s h = judged_pair s value cur words full e a plain full_by h ∙ fault
@@ -239,12 +205,12 @@ pair_step value fields new cur words line t full same plain r full_by fine d s r
     )
 
 -- the tests of a row that was read, by the parts that reading took
-pub tests_by : (value fields : Body) (cur : Current) (words : List (List ℕ)) (counts : Counts) (head : Head) (full : Bool) (r : Option Refusal) → fields ≡ value → counts ≡ fields.draft.counts → head ≡ cur.head
+pub tests_by : (value fields : Body) (cur : Current) (words : List (List ℕ)) (counts : Counts) (head : Head) (full : Bool) (r : Option NlReason) → fields ≡ value → counts ≡ fields.draft.counts → head ≡ cur.head
     → first_reason (next_pair_tests counts head fields.marks full words) ≡ r → first_reason (next_pair_tests fields.draft.counts cur.head fields.marks full words) ≡ r
 tests_by value fields cur words counts head full r same counts_is head_is e =
     sym (ap (λ k. first_reason (next_pair_tests k head fields.marks full words)) counts_is ∙ ap (λ x. first_reason (next_pair_tests fields.draft.counts x fields.marks full words)) head_is) ∙ e
 
-pub refused_by : (value fields : Body) (cur : Current) (words : List (List ℕ)) (counts : Counts) (head : Head) (full : Bool) (r : Refusal) → fields ≡ value → fields.current ≡ Some cur → IsAwaiting Pair value → is_head words ≡ false
+pub refused_by : (value fields : Body) (cur : Current) (words : List (List ℕ)) (counts : Counts) (head : Head) (full : Bool) (r : NlReason) → fields ≡ value → fields.current ≡ Some cur → IsAwaiting Pair value → is_head words ≡ false
     → counts ≡ fields.draft.counts → head ≡ cur.head → full ≡ is_full_at head fields.linear fields.values → first_reason (next_pair_tests counts head fields.marks full words) ≡ Some r
     → (s : Standing) → IsHeld s value → words_refusal s words ≡ Some r
 refused_by value fields cur words counts head full r same current a plain counts_is head_is full_is fault s h =

@@ -1,12 +1,12 @@
 -- What a head and a row more do to the lines of places.
-use Rattle.std.proofs.Common.{◌≡◌, ◌∙◌, ℕ, ◌-◌, ◌<◌, true, List, [], ◌∷◌, ◌++◌, length, take, drop, refl, sym, ap, ap₂, arith, Some, get_or, slice_set}
+use Rattle.std.proofs.Common.{◌≡◌, ◌∙◌, ℕ, ◌-◌, ◌<◌, true, List, [], ◌∷◌, ◌++◌, length, refl, sym, ap, ap₂, arith, Some, get_or, slice_set}
 use Rattle.std.specs.Option.{option_or}
 use Rattle.std.specs.List.{fold}
 use Rattle.std.proofs.lemmas.Bool.{ltb-true}
-use Rattle.std.proofs.lemmas.List.{length-append, length-set, length-replicate, take_all, drop_all}
+use Rattle.std.proofs.lemmas.List.{length-append, length-set, length-replicate}
 use Rattle.nl_model.specs.declared.counts.Counts.{Counts}
 use Rattle.nl_segments.specs.declared.head.Head.{Head}
-use Rattle.nl_segments.specs.declared.head.Head.TheVariants.{Body, Objective, Definition, DualGuesses, PrimalGuesses, Sides, Bounds, ColumnCounts, Terms, Slopes, Suffix}
+use Rattle.nl_segments.specs.declared.head.Head.TheVariants.{Body, Objective, Definition, DualGuesses, Terms, Slopes}
 use Rattle.nl_segments.specs.Heads.{is_in_range}
 use Rattle.nl_segments.specs.Rows.{Row}
 use Rattle.nl_segments.specs.Nodes.{nodes_from}
@@ -41,17 +41,10 @@ changed_last f xs x y e = by xs ∙ ap (changed f (xs ++ x ∷ [])) (omega (arit
 
 pub place_begun : (c : Counts) (l : PlaceLines) (head : Head) (name : List ℕ) (line : ℕ) → lines_by c l (record { head = head; name = name; line = line; rows = [] }) head ≡ with_begun l line head
 unfolding nodes_from
-place_begun c l (Body i) name line = refl
-place_begun c l (Objective k m) name line = refl
 place_begun c l (Definition i j u) name line = rw (drop_none j, take_none j) refl
 place_begun c l (Terms i n) name line = rw (take_none n) refl
 place_begun c l (Slopes k n) name line = rw (take_none n) refl
-place_begun c l (DualGuesses n) name line = refl
-place_begun c l (PrimalGuesses n) name line = refl
-place_begun c l Sides name line = refl
-place_begun c l Bounds name line = refl
-place_begun c l (ColumnCounts n) name line = refl
-place_begun c l (Suffix k n) name line = refl
+place_begun c l head name line = refl
 
 -- ---- a node
 
@@ -73,13 +66,7 @@ place_node c l p row line (Definition i j u) owner tree e t =
     (λ k. record { head = Some p.line; nodes = e k; terms = t k }) in
     λ k. record l { definitions = q k }
 place_node c l p row line (DualGuesses n) owner tree e t = absurd cc
-place_node c l p row line (PrimalGuesses n) owner tree e t = absurd cc
-place_node c l p row line Sides owner tree e t = absurd cc
-place_node c l p row line Bounds owner tree e t = absurd cc
-place_node c l p row line (ColumnCounts n) owner tree e t = absurd cc
-place_node c l p row line (Terms i n) owner tree e t = absurd cc
-place_node c l p row line (Slopes k n) owner tree e t = absurd cc
-place_node c l p row line (Suffix k n) owner tree e t = absurd cc
+place_node c l p row line head owner tree e t = absurd cc
 
 -- ---- a term
 
@@ -100,13 +87,7 @@ place_term c l p row line (Definition i j u) owner linear e t =
     (λ k. record { head = Some p.line; nodes = e k; terms = t k }) in
     λ k. record l { definitions = q k }
 place_term c l p row line (Body i) owner linear e t = absurd cc
-place_term c l p row line (Objective i m) owner linear e t = absurd cc
-place_term c l p row line (DualGuesses n) owner linear e t = absurd cc
-place_term c l p row line (PrimalGuesses n) owner linear e t = absurd cc
-place_term c l p row line Sides owner linear e t = absurd cc
-place_term c l p row line Bounds owner linear e t = absurd cc
-place_term c l p row line (ColumnCounts n) owner linear e t = absurd cc
-place_term c l p row line (Suffix k n) owner linear e t = absurd cc
+place_term c l p row line head owner linear e t = absurd cc
 
 -- ---- no node and no term
 
@@ -116,27 +97,16 @@ place_same c l p row (Objective k m) e t = ap (λ (ns : List ℕ). record l { ob
 place_same c l p row (Definition i j u) e t = ap₂ (λ (ns ts : List ℕ). record l { definitions = l.definitions ++ record { head = Some p.line; nodes = ns; terms = ts } ∷ [] }) e t
 place_same c l p row (Terms i n) e t = ap (λ (ts : List ℕ). record l { constraints = changed (λ o. record { head = option_or o.head (Some p.line); nodes = o.nodes; terms = ts }) l.constraints i }) t
 place_same c l p row (Slopes k n) e t = ap (λ (ts : List ℕ). record l { objectives = changed (λ o. record o { terms = ts }) l.objectives k }) t
-place_same c l p row (DualGuesses n) e t = refl
-place_same c l p row (PrimalGuesses n) e t = refl
-place_same c l p row Sides e t = refl
-place_same c l p row Bounds e t = refl
-place_same c l p row (ColumnCounts n) e t = refl
-place_same c l p row (Suffix k n) e t = refl
+place_same c l p row head e t = refl
 
 -- ---- owners have their places
 
 counted : (c : Counts) (l : PlaceLines) (p : Piece) (h : Head) → (length (lines_by c l p h).constraints ≡ length l.constraints) × (length (lines_by c l p h).objectives ≡ length l.objectives)
 counted c l p (Body i) = (length-set l.constraints i _, refl)
 counted c l p (Objective k m) = (refl, length-set l.objectives k _)
-counted c l p (Definition i j u) = (refl, refl)
 counted c l p (Terms i n) = (length-set l.constraints i _, refl)
 counted c l p (Slopes k n) = (refl, length-set l.objectives k _)
-counted c l p (DualGuesses n) = (refl, refl)
-counted c l p (PrimalGuesses n) = (refl, refl)
-counted c l p Sides = (refl, refl)
-counted c l p Bounds = (refl, refl)
-counted c l p (ColumnCounts n) = (refl, refl)
-counted c l p (Suffix k n) = (refl, refl)
+counted c l p head = (refl, refl)
 
 fold_counted : (c : Counts) (pieces : List Piece) (l : PlaceLines) → (length (fold (λ l p. lines_by c l p p.head) l pieces).constraints ≡ length l.constraints) × (length (fold (λ l p. lines_by c l p p.head) l pieces).objectives ≡ length l.objectives)
 fold_counted c [] l = (refl, refl)
@@ -155,12 +125,6 @@ pub owner_there : (c : Counts) (pieces : List Piece) (h : Head) → is_in_range 
 unfolding is_in_range
 owner_there c pieces (Body i) e = rw (place_counts c pieces).0 (ltb-true i c.n_con e)
 owner_there c pieces (Objective k m) e = rw (place_counts c pieces).1 (ltb-true k c.n_obj e)
-owner_there c pieces (Definition i j u) e = tt
-owner_there c pieces (DualGuesses n) e = tt
-owner_there c pieces (PrimalGuesses n) e = tt
-owner_there c pieces Sides e = tt
-owner_there c pieces Bounds e = tt
-owner_there c pieces (ColumnCounts n) e = tt
 owner_there c pieces (Terms i n) e = rw (place_counts c pieces).0 (ltb-true i c.n_con e)
 owner_there c pieces (Slopes k n) e = rw (place_counts c pieces).1 (ltb-true k c.n_obj e)
-owner_there c pieces (Suffix k n) e = tt
+owner_there c pieces head e = tt

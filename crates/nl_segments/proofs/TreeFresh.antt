@@ -10,7 +10,7 @@ use Rattle.nl_model.specs.File.{Term}
 use Rattle.nl_model.specs.HeaderRules.{defined_count}
 use Rattle.nl_model.specs.Rules.{AreTermsBelow, is_defined, most_terms}
 use Rattle.nl_segments.specs.declared.head.Head.{Head}
-use Rattle.nl_segments.specs.declared.head.Head.TheVariants.{Body as BodyHead, Objective, Definition, DualGuesses, PrimalGuesses, Sides, Bounds, ColumnCounts, Terms, Slopes, Suffix}
+use Rattle.nl_segments.specs.declared.head.Head.TheVariants.{Body as BodyHead, Objective, Definition, DualGuesses}
 use Rattle.nl_segments.specs.Heads.{is_in_range}
 use Rattle.nl_segments.specs.Pieces.{Piece, has_tree, piece_pairs}
 use Rattle.nl_segments.specs.Tests.{index_limit, is_linear, is_same_piece, pair_total}
@@ -84,13 +84,7 @@ fresh_by header before p b cur h held begun tree e = by h e
           few = few_kept before p b.linear cur.pairs (ap is_linear e) held.linear held.few_terms same;
         }
     by (DualGuesses n) e = tt
-    by (PrimalGuesses n) e = tt
-    by Sides e = tt
-    by Bounds e = tt
-    by (ColumnCounts n) e = tt
-    by (Terms i n) e = tt
-    by (Slopes k n) e = tt
-    by (Suffix k n) e = tt
+    by head e = tt
 
 -- what is kept after a row more has the same head and terms
 pub fresh_tree : (s : Standing) (b : Body) (cur next : Current) → IsHeld s b → b.current ≡ Some cur → has_tree cur.head ≡ true → next.head ≡ cur.head → next.pairs ≡ cur.pairs → IsFresh b.draft next.head next.pairs

@@ -1,6 +1,6 @@
 -- Each expression of a file is read from a piece.
-use Rattle.std.proofs.Common.{◌≡◌, ◌∙◌, ℕ, zero, suc, ◌==◌, Bool, true, false, List, [], ◌∷◌, ◌++◌, length, refl, sym, ap, subst, nat_lt, slice_set, get_or, Option, Some, None, All, ◌⊎◌, inl, inr, append_assoc, append-nil}
-use Rattle.std.specs.Prelude.{ℤ, IsSome, slice_get, replicate, option_map, option_and_then, unwrap_or, if◌then◌else◌}
+use Rattle.std.proofs.Common.{◌≡◌, ◌∙◌, ℕ, zero, suc, ◌==◌, Bool, true, false, List, [], ◌∷◌, ◌++◌, length, refl, sym, ap, subst, nat_lt, slice_set, get_or, Option, Some, None, ◌⊎◌, inl, inr, append_assoc, append-nil}
+use Rattle.std.specs.Prelude.{ℤ, slice_get, option_map, unwrap_or, if◌then◌else◌}
 use Rattle.std.specs.List.{Contains}
 use Rattle.std.proofs.lemmas.Bool.{eqb-true}
 use Rattle.std.proofs.lemmas.List.Elements.{All-contains, Contains-append_left, Contains-push}
@@ -10,7 +10,7 @@ use Rattle.nl_meaning.specs.Trees.{Tree}
 use Rattle.nl_model.specs.declared.counts.Counts.{Counts}
 use Rattle.nl_model.specs.declared.at.Owner.{Owner}
 use Rattle.nl_model.specs.declared.at.Owner.TheVariants.{Con, Def, Obj}
-use Rattle.nl_model.specs.Draft.{Draft, empty_draft, file_of}
+use Rattle.nl_model.specs.Draft.{Draft, file_of}
 use Rattle.nl_model.specs.File.{Definition, File, Objective}
 use Rattle.nl_model.specs.FilePlaces.{tree_at}
 use Rattle.nl_model.specs.Nodes.{awaited, IsPrefix}
@@ -30,7 +30,7 @@ use Rattle.nl_segments.proofs.DraftLemmas.{draft_counts}
 use Rattle.nl_segments.proofs.FreshLaw.{either}
 use Rattle.nl_segments.proofs.LinesHeld.{always, body_in, given_in, tree_part}
 use Rattle.nl_segments.proofs.HeadBegun.{some_line}
-use Rattle.nl_segments.proofs.NodeSteps.{no}
+use Rattle.nl_segments.proofs.PairHeld.{never}
 use Rattle.nl_segments.proofs.PieceLemmas.{draft-append}
 
 -- ---- lists with one more
@@ -166,7 +166,7 @@ unfolding awaited_in
 nothing_wanted c p t whole = by (nat_lt (length p.rows) (line_count c p.head)) whole
   where
     by : (l : Bool) → is_nothing (if l then line_kind p.head else (if has_tree p.head then tree_awaits (piece_nodes c p) (piece_pending p) else Nothing)) ≡ true → awaited (only_nodes (piece_nodes c p)) ≡ 0
-    by true e = absurd (no (sym e ∙ some_line p.head))
+    by true e = absurd (never (sym e ∙ some_line p.head))
     by false e = none_wanted (piece_nodes c p) (piece_pending p) (tree_part (has_tree p.head) (tree_awaits (piece_nodes c p) (piece_pending p)) t e)
 
 found : (P : ℕ → Type 0) (s : Standing) (f : File) (owner : Owner) (begins : Head → Type 0) (t : Tree) → IsWholeText P s → IsSaid (counts_of s) s.pieces begins t → ((h : Head) → begins h → BeginsTree f owner h) → HasPiece s f owner t

@@ -4,7 +4,6 @@ use Rattle.code_tables.specs.Opcodes.{operands_of}
 use Rattle.code_tables.specs.declared.class.Operands.TheVariants.{Counted as OnNextLine}
 use Rattle.nl_model.specs.declared.counts.Counts.{Counts}
 use Rattle.nl_model.specs.declared.node.Node.{Node}
-use Rattle.nl_model.specs.declared.node.Node.TheVariants.{Op}
 use Rattle.nl_model.specs.File.{Term}
 use Rattle.nl_model.specs.Nodes.{awaited}
 use Rattle.nl_segments.specs.declared.awaited.Awaited.{Awaited}
@@ -47,12 +46,10 @@ less_line c = record c { left = c.left - 1 }
 abbrev pub with_pair : Current → Term → Current
 with_pair c t = record c { left = c.left - 1; pairs = c.pairs ++ t ∷ [] }
 
+-- a row of the expression, whose node or opcode stands in this line
 abbrev pub with_node_row : Current → ℕ → NodeRow → Current
-with_node_row c line (Whole n) = record c { nodes = c.nodes ++ n ∷ [] }
+with_node_row c line (Whole n) = record c { nodes = c.nodes ++ n ∷ []; pending = None }
 with_node_row c line (Counted o) = record c { pending = Some (record { opcode = o; line = line }) }
-
-abbrev pub with_operand_count : Current → ℕ → ℕ → Current
-with_operand_count c opcode count = record c { nodes = c.nodes ++ Op opcode count ∷ []; pending = None }
 
 -- what is held of the piece p
 pub record IsCurrent (counts : Counts) (p : Piece) (c : Current) : Type 0 where

@@ -4,7 +4,7 @@ use Rattle.nl_model.specs.Draft.{Draft}
 use Rattle.nl_model.specs.Rules.{term_count}
 use Rattle.nl_segments.specs.declared.fault.NlReason.TheVariants.{ShortSegment, Missing, NonzeroCount, ColumnCount as BadColumnCount}
 use Rattle.nl_segments.specs.Pieces.{is_nothing}
-use Rattle.nl_segments.specs.Tests.{Tests, for_reason, is_short}
+use Rattle.nl_segments.specs.Tests.{Tests, is_short}
 use Rattle.nl_segments.specs.Held.{Body}
 use Rattle.nl_segments.specs.Taking.{body_awaits}
 
@@ -15,10 +15,10 @@ are_sums uses j before (n ∷ ns) = (n == before + get_or uses j 0) && are_sums 
 
 abbrev pub body_end_tests : Body → Tests
 body_end_tests b =
-    (not (is_nothing (body_awaits b.current)), for_reason ShortSegment)
-    ∷ (is_short b.draft, for_reason Missing)
-    ∷ (not (term_count b.draft.terms == b.draft.counts.nzc), for_reason NonzeroCount)
-    ∷ (not (are_sums b.uses 0 0 b.columns), for_reason BadColumnCount) ∷ []
+    (not (is_nothing (body_awaits b.current)), ShortSegment)
+    ∷ (is_short b.draft, Missing)
+    ∷ (not (term_count b.draft.terms == b.draft.counts.nzc), NonzeroCount)
+    ∷ (not (are_sums b.uses 0 0 b.columns), BadColumnCount) ∷ []
 
 -- a draft of which nothing is missing
 pub record IsReady (d : Draft) : Type 0 where

@@ -12,11 +12,10 @@ use Rattle.nl_model.specs.File.{File}
 use Rattle.nl_model.specs.Draft.{Draft, file_of}
 use Rattle.nl_segments.specs.declared.fault.NlReason.{NlReason}
 use Rattle.nl_segments.specs.declared.fault.NlReason.TheVariants.{BinaryFile, BadFirstLine, Options, BadHeaderNumber, CountsDisagree, RefusedCount, TooLarge, LineTooLong, InputTooLong, EndInHeader}
-use Rattle.nl_segments.specs.declared.fault.Refusal.{Refusal}
 use Rattle.nl_segments.specs.Rows.{rows_of, holds_words, header_words, body_rows}
 use Rattle.nl_segments.specs.Pieces.{Piece, pieces_of}
 use Rattle.nl_segments.specs.Saying.{draft_of, PlaceLines, place_lines}
-use Rattle.nl_segments.specs.Tests.{for_reason, row_tests, end_tests}
+use Rattle.nl_segments.specs.Tests.{row_tests, end_tests}
 
 -- ---- What lines mean for the next one.
 
@@ -52,30 +51,30 @@ reason_of Refused = RefusedCount
 reason_of Large = TooLarge
 
 -- a row of the header
-abbrev pub header_refusal : Standing → List ℕ → Option Refusal
-header_refusal s text = option_map (λ fault. for_reason (reason_of fault)) (line_fault s.header (words_of text))
+abbrev pub header_refusal : Standing → List ℕ → Option NlReason
+header_refusal s text = option_map (λ fault. (reason_of fault)) (line_fault s.header (words_of text))
 
 -- a row of the body
-abbrev pub body_refusal : Standing → List ℕ → Option Refusal
+abbrev pub body_refusal : Standing → List ℕ → Option NlReason
 body_refusal s text = first_reason (row_tests (counts_of s) (said s) s.pieces (row_of text))
 
 -- a row, by its text without the comment
-abbrev pub row_refusal : Standing → List ℕ → Option Refusal
+abbrev pub row_refusal : Standing → List ℕ → Option NlReason
 row_refusal s text = if is_in_header s then header_refusal s text else body_refusal s text
 
 -- a line; one that holds no word means nothing
-unfoldable pub line_refusal : Standing → List ℕ → Option Refusal
+unfoldable pub line_refusal : Standing → List ℕ → Option NlReason
 line_refusal s line = if holds_words line then row_refusal s (without_comment line) else None
 
-abbrev pub fault_refusal : LineFault → Refusal
-fault_refusal LongLine = for_reason LineTooLong
-fault_refusal LongInput = for_reason InputTooLong
+abbrev pub fault_refusal : LineFault → NlReason
+fault_refusal LongLine = LineTooLong
+fault_refusal LongInput = InputTooLong
 
 -- the end of the text
-unfoldable pub end_refusal : Standing → Option Refusal
-end_refusal s = if is_in_header s then Some (for_reason EndInHeader) else first_reason (end_tests (counts_of s) (said s) s.pieces)
+unfoldable pub end_refusal : Standing → Option NlReason
+end_refusal s = if is_in_header s then Some EndInHeader else first_reason (end_tests (counts_of s) (said s) s.pieces)
 
-abbrev pub nl_rules : Rules Refusal
+abbrev pub nl_rules : Rules NlReason
 nl_rules = record {
   at_line = λ before line. line_refusal (standing before) line;
   at_fault = λ before fault. fault_refusal fault;

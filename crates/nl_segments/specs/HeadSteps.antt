@@ -1,18 +1,16 @@
 -- What is wrong with a head by what is held, and what a head more does to what is held.
 use Rattle.std.specs.Prelude.{ℕ, ◌+◌, ◌==◌, Bool, false, not, ◌&&◌, ◌||◌, nat_le, nat_lt, List, [], ◌∷◌, ◌++◌, length, replicate, Option, Some, None, if◌then◌else◌, codes}
 use Rattle.std.specs.Str.{bytes_eq}
-use Rattle.text_base.specs.Judged.{first_reason}
 use Rattle.nl_model.specs.declared.counts.Counts.{Counts}
 use Rattle.nl_model.specs.Draft.{Draft}
 use Rattle.nl_model.specs.File.{Suffix}
 use Rattle.nl_model.specs.Rules.{has_suffix}
 use Rattle.nl_segments.specs.declared.fault.NlReason.TheVariants.{TooLarge, RepeatedSegment, IndexOut, ShortSegment, SosSuffix}
-use Rattle.nl_segments.specs.declared.fault.Refusal.{Refusal}
 use Rattle.nl_segments.specs.declared.head.Head.{Head}
 use Rattle.nl_segments.specs.declared.head.Head.TheVariants.{Suffix as SuffixHead}
 use Rattle.nl_segments.specs.Heads.{is_in_range, head_of, name_in}
 use Rattle.nl_segments.specs.Pieces.{has_tree, line_count}
-use Rattle.nl_segments.specs.Tests.{Tests, for_reason, is_suffix, head_form_tests}
+use Rattle.nl_segments.specs.Tests.{Tests, is_suffix, head_form_tests}
 use Rattle.nl_segments.specs.SeenSegments.{Segments, has_segment, with_segment}
 use Rattle.nl_segments.specs.PlaceSteps.{with_begun}
 use Rattle.nl_segments.specs.Current.{Current, new_current}
@@ -32,19 +30,20 @@ has_come seen suffixes head name = if is_suffix head then has_come_suffix suffix
 -- of a head whose form is right, after so many suffixes
 abbrev pub held_head_tests : Counts → Segments → List Suffix → ℕ → List ℕ → Head → Tests
 held_head_tests c seen suffixes count name head =
-    (not (is_in_range c head), for_reason IndexOut)
-    ∷ (is_suffix head && bytes_eq name (codes "sosno"), for_reason SosSuffix)
-    ∷ (has_come seen suffixes head name, for_reason RepeatedSegment)
-    ∷ (is_suffix head && nat_le 1024 count, for_reason TooLarge) ∷ []
+    (not (is_in_range c head), IndexOut)
+    ∷ (is_suffix head && bytes_eq name (codes "sosno"), SosSuffix)
+    ∷ (has_come seen suffixes head name, RepeatedSegment)
+    ∷ (is_suffix head && nat_le 1024 count, TooLarge) ∷ []
 
 abbrev pub formed_tests : Counts → Segments → List Suffix → ℕ → List ℕ → Option Head → Tests
 formed_tests c seen suffixes count name None = []
 formed_tests c seen suffixes count name (Some head) = held_head_tests c seen suffixes count name head
 
 -- of the words of a head, where the last piece may be open
-abbrev pub held_refusal : Counts → Bool → Segments → List Suffix → ℕ → List (List ℕ) → Option Refusal
-held_refusal c is_open seen suffixes count words =
-    first_reason ((is_open, for_reason ShortSegment) ∷ (head_form_tests c words ++ formed_tests c seen suffixes count (name_in words) (head_of c words)))
+abbrev pub new_head_tests : Counts → Bool → Segments → List Suffix → ℕ → List (List ℕ) → Tests
+new_head_tests c is_open seen suffixes count words =
+    (is_open, ShortSegment)
+    ∷ (head_form_tests c words ++ formed_tests c seen suffixes count (name_in words) (head_of c words))
 
 -- ---- What a head does.
 

@@ -1,6 +1,6 @@
 -- What the reader of the body holds, and how this stands to what the lines mean.
-use Rattle.std.specs.Prelude.{◌≡◌, ℕ, ℤ, nat_lt, IsSomeAnd, ◌<◌, ◌≤◌, ◌^◌, ◌==◌, Bool, true, false, IsTrue, List, [], ◌∷◌, ◌++◌, length, take, get_or, filter, Option, Some, None, IfSome, Result, Ok, Err, All, AllPairs}
-use Rattle.std.specs.List.{list_any, sum_by}
+use Rattle.std.specs.Prelude.{◌≡◌, ℕ, ℤ, nat_lt, IsSomeAnd, ◌<◌, ◌≤◌, ◌^◌, Bool, true, false, IsTrue, List, [], ◌∷◌, ◌++◌, length, take, get_or, Option, Some, None, IfSome, Result, Ok, Err, All, AllPairs}
+use Rattle.std.specs.List.{list_any}
 use Rattle.text_base.specs.declared.stop.Stop.{Stop}
 use Rattle.text_base.specs.declared.stop.Stop.TheVariants.{Fault, Memory}
 use Rattle.text_base.specs.Judged.{first_reason}
@@ -10,10 +10,11 @@ use Rattle.nl_model.specs.declared.node.Node.TheVariants.{Num, Var, Defined, Op}
 use Rattle.nl_model.specs.Draft.{Draft, file_of}
 use Rattle.nl_header.specs.Head.{options_in, counts_in}
 use Rattle.nl_header.specs.Reading.{Taken, IsReading}
-use Rattle.nl_model.specs.File.{Term, Definition}
+use Rattle.nl_model.specs.File.{Definition}
 use Rattle.nl_model.specs.Rules.{AreTermsBelow, AreIndicesApart, is_defined, most_terms}
+use Rattle.nl_model.specs.UseCounts.{use_count}
 use Rattle.nl_segments.specs.declared.awaited.Awaited.{Awaited}
-use Rattle.nl_segments.specs.declared.fault.Refusal.{Refusal}
+use Rattle.nl_segments.specs.declared.fault.NlReason.{NlReason}
 use Rattle.nl_segments.specs.declared.nl_read.NlRead.{NlRead}
 use Rattle.nl_segments.specs.declared.head.Head.{Head}
 use Rattle.nl_segments.specs.declared.head.Head.TheVariants.{Definition as DefinitionHead, Suffix as SuffixHead}
@@ -96,10 +97,6 @@ AreSeen c seen pieces =
     (head : Head) → is_in_range c head ≡ true → is_suffix head ≡ false
     → IsSeenIn seen head × (has_segment seen head ≡ list_any (is_same_piece head []) pieces)
 
--- how often variable j stands in the terms of constraints
-abbrev pub use_count : List (List Term) → ℕ → ℕ
-use_count rows j = sum_by (λ terms. length (filter (λ t. t.0 == j) terms)) rows
-
 -- an opcode that awaits its number of operands may still become a node
 abbrev pub IsNodeLeft : Option Current → ℕ → Type 0
 IsNodeLeft None nodes = Unit {0}
@@ -142,11 +139,11 @@ abbrev pub HasRow : List (List ℕ) → ℕ → Type 0
 HasRow words line = (row : Row) × IsRowOf row words line
 
 -- what is wrong with a row of these words
-abbrev pub words_refusal : Standing → List (List ℕ) → Option Refusal
+abbrev pub words_refusal : Standing → List (List ℕ) → Option NlReason
 words_refusal s words = first_reason (row_tests (counts_of s) (said s) s.pieces words)
 
 -- a row is taken where nothing is wrong with it; of want of memory nothing is said
-abbrev pub TakesRow : Body → List (List ℕ) → ℕ → Result (Unit {0}) (Stop Refusal) → Body → Type 0
+abbrev pub TakesRow : Body → List (List ℕ) → ℕ → Result (Unit {0}) (Stop NlReason) → Body → Type 0
 TakesRow old words line (Ok u) new = (s : Standing) (row : Row) → IsRowOf row words line → IsHeld s old → (words_refusal s words ≡ None) × IsHeld (after_body_row s row) new
 TakesRow old words line (Err (Fault r)) new = (s : Standing) → IsHeld s old → words_refusal s words ≡ Some r
 TakesRow old words line (Err Memory) new = Unit {0}
@@ -156,10 +153,10 @@ abbrev pub IsAwaiting : Awaited → Body → Type 0
 IsAwaiting kind b = IsSomeAnd b.current (λ c. current_awaits c ≡ kind)
 
 -- the end is reached where nothing is missing; the file and its lines are what the pieces say
-abbrev pub end_refusal_of : Standing → Option Refusal
+abbrev pub end_refusal_of : Standing → Option NlReason
 end_refusal_of s = first_reason (end_tests (counts_of s) (said s) s.pieces)
 
-abbrev pub Finishes : Body → Result NlRead (Stop Refusal) → Type 0
+abbrev pub Finishes : Body → Result NlRead (Stop NlReason) → Type 0
 Finishes b (Ok r) = (s : Standing) → IsHeld s b → (end_refusal_of s ≡ None) × (r.file ≡ file_of (said s)) × (r.places ≡ place_lines (counts_of s) s.pieces)
 Finishes b (Err (Fault r)) = (s : Standing) → IsHeld s b → end_refusal_of s ≡ Some r
 Finishes b (Err Memory) = Unit {0}

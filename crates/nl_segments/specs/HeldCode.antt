@@ -13,7 +13,6 @@ use Rattle.nl_segments.specs.contracts.seen.Seen.{the_row as seen_row}
 use Rattle.nl_segments.specs.contracts.places.Places.{the_row as places_row}
 use Rattle.nl_segments.specs.contracts.fault.NlReason.{the_row as reason_row}
 use Rattle.nl_segments.specs.declared.fault.NlReason.{NlReason}
-use Rattle.nl_segments.specs.declared.fault.Refusal.{Refusal}
 use Rattle.nl_segments.specs.Current.{Current}
 use Rattle.nl_segments.specs.SeenSegments.{Segments}
 use Rattle.nl_segments.specs.Saying.{PlaceLines}
@@ -53,18 +52,18 @@ abbrev pub progress_code : Coded Progress
 progress_code =
     code_by (Taken × Option Body) (coded× header_row.coded (coded_option body_code)) (λ g. (g.header, g.body)) (λ p. record { header = p.0; body = p.1 }) (λ _. refl)
 
--- the reason, the opcode and the line of a fault; none for want of memory
-abbrev fault_parts : Stop (TextFault Refusal) → Option ((NlReason × ℕ) × ℕ)
-fault_parts (Fault f) = Some ((f.reason.reason, f.reason.opcode), f.line)
+-- the reason and the line of a fault; none for want of memory
+abbrev fault_parts : Stop (TextFault NlReason) → Option (NlReason × ℕ)
+fault_parts (Fault f) = Some (f.reason, f.line)
 fault_parts Memory = None
 
-abbrev stop_from : Option ((NlReason × ℕ) × ℕ) → Stop (TextFault Refusal)
-stop_from (Some p) = Fault (record { reason = record { reason = p.0.0; opcode = p.0.1 }; line = p.1 })
+abbrev stop_from : Option (NlReason × ℕ) → Stop (TextFault NlReason)
+stop_from (Some p) = Fault (record { reason = p.0; line = p.1 })
 stop_from None = Memory
 
-abbrev stop_again : (s : Stop (TextFault Refusal)) → stop_from (fault_parts s) ≡ s
+abbrev stop_again : (s : Stop (TextFault NlReason)) → stop_from (fault_parts s) ≡ s
 stop_again (Fault f) = refl
 stop_again Memory = refl
 
-abbrev pub stop_code : Coded (Stop (TextFault Refusal))
-stop_code = code_by (Option ((NlReason × ℕ) × ℕ)) (coded_option (coded× (coded× reason_row.coded coded_ℕ) coded_ℕ)) fault_parts stop_from stop_again
+abbrev pub stop_code : Coded (Stop (TextFault NlReason))
+stop_code = code_by (Option (NlReason × ℕ)) (coded_option (coded× reason_row.coded coded_ℕ)) fault_parts stop_from stop_again

@@ -16,3 +16,6 @@ IsRow node opcode (Counted o) = (node ≡ None) × (opcode ≡ Some o)
 abbrev pub IsFormedRow : NodeRow → Type 0
 IsFormedRow (Whole n) = IsNode n
 IsFormedRow (Counted o) = operands_of o ≡ Some OnNextLine
+
+abbrev pub IsReadAs : Option Node → Option ℕ → NodeRow → Type 0
+IsReadAs node opcode row = IsRow node opcode row × IsFormedRow row

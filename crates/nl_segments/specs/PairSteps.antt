@@ -9,8 +9,8 @@ use Rattle.nl_segments.specs.declared.head.Head.{Head}
 use Rattle.nl_segments.specs.declared.head.Head.TheVariants.{DualGuesses, PrimalGuesses, Terms, Slopes, Suffix}
 use Rattle.exact_numbers.specs.Numbers.{whole_of}
 use Rattle.text_base.specs.Words.{word_at}
-use Rattle.nl_segments.specs.Pieces.{is_nothing}
-use Rattle.nl_segments.specs.Tests.{Tests, for_reason, holds_once, index_limit, is_linear, is_suffix, pair_form_tests, wants_whole}
+use Rattle.nl_segments.specs.Pieces.{is_nothing, pair_in}
+use Rattle.nl_segments.specs.Tests.{Tests, holds_once, index_limit, is_linear, is_suffix, pair_form_tests, wants_whole}
 use Rattle.nl_segments.specs.Current.{Current, current_awaits, less_line, with_pair}
 use Rattle.nl_segments.specs.Held.{keeps_pairs}
 
@@ -22,8 +22,15 @@ is_full_at head linear values = (is_linear head && nat_le most_terms linear) || 
 abbrev pub next_pair_tests : Counts → Head → List Bool → Bool → List (List ℕ) → Tests
 next_pair_tests c head marks full words =
     pair_form_tests (index_limit c head) (wants_whole head) words
-    ++ (holds_once head && get_or marks (unwrap_or (whole_of (word_at words 0)) 0) false, for_reason RepeatedIndex)
-    ∷ (full, for_reason TooLarge) ∷ []
+    ++ (holds_once head && get_or marks (unwrap_or (whole_of (word_at words 0)) 0) false, RepeatedIndex)
+    ∷ (full, TooLarge) ∷ []
+
+-- the pair of the next line: its index is in range, and did not come where it comes once, and there is room for it
+pub record SaysFreshPair (c : Counts) (head : Head) (marks : List Bool) (full : Bool) (words : List (List ℕ)) (t : Term) : Type 0 where
+  pub says : pair_in words ≡ Some t
+  pub below : t.0 < index_limit c head
+  pub fresh : (holds_once head && get_or marks t.0 false) ≡ false
+  pub room : full ≡ false
 
 -- ---- pairs that the file takes at once
 

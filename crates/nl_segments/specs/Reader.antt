@@ -20,7 +20,8 @@ use Rattle.nl_segments.specs.declared.head.Head.TheVariants.{Body, Definition, O
 use Rattle.nl_segments.specs.Nodes.{only_nodes}
 use Rattle.nl_segments.specs.Pieces.{Piece, piece_nodes}
 use Rattle.nl_segments.specs.declared.fault.NlFault.{NlFault}
-use Rattle.nl_segments.specs.declared.fault.Refusal.{Refusal}
+use Rattle.nl_segments.specs.declared.fault.NlReason.{NlReason}
+use Rattle.nl_segments.specs.declared.fault.NlReason.TheVariants.{RefusedOpcode}
 use Rattle.nl_segments.specs.declared.nl_read.NlRead.{NlRead}
 use Rattle.nl_segments.specs.Saying.{line_of}
 use Rattle.nl_segments.specs.Grammar.{Standing, standing, counts_of, nl_rules, NlValue, SaysFile}
@@ -33,17 +34,24 @@ use Rattle.nl_segments.specs.HeldCode.{progress_code, stop_code}
 abbrev pub IsNl : List ℕ → NlValue → Type 0
 IsNl text value = IsRead nl_rules SaysFile text value
 
--- the refusal at a line that a fault is
-abbrev pub refusal_of : NlFault → TextFault Refusal
-refusal_of f = record { reason = record { reason = f.reason; opcode = f.opcode }; line = f.line }
+-- the opcode that a reason names; 0 for any other reason
+abbrev pub opcode_of : NlReason → ℕ
+opcode_of (RefusedOpcode opcode) = opcode
+opcode_of reason = 0
+
+-- a reason at a line
+abbrev pub reason_in : NlFault → TextFault NlReason
+reason_in f = record { reason = f.reason; line = f.line }
 
 -- the text's first fault
-abbrev pub HasNlFault : List ℕ → NlFault → Type 0
-HasNlFault text f = HasFault nl_rules text (refusal_of f)
+pub record HasNlFault (text : List ℕ) (f : NlFault) : Type 0 where
+  pub first : HasFault nl_rules text (reason_in f)
+  pub opcode : f.opcode ≡ opcode_of f.reason
 
 -- the same of a text of which more may come
-abbrev pub HasNlFaultSoFar : List ℕ → NlFault → Type 0
-HasNlFaultSoFar text f = HasFaultSoFar nl_rules text (refusal_of f)
+pub record HasNlFaultSoFar (text : List ℕ) (f : NlFault) : Type 0 where
+  pub first : HasFaultSoFar nl_rules text (reason_in f)
+  pub opcode : f.opcode ≡ opcode_of f.reason
 
 abbrev pub value_of : NlRead → NlValue
 value_of r = record { file = r.file; places = r.places }
@@ -82,10 +90,10 @@ HasPieces s f = (owner : Owner) (t : Tree) → tree_at f owner ≡ Some t → Ha
 
 -- ---- readers
 
-abbrev pub fault_of : TextFault Refusal → NlFault
-fault_of f = record { reason = f.reason.reason; line = f.line; opcode = f.reason.opcode }
+abbrev pub fault_of : TextFault NlReason → NlFault
+fault_of f = record { reason = f.reason; line = f.line; opcode = opcode_of f.reason }
 
-abbrev pub stop_of : Stop (TextFault Refusal) → Stop NlFault
+abbrev pub stop_of : Stop (TextFault NlReason) → Stop NlFault
 stop_of (Fault f) = Fault (fault_of f)
 stop_of Memory = Memory
 
@@ -93,7 +101,7 @@ stop_of Memory = Memory
 pub record Reading : Type 0 where
   pub lines : LinesState
   pub progress : Progress
-  pub stopped : Option (Stop (TextFault Refusal))
+  pub stopped : Option (Stop (TextFault NlReason))
 
 -- why the reader stopped, where it did
 abbrev pub stop_in : Reading → Option (Stop NlFault)
@@ -110,7 +118,7 @@ WasFed r = (text : List ℕ) × IsFed r text
 -- the code of what a reader stands for
 abbrev pub reading_code : Coded Reading
 reading_code =
-    code_by (LinesState × (Progress × Option (Stop (TextFault Refusal)))) (coded× lines_row.coded (coded× progress_code (coded_option stop_code)))
+    code_by (LinesState × (Progress × Option (Stop (TextFault NlReason)))) (coded× lines_row.coded (coded× progress_code (coded_option stop_code)))
     (λ r. (r.lines, (r.progress, r.stopped)))
     (λ p. record { lines = p.0; progress = p.1.0; stopped = p.1.1 })
     (λ _. refl)

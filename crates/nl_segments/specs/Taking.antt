@@ -5,7 +5,7 @@ use Rattle.text_base.specs.declared.stop.Stop.TheVariants.{Fault, Memory}
 use Rattle.nl_header.specs.Reading.{Taken, IsReading}
 use Rattle.nl_segments.specs.declared.awaited.Awaited.{Awaited}
 use Rattle.nl_segments.specs.declared.awaited.Awaited.TheVariants.{Nothing}
-use Rattle.nl_segments.specs.declared.fault.Refusal.{Refusal}
+use Rattle.nl_segments.specs.declared.fault.NlReason.{NlReason}
 use Rattle.nl_segments.specs.Rows.{Row}
 use Rattle.nl_segments.specs.Current.{Current, current_awaits}
 use Rattle.nl_segments.specs.Grammar.{Standing, header_refusal, row_refusal}
@@ -18,17 +18,17 @@ AwaitsHeader header None = (rows : List (List (List ℕ))) × (length rows < 10)
 AwaitsHeader header (Some b) = Unit {0}
 
 -- a row is taken where nothing is wrong with it; of want of memory nothing is said
-abbrev pub TakesBy : (Standing → List ℕ → Option Refusal) → (Standing → Row → Standing) → Progress → Row → Result (Unit {0}) (Stop Refusal) → Progress → Type 0
+abbrev pub TakesBy : (Standing → List ℕ → Option NlReason) → (Standing → Row → Standing) → Progress → Row → Result (Unit {0}) (Stop NlReason) → Progress → Type 0
 TakesBy refusal after old row (Ok u) new = (s : Standing) → HoldsStanding s old → (refusal s row.text ≡ None) × HoldsStanding (after s row) new
 TakesBy refusal after old row (Err (Fault r)) new = (s : Standing) → HoldsStanding s old → refusal s row.text ≡ Some r
 TakesBy refusal after old row (Err Memory) new = Unit {0}
 
 -- a row of the header
-abbrev pub TakesHeaderRow : Progress → Row → Result (Unit {0}) (Stop Refusal) → Progress → Type 0
+abbrev pub TakesHeaderRow : Progress → Row → Result (Unit {0}) (Stop NlReason) → Progress → Type 0
 TakesHeaderRow old row result new = TakesBy header_refusal after_header_row old row result new
 
 -- any row
-abbrev pub TakesAnyRow : Progress → Row → Result (Unit {0}) (Stop Refusal) → Progress → Type 0
+abbrev pub TakesAnyRow : Progress → Row → Result (Unit {0}) (Stop NlReason) → Progress → Type 0
 TakesAnyRow old row result new = TakesBy row_refusal after_row old row result new
 
 -- the line that the body awaits

@@ -1,5 +1,5 @@
 -- What is wrong with a row of the body, or with the end: the first test that holds gives the reason. The order is this project's own.
-use Rattle.std.specs.Prelude.{ℕ, ◌+◌, ◌/◌, ◌%◌, ◌^◌, ◌==◌, pos, Bool, not, ◌&&◌, ◌||◌, nat_le, nat_lt, List, [], ◌∷◌, ◌++◌, length, sum_by, filter, Option, Some, None, is_some, is_none, unwrap_or, if◌then◌else◌, codes}
+use Rattle.std.specs.Prelude.{◌≡◌, false, ◌<◌, ◌≤◌, ℕ, ◌+◌, ◌^◌, ◌==◌, pos, Bool, not, ◌&&◌, ◌||◌, nat_le, nat_lt, List, [], ◌∷◌, ◌++◌, length, sum_by, filter, Option, Some, None, is_some, is_none, unwrap_or, if◌then◌else◌, codes}
 use Rattle.std.specs.List.{list_all, list_any, flat_map}
 use Rattle.std.specs.Option.{option_map_or}
 use Rattle.std.specs.Str.{bytes_eq}
@@ -18,11 +18,11 @@ use Rattle.nl_model.specs.HeaderRules.{defined_count}
 use Rattle.nl_model.specs.Kinds.{kind_of}
 use Rattle.nl_model.specs.SuffixKinds.{has_same_objects, wants_whole as is_whole_kind}
 use Rattle.nl_model.specs.Rules.{is_defined, object_count, most_terms, term_count}
+use Rattle.nl_model.specs.UseCounts.{terms_up_to}
 use Rattle.nl_segments.specs.declared.awaited.Awaited.{Awaited}
 use Rattle.nl_segments.specs.declared.awaited.Awaited.TheVariants.{Nothing, Pair, ColumnCount, Interval as IntervalLine, Node as NodeLine, OperandCount}
 use Rattle.nl_segments.specs.declared.fault.NlReason.{NlReason}
 use Rattle.nl_segments.specs.declared.fault.NlReason.TheVariants.{TooLarge, UnknownSegment, RefusedSegment, RepeatedSegment, BadHead, IndexOut, BadLine, BadNumber, ShortSegment, ExtraLine, RefusedOpcode, RefusedLeaf, Undefined, Complementarity, EmptyInterval, BinaryBounds, RepeatedIndex, SosSuffix, Missing, NonzeroCount, ColumnCount as BadColumnCount}
-use Rattle.nl_segments.specs.declared.fault.Refusal.{Refusal}
 use Rattle.nl_segments.specs.declared.head.Head.{Head}
 use Rattle.nl_segments.specs.declared.head.Head.TheVariants.{Body, Objective, Definition, DualGuesses, PrimalGuesses, Sides, Bounds, ColumnCounts, Terms, Slopes, Suffix}
 use Rattle.exact_numbers.specs.Numbers.{are_digits, whole_of, dec_of, is_whole}
@@ -32,14 +32,7 @@ use Rattle.nl_segments.specs.Heads.{letter_of, is_among, is_head, is_segment_let
 use Rattle.nl_segments.specs.Pieces.{Piece, awaited_of, is_nothing, last_piece, piece_nodes, piece_pairs, piece_counts, interval_in}
 
 abbrev pub Tests : Type 0
-Tests = List (Bool × Refusal)
-
--- a reason other than a refused opcode
-abbrev pub for_reason : NlReason → Refusal
-for_reason reason = record { reason = reason; opcode = 0 }
-
-abbrev pub for_opcode : ℕ → Refusal
-for_opcode opcode = record { reason = RefusedOpcode; opcode = opcode }
+Tests = List (Bool × NlReason)
 
 -- the number is there and below a limit
 abbrev pub is_below : ℕ → Option ℕ → Bool
@@ -95,21 +88,21 @@ is_repeated pieces head name = list_any (is_same_piece head name) pieces
 abbrev pub formed_head_tests : Counts → List Piece → List ℕ → Option Head → Tests
 formed_head_tests c pieces name None = []
 formed_head_tests c pieces name (Some head) =
-    (not (is_in_range c head), for_reason IndexOut)
-    ∷ (is_suffix head && bytes_eq name (codes "sosno"), for_reason SosSuffix)
-    ∷ (is_repeated pieces head name, for_reason RepeatedSegment)
-    ∷ (is_suffix head && nat_le 1024 (suffix_count pieces), for_reason TooLarge) ∷ []
+    (not (is_in_range c head), IndexOut)
+    ∷ (is_suffix head && bytes_eq name (codes "sosno"), SosSuffix)
+    ∷ (is_repeated pieces head name, RepeatedSegment)
+    ∷ (is_suffix head && nat_le 1024 (suffix_count pieces), TooLarge) ∷ []
 
 -- of the words alone
 unfoldable pub head_form_tests : Counts → List (List ℕ) → Tests
 head_form_tests c words =
-    (not (is_segment_letter (letter_of words) || is_refused_letter (letter_of words)), for_reason UnknownSegment)
-    ∷ (is_refused_letter (letter_of words), for_reason RefusedSegment)
-    ∷ (is_none (head_of c words), for_reason BadHead) ∷ []
+    (not (is_segment_letter (letter_of words) || is_refused_letter (letter_of words)), UnknownSegment)
+    ∷ (is_refused_letter (letter_of words), RefusedSegment)
+    ∷ (is_none (head_of c words), BadHead) ∷ []
 
 unfoldable pub head_tests : Counts → List Piece → List (List ℕ) → Tests
 head_tests c pieces words =
-    (not (is_nothing (awaited_of c pieces)), for_reason ShortSegment)
+    (not (is_nothing (awaited_of c pieces)), ShortSegment)
     ∷ (head_form_tests c words ++ formed_head_tests c pieces (name_in words) (head_of c words))
 
 -- ---- A pair line.
@@ -144,22 +137,22 @@ is_full pieces head =
 unfoldable pub pair_form_tests : ℕ → Bool → List (List ℕ) → Tests
 pair_form_tests limit whole_only words =
     let value = dec_of (word_at words 1) in
-    (not (length words == 2 && are_digits (word_at words 0)), for_reason BadLine)
-    ∷ (not (is_below limit (whole_of (word_at words 0))), for_reason IndexOut)
-    ∷ (is_none value || (whole_only && not (option_map_or is_whole value Bool.true)), for_reason BadNumber) ∷ []
+    (not (length words == 2 && are_digits (word_at words 0)), BadLine)
+    ∷ (not (is_below limit (whole_of (word_at words 0))), IndexOut)
+    ∷ (is_none value || (whole_only && not (option_map_or is_whole value Bool.true)), BadNumber) ∷ []
 
 unfoldable pub pair_tests : Counts → List Piece → Piece → List (List ℕ) → Tests
 pair_tests c pieces p words =
     pair_form_tests (index_limit c p.head) (wants_whole p.head) words
-    ++ (holds_once p.head && has_index (piece_pairs p) (unwrap_or (whole_of (word_at words 0)) 0), for_reason RepeatedIndex)
-    ∷ (is_full pieces p.head, for_reason TooLarge) ∷ []
+    ++ (holds_once p.head && has_index (piece_pairs p) (unwrap_or (whole_of (word_at words 0)) 0), RepeatedIndex)
+    ∷ (is_full pieces p.head, TooLarge) ∷ []
 
 -- ---- A line of k.
 
 unfoldable pub column_tests : List (List ℕ) → Tests
 column_tests words =
-    (not (length words == 1 && are_digits (word_at words 0)), for_reason BadLine)
-    ∷ (is_none (whole_of (word_at words 0)), for_reason BadNumber) ∷ []
+    (not (length words == 1 && are_digits (word_at words 0)), BadLine)
+    ∷ (is_none (whole_of (word_at words 0)), BadNumber) ∷ []
 
 -- ---- An interval line.
 
@@ -202,15 +195,20 @@ is_sides head = Bool.false
 abbrev pub wants_unit : Counts → Piece → Bool
 wants_unit c p = not (is_sides p.head) && is_binary (kind_of c (length p.rows))
 
+-- the words say this interval, which is not empty
+pub record SaysInterval (words : List (List ℕ)) (i : Interval) : Type 0 where
+  pub says : interval_in words ≡ Some i
+  pub ordered : is_empty i ≡ false
+
 -- of the words alone: those of a constraint, or of a variable that may be binary
 unfoldable pub interval_form_tests : Bool → Bool → List (List ℕ) → Tests
 interval_form_tests of_constraint unit words =
     let interval = interval_in words in
-    (of_constraint && bytes_eq (word_at words 0) (codes "5"), for_reason Complementarity)
-    ∷ (not (has_sides words), for_reason BadLine)
-    ∷ (is_none interval, for_reason BadNumber)
-    ∷ (option_map_or is_empty interval Bool.false, for_reason EmptyInterval)
-    ∷ (unit && not (option_map_or is_within_unit interval Bool.true), for_reason BinaryBounds) ∷ []
+    (of_constraint && bytes_eq (word_at words 0) (codes "5"), Complementarity)
+    ∷ (not (has_sides words), BadLine)
+    ∷ (is_none interval, BadNumber)
+    ∷ (option_map_or is_empty interval Bool.false, EmptyInterval)
+    ∷ (unit && not (option_map_or is_within_unit interval Bool.true), BinaryBounds) ∷ []
 
 unfoldable pub interval_tests : Counts → Piece → List (List ℕ) → Tests
 interval_tests c p words = interval_form_tests (is_sides p.head) (wants_unit c p) words
@@ -228,17 +226,17 @@ abbrev pub is_undefined : Counts → Draft → ℕ → Bool
 is_undefined c d i = nat_le c.n_var i && not (is_defined d.definitions i)
 
 abbrev pub number_tests : Option Dec → Tests
-number_tests value = (is_none value, for_reason BadNumber) ∷ []
+number_tests value = (is_none value, BadNumber) ∷ []
 
 abbrev pub variable_tests : Counts → Draft → Option ℕ → Tests
 variable_tests c d index =
-    (not (is_below (c.n_var + defined_count c) index), for_reason IndexOut)
-    ∷ (is_undefined c d (unwrap_or index 0), for_reason Undefined) ∷ []
+    (not (is_below (c.n_var + defined_count c) index), IndexOut)
+    ∷ (is_undefined c d (unwrap_or index 0), Undefined) ∷ []
 
 abbrev pub opcode_tests : Option ℕ → Tests
 opcode_tests opcode =
-    (is_none opcode, for_reason BadNumber)
-    ∷ (is_none (operands_of (unwrap_or opcode 0)), for_opcode (unwrap_or opcode 0)) ∷ []
+    (is_none opcode, BadNumber)
+    ∷ (is_none (operands_of (unwrap_or opcode 0)), RefusedOpcode (unwrap_or opcode 0)) ∷ []
 
 -- the tests of a node by its letter
 abbrev pub leaf_tests : Counts → Draft → List (List ℕ) → Tests
@@ -252,27 +250,33 @@ leaf_tests c d words =
 -- of the words alone, after a draft
 unfoldable pub node_form_tests : Counts → Draft → List (List ℕ) → Tests
 node_form_tests c d words =
-    (is_among (codes "fh") (letter_of words), for_reason RefusedLeaf)
-    ∷ (not (is_node_form words), for_reason BadLine)
+    (is_among (codes "fh") (letter_of words), RefusedLeaf)
+    ∷ (not (is_node_form words), BadLine)
     ∷ leaf_tests c d words
 
 unfoldable pub node_tests : Counts → Draft → List Piece → List (List ℕ) → Tests
-node_tests c d pieces words = node_form_tests c d words ++ (nat_le (2 ^ 22) (node_total c pieces), for_reason TooLarge) ∷ []
+node_tests c d pieces words = node_form_tests c d words ++ (nat_le (2 ^ 22) (node_total c pieces), TooLarge) ∷ []
 
 -- ---- A line with a number of operands.
+
+-- the words say this number of operands
+pub record SaysOperandCount (words : List (List ℕ)) (n : ℕ) : Type 0 where
+  pub says : whole_of (word_at words 0) ≡ Some n
+  pub some : 0 < n
+  pub few : n ≤ 2 ^ 22
 
 unfoldable pub operand_tests : List (List ℕ) → Tests
 operand_tests words =
     let count = whole_of (word_at words 0) in
-    (not (length words == 1 && are_digits (word_at words 0)), for_reason BadLine)
-    ∷ (not (nat_lt 0 (unwrap_or count 1)), for_reason BadNumber)
-    ∷ (not (is_below (2 ^ 22 + 1) count), for_reason TooLarge) ∷ []
+    (not (length words == 1 && are_digits (word_at words 0)), BadLine)
+    ∷ (not (nat_lt 0 (unwrap_or count 1)), BadNumber)
+    ∷ (not (is_below (2 ^ 22 + 1) count), TooLarge) ∷ []
 
 -- ---- Any row.
 
 -- a line that the last piece awaits
 abbrev pub awaited_tests : Counts → Draft → List Piece → Piece → List (List ℕ) → Awaited → Tests
-awaited_tests c d pieces p words Nothing = (Bool.true, for_reason ExtraLine) ∷ []
+awaited_tests c d pieces p words Nothing = (Bool.true, ExtraLine) ∷ []
 awaited_tests c d pieces p words Pair = pair_tests c pieces p words
 awaited_tests c d pieces p words ColumnCount = column_tests words
 awaited_tests c d pieces p words IntervalLine = interval_tests c p words
@@ -281,7 +285,7 @@ awaited_tests c d pieces p words OperandCount = operand_tests words
 
 -- a line that is no head
 abbrev pub line_tests : Counts → Draft → List Piece → List (List ℕ) → Option Piece → Tests
-line_tests c d pieces words None = (Bool.true, for_reason ExtraLine) ∷ []
+line_tests c d pieces words None = (Bool.true, ExtraLine) ∷ []
 line_tests c d pieces words (Some p) = awaited_tests c d pieces p words (awaited_of c pieces)
 
 -- a row of the body with these words, after these pieces, which say the draft d
@@ -302,10 +306,6 @@ column_counts p head = []
 abbrev pub all_column_counts : List Piece → List ℕ
 all_column_counts pieces = flat_map (λ p. column_counts p p.head) pieces
 
--- how many terms of constraints have a variable up to j
-abbrev pub terms_up_to : List (List Term) → ℕ → ℕ
-terms_up_to rows j = sum_by (λ terms. length (filter (λ t. nat_le t.0 j) terms)) rows
-
 -- the numbers, of which the first is that of variable j, are those of the terms up to each variable
 abbrev pub are_column_counts : List (List Term) → ℕ → List ℕ → Bool
 are_column_counts rows j [] = Bool.true
@@ -313,7 +313,7 @@ are_column_counts rows j (n ∷ ns) = (n == terms_up_to rows j) && are_column_co
 
 unfoldable pub end_tests : Counts → Draft → List Piece → Tests
 end_tests c d pieces =
-    (not (is_nothing (awaited_of c pieces)), for_reason ShortSegment)
-    ∷ (is_short d, for_reason Missing)
-    ∷ (not (term_count d.terms == c.nzc), for_reason NonzeroCount)
-    ∷ (not (are_column_counts d.terms 0 (all_column_counts pieces)), for_reason BadColumnCount) ∷ []
+    (not (is_nothing (awaited_of c pieces)), ShortSegment)
+    ∷ (is_short d, Missing)
+    ∷ (not (term_count d.terms == c.nzc), NonzeroCount)
+    ∷ (not (are_column_counts d.terms 0 (all_column_counts pieces)), BadColumnCount) ∷ []

@@ -1,22 +1,26 @@
 -- What a row of an expression does to what is held, and what a whole expression adds to the file.
-use Rattle.std.specs.Prelude.{◌≡◌, ℕ, ◌+◌, ◌<◌, ◌≤◌, ◌^◌, true, false, List, [], ◌∷◌, ◌++◌, length, slice_set, Option, Some, None, nat_le}
+use Rattle.std.specs.Prelude.{◌≡◌, ℕ, ◌+◌, ◌<◌, ◌≤◌, ◌^◌, true, false, List, [], ◌∷◌, ◌++◌, length, slice_set, Option, Some, None, nat_le, All}
 use Rattle.nl_meaning.specs.Trees.{Tree}
 use Rattle.nl_model.specs.declared.counts.Counts.{Counts}
 use Rattle.nl_model.specs.Draft.{Draft, is_given}
 use Rattle.nl_model.specs.File.{Term}
 use Rattle.nl_model.specs.HeaderRules.{defined_count}
-use Rattle.nl_model.specs.Nodes.{tree_of}
+use Rattle.nl_model.specs.Nodes.{awaited, tree_of}
 use Rattle.nl_model.specs.Rules.{AreTermsBelow, IsTreeWithin, is_defined, most_terms}
+use Rattle.nl_segments.specs.declared.awaited.Awaited.TheVariants.{Nothing}
 use Rattle.nl_segments.specs.declared.fault.NlReason.TheVariants.{TooLarge}
 use Rattle.nl_segments.specs.declared.head.Head.{Head}
 use Rattle.nl_segments.specs.declared.head.Head.TheVariants.{Body, Objective, Definition}
 use Rattle.nl_segments.specs.declared.node_row.NodeRow.{NodeRow}
 use Rattle.nl_segments.specs.declared.node_row.NodeRow.TheVariants.{Whole, Counted}
-use Rattle.nl_segments.specs.Current.{Current, current_awaits}
-use Rattle.nl_segments.specs.Pieces.{is_nothing}
-use Rattle.nl_segments.specs.PlaceSteps.{with_node_line}
+use Rattle.nl_segments.specs.Current.{Current, current_awaits, with_node_row}
+use Rattle.nl_segments.specs.Held.{IsNodeKnown}
+use Rattle.nl_segments.specs.NodeRows.{IsFormedRow, IsReadAs}
+use Rattle.nl_segments.specs.Nodes.{node_in, opcode_in}
+use Rattle.nl_segments.specs.Pieces.{has_tree, is_nothing}
+use Rattle.nl_segments.specs.PlaceSteps.{HasBegun, HasOwner, with_node_line}
 use Rattle.nl_segments.specs.Saying.{PlaceLines}
-use Rattle.nl_segments.specs.Tests.{Tests, for_reason, node_form_tests}
+use Rattle.nl_segments.specs.Tests.{Tests, node_form_tests}
 
 -- a draft with the expression of a piece of this head, after these terms
 abbrev pub with_tree : Draft → Head → List Term → Tree → Draft
@@ -50,6 +54,17 @@ abbrev pub IsSettled : Draft → Current → Option Current → Draft → Type 0
 IsSettled old cur (Some kept) new = (is_nothing (current_awaits cur) ≡ false) × (kept ≡ cur) × (new ≡ old)
 IsSettled old cur None new = (is_nothing (current_awaits cur) ≡ true) × (new ≡ with_tree old cur.head cur.pairs (tree_of cur.nodes))
 
+-- a piece may take a row of its expression, whose node or opcode stands in this line
+pub record CanTakeRow (d : Draft) (l : PlaceLines) (cur : Current) (row : NodeRow) (line : ℕ) : Type 0 where
+  pub wanted : 0 < awaited cur.nodes
+  pub few : length cur.nodes < 2 ^ 22
+  pub formed : IsFormedRow row
+  pub owner : HasOwner l cur.head
+  pub begun : HasBegun l cur.head
+  pub tree : has_tree cur.head ≡ true
+  pub fresh : current_awaits (with_node_row cur line row) ≡ Nothing → IsFresh d cur.head cur.pairs
+  pub known : All (IsNodeKnown d.counts.n_var d.definitions) (with_node_row cur line row).nodes
+
 -- a row that is a node adds one, in its line
 abbrev pub row_count : NodeRow → ℕ
 row_count (Whole n) = 1
@@ -59,6 +74,11 @@ abbrev pub with_row_line : PlaceLines → ℕ → Head → NodeRow → PlaceLine
 with_row_line l line head (Whole n) = with_node_line l line head
 with_row_line l line head (Counted o) = l
 
+-- what a row is read as, where one more node has room
+pub record IsNextRow (c : Counts) (nodes : ℕ) (words : List (List ℕ)) (row : NodeRow) : Type 0 where
+  pub read : IsReadAs (node_in c.n_var words) (opcode_in words) row
+  pub few : nodes < 2 ^ 22
+
 -- what is wrong with a node, after so many nodes
 abbrev pub counted_node_tests : Counts → Draft → ℕ → List (List ℕ) → Tests
-counted_node_tests c d nodes words = node_form_tests c d words ++ (nat_le (2 ^ 22) nodes, for_reason TooLarge) ∷ []
+counted_node_tests c d nodes words = node_form_tests c d words ++ (nat_le (2 ^ 22) nodes, TooLarge) ∷ []

@@ -6,16 +6,15 @@ ghost use Rattle.nl_segments.specs.declared.head.Head.{Head};
 ghost use Rattle.nl_segments.specs.Heads.{is_head};
 ghost use Rattle.nl_segments.specs.Held.{IsHeld, IsHeaderOf, only_header, TakesRow, HasRow, Finishes};
 ghost use Rattle.nl_segments.specs.Taking.{body_awaits};
-ghost use Rattle.nl_segments.specs.Tests.{for_reason, index_limit};
+ghost use Rattle.nl_segments.specs.Tests.{index_limit};
 ghost use Rattle.nl_segments.specs.Ending.{body_end_tests};
-ghost use Rattle.text_base.specs.Judged.{first_reason};
+ghost use Rattle.text_base.specs.Judged.{Decides};
 
 use crate::awaited::Awaited;
 use crate::current::Current;
 use crate::ending::{are_sums, is_short};
-use crate::fault::{NlReason, Refusal};
+use crate::fault::NlReason;
 use crate::nl_read::NlRead;
-use crate::nodes::refusal;
 use crate::places::Places;
 use crate::seen::Seen;
 use crate::words::is_head;
@@ -105,7 +104,7 @@ impl BodyReader {
     }
 
     /// Takes the row of these words in this line.
-    pub(crate) fn take(&mut self, words: &[&[u8]], line: u32) -> Result<(), Stop<Refusal>>
+    pub(crate) fn take(&mut self, words: &[&[u8]], line: u32) -> Result<(), Stop<NlReason>>
         requires exists { HasRow (texts words.now) line }
         ensures { TakesRow self.old (texts words.now) line result self.new }
     {
@@ -116,7 +115,7 @@ impl BodyReader {
     }
 
     // Takes a row that is no head.
-    fn take_line(&mut self, words: &[&[u8]], line: u32) -> Result<(), Stop<Refusal>>
+    fn take_line(&mut self, words: &[&[u8]], line: u32) -> Result<(), Stop<NlReason>>
         requires row { is_head (texts words.now) ≡ false }
         requires exists { HasRow (texts words.now) line }
         ensures { TakesRow self.old (texts words.now) line result self.new }
@@ -127,7 +126,7 @@ impl BodyReader {
             Awaited::Interval => self.take_interval(words, line),
             Awaited::Node => self.take_node(words, line),
             Awaited::OperandCount => self.take_operand_count(words, line),
-            Awaited::Nothing => Err(Stop::Fault(refusal(NlReason::ExtraLine))),
+            Awaited::Nothing => Err(Stop::Fault(NlReason::ExtraLine)),
         }
     }
 
@@ -144,8 +143,7 @@ impl BodyReader {
     // What is missing at the end.
     fn judge_end(&self) -> Result<(), NlReason>
         ensures draft { IsDraft self.now.draft }
-        ensures fine { OnOk result (first_reason (body_end_tests self.now) ≡ None) }
-        ensures fault { IfErr result (λ r. first_reason (body_end_tests self.now) ≡ Some (for_reason r)) }
+        ensures judged { Decides (body_end_tests self.now) (λ _. Unit {0}) result }
     {
         let terms = self.builder.header().counts().nzc;
         if self.awaited() != Awaited::Nothing {
@@ -164,14 +162,14 @@ impl BodyReader {
     }
 
     /// The file and the lines of its places, at the end of the text.
-    pub(crate) fn finish(self) -> Result<NlRead, Stop<Refusal>>
+    pub(crate) fn finish(self) -> Result<NlRead, Stop<NlReason>>
         ensures { Finishes self result }
     {
         if self.is_broken {
             return Err(Stop::Memory);
         }
         if let Err(reason) = self.judge_end() {
-            return Err(Stop::Fault(refusal(reason)));
+            return Err(Stop::Fault(reason));
         }
         Ok(NlRead {
             file: self.builder.finish(),

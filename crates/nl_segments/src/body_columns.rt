@@ -8,13 +8,12 @@ ghost use Rattle.nl_segments.specs.Held.{HasRow, TakesRow, IsAwaiting};
 use crate::body::BodyReader;
 use crate::closing::count_line;
 use crate::counts::read_column;
-use crate::fault::Refusal;
-use crate::nodes::refusal;
+use crate::fault::NlReason;
 use text_base::Stop;
 
 impl BodyReader {
     /// A line with the number of a column.
-    pub(crate) fn take_column(&mut self, words: &[&[u8]], line: u32) -> Result<(), Stop<Refusal>>
+    pub(crate) fn take_column(&mut self, words: &[&[u8]], line: u32) -> Result<(), Stop<NlReason>>
         requires awaited { IsAwaiting ColumnCount self.old }
         requires row { is_head (texts words.now) ≡ false }
         requires exists { HasRow (texts words.now) line }
@@ -26,7 +25,7 @@ impl BodyReader {
         }
         let number = match read_column(words) {
             Ok(number) => number,
-            Err(reason) => return Err(Stop::Fault(refusal(reason))),
+            Err(reason) => return Err(Stop::Fault(reason)),
         };
         self.is_broken = true;
         self.columns.push(number)?;

@@ -1,21 +1,20 @@
 // A row that is a head.
 ghost use Rattle.std.specs.Prelude.{◌≡◌, ◌<◌, true, false, Some, None, IfOk, IfErr, OnOk, OnErr};
-ghost use Rattle.text_base.specs.Judged.{first_reason};
+ghost use Rattle.text_base.specs.Judged.{Decides};
 ghost use Rattle.text_base.specs.Names.{IsName};
 ghost use Rattle.text_base.specs.Words.{texts};
 ghost use Rattle.nl_segments.specs.Heads.{is_head, head_of, is_in_range, name_in};
-ghost use Rattle.nl_segments.specs.HeadSteps.{has_come, has_come_suffix, held_head_tests, held_refusal, begun_current, begun_name, begun_count, begun_draft};
+ghost use Rattle.nl_segments.specs.HeadSteps.{has_come, has_come_suffix, held_head_tests, new_head_tests, begun_current, begun_name, begun_count, begun_draft};
 ghost use Rattle.nl_segments.specs.Held.{TakesRow, HasRow};
 ghost use Rattle.nl_segments.specs.SeenSegments.{IsSeenIn};
-ghost use Rattle.nl_segments.specs.Tests.{for_reason, is_suffix};
+ghost use Rattle.nl_segments.specs.Tests.{is_suffix};
 
 use crate::body::BodyReader;
 use crate::current::{Current, has_tree};
-use crate::fault::{NlReason, Refusal};
+use crate::fault::NlReason;
 use crate::head::Head;
 use crate::head_rules::{is_suffix, line_count};
 use crate::heads::{is_in_range, read_head};
-use crate::nodes::refusal;
 use crate::seen::Seen;
 use nl_model::{Counts, NlBuilder, Suffix, Terms};
 use std::alloc::{AllocError, Global};
@@ -54,8 +53,7 @@ fn judge(
     name: &[u8],
 ) -> Result<(), NlReason>
     requires { is_in_range builder.now.counts head ≡ true → is_suffix head ≡ false → IsSeenIn seen.now head }
-    ensures fine { OnOk result (first_reason (held_head_tests builder.now.counts seen.now builder.now.suffixes suffixes name.now head) ≡ None) }
-    ensures fault { IfErr result (λ r. first_reason (held_head_tests builder.now.counts seen.now builder.now.suffixes suffixes name.now head) ≡ Some (for_reason r)) }
+    ensures { Decides (held_head_tests builder.now.counts seen.now builder.now.suffixes suffixes name.now head) (λ _. Unit {0}) result }
 {
     if !is_in_range(builder.header().counts(), head) {
         return Err(NlReason::IndexOut);
@@ -81,9 +79,7 @@ fn new_head(
     words: &[&[u8]],
 ) -> Result<Head, NlReason>
     requires { (head : Head) → is_in_range builder.now.counts head ≡ true → is_suffix head ≡ false → IsSeenIn seen.now head }
-    ensures head { IfOk result (λ head. head_of builder.now.counts (texts words.now) ≡ Some head) }
-    ensures fine { OnOk result (held_refusal builder.now.counts is_open seen.now builder.now.suffixes suffixes (texts words.now) ≡ None) }
-    ensures fault { IfErr result (λ r. held_refusal builder.now.counts is_open seen.now builder.now.suffixes suffixes (texts words.now) ≡ Some (for_reason r)) }
+    ensures { Decides (new_head_tests builder.now.counts is_open seen.now builder.now.suffixes suffixes (texts words.now)) (λ head. head_of builder.now.counts (texts words.now) ≡ Some head) result }
 {
     if is_open {
         return Err(NlReason::ShortSegment);
@@ -168,7 +164,7 @@ fn begun_count(head: Head, suffixes: u32) -> u32
 
 impl BodyReader {
     /// A row that is a head.
-    pub(crate) fn take_head(&mut self, words: &[&[u8]], line: u32) -> Result<(), Stop<Refusal>>
+    pub(crate) fn take_head(&mut self, words: &[&[u8]], line: u32) -> Result<(), Stop<NlReason>>
         requires row { is_head (texts words.now) ≡ true }
         requires exists { HasRow (texts words.now) line }
         ensures { TakesRow self.old (texts words.now) line result self.new }
@@ -179,7 +175,7 @@ impl BodyReader {
         let is_open = self.current.is_some();
         let head = match new_head(&self.builder, is_open, &self.seen, self.suffixes, words) {
             Ok(head) => head,
-            Err(reason) => return Err(Stop::Fault(refusal(reason))),
+            Err(reason) => return Err(Stop::Fault(reason)),
         };
         self.is_broken = true;
         let name = word_at(words, 2);

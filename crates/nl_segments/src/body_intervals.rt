@@ -1,6 +1,6 @@
 // A line with the sides of a constraint or a variable.
 ghost use Rattle.std.specs.Prelude.{◌≡◌, ◌-◌, ◌<◌, ◌≤◌, ◌&&◌, not, false, Some, None, IfOk, IfErr, OnOk};
-ghost use Rattle.text_base.specs.Judged.{first_reason};
+ghost use Rattle.text_base.specs.Judged.{Decides};
 ghost use Rattle.text_base.specs.Words.{texts};
 ghost use Rattle.nl_model.specs.Kinds.{kind_of};
 ghost use Rattle.nl_model.specs.Rules.{IsOrdered};
@@ -8,16 +8,14 @@ ghost use Rattle.nl_segments.specs.declared.awaited.Awaited.TheVariants.{Interva
 ghost use Rattle.nl_segments.specs.Heads.{is_head};
 ghost use Rattle.nl_segments.specs.Held.{HasRow, TakesRow, IsAwaiting};
 ghost use Rattle.nl_segments.specs.LineSteps.{HasRoom, next_interval_tests, with_interval};
-ghost use Rattle.nl_segments.specs.Pieces.{interval_in};
-ghost use Rattle.nl_segments.specs.Tests.{for_reason, is_binary, is_empty, is_sides};
+ghost use Rattle.nl_segments.specs.Tests.{SaysInterval, is_binary, is_sides};
 
 use crate::body::BodyReader;
 use crate::closing::count_line;
 use crate::current::Current;
-use crate::fault::{NlReason, Refusal};
+use crate::fault::NlReason;
 use crate::head::Head;
 use crate::intervals::read_interval;
-use crate::nodes::refusal;
 use nl_header::kinds_of;
 use nl_model::{Header, Interval, Kind, NlBuilder};
 use std::alloc::AllocError;
@@ -57,10 +55,7 @@ fn wants_unit(header: &Header, of_constraint: bool, left: u32) -> bool
 fn read_next(header: &Header, current: &Current, words: &[&[u8]]) -> Result<Interval, NlReason>
     requires some { 0 < current.now.left }
     requires most { is_sides current.now.head ≡ false → current.now.left ≤ header.now.counts.n_var }
-    ensures interval { IfOk result (λ i. interval_in (texts words.now) ≡ Some i) }
-    ensures ordered { IfOk result (λ i. is_empty i ≡ false) }
-    ensures fine { OnOk result (first_reason (next_interval_tests header.now.counts current.now (texts words.now)) ≡ None) }
-    ensures fault { IfErr result (λ r. first_reason (next_interval_tests header.now.counts current.now (texts words.now)) ≡ Some (for_reason r)) }
+    ensures { Decides (next_interval_tests header.now.counts current.now (texts words.now)) (SaysInterval (texts words.now)) result }
 {
     let of_constraint = is_sides(current.head());
     let unit = wants_unit(header, of_constraint, current.left());
@@ -85,7 +80,7 @@ fn add_interval(
 
 impl BodyReader {
     /// A line with the sides of a constraint or a variable.
-    pub(crate) fn take_interval(&mut self, words: &[&[u8]], line: u32) -> Result<(), Stop<Refusal>>
+    pub(crate) fn take_interval(&mut self, words: &[&[u8]], line: u32) -> Result<(), Stop<NlReason>>
         requires awaited { IsAwaiting IntervalLine self.old }
         requires row { is_head (texts words.now) ≡ false }
         requires exists { HasRow (texts words.now) line }
@@ -101,7 +96,7 @@ impl BodyReader {
         let of_constraint = is_sides(current.head());
         let interval = match read_next(self.builder.header(), current, words) {
             Ok(interval) => interval,
-            Err(reason) => return Err(Stop::Fault(refusal(reason))),
+            Err(reason) => return Err(Stop::Fault(reason)),
         };
         self.is_broken = true;
         add_interval(&mut self.builder, of_constraint, interval)?;

@@ -1,24 +1,22 @@
 // A line with a node.
-ghost use Rattle.std.specs.Prelude.{◌≡◌, ◌<◌, ◌≤◌, ◌^◌, true, false, None, IfOk, IfErr, OnOk, Some, All};
-ghost use Rattle.text_base.specs.Judged.{first_reason};
+ghost use Rattle.std.specs.Prelude.{◌≡◌, true, false, IfOk, OnOk, All};
+ghost use Rattle.text_base.specs.Judged.{Decides};
 ghost use Rattle.text_base.specs.Words.{texts};
 ghost use Rattle.nl_segments.specs.declared.awaited.Awaited.TheVariants.{Node, Nothing};
-ghost use Rattle.nl_segments.specs.Current.{current_awaits};
+ghost use Rattle.nl_segments.specs.Current.{current_awaits, with_node_row};
 ghost use Rattle.nl_segments.specs.Heads.{is_head};
 ghost use Rattle.nl_segments.specs.Held.{TakesRow, IsAwaiting, HasRow, IsNodeKnown};
-ghost use Rattle.nl_segments.specs.Nodes.{node_in, opcode_in};
-ghost use Rattle.nl_segments.specs.NodeRows.{IsRow, IsFormedRow};
 ghost use Rattle.nl_segments.specs.Pieces.{has_tree};
 ghost use Rattle.nl_segments.specs.PlaceSteps.{HasOwner, HasBegun};
-ghost use Rattle.nl_segments.specs.TreeSteps.{MayTake, IsFresh, with_tree, IsSettled, row_count, with_row_line, counted_node_tests};
+ghost use Rattle.nl_segments.specs.TreeSteps.{CanTakeRow, IsNextRow, MayTake, IsFresh, with_tree, IsSettled, row_count, with_row_line, counted_node_tests};
 
 use crate::awaited::Awaited;
 use crate::body::BodyReader;
 use crate::current::Current;
-use crate::fault::{NlReason, Refusal};
+use crate::fault::NlReason;
 use crate::head::Head;
 use crate::node_row::NodeRow;
-use crate::nodes::{read_node, refusal};
+use crate::nodes::read_node;
 use crate::places::Places;
 use nl_model::{Def, Expr, NlBuilder, Terms};
 use std::alloc::AllocError;
@@ -28,19 +26,15 @@ use text_base::Stop;
 const MOST_NODES: u32 = 4_194_304;
 
 // A row of an expression, after so many nodes.
-fn read_row(words: &[&[u8]], builder: &NlBuilder, nodes: u32) -> Result<NodeRow, Refusal>
-    ensures row { IfOk result (IsRow (node_in builder.now.counts.n_var (texts words.now)) (opcode_in (texts words.now))) }
-    ensures formed { IfOk result IsFormedRow }
-    ensures few { OnOk result (nodes < 2 ^ 22) }
-    ensures fine { OnOk result (first_reason (counted_node_tests builder.now.counts builder.now nodes (texts words.now)) ≡ None) }
-    ensures fault { IfErr result (λ r. first_reason (counted_node_tests builder.now.counts builder.now nodes (texts words.now)) ≡ Some r) }
+fn read_row(words: &[&[u8]], builder: &NlBuilder, nodes: u32) -> Result<NodeRow, NlReason>
+    ensures { Decides (counted_node_tests builder.now.counts builder.now nodes (texts words.now)) (IsNextRow builder.now.counts nodes (texts words.now)) result }
 {
     let row = match read_node(words, builder) {
         Ok(row) => row,
-        Err(refusal) => return Err(refusal),
+        Err(reason) => return Err(reason),
     };
     if nodes >= MOST_NODES {
-        return Err(refusal(NlReason::TooLarge));
+        return Err(NlReason::TooLarge);
     }
     Ok(row)
 }
@@ -91,11 +85,8 @@ fn give_tree(
     Ok(())
 }
 
-/// The last piece, where it is not complete; else its expression is given to the file.
-pub(crate) fn settle(
-    builder: &mut NlBuilder,
-    current: Current,
-) -> Result<Option<Current>, AllocError>
+// The last piece, where it is not complete; else its expression is given to the file.
+fn settle(builder: &mut NlBuilder, current: Current) -> Result<Option<Current>, AllocError>
     requires tree { has_tree current.head ≡ true }
     requires fresh { current_awaits current ≡ Nothing → IsFresh builder.old current.head current.pairs }
     requires known { All (IsNodeKnown builder.old.counts.n_var builder.old.definitions) current.nodes }
@@ -111,9 +102,27 @@ pub(crate) fn settle(
     Ok(None)
 }
 
+/// Takes a row of the expression of a piece, whose node or opcode stands in this line.
+pub(crate) fn take_row(
+    builder: &mut NlBuilder,
+    places: &mut Places,
+    current: Current,
+    row: NodeRow,
+    line: u32,
+) -> Result<Option<Current>, AllocError>
+    requires { CanTakeRow builder.old places.old current row line }
+    ensures places { OnOk result (places.new ≡ with_row_line places.old line current.head row) }
+    ensures settled { IfOk result (λ kept. IsSettled builder.old (with_node_row current line row) kept builder.new) }
+{
+    let mut current = current;
+    add_row_line(places, current.head(), row, line)?;
+    current.take_row(row, line)?;
+    settle(builder, current)
+}
+
 impl BodyReader {
     /// A line with a node.
-    pub(crate) fn take_node(&mut self, words: &[&[u8]], line: u32) -> Result<(), Stop<Refusal>>
+    pub(crate) fn take_node(&mut self, words: &[&[u8]], line: u32) -> Result<(), Stop<NlReason>>
         requires awaited { IsAwaiting Node self.old }
         requires row { is_head (texts words.now) ≡ false }
         requires exists { HasRow (texts words.now) line }
@@ -124,17 +133,14 @@ impl BodyReader {
         }
         let row = match read_row(words, &self.builder, self.nodes) {
             Ok(row) => row,
-            Err(refusal) => return Err(Stop::Fault(refusal)),
+            Err(reason) => return Err(Stop::Fault(reason)),
         };
         self.is_broken = true;
-        let Some(mut current) = self.current.take() else {
+        let Some(current) = self.current.take() else {
             unreachable!();
         };
-        let head = current.head();
-        current.take_row(row, line)?;
         self.nodes += row_count(row);
-        add_row_line(&mut self.places, head, row, line)?;
-        self.current = settle(&mut self.builder, current)?;
+        self.current = take_row(&mut self.builder, &mut self.places, current, row, line)?;
         self.is_broken = false;
         Ok(())
     }

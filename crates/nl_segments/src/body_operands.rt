@@ -6,10 +6,11 @@ ghost use Rattle.nl_segments.specs.Heads.{is_head};
 ghost use Rattle.nl_segments.specs.Held.{TakesRow, IsAwaiting, HasRow};
 
 use crate::body::BodyReader;
-use crate::body_nodes::settle;
+use crate::body_nodes::take_row;
 use crate::counts::read_operand_count;
-use crate::fault::Refusal;
-use crate::nodes::refusal;
+use crate::fault::NlReason;
+use crate::node_row::NodeRow;
+use nl_model::Node;
 use text_base::Stop;
 
 impl BodyReader {
@@ -18,7 +19,7 @@ impl BodyReader {
         &mut self,
         words: &[&[u8]],
         line: u32,
-    ) -> Result<(), Stop<Refusal>>
+    ) -> Result<(), Stop<NlReason>>
         requires awaited { IsAwaiting OperandCount self.old }
         requires row { is_head (texts words.now) ≡ false }
         requires exists { HasRow (texts words.now) line }
@@ -30,20 +31,24 @@ impl BodyReader {
         }
         let count = match read_operand_count(words) {
             Ok(count) => count,
-            Err(reason) => return Err(Stop::Fault(refusal(reason))),
+            Err(reason) => return Err(Stop::Fault(reason)),
         };
         self.is_broken = true;
-        let Some(mut current) = self.current.take() else {
+        let Some(current) = self.current.take() else {
             unreachable!();
         };
         let Some(pending) = current.pending() else {
             unreachable!();
         };
-        let head = current.head();
-        current.take_operand_count(pending.opcode, count)?;
+        let row = NodeRow::Whole(Node::Op(pending.opcode, count));
         self.nodes += 1;
-        self.places.add_node(head, pending.line)?;
-        self.current = settle(&mut self.builder, current)?;
+        self.current = take_row(
+            &mut self.builder,
+            &mut self.places,
+            current,
+            row,
+            pending.line,
+        )?;
         self.is_broken = false;
         Ok(())
     }

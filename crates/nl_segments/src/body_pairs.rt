@@ -1,6 +1,6 @@
 // A line of an index and a value.
 ghost use Rattle.std.specs.Prelude.{◌≡◌, ◌<◌, ◌≤◌, ◌&&◌, length, get_or, true, false, Some, None, IsSome, IsTrue, IsSomeAnd, IfSome, IfOk, IfErr, OnOk, if◌then◌else◌};
-ghost use Rattle.text_base.specs.Judged.{first_reason};
+ghost use Rattle.text_base.specs.Judged.{Decides};
 ghost use Rattle.text_base.specs.Words.{texts};
 ghost use Rattle.nl_model.specs.Rules.{most_terms};
 ghost use Rattle.nl_segments.specs.declared.awaited.Awaited.TheVariants.{Pair};
@@ -8,19 +8,18 @@ ghost use Rattle.nl_segments.specs.Current.{current_awaits};
 ghost use Rattle.nl_segments.specs.Heads.{is_head};
 ghost use Rattle.nl_segments.specs.Held.{HasRow, TakesRow, IsAwaiting};
 ghost use Rattle.nl_segments.specs.LineSteps.{unless_complete};
-ghost use Rattle.nl_segments.specs.PairSteps.{CanClose, CanGive, CanUse, next_pair_tests, one_more, with_closed, with_given, with_kept, with_mark, with_suffix, with_use};
-ghost use Rattle.nl_segments.specs.Pieces.{is_nothing, pair_in};
-ghost use Rattle.nl_segments.specs.Tests.{for_reason, holds_once, index_limit};
+ghost use Rattle.nl_segments.specs.PairSteps.{CanClose, CanGive, CanUse, SaysFreshPair, next_pair_tests, one_more, with_closed, with_given, with_kept, with_mark, with_suffix, with_use};
+ghost use Rattle.nl_segments.specs.Pieces.{is_nothing};
+ghost use Rattle.nl_segments.specs.Tests.{holds_once, index_limit};
 
 use crate::body::BodyReader;
 use crate::closing::is_nothing;
 use crate::current::Current;
-use crate::fault::{NlReason, Refusal};
+use crate::fault::NlReason;
 use crate::head::Head;
 use crate::head_rules::{
     holds_once, index_limit, is_full, is_linear, is_suffix, keeps_pairs, wants_whole,
 };
-use crate::nodes::refusal;
 use crate::pairs::read_pair;
 use exact_numbers::Dec;
 use nl_model::{Counts, NlBuilder, Suffix};
@@ -47,12 +46,7 @@ fn read_next(
     words: &[&[u8]],
 ) -> Result<(u32, Dec), NlReason>
     requires { index_limit counts.now head ≤ length marks.now }
-    ensures pair { IfOk result (λ t. pair_in (texts words.now) ≡ Some t) }
-    ensures below { IfOk result (λ t. t.0 < index_limit counts.now head) }
-    ensures fresh { IfOk result (λ t. (holds_once head && get_or marks.now t.0 false) ≡ false) }
-    ensures room { OnOk result (full ≡ false) }
-    ensures fine { OnOk result (first_reason (next_pair_tests counts.now head marks.now full (texts words.now)) ≡ None) }
-    ensures fault { IfErr result (λ r. first_reason (next_pair_tests counts.now head marks.now full (texts words.now)) ≡ Some (for_reason r)) }
+    ensures { Decides (next_pair_tests counts.now head marks.now full (texts words.now)) (SaysFreshPair counts.now head marks.now full (texts words.now)) result }
 {
     let pair = match read_pair(words, index_limit(counts, head), wants_whole(head)) {
         Ok(pair) => pair,
@@ -167,7 +161,7 @@ fn count(total: &mut u32, counts: bool)
 
 impl BodyReader {
     /// A line of an index and a value.
-    pub(crate) fn take_pair(&mut self, words: &[&[u8]], line: u32) -> Result<(), Stop<Refusal>>
+    pub(crate) fn take_pair(&mut self, words: &[&[u8]], line: u32) -> Result<(), Stop<NlReason>>
         requires awaited { IsAwaiting Pair self.old }
         requires row { is_head (texts words.now) ≡ false }
         requires exists { HasRow (texts words.now) line }
@@ -184,7 +178,7 @@ impl BodyReader {
         let counts = self.builder.header().counts();
         let pair = match read_next(counts, head, &self.marks, full, words) {
             Ok(pair) => pair,
-            Err(reason) => return Err(Stop::Fault(refusal(reason))),
+            Err(reason) => return Err(Stop::Fault(reason)),
         };
         self.is_broken = true;
         give_pair(&mut self.builder, head, pair)?;

@@ -1,9 +1,9 @@
 // Lines of one whole number.
-ghost use Rattle.std.specs.Prelude.{◌≡◌, ◌<◌, ◌≤◌, ◌^◌, Some, None, IfOk, IfErr, OnOk};
-ghost use Rattle.text_base.specs.Judged.{first_reason};
+ghost use Rattle.std.specs.Prelude.{◌≡◌, Some};
+ghost use Rattle.text_base.specs.Judged.{Decides};
 ghost use Rattle.text_base.specs.Words.{texts, word_at};
 ghost use Rattle.exact_numbers.specs.Numbers.{whole_of};
-ghost use Rattle.nl_segments.specs.Tests.{for_reason, column_tests, operand_tests};
+ghost use Rattle.nl_segments.specs.Tests.{SaysOperandCount, column_tests, operand_tests};
 
 use crate::fault::NlReason;
 use crate::words::number_at;
@@ -16,9 +16,7 @@ const MOST_OPERANDS: u32 = 4_194_304;
 /// The number of a column.
 #[tactic(auto, unfolding(crate::specs::Tests::column_tests))]
 pub(crate) fn read_column(words: &[&[u8]]) -> Result<u32, NlReason>
-    ensures number { IfOk result (λ n. whole_of (word_at (texts words.now) 0) ≡ Some n) }
-    ensures fine { OnOk result (first_reason (column_tests (texts words.now)) ≡ None) }
-    ensures fault { IfErr result (λ r. first_reason (column_tests (texts words.now)) ≡ Some (for_reason r)) }
+    ensures { Decides (column_tests (texts words.now)) (λ n. whole_of (word_at (texts words.now) 0) ≡ Some n) result }
 {
     if words.len() != 1 || !are_digits(word_at(words, 0)) {
         return Err(NlReason::BadLine);
@@ -32,11 +30,7 @@ pub(crate) fn read_column(words: &[&[u8]]) -> Result<u32, NlReason>
 /// The number of operands of an opcode.
 #[tactic(auto, unfolding(crate::specs::Tests::operand_tests))]
 pub(crate) fn read_operand_count(words: &[&[u8]]) -> Result<u32, NlReason>
-    ensures number { IfOk result (λ n. whole_of (word_at (texts words.now) 0) ≡ Some n) }
-    ensures some { IfOk result (λ n. 0 < n) }
-    ensures few { IfOk result (λ n. n ≤ 2 ^ 22) }
-    ensures fine { OnOk result (first_reason (operand_tests (texts words.now)) ≡ None) }
-    ensures fault { IfErr result (λ r. first_reason (operand_tests (texts words.now)) ≡ Some (for_reason r)) }
+    ensures { Decides (operand_tests (texts words.now)) (SaysOperandCount (texts words.now)) result }
 {
     if words.len() != 1 || !are_digits(word_at(words, 0)) {
         return Err(NlReason::BadLine);

@@ -1,7 +1,7 @@
 // The piece that was begun last.
-ghost use Rattle.std.specs.Prelude.{◌≡◌, ◌<◌, ◌≤◌, ◌^◌, length, None, OnOk, IfSome, IsSome};
+ghost use Rattle.std.specs.Prelude.{◌≡◌, ◌<◌, ◌^◌, length, OnOk, IfSome};
 ghost use Rattle.nl_model.specs.Nodes.{awaited};
-ghost use Rattle.nl_segments.specs.Current.{new_current, nodes_await, current_awaits, less_line, with_pair, with_node_row, with_operand_count};
+ghost use Rattle.nl_segments.specs.Current.{IsPending, new_current, nodes_await, current_awaits, less_line, with_pair, with_node_row};
 ghost use Rattle.nl_segments.specs.Pieces.{has_tree, line_kind};
 ghost use Rattle.nl_segments.specs.NodeRows.{IsFormedRow};
 
@@ -10,7 +10,7 @@ use crate::head::Head;
 use crate::node_row::NodeRow;
 use crate::pending::Pending;
 use exact_numbers::Dec;
-use nl_model::{ExprBuilder, Node, Terms};
+use nl_model::{ExprBuilder, Terms};
 use std::alloc::{AllocError, Global};
 use std::marker::Model;
 
@@ -133,38 +133,27 @@ impl Current {
         Ok(())
     }
 
-    /// Keeps a row of the expression, which stands in this line.
+    /// Keeps a row of the expression, whose node or opcode stands in this line.
     pub(crate) fn take_row(&mut self, row: NodeRow, line: u32) -> Result<(), AllocError>
         requires wanted { 0 < awaited self.old.nodes }
-        requires none { self.old.pending ≡ None }
         requires few { length self.old.nodes < 2 ^ 22 }
         requires formed { IsFormedRow row }
         ensures { OnOk result (self.new ≡ with_node_row self.old line row) }
     {
         match row {
-            NodeRow::Whole(node) => self.nodes.push(node)?,
+            NodeRow::Whole(node) => {
+                self.nodes.push(node)?;
+                self.pending = None;
+            }
             NodeRow::Counted(opcode) => self.pending = Some(Pending { opcode, line }),
         }
         Ok(())
     }
 
-    /// Keeps the opcode that awaits its number of operands.
-    pub(crate) fn take_operand_count(&mut self, opcode: u32, count: u32) -> Result<(), AllocError>
-        requires pending { IfSome self.old.pending (λ p. p.opcode ≡ opcode) }
-        requires some { IsSome self.old.pending }
-        requires few { length self.old.nodes < 2 ^ 22 }
-        requires more { 0 < count }
-        requires most { count ≤ 2 ^ 22 }
-        ensures { OnOk result (self.new ≡ with_operand_count self.old opcode count) }
-    {
-        self.nodes.push(Node::Op(opcode, count))?;
-        self.pending = None;
-        Ok(())
-    }
-
     /// The opcode that awaits its number of operands.
     pub(crate) fn pending(&self) -> Option<Pending>
-        ensures { result ≡ self.now.pending }
+        ensures opcode { result ≡ self.now.pending }
+        ensures waits { IfSome self.now.pending (IsPending self.now.nodes) }
     {
         self.pending
     }

@@ -20,7 +20,8 @@ pub enum NlReason {
     BadNumber,
     ShortSegment,
     ExtraLine,
-    RefusedOpcode,
+    /// The opcode that is refused.
+    RefusedOpcode(u32),
     RefusedLeaf,
     Undefined,
     Complementarity,
@@ -33,13 +34,6 @@ pub enum NlReason {
     ColumnCount,
     InputTooLong,
     EndInHeader,
-}
-
-/// A reason with the opcode that is refused; 0 for any other reason.
-#[derive(Clone, Copy, Debug, PartialEq, Eq)]
-pub struct Refusal {
-    pub reason: NlReason,
-    pub opcode: u32,
 }
 
 /// The first fault of a text: why, in which line, counted from 1, and the opcode that is refused; 0 for any other reason.

@@ -7,9 +7,8 @@ ghost use Rattle.nl_segments.specs.Reader.{value_of};
 ghost use Rattle.nl_segments.specs.Taking.{TakesHeaderRow, TakesAnyRow};
 
 use crate::body::BodyReader;
-use crate::fault::{NlReason, Refusal};
+use crate::fault::NlReason;
 use crate::nl_read::NlRead;
-use crate::nodes::refusal;
 use nl_header::{HeadFault, HeaderReader};
 use std::alloc::Global;
 use std::marker::Model;
@@ -56,7 +55,7 @@ impl Model for NlGrammar {
 }
 
 impl Grammar for NlGrammar {
-    type Reason = Refusal;
+    type Reason = NlReason;
 
     type Value = NlRead;
 
@@ -70,7 +69,7 @@ impl Grammar for NlGrammar {
 
     ghost says = { λ s lines r. SaysFile lines (value_of r) };
 
-    fn take(&mut self, line: &[u8], number: u32) -> Result<(), Stop<Refusal>> {
+    fn take(&mut self, line: &[u8], number: u32) -> Result<(), Stop<NlReason>> {
         let text = strip_comment(line);
         let row = Row::of(text);
         if row.words().is_empty() {
@@ -79,17 +78,17 @@ impl Grammar for NlGrammar {
         self.take_row(text, &row, number)
     }
 
-    fn line_fault(&self, fault: LineFault) -> Refusal {
+    fn line_fault(&self, fault: LineFault) -> NlReason {
         match fault {
-            LineFault::LineTooLong => refusal(NlReason::LineTooLong),
-            LineFault::InputTooLong => refusal(NlReason::InputTooLong),
+            LineFault::LineTooLong => NlReason::LineTooLong,
+            LineFault::InputTooLong => NlReason::InputTooLong,
         }
     }
 
-    fn finish(self) -> Result<NlRead, Stop<Refusal>> {
+    fn finish(self) -> Result<NlRead, Stop<NlReason>> {
         match self.body {
             Some(body) => body.finish(),
-            None => Err(Stop::Fault(refusal(NlReason::EndInHeader))),
+            None => Err(Stop::Fault(NlReason::EndInHeader)),
         }
     }
 }
@@ -107,7 +106,7 @@ impl NlGrammar {
     }
 
     // Takes a row of the header. After an `Err` nothing was taken.
-    fn take_header(&mut self, text: &[u8], number: u32) -> Result<(), Stop<Refusal>>
+    fn take_header(&mut self, text: &[u8], number: u32) -> Result<(), Stop<NlReason>>
         requires none { self.old.body ≡ None }
         requires words { 0 < length (words_of text.now) }
         ensures { TakesHeaderRow self.old (record { line = number; text = text.now }) result self.new }
@@ -124,12 +123,12 @@ impl NlGrammar {
                 self.body = Some(body);
                 Ok(())
             }
-            Err(fault) => Err(Stop::Fault(refusal(reason_of(fault)))),
+            Err(fault) => Err(Stop::Fault(reason_of(fault))),
         }
     }
 
     // Takes a row of the header or of the body.
-    fn take_row(&mut self, text: &[u8], row: &Row<'_>, number: u32) -> Result<(), Stop<Refusal>>
+    fn take_row(&mut self, text: &[u8], row: &Row<'_>, number: u32) -> Result<(), Stop<NlReason>>
         requires words { 0 < length (words_of text.now) }
         requires row { row.now ≡ row_of text.now }
         ensures { TakesAnyRow self.old (record { line = number; text = text.now }) result self.new }

@@ -1,7 +1,7 @@
 // Reading the heads of segments.
-ghost use Rattle.std.specs.Prelude.{◌≡◌, ◌+◌, ◌&&◌, nat_le, nat_lt, Some, None, IfOk, IfErr, OnOk};
-ghost use Rattle.text_base.specs.Judged.{first_reason};
-ghost use Rattle.nl_segments.specs.Tests.{for_reason, head_form_tests};
+ghost use Rattle.std.specs.Prelude.{◌≡◌, ◌+◌, ◌&&◌, nat_le, nat_lt, Some};
+ghost use Rattle.text_base.specs.Judged.{Decides};
+ghost use Rattle.nl_segments.specs.Tests.{head_form_tests};
 ghost use Rattle.nl_model.specs.HeaderRules.{defined_count};
 ghost use Rattle.text_base.specs.Words.{texts};
 ghost use Rattle.nl_segments.specs.Heads.{bare_head, numbered_head, counted_head, objective_head, definition_head, column_head, suffix_head, head_of, is_in_range};
@@ -225,9 +225,7 @@ pub(crate) fn is_in_range(counts: &Counts, head: Head) -> bool
 /// What a head says, or what is wrong with its form.
 #[tactic(auto, unfolding(crate::specs::Tests::head_form_tests))]
 pub(crate) fn read_head(counts: &Counts, words: &[&[u8]]) -> Result<Head, NlReason>
-    ensures head { IfOk result (λ head. head_of counts.now (texts words.now) ≡ Some head) }
-    ensures fine { OnOk result (first_reason (head_form_tests counts.now (texts words.now)) ≡ None) }
-    ensures fault { IfErr result (λ r. first_reason (head_form_tests counts.now (texts words.now)) ≡ Some (for_reason r)) }
+    ensures { Decides (head_form_tests counts.now (texts words.now)) (λ head. head_of counts.now (texts words.now) ≡ Some head) result }
 {
     let letter = letter_of(words);
     if is_refused_letter(letter) {

@@ -1,11 +1,11 @@
 // Lines of intervals.
-ghost use Rattle.std.specs.Prelude.{◌≡◌, false, option_map, Some, None, IfOk, IfErr, OnOk, codes};
+ghost use Rattle.std.specs.Prelude.{◌≡◌, option_map, Some, None, codes};
 ghost use Rattle.std.specs.Str.{bytes_eq};
-ghost use Rattle.text_base.specs.Judged.{first_reason};
+ghost use Rattle.text_base.specs.Judged.{Decides};
 ghost use Rattle.text_base.specs.Words.{texts, word_at};
 ghost use Rattle.exact_numbers.specs.Values.{dec_value};
 ghost use Rattle.nl_segments.specs.Pieces.{between, interval_in};
-ghost use Rattle.nl_segments.specs.Tests.{for_reason, has_sides, is_empty, is_within_unit, is_value_below, interval_form_tests};
+ghost use Rattle.nl_segments.specs.Tests.{SaysInterval, has_sides, is_empty, is_within_unit, is_value_below, interval_form_tests};
 
 use crate::fault::NlReason;
 use exact_numbers::{Dec, dec_of};
@@ -151,10 +151,7 @@ pub(crate) fn read_interval(
     of_constraint: bool,
     unit: bool,
 ) -> Result<Interval, NlReason>
-    ensures interval { IfOk result (λ i. interval_in (texts words.now) ≡ Some i) }
-    ensures ordered { IfOk result (λ i. is_empty i ≡ false) }
-    ensures fine { OnOk result (first_reason (interval_form_tests of_constraint unit (texts words.now)) ≡ None) }
-    ensures fault { IfErr result (λ r. first_reason (interval_form_tests of_constraint unit (texts words.now)) ≡ Some (for_reason r)) }
+    ensures { Decides (interval_form_tests of_constraint unit (texts words.now)) (SaysInterval (texts words.now)) result }
 {
     if of_constraint && is_complementarity(words) {
         return Err(NlReason::Complementarity);

@@ -32,7 +32,7 @@ mod seen;
 mod words;
 
 pub use awaited::Awaited;
-pub use fault::{NlFault, NlReason, Refusal};
+pub use fault::{NlFault, NlReason};
 pub use head::Head;
 pub use law::{one_line_more, one_reading, places_have_lines, trees_are_pieces};
 pub use nl_read::NlRead;

@@ -4,33 +4,40 @@ ghost use Rattle.std.specs.Result.{result_err};
 ghost use Rattle.text_base.specs.Stopped.{IfFault};
 ghost use Rattle.text_base.specs.Reading.{IsFreeSoFar};
 ghost use Rattle.nl_segments.specs.Grammar.{nl_rules};
-ghost use Rattle.nl_segments.specs.Reader.{IsFed, ReadsNl, HasNlFaultSoFar, HasLines, stop_of, stop_in, fault_of};
+ghost use Rattle.nl_segments.specs.Reader.{IsFed, ReadsNl, HasNlFaultSoFar, HasLines, stop_of, stop_in, fault_of, opcode_of};
 
-use crate::fault::{NlFault, Refusal};
+use crate::fault::{NlFault, NlReason};
 use crate::grammar::NlGrammar;
 use crate::nl_read::NlRead;
 use std::alloc::{AllocError, Global};
 use std::marker::Model;
 use text_base::{Reader, Stop, TextFault};
 
-// The fault of a text at a line.
-fn fault_of(found: TextFault<Refusal>) -> NlFault
-    ensures { result ≡ fault_of found }
+// The opcode that is refused; 0 for any other reason.
+fn opcode_of(reason: NlReason) -> u32
+    ensures { result ≡ opcode_of reason }
 {
-    NlFault {
-        reason: found.reason.reason,
-        line: found.line,
-        opcode: found.reason.opcode,
+    match reason {
+        NlReason::RefusedOpcode(opcode) => opcode,
+        _ => 0,
     }
 }
 
-fn stop_of(stop: Stop<TextFault<Refusal>>) -> Stop<NlFault>
+// The fault of a text at a line.
+fn fault_of(found: TextFault<NlReason>) -> NlFault
+    ensures { result ≡ fault_of found }
+{
+    NlFault {
+        reason: found.reason,
+        line: found.line,
+        opcode: opcode_of(found.reason),
+    }
+}
+
+fn stop_of(stop: Stop<TextFault<NlReason>>) -> Stop<NlFault>
     ensures { result ≡ stop_of stop }
 {
-    match stop {
-        Stop::Fault(found) => Stop::Fault(fault_of(found)),
-        Stop::Memory => Stop::Memory,
-    }
+    stop.map_fault(|found| fault_of(found))
 }
 
 /// Reads an .nl text that comes in pieces.

@@ -1,28 +1,21 @@
 // Lines of expressions.
-ghost use Rattle.std.specs.Prelude.{◌≡◌, true, Some, None, IfOk, IfErr, OnOk, codes, option_map, option_and_then};
-ghost use Rattle.text_base.specs.Judged.{first_reason};
+ghost use Rattle.std.specs.Prelude.{◌≡◌, true, Some, None, codes, option_map, option_and_then};
+ghost use Rattle.text_base.specs.Judged.{Decides};
 ghost use Rattle.text_base.specs.Words.{texts};
 ghost use Rattle.code_tables.specs.Opcodes.{operands_of};
 ghost use Rattle.nl_model.specs.declared.node.Node.TheVariants.{Num};
 ghost use Rattle.nl_segments.specs.Heads.{is_among};
 ghost use Rattle.nl_segments.specs.Nodes.{dec_of_signed, fixed_node, counted_opcode, variable_node, node_in, opcode_in};
-ghost use Rattle.nl_segments.specs.NodeRows.{IsRow, IsFormedRow};
-ghost use Rattle.nl_segments.specs.Tests.{for_reason, is_node_form, is_undefined, number_tests, variable_tests, opcode_tests, leaf_tests, node_form_tests};
+ghost use Rattle.nl_segments.specs.NodeRows.{IsFormedRow, IsReadAs, IsRow};
+ghost use Rattle.nl_segments.specs.Tests.{is_node_form, is_undefined, number_tests, variable_tests, opcode_tests, leaf_tests, node_form_tests};
 
-use crate::fault::{NlReason, Refusal};
+use crate::fault::NlReason;
 use crate::heads::defined_end;
 use crate::node_row::NodeRow;
 use crate::words::{leaf_text, letter_of, own_number};
 use code_tables::{Operands, operands_of};
 use exact_numbers::{Dec, are_digits, dec_of, signed_of};
 use nl_model::{Counts, NlBuilder, Node};
-
-// A reason other than a refused opcode.
-pub(crate) fn refusal(reason: NlReason) -> Refusal
-    ensures { result ≡ for_reason reason }
-{
-    Refusal { reason, opcode: 0 }
-}
 
 fn is_leaf_letter(letter: u8) -> bool
     ensures { result ≡ is_among (codes "onslv") letter }
@@ -70,15 +63,12 @@ fn dec_of_signed(word: &[u8]) -> Option<Dec>
 }
 
 // A number.
-fn read_number(value: Option<Dec>) -> Result<NodeRow, Refusal>
-    ensures row { IfOk result (IsRow (option_map Num value) None) }
-    ensures formed { IfOk result IsFormedRow }
-    ensures fine { OnOk result (first_reason (number_tests value) ≡ None) }
-    ensures fault { IfErr result (λ r. first_reason (number_tests value) ≡ Some r) }
+fn read_number(value: Option<Dec>) -> Result<NodeRow, NlReason>
+    ensures { Decides (number_tests value) (IsReadAs (option_map Num value) None) result }
 {
     match value {
         Some(d) => Ok(NodeRow::Whole(Node::Num(d))),
-        None => Err(refusal(NlReason::BadNumber)),
+        None => Err(NlReason::BadNumber),
     }
 }
 
@@ -99,21 +89,18 @@ fn is_undefined(builder: &NlBuilder, index: u32) -> bool
 }
 
 // A variable.
-fn read_variable(builder: &NlBuilder, index: Option<u32>) -> Result<NodeRow, Refusal>
-    ensures row { IfOk result (IsRow (option_map (variable_node builder.now.counts.n_var) index) None) }
-    ensures formed { IfOk result IsFormedRow }
-    ensures fine { OnOk result (first_reason (variable_tests builder.now.counts builder.now index) ≡ None) }
-    ensures fault { IfErr result (λ r. first_reason (variable_tests builder.now.counts builder.now index) ≡ Some r) }
+fn read_variable(builder: &NlBuilder, index: Option<u32>) -> Result<NodeRow, NlReason>
+    ensures { Decides (variable_tests builder.now.counts builder.now index) (IsReadAs (option_map (variable_node builder.now.counts.n_var) index) None) result }
 {
     let counts = builder.header().counts();
     let Some(i) = index else {
-        return Err(refusal(NlReason::IndexOut));
+        return Err(NlReason::IndexOut);
     };
     if i as u64 >= defined_end(counts) {
-        return Err(refusal(NlReason::IndexOut));
+        return Err(NlReason::IndexOut);
     }
     if is_undefined(builder, i) {
-        return Err(refusal(NlReason::Undefined));
+        return Err(NlReason::Undefined);
     }
     Ok(NodeRow::Whole(variable_node(counts, i)))
 }
@@ -132,32 +119,23 @@ fn opcode_row(opcode: u32, operands: Operands) -> NodeRow
 }
 
 // An opcode.
-fn read_opcode(opcode: Option<u32>) -> Result<NodeRow, Refusal>
-    ensures row { IfOk result (IsRow (option_and_then (λ o. fixed_node o (operands_of o)) opcode) (option_and_then (λ o. counted_opcode o (operands_of o)) opcode)) }
-    ensures formed { IfOk result IsFormedRow }
-    ensures fine { OnOk result (first_reason (opcode_tests opcode) ≡ None) }
-    ensures fault { IfErr result (λ r. first_reason (opcode_tests opcode) ≡ Some r) }
+fn read_opcode(opcode: Option<u32>) -> Result<NodeRow, NlReason>
+    ensures { Decides (opcode_tests opcode) (IsReadAs (option_and_then (λ o. fixed_node o (operands_of o)) opcode) (option_and_then (λ o. counted_opcode o (operands_of o)) opcode)) result }
 {
     let Some(o) = opcode else {
-        return Err(refusal(NlReason::BadNumber));
+        return Err(NlReason::BadNumber);
     };
     let Some(operands) = operands_of(o) else {
-        return Err(Refusal {
-            reason: NlReason::RefusedOpcode,
-            opcode: o,
-        });
+        return Err(NlReason::RefusedOpcode(o));
     };
     Ok(opcode_row(o, operands))
 }
 
 // A row of the form of a node.
 #[tactic(auto, unfolding(crate::specs::Nodes::node_in, crate::specs::Nodes::opcode_in))]
-fn read_leaf(words: &[&[u8]], builder: &NlBuilder) -> Result<NodeRow, Refusal>
+fn read_leaf(words: &[&[u8]], builder: &NlBuilder) -> Result<NodeRow, NlReason>
     requires { is_node_form (texts words.now) ≡ true }
-    ensures row { IfOk result (IsRow (node_in builder.now.counts.n_var (texts words.now)) (opcode_in (texts words.now))) }
-    ensures formed { IfOk result IsFormedRow }
-    ensures fine { OnOk result (first_reason (leaf_tests builder.now.counts builder.now (texts words.now)) ≡ None) }
-    ensures fault { IfErr result (λ r. first_reason (leaf_tests builder.now.counts builder.now (texts words.now)) ≡ Some r) }
+    ensures { Decides (leaf_tests builder.now.counts builder.now (texts words.now)) (IsReadAs (node_in builder.now.counts.n_var (texts words.now)) (opcode_in (texts words.now))) result }
 {
     match letter_of(words) {
         b'n' => read_number(dec_of(leaf_text(words))),
@@ -169,17 +147,14 @@ fn read_leaf(words: &[&[u8]], builder: &NlBuilder) -> Result<NodeRow, Refusal>
 
 /// A row of an expression.
 #[tactic(auto, unfolding(crate::specs::Tests::node_form_tests))]
-pub(crate) fn read_node(words: &[&[u8]], builder: &NlBuilder) -> Result<NodeRow, Refusal>
-    ensures row { IfOk result (IsRow (node_in builder.now.counts.n_var (texts words.now)) (opcode_in (texts words.now))) }
-    ensures formed { IfOk result IsFormedRow }
-    ensures fine { OnOk result (first_reason (node_form_tests builder.now.counts builder.now (texts words.now)) ≡ None) }
-    ensures fault { IfErr result (λ r. first_reason (node_form_tests builder.now.counts builder.now (texts words.now)) ≡ Some r) }
+pub(crate) fn read_node(words: &[&[u8]], builder: &NlBuilder) -> Result<NodeRow, NlReason>
+    ensures { Decides (node_form_tests builder.now.counts builder.now (texts words.now)) (IsReadAs (node_in builder.now.counts.n_var (texts words.now)) (opcode_in (texts words.now))) result }
 {
     if is_refused_leaf(letter_of(words)) {
-        return Err(refusal(NlReason::RefusedLeaf));
+        return Err(NlReason::RefusedLeaf);
     }
     if !is_node_form(words) {
-        return Err(refusal(NlReason::BadLine));
+        return Err(NlReason::BadLine);
     }
     read_leaf(words, builder)
 }

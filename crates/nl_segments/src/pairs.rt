@@ -1,9 +1,9 @@
 // Lines of an index and a value.
-ghost use Rattle.std.specs.Prelude.{◌≡◌, ◌<◌, ◌&&◌, not, Some, None, IfOk, IfErr, OnOk};
-ghost use Rattle.text_base.specs.Judged.{first_reason};
+ghost use Rattle.std.specs.Prelude.{◌≡◌, ◌<◌, ◌&&◌, not, Some};
+ghost use Rattle.text_base.specs.Judged.{Decides};
 ghost use Rattle.text_base.specs.Words.{texts};
 ghost use Rattle.nl_segments.specs.Pieces.{pair_in};
-ghost use Rattle.nl_segments.specs.Tests.{for_reason, pair_form_tests};
+ghost use Rattle.nl_segments.specs.Tests.{pair_form_tests};
 ghost use Rattle.exact_numbers.specs.Numbers.{is_whole};
 
 use crate::fault::NlReason;
@@ -31,10 +31,7 @@ pub(crate) fn read_pair(
     limit: u32,
     whole_only: bool,
 ) -> Result<(u32, Dec), NlReason>
-    ensures pair { IfOk result (λ t. pair_in (texts words.now) ≡ Some t) }
-    ensures below { IfOk result (λ t. t.0 < limit) }
-    ensures fine { OnOk result (first_reason (pair_form_tests limit whole_only (texts words.now)) ≡ None) }
-    ensures fault { IfErr result (λ r. first_reason (pair_form_tests limit whole_only (texts words.now)) ≡ Some (for_reason r)) }
+    ensures { Decides (pair_form_tests limit whole_only (texts words.now)) (λ t. (pair_in (texts words.now) ≡ Some t) × (t.0 < limit)) result }
 {
     if words.len() != 2 || !are_digits(word_at(words, 0)) {
         return Err(NlReason::BadLine);

@@ -57,6 +57,8 @@ impl ProofReader {
         ensures fault { IfErr result (λ stop. IfFault stop
             (λ fault. (s : Setting) (text : List ℕ) → IsFed s self.old text
             → HasFaultSoFar (proof_rules s) (text ++ piece.now) fault)) }
+        // What it was made for stays.
+        ensures setting { self.new.read.setting ≡ self.old.read.setting }
         ensures kept { self.new.stopped ≡ result_err result }
         ensures sticky { IfSome self.old.stopped (λ stop. result ≡ Err stop) }
     {

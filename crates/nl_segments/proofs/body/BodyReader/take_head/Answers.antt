@@ -1,9 +1,10 @@
-use Rattle.std.proofs.Common.{◌∙◌, refl, sym, ap, subst, Some}
+use Rattle.std.proofs.Common.{◌∙◌, refl, sym, ap, subst}
+use Rattle.text_base.specs.Judged.{first_reason}
 use Rattle.text_base.specs.Names.{IsName}
 use Rattle.text_base.specs.Words.{texts}
 use Rattle.nl_segments.specs.contracts.body.BodyReader.{the_view}
 use Rattle.nl_segments.specs.Heads.{name_in}
-use Rattle.nl_segments.specs.HeadSteps.{has_come_suffix, held_refusal, begun_current, begun_name, begun_draft}
+use Rattle.nl_segments.specs.HeadSteps.{has_come_suffix, new_head_tests, begun_current, begun_name, begun_draft}
 use Rattle.nl_segments.specs.Held.{Body, IsHeld, HoldsSome}
 use Rattle.nl_segments.specs.Steps.{after_body_row}
 use Rattle.nl_segments.proofs.HeadSeen.{suffix_named}
@@ -14,58 +15,58 @@ pub returns-in-Err : goal.returns-in-Err
 returns-in-Err c = λ s h.
     let b : Body = the_view c.self.inside in
     same_refusal s b (texts c.args.words.now) (subst (IsHeld s) (sym c.self.view_is) h) c.requires.row
-    ∙ ap (λ o. held_refusal b.draft.counts o b.seen b.draft.suffixes b.suffixes (texts c.args.words.now)) (sym c.is_some-is_open.ensures)
-    ∙ c.in-Err.ensures.fault ∙ ap Some (sym c.refusal.ensures)
+    ∙ ap (λ o. first_reason (new_head_tests b.draft.counts o b.seen b.draft.suffixes b.suffixes (texts c.args.words.now))) (sym c.is_some-is_open.ensures)
+    ∙ c.in-Err.ensures
 
 pub add-requires : goal.add-requires
 add-requires c =
     let b : Body = the_view c.self.inside in
-    let new = new_of b c.is_some-is_open.result (texts c.args.words.now) c.in-Ok.head c.is_some-is_open.ensures c.in-Ok.ensures.head c.in-Ok.ensures.fine in
+    let new = new_of b c.is_some-is_open.result (texts c.args.words.now) c.in-Ok.head c.is_some-is_open.ensures c.in-Ok.ensures.1 c.in-Ok.ensures.0 in
     marks_there b c.in-Ok.head (c.self.invariant c.if-self.false) new.range
 
 pub begun_count-self-inside-requires : goal.begun_count-self-inside-requires
 begun_count-self-inside-requires c =
     let b : Body = the_view c.self.inside in
-    (new_of b c.is_some-is_open.result (texts c.args.words.now) c.in-Ok.head c.is_some-is_open.ensures c.in-Ok.ensures.head c.in-Ok.ensures.fine).few
+    (new_of b c.is_some-is_open.result (texts c.args.words.now) c.in-Ok.head c.is_some-is_open.ensures c.in-Ok.ensures.1 c.in-Ok.ensures.0).few
 
 pub begun_name-requires : goal.begun_name-requires
-begun_name-requires c = λ e. subst IsName (sym c.word_at-name.ensures) (suffix_named c.self.inside.builder.counts (texts c.args.words.now) c.in-Ok.head c.in-Ok.ensures.head e)
+begun_name-requires c = λ e. subst IsName (sym c.word_at-name.ensures) (suffix_named c.self.inside.builder.counts (texts c.args.words.now) c.in-Ok.head c.in-Ok.ensures.1 e)
 
 pub begin-requires : goal.begin-requires
 begin-requires c =
     let b : Body = the_view c.self.inside in
-    let new = new_of b c.is_some-is_open.result (texts c.args.words.now) c.in-Ok.head c.is_some-is_open.ensures c.in-Ok.ensures.head c.in-Ok.ensures.fine in
+    let new = new_of b c.is_some-is_open.result (texts c.args.words.now) c.in-Ok.head c.is_some-is_open.ensures c.in-Ok.ensures.1 c.in-Ok.ensures.0 in
     place_there b c.in-Ok.head (c.self.invariant c.if-self.false) new.range
 
 pub give_empty_suffix-requires-clause-fresh : goal.give_empty_suffix-requires-clause-fresh
 give_empty_suffix-requires-clause-fresh c =
     let b : Body = the_view c.self.inside in
-    let new = new_of b c.is_some-is_open.result (texts c.args.words.now) c.in-Ok.head c.is_some-is_open.ensures c.in-Ok.ensures.head c.in-Ok.ensures.fine in
+    let new = new_of b c.is_some-is_open.result (texts c.args.words.now) c.in-Ok.head c.is_some-is_open.ensures c.in-Ok.ensures.1 c.in-Ok.ensures.0 in
     ap (has_come_suffix b.draft.suffixes c.in-Ok.head) c.word_at-name.ensures ∙ fresh_suffix b.seen b.draft.suffixes c.in-Ok.head (name_in (texts c.args.words.now)) new.fresh
 
 pub invariant_of-self-2 : goal.invariant_of-self-2
 invariant_of-self-2 c = λ e.
     let b : Body = the_view c.self.inside in
-    let new = new_of b c.is_some-is_open.result (texts c.args.words.now) c.in-Ok.head c.is_some-is_open.ensures c.in-Ok.ensures.head c.in-Ok.ensures.fine in
+    let new = new_of b c.is_some-is_open.result (texts c.args.words.now) c.in-Ok.head c.is_some-is_open.ensures c.in-Ok.ensures.1 c.in-Ok.ensures.0 in
     subst HoldsSome (sym (begun_is b _ c.in-Ok.head (name_in (texts c.args.words.now)) c.args.line
     (c.in_ok-give_empty_suffix.ensures ∙ ap (begun_draft b.draft c.in-Ok.head) c.word_at-name.ensures)
     (c.begun_current.ensures ∙ ap (λ k. begun_current k c.in-Ok.head c.args.line) (c.counts.ensures.value ∙ c.header.ensures.counts))
     (c.in_ok-self-inside.ensures ∙ ap (begun_name c.in-Ok.head) c.word_at-name.ensures)
     c.clear.ensures c.add.ensures refl refl refl c.begun_count-self-inside.ensures refl refl c.in_ok-begin.ensures))
-    (taken_some b (texts c.args.words.now) c.args.line c.in-Ok.head c.requires.exists c.requires.row c.in-Ok.ensures.head new (c.self.invariant c.if-self.false))
+    (taken_some b (texts c.args.words.now) c.args.line c.in-Ok.head c.requires.exists c.requires.row c.in-Ok.ensures.1 new (c.self.invariant c.if-self.false))
 
 pub returns : goal.returns
 returns c = λ s row is h.
     let b : Body = the_view c.self.inside in
     let held : IsHeld s b = subst (IsHeld s) (sym c.self.view_is) h in
-    let new = new_of b c.is_some-is_open.result (texts c.args.words.now) c.in-Ok.head c.is_some-is_open.ensures c.in-Ok.ensures.head c.in-Ok.ensures.fine in (
+    let new = new_of b c.is_some-is_open.result (texts c.args.words.now) c.in-Ok.head c.is_some-is_open.ensures c.in-Ok.ensures.1 c.in-Ok.ensures.0 in (
       same_refusal s b (texts c.args.words.now) held c.requires.row
-          ∙ ap (λ o. held_refusal b.draft.counts o b.seen b.draft.suffixes b.suffixes (texts c.args.words.now)) (sym c.is_some-is_open.ensures)
-          ∙ c.in-Ok.ensures.fine,
+          ∙ ap (λ o. first_reason (new_head_tests b.draft.counts o b.seen b.draft.suffixes b.suffixes (texts c.args.words.now))) (sym c.is_some-is_open.ensures)
+          ∙ c.in-Ok.ensures.0,
       subst (IsHeld (after_body_row s row)) (sym (begun_is b _ c.in-Ok.head (name_in (texts c.args.words.now)) c.args.line
           (c.in_ok-give_empty_suffix.ensures ∙ ap (begun_draft b.draft c.in-Ok.head) c.word_at-name.ensures)
           (c.begun_current.ensures ∙ ap (λ k. begun_current k c.in-Ok.head c.args.line) (c.counts.ensures.value ∙ c.header.ensures.counts))
           (c.in_ok-self-inside.ensures ∙ ap (begun_name c.in-Ok.head) c.word_at-name.ensures)
           c.clear.ensures c.add.ensures refl refl refl c.begun_count-self-inside.ensures refl refl c.in_ok-begin.ensures))
-          (taken_head s b row (texts c.args.words.now) c.args.line c.in-Ok.head is c.requires.row c.in-Ok.ensures.head new held),
+          (taken_head s b row (texts c.args.words.now) c.args.line c.in-Ok.head is c.requires.row c.in-Ok.ensures.1 new held),
     )

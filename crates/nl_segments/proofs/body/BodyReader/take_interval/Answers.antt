@@ -1,4 +1,4 @@
-use Rattle.std.proofs.Common.{◌∙◌, sym, ap, subst, Some}
+use Rattle.std.proofs.Common.{◌∙◌, sym, ap, subst}
 use Rattle.text_base.specs.Judged.{first_reason}
 use Rattle.text_base.specs.Words.{texts}
 use Rattle.nl_segments.specs.LineSteps.{next_interval_tests, with_interval, HasRoom}
@@ -12,7 +12,7 @@ returns-in-Err c =
     interval_refused c.args.self.now c.in-Some.current _ _ (ap (λ b. b.current) (sym c.self.view_is) ∙ c.in-Some.is) c.requires.awaited c.requires.row
     (ap (λ b. first_reason (next_interval_tests b.draft.counts c.in-Some.current (texts c.args.words.now))) (sym c.self.view_is)
     ∙ ap (λ k. first_reason (next_interval_tests k c.in-Some.current (texts c.args.words.now))) (sym c.header.ensures.counts)
-    ∙ c.in-Err.ensures.fault ∙ ap Some (sym c.refusal.ensures))
+    ∙ c.in-Err.ensures)
 
 pub add_interval-requires-clause-room : goal.add_interval-requires-clause-room
 add_interval-requires-clause-room c =
@@ -23,11 +23,11 @@ pub invariant_of-self-2 : goal.invariant_of-self-2
 invariant_of-self-2 c _ =
     holds_again _ _ _ _ _ c.self.view_is c.requires.exists (c.self.invariant c.if-self.false)
     (interval_step c.args.self.now _ c.in-Some.current _ _ c.in-Ok.interval _ _ c.self.view_is c.in-Some.is c.requires.awaited c.requires.row
-    (ap (λ k. first_reason (next_interval_tests k c.in-Some.current (texts c.args.words.now))) (sym c.header.ensures.counts) ∙ c.in-Ok.ensures.fine) c.in-Ok.ensures.interval
+    (ap (λ k. first_reason (next_interval_tests k c.in-Some.current (texts c.args.words.now))) (sym c.header.ensures.counts) ∙ c.in-Ok.ensures.0) c.in-Ok.ensures.1.says
     (c.in_ok-add_interval.ensures ∙ ap (λ b. with_interval c.self.inside.builder b c.in-Ok.interval) (c.is_sides-of_constraint.ensures ∙ ap is_sides c.head.ensures)) c.count_line.ensures)
 
 pub returns : goal.returns
 returns c =
     interval_step c.args.self.now _ c.in-Some.current _ _ c.in-Ok.interval _ _ c.self.view_is c.in-Some.is c.requires.awaited c.requires.row
-    (ap (λ k. first_reason (next_interval_tests k c.in-Some.current (texts c.args.words.now))) (sym c.header.ensures.counts) ∙ c.in-Ok.ensures.fine) c.in-Ok.ensures.interval
+    (ap (λ k. first_reason (next_interval_tests k c.in-Some.current (texts c.args.words.now))) (sym c.header.ensures.counts) ∙ c.in-Ok.ensures.0) c.in-Ok.ensures.1.says
     (c.in_ok-add_interval.ensures ∙ ap (λ b. with_interval c.self.inside.builder b c.in-Ok.interval) (c.is_sides-of_constraint.ensures ∙ ap is_sides c.head.ensures)) c.count_line.ensures

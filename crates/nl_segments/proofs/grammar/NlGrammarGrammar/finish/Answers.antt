@@ -14,4 +14,4 @@ returns-in-Some-clause-fault c =
 
 pub returns-in-None-clause-fault : goal.returns-in-None-clause-fault
 returns-in-None-clause-fault c = λ lines h.
-    rw c.refusal.ensures (end_in_header (standing lines) c.args.self (subst (λ (g : Progress). g.body ≡ None) c.self.view_is c.in-None.is) h)
+    end_in_header (standing lines) c.args.self (subst (λ (g : Progress). g.body ≡ None) c.self.view_is c.in-None.is) h

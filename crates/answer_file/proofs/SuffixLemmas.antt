@@ -1,0 +1,200 @@
+-- A line more of suffixes.
+use Rattle.std.proofs.Common.{◌≡◌, ◌∙◌, ◌%◌, Bool, true, false, ◌&&◌, ◌||◌, not, cond, eqb, List, [], ◌∷◌, ◌++◌, map, refl, sym, ap}
+use Rattle.std.specs.Prelude.{filter}
+use Rattle.std.specs.List.{list_any}
+use Rattle.std.specs.Str.{bytes_eq}
+use Rattle.std.proofs.lemmas.Bool.{eqb-true, eq-eqb}
+use Rattle.std.proofs.lemmas.List.{append-nil, map-append}
+use Rattle.std.proofs.lemmas.List.Elements.{filter-append}
+use Rattle.std.proofs.lemmas.Slice.Eq.{bytes_eq-Decides}
+use Rattle.exact_numbers.proofs.NumberLemmas.{first_of_both, second_of_both}
+use Rattle.nl_model.specs.File.{Term, Suffix}
+use Rattle.answer_file.specs.Entries.{SuffixLine}
+use Rattle.answer_file.specs.Suffixes.{is_same_suffix, first_lines, values_like, suffix_like, suffixes_of}
+use Rattle.answer_file.specs.Steps.{new_suffix, with_line, with_suffix_line}
+use Rattle.answer_file.proofs.PlaceLemmas.{bytes_eq-comm, eqb-comm}
+
+-- ---- lines of one suffix
+
+same-comm : (a b : SuffixLine) → is_same_suffix a b ≡ is_same_suffix b a
+same-comm a b = ap (λ t. t && bytes_eq a.name b.name) (eqb-comm (a.kind % 4) (b.kind % 4)) ∙ ap (λ t. eqb (b.kind % 4) (a.kind % 4) && t) (bytes_eq-comm a.name b.name)
+
+same-self : (a : SuffixLine) → is_same_suffix a a ≡ true
+same-self a = rw (eq-eqb (a.kind % 4) (a.kind % 4) refl) ((bytes_eq-Decides a.name a.name).1 refl)
+
+-- lines of one suffix are alike to every other
+same-class : (a b c : SuffixLine) → is_same_suffix a b ≡ true → is_same_suffix a c ≡ is_same_suffix b c
+same-class a b c e =
+    ap (λ k. eqb k (c.kind % 4) && bytes_eq a.name c.name) (eqb-true _ _ (first_of_both _ _ e))
+    ∙ ap (λ n. eqb (b.kind % 4) (c.kind % 4) && bytes_eq n c.name) ((bytes_eq-Decides a.name b.name).0 (second_of_both (eqb (a.kind % 4) (b.kind % 4)) _ e))
+
+-- no line of these is of the suffix of x
+AreOthers : SuffixLine → List SuffixLine → Type 0
+AreOthers x [] = Unit {0}
+AreOthers x (h ∷ hs) = (is_same_suffix h x ≡ false) × AreOthers x hs
+
+-- no two of these are of one suffix
+AreApart : List SuffixLine → Type 0
+AreApart [] = Unit {0}
+AreApart (h ∷ hs) = AreOthers h hs × AreApart hs
+
+like : SuffixLine → SuffixLine → Bool
+like x h = is_same_suffix h x
+
+-- ---- the first lines
+
+filtered-others : (x l : SuffixLine) (hs : List SuffixLine) → AreOthers x hs → AreOthers x (filter (λ o. not (is_same_suffix l o)) hs)
+unfolding AreOthers
+filtered-others x l [] h = tt
+filtered-others x l (k ∷ hs) h = by (is_same_suffix l k) (filtered-others x l hs h.1)
+  where
+    by : (b : Bool) → AreOthers x (filter (λ o. not (is_same_suffix l o)) hs) → AreOthers x (cond (not b) (k ∷ filter (λ o. not (is_same_suffix l o)) hs) (filter (λ o. not (is_same_suffix l o)) hs))
+    by true r = r
+    by false r = (h.0, r)
+
+filtered-apart : (l : SuffixLine) (hs : List SuffixLine) → AreApart hs → AreApart (filter (λ o. not (is_same_suffix l o)) hs)
+unfolding AreApart
+filtered-apart l [] h = tt
+filtered-apart l (k ∷ hs) h = by (is_same_suffix l k) (filtered-apart l hs h.1)
+  where
+    by : (b : Bool) → AreApart (filter (λ o. not (is_same_suffix l o)) hs) → AreApart (cond (not b) (k ∷ filter (λ o. not (is_same_suffix l o)) hs) (filter (λ o. not (is_same_suffix l o)) hs))
+    by true r = r
+    by false r = (filtered-others k l hs h.0, r)
+
+left-others : (l : SuffixLine) (hs : List SuffixLine) → AreOthers l (filter (λ o. not (is_same_suffix l o)) hs)
+unfolding AreOthers
+left-others l [] = tt
+left-others l (k ∷ hs) = by (is_same_suffix l k) refl (left-others l hs)
+  where
+    by : (b : Bool) → is_same_suffix l k ≡ b → AreOthers l (filter (λ o. not (is_same_suffix l o)) hs) → AreOthers l (cond (not b) (k ∷ filter (λ o. not (is_same_suffix l o)) hs) (filter (λ o. not (is_same_suffix l o)) hs))
+    by true e r = r
+    by false e r = (same-comm k l ∙ e, r)
+
+firsts-apart : (lines : List SuffixLine) → AreApart (first_lines lines)
+unfolding AreApart first_lines
+firsts-apart [] = tt
+firsts-apart (l ∷ lines) = (left-others l (first_lines lines), filtered-apart l (first_lines lines) (firsts-apart lines))
+
+-- some first line is of a suffix where some line is
+some-filtered : (x l : SuffixLine) (hs : List SuffixLine) → is_same_suffix l x ≡ false → list_any (like x) (filter (λ o. not (is_same_suffix l o)) hs) ≡ list_any (like x) hs
+unfolding like
+some-filtered x l [] e = refl
+some-filtered x l (k ∷ hs) e = by (is_same_suffix l k) refl (some-filtered x l hs e)
+  where
+    by : (b : Bool) → is_same_suffix l k ≡ b → list_any (like x) (filter (λ o. not (is_same_suffix l o)) hs) ≡ list_any (like x) hs
+        → list_any (like x) (cond (not b) (k ∷ filter (λ o. not (is_same_suffix l o)) hs) (filter (λ o. not (is_same_suffix l o)) hs)) ≡ (is_same_suffix k x || list_any (like x) hs)
+    by true same r = r ∙ ap (λ t. t || list_any (like x) hs) (sym (sym (same-class l k x same) ∙ e))
+    by false same r = ap (λ t. is_same_suffix k x || t) r
+
+some-first : (x : SuffixLine) (lines : List SuffixLine) → list_any (like x) (first_lines lines) ≡ list_any (like x) lines
+unfolding like first_lines
+some-first x [] = refl
+some-first x (l ∷ lines) = by (is_same_suffix l x) refl (some-first x lines)
+  where
+    by : (b : Bool) → is_same_suffix l x ≡ b → list_any (like x) (first_lines lines) ≡ list_any (like x) lines
+        → (b || list_any (like x) (filter (λ o. not (is_same_suffix l o)) (first_lines lines))) ≡ (b || list_any (like x) lines)
+    by true e r = refl
+    by false e r = some-filtered x l (first_lines lines) e ∙ r
+
+-- the first lines with a line more
+firsts-more : (lines : List SuffixLine) (x : SuffixLine) → first_lines (lines ++ x ∷ []) ≡ first_lines lines ++ cond (list_any (like x) lines) [] (x ∷ [])
+unfolding like first_lines
+firsts-more [] x = refl
+firsts-more (l ∷ lines) x =
+    ap (λ hs. l ∷ filter (λ o. not (is_same_suffix l o)) hs) (firsts-more lines x)
+    ∙ ap (λ hs. l ∷ hs) (filter-append (λ o. not (is_same_suffix l o)) (first_lines lines) (cond (list_any (like x) lines) [] (x ∷ [])))
+    ∙ ap (λ hs. l ∷ filter (λ o. not (is_same_suffix l o)) (first_lines lines) ++ hs) (by (is_same_suffix l x) (list_any (like x) lines) refl)
+  where
+    by : (b c : Bool) → is_same_suffix l x ≡ b → filter (λ o. not (is_same_suffix l o)) (cond c [] (x ∷ [])) ≡ cond (b || c) [] (x ∷ [])
+    by true true e = refl
+    by true false e = rw e refl
+    by false true e = refl
+    by false false e = rw e refl
+
+-- ---- the suffixes
+
+pair : SuffixLine → Term
+pair line = (line.place, line.value)
+
+values-like-more : (lines : List SuffixLine) (x h : SuffixLine) → values_like (lines ++ x ∷ []) h ≡ values_like lines h ++ cond (is_same_suffix h x) ((x.place, x.value) ∷ []) []
+unfolding pair
+values-like-more lines x h =
+    ap (map pair) (filter-append (is_same_suffix h) lines (x ∷ []))
+    ∙ map-append pair (filter (is_same_suffix h) lines) (cond (is_same_suffix h x) (x ∷ []) [])
+    ∙ ap (λ ts. values_like lines h ++ ts) (by (is_same_suffix h x))
+  where
+    by : (b : Bool) → map pair (cond b (x ∷ []) []) ≡ cond b ((x.place, x.value) ∷ []) []
+    by true = refl
+    by false = refl
+
+with_values : SuffixLine → List Term → Suffix
+with_values h ts = record { kind = h.kind; name = h.name; values = ts }
+
+like-same : (lines : List SuffixLine) (x h : SuffixLine) → is_same_suffix h x ≡ true → suffix_like (lines ++ x ∷ []) h ≡ with_line (suffix_like lines h) x
+unfolding with_values
+like-same lines x h e = ap (with_values h) (values-like-more lines x h ∙ ap (λ b. values_like lines h ++ cond b ((x.place, x.value) ∷ []) []) e)
+
+like-other : (lines : List SuffixLine) (x h : SuffixLine) → is_same_suffix h x ≡ false → suffix_like (lines ++ x ∷ []) h ≡ suffix_like lines h
+unfolding with_values
+like-other lines x h e = ap (with_values h) (values-like-more lines x h ∙ ap (λ b. values_like lines h ++ cond b ((x.place, x.value) ∷ []) []) e ∙ append-nil (values_like lines h))
+
+others-kept : (lines : List SuffixLine) (x : SuffixLine) (hs : List SuffixLine) → AreOthers x hs → map (suffix_like (lines ++ x ∷ [])) hs ≡ map (suffix_like lines) hs
+unfolding AreOthers
+others-kept lines x [] h = refl
+others-kept lines x (k ∷ hs) h =
+    ap (λ s. s ∷ map (suffix_like (lines ++ x ∷ [])) hs) (like-other lines x k h.0)
+    ∙ ap (λ ss. suffix_like lines k ∷ ss) (others-kept lines x hs h.1)
+
+-- lines apart from one of a suffix are apart from all of it
+others-of : (h x : SuffixLine) (hs : List SuffixLine) → is_same_suffix h x ≡ true → AreOthers h hs → AreOthers x hs
+unfolding AreOthers
+others-of h x [] e r = tt
+others-of h x (k ∷ hs) e r = (same-comm k x ∙ sym (same-class h x k e) ∙ same-comm h k ∙ r.0, others-of h x hs e r.1)
+
+stepped : (lines : List SuffixLine) (x : SuffixLine) (hs : List SuffixLine) → AreApart hs
+    → with_suffix_line (map (suffix_like lines) hs) x ≡ map (suffix_like (lines ++ x ∷ [])) hs ++ cond (list_any (like x) hs) [] (new_suffix x ∷ [])
+unfolding AreApart like
+stepped lines x [] apart = refl
+stepped lines x (h ∷ hs) apart = by (is_same_suffix h x) refl (stepped lines x hs apart.1)
+  where
+    by : (b : Bool) → is_same_suffix h x ≡ b → with_suffix_line (map (suffix_like lines) hs) x ≡ map (suffix_like (lines ++ x ∷ [])) hs ++ cond (list_any (like x) hs) [] (new_suffix x ∷ [])
+        → cond b (with_line (suffix_like lines h) x ∷ map (suffix_like lines) hs) (suffix_like lines h ∷ with_suffix_line (map (suffix_like lines) hs) x)
+        ≡ suffix_like (lines ++ x ∷ []) h ∷ (map (suffix_like (lines ++ x ∷ [])) hs ++ cond (b || list_any (like x) hs) [] (new_suffix x ∷ []))
+    by true e r =
+        ap (λ s. s ∷ map (suffix_like lines) hs) (sym (like-same lines x h e))
+        ∙ ap (λ ss. suffix_like (lines ++ x ∷ []) h ∷ ss) (sym (others-kept lines x hs (others-of h x hs e apart.0)) ∙ sym (append-nil (map (suffix_like (lines ++ x ∷ [])) hs)))
+    by false e r =
+        ap (λ s. s ∷ with_suffix_line (map (suffix_like lines) hs) x) (sym (like-other lines x h e))
+        ∙ ap (λ ss. suffix_like (lines ++ x ∷ []) h ∷ ss) r
+
+-- a suffix of one line
+nothing-like : (lines : List SuffixLine) (x : SuffixLine) → list_any (like x) lines ≡ false → filter (is_same_suffix x) lines ≡ []
+unfolding like
+nothing-like [] x e = refl
+nothing-like (l ∷ lines) x e = by (is_same_suffix l x) refl e (nothing-like lines x)
+  where
+    by : (b : Bool) → is_same_suffix l x ≡ b → (b || list_any (like x) lines) ≡ false → (list_any (like x) lines ≡ false → filter (is_same_suffix x) lines ≡ []) → filter (is_same_suffix x) (l ∷ lines) ≡ []
+    by true s f r = absurd (cc)
+    by false s f r = rw (same-comm x l ∙ s) (r f)
+
+like-new : (lines : List SuffixLine) (x : SuffixLine) → list_any (like x) lines ≡ false → suffix_like (lines ++ x ∷ []) x ≡ new_suffix x
+unfolding with_values pair
+like-new lines x e =
+    ap (with_values x)
+    (values-like-more lines x x
+    ∙ ap (λ b. values_like lines x ++ cond b ((x.place, x.value) ∷ []) []) (same-self x)
+    ∙ ap (λ hs. map pair hs ++ (x.place, x.value) ∷ []) (nothing-like lines x e))
+
+last-one : (lines : List SuffixLine) (x : SuffixLine) (b : Bool) → list_any (like x) lines ≡ b → map (suffix_like (lines ++ x ∷ [])) (cond b [] (x ∷ [])) ≡ cond b [] (new_suffix x ∷ [])
+last-one lines x true e = refl
+last-one lines x false e = ap (λ s. s ∷ []) (like-new lines x e)
+
+pub suffixes-more : (lines : List SuffixLine) (x : SuffixLine) → suffixes_of (lines ++ x ∷ []) ≡ with_suffix_line (suffixes_of lines) x
+unfolding suffixes_of
+suffixes-more lines x =
+    let all = suffix_like (lines ++ x ∷ []) in
+    ap (map all) (firsts-more lines x)
+    ∙ map-append all (first_lines lines) (cond (list_any (like x) lines) [] (x ∷ []))
+    ∙ ap (λ ss. map all (first_lines lines) ++ ss) (last-one lines x (list_any (like x) lines) refl)
+    ∙ ap (λ b. map all (first_lines lines) ++ cond b [] (new_suffix x ∷ [])) (sym (some-first x lines))
+    ∙ sym (stepped lines x (first_lines lines) (firsts-apart lines))

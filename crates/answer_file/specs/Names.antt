@@ -1,0 +1,92 @@
+-- The names by which an answer names columns, rows and objects: own profile.
+use Rattle.std.specs.Prelude.{ℕ, ◌%◌, ◌==◌, Bool, false, ◌||◌, is_some, List, [], ◌∷◌, length, map, count_by, get_or, position, Option, Some, None, option_map, option_and_then, if◌then◌else◌, codes}
+use Rattle.std.specs.Fmt.{decimal}
+use Rattle.std.specs.List.{range_with_len}
+use Rattle.std.specs.Str.{bytes_eq}
+use Rattle.nl_model.specs.declared.interval.Interval.{Interval}
+use Rattle.nl_model.specs.File.{File}
+use Rattle.answer_file.specs.declared.target.Target.{Target}
+use Rattle.answer_file.specs.declared.target.Target.TheVariants.{Tied, Place}
+
+-- names are a letter and the number, or those of two lists: of rows and of columns
+pub data Naming : Type 0 where
+  Numbered : Naming
+  Listed : List (List ℕ) → List (List ℕ) → Naming
+
+-- what of a file an answer is judged by: how its columns and rows are named, how many columns it
+-- has, and which of its rows are exported
+pub record Setting : Type 0 where
+  pub naming : Naming
+  pub columns : ℕ
+  pub exported : List Bool
+
+-- a row is exported where it has a finite side
+abbrev pub has_side : Interval → Bool
+has_side side = is_some side.lo || is_some side.hi
+
+abbrev pub setting_of : File → Setting
+setting_of f = record {
+  naming = Numbered;
+  columns = f.counts.n_var;
+  exported = map has_side f.sides;
+}
+
+-- ---- names
+
+-- x and the number
+abbrev pub column_name : Naming → ℕ → List ℕ
+column_name Numbered j = 120 ∷ decimal j
+column_name (Listed rows columns) j = get_or columns j []
+
+-- c and the number
+abbrev pub row_name : Naming → ℕ → List ℕ
+row_name Numbered i = 99 ∷ decimal i
+row_name (Listed rows columns) i = get_or rows i []
+
+-- the column and the row that tie the objective
+abbrev pub tied_column : Naming → List ℕ
+tied_column Numbered = codes "z"
+tied_column (Listed rows columns) = codes "@z"
+
+abbrev pub tied_row : Naming → List ℕ
+tied_row Numbered = codes "zdef"
+tied_row (Listed rows columns) = codes "@zdef"
+
+-- the first of n things that has this name
+unfoldable pub index_named : (ℕ → List ℕ) → ℕ → List ℕ → Option ℕ
+index_named name n text = position (λ j. bytes_eq (name j) text) (range_with_len 0 n)
+
+-- ---- what a name stands for
+
+abbrev pub column_target : Setting → List ℕ → Option Target
+column_target s text =
+    if bytes_eq text (tied_column s.naming) then Some Tied
+    else option_map Place (index_named (column_name s.naming) s.columns text)
+
+-- the row of this number, if it is exported
+abbrev pub if_exported : List Bool → ℕ → Option Target
+if_exported exported i = if get_or exported i false then Some (Place i) else None
+
+-- only rows that are exported have a name in an answer
+abbrev pub row_target : Setting → List ℕ → Option Target
+row_target s text =
+    if bytes_eq text (tied_row s.naming) then Some Tied
+    else option_and_then (if_exported s.exported)
+    (index_named (row_name s.naming) (length s.exported) text)
+
+-- the one thing of this name
+abbrev pub only : List ℕ → List ℕ → Option Target
+only name text = if bytes_eq text name then Some (Place 0) else None
+
+-- the object of a suffix, by the low two bits of its kind; of objectives there is one, whose number
+-- is known at the end
+abbrev pub object_target : Setting → ℕ → List ℕ → Option Target
+object_target s kind text =
+    if kind % 4 == 0 then column_target s text else
+    if kind % 4 == 1 then row_target s text else
+    if kind % 4 == 2 then only (codes "obj") text else
+    only (codes "problem") text
+
+-- how many rows are exported
+abbrev pub exported_count : Setting → ℕ
+exported_count s = count_by (λ e. e) s.exported

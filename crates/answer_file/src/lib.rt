@@ -1,0 +1,24 @@
+// Reading the answers of solvers: lines of values by the names of columns and rows.
+#![tactic(auto)]
+
+mod answer;
+mod fault;
+mod grammar;
+mod group;
+mod keyword;
+mod law;
+mod named_places;
+mod names;
+mod parts;
+mod reader;
+mod scope;
+mod suffixes;
+mod table;
+mod target;
+mod values;
+mod words;
+
+pub use answer::Answer;
+pub use fault::{AnswerFault, AnswerReason};
+pub use law::{one_line_more, one_reading};
+pub use reader::{AnswerReader, read_answer};

@@ -1,0 +1,143 @@
+// What of a file an answer is judged by.
+ghost use Rattle.std.specs.Prelude.{◌≡◌, length, map, get_or, IfOk};
+ghost use Rattle.answer_file.specs.Names.{setting_of, has_side, column_target, row_target, object_target, only, if_exported, exported_count};
+
+use crate::names::numbered;
+use crate::target::Target;
+use nl_model::{Interval, NlFile};
+use std::alloc::{AllocError, Global};
+use std::marker::Model;
+
+/// How many columns a file has, and which of its rows are exported.
+#[derive(Drop)]
+pub struct Scope {
+    columns: u32,
+    exported: Vec<bool>,
+}
+
+impl Model for Scope {
+    ghost use Rattle.std.specs.Prelude.{◌≤◌, ◌^◌, length};
+    ghost use Rattle.answer_file.specs.Names.{Setting, Numbered};
+
+    ghost Value = { Setting };
+
+    ghost view = { λ s. record {
+      naming = Numbered;
+      columns = s.columns;
+      exported = s.exported.items;
+    } };
+
+    ghost invariant = { λ s. (s.columns ≤ 2 ^ 20) × (length s.exported.items ≤ 2 ^ 20) };
+}
+
+// Whether an interval has a finite side.
+fn has_side(side: Interval) -> bool
+    ensures { result ≡ has_side side }
+{
+    side.lo.is_some() || side.hi.is_some()
+}
+
+// Which constraints are exported.
+fn exported_of(alloc: Global, file: &NlFile) -> Result<Vec<bool>, AllocError>
+    ensures { IfOk result (λ v. v.items ≡ map has_side file.now.sides) }
+{
+    let mut exported = Vec::new(alloc);
+    'constraints: for con in 0..file.header().counts().n_con {
+        exported.push(has_side(file.side(con)))?;
+    }
+    Ok(exported)
+}
+
+// The one thing of this name.
+fn only(name: &[u8], text: &[u8]) -> Option<Target>
+    ensures { result ≡ only name.now text.now }
+{
+    if text == name {
+        return Some(Target::Place(0));
+    }
+    None
+}
+
+impl Scope {
+    /// What an answer for this file is judged by.
+    pub(crate) fn of(alloc: Global, file: &NlFile) -> Result<Scope, AllocError>
+        ensures { IfOk result (λ s. s ≡ setting_of file.now) }
+    {
+        let exported = exported_of(alloc, file)?;
+        Ok(Scope {
+            columns: file.header().counts().n_var,
+            exported,
+        })
+    }
+
+    /// How many columns there are.
+    pub(crate) fn columns(&self) -> u32
+        ensures { result ≡ self.now.columns }
+    {
+        self.columns
+    }
+
+    /// How many rows there are.
+    pub(crate) fn rows(&self) -> usize
+        ensures { result ≡ length self.now.exported }
+    {
+        self.exported.len()
+    }
+
+    /// How many rows are exported.
+    pub(crate) fn exported_count(&self) -> usize
+        ensures { result ≡ exported_count self.now }
+    {
+        self.exported.iter().filter(|e| **e).count()
+    }
+
+    // The row of this number, where it is exported.
+    fn if_exported(&self, row: u32) -> Option<Target>
+        ensures { result ≡ if_exported self.now.exported row }
+    {
+        match self.exported.get(row as usize) {
+            Some(true) => Some(Target::Place(row)),
+            _ => None,
+        }
+    }
+
+    /// The column of this name.
+    pub(crate) fn column_target(&self, text: &[u8]) -> Option<Target>
+        ensures { result ≡ column_target self.now text.now }
+    {
+        let count = self.columns;
+        if text == b"z".as_slice() {
+            return Some(Target::Tied);
+        }
+        match numbered(b'x', text, count) {
+            Some(column) => Some(Target::Place(column)),
+            None => None,
+        }
+    }
+
+    /// The row of this name.
+    pub(crate) fn row_target(&self, text: &[u8]) -> Option<Target>
+        ensures { result ≡ row_target self.now text.now }
+    {
+        let count = self.exported.len() as u32;
+        if text == b"zdef".as_slice() {
+            return Some(Target::Tied);
+        }
+        match numbered(b'c', text, count) {
+            Some(row) => self.if_exported(row),
+            None => None,
+        }
+    }
+
+    /// The object of a suffix of this kind.
+    pub(crate) fn object_target(&self, kind: u32, text: &[u8]) -> Option<Target>
+        ensures { result ≡ object_target self.now kind text.now }
+    {
+        match kind % 4 {
+            0 => self.column_target(text),
+            1 => self.row_target(text),
+            2 => only(b"obj".as_slice(), text),
+            _ => only(b"problem".as_slice(), text),
+        }
+    }
+}

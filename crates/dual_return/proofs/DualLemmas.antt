@@ -1,0 +1,169 @@
+-- The dual of a row, from the answer's value and the factor.
+use Rattle.std.proofs.Common.{◌≡◌, ◌⊎◌, inl, inr, ◌∙◌, ℕ, zero, suc, below_more, ◌+◌, ◌<◌, ℤ, pos, ◌*ℤ◌, Bool, true, false, ◌&&◌, List, [], ◌∷◌, ◌++◌, length, get_or, IsTrue, Option, Some, None, refl, sym, ap, subst, arith}
+use Rattle.std.specs.Prelude.{slice_get, IfSome, ◌≤ℤ◌}
+use Rattle.std.proofs.lemmas.Int.{ints}
+use Rattle.std.proofs.lemmas.List.{length-append}
+use Rattle.fractions.specs.Rational.{whole, zero_ℚ, ◌*ℚ◌}
+use Rattle.fractions.proofs.Arithmetic.{whole-*ℚ}
+use Rattle.exact_numbers.specs.declared.dec.Dec.{Dec}
+use Rattle.exact_numbers.specs.Values.{dec_value, IsInReach}
+use Rattle.linear_programs.specs.Linear.{Linear}
+use Rattle.nl_model.specs.File.{File}
+use Rattle.file_meaning.specs.Expressions.{maximises}
+use Rattle.file_meaning.specs.LinearFile.{linear_of}
+use Rattle.exported_program.specs.Export.{factor_of_row, factor_of_objective}
+use Rattle.exported_program.specs.Program.{program_of, program, tied_program}
+use Rattle.exported_program.specs.Return.{is_exported, row_at}
+use Rattle.row_scaling.specs.Exported.{exported_as}
+use Rattle.row_scaling.specs.Scaled.{ScaledValue}
+use Rattle.row_scaling.specs.Scaling.{IsScaledOf, factor_at}
+use Rattle.answer_file.specs.Grammar.{AnswerValue}
+use Rattle.dual_return.specs.Return.{sign_by, sign_of, multiplier_of, linear_for, IsDualAt, Reaches, IsTooWideAt, AreDuals, DualBy, AreFactors}
+
+-- ---- the sense
+
+stable : (b c : Bool) → ((b ≡ c → ⊥) → ⊥) → b ≡ c
+stable true true h = refl
+stable false false h = refl
+stable true false h = absurd (h (λ e. absurd cc))
+stable false true h = absurd (h (λ e. absurd cc))
+
+sense-plain : (f : Linear) (factor : ℕ → ℕ) (s : ScaledValue) → exported_as s ≡ program f factor → s.maximise ≡ f.maximise
+unfolding exported_as program_of
+sense-plain f factor s e = ap (λ m. m.maximise) e
+
+sense-tied : (f : Linear) (factor : ℕ → ℕ) (g : ℕ) (s : ScaledValue) → exported_as s ≡ tied_program f factor g → s.maximise ≡ f.maximise
+unfolding exported_as program_of
+sense-tied f factor g s e = ap (λ m. m.maximise) e
+
+pub same-sense : (f : Linear) (s : ScaledValue) → IsScaledOf f s → s.maximise ≡ f.maximise
+same-sense f s h =
+    stable s.maximise f.maximise (λ ne. ne (sense-tied f (factor_of_row f) (factor_of_objective f) s (h.export.tied (λ decimal. ne (sense-plain f (factor_of_row f) s (h.export.plain decimal))))))
+
+same-maximise : (f : File) (k : ℕ) → (linear_of f k).maximise ≡ maximises f k
+unfolding linear_of
+same-maximise f k = refl
+
+-- the sign by the scaled program is that of the file
+pub same-sign : (f : File) (a : AnswerValue) (s : ScaledValue) → IsScaledOf (linear_for f a) s → sign_by (a.min_sign && s.maximise) ≡ sign_of f a
+same-sign f a s h = ap (λ b. sign_by (a.min_sign && b)) (same-sense (linear_for f a) s h ∙ same-maximise f a.objective)
+
+-- ---- factors
+
+factor-known : (f : Linear) (s : ScaledValue) (i : ℕ) (b : Bool) → is_exported (row_at f i) ≡ b → IsScaledOf f s → IfSome (factor_at s i) (λ g. pos 0 ≤ℤ g)
+factor-known f s i true e h = subst (λ (o : Option ℤ). IfSome o (λ g. pos 0 ≤ℤ g)) (sym (h.factors.exported i e)) (omega (arith, ints))
+factor-known f s i false e h = subst (λ (o : Option ℤ). IfSome o (λ g. pos 0 ≤ℤ g)) (sym (h.factors.others i (λ t. absurd (clash (sym t ∙ e))))) tt
+  where
+    clash : true ≡ false → ⊥
+    clash e = absurd cc
+
+pub factors-known : (f : Linear) (s : ScaledValue) → IsScaledOf f s → AreFactors s
+factors-known f s h = λ i. factor-known f s i (is_exported (row_at f i)) refl h
+
+exported-by : (f : Linear) (s : ScaledValue) (i : ℕ) (g : ℤ) (b : Bool) → is_exported (row_at f i) ≡ b → IsScaledOf f s → factor_at s i ≡ Some g → IsTrue (is_exported (row_at f i)) × (g ≡ pos (factor_of_row f i))
+exported-by f s i g true e h is = (e, let same = sym is ∙ h.factors.exported i e in cc)
+exported-by f s i g false e h is = absurd (some_none (sym (h.factors.others i (λ t. absurd (clash (sym t ∙ e)))) ∙ is))
+  where
+    clash : true ≡ false → ⊥
+    clash e = absurd cc
+
+    some_none : None ≡ Some g → ⊥
+    some_none e = absurd cc
+
+-- ---- one dual
+
+by-value : (value : Option Dec) (factor : Option ℤ) (sign : ℤ) (d w : Dec) (g : ℤ) → DualBy value factor sign (Some d) → value ≡ Some w → factor ≡ Some g → IsInReach w (sign *ℤ g) × (dec_value d ≡ dec_value w *ℚ whole (sign *ℤ g))
+by-value value factor sign d w g h e is =
+    subst (λ (o : Option ℤ). DualBy (Some w) o sign (Some d)) is (subst (λ (o : Option Dec). DualBy o factor sign (Some d)) e h)
+
+by-other : (value : Option Dec) (factor : Option ℤ) (sign : ℤ) (d : Dec) → DualBy value factor sign (Some d) → factor ≡ None → dec_value d ≡ zero_ℚ
+by-other value factor sign d h is = subst (λ (o : Option ℤ). DualBy value o sign (Some d)) is h
+
+by-missing : (value : Option Dec) (factor : Option ℤ) (sign : ℤ) (d : Dec) → DualBy value factor sign (Some d) → value ≡ None → dec_value d ≡ zero_ℚ
+by-missing value factor sign d h e = missing factor (subst (λ (o : Option Dec). DualBy o factor sign (Some d)) e h)
+  where
+    missing : (factor : Option ℤ) → DualBy None factor sign (Some d) → dec_value d ≡ zero_ℚ
+    missing None h = h
+    missing (Some g) h = h
+
+-- why there is none
+record IsNone (value : Option Dec) (factor : Option ℤ) (sign : ℤ) : Type 0 where
+  w : Dec
+  g : ℤ
+  given : value ≡ Some w
+  has : factor ≡ Some g
+  wide : IsInReach w (sign *ℤ g) → ⊥
+
+by-none : (value : Option Dec) (factor : Option ℤ) (sign : ℤ) → DualBy value factor sign None → IsNone value factor sign
+by-none value None sign h = absurd h
+by-none None (Some g) sign h = absurd h
+by-none (Some w) (Some g) sign h = record { w = w; g = g; given = refl; has = refl; wide = h }
+
+pub dual-at : (f : File) (a : AnswerValue) (s : ScaledValue) (i : ℕ) (value : Option Dec) (factor : Option ℤ) (d : Dec) → IsScaledOf (linear_for f a) s → value ≡ get_or a.rows i None → factor ≡ factor_at s i
+    → DualBy value factor (sign_by (a.min_sign && s.maximise)) (Some d) → IsDualAt f a i d
+dual-at f a s i value factor d h v g by =
+    let l = linear_for f a in
+    let sign = same-sign f a s h in
+    let signed : DualBy value factor (sign_of f a) (Some d) = subst (λ (z : ℤ). DualBy value factor z (Some d)) sign by in
+    let found : (e : IsTrue (is_exported (row_at l i))) (w : Dec) → get_or a.rows i None ≡ Some w → IsInReach w (multiplier_of f a i) × (dec_value d ≡ dec_value w *ℚ whole (multiplier_of f a i))
+    = λ e w is. by-value value factor (sign_of f a) d w (pos (factor_of_row l i)) signed (v ∙ is) (g ∙ h.factors.exported i e) in
+    record {
+      reach = λ e w is. (found e w is).0;
+      exported = λ e w is. (found e w is).1 ∙ ap (λ q. dec_value w *ℚ q) (sym (whole-*ℚ (sign_of f a) (pos (factor_of_row l i))));
+      other = λ o. elim o [
+        | inl ne ↦ by-other value factor (sign_of f a) d signed (g ∙ h.factors.others i ne)
+        | inr none ↦ by-missing value factor (sign_of f a) d signed (v ∙ none)
+      ];
+    }
+
+pub wide-at : (f : File) (a : AnswerValue) (s : ScaledValue) (i : ℕ) (value : Option Dec) (factor : Option ℤ) → IsScaledOf (linear_for f a) s → value ≡ get_or a.rows i None → factor ≡ factor_at s i
+    → i < f.counts.n_con → ((k : ℕ) → k < i → Reaches f a k) → DualBy value factor (sign_by (a.min_sign && s.maximise)) None → IsTooWideAt f a i
+wide-at f a s i value factor h v g within before by =
+    let l = linear_for f a in
+    let none = by-none value factor (sign_of f a) (subst (λ (z : ℤ). DualBy value factor z None) (same-sign f a s h) by) in
+    let known = exported-by l s i none.g (is_exported (row_at l i)) refl h (sym g ∙ none.has) in
+    record {
+      within = within;
+      before = before;
+      exported = known.0;
+      value = none.w;
+      given_for = sym v ∙ none.given;
+      wide = λ reach. none.wide (subst (λ (z : ℤ). IsInReach none.w (sign_of f a *ℤ z)) (sym known.1) reach);
+    }
+
+-- ---- all duals
+
+-- the duals of the first n rows
+pub record AreFirst (a : AnswerValue) (s : ScaledValue) (duals : List Dec) (n : ℕ) : Type 0 where
+  pub count : length duals ≡ n
+  pub each : (f : File) → IsScaledOf (linear_for f a) s → (i : ℕ) (d : Dec) → slice_get duals i ≡ Some d → IsDualAt f a i d
+  pub reach : (f : File) → IsScaledOf (linear_for f a) s → (k : ℕ) → k < n → Reaches f a k
+
+pub none-first : (a : AnswerValue) (s : ScaledValue) (duals : List Dec) → duals ≡ [] → AreFirst a s duals 0
+none-first a s duals e = subst (λ (ds : List Dec). AreFirst a s ds 0) (sym e) (record { count = refl; each = λ f h i d is. absurd (cc); reach = λ f h k less. absurd (omega arith) })
+
+pub get-push : {A : Type 0} (xs : List A) (y : A) (i : ℕ) (x : A) → slice_get (xs ++ y ∷ []) i ≡ Some x → (slice_get xs i ≡ Some x) ⊎ ((i ≡ length xs) × (x ≡ y))
+get-push [] y zero x e = inr (refl, let same : Some y ≡ Some x = e in cc)
+get-push [] y (suc i) x e = absurd (cc)
+get-push (z ∷ xs) y zero x e = inl e
+get-push (z ∷ xs) y (suc i) x e = elim (get-push xs y i x e) [ inl h ↦ inl h | inr h ↦ inr (ap suc h.0, h.1) ]
+
+pub first-more : (a : AnswerValue) (s : ScaledValue) (duals next : List Dec) (n : ℕ) (value : Option Dec) (factor : Option ℤ) (d : Dec) → AreFirst a s duals n → value ≡ get_or a.rows n None → factor ≡ factor_at s n
+    → DualBy value factor (sign_by (a.min_sign && s.maximise)) (Some d) → next ≡ duals ++ d ∷ [] → AreFirst a s next (n + 1)
+first-more a s duals next n value factor d h v g by pushed =
+    subst (λ (ds : List Dec). AreFirst a s ds (n + 1)) (sym pushed)
+    (record {
+      count = omega (arith, h.count, length-append duals (d ∷ []));
+      each = λ f scaled i x is. elim (get-push duals d i x is) [
+        | inl old ↦ h.each f scaled i x old
+        | inr new ↦ subst (λ (y : Dec). IsDualAt f a i y) (sym new.1) (subst (λ (k : ℕ). IsDualAt f a k d) (sym (new.0 ∙ h.count)) (dual-at f a s n value factor d scaled v g by))
+      ];
+      reach = λ f scaled. below_more (Reaches f a) n (h.reach f scaled) (dual-at f a s n value factor d scaled v g by).reach;
+    })
+
+pub all-duals : (a : AnswerValue) (s : ScaledValue) (duals : List Dec) (n : ℕ) → AreFirst a s duals n → (f : File) → n ≡ f.counts.n_con → IsScaledOf (linear_for f a) s → AreDuals f a duals
+all-duals a s duals n h f same scaled = record { count = h.count ∙ same; each = h.each f scaled }
+
+pub first-wide : (a : AnswerValue) (s : ScaledValue) (duals : List Dec) (n : ℕ) (value : Option Dec) (factor : Option ℤ) → AreFirst a s duals n → value ≡ get_or a.rows n None → factor ≡ factor_at s n
+    → DualBy value factor (sign_by (a.min_sign && s.maximise)) None → (f : File) → IsScaledOf (linear_for f a) s → n < f.counts.n_con → IsTooWideAt f a n
+first-wide a s duals n value factor h v g by f scaled within = wide-at f a s n value factor scaled v g within (h.reach f scaled) by

@@ -1,0 +1,6 @@
+use Rattle.std.proofs.Common.{◌≡◌, ℕ, suc, ◌+◌, ◌<◌, ◌≤◌, List, [], ◌∷◌, ◌++◌, map, drop, take, length, get_or, replicate, None, Some}
+use Rattle.file_meaning.specs.Meaning.{no_sides}
+use Rattle.mps_import.proofs.build.add_bounds.Given as goal
+
+abbrev pub invariant-variables : goal.invariant-variables
+invariant-variables l = l.builder ≡ record l.initial.builder { bounds = l.initial.builder.bounds ++ map (λ j. get_or l.bounds j no_sides) (take l.j-index l.order) }

@@ -1,0 +1,6 @@
+use Rattle.std.proofs.Common.{◌≡◌, ℕ, suc, ◌+◌, ◌<◌, ◌≤◌, List, [], ◌∷◌, ◌++◌, map, drop, take, length, get_or, replicate, None, Some}
+use Rattle.mps_import.specs.Columns.{none_set}
+use Rattle.mps_import.proofs.columns.no_records.Given as goal
+
+abbrev pub invariant-filled : goal.invariant-filled
+invariant-filled l = l.columns.items ≡ replicate l.counter none_set

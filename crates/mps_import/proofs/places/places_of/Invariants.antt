@@ -1,0 +1,8 @@
+use Rattle.std.proofs.Common.{◌≡◌, ℕ, suc, ◌+◌, ◌<◌, ◌≤◌, List, [], ◌∷◌, ◌++◌, map, drop, take, length, get_or, replicate, None, Some}
+use Rattle.nl_model.specs.declared.kind.Kind.TheVariants.{Continuous}
+use Rattle.mps_import.specs.Columns.{is_kind}
+use Rattle.mps_import.specs.Places.{places}
+use Rattle.mps_import.proofs.places.places_of.Given as goal
+
+abbrev pub invariant-kinds : goal.invariant-kinds
+invariant-kinds l = l.found.items ≡ places (λ j. is_kind l.kind (get_or l.kinds j Continuous)) l.j

@@ -1,0 +1,9 @@
+use Rattle.std.proofs.Common.{◌≡◌, ℕ, suc, ◌+◌, ◌<◌, ◌≤◌, List, [], ◌∷◌, ◌++◌, map, drop, take, length, get_or, replicate, None, Some}
+use Rattle.std.specs.Ordering.{is_gt}
+use Rattle.file_meaning.specs.Meaning.{interval_of, no_sides}
+use Rattle.mps_import.specs.Import.{both_sides}
+use Rattle.mps_import.specs.Places.{places}
+use Rattle.mps_import.proofs.variables.first_empty.Given as goal
+
+abbrev pub invariant-columns : goal.invariant-columns
+invariant-columns l = places (λ j. both_sides is_gt (interval_of (get_or l.sides j no_sides)).lower (interval_of (get_or l.sides j no_sides)).upper) l.j ≡ []
