@@ -3,10 +3,11 @@ use Rattle.std.proofs.Common.{◌≡◌, ◌≢◌, ◌∙◌, inl, inr, ℕ, �
 use Rattle.std.specs.Global.{Vec}
 use Rattle.fractions.specs.Rational.{ℚ}
 use Rattle.linear_programs.specs.Linear.{Linear}
-use Rattle.exact_numbers.specs.Values.{value_text}
+use Rattle.exact_numbers.specs.declared.dec.Dec.{Dec}
+use Rattle.exact_numbers.specs.Values.{dec_value, value_text}
 use Rattle.file_meaning.specs.LinearFile.{linear_of}
 use Rattle.linear_fold.specs.Programs.{LinearValue, linear_value}
-use Rattle.mps_model.specs.Mps.{Mps}
+use Rattle.mps_model.specs.Mps.{Mps, with_values}
 use Rattle.mps_model.specs.Text.{mps_text_by}
 use Rattle.nl_model.specs.File.{File}
 use Rattle.nl_segments.specs.Grammar.{NlValue}
@@ -34,6 +35,7 @@ use Rattle.bridge_tool.proofs.Ending.{HasComeTo, IsKnown, memory_worked, refused
 use Rattle.bridge_tool.proofs.Exporting.{by_decimal, export_decided, same_file}
 use Rattle.bridge_tool.proofs.Known.{OnlyInput-same}
 use Rattle.bridge_tool.proofs.OneOutcome.{text_has_one}
+use Rattle.bridge_tool.proofs.Summing.{coefficients_same}
 
 one_summary : (text a b : List ℕ) → IsMade text a → IsMade text b → a ≡ b
 one_summary text a b h k =
@@ -53,6 +55,11 @@ made_decided = record {
   ];
   apart = λ text bytes line h r. (export_decided 0).apart text h.mps line h.exported r;
 }
+
+-- the summary of a program of decimals
+pub of_program : (variables rows terms bytes : ℕ) (m : Mps Dec) (p : Mps ℚ) (text out : List ℕ) → with_values dec_value m ≡ p → terms ≡ coefficient_count rows m → text ≡ mps_text_by value_text p → bytes ≡ length text → out ≡ summary_line variables rows terms bytes → IsSummedUp variables rows p out
+of_program variables rows terms bytes m p text out values counted written size line =
+    line ∙ (λ i. summary_line variables rows ((counted ∙ coefficients_same rows m p values) i) ((size ∙ ap length written) i))
 
 -- what was read, folded, scaled and summed up
 pub summed_up : (text : List ℕ) (value : NlValue) (variables rows : ℕ) (l : LinearValue) (s : ScaledValue) (out : List ℕ) → IsNl text value → HasFolded value 0 l → HasScaled (linear_value l) s

@@ -37,7 +37,8 @@ fn sum_up(
     let _ = mps.rows();
     let terms = coefficient_count(&mps, rows);
     let text = write_mps(alloc, &mps)?;
-    summary_line(alloc, variables, rows, terms, text.len())
+    let line = summary_line(alloc, variables, rows, terms, text.len())?;
+    Ok(line)
 }
 
 // The summary of what was read, or the line to tell.
