@@ -37,7 +37,7 @@ fn sum_up(
     let _ = mps.rows();
     let terms = coefficient_count(&mps, rows);
     let text = write_mps(alloc, &mps)?;
-    let line = summary_line(alloc, variables, rows, terms, text.len())?;
+    let line = summary_line(alloc, variables, rows, terms, text.as_slice().len())?;
     Ok(line)
 }
 
