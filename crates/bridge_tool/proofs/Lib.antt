@@ -8,6 +8,7 @@ pub mod FoldPlaces
 pub mod Headline
 pub mod Importing
 pub mod Known
+pub mod Making
 pub mod Meaning
 pub mod MpsRewriting
 pub mod NlRewriting
@@ -17,4 +18,5 @@ pub mod Proving
 pub mod Outcomes
 pub mod SeveralFiles
 pub mod SolRewriting
+pub mod Summing
 pub mod Working
