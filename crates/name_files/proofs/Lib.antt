@@ -1,0 +1,4 @@
+pub mod ExportedNames
+pub mod GrammarLemmas
+pub mod MeaningLemmas
+pub mod NameLemmas

@@ -1,0 +1,33 @@
+// Laws of names. Each is proved by a function with an empty body.
+ghost use Rattle.std.specs.Prelude.{◌≡◌, List, ℕ, length};
+ghost use Rattle.text_base.specs.Judged.{HasOneOutcome};
+ghost use Rattle.text_base.specs.Reading.{lines_of, last_of};
+ghost use Rattle.exact_numbers.specs.declared.dec.Dec.{Dec};
+ghost use Rattle.exact_numbers.specs.Values.{dec_value};
+ghost use Rattle.mps_model.specs.Mps.{Mps, with_values};
+ghost use Rattle.name_files.specs.Names.{Counts, name_rules, SaysNames};
+ghost use Rattle.linear_programs.specs.Linear.{Linear};
+ghost use Rattle.exported_program.specs.Program.{program, tied_program};
+ghost use Rattle.name_files.specs.Renamed.{named, HasExportedNames, HaveOneMeaning, IsNamedLinear};
+
+/// Each text is free of faults or has one first fault, and what it says is one list of names.
+pub fn one_reading()
+    ensures outcome { (counts : Counts) (text : List ℕ)
+        → HasOneOutcome (name_rules counts) (lines_of text) (last_of text) }
+    ensures value { (counts : Counts) (lines : List (List ℕ)) (names others : List (List ℕ))
+        → SaysNames counts lines names → SaysNames counts lines others → names ≡ others }
+{}
+
+/// A program with other names has the same points and the same objective.
+pub fn names_mean_nothing()
+    ensures { (m : Mps Dec) (rows columns : List (List ℕ))
+        → HaveOneMeaning (with_values dec_value (named m rows columns)) (with_values dec_value m) }
+{}
+
+/// A program that is exported, with its objective tied or not, has the names that are renamed.
+pub fn exported_names()
+    ensures plain { (f : Linear) (factor : ℕ → ℕ) → IsNamedLinear f
+        → HasExportedNames (length f.rows) (length f.variables) (program f factor) }
+    ensures tied { (f : Linear) (factor : ℕ → ℕ) (g : ℕ) → IsNamedLinear f
+        → HasExportedNames (length f.rows) (length f.variables) (tied_program f factor g) }
+{}
