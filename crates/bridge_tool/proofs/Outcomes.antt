@@ -1,10 +1,11 @@
 -- Words come to exactly one outcome.
 use Rattle.std.proofs.Common.{◌≡◌, ◌∙◌, inl, inr, ◌⊎◌, ℕ, List, take, Option, Some, None, true, false, Bool, refl, sym, ap, subst}
 use Rattle.text_base.specs.Desk.{Texts}
-use Rattle.bridge_tool.specs.Command.{Command, Check, Export, Fixed, Mps, Nl, Sol, command_of}
-use Rattle.bridge_tool.specs.Commands.{promise_of, promise_by, ComesTo}
+use Rattle.bridge_tool.specs.Command.{Command, Check, Export, Fixed, Import, Mps, Nl, Sol, command_of}
+use Rattle.bridge_tool.specs.Commands.{ComesTo, promise_by, promise_of}
 use Rattle.bridge_tool.specs.Export.{IsExported}
-use Rattle.bridge_tool.specs.Fixed.{IsFixedRewritten, IsFixedRefused}
+use Rattle.bridge_tool.specs.Import.{IsImportRefused, IsImported}
+use Rattle.bridge_tool.specs.Fixed.{IsFixedRefused, IsFixedRewritten}
 use Rattle.bridge_tool.specs.Mps.{IsRewritten, IsMpsRefused}
 use Rattle.bridge_tool.specs.Nl.{IsNlRewritten}
 use Rattle.bridge_tool.specs.OneFile.{TextComesTo, FileComesTo, DeskComesTo}
@@ -15,6 +16,7 @@ use Rattle.bridge_tool.specs.Sol.{IsSolRefused, IsSolRewritten}
 use Rattle.bridge_tool.specs.declared.transfer.TheConstants.{LIMIT}
 use Rattle.bridge_tool.proofs.Checking.{check_sound}
 use Rattle.bridge_tool.proofs.Exporting.{export_decided}
+use Rattle.bridge_tool.proofs.Importing.{import_decided}
 use Rattle.bridge_tool.proofs.NlRewriting.{nl_decided}
 use Rattle.bridge_tool.proofs.MpsRewriting.{fixed_decided, mps_decided}
 use Rattle.bridge_tool.proofs.Decisions.{AreDecided}
@@ -34,6 +36,7 @@ told_has_one texts (Nl file) = desk_has_one IsNlRewritten HasTextRefusal nl_deci
 told_has_one texts (Mps file) = desk_has_one IsRewritten IsMpsRefused mps_decided texts file
 told_has_one texts (Sol file) = desk_has_one IsSolRewritten (IsSolRefused 1) sol_decided texts file
 told_has_one texts (Check nl sol) = (check_sound nl sol texts).one
+told_has_one texts (Import file) = desk_has_one IsImported IsImportRefused import_decided texts file
 told_has_one texts (Fixed file) = desk_has_one IsFixedRewritten IsFixedRefused fixed_decided texts file
 
 -- with those of one that does not
@@ -43,6 +46,7 @@ untold_has_one (Nl file) = record { outcome = Untold false; comes_to = refl; is 
 untold_has_one (Mps file) = record { outcome = Untold false; comes_to = refl; is = tt; one = λ other j. j }
 untold_has_one (Sol file) = record { outcome = Untold false; comes_to = refl; is = tt; one = λ other j. j }
 untold_has_one (Check nl sol) = record { outcome = Untold true; comes_to = refl; is = tt; one = λ other j. j }
+untold_has_one (Import file) = record { outcome = Untold false; comes_to = refl; is = tt; one = λ other j. j }
 untold_has_one (Fixed file) = record { outcome = Untold false; comes_to = refl; is = tt; one = λ other j. j }
 
 any_of : (comes : Outcome → Type 0) → HasOne IsPlain comes → HasOne Any comes

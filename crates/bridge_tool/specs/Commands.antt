@@ -3,9 +3,10 @@ use Rattle.std.specs.Prelude.{◌≡◌, ℕ, List}
 use Rattle.std.specs.declared.option.Option.{Option}
 use Rattle.std.specs.declared.option.Option.TheVariants.{None, Some}
 use Rattle.text_base.specs.Desk.{Texts}
-use Rattle.bridge_tool.specs.Command.{Command, Check, Export, Fixed, Mps, Nl, Sol, command_of}
+use Rattle.bridge_tool.specs.Command.{Command, Check, Export, Fixed, Import, Mps, Nl, Sol, command_of}
 use Rattle.bridge_tool.specs.Check.{check_promise}
 use Rattle.bridge_tool.specs.Export.{export_promise}
+use Rattle.bridge_tool.specs.Import.{import_promise}
 use Rattle.bridge_tool.specs.Fixed.{fixed_promise}
 use Rattle.bridge_tool.specs.Mps.{mps_promise}
 use Rattle.bridge_tool.specs.Nl.{nl_promise}
@@ -20,6 +21,7 @@ promise_of texts (Nl file) = nl_promise texts file
 promise_of texts (Mps file) = mps_promise texts file
 promise_of texts (Sol file) = sol_promise texts file
 promise_of texts (Check nl sol) = check_promise texts nl sol
+promise_of texts (Import file) = import_promise texts file
 promise_of texts (Fixed file) = fixed_promise texts file
 
 -- the words are in no row of the command table

@@ -3,6 +3,8 @@ pub mod Check
 pub mod Command
 pub mod Commands
 pub mod Export
+pub mod Import
+pub mod ImportTold
 pub mod Fixed
 pub mod Mps
 pub mod MpsTold

@@ -6,6 +6,8 @@ mod check;
 mod command;
 mod export;
 mod fixed;
+mod import;
+mod import_told;
 mod laws;
 mod mps;
 mod mps_told;
