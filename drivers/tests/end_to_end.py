@@ -20,7 +20,7 @@ BRIDGE = find("", []) if os.environ.get("BRIDGE") else []
 
 def knows(command: str) -> bool:
     """Whether a bridge is there and knows the command: then it misses the files."""
-    words = [command, "/nonexistent"] + ["/nonexistent"] * (command != "export")
+    words = [command] + ["/nonexistent"] * (1 if command in ("export", "import") else 2)
     try:
         return bool(BRIDGE) and subprocess.run(BRIDGE + words, capture_output=True).returncode == 4
     except OSError:

@@ -207,7 +207,7 @@ class Case(unittest.TestCase):
             self.assertRegex(last, "^not certified")
             if solvers.load(driver).exact:
                 self.assertIn("objective 1/3", sol.text)
-        elif name != "rowless":     # there bridge may want duals, of which there are none
+        else:
             exact = values.exact_decimal(model.objective)
             self.assertRegex(last, f"^certified optimal: exactly {re.escape(exact)}( |$)")
         if last.startswith("certified"):

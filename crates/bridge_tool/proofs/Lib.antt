@@ -4,6 +4,7 @@ pub mod Exporting
 pub mod FaultLines
 pub mod FoldPlaces
 pub mod Headline
+pub mod Importing
 pub mod Known
 pub mod Meaning
 pub mod MpsRewriting

@@ -1,10 +1,11 @@
 -- Words come to exactly one outcome.
 use Rattle.std.proofs.Common.{◌≡◌, ◌∙◌, inl, inr, ◌⊎◌, ℕ, List, take, Option, Some, None, true, false, Bool, refl, sym, ap, subst}
 use Rattle.text_base.specs.Desk.{Texts}
-use Rattle.bridge_tool.specs.Command.{Command, Export, Fixed, Mps, Nl, command_of}
-use Rattle.bridge_tool.specs.Commands.{promise_of, promise_by, ComesTo}
+use Rattle.bridge_tool.specs.Command.{Command, Export, Fixed, Import, Mps, Nl, command_of}
+use Rattle.bridge_tool.specs.Commands.{ComesTo, promise_by, promise_of}
 use Rattle.bridge_tool.specs.Export.{IsExported}
-use Rattle.bridge_tool.specs.Fixed.{IsFixedRewritten, IsFixedRefused}
+use Rattle.bridge_tool.specs.Import.{IsImportRefused, IsImported}
+use Rattle.bridge_tool.specs.Fixed.{IsFixedRefused, IsFixedRewritten}
 use Rattle.bridge_tool.specs.Mps.{IsRewritten, IsMpsRefused}
 use Rattle.bridge_tool.specs.Nl.{IsNlRewritten}
 use Rattle.bridge_tool.specs.OneFile.{TextComesTo, FileComesTo, DeskComesTo}
@@ -13,6 +14,7 @@ use Rattle.bridge_tool.specs.Promise.{Promise}
 use Rattle.bridge_tool.specs.Refusal.{HasTextRefusal, IsRefused}
 use Rattle.bridge_tool.specs.declared.transfer.TheConstants.{LIMIT}
 use Rattle.bridge_tool.proofs.Exporting.{export_decided}
+use Rattle.bridge_tool.proofs.Importing.{import_decided}
 use Rattle.bridge_tool.proofs.NlRewriting.{nl_decided}
 use Rattle.bridge_tool.proofs.MpsRewriting.{fixed_decided, mps_decided}
 use Rattle.bridge_tool.proofs.Decisions.{AreDecided}
@@ -73,6 +75,7 @@ pub told_has_one : (texts : Texts) (c : Command) → HasOne IsPlain (promise_of 
 told_has_one texts (Export file k) = desk_has_one (λ t. IsExported t k) (λ t. IsRefused t k) (export_decided k) texts file
 told_has_one texts (Nl file) = desk_has_one IsNlRewritten HasTextRefusal nl_decided texts file
 told_has_one texts (Mps file) = desk_has_one IsRewritten IsMpsRefused mps_decided texts file
+told_has_one texts (Import file) = desk_has_one IsImported IsImportRefused import_decided texts file
 told_has_one texts (Fixed file) = desk_has_one IsFixedRewritten IsFixedRefused fixed_decided texts file
 
 -- with those of one that does not
@@ -80,6 +83,7 @@ untold_has_one : (c : Command) → HasOne Any (promise_of None c).comes
 untold_has_one (Export file k) = record { outcome = Untold false; comes_to = refl; is = tt; one = λ other j. j }
 untold_has_one (Nl file) = record { outcome = Untold false; comes_to = refl; is = tt; one = λ other j. j }
 untold_has_one (Mps file) = record { outcome = Untold false; comes_to = refl; is = tt; one = λ other j. j }
+untold_has_one (Import file) = record { outcome = Untold false; comes_to = refl; is = tt; one = λ other j. j }
 untold_has_one (Fixed file) = record { outcome = Untold false; comes_to = refl; is = tt; one = λ other j. j }
 
 any_of : (comes : Outcome → Type 0) → HasOne IsPlain comes → HasOne Any comes

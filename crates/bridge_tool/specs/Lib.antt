@@ -2,6 +2,8 @@ pub mod Answer
 pub mod Command
 pub mod Commands
 pub mod Export
+pub mod Import
+pub mod ImportTold
 pub mod Fixed
 pub mod Mps
 pub mod MpsTold

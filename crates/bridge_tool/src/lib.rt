@@ -5,6 +5,8 @@ mod answer;
 mod command;
 mod export;
 mod fixed;
+mod import;
+mod import_told;
 mod laws;
 mod mps;
 mod mps_told;

@@ -1,0 +1,287 @@
+// Answers that come in pieces, and .sol files that are made of them.
+ghost use Rattle.std.specs.Prelude.{◌≡◌, ◌<◌};
+
+use answer_file::{Answer, AnswerFault, AnswerReader, AnswerReason, read_answer};
+use dual_return::{ReturnFault, solution};
+use exact_numbers::Dec;
+use example_texts::nl_texts::{Sizes, header, text_of};
+use linear_fold::fold_all;
+use nl_model::NlFile;
+use nl_segments::{NlRead, read_nl};
+use row_scaling::scale_rows;
+use sol_files::{Sol, write_sol};
+use std::alloc::{AllocError, Global};
+use std::marker::Brand;
+use std::test::Fail;
+use text_base::{Blank, Ledger, Steps, Stop};
+
+fn read_file(alloc: Global, sizes: &Sizes, body: &str) -> Result<NlRead, Fail> {
+    let text = text_of(alloc, sizes, body)?;
+    match read_nl(alloc, text.as_bytes()) {
+        Ok(read) => Ok(read),
+        Err(_) => Err(Fail::from("refused")),
+    }
+}
+
+// Two variables and three constraints, of which the second has no side.
+fn three_rows(alloc: Global) -> Result<NlRead, Fail> {
+    let sizes = header("2 3 0", "3 0", "0");
+    read_file(
+        alloc,
+        &sizes,
+        "r\n1 7\n3\n1 7\nb\n3\n3\nJ0 1\n0 1\nJ1 1\n0 1\nJ2 1\n1 1\n",
+    )
+}
+
+fn read_in_pieces(
+    alloc: Global,
+    file: &NlFile,
+    text: &[u8],
+    len: usize,
+) -> Result<Answer, Stop<AnswerFault>> {
+    let mut reader = AnswerReader::new(alloc, file)?;
+    let mut rest = text;
+    for _ in 0..text.len() {
+        let (piece, more) = rest.split_at(rest.len().min(len));
+        // The reader keeps an error, and answers it at the end.
+        let _ = reader.feed(piece);
+        rest = more;
+    }
+    reader.finish()
+}
+
+fn fault_in(alloc: Global, file: &NlFile, text: &[u8], len: usize) -> Option<(AnswerReason, u32)> {
+    match read_in_pieces(alloc, file, text, len) {
+        Err(Stop::Fault(fault)) => Some((fault.reason, fault.line)),
+        _ => None,
+    }
+}
+
+const WHOLE: &[u8] =
+    b"\nanswer 1\nstatus 100\n message  done \nmessage\nsign min\nobjno 3\ncol x0 1\ncol x1 2e1\nrow c0 0.5\nrow c2 -1\nsuffix 0 sstatus x1 1\nsuffix 5 slack c0 0.5\nsuffix 0 sstatus x0 3\nsuffix 2 cost obj 7\nsuffix 3 size problem 9\ncol z 1\nrow zdef 1\nrow zdef 2\nsuffix 4 sstatus z 0.5";
+
+fn value_at(answer: &Answer, suffix: usize, place: usize) -> Option<(u32, Dec)> {
+    let suffix = answer.suffixes().get(suffix)?;
+    suffix.values.items().get(place).copied()
+}
+
+fn are_lines_read(answer: &Answer) -> bool {
+    let message = answer.message();
+    answer.status() == Some(100)
+        && answer.min_sign()
+        && answer.objective() == 3
+        && message.len() == 2
+        && message.get(0) == b" done ".as_slice()
+        && message.get(1) == b"".as_slice()
+}
+
+fn are_values_read(answer: &Answer) -> bool {
+    answer.has_cols()
+        && answer.has_rows()
+        && answer.col(0) == Dec::new(1, 0)
+        && answer.col(1) == Dec::new(20, 0)
+        && answer.col(2) == None
+        && answer.row(0) == Dec::new(5, -1)
+        && answer.row(1) == None
+        && answer.row(2) == Dec::new(-1, 0)
+}
+
+fn is_pair(pair: Option<(u32, Dec)>, place: u32, value: i128) -> bool {
+    match (pair, Dec::new(value, 0)) {
+        (Some((at, found)), Some(wanted)) => at == place && found == wanted,
+        _ => false,
+    }
+}
+
+fn are_suffixes_read(answer: &Answer) -> bool {
+    answer.suffixes().len() == 4
+        && is_pair(value_at(answer, 0, 0), 1, 1)
+        && is_pair(value_at(answer, 0, 1), 0, 3)
+        && value_at(answer, 0, 2) == None
+        && is_pair(value_at(answer, 2, 0), 3, 7)
+        && is_pair(value_at(answer, 3, 0), 0, 9)
+}
+
+#[test]
+fn a_whole_answer_in_pieces(rt: HostRuntime) -> Result<(), Fail> {
+    let read = three_rows(rt.alloc())?;
+    for len in [1, 2, 3, 7, 1000] {
+        match read_in_pieces(rt.alloc(), &read.file, WHOLE, len) {
+            Ok(answer) => {
+                assert!(rt; are_lines_read(&answer));
+                assert!(rt; are_values_read(&answer));
+                assert!(rt; are_suffixes_read(&answer));
+            }
+            Err(_) => return Err(Fail::from("the answer is right")),
+        }
+    }
+    Ok(())
+}
+
+#[test]
+fn faults_of_answers(rt: HostRuntime) -> Result<(), Fail> {
+    let read = three_rows(rt.alloc())?;
+    let cases = [
+        ("", AnswerReason::BadFirst, 1),
+        ("\n\n", AnswerReason::BadFirst, 3),
+        ("\nanswer 1 1", AnswerReason::BadFirst, 2),
+        ("answer 1\nanswer 1", AnswerReason::BadLine, 2),
+        ("answer 1\nstatus", AnswerReason::BadLine, 2),
+        ("answer 1\nsign max", AnswerReason::BadLine, 2),
+        ("answer 1\nmessage Options", AnswerReason::BadLine, 2),
+        ("answer 1\nsuffix 9 \u{1} x0 1", AnswerReason::BadLine, 2),
+        (
+            "answer 1\nsuffix 0 a x0 1\nsuffix 4 a y 1",
+            AnswerReason::BadLine,
+            3,
+        ),
+        ("answer 1\ncol x2 one", AnswerReason::UnknownName, 2),
+        ("answer 1\ncol x01 1", AnswerReason::UnknownName, 2),
+        ("answer 1\nrow c1 1", AnswerReason::UnknownName, 2),
+        ("answer 1\nsuffix 0 a c0 0.5", AnswerReason::UnknownName, 2),
+        ("answer 1\nsuffix 7 a obj 1", AnswerReason::UnknownName, 2),
+        ("answer 1\nstatus 1000", AnswerReason::BadNumber, 2),
+        ("answer 1\nobjno 2147483648", AnswerReason::BadNumber, 2),
+        ("answer 1\ncol z one", AnswerReason::BadNumber, 2),
+        ("answer 1\nsuffix 8 a y 1", AnswerReason::BadNumber, 2),
+        (
+            "answer 1\nsuffix 0 a x0 1\nsuffix 0 a x0 0.5",
+            AnswerReason::BadNumber,
+            3,
+        ),
+        ("answer 1\nstatus 0\nstatus 1", AnswerReason::Repeated, 3),
+        ("answer 1\nobjno 0\nobjno 0", AnswerReason::Repeated, 3),
+        ("answer 1\nsign min\nsign rate", AnswerReason::Repeated, 3),
+        ("answer 1\ncol x0 1\ncol x0 1", AnswerReason::Repeated, 3),
+        ("answer 1\nrow c0 1\nrow c0 1", AnswerReason::Repeated, 3),
+        (
+            "answer 1\nsuffix 1 a c2 1\nsuffix 1 a c2 1",
+            AnswerReason::Repeated,
+            3,
+        ),
+        ("answer 1\ncol x0 1\ncol z 1\n", AnswerReason::Partial, 4),
+        ("answer 1\nrow c0 1", AnswerReason::Partial, 3),
+    ];
+    for (text, reason, line) in cases {
+        for len in [1, 2, 3, 7] {
+            let found = fault_in(rt.alloc(), &read.file, text.as_bytes(), len);
+            assert!(rt; found == Some((reason, line)), "at {text}");
+        }
+    }
+    Ok(())
+}
+
+fn lines_of(alloc: Global, line: &str, count: u32) -> Result<String, AllocError> {
+    let mut text = String::from_str(alloc, "answer 1\n")?;
+    for _ in 0..count {
+        text.push_str(line)?;
+        text.push_str("\n")?;
+    }
+    Ok(text)
+}
+
+fn suffixes_of(alloc: Global, count: u32) -> Result<String, AllocError> {
+    let mut digits = itoa::Buffer::new();
+    let mut text = String::from_str(alloc, "answer 1\n")?;
+    for i in 0..count {
+        text.push_str("suffix 0 s")?;
+        text.push_str(digits.format(i))?;
+        text.push_str(" x0 1\n")?;
+    }
+    Ok(text)
+}
+
+#[test]
+fn limits_of_answers(rt: HostRuntime) -> Result<(), Fail> {
+    let read = three_rows(rt.alloc())?;
+    let lines = lines_of(rt.alloc(), "message", 65_537)?;
+    let found = fault_in(rt.alloc(), &read.file, lines.as_bytes(), 1000);
+    assert!(rt; found == Some((AnswerReason::TooLarge, 65_538)));
+    let suffixes = suffixes_of(rt.alloc(), 1025)?;
+    let found = fault_in(rt.alloc(), &read.file, suffixes.as_bytes(), 1000);
+    assert!(rt; found == Some((AnswerReason::TooLarge, 1026)));
+    let bytes = vec![in rt.alloc(); b'a'; 65_537]?;
+    let found = fault_in(rt.alloc(), &read.file, &bytes, 1000);
+    assert!(rt; found == Some((AnswerReason::LineTooLong, 1)));
+    Ok(())
+}
+
+// The .sol value of an answer that has no fault.
+fn returned<L: Ledger>(
+    alloc: Global,
+    file: &NlFile,
+    text: &[u8],
+    blank: Blank,
+) -> Result<Sol, Stop<ReturnFault>>
+    requires name { blank.name ≡ L.name }
+    requires parts { blank.parts ≡ L.parts }
+    requires some { 0 < blank.parts }
+{
+    let mut steps = Steps::<L>::new(blank);
+    let Ok(answer) = read_answer(alloc, file, text) else {
+        return Err(Stop::Memory);
+    };
+    let Ok(linear) = fold_all(alloc, file, answer.objective(), &mut steps) else {
+        return Err(Stop::Memory);
+    };
+    let Ok(scaled) = scale_rows(alloc, &linear) else {
+        return Err(Stop::Memory);
+    };
+    solution(alloc, file, &scaled, &answer)
+}
+
+// Whether an answer for a file is returned as this text.
+fn is_returned(
+    alloc: Global,
+    sizes: &Sizes,
+    body: &str,
+    answer: &str,
+    wanted: &str,
+) -> Result<bool, Fail> {
+    let read = read_file(alloc, sizes, body)?;
+    match returned::<Brand>(alloc, &read.file, answer.as_bytes(), Blank::new(1)) {
+        Ok(sol) => {
+            let written = write_sol(alloc, &sol)?;
+            Ok(written.as_slice() == wanted.as_bytes())
+        }
+        Err(_) => Ok(false),
+    }
+}
+
+#[test]
+fn duals_of_a_maximised_file_are_turned(rt: HostRuntime) -> Result<(), Fail> {
+    let sizes = header("1 1 1", "1 1", "0");
+    let body = "O0 1\nn0\nr\n1 7\nb\n2 0\nJ0 1\n0 2\nG0 1\n0 3\n";
+    let answer = "answer 1\nstatus 0\nmessage done\nsign min\ncol x0 3.5\nrow c0 -1.5";
+    let wanted = "done\n\nOptions\n3\n1\n1\n0\n1\n1\n1\n1\n1.5\n3.5\nobjno 0 0\n";
+    assert!(rt; is_returned(rt.alloc(), &sizes, body, answer, wanted)?);
+    Ok(())
+}
+
+// A row whose factor is 3.
+const THIRDS: &str = "C0\no0\no3\nv0\nn3\nv1\nr\n1 1\nb\n3\n3\nJ0 2\n0 0\n1 0\n";
+
+#[test]
+fn duals_are_unscaled(rt: HostRuntime) -> Result<(), Fail> {
+    let sizes = header("2 1 0", "2 0", "0");
+    let answer = "answer 1\nstatus 0\nrow c0 0.5";
+    let wanted = "\nOptions\n3\n1\n1\n0\n1\n1\n2\n0\n1.5\nobjno 0 0\n";
+    assert!(rt; is_returned(rt.alloc(), &sizes, THIRDS, answer, wanted)?);
+    Ok(())
+}
+
+fn is_too_wide(alloc: Global, sizes: &Sizes, body: &str, answer: &str) -> Result<bool, Fail> {
+    let read = read_file(alloc, sizes, body)?;
+    match returned::<Brand>(alloc, &read.file, answer.as_bytes(), Blank::new(1)) {
+        Err(Stop::Fault(ReturnFault::DualTooWide(con))) => Ok(con == 0),
+        _ => Ok(false),
+    }
+}
+
+#[test]
+fn a_dual_out_of_reach(rt: HostRuntime) -> Result<(), Fail> {
+    let sizes = header("2 1 0", "2 0", "0");
+    let answer = "answer 1\nrow c0 170141183460469231731687303715884105727";
+    assert!(rt; is_too_wide(rt.alloc(), &sizes, THIRDS, answer)?);
+    Ok(())
+}
