@@ -17,7 +17,7 @@ from .integer_program import IntegerProgram, Unfit
 from .search import Better, Search
 from .watch import Stopped, Watch
 
-NEVER = "1e30"                  # a value that no objective has; with the sign of the worst
+NEVER = "1e30"                  # a value worse than any; with `-` where it is maximised
 FIRST_SHARE = 1 / 3             # of the time, for a claim that is not the last one
 OWN = "the driver's own arithmetic"
 
@@ -34,7 +34,7 @@ class Result:
     text: str = ""
     tree: trees.Tree | None = None
     search: Search | None = None
-    is_plain: bool = True           # infeasible: without a value that stands for it
+    never: str = ""                 # the value that stands for infeasible, where one does
     seconds: float = 0.0
 
     def line(self, is_reached: bool) -> str:
@@ -42,9 +42,9 @@ class Result:
         if self.claim is None:
             return "not proved: " + self.why
         if self.value is None:
-            return "proved infeasible" if self.is_plain else (
-                f"proved infeasible (bridge: none is better than {NEVER}; that each leaf is a "
-                f"contradiction is {OWN})")
+            return "proved infeasible" if not self.never else (
+                f"proved infeasible (bridge: none is better than {self.never}; that each leaf is "
+                f"a contradiction is {OWN})")
         assert self.stated is not None
         value, stated = shown(self.value), shown(self.stated)
         if self.claim.mode is Mode.NEAR:
@@ -151,8 +151,10 @@ class Prover:
         elif isinstance(result.tree, trees.Leaf):
             words = "infeasible"
         else:
-            words = f"value {self.objective} {'-' if p.maximise else ''}{NEVER}"
-            result.is_plain = not any(p.cost) and not p.constant
+            never = ("-" if p.maximise else "") + NEVER
+            words = f"value {self.objective} {never}"
+            if self.text.has_objective():       # else nothing is worse than 0
+                result.never = never
         result.text = trees.text(p, words, result.tree)
         path = self.write("branch.proof", result.text)
         verdict = self.bridge.verdict("prove", self.nl, path)
