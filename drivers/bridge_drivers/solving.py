@@ -8,7 +8,7 @@ from dataclasses import dataclass
 
 from .answer import Answer
 from .bridge import Bridge, Refused
-from .certificates import WITHOUT, Certifier
+from .certificates import WITHOUT, Certifier, Settled
 from .codes import Code, Failure, Status
 from .job import Clock, Job
 from .nl import BadFile, prepared
@@ -37,6 +37,7 @@ class Solving:
                  solver_path: str, folder: str) -> None:
         self.solver, self.options, self.bridge, self.clock = solver, options, bridge, clock
         self.nl, self.solver_path, self.folder = nl, solver_path, folder
+        self.figures = ""               # of a branch proof
 
     def result(self) -> Result:
         """The outcome. Failure where there is none."""
@@ -119,10 +120,30 @@ class Solving:
                 sol = certifier.returned(answer, lines)
         except Refused as fault:
             raise Failure(Code.NOT_RETURNED, f"return: {fault.line()}") from None
+        settled = None
         if not self.options.check:
             last = WITHOUT + "check=0"
         elif outcome.values is None:
             last = certifier.without_values(outcome.code)
         else:
-            last, answer, sol = certifier.settle(answer, sol, lines)
-        return Result(outcome.code, lines + answer.notes() + [last], sol, answer)
+            settled = certifier.settle(answer, sol, lines)
+            last, answer, sol = settled.line, settled.answer, settled.sol
+        ends = [last]
+        if self.options.prove and self.options.check:
+            ends = self.branched(certifier, outcome, settled, last)
+        return Result(outcome.code, lines + answer.notes() + ends, sol, answer)
+
+    def branched(self, certifier: Certifier, outcome: Outcome, settled: Settled | None,
+                 last: str) -> list[str]:
+        """The last lines with that of a branch proof, which is kept where `proof` says."""
+        from .branching.after_solve import AfterSolve
+        after = AfterSolve(certifier, "bridge-" + self.solver.program)
+        lines = after.lines(outcome.code, settled, last)
+        if after.result is not None:
+            self.figures = after.result.figures()
+            if self.options.outlev:
+                print(f"branch proof: {self.figures}", flush=True)
+            if self.options.proof and after.result.claim is not None:
+                with open(self.options.proof, "w", encoding="utf-8") as f:
+                    f.write(after.result.text)
+        return lines
