@@ -41,7 +41,7 @@ not_both text value fault h k = (outcome_of_text text).not_both h.clean fault.li
 pub same_file : (text : List ℕ) (a b : NlValue) → IsNl text a → IsNl text b → a.file ≡ b.file
 same_file text a b h k = h.said.file ∙ sym k.said.file
 
-same_places : (text : List ℕ) (a b : NlValue) → IsNl text a → IsNl text b → a.places ≡ b.places
+pub same_places : (text : List ℕ) (a b : NlValue) → IsNl text a → IsNl text b → a.places ≡ b.places
 same_places text a b h k = h.said.places ∙ sym k.said.places
 
 pub same_nl_line : (text : List ℕ) (a b : NlFault) → HasNlFault text a → HasNlFault text b → nl_line a ≡ nl_line b

@@ -6,7 +6,8 @@ use Rattle.bridge_tool.specs.Command.{Command}
 use Rattle.bridge_tool.specs.Commands.{promise_of, promise_by}
 use Rattle.bridge_tool.specs.Outcome.{Outcome, BadWords, Untold, NoText, Refused, Done, verdict_status}
 use Rattle.bridge_tool.specs.Promise.{Promise, Answers}
-use Rattle.bridge_tool.proofs.Outcomes.{HasOne, IsPlain, told_has_one}
+use Rattle.bridge_tool.proofs.OneOutcome.{HasOne, IsPlain}
+use Rattle.bridge_tool.proofs.Outcomes.{told_has_one}
 use Rattle.bridge_tool.proofs.Working.{IsAnswered}
 
 module _ (p : Promise) (old new : Meaning) (status : ℕ) (a : IsAnswered p old new status) (memory : status ≢ 6) (no_input : Rose old.input_faults new.input_faults → ⊥) (no_output : Rose old.output_faults new.output_faults → ⊥) where

@@ -1,5 +1,7 @@
+pub mod Checking
 pub mod Decided
 pub mod Decisions
+pub mod Ending
 pub mod Exporting
 pub mod FaultLines
 pub mod FoldPlaces
@@ -10,5 +12,8 @@ pub mod Meaning
 pub mod MpsRewriting
 pub mod NlRewriting
 pub mod Numbers
+pub mod OneOutcome
 pub mod Outcomes
+pub mod SeveralFiles
+pub mod SolRewriting
 pub mod Working

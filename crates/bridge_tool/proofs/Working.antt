@@ -1,51 +1,22 @@
--- What each way to end a command says of its outcome and of the desk.
-use Rattle.std.proofs.Common.{◌≡◌, ◌≢◌, ◌∙◌, inl, inr, ◌⊎◌, ℕ, zero, suc, ◌+◌, ◌<◌, ◌≤◌, List, Bool, true, false, take, drop, Option, Some, None, IfSome, OnOk, Result, Ok, Err, refl, sym, ap, subst, arith}
+-- A command of one file, by the general ends; and what the top call says of any command.
+use Rattle.std.proofs.Common.{◌≡◌, ◌∙◌, inl, inr, ◌⊎◌, ℕ, ◌<◌, ◌≤◌, List, true, false, take, drop, Option, Some, None, IfSome, OnOk, Result, Ok, Err, refl, sym, ap, subst}
 use Rattle.std.proofs.lemmas.Bool.{cases_lt}
 use Rattle.std.specs.Global.{Vec}
-use Rattle.std.specs.Io.KnownBytes.{Appends}
-use Rattle.text_base.specs.Desk.{Meaning, Texts, Rose, IsUnknown, OnlyInput, OnlyOutput, OnlyMessages, HasCause}
+use Rattle.text_base.specs.Desk.{Meaning, Texts, Rose, IsUnknown, OnlyInput, OnlyMessages}
 use Rattle.text_base.specs.declared.stop.Stop.{Stop}
 use Rattle.text_base.specs.declared.stop.Stop.TheVariants.{Fault as IsFault, Memory as IsMemory}
-use Rattle.bridge_tool.specs.Answer.{IsWorked, Missed, Ends, EndsWriting, HasWritten, HasStopped, status_of, told_by}
+use Rattle.bridge_tool.specs.Answer.{IsWorked, Missed, Ends, status_of, told_by}
 use Rattle.bridge_tool.specs.OneFile.{text_of, IfText, TextComesTo, FileComesTo, DeskComesTo, Judges, file_promise}
 use Rattle.bridge_tool.specs.Outcome.{Outcome, BadWords, Untold, NoText, Refused, Done, Status, Written, IsQuiet, Told, line_of}
 use Rattle.bridge_tool.specs.Promise.{Promise}
-use Rattle.bridge_tool.specs.Transfer.{HasRead, HasReadCause, AppendsPart, TellsLine}
+use Rattle.bridge_tool.specs.Transfer.{HasRead, HasReadCause, TellsLine}
 use Rattle.bridge_tool.specs.declared.answer.Answer.{Answer}
-use Rattle.bridge_tool.specs.declared.answer.Answer.TheVariants.{Done as IsDone, Refused as IsRefusal, BadWords as HasBadWords, InputFault, OutputFault, NoMemory}
 use Rattle.bridge_tool.specs.declared.transfer.Unread.{Unread}
 use Rattle.bridge_tool.specs.declared.transfer.Unread.TheVariants.{Fault, Memory}
 use Rattle.bridge_tool.specs.declared.transfer.TheConstants.{LIMIT}
-use Rattle.bridge_tool.proofs.Outcomes.{HasOne, text_has_one}
 use Rattle.bridge_tool.proofs.Decisions.{AreDecided}
-
--- with such a status nothing is said of what is written
-nothing_written : (o : Outcome) (old new : Option (List ℕ)) (status : ℕ) → (status ≤ 1 → ⊥) → (status ≡ 5 → ⊥) → Written o old new status
-nothing_written BadWords old new status low five = tt
-nothing_written (Untold judges) old new status low five = tt
-nothing_written NoText old new status low five = tt
-nothing_written (Refused line) old new status low five = tt
-nothing_written (Done holds bytes) old new status low five = (λ le. absurd (low le), λ e. absurd (five e))
-
--- not the outcome of bad words
-IsKnown : Outcome → Type 0
-IsKnown o = o ≢ BadWords
-
-fault_status : (o : Outcome) (input output : Type 0) → IsKnown o → input → Status o input output 4
-unfolding IsKnown
-fault_status BadWords input output known rose = absurd (known refl)
-fault_status (Untold judges) input output known rose = inr (inr (inr (inr (inl (refl, rose)))))
-fault_status NoText input output known rose = inl refl
-fault_status (Refused line) input output known rose = inr (inr (refl, rose))
-fault_status (Done holds bytes) input output known rose = inr (inr (inl (refl, rose)))
-
-memory_status : (o : Outcome) (input output : Type 0) → IsKnown o → Status o input output 6
-unfolding IsKnown
-memory_status BadWords input output known = absurd (known refl)
-memory_status (Untold judges) input output known = inr (inr (inr (inl refl)))
-memory_status NoText input output known = inr refl
-memory_status (Refused line) input output known = inr (inl refl)
-memory_status (Done holds bytes) input output known = inr (inl refl)
+use Rattle.bridge_tool.proofs.Ending.{HasComeTo, IsKnown, fault_status, line_none, memory_worked, missed_worked as missed_so, refused_worked, wrote_worked}
+use Rattle.bridge_tool.proofs.OneOutcome.{text_has_one}
 
 module _ (accepts refuses : List ℕ → List ℕ → Type 0) where
   text_known : (text : List ℕ) (o : Outcome) → TextComesTo accepts refuses text o → IsKnown o
@@ -79,37 +50,11 @@ module _ (accepts refuses : List ℕ → List ℕ → Type 0) where
       → HasReadCause {T = T} (IsUnknown old.texts file) old.input_faults new.input_faults (Err unread) → OnlyInput old new → Missed unread answer
       → IsWorked (file_promise accepts refuses old.texts file counts means) old new answer
   missed_worked T file counts means old new Fault answer cause rest is =
-      subst (IsWorked (file_promise accepts refuses old.texts file counts means) old new) (sym is) (record {
-        status = λ o h. missed_status old.texts file o _ _ cause.stop h;
-        written = λ o h. nothing_written o _ _ 4 (λ le. absurd (omega (arith, le))) (λ e. absurd (omega (arith, e)));
-        line = λ o h. refl;
-        quiet = λ q. rest.written;
-        left = λ q. absurd (elim q [ inl le ↦ omega (arith, le) | inr e ↦ omega (arith, e) ]);
-        means = λ e. absurd (omega (arith, e));
-        input_later = cause.later;
-        output_later = omega (arith, rest.output_faults);
-        input = λ lt. refl;
-        output = λ lt. absurd (omega (arith, lt, rest.output_faults));
-        texts = rest.texts;
-        told = rest.told;
-        messages = rest.message_faults;
-      })
+      subst (IsWorked (file_promise accepts refuses old.texts file counts means) old new) (sym is)
+      (missed_so _ false old new (λ o h. missed_status old.texts file o _ _ cause.stop h) cause.later rest)
   missed_worked T file counts means old new Memory answer cause rest is =
-      subst (IsWorked (file_promise accepts refuses old.texts file counts means) old new) (sym is) (record {
-        status = λ o h. memory_status o _ _ (desk_known old.texts file o h);
-        written = λ o h. nothing_written o _ _ 6 (λ le. absurd (omega (arith, le))) (λ e. absurd (omega (arith, e)));
-        line = λ o h. refl;
-        quiet = λ q. rest.written;
-        left = λ q. absurd (elim q [ inl le ↦ omega (arith, le) | inr e ↦ omega (arith, e) ]);
-        means = λ e. absurd (omega (arith, e));
-        input_later = cause.later;
-        output_later = omega (arith, rest.output_faults);
-        input = λ lt. absurd (omega (arith, lt, cause.stop));
-        output = λ lt. absurd (omega (arith, lt, rest.output_faults));
-        texts = rest.texts;
-        told = rest.told;
-        messages = rest.message_faults;
-      })
+      subst (IsWorked (file_promise accepts refuses old.texts file counts means) old new) (sym is)
+      (memory_worked _ false old new (λ o h. desk_known old.texts file o h) cause.stop rest)
 
 -- ---- ends after the text was judged
 
@@ -142,102 +87,17 @@ module _ (accepts refuses : List ℕ → List ℕ → Type 0) (d : AreDecided ac
       inr (one.one o (at_file texts file read.read.text read.bytes o read.read.named read.read.front h) ∙ sym (one.one x (is read.bytes read.taken)))
 
   -- the command has read its text, which comes to this outcome
-  record HasJudged (file : List ℕ) (old mid : Meaning) (x : Outcome) : Type 1 where
-    fed : List ℕ → Type 0
-    read : HasRead old.texts file LIMIT mid.left fed
-    is : (text : List ℕ) → fed text → TextComesTo accepts refuses text x
-    same : mid.input_faults ≡ old.input_faults
-    rest : OnlyInput old mid
-
-  knows : (file : List ℕ) (old mid : Meaning) (o x : Outcome) → HasJudged file old mid x → DeskComesTo (TextComesTo accepts refuses) old.texts file o → (o ≡ Untold false) ⊎ (o ≡ x)
-  knows file old mid o x h c = known old.texts file mid.left h.fed o x h.read h.is c
-
-  refused_worked : (file : List ℕ) (counts : ℕ → ℕ → Type 0) (means : List ℕ → Type 0) (old mid : Meaning) (line : Vec ℕ) → HasJudged file old mid (Refused line.items) → IsWorked (file_promise accepts refuses old.texts file counts means) old mid (IsRefusal line)
-  refused_worked file counts means old mid line j =
+  has_come_to : (file : List ℕ) (counts : ℕ → ℕ → Type 0) (means : List ℕ → Type 0) (old mid : Meaning) (fed : List ℕ → Type 0) (x : Outcome)
+      → HasRead old.texts file LIMIT mid.left fed → mid.input_faults ≡ old.input_faults → OnlyInput old mid
+      → ((text : List ℕ) → fed text → TextComesTo accepts refuses text x)
+      → HasComeTo (file_promise accepts refuses old.texts file counts means) false old mid x
+  has_come_to file counts means old mid fed x read same rest is =
       record {
-        status = λ o h. elim (knows file old mid o (Refused line.items) j h) [ inl e ↦ rw e (inr (inr (inl refl))) | inr e ↦ rw e (inl refl) ];
-        written = λ o h. nothing_written o _ _ 2 (λ le. absurd (omega (arith, le))) (λ e. absurd (omega (arith, e)));
-        line = λ o h. elim (knows file old mid o (Refused line.items) j h) [ inl e ↦ rw e tt | inr e ↦ rw e refl ];
-        quiet = λ q. j.rest.written;
-        left = λ q text is. rest_left old.texts file mid.left j.fed text j.read is;
-        means = λ e. absurd (omega (arith, e));
-        input_later = omega (arith, j.same);
-        output_later = omega (arith, j.rest.output_faults);
-        input = λ lt. absurd (omega (arith, lt, j.same));
-        output = λ lt. absurd (omega (arith, lt, j.rest.output_faults));
-        texts = j.rest.texts;
-        told = j.rest.told;
-        messages = j.rest.message_faults;
+        knows = λ o c. known old.texts file mid.left fed o x read is c;
+        left = λ text named. rest_left old.texts file mid.left fed text read named;
+        same = same;
+        rest = rest;
       }
-
-  memory_worked : (file : List ℕ) (counts : ℕ → ℕ → Type 0) (means : List ℕ → Type 0) (old mid : Meaning) → mid.input_faults ≡ old.input_faults → OnlyInput old mid → IsWorked (file_promise accepts refuses old.texts file counts means) old mid NoMemory
-  memory_worked file counts means old mid same rest =
-      record {
-        status = λ o h. memory_status o _ _ (desk_known accepts refuses old.texts file o h);
-        written = λ o h. nothing_written o _ _ 6 (λ le. absurd (omega (arith, le))) (λ e. absurd (omega (arith, e)));
-        line = λ o h. refl;
-        quiet = λ q. rest.written;
-        left = λ q. absurd (elim q [ inl le ↦ omega (arith, le) | inr e ↦ omega (arith, e) ]);
-        means = λ e. absurd (omega (arith, e));
-        input_later = omega (arith, same);
-        output_later = omega (arith, rest.output_faults);
-        input = λ lt. absurd (omega (arith, lt, same));
-        output = λ lt. absurd (omega (arith, lt, rest.output_faults));
-        texts = rest.texts;
-        told = rest.told;
-        messages = rest.message_faults;
-      }
-
-  loud : (status : ℕ) → IsQuiet status → ((status ≡ 0) ⊎ (status ≡ 5)) → ⊥
-  loud status q (inl z) = elim q [ inl e ↦ absurd (omega (arith, e, z)) | inr p ↦ elim p [ inl e ↦ absurd (omega (arith, e, z)) | inr r ↦ elim r [ inl e ↦ absurd (omega (arith, e, z)) | inr e ↦ absurd (omega (arith, e, z)) ] ] ]
-  loud status q (inr z) = elim q [ inl e ↦ absurd (omega (arith, e, z)) | inr p ↦ elim p [ inl e ↦ absurd (omega (arith, e, z)) | inr r ↦ elim r [ inl e ↦ absurd (omega (arith, e, z)) | inr e ↦ absurd (omega (arith, e, z)) ] ] ]
-
-  done_worked : (file : List ℕ) (counts : ℕ → ℕ → Type 0) (means : List ℕ → Type 0) (old mid new : Meaning) (bytes : List ℕ) → HasJudged file old mid (Done true bytes) → IfText old.texts file means → HasWritten bytes mid new → IsWorked (file_promise accepts refuses old.texts file counts means) old new (IsDone true)
-  done_worked file counts means old mid new bytes j meant h =
-      let all : Appends old.written new.written bytes = subst (λ (w : Option (List ℕ)). Appends w new.written bytes) j.rest.written h.all in
-      record {
-        status = λ o c. elim (knows file old mid o (Done true bytes) j c) [ inl e ↦ rw e (inl refl) | inr e ↦ rw e (inl refl) ];
-        written = λ o c. elim (knows file old mid o (Done true bytes) j c) [ inl e ↦ rw e tt | inr e ↦ rw e (λ le. all, λ five. absurd (omega (arith, five))) ];
-        line = λ o c. tt;
-        quiet = λ q. absurd (loud 0 q (inl refl));
-        left = λ q text is. h.rest.left ∙ rest_left old.texts file mid.left j.fed text j.read is;
-        means = λ e. meant;
-        input_later = omega (arith, j.same, h.rest.input_faults);
-        output_later = omega (arith, h.count, j.rest.output_faults);
-        input = λ lt. absurd (omega (arith, lt, j.same, h.rest.input_faults));
-        output = λ lt. absurd (omega (arith, lt, h.count, j.rest.output_faults));
-        texts = h.rest.texts ∙ j.rest.texts;
-        told = h.rest.told ∙ j.rest.told;
-        messages = h.rest.message_faults ∙ j.rest.message_faults;
-      }
-
-  output_worked : (file : List ℕ) (counts : ℕ → ℕ → Type 0) (means : List ℕ → Type 0) (old mid new : Meaning) (bytes : List ℕ) → HasJudged file old mid (Done true bytes) → HasStopped bytes mid new → IsWorked (file_promise accepts refuses old.texts file counts means) old new OutputFault
-  output_worked file counts means old mid new bytes j h =
-      let front : AppendsPart old.written new.written bytes = subst (λ (w : Option (List ℕ)). AppendsPart w new.written bytes) j.rest.written h.part in
-      let up : Rose old.output_faults new.output_faults = subst (λ (n : ℕ). Rose n new.output_faults) j.rest.output_faults h.rose in
-      record {
-        status = λ o c. elim (knows file old mid o (Done true bytes) j c) [ inl e ↦ rw e (inr (inr (inr (inr (inr (refl, up)))))) | inr e ↦ rw e (inr (inr (inr (refl, up)))) ];
-        written = λ o c. elim (knows file old mid o (Done true bytes) j c) [ inl e ↦ rw e tt | inr e ↦ rw e (λ le. absurd (omega (arith, le)), λ five. front) ];
-        line = λ o c. refl;
-        quiet = λ q. absurd (loud 5 q (inr refl));
-        left = λ q text is. h.rest.left ∙ rest_left old.texts file mid.left j.fed text j.read is;
-        means = λ e. absurd (omega (arith, e));
-        input_later = omega (arith, j.same, h.rest.input_faults);
-        output_later = omega (arith, h.later, j.rest.output_faults);
-        input = λ lt. absurd (omega (arith, lt, j.same, h.rest.input_faults));
-        output = λ lt. refl;
-        texts = h.rest.texts ∙ j.rest.texts;
-        told = h.rest.told ∙ j.rest.told;
-        messages = h.rest.message_faults ∙ j.rest.message_faults;
-      }
-
-  wrote_worked : (file : List ℕ) (counts : ℕ → ℕ → Type 0) (means : List ℕ → Type 0) (old mid new : Meaning) (bytes : List ℕ) (answer : Answer) → HasJudged file old mid (Done true bytes) → IfText old.texts file means → EndsWriting true bytes mid new answer → IsWorked (file_promise accepts refuses old.texts file counts means) old new answer
-  wrote_worked file counts means old mid new bytes (IsDone holds) j meant h = rw (h.0) (done_worked file counts means old mid new bytes j meant h.1)
-  wrote_worked file counts means old mid new bytes OutputFault j meant h = output_worked file counts means old mid new bytes j h
-  wrote_worked file counts means old mid new bytes (IsRefusal line) j meant h = absurd h
-  wrote_worked file counts means old mid new bytes HasBadWords j meant h = absurd h
-  wrote_worked file counts means old mid new bytes InputFault j meant h = absurd h
-  wrote_worked file counts means old mid new bytes NoMemory j meant h = absurd h
 
   -- a command of one file that judged its text so
   pub file_worked : (file : List ℕ) (counts : ℕ → ℕ → Type 0) (means : List ℕ → Type 0) (old mid new : Meaning) (fed : List ℕ → Type 0) (judged : Result (Vec ℕ) (Stop (Vec ℕ))) (answer : Answer)
@@ -247,18 +107,14 @@ module _ (accepts refuses : List ℕ → List ℕ → Type 0) (d : AreDecided ac
       → Ends judged mid new answer
       → IsWorked (file_promise accepts refuses old.texts file counts means) old new answer
   file_worked file counts means old mid new fed (Ok out) answer read same rest judges meant ends =
-      wrote_worked file counts means old mid new out.items answer (record { fed = fed; read = read; is = judges; same = same; rest = rest }) (holds_of_read old.texts file mid.left fed means read meant) ends
+      wrote_worked _ false old mid new true out.items answer (has_come_to file counts means old mid fed (Done true out.items) read same rest judges)
+      (inl refl) (λ e. holds_of_read old.texts file mid.left fed means read meant) ends
   file_worked file counts means old mid new fed (Err (IsFault line)) answer read same rest judges meant ends =
-      rw (ends.0, ends.1) (refused_worked file counts means old mid line (record { fed = fed; read = read; is = judges; same = same; rest = rest }))
+      rw (ends.0, ends.1) (refused_worked _ false old mid line (has_come_to file counts means old mid fed (Refused line.items) read same rest judges))
   file_worked file counts means old mid new fed (Err IsMemory) answer read same rest judges meant ends =
-      rw (ends.0, ends.1) (memory_worked file counts means old mid same rest)
+      rw (ends.0, ends.1) (memory_worked _ false old mid (λ o h. desk_known accepts refuses old.texts file o h) same rest)
 
 -- ---- the line
-
-line_none : (o : Outcome) (status : ℕ) → status ≤ 1 → line_of o status ≡ None
-line_none o zero le = refl
-line_none o (suc zero) le = refl
-line_none o (suc (suc n)) le = absurd (omega (arith, le))
 
 same_line : (o : Option (List ℕ)) (line : List ℕ) (P : List ℕ → Type 0) → IfSome o (λ x. x ≡ line) → P line → IfSome o P
 same_line None line P e h = tt

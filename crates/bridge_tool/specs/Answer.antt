@@ -81,3 +81,9 @@ abbrev pub Ends : Result (Vec ℕ) (Stop (Vec ℕ)) → Meaning → Meaning → 
 Ends (Ok bytes) old new answer = EndsWriting true bytes.items old new answer
 Ends (Err (Fault line)) old new answer = (answer ≡ Refused line) × (new ≡ old)
 Ends (Err Memory) old new answer = (answer ≡ NoMemory) × (new ≡ old)
+
+-- the end of a command that came to this verdict with these bytes, or to a line
+abbrev pub EndsVerdict : Result (Bool × Vec ℕ) (Stop (Vec ℕ)) → Meaning → Meaning → Answer → Type 0
+EndsVerdict (Ok t) old new answer = EndsWriting t.0 t.1.items old new answer
+EndsVerdict (Err (Fault line)) old new answer = (answer ≡ Refused line) × (new ≡ old)
+EndsVerdict (Err Memory) old new answer = (answer ≡ NoMemory) × (new ≡ old)

@@ -3,7 +3,8 @@ use Rattle.std.specs.Prelude.{◌≡◌, ℕ, List}
 use Rattle.std.specs.declared.option.Option.{Option}
 use Rattle.std.specs.declared.option.Option.TheVariants.{None, Some}
 use Rattle.text_base.specs.Desk.{Texts}
-use Rattle.bridge_tool.specs.Command.{Command, Export, Fixed, Import, Mps, Nl, command_of}
+use Rattle.bridge_tool.specs.Command.{Command, Check, Export, Fixed, Import, Mps, Nl, Sol, command_of}
+use Rattle.bridge_tool.specs.Check.{check_promise}
 use Rattle.bridge_tool.specs.Export.{export_promise}
 use Rattle.bridge_tool.specs.Import.{import_promise}
 use Rattle.bridge_tool.specs.Fixed.{fixed_promise}
@@ -11,12 +12,15 @@ use Rattle.bridge_tool.specs.Mps.{mps_promise}
 use Rattle.bridge_tool.specs.Nl.{nl_promise}
 use Rattle.bridge_tool.specs.Outcome.{Outcome, BadWords}
 use Rattle.bridge_tool.specs.Promise.{Promise}
+use Rattle.bridge_tool.specs.Sol.{sol_promise}
 
 -- at a desk with these texts
 abbrev pub promise_of : Option Texts → Command → Promise
 promise_of texts (Export file objective) = export_promise texts file objective
 promise_of texts (Nl file) = nl_promise texts file
 promise_of texts (Mps file) = mps_promise texts file
+promise_of texts (Sol file) = sol_promise texts file
+promise_of texts (Check nl sol) = check_promise texts nl sol
 promise_of texts (Import file) = import_promise texts file
 promise_of texts (Fixed file) = fixed_promise texts file
 

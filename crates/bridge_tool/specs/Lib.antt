@@ -1,4 +1,5 @@
 pub mod Answer
+pub mod Check
 pub mod Command
 pub mod Commands
 pub mod Export
@@ -13,7 +14,11 @@ pub mod OneFile
 pub mod Outcome
 pub mod Promise
 pub mod Refusal
+pub mod SeveralFiles
+pub mod Sol
+pub mod SolTold
 pub mod Stages
 pub mod Told
 pub mod ToldLines
 pub mod Transfer
+pub mod VerdictTold

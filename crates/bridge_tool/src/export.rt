@@ -2,7 +2,6 @@
 ghost use Rattle.std.specs.Prelude.{◌≡◌, ◌≢◌, ◌+◌, ◌≤◌, List, ℕ, false, IfOk, OnOk};
 ghost use Rattle.file_meaning.specs.FoldFaults.{has_objective};
 ghost use Rattle.linear_fold.specs.FoldedFaults.{step_bound};
-ghost use Rattle.linear_fold.specs.Programs.{linear_value};
 ghost use Rattle.nl_model.specs.Rules.{IsFile};
 ghost use Rattle.nl_segments.specs.Reader.{HasLines, IsFed, IsNl, value_of};
 ghost use Rattle.row_scaling.specs.Exported.{exported_as};
@@ -10,57 +9,17 @@ ghost use Rattle.bridge_tool.specs.Answer.{IsWorked, status_of};
 ghost use Rattle.bridge_tool.specs.Export.{Counts, IsExported, IsExportMeant, IsTextOf, export_promise};
 ghost use Rattle.bridge_tool.specs.OneFile.{Judges};
 ghost use Rattle.bridge_tool.specs.Refusal.{IsRefused};
-ghost use Rattle.bridge_tool.specs.Stages.{Folds, Scales};
 
 use crate::answer::Answer;
 use crate::nl_input::read_nl;
-use crate::nl_told::{fold_line, nl_line, scale_line};
+use crate::nl_told::nl_line;
 use crate::one_file::{end, missed};
-use linear_fold::{Linear, fold_all};
+use crate::stages::{fold, scale};
 use mps_writer::write_mps;
 use nl_segments::{NlRead, NlReader};
-use row_scaling::{Scaled, program, scale_rows};
+use row_scaling::{Scaled, program};
 use std::alloc::{AllocError, Global};
 use text_base::{Desk, Ledger, Steps, Stop};
-
-// The linear program of what was read, or the line of its first fault.
-fn fold<L: Ledger>(
-    alloc: Global,
-    read: NlRead,
-    objective: u32,
-    steps: &mut Steps<L>,
-) -> Result<Linear, Stop<Vec<u8>>>
-    requires { HasLines read }
-    ensures folds { Folds (value_of read) objective result }
-    ensures file { IsFile read.file }
-    ensures above { steps.old ≤ steps.new }
-    ensures below { steps.new ≤ steps.old + step_bound read.file }
-    ensures none { has_objective read.file objective ≡ false → steps.new ≡ steps.old }
-{
-    let _ = read.file.header();
-    match fold_all(alloc, &read.file, objective, steps) {
-        Ok(linear) => Ok(linear),
-        Err(Stop::Memory) => Err(Stop::Memory),
-        Err(Stop::Fault(fault)) => {
-            let line = fold_line(alloc, &read, fault)?;
-            Err(Stop::Fault(line))
-        }
-    }
-}
-
-// The scaled program, or the line of its first fault.
-fn scale(alloc: Global, linear: Linear, objective: u32) -> Result<Scaled, Stop<Vec<u8>>>
-    ensures { Scales (linear_value linear) objective result }
-{
-    match scale_rows(alloc, &linear) {
-        Ok(scaled) => Ok(scaled),
-        Err(Stop::Memory) => Err(Stop::Memory),
-        Err(Stop::Fault(fault)) => {
-            let line = scale_line(alloc, objective, fault)?;
-            Err(Stop::Fault(line))
-        }
-    }
-}
 
 // The written text of the program of a scaled one.
 fn write_program(alloc: Global, scaled: Scaled) -> Result<Vec<u8>, AllocError>

@@ -2,6 +2,7 @@
 #![tactic(auto)]
 
 mod answer;
+mod check;
 mod command;
 mod export;
 mod fixed;
@@ -14,10 +15,16 @@ mod nl;
 mod nl_input;
 mod nl_told;
 mod one_file;
+mod sol;
+mod sol_input;
+mod sol_told;
+mod stages;
 mod told;
 mod top;
 mod transfer;
+mod verdict_told;
 
+pub use check::fit;
 pub use command::{Command, command_of, plain_number};
 pub use laws::{one_outcome, programs_mean_their_files, told_lines_are_lines};
 pub use top::bridge;

@@ -7,8 +7,7 @@ ghost use Rattle.bridge_tool.specs.OneFile.{Judges};
 ghost use Rattle.bridge_tool.specs.Refusal.{HasTextRefusal};
 
 use crate::answer::Answer;
-use crate::nl_input::read_nl;
-use crate::nl_told::nl_line;
+use crate::nl_input::{judge_nl, read_nl};
 use crate::one_file::{end, missed};
 use nl_segments::NlReader;
 use nl_writer::write_nl;
@@ -19,17 +18,9 @@ use text_base::{Desk, Stop};
 fn judge(alloc: Global, reader: NlReader) -> Result<Vec<u8>, Stop<Vec<u8>>>
     ensures { (text : List ℕ) → IsFed reader text → Judges IsNlRewritten HasTextRefusal text result }
 {
-    match reader.finish() {
-        Ok(read) => {
-            let out = write_nl(alloc, &read.file)?;
-            Ok(out)
-        }
-        Err(Stop::Memory) => Err(Stop::Memory),
-        Err(Stop::Fault(fault)) => {
-            let line = nl_line(alloc, fault)?;
-            Err(Stop::Fault(line))
-        }
-    }
+    let read = judge_nl(alloc, reader)?;
+    let out = write_nl(alloc, &read.file)?;
+    Ok(out)
 }
 
 /// Writes an .nl file again: reads its text, judges it, and writes what it comes to. Tells nothing.

@@ -2,6 +2,8 @@
 #![tactic(auto)]
 
 #[cfg(test)]
+mod check_commands;
+#[cfg(test)]
 mod commands;
 #[cfg(test)]
 mod exports;
@@ -9,3 +11,5 @@ mod exports;
 mod fixed_commands;
 #[cfg(test)]
 mod mps_commands;
+#[cfg(test)]
+mod sol_commands;

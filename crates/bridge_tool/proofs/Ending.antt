@@ -1,0 +1,187 @@
+-- What each way to end a command says of its outcome and of the desk.
+use Rattle.std.proofs.Common.{◌≡◌, ◌≢◌, ◌∙◌, inl, inr, ◌⊎◌, ℕ, zero, suc, ◌≤◌, List, Bool, true, false, drop, Option, Some, None, IfSome, refl, subst, arith}
+use Rattle.std.specs.Prelude.{IsTrue}
+use Rattle.std.specs.Global.{Vec}
+use Rattle.std.specs.Io.KnownBytes.{Appends}
+use Rattle.text_base.specs.Desk.{Meaning, Rose, OnlyInput}
+use Rattle.bridge_tool.specs.Answer.{IsWorked, EndsWriting, HasWritten, HasStopped}
+use Rattle.bridge_tool.specs.Outcome.{Outcome, BadWords, Untold, NoText, Refused, Done, Status, Written, IsQuiet, line_of, verdict_status}
+use Rattle.bridge_tool.specs.Promise.{Promise}
+use Rattle.bridge_tool.specs.Transfer.{AppendsPart}
+use Rattle.bridge_tool.specs.declared.answer.Answer.{Answer}
+use Rattle.bridge_tool.specs.declared.answer.Answer.TheVariants.{Done as IsDone, Refused as IsRefusal, BadWords as HasBadWords, InputFault, OutputFault, NoMemory}
+use Rattle.bridge_tool.specs.declared.transfer.TheConstants.{LIMIT}
+
+-- with such a status nothing is said of what is written
+nothing_written : (o : Outcome) (old new : Option (List ℕ)) (status : ℕ) → (status ≤ 1 → ⊥) → (status ≡ 5 → ⊥) → Written o old new status
+nothing_written BadWords old new status low five = tt
+nothing_written (Untold judges) old new status low five = tt
+nothing_written NoText old new status low five = tt
+nothing_written (Refused line) old new status low five = tt
+nothing_written (Done holds bytes) old new status low five = (λ le. absurd (low le), λ e. absurd (five e))
+
+-- not the outcome of bad words
+unfoldable pub IsKnown : Outcome → Type 0
+IsKnown o = o ≢ BadWords
+
+pub fault_status : (o : Outcome) (input output : Type 0) → IsKnown o → input → Status o input output 4
+unfolding IsKnown
+fault_status BadWords input output known rose = absurd (known refl)
+fault_status (Untold judges) input output known rose = inr (inr (inr (inr (inl (refl, rose)))))
+fault_status NoText input output known rose = inl refl
+fault_status (Refused line) input output known rose = inr (inr (refl, rose))
+fault_status (Done holds bytes) input output known rose = inr (inr (inl (refl, rose)))
+
+pub memory_status : (o : Outcome) (input output : Type 0) → IsKnown o → Status o input output 6
+unfolding IsKnown
+memory_status BadWords input output known = absurd (known refl)
+memory_status (Untold judges) input output known = inr (inr (inr (inl refl)))
+memory_status NoText input output known = inr refl
+memory_status (Refused line) input output known = inr (inl refl)
+memory_status (Done holds bytes) input output known = inr (inl refl)
+
+pub line_none : (o : Outcome) (status : ℕ) → status ≤ 1 → line_of o status ≡ None
+line_none o zero le = refl
+line_none o (suc zero) le = refl
+line_none o (suc (suc n)) le = absurd (omega (arith, le))
+
+-- ---- verdicts
+
+low : (verdict : Bool) → verdict_status verdict ≤ 1
+low true = omega arith
+low false = omega arith
+
+not_five : (n : ℕ) → n ≤ 1 → n ≡ 5 → ⊥
+not_five n le e = absurd (omega (arith, le, e))
+
+not_quiet : (n : ℕ) → n ≤ 1 → IsQuiet n → ⊥
+not_quiet n le q = elim q [ inl e ↦ absurd (omega (arith, e, le)) | inr p ↦ elim p [ inl e ↦ absurd (omega (arith, e, le)) | inr r ↦ elim r [ inl e ↦ absurd (omega (arith, e, le)) | inr e ↦ absurd (omega (arith, e, le)) ] ] ]
+
+five_is_loud : IsQuiet 5 → ⊥
+five_is_loud q = elim q [ inl e ↦ absurd (omega (arith, e)) | inr p ↦ elim p [ inl e ↦ absurd (omega (arith, e)) | inr r ↦ elim r [ inl e ↦ absurd (omega (arith, e)) | inr e ↦ absurd (omega (arith, e)) ] ] ]
+
+no_line : (o : Outcome) (n : ℕ) (P : List ℕ → Type 0) → n ≤ 1 → IfSome (line_of o n) P
+no_line o n P le = rw (line_none o n le) tt
+
+-- the verdict is yes, or the command judges
+untold_verdict : (judges verdict : Bool) (input output : Type 0) → (verdict ≡ true) ⊎ IsTrue judges → Status (Untold judges) input output (verdict_status verdict)
+untold_verdict judges true input output may = inl refl
+untold_verdict judges false input output (inl e) = absurd cc
+untold_verdict judges false input output (inr j) = inr (inl (j, refl))
+
+meant : (verdict : Bool) (M : Type 0) → (verdict ≡ true → M) → verdict_status verdict ≡ 0 → M
+meant true M h e = h refl
+meant false M h e = absurd (omega (arith, e))
+
+-- The command with this promise has read its files, and the desk stands so; it comes to this outcome, where the desk
+-- tells its texts.
+pub record HasComeTo (p : Promise) (judges : Bool) (old mid : Meaning) (x : Outcome) : Type 0 where
+  pub knows : (o : Outcome) → p.comes o → (o ≡ Untold judges) ⊎ (o ≡ x)
+  pub left : (text : List ℕ) → p.last text → mid.left ≡ Some (drop LIMIT text)
+  pub same : mid.input_faults ≡ old.input_faults
+  pub rest : OnlyInput old mid
+
+module _ (p : Promise) (judges : Bool) (old mid : Meaning) where
+  -- an input call failed, or a file has no text
+  pub missed_worked : ((o : Outcome) → p.comes o → Status o (Rose old.input_faults mid.input_faults) (Rose old.output_faults mid.output_faults) 4) → old.input_faults ≤ mid.input_faults → OnlyInput old mid → IsWorked p old mid InputFault
+  missed_worked status later rest =
+      record {
+        status = status;
+        written = λ o h. nothing_written o _ _ 4 (λ le. absurd (omega (arith, le))) (λ e. absurd (omega (arith, e)));
+        line = λ o h. refl;
+        quiet = λ q. rest.written;
+        left = λ q. absurd (elim q [ inl le ↦ omega (arith, le) | inr e ↦ omega (arith, e) ]);
+        means = λ e. absurd (omega (arith, e));
+        input_later = later;
+        output_later = omega (arith, rest.output_faults);
+        input = λ lt. refl;
+        output = λ lt. absurd (omega (arith, lt, rest.output_faults));
+        texts = rest.texts;
+        told = rest.told;
+        messages = rest.message_faults;
+      }
+
+  pub memory_worked : ((o : Outcome) → p.comes o → IsKnown o) → mid.input_faults ≡ old.input_faults → OnlyInput old mid → IsWorked p old mid NoMemory
+  memory_worked known same rest =
+      record {
+        status = λ o h. memory_status o _ _ (known o h);
+        written = λ o h. nothing_written o _ _ 6 (λ le. absurd (omega (arith, le))) (λ e. absurd (omega (arith, e)));
+        line = λ o h. refl;
+        quiet = λ q. rest.written;
+        left = λ q. absurd (elim q [ inl le ↦ omega (arith, le) | inr e ↦ omega (arith, e) ]);
+        means = λ e. absurd (omega (arith, e));
+        input_later = omega (arith, same);
+        output_later = omega (arith, rest.output_faults);
+        input = λ lt. absurd (omega (arith, lt, same));
+        output = λ lt. absurd (omega (arith, lt, rest.output_faults));
+        texts = rest.texts;
+        told = rest.told;
+        messages = rest.message_faults;
+      }
+
+  pub refused_worked : (line : Vec ℕ) → HasComeTo p judges old mid (Refused line.items) → IsWorked p old mid (IsRefusal line)
+  refused_worked line j =
+      record {
+        status = λ o h. elim (j.knows o h) [ inl e ↦ rw e (inr (inr (inl refl))) | inr e ↦ rw e (inl refl) ];
+        written = λ o h. nothing_written o _ _ 2 (λ le. absurd (omega (arith, le))) (λ e. absurd (omega (arith, e)));
+        line = λ o h. elim (j.knows o h) [ inl e ↦ rw e tt | inr e ↦ rw e refl ];
+        quiet = λ q. j.rest.written;
+        left = λ q text is. j.left text is;
+        means = λ e. absurd (omega (arith, e));
+        input_later = omega (arith, j.same);
+        output_later = omega (arith, j.rest.output_faults);
+        input = λ lt. absurd (omega (arith, lt, j.same));
+        output = λ lt. absurd (omega (arith, lt, j.rest.output_faults));
+        texts = j.rest.texts;
+        told = j.rest.told;
+        messages = j.rest.message_faults;
+      }
+
+  done_worked : (new : Meaning) (verdict : Bool) (bytes : List ℕ) → HasComeTo p judges old mid (Done verdict bytes) → (verdict ≡ true) ⊎ IsTrue judges → (verdict ≡ true → p.means) → HasWritten bytes mid new → IsWorked p old new (IsDone verdict)
+  done_worked new verdict bytes j may means h =
+      let all : Appends old.written new.written bytes = subst (λ (w : Option (List ℕ)). Appends w new.written bytes) j.rest.written h.all in
+      let le : verdict_status verdict ≤ 1 = low verdict in
+      record {
+        status = λ o c. elim (j.knows o c) [ inl e ↦ rw e (untold_verdict judges verdict _ _ may) | inr e ↦ rw e (inl refl) ];
+        written = λ o c. elim (j.knows o c) [ inl e ↦ rw e tt | inr e ↦ rw e (λ one. all, λ five. absurd (not_five _ le five)) ];
+        line = λ o c. no_line o (verdict_status verdict) _ le;
+        quiet = λ q. absurd (not_quiet _ le q);
+        left = λ q text is. h.rest.left ∙ j.left text is;
+        means = meant verdict p.means means;
+        input_later = omega (arith, j.same, h.rest.input_faults);
+        output_later = omega (arith, h.count, j.rest.output_faults);
+        input = λ lt. absurd (omega (arith, lt, j.same, h.rest.input_faults));
+        output = λ lt. absurd (omega (arith, lt, h.count, j.rest.output_faults));
+        texts = h.rest.texts ∙ j.rest.texts;
+        told = h.rest.told ∙ j.rest.told;
+        messages = h.rest.message_faults ∙ j.rest.message_faults;
+      }
+
+  output_worked : (new : Meaning) (verdict : Bool) (bytes : List ℕ) → HasComeTo p judges old mid (Done verdict bytes) → HasStopped bytes mid new → IsWorked p old new OutputFault
+  output_worked new verdict bytes j h =
+      let front : AppendsPart old.written new.written bytes = subst (λ (w : Option (List ℕ)). AppendsPart w new.written bytes) j.rest.written h.part in
+      let up : Rose old.output_faults new.output_faults = subst (λ (n : ℕ). Rose n new.output_faults) j.rest.output_faults h.rose in
+      record {
+        status = λ o c. elim (j.knows o c) [ inl e ↦ rw e (inr (inr (inr (inr (inr (refl, up)))))) | inr e ↦ rw e (inr (inr (inr (refl, up)))) ];
+        written = λ o c. elim (j.knows o c) [ inl e ↦ rw e tt | inr e ↦ rw e (λ le. absurd (omega (arith, le)), λ five. front) ];
+        line = λ o c. refl;
+        quiet = λ q. absurd (five_is_loud q);
+        left = λ q text is. h.rest.left ∙ j.left text is;
+        means = λ e. absurd (omega (arith, e));
+        input_later = omega (arith, j.same, h.rest.input_faults);
+        output_later = omega (arith, h.later, j.rest.output_faults);
+        input = λ lt. absurd (omega (arith, lt, j.same, h.rest.input_faults));
+        output = λ lt. refl;
+        texts = h.rest.texts ∙ j.rest.texts;
+        told = h.rest.told ∙ j.rest.told;
+        messages = h.rest.message_faults ∙ j.rest.message_faults;
+      }
+
+  -- the bytes of the outcome were written, or an output call failed
+  pub wrote_worked : (new : Meaning) (verdict : Bool) (bytes : List ℕ) (answer : Answer) → HasComeTo p judges old mid (Done verdict bytes) → (verdict ≡ true) ⊎ IsTrue judges → (verdict ≡ true → p.means) → EndsWriting verdict bytes mid new answer → IsWorked p old new answer
+  wrote_worked new verdict bytes (IsDone holds) j may means h = rw (h.0) (done_worked new verdict bytes j may means h.1)
+  wrote_worked new verdict bytes OutputFault j may means h = output_worked new verdict bytes j h
+  wrote_worked new verdict bytes (IsRefusal line) j may means h = absurd h
+  wrote_worked new verdict bytes HasBadWords j may means h = absurd h
+  wrote_worked new verdict bytes InputFault j may means h = absurd h
+  wrote_worked new verdict bytes NoMemory j may means h = absurd h

@@ -1,0 +1,317 @@
+-- Commands of several files: exactly one outcome, and what each way to end them says.
+use Rattle.std.proofs.Common.{◌≡◌, ◌∙◌, inl, inr, ◌⊎◌, ℕ, ◌≤◌, List, Bool, true, take, drop, Option, Some, None, Result, Ok, Err, refl, sym, ap, subst, arith}
+use Rattle.std.specs.Prelude.{IfOk, IsTrue, MatchResult}
+use Rattle.std.specs.Global.{Vec}
+use Rattle.text_base.specs.Desk.{IsUnknown, Meaning, OnlyInput, Rose, Texts}
+use Rattle.text_base.specs.declared.stop.Stop.{Stop}
+use Rattle.text_base.specs.declared.stop.Stop.TheVariants.{Fault, Memory}
+use Rattle.bridge_tool.specs.Answer.{IsWorked, EndsVerdict, Missed}
+use Rattle.bridge_tool.specs.Outcome.{Outcome, Untold, NoText, BadWords, Refused as IsRefusal, Done as IsDone, Status}
+use Rattle.bridge_tool.specs.Promise.{Promise}
+use Rattle.bridge_tool.specs.SeveralFiles.{Answered, ByText, ByValue, Comes, HasEnded, HasSaid, ReadsFile, Says, after_file, desk_promise, ends}
+use Rattle.bridge_tool.specs.Transfer.{HasRead, HasReadCause, IsRead, Reads}
+use Rattle.bridge_tool.specs.declared.answer.Answer.{Answer}
+use Rattle.bridge_tool.specs.declared.answer.Answer.TheVariants.{Done, Refused, BadWords as HasBadWords, InputFault, OutputFault, NoMemory}
+use Rattle.bridge_tool.specs.declared.transfer.Unread.{Unread}
+use Rattle.bridge_tool.specs.declared.transfer.Unread.TheVariants.{Fault as IsFault, Memory as IsMemory}
+use Rattle.bridge_tool.specs.declared.transfer.TheConstants.{LIMIT}
+use Rattle.bridge_tool.proofs.Decisions.{AreRead}
+use Rattle.bridge_tool.proofs.Ending.{HasComeTo, IsKnown, fault_status, memory_worked, missed_worked, refused_worked, wrote_worked}
+use Rattle.bridge_tool.proofs.Known.{OnlyInput-same, OnlyInput-then}
+use Rattle.bridge_tool.proofs.OneOutcome.{HasOne, IsPlain}
+
+-- ---- promises
+
+-- exactly one outcome, one text that is started last, and steps need not be counted
+pub record IsSound (p : Promise) : Type 0 where
+  pub one : HasOne IsPlain p.comes
+  pub last : (a b : List ℕ) → p.last a → p.last b → a ≡ b
+  pub idle : (n : ℕ) → p.counts n n
+
+same_some : {A : Type 0} (o : Option A) (a b : A) → o ≡ Some a → o ≡ Some b → a ≡ b
+same_some o a b e h = cc
+
+pub sound_end : (texts : Texts) (file : List ℕ) (comes : Outcome → Type 0) (counts : ℕ → ℕ → Type 0) (means : Type 0) → HasOne IsPlain comes → ((n : ℕ) → counts n n) → IsSound (ends texts file comes counts means)
+sound_end texts file comes counts means one idle = record {
+  one = one;
+  last = λ a b h k. same_some (texts file) a b h k;
+  idle = idle;
+}
+
+module _ {V : Type 0} (reads : List ℕ → V → Type 0) (refuses : List ℕ → List ℕ → Type 0) where
+  -- a text that is refused with a line, or says a value, and no other
+  module _ (d : AreRead reads refuses) (text : List ℕ) where
+    one_refused : (line : List ℕ) → refuses text line → (P : List ℕ → Type 0) (Q : V → Type 0) → ByValue reads refuses text P Q → P line
+    one_refused line r P Q (inl h) = subst P (d.refused text h.0 line h.1.0 r) h.1.1
+    one_refused line r P Q (inr h) = absurd (d.apart text h.0 line h.1.0 r)
+
+    one_said : (value : V) → reads text value → (P : List ℕ → Type 0) (Q : V → Type 0) → ByValue reads refuses text P Q → Q value
+    one_said value r P Q (inl h) = absurd (d.apart text value h.0 r h.1.0)
+    one_said value r P Q (inr h) = subst Q (d.said text h.0 value h.1.0 r) h.1.1
+
+  module _ (d : AreRead reads refuses) (next : V → Promise) (s : (value : V) → IsSound (next value)) (whole text : List ℕ) where
+    sound_text : IsSound (record {
+      comes = λ outcome. ByValue reads refuses text (λ line. outcome ≡ IsRefusal line) (λ value. (next value).comes outcome);
+      last = λ last. ByValue reads refuses text (λ line. last ≡ whole) (λ value. (next value).last last);
+      counts = λ old new. ByValue reads refuses text (λ line. new ≡ old) (λ value. (next value).counts old new);
+      means = ByValue reads refuses text (λ line. ⊥) (λ value. (next value).means);
+    })
+    sound_text = elim (d.either text) [
+      | inl said ↦
+          let v = said.0 in
+          let r = said.1 in
+          record {
+            one = record {
+              outcome = (s v).one.outcome;
+              comes_to = inr (v, (r, (s v).one.comes_to));
+              is = (s v).one.is;
+              one = λ other h. (s v).one.one other (one_said d text v r (λ line. other ≡ IsRefusal line) (λ value. (next value).comes other) h);
+            };
+            last = λ a b h k. (s v).last a b (one_said d text v r (λ line. a ≡ whole) (λ value. (next value).last a) h) (one_said d text v r (λ line. b ≡ whole) (λ value. (next value).last b) k);
+            idle = λ n. inr (v, (r, (s v).idle n));
+          }
+      | inr found ↦
+          let line = found.0 in
+          let r = found.1 in
+          record {
+            one = record {
+              outcome = IsRefusal line;
+              comes_to = inl (line, (r, refl));
+              is = tt;
+              one = λ other h. one_refused d text line r (λ line. other ≡ IsRefusal line) (λ value. (next value).comes other) h;
+            };
+            last = λ a b h k. one_refused d text line r (λ line. a ≡ whole) (λ value. (next value).last a) h ∙ sym (one_refused d text line r (λ line. b ≡ whole) (λ value. (next value).last b) k);
+            idle = λ n. inl (line, (r, refl));
+          }
+    ]
+
+  sound_by : AreRead reads refuses → (next : V → Promise) → ((value : V) → IsSound (next value)) → (text : Option (List ℕ)) → IsSound (record {
+    comes = λ outcome. ByText text (outcome ≡ NoText) (λ text. ByValue reads refuses (take LIMIT text) (λ line. outcome ≡ IsRefusal line) (λ value. (next value).comes outcome));
+    last = λ last. ByText text ⊥ (λ text. ByValue reads refuses (take LIMIT text) (λ line. last ≡ text) (λ value. (next value).last last));
+    counts = λ old new. ByText text (new ≡ old) (λ text. ByValue reads refuses (take LIMIT text) (λ line. new ≡ old) (λ value. (next value).counts old new));
+    means = ByText text ⊥ (λ text. ByValue reads refuses (take LIMIT text) (λ line. ⊥) (λ value. (next value).means));
+  })
+  sound_by d next s None = record {
+    one = record { outcome = NoText; comes_to = refl; is = tt; one = λ other j. j };
+    last = λ a b h k. absurd h;
+    idle = λ n. refl;
+  }
+  sound_by d next s (Some text) = sound_text d next s text (take LIMIT text)
+
+  -- a file is read, and what is next is sound
+  pub sound_after : AreRead reads refuses → (texts : Texts) (file : List ℕ) (next : V → Promise) → ((value : V) → IsSound (next value)) → IsSound (after_file reads refuses texts file next)
+  sound_after d texts file next s = sound_by d next s (texts file)
+
+-- ---- reading a file
+
+module _ {R V : Type 0} (seen : R → V) (reads : List ℕ → V → Type 0) (refuses : List ℕ → List ℕ → Type 0) where
+  ended_so : (file : List ℕ) (old new : Meaning) (fed : List ℕ → Type 0) (judged : Result R (Stop (Vec ℕ))) (result : Result R Answer)
+      → HasRead old.texts file LIMIT new.left fed → new.input_faults ≡ old.input_faults
+      → ((text : List ℕ) → fed text → Says seen reads refuses text judged) → Answered judged result
+      → MatchResult result (λ value. HasSaid reads file old new (seen value)) (λ answer. HasEnded refuses file old new answer)
+  ended_so file old new fed (Ok value) result read same says is = rw is (record { bytes = read.bytes; read = read.read; says = says read.bytes read.taken; same = same })
+  ended_so file old new fed (Err (Fault line)) result read same says is = rw is (record { bytes = read.bytes; read = read.read; says = says read.bytes read.taken; same = same })
+  ended_so file old new fed (Err Memory) result read same says is = rw is same
+
+  -- the text was read and judged
+  pub file_judged : (file : List ℕ) (old new : Meaning) (fed : List ℕ → Type 0) (judged : Result R (Stop (Vec ℕ))) (result : Result R Answer)
+      → HasRead old.texts file LIMIT new.left fed → new.input_faults ≡ old.input_faults → OnlyInput old new
+      → ((text : List ℕ) → fed text → Says seen reads refuses text judged) → Answered judged result
+      → ReadsFile seen reads refuses file old new result
+  file_judged file old new fed judged result read same rest says is = record { rest = rest; later = omega (arith, same); judged = ended_so file old new fed judged result read same says is }
+
+  missed_so : (T : Type 0) (file : List ℕ) (old new : Meaning) (unread : Unread) (answer : Answer)
+      → HasReadCause {T = T} (IsUnknown old.texts file) old.input_faults new.input_faults (Err unread) → Missed unread answer
+      → HasEnded refuses file old new answer
+  missed_so T file old new IsFault answer cause is = rw is cause.stop
+  missed_so T file old new IsMemory answer cause is = rw is cause.stop
+
+  -- the text was not read
+  pub file_missed : (T : Type 0) (file : List ℕ) (old new : Meaning) (unread : Unread) (answer : Answer)
+      → HasReadCause {T = T} (IsUnknown old.texts file) old.input_faults new.input_faults (Err unread) → OnlyInput old new → Missed unread answer
+      → ReadsFile seen reads refuses file old new (Err answer)
+  file_missed T file old new unread answer cause rest is = record { rest = rest; later = cause.later; judged = missed_so T file old new unread answer cause is }
+
+-- ---- a command at work
+
+-- q is what is left of p
+pub record IsPartOf (q p : Promise) : Type 0 where
+  pub comes : (outcome : Outcome) → q.comes outcome → p.comes outcome
+  pub last : (text : List ℕ) → q.last text → p.last text
+  pub counts : (m n : ℕ) → q.counts m n → p.counts m n
+  pub means : q.means → p.means
+
+whole : (p : Promise) → IsPartOf p p
+whole p = record { comes = λ o h. h; last = λ t h. h; counts = λ m n h. h; means = λ h. h }
+
+module _ {V : Type 0} (reads : List ℕ → V → Type 0) (refuses : List ℕ → List ℕ → Type 0) where
+  leads : (o : Option (List ℕ)) (text : List ℕ) (value : V) (none : Type 0) (P : List ℕ → List ℕ → Type 0) (Q : V → Type 0) → o ≡ Some text → reads (take LIMIT text) value → Q value
+      → ByText o none (λ t. ByValue reads refuses (take LIMIT t) (P t) Q)
+  leads o text value none P Q is r q = rw is (inr (value, (r, q)))
+
+  ends_there : (o : Option (List ℕ)) (text line : List ℕ) (none : Type 0) (P : List ℕ → List ℕ → Type 0) (Q : V → Type 0) → o ≡ Some text → refuses (take LIMIT text) line → P text line
+      → ByText o none (λ t. ByValue reads refuses (take LIMIT t) (P t) Q)
+  ends_there o text line none P Q is r p = rw is (inl (line, (r, p)))
+
+  -- what is next is left where the file says its value
+  next_part : (texts : Texts) (file text : List ℕ) (value : V) (next : V → Promise) → texts file ≡ Some text → reads (take LIMIT text) value → IsPartOf (next value) (after_file reads refuses texts file next)
+  next_part texts file text value next is r = record {
+    comes = λ o h. leads (texts file) text value (o ≡ NoText) (λ t line. o ≡ IsRefusal line) (λ v. (next v).comes o) is r h;
+    last = λ l h. leads (texts file) text value ⊥ (λ t line. l ≡ t) (λ v. (next v).last l) is r h;
+    counts = λ m n h. leads (texts file) text value (n ≡ m) (λ t line. n ≡ m) (λ v. (next v).counts m n) is r h;
+    means = λ h. leads (texts file) text value ⊥ (λ t line. ⊥) (λ v. (next v).means) is r h;
+  }
+
+part_of_part : (r q p : Promise) → IsPartOf r q → IsPartOf q p → IsPartOf r p
+part_of_part r q p h k = record {
+  comes = λ o x. k.comes o (h.comes o x);
+  last = λ t x. k.last t (h.last t x);
+  counts = λ m n x. k.counts m n (h.counts m n x);
+  means = λ x. k.means (h.means x);
+}
+
+-- the bytes that a file said something with are its first bytes
+pub record HasFirst {V : Type 0} (reads : List ℕ → V → Type 0) (texts : Texts) (file : List ℕ) (left : Option (List ℕ)) (value : V) : Type 0 where
+  pub text : List ℕ
+  pub named : texts file ≡ Some text
+  pub says : reads (take LIMIT text) value
+  pub rest : left ≡ Some (drop LIMIT text)
+
+first_by : {V : Type 0} (reads : List ℕ → V → Type 0) (told : Option Texts) (texts : Texts) (file bytes : List ℕ) (left : Option (List ℕ)) (value : V) → told ≡ Some texts → Reads told file LIMIT bytes left → reads bytes value → HasFirst reads texts file left value
+first_by reads told texts file bytes left value is read says =
+    let r : IsRead texts file LIMIT bytes left = subst (λ (t : Option Texts). Reads t file LIMIT bytes left) is read in
+    record { text = r.text; named = r.named; says = subst (λ (b : List ℕ). reads b value) r.front says; rest = r.rest }
+
+first_of : {V : Type 0} (reads : List ℕ → V → Type 0) (texts : Texts) (file : List ℕ) (old new : Meaning) (value : V) → old.texts ≡ Some texts → HasSaid reads file old new value → HasFirst reads texts file new.left value
+first_of reads texts file old new value is h = first_by reads old.texts texts file h.bytes new.left value is h.read h.says
+
+plain_known : (o : Outcome) → IsPlain o → IsKnown o
+unfolding IsKnown
+plain_known BadWords p = absurd p
+plain_known (Untold j) p = absurd p
+plain_known NoText p = λ e. absurd cc
+plain_known (IsRefusal line) p = λ e. absurd cc
+plain_known (IsDone holds bytes) p = λ e. absurd cc
+
+module _ (told : Texts → Promise) (judges : Bool) where
+  -- The command has come down to this part of its promise: the files before it were read, and said their values.
+  pub record HasComeDown (part : Texts → Promise) (old mid : Meaning) : Type 0 where
+    pub of : (texts : Texts) → old.texts ≡ Some texts → IsPartOf (part texts) (told texts)
+    pub same : mid.input_faults ≡ old.input_faults
+    pub rest : OnlyInput old mid
+
+  -- nothing was read
+  pub begun : (old : Meaning) → HasComeDown told old old
+  begun old = record { of = λ texts is. whole (told texts); same = refl; rest = OnlyInput-same old }
+
+  module _ {R V : Type 0} (seen : R → V) (reads : List ℕ → V → Type 0) (refuses : List ℕ → List ℕ → Type 0) (file : List ℕ) (next : Texts → V → Promise) (old mid new : Meaning) (h : HasComeDown (λ texts. after_file reads refuses texts file (next texts)) old mid) where
+    -- one file more was read
+    pub further : (value : R) → ReadsFile seen reads refuses file mid new (Ok value) → HasComeDown (λ texts. next texts (seen value)) old new
+    further value read = record {
+      of = λ texts is.
+          let first = first_of reads texts file mid new (seen value) (h.rest.texts ∙ is) read.judged in
+          part_of_part (next texts (seen value)) (after_file reads refuses texts file (next texts)) (told texts)
+          (next_part reads refuses texts file first.text (seen value) (next texts) first.named first.says) (h.of texts is);
+      same = read.judged.same ∙ h.same;
+      rest = OnlyInput-then _ _ _ h.rest read.rest;
+    }
+
+  module _ (s : (texts : Texts) → IsSound (told texts)) where
+    known_by : (texts : Option Texts) (o : Outcome) → (desk_promise judges told texts).comes o → IsKnown o
+    unfolding IsKnown
+    known_by None o h = λ e. absurd cc
+    known_by (Some texts) o h = plain_known o (subst IsPlain (sym ((s texts).one.one o h)) (s texts).one.is)
+
+    knows_by : (texts : Option Texts) (o x : Outcome) → ((t : Texts) → texts ≡ Some t → (told t).comes x) → (desk_promise judges told texts).comes o → (o ≡ Untold judges) ⊎ (o ≡ x)
+    knows_by None o x is h = inl h
+    knows_by (Some texts) o x is h = inr ((s texts).one.one o h ∙ sym ((s texts).one.one x (is texts refl)))
+
+    left_by : (texts : Option Texts) (left : Option (List ℕ)) → ((t : Texts) → texts ≡ Some t → (text : List ℕ) × (told t).last text × (left ≡ Some (drop LIMIT text))) → (text : List ℕ) → (desk_promise judges told texts).last text → left ≡ Some (drop LIMIT text)
+    left_by None left is text h = absurd h
+    left_by (Some texts) left is text h =
+        let there = is texts refl in
+        there.2 ∙ ap (λ (t : List ℕ). Some (drop LIMIT t)) ((s texts).last there.0 text there.1 h)
+
+    missed_by : (texts : Option Texts) (file : List ℕ) (input output : Type 0) (o : Outcome) → ((t : Texts) → texts ≡ Some t → t file ≡ None → (told t).comes NoText) → (input ⊎ IsUnknown texts file) → (desk_promise judges told texts).comes o → Status o input output 4
+    missed_by texts file input output o none (inl rose) h = fault_status o input output (known_by texts o h) rose
+    missed_by None file input output o none (inr unknown) h = absurd unknown
+    missed_by (Some texts) file input output o none (inr unknown) h =
+        let is : o ≡ NoText = (s texts).one.one o h ∙ sym ((s texts).one.one NoText (none texts refl unknown)) in
+        rw is (inl refl)
+
+    -- steps need not be counted
+    pub idle : (texts : Option Texts) (n : ℕ) → (desk_promise judges told texts).counts n n
+    idle None n = tt
+    idle (Some texts) n = (s texts).idle n
+
+    module _ {R V : Type 0} (seen : R → V) (reads : List ℕ → V → Type 0) (refuses : List ℕ → List ℕ → Type 0) (file : List ℕ) (next : Texts → V → Promise) (old mid new : Meaning) (h : HasComeDown (λ texts. after_file reads refuses texts file (next texts)) old mid) where
+      stopped_so : (answer : Answer) → old.input_faults ≤ new.input_faults → OnlyInput old new → HasEnded refuses file mid new answer → IsWorked (desk_promise judges told old.texts) old new answer
+      stopped_so (Refused line) later rest ended =
+          refused_worked _ judges old new line (record {
+            knows = λ o c. knows_by old.texts o (IsRefusal line.items)
+                (λ texts is.
+                let first = first_of refuses texts file mid new line.items (h.rest.texts ∙ is) ended in
+                (h.of texts is).comes (IsRefusal line.items)
+                (ends_there reads refuses (texts file) first.text line.items (IsRefusal line.items ≡ NoText) (λ t l. IsRefusal line.items ≡ IsRefusal l) (λ v. (next texts v).comes (IsRefusal line.items)) first.named first.says refl)) c;
+            left = λ text c. left_by old.texts new.left
+                (λ texts is.
+                let first = first_of refuses texts file mid new line.items (h.rest.texts ∙ is) ended in
+                let last = (h.of texts is).last first.text (ends_there reads refuses (texts file) first.text line.items ⊥ (λ t l. first.text ≡ t) (λ v. (next texts v).last first.text) first.named first.says refl) in
+                (first.text, last, first.rest)) text c;
+            same = ended.same ∙ h.same;
+            rest = rest;
+          })
+      stopped_so InputFault later rest ended =
+          missed_worked _ judges old new
+          (λ o c. missed_by old.texts file _ _ o
+          (λ texts is none. (h.of texts is).comes NoText (rw none refl))
+          (elim ended [ inl rose ↦ inl (subst (λ (n : ℕ). Rose n new.input_faults) h.same rose) | inr unknown ↦ inr (subst (λ (t : Option Texts). IsUnknown t file) h.rest.texts unknown) ]) c)
+          later rest
+      stopped_so NoMemory later rest ended = memory_worked _ judges old new (λ o c. known_by old.texts o c) (ended ∙ h.same) rest
+      stopped_so (Done holds) later rest ended = absurd ended
+      stopped_so HasBadWords later rest ended = absurd ended
+      stopped_so OutputFault later rest ended = absurd ended
+
+      -- the file ends the command with this answer
+      pub stopped : (answer : Answer) → ReadsFile {R = R} seen reads refuses file mid new (Err answer) → IsWorked (desk_promise judges told old.texts) old new answer
+      stopped answer read = stopped_so answer (omega (arith, h.same, read.later)) (OnlyInput-then _ _ _ h.rest read.rest) read.judged
+
+    -- ---- all files were read
+
+    module _ {R V : Type 0} (seen : R → V) (reads : List ℕ → V → Type 0) (refuses : List ℕ → List ℕ → Type 0) (file : List ℕ) (comes : V → Outcome → Type 0) (counts : V → ℕ → ℕ → Type 0) (means : V → Type 0) (old before mid : Meaning)
+        (h : HasComeDown (λ texts. after_file reads refuses texts file (λ value. ends texts file (comes value) (counts value) (means value))) old before) (value : R) (read : ReadsFile seen reads refuses file before mid (Ok value)) where
+      down : HasComeDown (λ texts. ends texts file (comes (seen value)) (counts (seen value)) (means (seen value))) old mid
+      down = further seen reads refuses file (λ texts value. ends texts file (comes value) (counts value) (means value)) old before mid h value read
+
+      has_come_to : (x : Outcome) → comes (seen value) x → HasComeTo (desk_promise judges told old.texts) judges old mid x
+      has_come_to x is = record {
+        knows = λ o c. knows_by old.texts o x (λ texts told_so. (down.of texts told_so).comes x is) c;
+        left = λ text c. left_by old.texts mid.left
+            (λ texts told_so.
+            let first = first_of reads texts file before mid (seen value) (h.rest.texts ∙ told_so) read.judged in
+            (first.text, (down.of texts told_so).last first.text first.named, first.rest)) text c;
+        same = down.same;
+        rest = down.rest;
+      }
+
+      meant : (texts : Option Texts) → ((t : Texts) → texts ≡ Some t → IsPartOf (ends t file (comes (seen value)) (counts (seen value)) (means (seen value))) (told t)) → means (seen value) → (desk_promise judges told texts).means
+      meant None part m = tt
+      meant (Some texts) part m = (part texts refl).means m
+
+      -- the values were judged so, and the command ended with this answer
+      pub ended : (new : Meaning) (judged : Result (Bool × Vec ℕ) (Stop (Vec ℕ))) (answer : Answer)
+          → Comes (comes (seen value)) judged
+          → IfOk judged (λ t. ((t.0 ≡ true) ⊎ IsTrue judges) × (t.0 ≡ true → means (seen value)))
+          → EndsVerdict judged mid new answer
+          → IsWorked (desk_promise judges told old.texts) old new answer
+      ended new (Ok t) answer is m e = wrote_worked _ judges old mid new t.0 t.1.items answer (has_come_to (IsDone t.0 t.1.items) is) m.0 (λ yes. meant old.texts down.of (m.1 yes)) e
+      ended new (Err (Fault line)) answer is m e = rw (e.0, e.1) (refused_worked _ judges old mid line (has_come_to (IsRefusal line.items) is))
+      ended new (Err Memory) answer is m e = rw (e.0, e.1) (memory_worked _ judges old mid (λ o c. known_by old.texts o c) down.same down.rest)
+
+      counted_by : (texts : Option Texts) (m n : ℕ) → ((t : Texts) → texts ≡ Some t → IsPartOf (ends t file (comes (seen value)) (counts (seen value)) (means (seen value))) (told t)) → counts (seen value) m n → (desk_promise judges told texts).counts m n
+      counted_by None m n part c = tt
+      counted_by (Some texts) m n part c = (part texts refl).counts m n c
+
+      -- steps were counted so
+      pub counted : (m n : ℕ) → counts (seen value) m n → (desk_promise judges told old.texts).counts m n
+      counted m n c = counted_by old.texts m n down.of c

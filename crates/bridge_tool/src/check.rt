@@ -1,0 +1,160 @@
+// The command check: from an .nl text and a .sol text to the line of a verdict, or to the line to tell.
+ghost use Rattle.std.specs.Prelude.{◌≡◌, ◌≢◌, ◌+◌, ◌≤◌, ◌<ℤ◌, pos, IfOk, MatchOption, MatchResult, None, Some, length};
+ghost use Rattle.linear_programs.specs.Linear.{row_count, variable_count};
+ghost use Rattle.duality.specs.Verdict.{verdict};
+ghost use Rattle.exact_numbers.specs.Values.{dec_value};
+ghost use Rattle.linear_fold.specs.FoldedFaults.{first_fold_fault};
+ghost use Rattle.linear_fold.specs.Programs.{linear_value};
+ghost use Rattle.nl_model.specs.Rules.{IsFile};
+ghost use Rattle.nl_segments.specs.Reader.{HasLines, value_of};
+ghost use Rattle.certificate_check.specs.Answers.{answer_of};
+ghost use Rattle.certificate_check.specs.Fits.{fit_fault};
+ghost use Rattle.certificate_check.specs.Terms.{values_of};
+ghost use Rattle.bridge_tool.specs.Answer.{IsWorked, status_of};
+ghost use Rattle.bridge_tool.specs.Check.{IsCertified, by_fold, check_outcome, check_promise, given_by, most_steps, objective_number, steps_by_number, unfit};
+ghost use Rattle.bridge_tool.specs.SeveralFiles.{Comes};
+ghost use Rattle.bridge_tool.specs.VerdictTold.{is_yes, verdict_line};
+
+use crate::answer::Answer;
+use crate::nl_input::open_nl;
+use crate::one_file::end_verdict;
+use crate::sol_input::open_sol;
+use crate::stages::fold;
+use crate::verdict_told::{fit_line, is_yes, negative_line, verdict_line};
+use certificate_check::{Columns, FitFault, Given, Verdict, certify, fit_counts};
+use exact_numbers::Dec;
+use linear_fold::Linear;
+use nl_model::NlFile;
+use nl_segments::NlRead;
+use sol_files::Sol;
+use std::alloc::{AllocError, Global};
+use text_base::{Desk, Ledger, Steps, Stop};
+
+/// Whether a solution fits a file: the same counts, and a value for each variable and for each constraint; or the first
+/// reason why not.
+pub fn fit(file: &NlFile, sol: &Sol) -> Result<(), FitFault>
+    ensures { MatchResult result (λ _. fit_fault file.now.counts (given_by sol.now) ≡ None)
+        (λ fault. fit_fault file.now.counts (given_by sol.now) ≡ Some fault) }
+{
+    let given = Given {
+        n_con: sol.n_con(),
+        n_var: sol.n_var(),
+        duals: sol.duals().len(),
+        primals: sol.primals().len(),
+    };
+    fit_counts(file, given)
+}
+
+// The number of the objective: that of the objno line, or 0 without one.
+fn objective_number(sol: &Sol) -> i32
+    ensures { result ≡ objective_number sol.now }
+{
+    match sol.objno() {
+        Some((number, _)) => number,
+        None => 0,
+    }
+}
+
+// The number of an objective that is not below 0.
+fn plain_objective(number: i32) -> Option<u32>
+    ensures { MatchOption result (number <ℤ pos 0) (λ k. number ≡ pos k) }
+{
+    if number < 0 {
+        return None;
+    }
+    Some(number as u32)
+}
+
+// The verdict on a point and duals.
+fn verdict_of(alloc: Global, linear: &Linear, x: &[Dec], y: &[Dec]) -> Result<Verdict, AllocError>
+    requires numbers { length x.now ≡ variable_count (linear_value linear.now) }
+    requires duals { length y.now ≡ row_count (linear_value linear.now) }
+    ensures { IfOk result (λ v. answer_of v ≡ verdict (linear_value linear.now) (values_of x.now) (values_of y.now)) }
+{
+    let columns = Columns::of(alloc, linear)?;
+    Ok(certify(&columns, x, y))
+}
+
+// Whether a verdict is yes, and its line.
+fn told_verdict(alloc: Global, verdict: Verdict) -> Result<(bool, Vec<u8>), AllocError>
+    ensures holds { IfOk result (λ t. t.0 ≡ is_yes (answer_of verdict)) }
+    ensures line { IfOk result (λ t. t.1.items ≡ verdict_line (answer_of verdict)) }
+{
+    let line = verdict_line(alloc, verdict)?;
+    Ok((is_yes(verdict), line))
+}
+
+// The verdict on a solution that fits the file, with this objective, or the line of the first fault of the fold.
+fn certified<L: Ledger>(
+    alloc: Global,
+    read: NlRead,
+    sol: &Sol,
+    objective: u32,
+    steps: &mut Steps<L>,
+) -> Result<(bool, Vec<u8>), Stop<Vec<u8>>>
+    requires lines { HasLines read }
+    requires fits { unfit (value_of read) sol.now ≡ None }
+    ensures comes { Comes (λ outcome. outcome ≡ by_fold (value_of read) sol.now objective (first_fold_fault read.file objective)) result }
+    ensures above { steps.old ≤ steps.new }
+    ensures counts { steps.new ≤ steps.old + steps_by_number (value_of read) (pos objective) }
+{
+    let x = sol.primals();
+    let y = sol.duals();
+    let linear = fold(alloc, read, objective, steps)?;
+    let verdict = verdict_of(alloc, &linear, x.items(), y.items())?;
+    let told = told_verdict(alloc, verdict)?;
+    Ok(told)
+}
+
+// The verdict of a file and a solution, or the line to tell.
+fn judge<L: Ledger>(
+    alloc: Global,
+    read: NlRead,
+    sol: &Sol,
+    steps: &mut Steps<L>,
+) -> Result<(bool, Vec<u8>), Stop<Vec<u8>>>
+    requires { HasLines read }
+    ensures comes { Comes (λ outcome. outcome ≡ check_outcome (value_of read) sol.now) result }
+    ensures file { IsFile read.file }
+    ensures above { steps.old ≤ steps.new }
+    ensures counts { steps.new ≤ steps.old + most_steps (value_of read) sol.now }
+{
+    let _ = read.file.header();
+    if let Err(fault) = fit(&read.file, sol) {
+        let line = fit_line(alloc, fault)?;
+        return Err(Stop::Fault(line));
+    }
+    let number = objective_number(sol);
+    let Some(objective) = plain_objective(number) else {
+        let line = negative_line(alloc, number)?;
+        return Err(Stop::Fault(line));
+    };
+    certified(alloc, read, sol, objective, steps)
+}
+
+/// Judges a solution of a file: reads both texts and writes the verdict that they come to. Tells nothing.
+pub(crate) fn check<D: Desk, L: Ledger>(
+    alloc: Global,
+    nl: &str,
+    sol: &str,
+    desk: &mut D,
+    steps: &mut Steps<L>,
+) -> Answer
+    ensures worked { IsWorked (check_promise (D.meaning desk.old).texts nl.now sol.now)
+        (D.meaning desk.old) (D.meaning desk.new) result }
+    ensures known { status_of result ≢ 3 }
+    ensures above { steps.old ≤ steps.new }
+    ensures counts { (check_promise (D.meaning desk.old).texts nl.now sol.now).counts steps.old steps.new }
+    ensures idle { status_of result ≡ 4 → steps.new ≡ steps.old }
+{
+    let read = match open_nl(alloc, desk, nl) {
+        Ok(read) => read,
+        Err(ended) => return ended,
+    };
+    let solution = match open_sol(alloc, desk, sol, 2) {
+        Ok(solution) => solution,
+        Err(answer) => return answer,
+    };
+    let judged = judge(alloc, read, &solution, steps);
+    end_verdict(desk, judged)
+}

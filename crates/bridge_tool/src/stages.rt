@@ -1,0 +1,54 @@
+// The stages that commands share: folding and scaling.
+ghost use Rattle.std.specs.Prelude.{◌≡◌, ◌+◌, ◌≤◌, false};
+ghost use Rattle.file_meaning.specs.FoldFaults.{has_objective};
+ghost use Rattle.linear_fold.specs.FoldedFaults.{step_bound};
+ghost use Rattle.linear_fold.specs.Programs.{linear_value};
+ghost use Rattle.nl_model.specs.Rules.{IsFile};
+ghost use Rattle.nl_segments.specs.Reader.{HasLines, value_of};
+ghost use Rattle.bridge_tool.specs.Stages.{Folds, Scales};
+
+use crate::nl_told::{fold_line, scale_line};
+use linear_fold::{Linear, fold_all};
+use nl_segments::NlRead;
+use row_scaling::{Scaled, scale_rows};
+use std::alloc::Global;
+use text_base::{Ledger, Steps, Stop};
+
+/// The linear program of what was read, or the line of its first fault.
+pub(crate) fn fold<L: Ledger>(
+    alloc: Global,
+    read: NlRead,
+    objective: u32,
+    steps: &mut Steps<L>,
+) -> Result<Linear, Stop<Vec<u8>>>
+    requires { HasLines read }
+    ensures folds { Folds (value_of read) objective result }
+    ensures file { IsFile read.file }
+    ensures above { steps.old ≤ steps.new }
+    ensures below { steps.new ≤ steps.old + step_bound read.file }
+    ensures none { has_objective read.file objective ≡ false → steps.new ≡ steps.old }
+{
+    let _ = read.file.header();
+    match fold_all(alloc, &read.file, objective, steps) {
+        Ok(linear) => Ok(linear),
+        Err(Stop::Memory) => Err(Stop::Memory),
+        Err(Stop::Fault(fault)) => {
+            let line = fold_line(alloc, &read, fault)?;
+            Err(Stop::Fault(line))
+        }
+    }
+}
+
+/// The scaled program, or the line of its first fault.
+pub(crate) fn scale(alloc: Global, linear: Linear, objective: u32) -> Result<Scaled, Stop<Vec<u8>>>
+    ensures { Scales (linear_value linear) objective result }
+{
+    match scale_rows(alloc, &linear) {
+        Ok(scaled) => Ok(scaled),
+        Err(Stop::Memory) => Err(Stop::Memory),
+        Err(Stop::Fault(fault)) => {
+            let line = scale_line(alloc, objective, fault)?;
+            Err(Stop::Fault(line))
+        }
+    }
+}

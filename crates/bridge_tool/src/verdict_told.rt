@@ -1,0 +1,141 @@
+// The lines of verdicts, and of faults of solutions that do not fit their file.
+ghost use Rattle.std.specs.Prelude.{◌≡◌, ◌++◌, IfOk, OnOk};
+ghost use Rattle.exact_numbers.specs.Values.{frac_value};
+ghost use Rattle.certificate_check.specs.Answers.{answer_of, place_of};
+ghost use Rattle.certificate_check.specs.declared.verdict.Verdict.TheVariants.{Gap, TooWide, Yes};
+ghost use Rattle.bridge_tool.specs.VerdictTold.{fit_line, fit_text, is_yes, negative_line, number_text, place_text, verdict_line, verdict_text};
+ghost use Rattle.std.specs.Fmt.{decimal};
+
+use crate::told::put;
+use certificate_check::{FitFault, Spot, Verdict};
+use exact_numbers::{Frac, NumText};
+use itoa::Buffer;
+use std::alloc::{AllocError, Global};
+
+// A number in lowest terms.
+fn put_number(line: &mut Vec<u8>, value: Frac) -> Result<(), AllocError>
+    ensures { OnOk result (line.new.items ≡ line.old.items ++ number_text (frac_value value)) }
+{
+    let mut text = NumText::new();
+    value.write_to(&mut text);
+    put(line, text.bytes())
+}
+
+// A word before an index and one after it.
+fn put_index(line: &mut Vec<u8>, front: &[u8], index: u32, back: &[u8]) -> Result<(), AllocError>
+    ensures { OnOk result (line.new.items ≡ line.old.items ++ (front.now ++ decimal index ++ back.now)) }
+{
+    let mut digits = Buffer::new();
+    put(line, front)?;
+    put(line, digits.format(index).as_bytes())?;
+    put(line, back)
+}
+
+// Where a number does not fit.
+fn put_place(line: &mut Vec<u8>, place: Spot) -> Result<(), AllocError>
+    ensures { OnOk result (line.new.items ≡ line.old.items ++ place_text (place_of place)) }
+{
+    match place {
+        Spot::Row(row) => put_index(line, b"row ", row, b""),
+        Spot::Cost(variable) => put_index(line, b"cost ", variable, b""),
+        Spot::Objective => put(line, b"objective"),
+        Spot::Total => put(line, b"total"),
+    }
+}
+
+fn put_too_wide(line: &mut Vec<u8>, place: Spot) -> Result<(), AllocError>
+    ensures { OnOk result (line.new.items ≡ line.old.items ++ verdict_text (answer_of (TooWide place))) }
+{
+    put(line, b"too wide at ")?;
+    put_place(line, place)
+}
+
+fn put_yes(line: &mut Vec<u8>, value: Frac) -> Result<(), AllocError>
+    ensures { OnOk result (line.new.items ≡ line.old.items ++ verdict_text (answer_of (Yes value))) }
+{
+    put(line, b"yes ")?;
+    put_number(line, value)
+}
+
+fn put_gap(line: &mut Vec<u8>, value: Frac, bound: Frac) -> Result<(), AllocError>
+    ensures { OnOk result (line.new.items ≡ line.old.items ++ verdict_text (answer_of (Gap value bound))) }
+{
+    put(line, b"gap ")?;
+    put_number(line, value)?;
+    put(line, b" ")?;
+    put_number(line, bound)
+}
+
+fn put_verdict(line: &mut Vec<u8>, verdict: Verdict) -> Result<(), AllocError>
+    ensures { OnOk result (line.new.items ≡ line.old.items ++ verdict_text (answer_of verdict)) }
+{
+    match verdict {
+        Verdict::Yes(value) => put_yes(line, value),
+        Verdict::RowBroken(row) => put_index(line, b"row ", row, b" broken"),
+        Verdict::BoundBroken(variable) => put_index(line, b"bound ", variable, b" broken"),
+        Verdict::RowSideMissing(row) => put_index(line, b"row ", row, b" has no side"),
+        Verdict::BoundSideMissing(variable) => put_index(
+            line,
+            b"bound ",
+            variable,
+            b" has no side",
+        ),
+        Verdict::Gap(value, bound) => put_gap(line, value, bound),
+        Verdict::TooWide(place) => put_too_wide(line, place),
+    }
+}
+
+/// The line of a verdict.
+pub(crate) fn verdict_line(alloc: Global, verdict: Verdict) -> Result<Vec<u8>, AllocError>
+    ensures { IfOk result (λ line. line.items ≡ verdict_line (answer_of verdict)) }
+{
+    let mut line = Vec::new(alloc);
+    put_verdict(&mut line, verdict)?;
+    put(&mut line, b"\n")?;
+    Ok(line)
+}
+
+/// Whether a verdict is yes.
+pub(crate) fn is_yes(verdict: Verdict) -> bool
+    ensures { result ≡ is_yes (answer_of verdict) }
+{
+    match verdict {
+        Verdict::Yes(_) => true,
+        Verdict::Gap(_, _) => false,
+        Verdict::RowBroken(_) | Verdict::BoundBroken(_) => false,
+        Verdict::RowSideMissing(_) | Verdict::BoundSideMissing(_) => false,
+        Verdict::TooWide(_) => false,
+    }
+}
+
+// What is said of a solution that does not fit its file.
+fn fit_text(fault: FitFault) -> &'static [u8]
+    ensures { result.now ≡ fit_text fault }
+{
+    match fault {
+        FitFault::OtherCounts => b"other counts",
+        FitFault::NoPrimal => b"no primal values",
+        FitFault::NoDual => b"no dual values",
+    }
+}
+
+/// The line of a solution, the second file of its command, that does not fit the first.
+pub(crate) fn fit_line(alloc: Global, fault: FitFault) -> Result<Vec<u8>, AllocError>
+    ensures { IfOk result (λ line. line.items ≡ fit_line fault) }
+{
+    let mut line = Vec::from_slice(alloc, b"refused file 2: ")?;
+    put(&mut line, fit_text(fault))?;
+    put(&mut line, b"\n")?;
+    Ok(line)
+}
+
+/// The line of an objective of a number below 0.
+pub(crate) fn negative_line(alloc: Global, number: i32) -> Result<Vec<u8>, AllocError>
+    ensures { IfOk result (λ line. line.items ≡ negative_line number) }
+{
+    let mut digits = Buffer::new();
+    let mut line = Vec::from_slice(alloc, b"refused objective ")?;
+    put(&mut line, digits.format(number).as_bytes())?;
+    put(&mut line, b": no such objective\n")?;
+    Ok(line)
+}

@@ -1,0 +1,52 @@
+// The command sol over a desk in memory: what is written or told for whole texts.
+
+use crate::commands::{command, first_lines};
+use std::alloc::{AllocError, Global};
+use std::test::Fail;
+use text_base::MemoryDesk;
+
+// A solution with a value of small size and a suffix with a table.
+const SMALL: &str =
+    "\nsolver: done\n\nOptions\n3\n1\n1\n0\n1\n0\n2\n2\n1.1102230246251565e-32\n2\nobjno 0 0\nsuffix 0 2 8 0 0\nsstatus\n0 1\n1 3\n";
+
+// The same, in the one written form.
+const SMALL_WRITTEN: &str =
+    "\nsolver: done\n\nOptions\n3\n1\n1\n0\n1\n0\n2\n2\n11102230246251565e-48\n2\nobjno 0 0\nsuffix 0 2 8 0 0\nsstatus\n0 1\n1 3\n";
+
+// Whether the text is written so.
+fn writes(alloc: Global, text: &str, written: &str) -> Result<bool, AllocError> {
+    let mut desk = MemoryDesk::new(alloc, 4000)?;
+    desk.put("a.sol", text.as_bytes())?;
+    let status = command(alloc, &mut desk, &["sol", "a.sol"])?;
+    Ok(status == 0 && desk.written() == written.as_bytes() && desk.told().is_empty())
+}
+
+// Whether the text is refused with this line.
+fn refuses(alloc: Global, text: &str, told: &str) -> Result<bool, AllocError> {
+    let mut desk = MemoryDesk::new(alloc, 4000)?;
+    desk.put("a.sol", text.as_bytes())?;
+    let status = command(alloc, &mut desk, &["sol", "a.sol"])?;
+    Ok(status == 2 && desk.written().is_empty() && desk.told() == told.as_bytes())
+}
+
+#[test]
+fn writes_a_solution_again(rt: HostRuntime) -> Result<(), Fail> {
+    assert!(rt; writes(rt.alloc(), SMALL, SMALL_WRITTEN)?);
+    assert!(rt; writes(rt.alloc(), SMALL_WRITTEN, SMALL_WRITTEN)?);
+    Ok(())
+}
+
+#[test]
+fn refuses_solutions(rt: HostRuntime) -> Result<(), Fail> {
+    let alloc = rt.alloc();
+    let front = first_lines(alloc, SMALL, 13)?;
+    let cases = [
+        (front.as_str(), "refused line 14: short file\n"),
+        ("done\n", "refused line 2: no options\n"),
+        ("Options\n3\n1\n3\n0\n", "refused line 4: refused options\n"),
+    ];
+    for (text, told) in cases {
+        assert!(rt; refuses(alloc, text, told)?, "at {told}");
+    }
+    Ok(())
+}
