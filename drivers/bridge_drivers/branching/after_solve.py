@@ -21,6 +21,7 @@ from .watch import Watch
 
 SECONDS = 60.0                  # where timelim says nothing
 NOT_PROVED = "not proved: "
+LONG = 30                       # characters of a fraction that is told
 
 
 class Vertex(NamedTuple):
@@ -48,10 +49,12 @@ def vertex_answer(job: Job, answer: Answer) -> Answer | None:
     if vertex is None or answer.values is None:
         return None
     program, x = vertex
-    texts = [exact_decimal(value) for value in x]
-    if None in texts:
-        return None
-    values = dict(zip(program.names, texts))
+    values = {}
+    for name, value in zip(program.names, x):
+        text = exact_decimal(value)
+        if text is None:
+            return None
+        values[name] = text
     if "z" in answer.values:
         z = exact_decimal(point.objective(program, x))
         if z is None:
@@ -110,7 +113,10 @@ class AfterSolve:
         line = self.proved(prover, value, is_reached=False)
         if line.startswith(NOT_PROVED):
             return line
-        return f"{line}; that {shown(value)} is reached is {OWN}"
+        told = shown(value)
+        if len(told) > LONG:
+            told = f"a value near {float(value):.12g}"
+        return f"{line}; that {told} is reached is {OWN}"
 
     def of_point(self, prover: Prover, settled: Settled) -> list[str]:
         """For a feasible point, whose value `bridge check` tells, if need be with other duals."""
@@ -142,5 +148,6 @@ class AfterSolve:
 
     def proved(self, prover: Prover, value: Fraction | None, is_reached: bool = True) -> str:
         watch = Watch(self.job.options.timelim or SECONDS, self.name)
-        self.result = self.job.clock.timed("branch", prover.prove, value, watch)
-        return self.result.line(is_reached)
+        result: Result = self.job.clock.timed("branch", prover.prove, value, watch)
+        self.result = result
+        return result.line(is_reached)

@@ -18,7 +18,7 @@ from .search import Better, Search
 from .watch import Stopped, Watch
 
 NEVER = "1e30"                  # a value worse than any; with `-` where it is maximised
-FIRST_SHARE = 1 / 3             # of the time, for a claim that is not the last one
+FIRST_SHARE = 1 / 3             # of the time, for an exact claim before a rounded one
 OWN = "the driver's own arithmetic"
 
 
@@ -127,8 +127,8 @@ class Prover:
         if not tried:
             result.why = "the value has no decimal near it"
         for claim in tried:
-            is_last = claim is tried[-1]
-            watch.share = 1.0 if is_last else FIRST_SHARE
+            has_rounded = claim.mode is Mode.EXACT and tried[-1].mode is Mode.ROUNDED
+            watch.share = FIRST_SHARE if has_rounded else 1.0
             try:
                 result.search = Search(p, claim.target, watch, claim.objective, most_nodes)
                 result.tree, result.claim = result.search.run(), claim
@@ -143,19 +143,19 @@ class Prover:
 
     def judged(self, result: Result) -> None:
         """The text, and what `bridge prove` says of it."""
-        claim, p = result.claim, self.program
-        assert claim is not None and result.tree is not None
+        claim, p, tree = result.claim, self.program, result.tree
+        assert claim is not None and tree is not None
         if claim.stated is not None:
             result.stated = p.sign * claim.stated
             words = f"value {self.objective} {exact_decimal(result.stated)}"
-        elif isinstance(result.tree, trees.Leaf):
+        elif trees.is_leaf(tree):
             words = "infeasible"
         else:
             never = ("-" if p.maximise else "") + NEVER
             words = f"value {self.objective} {never}"
             if self.text.has_objective():       # else nothing is worse than 0
                 result.never = never
-        result.text = trees.text(p, words, result.tree)
+        result.text = trees.text(p, words, tree)
         path = self.write("branch.proof", result.text)
         verdict = self.bridge.verdict("prove", self.nl, path)
         if verdict != "proved":

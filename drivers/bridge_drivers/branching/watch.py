@@ -36,8 +36,9 @@ class Watch:
         now = time.monotonic()
         if self.is_stopped:
             raise Stopped(f"interrupted at {search.nodes} nodes")
-        if self.seconds and now - self.began > self.seconds * self.share:
-            raise Stopped(f"time ({self.seconds:g} s, {search.nodes} nodes)")
+        limit = self.seconds * self.share
+        if limit and now - self.began > limit:
+            raise Stopped(f"time ({limit:g} s, {search.nodes} nodes)")
         if now - self.told >= EVERY:
             self.told = now
             print(self.line(search), file=sys.stderr, flush=True)
