@@ -4,17 +4,18 @@
     branching_table.py SECONDS FILE.nl ..
 
 Each goes through `bridge-branch` with that limit; the proof that it wrote is then judged once more
-by `bridge prove`, for its seconds alone. Needs BRIDGE, cbc and CLP's library.
+by `bridge prove`, for its seconds alone. Seconds are of the processor, for the proof without the
+solve that found the point. Needs BRIDGE, cbc and CLP's library.
 """
 
 from __future__ import annotations
 
 import os
 import re
+import resource
 import subprocess
 import sys
 import tempfile
-import time
 
 HERE = os.path.dirname(os.path.abspath(__file__))
 sys.path[:0] = [os.path.join(HERE, "..")]
@@ -25,7 +26,7 @@ from bridge_drivers.branching.integer_program import IntegerProgram     # noqa: 
 HEAD = ("model", "columns", "whole", "rows", "claim", "nodes", "duals", "digits", "bytes",
         "search s", "prove s", "line")
 FIGURES = re.compile(r"(\w+) claim, (\d+) nodes, \d+ leaves, (\d+) duals of at most (\d+) "
-                     r"digits, (\d+) bytes, ([\d.]+) s")
+                     r"digits, (\d+) bytes, [\d.]+ s \(([\d.]+) s of")
 
 
 def shape(bridge: list[str], path: str) -> list[str]:
@@ -47,10 +48,15 @@ def line(bridge: list[str], path: str, seconds: str, folder: str) -> list[str]:
     if found is None:
         said = [t for t in told if t.startswith(("proved", "not proved", "certified"))]
         return [""] * 7 + ["; ".join(said) or told[-1]]
-    began = time.monotonic()
+    before = children()
     subprocess.run([*bridge, "prove", path, proof], capture_output=True)
-    spent = f"{time.monotonic() - began:.2f}"
-    return [*found.groups(), spent, told[-2]]
+    return [*found.groups(), f"{children() - before:.2f}", told[-2]]
+
+
+def children() -> float:
+    """Seconds of the processor of all programs that were called and have ended."""
+    used = resource.getrusage(resource.RUSAGE_CHILDREN)
+    return used.ru_utime + used.ru_stime
 
 
 def main() -> None:

@@ -3,6 +3,7 @@
 from __future__ import annotations
 
 import os
+import time
 from dataclasses import dataclass
 from fractions import Fraction
 
@@ -36,6 +37,7 @@ class Result:
     search: Search | None = None
     never: str = ""                 # the value that stands for infeasible, where one does
     seconds: float = 0.0
+    processor: float = 0.0          # seconds of this process
 
     def line(self, is_reached: bool) -> str:
         """The message's line. `is_reached`: a point of exactly the value was checked."""
@@ -61,7 +63,7 @@ class Result:
 
     def figures(self) -> str:
         """One line for people who look closer."""
-        told = f"{self.seconds:.2f} s"
+        told = f"{self.seconds:.2f} s ({self.processor:.2f} s of the processor)"
         if self.search is not None:
             told += f", {self.search.engine.solves} relaxations by {self.search.engine.name}"
         if self.tree is None or self.claim is None:
@@ -105,7 +107,7 @@ class Prover:
     def prove(self, value: Fraction | None, watch: Watch, wanted: str = "auto",
               most_nodes: int = trees.MOST_NODES) -> Result:
         """`value` in the file's own sense."""
-        result = Result(value)
+        result, began = Result(value), time.process_time()
         try:
             factors = self.factors()
             self.program.factor = [factors.get(i, 1) for i in self.program.constraint]
@@ -117,7 +119,7 @@ class Prover:
             result.claim, result.why = None, fault.line()
         except (Unfit, NoEngine) as fault:
             result.claim, result.why = None, str(fault)
-        result.seconds = watch.spent()
+        result.seconds, result.processor = watch.spent(), time.process_time() - began
         return result
 
     def search(self, result: Result, watch: Watch, wanted: str, most_nodes: int) -> None:
@@ -135,7 +137,7 @@ class Prover:
                 return
             except Stopped as fault:
                 result.why = str(fault)
-                if watch.is_stopped:
+                if watch.is_over():
                     return
             except Better as fault:
                 result.why = f"a better point seems to exist, near {p.sign * fault.value:.10g}"

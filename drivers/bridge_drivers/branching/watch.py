@@ -31,6 +31,10 @@ class Watch:
     def spent(self) -> float:
         return time.monotonic() - self.began
 
+    def is_over(self) -> bool:
+        """Whether no further search may begin."""
+        return self.is_stopped or bool(self.seconds) and self.spent() > self.seconds
+
     def look(self, search: Search) -> None:
         """At each node: Stopped after the limit or an interrupt; a line each 5 s."""
         now = time.monotonic()
