@@ -140,13 +140,21 @@ class Solving:
         figures."""
         from .branching.after_solve import AfterSolve
         after = AfterSolve(certifier, "bridge-" + self.solver.program)
-        lines = after.lines(outcome.code, settled, last)
-        if after.result is None:
+        try:
+            lines = after.lines(outcome.code, settled, last)
+        except (ArithmeticError, AssertionError, LookupError, TypeError, ValueError) as fault:
+            if self.options.outlev >= 2:
+                raise
+            return [last, f"not proved: a fault of the driver: {fault!r}"], ""  # the answer stands
+        result = after.result
+        if result is None:
             return lines, ""
-        figures = after.result.figures()
         if self.options.outlev:
-            print(f"branch proof: {figures}", flush=True)
-        if self.options.proof and after.result.claim is not None:
-            with open(self.options.proof, "w", encoding="utf-8") as f:
-                f.write(after.result.text)
-        return lines, figures
+            print(f"branch proof: {result.figures()}", flush=True)
+        if self.options.proof and result.claim is not None:
+            try:
+                with open(self.options.proof, "w", encoding="utf-8") as f:
+                    f.write(result.text)
+            except OSError as fault:
+                lines.insert(0, f"the proof is not kept: {self.options.proof}: {fault.strerror}")
+        return lines, result.figures()

@@ -109,12 +109,12 @@ class Prover:
         """`value` in the file's own sense."""
         result, began = Result(value), time.process_time()
         try:
-            factors = self.factors()
-            self.program.factor = [factors.get(i, 1) for i in self.program.constraint]
             with watch.interruptible():
+                factors = self.factors()
+                self.program.factor = [factors.get(i, 1) for i in self.program.constraint]
                 self.search(result, watch, wanted, most_nodes)
-            if result.tree is not None:
-                self.judged(result)
+                if result.tree is not None:
+                    self.judged(result, watch)
         except Refused as fault:
             result.claim, result.why = None, fault.line()
         except (Unfit, NoEngine) as fault:
@@ -143,7 +143,7 @@ class Prover:
                 result.why = f"a better point seems to exist, near {p.sign * fault.value:.10g}"
                 return
 
-    def judged(self, result: Result) -> None:
+    def judged(self, result: Result, watch: Watch) -> None:
         """The text, and what `bridge prove` says of it."""
         claim, p, tree = result.claim, self.program, result.tree
         assert claim is not None and tree is not None
@@ -159,6 +159,7 @@ class Prover:
                 result.never = never
         result.text = trees.text(p, words, tree)
         path = self.write("branch.proof", result.text)
+        watch.note(f"bridge prove reads {len(result.text)} bytes")
         verdict = self.bridge.verdict("prove", self.nl, path)
         if verdict != "proved":
             result.claim, result.why = None, f"bridge prove says `{verdict}`"

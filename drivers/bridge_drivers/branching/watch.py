@@ -47,6 +47,11 @@ class Watch:
             self.told = now
             print(self.line(search), file=sys.stderr, flush=True)
 
+    def note(self, text: str) -> None:
+        """Told where the run has already been long."""
+        if self.spent() >= EVERY:
+            print(f"{self.name}: {text}, {self.spent():.0f} s", file=sys.stderr, flush=True)
+
     def line(self, search: Search) -> str:
         """The bound is of the relaxations, in floating point."""
         pending = [branch.base for branch in search.open if branch.is_pending()]
@@ -59,7 +64,8 @@ class Watch:
 
     @contextlib.contextmanager
     def interruptible(self) -> Iterator[None]:
-        """An interrupt ends the search at its next node, and nothing else."""
+        """An interrupt ends the search at its next node, and nothing else. (From a terminal it
+        reaches a process of `bridge` too, and ends that.)"""
         if threading.current_thread() is not threading.main_thread():
             yield
             return
