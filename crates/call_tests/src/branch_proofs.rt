@@ -5,8 +5,8 @@ ghost use Rattle.branch_proof.specs.Files.{IsProofIn};
 use branch_proof::laws::proofs_are_of_programs;
 use branch_proof::{Claim, Proof, ProofNode, ProofVerdict, check_proof};
 use certificate_check::Columns;
-use example_texts::proof_texts::{ONE_WHOLE, TWO_LEAVES};
 use exact_numbers::{Dec, Frac};
+use example_texts::proof_texts::{ONE_WHOLE, TWO_LEAVES};
 use linear_fold::fold_all;
 use nl_model::NlFile;
 use nl_segments::read_nl;
@@ -53,7 +53,11 @@ fn a_proof_is_read_and_checked(rt: HostRuntime) -> Result<(), Fail> {
     };
     let two = Dec::of_whole(2);
     assert!(rt; matches!(proof.claim(), Claim::Value(0, value) if value == two));
-    let nodes = [ProofNode::Split(0, 1), ProofNode::Weights(1), ProofNode::Duals(0)];
+    let nodes = [
+        ProofNode::Split(0, 1),
+        ProofNode::Weights(1),
+        ProofNode::Duals(0),
+    ];
     assert!(rt; proof.nodes() == nodes.as_slice());
     assert!(rt; proof.pairs().items() == [(0, Dec::of_whole(1))].as_slice());
     let verdict = verdict_on::<Brand>(rt.alloc(), &file, &proof, Blank::new(1))?;

@@ -74,13 +74,23 @@ fn judges_proofs(rt: HostRuntime) -> Result<(), Fail> {
         proves("value 0 2\nsplit 0 1\nweights 1\n0 1\nsplit 0 3\nduals 0\nduals 0\n"),
         proves("value 0 2\nsplit 0 1\nsplit 0 3\nweights 1\n0 1\nduals 0\nduals 0\n"),
         open("value 0 1\nduals 1\n0 0.25\n", "leaf 0 gap 3/4\n"),
-        open("infeasible\nweights 1\n0 -1\n", "leaf 0 row 0 has no side\n"),
+        open(
+            "infeasible\nweights 1\n0 -1\n",
+            "leaf 0 row 0 has no side\n",
+        ),
         open("infeasible\nweights 1\n0 1e-400\n", "leaf 0 too wide\n"),
         open("infeasible\nweights 0\n", "leaf 0 gap 0\n"),
-        refused("value 1 2\nduals 0\n", "refused objective 1: no such objective\n"),
+        refused(
+            "value 1 2\nduals 0\n",
+            "refused objective 1: no such objective\n",
+        ),
     ];
     for case in cases {
-        assert!(rt; begins_well(rt.alloc(), ONE_WHOLE, &case)?, "at {}", case.proof);
+        assert!(rt;
+            begins_well(rt.alloc(), ONE_WHOLE, &case)?,
+            "at {}",
+            case.proof
+        );
     }
     Ok(())
 }
@@ -94,7 +104,10 @@ fn judges_proofs_of_other_files(rt: HostRuntime) -> Result<(), Fail> {
     let cases = [
         (narrow.as_str(), proves("infeasible\nweights 1\n0 1\n")),
         (most.as_str(), proves("value 0 5\nduals 0\n")),
-        (most.as_str(), open("value 0 4\nduals 0\n", "leaf 0 gap 5\n")),
+        (
+            most.as_str(),
+            open("value 0 4\nduals 0\n", "leaf 0 gap 5\n"),
+        ),
         (
             free.as_str(),
             open("value 0 2\nduals 0\n", "leaf 0 bound 0 has no side\n"),
@@ -146,7 +159,11 @@ fn refuses_texts_that_are_no_proofs(rt: HostRuntime) -> Result<(), Fail> {
         ),
     ];
     for case in cases {
-        assert!(rt; begins_well(rt.alloc(), ONE_WHOLE, &case)?, "at {}", case.line);
+        assert!(rt;
+            begins_well(rt.alloc(), ONE_WHOLE, &case)?,
+            "at {}",
+            case.line
+        );
     }
     Ok(())
 }
