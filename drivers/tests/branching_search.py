@@ -22,7 +22,7 @@ from bridge_drivers.branching import clp_library, engines
 from bridge_drivers.branching.solver_engine import SolverEngine
 from bridge_drivers.branching.tree import figures
 from bridge_drivers.branching.watch import Watch
-from bridge_drivers.bridge import Bridge
+from bridge_drivers.bridge import Bridge, Late, Reply
 from bridge_drivers.program import Program
 from bridge_drivers.branching.proving import Prover
 from branch_models import BRANCHED
@@ -94,6 +94,20 @@ class ByClp(Branching):
                          "not proved: more than 4 nodes")
         late = self.prover(knap.text).prove(knap.value, Watch(1e-9), "exact")
         self.assertRegex(late.line(True), r"^not proved: time \(1e-09 s, \d+ nodes\)$")
+
+    def test_late_verdict(self) -> None:
+        """A verdict that takes too long is not waited for, and the proof is kept."""
+        prover = self.prover(BRANCHED["knap"].text)
+
+        def late(*words: str) -> Reply:
+            self.assertIsNotNone(prover.bridge.limit)
+            raise Late("prove")
+        with mock.patch.object(prover.bridge, "verdict", late):
+            result = prover.prove(F(17), Watch(20.0))
+        self.assertEqual(result.line(True),
+                         "not proved: time: bridge prove was ended before its verdict")
+        self.assertTrue(result.kept().startswith("proof 1\nvalue 0 17\n"))
+        self.assertIsNone(prover.bridge.limit)
 
     def test_interrupt_and_progress(self) -> None:
         """An interrupt ends the search and no more; lines of progress where it takes long."""
