@@ -1,2 +1,4 @@
+pub mod Words
+pub mod Heads
 pub mod Room
 pub mod Rewriting
