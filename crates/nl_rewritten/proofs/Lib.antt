@@ -1,4 +1,5 @@
 pub mod Words
 pub mod Heads
+pub mod Rows
 pub mod Room
 pub mod Rewriting
