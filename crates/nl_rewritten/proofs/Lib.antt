@@ -1,5 +1,6 @@
 pub mod Words
 pub mod Heads
 pub mod Rows
+pub mod Texts
 pub mod Room
 pub mod Rewriting
