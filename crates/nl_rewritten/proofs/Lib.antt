@@ -4,5 +4,6 @@ pub mod Rows
 pub mod Texts
 pub mod Said
 pub mod Trees
+pub mod Parts
 pub mod Room
 pub mod Rewriting
