@@ -1,11 +1,10 @@
 -- What is known of a head without a fault.
-use Rattle.std.proofs.Common.{◌≡◌, ◌∙◌, ℕ, ◌+◌, ◌^◌, ◌<◌, ◌==◌, Bool, true, false, not, ◌&&◌, cond, List, refl, sym, ap, subst, arith, Option, Some, None, nat_lt, nat_le, length}
+use Rattle.std.proofs.Common.{◌≡◌, ℕ, ◌+◌, ◌^◌, ◌<◌, ◌==◌, Bool, true, false, ◌&&◌, cond, List, refl, sym, subst, Option, Some, None, nat_lt, nat_le, length}
 use Rattle.std.specs.Prelude.{codes, option_map, option_and_then}
 use Rattle.std.specs.Str.{bytes_eq}
 use Rattle.std.proofs.lemmas.Bool.{ltb-true}
 use Rattle.text_base.specs.Names.{is_name}
 use Rattle.text_base.specs.Words.{word_at}
-use Rattle.exact_numbers.specs.Numbers.{whole_of}
 use Rattle.exact_numbers.proofs.Bridge.{and_true}
 use Rattle.nl_model.specs.declared.counts.Counts.{Counts}
 use Rattle.nl_segments.specs.declared.head.Head.{Head}

@@ -1,26 +1,23 @@
 -- The terms, intervals, guesses and suffixes of a text without a fault.
-use Rattle.std.proofs.Common.{◌≡◌, ◌≢◌, ◌∙◌, ℕ, zero, suc, ◌+◌, ◌<◌, ◌≤◌, ◌^◌, ◌==◌, Bool, true, false, ◌||◌, ◌&&◌, not, cond, ℤ, List, [], ◌∷◌, ◌++◌, length, get_or, take, map, refl, sym, ap, subst, arith, nat_lt, slice_set, Option, Some, None, All, inl, inr, append-nil, length-append}
+use Rattle.std.proofs.Common.{◌≡◌, ◌∙◌, ℕ, zero, suc, ◌+◌, ◌<◌, ◌≤◌, ◌^◌, Bool, true, false, cond, ℤ, List, [], ◌∷◌, ◌++◌, length, get_or, take, refl, sym, ap, subst, arith, All, inl, inr, length-append}
 use Rattle.std.proofs.Math.ListN.{length-set}
-use Rattle.std.specs.Prelude.{IfSome, sum_by, replicate, filter}
+use Rattle.std.specs.Prelude.{sum_by, replicate, filter}
 use Rattle.std.specs.List.{list_any}
-use Rattle.std.specs.Str.{bytes_eq}
 use Rattle.std.proofs.lemmas.Bool.{cases_Bool}
 use Rattle.std.proofs.lemmas.List.{length-replicate, length-take}
 use Rattle.std.proofs.lemmas.List.Elements.{All-append, All-get_or, All-push, All-replicate, All-set, filter-append}
 use Rattle.std.proofs.lemmas.List.Folds.{list_any_at}
 use Rattle.std.proofs.lemmas.List.Quantifiers.{all_pairs_push}
 use Rattle.std.proofs.lemmas.List.Sums.{sum_by-cons, sum_by_push, sum_by-set}
-use Rattle.exact_numbers.specs.Numbers.{is_whole}
 use Rattle.nl_model.specs.declared.counts.Counts.{Counts}
 use Rattle.nl_model.specs.declared.interval.Interval.{Interval}
 use Rattle.nl_model.specs.Draft.{Draft}
 use Rattle.nl_model.specs.File.{Term, Definition, Suffix}
 use Rattle.nl_model.specs.Kinds.{kind_of}
-use Rattle.nl_model.specs.Rules.{AreGuesses, AreIndicesApart, AreSuffixes, AreTermsBelow, IsOrdered, IsSuffix, has_suffix, is_suffix_of, object_count, term_count}
+use Rattle.nl_model.specs.Rules.{AreGuesses, AreIndicesApart, AreSuffixes, AreTermsBelow, IsOrdered, IsSuffix, has_suffix, is_suffix_of, term_count}
 use Rattle.nl_segments.specs.declared.awaited.Awaited.TheVariants.{Interval as IntervalLine}
 use Rattle.nl_segments.specs.declared.head.Head.{Head}
 use Rattle.nl_segments.specs.declared.head.Head.TheVariants.{Body, Objective, Definition as DefinitionHead, DualGuesses, PrimalGuesses, Sides, Bounds, ColumnCounts, Terms, Slopes, Suffix as SuffixHead}
-use Rattle.nl_segments.specs.Rows.{Row}
 use Rattle.nl_segments.specs.Pieces.{Piece, line_count, line_kind, pair_count, piece_intervals, piece_pairs}
 use Rattle.nl_segments.specs.Saying.{draft_of, piece_tree, with_terms}
 use Rattle.nl_segments.specs.Tests.{holds_once, index_limit, is_binary, is_linear, is_same_piece, is_sides, is_suffix, is_within_unit, pair_total, suffix_count, wants_whole}

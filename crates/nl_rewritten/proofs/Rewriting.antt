@@ -1,5 +1,5 @@
 -- The laws of .nl files that were read.
-use Rattle.std.proofs.Common.{◌≡◌, ◌∙◌, ℕ, zero, suc, ◌+◌, ◌<◌, ◌≤◌, ◌^◌, Bool, true, false, ℤ, List, [], ◌∷◌, ◌++◌, length, get_or, refl, sym, ap, subst, arith, Option, Some, None, All}
+use Rattle.std.proofs.Common.{◌≡◌, ◌∙◌, ℕ, ◌+◌, ◌≤◌, ◌^◌, true, ℤ, List, [], ◌∷◌, length, refl, sym, subst, arith, Option, Some, None, All}
 use Rattle.std.specs.Prelude.{IfSome, IsSome, IsTrue, sum_by}
 use Rattle.std.specs.List.{list_all}
 use Rattle.std.specs.Option.{option_map_or}
@@ -13,20 +13,20 @@ use Rattle.nl_model.specs.declared.counts.Counts.{Counts}
 use Rattle.nl_model.specs.Draft.{Draft, file_of, given}
 use Rattle.nl_model.specs.File.{Objective, Term}
 use Rattle.nl_model.specs.HeaderRules.{is_header}
-use Rattle.nl_model.specs.Rules.{IsFile, IsTreeKnown, most_terms, term_count}
-use Rattle.nl_segments.specs.Grammar.{NlValue, counts_of, said, standing}
+use Rattle.nl_model.specs.Rules.{IsFile, IsTreeKnown, term_count}
+use Rattle.nl_segments.specs.Grammar.{NlValue, counts_of, standing}
 use Rattle.nl_segments.specs.Pieces.{Piece}
 use Rattle.nl_segments.specs.Reader.{IsNl}
 use Rattle.nl_segments.specs.Saying.{draft_of}
 use Rattle.nl_segments.proofs.DraftLemmas.{draft_counts}
 use Rattle.nl_writer.specs.Written.{nl_text}
-use Rattle.nl_round_trip.specs.Writable.{HasNodes, IsText, IsWritable, linear_count, node_count, value_count}
+use Rattle.nl_round_trip.specs.Writable.{HasNodes, IsText, IsWritable}
 use Rattle.nl_round_trip.proofs.WholeLaw.{written_is_read}
-use Rattle.nl_rewritten.proofs.Parts.{AreGuessesKept, AreIntervalsKept, AreSuffixesKept, AreTermsKept, guesses_kept, intervals_kept, linear_total, options_stay, suffixes_kept, terms_kept}
+use Rattle.nl_rewritten.proofs.Parts.{AreGuessesKept, AreIntervalsKept, AreSuffixesKept, AreTermsKept, guesses_kept, intervals_kept, options_stay, suffixes_kept, terms_kept}
 use Rattle.nl_rewritten.proofs.Room.{IsModest, lines_short}
 use Rattle.nl_rewritten.proofs.Rows.{AreFew}
 use Rattle.nl_rewritten.proofs.Texts.{IsWhole, whole_text}
-use Rattle.nl_rewritten.proofs.Trees.{AreTreesKept, body_size, objective_size, tree_total, trees_kept}
+use Rattle.nl_rewritten.proofs.Trees.{AreTreesKept, objective_size, trees_kept}
 
 -- ---- objectives that were given
 

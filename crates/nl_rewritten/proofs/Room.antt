@@ -1,10 +1,10 @@
 -- No written line of a file that keeps the rules of values is too long.
-use Rattle.std.proofs.Common.{◌≡◌, ◌∙◌, ℕ, zero, suc, ◌+◌, ◌%◌, ◌^◌, ◌<◌, ◌≤◌, ◌==◌, Bool, true, false, not, ◌&&◌, cond, ℤ, List, [], ◌∷◌, ◌++◌, length, map, filter, get_or, All, refl, sym, ap, subst, arith, Option, Some, None, nat_lt, nat_le, lt_trans, lit<}
+use Rattle.std.proofs.Common.{◌≡◌, ℕ, zero, suc, ◌+◌, ◌%◌, ◌^◌, ◌<◌, ◌≤◌, ◌==◌, Bool, true, false, not, ◌&&◌, cond, ℤ, List, [], ◌∷◌, ◌++◌, length, map, filter, All, refl, subst, arith, Option, Some, None, nat_le, lt_trans, lit<}
 use Rattle.std.specs.Prelude.{IfSome, IsTrue, codes, sum_by}
 use Rattle.std.specs.List.{AllByRecursion, list_all, flat_map}
 use Rattle.std.specs.Fmt.{decimal, signed_decimal}
 use Rattle.std.specs.Option.{option_map_or}
-use Rattle.std.proofs.lemmas.Bool.{leb-true, ltb-true}
+use Rattle.std.proofs.lemmas.Bool.{leb-true}
 use Rattle.std.proofs.lemmas.List.{length-map}
 use Rattle.std.proofs.lemmas.List.Elements.{recursion_from_All, All-from_recursion}
 use Rattle.std.proofs.lemmas.List.Sums.{sum_by-cons}
@@ -23,15 +23,15 @@ use Rattle.nl_model.specs.declared.node.Node.TheVariants.{Num, Var, Defined, Op}
 use Rattle.nl_model.specs.File.{Term, Objective, Definition, Suffix, File}
 use Rattle.nl_model.specs.HeaderRules.{is_header, are_options, are_counts, are_numbers, has_no_refused, are_sizes_within, are_shared_within, are_whole_within, are_definitions_within, has_second_three, defined_count, AreCounts}
 use Rattle.nl_model.specs.Nodes.{opcode_of}
-use Rattle.nl_model.specs.Rules.{AreTermsBelow, AreDefinitions, IsTreeKnown, IsTreeWithin, IsFile, IsSuffix, object_count, term_count, most_terms}
+use Rattle.nl_model.specs.Rules.{AreTermsBelow, AreDefinitions, IsTreeKnown, IsFile, IsSuffix, object_count, term_count, most_terms}
 use Rattle.nl_model.specs.UseCounts.{terms_up_to}
 use Rattle.nl_model.proofs.Headers.{counts_of_header}
 use Rattle.nl_model.proofs.Opcodes.{opcode_of-known}
 use Rattle.written_texts.specs.Lines.{Line, spaced, text_of, unless_empty}
 use Rattle.written_texts.proofs.Lengths.{decimal-length, signed_31-length, text-length}
 use Rattle.written_texts.proofs.LineLemmas.{spaced-length}
-use Rattle.nl_writer.specs.Trees.{is_counted, operator_lines, tree_lines, node_lines}
-use Rattle.nl_writer.specs.Written.{numbers, options_line, size_lines, part_lines, header_lines, lettered, term_line, term_lines, by_number, suffix_piece, definition_piece, body_piece, sense_word, objective_piece, guess_piece, is_same, sides_line, interval_line, interval_piece, column_lines, column_piece, term_piece, body_lines, nl_lines}
+use Rattle.nl_writer.specs.Trees.{is_counted, tree_lines, node_lines}
+use Rattle.nl_writer.specs.Written.{numbers, options_line, header_lines, lettered, term_line, term_lines, by_number, suffix_piece, definition_piece, body_piece, sense_word, objective_piece, guess_piece, is_same, sides_line, interval_line, interval_piece, column_lines, column_piece, term_piece, body_lines, nl_lines}
 use Rattle.nl_writer.proofs.Writing.{node_lines-prefix}
 use Rattle.nl_round_trip.specs.Writable.{HasNodes, IsWritableSuffix, AreTreesWritable, node_count}
 use Rattle.nl_round_trip.proofs.HeaderLines.{IsSmall, all_small, AreSmall, small_counts}
@@ -339,25 +339,25 @@ body_lines_short f file m =
     let range = definitions_in_range c.n_var (defined_count c) [] f.definitions file.definitions in
     let nodes : sum_by (λ d. tree_size d.tree) f.definitions + sum_by (λ b. option_map_or tree_size b 0) f.bodies + sum_by (λ o. tree_size o.tree) f.objectives ≤ 2 ^ 22 = m.few_nodes in
     let suffixes = joined (λ s. IsWritableSuffix s × IsSuffix c s) suffix_piece f.suffixes (λ s h. suffix_short c s k h)
-        (two IsWritableSuffix (IsSuffix c) f.suffixes (recursion_from_All IsWritableSuffix f.suffixes m.suffixes) (recursion_from_All (IsSuffix c) f.suffixes file.suffixes.each)) in
+    (two IsWritableSuffix (IsSuffix c) f.suffixes (recursion_from_All IsWritableSuffix f.suffixes m.suffixes) (recursion_from_All (IsSuffix c) f.suffixes file.suffixes.each)) in
     let definitions = definitions_short c [] f.definitions k tt file.definitions
-        (plain_definitions c f.definitions (recursion_from_All (λ d. d.usage < 2 ^ 31) f.definitions m.usages) (recursion_from_All (λ d. HasNodes d.tree) f.definitions m.trees.definitions)
-        (each_within (λ d. tree_size d.tree) f.definitions (2 ^ 22) (omega (arith, nodes)))) in
+    (plain_definitions c f.definitions (recursion_from_All (λ d. d.usage < 2 ^ 31) f.definitions m.usages) (recursion_from_All (λ d. HasNodes d.tree) f.definitions m.trees.definitions)
+    (each_within (λ d. tree_size d.tree) f.definitions (2 ^ 22) (omega (arith, nodes)))) in
     let bodies = numbered (λ b. (IfSome b HasNodes × IfSome b (IsTreeKnown c.n_var f.definitions)) × (option_map_or tree_size b 0 ≤ 2 ^ 22)) body_piece (2 ^ 20) 0 f.bodies
-        (λ i b lt h. body_short c f.definitions i b k range lt h.0.0 h.0.1 h.1) (omega (arith, file.bodies.count, k.constraints))
-        (two (λ b. IfSome b HasNodes × IfSome b (IsTreeKnown c.n_var f.definitions)) (λ b. option_map_or tree_size b 0 ≤ 2 ^ 22) f.bodies
-        (two (λ b. IfSome b HasNodes) (λ b. IfSome b (IsTreeKnown c.n_var f.definitions)) f.bodies (recursion_from_All (λ b. IfSome b HasNodes) f.bodies m.trees.bodies) (recursion_from_All (λ b. IfSome b (IsTreeKnown c.n_var f.definitions)) f.bodies file.bodies.known))
-        (each_within (λ b. option_map_or tree_size b 0) f.bodies (2 ^ 22) (omega (arith, nodes)))) in
+    (λ i b lt h. body_short c f.definitions i b k range lt h.0.0 h.0.1 h.1) (omega (arith, file.bodies.count, k.constraints))
+    (two (λ b. IfSome b HasNodes × IfSome b (IsTreeKnown c.n_var f.definitions)) (λ b. option_map_or tree_size b 0 ≤ 2 ^ 22) f.bodies
+    (two (λ b. IfSome b HasNodes) (λ b. IfSome b (IsTreeKnown c.n_var f.definitions)) f.bodies (recursion_from_All (λ b. IfSome b HasNodes) f.bodies m.trees.bodies) (recursion_from_All (λ b. IfSome b (IsTreeKnown c.n_var f.definitions)) f.bodies file.bodies.known))
+    (each_within (λ b. option_map_or tree_size b 0) f.bodies (2 ^ 22) (omega (arith, nodes)))) in
     let objectives = numbered (λ (o : Objective). (HasNodes o.tree × IsTreeKnown c.n_var f.definitions o.tree) × (tree_size o.tree ≤ 2 ^ 22)) objective_piece (2 ^ 20) 0 f.objectives
-        (λ i o lt h. objective_short c f.definitions i o k range lt h.0.0 h.0.1 h.1) (omega (arith, file.objectives.count, k.objectives))
-        (two (λ (o : Objective). HasNodes o.tree × IsTreeKnown c.n_var f.definitions o.tree) (λ (o : Objective). tree_size o.tree ≤ 2 ^ 22) f.objectives
-        (two (λ (o : Objective). HasNodes o.tree) (λ (o : Objective). IsTreeKnown c.n_var f.definitions o.tree) f.objectives (recursion_from_All (λ (o : Objective). HasNodes o.tree) f.objectives m.trees.objectives)
-        (recursion_from_All (λ (o : Objective). IsTreeKnown c.n_var f.definitions o.tree) f.objectives file.objectives.known))
-        (each_within (λ (o : Objective). tree_size o.tree) f.objectives (2 ^ 22) (omega (arith, nodes)))) in
+    (λ i o lt h. objective_short c f.definitions i o k range lt h.0.0 h.0.1 h.1) (omega (arith, file.objectives.count, k.objectives))
+    (two (λ (o : Objective). HasNodes o.tree × IsTreeKnown c.n_var f.definitions o.tree) (λ (o : Objective). tree_size o.tree ≤ 2 ^ 22) f.objectives
+    (two (λ (o : Objective). HasNodes o.tree) (λ (o : Objective). IsTreeKnown c.n_var f.definitions o.tree) f.objectives (recursion_from_All (λ (o : Objective). HasNodes o.tree) f.objectives m.trees.objectives)
+    (recursion_from_All (λ (o : Objective). IsTreeKnown c.n_var f.definitions o.tree) f.objectives file.objectives.known))
+    (each_within (λ (o : Objective). tree_size o.tree) f.objectives (2 ^ 22) (omega (arith, nodes)))) in
     let terms = numbered (λ ts. AreTermsBelow c.n_var ts × (length ts ≤ most_terms)) (term_piece (codes "J")) (2 ^ 20) 0 f.terms (λ i ts lt h. row_short 74 c.n_var i ts k.variables lt h) (omega (arith, file.terms.rows, k.constraints))
-        (two (AreTermsBelow c.n_var) (λ ts. length ts ≤ most_terms) f.terms (recursion_from_All (AreTermsBelow c.n_var) f.terms file.terms.terms_below) (each_within (length {A = Term}) f.terms most_terms file.terms.few_terms)) in
+    (two (AreTermsBelow c.n_var) (λ ts. length ts ≤ most_terms) f.terms (recursion_from_All (AreTermsBelow c.n_var) f.terms file.terms.terms_below) (each_within (length {A = Term}) f.terms most_terms file.terms.few_terms)) in
     let slopes = numbered (λ ts. AreTermsBelow c.n_var ts × (length ts ≤ most_terms)) (term_piece (codes "G")) (2 ^ 20) 0 f.slopes (λ i ts lt h. row_short 71 c.n_var i ts k.variables lt h) (omega (arith, file.terms.costs, k.objectives))
-        (two (AreTermsBelow c.n_var) (λ ts. length ts ≤ most_terms) f.slopes (recursion_from_All (AreTermsBelow c.n_var) f.slopes file.terms.slopes_below) (recursion_from_All (λ ts. length ts ≤ most_terms) f.slopes file.terms.few_slopes)) in
+    (two (AreTermsBelow c.n_var) (λ ts. length ts ≤ most_terms) f.slopes (recursion_from_All (AreTermsBelow c.n_var) f.slopes file.terms.slopes_below) (recursion_from_All (λ ts. length ts ≤ most_terms) f.slopes file.terms.few_slopes)) in
     let a1 = all_append IsShort _ _ suffixes definitions in
     let a2 = all_append IsShort _ _ a1 bodies in
     let a3 = all_append IsShort _ _ a2 objectives in

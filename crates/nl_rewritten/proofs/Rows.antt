@@ -1,9 +1,8 @@
 -- Rows without a fault keep what a written file needs: good heads, nodes that use what is there, whole values where they are wanted, intervals in order, and the limits of numbers.
-use Rattle.std.proofs.Common.{◌≡◌, ◌∙◌, ℕ, zero, suc, ◌+◌, ◌<◌, ◌≤◌, ◌^◌, ◌==◌, Bool, true, false, not, ◌&&◌, ◌||◌, cond, ℤ, List, [], ◌∷◌, ◌++◌, length, get_or, refl, sym, ap, subst, arith, nat_lt, nat_le, Option, Some, None, All, append_assoc, length-append}
-use Rattle.std.specs.Prelude.{IfSome, is_none, unwrap_or, codes, IsTrue}
+use Rattle.std.proofs.Common.{◌≡◌, ◌∙◌, ℕ, ◌+◌, ◌<◌, ◌≤◌, ◌^◌, ◌==◌, Bool, true, false, not, ◌&&◌, ◌||◌, cond, ℤ, List, [], ◌∷◌, ◌++◌, length, get_or, refl, sym, ap, subst, arith, nat_lt, nat_le, Option, Some, None, All, append_assoc, length-append}
+use Rattle.std.specs.Prelude.{IfSome, is_none, unwrap_or}
 use Rattle.std.specs.List.{cons_option}
 use Rattle.std.specs.Option.{option_map_or}
-use Rattle.std.specs.Str.{bytes_eq}
 use Rattle.std.proofs.lemmas.Bool.{leb-false, ltb-true, ltb-false, not-false}
 use Rattle.std.proofs.lemmas.List.{map-append, get_or_append_left, get_or_push}
 use Rattle.std.proofs.lemmas.List.Elements.{All-push, All-append, filter_map-append}
@@ -15,15 +14,14 @@ use Rattle.exact_numbers.specs.Numbers.{dec_of, is_whole, whole_of}
 use Rattle.nl_model.specs.declared.counts.Counts.{Counts}
 use Rattle.nl_model.specs.declared.interval.Interval.{Interval}
 use Rattle.nl_model.specs.declared.node.Node.{Node}
-use Rattle.nl_model.specs.declared.node.Node.TheVariants.{Op}
 use Rattle.nl_model.specs.Draft.{Draft}
-use Rattle.nl_model.specs.File.{Term, Definition}
+use Rattle.nl_model.specs.File.{Term}
 use Rattle.nl_model.specs.Kinds.{kind_of}
 use Rattle.nl_model.specs.Rules.{IsOrdered, most_terms}
 use Rattle.nl_segments.specs.declared.awaited.Awaited.{Awaited}
 use Rattle.nl_segments.specs.declared.awaited.Awaited.TheVariants.{Nothing, Pair, ColumnCount, Interval as IntervalLine, Node as NodeLine, OperandCount}
 use Rattle.nl_segments.specs.declared.head.Head.{Head}
-use Rattle.nl_segments.specs.declared.head.Head.TheVariants.{Body, Objective, Definition as DefinitionHead, DualGuesses, PrimalGuesses, Sides, Bounds, ColumnCounts, Terms, Slopes, Suffix}
+use Rattle.nl_segments.specs.declared.head.Head.TheVariants.{Body, Objective, Definition as DefinitionHead, Sides, Bounds, ColumnCounts}
 use Rattle.nl_segments.specs.declared.fault.NlReason.TheVariants.{ShortSegment, RepeatedIndex, TooLarge}
 use Rattle.nl_segments.specs.Rows.{Row, row_words}
 use Rattle.nl_segments.specs.Heads.{is_head, head_of, name_in}

@@ -1,5 +1,5 @@
 -- What complete pieces say, one after the other.
-use Rattle.std.proofs.Common.{◌≡◌, ◌∙◌, ℕ, ◌+◌, ◌<◌, ◌≤◌, Bool, true, false, ◌&&◌, ℤ, List, [], ◌∷◌, ◌++◌, length, get_or, refl, sym, ap, subst, arith, nat_le, nat_lt, slice_set, Some, append_assoc, append-nil}
+use Rattle.std.proofs.Common.{◌≡◌, ◌∙◌, ℕ, ◌+◌, ◌<◌, ◌≤◌, Bool, true, ℤ, List, [], ◌∷◌, ◌++◌, refl, sym, ap, subst, nat_le, nat_lt, slice_set, Some, append_assoc, append-nil}
 use Rattle.std.proofs.lemmas.Bool.{ltb-true, leb-true}
 use Rattle.exact_numbers.proofs.Bridge.{and_true}
 use Rattle.nl_model.specs.declared.counts.Counts.{Counts}
@@ -9,7 +9,7 @@ use Rattle.nl_segments.specs.declared.head.Head.{Head}
 use Rattle.nl_segments.specs.declared.head.Head.TheVariants.{Body, Objective, Definition, DualGuesses, PrimalGuesses, Sides, Bounds, ColumnCounts, Terms, Slopes, Suffix}
 use Rattle.nl_segments.specs.Heads.{is_in_range}
 use Rattle.nl_segments.specs.Pieces.{Piece, is_complete, piece_intervals, piece_pairs}
-use Rattle.nl_segments.specs.Saying.{draft_of, if_complete, piece_tree, said_by, with_piece, with_terms}
+use Rattle.nl_segments.specs.Saying.{draft_of, if_complete, piece_tree, said_by, with_terms}
 use Rattle.nl_segments.proofs.DraftLemmas.{draft_counts}
 use Rattle.nl_segments.proofs.PieceLemmas.{draft-append}
 use Rattle.nl_rewritten.proofs.Texts.{AreSteps, IsStep}

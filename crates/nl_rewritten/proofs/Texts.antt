@@ -1,5 +1,5 @@
 -- What a text without a fault says: its header, and its pieces one after the other.
-use Rattle.std.proofs.Common.{◌≡◌, ◌∙◌, ℕ, ◌+◌, ◌<◌, ◌≤◌, ◌^◌, ◌==◌, Bool, true, false, not, ◌&&◌, cond, ℤ, List, [], ◌∷◌, ◌++◌, length, get_or, take, drop, refl, sym, ap, subst, arith, nat_lt, Option, Some, None, All, append_assoc, append-nil, length-append}
+use Rattle.std.proofs.Common.{◌≡◌, ◌∙◌, ℕ, ◌+◌, ◌<◌, ◌≤◌, ◌^◌, Bool, true, false, ℤ, List, [], ◌∷◌, ◌++◌, length, get_or, take, drop, refl, sym, ap, subst, arith, Option, Some, None, All, append_assoc, append-nil, length-append}
 use Rattle.std.specs.Prelude.{IsSome, AllPairs, IsTrue, option_map, filter, sum_by}
 use Rattle.std.specs.List.{list_all, list_any}
 use Rattle.std.specs.Option.{option_or}
@@ -25,13 +25,12 @@ use Rattle.nl_header.proofs.ReaderLemmas.{clean-more}
 use Rattle.nl_model.specs.declared.counts.Counts.{Counts}
 use Rattle.nl_model.specs.HeaderRules.{are_definitions_within, is_header}
 use Rattle.nl_model.specs.Rules.{term_count}
-use Rattle.nl_segments.specs.declared.fault.NlReason.{NlReason}
 use Rattle.nl_segments.specs.declared.head.Head.{Head}
 use Rattle.nl_segments.specs.Rows.{Row, holds_words, rows_from}
 use Rattle.nl_segments.specs.Pieces.{Piece, is_complete, piece_pairs, pieces_of}
 use Rattle.nl_segments.specs.Saying.{draft_of}
 use Rattle.nl_segments.specs.Tests.{end_tests, is_linear, is_same_piece, pair_total}
-use Rattle.nl_segments.specs.Grammar.{Standing, counts_of, end_refusal, header_refusal, is_in_header, line_refusal, nl_rules, reason_of, said, standing}
+use Rattle.nl_segments.specs.Grammar.{Standing, counts_of, end_refusal, is_in_header, line_refusal, nl_rules, reason_of, said, standing}
 use Rattle.nl_segments.specs.Held.{AreSound, IsSoundPiece}
 use Rattle.nl_segments.specs.Steps.{after}
 use Rattle.nl_segments.proofs.CleanRows.{IsRunning}

@@ -1,5 +1,5 @@
 -- The expressions of a text without a fault: formed, within what is there, and few nodes.
-use Rattle.std.proofs.Common.{◌≡◌, ◌∙◌, ℕ, zero, suc, ◌+◌, ◌<◌, ◌≤◌, ◌^◌, ◌==◌, Bool, true, false, ◌||◌, ◌&&◌, cond, ℤ, List, [], ◌∷◌, ◌++◌, length, get_or, map, refl, sym, ap, subst, arith, nat_lt, slice_set, Option, Some, None, All, append_assoc, append-nil, length-append}
+use Rattle.std.proofs.Common.{◌≡◌, ◌∙◌, ℕ, zero, suc, ◌+◌, ◌<◌, ◌≤◌, ◌^◌, ◌==◌, Bool, true, false, ◌||◌, cond, ℤ, List, [], ◌∷◌, ◌++◌, length, refl, sym, ap, subst, arith, nat_lt, slice_set, Option, Some, None, All, append_assoc, append-nil}
 use Rattle.std.proofs.Math.ListN.{length-set}
 use Rattle.std.specs.Prelude.{IfSome, sum_by, replicate}
 use Rattle.std.specs.List.{list_any}
@@ -13,10 +13,10 @@ use Rattle.nl_meaning.specs.Trees.{Tree, number, variable, defined, operator, Tr
 use Rattle.nl_model.specs.declared.counts.Counts.{Counts}
 use Rattle.nl_model.specs.declared.node.Node.{Node}
 use Rattle.nl_model.specs.Draft.{Draft}
-use Rattle.nl_model.specs.File.{Term, Objective, Definition}
+use Rattle.nl_model.specs.File.{Objective, Definition}
 use Rattle.nl_model.specs.HeaderRules.{defined_count}
-use Rattle.nl_model.specs.Nodes.{awaited, tree_of, IsPrefix, a_number, a_variable, a_defined, an_operation, ArePrefixes, no_tree, one_more, IsTreeFormed, AreTreesFormed}
-use Rattle.nl_model.specs.Rules.{is_defined, IsTreeWithin, AreTreesWithin, IsTreeKnown, IsDefinition, AreDefinitions, AreTermsBelow, most_terms}
+use Rattle.nl_model.specs.Nodes.{awaited, IsPrefix, a_number, a_variable, a_defined, an_operation, ArePrefixes, no_tree, one_more, IsTreeFormed, AreTreesFormed}
+use Rattle.nl_model.specs.Rules.{is_defined, IsTreeWithin, AreTreesWithin, IsTreeKnown, IsDefinition, AreDefinitions, AreTermsBelow}
 use Rattle.nl_model.proofs.Prefixes.{prefix_of_run}
 use Rattle.nl_segments.specs.declared.awaited.Awaited.TheVariants.{Nothing}
 use Rattle.nl_segments.specs.declared.head.Head.{Head}
@@ -26,7 +26,6 @@ use Rattle.nl_segments.specs.Nodes.{Placed, only_nodes}
 use Rattle.nl_segments.specs.Pieces.{Piece, awaited_in, has_tree, is_complete, is_nothing, line_count, line_kind, piece_nodes, piece_pairs, piece_pending, tree_awaits}
 use Rattle.nl_segments.specs.Saying.{draft_of, piece_tree}
 use Rattle.nl_segments.specs.Tests.{index_limit, is_linear, is_same_piece, node_total}
-use Rattle.nl_segments.specs.Held.{IsNodeKnown}
 use Rattle.nl_segments.proofs.FreshLaw.{fresh_definition}
 use Rattle.nl_segments.proofs.HeadBegun.{some_line}
 use Rattle.nl_segments.proofs.LinesHeld.{tree_part}
@@ -36,7 +35,7 @@ use Rattle.nl_segments.proofs.TreeLaw.{tree_within}
 use Rattle.nl_round_trip.specs.Writable.{HasNodes}
 use Rattle.nl_round_trip.proofs.TreeNodes.{nodes-size}
 use Rattle.nl_rewritten.proofs.Heads.{IsGoodHead}
-use Rattle.nl_rewritten.proofs.Said.{body_in, definition_in, objective_in, range_of, said_all, said_whole}
+use Rattle.nl_rewritten.proofs.Said.{definition_in, range_of, said_all, said_whole}
 use Rattle.nl_rewritten.proofs.Texts.{AreSteps, IsStep}
 
 -- ---- the tree of a piece
@@ -158,9 +157,9 @@ nothing_new c before p ds bodies os h =
       few = let more = nodes-append c before p in omega (arith, more, h.few);
     }
 
-body_given : (o : List ℤ) (c : Counts) (before : List Piece) (p : Piece) (i : ℕ) (ds : List Definition) (bodies : List (Option Tree)) (os : List (Option Objective)) → IsGoodTree c.n_var ds (length (piece_nodes c p)) (piece_tree c p)
+body_given : (c : Counts) (before : List Piece) (p : Piece) (i : ℕ) (ds : List Definition) (bodies : List (Option Tree)) (os : List (Option Objective)) → IsGoodTree c.n_var ds (length (piece_nodes c p)) (piece_tree c p)
     → AreTreesKept c before ds bodies os → AreTreesKept c (before ++ p ∷ []) ds (slice_set bodies i (Some (piece_tree c p))) os
-body_given o c before p i ds bodies os t h =
+body_given c before p i ds bodies os t h =
     record {
       definitions = h.definitions;
       body_count = length-set bodies i (Some (piece_tree c p)) ∙ h.body_count;
@@ -220,7 +219,7 @@ Kept c pieces d = AreTreesKept c pieces d.definitions d.bodies d.objectives
 one_piece : (o : List ℤ) (c : Counts) (before : List Piece) (p : Piece) → IsStep o c before p → Kept c before (draft_of o c before) → (h : Head) → p.head ≡ h → Kept c (before ++ p ∷ []) (said_whole c (draft_of o c before) p h)
 one_piece o c before p s k (Body i) e =
     let d = draft_of o c before in
-    body_given o c before p i d.definitions d.bodies d.objectives (good_tree o c before p (Body i) s e refl) k
+    body_given c before p i d.definitions d.bodies d.objectives (good_tree o c before p (Body i) s e refl) k
 one_piece o c before p s k (ObjectiveHead i m) e =
     let d = draft_of o c before in
     objective_given c before p i m d.definitions d.bodies d.objectives (good_tree o c before p (ObjectiveHead i m) s e refl) k

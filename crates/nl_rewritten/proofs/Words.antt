@@ -1,10 +1,10 @@
 -- No word of a line without its comment begins with `#`, and numbers of words are small.
-use Rattle.std.proofs.Common.{◌≡◌, ◌∙◌, ℕ, zero, suc, ◌^◌, ◌<◌, ◌==◌, Bool, true, false, ◌&&◌, cond, ℤ, List, [], ◌∷◌, drop, take, refl, sym, ap, subst, arith, Option, Some, None, nat_lt}
-use Rattle.std.specs.Prelude.{slice_index, slice_index_or, unwrap_or}
+use Rattle.std.proofs.Common.{◌≡◌, ◌∙◌, ℕ, zero, suc, ◌^◌, ◌<◌, ◌==◌, Bool, true, false, ◌&&◌, cond, ℤ, List, [], ◌∷◌, drop, take, refl, sym, subst, Option, Some, None, nat_lt}
+use Rattle.std.specs.Prelude.{slice_index}
 use Rattle.std.specs.List.{AllByRecursion, list_all, filter_map, cons_option}
 use Rattle.std.specs.Str.Parse.{digits_value, signed_digits_value, without_leading_sign}
 use Rattle.std.proofs.lemmas.Bool.{ltb-true}
-use Rattle.text_base.specs.Words.{is_blank, onto_word, ends_word, words_of, row_of, word_at, up_to_comment, without_comment}
+use Rattle.text_base.specs.Words.{is_blank, ends_word, words_of, row_of, word_at, up_to_comment, without_comment}
 use Rattle.exact_numbers.specs.Numbers.{are_digits, has_31_bits, whole_of, signed_of}
 use Rattle.exact_numbers.proofs.Bridge.{and_true}
 

@@ -6,7 +6,7 @@ pub fn what_is_read_is_writable()
     ensures { ReadIsWritable }
 {}
 
-/// What is written of a file that a text says is a text that says the same file, unless it is too long.
+/// What is written of a file that a text says is a text that says this file, unless too long.
 pub fn what_is_read_is_written_again()
     ensures { ReadIsWrittenAgain }
 {}
