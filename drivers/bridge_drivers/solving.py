@@ -20,12 +20,14 @@ from .values import BadValue
 
 @dataclass
 class Result:
-    """A message, its .sol (None: one without values is to be made), and what wantsol prints."""
+    """A message, its .sol (None: one without values is to be made), what wantsol prints, and the
+    figures of a branch proof."""
 
     code: Code
     lines: list[str]
     sol: bytes | None = None
     answer: Answer | None = None
+    figures: str = ""
 
 
 class Solving:
@@ -37,7 +39,6 @@ class Solving:
                  solver_path: str, folder: str) -> None:
         self.solver, self.options, self.bridge, self.clock = solver, options, bridge, clock
         self.nl, self.solver_path, self.folder = nl, solver_path, folder
-        self.figures = ""               # of a branch proof
 
     def result(self) -> Result:
         """The outcome. Failure where there is none."""
@@ -128,22 +129,32 @@ class Solving:
         else:
             settled = certifier.settle(answer, sol, lines)
             last, answer, sol = settled.line, settled.answer, settled.sol
-        ends = [last]
+        ends, figures = [last], ""
         if self.options.prove and self.options.check:
-            ends = self.branched(certifier, outcome, settled, last)
-        return Result(outcome.code, lines + answer.notes() + ends, sol, answer)
+            ends, figures = self.branched(certifier, outcome, settled, last)
+        return Result(outcome.code, lines + answer.notes() + ends, sol, answer, figures)
 
     def branched(self, certifier: Certifier, outcome: Outcome, settled: Settled | None,
-                 last: str) -> list[str]:
-        """The last lines with that of a branch proof, which is kept where `proof` says."""
+                 last: str) -> tuple[list[str], str]:
+        """The last lines with that of a branch proof, which is kept where `proof` says, and its
+        figures."""
         from .branching.after_solve import AfterSolve
         after = AfterSolve(certifier, "bridge-" + self.solver.program)
-        lines = after.lines(outcome.code, settled, last)
-        if after.result is not None:
-            self.figures = after.result.figures()
-            if self.options.outlev:
-                print(f"branch proof: {self.figures}", flush=True)
-            if self.options.proof and after.result.claim is not None:
+        try:
+            lines = after.lines(outcome.code, settled, last)
+        except (ArithmeticError, AssertionError, LookupError, TypeError, ValueError) as fault:
+            if self.options.outlev >= 2:
+                raise
+            return [last, f"not proved: a fault of the driver: {fault!r}"], ""  # the answer stands
+        result = after.result
+        if result is None:
+            return lines, ""
+        if self.options.outlev:
+            print(f"branch proof: {result.figures()}", flush=True)
+        if self.options.proof and result.kept():
+            try:
                 with open(self.options.proof, "w", encoding="utf-8") as f:
-                    f.write(after.result.text)
-        return lines
+                    f.write(result.kept())
+            except OSError as fault:
+                lines.insert(0, f"the proof is not kept: {self.options.proof}: {fault.strerror}")
+        return lines, result.figures()

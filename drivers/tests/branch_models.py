@@ -97,6 +97,6 @@ BRANCHED = {
     "thirds_duals": Branched(nl([real(0, 9), whole(0, 3)],
                                 [(3, None, {0: 3, 1: 1}), (None, 1, {1: 2})],
                                 [("min", 0, {0: 1, 1: "0.5"})]), F(1), "near", 1,
-                             "proved to 9 digits: none is better than 0.9999999901 (not exactly: "
+                             "proved to 9 digits: none is better than 0.9999999951 (not exactly: "
                              "the duals are fractions that no decimal holds)"),
 }

@@ -236,4 +236,4 @@ class Parts(Case):
         self.assertEqual(Result(F(3), why="time").line(True), "not proved: time")
         self.assertEqual(Result(None, Claim(Mode.INFEASIBLE)).line(True), "proved infeasible")
         self.assertTrue(re.match("proved to 9 digits", Result(
-            F(1), Claim(Mode.NEAR), F("0.9999999901")).line(True)))
+            F(1), Claim(Mode.NEAR), F("0.9999999951")).line(True)))

@@ -3,6 +3,7 @@
 from __future__ import annotations
 
 from fractions import Fraction
+from typing import NamedTuple
 
 from ..answer import Answer
 from ..bridge import Refused
@@ -20,11 +21,18 @@ from .watch import Watch
 
 SECONDS = 60.0                  # where timelim says nothing
 NOT_PROVED = "not proved: "
+LONG = 30                       # characters of a fraction that is told
 
 
-def vertex_answer(job: Job, answer: Answer) -> Answer | None:
-    """The answer moved to the exact best point with the same whole variables, where there are
-    others and its values are decimals."""
+class Vertex(NamedTuple):
+    """A point in fractions, by position of the program's columns."""
+
+    program: IntegerProgram
+    x: list[Fraction]
+
+
+def vertex_of(job: Job, answer: Answer) -> Vertex | None:
+    """The exact best point that has the answer's whole variables, where there are others."""
     try:
         program = IntegerProgram(job.program.text)
         if all(program.whole) or answer.values is None:
@@ -32,10 +40,21 @@ def vertex_answer(job: Job, answer: Answer) -> Answer | None:
         x = point.vertex(program, [float(answer.values[name]) for name in program.names])
     except (Unfit, NoEngine, OverflowError):
         return None
-    texts = [] if x is None else [exact_decimal(value) for value in x]
-    if not texts or None in texts:
+    return None if x is None else Vertex(program, x)
+
+
+def vertex_answer(job: Job, answer: Answer) -> Answer | None:
+    """The answer moved to that point, where its values are decimals."""
+    vertex = vertex_of(job, answer)
+    if vertex is None or answer.values is None:
         return None
-    values = dict(zip(program.names, texts))
+    program, x = vertex
+    values = {}
+    for name, value in zip(program.names, x):
+        text = exact_decimal(value)
+        if text is None:
+            return None
+        values[name] = text
     if "z" in answer.values:
         z = exact_decimal(point.objective(program, x))
         if z is None:
@@ -77,12 +96,27 @@ class AfterSolve:
             if settled is None:
                 return [last, self.proved(prover, None)]
             if not last.startswith("certified"):
-                return [last, NOT_PROVED + "the point is not certified"]
+                return [last, self.of_fractions(prover, settled.answer)]
             if not self.job.program.has_objective():
                 return [last]
             return self.of_point(prover, settled)
         except (Unfit, NoEngine) as fault:
             return [last, NOT_PROVED + str(fault)]
+
+    def of_fractions(self, prover: Prover, answer: Answer) -> str:
+        """Of a point that is not certified: the vertex in fractions that it stands for has a
+        value too."""
+        vertex = vertex_of(self.job, answer)
+        if vertex is None:
+            return NOT_PROVED + "the point is not certified"
+        value = point.objective(*vertex)
+        line = self.proved(prover, value, is_reached=False)
+        if line.startswith(NOT_PROVED):
+            return line
+        told = shown(value)
+        if len(told) > LONG:
+            told = f"a value near {float(value):.12g}"
+        return f"{line}; that {told} is reached is {OWN}"
 
     def of_point(self, prover: Prover, settled: Settled) -> list[str]:
         """For a feasible point, whose value `bridge check` tells, if need be with other duals."""
@@ -112,7 +146,8 @@ class AfterSolve:
         except Refused:
             return None
 
-    def proved(self, prover: Prover, value: Fraction | None) -> str:
+    def proved(self, prover: Prover, value: Fraction | None, is_reached: bool = True) -> str:
         watch = Watch(self.job.options.timelim or SECONDS, self.name)
-        self.result = self.job.clock.timed("branch", prover.prove, value, watch)
-        return self.result.line(is_reached=True)
+        result: Result = self.job.clock.timed("branch", prover.prove, value, watch)
+        self.result = result
+        return result.line(is_reached)

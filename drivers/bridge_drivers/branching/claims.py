@@ -50,7 +50,7 @@ def claims(program: IntegerProgram, value: Fraction | None, wanted: str) -> list
         if short is not None:
             tried.append(Claim(Mode.ROUNDED, short, None, short))
     if wanted != "exact" and step is None or not tried:
-        room = digit(value, NEAR_DIGITS)
+        room = digit(value, NEAR_DIGITS) / 2
         short = just_above(value - room, room * STEP_SHARE)
         if short is not None:
             tried.append(Claim(Mode.NEAR, short, None, short))
@@ -80,8 +80,8 @@ def digit(value: Fraction, count: int) -> Fraction:
 
 
 def shared_digits(value: Fraction, near: Fraction) -> int:
-    """How many digits two values share: they differ by less than one unit of the last."""
+    """To how many digits two values agree: they differ by less than half a unit of the last."""
     count = 0
-    while abs(value - near) < digit(value, count + 1) and count < 30:
+    while abs(value - near) < digit(value, count + 1) / 2 and count < 30:
         count += 1
     return count

@@ -11,12 +11,12 @@ from typing import Sequence, TextIO
 
 from .. import VERSION, solvers
 from ..bridge import Bridge, Missing, Refused, find
-from ..codes import Failure, Status
+from ..codes import Code, Failure, Status
 from ..driver import BESIDE, Driver
 from ..job import Clock
 from ..options import BadOption, Option
 from ..program import Program
-from ..solving import Result, Solving
+from ..solving import Result
 from .engines import NoEngine
 from .integer_program import Unfit
 from .proving import Prover
@@ -50,18 +50,11 @@ OPTIONS = (
 class Finding(Driver):
     """The driver whose point is proved; its message is printed, and no .sol written."""
 
-    told: TextIO = sys.stdout
-
-    def work(self) -> Result:
-        def making(*words) -> Solving:
-            self.solving = Solving(*words)
-            return self.solving
-        self.make_solving = making
-        return super().work()
+    stream: TextIO = sys.stdout
 
     def deliver(self, result: Result) -> None:
-        self.lines = result.lines
-        print("\n".join(result.lines), file=self.told, flush=True)
+        self.result = result
+        print("\n".join(result.lines), file=self.stream, flush=True)
 
 
 class Command:
@@ -85,7 +78,7 @@ class Command:
             self.value = Fraction(value) if value and not self.is_infeasible else None
         except (ValueError, ZeroDivisionError):
             raise BadOption(f"value={value}: not a number") from None
-        self.told = sys.stderr if self.proof_path() == "-" else sys.stdout
+        self.stream = sys.stderr if self.proof_path() == "-" else sys.stdout
 
     def run(self) -> int:
         if not self.is_infeasible and self.value is None:
@@ -105,39 +98,39 @@ class Command:
                      f"timelim={self.options['timelim']:g}", "-e"]
             words += ["bridge=" + str(self.options["bridge"])] if self.options["bridge"] else []
             driver = Finding(str(self.options["driver"]))
-            driver.told = self.told
+            driver.stream = self.stream
             status = driver.main(words)
             if status == Status.DONE and path == "-":
                 with open(place, encoding="utf-8") as f:
                     sys.stdout.write(f.read())
         if status != Status.DONE:
             return status
-        self.stats(driver.solving.figures)
-        proved = driver.lines[-1].startswith(("proved ", "certified infeasible"))
+        self.stats(driver.result.figures)
+        proved = driver.result.lines[-1].startswith(("proved ", "certified infeasible"))
         return Status.DONE if proved else Status.FAILED
 
     def with_value(self, folder: str) -> int:
         o, nl = self.options, self.stub + ".nl"
         if not os.path.exists(nl):
-            raise Failure(Status.NO_FILE, f"{nl}: no such file", Status.NO_FILE)
+            raise Failure(Code.FILE, f"{nl}: no such file", Status.NO_FILE)
         bridge = Bridge(find(str(o["bridge"]), BESIDE), Clock(NAME).note)
         objective = int(o["objno"]) - 1
         words = ["export", nl] + ([str(objective)] if objective else [])
         prover = Prover(bridge, nl, folder, Program(bridge.text(*words)), objective)
         watch = Watch(float(o["timelim"]))
         result = prover.prove(self.value, watch, str(o["claim"]), int(o["nodes"]))
-        if result.claim is not None and self.proof_path() == "-":
-            sys.stdout.write(result.text)
-        elif result.claim is not None:
+        if self.proof_path() == "-":
+            sys.stdout.write(result.kept())
+        elif result.kept():
             with open(self.proof_path(), "w", encoding="utf-8") as f:
-                f.write(result.text)
-        print(result.line(is_reached=False), file=self.told)
+                f.write(result.kept())
+        print(result.line(is_reached=False), file=self.stream)
         self.stats(result.figures())
         return Status.DONE if result.claim is not None else Status.FAILED
 
     def stats(self, figures: str) -> None:
         if self.options["stats"] and figures:
-            print(figures, file=self.told)
+            print(figures, file=self.stream)
 
     def proof_path(self) -> str:
         return str(self.options["proof"]) or self.stub + ".proof"

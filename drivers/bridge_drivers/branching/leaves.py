@@ -146,16 +146,16 @@ class Closer:
     def close(self, duals: Mapping[int, Number], weights: bool, lo: Bounds, hi: Bounds,
               digits: Iterable[int] = DIGITS) -> Closed | None:
         """The shortest rounding that closes."""
-        y = {i: v for i, v in duals.items() if abs(v) > TINY}
-        most = max((abs(v) for v in y.values()), default=0)
+        y: Mapping[int, Number] = {i: v for i, v in duals.items() if abs(float(v)) > TINY}
+        most = max((abs(float(v)) for v in y.values()), default=0.0)
         if weights and not y:
             return None
         if weights:
             closed = self.small_weights(y, lo, hi)
             if closed is not None:
                 return closed
-            y = {i: v / most for i, v in y.items()}
-            most = 1
+            y = {i: float(v) / most for i, v in y.items()}
+            most = 1.0
         first = -math.floor(math.log10(most)) if most else 0
         for more in digits:
             closed = self.attempt(*self.rounded(y, first + more), weights, lo, hi)
@@ -165,11 +165,11 @@ class Closer:
 
     def small_weights(self, y: Mapping[int, Number], lo: Bounds, hi: Bounds) -> Closed | None:
         """Weights of a contradiction are often small whole numbers times a factor."""
-        sizes = [abs(v) for v in y.values()]
+        sizes = [abs(float(v)) for v in y.values()]
         if max(sizes) / min(sizes) >= SPREAD:
             return None
         for k in MULTIPLES:
-            scaled = {i: v * k / min(sizes) for i, v in y.items()}
+            scaled = {i: float(v) * k / min(sizes) for i, v in y.items()}
             closed = self.attempt(*self.rounded(scaled, 0), True, lo, hi)
             if closed is not None:
                 return closed

@@ -3,10 +3,11 @@
 from __future__ import annotations
 
 import os
+import time
 from dataclasses import dataclass
 from fractions import Fraction
 
-from ..bridge import Bridge, Refused
+from ..bridge import Bridge, Late, Refused
 from ..program import Program
 from ..sol import duals_of
 from ..values import exact_decimal
@@ -18,7 +19,7 @@ from .search import Better, Search
 from .watch import Stopped, Watch
 
 NEVER = "1e30"                  # a value worse than any; with `-` where it is maximised
-FIRST_SHARE = 1 / 3             # of the time, for a claim that is not the last one
+FIRST_SHARE = 1 / 3             # of the time, for an exact claim before a rounded one
 OWN = "the driver's own arithmetic"
 
 
@@ -35,7 +36,9 @@ class Result:
     tree: trees.Tree | None = None
     search: Search | None = None
     never: str = ""                 # the value that stands for infeasible, where one does
+    is_unjudged: bool = False       # a proof that there was no time to judge
     seconds: float = 0.0
+    processor: float = 0.0          # seconds of this process
 
     def line(self, is_reached: bool) -> str:
         """The message's line. `is_reached`: a point of exactly the value was checked."""
@@ -59,9 +62,13 @@ class Result:
             return f"none is better than {value} (bridge: than {stated}; {between})"
         return f"proved optimal: exactly {value}" if is_reached else f"none is better than {value}"
 
+    def kept(self) -> str:
+        """The text that is worth keeping: accepted, or not yet judged."""
+        return self.text if self.claim is not None or self.is_unjudged else ""
+
     def figures(self) -> str:
         """One line for people who look closer."""
-        told = f"{self.seconds:.2f} s"
+        told = f"{self.seconds:.2f} s ({self.processor:.2f} s of the processor)"
         if self.search is not None:
             told += f", {self.search.engine.solves} relaxations by {self.search.engine.name}"
         if self.tree is None or self.claim is None:
@@ -105,19 +112,19 @@ class Prover:
     def prove(self, value: Fraction | None, watch: Watch, wanted: str = "auto",
               most_nodes: int = trees.MOST_NODES) -> Result:
         """`value` in the file's own sense."""
-        result = Result(value)
+        result, began = Result(value), time.process_time()
         try:
-            factors = self.factors()
-            self.program.factor = [factors.get(i, 1) for i in self.program.constraint]
             with watch.interruptible():
+                factors = self.factors()
+                self.program.factor = [factors.get(i, 1) for i in self.program.constraint]
                 self.search(result, watch, wanted, most_nodes)
-            if result.tree is not None:
-                self.judged(result)
+                if result.tree is not None:
+                    self.judged(result, watch)
         except Refused as fault:
             result.claim, result.why = None, fault.line()
         except (Unfit, NoEngine) as fault:
             result.claim, result.why = None, str(fault)
-        result.seconds = watch.spent()
+        result.seconds, result.processor = watch.spent(), time.process_time() - began
         return result
 
     def search(self, result: Result, watch: Watch, wanted: str, most_nodes: int) -> None:
@@ -127,36 +134,45 @@ class Prover:
         if not tried:
             result.why = "the value has no decimal near it"
         for claim in tried:
-            is_last = claim is tried[-1]
-            watch.share = 1.0 if is_last else FIRST_SHARE
+            has_rounded = claim.mode is Mode.EXACT and tried[-1].mode is Mode.ROUNDED
+            watch.share = FIRST_SHARE if has_rounded else 1.0
             try:
                 result.search = Search(p, claim.target, watch, claim.objective, most_nodes)
                 result.tree, result.claim = result.search.run(), claim
                 return
             except Stopped as fault:
                 result.why = str(fault)
-                if watch.is_stopped:
+                if watch.is_over():
                     return
             except Better as fault:
                 result.why = f"a better point seems to exist, near {p.sign * fault.value:.10g}"
                 return
 
-    def judged(self, result: Result) -> None:
+    def judged(self, result: Result, watch: Watch) -> None:
         """The text, and what `bridge prove` says of it."""
-        claim, p = result.claim, self.program
-        assert claim is not None and result.tree is not None
+        claim, p, tree = result.claim, self.program, result.tree
+        assert claim is not None and tree is not None
         if claim.stated is not None:
             result.stated = p.sign * claim.stated
             words = f"value {self.objective} {exact_decimal(result.stated)}"
-        elif isinstance(result.tree, trees.Leaf):
+        elif trees.is_leaf(tree):
             words = "infeasible"
         else:
             never = ("-" if p.maximise else "") + NEVER
             words = f"value {self.objective} {never}"
             if self.text.has_objective():       # else nothing is worse than 0
                 result.never = never
-        result.text = trees.text(p, words, result.tree)
+        result.text = trees.text(p, words, tree)
         path = self.write("branch.proof", result.text)
-        verdict = self.bridge.verdict("prove", self.nl, path)
+        watch.note(f"bridge prove reads {len(result.text)} bytes")
+        self.bridge.limit = watch.left()
+        try:
+            verdict = self.bridge.verdict("prove", self.nl, path)
+        except Late:
+            result.claim, result.is_unjudged = None, True
+            result.why = "time: bridge prove was ended before its verdict"
+            return
+        finally:
+            self.bridge.limit = None
         if verdict != "proved":
             result.claim, result.why = None, f"bridge prove says `{verdict}`"

@@ -24,6 +24,7 @@ from .watch import Stopped, Watch
 
 NEAR = 1e-6                     # how near to a whole number counts as whole in doubles
 NEAR_GOAL = 1e-7                # of the goal: from here a leaf is tried
+FEASIBLE = 1e-9                 # rows that are missed by less in all count as met
 MOST_DEPTH = 4000
 NEAR_FRACTION = 1000            # the greatest denominator of fractions near weights in doubles
 FRACTIONS = "the duals are fractions that no decimal holds"
@@ -95,7 +96,7 @@ class Search:
         self.owner_hi: list[int | None] = [None] * program.n
         self.closer = Closer(program, target)
         self.engine = engines.engine(program.linear(target is not None))
-        self.phase_one = None
+        self.phase_one: engines.Engine | None = None
         self.constant = 0.0 if target is None else float(program.constant)
         self.goal = INFINITE if target is None else float(target)
         self.chooser = Chooser(self)
@@ -112,7 +113,7 @@ class Search:
         """The whole tree. Stopped where there is none, Better where the target is wrong."""
         for j in range(self.program.n):
             self.tell(j)
-        found: Union[Branch, Done, None] = self.visit(None)
+        found: Union[Branch, Done] = self.visit(None)
         while True:
             if isinstance(found, Branch):
                 self.open.append(found)
@@ -230,7 +231,7 @@ class Search:
 
     def branched(self, x: Sequence[Number], base: float, state: State) -> Done | Branch:
         fractional = [j for j, whole in enumerate(self.program.whole)
-                      if whole and abs(x[j] - round(x[j])) > NEAR]
+                      if whole and abs(float(x[j] - round(x[j]))) > NEAR]
         if fractional:
             choice = self.chooser.choose(x, fractional, base)
             return self.branch(choice.column, x[choice.column], choice.first(), base)
@@ -247,7 +248,7 @@ class Search:
 
     def unfixed(self) -> int | None:
         """A whole column to split where the relaxation is whole and yet did not close."""
-        best, column = (False, -1), None
+        best, column = (False, -INFINITE), None
         for j, whole in enumerate(self.program.whole):
             lo, hi = self.lo[j], self.hi[j]
             if whole and (lo is None or hi is None or lo < hi):
@@ -287,8 +288,8 @@ class Search:
 
     def by_contradiction(self) -> Done | None:
         """With weights, from a ray of the engine or from phase one."""
-        ray = self.engine.ray()
-        for sign in (1, -1) if ray is not None else ():
+        ray = self.engine.ray() or ()
+        for sign in (1, -1):
             weights = {i: sign * v for i, v in enumerate(ray)}
             closed = self.closer.close(weights, True, self.lo, self.hi)
             if closed is not None:
@@ -298,13 +299,14 @@ class Search:
     def by_phase_one(self) -> Done | None:
         """With the duals of the program that minimises by how much rows are missed."""
         p = self.program
-        if self.phase_one is None:
-            self.phase_one = engines.engine(p.linear(False).phase_one())
+        first = self.phase_one
+        if first is None:
+            first = self.phase_one = engines.engine(p.linear(False).phase_one())
         for j in range(p.n):
-            self.phase_one.bound(j, p.double(self.lo[j]), p.double(self.hi[j]))
-        if self.phase_one.solve() is not State.OPTIMAL or self.phase_one.objective() < 1e-9:
+            first.bound(j, p.double(self.lo[j]), p.double(self.hi[j]))
+        if first.solve() is not State.OPTIMAL or first.objective() < FEASIBLE:
             return None
-        weights = dict(enumerate(self.phase_one.duals()))
+        weights = dict(enumerate(first.duals()))
         closed = self.closer.close(weights, True, self.lo, self.hi)
         if closed is None:
             near = {i: Fraction(v).limit_denominator(NEAR_FRACTION) for i, v in weights.items()}

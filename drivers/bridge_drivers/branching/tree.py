@@ -41,6 +41,10 @@ class Split:
 Tree = Union[Leaf, Split]
 
 
+def is_leaf(tree: Tree) -> bool:
+    return isinstance(tree, Leaf)
+
+
 class Figures(NamedTuple):
     nodes: int
     leaves: int
