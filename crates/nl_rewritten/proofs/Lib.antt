@@ -1,0 +1,9 @@
+pub mod Words
+pub mod Heads
+pub mod Rows
+pub mod Texts
+pub mod Said
+pub mod Trees
+pub mod Parts
+pub mod Room
+pub mod Rewriting
