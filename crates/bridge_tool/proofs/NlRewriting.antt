@@ -5,7 +5,8 @@ use Rattle.nl_segments.specs.Reader.{IsNl}
 use Rattle.nl_segments.specs.declared.fault.NlFault.{NlFault}
 use Rattle.nl_segments.specs.Reader.{fault_of}
 use Rattle.nl_writer.specs.Written.{nl_text}
-use Rattle.bridge_tool.specs.Nl.{IsNlRewritten}
+use Rattle.nl_rewritten.proofs.Rewriting.{written_again}
+use Rattle.bridge_tool.specs.Nl.{IsNlMeant, IsNlRewritten}
 use Rattle.bridge_tool.specs.NlTold.{nl_line}
 use Rattle.bridge_tool.specs.Refusal.{HasTextRefusal}
 use Rattle.bridge_tool.proofs.Exporting.{clean_text, not_both, outcome_of_text, same_file, same_nl_line, same_places, value_of_text}
@@ -39,3 +40,7 @@ nl_decided = record {
   ];
   apart = λ text bytes line h k. nl_read.apart text h.value line h.read k;
 }
+
+-- what was read is writable, so that its written text says the same file
+pub nl_meant : (text : List ℕ) → IsNlMeant text
+nl_meant text = λ value read le. written_again text value read le
