@@ -15,3 +15,5 @@ mod mps_commands;
 mod sol_commands;
 #[cfg(test)]
 mod proof_commands;
+#[cfg(test)]
+mod return_commands;
