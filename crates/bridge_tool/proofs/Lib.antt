@@ -8,6 +8,7 @@ pub mod FoldPlaces
 pub mod Headline
 pub mod Importing
 pub mod Known
+pub mod Making
 pub mod Meaning
 pub mod MpsRewriting
 pub mod NlRewriting
@@ -18,4 +19,5 @@ pub mod Outcomes
 pub mod Returning
 pub mod SeveralFiles
 pub mod SolRewriting
+pub mod Summing
 pub mod Working

@@ -1,7 +1,8 @@
 -- What an answer for a file comes to: one outcome, and what the duals mean.
-use Rattle.std.proofs.Common.{◌≡◌, ◌∙◌, inl, inr, ◌⊎◌, ℕ, ◌+◌, ◌≤◌, List, Bool, true, false, Option, Some, None, Result, Ok, Err, refl, sym, ap, ap₂, subst, arith}
+use Rattle.std.proofs.Common.{◌≡◌, ◌∙◌, inl, inr, ◌⊎◌, ℕ, ◌+◌, ◌≤◌, List, Bool, true, false, [], Option, Some, None, is_some, Result, Ok, Err, refl, sym, ap, ap₂, subst, arith}
 use Rattle.std.specs.Prelude.{option_map, codes, IfOk, IsTrue}
 use Rattle.std.specs.Global.{Vec}
+use Rattle.std.specs.List.{list_any}
 use Rattle.linear_programs.specs.Linear.{Linear}
 use Rattle.text_base.specs.Desk.{Meaning, Texts}
 use Rattle.text_base.specs.Stopped.{IfFault}
@@ -10,6 +11,7 @@ use Rattle.text_base.specs.declared.stop.Stop.TheVariants.{Fault, Memory}
 use Rattle.text_base.specs.Judged.{HasOneOutcome}
 use Rattle.text_base.specs.Reading.{lines_of, last_of}
 use Rattle.text_base.proofs.JudgedLemmas.{one_outcome}
+use Rattle.exact_numbers.specs.declared.dec.Dec.{Dec}
 use Rattle.file_meaning.specs.FoldFaults.{fold_fault, has_objective, FoldFault as FileFault}
 use Rattle.file_meaning.specs.LinearFile.{linear_of}
 use Rattle.linear_fold.specs.FoldedFaults.{named_fault, step_bound}
@@ -26,7 +28,7 @@ use Rattle.sol_files.specs.Written.{sol_text}
 use Rattle.answer_file.specs.Grammar.{AnswerValue, answer_of, answer_rules, standing}
 use Rattle.answer_file.specs.Names.{Setting, setting_of}
 use Rattle.answer_file.specs.Reading.{IsAnswer}
-use Rattle.dual_return.specs.Return.{AreDualsIf, HasReturnFault, IsReturn}
+use Rattle.dual_return.specs.Return.{AreDualsIf, HasReturnFault, IsReturn, MeanTheProgram}
 use Rattle.dual_return.specs.declared.fault.ReturnFault.{ReturnFault}
 use Rattle.dual_return.proofs.LawOfReturn.{duals_mean}
 use Rattle.dual_return.proofs.OneReturn.{one-return}
@@ -154,11 +156,15 @@ module _ (nl : NlValue) (a : AnswerValue) (n : ℕ) (same : n ≡ a.objective) w
   pub most_so : (old new : ℕ) → new ≤ old + step_bound nl.file → (has_objective nl.file n ≡ false → new ≡ old) → new ≤ old + most_return_steps nl a
   most_so old new below none = steps_so (has_objective nl.file a.objective) old new (step_bound nl.file) below (λ e. none (ap (has_objective nl.file) same ∙ e))
 
--- the duals mean what the law of return says
-pub return_meant : (nl : NlValue) (a : AnswerValue) → IsFile nl.file → IsReturnMeant nl a
-return_meant nl a file = record {
-  duals = λ bytes r some. duals_mean nl.file a r.sol.duals file r.staged.folded (subst (λ (b : Bool). AreDualsIf b nl.file a r.sol.duals) some r.returned.duals);
-}
+-- the duals mean what the law of return says; where there are none, of each that is there
+mean_if : (nl : NlValue) (a : AnswerValue) (b : Bool) (duals : List Dec) → IsFile nl.file → fold_fault nl.file a.objective ≡ None → AreDualsIf b nl.file a duals → MeanTheProgram nl.file a duals
+mean_if nl a true duals file folded are = duals_mean nl.file a duals file folded are
+mean_if nl a false duals file folded are =
+    let none : MeanTheProgram nl.file a [] = record { plain = λ i d w xs is. absurd cc; tied = λ i d w xs z count is. absurd cc } in
+    subst (λ (ds : List Dec). MeanTheProgram nl.file a ds) (sym are) none
+
+return_meant : (nl : NlValue) (a : AnswerValue) → IsFile nl.file → IsReturnMeant nl a
+return_meant nl a file = λ bytes r. mean_if nl a (list_any is_some a.rows) r.sol.duals file r.staged.folded r.returned.duals
 
 holds_so : (nl : NlValue) (a : AnswerValue) (b : Bool) (bytes : List ℕ) → ReturnsAs nl a (Done b bytes) → b ≡ true
 holds_so nl a true bytes h = refl

@@ -7,6 +7,7 @@ pub mod Export
 pub mod Import
 pub mod ImportTold
 pub mod Fixed
+pub mod Make
 pub mod Mps
 pub mod MpsTold
 pub mod Nl

@@ -1,10 +1,9 @@
 -- The command return: the .sol file of an answer for an .nl file, and that its duals mean what the
 -- answer says.
-use Rattle.std.specs.Prelude.{◌≡◌, ◌⊎◌, ℕ, ◌+◌, ◌≤◌, true, false, List, is_some, if◌then◌else◌, Result, Ok, Err}
+use Rattle.std.specs.Prelude.{◌≡◌, ◌⊎◌, ℕ, ◌+◌, ◌≤◌, true, false, List, if◌then◌else◌, Result, Ok, Err}
 use Rattle.std.specs.Global.{Vec}
 use Rattle.text_base.specs.declared.stop.Stop.{Stop}
 use Rattle.text_base.specs.declared.stop.Stop.TheVariants.{Fault, Memory}
-use Rattle.std.specs.List.{list_any}
 use Rattle.std.specs.declared.option.Option.{Option}
 use Rattle.std.specs.declared.option.Option.TheVariants.{None, Some}
 use Rattle.text_base.specs.Desk.{Texts}
@@ -88,11 +87,9 @@ Makes nl a (Err Memory) = Unit {0}
 abbrev pub most_return_steps : NlValue → AnswerValue → ℕ
 most_return_steps nl a = if has_objective nl.file a.objective then step_bound nl.file else 0
 
--- What is written is the one .sol file of the answer, with every value under its own number; and
--- where duals are given, they mean at every point what the answer says of the exported program.
-pub record IsReturnMeant (nl : NlValue) (a : AnswerValue) : Type 0 where
-  pub duals : (bytes : List ℕ) (r : IsReturned nl a bytes) → list_any is_some a.rows ≡ true
-      → MeanTheProgram nl.file a r.sol.duals
+-- The duals that are written mean at every point what the answer says of the exported program.
+abbrev pub IsReturnMeant : NlValue → AnswerValue → Type 0
+IsReturnMeant nl a = (bytes : List ℕ) (r : IsReturned nl a bytes) → MeanTheProgram nl.file a r.sol.duals
 
 -- ---- the promise
 
