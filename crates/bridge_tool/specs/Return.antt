@@ -1,5 +1,5 @@
 -- The command return: the .sol file of an answer for an .nl file, and that its duals mean what the
--- answer says.
+-- answer says. The answer is the second file; all other faults are told as of the first.
 use Rattle.std.specs.Prelude.{◌≡◌, ◌⊎◌, ℕ, ◌+◌, ◌≤◌, true, false, List, if◌then◌else◌, Result, Ok, Err}
 use Rattle.std.specs.Global.{Vec}
 use Rattle.text_base.specs.declared.stop.Stop.{Stop}
@@ -89,7 +89,8 @@ most_return_steps nl a = if has_objective nl.file a.objective then step_bound nl
 
 -- The duals that are written mean at every point what the answer says of the exported program.
 abbrev pub IsReturnMeant : NlValue → AnswerValue → Type 0
-IsReturnMeant nl a = (bytes : List ℕ) (r : IsReturned nl a bytes) → MeanTheProgram nl.file a r.sol.duals
+IsReturnMeant nl a = (bytes : List ℕ) (r : IsReturned nl a bytes)
+    → MeanTheProgram nl.file a r.sol.duals
 
 -- ---- the promise
 
