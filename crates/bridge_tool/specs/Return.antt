@@ -45,7 +45,7 @@ pub record IsStaged (nl : NlValue) (a : AnswerValue) : Type 0 where
   pub folded : fold_fault nl.file a.objective ≡ None
   pub scaled : HasNoScaleFault (linear_of nl.file a.objective)
 
--- the answer is returned as a .sol file, whose written text are these bytes
+-- the answer is returned as a .sol file, the written text of which is these bytes
 pub record IsReturned (nl : NlValue) (a : AnswerValue) (bytes : List ℕ) : Type 0 where
   pub staged : IsStaged nl a
   pub sol : Sol
