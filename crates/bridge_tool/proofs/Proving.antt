@@ -71,7 +71,6 @@ prove_sound nl proof texts =
 
 -- ---- what the code answers
 
-
 yes_of : (v : ProofVerdict) → is_none (fault_of v) ≡ true → v ≡ Yes
 yes_of Yes e = refl
 yes_of (RowSide leaf row) e = absurd cc

@@ -25,12 +25,7 @@ use std::alloc::{AllocError, Global};
 use text_base::{Desk, Ledger, Steps, Stop};
 
 // The summary of the program of a scaled one, which has so many variables and exported rows.
-fn sum_up(
-    alloc: Global,
-    scaled: Scaled,
-    variables: u32,
-    rows: usize,
-) -> Result<Vec<u8>, AllocError>
+fn sum_up(alloc: Global, scaled: Scaled, variables: u32, rows: usize) -> Result<Vec<u8>, AllocError>
     ensures { IfOk result (λ out. IsSummedUp variables rows (exported_as scaled) out.items) }
 {
     let mps = program(alloc, &scaled)?;

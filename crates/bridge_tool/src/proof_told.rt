@@ -33,11 +33,7 @@ fn proof_reason_text(reason: ProofReason) -> &'static [u8]
 }
 
 /// The line of a fault of a proof text, which is this file of its command.
-pub(crate) fn proof_line(
-    alloc: Global,
-    file: u32,
-    fault: ProofFault,
-) -> Result<Vec<u8>, AllocError>
+pub(crate) fn proof_line(alloc: Global, file: u32, fault: ProofFault) -> Result<Vec<u8>, AllocError>
     ensures { IfOk result (λ line. line.items ≡ proof_line file fault) }
 {
     refusal(
