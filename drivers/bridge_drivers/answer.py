@@ -75,6 +75,12 @@ class Answer:
         other.costs, other.lines = None, None
         return other
 
+    def with_values(self, values: Mapping[str, str]) -> Answer:
+        """Other values, and so no duals."""
+        other = self.without_duals()
+        other.values, other.apart = dict(values), 0
+        return other
+
     def objective(self) -> str | None:
         """The objective for the message: the solver's fraction, else a double of 10 digits at
         the written values."""

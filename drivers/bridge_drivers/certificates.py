@@ -6,6 +6,7 @@ that the .sol has, else `not certified: ..` with the reason, and nothing between
 
 from __future__ import annotations
 
+from fractions import Fraction
 from typing import Iterator, NamedTuple
 
 from . import weights
@@ -18,12 +19,26 @@ from .values import plain
 WITHOUT = "not certified: "
 
 
+NEAR = " (values within 1e-9 of the solver's)"
+VERTEX = " (values of the exact vertex with the same whole variables)"
+
+
 class Settled(NamedTuple):
-    """The line, and the answer that it speaks of with its .sol."""
+    """The line, and the answer that it speaks of with its .sol. `value` is its exact objective,
+    where a verdict tells it."""
 
     line: str
     answer: Answer
     sol: bytes
+    value: Fraction | None = None
+
+
+class Try(NamedTuple):
+    """An answer to be checked, the name of its files, and what is said of it."""
+
+    name: str
+    answer: Answer
+    remark: str = ""
 
 
 class Certifier:
@@ -55,7 +70,7 @@ class Certifier:
         as the decimal of 9 places that lies within 1e-9 of it."""
         first = ""
         try:
-            for name, tried in self.tries(answer):
+            for name, tried, remark in self.tries(answer):
                 optimal = self.linear and tried.duals is not None
                 if not optimal:         # `check` wants duals: zeros ask for feasibility alone
                     zeros = dict.fromkeys(self.program.constraints, "0")
@@ -66,26 +81,36 @@ class Certifier:
                 first = first or verdict
                 if not self.is_good(verdict, tried, optimal):
                     continue
-                line = self.proved(verdict) + self.bounded(tried, verdict, message)
-                if tried is answer:
-                    return Settled(line, answer, sol)
-                line += " (values within 1e-9 of the solver's)"
-                return Settled(line, tried, self.returned(tried, message, name))
+                line = self.proved(verdict) + self.bounded(tried, verdict, message) + remark
+                if tried is not answer:
+                    sol = self.returned(tried, message, name)
+                return Settled(line, tried, sol, self.value(verdict))
             return Settled(WITHOUT + self.reason(answer, first), answer, sol)
         except Refused as fault:
             return Settled(WITHOUT + fault.line(), answer, sol)
 
-    def tries(self, answer: Answer) -> Iterator[tuple[str, Answer]]:
-        """The answer and then its second form, where it has one and anything can be claimed,
-        each with the name of its files."""
+    def tries(self, answer: Answer) -> Iterator[Try]:
+        """The answer and then its second form, where it has one and anything can be claimed.
+        Before a proof the exact vertex comes first: its value is what can be proved."""
         if answer.loose:
             return
-        yield "bridge", answer
+        if self.job.options.prove and not self.linear:
+            from .branching.after_solve import vertex_answer
+            vertex = vertex_answer(self.job, answer)
+            if vertex is not None and vertex.values != answer.values:
+                yield Try("vertex", vertex, VERTEX)
+        yield Try("bridge", answer)
         if not self.exact:
             second = Answer(self.program, answer.outcome, self.job.options, snap=True)
             second = second if answer.duals is not None else second.without_duals()
             if not second.is_same(answer):
-                yield "second", second
+                yield Try("second", second, NEAR)
+
+    @staticmethod
+    def value(verdict: str) -> Fraction | None:
+        """The exact objective, where a verdict tells it."""
+        words = verdict.split()
+        return Fraction(words[1]) if words[0] in ("yes", "gap") else None
 
     def is_good(self, verdict: str, answer: Answer, optimal: bool) -> bool:
         """Whether it proves what is asked. Without duals that is feasibility, which each verdict

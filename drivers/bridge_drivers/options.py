@@ -41,6 +41,9 @@ COMMON = (
     Option("keep", "", str, "folder that keeps the files in between"),
     Option("objno", 1, int, "which objective, from 1"),
     Option("outlev", 0, int, "0 quiet, 1 the solver's log, 2 also the commands and times"),
+    Option("proof", "", str, "with prove=1, the file that the proof is written to"),
+    Option("prove", 0, int, "1: for integer programs also a branch proof that no point is "
+                            "better (timelim holds for it too; 60 seconds where there is none)"),
     Option("relax", 0, int, "1: integer variables as continuous ones"),
     Option("round", 1, int, "1: values of integer variables within 1e-5 of a whole number are "
                             "written as that number"),
@@ -65,6 +68,8 @@ class Options:
     keep: str
     objno: int
     outlev: int
+    proof: str
+    prove: int
     relax: int
     round: int
     shortest: int

@@ -8,7 +8,7 @@ from dataclasses import dataclass
 
 from .answer import Answer
 from .bridge import Bridge, Refused
-from .certificates import WITHOUT, Certifier
+from .certificates import WITHOUT, Certifier, Settled
 from .codes import Code, Failure, Status
 from .job import Clock, Job
 from .nl import BadFile, prepared
@@ -20,12 +20,14 @@ from .values import BadValue
 
 @dataclass
 class Result:
-    """A message, its .sol (None: one without values is to be made), and what wantsol prints."""
+    """A message, its .sol (None: one without values is to be made), what wantsol prints, and the
+    figures of a branch proof."""
 
     code: Code
     lines: list[str]
     sol: bytes | None = None
     answer: Answer | None = None
+    figures: str = ""
 
 
 class Solving:
@@ -119,10 +121,40 @@ class Solving:
                 sol = certifier.returned(answer, lines)
         except Refused as fault:
             raise Failure(Code.NOT_RETURNED, f"return: {fault.line()}") from None
+        settled = None
         if not self.options.check:
             last = WITHOUT + "check=0"
         elif outcome.values is None:
             last = certifier.without_values(outcome.code)
         else:
-            last, answer, sol = certifier.settle(answer, sol, lines)
-        return Result(outcome.code, lines + answer.notes() + [last], sol, answer)
+            settled = certifier.settle(answer, sol, lines)
+            last, answer, sol = settled.line, settled.answer, settled.sol
+        ends, figures = [last], ""
+        if self.options.prove and self.options.check:
+            ends, figures = self.branched(certifier, outcome, settled, last)
+        return Result(outcome.code, lines + answer.notes() + ends, sol, answer, figures)
+
+    def branched(self, certifier: Certifier, outcome: Outcome, settled: Settled | None,
+                 last: str) -> tuple[list[str], str]:
+        """The last lines with that of a branch proof, which is kept where `proof` says, and its
+        figures."""
+        from .branching.after_solve import AfterSolve
+        after = AfterSolve(certifier, "bridge-" + self.solver.program)
+        try:
+            lines = after.lines(outcome.code, settled, last)
+        except (ArithmeticError, AssertionError, LookupError, TypeError, ValueError) as fault:
+            if self.options.outlev >= 2:
+                raise
+            return [last, f"not proved: a fault of the driver: {fault!r}"], ""  # the answer stands
+        result = after.result
+        if result is None:
+            return lines, ""
+        if self.options.outlev:
+            print(f"branch proof: {result.figures()}", flush=True)
+        if self.options.proof and result.claim is not None:
+            try:
+                with open(self.options.proof, "w", encoding="utf-8") as f:
+                    f.write(result.text)
+            except OSError as fault:
+                lines.insert(0, f"the proof is not kept: {self.options.proof}: {fault.strerror}")
+        return lines, result.figures()

@@ -13,6 +13,8 @@ import math
 import sys
 from fractions import Fraction
 
+from stand_in_proofs import Proof, judged
+
 OPERANDS = {0: 2, 1: 2, 2: 2, 3: 2, 16: 1}
 LIST = 54
 
@@ -298,7 +300,7 @@ def outside(value: Fraction, lo: Fraction | None, hi: Fraction | None) -> bool:
     return lo is not None and value < lo or hi is not None and value > hi
 
 
-def dual_bound(file: File, goal: Form, maximised: bool, y: list[Fraction]):
+def dual_bound(file: File, goal: Form, maximised: bool, y: list[Fraction], bounds):
     """The bound that duals prove, or the row or bound that has no side for it."""
     def side(value: Fraction, lo: Fraction | None, hi: Fraction | None) -> Fraction | None:
         return lo if (value > 0) != maximised else hi
@@ -313,7 +315,7 @@ def dual_bound(file: File, goal: Form, maximised: bool, y: list[Fraction]):
         cost.add(file.rows[i], -weight)
     for j, d in sorted(cost.terms.items()):
         if d:
-            edge = side(d, *file.bounds[j])
+            edge = side(d, *bounds[j])
             if edge is None:
                 return f"bound {j} has no side"
             total += d * edge
@@ -333,7 +335,7 @@ def check(file: File, path: str) -> str:
     for j, value in enumerate(x):
         if outside(value, *file.bounds[j]):
             return f"bound {j} broken"
-    bound = dual_bound(file, linear.goal, linear.maximised, y)
+    bound = dual_bound(file, linear.goal, linear.maximised, y, file.bounds)
     if isinstance(bound, str):
         return bound
     value = linear.goal.at(x)
@@ -341,18 +343,18 @@ def check(file: File, path: str) -> str:
 
 
 def prove(file: File, path: str) -> str:
-    """A tree of one leaf with weights."""
     with open(path) as f:
-        lines = f.read().split("\n")
-    assert lines[:2] == ["proof 1", "infeasible"] and lines[2].startswith("weights ")
-    y = [Fraction(0)] * file.m
-    for line in lines[3:3 + int(lines[2].split()[1])]:
-        i, weight = line.split()
-        y[int(i)] = Fraction(weight)
-    bound = dual_bound(file, Form(), False, y)
-    if isinstance(bound, str):
-        return "leaf 0 " + bound
-    return "proved" if bound > 0 else f"leaf 0 gap {bound}"
+        text = f.read()
+
+    def refuse(line: int, reason: str) -> Refusal:
+        return Refusal(f"refused file 2 line {line}: {reason}")
+    proof = Proof(text, file.n, file.m, lambda j: j >= file.n - file.whole, refuse)
+    linear = Linear(file, proof.objective if proof.value is not None else 0)
+
+    def bound_of(bounds, duals: list[Fraction], is_weights: bool):
+        goal, maximised = (Form(), False) if is_weights else (linear.goal, linear.maximised)
+        return dual_bound(file, goal, maximised, duals, bounds)
+    return judged(proof, file.bounds, linear.maximised, bound_of)
 
 
 def answer(words: list[str]) -> tuple[int, str, str]:

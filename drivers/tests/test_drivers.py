@@ -20,7 +20,8 @@ sys.dont_write_bytecode = True
 os.environ["PYTHONDONTWRITEBYTECODE"] = "1"         # also where drivers are processes
 HERE = os.path.dirname(os.path.abspath(__file__))
 sys.path[:0] = [HERE]
-MODULES = ("units", "stored_runs", "manners", "processes", "end_to_end", "pulp_class")
+MODULES = ("units", "stored_runs", "manners", "processes", "end_to_end", "pulp_class",
+           "branching_offline", "branching_search")
 
 
 def main() -> int:

@@ -19,7 +19,7 @@ use Rattle.text_base.specs.Desk.{Meaning, OnlyMessages}
 use Rattle.text_base.specs.declared.stop.Stop.{Stop}
 use Rattle.text_base.specs.declared.stop.Stop.TheVariants.{Fault as IsFault, Memory as IsMemory}
 use Rattle.bridge_tool.specs.Answer.{Ends, EndsWriting, IsWorked, status_of}
-use Rattle.bridge_tool.specs.Command.{Command, Check as CheckCommand, Export, Fixed as FixedCommand, Import as ImportCommand, Make, Mps as MpsCommand, Nl, Prove as ProveCommand, Return as ReturnCommand, Sol as SolCommand}
+use Rattle.bridge_tool.specs.Command.{Command, Make}
 use Rattle.bridge_tool.specs.Commands.{Leaves}
 use Rattle.bridge_tool.specs.Make.{IsMade, IsSummedUp, LeavesInput, coefficient_count, exported_count, made_text, make_promise, summary_line, summary_of}
 use Rattle.bridge_tool.specs.OneFile.{TextComesTo, Judges}
@@ -135,12 +135,4 @@ pub leaves_told : (command : Option Command) (old mid new : Meaning) (status tol
 leaves_told None old mid new status told h e rest = tt
 leaves_told (Some (Make seed size)) old mid new status told h e rest =
     record { left = rest.left ∙ h.left; faults = rest.input_faults ∙ h.faults; known = λ four. h.known (sym e ∙ four) }
-leaves_told (Some (Export file k)) old mid new status told h e rest = tt
-leaves_told (Some (Nl file)) old mid new status told h e rest = tt
-leaves_told (Some (MpsCommand file)) old mid new status told h e rest = tt
-leaves_told (Some (SolCommand file)) old mid new status told h e rest = tt
-leaves_told (Some (CheckCommand nl sol)) old mid new status told h e rest = tt
-leaves_told (Some (ImportCommand file)) old mid new status told h e rest = tt
-leaves_told (Some (ProveCommand nl proof)) old mid new status told h e rest = tt
-leaves_told (Some (FixedCommand file)) old mid new status told h e rest = tt
-leaves_told (Some (ReturnCommand nl answer)) old mid new status told h e rest = tt
+leaves_told (Some command) old mid new status told h e rest = tt

@@ -12,6 +12,10 @@ mod fixed_texts;
 #[cfg(test)]
 mod headers;
 #[cfg(test)]
+mod imports;
+#[cfg(test)]
+mod made_instances;
+#[cfg(test)]
 mod numbers;
 #[cfg(test)]
 mod parts;

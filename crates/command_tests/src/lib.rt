@@ -10,10 +10,14 @@ mod exports;
 #[cfg(test)]
 mod fixed_commands;
 #[cfg(test)]
-mod mps_commands;
+mod import_commands;
 #[cfg(test)]
-mod sol_commands;
+mod make_commands;
+#[cfg(test)]
+mod mps_commands;
 #[cfg(test)]
 mod proof_commands;
 #[cfg(test)]
 mod return_commands;
+#[cfg(test)]
+mod sol_commands;
