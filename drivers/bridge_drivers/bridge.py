@@ -98,8 +98,14 @@ def find(named: str, beside: Sequence[str]) -> list[str]:
     raise Missing(f"bridge was not found{other}: give bridge=PATH or set BRIDGE")
 
 
+class Late(Exception):
+    """A call that went on past its limit, and was ended."""
+
+
 class Bridge:
-    """Calls of `bridge`. `note` is told the words of each."""
+    """Calls of `bridge`. `note` is told the words of each; `limit` is for one call, in seconds."""
+
+    limit: float | None = None
 
     def __init__(self, words: Sequence[str], note: Callable[[Sequence[str]], None]) -> None:
         self.words, self.note = list(words), note
@@ -108,9 +114,12 @@ class Bridge:
         argv = self.words + list(words)
         self.note(argv)
         try:
-            ran = subprocess.run(argv, stdin=subprocess.DEVNULL, capture_output=True)
+            ran = subprocess.run(argv, stdin=subprocess.DEVNULL, capture_output=True,
+                                 timeout=self.limit)
         except OSError as fault:
             raise Missing(f"{argv[0]} could not be run: {fault.strerror}") from None
+        except subprocess.TimeoutExpired:
+            raise Late(words[0]) from None
         return Reply(ran.returncode, ran.stdout, ran.stderr.decode("utf-8", "replace").strip())
 
     def text(self, *words: str) -> bytes:

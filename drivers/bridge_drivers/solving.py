@@ -151,10 +151,10 @@ class Solving:
             return lines, ""
         if self.options.outlev:
             print(f"branch proof: {result.figures()}", flush=True)
-        if self.options.proof and result.claim is not None:
+        if self.options.proof and result.kept():
             try:
                 with open(self.options.proof, "w", encoding="utf-8") as f:
-                    f.write(result.text)
+                    f.write(result.kept())
             except OSError as fault:
                 lines.insert(0, f"the proof is not kept: {self.options.proof}: {fault.strerror}")
         return lines, result.figures()

@@ -22,13 +22,13 @@ from bridge_drivers.branching import clp_library, engines
 from bridge_drivers.branching.solver_engine import SolverEngine
 from bridge_drivers.branching.tree import figures
 from bridge_drivers.branching.watch import Watch
-from bridge_drivers.bridge import Bridge
+from bridge_drivers.bridge import Bridge, Late, Reply
 from bridge_drivers.program import Program
 from bridge_drivers.branching.proving import Prover
 from branch_models import BRANCHED
 from branching_offline import Branching
 from end_to_end import BRIDGE, knows
-from models import nl, whole
+from models import nl, real, whole
 
 CLP = unittest.skipUnless(clp_library.is_there(), "no library of CLP")
 BINARY = ("B", 0, 1)
@@ -95,6 +95,20 @@ class ByClp(Branching):
         late = self.prover(knap.text).prove(knap.value, Watch(1e-9), "exact")
         self.assertRegex(late.line(True), r"^not proved: time \(1e-09 s, \d+ nodes\)$")
 
+    def test_late_verdict(self) -> None:
+        """A verdict that takes too long is not waited for, and the proof is kept."""
+        prover = self.prover(BRANCHED["knap"].text)
+
+        def late(*words: str) -> Reply:
+            self.assertIsNotNone(prover.bridge.limit)
+            raise Late("prove")
+        with mock.patch.object(prover.bridge, "verdict", late):
+            result = prover.prove(F(17), Watch(20.0))
+        self.assertEqual(result.line(True),
+                         "not proved: time: bridge prove was ended before its verdict")
+        self.assertTrue(result.kept().startswith("proof 1\nvalue 0 17\n"))
+        self.assertIsNone(prover.bridge.limit)
+
     def test_interrupt_and_progress(self) -> None:
         """An interrupt ends the search and no more; lines of progress where it takes long."""
         prover, watch = self.prover(BRANCHED["eqknap"].text), Watch(20.0)
@@ -144,6 +158,40 @@ class ByBridge(Branching):
                 self.put("\n".join([lines[0], f"value 0 {more!r}", *lines[2:]]).encode(), ".proof")
                 self.assertRegex(bridge.verdict("prove", path, self.stub + ".proof"),
                                  r"^leaf \d+ gap ")
+
+
+@CLP
+@unittest.skipUnless(shutil.which("cbc"), "no cbc")
+class ByCbc(Case):
+    """The option `prove` of a driver as a process, where the stored runs do not go."""
+
+    def last_lines(self, text: bytes, *words: str) -> list[str]:
+        self.put(text)
+        program = os.path.join(HERE, "..", "bin", "bridge-cbc")
+        ran = subprocess.run([sys.executable, program, self.stub, "-AMPL", "-e", "prove=1", *words],
+                             stdin=subprocess.DEVNULL, capture_output=True, text=True,
+                             env={**os.environ, "BRIDGE": STAND_IN})
+        self.assertEqual((ran.returncode, ran.stderr), (0, ""))
+        return self.sol().message[1:]
+
+    def test_value_by_duals(self) -> None:
+        """With duals 0 `check` does not tell the value of a point with a free variable."""
+        self.assertEqual(self.last_lines(BRANCHED["free_column"].text), [
+            "certified feasible: objective exactly 17", "proved optimal: exactly 17"])
+
+    def test_fractions(self) -> None:
+        text = nl([real(0, 9), whole(0, 3)], [(1, None, {0: 3, 1: 1}), (None, 1, {1: 2})],
+                  [("min", 0, {0: 1, 1: 1})])
+        first, last = self.last_lines(text)
+        self.assertRegex(first, "^not certified: ")
+        self.assertRegex(last, r"^proved to 9 digits: none is better than 0\.33333333\d*; that 1/3 "
+                         "is reached is the driver's own arithmetic$")
+
+    def test_proof_that_cannot_be_kept(self) -> None:
+        lines = self.last_lines(BRANCHED["knap"].text, "proof=/nonexistent/proof")
+        self.assertEqual(lines, [
+            "the proof is not kept: /nonexistent/proof: No such file or directory",
+            "certified feasible: objective exactly 17", "proved optimal: exactly 17"])
 
 
 @CLP

@@ -119,11 +119,11 @@ class Command:
         prover = Prover(bridge, nl, folder, Program(bridge.text(*words)), objective)
         watch = Watch(float(o["timelim"]))
         result = prover.prove(self.value, watch, str(o["claim"]), int(o["nodes"]))
-        if result.claim is not None and self.proof_path() == "-":
-            sys.stdout.write(result.text)
-        elif result.claim is not None:
+        if self.proof_path() == "-":
+            sys.stdout.write(result.kept())
+        elif result.kept():
             with open(self.proof_path(), "w", encoding="utf-8") as f:
-                f.write(result.text)
+                f.write(result.kept())
         print(result.line(is_reached=False), file=self.stream)
         self.stats(result.figures())
         return Status.DONE if result.claim is not None else Status.FAILED

@@ -7,7 +7,7 @@ import time
 from dataclasses import dataclass
 from fractions import Fraction
 
-from ..bridge import Bridge, Refused
+from ..bridge import Bridge, Late, Refused
 from ..program import Program
 from ..sol import duals_of
 from ..values import exact_decimal
@@ -36,6 +36,7 @@ class Result:
     tree: trees.Tree | None = None
     search: Search | None = None
     never: str = ""                 # the value that stands for infeasible, where one does
+    is_unjudged: bool = False       # a proof that there was no time to judge
     seconds: float = 0.0
     processor: float = 0.0          # seconds of this process
 
@@ -60,6 +61,10 @@ class Result:
                         f"{between})")
             return f"none is better than {value} (bridge: than {stated}; {between})"
         return f"proved optimal: exactly {value}" if is_reached else f"none is better than {value}"
+
+    def kept(self) -> str:
+        """The text that is worth keeping: accepted, or not yet judged."""
+        return self.text if self.claim is not None or self.is_unjudged else ""
 
     def figures(self) -> str:
         """One line for people who look closer."""
@@ -160,6 +165,14 @@ class Prover:
         result.text = trees.text(p, words, tree)
         path = self.write("branch.proof", result.text)
         watch.note(f"bridge prove reads {len(result.text)} bytes")
-        verdict = self.bridge.verdict("prove", self.nl, path)
+        self.bridge.limit = watch.left()
+        try:
+            verdict = self.bridge.verdict("prove", self.nl, path)
+        except Late:
+            result.claim, result.is_unjudged = None, True
+            result.why = "time: bridge prove was ended before its verdict"
+            return
+        finally:
+            self.bridge.limit = None
         if verdict != "proved":
             result.claim, result.why = None, f"bridge prove says `{verdict}`"

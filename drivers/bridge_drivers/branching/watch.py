@@ -13,6 +13,7 @@ if TYPE_CHECKING:
     from .search import Search
 
 EVERY = 5.0                 # seconds between lines of progress
+GRACE = 5.0                 # seconds past the limit after which `bridge prove` is ended
 
 
 class Stopped(Exception):
@@ -34,6 +35,10 @@ class Watch:
     def is_over(self) -> bool:
         """Whether no further search may begin."""
         return self.is_stopped or bool(self.seconds) and self.spent() > self.seconds
+
+    def left(self) -> float | None:
+        """Seconds for the verdict: a tenth and 5 s more than the limit, and never below 5."""
+        return max(self.seconds * 1.1 + GRACE - self.spent(), GRACE) if self.seconds else None
 
     def look(self, search: Search) -> None:
         """At each node: Stopped after the limit or an interrupt; a line each 5 s."""
