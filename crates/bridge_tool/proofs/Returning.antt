@@ -7,7 +7,7 @@ use Rattle.linear_programs.specs.Linear.{Linear}
 use Rattle.text_base.specs.Desk.{Meaning, Texts}
 use Rattle.text_base.specs.Stopped.{IfFault}
 use Rattle.text_base.specs.declared.stop.Stop.{Stop}
-use Rattle.text_base.specs.declared.stop.Stop.TheVariants.{Fault, Memory}
+use Rattle.text_base.specs.declared.stop.Stop.TheVariants.{Fault}
 use Rattle.text_base.specs.Judged.{HasOneOutcome}
 use Rattle.text_base.specs.Reading.{lines_of, last_of}
 use Rattle.text_base.proofs.JudgedLemmas.{one_outcome}
@@ -16,7 +16,6 @@ use Rattle.file_meaning.specs.FoldFaults.{fold_fault, has_objective, FoldFault a
 use Rattle.file_meaning.specs.LinearFile.{linear_of}
 use Rattle.linear_fold.specs.FoldedFaults.{named_fault, step_bound}
 use Rattle.linear_fold.specs.Programs.{LinearValue, linear_value}
-use Rattle.linear_fold.specs.declared.fold_fault.FoldFault.{FoldFault}
 use Rattle.nl_model.specs.Rules.{IsFile}
 use Rattle.nl_segments.specs.Grammar.{NlValue}
 use Rattle.nl_segments.specs.Reader.{IsNl}
@@ -38,7 +37,7 @@ use Rattle.bridge_tool.specs.NlTold.{fold_line, scale_line}
 use Rattle.bridge_tool.specs.Outcome.{Outcome, BadWords, Untold, NoText, Refused, Done}
 use Rattle.bridge_tool.specs.Promise.{Promise}
 use Rattle.bridge_tool.specs.Refusal.{HasTextRefusal}
-use Rattle.bridge_tool.specs.Return.{HasNoDecimals, HasWideDual, IsAnswerRefused, IsReturnMeant, IsReturned, IsStaged, IsTurnedBack, ReturnsAs, most_return_steps, return_promise, return_told}
+use Rattle.bridge_tool.specs.Return.{IsAnswerRefused, IsReturnMeant, IsReturned, IsStaged, IsTurnedBack, ReturnsAs, most_return_steps, return_promise, return_told}
 use Rattle.bridge_tool.specs.SeveralFiles.{Comes, ReadsFile, after_file, ends, itself}
 use Rattle.bridge_tool.specs.Stages.{HasFolded, HasScaled}
 use Rattle.bridge_tool.specs.Told.{refusal}

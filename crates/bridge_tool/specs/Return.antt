@@ -5,7 +5,7 @@ use Rattle.std.specs.Global.{Vec}
 use Rattle.text_base.specs.declared.stop.Stop.{Stop}
 use Rattle.text_base.specs.declared.stop.Stop.TheVariants.{Fault, Memory}
 use Rattle.std.specs.declared.option.Option.{Option}
-use Rattle.std.specs.declared.option.Option.TheVariants.{None, Some}
+use Rattle.std.specs.declared.option.Option.TheVariants.{None}
 use Rattle.text_base.specs.Desk.{Texts}
 use Rattle.text_base.specs.Reading.{HasFault}
 use Rattle.text_base.specs.declared.fault.TextFault.{TextFault}
