@@ -16,6 +16,7 @@ pub mod Numbers
 pub mod OneOutcome
 pub mod Proving
 pub mod Outcomes
+pub mod Returning
 pub mod SeveralFiles
 pub mod SolRewriting
 pub mod Summing

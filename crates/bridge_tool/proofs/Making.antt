@@ -75,7 +75,7 @@ summed_up text value variables rows l s out read folded scaled ev er is =
         read = read;
         folded = folded.fine;
         scaled = subst HasNoScaleFault folded.linear scaled.fine;
-        exports = subst (λ (f : Linear). IsExportOf f m) folded.linear scaled.export;
+        exports = subst (λ (f : Linear). IsExportOf f m) folded.linear scaled.scaled.export;
         written = refl;
       };
       summary = is ∙ (λ i. summary_line (ev i) (all i) (coefficient_count (all i) m) (length (mps_text_by value_text m)));

@@ -3,7 +3,7 @@ use Rattle.std.specs.Prelude.{◌≡◌, ℕ, List}
 use Rattle.std.specs.declared.option.Option.{Option}
 use Rattle.std.specs.declared.option.Option.TheVariants.{None, Some}
 use Rattle.text_base.specs.Desk.{Texts, Meaning}
-use Rattle.bridge_tool.specs.Command.{Command, Check, Export, Fixed, Mps, Nl, Sol, command_of, Import, Prove, Make}
+use Rattle.bridge_tool.specs.Command.{Command, Check, Export, Fixed, Mps, Nl, Sol, command_of, Import, Prove, Make, Return}
 use Rattle.bridge_tool.specs.Check.{check_promise}
 use Rattle.bridge_tool.specs.Export.{export_promise}
 use Rattle.bridge_tool.specs.Import.{import_promise}
@@ -14,6 +14,7 @@ use Rattle.bridge_tool.specs.Nl.{nl_promise}
 use Rattle.bridge_tool.specs.Outcome.{Outcome, BadWords}
 use Rattle.bridge_tool.specs.Promise.{Promise}
 use Rattle.bridge_tool.specs.Prove.{prove_promise}
+use Rattle.bridge_tool.specs.Return.{return_promise}
 use Rattle.bridge_tool.specs.Sol.{sol_promise}
 
 -- at a desk with these texts
@@ -26,6 +27,7 @@ promise_of texts (Check nl sol) = check_promise texts nl sol
 promise_of texts (Import file) = import_promise texts file
 promise_of texts (Prove nl proof) = prove_promise texts nl proof
 promise_of texts (Fixed file) = fixed_promise texts file
+promise_of texts (Return nl answer) = return_promise texts nl answer
 promise_of texts (Make seed size) = make_promise seed size
 
 -- the words are in no row of the command table

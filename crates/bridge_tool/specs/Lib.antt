@@ -1,4 +1,5 @@
 pub mod Answer
+pub mod AnswerTold
 pub mod Check
 pub mod Command
 pub mod Commands
@@ -17,6 +18,7 @@ pub mod Promise
 pub mod ProofTold
 pub mod Prove
 pub mod Refusal
+pub mod Return
 pub mod SeveralFiles
 pub mod Sol
 pub mod SolTold

@@ -10,9 +10,8 @@ use Rattle.linear_fold.specs.FoldedFaults.{first_fold_fault}
 use Rattle.linear_fold.specs.Programs.{LinearValue, linear_value}
 use Rattle.linear_fold.specs.declared.fold_fault.FoldFault.{FoldFault}
 use Rattle.nl_segments.specs.Grammar.{NlValue}
-use Rattle.row_scaling.specs.Exported.{exported_as}
 use Rattle.row_scaling.specs.Scaled.{ScaledValue}
-use Rattle.row_scaling.specs.Scaling.{HasNoScaleFault, HasScaleFault, IsExportOf}
+use Rattle.row_scaling.specs.Scaling.{HasNoScaleFault, HasScaleFault, IsScaledOf}
 use Rattle.row_scaling.specs.declared.scale_fault.ScaleFault.{ScaleFault}
 use Rattle.bridge_tool.specs.NlTold.{fold_line, scale_line}
 
@@ -36,7 +35,7 @@ Folds value k (Err Memory) = Unit {0}
 -- the linear program scales, to this scaled one
 pub record HasScaled (f : Linear) (s : ScaledValue) : Type 0 where
   pub fine : HasNoScaleFault f
-  pub export : IsExportOf f (exported_as s)
+  pub scaled : IsScaledOf f s
 
 -- the first fault of scaling, and its line
 pub record HasUnscaled (f : Linear) (k : ℕ) (line : List ℕ) : Type 0 where

@@ -100,7 +100,7 @@ fn certified<L: Ledger>(
 {
     let x = sol.primals();
     let y = sol.duals();
-    let linear = fold(alloc, read, objective, steps)?;
+    let linear = fold(alloc, &read, objective, steps)?;
     let verdict = verdict_of(alloc, &linear, x.items(), y.items())?;
     let told = told_verdict(alloc, verdict)?;
     Ok(told)

@@ -46,7 +46,7 @@ fn export_read<L: Ledger>(
     ensures below { steps.new ≤ steps.old + step_bound read.file }
     ensures none { has_objective read.file objective ≡ false → steps.new ≡ steps.old }
 {
-    let linear = fold(alloc, read, objective, steps)?;
+    let linear = fold(alloc, &read, objective, steps)?;
     let scaled = scale(alloc, linear, objective)?;
     let out = write_program(alloc, scaled)?;
     Ok(out)

@@ -2,6 +2,8 @@
 #![tactic(auto)]
 
 mod answer;
+mod answer_input;
+mod answer_told;
 mod check;
 mod command;
 mod export;
@@ -19,6 +21,7 @@ mod one_file;
 mod proof_input;
 mod proof_told;
 mod prove;
+mod returns;
 mod sol;
 mod sol_input;
 mod sol_told;

@@ -49,7 +49,7 @@ fn export_read<L: Ledger>(
     ensures none { has_objective read.file 0 ≡ false → steps.new ≡ steps.old }
 {
     let variables = read.file.header().counts().n_var;
-    let linear = fold(alloc, read, 0, steps)?;
+    let linear = fold(alloc, &read, 0, steps)?;
     let rows = exported_count(&linear);
     let scaled = scale(alloc, linear, 0)?;
     let out = sum_up(alloc, scaled, variables, rows)?;

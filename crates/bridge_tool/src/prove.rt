@@ -74,7 +74,7 @@ fn judge<L: Ledger>(
     ensures counts { steps.new ≤ steps.old + most_steps (value_of read) proof.now }
 {
     let objective = claimed_objective(proof.claim());
-    let linear = fold(alloc, read, objective, steps)?;
+    let linear = fold(alloc, &read, objective, steps)?;
     let verdict = verdict_of(alloc, &linear, proof)?;
     let told = told_verdict(alloc, verdict)?;
     Ok(told)

@@ -17,23 +17,23 @@ use text_base::{Ledger, Steps, Stop};
 /// The linear program of what was read, or the line of its first fault.
 pub(crate) fn fold<L: Ledger>(
     alloc: Global,
-    read: NlRead,
+    read: &NlRead,
     objective: u32,
     steps: &mut Steps<L>,
 ) -> Result<Linear, Stop<Vec<u8>>>
-    requires { HasLines read }
-    ensures folds { Folds (value_of read) objective result }
-    ensures file { IsFile read.file }
+    requires { HasLines read.now }
+    ensures folds { Folds (value_of read.now) objective result }
+    ensures file { IsFile read.now.file }
     ensures above { steps.old ≤ steps.new }
-    ensures below { steps.new ≤ steps.old + step_bound read.file }
-    ensures none { has_objective read.file objective ≡ false → steps.new ≡ steps.old }
+    ensures below { steps.new ≤ steps.old + step_bound read.now.file }
+    ensures none { has_objective read.now.file objective ≡ false → steps.new ≡ steps.old }
 {
     let _ = read.file.header();
     match fold_all(alloc, &read.file, objective, steps) {
         Ok(linear) => Ok(linear),
         Err(Stop::Memory) => Err(Stop::Memory),
         Err(Stop::Fault(fault)) => {
-            let line = fold_line(alloc, &read, fault)?;
+            let line = fold_line(alloc, read, fault)?;
             Err(Stop::Fault(line))
         }
     }

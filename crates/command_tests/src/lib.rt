@@ -18,4 +18,6 @@ mod mps_commands;
 #[cfg(test)]
 mod proof_commands;
 #[cfg(test)]
+mod return_commands;
+#[cfg(test)]
 mod sol_commands;

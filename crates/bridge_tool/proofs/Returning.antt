@@ -1,0 +1,216 @@
+-- What an answer for a file comes to: one outcome, and what the duals mean.
+use Rattle.std.proofs.Common.{◌≡◌, ◌∙◌, inl, inr, ◌⊎◌, ℕ, ◌+◌, ◌≤◌, List, Bool, true, false, [], Option, Some, None, is_some, Result, Ok, Err, refl, sym, ap, ap₂, subst, arith}
+use Rattle.std.specs.Prelude.{option_map, codes, IfOk, IsTrue}
+use Rattle.std.specs.Global.{Vec}
+use Rattle.std.specs.List.{list_any}
+use Rattle.linear_programs.specs.Linear.{Linear}
+use Rattle.text_base.specs.Desk.{Meaning, Texts}
+use Rattle.text_base.specs.Stopped.{IfFault}
+use Rattle.text_base.specs.declared.stop.Stop.{Stop}
+use Rattle.text_base.specs.declared.stop.Stop.TheVariants.{Fault}
+use Rattle.text_base.specs.Judged.{HasOneOutcome}
+use Rattle.text_base.specs.Reading.{lines_of, last_of}
+use Rattle.text_base.proofs.JudgedLemmas.{one_outcome}
+use Rattle.exact_numbers.specs.declared.dec.Dec.{Dec}
+use Rattle.file_meaning.specs.FoldFaults.{fold_fault, has_objective, FoldFault as FileFault}
+use Rattle.file_meaning.specs.LinearFile.{linear_of}
+use Rattle.linear_fold.specs.FoldedFaults.{named_fault, step_bound}
+use Rattle.linear_fold.specs.Programs.{LinearValue, linear_value}
+use Rattle.nl_model.specs.Rules.{IsFile}
+use Rattle.nl_segments.specs.Grammar.{NlValue}
+use Rattle.nl_segments.specs.Reader.{IsNl}
+use Rattle.row_scaling.specs.Scaled.{ScaledValue}
+use Rattle.row_scaling.specs.Scaling.{HasNoScaleFault, HasScaleFault}
+use Rattle.row_scaling.specs.declared.scale_fault.ScaleFault.{ScaleFault}
+use Rattle.sol_files.specs.Sol.{Sol}
+use Rattle.sol_files.specs.Written.{sol_text}
+use Rattle.answer_file.specs.Grammar.{AnswerValue, answer_of, answer_rules, standing}
+use Rattle.answer_file.specs.Names.{Setting, setting_of}
+use Rattle.answer_file.specs.Reading.{IsAnswer}
+use Rattle.dual_return.specs.Return.{AreDualsIf, HasReturnFault, IsReturn, MeanTheProgram}
+use Rattle.dual_return.specs.declared.fault.ReturnFault.{ReturnFault}
+use Rattle.dual_return.proofs.LawOfReturn.{duals_mean}
+use Rattle.dual_return.proofs.OneReturn.{one-return}
+use Rattle.bridge_tool.specs.Answer.{EndsVerdict, IsWorked}
+use Rattle.bridge_tool.specs.AnswerTold.{answer_line, answer_reason_text, return_line}
+use Rattle.bridge_tool.specs.NlTold.{fold_line, scale_line}
+use Rattle.bridge_tool.specs.Outcome.{Outcome, BadWords, Untold, NoText, Refused, Done}
+use Rattle.bridge_tool.specs.Promise.{Promise}
+use Rattle.bridge_tool.specs.Refusal.{HasTextRefusal}
+use Rattle.bridge_tool.specs.Return.{IsAnswerRefused, IsReturnMeant, IsReturned, IsStaged, IsTurnedBack, ReturnsAs, most_return_steps, return_promise, return_told}
+use Rattle.bridge_tool.specs.SeveralFiles.{Comes, ReadsFile, after_file, ends, itself}
+use Rattle.bridge_tool.specs.Stages.{HasFolded, HasScaled}
+use Rattle.bridge_tool.specs.Told.{refusal}
+use Rattle.bridge_tool.specs.declared.answer.Answer.{Answer as Ended}
+use Rattle.bridge_tool.proofs.Decided.{scaling_decided, scales_without_fault, one_scale_fault}
+use Rattle.bridge_tool.proofs.Decisions.{AreRead}
+use Rattle.bridge_tool.proofs.Exporting.{folds_without_fault}
+use Rattle.bridge_tool.proofs.NlRewriting.{nl_read}
+use Rattle.bridge_tool.proofs.OneOutcome.{HasOne, IsPlain}
+use Rattle.bridge_tool.proofs.Proving.{steps_so}
+use Rattle.bridge_tool.proofs.SeveralFiles.{HasComeDown, IsSound, begun, counted, ended, further, idle, sound_after, sound_end, stopped}
+
+-- ---- the second file
+
+outcome_of : (s : Setting) (text : List ℕ) → HasOneOutcome (answer_rules s) (lines_of text) (last_of text)
+outcome_of s text = one_outcome (answer_rules s) (lines_of text) (last_of text)
+
+pub answer_read : (s : Setting) → AreRead (IsAnswer s) (IsAnswerRefused s)
+answer_read s = record {
+  said = λ text a b h k. h.said ∙ sym k.said;
+  refused = λ text a b h k.
+      let same = (outcome_of s text).one_fault h.fault.line k.fault.line h.fault.reason k.fault.reason h.first k.first in
+      h.told ∙ ap₂ (λ l r. refusal 2 (codes "line") l (answer_reason_text r)) same.0 same.1 ∙ sym k.told;
+  either = λ text. elim (outcome_of s text).some [
+    | inl clean ↦ inl (answer_of (standing s (lines_of text)), record { clean = clean; said = refl })
+    | inr found ↦ inr (answer_line 2 (record { reason = found.1; line = found.0 }), record { fault = record { reason = found.1; line = found.0 }; first = found.2; told = refl })
+  ];
+  apart = λ text value line h k. (outcome_of s text).not_both h.clean k.fault.line k.fault.reason k.first;
+}
+
+-- ---- what both come to
+
+same_some : {A : Type 0} (a b : A) (o : Option A) → o ≡ Some a → o ≡ Some b → a ≡ b
+same_some a b o e f = cc
+
+module _ (nl : NlValue) (a : AnswerValue) where
+  one_bytes : (x y : List ℕ) → IsReturned nl a x → IsReturned nl a y → x ≡ y
+  one_bytes x y h k = h.written ∙ ap sol_text ((one-return nl.file a).one_sol h.sol k.sol h.returned k.returned) ∙ sym k.written
+
+  apart : (bytes line : List ℕ) → IsReturned nl a bytes → IsTurnedBack nl a line → ⊥
+  apart bytes line h (inl k) = folds_without_fault nl.file a.objective k.fault h.staged.folded k.first
+  apart bytes line h (inr (inl k)) = scales_without_fault (linear_of nl.file a.objective) k.first.fault h.staged.scaled k.first.first
+  apart bytes line h (inr (inr k)) = (one-return nl.file a).not_both h.sol k.fault h.returned k.first
+
+  one_line : (x y : List ℕ) → IsTurnedBack nl a x → IsTurnedBack nl a y → x ≡ y
+  one_line x y (inl h) (inl k) = h.told ∙ ap (fold_line nl.places) (same_some h.fault k.fault (option_map (named_fault nl.file) (fold_fault nl.file a.objective)) h.first k.first) ∙ sym k.told
+  one_line x y (inl h) (inr (inl k)) = absurd (folds_without_fault nl.file a.objective h.fault k.folded h.first)
+  one_line x y (inl h) (inr (inr k)) = absurd (folds_without_fault nl.file a.objective h.fault k.staged.folded h.first)
+  one_line x y (inr (inl h)) (inl k) = absurd (folds_without_fault nl.file a.objective k.fault h.folded k.first)
+  one_line x y (inr (inl h)) (inr (inl k)) = h.first.told ∙ ap (scale_line a.objective) (one_scale_fault (linear_of nl.file a.objective) h.first.fault k.first.fault h.first.first k.first.first) ∙ sym k.first.told
+  one_line x y (inr (inl h)) (inr (inr k)) = absurd (scales_without_fault (linear_of nl.file a.objective) h.first.fault k.staged.scaled h.first.first)
+  one_line x y (inr (inr h)) (inl k) = absurd (folds_without_fault nl.file a.objective k.fault h.staged.folded k.first)
+  one_line x y (inr (inr h)) (inr (inl k)) = absurd (scales_without_fault (linear_of nl.file a.objective) k.first.fault h.staged.scaled k.first.first)
+  one_line x y (inr (inr h)) (inr (inr k)) = h.told ∙ ap return_line ((one-return nl.file a).one_fault h.fault k.fault h.first k.first) ∙ sym k.told
+
+  by_return : IsStaged nl a → ((s : Sol) × IsReturn nl.file a s) ⊎ ((fault : ReturnFault) × HasReturnFault nl.file a fault) → ((bytes : List ℕ) × IsReturned nl a bytes) ⊎ ((line : List ℕ) × IsTurnedBack nl a line)
+  by_return staged (inl s) = inl (sol_text s.0, record { staged = staged; sol = s.0; returned = s.1; written = refl })
+  by_return staged (inr w) = inr (return_line w.0, inr (inr (record { staged = staged; fault = w.0; first = w.1; told = refl })))
+
+  by_scaling : fold_fault nl.file a.objective ≡ None → HasNoScaleFault (linear_of nl.file a.objective) ⊎ ((fault : ScaleFault) × HasScaleFault (linear_of nl.file a.objective) fault) → ((bytes : List ℕ) × IsReturned nl a bytes) ⊎ ((line : List ℕ) × IsTurnedBack nl a line)
+  by_scaling folded (inl fine) = by_return (record { folded = folded; scaled = fine }) (one-return nl.file a).some
+  by_scaling folded (inr wide) = inr (scale_line a.objective wide.0, inr (inl (record { folded = folded; first = record { fault = wide.0; first = wide.1; told = refl } })))
+
+  by_fold : (o : Option FileFault) → fold_fault nl.file a.objective ≡ o → ((bytes : List ℕ) × IsReturned nl a bytes) ⊎ ((line : List ℕ) × IsTurnedBack nl a line)
+  by_fold None e = by_scaling e (scaling_decided (linear_of nl.file a.objective))
+  by_fold (Some fault) e = inr (fold_line nl.places (named_fault nl.file fault), inl (record { fault = named_fault nl.file fault; first = ap (option_map (named_fault nl.file)) e; told = refl }))
+
+  one_returned : (bytes : List ℕ) → IsReturned nl a bytes → (other : Outcome) → ReturnsAs nl a other → other ≡ Done true bytes
+  one_returned bytes h BadWords j = absurd j
+  one_returned bytes h (Untold judges) j = absurd j
+  one_returned bytes h NoText j = absurd j
+  one_returned bytes h (Refused line) j = absurd (apart bytes line h j)
+  one_returned bytes h (Done true other) j = ap (Done true) (one_bytes other bytes j h)
+  one_returned bytes h (Done false other) j = absurd j
+
+  one_turned_back : (line : List ℕ) → IsTurnedBack nl a line → (other : Outcome) → ReturnsAs nl a other → other ≡ Refused line
+  one_turned_back line h BadWords j = absurd j
+  one_turned_back line h (Untold judges) j = absurd j
+  one_turned_back line h NoText j = absurd j
+  one_turned_back line h (Refused other) j = ap Refused (one_line other line j h)
+  one_turned_back line h (Done true other) j = absurd (apart other line j h)
+  one_turned_back line h (Done false other) j = absurd j
+
+  one : HasOne IsPlain (ReturnsAs nl a)
+  one = elim (by_fold (fold_fault nl.file a.objective) refl) [
+    | inl h ↦ record { outcome = Done true h.0; comes_to = h.1; is = tt; one = one_returned h.0 h.1 }
+    | inr h ↦ record { outcome = Refused h.0; comes_to = h.1; is = tt; one = one_turned_back h.0 h.1 }
+  ]
+
+pub return_sound : (nl answer : List ℕ) (texts : Texts) → IsSound (return_told nl answer texts)
+return_sound nl answer texts =
+    sound_after IsNl HasTextRefusal nl_read texts nl _ (λ file.
+    sound_after (IsAnswer (setting_of file.file)) (IsAnswerRefused (setting_of file.file)) (answer_read (setting_of file.file)) texts answer _ (λ a.
+    sound_end texts answer (ReturnsAs file a) (λ old new. new ≤ old + most_return_steps file a) (IsReturnMeant file a) (one file a) (λ n. omega arith)))
+
+-- ---- what the code answers
+
+module _ (nl : NlValue) (a : AnswerValue) (n : ℕ) (same : n ≡ a.objective) where
+  folds_at : (l : LinearValue) → HasFolded nl n l → HasFolded nl a.objective l
+  folds_at l folds = subst (λ (k : ℕ). HasFolded nl k l) same folds
+
+  scales_at : (l : LinearValue) (s : ScaledValue) → HasFolded nl n l → HasScaled (linear_value l) s → HasScaled (linear_of nl.file a.objective) s
+  scales_at l s folds scales = subst (λ (f : Linear). HasScaled f s) (folds_at l folds).linear scales
+
+  staged_so : (l : LinearValue) (s : ScaledValue) → HasFolded nl n l → HasScaled (linear_value l) s → IsStaged nl a
+  staged_so l s folds scales = record { folded = (folds_at l folds).fine; scaled = (scales_at l s folds scales).fine }
+
+  -- a dual is too wide
+  pub wide_so : (l : LinearValue) (s : ScaledValue) (stop : Stop ReturnFault) (fault : ReturnFault) (line : List ℕ) → HasFolded nl n l → HasScaled (linear_value l) s → stop ≡ Fault fault → IfFault stop (λ x. HasReturnFault nl.file a x) → line ≡ return_line fault
+      → IsTurnedBack nl a line
+  wide_so l s stop fault line folds scales is h told =
+      inr (inr (record { staged = staged_so l s folds scales; fault = fault; first = subst (λ (x : Stop ReturnFault). IfFault x (λ y. HasReturnFault nl.file a y)) is h; told = told }))
+
+  -- the answer's objective was folded
+  pub most_so : (old new : ℕ) → new ≤ old + step_bound nl.file → (has_objective nl.file n ≡ false → new ≡ old) → new ≤ old + most_return_steps nl a
+  most_so old new below none = steps_so (has_objective nl.file a.objective) old new (step_bound nl.file) below (λ e. none (ap (has_objective nl.file) same ∙ e))
+
+-- the duals mean what the law of return says; where there are none, of each that is there
+mean_if : (nl : NlValue) (a : AnswerValue) (b : Bool) (duals : List Dec) → IsFile nl.file → fold_fault nl.file a.objective ≡ None → AreDualsIf b nl.file a duals → MeanTheProgram nl.file a duals
+mean_if nl a true duals file folded are = duals_mean nl.file a duals file folded are
+mean_if nl a false duals file folded are =
+    let none : MeanTheProgram nl.file a [] = record { plain = λ i d w xs is. absurd cc; tied = λ i d w xs z count is. absurd cc } in
+    subst (λ (ds : List Dec). MeanTheProgram nl.file a ds) (sym are) none
+
+return_meant : (nl : NlValue) (a : AnswerValue) → IsFile nl.file → IsReturnMeant nl a
+return_meant nl a file = λ bytes r. mean_if nl a (list_any is_some a.rows) r.sol.duals file r.staged.folded r.returned.duals
+
+holds_so : (nl : NlValue) (a : AnswerValue) (b : Bool) (bytes : List ℕ) → ReturnsAs nl a (Done b bytes) → b ≡ true
+holds_so nl a true bytes h = refl
+holds_so nl a false bytes h = absurd h
+
+-- this command gives no verdicts
+meant_so : (nl : NlValue) (a : AnswerValue) (r : Result (Bool × Vec ℕ) (Stop (Vec ℕ))) → Comes (ReturnsAs nl a) r → IsReturnMeant nl a → IfOk r (λ t. ((t.0 ≡ true) ⊎ IsTrue false) × (t.0 ≡ true → IsReturnMeant nl a))
+meant_so nl a (Ok t) comes m = (inl (holds_so nl a t.0 t.1.items comes), λ e. m)
+meant_so nl a (Err stop) comes m = tt
+
+-- ---- the ends of the command
+
+-- what is left of the command once the first file was read
+abbrev pub after_nl : List ℕ → Texts → NlValue → Promise
+after_nl answer texts file =
+    after_file (IsAnswer (setting_of file.file)) (IsAnswerRefused (setting_of file.file)) texts answer (λ a.
+    ends texts answer (ReturnsAs file a) (λ old new. new ≤ old + most_return_steps file a) (IsReturnMeant file a))
+
+module _ (nl answer : List ℕ) where
+  pub not_counted : (texts : Option Texts) (n : ℕ) → (return_promise texts nl answer).counts n n
+  not_counted texts n = idle (return_told nl answer) false (return_sound nl answer) texts n
+
+  module _ {R : Type 0} (seen : R → NlValue) (old mid : Meaning) (value : R) (read : ReadsFile {R = R} seen IsNl HasTextRefusal nl old mid (Ok value)) where
+    abbrev s : Setting
+    s = setting_of (seen value).file
+
+    down : HasComeDown (return_told nl answer) false (λ texts. after_nl answer texts (seen value)) old mid
+    down = further (return_told nl answer) false seen IsNl HasTextRefusal nl (after_nl answer) old old mid (begun (return_told nl answer) false old) value read
+
+    -- the second file ends it
+    pub answer_stopped : (new : Meaning) (end : Ended) → ReadsFile {R = AnswerValue} itself (IsAnswer s) (IsAnswerRefused s) answer mid new (Err end) → IsWorked (return_promise old.texts nl answer) old new end
+    answer_stopped new end read_so =
+        stopped (return_told nl answer) false (return_sound nl answer) itself (IsAnswer s) (IsAnswerRefused s) answer
+        (λ texts a. ends texts answer (ReturnsAs (seen value) a) (λ m n. n ≤ m + most_return_steps (seen value) a) (IsReturnMeant (seen value) a))
+        old mid new down end read_so
+
+    module _ (new : Meaning) (a : AnswerValue) (given : ReadsFile {R = AnswerValue} itself (IsAnswer s) (IsAnswerRefused s) answer mid new (Ok a)) where
+      -- both were judged
+      pub answer_ended : (last : Meaning) (judged : Result (Bool × Vec ℕ) (Stop (Vec ℕ))) (end : Ended) → Comes (ReturnsAs (seen value) a) judged
+          → IsFile (seen value).file → EndsVerdict judged new last end → IsWorked (return_promise old.texts nl answer) old last end
+      answer_ended last judged end comes file is =
+          ended (return_told nl answer) false (return_sound nl answer) itself (IsAnswer s) (IsAnswerRefused s) answer
+          (λ q. ReturnsAs (seen value) q) (λ q m n. n ≤ m + most_return_steps (seen value) q) (λ q. IsReturnMeant (seen value) q)
+          old mid new down a given last judged end comes (meant_so (seen value) a judged comes (return_meant (seen value) a file)) is
+
+      pub answer_counted : (m n : ℕ) → n ≤ m + most_return_steps (seen value) a → (return_promise old.texts nl answer).counts m n
+      answer_counted m n le =
+          counted (return_told nl answer) false (return_sound nl answer) itself (IsAnswer s) (IsAnswerRefused s) answer
+          (λ q. ReturnsAs (seen value) q) (λ q m n. n ≤ m + most_return_steps (seen value) q) (λ q. IsReturnMeant (seen value) q)
+          old mid new down a given m n le

@@ -1,0 +1,98 @@
+// The command return: from an .nl text and an answer to the text of its .sol file, or to the line
+// to tell.
+ghost use Rattle.std.specs.Prelude.{◌≡◌, ◌≢◌, ◌+◌, ◌≤◌};
+ghost use Rattle.nl_model.specs.Rules.{IsFile};
+ghost use Rattle.nl_segments.specs.Reader.{HasLines, value_of};
+ghost use Rattle.dual_return.specs.Return.{IsAnswerFor};
+ghost use Rattle.bridge_tool.specs.Answer.{IsWorked, status_of};
+ghost use Rattle.bridge_tool.specs.Return.{Makes, ReturnsAs, most_return_steps, return_promise};
+ghost use Rattle.bridge_tool.specs.SeveralFiles.{Comes};
+
+use crate::answer::Answer;
+use crate::answer_input::open_answer;
+use crate::answer_told::return_line;
+use crate::nl_input::open_nl;
+use crate::one_file::end_verdict;
+use crate::stages::{fold, scale};
+use answer_file::Answer as Given;
+use dual_return::solution;
+use nl_segments::NlRead;
+use sol_files::{Sol, write_sol};
+use std::alloc::Global;
+use text_base::{Desk, Ledger, Steps, Stop};
+
+// The .sol value of an answer for a file, or the line of the first fault of the fold, of scaling or
+// of a dual.
+fn make<L: Ledger>(
+    alloc: Global,
+    read: &NlRead,
+    given: &Given,
+    steps: &mut Steps<L>,
+) -> Result<Sol, Stop<Vec<u8>>>
+    requires lines { HasLines read.now }
+    requires made { IsAnswerFor read.now.file given.now }
+    ensures makes { Makes (value_of read.now) given.now result }
+    ensures file { IsFile read.now.file }
+    ensures above { steps.old ≤ steps.new }
+    ensures counts { steps.new ≤ steps.old + most_return_steps (value_of read.now) given.now }
+{
+    let objective = given.objective();
+    let linear = fold(alloc, read, objective, steps)?;
+    let scaled = scale(alloc, linear, objective)?;
+    match solution(alloc, &read.file, &scaled, given) {
+        Ok(sol) => Ok(sol),
+        Err(Stop::Memory) => Err(Stop::Memory),
+        Err(Stop::Fault(fault)) => {
+            let line = return_line(alloc, fault)?;
+            Err(Stop::Fault(line))
+        }
+    }
+}
+
+// The bytes to write for an answer for a file, or the line to tell.
+fn judge<L: Ledger>(
+    alloc: Global,
+    read: NlRead,
+    given: &Given,
+    steps: &mut Steps<L>,
+) -> Result<(bool, Vec<u8>), Stop<Vec<u8>>>
+    requires lines { HasLines read }
+    requires made { IsAnswerFor read.file given.now }
+    ensures comes { Comes (ReturnsAs (value_of read) given.now) result }
+    ensures file { IsFile read.file }
+    ensures above { steps.old ≤ steps.new }
+    ensures counts { steps.new ≤ steps.old + most_return_steps (value_of read) given.now }
+{
+    let sol = make(alloc, &read, given, steps)?;
+    let out = write_sol(alloc, &sol)?;
+    Ok((true, out))
+}
+
+/// Returns an answer for a file: reads both texts, judges them, and writes the .sol text that they
+/// come to. Tells nothing.
+pub(crate) fn return_answer<D: Desk, L: Ledger>(
+    alloc: Global,
+    nl: &str,
+    answer: &str,
+    desk: &mut D,
+    steps: &mut Steps<L>,
+) -> Answer
+    ensures worked { IsWorked (return_promise (D.meaning desk.old).texts nl.now answer.now)
+        (D.meaning desk.old) (D.meaning desk.new) result }
+    ensures known { status_of result ≢ 3 }
+    ensures above { steps.old ≤ steps.new }
+    ensures counts { (return_promise (D.meaning desk.old).texts nl.now answer.now).counts
+        steps.old steps.new }
+    ensures idle { status_of result ≡ 4 → steps.new ≡ steps.old }
+{
+    let read = match open_nl(alloc, desk, nl) {
+        Ok(read) => read,
+        Err(ended) => return ended,
+    };
+    let given = match open_answer(alloc, desk, &read.file, answer) {
+        Ok(given) => given,
+        Err(ended) => return ended,
+    };
+    let judged = judge(alloc, read, &given, steps);
+    end_verdict(desk, judged)
+}
