@@ -1,333 +1,84 @@
 #!/usr/bin/env python3
 """Runs the built program on worked examples, and compares bytes and status.
 
-    run.py PROGRAM
+    run.py PROGRAM [COMMAND ..]
 
-The last line is `N examples, M failed`; the status is 0 where none failed.
+With commands, only their examples are run. The last line is `N examples, M failed`; the status is 0 where none failed.
 Each text was worked out by hand from the rules of the format.
 """
+import importlib
 import os
+import pkgutil
 import subprocess
 import sys
 import tempfile
 
-BIG = 2**127 - 1
+import cases
 
 
-def head(v, c, o, nbv, niv, nzc, nzo, d):
-    """The ten header lines of a file with these counts."""
-    return [
-        "g3 1 1 0", f"{v} {c} {o} 0 0", "0 0", "0 0", "0 0 0", "0 0 0 1",
-        f"{nbv} {niv} 0 0 0", f"{nzc} {nzo}", "0 0", f"{d} 0 0 0 0",
-    ]
+class Program:
+    """The built program, run in a folder of its own."""
+
+    def __init__(self, path):
+        self.path = os.path.abspath(path)
+        self.folder = tempfile.TemporaryDirectory()
+
+    def run(self, words, files):
+        """The finished process for these words, where these files lie."""
+        for name, content in files.items():
+            with open(os.path.join(self.folder.name, name), "wb") as stream:
+                stream.write(content)
+        return subprocess.run([self.path, *words], cwd=self.folder.name, capture_output=True, timeout=600)
+
+    def output(self, content, command, *words):
+        """What the command writes on this file, or None where it refuses."""
+        done = self.run((command, "AGAIN", *words), {"AGAIN": content})
+        return done.stdout if done.returncode == 0 else None
 
 
-def file(counts, body):
-    return head(*counts) + body.split(" / ")
-
-
-def mps(body):
-    """A written text; `/` stands between lines."""
-    return "NAME nl\n" + "".join(line + "\n" for line in body.split("/")) + "ENDATA\n"
-
-
-def text(lines, end="\n"):
-    return "".join(line + end for line in lines).encode()
-
-
-KNAPSACK = """g3 1 1 0\t# problem knap
- 3 1 1 0 0\t# vars, constraints, objectives, ranges, eqns
- 0 0\t# nonlinear constraints, objectives
- 0 0\t# network constraints: nonlinear, linear
- 0 0 0\t# nonlinear vars in constraints, objectives, both
- 0 0 0 1\t# linear network variables; functions; arith, flags
- 3 0 0 0 0\t# discrete variables: binary, integer, nonlinear (b,c,o)
- 3 3\t# nonzeros in Jacobian, gradients
- 0 0\t# max name lengths: constraints, variables
- 0 0 0 0 0\t# common exprs: b,c,o,c1,o1
-C0
-n0
-O0 1
-n0
-r
-1 10
-b
-0 0 1
-0 0 1
-0 0 1
-k2
-1
-2
-J0 3
-0 5
-1 4
-2 6.5
-G0 3
-0 10
-1 7
-2 12""".split("\n")
-
-KNAPSACK_MPS = (
-    "NAME nl\nOBJSENSE\n MAX\nROWS\n N obj\n L c0\nCOLUMNS\n M0 'MARKER' 'INTORG'\n x0 obj 10\n x0 c0 5\n"
-    " x1 obj 7\n x1 c0 4\n x2 obj 12\n x2 c0 6.5\n M1 'MARKER' 'INTEND'\nRHS\n RHS c0 10\nBOUNDS\n LO BND x0 0\n"
-    " UP BND x0 1\n LO BND x1 0\n UP BND x1 1\n LO BND x2 0\n UP BND x2 1\nENDATA\n"
-)
-
-SMALL = file((2, 2, 1, 0, 0, 3, 2, 0), "C0 / n0 / C1 / n2 / O0 1 / n5 / r / 1 10 / 4 3 / b / 2 0 / 1 7 / J0 2 / 0 1 / 1 2 / J1 1 / 0 -1 / G0 2 / 0 3 / 1 -4")
-
-
-def small_mps(side):
-    return (
-        "NAME nl\nOBJSENSE\n MAX\nROWS\n N obj\n L c0\n E c1\nCOLUMNS\n x0 obj 3\n x0 c0 1\n x0 c1 -1\n x1 obj -4\n"
-        f" x1 c0 2\nRHS\n RHS obj -5\n RHS c0 {side}\n RHS c1 1\nBOUNDS\n LO BND x0 0\n PL BND x0\n MI BND x1\n"
-        " UP BND x1 7\nENDATA\n"
-    )
-
-
-def with_line(lines, number, line):
-    return lines[: number - 1] + [line] + lines[number:]
-
-
-def one_term(term, side="1 1"):
-    """One variable and one row of one term, on line 16."""
-    return file((1, 1, 0, 0, 0, 1, 0, 0), f"r / {side} / b / 3 / J0 1 / 0 {term}")
-
-
-def one_term_mps(entry):
-    return mps(f"ROWS/ N obj/ L c0/COLUMNS/{entry}/RHS/ RHS c0 1/BOUNDS/ FR BND x0")
-
-
-def doubled(n):
-    """Defined variable k is twice the one before it."""
-    body = "".join(f"V{k} 0 0 / o0 / v{k - 1} / v{k - 1} / " for k in range(1, n + 1))
-    return file((1, 1, 0, 0, 0, 1, 0, n), body + f"C0 / v{n} / r / 1 1 / b / 3 / J0 1 / 0 0")
-
-
-TWO = (2, 1, 0, 0, 0, 2, 0, 0)
-TWO_END = " / r / 1 1 / b / 3 / 3 / J0 2 / 0 0 / 1 0"
-POWER = "C0 / o0 / o5 / n{} / n{} / o11 / 2 / n4 / o14 / n-7.5 / r / 1 10 / b / 3 / J0 1 / 0 1"
-KINDS = [
-    "g3 1 1 0", "8 0 0 0 0", "0 0", "0 0", "3 5 2", "0 0 0 1", "1 1 1 1 1", "0 0", "0 0", "0 0 0 0 0",
-    "b", "3", "3", "3", "3", "3", "3", "0 0 1", "3",
-]
-
-
-def written(name, lines, out, *words, end="\n"):
-    return name, text(lines, end), words, 0, out, ""
-
-
-def refused(name, lines, told, *words):
-    return name, text(lines), words, 2, "", f"refused {told}\n"
-
-
-def bad_words(name, *words):
-    return name, text(SMALL), words, 3, "", "bad words\n"
-
-
-def header_fault(name, number, line, told):
-    return refused(name, with_line(head(1, 0, 0, 0, 0, 0, 0, 0), number, line), told)
-
-
-def small_cases():
-    yield written("small", SMALL, small_mps("10"))
-    yield written("fraction in a body", with_line(SMALL, 12, "n0.5"), small_mps("9.5"))
-    yield refused("no last line", SMALL[:-1], "line 30: short segment")
-    yield written("one variable", file((1, 0, 0, 0, 0, 0, 0, 0), "b / 2 0"), mps("ROWS/ N obj/COLUMNS/ x0 obj 0/RHS/BOUNDS/ LO BND x0 0/ PL BND x0"))
-    yield written("slopes", file((1, 0, 1, 0, 0, 0, 1, 0), "O0 0 / n5 / b / 3 / G0 1 / 0 2"), mps("ROWS/ N obj/COLUMNS/ x0 obj 2/RHS/ RHS obj -5/BOUNDS/ FR BND x0"))
-    yield bad_words("a third word")
-    yield bad_words("leading zero", "export", "FILE", "01")
-    yield bad_words("four words", "export", "FILE", "0", "0")
-    yield bad_words("no plain number", "export", "FILE", "-1")
-    yield bad_words("beyond 32 bits", "export", "FILE", "4294967296")
-    yield bad_words("another command", "import", "FILE")
-    yield refused("no such objective", SMALL, "objective 1: no such objective", "export", "FILE", "1")
-    yield written("objective 0 by number", SMALL, small_mps("10"), "export", "FILE", "0")
-    yield "no such file", b"", ("export", "missing.nl"), 4, "", "input fault\n"
-
-
-def header_cases():
-    yield written("kinds", KINDS, mps(
-        "ROWS/ N obj/COLUMNS/ x0 obj 0/ M0 'MARKER' 'INTORG'/ x1 obj 0/ x2 obj 0/ M1 'MARKER' 'INTEND'/ x3 obj 0/ M2 'MARKER' 'INTORG'"
-        "/ x4 obj 0/ M3 'MARKER' 'INTEND'/ x5 obj 0/ M4 'MARKER' 'INTORG'/ x6 obj 0/ x7 obj 0/ M5 'MARKER' 'INTEND'/RHS/BOUNDS"
-        + "".join(f"/ FR BND x{j}" for j in range(6)) + "/ LO BND x6 0/ UP BND x6 1/ FR BND x7"))
-    yield header_fault("options", 1, "g3 1 3 0", "line 1: refused options")
-    yield header_fault("binary", 1, "b3 1 1 0", "line 1: binary file")
-    yield header_fault("first line", 1, "x", "line 1: bad first line")
-    yield header_fault("number", 8, "0", "line 8: bad header number")
-    yield "empty text", b"", ("export", "FILE"), 2, "", "refused line 1: end in header\n"
-    yield header_fault("count", 2, "1 1 0 0 0 1", "line 2: refused count")
-    yield header_fault("counts", 5, "1 0 1", "line 5: counts disagree")
-    yield header_fault("large", 2, "1048577 x", "line 2: too large")
-
-
-def reader_cases():
-    yield written("knapsack", KNAPSACK, KNAPSACK_MPS)
-    yield "knapsack by CR LF", "\r\n".join(KNAPSACK).encode(), ("export", "FILE"), 0, KNAPSACK_MPS, ""
-    yield refused("knapsack, 23 lines", KNAPSACK[:23], "line 24: nonzero count")
-    yield refused("knapsack, 30 lines", KNAPSACK[:30], "line 31: short segment")
-    yield refused("two faults", with_line(with_line(KNAPSACK, 18, "0 x"), 21, "Q"), "line 18: bad line")
-    yield refused("undefined", file((1, 1, 0, 0, 0, 0, 0, 1), "C0 / v1 / V1 0 0 / n0 / r / 1 1 / b / 3"), "line 12: undefined")
-    short = "r / 1 1 / b / 3 / 3 / 3 / J0 3 / 0 1 / 1 1 / {}C0 / n0"
-    yield refused("short segment", file((3, 1, 0, 0, 0, 3, 0, 0), short.format("")), "line 20: short segment")
-    yield refused("extra line", file((3, 1, 0, 0, 0, 3, 0, 0), short.format("2 1 / 2 1 / ")), "line 21: extra line")
-    for term in [".", "1e401", str(BIG + 1)]:
-        yield refused(f"number {term}", one_term(term), "line 16: bad number")
-    one = (1, 1, 0, 0, 0, 0, 0, 0)
-    yield refused("functions", file(one, "F0 1 -1 f"), "line 11: refused segment")
-    yield refused("unknown segment", file(one, "Q"), "line 11: unknown segment")
-    yield refused("repeated segment", file(one, "C0 / n0 / C0"), "line 13: repeated segment")
-    yield refused("bad head", file(one, "C"), "line 11: bad segment head")
-    yield refused("index", file(one, "C1"), "line 11: index out of range")
-    yield refused("complementarity", file(one, "r / 5 1 1"), "line 12: complementarity")
-    yield refused("empty interval", file(one, "r / 0 2 1"), "line 12: empty interval")
-    yield refused("special ordered sets", file(one, "S0 1 sosno"), "line 11: special ordered sets")
-    yield refused("opcode", file(one, "C0 / o43 / v0"), "line 12: refused opcode 43")
-    yield refused("leaf", file(one, "C0 / h3:abc"), "line 12: refused leaf")
-    yield refused("binary bounds", file((1, 0, 0, 1, 0, 0, 0, 0), "b / 0 0 2"), "line 12: binary bounds")
-    yield refused("repeated index", file(one, "x2 / 0 1 / 0 1"), "line 13: repeated index")
-    yield refused("missing", file(one, "b / 3"), "line 13: missing segment")
-    yield refused("columns", file((2, 1, 0, 0, 0, 1, 0, 0), "r / 3 / b / 3 / 3 / k1 / 0 / J0 1 / 0 1"), "line 20: column count")
-    yield refused("long line", head(*one) + [" " * 65537], "line 11: line too long")
-    yield refused("line of 65,536 bytes", head(*one) + [" " * 65536], "line 12: missing segment")
-    suffixes = [line for k in range(1025) for line in (f"S0 0 n{k}",)]
-    yield refused("1,025 suffixes", head(*one) + suffixes, "line 1035: too large")
-    yield refused("repeated suffix", file(one, "S0 0 a / S1 0 a / S4 0 a"), "line 13: repeated segment")
-    yield refused("name of 256 bytes", file(one, f"S0 0 {'n' * 256}"), "line 11: bad segment head")
-    nodes = ["C0"] + ["o16"] * 4194303 + ["v0"]
-    ends = ["r", "1 1", "b", "3"]
-    deep = mps("ROWS/ N obj/ L c0/COLUMNS/ x0 c0 -1/RHS/ RHS c0 1/BOUNDS/ FR BND x0")
-    yield written("4,194,304 nodes", head(*one) + nodes + ends, deep)
-    yield refused("a node too many", head(*one) + nodes[:1] + ["o16"] + nodes[1:] + ends, "line 4194316: too large")
-
-
-def fold_cases():
-    yield written("a constant product", file(TWO, "C0 / o2 / v0 / o1 / v1 / v1" + TWO_END), mps("ROWS/ N obj/ L c0/COLUMNS/ x0 obj 0/ x1 obj 0/RHS/ RHS c0 1/BOUNDS/ FR BND x0/ FR BND x1"))
-    yield refused("a product", file(TWO, "C0 / o2 / v0 / v1" + TWO_END), "line 12: nonlinear")
-    yield refused("a divisor of 0", file(TWO, "C0 / o3 / v0 / o1 / n2 / n2" + TWO_END), "line 12: division by zero")
-    yield written("100 doublings", doubled(100), one_term_mps(f" x0 c0 {2**100}"))
-    yield refused("130 doublings", doubled(130), "line 516: too wide")
-    yield refused("a wide term", one_term("2e38"), "line 16: too wide")
-    yield refused("a wide sum", file((1, 1, 0, 0, 0, 2, 0, 0), f"r / 1 1 / b / 3 / J0 2 / 0 {BIG} / 0 1"), "line 17: too wide")
-    one = (1, 1, 0, 0, 0, 1, 0, 0)
-    yield written("constants", file(one, POWER.format("1.5", "3")), mps("ROWS/ N obj/ L c0/COLUMNS/ x0 c0 1/RHS/ RHS c0 13.625/BOUNDS/ FR BND x0"))
-    yield refused("an exponent that is not whole", file(one, POWER.format("1.5", "0.5")), "line 13: refused power")
-    yield refused("a power of a variable", file(one, POWER.format("0", "3").replace("n0 / n3", "v0 / n3")), "line 13: nonlinear")
-    yield refused("a wide power", file(one, POWER.format("10", "127")), "line 13: too wide")
-    wide = [line for k in range(2049) for line in [f"V{4096 + k} {4096 if k == 0 else 0} 0"] + ([f"{j} 1" for j in range(4096)] + ["n0"] if k == 0 else [f"v{4095 + k}"])]
-    base = head(4096, 0, 0, 0, 0, 0, 0, 2049)
-    bounds = ["b"] + ["3"] * 4096
-    columns = "ROWS/ N obj/COLUMNS" + "".join(f"/ x{j} obj 0" for j in range(4096)) + "/RHS/BOUNDS" + "".join(f"/ FR BND x{j}" for j in range(4096))
-    yield written("2,048 wide definitions", head(4096, 0, 0, 0, 0, 0, 0, 2048) + wide[:-2] + bounds, mps(columns))
-    yield refused("too many coefficients", base + wide + bounds, f"line {10 + 4098 + 2 * 2047 + 1}: fold too large")
-
-
-def scale_cases():
-    thirds = "C0 / o0 / o3 / v0 / n3 / v1" + TWO_END
-    yield written("a factor of 3", file(TWO, thirds), mps("ROWS/ N obj/ L c0/COLUMNS/ x0 c0 1/ x1 c0 3/RHS/ RHS c0 3/BOUNDS/ FR BND x0/ FR BND x1"))
-    ranges = "C0 / n2 / r / 0 1 7 / 0 4 4 / b / 3 / J0 1 / 0 1 / J1 1 / 0 1"
-    yield written("a range", file((1, 2, 0, 0, 0, 2, 0, 0), ranges), mps("ROWS/ N obj/ G c0/ E c1/COLUMNS/ x0 c0 1/ x0 c1 1/RHS/ RHS c0 -1/ RHS c1 4/RANGES/ RNG c0 6/BOUNDS/ FR BND x0"))
-    for term, entry in [("-0", "obj 0"), ("+1.50e1", "c0 15"), ("1e38", "c0 1e38"), ("0e999999999", "obj 0"), (".5", "c0 0.5"), (str(BIG), f"c0 {BIG}")]:
-        yield written(f"term {term}", one_term(term), one_term_mps(f" x0 {entry}"))
-    yield refused("a wide side", one_term("1", "1 2e38"), "row 0: row too wide")
-    tied = (1, 0, 1, 0, 0, 0, 1, 0)
-    tie = "ROWS/ N obj/ E zdef/COLUMNS/ x0 zdef 1/ z obj 1/ z zdef -3/RHS{}/BOUNDS/ FR BND x0/ FR BND z"
-    yield written("a tied objective", file(tied, "O0 0 / o3 / v0 / n3 / b / 3 / G0 1 / 0 0"), mps(tie.format("")))
-    yield written("a tied constant", file(tied, "O0 0 / o3 / o0 / v0 / n1 / n3 / b / 3 / G0 1 / 0 0"), mps(tie.format("/ RHS zdef -1")))
-    wide = f"O0 0 / o0 / o3 / v0 / n{BIG} / o3 / v1 / n{BIG - 4} / b / 3 / 3"
-    yield refused("a wide objective", file((2, 0, 1, 0, 0, 0, 2, 0), wide), "objective 0: objective too wide")
-
-
-PAIRS = [
-    "* two pairs per line", "NAME          TEST", "ROWS", " N  COST", " E  R1", " L  R2", "COLUMNS", "    X  COST  1.0  R1  2",
-    "    X  R2  1", "    Y  COST  -3  R2  1e0", "RHS", "    R1  10  R2  7", "RANGES", "    RG  R1  -2", "BOUNDS", " UP BN X -4", "ENDATA",
-]
-PAIRS_MPS = (
-    "NAME TEST\nROWS\n N COST\n E R1\n L R2\nCOLUMNS\n X COST 1\n X R1 2\n X R2 1\n Y COST -3\n Y R2 1\nRHS\n RHS R1 10\n"
-    " RHS R2 7\nRANGES\n RNG R1 -2\nBOUNDS\n UP BND X -4\nENDATA\n"
-)
-MPS = ("mps", "FILE")
-FRONT = ["ROWS", " N C", " L R", " N F", "COLUMNS", " X C 1 R 1", " Y R 1"]
-
-
-def mps_cases():
-    yield written("an MPS text", PAIRS, PAIRS_MPS, *MPS)
-    yield written("an MPS text by CR LF", PAIRS, PAIRS_MPS, *MPS, end="\r\n")
-    for out in [PAIRS_MPS, KNAPSACK_MPS, small_mps("10")]:
-        yield "written again", out.encode(), MPS, 0, out, ""
-    for count in range(17):
-        yield refused(f"{count} lines", PAIRS[:count], f"line {count + 1}: no end", *MPS)
-    yield "no MPS file", b"", ("mps", "missing.mps"), 4, "", "input fault\n"
-    yield bad_words("mps alone", "mps")
-    yield bad_words("mps and a number", "mps", "FILE", "0")
-    yield refused("no objective", ["ROWS", " L R", "COLUMNS"], "line 3: no objective", *MPS)
-    yield refused("words after COLUMNS", ["ROWS", " L R", "COLUMNS x"], "line 3: bad section", *MPS)
-    yield refused("an unknown row", FRONT + ["RHS", " R 1 Q x"], "line 9: unknown row", *MPS)
-    yield refused("a bad number", FRONT + ["RHS", " R 1 R x"], "line 9: bad number", *MPS)
-    yield refused("a repeated entry", FRONT + ["RHS", " R 1 R 1"], "line 9: repeated entry", *MPS)
-    yield refused("a second set", FRONT + ["RHS", " S R 1", " C 1"], "line 10: second set", *MPS)
-    yield refused("a range on a free row", FRONT + ["RANGES", " F x"], "line 9: range on free row", *MPS)
-    yield refused("a repeated bound", FRONT + ["BOUNDS", " UP X 1", " FX X 1"], "line 10: repeated bound", *MPS)
-    yield refused("a column again", FRONT + [" X R 2"], "line 8: column again", *MPS)
-
-
-def nl_cases():
-    def again(name, counts, body, out):
-        return name, text(file(counts, body)), ("nl", "FILE"), 0, text(file(counts, out)).decode(), ""
-
-    yield again("slopes, written", (1, 0, 1, 0, 0, 0, 1, 0), "O0 0 / n5 / b / 3 / G0 1 / 0 2", "O0 0 / n5 / b / 3 / k0 / G0 1 / 0 2")
-    pieces = "d1 / 0 1.5 / x1 / 0 2 / S0 1 sstatus / 0 3 / r / 3 / b / 3"
-    yield again("pieces in order", (1, 1, 0, 0, 0, 0, 0, 0), pieces, "S0 1 sstatus / 0 3 / d1 / 0 1.5 / x1 / 0 2 / r / 3 / b / 3 / k0")
-    yield refused("no number", one_term("."), "line 16: bad number", "nl", "FILE")
-    yield bad_words("nl and a number", "nl", "FILE", "0")
-
-
-def output(program, folder, content, *words):
-    """What the program writes on this file, or None where it refuses."""
-    with open(os.path.join(folder, "AGAIN"), "wb") as stream:
-        stream.write(content)
-    done = subprocess.run([program, *words], cwd=folder, capture_output=True, timeout=600)
-    return done.stdout if done.returncode == 0 else None
-
-
-def is_written_again(program, folder, content, exported, words):
+def is_written_again(program, content, exported, words):
     """What was exported is written again unchanged by `mps`, and the written .nl text by `nl`, which is exported as the same."""
-    file = output(program, folder, content, "nl", "AGAIN")
+    file = program.output(content, "nl")
     return (
-        output(program, folder, exported, "mps", "AGAIN") == exported
+        program.output(exported, "mps") == exported
         and file is not None
-        and output(program, folder, file, "nl", "AGAIN") == file
-        and output(program, folder, file, "export", "AGAIN", *words[2:]) == exported
+        and program.output(file, "nl") == file
+        and program.output(file, "export", *words) == exported
     )
 
 
-def run(program, folder, case):
-    name, content, words, status, out, told = case
-    path = os.path.join(folder, "FILE")
-    with open(path, "wb") as stream:
-        stream.write(content)
-    words = words or (("export",) if name == "a third word" else ("export", "FILE"))
-    done = subprocess.run([program, *words], cwd=folder, capture_output=True, timeout=600)
+def check(program, case):
+    """Whether the program does what the example says; tells where not."""
+    done = program.run(case.words, case.files)
     got = (done.returncode, done.stdout.decode(), done.stderr.decode())
-    if got == (status, out, told):
-        if status or words[0] != "export" or is_written_again(program, folder, content, done.stdout, words):
+    if got == (case.status, case.out, case.told):
+        command, *words = case.words
+        if command != "export" or case.status or len(words) > 2 or is_written_again(program, case.files["A"], done.stdout, words[1:]):
             return True
-        print(f"{name}: is not written again as the same")
+        print(f"{case.name}: is not written again as the same")
         return False
-    print(f"{name}: wanted {status} {told!r}, got {got[0]} {got[2][:200]!r}")
-    if got[1] != out:
-        print(f"  wanted {out[:400]!r}\n  got    {got[1][:400]!r}")
+    print(f"{case.name}: wanted {case.status} {case.told!r}, got {got[0]} {got[2][:200]!r}")
+    if got[1] != case.out:
+        print(f"  wanted {case.out[:400]!r}\n  got    {got[1][:400]!r}")
     return False
 
 
+def examples(commands):
+    """The examples of all modules of `cases`, of these commands alone where there are some."""
+    for module in pkgutil.iter_modules(cases.__path__):
+        found = importlib.import_module(f"cases.{module.name}")
+        for case in getattr(found, "cases", list)():
+            if not commands or case.words[0] in commands:
+                yield case
+
+
 def main():
-    if len(sys.argv) != 2:
+    if len(sys.argv) < 2:
         sys.exit(__doc__)
-    program = os.path.abspath(sys.argv[1])
-    cases = [*small_cases(), *header_cases(), *reader_cases(), *fold_cases(), *scale_cases(), *mps_cases(), *nl_cases()]
-    with tempfile.TemporaryDirectory() as folder:
-        failed = sum(not run(program, folder, case) for case in cases)
-    print(f"{len(cases)} examples, {failed} failed")
-    sys.exit(1 if failed else 0)
+    program = Program(sys.argv[1])
+    results = [check(program, case) for case in examples(sys.argv[2:])]
+    print(f"{len(results)} examples, {results.count(False)} failed")
+    sys.exit(1 if False in results else 0)
 
 
 main()

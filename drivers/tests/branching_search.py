@@ -52,8 +52,11 @@ class ByClp(Branching):
             if model.value is not None:
                 with self.subTest(name):
                     sign = self.prover(model.text).program.sign
-                    result = self.proved(model.text, model.value + F(sign, 2), "exact")
-                    self.assertIsNone(result.claim, result.text)
+                    for more in (F(1, 2), F(1), F(3)):
+                        result = self.proved(model.text, model.value + sign * more, "exact")
+                        self.assertIsNone(result.claim, result.text)
+                        if model.claim == "column":
+                            self.assertIn("a better point seems to exist", result.why)
         self.assertIsNone(self.proved(BRANCHED["mixed"].text, None).claim)
 
     def test_random(self) -> None:

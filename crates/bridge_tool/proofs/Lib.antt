@@ -8,12 +8,15 @@ pub mod FoldPlaces
 pub mod Headline
 pub mod Importing
 pub mod Known
+pub mod Making
 pub mod Meaning
 pub mod MpsRewriting
 pub mod NlRewriting
 pub mod Numbers
 pub mod OneOutcome
+pub mod Proving
 pub mod Outcomes
 pub mod SeveralFiles
 pub mod SolRewriting
+pub mod Summing
 pub mod Working

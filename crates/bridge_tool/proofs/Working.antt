@@ -14,9 +14,9 @@ use Rattle.bridge_tool.specs.declared.answer.Answer.{Answer}
 use Rattle.bridge_tool.specs.declared.transfer.Unread.{Unread}
 use Rattle.bridge_tool.specs.declared.transfer.Unread.TheVariants.{Fault, Memory}
 use Rattle.bridge_tool.specs.declared.transfer.TheConstants.{LIMIT}
+use Rattle.bridge_tool.proofs.OneOutcome.{HasOne, text_has_one}
 use Rattle.bridge_tool.proofs.Decisions.{AreDecided}
 use Rattle.bridge_tool.proofs.Ending.{HasComeTo, IsKnown, fault_status, line_none, memory_worked, missed_worked as missed_so, refused_worked, wrote_worked}
-use Rattle.bridge_tool.proofs.OneOutcome.{text_has_one}
 
 module _ (accepts refuses : List ℕ → List ℕ → Type 0) where
   text_known : (text : List ℕ) (o : Outcome) → TextComesTo accepts refuses text o → IsKnown o

@@ -2,16 +2,18 @@
 use Rattle.std.specs.Prelude.{◌≡◌, ℕ, List}
 use Rattle.std.specs.declared.option.Option.{Option}
 use Rattle.std.specs.declared.option.Option.TheVariants.{None, Some}
-use Rattle.text_base.specs.Desk.{Texts}
-use Rattle.bridge_tool.specs.Command.{Command, Check, Export, Fixed, Import, Mps, Nl, Sol, command_of}
+use Rattle.text_base.specs.Desk.{Texts, Meaning}
+use Rattle.bridge_tool.specs.Command.{Command, Check, Export, Fixed, Mps, Nl, Sol, command_of, Import, Prove, Make}
 use Rattle.bridge_tool.specs.Check.{check_promise}
 use Rattle.bridge_tool.specs.Export.{export_promise}
 use Rattle.bridge_tool.specs.Import.{import_promise}
 use Rattle.bridge_tool.specs.Fixed.{fixed_promise}
+use Rattle.bridge_tool.specs.Make.{LeavesInput, make_promise}
 use Rattle.bridge_tool.specs.Mps.{mps_promise}
 use Rattle.bridge_tool.specs.Nl.{nl_promise}
 use Rattle.bridge_tool.specs.Outcome.{Outcome, BadWords}
 use Rattle.bridge_tool.specs.Promise.{Promise}
+use Rattle.bridge_tool.specs.Prove.{prove_promise}
 use Rattle.bridge_tool.specs.Sol.{sol_promise}
 
 -- at a desk with these texts
@@ -22,7 +24,9 @@ promise_of texts (Mps file) = mps_promise texts file
 promise_of texts (Sol file) = sol_promise texts file
 promise_of texts (Check nl sol) = check_promise texts nl sol
 promise_of texts (Import file) = import_promise texts file
+promise_of texts (Prove nl proof) = prove_promise texts nl proof
 promise_of texts (Fixed file) = fixed_promise texts file
+promise_of texts (Make seed size) = make_promise seed size
 
 -- the words are in no row of the command table
 abbrev pub bad_words : Promise
@@ -44,3 +48,9 @@ promise texts words = promise_by texts (command_of words)
 -- what these words come to at a desk with these texts
 abbrev pub ComesTo : Option Texts → List (List ℕ) → Outcome → Type 0
 ComesTo texts words outcome = (promise texts words).comes outcome
+
+-- a command that reads no file leaves the input as it was
+abbrev pub Leaves : Option Command → Meaning → Meaning → ℕ → Type 0
+Leaves None old new status = Unit {0}
+Leaves (Some (Make seed size)) old new status = LeavesInput old new status
+Leaves (Some command) old new status = Unit {0}

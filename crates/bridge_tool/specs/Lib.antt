@@ -6,6 +6,7 @@ pub mod Export
 pub mod Import
 pub mod ImportTold
 pub mod Fixed
+pub mod Make
 pub mod Mps
 pub mod MpsTold
 pub mod Nl
@@ -13,6 +14,8 @@ pub mod NlTold
 pub mod OneFile
 pub mod Outcome
 pub mod Promise
+pub mod ProofTold
+pub mod Prove
 pub mod Refusal
 pub mod SeveralFiles
 pub mod Sol

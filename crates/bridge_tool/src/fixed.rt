@@ -18,6 +18,10 @@ use text_base::{Desk, Stop};
 impl Feed for FixedReader {
     ghost use Rattle.fixed_mps.specs.Reader.{IsFed};
 
+    ghost Setting = { Unit {0} };
+
+    ghost setting = { λ _. tt };
+
     ghost fed = { IsFed };
 
     fn take(&mut self, piece: &[u8]) {

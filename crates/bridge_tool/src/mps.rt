@@ -20,6 +20,10 @@ use text_base::{Desk, Stop};
 impl Feed for MpsReader {
     ghost use Rattle.mps_reader.specs.Reader.{IsFed};
 
+    ghost Setting = { Unit {0} };
+
+    ghost setting = { λ _. tt };
+
     ghost fed = { IsFed };
 
     fn take(&mut self, piece: &[u8]) {

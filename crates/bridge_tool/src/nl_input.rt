@@ -18,6 +18,10 @@ use text_base::{Desk, Stop};
 impl Feed for NlReader {
     ghost use Rattle.nl_segments.specs.Reader.{IsFed};
 
+    ghost Setting = { Unit {0} };
+
+    ghost setting = { λ _. tt };
+
     ghost fed = { IsFed };
 
     fn take(&mut self, piece: &[u8]) {

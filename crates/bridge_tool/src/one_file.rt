@@ -1,5 +1,5 @@
 // What all commands share that read files: feeding a reader, and ending with what was judged.
-ghost use Rattle.std.specs.Prelude.{[], IfOk};
+ghost use Rattle.std.specs.Prelude.{◌≡◌, [], IfOk};
 ghost use Rattle.text_base.specs.Desk.{IsUnknown, OnlyInput};
 ghost use Rattle.bridge_tool.specs.Answer.{Ends, EndsVerdict, EndsWriting, Missed};
 ghost use Rattle.bridge_tool.specs.SeveralFiles.{Answered};
@@ -19,6 +19,7 @@ pub(crate) fn read<D: Desk, R: Feed + Drop>(
 ) -> Result<R, Unread>
     requires { R.fed reader [] }
     ensures text { IfOk result (λ reader. HasRead (D.meaning desk.old).texts file.now LIMIT (D.meaning desk.new).left (R.fed reader)) }
+    ensures setting { IfOk result (λ read. R.setting read ≡ R.setting reader) }
     ensures cause { HasReadCause (IsUnknown (D.meaning desk.old).texts file.now)
         (D.meaning desk.old).input_faults (D.meaning desk.new).input_faults result }
     ensures rest { OnlyInput (D.meaning desk.old) (D.meaning desk.new) }

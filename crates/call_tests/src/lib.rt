@@ -4,11 +4,17 @@
 #[cfg(test)]
 mod answers;
 #[cfg(test)]
+mod branch_proofs;
+#[cfg(test)]
 mod certificates;
 #[cfg(test)]
 mod fixed_texts;
 #[cfg(test)]
 mod headers;
+#[cfg(test)]
+mod imports;
+#[cfg(test)]
+mod made_instances;
 #[cfg(test)]
 mod numbers;
 #[cfg(test)]

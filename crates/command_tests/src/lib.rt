@@ -10,6 +10,12 @@ mod exports;
 #[cfg(test)]
 mod fixed_commands;
 #[cfg(test)]
+mod import_commands;
+#[cfg(test)]
+mod make_commands;
+#[cfg(test)]
 mod mps_commands;
+#[cfg(test)]
+mod proof_commands;
 #[cfg(test)]
 mod sol_commands;

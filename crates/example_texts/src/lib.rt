@@ -3,3 +3,4 @@
 
 pub mod mps_texts;
 pub mod nl_texts;
+pub mod proof_texts;

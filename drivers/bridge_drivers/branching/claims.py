@@ -14,7 +14,7 @@ from .tree import MOST_SPLIT
 
 NEAR_DIGITS = 9                         # that a near claim shares with the value
 STEP_SHARE = Fraction(1, 50)            # of a step of the objective, which a rounded claim leaves
-COLUMN_SHARE = Fraction(1, 10 ** 6)     # from where on leaves under an objective split are tried
+COLUMN_SHARE = Fraction(1, 1000)        # from where on leaves under an objective split are tried
 
 
 class Mode(enum.Enum):

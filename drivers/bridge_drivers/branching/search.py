@@ -239,8 +239,10 @@ class Search:
             done = self.by_phase_one()
             if done is not None:
                 return done
-        elif state is State.OPTIMAL and base < self.goal - NEAR * max(1.0, abs(self.goal)):
-            raise Better(base)
+        elif state is State.OPTIMAL:
+            near = 0.0 if self.objective is not None else NEAR * max(1.0, abs(self.goal))
+            if base < self.goal - near:
+                raise Better(base)
         column = self.unfixed()
         if column is None:
             raise Stopped(FRACTIONS if self.target is not None else "a point seems to satisfy it")

@@ -2,6 +2,7 @@ use Rattle.std.proofs.Common.{map, string_bytes, ◌≡◌, sym, subst, Option, 
 use Rattle.text_base.specs.Desk.{Texts}
 use Rattle.bridge_tool.specs.Command.{Command}
 use Rattle.bridge_tool.proofs.Headline.{at_command}
+use Rattle.bridge_tool.proofs.Making.{leaves_told}
 use Rattle.bridge_tool.proofs.Working.{answered}
 use Rattle.bridge_tool.proofs.top.bridge.Goals as goal
 
@@ -10,3 +11,6 @@ returns-clause-headline g c = λ texts command told asked memory no_input no_out
     at_command _ _ texts command _ _ _ told asked
     (answered _ _ _ _ _ _ c.work-answer.ensures.worked c.tell.ensures.status c.tell.ensures.line c.tell.ensures.silent c.tell.ensures.rest)
     memory no_input no_output
+
+pub returns-clause-leaves : goal.returns-clause-leaves
+returns-clause-leaves g c = leaves_told _ _ _ _ _ _ c.work-answer.ensures.leaves c.tell.ensures.status c.tell.ensures.rest

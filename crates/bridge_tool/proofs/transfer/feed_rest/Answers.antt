@@ -1,4 +1,4 @@
-use Rattle.std.proofs.Common.{rules, ◌≤◌, ◌<◌, length, take, arith}
+use Rattle.std.proofs.Common.{rules, ◌∙◌, ◌≤◌, ◌<◌, length, take, arith}
 use Rattle.std.proofs.lemmas.List.{length-take-le}
 use Rattle.bridge_tool.proofs.Known.{fed_nothing, fed_further, fed_to_limit, fed_to_end, OnlyInput-same, OnlyInput-then}
 use Rattle.bridge_tool.proofs.transfer.feed_rest.Goals as goal
@@ -9,6 +9,7 @@ reading-init g c = record {
   feeds = fed_nothing _ _;
   count = search rules;
   rest = OnlyInput-same _;
+  setting = search rules;
 }
 
 pub returns-then-count-eq0-clause-text : goal.returns-then-count-eq0-clause-text
@@ -20,9 +21,10 @@ returns-then-count-eq0-clause-text g c =
 pub reading-preserved : goal.reading-preserved
 reading-preserved g c = record {
   within = search rules;
-  feeds = fed_further _ _ _ _ _ _ _ _ _ _ _ c.reading.invariant.feeds c.in_ok-count.ensures.bytes.0 c.in_ok-count.ensures.bound (search rules) (search rules) c.take.ensures;
+  feeds = fed_further _ _ _ _ _ _ _ _ _ _ _ c.reading.invariant.feeds c.in_ok-count.ensures.bytes.0 c.in_ok-count.ensures.bound (search rules) (search rules) c.take.ensures.fed;
   count = search rules;
   rest = OnlyInput-then _ _ _ c.reading.invariant.rest c.in_ok-count.ensures.rest;
+  setting = c.take.ensures.setting ∙ c.reading.invariant.setting;
 }
 
 pub returns-clause-text : goal.returns-clause-text

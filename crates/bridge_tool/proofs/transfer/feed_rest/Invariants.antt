@@ -10,6 +10,7 @@ invariant-reading g l = record {
   feeds : IsFedSo (g.D.Desk.meaning l.initial.desk).left (g.D.Desk.meaning l.desk).left l.taken (g.R.Feed.fed l.initial.reader) (g.R.Feed.fed l.reader);
   count : (g.D.Desk.meaning l.desk).input_faults ≡ (g.D.Desk.meaning l.initial.desk).input_faults;
   rest : OnlyInput (g.D.Desk.meaning l.initial.desk) (g.D.Desk.meaning l.desk);
+  setting : g.R.Feed.setting l.reader ≡ g.R.Feed.setting l.initial.reader;
 }
 
 abbrev pub decreases-reading : goal.decreases-reading

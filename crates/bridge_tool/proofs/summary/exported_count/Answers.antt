@@ -1,0 +1,8 @@
+use Rattle.std.proofs.Common.{◌∙◌, ap, sym}
+use Rattle.std.specs.List.{count_by}
+use Rattle.bridge_tool.specs.Make.{has_finite_side}
+use Rattle.bridge_tool.proofs.Summing.{sides_count}
+use Rattle.bridge_tool.proofs.summary.exported_count.Goals as goal
+
+pub returns : goal.returns
+returns c = c.count_sides.ensures ∙ ap (count_by has_finite_side) c.sides.ensures ∙ sym (sides_count c.args.linear.now c.bodies.ensures.folded.sides)

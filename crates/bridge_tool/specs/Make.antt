@@ -1,0 +1,83 @@
+-- The command make: the summary of the exported program of the instance of a seed and a size.
+use Rattle.std.specs.Prelude.{◌≡◌, ◌≢◌, ◌&&◌, ◌||◌, Bool, is_some, ℕ, ◌≤◌, List, ◌++◌, nat_le, length, codes}
+use Rattle.std.specs.Fmt.{decimal}
+use Rattle.std.specs.List.{count_by, sum_by}
+use Rattle.fractions.specs.Rational.{ℚ}
+use Rattle.linear_programs.specs.Linear.{Linear}
+use Rattle.exported_program.specs.Return.{is_exported}
+use Rattle.file_meaning.specs.LinearFile.{linear_of}
+use Rattle.instances.specs.Instance.{instance}
+use Rattle.exact_numbers.specs.Values.{value_text}
+use Rattle.mps_model.specs.Mps.{Mps, Entry, Column}
+use Rattle.mps_model.specs.Text.{mps_text_by}
+use Rattle.nl_model.specs.declared.interval.Interval.{Interval}
+use Rattle.nl_model.specs.File.{File}
+use Rattle.nl_writer.specs.Written.{nl_text}
+use Rattle.text_base.specs.Desk.{Meaning}
+use Rattle.bridge_tool.specs.Export.{Counts, IsExported}
+use Rattle.bridge_tool.specs.OneFile.{TextComesTo}
+use Rattle.bridge_tool.specs.Promise.{Promise}
+use Rattle.bridge_tool.specs.Refusal.{IsRefused}
+
+-- the written text of the instance
+abbrev pub made_text : ℕ → ℕ → List ℕ
+made_text seed size = nl_text (instance seed size)
+
+-- ---- the summary
+
+-- one of the sides is there
+abbrev pub has_finite_side : Interval → Bool
+has_finite_side s = is_some s.lo || is_some s.hi
+
+-- how many rows are exported
+abbrev pub exported_count : Linear → ℕ
+exported_count l = count_by is_exported l.rows
+
+-- the entry is one of the first r rows after the objective, which are the exported rows of the file
+abbrev pub is_coefficient : {V : Type 0} → ℕ → Entry V → Bool
+is_coefficient r e = nat_le 1 e.row && nat_le e.row r
+
+-- how many of them a column has
+abbrev pub of_column : {V : Type 0} → ℕ → Column V → ℕ
+of_column r c = count_by (is_coefficient r) c.entries
+
+-- how many coefficients the exported rows have in the program, r being their number
+abbrev pub coefficient_count : {V : Type 0} → ℕ → Mps V → ℕ
+coefficient_count r m = sum_by (of_column r) m.columns
+
+-- `variables 1 rows 1 terms 1 bytes 168`
+abbrev pub summary_line : ℕ → ℕ → ℕ → ℕ → List ℕ
+summary_line variables rows terms bytes =
+    codes "variables " ++ decimal variables ++ codes " rows " ++ decimal rows ++ codes " terms " ++ decimal terms ++ codes " bytes " ++ decimal bytes ++ codes "\n"
+
+-- the variables of a file, its exported rows, their coefficients, and the bytes of its exported program
+abbrev pub summary_of : File → Mps ℚ → List ℕ → List ℕ
+summary_of f m text =
+    summary_line f.counts.n_var (exported_count (linear_of f 0)) (coefficient_count (exported_count (linear_of f 0)) m) (length text)
+
+-- the text is exported with objective 0, and these bytes are the summary of that
+pub record IsMade (text bytes : List ℕ) : Type 0 where
+  pub mps : List ℕ
+  pub exported : IsExported text 0 mps
+  pub summary : bytes ≡ summary_of exported.value.file exported.program mps
+
+-- the same of a program with so many variables and exported rows
+abbrev pub IsSummedUp : ℕ → ℕ → Mps ℚ → List ℕ → Type 0
+IsSummedUp variables rows m bytes = bytes ≡ summary_line variables rows (coefficient_count rows m) (length (mps_text_by value_text m))
+
+-- ---- the promise
+
+-- No text is started. Steps are counted for the fold of the written text.
+abbrev pub make_promise : ℕ → ℕ → Promise
+make_promise seed size = record {
+  comes = TextComesTo IsMade (λ text. IsRefused text 0) (made_text seed size);
+  last = λ text. ⊥;
+  counts = λ old new. Counts (made_text seed size) 0 old new;
+  means = Unit {0};
+}
+
+-- the input is as it was, and no input call failed
+pub record LeavesInput (old new : Meaning) (status : ℕ) : Type 0 where
+  pub left : new.left ≡ old.left
+  pub faults : new.input_faults ≡ old.input_faults
+  pub known : status ≢ 4

@@ -1,0 +1,77 @@
+-- The command prove: what a proof by branches shows of an .nl text.
+use Rattle.std.specs.Prelude.{◌≡◌, ℕ, ◌+◌, ◌≤◌, true, List, is_none, if◌then◌else◌}
+use Rattle.std.specs.declared.option.Option.{Option}
+use Rattle.std.specs.declared.option.Option.TheVariants.{None, Some}
+use Rattle.linear_programs.specs.Linear.{row_count}
+use Rattle.duality.specs.Branch.{LeafFault, proof_fault}
+use Rattle.text_base.specs.Desk.{Texts}
+use Rattle.text_base.specs.declared.fault.TextFault.{TextFault}
+use Rattle.file_meaning.specs.FoldFaults.{has_objective}
+use Rattle.file_meaning.specs.LinearFile.{linear_of}
+use Rattle.linear_fold.specs.FoldedFaults.{first_fold_fault, step_bound}
+use Rattle.linear_fold.specs.declared.fold_fault.FoldFault.{FoldFault}
+use Rattle.nl_segments.specs.Grammar.{NlValue}
+use Rattle.nl_segments.specs.Reader.{IsNl}
+use Rattle.branch_proof.specs.declared.proof.Claim.{Claim}
+use Rattle.branch_proof.specs.declared.proof.Claim.TheVariants.{Value, Infeasible}
+use Rattle.branch_proof.specs.Files.{IsTrueOf}
+use Rattle.branch_proof.specs.Proofs.{ProofValue, claim_value, tree_over}
+use Rattle.branch_proof.specs.Trees.{tree_in}
+use Rattle.proof_text.specs.Reader.{HasProofFault, IsProofText}
+use Rattle.proof_text.specs.Setting.{Setting, setting_of}
+use Rattle.proof_text.specs.declared.fault.ProofReason.{ProofReason}
+use Rattle.bridge_tool.specs.NlTold.{fold_line}
+use Rattle.bridge_tool.specs.Outcome.{Outcome, Refused, Done}
+use Rattle.bridge_tool.specs.Promise.{Promise}
+use Rattle.bridge_tool.specs.ProofTold.{leaf_line, proof_line}
+use Rattle.bridge_tool.specs.Refusal.{HasTextRefusal}
+use Rattle.bridge_tool.specs.SeveralFiles.{after_file, desk_promise, ends}
+
+-- the text has a first fault as a proof, which this line tells of this file of the command
+pub record IsProofRefused (s : Setting) (file : ℕ) (text line : List ℕ) : Type 0 where
+  pub fault : TextFault ProofReason
+  pub first : HasProofFault s text fault
+  pub told : line ≡ proof_line file fault
+
+-- ---- what the values of both files come to
+
+-- the number of the objective of a claim; 0 where it is of none
+abbrev pub claimed_objective : Claim → ℕ
+claimed_objective (Value k d) = k
+claimed_objective Infeasible = 0
+
+-- the first leaf that does not close in the linear program of the file
+abbrev pub open_leaf : NlValue → ProofValue → Option LeafFault
+open_leaf nl p =
+    let f = linear_of nl.file (claimed_objective p.claim) in
+    proof_fault f (claim_value p.claim) (tree_over (row_count f) (tree_in p))
+
+abbrev pub by_leaf : Option LeafFault → Outcome
+by_leaf fault = Done (is_none fault) (leaf_line fault)
+
+abbrev pub by_fold : NlValue → ProofValue → Option FoldFault → Outcome
+by_fold nl p (Some fault) = Refused (fold_line nl.places fault)
+by_fold nl p None = by_leaf (open_leaf nl p)
+
+-- A file that does not fold with the objective of the claim is refused. Else the verdict on the proof is written.
+abbrev pub prove_outcome : NlValue → ProofValue → Outcome
+prove_outcome nl p = by_fold nl p (first_fold_fault nl.file (claimed_objective p.claim))
+
+-- at most so many steps are counted: none where nothing is folded
+abbrev pub most_steps : NlValue → ProofValue → ℕ
+most_steps nl p = if has_objective nl.file (claimed_objective p.claim) then step_bound nl.file else 0
+
+-- What a yes means: no feasible point of the file, whole variables whole, is better than the stated value; or no point is
+-- feasible in its relaxed program.
+abbrev pub IsProvedOf : NlValue → ProofValue → Type 0
+IsProvedOf nl p = IsTrueOf nl.file (claimed_objective p.claim) p.claim
+
+-- ---- the promise
+
+abbrev pub prove_told : List ℕ → List ℕ → Texts → Promise
+prove_told nl proof texts =
+    after_file IsNl HasTextRefusal texts nl (λ file. after_file (IsProofText (setting_of file.file)) (IsProofRefused (setting_of file.file) 2) texts proof (λ p.
+    ends texts proof (λ outcome. outcome ≡ prove_outcome file p) (λ old new. new ≤ old + most_steps file p) (IsProvedOf file p)))
+
+abbrev pub prove_promise : Option Texts → List ℕ → List ℕ → Promise
+prove_promise texts nl proof = desk_promise true (prove_told nl proof) texts

@@ -1,0 +1,100 @@
+// The command make: the instance of a seed and a size is written, read, folded and exported, and summed up.
+ghost use Rattle.std.specs.Prelude.{◌≡◌, ◌≢◌, ◌+◌, ◌≤◌, List, ℕ, false, IfOk};
+ghost use Rattle.file_meaning.specs.FoldFaults.{has_objective};
+ghost use Rattle.instances.specs.Instance.{instance};
+ghost use Rattle.linear_fold.specs.FoldedFaults.{step_bound};
+ghost use Rattle.nl_segments.specs.Reader.{HasLines, IsNl, value_of};
+ghost use Rattle.row_scaling.specs.Exported.{exported_as};
+ghost use Rattle.bridge_tool.specs.Answer.{IsWorked, status_of};
+ghost use Rattle.bridge_tool.specs.Export.{Counts};
+ghost use Rattle.bridge_tool.specs.Make.{IsMade, IsSummedUp, LeavesInput, make_promise, made_text};
+ghost use Rattle.bridge_tool.specs.OneFile.{Judges};
+ghost use Rattle.bridge_tool.specs.Refusal.{IsRefused};
+
+use crate::answer::Answer;
+use crate::nl_told::nl_line;
+use crate::one_file::end;
+use crate::stages::{fold, scale};
+use crate::summary::{coefficient_count, exported_count, summary_line};
+use instances::make_instance;
+use mps_writer::write_mps;
+use nl_segments::{NlRead, read_nl};
+use nl_writer::write_nl;
+use row_scaling::{Scaled, program};
+use std::alloc::{AllocError, Global};
+use text_base::{Desk, Ledger, Steps, Stop};
+
+// The summary of the program of a scaled one, which has so many variables and exported rows.
+fn sum_up(alloc: Global, scaled: Scaled, variables: u32, rows: usize) -> Result<Vec<u8>, AllocError>
+    ensures { IfOk result (λ out. IsSummedUp variables rows (exported_as scaled) out.items) }
+{
+    let mps = program(alloc, &scaled)?;
+    let _ = mps.rows();
+    let terms = coefficient_count(&mps, rows);
+    let text = write_mps(alloc, &mps)?;
+    let line = summary_line(alloc, variables, rows, terms, text.as_slice().len())?;
+    Ok(line)
+}
+
+// The summary of what was read, or the line to tell.
+fn export_read<L: Ledger>(
+    alloc: Global,
+    read: NlRead,
+    steps: &mut Steps<L>,
+) -> Result<Vec<u8>, Stop<Vec<u8>>>
+    requires { HasLines read }
+    ensures judges { (text : List ℕ) → IsNl text (value_of read) → Judges IsMade (λ t. IsRefused t 0) text result }
+    ensures above { steps.old ≤ steps.new }
+    ensures below { steps.new ≤ steps.old + step_bound read.file }
+    ensures none { has_objective read.file 0 ≡ false → steps.new ≡ steps.old }
+{
+    let variables = read.file.header().counts().n_var;
+    let linear = fold(alloc, read, 0, steps)?;
+    let rows = exported_count(&linear);
+    let scaled = scale(alloc, linear, 0)?;
+    let out = sum_up(alloc, scaled, variables, rows)?;
+    Ok(out)
+}
+
+// The summary of the written text of an instance, or the line to tell.
+fn judge<L: Ledger>(
+    alloc: Global,
+    seed: u32,
+    size: u32,
+    steps: &mut Steps<L>,
+) -> Result<Vec<u8>, Stop<Vec<u8>>>
+    requires { size ≤ 20000 }
+    ensures judges { Judges IsMade (λ t. IsRefused t 0) (made_text seed size) result }
+    ensures above { steps.old ≤ steps.new }
+    ensures counts { Counts (made_text seed size) 0 steps.old steps.new }
+{
+    let file = make_instance(alloc, seed, size)?;
+    let text = write_nl(alloc, &file)?;
+    match read_nl(alloc, &text) {
+        Ok(read) => export_read(alloc, read, steps),
+        Err(Stop::Memory) => Err(Stop::Memory),
+        Err(Stop::Fault(fault)) => {
+            let line = nl_line(alloc, fault)?;
+            Err(Stop::Fault(line))
+        }
+    }
+}
+
+/// Makes an instance, and writes the summary of what it is exported as. Starts no text, and tells nothing.
+pub(crate) fn make<D: Desk, L: Ledger>(
+    alloc: Global,
+    seed: u32,
+    size: u32,
+    desk: &mut D,
+    steps: &mut Steps<L>,
+) -> Answer
+    requires { size ≤ 20000 }
+    ensures worked { IsWorked (make_promise seed size) (D.meaning desk.old) (D.meaning desk.new) result }
+    ensures known { status_of result ≢ 3 }
+    ensures leaves { LeavesInput (D.meaning desk.old) (D.meaning desk.new) (status_of result) }
+    ensures above { steps.old ≤ steps.new }
+    ensures counts { Counts (made_text seed size) 0 steps.old steps.new }
+{
+    let judged = judge(alloc, seed, size, steps);
+    end(desk, judged)
+}

@@ -1,0 +1,108 @@
+// The command prove: from an .nl text and a proof text to the line of a verdict, or to the line to tell.
+ghost use Rattle.std.specs.Prelude.{◌≡◌, ◌≢◌, ◌+◌, ◌≤◌, true, is_none, IfOk};
+ghost use Rattle.linear_fold.specs.Programs.{linear_value};
+ghost use Rattle.nl_segments.specs.Reader.{HasLines, value_of};
+ghost use Rattle.branch_proof.specs.Files.{IsProofIn};
+ghost use Rattle.branch_proof.specs.Leaves.{IsProved, IsVerdictOn, fault_of};
+ghost use Rattle.branch_proof.specs.Proofs.{IsProofOf};
+ghost use Rattle.bridge_tool.specs.Answer.{IsWorked, status_of};
+ghost use Rattle.bridge_tool.specs.Prove.{IsProvedOf, claimed_objective, most_steps, prove_outcome, prove_promise};
+ghost use Rattle.bridge_tool.specs.ProofTold.{leaf_line};
+ghost use Rattle.bridge_tool.specs.SeveralFiles.{Comes};
+
+use crate::answer::Answer;
+use crate::nl_input::open_nl;
+use crate::one_file::end_verdict;
+use crate::proof_input::open_proof;
+use crate::proof_told::leaf_line;
+use crate::stages::fold;
+use branch_proof::{Claim, Proof, ProofVerdict, check_proof};
+use certificate_check::Columns;
+use linear_fold::Linear;
+use nl_segments::NlRead;
+use std::alloc::{AllocError, Global};
+use text_base::{Desk, Ledger, Steps, Stop};
+
+// The number of the objective of a claim; 0 where it is of none.
+fn claimed_objective(claim: Claim) -> u32
+    ensures { result ≡ claimed_objective claim }
+{
+    match claim {
+        Claim::Value(objective, _) => objective,
+        Claim::Infeasible => 0,
+    }
+}
+
+// The verdict on a proof of a linear program.
+fn verdict_of(alloc: Global, linear: &Linear, proof: &Proof) -> Result<ProofVerdict, AllocError>
+    requires { IsProofOf (linear_value linear.now) proof.now }
+    ensures exact { IfOk result (λ v. IsVerdictOn (linear_value linear.now) proof.now v) }
+    ensures proved { IfOk result (λ v. IsProved (linear_value linear.now) proof.now.claim v) }
+{
+    let columns = Columns::of(alloc, linear)?;
+    let verdict = check_proof(alloc, &columns, proof)?;
+    Ok(verdict)
+}
+
+fn is_yes(verdict: ProofVerdict) -> bool
+    ensures { result ≡ is_none (fault_of verdict) }
+{
+    matches!(verdict, ProofVerdict::Yes)
+}
+
+// Whether a verdict is yes, and its line.
+fn told_verdict(alloc: Global, verdict: ProofVerdict) -> Result<(bool, Vec<u8>), AllocError>
+    ensures holds { IfOk result (λ t. t.0 ≡ is_none (fault_of verdict)) }
+    ensures line { IfOk result (λ t. t.1.items ≡ leaf_line (fault_of verdict)) }
+{
+    let line = leaf_line(alloc, verdict)?;
+    Ok((is_yes(verdict), line))
+}
+
+// The verdict on a proof of a file, or the line of the first fault of the fold.
+fn judge<L: Ledger>(
+    alloc: Global,
+    read: NlRead,
+    proof: &Proof,
+    steps: &mut Steps<L>,
+) -> Result<(bool, Vec<u8>), Stop<Vec<u8>>>
+    requires lines { HasLines read }
+    requires proof { IsProofIn read.file proof.now }
+    ensures comes { Comes (λ outcome. outcome ≡ prove_outcome (value_of read) proof.now) result }
+    ensures means { IfOk result (λ t. t.0 ≡ true → IsProvedOf (value_of read) proof.now) }
+    ensures above { steps.old ≤ steps.new }
+    ensures counts { steps.new ≤ steps.old + most_steps (value_of read) proof.now }
+{
+    let objective = claimed_objective(proof.claim());
+    let linear = fold(alloc, read, objective, steps)?;
+    let verdict = verdict_of(alloc, &linear, proof)?;
+    let told = told_verdict(alloc, verdict)?;
+    Ok(told)
+}
+
+/// Judges a proof of a claim on a file: reads both texts and writes the verdict that they come to. Tells nothing.
+pub(crate) fn prove<D: Desk, L: Ledger>(
+    alloc: Global,
+    nl: &str,
+    proof: &str,
+    desk: &mut D,
+    steps: &mut Steps<L>,
+) -> Answer
+    ensures worked { IsWorked (prove_promise (D.meaning desk.old).texts nl.now proof.now)
+        (D.meaning desk.old) (D.meaning desk.new) result }
+    ensures known { status_of result ≢ 3 }
+    ensures above { steps.old ≤ steps.new }
+    ensures counts { (prove_promise (D.meaning desk.old).texts nl.now proof.now).counts steps.old steps.new }
+    ensures idle { status_of result ≡ 4 → steps.new ≡ steps.old }
+{
+    let read = match open_nl(alloc, desk, nl) {
+        Ok(read) => read,
+        Err(ended) => return ended,
+    };
+    let given = match open_proof(alloc, desk, &read.file, proof, 2) {
+        Ok(given) => given,
+        Err(answer) => return answer,
+    };
+    let judged = judge(alloc, read, &given, steps);
+    end_verdict(desk, judged)
+}

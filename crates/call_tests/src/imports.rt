@@ -1,0 +1,88 @@
+// Programs that are imported.
+ghost use Rattle.std.specs.Prelude.{◌≡◌, length};
+
+use mps_import::{ImportFault, Imported, Order, import};
+use mps_reader::MpsReader;
+use nl_writer::write_nl;
+use std::alloc::{AllocError, Global};
+use std::test::Fail;
+use text_base::Stop;
+
+// What the import of the program of a text answers; none where the text says no program.
+fn imported(alloc: Global, text: &str) -> Option<Result<Imported, Stop<ImportFault>>> {
+    let Ok(mut reader) = MpsReader::new(alloc) else {
+        return None;
+    };
+    // The reader keeps an error, and answers it at the end.
+    let _ = reader.feed(text.as_bytes());
+    match reader.finish() {
+        Ok(mps) => Some(import(alloc, &mps)),
+        Err(_) => None,
+    }
+}
+
+fn is_order(order: &Order, wanted: &[u32]) -> bool {
+    if order.len() != wanted.len() {
+        return false;
+    }
+    for i in 0..wanted.len() {
+        if order.get(i) != wanted[i] {
+            return false;
+        }
+    }
+    true
+}
+
+// An integer, a binary and a continuous column, and a row with a range.
+const KINDS: &str =
+    "OBJSENSE MAX\nROWS\n N C\n G R\nCOLUMNS\n M 'MARKER' 'INTORG'\n Y C 2 R 1\n M 'MARKER' 'INTEND'\n Z R 1 C 0\n X C 1\nRHS\n RHS C -5 R 1\nRANGES\n RNG R -3\nBOUNDS\n BV BND Z\nENDATA\n";
+
+const KINDS_IMPORTED: &str =
+    "g3 1 1 0\n3 1 1 1 0\n0 0\n0 0\n0 0 0\n0 0 0 1\n1 1 0 0 0\n2 2\n0 0\n0 0 0 0 0\nO0 1\nn5\nr\n0 1 4\nb\n2 0\n0 0 1\n2 0\nk2\n0\n1\nJ0 2\n1 1\n2 1\nG0 2\n0 1\n2 2\n";
+
+// Whether the text is imported as this text, with the columns in this order.
+fn is_imported_as(
+    alloc: Global,
+    text: &str,
+    written: &str,
+    columns: &[u32],
+) -> Result<bool, AllocError> {
+    match imported(alloc, text) {
+        Some(Ok(file)) => {
+            let out = write_nl(alloc, &file.file)?;
+            Ok(out.as_slice() == written.as_bytes() && is_order(&file.order, columns))
+        }
+        _ => Ok(false),
+    }
+}
+
+#[test]
+fn columns_come_by_their_kinds(rt: HostRuntime) -> Result<(), Fail> {
+    assert!(rt; is_imported_as(rt.alloc(), KINDS, KINDS_IMPORTED, &[2, 1, 0])?);
+    Ok(())
+}
+
+// Whether the import of the text has this fault.
+fn has_fault(alloc: Global, text: &str, wanted: ImportFault) -> bool {
+    match imported(alloc, text) {
+        Some(Err(Stop::Fault(fault))) => fault == wanted,
+        _ => false,
+    }
+}
+
+#[test]
+fn the_first_fault_is_answered(rt: HostRuntime) {
+    let cases = [
+        (
+            "ROWS\n N C\n L R\nCOLUMNS\n X C 1\nRHS\nBOUNDS\n LO B X 1\n UP B X 0\nENDATA\n",
+            ImportFault::EmptyInterval(0),
+        ),
+        (
+            "ROWS\n N C\n L R\nCOLUMNS\n X C 1\nRHS\n RHS R 1e30\nRANGES\n RNG R 1e-30\nBOUNDS\n LO B X 1\n UP B X 0\nENDATA\n",
+            ImportFault::TooWide(1),
+        ),
+    ];
+    for (text, fault) in cases {
+        assert!(rt; has_fault(rt.alloc(), text, fault), "at {text}");
+    }
+}

@@ -1,0 +1,46 @@
+"""`check NL SOL`: a point and duals as a certificate of the relaxed program."""
+from . import texts
+from .texts import bad_words, file, lines, text
+
+MINIMISED = text(file((2, 1, 1, 0, 0, 2, 2, 0), "O0 0 / n0 / r / 2 4 / b / 0 0 3 / 2 0 / J0 2 / 0 1 / 1 1 / G0 2 / 0 2 / 1 3"))
+# the same maximised, with both row and objective turned
+MAXIMISED = text(file((2, 1, 1, 0, 0, 2, 2, 0), "O0 1 / n0 / r / 1 -4 / b / 0 0 3 / 2 0 / J0 2 / 0 -1 / 1 -1 / G0 2 / 0 -2 / 1 -3"))
+FREE_ROW = text(file((1, 1, 1, 0, 0, 1, 1, 0), "O0 0 / n0 / r / 3 / b / 0 0 1 / J0 1 / 0 1 / G0 1 / 0 1"))
+
+
+def sol(n_con, n_var, primals, duals, objno="objno 0 0"):
+    """A .sol text with these values."""
+    counts = [n_con, len(duals), n_var, len(primals)]
+    return text(["", "Options", "0", *map(str, [*counts, *duals, *primals])] + ([objno] if objno else []))
+
+
+def verdict(name, primals, duals, line, program=MINIMISED):
+    holds = line.startswith("yes")
+    return texts.done(name, "check", program, sol(1, len(primals), primals, duals), out=line + "\n", status=0 if holds else 1)
+
+
+def cases():
+    yield verdict("optimal", [3, 1], [3], "yes 9")
+    yield verdict("a dual too small", [3, 1], [2.5], "gap 9 17/2")
+    yield verdict("a point too dear", [0, 4], [3], "gap 12 9")
+    yield verdict("a row broken", [3, 0], [3], "row 0 broken")
+    yield verdict("a bound broken", [4, 0], [3], "bound 0 broken")
+    yield verdict("a row without the side", [3, 1], [-1], "row 0 has no side")
+    yield verdict("a bound without the side", [3, 1], [4], "bound 1 has no side")
+    yield verdict("maximised", [3, 1], [3], "yes -9", MAXIMISED)
+    yield verdict("maximised, a gap", [3, 1], [2.5], "gap -9 -17/2", MAXIMISED)
+    yield verdict("maximised, no side", [3, 1], [-1], "row 0 has no side", MAXIMISED)
+    yield verdict("a row that is not exported", [0], [0], "yes 0", FREE_ROW)
+    yield verdict("a dual on it", [0], [1], "row 0 has no side", FREE_ROW)
+    yield verdict("a wide value", ["1.1102230246251565e-32", 4], [3], "too wide at row 0")
+    yield texts.refused("no duals", "check", MINIMISED, sol(1, 2, [3, 1], []), told="file 2: no dual values")
+    yield texts.refused("no primals", "check", MINIMISED, sol(1, 2, [], [3]), told="file 2: no primal values")
+    yield texts.refused("three variables", "check", MINIMISED, sol(1, 3, [3, 1, 0], [3]), told="file 2: other counts")
+    yield texts.refused("two rows", "check", MINIMISED, sol(2, 2, [3, 1], [3, 0]), told="file 2: other counts")
+    yield texts.refused("objective -1", "check", MINIMISED, sol(1, 2, [3, 1], [3], "objno -1 0"), told="objective -1: no such objective")
+    yield texts.refused("objective 1", "check", MINIMISED, sol(1, 2, [3, 1], [3], "objno 1 0"), told="objective 1: no such objective")
+    yield texts.done("no objno line", "check", MINIMISED, sol(1, 2, [3, 1], [3], ""), out="yes 9\n")
+    yield texts.refused("a .sol fault", "check", MINIMISED, lines("done"), told="file 2 line 2: no options")
+    yield texts.refused("a fault of the first file", "check", b"x\n", b"y\n", told="line 1: bad first line")
+    yield texts.missing("no .sol file", "check", MINIMISED)
+    yield bad_words("check of one file", "check", "A")

@@ -1,0 +1,29 @@
+"""`import FILE`: MPS programs as .nl files."""
+from . import texts
+from .mps import PAIRS
+from .texts import bad_words, head, text
+
+PAIRS_NL = head(2, 2, 1, 0, 0, 3, 2, 0) + (
+    "O0 0 / n0 / r / 0 8 10 / 1 7 / b / 1 -4 / 2 0 / k1 / 2 / J0 1 / 0 2 / J1 2 / 0 1 / 1 1 / G0 2 / 0 1 / 1 -3").split(" / ")
+PAIRS_NL[1] = "2 2 1 1 0"
+# columns of all three kinds in another order than they have as variables, and an objective with a constant
+KINDS = [
+    "OBJSENSE", " MAX", "ROWS", " N C", " E R", " G S", "COLUMNS", " M0 'MARKER' 'INTORG'", " I C 1 R 1", " B C 2", " M1 'MARKER' 'INTEND'",
+    " X C 3 S 1", " X R 0", " I2 C 4", "RHS", " R R 5 C 7", "RANGES", " R R -2", "BOUNDS", " UP BND B 1", " UI BND I2 9", " FR BND X", "ENDATA",
+]
+KINDS_NL = [
+    "g3 1 1 0", "4 2 1 1 0", "0 0", "0 0", "0 0 0", "0 0 0 1", "1 2 0 0 0", "2 4", "0 0", "0 0 0 0 0", "O0 1", "n-7", "r", "0 3 5", "2 0",
+    "b", "3", "0 0 1", "2 0", "0 0 9", "k3", "1", "1", "2", "J0 1", "2 1", "J1 1", "0 1", "G0 4", "0 3", "1 2", "2 1", "3 4",
+]
+
+
+def cases():
+    yield texts.done("an MPS text", "import", text(PAIRS), out=text(PAIRS_NL).decode())
+    yield texts.done("kinds in groups", "import", text(KINDS), out=text(KINDS_NL).decode())
+    empty = PAIRS[:16] + [" LO BN X -3"] + PAIRS[16:]
+    yield texts.refused("an empty column", "import", text(empty), told="column 0: empty interval")
+    wide = PAIRS[:13] + ["    RG  R1  1e-40"] + PAIRS[14:]
+    yield texts.refused("a wide range", "import", text(wide), told="row 1: too wide")
+    yield texts.refused("an MPS fault", "import", text(PAIRS[:-1]), told="line 17: no end")
+    yield texts.missing("no MPS file", "import")
+    yield bad_words("import alone", "import")

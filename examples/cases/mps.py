@@ -1,0 +1,42 @@
+"""`mps FILE`: free MPS, read and written again."""
+from . import texts
+from .texts import KNAPSACK_MPS, bad_words, small_mps, text
+
+PAIRS = [
+    "* two pairs per line", "NAME          TEST", "ROWS", " N  COST", " E  R1", " L  R2", "COLUMNS", "    X  COST  1.0  R1  2",
+    "    X  R2  1", "    Y  COST  -3  R2  1e0", "RHS", "    R1  10  R2  7", "RANGES", "    RG  R1  -2", "BOUNDS", " UP BN X -4", "ENDATA",
+]
+PAIRS_MPS = (
+    "NAME TEST\nROWS\n N COST\n E R1\n L R2\nCOLUMNS\n X COST 1\n X R1 2\n X R2 1\n Y COST -3\n Y R2 1\nRHS\n RHS R1 10\n"
+    " RHS R2 7\nRANGES\n RNG R1 -2\nBOUNDS\n UP BND X -4\nENDATA\n"
+)
+FRONT = ["ROWS", " N C", " L R", " N F", "COLUMNS", " X C 1 R 1", " Y R 1"]
+
+
+def written(name, lines, out, end="\n"):
+    return texts.done(name, "mps", text(lines, end), out=out)
+
+
+def refused(name, lines, told):
+    return texts.refused(name, "mps", text(lines), told=told)
+
+
+def cases():
+    yield written("an MPS text", PAIRS, PAIRS_MPS)
+    yield written("an MPS text by CR LF", PAIRS, PAIRS_MPS, end="\r\n")
+    for out in [PAIRS_MPS, KNAPSACK_MPS, small_mps("10")]:
+        yield texts.done("written again", "mps", out.encode(), out=out)
+    for count in range(17):
+        yield refused(f"{count} lines", PAIRS[:count], f"line {count + 1}: no end")
+    yield texts.missing("no MPS file", "mps")
+    yield bad_words("mps alone", "mps")
+    yield bad_words("mps and a number", "mps", "A", "0")
+    yield refused("no objective", ["ROWS", " L R", "COLUMNS"], "line 3: no objective")
+    yield refused("words after COLUMNS", ["ROWS", " L R", "COLUMNS x"], "line 3: bad section")
+    yield refused("an unknown row", FRONT + ["RHS", " R 1 Q x"], "line 9: unknown row")
+    yield refused("a bad number", FRONT + ["RHS", " R 1 R x"], "line 9: bad number")
+    yield refused("a repeated entry", FRONT + ["RHS", " R 1 R 1"], "line 9: repeated entry")
+    yield refused("a second set", FRONT + ["RHS", " S R 1", " C 1"], "line 10: second set")
+    yield refused("a range on a free row", FRONT + ["RANGES", " F x"], "line 9: range on free row")
+    yield refused("a repeated bound", FRONT + ["BOUNDS", " UP X 1", " FX X 1"], "line 10: repeated bound")
+    yield refused("a column again", FRONT + [" X R 2"], "line 8: column again")

@@ -1,0 +1,76 @@
+"""`sol FILE`: .sol texts, read and written again."""
+from . import texts
+from .texts import bad_words, lines, text
+
+SOLVED = ["", "solver: done", "", "Options", "3", "1", "1", "0", "1", "0", "2", "2", "1.1102230246251565e-32", "2", "objno 0 0",
+          "suffix 0 2 8 0 0", "sstatus", "0 1", "1 3"]
+SOLVED_AGAIN = SOLVED[:12] + ["11102230246251565e-48"] + SOLVED[13:]
+# as AMPL's own writer makes them: a suffix of each kind of objects, tables, real values, a code above 99
+AMPL = ["CPLEX 12: optimal; objective 3.5", "2 simplex iterations", "", "Options", "3", "1", "1", "0", "2", "2", "3", "3", "0.5", "-0.25",
+        "1", "0", "2.5", "objno 0 100", "suffix 0 2 8 41 3", "sstatus", "0\tnone\tno status assigned", "1\tbas\tbasic", "3\tlow\tlow",
+        "0 1", "2 3", "suffix 1 1 8 0 0", "sstatus", "1 1", "suffix 6 1 5 0 0", "cost", "0 2.5", "suffix 3 1 6 0 0", "count", "0 7"]
+FRONT = "x / Options / 0 / 1 / 0 / 2 / 2 / 3 / 4"
+
+
+def written(name, before, after):
+    return texts.done(name, "sol", text(before), out=text(after).decode())
+
+
+def refused(name, words, told):
+    return texts.refused(name, "sol", lines(words), told=told)
+
+
+def fault_cases():
+    """Each fault of a .sol text, and the order of two at one line."""
+    yield refused("no options", "done", "line 2: no options")
+    yield refused("the second option", "Options / 3 / 1 / 3 / 0", "line 4: refused options")
+    yield refused("ten options", "Options / 10", "line 2: refused options")
+    yield refused("a number of options", "Options / x", "line 2: bad number")
+    yield refused("two words", "Options / 0 0", "line 2: bad line")
+    yield refused("a given number", "Options / 0 / 2 / 1", "line 4: counts disagree")
+    yield refused("many constraints", "Options / 0 / 1048577", "line 3: too large")
+    yield refused("a dual", "Options / 0 / 1 / 1 / 0 / 0 / x", "line 7: bad number")
+    yield refused("short", "Options / 0 / 1 / 1 / 0 / 0", "line 7: short file")
+    yield refused("extra", FRONT + " / 5", "line 10: extra line")
+    yield refused("extra before its words", FRONT + " / x objno", "line 10: extra line")
+    yield refused("objno again", FRONT + " / objno 0 0 / objno 0 0", "line 11: extra line")
+    yield refused("objno after a suffix", FRONT + " / suffix 0 0 2 0 0 / a / objno 0 0", "line 12: extra line")
+    yield refused("words of objno", FRONT + " / objno 0", "line 10: bad line")
+    yield refused("a number of objno", FRONT + " / objno 0 x", "line 10: bad number")
+    yield refused("words of a suffix", FRONT + " / suffix 0 1 2 0", "line 10: bad line")
+    yield refused("kind of a suffix", FRONT + " / suffix 256 1 2 0 0", "line 10: bad number")
+    yield refused("a name of two words", FRONT + " / suffix 0 1 2 0 0 / a b", "line 11: bad line")
+    yield refused("an empty name", FRONT + " / suffix 0 1 2 0 0 / ", "line 11: bad line")
+    yield refused("table lines", FRONT + " / suffix 0 1 2 0 65537", "line 10: too large")
+    yield refused("index", FRONT + " / suffix 0 1 2 0 0 / a / 2 1", "line 12: index out of range")
+    yield refused("an index that is none", FRONT + " / suffix 0 1 2 0 0 / a / -1 1", "line 12: bad number")
+    yield refused("a value that is not whole", FRONT + " / suffix 0 1 2 0 0 / a / 1 0.5", "line 12: bad number")
+    yield refused("index again", FRONT + " / suffix 0 2 2 0 0 / a / 1 1 / 1 1", "line 13: repeated index")
+    yield refused("a long line", "x" * 65537, "line 1: line too long")
+    yield refused("a short suffix", FRONT + " / suffix 0 2 2 0 0 / a / 1 1", "line 13: short file")
+
+
+def message_cases():
+    """Message lines up to their limit, which an empty line before `Options` does not count for."""
+    many = ["m"] * 65536
+    end = ["Options", "0", "0", "0", "0", "0"]
+    yield written("65,536 message lines", many + end, many + [""] + end)
+    yield written("an empty line more", many + [""] + end, many + [""] + end)
+    yield texts.refused("a line more", "sol", text(many + ["m"] + end), told="line 65537: too large")
+    yield texts.refused("empty, and no options", "sol", text(many + ["", "m"] + end), told="line 65537: too large")
+    yield texts.refused("empty, and the end", "sol", text(many + [""]), told="line 65537: too large")
+    yield texts.refused("empty, and a long line", "sol", text(many + ["", "x" * 65537]), told="line 65537: too large")
+
+
+def cases():
+    yield written("a solution", SOLVED, SOLVED_AGAIN)
+    yield written("a solution, written again", SOLVED_AGAIN, SOLVED_AGAIN)
+    yield texts.refused("a solution cut", "sol", text(SOLVED[:13]), told="line 14: short file")
+    yield written("tables and real values", AMPL, AMPL)
+    yield written("a message of one blank", [" ", "Options", "0", "0", "0", "0", "0"], [" ", "", "Options", "0", "0", "0", "0", "0"])
+    twice = " / suffix 0 0 2 0 0 / a" * 2
+    yield written("a suffix twice", (FRONT + twice).split(" / "), ("x / " + FRONT[1:] + twice).split(" / "))
+    yield from fault_cases()
+    yield from message_cases()
+    yield texts.missing("no .sol file", "sol")
+    yield bad_words("sol alone", "sol")

@@ -1,0 +1,153 @@
+#!/usr/bin/env python3
+"""Hostile use of the built program: texts cut short, and memory that is refused.
+
+    hostile.py PROGRAM [truncation] [memory]
+
+`truncation` cuts the files of an example of each command after each byte and after each line: the status is 0, 1 or 2,
+a 2 tells one line that begins with `refused ` and writes nothing, and a 0 or 1 tells nothing.
+`memory` refuses one allocation a run, the next in each run, until a run meets no refusal: each run that met one ends with
+6, tells `no memory` and writes nothing. It needs `cc`.
+The last line of each part counts its runs; the status is 0 where none failed.
+"""
+import os
+import subprocess
+import sys
+import tempfile
+
+from cases import check, export, fixed, imported, mps, nl, prove, returned, sol
+from cases.texts import KNAPSACK, head, text
+
+HERE = os.path.dirname(os.path.abspath(__file__))
+# one accepted example of each command: its words after the command are its files
+COMMANDS = {
+    "export": [text(KNAPSACK)],
+    "nl": [text(KNAPSACK)],
+    "mps": [text(mps.PAIRS)],
+    "sol": [text(sol.SOLVED)],
+    "import": [text(mps.PAIRS)],
+    "fixed": [text(fixed.FIXED)],
+    "return": [returned.MAXIMISED, b"answer 1\nstatus 0\nmessage done\nsign min\ncol x0 3.5\nrow c0 -1.5\nsuffix 0 sstatus x0 1\n"],
+    "check": [check.MINIMISED, check.sol(1, 2, [3, 1], [3])],
+    "prove": [text(KNAPSACK), ("proof 1\n" + prove.KNAPSACK_PROOF.replace(" / ", "\n") + "\n").encode()],
+}
+# what the knapsack tells, cut after so many lines
+CUT = {
+    "end in header": range(10),
+    "missing segment": (10, 12, 14, 16),
+    "short segment": (11, 13, 15, 17, 18, 19, 21, 22, 24, 25, 26, 28, 29, 30),
+    "nonzero count": (20, 23),
+}
+
+
+class Runs:
+    """Runs of the program in a folder of its own, with their failures."""
+
+    def __init__(self, program):
+        self.program = os.path.abspath(program)
+        self.folder = tempfile.TemporaryDirectory()
+        self.count = 0
+        self.failed = 0
+
+    def path(self, name):
+        return os.path.join(self.folder.name, name)
+
+    def write(self, files):
+        names = list("ABCD"[: len(files)])
+        for name, content in zip(names, files):
+            with open(self.path(name), "wb") as stream:
+                stream.write(content)
+        return names
+
+    def run(self, command, files, words=(), **more):
+        names = self.write(files)
+        self.count += 1
+        return subprocess.run([self.program, command, *names, *words], cwd=self.folder.name, capture_output=True, timeout=600, **more)
+
+    def expect(self, holds, what, done):
+        if not holds:
+            self.failed += 1
+            print(f"{what}: {done.returncode} {done.stdout[:100]!r} {done.stderr[:100]!r}")
+
+    def end(self, part):
+        print(f"{part}: {self.count} runs, {self.failed} failed")
+        return self.failed == 0
+
+
+def is_judged(done):
+    """Whether an answer of a text that may be cut is one of the three that may come."""
+    told = done.stderr.decode()
+    if done.returncode == 2:
+        return done.stdout == b"" and told.startswith("refused ") and told.count("\n") == 1 and told.endswith("\n")
+    return done.returncode in (0, 1) and told == "" and done.stdout != b""
+
+
+def known(program, command):
+    """Whether this program has the command."""
+    done = subprocess.run([program, command], capture_output=True, timeout=60)
+    names = subprocess.run([program, command, *COMMANDS_WORDS[command]], capture_output=True, timeout=60)
+    return done.returncode == 3 and names.returncode != 3
+
+
+COMMANDS_WORDS = {command: ["/nonexistent/A"] * len(files) for command, files in COMMANDS.items()} | {"make": ["1", "1"]}
+
+
+def truncation(program):
+    runs = Runs(program)
+    for told, counts in CUT.items():
+        for count in counts:
+            done = runs.run("export", [text(KNAPSACK[:count])])
+            runs.expect(done.stderr.decode() == f"refused line {count + 1}: {told}\n", f"knapsack, {count} lines", done)
+    for count in (27, 31):
+        done = runs.run("export", [text(KNAPSACK[:count])])
+        runs.expect(done.returncode == 0, f"knapsack, {count} lines", done)
+    for count in range(17):
+        done = runs.run("mps", [text(mps.PAIRS[:count])])
+        runs.expect(done.stderr.decode() == f"refused line {count + 1}: no end\n", f"mps, {count} lines", done)
+    for command, files in COMMANDS.items():
+        if not known(runs.program, command):
+            print(f"{command}: not known to this program")
+            continue
+        for which, whole in enumerate(files):
+            for length in range(len(whole)):
+                cut = [*files[:which], whole[:length], *files[which + 1:]]
+                done = runs.run(command, cut)
+                runs.expect(is_judged(done), f"{command}, file {which + 1} cut after {length} bytes", done)
+    return runs.end("truncation")
+
+
+def memory(program):
+    runs = Runs(program)
+    library = runs.path("refuse.so")
+    subprocess.run(["cc", "-O2", "-shared", "-fPIC", "-o", library, os.path.join(HERE, "refuse.c"), "-ldl"], check=True)
+    for command, files in [*COMMANDS.items(), ("make", [])]:
+        if not known(runs.program, command):
+            print(f"{command}: not known to this program")
+            continue
+        words = ("1", "3") if command == "make" else ()
+        usual = runs.run(command, files, words)
+        runs.expect(usual.returncode == 0, command, usual)
+        for number in range(100000):
+            reading, writing = os.pipe()
+            environment = os.environ | {"LD_PRELOAD": library, "REFUSE": str(number)}
+            done = runs.run(command, files, words, env=environment, preexec_fn=lambda: os.dup2(writing, 9), pass_fds=(9,))
+            os.close(writing)
+            met = os.read(reading, 1)
+            os.close(reading)
+            if not met:
+                break
+            refused = done.returncode == 6 and done.stdout == b"" and done.stderr in (b"no memory\n", b"")
+            runs.expect(refused, f"{command}, allocation {number}", done)
+        print(f"{command}: {number} allocations")
+    return runs.end("memory")
+
+
+def main():
+    if len(sys.argv) < 2:
+        sys.exit(__doc__)
+    parts = {"truncation": truncation, "memory": memory}
+    wanted = sys.argv[2:] or list(parts)
+    results = [parts[part](sys.argv[1]) for part in wanted]
+    sys.exit(0 if all(results) else 1)
+
+
+main()
