@@ -29,7 +29,7 @@ MODES = ("auto", "exact", "rounded")
 USAGE = f"""usage: {NAME} MODEL [option=value ..]
 
   writes a proof for `bridge prove` that no whole point of MODEL.nl is better than a value, and
-  asks for its verdict. Status 0 where it is `proved`, 1 where there is no proof.
+  asks for its verdict. Status 1 where there is no proof.
 
 """
 OPTIONS = (
@@ -106,8 +106,8 @@ class Command:
         if status != Status.DONE:
             return status
         self.stats(driver.result.figures)
-        proved = driver.result.lines[-1].startswith(("proved ", "certified infeasible"))
-        return Status.DONE if proved else Status.FAILED
+        failed = driver.result.lines[-1].startswith("not ")
+        return Status.FAILED if failed else Status.DONE
 
     def with_value(self, folder: str) -> int:
         o, nl = self.options, self.stub + ".nl"
