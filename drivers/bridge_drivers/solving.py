@@ -139,9 +139,14 @@ class Solving:
         """The last lines with that of a branch proof, which is kept where `proof` says, and its
         figures."""
         from .branching.after_solve import AfterSolve
+        from .branching.proving import remove_older
         after = AfterSolve(certifier, "bridge-" + self.solver.program)
         try:
+            if self.options.proof:
+                remove_older(self.options.proof)
             lines = after.lines(outcome.code, settled, last)
+        except OSError as fault:
+            return [last, f"not proved: {fault.filename}: {fault.strerror}"], ""
         except (ArithmeticError, AssertionError, LookupError, TypeError, ValueError) as fault:
             if self.options.outlev >= 2:
                 raise

@@ -214,10 +214,12 @@ class Command(Case):
         ran = self.branch(self.stub + ".nl", "value=35/2", "claim=exact", "proof=-")
         self.assertEqual((ran.returncode, ran.stdout.split("\n")[1]), (0, "value 0 17.5"))
         self.assertEqual(ran.stderr, "none is better than 17.5\n")
-        for words, status in ((["value=16"], 1), (["value=infeasible"], 1), (["value=x"], 3),
-                              (["nosuch=1"], 3), (["claim=best"], 3), (["objno=2", "value=1"], 2)):
+        for words, status in ((["value=x"], 3), (["nosuch=1"], 3), (["claim=best"], 3),
+                              (["value=16"], 1), (["value=infeasible"], 1),
+                              (["objno=2", "value=1"], 2)):
             ran = self.branch(self.stub, *words)
             self.assertEqual(ran.returncode, status, (words, ran.stderr))
+            self.assertEqual(os.path.exists(self.stub + ".proof"), status == 3)
             self.assertNotIn("Traceback", ran.stderr)
         self.assertEqual(self.branch(self.stub + "2", "value=1").returncode, 4)
         self.assertEqual(self.branch().returncode, 3)

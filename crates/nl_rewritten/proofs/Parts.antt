@@ -17,7 +17,7 @@ use Rattle.nl_model.specs.Kinds.{kind_of}
 use Rattle.nl_model.specs.Rules.{AreGuesses, AreIndicesApart, AreSuffixes, AreTermsBelow, IsOrdered, IsSuffix, has_suffix, is_suffix_of, term_count}
 use Rattle.nl_segments.specs.declared.awaited.Awaited.TheVariants.{Interval as IntervalLine}
 use Rattle.nl_segments.specs.declared.head.Head.{Head}
-use Rattle.nl_segments.specs.declared.head.Head.TheVariants.{Body, Objective, Definition as DefinitionHead, DualGuesses, PrimalGuesses, Sides, Bounds, ColumnCounts, Terms, Slopes, Suffix as SuffixHead}
+use Rattle.nl_segments.specs.declared.head.Head.TheVariants.{Body, Definition as DefinitionHead, DualGuesses, PrimalGuesses, Sides, Bounds, Terms, Slopes, Suffix as SuffixHead}
 use Rattle.nl_segments.specs.Pieces.{Piece, line_count, line_kind, pair_count, piece_intervals, piece_pairs}
 use Rattle.nl_segments.specs.Saying.{draft_of, piece_tree, with_terms}
 use Rattle.nl_segments.specs.Tests.{holds_once, index_limit, is_binary, is_linear, is_same_piece, is_sides, is_suffix, is_within_unit, pair_total, suffix_count, wants_whole}
@@ -60,16 +60,7 @@ total_up counts before p = by (counts p.head) refl
 
 options_kept : (o : List ℤ) (c : Counts) (before : List Piece) (p : Piece) → IsStep o c before p → (draft_of o c before).options ≡ o → (h : Head) → p.head ≡ h → (said_whole c (draft_of o c before) p h).options ≡ o
 options_kept o c before p s k (Body i) e = k
-options_kept o c before p s k (Objective i m) e = k
-options_kept o c before p s k (DefinitionHead i j u) e = k
-options_kept o c before p s k (DualGuesses n) e = k
-options_kept o c before p s k (PrimalGuesses n) e = k
-options_kept o c before p s k Sides e = k
-options_kept o c before p s k Bounds e = k
-options_kept o c before p s k (ColumnCounts n) e = k
-options_kept o c before p s k (Terms i n) e = k
-options_kept o c before p s k (Slopes i n) e = k
-options_kept o c before p s k (SuffixHead i n) e = k
+options_kept o c before p s k head e = k
 
 no_options : (o : List ℤ) (c : Counts) → (draft_of o c []).options ≡ o
 unfolding draft_of
@@ -115,19 +106,12 @@ no_term c before p ds terms slopes k =
     record { rows = k.rows; costs = k.costs; terms_below = k.terms_below; slopes_below = k.slopes_below; few = let up = total_up is_linear before p in omega (arith, up, k.few) }
 
 terms_step : (o : List ℤ) (c : Counts) (before : List Piece) (p : Piece) → IsStep o c before p → TermsKept c before (draft_of o c before) → (h : Head) → p.head ≡ h → TermsKept c (before ++ p ∷ []) (said_whole c (draft_of o c before) p h)
-terms_step o c before p s k (Body i) e = let d = draft_of o c before in no_term c before p d.definitions d.terms d.slopes k
-terms_step o c before p s k (Objective i m) e = let d = draft_of o c before in no_term c before p d.definitions d.terms d.slopes k
 terms_step o c before p s k (DefinitionHead i j u) e =
     let d = draft_of o c before in
     let x : Definition = record { index = i; terms = piece_pairs p; usage = u; tree = piece_tree c p } in
     let sum = sum_by_push (λ (d : Definition). length d.terms) d.definitions x in
     let more = pairs-append is_linear before p (ap is_linear e) in
     record { rows = k.rows; costs = k.costs; terms_below = k.terms_below; slopes_below = k.slopes_below; few = omega (arith, sum, more, k.few) }
-terms_step o c before p s k (DualGuesses n) e = let d = draft_of o c before in no_term c before p d.definitions d.terms d.slopes k
-terms_step o c before p s k (PrimalGuesses n) e = let d = draft_of o c before in no_term c before p d.definitions d.terms d.slopes k
-terms_step o c before p s k Sides e = let d = draft_of o c before in no_term c before p d.definitions d.terms d.slopes k
-terms_step o c before p s k Bounds e = let d = draft_of o c before in no_term c before p d.definitions d.terms d.slopes k
-terms_step o c before p s k (ColumnCounts n) e = let d = draft_of o c before in no_term c before p d.definitions d.terms d.slopes k
 terms_step o c before p s k (Terms i n) e =
     let d = draft_of o c before in
     let row = row_more c.n_var d.terms i p (let lt = terms_in c i n (range_of o c before p (Terms i n) s e) in omega (arith, lt, k.rows)) (below_as o c before p (Terms i n) s e) k.terms_below in
@@ -138,7 +122,7 @@ terms_step o c before p s k (Slopes i n) e =
     let row = row_more c.n_var d.slopes i p (let lt = slopes_in c i n (range_of o c before p (Slopes i n) s e) in omega (arith, lt, k.costs)) (below_as o c before p (Slopes i n) s e) k.slopes_below in
     let more = pairs-append is_linear before p (ap is_linear e) in
     record { rows = k.rows; costs = row.count ∙ k.costs; terms_below = k.terms_below; slopes_below = row.below; few = omega (arith, row.total, more, k.few) }
-terms_step o c before p s k (SuffixHead i n) e = let d = draft_of o c before in no_term c before p d.definitions d.terms d.slopes k
+terms_step o c before p s k head e = let d = draft_of o c before in no_term c before p d.definitions d.terms d.slopes k
 
 no_rows : (n : ℕ) → term_count (replicate n []) ≡ 0
 no_rows zero = refl
@@ -174,11 +158,6 @@ intervals_of : (o : List ℤ) (c : Counts) (before : List Piece) (p : Piece) (h 
 intervals_of o c before p h s e kind = s.good.intervals (ap line_kind e ∙ kind)
 
 intervals_step : (o : List ℤ) (c : Counts) (before : List Piece) (p : Piece) → IsStep o c before p → IntervalsKept c before (draft_of o c before) → (h : Head) → p.head ≡ h → IntervalsKept c (before ++ p ∷ []) (said_whole c (draft_of o c before) p h)
-intervals_step o c before p s k (Body i) e = k
-intervals_step o c before p s k (Objective i m) e = k
-intervals_step o c before p s k (DefinitionHead i j u) e = k
-intervals_step o c before p s k (DualGuesses n) e = k
-intervals_step o c before p s k (PrimalGuesses n) e = k
 intervals_step o c before p s k Sides e =
     let d = draft_of o c before in
     let g = intervals_of o c before p Sides s e refl in
@@ -203,10 +182,7 @@ intervals_step o c before p s k Bounds e =
       bounds_ordered = g.in_order;
       units = g.units (ap is_sides e);
     })
-intervals_step o c before p s k (ColumnCounts n) e = k
-intervals_step o c before p s k (Terms i n) e = k
-intervals_step o c before p s k (Slopes i n) e = k
-intervals_step o c before p s k (SuffixHead i n) e = k
+intervals_step o c before p s k head e = k
 
 intervals_start : (o : List ℤ) (c : Counts) → IntervalsKept c [] (draft_of o c [])
 unfolding draft_of
@@ -234,9 +210,6 @@ abbrev GuessesKept : Counts → List Piece → Draft → Type 0
 GuessesKept c pieces d = AreGuessesKept c d.dual_guesses d.primal_guesses
 
 guesses_step : (o : List ℤ) (c : Counts) (before : List Piece) (p : Piece) → IsStep o c before p → GuessesKept c before (draft_of o c before) → (h : Head) → p.head ≡ h → GuessesKept c (before ++ p ∷ []) (said_whole c (draft_of o c before) p h)
-guesses_step o c before p s k (Body i) e = k
-guesses_step o c before p s k (Objective i m) e = k
-guesses_step o c before p s k (DefinitionHead i j u) e = k
 guesses_step o c before p s k (DualGuesses n) e =
     let d = draft_of o c before in
     let all : piece_pairs p ≡ d.dual_guesses ++ piece_pairs p = ap (λ (xs : List Term). xs ++ piece_pairs p) (sym (fresh_dual o c before n p.name (fresh_as o c before p (DualGuesses n) s e))) in
@@ -259,12 +232,7 @@ guesses_step o c before p s k (PrimalGuesses n) e =
       primal = record { below = below_as o c before p (PrimalGuesses n) s e; apart = apart_as o c before p (PrimalGuesses n) s e refl };
       few_primals = omega (arith, few, size);
     })
-guesses_step o c before p s k Sides e = k
-guesses_step o c before p s k Bounds e = k
-guesses_step o c before p s k (ColumnCounts n) e = k
-guesses_step o c before p s k (Terms i n) e = k
-guesses_step o c before p s k (Slopes i n) e = k
-guesses_step o c before p s k (SuffixHead i n) e = k
+guesses_step o c before p s k head e = k
 
 guesses_start : (o : List ℤ) (c : Counts) → GuessesKept c [] (draft_of o c [])
 unfolding draft_of
@@ -315,16 +283,6 @@ suffixes_push c ss s h fine fresh =
     clash b p q = cc
 
 suffixes_step : (o : List ℤ) (c : Counts) (before : List Piece) (p : Piece) → IsStep o c before p → SuffixesKept c before (draft_of o c before) → (h : Head) → p.head ≡ h → SuffixesKept c (before ++ p ∷ []) (said_whole c (draft_of o c before) p h)
-suffixes_step o c before p s k (Body i) e = no_suffix c before p (draft_of o c before).suffixes k
-suffixes_step o c before p s k (Objective i m) e = no_suffix c before p (draft_of o c before).suffixes k
-suffixes_step o c before p s k (DefinitionHead i j u) e = no_suffix c before p (draft_of o c before).suffixes k
-suffixes_step o c before p s k (DualGuesses n) e = no_suffix c before p (draft_of o c before).suffixes k
-suffixes_step o c before p s k (PrimalGuesses n) e = no_suffix c before p (draft_of o c before).suffixes k
-suffixes_step o c before p s k Sides e = no_suffix c before p (draft_of o c before).suffixes k
-suffixes_step o c before p s k Bounds e = no_suffix c before p (draft_of o c before).suffixes k
-suffixes_step o c before p s k (ColumnCounts n) e = no_suffix c before p (draft_of o c before).suffixes k
-suffixes_step o c before p s k (Terms i n) e = no_suffix c before p (draft_of o c before).suffixes k
-suffixes_step o c before p s k (Slopes i n) e = no_suffix c before p (draft_of o c before).suffixes k
 suffixes_step o c before p s k (SuffixHead kind n) e =
     let ss = (draft_of o c before).suffixes in
     let x : Suffix = record { kind = kind; name = p.name; values = piece_pairs p } in
@@ -347,6 +305,7 @@ suffixes_step o c before p s k (SuffixHead kind n) e =
       few = omega (arith, one, length-append ss (x ∷ []), k.few);
       few_values = omega (arith, values, sum, k.few_values);
     }
+suffixes_step o c before p s k head e = no_suffix c before p (draft_of o c before).suffixes k
 
 suffixes_start : (o : List ℤ) (c : Counts) → SuffixesKept c [] (draft_of o c [])
 unfolding draft_of

@@ -14,7 +14,7 @@ use Rattle.exact_numbers.specs.Numbers.{has_31_bits}
 use Rattle.exact_numbers.proofs.Bridge.{and_true}
 use Rattle.code_tables.specs.Opcodes.{class_of, operands_of}
 use Rattle.code_tables.specs.declared.class.OpClass.{OpClass}
-use Rattle.code_tables.specs.declared.class.OpClass.TheVariants.{Sum, Difference, Product, Quotient, Negation, List as ListOf, Power, Least, Greatest, Floor, Ceiling, Absolute, Refused}
+use Rattle.code_tables.specs.declared.class.OpClass.TheVariants.{Sum, Refused}
 use Rattle.nl_meaning.specs.Trees.{Tree, tree_size, HasCount}
 use Rattle.nl_model.specs.declared.counts.Counts.{Counts}
 use Rattle.nl_model.specs.declared.interval.Interval.{Interval}
@@ -158,18 +158,8 @@ terms_short n ts few below =
 
 opcode_small : (c : OpClass) (k : ℕ) → HasCount c k → opcode_of c ≤ 54
 opcode_small Sum k h = omega arith
-opcode_small Difference k h = omega arith
-opcode_small Product k h = omega arith
-opcode_small Quotient k h = omega arith
-opcode_small Negation k h = omega arith
-opcode_small ListOf k h = omega arith
-opcode_small Power k h = omega arith
-opcode_small Least k h = omega arith
-opcode_small Greatest k h = omega arith
-opcode_small Floor k h = omega arith
-opcode_small Ceiling k h = omega arith
-opcode_small Absolute k h = omega arith
 opcode_small Refused k h = absurd h
+opcode_small c k h = omega arith
 
 known_small : (o k : ℕ) → HasCount (class_of o) k → o ≤ 54
 known_small o k h = subst (λ p. p ≤ 54) (opcode_of-known o (λ e. subst (λ c. HasCount c k) e h)) (opcode_small (class_of o) k h)

@@ -1,5 +1,5 @@
 -- What complete pieces say, one after the other.
-use Rattle.std.proofs.Common.{◌≡◌, ◌∙◌, ℕ, ◌+◌, ◌<◌, ◌≤◌, Bool, true, ℤ, List, [], ◌∷◌, ◌++◌, refl, sym, ap, subst, nat_le, nat_lt, slice_set, Some, append_assoc, append-nil}
+use Rattle.std.proofs.Common.{◌≡◌, ◌∙◌, ℕ, ◌+◌, ◌<◌, ◌≤◌, true, ℤ, List, [], ◌∷◌, ◌++◌, refl, sym, ap, subst, nat_le, nat_lt, slice_set, Some, append_assoc, append-nil}
 use Rattle.std.proofs.lemmas.Bool.{ltb-true, leb-true}
 use Rattle.exact_numbers.proofs.Bridge.{and_true}
 use Rattle.nl_model.specs.declared.counts.Counts.{Counts}
@@ -35,14 +35,8 @@ said_as : (c : Counts) (d : Draft) (p : Piece) (h : Head) → d.counts ≡ c →
 said_as c d p (Body i) e t = taken d _ c p e t ∙ ap (λ k. record d { bodies = slice_set d.bodies i (Some (piece_tree k p)) }) e
 said_as c d p (Objective i m) e t = taken d _ c p e t ∙ ap (λ k. record d { objectives = slice_set d.objectives i (Some (record { maximise = m; tree = piece_tree k p })) }) e
 said_as c d p (Definition i j u) e t = taken d _ c p e t ∙ ap (λ k. record d { definitions = d.definitions ++ record { index = i; terms = piece_pairs p; usage = u; tree = piece_tree k p } ∷ [] }) e
-said_as c d p (DualGuesses n) e t = refl
-said_as c d p (PrimalGuesses n) e t = refl
-said_as c d p Sides e t = refl
-said_as c d p Bounds e t = refl
-said_as c d p (ColumnCounts n) e t = refl
-said_as c d p (Terms i n) e t = refl
-said_as c d p (Slopes k n) e t = refl
 said_as c d p (Suffix k n) e t = taken d _ c p e t
+said_as c d p head e t = refl
 
 draft_more : (o : List ℤ) (c : Counts) (before : List Piece) (p : Piece) → is_complete c p ≡ true → draft_of o c (before ++ p ∷ []) ≡ said_whole c (draft_of o c before) p p.head
 draft_more o c before p t = draft-append o c before p ∙ said_as c (draft_of o c before) p p.head (draft_counts o c before) t
@@ -57,14 +51,6 @@ said_all o c P each before (p ∷ rest) steps h =
     subst (λ ps. P ps (draft_of o c ps)) (append_assoc before (p ∷ []) rest) (said_all o c P each (before ++ p ∷ []) rest steps.1 next)
 
 -- the indices of heads
-pub body_in : (c : Counts) (i : ℕ) → is_in_range c (Body i) ≡ true → i < c.n_con
-unfolding is_in_range
-body_in c i e = ltb-true i c.n_con e
-
-pub objective_in : (c : Counts) (k : ℕ) (m : Bool) → is_in_range c (Objective k m) ≡ true → k < c.n_obj
-unfolding is_in_range
-objective_in c k m e = ltb-true k c.n_obj e
-
 pub definition_in : (c : Counts) (i j u : ℕ) → is_in_range c (Definition i j u) ≡ true → (c.n_var ≤ i) × (i < c.n_var + defined_count c)
 unfolding is_in_range
 definition_in c i j u e =

@@ -20,7 +20,7 @@ use Rattle.nl_model.specs.Rules.{is_defined, IsTreeWithin, AreTreesWithin, IsTre
 use Rattle.nl_model.proofs.Prefixes.{prefix_of_run}
 use Rattle.nl_segments.specs.declared.awaited.Awaited.TheVariants.{Nothing}
 use Rattle.nl_segments.specs.declared.head.Head.{Head}
-use Rattle.nl_segments.specs.declared.head.Head.TheVariants.{Body, Objective as ObjectiveHead, Definition as DefinitionHead, DualGuesses, PrimalGuesses, Sides, Bounds, ColumnCounts, Terms, Slopes, Suffix}
+use Rattle.nl_segments.specs.declared.head.Head.TheVariants.{Body, Objective as ObjectiveHead, Definition as DefinitionHead}
 use Rattle.nl_segments.specs.declared.pending.Pending.{Pending}
 use Rattle.nl_segments.specs.Nodes.{Placed, only_nodes}
 use Rattle.nl_segments.specs.Pieces.{Piece, awaited_in, has_tree, is_complete, is_nothing, line_count, line_kind, piece_nodes, piece_pairs, piece_pending, tree_awaits}
@@ -237,14 +237,7 @@ one_piece o c before p s k (DefinitionHead i j u) e =
       few = s.few (ap is_linear e);
       tree = t.known;
     }) t k
-one_piece o c before p s k (DualGuesses n) e = let d = draft_of o c before in nothing_new c before p d.definitions d.bodies d.objectives k
-one_piece o c before p s k (PrimalGuesses n) e = let d = draft_of o c before in nothing_new c before p d.definitions d.bodies d.objectives k
-one_piece o c before p s k Sides e = let d = draft_of o c before in nothing_new c before p d.definitions d.bodies d.objectives k
-one_piece o c before p s k Bounds e = let d = draft_of o c before in nothing_new c before p d.definitions d.bodies d.objectives k
-one_piece o c before p s k (ColumnCounts n) e = let d = draft_of o c before in nothing_new c before p d.definitions d.bodies d.objectives k
-one_piece o c before p s k (Terms i n) e = let d = draft_of o c before in nothing_new c before p d.definitions d.bodies d.objectives k
-one_piece o c before p s k (Slopes i n) e = let d = draft_of o c before in nothing_new c before p d.definitions d.bodies d.objectives k
-one_piece o c before p s k (Suffix i n) e = let d = draft_of o c before in nothing_new c before p d.definitions d.bodies d.objectives k
+one_piece o c before p s k head e = let d = draft_of o c before in nothing_new c before p d.definitions d.bodies d.objectives k
 
 no_sizes : {X : Type 0} (f : Option X → ℕ) (n : ℕ) → f None ≡ 0 → sum_by f (replicate n None) ≡ 0
 no_sizes f zero e = refl

@@ -19,7 +19,7 @@ from ..program import Program
 from ..solving import Result
 from .engines import NoEngine
 from .integer_program import Unfit
-from .proving import Prover
+from .proving import Prover, remove_older
 from .tree import MOST_NODES
 from .watch import Watch
 
@@ -29,7 +29,7 @@ MODES = ("auto", "exact", "rounded")
 USAGE = f"""usage: {NAME} MODEL [option=value ..]
 
   writes a proof for `bridge prove` that no whole point of MODEL.nl is better than a value, and
-  asks for its verdict. Status 0 where it is `proved`, 1 where there is no proof.
+  asks for its verdict. Status 1 where there is no proof.
 
 """
 OPTIONS = (
@@ -58,6 +58,9 @@ class Finding(Driver):
 
 
 class Command:
+    """One call: `stub` is the model's path without its end, `value` None where it is to be found
+    or `is_infeasible`, `stream` where lines are told."""
+
     def __init__(self, argv: Sequence[str]) -> None:
         self.options = {o.name: o.default for o in OPTIONS}
         known = {o.name: o for o in OPTIONS}
@@ -81,35 +84,36 @@ class Command:
         self.stream = sys.stderr if self.proof_path() == "-" else sys.stdout
 
     def run(self) -> int:
-        if not self.is_infeasible and self.value is None:
-            return self.with_point()
+        """An older proof goes first: it must not pass for this run's."""
+        path = self.proof_path()
         folder = tempfile.mkdtemp(prefix=NAME + "-")
+        place = os.path.join(folder, "kept.proof") if path == "-" else path
         try:
-            return self.with_value(folder)
+            remove_older(place)
+            given = self.is_infeasible or self.value is not None
+            status = self.with_value(folder, place) if given else self.with_point(place)
+            if path == "-" and os.path.exists(place):
+                with open(place, encoding="utf-8") as f:
+                    sys.stdout.write(f.read())
+            return status
         finally:
             shutil.rmtree(folder, ignore_errors=True)
 
-    def with_point(self) -> int:
+    def with_point(self, place: str) -> int:
         """By a driver, with its option `prove`."""
-        path = self.proof_path()
-        with tempfile.NamedTemporaryFile(prefix=NAME + "-") as aside:
-            place = aside.name if path == "-" else path
-            words = [self.stub, "prove=1", "proof=" + place, f"objno={self.options['objno']}",
-                     f"timelim={self.options['timelim']:g}", "-e"]
-            words += ["bridge=" + str(self.options["bridge"])] if self.options["bridge"] else []
-            driver = Finding(str(self.options["driver"]))
-            driver.stream = self.stream
-            status = driver.main(words)
-            if status == Status.DONE and path == "-":
-                with open(place, encoding="utf-8") as f:
-                    sys.stdout.write(f.read())
+        words = [self.stub, "prove=1", "proof=" + place, f"objno={self.options['objno']}",
+                 f"timelim={self.options['timelim']:g}", "-e"]
+        words += ["bridge=" + str(self.options["bridge"])] if self.options["bridge"] else []
+        driver = Finding(str(self.options["driver"]))
+        driver.stream = self.stream
+        status = driver.main(words)
         if status != Status.DONE:
             return status
         self.stats(driver.result.figures)
-        proved = driver.result.lines[-1].startswith(("proved ", "certified infeasible"))
-        return Status.DONE if proved else Status.FAILED
+        failed = driver.result.lines[-1].startswith("not ")
+        return Status.FAILED if failed else Status.DONE
 
-    def with_value(self, folder: str) -> int:
+    def with_value(self, folder: str, place: str) -> int:
         o, nl = self.options, self.stub + ".nl"
         if not os.path.exists(nl):
             raise Failure(Code.FILE, f"{nl}: no such file", Status.NO_FILE)
@@ -119,10 +123,8 @@ class Command:
         prover = Prover(bridge, nl, folder, Program(bridge.text(*words)), objective)
         watch = Watch(float(o["timelim"]))
         result = prover.prove(self.value, watch, str(o["claim"]), int(o["nodes"]))
-        if self.proof_path() == "-":
-            sys.stdout.write(result.kept())
-        elif result.kept():
-            with open(self.proof_path(), "w", encoding="utf-8") as f:
+        if result.kept():
+            with open(place, "w", encoding="utf-8") as f:
                 f.write(result.kept())
         print(result.line(is_reached=False), file=self.stream)
         self.stats(result.figures())

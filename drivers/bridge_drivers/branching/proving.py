@@ -78,6 +78,14 @@ class Result:
                 f"duals of at most {f.digits} digits, {len(self.text)} bytes, {told}")
 
 
+def remove_older(path: str) -> None:
+    """A proof of an earlier run."""
+    try:
+        os.unlink(path)
+    except FileNotFoundError:
+        pass
+
+
 def shown(value: Fraction) -> str:
     return exact_decimal(value) or str(value)
 
