@@ -127,11 +127,7 @@ fn refuses_answers(rt: HostRuntime) -> Result<(), Fail> {
             2,
             "refused file 2 line 3: repeated\n",
         ),
-        most(
-            "objno 1\n",
-            2,
-            "refused objective 1: no such objective\n",
-        ),
+        most("objno 1\n", 2, "refused objective 1: no such objective\n"),
     ];
     for case in cases {
         assert!(rt; comes_to(rt.alloc(), &case)?, "at {}", case.answer);
