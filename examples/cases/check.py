@@ -14,6 +14,13 @@ def sol(n_con, n_var, primals, duals, objno="objno 0 0"):
     return text(["", "Options", "0", *map(str, [*counts, *duals, *primals])] + ([objno] if objno else []))
 
 
+# what QSopt_ex answered through drivers/bin/bridge-esolver, integer programs relaxed, and the optimum of each
+EXACT = {
+    "diet": "22/5", "free_row": "1", "large_whole": "98765433", "mixed": "175/4", "product": "19", "ranges": "-13/2", "rowless": "1",
+    "scaled": "3", "second": "15", "whole_infeasible": "13/2",
+}
+
+
 def verdict(name, primals, duals, line, program=MINIMISED):
     holds = line.startswith("yes")
     return texts.done(name, "check", program, sol(1, len(primals), primals, duals), out=line + "\n", status=0 if holds else 1)
@@ -33,6 +40,9 @@ def cases():
     yield verdict("a row that is not exported", [0], [0], "yes 0", FREE_ROW)
     yield verdict("a dual on it", [0], [1], "row 0 has no side", FREE_ROW)
     yield verdict("a wide value", ["1.1102230246251565e-32", 4], [3], "too wide at row 0")
+    for name, value in EXACT.items():
+        files = [texts.data("data", "certificates", f"{name}.{kind}") for kind in ("nl", "sol")]
+        yield texts.done(f"an exact solver's answer to {name}", "check", *files, out=f"yes {value}\n")
     yield texts.refused("no duals", "check", MINIMISED, sol(1, 2, [3, 1], []), told="file 2: no dual values")
     yield texts.refused("no primals", "check", MINIMISED, sol(1, 2, [], [3]), told="file 2: no primal values")
     yield texts.refused("three variables", "check", MINIMISED, sol(1, 3, [3, 1, 0], [3]), told="file 2: other counts")

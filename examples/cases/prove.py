@@ -13,6 +13,10 @@ SPLIT = "split 0 1 / weights 1 / 0 1 / duals 0"
 KNAPSACK_PROOF = "value 0 17 / split 2 0 / duals 0 / split 0 0 / split 1 0 / duals 0 / weights 1 / 0 -1 / weights 1 / 0 -1"
 
 
+# made by drivers/bin/bridge-branch for drivers/tests/nl; the value of each stands in the proof
+MADE = ["assign", "blend", "jobshop3", "knapsack30", "mix", "setcover", "tsp6"]
+
+
 def verdict(name, program, proof, line):
     return texts.done(name, "prove", program, lines("proof 1 / " + proof), out=line + "\n", status=0 if line == "proved" else 1)
 
@@ -33,6 +37,22 @@ def verdict_cases():
     yield verdict("the first leaf that does not close", WHOLE, "value 0 3 / split 0 2 / duals 0 / split 0 3 / duals 0 / duals 0", "leaf 0 gap 0")
     yield verdict("the knapsack", text(KNAPSACK), KNAPSACK_PROOF, "proved")
     yield verdict("the knapsack, a value too good", text(KNAPSACK), KNAPSACK_PROOF.replace("0 17", "0 16"), "leaf 0 gap 17")
+
+
+def made_cases():
+    for name in MADE:
+        files = [texts.data("..", "drivers", "tests", "nl", f"{name}.nl"), texts.data("data", "proofs", f"{name}.proof")]
+        yield texts.done(f"a proof made for {name}", "prove", *files, out="proved\n")
+    tree = ["proof 1", "value 0 2", *halved(0, 32767)]
+    yield texts.done("65,535 nodes", "prove", WHOLE, text(tree), out="proved\n")
+
+
+def halved(low, high):
+    """A tree for WHOLE that splits these values of its variable in halves; from 2 on the bound is the value."""
+    if low == high:
+        return ["weights 1", "0 1"] if low < 2 else ["duals 0"]
+    middle = (low + high) // 2
+    return [f"split 0 {middle}", *halved(low, middle), *halved(middle + 1, high)]
 
 
 def fault_cases():
@@ -62,6 +82,7 @@ def fault_cases():
 
 def cases():
     yield from verdict_cases()
+    yield from made_cases()
     yield from fault_cases()
     yield texts.refused("no such objective", "prove", WHOLE, lines("proof 1 / value 1 2 / duals 0"), told="objective 1: no such objective")
     yield texts.refused("a fault of the first file", "prove", b"x\n", b"y\n", told="line 1: bad first line")

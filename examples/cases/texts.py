@@ -1,6 +1,8 @@
 """Texts that the examples share, and the form of an example."""
+import os
 from dataclasses import dataclass
 
+HERE = os.path.dirname(os.path.dirname(os.path.abspath(__file__)))
 BIG = 2**127 - 1
 
 
@@ -131,6 +133,12 @@ def missing(name, command, *contents):
     """The last file of the words is not there."""
     files = named(contents)
     return Case(name, (command, *files, "missing"), files, 4, "", "input fault\n")
+
+
+def data(*path):
+    """The bytes of a file beside the examples."""
+    with open(os.path.join(HERE, *path), "rb") as stream:
+        return stream.read()
 
 
 def lines(words):
