@@ -45,6 +45,14 @@ fn verdict_on<L: Ledger>(
     Ok(verdict)
 }
 
+// Whether it claims that no point has a better value of this objective.
+fn says_value(claim: Claim, objective: u32, value: Dec) -> bool {
+    match claim {
+        Claim::Value(number, stated) => number == objective && stated == value,
+        Claim::Infeasible => false,
+    }
+}
+
 #[test]
 fn a_proof_is_read_and_checked(rt: HostRuntime) -> Result<(), Fail> {
     let file = small_file(rt.alloc())?;
@@ -52,7 +60,7 @@ fn a_proof_is_read_and_checked(rt: HostRuntime) -> Result<(), Fail> {
         return Err(Fail::from("no proof"));
     };
     let two = Dec::of_whole(2);
-    assert!(rt; matches!(proof.claim(), Claim::Value(0, value) if value == two));
+    assert!(rt; says_value(proof.claim(), 0, two));
     let nodes = [
         ProofNode::Split(0, 1),
         ProofNode::Weights(1),
