@@ -1,55 +1,28 @@
 // What the walk over a proof needs: its memory is taken before it begins.
-ghost use Rattle.std.specs.Prelude.{◌≡◌, ◌<◌, length, All, IfOk};
-ghost use Rattle.linear_programs.specs.Linear.{variable_count};
+ghost use Rattle.std.specs.Prelude.{◌≡◌, ◌<◌, [], length, All, IfOk};
 ghost use Rattle.duality.specs.Points.{bounds_of};
 ghost use Rattle.linear_programs.specs.Linear.{row_count};
 ghost use Rattle.duality.specs.Verdict.{dual_bound};
 ghost use Rattle.fractions.specs.Rational.{zero_ℚ};
 ghost use Rattle.exact_numbers.specs.Values.{dec_value};
 ghost use Rattle.certificate_check.specs.Answers.{bound_answer_of};
-ghost use Rattle.certificate_check.specs.Lists.{bounds_in};
 ghost use Rattle.certificate_check.specs.Programs.{asked, program_of};
 ghost use Rattle.certificate_check.specs.Terms.{values_of};
-ghost use Rattle.branch_proof.specs.Cuts.{AreBelow, box_under, cuts_of};
+ghost use Rattle.branch_proof.specs.Cuts.{box_under, cuts_of};
 ghost use Rattle.branch_proof.specs.Proofs.{spread};
-ghost use Rattle.branch_proof.specs.Rooms.{AreLower, AreUpper, IsRoom};
+ghost use Rattle.branch_proof.specs.Rooms.{IsRoom};
 
-use crate::cuts::{Cut, fill};
+use crate::bounds::Bounds;
 use certificate_check::{BoundVerdict, Columns, Goal, dual_bound};
 use exact_numbers::Dec;
 use std::alloc::{AllocError, Global};
 
-// The bounds of the program and of a leaf, and the numbers of a leaf by row.
+// The bounds of a leaf, and its numbers by row.
 #[derive(Drop)]
 pub(crate) struct Room {
-    own_lo: Vec<Option<Dec>>,
-    own_hi: Vec<Option<Dec>>,
-    lo: Vec<Option<Dec>>,
-    hi: Vec<Option<Dec>>,
+    pub(crate) bounds: Bounds,
     zeros: Vec<Dec>,
     numbers: Vec<Dec>,
-}
-
-// The lower bounds of the program.
-fn lower_bounds(alloc: Global, columns: &Columns) -> Result<Vec<Option<Dec>>, AllocError>
-    ensures { IfOk result (λ v. AreLower (program_of columns.now) v.items) }
-{
-    let mut sides = Vec::with_capacity(alloc, columns.n_var() as usize)?;
-    for var in 0..columns.n_var() {
-        sides.push(columns.bound(var).lo)?;
-    }
-    Ok(sides)
-}
-
-// The upper bounds of the program.
-fn upper_bounds(alloc: Global, columns: &Columns) -> Result<Vec<Option<Dec>>, AllocError>
-    ensures { IfOk result (λ v. AreUpper (program_of columns.now) v.items) }
-{
-    let mut sides = Vec::with_capacity(alloc, columns.n_var() as usize)?;
-    for var in 0..columns.n_var() {
-        sides.push(columns.bound(var).hi)?;
-    }
-    Ok(sides)
 }
 
 // Writes the numbers of pairs, and 0 elsewhere.
@@ -67,40 +40,19 @@ fn set_numbers(zeros: &[Dec], pairs: &[(u32, Dec)], numbers: &mut [Dec])
 }
 
 impl Room {
-    // Room for a program.
-    pub(crate) fn new(alloc: Global, columns: &Columns) -> Result<Room, AllocError>
-        ensures { IfOk result (λ r. IsRoom (program_of columns.now) r) }
+    // Room for a proof of so many nodes over a program.
+    pub(crate) fn new(alloc: Global, columns: &Columns, nodes: usize) -> Result<Room, AllocError>
+        ensures room { IfOk result (λ r. IsRoom (program_of columns.now) r) }
+        ensures path { IfOk result (λ r. r.bounds.path.items ≡ []) }
     {
-        let own_lo = lower_bounds(alloc, columns)?;
-        let own_hi = upper_bounds(alloc, columns)?;
-        let lo = lower_bounds(alloc, columns)?;
-        let hi = upper_bounds(alloc, columns)?;
+        let bounds = Bounds::new(alloc, columns, nodes)?;
         let zeros = Vec::from_elem(alloc, Dec::zero(), columns.n_con() as usize)?;
         let numbers = Vec::from_elem(alloc, Dec::zero(), columns.n_con() as usize)?;
         Ok(Room {
-            own_lo,
-            own_hi,
-            lo,
-            hi,
+            bounds,
             zeros,
             numbers,
         })
-    }
-
-    // Writes the bounds below these cuts.
-    fn write_bounds(&mut self, path: &[Cut])
-        requires lowers { length self.old.lo.items ≡ length self.old.own_lo.items }
-        requires uppers { length self.old.hi.items ≡ length self.old.own_hi.items }
-        requires lower_cuts { AreBelow (length self.old.own_lo.items) (cuts_of path.now) }
-        requires upper_cuts { AreBelow (length self.old.own_hi.items) (cuts_of path.now) }
-        ensures bounds { bounds_in self.new.lo.items self.new.hi.items
-            ≡ box_under (bounds_in self.old.own_lo.items self.old.own_hi.items)
-            (cuts_of path.now) }
-        ensures lower_count { length self.new.lo.items ≡ length self.old.lo.items }
-        ensures upper_count { length self.new.hi.items ≡ length self.old.hi.items }
-        ensures only { self.new ≡ record self.old { lo = self.new.lo; hi = self.new.hi } }
-    {
-        fill(&self.own_lo, &self.own_hi, path, &mut self.lo, &mut self.hi);
     }
 
     // Writes the numbers of these pairs.
@@ -116,25 +68,23 @@ impl Room {
         set_numbers(&self.zeros, pairs, &mut self.numbers);
     }
 
-    // The bound of a leaf with these pairs below these cuts.
+    // The bound of a leaf with these pairs where the walk is.
     pub(crate) fn leaf_bound(
         &mut self,
         columns: &Columns,
         goal: Goal,
-        path: &[Cut],
         pairs: &[(u32, Dec)],
     ) -> BoundVerdict
         requires room { IsRoom (program_of columns.now) self.old }
-        requires cuts { AreBelow (variable_count (program_of columns.now)) (cuts_of path.now) }
         requires within { All (λ p. p.0 < row_count (program_of columns.now)) pairs.now }
         ensures room { IsRoom (program_of columns.now) self.new }
+        ensures bounds { self.new.bounds ≡ self.old.bounds }
         ensures bound { bound_answer_of result
             ≡ dual_bound (asked goal (program_of columns.now))
-            (box_under (bounds_of (program_of columns.now)) (cuts_of path.now))
+            (box_under (bounds_of (program_of columns.now)) (cuts_of self.old.bounds.path.items))
             (spread (row_count (program_of columns.now)) pairs.now) }
     {
-        self.write_bounds(path);
         self.write_numbers(pairs);
-        dual_bound(columns, goal, &self.lo, &self.hi, &self.numbers)
+        dual_bound(columns, goal, &self.bounds.lo, &self.bounds.hi, &self.numbers)
     }
 }
