@@ -33,9 +33,10 @@ bounds_moved f old new h same = record { lower = same.lower ∙ h.lower; upper =
 under_more : (box : Box) (steps : List Step) (s : Step) (lo hi lo' hi' : List (Option Dec)) → AreUnder box steps lo hi → bounds_in lo' hi' ≡ cut_box (bounds_in lo hi) s.cut → lower_back s.cut s.before lo' ≡ lo → upper_back s.cut s.before hi' ≡ hi →
     AreUnder box (s ∷ steps) lo' hi'
 unfolding AreUnder
-under_more box steps s lo hi lo' hi' h cut lower upper =
-    (cut ∙ sym (ap₂ (λ l u. cut_box (bounds_in l u) s.cut) lower upper),
-    subst (λ l. AreUnder box steps l (upper_back s.cut s.before hi')) (sym lower) (subst (AreUnder box steps lo) (sym upper) h))
+under_more box steps s lo hi lo' hi' h cut lower upper = (
+  cut ∙ sym (ap₂ (λ l u. cut_box (bounds_in l u) s.cut) lower upper),
+  subst (λ l. AreUnder box steps l (upper_back s.cut s.before hi')) (sym lower) (subst (AreUnder box steps lo) (sym upper) h),
+)
 
 under_less : (box : Box) (steps : List Step) (s : Step) (lo hi : List (Option Dec)) → AreUnder box (s ∷ steps) lo hi → AreUnder box steps (lower_back s.cut s.before lo) (upper_back s.cut s.before hi)
 unfolding AreUnder
