@@ -7,7 +7,9 @@ pub mod laws;
 mod list;
 mod names;
 mod reader;
+mod renaming;
 
 pub use fault::{NameFault, NameReason};
 pub use list::NameList;
 pub use reader::NameReader;
+pub use renaming::rename;
