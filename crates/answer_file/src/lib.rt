@@ -9,6 +9,7 @@ mod keyword;
 mod law;
 mod named_places;
 mod names;
+mod naming;
 mod parts;
 mod reader;
 mod scope;
