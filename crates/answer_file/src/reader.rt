@@ -79,6 +79,7 @@ impl AnswerReader {
             → IsFreeSoFar (answer_rules s) (text ++ piece.now)) }
         ensures fault { IfErr result (λ stop. IfFault stop (λ fault. (s : Setting) (text : List ℕ)
             → IsFed s self.old text → HasFaultSoFar (answer_rules s) (text ++ piece.now) fault)) }
+        ensures setting { self.new.progress.setting ≡ self.old.progress.setting }
         ensures kept { self.new.stopped ≡ result_err result }
         ensures sticky { IfSome self.old.stopped (λ stop. result ≡ Err stop) }
     {
