@@ -100,6 +100,7 @@ fn read_named(
 
 // The columns of a file change their names.
 const ROWS: &[u8] = b"top\nx0\nlow\n";
+
 const COLUMNS: &[u8] = b"x1\nx0\n";
 
 fn are_values_read(answer: &Answer) -> bool {
@@ -113,7 +114,8 @@ fn are_values_read(answer: &Answer) -> bool {
 #[test]
 fn an_answer_with_names(rt: HostRuntime) -> Result<(), Fail> {
     let read = three_rows(rt.alloc())?;
-    let text = b"answer 1\ncol x1 5\ncol x0 7\ncol @z 1\nrow top 0.5\nrow low -1\nrow @zdef 2\nsuffix 0 s x0 3\n";
+    let text =
+        b"answer 1\ncol x1 5\ncol x0 7\ncol @z 1\nrow top 0.5\nrow low -1\nrow @zdef 2\nsuffix 0 s x0 3\n";
     match read_named(rt.alloc(), &read.file, ROWS, COLUMNS, text) {
         Ok(answer) => assert!(rt; are_values_read(&answer)),
         Err(_) => return Err(Fail::from("the answer is right")),
