@@ -10,7 +10,7 @@ use Rattle.exact_numbers.specs.Values.{dec_value, FitsDec}
 use Rattle.fractions.specs.Rational.{ℚ, decimal_value}
 use Rattle.exact_numbers.specs.declared.dec.Dec.{Dec}
 use Rattle.exact_numbers.proofs.Bridge.{no_dec, not_dec, dec_same, same_dec_value, decimal_is}
-use Rattle.exact_numbers.proofs.read.read_dec.Goals as goal
+use Rattle.exact_numbers.proofs.read.read_any.Goals as goal
 
 pub dec_of_digits-requires-clause-low : goal.dec_of_digits-requires-clause-low
 dec_of_digits-requires-clause-low c = let h = c.in-Some.ensures.1 in let low = h.low in let high = h.high in omega (arith, ints)
