@@ -4,9 +4,10 @@ use Rattle.std.specs.Prelude.{option_map, position}
 use Rattle.std.specs.List.{range_with_len}
 use Rattle.std.specs.Str.{bytes_eq}
 use Rattle.name_files.specs.Names.{place_of}
+use Rattle.name_files.specs.Renamed.{index_named}
 use Rattle.answer_file.specs.declared.naming.Naming.{Naming}
 use Rattle.answer_file.specs.declared.naming.Naming.TheVariants.{Listed}
-use Rattle.answer_file.specs.Names.{NamesColumns, NamesRows, column_name, row_name, index_named}
+use Rattle.answer_file.specs.Names.{NamesColumns, NamesRows, column_name, row_name}
 use Rattle.answer_file.proofs.PlaceLemmas.{position-cons, bytes_eq-comm}
 
 -- a test of the numbers from a on that tells which names are the text

@@ -1,10 +1,10 @@
 -- The names by which an answer names columns, rows and objects: own profile.
-use Rattle.std.specs.Prelude.{◌≡◌, ℕ, ◌%◌, ◌==◌, Bool, false, ◌||◌, is_some, List, [], ◌∷◌, length, map, count_by, get_or, position, Option, Some, None, option_map, option_and_then, if◌then◌else◌, codes}
+use Rattle.std.specs.Prelude.{◌≡◌, ℕ, ◌%◌, ◌==◌, Bool, false, ◌||◌, is_some, List, [], ◌∷◌, length, map, count_by, get_or, Option, Some, None, option_map, option_and_then, if◌then◌else◌, codes}
 use Rattle.std.specs.Fmt.{decimal}
-use Rattle.std.specs.List.{range_with_len}
 use Rattle.std.specs.Str.{bytes_eq}
 use Rattle.nl_model.specs.declared.interval.Interval.{Interval}
 use Rattle.nl_model.specs.File.{File}
+use Rattle.name_files.specs.Renamed.{index_named}
 use Rattle.answer_file.specs.declared.naming.Naming.{Naming}
 use Rattle.answer_file.specs.declared.naming.Naming.TheVariants.{Numbered, Listed}
 use Rattle.answer_file.specs.declared.target.Target.{Target}
@@ -66,10 +66,6 @@ NamesColumns (Listed rows columns) n = length columns ≡ n
 abbrev pub NamesRows : Naming → ℕ → Type 0
 NamesRows Numbered n = Unit {0}
 NamesRows (Listed rows columns) n = length rows ≡ n
-
--- the first of n things that has this name
-unfoldable pub index_named : (ℕ → List ℕ) → ℕ → List ℕ → Option ℕ
-index_named name n text = position (λ j. bytes_eq (name j) text) (range_with_len 0 n)
 
 -- ---- what a name stands for
 

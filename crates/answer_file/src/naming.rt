@@ -1,9 +1,9 @@
 // How an answer names columns and rows.
 ghost use Rattle.std.specs.Prelude.{◌≡◌, ◌≤◌, ◌^◌};
-ghost use Rattle.answer_file.specs.Names.{NamesColumns, NamesRows, column_name, row_name, tied_column, tied_row, index_named};
+ghost use Rattle.answer_file.specs.Names.{NamesColumns, NamesRows, column_name, row_name, tied_column, tied_row};
+ghost use Rattle.name_files.specs.Renamed.{index_named};
 
-use crate::names::numbered;
-use name_files::NameList;
+use name_files::{NameList, numbered};
 
 /// By a letter and the number, or by the names of two lists: of rows and of columns.
 #[derive(Drop)]
