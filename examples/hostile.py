@@ -1,13 +1,16 @@
 #!/usr/bin/env python3
-"""Hostile use of the built program: texts cut short, and memory that is refused.
+"""Hostile use of the built program: texts cut short, memory that is refused, and texts at their limits.
 
-    hostile.py PROGRAM [truncation] [memory]
+    hostile.py PROGRAM [truncation] [memory] [limits] [largest [NAME ..]]
 
 `truncation` cuts the files of an example of each command after each byte and after each line: the status is 0, 1 or 2,
 a 2 tells one line that begins with `refused ` and writes nothing, and a 0 or 1 tells nothing.
 `memory` refuses one allocation a run, the next in each run, until a run meets no refusal: each run that met one ends with
 6, tells `no memory` and writes nothing, or does without it (a list that was to be cut to its length) and answers as
 usual. It needs `cc`.
+`limits` gives each command texts of the greatest count that is accepted and of one more, which is refused at its line.
+`largest` does so where it takes long: up to gigabytes of text, one at a time, with seconds and peak memory of each, which
+is below 4 GB; words after it choose those whose names hold one. Without words all parts but `largest` run.
 The last line of each part counts its runs; the status is 0 where none failed.
 """
 import os
@@ -15,6 +18,7 @@ import subprocess
 import sys
 import tempfile
 
+import limits
 from cases import check, fixed, mps, prove, returned, sol
 from cases.texts import KNAPSACK, text
 
@@ -148,9 +152,16 @@ def memory(program):
 def main():
     if len(sys.argv) < 2:
         sys.exit(__doc__)
-    parts = {"truncation": truncation, "memory": memory}
-    wanted = sys.argv[2:] or list(parts)
-    results = [parts[part](sys.argv[1]) for part in wanted]
+    program, *wanted = sys.argv[1:]
+    chosen = wanted[wanted.index("largest") + 1:] if "largest" in wanted else []
+    parts = {
+        "truncation": truncation,
+        "memory": memory,
+        "limits": lambda it: limits.run(it, "limits", lambda limit: not limit.large),
+        "largest": lambda it: limits.run(it, "largest", lambda limit: limit.large and (not chosen or any(word in limit.name for word in chosen))),
+    }
+    names = [it for it in wanted if it not in chosen] or ["truncation", "memory", "limits"]
+    results = [parts[name](program) for name in names]
     sys.exit(0 if all(results) else 1)
 
 

@@ -2,7 +2,54 @@
 from .texts import Case, bad_words
 
 
+class Draws:
+    """Numbers that are drawn one after the other."""
+
+    def __init__(self, seed):
+        self.state = seed
+
+    def below(self, most):
+        self.state = (self.state * 1664525 + 1013904223) % 2**32
+        return self.state // 65536 % most
+
+
+def instance(seed, size):
+    """The rows of an instance: coefficients by variable, the row's side, the variable's upper side and its slope."""
+    draws, chain, rows = Draws(seed), {}, []
+    for k in range(size):
+        if k % 8 == 0:
+            chain = {}
+        chain[k] = 1 + draws.below(9)
+        row = dict(chain)
+        row[k] += 1 + draws.below(9)
+        rows.append((row, 10 + draws.below(90), 1 + draws.below(9), 1 + draws.below(99)))
+    return rows
+
+
+def program(rows):
+    """The MPS text of the program that an instance is exported as."""
+    columns = [[] for _ in rows]
+    for i, (row, _, _, _) in enumerate(rows):
+        for j, value in row.items():
+            columns[j].append(f" x{j} c{i} {value}")
+    lines = ["NAME nl", "OBJSENSE", " MAX", "ROWS", " N obj", *(f" L c{i}" for i in range(len(rows))), "COLUMNS", " M0 'MARKER' 'INTORG'"]
+    for j, (_, _, _, slope) in enumerate(rows):
+        lines += [f" x{j} obj {slope}", *columns[j]]
+    lines += [" M1 'MARKER' 'INTEND'", "RHS", *(f" RHS c{i} {most}" for i, (_, most, _, _) in enumerate(rows)), "BOUNDS"]
+    for j, (_, _, bound, _) in enumerate(rows):
+        lines += [f" LO BND x{j} 0", f" UP BND x{j} {bound}"]
+    return "".join(line + "\n" for line in [*lines, "ENDATA"])
+
+
+def summary(seed, size):
+    """The line of an instance, counted on its own."""
+    rows = instance(seed, size)
+    return f"variables {size} rows {size} terms {sum(len(row) for row, _, _, _ in rows)} bytes {len(program(rows))}\n"
+
+
 def cases():
     yield Case("one variable", ("make", "1", "1"), {}, out="variables 1 rows 1 terms 1 bytes 168\n")
+    for seed, size in [(5, 8), (0, 9), (4294967295, 100), (7, 20000)]:
+        yield Case(f"make {seed} {size}", ("make", str(seed), str(size)), {}, out=summary(seed, size))
     for words in [("1", "0"), ("1", "20001"), ("01", "1"), ("4294967296", "1"), ("1", "01"), ("-1", "1"), ("1",), ("1", "1", "1")]:
         yield bad_words(f"make {' '.join(words)}", "make", *words)

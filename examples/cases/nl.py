@@ -7,6 +7,8 @@ def cases():
     def again(name, counts, body, out):
         return texts.done(name, "nl", text(file(counts, body)), out=text(file(counts, out)).decode())
 
+    small = "C0 / n0 / C1 / n2 / O0 1 / n5 / r / 1 10 / 4 3 / b / 2 0 / 1 7 / k1 / 2 / J0 2 / 0 1 / 1 2 / J1 1 / 0 -1 / G0 2 / 0 3 / 1 -4"
+    yield texts.done("small", "nl", text(texts.SMALL), out=text(file((2, 2, 1, 0, 0, 3, 2, 0), small)).decode())
     yield again("slopes, written", (1, 0, 1, 0, 0, 0, 1, 0), "O0 0 / n5 / b / 3 / G0 1 / 0 2", "O0 0 / n5 / b / 3 / k0 / G0 1 / 0 2")
     pieces = "d1 / 0 1.5 / x1 / 0 2 / S0 1 sstatus / 0 3 / r / 3 / b / 3"
     yield again("pieces in order", (1, 1, 0, 0, 0, 0, 0, 0), pieces, "S0 1 sstatus / 0 3 / d1 / 0 1.5 / x1 / 0 2 / r / 3 / b / 3 / k0")

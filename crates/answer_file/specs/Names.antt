@@ -1,17 +1,14 @@
 -- The names by which an answer names columns, rows and objects: own profile.
-use Rattle.std.specs.Prelude.{ℕ, ◌%◌, ◌==◌, Bool, false, ◌||◌, is_some, List, [], ◌∷◌, length, map, count_by, get_or, position, Option, Some, None, option_map, option_and_then, if◌then◌else◌, codes}
+use Rattle.std.specs.Prelude.{◌≡◌, ℕ, ◌%◌, ◌==◌, Bool, false, ◌||◌, is_some, List, [], ◌∷◌, length, map, count_by, get_or, Option, Some, None, option_map, option_and_then, if◌then◌else◌, codes}
 use Rattle.std.specs.Fmt.{decimal}
-use Rattle.std.specs.List.{range_with_len}
 use Rattle.std.specs.Str.{bytes_eq}
 use Rattle.nl_model.specs.declared.interval.Interval.{Interval}
 use Rattle.nl_model.specs.File.{File}
+use Rattle.name_files.specs.Renamed.{index_named}
+use Rattle.answer_file.specs.declared.naming.Naming.{Naming}
+use Rattle.answer_file.specs.declared.naming.Naming.TheVariants.{Numbered, Listed}
 use Rattle.answer_file.specs.declared.target.Target.{Target}
 use Rattle.answer_file.specs.declared.target.Target.TheVariants.{Tied, Place}
-
--- names are a letter and the number, or those of two lists: of rows and of columns
-pub data Naming : Type 0 where
-  Numbered : Naming
-  Listed : List (List ℕ) → List (List ℕ) → Naming
 
 -- what of a file an answer is judged by: how its columns and rows are named, how many columns it
 -- has, and which of its rows are exported
@@ -24,12 +21,21 @@ pub record Setting : Type 0 where
 abbrev pub has_side : Interval → Bool
 has_side side = is_some side.lo || is_some side.hi
 
-abbrev pub setting_of : File → Setting
-setting_of f = record {
-  naming = Numbered;
+-- an answer for the file that names its columns and rows so
+abbrev pub setting_by : Naming → File → Setting
+setting_by naming f = record {
+  naming = naming;
   columns = f.counts.n_var;
   exported = map has_side f.sides;
 }
+
+-- by numbers
+abbrev pub setting_of : File → Setting
+setting_of f = setting_by Numbered f
+
+-- by the names of these lists
+abbrev pub named_setting : File → List (List ℕ) → List (List ℕ) → Setting
+named_setting f rows columns = setting_by (Listed rows columns) f
 
 -- ---- names
 
@@ -52,9 +58,14 @@ abbrev pub tied_row : Naming → List ℕ
 tied_row Numbered = codes "zdef"
 tied_row (Listed rows columns) = codes "@zdef"
 
--- the first of n things that has this name
-unfoldable pub index_named : (ℕ → List ℕ) → ℕ → List ℕ → Option ℕ
-index_named name n text = position (λ j. bytes_eq (name j) text) (range_with_len 0 n)
+-- a list of columns names n of them, and one of rows n
+abbrev pub NamesColumns : Naming → ℕ → Type 0
+NamesColumns Numbered n = Unit {0}
+NamesColumns (Listed rows columns) n = length columns ≡ n
+
+abbrev pub NamesRows : Naming → ℕ → Type 0
+NamesRows Numbered n = Unit {0}
+NamesRows (Listed rows columns) n = length rows ≡ n
 
 -- ---- what a name stands for
 

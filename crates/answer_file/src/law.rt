@@ -1,8 +1,11 @@
 // Laws of answers.
-ghost use Rattle.std.specs.Prelude.{◌≡◌, List, ℕ, ◌++◌, ◌∷◌, []};
+ghost use Rattle.std.specs.Prelude.{◌≡◌, ◌<◌, List, ℕ, ◌++◌, ◌∷◌, [], length, map, get_or, Some};
 ghost use Rattle.text_base.specs.Judged.{HasOneOutcome};
 ghost use Rattle.text_base.specs.Reading.{lines_of, last_of};
-ghost use Rattle.answer_file.specs.Names.{Setting};
+ghost use Rattle.nl_model.specs.File.{File};
+ghost use Rattle.name_files.specs.Names.{AreNames};
+ghost use Rattle.answer_file.specs.declared.target.Target.TheVariants.{Place};
+ghost use Rattle.answer_file.specs.Names.{Setting, named_setting, has_side, column_target, row_target, if_exported};
 ghost use Rattle.answer_file.specs.Grammar.{AnswerValue, SaysAnswer, answer_rules, standing};
 ghost use Rattle.answer_file.specs.Steps.{after};
 
@@ -18,4 +21,16 @@ pub fn one_reading()
 pub fn one_line_more()
     ensures { (s : Setting) (lines : List (List ℕ)) (line : List ℕ)
         → standing s (lines ++ line ∷ []) ≡ after s (standing s lines) line }
+{}
+
+/// A name of a list stands for the column of its number, or for the row of its number where that is
+/// exported.
+pub fn names_of_lists()
+    ensures columns { (f : File) (rows columns : List (List ℕ)) (j : ℕ) → AreNames columns
+        → length columns ≡ f.counts.n_var → j < length columns
+        → column_target (named_setting f rows columns) (get_or columns j []) ≡ Some (Place j) }
+    ensures rows { (f : File) (rows columns : List (List ℕ)) (i : ℕ) → AreNames rows
+        → length rows ≡ length f.sides → i < length rows
+        → row_target (named_setting f rows columns) (get_or rows i [])
+        ≡ if_exported (map has_side f.sides) i }
 {}

@@ -8,7 +8,7 @@ mod group;
 mod keyword;
 mod law;
 mod named_places;
-mod names;
+mod naming;
 mod parts;
 mod reader;
 mod scope;
@@ -20,5 +20,5 @@ mod words;
 
 pub use answer::Answer;
 pub use fault::{AnswerFault, AnswerReason};
-pub use law::{one_line_more, one_reading};
+pub use law::{names_of_lists, one_line_more, one_reading};
 pub use reader::{AnswerReader, read_answer};

@@ -1,9 +1,9 @@
 // A reader of answers.
-ghost use Rattle.std.specs.Prelude.{◌≡◌, ◌++◌, List, ℕ, [], IfOk, IfErr, IfSome, OnOk, Err};
+ghost use Rattle.std.specs.Prelude.{◌≡◌, ◌++◌, List, ℕ, [], length, IfOk, IfErr, IfSome, OnOk, Err};
 ghost use Rattle.std.specs.Result.{result_err};
 ghost use Rattle.text_base.specs.Stopped.{IfFault};
 ghost use Rattle.text_base.specs.Reading.{HasFaultSoFar, IsFreeSoFar};
-ghost use Rattle.answer_file.specs.Names.{Setting, setting_of};
+ghost use Rattle.answer_file.specs.Names.{Setting, setting_of, named_setting};
 ghost use Rattle.answer_file.specs.Grammar.{answer_rules};
 ghost use Rattle.answer_file.specs.Reading.{IsFed, ReadsAnswer};
 
@@ -11,6 +11,7 @@ use crate::answer::Answer;
 use crate::fault::AnswerFault;
 use crate::grammar::AnswerGrammar;
 use crate::scope::Scope;
+use name_files::NameList;
 use nl_model::NlFile;
 use std::alloc::{AllocError, Global};
 use std::marker::Model;
@@ -39,7 +40,29 @@ impl AnswerReader {
     pub fn new(alloc: Global, file: &NlFile) -> Result<AnswerReader, AllocError>
         ensures { IfOk result (λ reader. IsFed (setting_of file.now) reader []) }
     {
-        let grammar = AnswerGrammar::new(alloc, Scope::of(alloc, file)?)?;
+        AnswerReader::of(alloc, Scope::of(alloc, file)?)
+    }
+
+    /// A reader of a new answer for this file, with the names of lists: those of its rows and of
+    /// its columns, byte for byte; `@z` and `@zdef` name what ties the objective.
+    pub fn with_names(
+        alloc: Global,
+        file: &NlFile,
+        rows: NameList,
+        columns: NameList,
+    ) -> Result<AnswerReader, AllocError>
+        requires rows { length rows ≡ file.now.counts.n_con }
+        requires columns { length columns ≡ file.now.counts.n_var }
+        ensures { IfOk result (λ reader. IsFed (named_setting file.now rows columns) reader []) }
+    {
+        AnswerReader::of(alloc, Scope::named(alloc, file, rows, columns)?)
+    }
+
+    // A reader of a new answer that is judged so.
+    fn of(alloc: Global, scope: Scope) -> Result<AnswerReader, AllocError>
+        ensures { IfOk result (λ reader. IsFed scope reader []) }
+    {
+        let grammar = AnswerGrammar::new(alloc, scope)?;
         Ok(AnswerReader {
             reader: Reader::new(alloc, grammar)?,
         })
@@ -56,6 +79,7 @@ impl AnswerReader {
             → IsFreeSoFar (answer_rules s) (text ++ piece.now)) }
         ensures fault { IfErr result (λ stop. IfFault stop (λ fault. (s : Setting) (text : List ℕ)
             → IsFed s self.old text → HasFaultSoFar (answer_rules s) (text ++ piece.now) fault)) }
+        ensures setting { self.new.progress.setting ≡ self.old.progress.setting }
         ensures kept { self.new.stopped ≡ result_err result }
         ensures sticky { IfSome self.old.stopped (λ stop. result ≡ Err stop) }
     {

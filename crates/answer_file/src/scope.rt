@@ -1,33 +1,36 @@
 // What of a file an answer is judged by.
 ghost use Rattle.std.specs.Prelude.{◌≡◌, length, map, get_or, IfOk};
-ghost use Rattle.answer_file.specs.Names.{setting_of, has_side, column_target, row_target, object_target, only, if_exported, exported_count};
+ghost use Rattle.answer_file.specs.Names.{NamesColumns, NamesRows, setting_by, setting_of, named_setting, has_side, column_target, row_target, object_target, only, if_exported, exported_count};
 
-use crate::names::numbered;
+use crate::naming::Naming;
 use crate::target::Target;
+use name_files::NameList;
 use nl_model::{Interval, NlFile};
 use std::alloc::{AllocError, Global};
 use std::marker::Model;
 
-/// How many columns a file has, and which of its rows are exported.
+/// How columns and rows are named, how many columns a file has, and which of its rows are exported.
 #[derive(Drop)]
 pub struct Scope {
+    naming: Naming,
     columns: u32,
     exported: Vec<bool>,
 }
 
 impl Model for Scope {
     ghost use Rattle.std.specs.Prelude.{◌≤◌, ◌^◌, length};
-    ghost use Rattle.answer_file.specs.Names.{Setting, Numbered};
+    ghost use Rattle.answer_file.specs.Names.{Setting, NamesColumns, NamesRows};
 
     ghost Value = { Setting };
 
     ghost view = { λ s. record {
-      naming = Numbered;
+      naming = s.naming;
       columns = s.columns;
       exported = s.exported.items;
     } };
 
-    ghost invariant = { λ s. (s.columns ≤ 2 ^ 20) × (length s.exported.items ≤ 2 ^ 20) };
+    ghost invariant = { λ s. (s.columns ≤ 2 ^ 20) × (length s.exported.items ≤ 2 ^ 20)
+        × NamesColumns s.naming s.columns × NamesRows s.naming (length s.exported.items) };
 }
 
 // Whether an interval has a finite side.
@@ -59,15 +62,39 @@ fn only(name: &[u8], text: &[u8]) -> Option<Target>
 }
 
 impl Scope {
+    // What an answer for this file is judged by, with these names.
+    fn by(alloc: Global, naming: Naming, file: &NlFile) -> Result<Scope, AllocError>
+        requires columns { NamesColumns naming file.now.counts.n_var }
+        requires rows { NamesRows naming file.now.counts.n_con }
+        ensures { IfOk result (λ s. s ≡ setting_by naming file.now) }
+    {
+        let exported = exported_of(alloc, file)?;
+        Ok(Scope {
+            naming,
+            columns: file.header().counts().n_var,
+            exported,
+        })
+    }
+
     /// What an answer for this file is judged by.
     pub(crate) fn of(alloc: Global, file: &NlFile) -> Result<Scope, AllocError>
         ensures { IfOk result (λ s. s ≡ setting_of file.now) }
     {
-        let exported = exported_of(alloc, file)?;
-        Ok(Scope {
-            columns: file.header().counts().n_var,
-            exported,
-        })
+        Scope::by(alloc, Naming::Numbered, file)
+    }
+
+    /// What an answer for this file is judged by, with the names of lists.
+    pub(crate) fn named(
+        alloc: Global,
+        file: &NlFile,
+        rows: NameList,
+        columns: NameList,
+    ) -> Result<Scope, AllocError>
+        requires rows { length rows ≡ file.now.counts.n_con }
+        requires columns { length columns ≡ file.now.counts.n_var }
+        ensures { IfOk result (λ s. s ≡ named_setting file.now rows columns) }
+    {
+        Scope::by(alloc, Naming::Listed(rows, columns), file)
     }
 
     /// How many columns there are.
@@ -106,10 +133,10 @@ impl Scope {
         ensures { result ≡ column_target self.now text.now }
     {
         let count = self.columns;
-        if text == b"z".as_slice() {
+        if text == self.naming.tied_column() {
             return Some(Target::Tied);
         }
-        match numbered(b'x', text, count) {
+        match self.naming.column(text, count) {
             Some(column) => Some(Target::Place(column)),
             None => None,
         }
@@ -120,10 +147,10 @@ impl Scope {
         ensures { result ≡ row_target self.now text.now }
     {
         let count = self.exported.len() as u32;
-        if text == b"zdef".as_slice() {
+        if text == self.naming.tied_row() {
             return Some(Target::Tied);
         }
-        match numbered(b'c', text, count) {
+        match self.naming.row(text, count) {
             Some(row) => self.if_exported(row),
             None => None,
         }

@@ -104,7 +104,7 @@ unfolding ◌+ℚ◌
 sum_is x y = over_value (x.top *ℤ pos y.bottom +ℤ y.top *ℤ pos x.bottom) (x.bottom * y.bottom) (mul-pos x.above y.above)
 
 -- ---- sums
-lcm_is : (a b : ℕ) → 0 < a → 0 < b → IsLcm a b (least_multiple a b)
+pub lcm_is : (a b : ℕ) → 0 < a → 0 < b → IsLcm a b (least_multiple a b)
 lcm_is a b p q = lcm_by a b (gcd_of a b) p (reduced_by a b (gcd_of a b) q (is_gcd a b))
 
 pub sum_fits_in : (x y : ℚ) → SumFits x.top x.bottom y.top y.bottom → sum_fits x y ≡ true

@@ -6,15 +6,12 @@ use Rattle.std.proofs.lemmas.Nat.Gcd.{dvd_trans, dvd_antisymm}
 use Rattle.std.specs.Int.{IsGcd}
 use Rattle.fractions.specs.Divisors.{AreCoprime}
 use Rattle.exact_numbers.specs.Fraction.{IsLcm}
+pub use Rattle.fractions.proofs.Coprimes.{coprime-mul, coprime-pow}
 pub use Rattle.fractions.specs.Lowest.{dvd_other, coprime-swap, same_reduced, Reduced, reduced_by}
 
 -- divisors of coprime numbers
 pub coprime_parts : (a b c d : ℕ) → c ∣ a → d ∣ b → AreCoprime a b → AreCoprime c d
 coprime_parts a b c d p q h e r s = h e (dvd_trans e r p) (dvd_trans e s q)
-
-pub coprime-mul : (a b c : ℕ) → AreCoprime a b → AreCoprime a c → AreCoprime a (b * c)
-coprime-mul a b c h k d p q =
-    k d p (dvd_other d b c (λ e r s. h e (dvd_trans e r p) s) q)
 
 -- a product that is cancelled crosswise: a / b times c / d, with g of a and d, and h of c and b
 pub record Crosswise (a b c d n q : ℕ) : Type 0 where

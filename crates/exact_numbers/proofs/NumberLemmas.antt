@@ -156,7 +156,7 @@ signed_of-signed_decimal z small = by (are_digits (without_leading_sign (signed_
 
 -- ---- Decs
 
-same_dec : (c d : Dec) → c.m ≡ d.m → c.e ≡ d.e → c ≡ d
+pub same_dec : (c d : Dec) → c.m ≡ d.m → c.e ≡ d.e → c ≡ d
 same_dec c d m e =
     λ i. record { m = m i; e = e i; spelled = is_prop→PathP (λ j. IsDec (m j) (e j)) (λ j. hlevel props) c.spelled d.spelled i }
 

@@ -11,7 +11,7 @@ use Rattle.exact_numbers.specs.Fraction.{IsFrac, IsCofactor}
 use Rattle.exact_numbers.specs.Decimal.{signed, IsDec}
 use Rattle.std.specs.Int.{w16, w128}
 use mir.Val.{SFits}
-use Rattle.exact_numbers.proofs.Coprime.{coprime-mul, dvd_other}
+use Rattle.exact_numbers.proofs.Coprime.{coprime-mul, coprime-pow, dvd_other}
 use Rattle.exact_numbers.proofs.Signed.{times_twice}
 use Rattle.exact_numbers.proofs.Decimals.{abs_is, scaled-bottom}
 use Rattle.std.proofs.lemmas.Int.{ints}
@@ -61,10 +61,6 @@ coprime-one n d p q = by d (le_of_dvd (lit< tt) q) q
     by zero h q = absurd (let e : 1 ≡ 0 = eq-zero_of_zero-dvd q in omega (arith, e))
     by (suc zero) h q = refl
     by (suc (suc k)) h q = absurd (omega arith)
-
-pub coprime-pow : (n f k : ℕ) → AreCoprime n f → AreCoprime n (f ^ k)
-coprime-pow n f zero h = subst (λ x. AreCoprime n x) (sym (pow-zero f)) (coprime-one n)
-coprime-pow n f (suc k) h = subst (λ x. AreCoprime n x) (sym (pow-suc f k)) (coprime-mul n (f ^ k) f (coprime-pow n f k h) h)
 
 -- a power of f, where f does not divide n or the power is 1
 coprime_left : (n f k : ℕ) → (0 < k → AreCoprime n f) → AreCoprime n (f ^ k)

@@ -68,12 +68,12 @@ digits-point [] h = tt
 digits-point (x ∷ xs) h = (no_point x (digit_byte x h.0), digits-point xs h.1)
 
 -- ---- a text cut into its parts
-record Cut (text whole fraction exponent : List ℕ) : Type 0 where
+pub record Cut (text whole fraction exponent : List ℕ) : Type 0 where
   whole_is : whole_digits text ≡ whole
   fraction_is : fraction_digits text ≡ fraction
   exponent_is : exponent_part text ≡ exponent
 
-cut_plain : (text xs : List ℕ) → after_sign text ≡ xs → AllDigits 10 xs → Cut text xs [] []
+pub cut_plain : (text xs : List ℕ) → after_sign text ≡ xs → AllDigits 10 xs → Cut text xs [] []
 cut_plain text xs e d =
     let mantissa : mantissa_part text ≡ xs = ap (before_first is_mark) e ∙ before-none is_mark xs (digits-mark xs d) in
     record {
@@ -82,7 +82,7 @@ cut_plain text xs e d =
       exponent_is = ap (λ ys. drop (position_or_len is_mark ys) ys) e ∙ from-none is_mark xs (digits-mark xs d);
     }
 
-cut_point : (text xs ys : List ℕ) → after_sign text ≡ xs ++ 46 ∷ ys → AllDigits 10 xs → AllDigits 10 ys → Cut text xs ys []
+pub cut_point : (text xs ys : List ℕ) → after_sign text ≡ xs ++ 46 ∷ ys → AllDigits 10 xs → AllDigits 10 ys → Cut text xs ys []
 cut_point text xs ys e d f =
     let all : Fails is_mark (xs ++ 46 ∷ ys) = Fails-append is_mark xs (46 ∷ ys) (digits-mark xs d) (refl, digits-mark ys f) in
     let mantissa : mantissa_part text ≡ xs ++ 46 ∷ ys = ap (before_first is_mark) e ∙ before-none is_mark (xs ++ 46 ∷ ys) all in
@@ -126,7 +126,7 @@ pub record IsReading (text : List ℕ) (m e : ℤ) : Type 0 where
   pub is : IsDecText text
   pub value : text_value text ≡ decimal_value m e
 
-reading : (text whole fraction exponent : List ℕ) (s : Bool) (m e : ℤ) → Cut text whole fraction exponent → begins_minus text ≡ s → AllDigits 10 whole → AllDigits 10 fraction → 0 < length whole → IsExponent exponent → decimal_value (signed s (digits_value 10 (whole ++ fraction))) (exponent_value exponent -ℤ pos (length fraction)) ≡ decimal_value m e → IsReading text m e
+pub reading : (text whole fraction exponent : List ℕ) (s : Bool) (m e : ℤ) → Cut text whole fraction exponent → begins_minus text ≡ s → AllDigits 10 whole → AllDigits 10 fraction → 0 < length whole → IsExponent exponent → decimal_value (signed s (digits_value 10 (whole ++ fraction))) (exponent_value exponent -ℤ pos (length fraction)) ≡ decimal_value m e → IsReading text m e
 reading text whole fraction exponent s m e c sign dw df some de value =
     record {
       is = record {

@@ -1,9 +1,9 @@
 -- Products of signed numbers, and pairs of one value.
-use Rattle.std.proofs.Common.{◌≡◌, ℕ, ◌*◌, ◌<◌, ◌∙◌, sym, ap, arith, ℤ, pos, ◌+ℤ◌, ◌*ℤ◌, unsigned_abs}
+use Rattle.std.proofs.Common.{◌≡◌, ℕ, ◌*◌, ◌<◌, ◌∙◌, sym, ap, arith, ℤ, pos, ◌+ℤ◌, ◌*ℤ◌}
 use Rattle.std.proofs.Math.Nat.{eq_of_mul-eq-mul_right}
-use Rattle.std.proofs.lemmas.Int.{unsigned_abs-mul}
 use Rattle.exact_numbers.proofs.Pairs.{Fraction, SameValue}
 use borrow.Author.Differences.{up, down}
+pub use Rattle.fractions.proofs.Values.{sizes_of}
 pub use Rattle.fractions.proofs.Signed.{same_halves, up_times, down_times, times_twice}
 use Rattle.fractions.proofs.Signed.{*ℤ-+ℤ}
 
@@ -26,9 +26,6 @@ SameValue-trans {x} {y} {z} some e f =
 
 pub SameValue-sym : {x y : Fraction} → SameValue x y → SameValue y x
 SameValue-sym e = record { equal = sym e.equal }
-
-pub sizes_of : (a b : ℤ) (p q : ℕ) → a *ℤ pos p ≡ b *ℤ pos q → unsigned_abs a * p ≡ unsigned_abs b * q
-sizes_of a b p q e = sym (unsigned_abs-mul a (pos p)) ∙ ap unsigned_abs e ∙ unsigned_abs-mul b (pos q)
 
 pub sum_times : (x y : ℤ) (p : ℕ) → (x +ℤ y) *ℤ pos p ≡ x *ℤ pos p +ℤ y *ℤ pos p
 sum_times x y p = *ℤ-+ℤ x y (pos p)

@@ -10,10 +10,10 @@ use Rattle.fractions.specs.Divisors.{AreCoprime}
 use Rattle.exact_numbers.proofs.Pairs.{SameValue, pair, scaled, HasDec}
 use Rattle.exact_numbers.specs.Fraction.{IsFrac, IsCofactor}
 use Rattle.exact_numbers.specs.Decimal.{signed}
-use Rattle.exact_numbers.proofs.Coprime.{coprime-mul, coprime-swap, dvd_other}
+use Rattle.exact_numbers.proofs.Coprime.{coprime-mul, coprime-pow, coprime-swap, dvd_other}
 use Rattle.exact_numbers.proofs.Signed.{sizes_of}
 use Rattle.exact_numbers.proofs.Decimals.{only_value, size_of}
-use Rattle.exact_numbers.proofs.OfDec.{coprime_two, coprime_five, coprime-pow}
+use Rattle.exact_numbers.proofs.OfDec.{coprime_two, coprime_five}
 use Rattle.exact_numbers.proofs.Fractions.{signed_times, signed_self}
 use borrow.Author.Differences.{up, down}
 

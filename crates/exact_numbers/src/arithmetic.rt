@@ -6,7 +6,7 @@ ghost use Rattle.exact_numbers.specs.Values.{frac_value, IsFracWhere, IsFracOf, 
 
 use crate::frac::Frac;
 use crate::gcd::gcd;
-use crate::mantissa::{MAX_SIZE, with_sign};
+use crate::mantissa::{MAX_SIZE, WORD, with_sign};
 
 // The fraction of a sign, a numerator's size and a denominator.
 fn reduced(negative: bool, num: u128, den: u128) -> Option<Frac>
@@ -37,10 +37,20 @@ pub(crate) fn paired(negative: bool, num: u128, den: u128) -> Frac
     }
 }
 
+// a * b, by one multiplication of 64 bits.
+fn small_product(a: u64, b: u64) -> u128
+    ensures { result ≡ a * b }
+{
+    a as u128 * b as u128
+}
+
 // a * b, where it is within the greatest size.
 pub(crate) fn bounded_product(a: u128, b: u128) -> Option<u128>
     ensures { SomeIff result (a * b < 2 ^ 127) (a * b) }
 {
+    if a <= WORD / 2 && b <= WORD {
+        return Some(small_product(a as u64, b as u64));
+    }
     match a.checked_mul(b) {
         Some(product) if product <= MAX_SIZE => Some(product),
         _ => None,
@@ -134,6 +144,13 @@ impl Frac {
         self.num < 0
     }
 
+    // Whether this is 1.
+    fn is_one(self) -> bool
+        ensures { result ≡ true → frac_value self ≡ one_ℚ }
+    {
+        self.num == 1 && self.den == 1
+    }
+
     // The sum of whole numbers, with no division.
     fn add_whole(self, other: Frac) -> Option<Frac>
         requires first { self.den ≡ 1 }
@@ -166,6 +183,12 @@ impl Frac {
     {
         if self.den == 1 && other.den == 1 {
             return self.mul_whole(other);
+        }
+        if other.is_one() {
+            return Some(self);
+        }
+        if self.is_one() {
+            return Some(other);
         }
         let size = self.num.unsigned_abs();
         let other_size = other.num.unsigned_abs();

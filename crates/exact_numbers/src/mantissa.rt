@@ -8,11 +8,33 @@ use crate::dec::Dec;
 // The greatest size of a mantissa, a numerator and a denominator.
 pub(crate) const MAX_SIZE: u128 = 0x7fff_ffff_ffff_ffff_ffff_ffff_ffff_ffff;
 
+// The greatest number of 64 bits.
+pub(crate) const WORD: u128 = 0xffff_ffff_ffff_ffff;
+
 // A number without the zeros at its end, and how many there were.
 #[derive(Clone, Copy)]
 struct Stripped {
     rest: u128,
     zeros: u32,
+}
+
+// The same in 64 bits, where a division costs little.
+fn strip_few(n: u64) -> Stripped
+    requires above { 0 < n }
+    ensures whole { n ≡ result.rest * 10 ^ result.zeros }
+    ensures shortest { result.rest % 10 ≢ 0 }
+    ensures few { result.zeros < 39 }
+{
+    let mut rest = n;
+    let mut zeros = 0;
+    while rest % 10 == 0 {
+        rest /= 10;
+        zeros += 1;
+    }
+    Stripped {
+        rest: rest as u128,
+        zeros,
+    }
 }
 
 fn strip_zeros(n: u128) -> Stripped
@@ -22,6 +44,9 @@ fn strip_zeros(n: u128) -> Stripped
     ensures shortest { result.rest % 10 ≢ 0 }
     ensures few { result.zeros < 39 }
 {
+    if n <= WORD {
+        return strip_few(n as u64);
+    }
     let mut rest = n;
     let mut zeros = 0;
     while rest % 10 == 0 {

@@ -5,7 +5,7 @@ ghost use Rattle.exact_numbers.specs.Values.{dec_value, frac_value, IsDecOf, IsF
 use crate::arithmetic::{bounded_product, paired};
 use crate::dec::Dec;
 use crate::frac::Frac;
-use crate::mantissa::with_sign;
+use crate::mantissa::{WORD, with_sign};
 
 // start * factor ^ times, where it is within the greatest size.
 pub(crate) fn grown(start: u128, factor: u128, times: u32) -> Option<u128>
@@ -30,7 +30,9 @@ struct Cancelled {
     left: u32,
 }
 
-fn cancel(n: u128, factor: u128, times: u32) -> Cancelled
+// The same in 64 bits, where a division costs little.
+#[inline]
+fn cancel_few(n: u64, factor: u64, times: u32) -> Cancelled
     requires { 1 < factor }
     ensures within { result.left ≤ times }
     ensures whole { n ≡ result.rest * factor ^ (times - result.left) }
@@ -40,6 +42,29 @@ fn cancel(n: u128, factor: u128, times: u32) -> Cancelled
     let mut left = times;
     while left > 0 && rest % factor == 0 {
         rest /= factor;
+        left -= 1;
+    }
+    Cancelled {
+        rest: rest as u128,
+        left,
+    }
+}
+
+#[inline]
+fn cancel(n: u128, factor: u64, times: u32) -> Cancelled
+    requires { 1 < factor }
+    ensures within { result.left ≤ times }
+    ensures whole { n ≡ result.rest * factor ^ (times - result.left) }
+    ensures shortest { 0 < result.left → result.rest % factor ≢ 0 }
+{
+    if n <= WORD {
+        return cancel_few(n as u64, factor, times);
+    }
+    let wide = factor as u128;
+    let mut rest = n;
+    let mut left = times;
+    while left > 0 && rest % wide == 0 {
+        rest /= wide;
         left -= 1;
     }
     Cancelled { rest, left }

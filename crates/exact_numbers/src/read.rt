@@ -1,4 +1,4 @@
-ghost use Rattle.std.specs.Prelude.{◌≡◌, ◌≢◌, ℕ, ℤ, pos, ◌+◌, ◌-◌, ◌*◌, ◌%◌, ◌<◌, ◌≤◌, ◌^◌, ◌++◌, ◌-ℤ◌, ◌≤ℤ◌, neg_ℤ, length, drop, take, min, MatchOption, MatchResult, SomeIff, IsTrue, ◌↔◌, slice_index};
+ghost use Rattle.std.specs.Prelude.{◌≡◌, ◌≢◌, ℕ, ℤ, pos, ◌+◌, ◌-◌, ◌*◌, ◌%◌, ◌<◌, ◌≤◌, ◌^◌, ◌++◌, ◌-ℤ◌, ◌≤ℤ◌, neg_ℤ, length, drop, take, min, MatchOption, MatchResult, SomeIff, IfSome, IsTrue, ◌↔◌, slice_index};
 ghost use Rattle.std.specs.List.{before_first, after_first, position_or_len};
 ghost use Rattle.std.specs.Str.Parse.{AllDigits, digits_value, digits_value_after};
 ghost use Rattle.fractions.specs.Rational.{decimal_value};
@@ -199,8 +199,94 @@ fn dec_of_digits(negative: bool, whole: &[u8], fraction: &[u8], exponent: i128) 
     Dec::new(with_sign(negative, size), place as i32)
 }
 
+// A number is summed in 64 bits while it is below this, so that it has at most 18 digits.
+const ROOM: u64 = 100_000_000_000_000_000;
+
+// The common form is no longer than this.
+const COMMON: usize = 40;
+
+// The digits that a text begins with, as many as there is room for.
+#[derive(Clone, Copy)]
+struct Front {
+    number: u64,
+    len: usize,
+}
+
+// Sums the digits that a text begins with onto a number.
+fn sum_front(text: &[u8], start: u64) -> Front
+    requires { start < 10 ^ 18 }
+    ensures within { result.len ≤ length text.now }
+    ensures small { result.number < 10 ^ 18 }
+    ensures digits { AllDigits 10 (take result.len text.now) }
+    ensures number { result.number ≡ digits_value_after 10 start (take result.len text.now) }
+{
+    let mut number = start;
+    let mut len = 0;
+    'digits: while len < text.len() && number < ROOM {
+        let byte = text[len];
+        if !byte.is_ascii_digit() {
+            return Front { number, len };
+        }
+        number = number * 10 + (byte - b'0') as u64;
+        len += 1;
+    }
+    Front { number, len }
+}
+
+// A size with this many places after the point.
+#[derive(Clone, Copy)]
+struct Plain {
+    size: u64,
+    places: u32,
+}
+
+// A number of the common form: digits with one point among them or none. Each byte is read once.
+fn read_plain(text: &[u8]) -> Option<Plain>
+    ensures { IfSome result (λ p. IsDecText text.now × (p.places ≤ 40) × (text_value text.now
+        ≡ decimal_value (signed (begins_minus text.now) p.size) (neg_ℤ (pos p.places)))) }
+{
+    let body = without_sign(text);
+    let whole = sum_front(body, 0);
+    if whole.len == 0 || body.len() > COMMON {
+        return None;
+    }
+    if whole.len == body.len() {
+        return Some(Plain {
+            size: whole.number,
+            places: 0,
+        });
+    }
+    if body[whole.len] != b'.' {
+        return None;
+    }
+    let fraction = &body[whole.len + 1..];
+    let front = sum_front(fraction, whole.number);
+    if front.len != fraction.len() {
+        return None;
+    }
+    Some(Plain {
+        size: front.number,
+        places: fraction.len() as u32,
+    })
+}
+
 /// The number of a decimal text; too wide exactly where the text is one and no Dec has its value.
 pub fn read_dec(text: &[u8]) -> Result<Dec, NumFault>
+    ensures { MatchResult result (λ d. IsDecText text.now × (dec_value d ≡ text_value text.now))
+        (λ f. DecFault f text.now) }
+{
+    let Some(plain) = read_plain(text) else {
+        return read_any(text);
+    };
+    let size = with_sign(has_minus(text), plain.size as u128);
+    let Some(number) = Dec::new(size, -(plain.places as i32)) else {
+        return Err(NumFault::TooWide);
+    };
+    Ok(number)
+}
+
+// A number of any form.
+fn read_any(text: &[u8]) -> Result<Dec, NumFault>
     ensures { MatchResult result (λ d. IsDecText text.now × (dec_value d ≡ text_value text.now))
         (λ f. DecFault f text.now) }
 {
@@ -227,6 +313,21 @@ pub fn read_dec(text: &[u8]) -> Result<Dec, NumFault>
 
 /// The whole number that digits alone are, up to 2 ^ 31 - 1.
 pub fn read_whole(text: &[u8]) -> Result<u32, NumFault>
+    ensures { MatchResult result (λ n. IsWholeText text.now × (n ≡ digits_value 10 text.now) × (n < 2 ^ 31))
+        (λ f. WholeFault f text.now) }
+{
+    let front = sum_front(text, 0);
+    if front.len == 0 || front.len < text.len() {
+        return read_any_whole(text);
+    }
+    if front.number > 0x7fff_ffff {
+        return Err(NumFault::TooWide);
+    }
+    Ok(front.number as u32)
+}
+
+// A whole number of any length.
+fn read_any_whole(text: &[u8]) -> Result<u32, NumFault>
     ensures { MatchResult result (λ n. IsWholeText text.now × (n ≡ digits_value 10 text.now) × (n < 2 ^ 31))
         (λ f. WholeFault f text.now) }
 {

@@ -6,23 +6,17 @@ use Rattle.std.proofs.Math.Nat.{dvd-mul_right, div_self}
 use Rattle.std.proofs.lemmas.Nat.Gcd.{dvd_refl}
 use lib.IntN.{*ℤ-one, zero-*ℤ, +ℤ_idr, +ℤ_idl}
 use Rattle.exact_numbers.specs.declared.frac.Frac.{Frac}
-use Rattle.exact_numbers.specs.Fraction.{IsLcm}
 use Rattle.exact_numbers.specs.Values.{frac_value}
-use Rattle.exact_numbers.proofs.Bridge.{frac_fits_lem}
+use Rattle.exact_numbers.proofs.Bridge.{frac_fits_lem, lcm_is}
 use Rattle.exact_numbers.proofs.Coprime.{same_lcm}
-use Rattle.exact_numbers.proofs.Fractions.{lcm_of}
-use Rattle.fractions.specs.Divisors.{AreCoprime, gcd_of}
+use Rattle.fractions.specs.Divisors.{AreCoprime}
 use Rattle.fractions.specs.Fits.{fits, is_small, sum_fits, sum_over_multiple, parts_fit, least_multiple}
-use Rattle.fractions.specs.Lowest.{is_gcd}
 use Rattle.fractions.specs.Rational.{ℚ, whole, neg_ℚ, zero_ℚ}
 use Rattle.fractions.proofs.Arithmetic.{over_lowest}
 use Rattle.linear_fold.specs.Coefs.{Term, found, value_or_zero, coef_in}
 use Rattle.linear_fold.specs.Places.{place_in}
 use Rattle.nl_meaning.proofs.LineLemmas.{is_zero-true}
 use Rattle.nl_meaning.specs.Lines.{is_zero}
-
-lcm_is : (a b : ℕ) → 0 < a → 0 < b → IsLcm a b (least_multiple a b)
-lcm_is a b p q = (lcm_of a b (gcd_of a b) p q (is_gcd a b)).0
 
 pub fits_zero : fits zero_ℚ ≡ true
 unfolding whole

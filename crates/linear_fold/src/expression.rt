@@ -73,8 +73,7 @@ fn add_one(total: &mut Form, variable: u32, factor: Dec, place: usize) -> Result
     };
     match total.add_term(variable, factor) {
         Ok(()) => Ok(()),
-        Err(Stop::Fault(_)) => Err(Stop::Fault(wide)),
-        Err(Stop::Memory) => Err(Stop::Memory),
+        Err(stop) => Err(stop.map_fault(|_| wide)),
     }
 }
 

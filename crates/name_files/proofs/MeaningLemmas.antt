@@ -17,7 +17,7 @@ abbrev pub Naming : Type 0
 Naming = List ℕ → List ℕ
 
 -- what a change of each element keeps is kept at each place
-kept_at : {X Y : Type 0} (h : X → X) (k : X → Y) (d : X) → ((x : X) → k (h x) ≡ k x) → (xs : List X) (i : ℕ) → k (get_or (map h xs) i d) ≡ k (get_or xs i d)
+pub kept_at : {X Y : Type 0} (h : X → X) (k : X → Y) (d : X) → ((x : X) → k (h x) ≡ k x) → (xs : List X) (i : ℕ) → k (get_or (map h xs) i d) ≡ k (get_or xs i d)
 kept_at h k d e [] i = refl
 kept_at h k d e (x ∷ xs) zero = e x
 kept_at h k d e (x ∷ xs) (suc i) = kept_at h k d e xs i
@@ -38,7 +38,7 @@ columns_valued : (name : Naming) (columns : List (Column Dec)) → map (column_w
 columns_valued name [] = refl
 columns_valued name (c ∷ columns) = ap (λ (cs : List (Column ℚ)). named_column name (column_with dec_value c) ∷ cs) (columns_valued name columns)
 
-valued : (row column : Naming) (m : Mps Dec) → with_values dec_value (with_names row column m) ≡ with_names row column (with_values dec_value m)
+pub valued : (row column : Naming) (m : Mps Dec) → with_values dec_value (with_names row column m) ≡ with_names row column (with_values dec_value m)
 unfolding with_values with_names
 valued row column m = ap (λ (cs : List (Column ℚ)). record (with_names row column (with_values dec_value m)) { columns = cs }) (columns_valued column m.columns)
 

@@ -33,6 +33,13 @@ named_row rename r = record { name = rename r.name; kind = r.kind }
 abbrev pub named_column : {V : Type 0} → (List ℕ → List ℕ) → Column V → Column V
 named_column rename c = record { name = rename c.name; marked = c.marked; entries = c.entries }
 
+-- with the names of rows, and of columns
+abbrev pub named_rows : List (List ℕ) → List MpsRow → List MpsRow
+named_rows names rows = map (named_row (new_name row_name names)) rows
+
+abbrev pub named_columns : {V : Type 0} → List (List ℕ) → List (Column V) → List (Column V)
+named_columns names columns = map (named_column (new_name variable_name names)) columns
+
 -- with each row and each column named by its old name
 unfoldable pub with_names : {V : Type 0} → (List ℕ → List ℕ) → (List ℕ → List ℕ) → Mps V → Mps V
 with_names row column m =

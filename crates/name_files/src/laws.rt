@@ -5,7 +5,8 @@ ghost use Rattle.text_base.specs.Reading.{lines_of, last_of};
 ghost use Rattle.exact_numbers.specs.declared.dec.Dec.{Dec};
 ghost use Rattle.exact_numbers.specs.Values.{dec_value};
 ghost use Rattle.mps_model.specs.Mps.{Mps, with_values};
-ghost use Rattle.name_files.specs.Names.{Counts, name_rules, SaysNames};
+ghost use Rattle.mps_model.specs.Valid.{IsMps};
+ghost use Rattle.name_files.specs.Names.{AreNames, Counts, name_rules, SaysNames};
 ghost use Rattle.linear_programs.specs.Linear.{Linear};
 ghost use Rattle.exported_program.specs.Program.{program, tied_program};
 ghost use Rattle.name_files.specs.Renamed.{named, HasExportedNames, HaveOneMeaning, IsNamedLinear};
@@ -22,6 +23,20 @@ pub fn one_reading()
 pub fn names_mean_nothing()
     ensures { (m : Mps Dec) (rows columns : List (List ℕ))
         → HaveOneMeaning (with_values dec_value (named m rows columns)) (with_values dec_value m) }
+{}
+
+/// A program that is exported, and has other names, is a program.
+pub fn named_is_a_program()
+    ensures { (m : Mps Dec) (rows columns : List (List ℕ)) → IsMps dec_value m
+        → AreNames rows → AreNames columns → HasExportedNames (length rows) (length columns) m
+        → IsMps dec_value (named m rows columns) }
+{}
+
+/// The values of a program with other names are those of the program, with these names.
+pub fn names_keep_values()
+    ensures { (m : Mps Dec) (rows columns : List (List ℕ))
+        → with_values dec_value (named m rows columns)
+        ≡ named (with_values dec_value m) rows columns }
 {}
 
 /// A program that is exported, with its objective tied or not, has the names that are renamed.

@@ -6,8 +6,13 @@ mod grammar;
 pub mod laws;
 mod list;
 mod names;
+mod new_names;
+mod numerals;
 mod reader;
+mod renaming;
 
 pub use fault::{NameFault, NameReason};
 pub use list::NameList;
+pub use numerals::numbered;
 pub use reader::NameReader;
+pub use renaming::rename;

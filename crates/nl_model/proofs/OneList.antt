@@ -1,12 +1,10 @@
 -- A tree has one list of nodes in prefix form.
 use Rattle.std.proofs.Common.{◌≡◌, ℕ, ℤ, List, [], ◌∷◌, ◌++◌, ◌∙◌, sym, ap, ap₂, subst, refl}
-use Rattle.std.proofs.Props.{props}
-use mathlib.Core.HLevel.{is_prop→PathP}
 use Rattle.code_tables.specs.Opcodes.{class_of}
 use Rattle.code_tables.specs.declared.class.OpClass.{OpClass}
 use Rattle.code_tables.specs.declared.class.OpClass.TheVariants.{Refused}
 use Rattle.exact_numbers.specs.declared.dec.Dec.{Dec}
-use Rattle.exact_numbers.specs.Decimal.{IsDec}
+use Rattle.exact_numbers.proofs.NumberLemmas.{same_dec}
 use Rattle.nl_meaning.specs.Trees.{Tree, number, variable, defined, operator, Trees, none, more, count_of, HasCount}
 use Rattle.nl_model.specs.declared.node.Node.{Node}
 use Rattle.nl_model.specs.declared.node.Node.TheVariants.{Num, Var, Defined, Op}
@@ -39,10 +37,6 @@ record IsOperation (c : OpClass) (ts : Trees) (ns : List Node) : Type 0 where
 
 operation_nodes : (c : OpClass) (ts : Trees) (ns : List Node) → IsPrefix (operator c ts) ns → IsOperation c ts ns
 operation_nodes _ _ _ (an_operation o ts ns k h) = record { opcode = o; rest = ns; class = refl; counted = k; operands = h; nodes = refl }
-
-same_dec : (c d : Dec) → c.m ≡ d.m → c.e ≡ d.e → c ≡ d
-same_dec c d m e =
-    λ i. record { m = m i; e = e i; spelled = is_prop→PathP (λ j. IsDec (m j) (e j)) (λ j. hlevel props) c.spelled d.spelled i }
 
 opcode_is : (c : OpClass) (ts : Trees) (ns : List Node) (x : IsOperation c ts ns) → opcode_of c ≡ x.opcode
 opcode_is c ts ns x =

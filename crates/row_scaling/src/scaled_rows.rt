@@ -93,8 +93,7 @@ fn scaled_row_at(
     }
     match scale_row(alloc, body, side) {
         Ok(row) => Ok(Some(row)),
-        Err(Stop::Memory) => Err(Stop::Memory),
-        Err(Stop::Fault(_)) => Err(Stop::Fault(ScaleFault::RowTooWide(con))),
+        Err(stop) => Err(stop.map_fault(|_| ScaleFault::RowTooWide(con))),
     }
 }
 

@@ -8,3 +8,4 @@ pub mod CutLemmas
 pub mod LineLemmas
 pub mod CutLines
 pub mod MarkLemmas
+pub mod CommentLemmas

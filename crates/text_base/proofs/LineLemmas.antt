@@ -8,10 +8,10 @@ use Rattle.std.proofs.lemmas.List.Sums.{suffix_len-le-length}
 use Rattle.std.proofs.Math.Seq.{drop-append_seam}
 use Rattle.text_base.specs.declared.lines.LineFault.{LineFault}
 use Rattle.text_base.specs.Cut.{HasNoEnd, IsLine, IsOneLine, IsTextLine, IsText, IsCutBy}
-use Rattle.text_base.specs.Lines.{Scan, trimmed, scan}
+use Rattle.text_base.specs.Lines.{Scan, trimmed, scan, front_of, LinesState, TakesWhole}
 use Rattle.text_base.specs.Reading.{lines_of, lines_by, lines_so_far}
 use Rattle.text_base.specs.Words.{is_blank, without_blanks}
-use Rattle.text_base.proofs.ScanLemmas.{no_end-take}
+use Rattle.text_base.proofs.ScanLemmas.{no_end-take, parted}
 use Rattle.text_base.proofs.CutLemmas.{scan_cut}
 
 -- ---- no LF
@@ -117,6 +117,10 @@ trimmed-text_line bytes h = record {
   one = trimmed-line bytes h.0;
   short = omega (arith, h.1, length-take (length bytes - suffix_len (λ b. b == 13) bytes) bytes);
 }
+
+-- a line that lies whole in a piece
+pub whole-text_line : (s after : LinesState) (piece line : List ℕ) (n : ℕ) → TakesWhole s piece line n after → IsTextLine line
+whole-text_line s after piece line n takes = subst IsTextLine (sym takes.2) (trimmed-text_line (front_of piece) ((parted piece).3, takes.5))
 
 all-trimmed : (raw : List (List ℕ)) → AllByRecursion IsLine raw → AllByRecursion IsTextLine (map trimmed raw)
 all-trimmed [] h = tt

@@ -1,7 +1,7 @@
 -- How the lines of a text go on, byte by byte.
 use Rattle.std.proofs.Common.{◌≡◌, ◌∙◌, ℕ, zero, suc, ◌+◌, ◌-◌, ◌<◌, ◌≤◌, ◌^◌, List, [], ◌∷◌, ◌++◌, length, take, Bool, true, false, not, leb, refl, sym, ap, arith, subst, append_assoc}
 use Rattle.std.specs.List.{fold}
-use Rattle.std.specs.Prelude.{◌==◌, is_some, if◌then◌else◌}
+use Rattle.std.specs.Prelude.{◌==◌, is_some, IfSome, MatchOption, if◌then◌else◌}
 use Rattle.std.proofs.lemmas.List.{append-nil, length-append, take-append-le, length-take}
 use Rattle.std.proofs.Math.Seq.{take-append-add, take-append_seam}
 use Rattle.std.proofs.lemmas.List.Sums.{fold-append, take_while-cons}
@@ -12,7 +12,7 @@ use Rattle.text_base.specs.declared.lines.LineFault.TheVariants.{LineTooLong, In
 use Rattle.text_base.specs.declared.lines.Taken.{Taken}
 use Rattle.text_base.specs.declared.lines.Taken.TheVariants.{Line, More, Fault}
 use Rattle.text_base.specs.Cut.{HasNoEnd}
-use Rattle.text_base.specs.Lines.{trimmed, Scan, no_lines, next_byte, scan, LinesState, new_state, Keeps, StandsFor, GoesOn, taken_of, front_of, TakesMore, TakesLine, Faulted, TakesNow, TakesBy, TakesPiece}
+use Rattle.text_base.specs.Lines.{trimmed, Scan, no_lines, next_byte, scan, LinesState, new_state, Keeps, StandsFor, GoesOn, taken_of, front_of, TakesMore, TakesLine, Faulted, TakesNow, TakesBy, TakesPiece, TakesWhole, EndsLine}
 
 abbrev pub steps : Scan → List ℕ → Scan
 steps c bytes = fold next_byte c bytes
@@ -101,7 +101,7 @@ IsBack (b ∷ bytes) = (b == 10) ≡ true
 abbrev Parted : List ℕ → Type 0
 Parted piece = (back : List ℕ) × (piece ≡ front_of piece ++ back) × IsBack back × HasNoEnd (front_of piece)
 
-parted : (piece : List ℕ) → Parted piece
+pub parted : (piece : List ℕ) → Parted piece
 parted [] = ([], refl, tt, tt)
 parted (b ∷ piece) = by (parted piece) (b == 10) refl
   where
@@ -244,6 +244,42 @@ taken_text s after piece text taken takes stands = rw (scan-append text (taken_o
 
 pub taken_lines : (s after : LinesState) (piece text : List ℕ) (taken : Taken) → TakesPiece s piece taken after → StandsFor text s → GoesOn (scan text) (scan (text ++ taken_of taken piece)) taken after
 taken_lines s after piece text taken takes stands = rw (scan-append text (taken_of taken piece)) (follows-by s.fault (scan text) s after piece taken refl stands takes).1
+
+-- ---- a line that lies whole in a piece
+
+abbrev given_line : Option (List ℕ) → List ℕ
+given_line None = []
+given_line (Some line) = line
+
+pub match_some : {A : Type 0} (N : Type 0) (P Q : A → Type 0) (o : Option A) → MatchOption o N P → ((a : A) → P a → Q a) → IfSome o Q
+match_some N P Q None h f = tt
+match_some N P Q (Some a) h f = f a h
+
+-- the reader, had it copied the line
+abbrev copied : LinesState → List ℕ → ℕ → LinesState
+copied s piece n = record s { count = s.count + 1; rest = []; line = Some (trimmed (s.rest ++ front_of piece)); total = s.total + n }
+
+follows-whole : (c : Scan) (s after : LinesState) (piece line : List ℕ) (n : ℕ) → Keeps c s → TakesWhole s piece line n after → Follows c (take n piece) (Line n) (copied s piece n)
+follows-whole c s after piece line n k takes =
+    let short : length s.rest + length (front_of piece) ≤ 65536 = omega (arith, ap length takes.1, takes.5) in
+    follows-line c s (copied s piece n) piece n takes.0 k (takes.3, takes.4, short, takes.6, refl)
+
+pub whole_text : (s after : LinesState) (piece line text : List ℕ) (n : ℕ) → TakesWhole s piece line n after → StandsFor text s → StandsFor (text ++ take n piece) after
+whole_text s after piece line text n takes stands =
+    let f = follows-whole (scan text) s after piece line n stands takes in
+    rw (scan-append text (take n piece), takes.7) (record {
+      count = f.0.count;
+      fault = f.0.fault;
+      rest = λ none. takes.1 ∙ f.0.rest none;
+      total = f.0.total;
+      awaits = λ fault is. refl;
+    })
+
+pub whole_line : (s after : LinesState) (piece line text : List ℕ) (n : ℕ) → TakesWhole s piece line n after → StandsFor text s → EndsLine (scan text) (scan (text ++ take n piece)) line
+whole_line s after piece line text n takes stands =
+    let f = follows-whole (scan text) s after piece line n stands takes in
+    let same : f.1.1.0 ≡ line = sym (ap given_line f.1.1.1) ∙ ap (λ (r : List ℕ). trimmed (r ++ front_of piece)) takes.1 ∙ sym takes.2 in
+    rw (scan-append text (take n piece)) (f.1.0, f.1.1.2 ∙ ap (λ (l : List ℕ). (scan text).lines ++ l ∷ []) same)
 
 pub stands_new : (rest : List ℕ) → rest ≡ [] → StandsFor [] (record new_state { rest = rest })
 unfolding scan

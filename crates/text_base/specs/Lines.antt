@@ -100,6 +100,15 @@ abbrev pub TakesLine : LinesState → List ℕ → ℕ → LinesState → Type 0
 TakesLine s piece n after = (n ≡ length (front_of piece) + 1) × (n ≤ length piece) × (length s.rest + length (front_of piece) ≤ 65536) × (s.total + n ≤ 2 ^ 31)
     × (after ≡ record s { count = s.count + 1; rest = []; line = Some (trimmed (s.rest ++ front_of piece)); total = s.total + n })
 
+-- a line that lies whole in a piece, where none was begun
+abbrev pub TakesWhole : LinesState → List ℕ → List ℕ → ℕ → LinesState → Type 0
+TakesWhole s piece line n after = (s.fault ≡ None) × (s.rest ≡ []) × (line ≡ trimmed (front_of piece)) × (n ≡ length (front_of piece) + 1) × (n ≤ length piece)
+    × (length (front_of piece) ≤ 65536) × (s.total + n ≤ 2 ^ 31) × (after ≡ record s { count = s.count + 1; line = None; total = s.total + n })
+
+-- the lines go on by this line
+abbrev pub EndsLine : Scan → Scan → List ℕ → Type 0
+EndsLine c next line = (next.fault ≡ None) × (next.lines ≡ c.lines ++ line ∷ [])
+
 -- byte 65,537 of a line comes, within the input's limit
 abbrev pub HasLongLine : LinesState → List ℕ → Type 0
 HasLongLine s piece = (length s.rest ≤ 65536) × (65536 < length s.rest + length (front_of piece)) × (s.total + (65537 - length s.rest) ≤ 2 ^ 31)

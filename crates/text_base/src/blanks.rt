@@ -1,5 +1,5 @@
 // The words of a line and of a row, and the line without its comment or its first blanks.
-ghost use Rattle.std.specs.Prelude.{◌≡◌, ◌≤◌, length, take};
+ghost use Rattle.std.specs.Prelude.{◌≡◌, ◌≤◌, ◌-◌, ◌||◌, length, nat_eq, slice_index, take};
 ghost use Rattle.text_base.specs.Words.{words_of, words_left, row_of, texts, word_at, begins, is_blank, without_blanks, without_comment};
 
 use crate::runs::Words;
@@ -39,9 +39,12 @@ impl<'a> Row<'a> {
         ensures { result ≡ row_of line.now }
     {
         let none = &line[..0];
-        let mut room = [none; LONGEST_ROW];
-        let count = fill_words(line, &mut room);
-        Row { room, count }
+        let mut row = Row {
+            room: [none; LONGEST_ROW],
+            count: 0,
+        };
+        row.count = fill_words(line, &mut row.room);
+        row
     }
 
     /// The words, in order.
@@ -111,12 +114,19 @@ pub fn skip_blanks(line: &[u8]) -> &[u8]
 pub fn strip_comment(line: &[u8]) -> &[u8]
     ensures { result.now ≡ without_comment line.now }
 {
-    let mut may_begin = true;
     'bytes: for (place, byte) in line.iter().enumerate() {
-        if may_begin && *byte == b'#' {
+        if *byte == b'#' && may_begin(line, place) {
             return &line[..place];
         }
-        may_begin = is_blank(*byte);
     }
     line
+}
+
+// Whether a comment may begin at a place: at the front, or after a blank.
+#[inline]
+fn may_begin(line: &[u8], place: usize) -> bool
+    requires { place ≤ length line.now }
+    ensures { result ≡ (nat_eq place 0 || is_blank (slice_index line.now (place - 1))) }
+{
+    place == 0 || is_blank(line[place - 1])
 }

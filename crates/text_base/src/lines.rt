@@ -1,7 +1,7 @@
 // The lines of a text that comes in pieces.
-ghost use Rattle.std.specs.Prelude.{◌≡◌, ◌+◌, ◌-◌, ◌<◌, ◌≤◌, ◌^◌, ◌++◌, ◌==◌, List, ℕ, position, [], length, take, IfOk, IfSome, IsSome, IsTrue, ◌↔◌, None, Some, IsNone, false, true};
+ghost use Rattle.std.specs.Prelude.{◌≡◌, ◌+◌, ◌-◌, ◌<◌, ◌≤◌, ◌^◌, ◌++◌, ◌==◌, List, ℕ, position, [], length, take, IfOk, IfSome, MatchOption, IsSome, IsTrue, ◌↔◌, None, Some, IsNone, false, true};
 ghost use Rattle.text_base.specs.Cut.{IsTextLine};
-ghost use Rattle.text_base.specs.Lines.{new_state, StandsFor, Keeps, Scan, GoesOn, IfLine, taken_of, scan, number_of, trimmed, front_of, TakesPiece, end_done};
+ghost use Rattle.text_base.specs.Lines.{new_state, StandsFor, Keeps, Scan, GoesOn, IfLine, TakesWhole, EndsLine, taken_of, scan, number_of, trimmed, front_of, TakesPiece, end_done};
 
 use std::alloc::{AllocError, Global};
 use std::marker::Model;
@@ -27,6 +27,14 @@ pub enum Taken {
     /// All bytes were taken, and no line ended.
     More,
     Fault(LineFault),
+}
+
+/// A line that lies whole in a piece, its number, and how many bytes it and its LF are.
+#[derive(Clone, Copy)]
+pub(crate) struct Whole<'a> {
+    pub(crate) line: &'a [u8],
+    pub(crate) number: u32,
+    pub(crate) len: usize,
 }
 
 /// A reader of lines. It holds one line.
@@ -140,6 +148,62 @@ impl Lines {
         self.count += 1;
         self.ended = true;
         Taken::Line(count)
+    }
+
+    // Whether no line was begun and nothing is wrong.
+    fn is_between(&self) -> bool
+        ensures { result ≡ true → (self.now.fault ≡ None) × (self.now.rest ≡ []) }
+    {
+        self.fault.is_none() && (self.ended || self.line.is_empty())
+    }
+
+    // Goes on by a line of so many bytes that is held elsewhere.
+    fn pass(&mut self, count: u32)
+        requires fault { self.old.fault ≡ None }
+        requires rest { self.old.rest ≡ [] }
+        requires some { 0 < count }
+        requires room { self.old.total + count ≤ 2 ^ 31 }
+        ensures { self.new ≡ record self.old { count = self.old.count + 1; line = None; total = self.old.total + count } }
+    {
+        self.line.clear();
+        self.ended = false;
+        self.count += 1;
+        self.total += count;
+    }
+
+    fn take_front<'a>(&mut self, piece: &'a [u8]) -> Option<Whole<'a>>
+        ensures { MatchOption result (self.new ≡ self.old) (λ w. TakesWhole self.old piece.now w.line.now w.len self.new
+            × (w.number ≡ self.new.count)) }
+    {
+        if !self.is_between() {
+            return None;
+        }
+        let Some(front) = line_end(piece) else {
+            return None;
+        };
+        if front > LONGEST_LINE || front >= (LONGEST_INPUT - self.total) as usize {
+            return None;
+        }
+        self.pass(front as u32 + 1);
+        Some(Whole {
+            line: trim(&piece[..front]),
+            number: self.count,
+            len: front + 1,
+        })
+    }
+
+    /// Takes a line that lies whole in the piece, where none was begun, and copies nothing. After a None nothing
+    /// has changed, and `take` says what comes of the piece.
+    pub(crate) fn take_whole<'a>(&mut self, piece: &'a [u8]) -> Option<Whole<'a>>
+        ensures none { result ≡ None → self.new ≡ self.old }
+        ensures within { IfSome result (λ w. (0 < w.len) × (w.len ≤ length piece.now)) }
+        ensures number { IfSome result (λ w. w.number ≡ self.new.count) }
+        ensures one { IfSome result (λ w. IsTextLine w.line.now) }
+        ensures text { IfSome result (λ w. (text : List ℕ) → StandsFor text self.old → StandsFor (text ++ take w.len piece.now) self.new) }
+        ensures line { IfSome result (λ w. (text : List ℕ) → StandsFor text self.old
+            → EndsLine (scan text) (scan (text ++ take w.len piece.now)) w.line.now) }
+    {
+        self.take_front(piece)
     }
 
     /// Whether bytes stand after the last line end. They are then the line.

@@ -1,8 +1,10 @@
-use Rattle.std.proofs.Common.{rules, ◌≡◌, SFits, to_z-of_z, unsigned_abs}
+use Rattle.std.proofs.Common.{rules, sym, ap, ◌∙◌, ◌≡◌, SFits, to_z-of_z, unsigned_abs}
 use mir.Syntax.{w128}
 use Rattle.exact_numbers.proofs.Fractions.{multiplied, frac_fits}
 use Rattle.exact_numbers.specs.Values.{frac_value}
-use Rattle.exact_numbers.proofs.Bridge.{not_fits, fitting, product_is}
+use Rattle.exact_numbers.proofs.Bridge.{not_fits, fitting, is_fitting, product_is}
+use Rattle.fractions.specs.Rational.{◌*ℚ◌}
+use Rattle.fractions.proofs.Arithmetic.{*ℚ_one, one-*ℚ}
 use Rattle.exact_numbers.proofs.frac.Frac.mul.Goals as goal
 
 pub returns-in_default : goal.returns-in_default
@@ -40,3 +42,9 @@ returns c =
     let num = c.in-Some.ensures in
     let den = c.in-Some-bounded_product.ensures in
     fitting c.paired.result _ _ (product_is (frac_value c.args.self) (frac_value c.args.other)) (simp (c.paired.ensures.numerator, c.paired.ensures.denominator, to_z-of_z, num.1, den.1) w.same)
+
+pub returns-then-is_one : goal.returns-then-is_one
+returns-then-is_one c = is_fitting c.args.self _ (sym (ap (λ x. frac_value c.args.self *ℚ x) (c.is_one.ensures c.if-is_one.true) ∙ *ℚ_one (frac_value c.args.self)))
+
+pub returns-then-is_one-2 : goal.returns-then-is_one-2
+returns-then-is_one-2 c = is_fitting c.args.other _ (sym (ap (λ x. x *ℚ frac_value c.args.other) (c.is_one-2.ensures c.if-is_one-2.true) ∙ one-*ℚ (frac_value c.args.other)))

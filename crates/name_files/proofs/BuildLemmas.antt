@@ -1,0 +1,241 @@
+-- When a part of a program may be added, the parts before it being those of a program.
+use Rattle.std.proofs.Common.{◌≡◌, ◌≢◌, ◌∙◌, ℕ, zero, suc, ◌+◌, ◌<◌, ◌≤◌, ◌^◌, Bool, List, [], ◌∷◌, ◌++◌, length, map, take, get_or, All, refl, sym, ap, subst, arith, length-append, length-take-le}
+use Rattle.std.specs.List.{AllPairs}
+use Rattle.std.proofs.lemmas.List.{length-map, get_or-map, get_or-take, get_or_default, take_more, take-map, map-append}
+use Rattle.std.proofs.lemmas.List.Elements.{All-take}
+use Rattle.std.proofs.lemmas.List.Sums.{sum_by-cons, sum_by-append, sum_by-take-le}
+use Rattle.fractions.specs.Rational.{zero_ℚ}
+use Rattle.text_base.specs.Names.{IsName}
+use Rattle.exact_numbers.specs.declared.dec.Dec.{Dec}
+use Rattle.exact_numbers.specs.Values.{dec_value}
+use Rattle.mps_model.specs.declared.kinds.BoundKind.{BoundKind}
+use Rattle.mps_model.specs.declared.kinds.RowKind.{RowKind}
+use Rattle.mps_model.specs.Mps.{MpsRow, Entry, Column, Bound, Mps}
+use Rattle.mps_model.specs.Valid.{AreRows, AreColumns, AreEntries, AreRanges, AreBounds, IsOtherRow, IsOtherColumn, IsOtherEntry, IsOtherBound, IsBounded, IsWithoutNumber, entry_count}
+use Rattle.name_files.specs.Renamed.{named_row, named_column, named_rows, named_columns, named, with_names}
+use Rattle.mps_model.specs.Built.{CanAddRow, CanAddColumn, CanAddEntry, CanAddRhs, CanAddRange, CanAddBound, entry_of, bound_of, with_entry_last, last_entries}
+
+-- ---- the first elements of a list
+
+few_taken : {X : Type 0} (i : ℕ) (xs : List X) → length (take i xs) ≤ i
+few_taken zero xs = omega arith
+few_taken (suc i) [] = omega arith
+few_taken (suc i) (x ∷ xs) = omega (arith, few_taken i xs)
+
+no_more_taken : {X : Type 0} (i : ℕ) (xs : List X) → length (take i xs) ≤ length xs
+no_more_taken zero xs = omega arith
+no_more_taken (suc i) [] = omega arith
+no_more_taken (suc i) (x ∷ xs) = omega (arith, no_more_taken i xs)
+
+module _ {X : Type 0} (R : X → X → Type 0) where
+  -- what holds of each two holds of an element and those before it
+  pub before : (xs : List X) (i : ℕ) (x : X) → AllPairs R xs → i < length xs → x ≡ get_or xs i x → All (λ y. R y x) (take i xs)
+  before xs i x pairs lt is k d within =
+      let below : k < i = omega (arith, within, length-take-le i xs (omega (arith, lt))) in
+      let there : get_or (take i xs) k d ≡ get_or xs k d = get_or-take i xs k d below in
+      let here : get_or xs i d ≡ x = get_or_default xs i d x lt ∙ sym is in
+      subst (λ y. R y x) (sym there) (subst (λ y. R (get_or xs k d) y) here (pairs k i d below lt))
+
+  pairs_taken : (xs : List X) (i : ℕ) → AllPairs R xs → AllPairs R (take i xs)
+  pairs_taken xs i pairs j k d lt within =
+      let inside : k < i = omega (arith, within, few_taken i xs) in
+      let inner : k < length xs = omega (arith, within, no_more_taken i xs) in
+      subst (λ y. R y (get_or (take i xs) k d)) (sym (get_or-take i xs j d (omega (arith, lt, inside)))) (subst (λ y. R (get_or xs j d) y) (sym (get_or-take i xs k d inside)) (pairs j k d lt inner))
+
+module _ {X Y : Type 0} (f : X → Y) (xs : List X) (i : ℕ) (x : X) (lt : i < length xs) (is : x ≡ get_or xs i x) where
+  pub one_more : map f (take i xs) ++ f x ∷ [] ≡ map f (take (i + 1) xs)
+  one_more = sym (map-append f (take i xs) (x ∷ [])) ∙ ap (map f) (ap (λ y. take i xs ++ y ∷ []) is ∙ sym (take_more xs i x lt))
+
+  pub at_mapped : f x ≡ get_or (map f xs) i (f x)
+  at_mapped = sym (get_or-map f xs i x (f x) lt ∙ ap f (sym is))
+
+  pub within_mapped : i < length (map f xs)
+  within_mapped = omega (arith, lt, length-map xs f)
+
+-- ---- rows
+
+pub can_add_row : (rows : List MpsRow) (i : ℕ) (r : MpsRow) (m : Mps Dec) → AreRows rows → i < length rows → r ≡ get_or rows i r → m.rows ≡ take i rows → CanAddRow m r.name
+can_add_row rows i r m a lt is e =
+    record {
+      few = omega (arith, a.few, lt, ap length e, length-take-le i rows (omega (arith, lt)));
+      no_marker = subst (IsOtherRow _) (sym is) (a.no_marker i r lt);
+      new = subst (All (IsOtherRow r.name)) (sym e) (before (λ (r s : MpsRow). r.name ≢ s.name) rows i r a.apart lt is);
+    }
+
+-- ---- entries, right sides, ranges and bounds
+
+pub can_add_rhs : (es : List (Entry Dec)) (i : ℕ) (e : Entry Dec) (m : Mps Dec) → AreEntries (length m.rows) es → i < length es → e ≡ get_or es i e → m.rhs ≡ take i es → CanAddRhs m e.row
+can_add_rhs es i e m a lt is same =
+    record {
+      within = subst (λ (e : Entry Dec). e.row < length m.rows) (sym is) (a.within i e lt);
+      new = subst (All (IsOtherEntry e.row)) (sym same) (before (λ (e g : Entry Dec). e.row ≢ g.row) es i e a.apart lt is);
+    }
+
+pub can_add_range : (es : List (Entry Dec)) (i : ℕ) (e : Entry Dec) (m : Mps Dec) → AreRanges m.rows es → i < length es → e ≡ get_or es i e → m.ranges ≡ take i es → CanAddRange m e.row
+can_add_range es i e m a lt is same =
+    record {
+      within = subst (λ (e : Entry Dec). e.row < length m.rows) (sym is) (a.entries.within i e lt);
+      bounded = subst (λ (e : Entry Dec). IsBounded m.rows e.row) (sym is) (a.bounded i e lt);
+      new = subst (All (IsOtherEntry e.row)) (sym same) (before (λ (e g : Entry Dec). e.row ≢ g.row) es i e a.entries.apart lt is);
+    }
+
+pub can_add_bound : (bs : List (Bound Dec)) (i : ℕ) (b : Bound Dec) (m : Mps Dec) → AreBounds dec_value (length m.columns) bs → i < length bs → b ≡ get_or bs i b → m.bounds ≡ take i bs → CanAddBound m b.kind b.column b.value
+can_add_bound bs i b m a lt is same =
+    record {
+      within = subst (λ (b : Bound Dec). b.column < length m.columns) (sym is) (a.within i b lt);
+      new = subst (All (IsOtherBound b.kind b.column)) (sym same) (before (λ (b c : Bound Dec). IsOtherBound c.kind c.column b) bs i b a.apart lt is);
+      zero = subst (λ (b : Bound Dec). IsWithoutNumber b.kind → dec_value b.value ≡ zero_ℚ) (sym is) (a.zeros i b lt);
+    }
+
+-- ---- columns
+
+-- the first columns of some are columns
+pub columns_taken : (n i : ℕ) (columns : List (Column Dec)) → AreColumns n columns → AreColumns n (take i columns)
+columns_taken n i columns a =
+    record {
+      few = omega (arith, a.few, no_more_taken i columns);
+      few_entries = omega (arith, a.few_entries, sum_by-take-le (λ (c : Column Dec). length c.entries) columns i);
+      named = All-take (λ (c : Column Dec). IsName c.name) i columns a.named;
+      apart = pairs_taken (λ (c d : Column Dec). c.name ≢ d.name) columns i a.apart;
+      entries = All-take (λ (c : Column Dec). AreEntries n c.entries) i columns a.entries;
+    }
+
+last_at : (done : List (Column Dec)) (c d : Column Dec) → get_or (done ++ c ∷ []) (length done) d ≡ c
+last_at [] c d = refl
+last_at (x ∷ done) c d = last_at done c d
+
+first_at : (done : List (Column Dec)) (c d : Column Dec) (k : ℕ) → k < length done → get_or (done ++ c ∷ []) k d ≡ get_or done k d
+first_at [] c d k lt = absurd (omega (arith, lt))
+first_at (x ∷ done) c d zero lt = refl
+first_at (x ∷ done) c d (suc k) lt = first_at done c d k (omega (arith, lt))
+
+entry_last : (e : Entry Dec) (done : List (Column Dec)) (c : Column Dec) → with_entry_last e (done ++ c ∷ []) ≡ done ++ record c { entries = c.entries ++ e ∷ [] } ∷ []
+entry_last e [] c = refl
+entry_last e (d ∷ []) c = refl
+entry_last e (d ∷ f ∷ done) c = ap (λ cs. d ∷ cs) (entry_last e (f ∷ done) c)
+
+entries_last : (done : List (Column Dec)) (c : Column Dec) → last_entries (done ++ c ∷ []) ≡ c.entries
+entries_last [] c = refl
+entries_last (d ∷ []) c = refl
+entries_last (d ∷ f ∷ done) c = entries_last (f ∷ done) c
+
+count_last : (done : List (Column Dec)) (c : Column Dec) → entry_count (done ++ c ∷ []) ≡ entry_count done + length c.entries
+count_last done c =
+    let count = λ (c : Column Dec). length c.entries in
+    sum_by-append count done (c ∷ []) ∙ ap (λ n. entry_count done + n) (sum_by-cons count c [] ∙ omega arith)
+
+-- with the first k of the entries
+abbrev pub filled_to : ℕ → List (ℕ × Dec) → Column Dec → Column Dec
+filled_to k ts c = record c { entries = map entry_of (take k ts) }
+
+module _ (n : ℕ) (done : List (Column Dec)) (c : Column Dec) (a : AreColumns n (done ++ c ∷ [])) where
+  pub can_add_column : (m : Mps Dec) → m.columns ≡ done → CanAddColumn m c.name
+  can_add_column m same =
+      let more : length (done ++ c ∷ []) ≡ length done + 1 = length-append done (c ∷ []) in
+      let others : All (IsOtherColumn c.name) done = λ k d lt.
+      subst (λ (x : Column Dec). x.name ≢ c.name) (first_at done c d k lt)
+      (subst (λ (x : Column Dec). (get_or (done ++ c ∷ []) k d).name ≢ x.name) (last_at done c d) (a.apart k (length done) d lt (omega (arith, more)))) in
+      record { few = omega (arith, a.few, more, ap length same); new = subst (All (IsOtherColumn c.name)) (sym same) others }
+
+  are_entries : AreEntries n c.entries
+  are_entries = subst (λ (x : Column Dec). AreEntries n x.entries) (last_at done c c) (a.entries (length done) c (omega (arith, length-append done (c ∷ []))))
+
+  module _ (ts : List (ℕ × Dec)) (is : map entry_of ts ≡ c.entries) (k : ℕ) (t : ℕ × Dec) (lt : k < length ts) (at : t ≡ get_or ts k t) (m : Mps Dec) where
+    pub can_add_entry : length m.rows ≡ n → m.columns ≡ done ++ filled_to k ts c ∷ [] → CanAddEntry m t.0
+    can_add_entry rows same =
+        let own : AreEntries n (map entry_of ts) = subst (AreEntries n) (sym is) are_entries in
+        let here : entry_of t ≡ get_or (map entry_of ts) k (entry_of t) = at_mapped entry_of ts k t lt at in
+        let inside : k < length (map entry_of ts) = within_mapped entry_of ts k t lt at in
+        let size : length (map entry_of (take k ts)) ≡ k = length-map (take k ts) entry_of ∙ length-take-le k ts (omega (arith, lt)) in
+        let row : t.0 < n = subst (λ (e : Entry Dec). e.row < n) (sym here) (own.within k (entry_of t) inside) in
+        record {
+          some = omega (arith, ap length same, length-append done (filled_to k ts c ∷ []));
+          within = omega (arith, row, rows);
+          few = omega (arith, a.few_entries, ap entry_count same, count_last done (filled_to k ts c), count_last done c, size, inside, ap length is);
+          new = subst (All (IsOtherEntry t.0)) (take-map entry_of k ts ∙ sym (ap last_entries same ∙ entries_last done (filled_to k ts c))) (before (λ (e g : Entry Dec). e.row ≢ g.row) (map entry_of ts) k (entry_of t) own.apart inside here);
+        }
+
+-- one entry more
+pub entry_put : (old m new : Mps Dec) (c : Column Dec) (ts : List (ℕ × Dec)) (k : ℕ) (t : ℕ × Dec) → k < length ts → t ≡ get_or ts k t →
+    m ≡ record old { columns = old.columns ++ filled_to k ts c ∷ [] } → new ≡ record m { columns = with_entry_last (entry_of t) m.columns } → new ≡ record old { columns = old.columns ++ filled_to (k + 1) ts c ∷ [] }
+entry_put old m new c ts k t lt at first second =
+    second
+    ∙ ap (λ (b : Mps Dec). record b { columns = with_entry_last (entry_of t) b.columns }) first
+    ∙ ap (λ cs. record old { columns = cs }) (entry_last (entry_of t) old.columns (filled_to k ts c) ∙ ap (λ es. old.columns ++ record c { entries = es } ∷ []) (one_more entry_of ts k t lt at))
+
+-- ---- rows with other names
+
+pub row_put : (f : List ℕ → List ℕ) (xs : List MpsRow) (i : ℕ) (r : MpsRow) → i < length xs → r ≡ get_or xs i r → (name : List ℕ) (kind : RowKind) → name ≡ f r.name → kind ≡ r.kind →
+    (old m new : Mps Dec) → m ≡ record old { rows = map (named_row f) (take i xs) } → new ≡ record m { rows = m.rows ++ record { name = name; kind = kind } ∷ [] } →
+    new ≡ record old { rows = map (named_row f) (take (i + 1) xs) }
+row_put f xs i r lt is name kind called same old m new first second =
+    second
+    ∙ ap (λ y. record m { rows = m.rows ++ record { name = y; kind = kind } ∷ [] }) called
+    ∙ ap (λ y. record m { rows = m.rows ++ record { name = f r.name; kind = y } ∷ [] }) same
+    ∙ ap (λ (b : Mps Dec). record b { rows = b.rows ++ named_row f r ∷ [] }) first
+    ∙ ap (λ rs. record old { rows = rs }) (one_more (named_row f) xs i r lt is)
+
+-- ---- columns with other names
+
+module _ (f : List ℕ → List ℕ) (xs : List (Column Dec)) (i : ℕ) (x : Column Dec) (lt : i < length xs) (is : x ≡ get_or xs i x) (name : List ℕ) (called : name ≡ f x.name) where
+  pub can_put_column : (n : ℕ) (m : Mps Dec) → AreColumns n (map (named_column f) xs) → length m.rows ≡ n → m.columns ≡ map (named_column f) (take i xs) → AreColumns (length m.rows) (m.columns ++ record x { name = name } ∷ [])
+  can_put_column n m a rows same =
+      let more : take (i + 1) (map (named_column f) xs) ≡ m.columns ++ record x { name = name } ∷ [] =
+      take-map (named_column f) (i + 1) xs ∙ sym (one_more (named_column f) xs i x lt is)
+      ∙ ap (λ cs. cs ++ named_column f x ∷ []) (sym same) ∙ ap (λ y. m.columns ++ record x { name = y } ∷ []) (sym called) in
+      subst (λ k. AreColumns k (m.columns ++ record x { name = name } ∷ [])) (sym rows) (subst (AreColumns n) more (columns_taken n (i + 1) (map (named_column f) xs) a))
+
+  pub column_put : (old m new : Mps Dec) → m ≡ record old { columns = map (named_column f) (take i xs) } → new ≡ record m { columns = m.columns ++ record x { name = name } ∷ [] } →
+      new ≡ record old { columns = map (named_column f) (take (i + 1) xs) }
+  column_put old m new first second =
+      second
+      ∙ ap (λ y. record m { columns = m.columns ++ record x { name = y } ∷ [] }) called
+      ∙ ap (λ (b : Mps Dec). record b { columns = b.columns ++ named_column f x ∷ [] }) first
+      ∙ ap (λ cs. record old { columns = cs }) (one_more (named_column f) xs i x lt is)
+
+-- ---- the whole program
+
+made : List ℕ → Bool → List MpsRow → List (Column Dec) → List (Entry Dec) → List (Entry Dec) → List (Bound Dec) → Mps Dec
+made n x rs cs hs gs bs = record { name = n; maximise = x; rows = rs; columns = cs; rhs = hs; ranges = gs; bounds = bs }
+
+module _ (m : Mps Dec) (row_names column_names : List (List ℕ)) (n : List ℕ) (x : Bool) (rs : List MpsRow) (cs : List (Column Dec)) (hs gs : List (Entry Dec)) (bs : List (Bound Dec)) where
+  -- what was made of these is made of the program
+  pub record AreOf : Type 0 where
+    pub name : n ≡ m.name
+    pub maximise : x ≡ m.maximise
+    pub rows : rs ≡ m.rows
+    pub columns : cs ≡ m.columns
+    pub rhs : hs ≡ m.rhs
+    pub ranges : gs ≡ m.ranges
+    pub bounds : bs ≡ m.bounds
+
+  all_named : AreOf → made n x (named_rows row_names rs) (named_columns column_names cs) hs gs bs ≡ named m row_names column_names
+  unfolding with_names made
+  all_named of =
+      ap (λ y. made y x (named_rows row_names rs) (named_columns column_names cs) hs gs bs) of.name
+      ∙ ap (λ y. made m.name y (named_rows row_names rs) (named_columns column_names cs) hs gs bs) of.maximise
+      ∙ ap (λ y. made m.name m.maximise (named_rows row_names y) (named_columns column_names cs) hs gs bs) of.rows
+      ∙ ap (λ y. made m.name m.maximise (named_rows row_names m.rows) (named_columns column_names y) hs gs bs) of.columns
+      ∙ ap (λ y. made m.name m.maximise (named_rows row_names m.rows) (named_columns column_names m.columns) y gs bs) of.rhs
+      ∙ ap (λ y. made m.name m.maximise (named_rows row_names m.rows) (named_columns column_names m.columns) m.rhs y bs) of.ranges
+      ∙ ap (λ y. made m.name m.maximise (named_rows row_names m.rows) (named_columns column_names m.columns) m.rhs m.ranges y) of.bounds
+
+  -- each part was added to what stood
+  pub record AreAdded (b0 b1 b2 b3 b4 b5 : Mps Dec) : Type 0 where
+    pub start : b0 ≡ record { name = n; maximise = x; rows = []; columns = []; rhs = []; ranges = []; bounds = [] }
+    pub rows : b1 ≡ record b0 { rows = named_rows row_names rs }
+    pub columns : b2 ≡ record b1 { columns = named_columns column_names cs }
+    pub rhs : b3 ≡ record b2 { rhs = hs }
+    pub ranges : b4 ≡ record b3 { ranges = gs }
+    pub bounds : b5 ≡ record b4 { bounds = bs }
+
+  pub built : (b0 b1 b2 b3 b4 b5 : Mps Dec) → AreOf → AreAdded b0 b1 b2 b3 b4 b5 → b5 ≡ named m row_names column_names
+  unfolding made
+  built b0 b1 b2 b3 b4 b5 of added =
+      added.bounds
+      ∙ ap (λ (b : Mps Dec). record b { bounds = bs })
+      (added.ranges ∙ ap (λ (b : Mps Dec). record b { ranges = gs })
+      (added.rhs ∙ ap (λ (b : Mps Dec). record b { rhs = hs })
+      (added.columns ∙ ap (λ (b : Mps Dec). record b { columns = named_columns column_names cs })
+      (added.rows ∙ ap (λ (b : Mps Dec). record b { rows = named_rows row_names rs }) added.start))))
+      ∙ all_named of

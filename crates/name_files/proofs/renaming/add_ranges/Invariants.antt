@@ -1,0 +1,6 @@
+use Rattle.std.proofs.Common.{◌≡◌, map, take}
+use Rattle.mps_model.specs.Built.{entry_of}
+use Rattle.name_files.proofs.renaming.add_ranges.Given as goal
+
+abbrev pub invariant-loop-entry : goal.invariant-loop-entry
+invariant-loop-entry l = l.builder ≡ record l.initial.builder { ranges = map entry_of (take l.entry-index l.ranges) }
