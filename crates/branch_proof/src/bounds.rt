@@ -1,5 +1,5 @@
 // The bounds of all variables, kept while a walk goes down and up.
-ghost use Rattle.std.specs.Prelude.{◌≡◌, ◌∷◌, [], length, IfOk, MatchOption};
+ghost use Rattle.std.specs.Prelude.{◌≡◌, ◌<◌, ◌∷◌, [], length, IfOk, MatchOption};
 ghost use Rattle.certificate_check.specs.Programs.{program_of};
 ghost use Rattle.branch_proof.specs.Cuts.{AreBelow, cuts_of, next_cuts, variable_of};
 ghost use Rattle.branch_proof.specs.Rooms.{AreBoundsOf, SameAbove};
