@@ -1,5 +1,5 @@
 -- The steps of the walk over the nodes of a proof.
-use Rattle.std.proofs.Common.{◌≡◌, ℕ, ◌+◌, ◌<◌, ◌≤◌, ◌∙◌, sym, ap, ap₂, subst, refl, Bool, List, [], ◌∷◌, length, take, drop, get_or, drop-cons, add-one, ◌++◌, Option, Some, None, ℤ, All}
+use Rattle.std.proofs.Common.{◌≡◌, ℕ, ◌+◌, ◌<◌, ◌≤◌, ◌∙◌, sym, ap, ap₂, subst, refl, Bool, List, [], ◌∷◌, length, take, drop, get_or, drop-cons, add-one, Option, Some, None, ℤ, All}
 use Rattle.std.proofs.lemmas.List.{drop_all}
 use Rattle.fractions.specs.Rational.{ℚ}
 use Rattle.linear_programs.specs.Linear.{Linear, row_count, variable_count}
