@@ -24,7 +24,7 @@ fn read_file(alloc: Global, sizes: &Sizes, body: &str) -> Result<NlRead, Fail> {
 }
 
 // Two variables and three constraints, of which the second has no side.
-fn three_rows(alloc: Global) -> Result<NlRead, Fail> {
+pub(crate) fn three_rows(alloc: Global) -> Result<NlRead, Fail> {
     let sizes = header("2 3 0", "3 0", "0");
     read_file(
         alloc,

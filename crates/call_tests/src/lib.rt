@@ -16,6 +16,8 @@ mod imports;
 #[cfg(test)]
 mod made_instances;
 #[cfg(test)]
+mod named_texts;
+#[cfg(test)]
 mod numbers;
 #[cfg(test)]
 mod parts;

@@ -17,8 +17,9 @@ use Rattle.mps_model.specs.Mps.{Mps, row_value}
 use Rattle.row_scaling.specs.Scaled.{ScaledValue}
 use Rattle.row_scaling.specs.Scaling.{factor_at}
 use Rattle.answer_file.specs.Grammar.{AnswerValue}
-use Rattle.answer_file.specs.Names.{setting_of}
+use Rattle.answer_file.specs.Names.{setting_by}
 use Rattle.answer_file.specs.Reading.{IsAnswer}
+use Rattle.answer_file.specs.declared.naming.Naming.{Naming}
 use Rattle.sol_files.specs.Sol.{Sol}
 use Rattle.sol_files.specs.declared.suffix.SolSuffix.{SolSuffix}
 use Rattle.dual_return.specs.declared.fault.ReturnFault.{ReturnFault}
@@ -26,9 +27,9 @@ use Rattle.dual_return.specs.declared.fault.ReturnFault.TheVariants.{DualTooWide
 
 -- ---- what is given
 
--- the answer was made from the file
+-- a text says the answer for the file, with some names of its columns and rows
 abbrev pub IsAnswerFor : File → AnswerValue → Type 0
-IsAnswerFor f a = (text : List ℕ) × IsAnswer (setting_of f) text a
+IsAnswerFor f a = (naming : Naming) × (text : List ℕ) × IsAnswer (setting_by naming f) text a
 
 -- the linear program of the file with the answer's objective
 abbrev pub linear_for : File → AnswerValue → Linear

@@ -1,4 +1,5 @@
 use Rattle.nl_segments.specs.Reader.{value_of}
+use Rattle.answer_file.specs.declared.naming.Naming.TheVariants.{Numbered}
 use Rattle.bridge_tool.proofs.Returning.{answer_counted, answer_ended, answer_stopped, not_counted}
 use Rattle.bridge_tool.proofs.returns.return_answer.Goals as goal
 
@@ -13,7 +14,7 @@ pub returns-in-Err-open_answer-clause-counts : goal.returns-in-Err-open_answer-c
 returns-in-Err-open_answer-clause-counts g c = not_counted c.args.nl.now c.args.answer.now (g.D.Desk.meaning c.args.desk.now).texts c.args.steps.now
 
 pub judge-judged-requires-clause-made : goal.judge-judged-requires-clause-made
-judge-judged-requires-clause-made g c = let said = c.in-Ok-open_answer.ensures.reads.judged in (said.bytes, said.says)
+judge-judged-requires-clause-made g c = let said = c.in-Ok-open_answer.ensures.reads.judged in (Numbered, said.bytes, said.says)
 
 pub returns-clause-worked : goal.returns-clause-worked
 returns-clause-worked g c =
