@@ -9,9 +9,11 @@ Each text was worked out by hand from the rules of the format.
 import importlib
 import os
 import pkgutil
+import resource
 import subprocess
 import sys
 import tempfile
+from functools import partial
 
 import cases
 from cases.meaning import is_same_in_groups
@@ -24,12 +26,13 @@ class Program:
         self.path = os.path.abspath(path)
         self.folder = tempfile.TemporaryDirectory()
 
-    def run(self, words, files):
-        """The finished process for these words, where these files lie."""
+    def run(self, words, files, seconds=600):
+        """The finished process for these words, where these files lie; it is killed after so many seconds of the processor."""
         for name, content in files.items():
             with open(os.path.join(self.folder.name, name), "wb") as stream:
                 stream.write(content)
-        return subprocess.run([self.path, *words], cwd=self.folder.name, capture_output=True, timeout=600)
+        limit = partial(resource.setrlimit, resource.RLIMIT_CPU, (seconds, seconds))
+        return subprocess.run([self.path, *words], cwd=self.folder.name, capture_output=True, timeout=600, preexec_fn=limit)
 
     def output(self, content, command, *words):
         """What the command writes on this file, or None where it refuses."""
@@ -66,7 +69,7 @@ def is_kept(program, case, out):
 
 def check(program, case):
     """Whether the program does what the example says; tells where not."""
-    done = program.run(case.words, case.files)
+    done = program.run(case.words, case.files, case.seconds)
     got = (done.returncode, done.stdout.decode(), done.stderr.decode())
     if got == (case.status, case.out, case.told):
         if is_kept(program, case, done.stdout):

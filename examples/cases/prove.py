@@ -43,16 +43,36 @@ def made_cases():
     for name in MADE:
         files = [texts.data("..", "drivers", "tests", "nl", f"{name}.nl"), texts.data("data", "proofs", f"{name}.proof")]
         yield texts.done(f"a proof made for {name}", "prove", *files, out="proved\n")
-    tree = ["proof 1", "value 0 2", *halved(0, 32767)]
-    yield texts.done("65,535 nodes", "prove", WHOLE, text(tree), out="proved\n")
+
+
+def large_cases():
+    """Trees of 65,535 nodes, as wide and as deep as they can be. A walk of the whole path at each leaf of a chain takes ten seconds."""
+    for shape, tree in (("in halves", halved(0, 32767)), ("in a chain of lower parts", lowered(32767)), ("in a chain of upper parts", raised(32767))):
+        yield texts.done(f"65,535 nodes {shape}", "prove", WHOLE, text(["proof 1", "value 0 2", *tree]), out="proved\n", seconds=3)
+
+
+def closed(low):
+    """A leaf of WHOLE where its variable is at least this; from 2 on the bound is the value."""
+    return ["weights 1", "0 1"] if low < 2 else ["duals 0"]
 
 
 def halved(low, high):
-    """A tree for WHOLE that splits these values of its variable in halves; from 2 on the bound is the value."""
+    """A tree for WHOLE that splits these values of its variable in halves."""
     if low == high:
-        return ["weights 1", "0 1"] if low < 2 else ["duals 0"]
+        return closed(low)
     middle = (low + high) // 2
     return [f"split 0 {middle}", *halved(low, middle), *halved(middle + 1, high)]
+
+
+def lowered(splits):
+    """A tree for WHOLE in which each lower part is split again, and the first leaf is below all splits."""
+    return [f"split 0 {most}" for most in range(splits, 0, -1)] + closed(0) + closed(2) * splits
+
+
+def raised(splits):
+    """A tree for WHOLE in which each upper part is split again, and the last leaf is below all splits."""
+    parts = ([f"split 0 {most}", *closed(most)] for most in range(splits))
+    return [line for part in parts for line in part] + closed(splits)
 
 
 def fault_cases():
@@ -83,6 +103,7 @@ def fault_cases():
 def cases():
     yield from verdict_cases()
     yield from made_cases()
+    yield from large_cases()
     yield from fault_cases()
     yield texts.refused("no such objective", "prove", WHOLE, lines("proof 1 / value 1 2 / duals 0"), told="objective 1: no such objective")
     yield texts.refused("a fault of the first file", "prove", b"x\n", b"y\n", told="line 1: bad first line")

@@ -97,7 +97,7 @@ def doubled(n):
 
 @dataclass(frozen=True)
 class Case:
-    """What the program does with these words in a folder with these files."""
+    """What the program does with these words in a folder with these files, in so many seconds of the processor."""
 
     name: str
     words: tuple
@@ -105,6 +105,7 @@ class Case:
     status: int = 0
     out: str = ""
     told: str = ""
+    seconds: int = 600
 
 
 def named(contents):
@@ -112,10 +113,10 @@ def named(contents):
     return dict(zip("ABCD", contents))
 
 
-def done(name, command, *contents, out, status=0, words=()):
+def done(name, command, *contents, out, status=0, words=(), seconds=600):
     """The command on these files, and further words, writes this."""
     files = named(contents)
-    return Case(name, (command, *files, *words), files, status, out)
+    return Case(name, (command, *files, *words), files, status, out, seconds=seconds)
 
 
 def refused(name, command, *contents, told, words=()):

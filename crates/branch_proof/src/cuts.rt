@@ -1,21 +1,27 @@
-// The cuts on the way to a leaf, and the bounds below them.
-ghost use Rattle.std.specs.Prelude.{◌≡◌, ◌<◌, List, Option, length, IfOk};
+// The cuts on the way to a leaf, and what each does to the bounds.
+ghost use Rattle.std.specs.Prelude.{◌≡◌, ◌<◌, List, Option, length, slice_set};
 ghost use Rattle.exact_numbers.specs.declared.dec.Dec.{Dec as DecValue};
 ghost use Rattle.duality.specs.Branch.{least, greatest, capped, raised};
 ghost use Rattle.duality.specs.Checked.{is_at_most};
 ghost use Rattle.exact_numbers.specs.Values.{dec_value};
 ghost use Rattle.certificate_check.specs.Lists.{bounds_in};
 ghost use Rattle.certificate_check.specs.Terms.{side_value};
-ghost use Rattle.branch_proof.specs.Cuts.{AreBelow, box_under, cut_box, cuts_of, next_cuts, variable_of};
+ghost use Rattle.branch_proof.specs.Cuts.{cut_box, lower_back, upper_back, variable_of};
 
 use exact_numbers::Dec;
-use std::alloc::AllocError;
 
 // The parts of a split of a variable at t: at most t, and at least t + 1.
 #[derive(Clone, Copy)]
 pub(crate) enum Cut {
     AtMost(u32, i32),
     AtLeast(u32, i32),
+}
+
+// A cut, and the side that it replaced.
+#[derive(Clone, Copy)]
+pub(crate) struct Step {
+    pub(crate) cut: Cut,
+    pub(crate) before: Option<Dec>,
 }
 
 fn is_at_most(a: Dec, b: Dec) -> bool
@@ -44,29 +50,39 @@ fn greatest(side: Option<Dec>, least: Dec) -> Option<Dec>
     }
 }
 
-fn cap(hi: &mut [Option<Dec>], j: usize, most: Dec)
+// Caps a variable, and hands out the side that was there.
+fn cap(hi: &mut [Option<Dec>], j: usize, most: Dec) -> Option<Dec>
     requires { j < length hi.old }
     ensures bounds { (lo : List (Option DecValue))
         → bounds_in lo hi.new ≡ capped (bounds_in lo hi.old) j (dec_value most) }
+    ensures back { slice_set hi.new j result ≡ hi.old }
     ensures count { length hi.new ≡ length hi.old }
 {
-    hi[j] = least(hi[j], most);
+    let before = hi[j];
+    hi[j] = least(before, most);
+    before
 }
 
-fn raise(lo: &mut [Option<Dec>], j: usize, least: Dec)
+// Raises a variable, and hands out the side that was there.
+fn raise(lo: &mut [Option<Dec>], j: usize, least: Dec) -> Option<Dec>
     requires { j < length lo.old }
     ensures bounds { (hi : List (Option DecValue))
         → bounds_in lo.new hi ≡ raised (bounds_in lo.old hi) j (dec_value least) }
+    ensures back { slice_set lo.new j result ≡ lo.old }
     ensures count { length lo.new ≡ length lo.old }
 {
-    lo[j] = greatest(lo[j], least);
+    let before = lo[j];
+    lo[j] = greatest(before, least);
+    before
 }
 
-// Adds a cut to the bounds.
-fn apply(lo: &mut [Option<Dec>], hi: &mut [Option<Dec>], cut: Cut)
+// Adds a cut to the bounds, and hands out the side that it replaced.
+pub(crate) fn apply(lo: &mut [Option<Dec>], hi: &mut [Option<Dec>], cut: Cut) -> Option<Dec>
     requires lower { variable_of cut < length lo.old }
     requires upper { variable_of cut < length hi.old }
     ensures bounds { bounds_in lo.new hi.new ≡ cut_box (bounds_in lo.old hi.old) cut }
+    ensures lower_back { lower_back cut result lo.new ≡ lo.old }
+    ensures upper_back { upper_back cut result hi.new ≡ hi.old }
     ensures lowers { length lo.new ≡ length lo.old }
     ensures uppers { length hi.new ≡ length hi.old }
 {
@@ -76,39 +92,15 @@ fn apply(lo: &mut [Option<Dec>], hi: &mut [Option<Dec>], cut: Cut)
     }
 }
 
-// Writes the bounds below these cuts, where the first two lists are those above them all.
-pub(crate) fn fill(
-    own_lo: &[Option<Dec>],
-    own_hi: &[Option<Dec>],
-    path: &[Cut],
-    lo: &mut [Option<Dec>],
-    hi: &mut [Option<Dec>],
-)
-    requires lowers { length lo.old ≡ length own_lo.now }
-    requires uppers { length hi.old ≡ length own_hi.now }
-    requires lower_cuts { AreBelow (length own_lo.now) (cuts_of path.now) }
-    requires upper_cuts { AreBelow (length own_hi.now) (cuts_of path.now) }
-    ensures bounds { bounds_in lo.new hi.new
-        ≡ box_under (bounds_in own_lo.now own_hi.now) (cuts_of path.now) }
-    ensures lower_count { length lo.new ≡ length lo.old }
-    ensures upper_count { length hi.new ≡ length hi.old }
+// Puts back the side that a step replaced.
+pub(crate) fn put_back(lo: &mut [Option<Dec>], hi: &mut [Option<Dec>], step: Step)
+    requires lower { variable_of step.cut < length lo.old }
+    requires upper { variable_of step.cut < length hi.old }
+    ensures lower { lo.new ≡ lower_back step.cut step.before lo.old }
+    ensures upper { hi.new ≡ upper_back step.cut step.before hi.old }
 {
-    lo.copy_from_slice(own_lo);
-    hi.copy_from_slice(own_hi);
-    for cut in path {
-        apply(lo, hi, *cut);
+    match step.cut {
+        Cut::AtMost(j, _) => hi[j as usize] = step.before,
+        Cut::AtLeast(j, _) => lo[j as usize] = step.before,
     }
-}
-
-// Goes up to the last "at most" and on to its other part.
-pub(crate) fn climb(path: &mut Vec<Cut>) -> Result<(), AllocError>
-    ensures { IfOk result (λ u. cuts_of path.new.items ≡ next_cuts (cuts_of path.old.items)) }
-{
-    while let Some(cut) = path.pop() {
-        if let Cut::AtMost(j, t) = cut {
-            path.push(Cut::AtLeast(j, t))?;
-            return Ok(());
-        }
-    }
-    Ok(())
 }

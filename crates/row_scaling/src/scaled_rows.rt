@@ -93,7 +93,8 @@ fn scaled_row_at(
     }
     match scale_row(alloc, body, side) {
         Ok(row) => Ok(Some(row)),
-        Err(stop) => Err(stop.map_fault(|_| ScaleFault::RowTooWide(con))),
+        Err(Stop::Memory) => Err(Stop::Memory),
+        Err(Stop::Fault(_)) => Err(Stop::Fault(ScaleFault::RowTooWide(con))),
     }
 }
 
