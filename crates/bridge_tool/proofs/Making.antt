@@ -1,11 +1,14 @@
 -- An instance is summed up in one line, or its written text is refused with one line.
-use Rattle.std.proofs.Common.{◌≡◌, ◌≢◌, ◌∙◌, inl, inr, ℕ, ◌≤◌, List, Bool, true, false, length, Result, Ok, Err, refl, sym, ap, subst, arith, Option, Some, None}
+use Rattle.std.proofs.Common.{◌≡◌, ◌≢◌, ◌∙◌, inl, inr, ℕ, ◌+◌, ◌≤◌, List, Bool, true, false, length, Result, Ok, Err, refl, sym, ap, subst, arith, Option, Some, None}
 use Rattle.std.specs.Global.{Vec}
 use Rattle.fractions.specs.Rational.{ℚ}
 use Rattle.linear_programs.specs.Linear.{Linear}
 use Rattle.exact_numbers.specs.declared.dec.Dec.{Dec}
 use Rattle.exact_numbers.specs.Values.{dec_value, value_text}
 use Rattle.file_meaning.specs.LinearFile.{linear_of}
+use Rattle.instances.specs.Instance.{instance}
+use Rattle.instance_texts.proofs.Writing.{said}
+use Rattle.linear_fold.specs.FoldedFaults.{step_bound}
 use Rattle.linear_fold.specs.Programs.{LinearValue, linear_value}
 use Rattle.mps_model.specs.Mps.{Mps, with_values}
 use Rattle.mps_model.specs.Text.{mps_text_by}
@@ -21,7 +24,7 @@ use Rattle.text_base.specs.declared.stop.Stop.TheVariants.{Fault as IsFault, Mem
 use Rattle.bridge_tool.specs.Answer.{Ends, EndsWriting, IsWorked, status_of}
 use Rattle.bridge_tool.specs.Command.{Command, Make}
 use Rattle.bridge_tool.specs.Commands.{Leaves}
-use Rattle.bridge_tool.specs.Make.{IsMade, IsSummedUp, LeavesInput, coefficient_count, exported_count, made_text, make_promise, summary_line, summary_of}
+use Rattle.bridge_tool.specs.Make.{IsInstanceSummedUp, IsMade, IsSummedUp, LeavesInput, coefficient_count, exported_count, made_text, make_promise, summary_line, summary_of}
 use Rattle.bridge_tool.specs.OneFile.{TextComesTo, Judges}
 use Rattle.bridge_tool.specs.Outcome.{Outcome, BadWords, Untold, NoText, Refused, Done}
 use Rattle.bridge_tool.specs.Promise.{Promise}
@@ -81,6 +84,24 @@ summed_up text value variables rows l s out read folded scaled ev er is =
       summary = is ∙ (λ i. summary_line (ev i) (all i) (coefficient_count (all i) m) (length (mps_text_by value_text m)));
     }
 
+-- ---- the instance
+
+-- a text says one file, and the written text of an instance says the instance
+instance_said : (seed size : ℕ) (value : NlValue) → size ≤ 20000 → IsNl (made_text seed size) value → value.file ≡ instance seed size
+instance_said seed size value few read =
+    let text = said seed size few in
+    same_file (made_text seed size) value (record { file = instance seed size; places = text.places }) read text.read
+
+-- so its bound is that of the instance
+pub steps_of_instance : (seed size : ℕ) (value : NlValue) (old new : ℕ) → size ≤ 20000 → IsNl (made_text seed size) value → new ≤ old + step_bound value.file → new ≤ old + step_bound (instance seed size)
+steps_of_instance seed size value old new few read below = subst (λ (f : File). new ≤ old + step_bound f) (instance_said seed size value few read) below
+
+instance_summed_up : (seed size : ℕ) → size ≤ 20000 → IsInstanceSummedUp seed size
+instance_summed_up seed size few = record {
+  said = said seed size few;
+  summed = λ bytes m. instance_said seed size m.exported.value few m.exported.read;
+}
+
 -- ---- the command
 
 text_known : (text : List ℕ) (o : Outcome) → TextComesTo IsMade (λ t. IsRefused t 0) text o → IsKnown o
@@ -102,13 +123,13 @@ come seed size old x is =
       rest = OnlyInput-same old;
     }
 
-pub make_worked : (seed size : ℕ) (old new : Meaning) (judged : Result (Vec ℕ) (Stop (Vec ℕ))) (answer : Answer) → Judges IsMade (λ t. IsRefused t 0) (made_text seed size) judged → Ends judged old new answer
+pub make_worked : (seed size : ℕ) → size ≤ 20000 → (old new : Meaning) (judged : Result (Vec ℕ) (Stop (Vec ℕ))) (answer : Answer) → Judges IsMade (λ t. IsRefused t 0) (made_text seed size) judged → Ends judged old new answer
     → IsWorked (make_promise seed size) old new answer
-make_worked seed size old new (Ok out) answer judges ends =
-    wrote_worked (make_promise seed size) false old old new true out.items answer (come seed size old (Done true out.items) judges) (inl refl) (λ e. tt) ends
-make_worked seed size old new (Err (IsFault line)) answer judges ends =
+make_worked seed size few old new (Ok out) answer judges ends =
+    wrote_worked (make_promise seed size) false old old new true out.items answer (come seed size old (Done true out.items) judges) (inl refl) (λ e. instance_summed_up seed size few) ends
+make_worked seed size few old new (Err (IsFault line)) answer judges ends =
     rw (ends.0, ends.1) (refused_worked (make_promise seed size) false old old line (come seed size old (Refused line.items) judges))
-make_worked seed size old new (Err IsMemory) answer judges ends =
+make_worked seed size few old new (Err IsMemory) answer judges ends =
     rw (ends.0, ends.1) (memory_worked (make_promise seed size) false old old (λ o h. text_known (made_text seed size) o h) refl (OnlyInput-same old))
 
 -- ---- the input

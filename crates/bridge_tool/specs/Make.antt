@@ -1,5 +1,5 @@
 -- The command make: the summary of the exported program of the instance of a seed and a size.
-use Rattle.std.specs.Prelude.{◌≡◌, ◌≢◌, ◌&&◌, ◌||◌, Bool, is_some, ℕ, ◌≤◌, List, ◌++◌, nat_le, length, codes}
+use Rattle.std.specs.Prelude.{◌≡◌, ◌≢◌, ◌&&◌, ◌||◌, Bool, is_some, ℕ, ◌+◌, ◌≤◌, List, ◌++◌, nat_le, length, codes}
 use Rattle.std.specs.Fmt.{decimal}
 use Rattle.std.specs.List.{count_by, sum_by}
 use Rattle.fractions.specs.Rational.{ℚ}
@@ -7,6 +7,8 @@ use Rattle.linear_programs.specs.Linear.{Linear}
 use Rattle.exported_program.specs.Return.{is_exported}
 use Rattle.file_meaning.specs.LinearFile.{linear_of}
 use Rattle.instances.specs.Instance.{instance}
+use Rattle.linear_fold.specs.FoldedFaults.{step_bound}
+use Rattle.nl_round_trip.specs.Writable.{IsText}
 use Rattle.exact_numbers.specs.Values.{value_text}
 use Rattle.mps_model.specs.Mps.{Mps, Entry, Column}
 use Rattle.mps_model.specs.Text.{mps_text_by}
@@ -14,7 +16,7 @@ use Rattle.nl_model.specs.declared.interval.Interval.{Interval}
 use Rattle.nl_model.specs.File.{File}
 use Rattle.nl_writer.specs.Written.{nl_text}
 use Rattle.text_base.specs.Desk.{Meaning}
-use Rattle.bridge_tool.specs.Export.{Counts, IsExported}
+use Rattle.bridge_tool.specs.Export.{IsExported}
 use Rattle.bridge_tool.specs.OneFile.{TextComesTo}
 use Rattle.bridge_tool.specs.Promise.{Promise}
 use Rattle.bridge_tool.specs.Refusal.{IsRefused}
@@ -67,13 +69,19 @@ IsSummedUp variables rows m bytes = bytes ≡ summary_line variables rows (coeff
 
 -- ---- the promise
 
--- No text is started. Steps are counted for the fold of the written text.
+-- the written text says the instance, and what is summed up is the instance
+pub record IsInstanceSummedUp (seed size : ℕ) : Type 0 where
+  pub said : IsText (instance seed size) (made_text seed size)
+  pub summed : (bytes : List ℕ) (m : IsMade (made_text seed size) bytes) →
+      m.exported.value.file ≡ instance seed size
+
+-- No text is started. Steps are counted for the fold of the instance, up to its bound.
 abbrev pub make_promise : ℕ → ℕ → Promise
 make_promise seed size = record {
   comes = TextComesTo IsMade (λ text. IsRefused text 0) (made_text seed size);
   last = λ text. ⊥;
-  counts = λ old new. Counts (made_text seed size) 0 old new;
-  means = Unit {0};
+  counts = λ old new. new ≤ old + step_bound (instance seed size);
+  means = IsInstanceSummedUp seed size;
 }
 
 -- the input is as it was, and no input call failed

