@@ -3,18 +3,19 @@ use Rattle.std.specs.Prelude.{◌≡◌, ℕ, List}
 use Rattle.std.specs.declared.option.Option.{Option}
 use Rattle.std.specs.declared.option.Option.TheVariants.{None, Some}
 use Rattle.text_base.specs.Desk.{Texts, Meaning}
-use Rattle.bridge_tool.specs.Command.{Command, Check, Export, Fixed, Mps, Nl, Sol, command_of, Import, Prove, Make, Return}
+use Rattle.bridge_tool.specs.Command.{Command, Check, Export, Fixed, Mps, Nl, Sol, command_of, Import, Prove, Make, Return, NamedExport, NamedReturn}
 use Rattle.bridge_tool.specs.Check.{check_promise}
 use Rattle.bridge_tool.specs.Export.{export_promise}
 use Rattle.bridge_tool.specs.Import.{import_promise}
 use Rattle.bridge_tool.specs.Fixed.{fixed_promise}
 use Rattle.bridge_tool.specs.Make.{LeavesInput, make_promise}
 use Rattle.bridge_tool.specs.Mps.{mps_promise}
+use Rattle.bridge_tool.specs.NamedExport.{named_promise}
 use Rattle.bridge_tool.specs.Nl.{nl_promise}
 use Rattle.bridge_tool.specs.Outcome.{Outcome, BadWords}
 use Rattle.bridge_tool.specs.Promise.{Promise}
 use Rattle.bridge_tool.specs.Prove.{prove_promise}
-use Rattle.bridge_tool.specs.Return.{return_promise}
+use Rattle.bridge_tool.specs.Return.{named_return_promise, return_promise}
 use Rattle.bridge_tool.specs.Sol.{sol_promise}
 
 -- at a desk with these texts
@@ -28,6 +29,10 @@ promise_of texts (Import file) = import_promise texts file
 promise_of texts (Prove nl proof) = prove_promise texts nl proof
 promise_of texts (Fixed file) = fixed_promise texts file
 promise_of texts (Return nl answer) = return_promise texts nl answer
+promise_of texts (NamedExport file objective rows columns) =
+    named_promise texts file objective rows columns
+promise_of texts (NamedReturn nl answer rows columns) =
+    named_return_promise texts nl answer rows columns
 promise_of texts (Make seed size) = make_promise seed size
 
 -- the words are in no row of the command table

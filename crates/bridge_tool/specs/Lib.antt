@@ -10,6 +10,9 @@ pub mod Fixed
 pub mod Make
 pub mod Mps
 pub mod MpsTold
+pub mod NameLists
+pub mod NamedExport
+pub mod NamesTold
 pub mod Nl
 pub mod NlTold
 pub mod OneFile

@@ -18,12 +18,13 @@ use Rattle.row_scaling.specs.Scaling.{HasNoScaleFault}
 use Rattle.sol_files.specs.Sol.{Sol}
 use Rattle.sol_files.specs.Written.{sol_text}
 use Rattle.answer_file.specs.Grammar.{AnswerValue, answer_rules}
-use Rattle.answer_file.specs.Names.{Setting, setting_of}
+use Rattle.answer_file.specs.Names.{Setting, named_setting, setting_of}
 use Rattle.answer_file.specs.Reading.{IsAnswer}
 use Rattle.answer_file.specs.declared.fault.AnswerReason.{AnswerReason}
 use Rattle.dual_return.specs.Return.{HasReturnFault, IsReturn, MeanTheProgram}
 use Rattle.dual_return.specs.declared.fault.ReturnFault.{ReturnFault}
 use Rattle.bridge_tool.specs.AnswerTold.{answer_line, return_line}
+use Rattle.bridge_tool.specs.NameLists.{after_lists}
 use Rattle.bridge_tool.specs.Outcome.{Outcome, BadWords, Untold, NoText, Refused, Done}
 use Rattle.bridge_tool.specs.Promise.{Promise}
 use Rattle.bridge_tool.specs.Refusal.{HasTextRefusal}
@@ -94,12 +95,30 @@ IsReturnMeant nl a = (bytes : List ℕ) (r : IsReturned nl a bytes)
 
 -- ---- the promise
 
+-- the answer of this setting is read, and returned for the file
+abbrev pub after_answer : Setting → NlValue → Texts → List ℕ → Promise
+after_answer s file texts answer =
+    after_file (IsAnswer s) (IsAnswerRefused s) texts answer (λ a.
+    ends texts answer (ReturnsAs file a) (λ old new. new ≤ old + most_return_steps file a)
+    (IsReturnMeant file a))
+
 abbrev pub return_told : List ℕ → List ℕ → Texts → Promise
 return_told nl answer texts =
     after_file IsNl HasTextRefusal texts nl (λ file.
-    after_file (IsAnswer (setting_of file.file)) (IsAnswerRefused (setting_of file.file)) texts answer
-    (λ a. ends texts answer (ReturnsAs file a) (λ old new. new ≤ old + most_return_steps file a)
-    (IsReturnMeant file a)))
+    after_answer (setting_of file.file) file texts answer)
 
 abbrev pub return_promise : Option Texts → List ℕ → List ℕ → Promise
 return_promise texts nl answer = desk_promise false (return_told nl answer) texts
+
+-- ---- with names
+
+-- the lists are the third and the fourth file, and are read before the answer
+abbrev pub named_return_told : (nl answer rows columns : List ℕ) → Texts → Promise
+named_return_told nl answer rows columns texts =
+    after_file IsNl HasTextRefusal texts nl (λ file.
+    after_lists file.file 3 texts rows columns (λ r c.
+    after_answer (named_setting file.file r c) file texts answer))
+
+abbrev pub named_return_promise : Option Texts → (nl answer rows columns : List ℕ) → Promise
+named_return_promise texts nl answer rows columns =
+    desk_promise false (named_return_told nl answer rows columns) texts

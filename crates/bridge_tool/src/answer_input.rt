@@ -1,65 +1,35 @@
 // Reading and judging an answer for a file.
-ghost use Rattle.std.specs.Prelude.{◌≡◌, ◌≢◌, List, ℕ, IfErr, IfOk};
-ghost use Rattle.text_base.specs.Desk.{IsUnknown, OnlyInput};
-ghost use Rattle.answer_file.specs.Names.{Setting, setting_of};
+ghost use Rattle.std.specs.Prelude.{◌≡◌, ◌≢◌, List, ℕ, [], IfErr, length};
+ghost use Rattle.answer_file.specs.Names.{Setting, named_setting, setting_of};
 ghost use Rattle.answer_file.specs.Reading.{IsAnswer, IsFed};
 ghost use Rattle.bridge_tool.specs.Answer.{status_of};
 ghost use Rattle.bridge_tool.specs.Return.{IsAnswerRefused};
 ghost use Rattle.bridge_tool.specs.SeveralFiles.{ReadsFile, Says, itself};
-ghost use Rattle.bridge_tool.specs.Transfer.{HasRead, HasReadCause};
 
 use crate::answer::Answer;
 use crate::answer_told::answer_line;
 use crate::one_file::{answered, missed, read};
-use crate::transfer::{Feed, LIMIT, Unread};
+use crate::transfer::Feed;
 use answer_file::{Answer as Given, AnswerReader};
+use name_files::NameList;
 use nl_model::NlFile;
 use std::alloc::Global;
 use text_base::{Desk, Stop};
 
-// A reader of an answer, with the file that it was made for.
-#[derive(Drop)]
-struct Reading<'a> {
-    reader: AnswerReader,
-    file: &'a NlFile,
-}
-
-impl Feed for Reading<'_> {
-    ghost use Rattle.nl_model.specs.File.{File};
-    ghost use Rattle.answer_file.specs.Names.{setting_of};
+impl Feed for AnswerReader {
+    ghost use Rattle.answer_file.specs.Names.{Setting};
     ghost use Rattle.answer_file.specs.Reading.{IsFed};
 
-    ghost Setting = { File };
+    ghost Setting = { Setting };
 
-    ghost setting = { λ r. r.file.now };
+    ghost setting = { λ r. r.progress.setting };
 
-    ghost fed = { λ r text. IsFed (setting_of r.file.now) r.reader text };
+    ghost fed = { λ r text. IsFed r.progress.setting r text };
 
     fn take(&mut self, piece: &[u8]) {
         // The reader keeps an error, and answers it at the end.
-        let _ = self.reader.feed(piece);
+        let _ = self.feed(piece);
     }
-}
-
-// Feeds a reader for this file the named text.
-fn read_answer<D: Desk>(
-    alloc: Global,
-    desk: &mut D,
-    file: &NlFile,
-    name: &str,
-) -> Result<AnswerReader, Unread>
-    ensures text { IfOk result (λ reader. HasRead (D.meaning desk.old).texts name.now LIMIT
-        (D.meaning desk.new).left (IsFed (setting_of file.now) reader)) }
-    ensures cause { HasReadCause (IsUnknown (D.meaning desk.old).texts name.now)
-        (D.meaning desk.old).input_faults (D.meaning desk.new).input_faults result }
-    ensures rest { OnlyInput (D.meaning desk.old) (D.meaning desk.new) }
-{
-    let new = Reading {
-        reader: AnswerReader::new(alloc, file)?,
-        file,
-    };
-    let fed = read(alloc, desk, name, new)?;
-    Ok(fed.reader)
 }
 
 // The answer of the text that a reader was fed, or the line to tell; it is the second file.
@@ -77,6 +47,27 @@ fn judge_answer(alloc: Global, reader: AnswerReader) -> Result<Given, Stop<Vec<u
     }
 }
 
+// What the second file of a command says to a new reader, or the answer that ends the command.
+fn open_with<D: Desk>(
+    alloc: Global,
+    desk: &mut D,
+    reader: AnswerReader,
+    name: &str,
+) -> Result<Given, Answer>
+    requires { IsFed reader.progress.setting reader [] }
+    ensures reads { (s : Setting) → reader.progress.setting ≡ s → ReadsFile itself (IsAnswer s)
+        (IsAnswerRefused s) name.now (D.meaning desk.old) (D.meaning desk.new) result }
+    ensures known { IfErr result (λ answer. status_of answer ≢ 3) }
+{
+    match read(alloc, desk, name, reader) {
+        Ok(reader) => {
+            let judged = judge_answer(alloc, reader);
+            answered(judged)
+        }
+        Err(unread) => Err(missed(unread)),
+    }
+}
+
 /// What the second file of a command says as an answer for the first, or the answer that ends the
 /// command.
 pub(crate) fn open_answer<D: Desk>(
@@ -90,11 +81,31 @@ pub(crate) fn open_answer<D: Desk>(
         result }
     ensures known { IfErr result (λ answer. status_of answer ≢ 3) }
 {
-    match read_answer(alloc, desk, file, name) {
-        Ok(reader) => {
-            let judged = judge_answer(alloc, reader);
-            answered(judged)
-        }
-        Err(unread) => Err(missed(unread)),
+    match AnswerReader::new(alloc, file) {
+        Ok(reader) => open_with(alloc, desk, reader, name),
+        Err(_) => Err(Answer::NoMemory),
+    }
+}
+
+/// What the second file of a command says as an answer for the first with the names of these lists,
+/// or the answer that ends the command.
+pub(crate) fn open_named<D: Desk>(
+    alloc: Global,
+    desk: &mut D,
+    file: &NlFile,
+    rows: NameList,
+    columns: NameList,
+    name: &str,
+) -> Result<Given, Answer>
+    requires rows { length rows ≡ file.now.counts.n_con }
+    requires columns { length columns ≡ file.now.counts.n_var }
+    ensures reads { ReadsFile itself (IsAnswer (named_setting file.now rows columns))
+        (IsAnswerRefused (named_setting file.now rows columns)) name.now (D.meaning desk.old)
+        (D.meaning desk.new) result }
+    ensures known { IfErr result (λ answer. status_of answer ≢ 3) }
+{
+    match AnswerReader::with_names(alloc, file, rows, columns) {
+        Ok(reader) => open_with(alloc, desk, reader, name),
+        Err(_) => Err(Answer::NoMemory),
     }
 }

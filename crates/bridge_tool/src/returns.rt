@@ -5,12 +5,13 @@ ghost use Rattle.nl_model.specs.Rules.{IsFile};
 ghost use Rattle.nl_segments.specs.Reader.{HasLines, value_of};
 ghost use Rattle.dual_return.specs.Return.{IsAnswerFor};
 ghost use Rattle.bridge_tool.specs.Answer.{IsWorked, status_of};
-ghost use Rattle.bridge_tool.specs.Return.{Makes, ReturnsAs, most_return_steps, return_promise};
+ghost use Rattle.bridge_tool.specs.Return.{Makes, ReturnsAs, most_return_steps, named_return_promise, return_promise};
 ghost use Rattle.bridge_tool.specs.SeveralFiles.{Comes};
 
 use crate::answer::Answer;
-use crate::answer_input::open_answer;
+use crate::answer_input::{open_answer, open_named};
 use crate::answer_told::return_line;
+use crate::name_input::{open_columns, open_rows};
 use crate::nl_input::open_nl;
 use crate::one_file::end_verdict;
 use crate::stages::{fold, scale};
@@ -90,6 +91,47 @@ pub(crate) fn return_answer<D: Desk, L: Ledger>(
         Err(ended) => return ended,
     };
     let given = match open_answer(alloc, desk, &read.file, answer) {
+        Ok(given) => given,
+        Err(ended) => return ended,
+    };
+    let judged = judge(alloc, read, &given, steps);
+    end_verdict(desk, judged)
+}
+
+/// Returns an answer for a file with names: reads its text, both lists and the answer, judges them,
+/// and writes the .sol text that they come to. Tells nothing.
+pub(crate) fn return_named<D: Desk, L: Ledger>(
+    alloc: Global,
+    nl: &str,
+    answer: &str,
+    rows: &str,
+    columns: &str,
+    desk: &mut D,
+    steps: &mut Steps<L>,
+) -> Answer
+    ensures worked { IsWorked
+        (named_return_promise (D.meaning desk.old).texts nl.now answer.now rows.now columns.now)
+        (D.meaning desk.old) (D.meaning desk.new) result }
+    ensures known { status_of result ≢ 3 }
+    ensures above { steps.old ≤ steps.new }
+    ensures counts {
+        (named_return_promise (D.meaning desk.old).texts nl.now answer.now rows.now
+        columns.now).counts steps.old steps.new }
+    ensures idle { status_of result ≡ 4 → steps.new ≡ steps.old }
+{
+    let read = match open_nl(alloc, desk, nl) {
+        Ok(read) => read,
+        Err(ended) => return ended,
+    };
+    let row_names = match open_rows(alloc, desk, &read.file, 3, rows) {
+        Ok(names) => names,
+        Err(ended) => return ended,
+    };
+    let column_names = match open_columns(alloc, desk, &read.file, 4, columns) {
+        Ok(names) => names,
+        Err(ended) => return ended,
+    };
+    let given = match open_named(alloc, desk, &read.file, row_names, column_names, answer) {
         Ok(given) => given,
         Err(ended) => return ended,
     };

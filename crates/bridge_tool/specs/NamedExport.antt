@@ -1,0 +1,88 @@
+-- The command export with names: the program of a file, whose rows and columns have the names of two
+-- lists, which are the second and the third file; and that names change nothing of what it means.
+use Rattle.std.specs.Prelude.{◌≡◌, ◌⊎◌, ℕ, ◌+◌, ◌≤◌, ◌^◌, true, false, List, length, if◌then◌else◌}
+use Rattle.std.specs.declared.option.Option.{Option}
+use Rattle.std.specs.declared.option.Option.TheVariants.{None}
+use Rattle.fractions.specs.Rational.{ℚ}
+use Rattle.exact_numbers.specs.Values.{value_text}
+use Rattle.export_round_trip.specs.ReadAs.{IsReadAs}
+use Rattle.file_meaning.specs.FoldFaults.{fold_fault, has_objective}
+use Rattle.file_meaning.specs.LinearFile.{linear_of}
+use Rattle.linear_fold.specs.FoldedFaults.{step_bound}
+use Rattle.mps_model.specs.Mps.{Mps}
+use Rattle.mps_model.specs.Text.{mps_text_by}
+use Rattle.name_files.specs.Renamed.{HaveOneMeaning, named}
+use Rattle.nl_segments.specs.Grammar.{NlValue}
+use Rattle.nl_segments.specs.Reader.{IsNl}
+use Rattle.row_scaling.specs.Scaling.{HasNoScaleFault, IsExportOf}
+use Rattle.text_base.specs.Desk.{Texts}
+use Rattle.bridge_tool.specs.Export.{MeansTheFile}
+use Rattle.bridge_tool.specs.NameLists.{after_lists}
+use Rattle.bridge_tool.specs.Outcome.{Outcome, BadWords, Untold, NoText, Refused, Done}
+use Rattle.bridge_tool.specs.Promise.{Promise}
+use Rattle.bridge_tool.specs.Refusal.{HasTextRefusal}
+use Rattle.bridge_tool.specs.SeveralFiles.{after_file, desk_promise, ends}
+use Rattle.bridge_tool.specs.Stages.{HasFoldFault, HasUnscaled}
+
+-- a file, the number of its objective, and the names of its rows and columns
+pub record Named : Type 0 where
+  pub nl : NlValue
+  pub objective : ℕ
+  pub rows : List (List ℕ)
+  pub columns : List (List ℕ)
+
+-- the file folds and scales, and these bytes are the text of its program with these names
+pub record IsNamedExport (n : Named) (bytes : List ℕ) : Type 0 where
+  pub program : Mps ℚ
+  pub folded : fold_fault n.nl.file n.objective ≡ None
+  pub scaled : HasNoScaleFault (linear_of n.nl.file n.objective)
+  pub exports : IsExportOf (linear_of n.nl.file n.objective) program
+  pub written : bytes ≡ mps_text_by value_text (named program n.rows n.columns)
+
+-- it folds, and a row or the objective has no decimal program
+pub record IsUnscaled (n : Named) (line : List ℕ) : Type 0 where
+  pub folded : fold_fault n.nl.file n.objective ≡ None
+  pub first : HasUnscaled (linear_of n.nl.file n.objective) n.objective line
+
+-- what a file with names comes to
+abbrev pub NamedComesTo : Named → Outcome → Type 0
+NamedComesTo n BadWords = ⊥
+NamedComesTo n (Untold judges) = ⊥
+NamedComesTo n NoText = ⊥
+NamedComesTo n (Refused line) = HasFoldFault n.nl n.objective line ⊎ IsUnscaled n line
+NamedComesTo n (Done true bytes) = IsNamedExport n bytes
+NamedComesTo n (Done false bytes) = ⊥
+
+-- The program with names means what the file means, as the program without them does. Where the text
+-- is within the limit of a text, it is read as this program.
+pub record IsNamedMeant (n : Named) (bytes : List ℕ) (e : IsNamedExport n bytes) : Type 0 where
+  pub file : MeansTheFile n.nl.file n.objective (named e.program n.rows n.columns)
+  pub same : HaveOneMeaning (named e.program n.rows n.columns) e.program
+  pub back : length bytes ≤ 2 ^ 31 → IsReadAs bytes (named e.program n.rows n.columns)
+
+abbrev pub AreNamedMeant : Named → Type 0
+AreNamedMeant n = (bytes : List ℕ) (e : IsNamedExport n bytes) → IsNamedMeant n bytes e
+
+-- at most so many steps are counted: none without the objective
+abbrev pub most_named_steps : Named → ℕ
+most_named_steps n =
+    if has_objective n.nl.file n.objective then step_bound n.nl.file else 0
+
+-- ---- the promise
+
+-- what is left once the file and the list of rows were read
+abbrev pub named_end : Texts → (columns : List ℕ) → Named → Promise
+named_end texts columns n =
+    ends texts columns (NamedComesTo n) (λ old new. new ≤ old + most_named_steps n)
+    (AreNamedMeant n)
+
+abbrev pub named_told : (file : List ℕ) (objective : ℕ) (rows columns : List ℕ) → Texts → Promise
+named_told file objective rows columns texts =
+    after_file IsNl HasTextRefusal texts file (λ nl.
+    after_lists nl.file 2 texts rows columns (λ r c.
+    named_end texts columns (record { nl = nl; objective = objective; rows = r; columns = c })))
+
+abbrev pub named_promise : Option Texts → (file : List ℕ) (objective : ℕ) (rows columns : List ℕ)
+    → Promise
+named_promise texts file objective rows columns =
+    desk_promise false (named_told file objective rows columns) texts

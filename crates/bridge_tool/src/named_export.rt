@@ -1,0 +1,110 @@
+// The command export with names: from the text of a file and two lists of names to the text of its
+// program with these names, or to the line to tell.
+ghost use Rattle.std.specs.Prelude.{◌≡◌, ◌≢◌, ◌+◌, ◌≤◌, length, IfOk, IfSome};
+ghost use Rattle.exact_numbers.specs.Values.{dec_value};
+ghost use Rattle.mps_model.specs.Mps.{with_values};
+ghost use Rattle.mps_model.specs.Valid.{IsMps};
+ghost use Rattle.name_files.specs.Renamed.{HasExportedNames, named};
+ghost use Rattle.nl_model.specs.Rules.{IsFile};
+ghost use Rattle.nl_segments.specs.Reader.{HasLines, value_of};
+ghost use Rattle.row_scaling.specs.Exported.{exported_as};
+ghost use Rattle.bridge_tool.specs.Answer.{IsWorked, status_of};
+ghost use Rattle.bridge_tool.specs.Export.{IsTextOf};
+ghost use Rattle.bridge_tool.specs.NamedExport.{AreNamedMeant, Named, NamedComesTo, most_named_steps, named_promise};
+ghost use Rattle.bridge_tool.specs.SeveralFiles.{Comes};
+
+use crate::answer::Answer;
+use crate::name_input::{open_columns, open_rows};
+use crate::nl_input::open_nl;
+use crate::one_file::end_verdict;
+use crate::stages::{fold, scale};
+use mps_writer::write_mps;
+use name_files::{NameList, rename};
+use nl_segments::NlRead;
+use row_scaling::{Scaled, program};
+use std::alloc::{AllocError, Global};
+use text_base::{Desk, Ledger, Steps, Stop};
+
+// The written text of the program of a scaled one, with these names.
+fn write_named(
+    alloc: Global,
+    scaled: Scaled,
+    rows: &NameList,
+    columns: &NameList,
+) -> Result<Vec<u8>, AllocError>
+    requires { HasExportedNames (length rows.now) (length columns.now) (exported_as scaled) }
+    ensures { IfOk result (λ out. IsTextOf out.items
+        (named (exported_as scaled) rows.now columns.now)) }
+{
+    let mps = program(alloc, &scaled)?;
+    let mps = rename(alloc, &mps, rows, columns)?;
+    let _ = mps.rows();
+    let out = write_mps(alloc, &mps)?;
+    Ok(out)
+}
+
+// The bytes to write for a file with names, or the line to tell.
+fn judge<L: Ledger>(
+    alloc: Global,
+    read: NlRead,
+    objective: u32,
+    rows: &NameList,
+    columns: &NameList,
+    steps: &mut Steps<L>,
+) -> Result<(bool, Vec<u8>), Stop<Vec<u8>>>
+    requires lines { HasLines read }
+    requires rows { length rows.now ≡ read.file.counts.n_con }
+    requires columns { length columns.now ≡ read.file.counts.n_var }
+    ensures comes { (n : Named) → n ≡ record {
+          nl = value_of read; objective = objective; rows = rows.now; columns = columns.now;
+        } → Comes (NamedComesTo n) result }
+    ensures means { (n : Named) → n ≡ record {
+          nl = value_of read; objective = objective; rows = rows.now; columns = columns.now;
+        } → IfOk result (λ t. AreNamedMeant n) }
+    ensures above { steps.old ≤ steps.new }
+    ensures counts { (n : Named) → n ≡ record {
+          nl = value_of read; objective = objective; rows = rows.now; columns = columns.now;
+        } → steps.new ≤ steps.old + most_named_steps n }
+{
+    let linear = fold(alloc, &read, objective, steps)?;
+    let scaled = scale(alloc, linear, objective)?;
+    let out = write_named(alloc, scaled, rows, columns)?;
+    Ok((true, out))
+}
+
+/// Exports a file with names: reads its text and both lists, judges them, and writes what they come
+/// to. Tells nothing.
+pub(crate) fn export_named<D: Desk, L: Ledger>(
+    alloc: Global,
+    file: &str,
+    objective: u32,
+    rows: &str,
+    columns: &str,
+    desk: &mut D,
+    steps: &mut Steps<L>,
+) -> Answer
+    ensures worked { IsWorked
+        (named_promise (D.meaning desk.old).texts file.now objective rows.now columns.now)
+        (D.meaning desk.old) (D.meaning desk.new) result }
+    ensures known { status_of result ≢ 3 }
+    ensures above { steps.old ≤ steps.new }
+    ensures counts {
+        (named_promise (D.meaning desk.old).texts file.now objective rows.now columns.now).counts
+        steps.old steps.new }
+    ensures idle { status_of result ≡ 4 → steps.new ≡ steps.old }
+{
+    let read = match open_nl(alloc, desk, file) {
+        Ok(read) => read,
+        Err(ended) => return ended,
+    };
+    let row_names = match open_rows(alloc, desk, &read.file, 2, rows) {
+        Ok(names) => names,
+        Err(ended) => return ended,
+    };
+    let column_names = match open_columns(alloc, desk, &read.file, 3, columns) {
+        Ok(names) => names,
+        Err(ended) => return ended,
+    };
+    let judged = judge(alloc, read, objective, &row_names, &column_names, steps);
+    end_verdict(desk, judged)
+}
