@@ -111,8 +111,8 @@ pub(crate) fn open_rows<D: Desk>(
     ensures count { IfOk result (λ names. length names ≡ nl.now.counts.n_con) }
     ensures known { IfErr result (λ answer. status_of answer ≢ 3) }
 {
-    let header = nl.header();
-    open_names(alloc, desk, file, header.n_con, header.n_obj, name)
+    let counts = nl.header().counts();
+    open_names(alloc, desk, file, counts.n_con, counts.n_obj, name)
 }
 
 /// The names of the columns of a file, which this file of a command lists, or the answer that ends
@@ -130,6 +130,6 @@ pub(crate) fn open_columns<D: Desk>(
     ensures count { IfOk result (λ names. length names ≡ nl.now.counts.n_var) }
     ensures known { IfErr result (λ answer. status_of answer ≢ 3) }
 {
-    let header = nl.header();
-    open_names(alloc, desk, file, header.n_var, 0, name)
+    let counts = nl.header().counts();
+    open_names(alloc, desk, file, counts.n_var, 0, name)
 }
