@@ -11,6 +11,7 @@ pub mod Known
 pub mod Making
 pub mod Meaning
 pub mod MpsRewriting
+pub mod NameLists
 pub mod NlRewriting
 pub mod Numbers
 pub mod OneOutcome
