@@ -1,7 +1,7 @@
 -- Words come to exactly one outcome.
 use Rattle.std.proofs.Common.{◌≡◌, ◌∙◌, inl, inr, ◌⊎◌, ℕ, List, take, Option, Some, None, true, false, Bool, refl, sym, ap, subst}
 use Rattle.text_base.specs.Desk.{Texts}
-use Rattle.bridge_tool.specs.Command.{Command, Check, Export, Fixed, Mps, Nl, Sol, command_of, Import, Prove, Make, Return}
+use Rattle.bridge_tool.specs.Command.{Command, Check, Export, Fixed, Mps, Nl, Sol, command_of, Import, Prove, Make, Return, NamedExport, NamedReturn}
 use Rattle.bridge_tool.specs.Commands.{promise_of, promise_by, ComesTo}
 use Rattle.bridge_tool.specs.Export.{IsExported}
 use Rattle.bridge_tool.specs.Import.{IsImportRefused, IsImported}
@@ -18,11 +18,12 @@ use Rattle.bridge_tool.specs.declared.transfer.TheConstants.{LIMIT}
 use Rattle.bridge_tool.proofs.Checking.{check_sound}
 use Rattle.bridge_tool.proofs.Exporting.{export_decided}
 use Rattle.bridge_tool.proofs.Importing.{import_decided}
+use Rattle.bridge_tool.proofs.NamedExporting.{named_sound}
 use Rattle.bridge_tool.proofs.NlRewriting.{nl_decided}
 use Rattle.bridge_tool.proofs.MpsRewriting.{fixed_decided, mps_decided}
 use Rattle.bridge_tool.proofs.Decisions.{AreDecided}
 use Rattle.bridge_tool.proofs.Proving.{prove_sound}
-use Rattle.bridge_tool.proofs.Returning.{return_sound}
+use Rattle.bridge_tool.proofs.Returning.{named_return_sound, return_sound}
 use Rattle.bridge_tool.proofs.OneOutcome.{HasOne, IsPlain, desk_has_one, text_has_one}
 use Rattle.bridge_tool.proofs.SolRewriting.{sol_decided}
 use Rattle.bridge_tool.proofs.Making.{made_decided}
@@ -45,6 +46,9 @@ told_has_one texts (Import file) = desk_has_one IsImported IsImportRefused impor
 told_has_one texts (Prove nl proof) = (prove_sound nl proof texts).one
 told_has_one texts (Fixed file) = desk_has_one IsFixedRewritten IsFixedRefused fixed_decided texts file
 told_has_one texts (Return nl answer) = (return_sound nl answer texts).one
+told_has_one texts (NamedExport file k rows columns) = (named_sound file k rows columns texts).one
+told_has_one texts (NamedReturn nl answer rows columns) =
+    (named_return_sound nl answer rows columns texts).one
 
 any_of : (comes : Outcome → Type 0) → HasOne IsPlain comes → HasOne Any comes
 any_of comes h = record { outcome = h.outcome; comes_to = h.comes_to; is = tt; one = h.one }
@@ -61,6 +65,8 @@ untold_has_one (Import file) = record { outcome = Untold false; comes_to = refl;
 untold_has_one (Prove nl proof) = record { outcome = Untold true; comes_to = refl; is = tt; one = λ other j. j }
 untold_has_one (Fixed file) = record { outcome = Untold false; comes_to = refl; is = tt; one = λ other j. j }
 untold_has_one (Return nl answer) = record { outcome = Untold false; comes_to = refl; is = tt; one = λ other j. j }
+untold_has_one (NamedExport file k rows columns) = record { outcome = Untold false; comes_to = refl; is = tt; one = λ other j. j }
+untold_has_one (NamedReturn nl answer rows columns) = record { outcome = Untold false; comes_to = refl; is = tt; one = λ other j. j }
 
 has_one : (texts : Option Texts) (c : Option Command) → HasOne Any (promise_by texts c).comes
 has_one texts None = record { outcome = BadWords; comes_to = refl; is = tt; one = λ other j. j }
