@@ -62,6 +62,8 @@ def is_kept(program, case, out):
     command, *words = case.words
     if case.status:
         return True
+    if command == "export" and len(words) == 4:
+        return program.output(out, "mps") == out
     if command == "export":
         return is_written_again(program, case.files["A"], out, words[1:]) and is_imported(program, out, program.output(out, "import"))
     return command != "import" or is_imported(program, case.files["A"], out)

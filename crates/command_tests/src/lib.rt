@@ -16,6 +16,8 @@ mod make_commands;
 #[cfg(test)]
 mod mps_commands;
 #[cfg(test)]
+mod name_commands;
+#[cfg(test)]
 mod proof_commands;
 #[cfg(test)]
 mod return_commands;

@@ -1,0 +1,93 @@
+"""`export FILE K ROWS COLS` and `return NL ANSWER ROWS COLS`: the names of lists in place of numbers."""
+from . import texts
+from .returned import HEAD, MAXIMISED, TIED
+from .texts import Case, KNAPSACK, bad_words, lines, text
+
+NAMED = (
+    "NAME nl\nOBJSENSE\n MAX\nROWS\n N @obj\n L Cap\nCOLUMNS\n M0 'MARKER' 'INTORG'\n a @obj 10\n a Cap 5\n"
+    " b @obj 7\n b Cap 4\n z @obj 12\n z Cap 6.5\n M1 'MARKER' 'INTEND'\nRHS\n RHS Cap 10\nBOUNDS\n LO BND a 0\n"
+    " UP BND a 1\n LO BND b 0\n UP BND b 1\n LO BND z 0\n UP BND z 1\nENDATA\n"
+)
+TIED_MPS = (
+    "NAME nl\nROWS\n N @obj\n E @zdef\nCOLUMNS\n n @zdef 1\n @z @obj 1\n @z @zdef -3\nRHS\nBOUNDS\n FR BND n\n"
+    " FR BND @z\nENDATA\n"
+)
+ROWS = b"Cap\nProfit\n"
+COLUMNS = b"a\nb\nz\n"
+LONG = "n" * 255
+
+
+def exported(name, rows, columns, out, program=text(KNAPSACK)):
+    files = {"A": program, "B": rows, "C": columns}
+    return Case(name, ("export", "A", "0", "B", "C"), files, 0, out)
+
+
+def refused(name, told, rows=ROWS, columns=COLUMNS, program=text(KNAPSACK), k="0"):
+    files = {"A": program, "B": rows, "C": columns}
+    return Case(name, ("export", "A", k, "B", "C"), files, 2, "", f"refused {told}\n")
+
+
+def returned(name, answer, out, rows=b"r\n", columns=b"v\n", program=MAXIMISED):
+    files = {"A": program, "B": lines("answer 1 / " + answer), "C": rows, "D": columns}
+    return Case(name, ("return", "A", "B", "C", "D"), files, 0, lines(out).decode())
+
+
+def turned_back(name, told, answer="answer 1", rows=b"r\n", columns=b"v\n", program=MAXIMISED):
+    files = {"A": program, "B": lines(answer), "C": rows, "D": columns}
+    return Case(name, ("return", "A", "B", "C", "D"), files, 2, "", f"refused {told}\n")
+
+
+def export_cases():
+    yield exported("names", ROWS, COLUMNS, NAMED)
+    yield exported("no further names", b"Cap\n", COLUMNS, NAMED)
+    yield exported("lines without words, blanks, no last LF", b"\n \t\nCap\r\n", b" a\n\nb \nz", NAMED)
+    yield exported("a tied objective", b"", b"n\n", TIED_MPS, TIED)
+    for name in ("\u00e9t\u00e9", LONG, "x0", "c0", "RHS", "obj"):
+        yield exported(f"the name {name[:9]}", f"{name}\n".encode(), COLUMNS, NAMED.replace("Cap", name))
+    yield exported("rows and columns of one name", b"a\n", COLUMNS, NAMED.replace("Cap", "a"))
+
+
+def fault_cases():
+    yield refused("a repeated name", "file 3 line 3: repeated name", columns=b"a\nb\na\n")
+    yield refused("a repeated row", "file 3 line 2: repeated name", columns=b"a\na\nb\n")
+    yield refused("too few names", "file 3 line 3: other count", columns=b"a\nb\n")
+    yield refused("too many names", "file 3 line 4: other count", columns=b"a\nb\nz\nx\n")
+    yield refused("too many further names", "file 2 line 3: other count", rows=b"Cap\nProfit\nx\n")
+    yield refused("no names", "file 2 line 1: other count", rows=b"")
+    yield refused("a reserved name", "file 2 line 1: reserved name", rows=b"@Cap\n")
+    yield refused("the marker", "file 2 line 1: reserved name", rows=b"'MARKER'\n")
+    yield exported("a further name that is reserved", b"Cap\n@Profit\n", COLUMNS, NAMED)
+    yield exported("a further name that is repeated", b"Cap\nCap\n", COLUMNS, NAMED)
+    yield refused("two words", "file 3 line 2: bad name", columns=b"a\nb c\n")
+    yield refused("a name of 256 bytes", "file 2 line 1: bad name", rows=b"n" * 256 + b"\n")
+    yield refused("a further name of two words", "file 2 line 2: bad name", rows=b"Cap\nb c\n")
+    yield refused("a line too long", "file 2 line 1: line too long", rows=b"n" * 65537 + b"\n")
+    yield refused("rows come first", "file 2 line 1: bad name", rows=b"a b\n", columns=b"a b\n")
+    yield refused("the file comes first", "line 1: binary file", program=b"b3 1 1 0\n", rows=b"a b\n")
+    yield refused("lists come before the fold", "file 3 line 1: bad name", columns=b"a b\n", k="1")
+    yield refused("the fold comes after them", "objective 1: no such objective", k="1")
+    yield Case("no list of rows", ("export", "A", "0", "missing", "C"), {"A": text(KNAPSACK), "C": COLUMNS}, 4, "", "input fault\n")
+    yield Case("no list of columns", ("export", "A", "0", "B", "missing"), {"A": text(KNAPSACK), "B": ROWS}, 4, "", "input fault\n")
+    yield bad_words("export with rows alone", "export", "A", "0", "A")
+    yield bad_words("export with names and a bad number", "export", "A", "00", "A", "A")
+    yield bad_words("export with three lists", "export", "A", "0", "A", "A", "A")
+
+
+def return_cases():
+    yield returned("an answer with names", "status 0 / message done / sign min / col v 3.5 / row r -1.5",
+                   "done / " + HEAD + " / 1 / 1 / 1 / 1 / 1.5 / 3.5 / objno 0 0")
+    yield returned("a tied objective, answered", "status 0 / col v 0 / col @z 0 / row @zdef 0.5",
+                   HEAD + " / 0 / 0 / 1 / 1 / 0 / objno 0 0", rows=b"", program=TIED)
+    yield turned_back("a number for a name", "file 2 line 2: unknown name", "answer 1 / col x0 1")
+    yield turned_back("z without its mark", "file 2 line 2: unknown name", "answer 1 / col z 1", rows=b"", program=TIED)
+    yield turned_back("the list of rows", "file 3 line 1: bad name", "none", rows=b"a b\n")
+    yield turned_back("the list of columns", "file 4 line 2: other count", "none", columns=b"v\nw\n")
+    yield turned_back("the answer comes last", "file 2 line 1: bad first line", "none")
+    yield Case("no answer", ("return", "A", "missing", "C", "D"), {"A": MAXIMISED, "C": b"r\n", "D": b"v\n"}, 4, "", "input fault\n")
+    yield bad_words("return with rows alone", "return", "A", "A", "A")
+
+
+def cases():
+    yield from export_cases()
+    yield from fault_cases()
+    yield from return_cases()
