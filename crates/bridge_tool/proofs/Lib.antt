@@ -1,3 +1,4 @@
+pub mod AnswerFed
 pub mod Checking
 pub mod Decided
 pub mod Decisions
@@ -12,6 +13,7 @@ pub mod Making
 pub mod Meaning
 pub mod MpsRewriting
 pub mod NameLists
+pub mod NamedReturning
 pub mod NlRewriting
 pub mod Numbers
 pub mod OneOutcome

@@ -37,8 +37,8 @@ use Rattle.bridge_tool.specs.NlTold.{fold_line, scale_line}
 use Rattle.bridge_tool.specs.Outcome.{Outcome, BadWords, Untold, NoText, Refused, Done}
 use Rattle.bridge_tool.specs.Promise.{Promise}
 use Rattle.bridge_tool.specs.Refusal.{HasTextRefusal}
-use Rattle.bridge_tool.specs.Return.{IsAnswerRefused, IsReturnMeant, IsReturned, IsStaged, IsTurnedBack, ReturnsAs, most_return_steps, return_promise, return_told}
-use Rattle.bridge_tool.specs.SeveralFiles.{Comes, ReadsFile, after_file, ends, itself}
+use Rattle.bridge_tool.specs.Return.{IsAnswerRefused, IsReturnMeant, IsReturned, IsStaged, IsTurnedBack, ReturnsAs, after_answer, most_return_steps, return_promise, return_told}
+use Rattle.bridge_tool.specs.SeveralFiles.{Comes, ReadsFile, desk_promise, ends, itself}
 use Rattle.bridge_tool.specs.Stages.{HasFolded, HasScaled}
 use Rattle.bridge_tool.specs.Told.{refusal}
 use Rattle.bridge_tool.specs.declared.answer.Answer.{Answer as Ended}
@@ -127,11 +127,13 @@ module _ (nl : NlValue) (a : AnswerValue) where
     | inr h ↦ record { outcome = Refused h.0; comes_to = h.1; is = tt; one = one_turned_back h.0 h.1 }
   ]
 
+pub answer_sound : (s : Setting) (file : NlValue) (texts : Texts) (answer : List ℕ) → IsSound (after_answer s file texts answer)
+answer_sound s file texts answer =
+    sound_after (IsAnswer s) (IsAnswerRefused s) (answer_read s) texts answer _ (λ a.
+    sound_end texts answer (ReturnsAs file a) (λ old new. new ≤ old + most_return_steps file a) (IsReturnMeant file a) (one file a) (λ n. omega arith))
+
 pub return_sound : (nl answer : List ℕ) (texts : Texts) → IsSound (return_told nl answer texts)
-return_sound nl answer texts =
-    sound_after IsNl HasTextRefusal nl_read texts nl _ (λ file.
-    sound_after (IsAnswer (setting_of file.file)) (IsAnswerRefused (setting_of file.file)) (answer_read (setting_of file.file)) texts answer _ (λ a.
-    sound_end texts answer (ReturnsAs file a) (λ old new. new ≤ old + most_return_steps file a) (IsReturnMeant file a) (one file a) (λ n. omega arith)))
+return_sound nl answer texts = sound_after IsNl HasTextRefusal nl_read texts nl _ (λ file. answer_sound (setting_of file.file) file texts answer)
 
 -- ---- what the code answers
 
@@ -174,43 +176,41 @@ meant_so : (nl : NlValue) (a : AnswerValue) (r : Result (Bool × Vec ℕ) (Stop 
 meant_so nl a (Ok t) comes m = (inl (holds_so nl a t.0 t.1.items comes), λ e. m)
 meant_so nl a (Err stop) comes m = tt
 
--- ---- the ends of the command
+-- ---- the ends of a command that reads the answer last
 
--- what is left of the command once the first file was read
-abbrev pub after_nl : List ℕ → Texts → NlValue → Promise
-after_nl answer texts file =
-    after_file (IsAnswer (setting_of file.file)) (IsAnswerRefused (setting_of file.file)) texts answer (λ a.
-    ends texts answer (ReturnsAs file a) (λ old new. new ≤ old + most_return_steps file a) (IsReturnMeant file a))
+module _ (told : Texts → Promise) (sound : (texts : Texts) → IsSound (told texts)) (s : Setting) (file : NlValue) (answer : List ℕ) (old mid : Meaning)
+    (down : HasComeDown told false (λ texts. after_answer s file texts answer) old mid) where
+  -- the answer ends it
+  pub answer_stopped : (new : Meaning) (end : Ended) → ReadsFile {R = AnswerValue} itself (IsAnswer s) (IsAnswerRefused s) answer mid new (Err end) → IsWorked (desk_promise false told old.texts) old new end
+  answer_stopped new end read =
+      stopped told false sound itself (IsAnswer s) (IsAnswerRefused s) answer
+      (λ texts a. ends texts answer (ReturnsAs file a) (λ m n. n ≤ m + most_return_steps file a) (IsReturnMeant file a))
+      old mid new down end read
+
+  module _ (new : Meaning) (a : AnswerValue) (given : ReadsFile {R = AnswerValue} itself (IsAnswer s) (IsAnswerRefused s) answer mid new (Ok a)) where
+    -- all was judged
+    pub answer_ended : (last : Meaning) (judged : Result (Bool × Vec ℕ) (Stop (Vec ℕ))) (end : Ended) → Comes (ReturnsAs file a) judged
+        → IsFile file.file → EndsVerdict judged new last end → IsWorked (desk_promise false told old.texts) old last end
+    answer_ended last judged end comes is_file is =
+        ended told false sound itself (IsAnswer s) (IsAnswerRefused s) answer
+        (λ q. ReturnsAs file q) (λ q m n. n ≤ m + most_return_steps file q) (λ q. IsReturnMeant file q)
+        old mid new down a given last judged end comes (meant_so file a judged comes (return_meant file a is_file)) is
+
+    pub answer_counted : (m n : ℕ) → n ≤ m + most_return_steps file a → (desk_promise false told old.texts).counts m n
+    answer_counted m n le =
+        counted told false sound itself (IsAnswer s) (IsAnswerRefused s) answer
+        (λ q. ReturnsAs file q) (λ q m n. n ≤ m + most_return_steps file q) (λ q. IsReturnMeant file q)
+        old mid new down a given m n le
+
+-- ---- the command without names
 
 module _ (nl answer : List ℕ) where
   pub not_counted : (texts : Option Texts) (n : ℕ) → (return_promise texts nl answer).counts n n
   not_counted texts n = idle (return_told nl answer) false (return_sound nl answer) texts n
 
-  module _ {R : Type 0} (seen : R → NlValue) (old mid : Meaning) (value : R) (read : ReadsFile {R = R} seen IsNl HasTextRefusal nl old mid (Ok value)) where
-    abbrev s : Setting
-    s = setting_of (seen value).file
-
-    down : HasComeDown (return_told nl answer) false (λ texts. after_nl answer texts (seen value)) old mid
-    down = further (return_told nl answer) false seen IsNl HasTextRefusal nl (after_nl answer) old old mid (begun (return_told nl answer) false old) value read
-
-    -- the second file ends it
-    pub answer_stopped : (new : Meaning) (end : Ended) → ReadsFile {R = AnswerValue} itself (IsAnswer s) (IsAnswerRefused s) answer mid new (Err end) → IsWorked (return_promise old.texts nl answer) old new end
-    answer_stopped new end read_so =
-        stopped (return_told nl answer) false (return_sound nl answer) itself (IsAnswer s) (IsAnswerRefused s) answer
-        (λ texts a. ends texts answer (ReturnsAs (seen value) a) (λ m n. n ≤ m + most_return_steps (seen value) a) (IsReturnMeant (seen value) a))
-        old mid new down end read_so
-
-    module _ (new : Meaning) (a : AnswerValue) (given : ReadsFile {R = AnswerValue} itself (IsAnswer s) (IsAnswerRefused s) answer mid new (Ok a)) where
-      -- both were judged
-      pub answer_ended : (last : Meaning) (judged : Result (Bool × Vec ℕ) (Stop (Vec ℕ))) (end : Ended) → Comes (ReturnsAs (seen value) a) judged
-          → IsFile (seen value).file → EndsVerdict judged new last end → IsWorked (return_promise old.texts nl answer) old last end
-      answer_ended last judged end comes file is =
-          ended (return_told nl answer) false (return_sound nl answer) itself (IsAnswer s) (IsAnswerRefused s) answer
-          (λ q. ReturnsAs (seen value) q) (λ q m n. n ≤ m + most_return_steps (seen value) q) (λ q. IsReturnMeant (seen value) q)
-          old mid new down a given last judged end comes (meant_so (seen value) a judged comes (return_meant (seen value) a file)) is
-
-      pub answer_counted : (m n : ℕ) → n ≤ m + most_return_steps (seen value) a → (return_promise old.texts nl answer).counts m n
-      answer_counted m n le =
-          counted (return_told nl answer) false (return_sound nl answer) itself (IsAnswer s) (IsAnswerRefused s) answer
-          (λ q. ReturnsAs (seen value) q) (λ q m n. n ≤ m + most_return_steps (seen value) q) (λ q. IsReturnMeant (seen value) q)
-          old mid new down a given m n le
+  -- the first file was read
+  pub nl_down : {R : Type 0} (seen : R → NlValue) (old mid : Meaning) (value : R) → ReadsFile {R = R} seen IsNl HasTextRefusal nl old mid (Ok value)
+      → HasComeDown (return_told nl answer) false (λ texts. after_answer (setting_of (seen value).file) (seen value) texts answer) old mid
+  nl_down seen old mid value read =
+      further (return_told nl answer) false seen IsNl HasTextRefusal nl (λ texts file. after_answer (setting_of file.file) file texts answer)
+      old old mid (begun (return_told nl answer) false old) value read

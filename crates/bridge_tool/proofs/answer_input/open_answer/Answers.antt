@@ -1,16 +1,5 @@
 use Rattle.answer_file.specs.Names.{setting_of}
-use Rattle.answer_file.specs.Reading.{IsAnswer}
-use Rattle.bridge_tool.specs.Return.{IsAnswerRefused}
-use Rattle.bridge_tool.specs.SeveralFiles.{itself}
-use Rattle.bridge_tool.proofs.SeveralFiles.{file_judged, file_missed}
 use Rattle.bridge_tool.proofs.answer_input.open_answer.Goals as goal
 
 pub returns-in-Ok-clause-reads : goal.returns-in-Ok-clause-reads
-returns-in-Ok-clause-reads g c =
-    let s = setting_of c.args.file.now in
-    file_judged itself (IsAnswer s) (IsAnswerRefused s) _ _ _ _ _ _ c.in-Ok.ensures.text c.in-Ok.ensures.cause.ok c.in-Ok.ensures.rest (c.judge_answer-judged.ensures s) c.answered.ensures
-
-pub returns-in-Err-clause-reads : goal.returns-in-Err-clause-reads
-returns-in-Err-clause-reads g c =
-    let s = setting_of c.args.file.now in
-    file_missed itself (IsAnswer s) (IsAnswerRefused s) _ _ _ _ _ _ c.in-Err.ensures.cause c.in-Err.ensures.rest c.missed.ensures
+returns-in-Ok-clause-reads g c = c.open_with.ensures.reads (setting_of c.args.file.now) c.in-Ok.ensures.same

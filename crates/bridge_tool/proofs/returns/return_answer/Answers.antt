@@ -1,6 +1,8 @@
 use Rattle.nl_segments.specs.Reader.{value_of}
+use Rattle.answer_file.specs.Names.{setting_of}
 use Rattle.answer_file.specs.declared.naming.Naming.TheVariants.{Numbered}
-use Rattle.bridge_tool.proofs.Returning.{answer_counted, answer_ended, answer_stopped, not_counted}
+use Rattle.bridge_tool.specs.Return.{return_told}
+use Rattle.bridge_tool.proofs.Returning.{answer_counted, answer_ended, answer_stopped, nl_down, not_counted, return_sound}
 use Rattle.bridge_tool.proofs.returns.return_answer.Goals as goal
 
 pub returns-in-Err-clause-counts : goal.returns-in-Err-clause-counts
@@ -8,7 +10,9 @@ returns-in-Err-clause-counts g c = not_counted c.args.nl.now c.args.answer.now (
 
 pub returns-in-Err-open_answer-clause-worked : goal.returns-in-Err-open_answer-clause-worked
 returns-in-Err-open_answer-clause-worked g c =
-    answer_stopped c.args.nl.now c.args.answer.now value_of _ _ c.in-Ok.read c.in-Ok.ensures.reads _ _ c.in-Err-open_answer.ensures.reads
+    let file = value_of c.in-Ok.read in
+    answer_stopped (return_told c.args.nl.now c.args.answer.now) (return_sound c.args.nl.now c.args.answer.now) (setting_of file.file) file c.args.answer.now _ _
+    (nl_down c.args.nl.now c.args.answer.now value_of _ _ c.in-Ok.read c.in-Ok.ensures.reads) _ _ c.in-Err-open_answer.ensures.reads
 
 pub returns-in-Err-open_answer-clause-counts : goal.returns-in-Err-open_answer-clause-counts
 returns-in-Err-open_answer-clause-counts g c = not_counted c.args.nl.now c.args.answer.now (g.D.Desk.meaning c.args.desk.now).texts c.args.steps.now
@@ -18,9 +22,13 @@ judge-judged-requires-clause-made g c = let said = c.in-Ok-open_answer.ensures.r
 
 pub returns-clause-worked : goal.returns-clause-worked
 returns-clause-worked g c =
-    answer_ended c.args.nl.now c.args.answer.now value_of _ _ c.in-Ok.read c.in-Ok.ensures.reads _ c.in-Ok-open_answer.given c.in-Ok-open_answer.ensures.reads _ _ _
+    let file = value_of c.in-Ok.read in
+    answer_ended (return_told c.args.nl.now c.args.answer.now) (return_sound c.args.nl.now c.args.answer.now) (setting_of file.file) file c.args.answer.now _ _
+    (nl_down c.args.nl.now c.args.answer.now value_of _ _ c.in-Ok.read c.in-Ok.ensures.reads) _ c.in-Ok-open_answer.given c.in-Ok-open_answer.ensures.reads _ _ _
     c.judge-judged.ensures.comes c.judge-judged.ensures.file c.end_verdict.ensures
 
 pub returns-clause-counts : goal.returns-clause-counts
 returns-clause-counts g c =
-    answer_counted c.args.nl.now c.args.answer.now value_of _ _ c.in-Ok.read c.in-Ok.ensures.reads _ c.in-Ok-open_answer.given c.in-Ok-open_answer.ensures.reads _ _ c.judge-judged.ensures.counts
+    let file = value_of c.in-Ok.read in
+    answer_counted (return_told c.args.nl.now c.args.answer.now) (return_sound c.args.nl.now c.args.answer.now) (setting_of file.file) file c.args.answer.now _ _
+    (nl_down c.args.nl.now c.args.answer.now value_of _ _ c.in-Ok.read c.in-Ok.ensures.reads) _ c.in-Ok-open_answer.given c.in-Ok-open_answer.ensures.reads _ _ c.judge-judged.ensures.counts
