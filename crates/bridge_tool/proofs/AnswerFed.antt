@@ -1,5 +1,5 @@
 -- Readers of an answer: by their own setting, and by an equal one.
-use Rattle.std.proofs.Common.{◌≡◌, ℕ, List, subst, refl}
+use Rattle.std.proofs.Common.{◌≡◌, ℕ, List, refl}
 use Rattle.answer_file.specs.Names.{Setting}
 use Rattle.answer_file.specs.Reading.{IsFed, Reading}
 

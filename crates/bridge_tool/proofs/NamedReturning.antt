@@ -1,5 +1,5 @@
--- The command return with names: one outcome, and its ends.
-use Rattle.std.proofs.Common.{◌≡◌, ◌+◌, ◌≤◌, ℕ, Bool, false, List, Option, Result, Ok, Err}
+-- The ends of the command return with names.
+use Rattle.std.proofs.Common.{◌+◌, ◌≤◌, ℕ, Bool, false, List, Option, Result, Ok, Err}
 use Rattle.std.specs.Global.{Vec}
 use Rattle.text_base.specs.Desk.{Meaning, Texts}
 use Rattle.text_base.specs.declared.stop.Stop.{Stop}
@@ -16,17 +16,8 @@ use Rattle.bridge_tool.specs.Refusal.{HasTextRefusal}
 use Rattle.bridge_tool.specs.Return.{IsAnswerRefused, ReturnsAs, after_answer, most_return_steps, named_return_promise, named_return_told}
 use Rattle.bridge_tool.specs.SeveralFiles.{Comes, ReadsFile, after_file, itself}
 use Rattle.bridge_tool.specs.declared.answer.Answer.{Answer as Ended}
-use Rattle.bridge_tool.proofs.NameLists.{list_read}
-use Rattle.bridge_tool.proofs.NlRewriting.{nl_read}
-use Rattle.bridge_tool.proofs.Returning.{answer_counted, answer_ended, answer_sound, answer_stopped}
-use Rattle.bridge_tool.proofs.SeveralFiles.{HasComeDown, IsSound, begun, further, idle, sound_after, stopped}
-
-pub named_return_sound : (nl answer rows columns : List ℕ) (texts : Texts) → IsSound (named_return_told nl answer rows columns texts)
-named_return_sound nl answer rows columns texts =
-    sound_after IsNl HasTextRefusal nl_read texts nl _ (λ file.
-    sound_after (AreListed (row_counts file.file)) (IsListRefused (row_counts file.file) 3) (list_read (row_counts file.file) 3) texts rows _ (λ r.
-    sound_after (AreListed (column_counts file.file)) (IsListRefused (column_counts file.file) 4) (list_read (column_counts file.file) 4) texts columns _ (λ c.
-    answer_sound (named_setting file.file r c) file texts answer)))
+use Rattle.bridge_tool.proofs.Returning.{answer_counted, answer_ended, answer_stopped, named_return_sound}
+use Rattle.bridge_tool.proofs.SeveralFiles.{HasComeDown, IsSound, begun, further, idle, stopped}
 
 -- what is left once the file was read, and once the list of rows was too
 abbrev after_nl : (answer rows columns : List ℕ) → Texts → NlValue → Promise

@@ -25,7 +25,7 @@ use Rattle.row_scaling.specs.declared.scale_fault.ScaleFault.{ScaleFault}
 use Rattle.sol_files.specs.Sol.{Sol}
 use Rattle.sol_files.specs.Written.{sol_text}
 use Rattle.answer_file.specs.Grammar.{AnswerValue, answer_of, answer_rules, standing}
-use Rattle.answer_file.specs.Names.{Setting, setting_of}
+use Rattle.answer_file.specs.Names.{Setting, named_setting, setting_of}
 use Rattle.answer_file.specs.Reading.{IsAnswer}
 use Rattle.dual_return.specs.Return.{AreDualsIf, HasReturnFault, IsReturn, MeanTheProgram}
 use Rattle.dual_return.specs.declared.fault.ReturnFault.{ReturnFault}
@@ -33,11 +33,12 @@ use Rattle.dual_return.proofs.LawOfReturn.{duals_mean}
 use Rattle.dual_return.proofs.OneReturn.{one-return}
 use Rattle.bridge_tool.specs.Answer.{EndsVerdict, IsWorked}
 use Rattle.bridge_tool.specs.AnswerTold.{answer_line, answer_reason_text, return_line}
+use Rattle.bridge_tool.specs.NameLists.{AreListed, IsListRefused, column_counts, row_counts}
 use Rattle.bridge_tool.specs.NlTold.{fold_line, scale_line}
 use Rattle.bridge_tool.specs.Outcome.{Outcome, BadWords, Untold, NoText, Refused, Done}
 use Rattle.bridge_tool.specs.Promise.{Promise}
 use Rattle.bridge_tool.specs.Refusal.{HasTextRefusal}
-use Rattle.bridge_tool.specs.Return.{IsAnswerRefused, IsReturnMeant, IsReturned, IsStaged, IsTurnedBack, ReturnsAs, after_answer, most_return_steps, return_promise, return_told}
+use Rattle.bridge_tool.specs.Return.{IsAnswerRefused, IsReturnMeant, IsReturned, IsStaged, IsTurnedBack, ReturnsAs, after_answer, most_return_steps, named_return_told, return_promise, return_told}
 use Rattle.bridge_tool.specs.SeveralFiles.{Comes, ReadsFile, desk_promise, ends, itself}
 use Rattle.bridge_tool.specs.Stages.{HasFolded, HasScaled}
 use Rattle.bridge_tool.specs.Told.{refusal}
@@ -45,6 +46,7 @@ use Rattle.bridge_tool.specs.declared.answer.Answer.{Answer as Ended}
 use Rattle.bridge_tool.proofs.Decided.{scaling_decided, scales_without_fault, one_scale_fault}
 use Rattle.bridge_tool.proofs.Decisions.{AreRead}
 use Rattle.bridge_tool.proofs.Exporting.{folds_without_fault}
+use Rattle.bridge_tool.proofs.NameLists.{list_read}
 use Rattle.bridge_tool.proofs.NlRewriting.{nl_read}
 use Rattle.bridge_tool.proofs.OneOutcome.{HasOne, IsPlain}
 use Rattle.bridge_tool.proofs.Proving.{steps_so}
@@ -134,6 +136,13 @@ answer_sound s file texts answer =
 
 pub return_sound : (nl answer : List ℕ) (texts : Texts) → IsSound (return_told nl answer texts)
 return_sound nl answer texts = sound_after IsNl HasTextRefusal nl_read texts nl _ (λ file. answer_sound (setting_of file.file) file texts answer)
+
+pub named_return_sound : (nl answer rows columns : List ℕ) (texts : Texts) → IsSound (named_return_told nl answer rows columns texts)
+named_return_sound nl answer rows columns texts =
+    sound_after IsNl HasTextRefusal nl_read texts nl _ (λ file.
+    sound_after (AreListed (row_counts file.file)) (IsListRefused (row_counts file.file) 3) (list_read (row_counts file.file) 3) texts rows _ (λ r.
+    sound_after (AreListed (column_counts file.file)) (IsListRefused (column_counts file.file) 4) (list_read (column_counts file.file) 4) texts columns _ (λ c.
+    answer_sound (named_setting file.file r c) file texts answer)))
 
 -- ---- what the code answers
 

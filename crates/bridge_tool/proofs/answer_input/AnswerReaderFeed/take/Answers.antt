@@ -1,4 +1,3 @@
-use Rattle.answer_file.specs.Reading.{IsFed}
 use Rattle.bridge_tool.proofs.AnswerFed.{own_fed}
 use Rattle.bridge_tool.proofs.answer_input.AnswerReaderFeed.take.Goals as goal
 
