@@ -113,7 +113,7 @@ one_text text k a b h j =
     h.written ∙ ap (mps_text_by value_text) (by_decimal (linear_of j.value.file k) h.program j.program other j.exports (decimal_decided (linear_of j.value.file k))) ∙ sym j.written
 
 -- the program of a linear program
-exported : (f : Linear) → IsDecided (IsDecimal f) → (m : Mps ℚ) × IsExportOf f m
+pub exported : (f : Linear) → IsDecided (IsDecimal f) → (m : Mps ℚ) × IsExportOf f m
 exported f (inl d) = (program f (factor_of_row f), record { plain = λ p. refl; tied = λ n. absurd (n d) })
 exported f (inr n) = (tied_program f (factor_of_row f) (factor_of_objective f), record { plain = λ d. absurd (n d); tied = λ p. refl })
 

@@ -13,6 +13,8 @@ pub mod Making
 pub mod Meaning
 pub mod MpsRewriting
 pub mod NameLists
+pub mod NamedExporting
+pub mod NamedProgram
 pub mod NamedReturning
 pub mod NlRewriting
 pub mod Numbers

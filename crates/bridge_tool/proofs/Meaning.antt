@@ -69,11 +69,15 @@ means f k m formed lines exports =
       tied = λ n. subst (IsTiedProgram f k) (sym (exports.tied n)) (tied_to_it f k formed lines);
     }
 
+-- the program of a file that folds means what the file means
+pub file_program : (f : File) (k : ℕ) (m : Mps ℚ) → IsFile f → fold_fault f k ≡ None → IsExportOf (linear_of f k) m → MeansTheFile f k m
+file_program f k m file folded exports =
+    let formed = file_formed f file k in
+    means f k m formed (clean_has_lines f k formed folded) exports
+
 -- what is exported means the same as its file
 pub exports_mean : (text : List ℕ) (k : ℕ) (bytes : List ℕ) (e : IsExported text k bytes) → IsFile e.value.file → MeansTheFile e.value.file k e.program
-exports_mean text k bytes e file =
-    let formed = file_formed e.value.file file k in
-    means e.value.file k e.program formed (clean_has_lines e.value.file k formed e.folded) e.exports
+exports_mean text k bytes e file = file_program e.value.file k e.program file e.folded e.exports
 
 -- ---- reading back
 

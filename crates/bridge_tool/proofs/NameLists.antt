@@ -1,12 +1,23 @@
--- Lists of names: each text says one list, or is refused with one line.
-use Rattle.std.proofs.Common.{◌≡◌, ◌∙◌, inl, inr, ◌⊎◌, ℕ, List, codes, refl, sym, ap₂}
-use Rattle.text_base.specs.Judged.{HasOneOutcome}
-use Rattle.text_base.specs.Reading.{lines_of, last_of}
+-- Lists of names: each text says one list, or is refused with one line; and how many names there are.
+use Rattle.std.proofs.Common.{◌≡◌, ◌∙◌, inl, inr, ◌⊎◌, ℕ, ◌+◌, ◌==◌, ◌≤◌, Bool, true, false, ◌||◌, List, codes, length, take, drop, Option, Some, None, Result, Ok, Err, refl, sym, ap, ap₂, arith, eqb-true, length-take-le, take_all}
+use Rattle.std.specs.Prelude.{IfOk, if◌then◌else◌}
+use Rattle.std.proofs.lemmas.List.{drop_all}
+use Rattle.text_base.specs.Desk.{Meaning}
+use Rattle.text_base.specs.Judged.{Bad, End, HasOneOutcome, IsClean, Last, Open, Rules, last_reason, reason_at}
+use Rattle.text_base.specs.Reading.{last_by, last_of, lines_of}
+use Rattle.text_base.specs.Lines.{scan}
+use Rattle.text_base.specs.declared.lines.LineFault.{LineFault}
 use Rattle.text_base.proofs.JudgedLemmas.{one_outcome}
-use Rattle.name_files.specs.Names.{Counts, name_rules, used_names}
-use Rattle.bridge_tool.specs.NameLists.{AreListed, IsListRefused}
+use Rattle.name_files.specs.Names.{Counts, end_reason, is_full, name_rules, names_of, standing, used_names}
+use Rattle.name_files.specs.declared.fault.NameReason.{NameReason}
+use Rattle.name_files.specs.declared.fault.NameReason.TheVariants.{OtherCount}
+use Rattle.nl_model.specs.File.{File}
+use Rattle.nl_model.specs.declared.counts.Counts.{Counts as FileCounts}
+use Rattle.bridge_tool.specs.NameLists.{AreListed, IsListRefused, column_counts, row_counts}
 use Rattle.bridge_tool.specs.NamesTold.{name_line, name_reason_text}
+use Rattle.bridge_tool.specs.SeveralFiles.{ReadsFile, itself}
 use Rattle.bridge_tool.specs.Told.{refusal}
+use Rattle.bridge_tool.specs.declared.answer.Answer.{Answer}
 use Rattle.bridge_tool.proofs.Decisions.{AreRead}
 
 outcome_of : (counts : Counts) (text : List ℕ) → HasOneOutcome (name_rules counts) (lines_of text) (last_of text)
@@ -24,3 +35,50 @@ list_read counts file = record {
   ];
   apart = λ text value line h k. (outcome_of counts text).not_both h.clean k.fault.line k.fault.reason k.first;
 }
+
+-- ---- how many names there are
+
+at_end : {R : Type 0} (rules : Rules R) (lines : List (List ℕ)) (last : Last) → reason_at rules lines last (length lines) ≡ last_reason rules lines last
+at_end rules lines last = rw (take_all (length lines) lines (omega arith), drop_all (length lines) lines (omega arith)) refl
+
+-- the end of clean lines has no fault
+end_fine : {R : Type 0} (rules : Rules R) (lines : List (List ℕ)) (last : Last) → IsClean rules lines last → last_reason rules lines last ≡ None
+end_fine rules lines last clean = sym (at_end rules lines last) ∙ clean.clean (length lines) (omega arith)
+
+either_true : (a b : Bool) → (a || b) ≡ true → (a ≡ true) ⊎ (b ≡ true)
+either_true true b e = inl refl
+either_true false b e = inr e
+
+no_reason : (b : Bool) (r : NameReason) → ◌≡◌ {A = Option NameReason} (if b then None else Some r) None → b ≡ true
+no_reason true r e = refl
+no_reason false r e = absurd cc
+
+enough : (counts : Counts) (n : ℕ) → is_full counts n ≡ true → counts.used ≤ n
+enough counts n e = elim (either_true (n == counts.used) (n == counts.used + counts.further) e) [
+  | inl h ↦ let same : n ≡ counts.used = eqb-true n counts.used h in omega (arith, same)
+  | inr h ↦ let same : n ≡ counts.used + counts.further = eqb-true n (counts.used + counts.further) h in omega (arith, same)
+]
+
+-- a text that ends without a fault has enough names
+full_so : (counts : Counts) (lines : List (List ℕ)) (fault : Option LineFault) → last_reason (name_rules counts) lines (last_by fault End) ≡ None → counts.used ≤ length (names_of lines)
+unfolding end_reason
+full_so counts lines None e = enough counts (length (names_of lines)) (no_reason (is_full counts (length (names_of lines))) OtherCount e)
+full_so counts lines (Some fault) e = absurd cc
+
+pub listed_count : (counts : Counts) (text : List ℕ) (names : List (List ℕ)) → AreListed counts text names → length names ≡ counts.used
+unfolding last_of
+listed_count counts text names h =
+    let fine = end_fine (name_rules counts) (lines_of text) (last_of text) h.clean in
+    ap length h.said ∙ length-take-le counts.used (names_of (lines_of text)) (full_so counts (lines_of text) (scan text).fault fine)
+
+-- what was read is a list of so many names
+pub count_so : (counts : Counts) (file : ℕ) (name : List ℕ) (old new : Meaning) (r : Result (List (List ℕ)) Answer) → ReadsFile itself (AreListed counts) (IsListRefused counts file) name old new r → IfOk r (λ names. length names ≡ counts.used)
+count_so counts file name old new (Ok names) h = listed_count counts h.judged.bytes names h.judged.says
+count_so counts file name old new (Err answer) h = tt
+
+-- the counts of the rows and of the columns of a file with these counts
+pub rows_of : (f : File) (counts : FileCounts) → counts ≡ f.counts → row_counts f ≡ record { used = counts.n_con; further = counts.n_obj }
+rows_of f counts same = ap (λ (c : FileCounts). record { used = c.n_con; further = c.n_obj }) (sym same)
+
+pub columns_of : (f : File) (counts : FileCounts) → counts ≡ f.counts → column_counts f ≡ record { used = counts.n_var; further = 0 }
+columns_of f counts same = ap (λ (c : FileCounts). record { used = c.n_var; further = 0 }) (sym same)

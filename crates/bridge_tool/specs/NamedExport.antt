@@ -4,13 +4,15 @@ use Rattle.std.specs.Prelude.{◌≡◌, ◌⊎◌, ℕ, ◌+◌, ◌≤◌, ◌
 use Rattle.std.specs.declared.option.Option.{Option}
 use Rattle.std.specs.declared.option.Option.TheVariants.{None}
 use Rattle.fractions.specs.Rational.{ℚ}
-use Rattle.exact_numbers.specs.Values.{value_text}
+use Rattle.exact_numbers.specs.Values.{dec_value, value_text}
+use Rattle.exact_numbers.specs.declared.dec.Dec.{Dec}
 use Rattle.export_round_trip.specs.ReadAs.{IsReadAs}
 use Rattle.file_meaning.specs.FoldFaults.{fold_fault, has_objective}
 use Rattle.file_meaning.specs.LinearFile.{linear_of}
 use Rattle.linear_fold.specs.FoldedFaults.{step_bound}
-use Rattle.mps_model.specs.Mps.{Mps}
+use Rattle.mps_model.specs.Mps.{Mps, with_values}
 use Rattle.mps_model.specs.Text.{mps_text_by}
+use Rattle.mps_model.specs.Valid.{IsMps}
 use Rattle.name_files.specs.Renamed.{HaveOneMeaning, named}
 use Rattle.nl_segments.specs.Grammar.{NlValue}
 use Rattle.nl_segments.specs.Reader.{IsNl}
@@ -38,6 +40,14 @@ pub record IsNamedExport (n : Named) (bytes : List ℕ) : Type 0 where
   pub scaled : HasNoScaleFault (linear_of n.nl.file n.objective)
   pub exports : IsExportOf (linear_of n.nl.file n.objective) program
   pub written : bytes ≡ mps_text_by value_text (named program n.rows n.columns)
+
+-- The bytes are the written text of a program with these names. Its values are those of a decimal
+-- program, which is whole with these names too.
+pub record IsNamedTextOf (bytes : List ℕ) (program : Mps ℚ) (rows columns : List (List ℕ)) : Type 0 where
+  pub decimal : Mps Dec
+  pub valid : IsMps dec_value (named decimal rows columns)
+  pub values : with_values dec_value decimal ≡ program
+  pub text : bytes ≡ mps_text_by value_text (named program rows columns)
 
 -- it folds, and a row or the objective has no decimal program
 pub record IsUnscaled (n : Named) (line : List ℕ) : Type 0 where

@@ -9,8 +9,7 @@ ghost use Rattle.nl_model.specs.Rules.{IsFile};
 ghost use Rattle.nl_segments.specs.Reader.{HasLines, value_of};
 ghost use Rattle.row_scaling.specs.Exported.{exported_as};
 ghost use Rattle.bridge_tool.specs.Answer.{IsWorked, status_of};
-ghost use Rattle.bridge_tool.specs.Export.{IsTextOf};
-ghost use Rattle.bridge_tool.specs.NamedExport.{AreNamedMeant, Named, NamedComesTo, most_named_steps, named_promise};
+ghost use Rattle.bridge_tool.specs.NamedExport.{AreNamedMeant, IsNamedTextOf, Named, NamedComesTo, most_named_steps, named_promise};
 ghost use Rattle.bridge_tool.specs.SeveralFiles.{Comes};
 
 use crate::answer::Answer;
@@ -33,8 +32,8 @@ fn write_named(
     columns: &NameList,
 ) -> Result<Vec<u8>, AllocError>
     requires { HasExportedNames (length rows.now) (length columns.now) (exported_as scaled) }
-    ensures { IfOk result (λ out. IsTextOf out.items
-        (named (exported_as scaled) rows.now columns.now)) }
+    ensures { IfOk result (λ out. IsNamedTextOf out.items (exported_as scaled) rows.now
+        columns.now) }
 {
     let mps = program(alloc, &scaled)?;
     let mps = rename(alloc, &mps, rows, columns)?;

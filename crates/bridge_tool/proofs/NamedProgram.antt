@@ -1,0 +1,164 @@
+-- The program of a file with other names: its names, what it means, and that its text is read back.
+use Rattle.std.proofs.Common.{◌≡◌, ◌∙◌, inl, inr, ◌⊎◌, ℕ, ◌<◌, ◌≤◌, ◌^◌, List, [], ◌∷◌, ◌++◌, length, map, Some, refl, sym, ap, subst, arith, All}
+use Rattle.fractions.specs.Rational.{ℚ}
+use Rattle.linear_programs.specs.Linear.{Linear, Row, Variable}
+use Rattle.linear_programs.specs.Names.{row_name, variable_name}
+use Rattle.exact_numbers.specs.declared.dec.Dec.{Dec}
+use Rattle.exact_numbers.specs.Values.{dec_value, value_text, text_of}
+use Rattle.exact_numbers.proofs.Spelling.{value_text-decimal}
+use Rattle.export_round_trip.specs.ReadAs.{IsReadAs}
+use Rattle.exported_program.specs.Export.{IsDecimal, factor_of_row, factor_of_objective}
+use Rattle.file_meaning.specs.LinearFile.{elements_from, linear_of, row_of, variable_of}
+use Rattle.file_meaning.proofs.Elements.{all_elements, elements_length}
+use Rattle.mps_model.specs.Mps.{Column, Mps, column_with, with_values}
+use Rattle.mps_model.specs.Text.{mps_text_by}
+use Rattle.mps_model.specs.Valid.{IsMps}
+use Rattle.mps_model.proofs.Texts.{text_by_values}
+use Rattle.mps_reader.specs.Reader.{IsMpsText}
+use Rattle.mps_reader.specs.Written.{mps_text}
+use Rattle.mps_reader.proofs.RoundTrip.{written_again}
+use Rattle.name_files.specs.Renamed.{HasExportedNames, HaveOneMeaning, IsExportedName, IsNamedLinear, IsNumbered, named, new_name}
+use Rattle.name_files.proofs.ExportedNames.{plain_names, tied_names}
+use Rattle.name_files.proofs.MeaningLemmas.{same_meaning, valued}
+use Rattle.nl_model.specs.File.{File}
+use Rattle.nl_model.specs.Rules.{IsFile}
+use Rattle.nl_model.proofs.Headers.{counts_of_header}
+use Rattle.row_scaling.specs.Scaling.{IsExportOf}
+use Rattle.bridge_tool.specs.Export.{IsSameProgram, IsTiedProgram, MeansTheFile}
+use Rattle.bridge_tool.specs.NamedExport.{AreNamedMeant, IsNamedExport, IsNamedTextOf, Named}
+use Rattle.bridge_tool.proofs.Decided.{decimal_decided}
+use Rattle.bridge_tool.proofs.Exporting.{by_decimal}
+use Rattle.bridge_tool.proofs.Meaning.{file_program}
+
+-- ---- names of a file's program
+
+pub linear_named : (f : File) (k : ℕ) → IsFile f → IsNamedLinear (linear_of f k)
+unfolding linear_of
+linear_named f k file =
+    let counts = counts_of_header f.options f.counts file.ruled in
+    let rows : length (elements_from (row_of f) 0 f.counts.n_con) ≡ f.counts.n_con = elements_length (row_of f) 0 f.counts.n_con in
+    let variables : length (elements_from (variable_of f) 0 f.counts.n_var) ≡ f.counts.n_var = elements_length (variable_of f) 0 f.counts.n_var in
+    record {
+      few_rows = omega (arith, rows, counts.constraints);
+      few_variables = omega (arith, variables, counts.variables);
+      rows = all_elements (row_of f) (λ (r : Row). IsNumbered row_name (length (elements_from (row_of f) 0 f.counts.n_con)) r.name) f.counts.n_con
+          (λ i lt. record { number = i; below = omega (arith, lt, rows); same = refl });
+      variables = all_elements (variable_of f) (λ (v : Variable). IsNumbered variable_name (length (elements_from (variable_of f) 0 f.counts.n_var)) v.name) f.counts.n_var
+          (λ j lt. record { number = j; below = omega (arith, lt, variables); same = refl });
+    }
+
+row_count : (f : File) (k : ℕ) → length (linear_of f k).rows ≡ f.counts.n_con
+unfolding linear_of
+row_count f k = elements_length (row_of f) 0 f.counts.n_con
+
+column_count : (f : File) (k : ℕ) → length (linear_of f k).variables ≡ f.counts.n_var
+unfolding linear_of
+column_count f k = elements_length (variable_of f) 0 f.counts.n_var
+
+by_objective : (l : Linear) (m : Mps ℚ) → IsNamedLinear l → IsExportOf l m → (IsDecimal l ⊎ (IsDecimal l → ⊥)) → HasExportedNames (length l.rows) (length l.variables) m
+by_objective l m is exports (inl d) = subst (HasExportedNames (length l.rows) (length l.variables)) (sym (exports.plain d)) (plain_names l (factor_of_row l) is)
+by_objective l m is exports (inr n) = subst (HasExportedNames (length l.rows) (length l.variables)) (sym (exports.tied n)) (tied_names l (factor_of_row l) is (factor_of_objective l))
+
+-- what a file is exported as has names by number
+pub export_named : (f : File) (k : ℕ) (m : Mps ℚ) (rows columns : ℕ) → IsFile f → IsExportOf (linear_of f k) m → rows ≡ f.counts.n_con → columns ≡ f.counts.n_var → HasExportedNames rows columns m
+export_named f k m rows columns file exports r c =
+    let l = linear_of f k in
+    let names = by_objective l m (linear_named f k file) exports (decimal_decided l) in
+    let same_rows : length l.rows ≡ rows = row_count f k ∙ sym r in
+    let same_columns : length l.variables ≡ columns = column_count f k ∙ sym c in
+    subst (λ (n : ℕ). HasExportedNames rows n m) same_columns (subst (λ (n : ℕ). HasExportedNames n (length l.variables) m) same_rows names)
+
+column_names : (columns : List (Column Dec)) → map (λ (c : Column ℚ). c.name) (map (column_with dec_value) columns) ≡ map (λ (c : Column Dec). c.name) columns
+column_names [] = refl
+column_names (c ∷ columns) = ap (λ (names : List (List ℕ)). c.name ∷ names) (column_names columns)
+
+-- the names of a program are those of its values
+pub decimal_names : (n k : ℕ) (m : Mps Dec) → HasExportedNames n k (with_values dec_value m) → HasExportedNames n k m
+unfolding with_values
+decimal_names n k m h = record {
+  rows = h.rows;
+  columns = record { few = h.columns.few; each = subst (All (IsExportedName variable_name k)) (column_names m.columns) h.columns.each };
+}
+
+-- ---- what a program with other names means
+
+same_program : (f : File) (k : ℕ) (m p : Mps ℚ) → HaveOneMeaning m p → IsSameProgram f k p → IsSameProgram f k m
+same_program f k m p same h = record {
+  points = λ xs. let own = same.points xs in let file = h.points xs in (λ q. file.0 (own.0 q), λ q. own.1 (file.1 q));
+  objective = λ xs. h.objective xs ∙ ap Some (sym (same.objective xs));
+  sense = same.sense ∙ h.sense;
+}
+
+tied_program_so : (f : File) (k : ℕ) (m p : Mps ℚ) → HaveOneMeaning m p → IsTiedProgram f k p → IsTiedProgram f k m
+tied_program_so f k m p same h = record {
+  points = λ xs z size. let own = same.points (xs ++ z ∷ []) in let file = h.points xs z size in (λ q. file.0 (own.0 q), λ q. own.1 (file.1 q));
+  objective = λ xs z size. same.objective (xs ++ z ∷ []) ∙ h.objective xs z size;
+  sense = same.sense ∙ h.sense;
+}
+
+pub carried : (f : File) (k : ℕ) (m p : Mps ℚ) → HaveOneMeaning m p → MeansTheFile f k p → MeansTheFile f k m
+carried f k m p same h = record {
+  plain = λ d. same_program f k m p same (h.plain d);
+  tied = λ n. tied_program_so f k m p same (h.tied n);
+}
+
+values_named : (m : Mps Dec) (rows columns : List (List ℕ)) → with_values dec_value (named m rows columns) ≡ named (with_values dec_value m) rows columns
+values_named m rows columns = valued (new_name row_name rows) (new_name variable_name columns) m
+
+pub one_meaning : (bytes : List ℕ) (p : Mps ℚ) (rows columns : List (List ℕ)) → IsNamedTextOf bytes p rows columns → HaveOneMeaning (named p rows columns) p
+one_meaning bytes p rows columns t =
+    let same : HaveOneMeaning (with_values dec_value (named t.decimal rows columns)) (with_values dec_value t.decimal) = same_meaning (new_name row_name rows) (new_name variable_name columns) t.decimal in
+    let of_values : HaveOneMeaning (named (with_values dec_value t.decimal) rows columns) (with_values dec_value t.decimal) =
+        subst (λ (q : Mps ℚ). HaveOneMeaning q (with_values dec_value t.decimal)) (values_named t.decimal rows columns) same in
+    subst (λ (q : Mps ℚ). HaveOneMeaning (named q rows columns) q) t.values of_values
+
+-- ---- reading back
+
+same_texts : (λ d. value_text (dec_value d)) ≡ text_of
+same_texts = λ i. λ d. value_text-decimal d.m d.e d.spelled i
+
+text_of_values : (m : Mps Dec) → mps_text m ≡ mps_text_by value_text (with_values dec_value m)
+text_of_values m = ap (λ t. mps_text_by t m) (sym same_texts) ∙ sym (text_by_values value_text dec_value m)
+
+-- the values of the decimal program with these names
+named_values : (bytes : List ℕ) (p : Mps ℚ) (rows columns : List (List ℕ)) → (t : IsNamedTextOf bytes p rows columns) → with_values dec_value (named t.decimal rows columns) ≡ named p rows columns
+named_values bytes p rows columns t = values_named t.decimal rows columns ∙ ap (λ (q : Mps ℚ). named q rows columns) t.values
+
+pub named_back : (bytes : List ℕ) (p : Mps ℚ) (rows columns : List (List ℕ)) → IsNamedTextOf bytes p rows columns → length bytes ≤ 2 ^ 31 → IsReadAs bytes (named p rows columns)
+named_back bytes p rows columns t fits =
+    let m = named t.decimal rows columns in
+    let values = named_values bytes p rows columns t in
+    let same : mps_text m ≡ bytes = text_of_values m ∙ ap (mps_text_by value_text) values ∙ sym t.text in
+    record {
+      program = m;
+      says = subst (λ (b : List ℕ). IsMpsText b m) same (written_again m (record { valid = t.valid; room = subst (λ (b : List ℕ). length b ≤ 2 ^ 31) (sym same) fits }));
+      values = values;
+    }
+
+-- ---- what is written with names
+
+-- the text is that of a decimal program that was given these names
+pub named_text : (bytes : List ℕ) (p : Mps ℚ) (m given : Mps Dec) (rows columns : List (List ℕ)) → with_values dec_value m ≡ p → given ≡ named m rows columns → IsMps dec_value given
+    → bytes ≡ mps_text_by value_text (with_values dec_value given) → IsNamedTextOf bytes p rows columns
+named_text bytes p m given rows columns values is valid text = record {
+  decimal = m;
+  valid = subst (IsMps dec_value) is valid;
+  values = values;
+  text = text ∙ ap (λ (q : Mps Dec). mps_text_by value_text (with_values dec_value q)) is ∙ ap (mps_text_by value_text) (values_named m rows columns ∙ ap (λ (q : Mps ℚ). named q rows columns) values);
+}
+
+-- what was folded, scaled and written with names means what it should
+pub named_meant : (n : Named) (p : Mps ℚ) (out : List ℕ) → IsFile n.nl.file → IsExportOf (linear_of n.nl.file n.objective) p → IsNamedTextOf out p n.rows n.columns → AreNamedMeant n
+named_meant n p out file exports t = λ bytes e.
+    let f = n.nl.file in
+    let k = n.objective in
+    let same : p ≡ e.program = by_decimal (linear_of f k) p e.program exports e.exports (decimal_decided (linear_of f k)) in
+    let own : IsNamedTextOf out e.program n.rows n.columns = subst (λ (q : Mps ℚ). IsNamedTextOf out q n.rows n.columns) same t in
+    let read : length bytes ≤ 2 ^ 31 → IsReadAs bytes (named e.program n.rows n.columns) =
+        subst (λ (b : List ℕ). length b ≤ 2 ^ 31 → IsReadAs b (named e.program n.rows n.columns)) (own.text ∙ sym e.written) (named_back out e.program n.rows n.columns own) in
+    let meaning = one_meaning out e.program n.rows n.columns own in
+    record {
+      file = carried f k (named e.program n.rows n.columns) e.program meaning (file_program f k e.program file e.folded e.exports);
+      same = meaning;
+      back = read;
+    }

@@ -1,0 +1,34 @@
+use Rattle.std.proofs.Common.{refl}
+use Rattle.nl_segments.specs.Reader.{value_of}
+use Rattle.bridge_tool.proofs.NamedExporting.{columns_stopped, named_counted, named_ended, not_counted, rows_stopped}
+use Rattle.bridge_tool.proofs.named_export.export_named.Goals as goal
+
+pub returns-in-Err-clause-counts : goal.returns-in-Err-clause-counts
+returns-in-Err-clause-counts g c = not_counted c.args.file.now c.args.objective c.args.rows.now c.args.columns.now (g.D.Desk.meaning c.args.desk.now).texts c.args.steps.now
+
+pub returns-in-Err-open_rows-clause-worked : goal.returns-in-Err-open_rows-clause-worked
+returns-in-Err-open_rows-clause-worked g c =
+    rows_stopped c.args.file.now c.args.objective c.args.rows.now c.args.columns.now value_of _ _ c.in-Ok.read c.in-Ok.ensures.reads _ _ c.in-Err-open_rows.ensures.reads
+
+pub returns-in-Err-open_rows-clause-counts : goal.returns-in-Err-open_rows-clause-counts
+returns-in-Err-open_rows-clause-counts g c = not_counted c.args.file.now c.args.objective c.args.rows.now c.args.columns.now (g.D.Desk.meaning c.args.desk.now).texts c.args.steps.now
+
+pub returns-in-Err-open_columns-clause-worked : goal.returns-in-Err-open_columns-clause-worked
+returns-in-Err-open_columns-clause-worked g c =
+    columns_stopped c.args.file.now c.args.objective c.args.rows.now c.args.columns.now value_of _ _ c.in-Ok.read c.in-Ok.ensures.reads
+    _ c.in-Ok-open_rows.names c.in-Ok-open_rows.ensures.reads _ _ c.in-Err-open_columns.ensures.reads
+
+pub returns-in-Err-open_columns-clause-counts : goal.returns-in-Err-open_columns-clause-counts
+returns-in-Err-open_columns-clause-counts g c = not_counted c.args.file.now c.args.objective c.args.rows.now c.args.columns.now (g.D.Desk.meaning c.args.desk.now).texts c.args.steps.now
+
+pub returns-clause-worked : goal.returns-clause-worked
+returns-clause-worked g c =
+    named_ended c.args.file.now c.args.objective c.args.rows.now c.args.columns.now value_of _ _ c.in-Ok.read c.in-Ok.ensures.reads
+    _ c.in-Ok-open_rows.names c.in-Ok-open_rows.ensures.reads _ c.in-Ok-open_columns.names c.in-Ok-open_columns.ensures.reads
+    _ _ _ (c.judge-judged.ensures.comes _ refl) (c.judge-judged.ensures.means _ refl) c.end_verdict.ensures
+
+pub returns-clause-counts : goal.returns-clause-counts
+returns-clause-counts g c =
+    named_counted c.args.file.now c.args.objective c.args.rows.now c.args.columns.now value_of _ _ c.in-Ok.read c.in-Ok.ensures.reads
+    _ c.in-Ok-open_rows.names c.in-Ok-open_rows.ensures.reads _ c.in-Ok-open_columns.names c.in-Ok-open_columns.ensures.reads
+    _ _ (c.judge-judged.ensures.counts _ refl)
