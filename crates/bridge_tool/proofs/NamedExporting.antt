@@ -157,47 +157,42 @@ module _ (file : List ℕ) (objective : ℕ) (rows columns : List ℕ) where
   pub not_counted : (texts : Option Texts) (m : ℕ) → (whole texts).counts m m
   not_counted texts m = idle told false (named_sound file objective rows columns) texts m
 
-  module _ {R : Type 0} (seen : R → NlValue) (old first : Meaning) where
-    -- the first file ends it
-    pub nl_stopped : (answer : Answer) → ReadsFile {R = R} seen IsNl HasTextRefusal file old first (Err answer) → IsWorked (whole old.texts) old first answer
-    nl_stopped answer read = stopped told false (named_sound file objective rows columns) seen IsNl HasTextRefusal file after_nl old old first (begun told false old) answer read
+  module _ {R : Type 0} (seen : R → NlValue) (old first : Meaning) (value : R) (read : ReadsFile {R = R} seen IsNl HasTextRefusal file old first (Ok value)) where
+    abbrev nl : NlValue
+    nl = seen value
 
-    module _ (value : R) (read : ReadsFile {R = R} seen IsNl HasTextRefusal file old first (Ok value)) where
-      abbrev nl : NlValue
-      nl = seen value
+    down : HasComeDown told false (λ texts. after_nl texts nl) old first
+    down = further told false seen IsNl HasTextRefusal file after_nl old old first (begun told false old) value read
 
-      down : HasComeDown told false (λ texts. after_nl texts nl) old first
-      down = further told false seen IsNl HasTextRefusal file after_nl old old first (begun told false old) value read
+    -- the list of rows ends it
+    pub rows_stopped : (second : Meaning) (answer : Answer) → ReadsFile {R = List (List ℕ)} itself (AreListed (row_counts nl.file)) (IsListRefused (row_counts nl.file) 2) rows first second (Err answer) → IsWorked (whole old.texts) old second answer
+    rows_stopped second answer read_so =
+        stopped told false (named_sound file objective rows columns) itself (AreListed (row_counts nl.file)) (IsListRefused (row_counts nl.file) 2) rows (after_rows nl) old first second down answer read_so
 
-      -- the list of rows ends it
-      pub rows_stopped : (second : Meaning) (answer : Answer) → ReadsFile {R = List (List ℕ)} itself (AreListed (row_counts nl.file)) (IsListRefused (row_counts nl.file) 2) rows first second (Err answer) → IsWorked (whole old.texts) old second answer
-      rows_stopped second answer read_so =
-          stopped told false (named_sound file objective rows columns) itself (AreListed (row_counts nl.file)) (IsListRefused (row_counts nl.file) 2) rows (after_rows nl) old first second down answer read_so
+    module _ (second : Meaning) (r : List (List ℕ)) (read_rows : ReadsFile {R = List (List ℕ)} itself (AreListed (row_counts nl.file)) (IsListRefused (row_counts nl.file) 2) rows first second (Ok r)) where
+      down_again : HasComeDown told false (λ texts. after_rows nl texts r) old second
+      down_again = further told false itself (AreListed (row_counts nl.file)) (IsListRefused (row_counts nl.file) 2) rows (after_rows nl) old first second down r read_rows
 
-      module _ (second : Meaning) (r : List (List ℕ)) (read_rows : ReadsFile {R = List (List ℕ)} itself (AreListed (row_counts nl.file)) (IsListRefused (row_counts nl.file) 2) rows first second (Ok r)) where
-        down_again : HasComeDown told false (λ texts. after_rows nl texts r) old second
-        down_again = further told false itself (AreListed (row_counts nl.file)) (IsListRefused (row_counts nl.file) 2) rows (after_rows nl) old first second down r read_rows
+      -- the list of columns ends it
+      pub columns_stopped : (third : Meaning) (answer : Answer) → ReadsFile {R = List (List ℕ)} itself (AreListed (column_counts nl.file)) (IsListRefused (column_counts nl.file) 3) columns second third (Err answer) → IsWorked (whole old.texts) old third answer
+      columns_stopped third answer read_so =
+          stopped told false (named_sound file objective rows columns) itself (AreListed (column_counts nl.file)) (IsListRefused (column_counts nl.file) 3) columns
+          (λ texts c. named_end texts columns (of_lists nl r c)) old second third down_again answer read_so
 
-        -- the list of columns ends it
-        pub columns_stopped : (third : Meaning) (answer : Answer) → ReadsFile {R = List (List ℕ)} itself (AreListed (column_counts nl.file)) (IsListRefused (column_counts nl.file) 3) columns second third (Err answer) → IsWorked (whole old.texts) old third answer
-        columns_stopped third answer read_so =
-            stopped told false (named_sound file objective rows columns) itself (AreListed (column_counts nl.file)) (IsListRefused (column_counts nl.file) 3) columns
-            (λ texts c. named_end texts columns (of_lists nl r c)) old second third down_again answer read_so
+      module _ (third : Meaning) (c : List (List ℕ)) (read_columns : ReadsFile {R = List (List ℕ)} itself (AreListed (column_counts nl.file)) (IsListRefused (column_counts nl.file) 3) columns second third (Ok c)) where
+        abbrev n : Named
+        n = of_lists nl r c
 
-        module _ (third : Meaning) (c : List (List ℕ)) (read_columns : ReadsFile {R = List (List ℕ)} itself (AreListed (column_counts nl.file)) (IsListRefused (column_counts nl.file) 3) columns second third (Ok c)) where
-          abbrev n : Named
-          n = of_lists nl r c
+        -- all three were judged
+        pub named_ended : (last : Meaning) (judged : Result (Bool × Vec ℕ) (Stop (Vec ℕ))) (answer : Answer) → Comes (NamedComesTo n) judged → IfOk judged (λ t. AreNamedMeant n)
+            → EndsVerdict judged third last answer → IsWorked (whole old.texts) old last answer
+        named_ended last judged answer comes means end =
+            ended told false (named_sound file objective rows columns) itself (AreListed (column_counts nl.file)) (IsListRefused (column_counts nl.file) 3) columns
+            (λ q. NamedComesTo (of_lists nl r q)) (λ q a b. b ≤ a + most_named_steps (of_lists nl r q)) (λ q. AreNamedMeant (of_lists nl r q))
+            old second third down_again c read_columns last judged answer comes (meant_so n judged comes means) end
 
-          -- all three were judged
-          pub named_ended : (last : Meaning) (judged : Result (Bool × Vec ℕ) (Stop (Vec ℕ))) (answer : Answer) → Comes (NamedComesTo n) judged → IfOk judged (λ t. AreNamedMeant n)
-              → EndsVerdict judged third last answer → IsWorked (whole old.texts) old last answer
-          named_ended last judged answer comes means end =
-              ended told false (named_sound file objective rows columns) itself (AreListed (column_counts nl.file)) (IsListRefused (column_counts nl.file) 3) columns
-              (λ q. NamedComesTo (of_lists nl r q)) (λ q a b. b ≤ a + most_named_steps (of_lists nl r q)) (λ q. AreNamedMeant (of_lists nl r q))
-              old second third down_again c read_columns last judged answer comes (meant_so n judged comes means) end
-
-          pub named_counted : (a b : ℕ) → b ≤ a + most_named_steps n → (whole old.texts).counts a b
-          named_counted a b le =
-              counted told false (named_sound file objective rows columns) itself (AreListed (column_counts nl.file)) (IsListRefused (column_counts nl.file) 3) columns
-              (λ q. NamedComesTo (of_lists nl r q)) (λ q a b. b ≤ a + most_named_steps (of_lists nl r q)) (λ q. AreNamedMeant (of_lists nl r q))
-              old second third down_again c read_columns a b le
+        pub named_counted : (a b : ℕ) → b ≤ a + most_named_steps n → (whole old.texts).counts a b
+        named_counted a b le =
+            counted told false (named_sound file objective rows columns) itself (AreListed (column_counts nl.file)) (IsListRefused (column_counts nl.file) 3) columns
+            (λ q. NamedComesTo (of_lists nl r q)) (λ q a b. b ≤ a + most_named_steps (of_lists nl r q)) (λ q. AreNamedMeant (of_lists nl r q))
+            old second third down_again c read_columns a b le

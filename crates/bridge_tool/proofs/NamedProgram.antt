@@ -1,5 +1,5 @@
 -- The program of a file with other names: its names, what it means, and that its text is read back.
-use Rattle.std.proofs.Common.{◌≡◌, ◌∙◌, inl, inr, ◌⊎◌, ℕ, ◌<◌, ◌≤◌, ◌^◌, List, [], ◌∷◌, ◌++◌, length, map, Some, refl, sym, ap, subst, arith, All}
+use Rattle.std.proofs.Common.{◌≡◌, ◌∙◌, inl, inr, ◌⊎◌, ℕ, ◌≤◌, ◌^◌, List, [], ◌∷◌, ◌++◌, length, map, Some, refl, sym, ap, subst, arith, All}
 use Rattle.fractions.specs.Rational.{ℚ}
 use Rattle.linear_programs.specs.Linear.{Linear, Row, Variable}
 use Rattle.linear_programs.specs.Names.{row_name, variable_name}
@@ -25,7 +25,7 @@ use Rattle.nl_model.specs.Rules.{IsFile}
 use Rattle.nl_model.proofs.Headers.{counts_of_header}
 use Rattle.row_scaling.specs.Scaling.{IsExportOf}
 use Rattle.bridge_tool.specs.Export.{IsSameProgram, IsTiedProgram, MeansTheFile}
-use Rattle.bridge_tool.specs.NamedExport.{AreNamedMeant, IsNamedExport, IsNamedTextOf, Named}
+use Rattle.bridge_tool.specs.NamedExport.{AreNamedMeant, IsNamedTextOf, Named}
 use Rattle.bridge_tool.proofs.Decided.{decimal_decided}
 use Rattle.bridge_tool.proofs.Exporting.{by_decimal}
 use Rattle.bridge_tool.proofs.Meaning.{file_program}

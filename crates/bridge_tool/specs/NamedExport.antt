@@ -43,7 +43,8 @@ pub record IsNamedExport (n : Named) (bytes : List ℕ) : Type 0 where
 
 -- The bytes are the written text of a program with these names. Its values are those of a decimal
 -- program, which is whole with these names too.
-pub record IsNamedTextOf (bytes : List ℕ) (program : Mps ℚ) (rows columns : List (List ℕ)) : Type 0 where
+pub record IsNamedTextOf (bytes : List ℕ) (program : Mps ℚ) (rows columns : List (List ℕ))
+    : Type 0 where
   pub decimal : Mps Dec
   pub valid : IsMps dec_value (named decimal rows columns)
   pub values : with_values dec_value decimal ≡ program

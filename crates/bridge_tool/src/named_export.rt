@@ -1,11 +1,7 @@
 // The command export with names: from the text of a file and two lists of names to the text of its
 // program with these names, or to the line to tell.
-ghost use Rattle.std.specs.Prelude.{◌≡◌, ◌≢◌, ◌+◌, ◌≤◌, length, IfOk, IfSome};
-ghost use Rattle.exact_numbers.specs.Values.{dec_value};
-ghost use Rattle.mps_model.specs.Mps.{with_values};
-ghost use Rattle.mps_model.specs.Valid.{IsMps};
-ghost use Rattle.name_files.specs.Renamed.{HasExportedNames, named};
-ghost use Rattle.nl_model.specs.Rules.{IsFile};
+ghost use Rattle.std.specs.Prelude.{◌≡◌, ◌≢◌, ◌+◌, ◌≤◌, length, IfOk};
+ghost use Rattle.name_files.specs.Renamed.{HasExportedNames};
 ghost use Rattle.nl_segments.specs.Reader.{HasLines, value_of};
 ghost use Rattle.row_scaling.specs.Exported.{exported_as};
 ghost use Rattle.bridge_tool.specs.Answer.{IsWorked, status_of};
