@@ -33,11 +33,16 @@ told_by NoMemory = codes "no memory\n"
 
 -- the command with this promise was worked, but for its line
 pub record IsWorked (p : Promise) (old new : Meaning) (answer : Answer) : Type 0 where
-  pub status : (outcome : Outcome) → p.comes outcome → Status outcome (Rose old.input_faults new.input_faults) (Rose old.output_faults new.output_faults) (status_of answer)
-  pub written : (outcome : Outcome) → p.comes outcome → Written outcome old.written new.written (status_of answer)
-  pub line : (outcome : Outcome) → p.comes outcome → IfSome (line_of outcome (status_of answer)) (λ line. line ≡ told_by answer)
+  pub status : (outcome : Outcome) → p.comes outcome
+      → Status outcome (Rose old.input_faults new.input_faults)
+      (Rose old.output_faults new.output_faults) (status_of answer)
+  pub written : (outcome : Outcome) → p.comes outcome
+      → Written outcome old.written new.written (status_of answer)
+  pub line : (outcome : Outcome) → p.comes outcome
+      → IfSome (line_of outcome (status_of answer)) (λ line. line ≡ told_by answer)
   pub quiet : IsQuiet (status_of answer) → new.written ≡ old.written
-  pub left : (status_of answer ≤ 2) ⊎ (status_of answer ≡ 5) → (text : List ℕ) → p.last text → new.left ≡ Some (drop LIMIT text)
+  pub left : (status_of answer ≤ 2) ⊎ (status_of answer ≡ 5) → (text : List ℕ) → p.last text
+      → new.left ≡ Some (drop LIMIT text)
   pub means : status_of answer ≡ 0 → p.means
   pub input_later : old.input_faults ≤ new.input_faults
   pub output_later : old.output_faults ≤ new.output_faults

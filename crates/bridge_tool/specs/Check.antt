@@ -31,7 +31,8 @@ use Rattle.bridge_tool.specs.VerdictTold.{fit_line, is_yes, negative_line, verdi
 
 -- the counts of a solution
 abbrev pub given_by : Sol → Given
-given_by s = record { n_con = s.n_con; n_var = s.n_var; duals = length s.duals; primals = length s.primals }
+given_by s =
+    record { n_con = s.n_con; n_var = s.n_var; duals = length s.duals; primals = length s.primals }
 
 -- why a solution does not fit a file, where it does not
 abbrev pub unfit : NlValue → Sol → Option FitFault
@@ -60,8 +61,8 @@ abbrev pub by_fit : NlValue → Sol → Option FitFault → Outcome
 by_fit nl s (Some fault) = Refused (fit_line fault)
 by_fit nl s None = by_number nl s (objective_number s)
 
--- A solution that does not fit the file is refused; then an objective that the file does not have; then a file that does
--- not fold. Else the verdict on its values is written.
+-- A solution that does not fit the file is refused; then an objective that the file does not have;
+-- then a file that does not fold. Else the verdict on its values is written.
 abbrev pub check_outcome : NlValue → Sol → Outcome
 check_outcome nl s = by_fit nl s (unfit nl s)
 
@@ -81,8 +82,8 @@ most_steps nl s = steps_by_fit nl s (unfit nl s)
 
 -- ---- what a yes means
 
--- The point of the solution is feasible in the relaxed program of the file, its objective has the value that the line
--- shows, and no relaxed feasible point is better.
+-- The point of the solution is feasible in the relaxed program of the file, its objective has the
+-- value that the line shows, and no relaxed feasible point is better.
 pub record IsCertified (nl : NlValue) (s : Sol) : Type 0 where
   pub number : ℕ
   pub value : ℚ
@@ -94,8 +95,10 @@ pub record IsCertified (nl : NlValue) (s : Sol) : Type 0 where
 
 abbrev pub check_told : List ℕ → List ℕ → Texts → Promise
 check_told nl sol texts =
-    after_file IsNl HasTextRefusal texts nl (λ file. after_file IsSol (IsSolRefused 2) texts sol (λ solution.
-    ends texts sol (λ outcome. outcome ≡ check_outcome file solution) (λ old new. new ≤ old + most_steps file solution) (IsCertified file solution)))
+    after_file IsNl HasTextRefusal texts nl (λ file.
+    after_file IsSol (IsSolRefused 2) texts sol (λ solution.
+    ends texts sol (λ outcome. outcome ≡ check_outcome file solution)
+    (λ old new. new ≤ old + most_steps file solution) (IsCertified file solution)))
 
 abbrev pub check_promise : Option Texts → List ℕ → List ℕ → Promise
 check_promise texts nl sol = desk_promise true (check_told nl sol) texts

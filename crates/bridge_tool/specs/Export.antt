@@ -23,7 +23,8 @@ use Rattle.bridge_tool.specs.OneFile.{IfText, file_promise}
 use Rattle.bridge_tool.specs.Promise.{Promise}
 use Rattle.bridge_tool.specs.Refusal.{IsRefused}
 
--- the text says a file that folds with objective k and scales without a fault, and these bytes are its program's text
+-- the text says a file that folds with objective k and scales without a fault, and these bytes are
+-- its program's text
 pub record IsExported (text : List ℕ) (k : ℕ) (bytes : List ℕ) : Type 0 where
   pub value : NlValue
   pub program : Mps ℚ
@@ -33,20 +34,24 @@ pub record IsExported (text : List ℕ) (k : ℕ) (bytes : List ℕ) : Type 0 wh
   pub exports : IsExportOf (linear_of value.file k) program
   pub written : bytes ≡ mps_text_by value_text program
 
--- an assignment satisfies the program exactly where it satisfies the file, with the same objective value and sense
+-- an assignment satisfies the program exactly where it satisfies the file, with the same objective
+-- value and sense
 pub record IsSameProgram (f : File) (k : ℕ) (m : Mps ℚ) : Type 0 where
   pub points : (xs : List ℚ) → IsMpsFeasible m xs ↔ IsFeasible f xs
   pub objective : (xs : List ℚ) → objective_value f k xs ≡ Some (mps_objective m xs)
   pub sense : m.maximise ≡ maximises f k
 
--- An assignment with one number more satisfies the program exactly where the assignment satisfies the file and the
--- number is the objective's value; the program's objective is that number.
+-- An assignment with one number more satisfies the program exactly where the assignment satisfies
+-- the file and the number is the objective's value; the program's objective is that number.
 pub record IsTiedProgram (f : File) (k : ℕ) (m : Mps ℚ) : Type 0 where
-  pub points : (xs : List ℚ) (z : ℚ) → length xs ≡ f.counts.n_var → IsMpsFeasible m (xs ++ z ∷ []) ↔ (IsFeasible f xs × (objective_value f k xs ≡ Some z))
-  pub objective : (xs : List ℚ) (z : ℚ) → length xs ≡ f.counts.n_var → mps_objective m (xs ++ z ∷ []) ≡ z
+  pub points : (xs : List ℚ) (z : ℚ) → length xs ≡ f.counts.n_var → IsMpsFeasible m (xs ++ z ∷ [])
+      ↔ (IsFeasible f xs × (objective_value f k xs ≡ Some z))
+  pub objective : (xs : List ℚ) (z : ℚ) → length xs ≡ f.counts.n_var
+      → mps_objective m (xs ++ z ∷ []) ≡ z
   pub sense : m.maximise ≡ maximises f k
 
--- the program means what the file with objective k means; it is tied where the objective is not decimal
+-- the program means what the file with objective k means; it is tied where the objective is not
+-- decimal
 pub record MeansTheFile (f : File) (k : ℕ) (m : Mps ℚ) : Type 0 where
   pub plain : IsDecimal (linear_of f k) → IsSameProgram f k m
   pub tied : (IsDecimal (linear_of f k) → ⊥) → IsTiedProgram f k m
@@ -63,8 +68,8 @@ pub record IsExportMeant (text : List ℕ) (k : ℕ) : Type 0 where
   pub file : (bytes : List ℕ) (e : IsExported text k bytes) → MeansTheFile e.value.file k e.program
   pub back : (bytes : List ℕ) (e : IsExported text k bytes) → IsReadAs bytes e.program
 
--- Steps are counted for the file that the text says, up to its bound; a text that says none is not folded, nor is a file
--- without objective k.
+-- Steps are counted for the file that the text says, up to its bound; a text that says none is not
+-- folded, nor is a file without objective k.
 pub record Counts (text : List ℕ) (k old new : ℕ) : Type 0 where
   pub folded : (value : NlValue) → IsNl text value → new ≤ old + step_bound value.file
   pub faulty : (fault : NlFault) → HasNlFault text fault → new ≡ old

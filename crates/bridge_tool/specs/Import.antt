@@ -22,7 +22,8 @@ use Rattle.bridge_tool.specs.Mps.{IsMpsRefused}
 use Rattle.bridge_tool.specs.OneFile.{file_promise}
 use Rattle.bridge_tool.specs.Promise.{Promise}
 
--- the text is an MPS text of a program without a fault, and these bytes are the written text of its file
+-- the text is an MPS text of a program without a fault, and these bytes are the written text of its
+-- file
 pub record IsImported (text bytes : List ℕ) : Type 0 where
   pub value : Mps Dec
   pub read : IsMpsText text value
@@ -41,23 +42,29 @@ pub record HasImportRefusal (text line : List ℕ) : Type 0 where
 abbrev pub IsImportRefused : List ℕ → List ℕ → Type 0
 IsImportRefused text line = IsMpsRefused text line ⊎ HasImportRefusal text line
 
--- at every point of the columns the file is satisfied exactly where the program is, by the point in the order of the
--- variables, with the same value of the objective; the sense is the same
+-- at every point of the columns the file is satisfied exactly where the program is, by the point in
+-- the order of the variables, with the same value of the objective; the sense is the same
 pub record MeansTheProgram (m : Mps Dec) : Type 0 where
-  pub feasible : (xs : List ℚ) → IsMpsFeasible (values_of m) xs ↔ IsFeasible (import_of m) (in_order m xs)
-  pub objective : (xs : List ℚ) → objective_value (import_of m) 0 (in_order m xs) ≡ Some (mps_objective (values_of m) xs)
+  pub feasible : (xs : List ℚ) → IsMpsFeasible (values_of m) xs
+      ↔ IsFeasible (import_of m) (in_order m xs)
+  pub objective : (xs : List ℚ) → objective_value (import_of m) 0 (in_order m xs)
+      ≡ Some (mps_objective (values_of m) xs)
   pub sense : maximises (import_of m) 0 ≡ m.maximise
 
 -- the file that is written means what the program of the text means
 abbrev pub IsImportMeant : List ℕ → Type 0
-IsImportMeant text = (value : Mps Dec) → IsMpsText text value → import_fault value ≡ None → MeansTheProgram value
+IsImportMeant text =
+    (value : Mps Dec) → IsMpsText text value → import_fault value ≡ None → MeansTheProgram value
 
 -- no steps are counted
 abbrev pub import_promise : Option Texts → List ℕ → Promise
-import_promise texts file = file_promise IsImported IsImportRefused texts file (λ old new. new ≡ old) IsImportMeant
+import_promise texts file =
+    file_promise IsImported IsImportRefused texts file (λ old new. new ≡ old) IsImportMeant
 
--- what the import of a program answers: the bytes to write, or the line to tell; of want of memory nothing is said
+-- what the import of a program answers: the bytes to write, or the line to tell; of want of memory
+-- nothing is said
 abbrev pub Converts : Mps Dec → Result (Vec ℕ) (Stop (Vec ℕ)) → Type 0
 Converts m (Ok bytes) = (import_fault m ≡ None) × (bytes.items ≡ nl_text (import_of m))
-Converts m (Err (Fault line)) = (fault : ImportFault) × (import_fault m ≡ Some fault) × (line.items ≡ import_line fault)
+Converts m (Err (Fault line)) =
+    (fault : ImportFault) × (import_fault m ≡ Some fault) × (line.items ≡ import_line fault)
 Converts m (Err Memory) = Unit {0}

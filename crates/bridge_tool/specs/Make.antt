@@ -50,12 +50,15 @@ coefficient_count r m = sum_by (of_column r) m.columns
 -- `variables 1 rows 1 terms 1 bytes 168`
 abbrev pub summary_line : ℕ → ℕ → ℕ → ℕ → List ℕ
 summary_line variables rows terms bytes =
-    codes "variables " ++ decimal variables ++ codes " rows " ++ decimal rows ++ codes " terms " ++ decimal terms ++ codes " bytes " ++ decimal bytes ++ codes "\n"
+    codes "variables " ++ decimal variables ++ codes " rows " ++ decimal rows ++ codes " terms "
+    ++ decimal terms ++ codes " bytes " ++ decimal bytes ++ codes "\n"
 
--- the variables of a file, its exported rows, their coefficients, and the bytes of its exported program
+-- the variables of a file, its exported rows, their coefficients, and the bytes of its exported
+-- program
 abbrev pub summary_of : File → Mps ℚ → List ℕ → List ℕ
 summary_of f m text =
-    summary_line f.counts.n_var (exported_count (linear_of f 0)) (coefficient_count (exported_count (linear_of f 0)) m) (length text)
+    summary_line f.counts.n_var (exported_count (linear_of f 0))
+    (coefficient_count (exported_count (linear_of f 0)) m) (length text)
 
 -- the text is exported with objective 0, and these bytes are the summary of that
 pub record IsMade (text bytes : List ℕ) : Type 0 where
@@ -65,7 +68,8 @@ pub record IsMade (text bytes : List ℕ) : Type 0 where
 
 -- the same of a program with so many variables and exported rows
 abbrev pub IsSummedUp : ℕ → ℕ → Mps ℚ → List ℕ → Type 0
-IsSummedUp variables rows m bytes = bytes ≡ summary_line variables rows (coefficient_count rows m) (length (mps_text_by value_text m))
+IsSummedUp variables rows m bytes = bytes
+    ≡ summary_line variables rows (coefficient_count rows m) (length (mps_text_by value_text m))
 
 -- ---- the promise
 

@@ -75,4 +75,5 @@ IsMpsMeant text = IsMeantBy mps_rules mps_program text
 
 -- no steps are counted
 abbrev pub mps_promise : Option Texts → List ℕ → Promise
-mps_promise texts file = file_promise IsRewritten IsMpsRefused texts file (λ old new. new ≡ old) IsMpsMeant
+mps_promise texts file =
+    file_promise IsRewritten IsMpsRefused texts file (λ old new. new ≡ old) IsMpsMeant

@@ -1,5 +1,5 @@
--- Lists of names as files of a command: which of them a file's rows and columns take, and why a list
--- is refused.
+-- Lists of names as files of a command: which of them a file's rows and columns take, and why a
+-- list is refused.
 use Rattle.std.specs.Prelude.{◌≡◌, ℕ, ◌+◌, List}
 use Rattle.text_base.specs.Desk.{Texts}
 use Rattle.text_base.specs.Reading.{HasFault, IsRead}

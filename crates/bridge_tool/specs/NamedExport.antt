@@ -1,5 +1,6 @@
--- The command export with names: the program of a file, whose rows and columns have the names of two
--- lists, which are the second and the third file; and that names change nothing of what it means.
+-- The command export with names: the program of a file, whose rows and columns have the names of
+-- two lists, which are the second and the third file; and that names change nothing of what it
+-- means.
 use Rattle.std.specs.Prelude.{◌≡◌, ◌⊎◌, ℕ, ◌+◌, ◌≤◌, ◌^◌, true, false, List, length, if◌then◌else◌}
 use Rattle.std.specs.declared.option.Option.{Option}
 use Rattle.std.specs.declared.option.Option.TheVariants.{None}
@@ -43,8 +44,8 @@ pub record IsNamedExport (n : Named) (bytes : List ℕ) : Type 0 where
 
 -- The bytes are the written text of a program with these names. Its values are those of a decimal
 -- program, which is whole with these names too.
-pub record IsNamedTextOf (bytes : List ℕ) (program : Mps ℚ) (rows columns : List (List ℕ))
-    : Type 0 where
+pub record IsNamedTextOf (bytes : List ℕ) (program : Mps ℚ)
+    (rows columns : List (List ℕ)) : Type 0 where
   pub decimal : Mps Dec
   pub valid : IsMps dec_value (named decimal rows columns)
   pub values : with_values dec_value decimal ≡ program
@@ -64,8 +65,8 @@ NamedComesTo n (Refused line) = HasFoldFault n.nl n.objective line ⊎ IsUnscale
 NamedComesTo n (Done true bytes) = IsNamedExport n bytes
 NamedComesTo n (Done false bytes) = ⊥
 
--- The program with names means what the file means, as the program without them does. Where the text
--- is within the limit of a text, it is read as this program.
+-- The program with names means what the file means, as the program without them does. Where the
+-- text is within the limit of a text, it is read as this program.
 pub record IsNamedMeant (n : Named) (bytes : List ℕ) (e : IsNamedExport n bytes) : Type 0 where
   pub file : MeansTheFile n.nl.file n.objective (named e.program n.rows n.columns)
   pub same : HaveOneMeaning (named e.program n.rows n.columns) e.program

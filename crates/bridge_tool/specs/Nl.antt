@@ -16,11 +16,14 @@ pub record IsNlRewritten (text bytes : List ℕ) : Type 0 where
   pub read : IsNl text value
   pub written : bytes ≡ nl_text value.file
 
--- what is written says the same file, so that it is written again unchanged and exported as the same
+-- what is written says the same file, so that it is written again unchanged and exported as the
+-- same
 abbrev pub IsNlMeant : List ℕ → Type 0
 IsNlMeant text =
-    (value : NlValue) → IsNl text value → length (nl_text value.file) ≤ 2 ^ 31 → IsText value.file (nl_text value.file)
+    (value : NlValue) → IsNl text value → length (nl_text value.file) ≤ 2 ^ 31
+    → IsText value.file (nl_text value.file)
 
 -- no steps are counted
 abbrev pub nl_promise : Option Texts → List ℕ → Promise
-nl_promise texts file = file_promise IsNlRewritten HasTextRefusal texts file (λ old new. new ≡ old) IsNlMeant
+nl_promise texts file =
+    file_promise IsNlRewritten HasTextRefusal texts file (λ old new. new ≡ old) IsNlMeant

@@ -1,4 +1,5 @@
--- The lines that tell faults of .nl texts, of the fold and of scaling; an .nl file is the first of its command.
+-- The lines that tell faults of .nl texts, of the fold and of scaling; an .nl file is the first of
+-- its command.
 use Rattle.std.specs.Prelude.{ℕ, ◌<◌, ◌≤◌, List, [], ◌++◌, codes, Option, Some, None, IsSomeAnd}
 use Rattle.std.specs.Fmt.{decimal}
 use Rattle.nl_model.specs.declared.at.At.{At}
@@ -52,7 +53,8 @@ opcode_text reason = []
 
 -- the line of a fault of an .nl text
 abbrev pub nl_line : NlFault → List ℕ
-nl_line f = refused_at 1 (codes "line") f.line ++ reason_text f.reason ++ opcode_text f.reason ++ codes "\n"
+nl_line f =
+    refused_at 1 (codes "line") f.line ++ reason_text f.reason ++ opcode_text f.reason ++ codes "\n"
 
 abbrev pub or_zero : Option ℕ → ℕ
 or_zero None = 0

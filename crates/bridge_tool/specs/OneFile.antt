@@ -41,7 +41,8 @@ module _ (accepts refuses : List ℕ → List ℕ → Type 0) where
   TextComesTo text (Done false bytes) = ⊥
 
   -- a command that reads this file alone
-  abbrev pub file_promise : Option Texts → List ℕ → (counts : ℕ → ℕ → Type 0) (means : List ℕ → Type 0) → Promise
+  abbrev pub file_promise : Option Texts → List ℕ
+      → (counts : ℕ → ℕ → Type 0) (means : List ℕ → Type 0) → Promise
   file_promise texts file counts means = record {
     comes = DeskComesTo TextComesTo texts file;
     last = λ text. text_of texts file ≡ Some text;
@@ -49,7 +50,8 @@ module _ (accepts refuses : List ℕ → List ℕ → Type 0) where
     means = IfText texts file means;
   }
 
-  -- what judging a text answers: the bytes to write, or the line to tell; of want of memory nothing is said
+  -- what judging a text answers: the bytes to write, or the line to tell; of want of memory nothing
+  -- is said
   abbrev pub Judges : List ℕ → Result (Vec ℕ) (Stop (Vec ℕ)) → Type 0
   Judges text (Ok bytes) = accepts text bytes.items
   Judges text (Err (Fault line)) = refuses text line.items

@@ -33,12 +33,14 @@ pub record LacksText (p : Promise) (old new : Meaning) (status : ℕ) : Type 0 w
   pub four : status ≡ 4
   pub tells : Tells old new (codes "input fault\n")
 
--- The headline. The answer is 0 exactly where the command comes to bytes with the verdict yes, and 1 exactly where it comes
--- to bytes with another verdict; then these bytes are written, nothing is told, and with 0 they mean what they should. In
--- every other case the input is refused with its line or has a file without a text, and nothing is written.
+-- The headline. The answer is 0 exactly where the command comes to bytes with the verdict yes, and
+-- 1 exactly where it comes to bytes with another verdict; then these bytes are written, nothing is
+-- told, and with 0 they mean what they should. In every other case the input is refused with its
+-- line or has a file without a text, and nothing is written.
 pub record Answers (p : Promise) (old new : Meaning) (status : ℕ) : Type 0 where
   pub done : (status ≡ 0) ↔ ((bytes : List ℕ) × p.comes (Done true bytes))
   pub denied : (status ≡ 1) ↔ ((bytes : List ℕ) × p.comes (Done false bytes))
-  pub wrote : (holds : Bool) (bytes : List ℕ) → p.comes (Done holds bytes) → Appends old.written new.written bytes × (new.told ≡ old.told)
+  pub wrote : (holds : Bool) (bytes : List ℕ) → p.comes (Done holds bytes)
+      → Appends old.written new.written bytes × (new.told ≡ old.told)
   pub means : status ≡ 0 → p.means
   pub other : (status ≤ 1) ⊎ IsTurnedDown p old new status ⊎ LacksText p old new status

@@ -34,7 +34,10 @@ leaf_text leaf = codes "leaf " ++ decimal leaf
 -- the line of a verdict: the first leaf that does not close, or none
 abbrev pub leaf_line : Option LeafFault → List ℕ
 leaf_line None = codes "proved\n"
-leaf_line (Some (row_side leaf row)) = leaf_text leaf ++ codes " row " ++ decimal row ++ codes " has no side\n"
-leaf_line (Some (bound_side leaf variable)) = leaf_text leaf ++ codes " bound " ++ decimal variable ++ codes " has no side\n"
+leaf_line (Some (row_side leaf row)) =
+    leaf_text leaf ++ codes " row " ++ decimal row ++ codes " has no side\n"
+leaf_line (Some (bound_side leaf variable)) =
+    leaf_text leaf ++ codes " bound " ++ decimal variable ++ codes " has no side\n"
 leaf_line (Some (wide leaf)) = leaf_text leaf ++ codes " too wide\n"
-leaf_line (Some (open_gap leaf bound)) = leaf_text leaf ++ codes " gap " ++ frac_text bound.top bound.bottom ++ codes "\n"
+leaf_line (Some (open_gap leaf bound)) =
+    leaf_text leaf ++ codes " gap " ++ frac_text bound.top bound.bottom ++ codes "\n"

@@ -53,16 +53,18 @@ abbrev pub by_fold : NlValue → ProofValue → Option FoldFault → Outcome
 by_fold nl p (Some fault) = Refused (fold_line nl.places fault)
 by_fold nl p None = by_leaf (open_leaf nl p)
 
--- A file that does not fold with the objective of the claim is refused. Else the verdict on the proof is written.
+-- A file that does not fold with the objective of the claim is refused. Else the verdict on the
+-- proof is written.
 abbrev pub prove_outcome : NlValue → ProofValue → Outcome
 prove_outcome nl p = by_fold nl p (first_fold_fault nl.file (claimed_objective p.claim))
 
 -- at most so many steps are counted: none where nothing is folded
 abbrev pub most_steps : NlValue → ProofValue → ℕ
-most_steps nl p = if has_objective nl.file (claimed_objective p.claim) then step_bound nl.file else 0
+most_steps nl p =
+    if has_objective nl.file (claimed_objective p.claim) then step_bound nl.file else 0
 
--- What a yes means: no feasible point of the file, whole variables whole, is better than the stated value; or no point is
--- feasible in its relaxed program.
+-- What a yes means: no feasible point of the file, whole variables whole, is better than the stated
+-- value; or no point is feasible in its relaxed program.
 abbrev pub IsProvedOf : NlValue → ProofValue → Type 0
 IsProvedOf nl p = IsTrueOf nl.file (claimed_objective p.claim) p.claim
 
@@ -70,8 +72,11 @@ IsProvedOf nl p = IsTrueOf nl.file (claimed_objective p.claim) p.claim
 
 abbrev pub prove_told : List ℕ → List ℕ → Texts → Promise
 prove_told nl proof texts =
-    after_file IsNl HasTextRefusal texts nl (λ file. after_file (IsProofText (setting_of file.file)) (IsProofRefused (setting_of file.file) 2) texts proof (λ p.
-    ends texts proof (λ outcome. outcome ≡ prove_outcome file p) (λ old new. new ≤ old + most_steps file p) (IsProvedOf file p)))
+    after_file IsNl HasTextRefusal texts nl (λ file.
+    after_file (IsProofText (setting_of file.file)) (IsProofRefused (setting_of file.file) 2) texts
+    proof (λ p.
+    ends texts proof (λ outcome. outcome ≡ prove_outcome file p)
+    (λ old new. new ≤ old + most_steps file p) (IsProvedOf file p)))
 
 abbrev pub prove_promise : Option Texts → List ℕ → List ℕ → Promise
 prove_promise texts nl proof = desk_promise true (prove_told nl proof) texts

@@ -36,4 +36,5 @@ pub record HasScaleRefusal (text : List ℕ) (k : ℕ) (line : List ℕ) : Type 
 
 -- a text with objective k is refused with this line
 abbrev pub IsRefused : List ℕ → ℕ → List ℕ → Type 0
-IsRefused text k line = HasTextRefusal text line ⊎ HasFoldRefusal text k line ⊎ HasScaleRefusal text k line
+IsRefused text k line =
+    HasTextRefusal text line ⊎ HasFoldRefusal text k line ⊎ HasScaleRefusal text k line

@@ -1,20 +1,27 @@
 -- Commands of several files.
 --
 -- A command that reads files one after another is a promise that is built from its end:
---   `ends texts file comes counts means`: the files were read, `file` last, and the command comes to this;
---   `after_file reads refuses texts file next`: this file is read. A text that it refuses ends the command with its line;
---     else the text says one value, and the rest of the command is `next value`, which may read a further file;
+--   `ends texts file comes counts means`: the files were read, `file` last, and the command comes to
+--     this;
+--   `after_file reads refuses texts file next`: this file is read. A text that it refuses ends the
+--     command with its line; else the text says one value, and the rest of the command is
+--     `next value`, which may read a further file;
 --   `desk_promise judges told`: the whole, at a desk that tells its texts or not.
--- So a fault of a file comes before the next file is started, and a reader may depend on the values before it.
+-- So a fault of a file comes before the next file is started, and a reader may depend on the values
+-- before it.
 --
 -- A further command of files f, g (see `Check`):
---   x_told texts f g = after_file IsF RefusesF texts f (λ a. after_file (IsG a) (RefusesG a) texts g (λ b. ends texts g (X a b) ..))
+--   x_told texts f g =
+--     after_file IsF RefusesF texts f (λ a.
+--     after_file (IsG a) (RefusesG a) texts g (λ b. ends texts g (X a b) ..))
 --   x_promise texts f g = desk_promise judges (λ told. x_told told f g) texts
 -- where `judges` says whether it gives a verdict, with status 1 for one that is not yes.
--- In code: open each file (`open_nl`, `open_sol`; a new one is like them, with `open` and the clause `ReadsFile`), return the
--- answer of one that ends the command, judge the values, and end with `end` or `end_verdict`.
--- In proofs (`proofs/SeveralFiles`): `AreRead` for each file, `sound_after` and `sound_end` for the promise; then `begun`,
--- `further`, `stopped` and `ended` give the clause `worked` at each exit, and `idle`, `counted` the clause `counts`.
+-- In code: open each file (`open_nl`, `open_sol`; a new one is like them, with `open` and the
+-- clause `ReadsFile`), return the answer of one that ends the command, judge the values, and end
+-- with `end` or `end_verdict`.
+-- In proofs (`proofs/SeveralFiles`): `AreRead` for each file, `sound_after` and `sound_end` for the
+-- promise; then `begun`, `further`, `stopped` and `ended` give the clause `worked` at each exit,
+-- and `idle`, `counted` the clause `counts`.
 use Rattle.std.specs.Prelude.{◌≡◌, ◌⊎◌, ◌≤◌, ℕ, Bool, List, take, Result, Ok, Err, MatchResult}
 use Rattle.std.specs.Global.{Vec}
 use Rattle.std.specs.declared.option.Option.{Option}
@@ -39,20 +46,28 @@ ByText (Some text) none some = some text
 module _ {V : Type 0} (reads : List ℕ → V → Type 0) (refuses : List ℕ → List ℕ → Type 0) where
   -- the text is refused with a line, of which P holds, or says a value, of which Q holds
   abbrev pub ByValue : List ℕ → (P : List ℕ → Type 0) → (Q : V → Type 0) → Type 0
-  ByValue text P Q = ((line : List ℕ) × (refuses text line × P line)) ⊎ ((value : V) × (reads text value × Q value))
+  ByValue text P Q = ((line : List ℕ) × (refuses text line × P line))
+      ⊎ ((value : V) × (reads text value × Q value))
 
-  -- A file is read; what its first bytes say, up to the limit, leads to the promise that is next. Where they are refused,
-  -- no further file is started.
+  -- A file is read; what its first bytes say, up to the limit, leads to the promise that is next.
+  -- Where they are refused, no further file is started.
   abbrev pub after_file : Texts → List ℕ → (next : V → Promise) → Promise
   after_file texts file next = record {
-    comes = λ outcome. ByText (texts file) (outcome ≡ NoText) (λ text. ByValue (take LIMIT text) (λ line. outcome ≡ IsRefusal line) (λ value. (next value).comes outcome));
-    last = λ last. ByText (texts file) ⊥ (λ text. ByValue (take LIMIT text) (λ line. last ≡ text) (λ value. (next value).last last));
-    counts = λ old new. ByText (texts file) (new ≡ old) (λ text. ByValue (take LIMIT text) (λ line. new ≡ old) (λ value. (next value).counts old new));
-    means = ByText (texts file) ⊥ (λ text. ByValue (take LIMIT text) (λ line. ⊥) (λ value. (next value).means));
+    comes = λ outcome. ByText (texts file) (outcome ≡ NoText)
+        (λ text. ByValue (take LIMIT text) (λ line. outcome ≡ IsRefusal line)
+        (λ value. (next value).comes outcome));
+    last = λ last. ByText (texts file) ⊥ (λ text.
+        ByValue (take LIMIT text) (λ line. last ≡ text) (λ value. (next value).last last));
+    counts = λ old new. ByText (texts file) (new ≡ old)
+        (λ text. ByValue (take LIMIT text) (λ line. new ≡ old)
+        (λ value. (next value).counts old new));
+    means = ByText (texts file) ⊥ (λ text. ByValue (take LIMIT text) (λ line. ⊥)
+        (λ value. (next value).means));
   }
 
 -- all files were read, this one last
-abbrev pub ends : Texts → List ℕ → (comes : Outcome → Type 0) → (counts : ℕ → ℕ → Type 0) → (means : Type 0) → Promise
+abbrev pub ends : Texts → List ℕ → (comes : Outcome → Type 0) → (counts : ℕ → ℕ → Type 0)
+    → (means : Type 0) → Promise
 ends texts file comes counts means = record {
   comes = comes;
   last = λ last. texts file ≡ Some last;
@@ -79,8 +94,10 @@ desk_promise judges told (Some texts) = told texts
 abbrev pub itself : {V : Type 0} → V → V
 itself v = v
 
--- What judging a text answers: what it says, seen so, or the line to tell; of want of memory nothing is said.
-abbrev pub Says : {R V : Type 0} → (seen : R → V) → (reads : List ℕ → V → Type 0) → (refuses : List ℕ → List ℕ → Type 0) → List ℕ → Result R (Stop (Vec ℕ)) → Type 0
+-- What judging a text answers: what it says, seen so, or the line to tell; of want of memory
+-- nothing is said.
+abbrev pub Says : {R V : Type 0} → (seen : R → V) → (reads : List ℕ → V → Type 0)
+    → (refuses : List ℕ → List ℕ → Type 0) → List ℕ → Result R (Stop (Vec ℕ)) → Type 0
 Says seen reads refuses text (Ok value) = reads text (seen value)
 Says seen reads refuses text (Err (Fault line)) = refuses text line.items
 Says seen reads refuses text (Err Memory) = Unit {0}
@@ -92,26 +109,32 @@ Answered (Err (Fault line)) result = result ≡ Err (Refused line)
 Answered (Err Memory) result = result ≡ Err NoMemory
 
 -- the file was read up to the limit, and its first bytes say this
-pub record HasSaid {V : Type 0} (reads : List ℕ → V → Type 0) (file : List ℕ) (old new : Meaning) (value : V) : Type 0 where
+pub record HasSaid {V : Type 0} (reads : List ℕ → V → Type 0) (file : List ℕ) (old new : Meaning)
+    (value : V) : Type 0 where
   pub bytes : List ℕ
   pub read : Reads old.texts file LIMIT bytes new.left
   pub says : reads bytes value
   pub same : new.input_faults ≡ old.input_faults
 
 -- why a file ends the command
-abbrev pub HasEnded : (refuses : List ℕ → List ℕ → Type 0) → List ℕ → Meaning → Meaning → Answer → Type 0
+abbrev pub HasEnded : (refuses : List ℕ → List ℕ → Type 0) → List ℕ → Meaning → Meaning → Answer
+    → Type 0
 HasEnded refuses file old new (Refused line) = HasSaid refuses file old new line.items
-HasEnded refuses file old new InputFault = Rose old.input_faults new.input_faults ⊎ IsUnknown old.texts file
+HasEnded refuses file old new InputFault =
+    Rose old.input_faults new.input_faults ⊎ IsUnknown old.texts file
 HasEnded refuses file old new NoMemory = new.input_faults ≡ old.input_faults
 HasEnded refuses file old new (Done holds) = ⊥
 HasEnded refuses file old new BadWords = ⊥
 HasEnded refuses file old new OutputFault = ⊥
 
 -- What reading and judging a file did: its value, seen so, or the answer that ends the command.
-pub record ReadsFile {R V : Type 0} (seen : R → V) (reads : List ℕ → V → Type 0) (refuses : List ℕ → List ℕ → Type 0) (file : List ℕ) (old new : Meaning) (result : Result R Answer) : Type 0 where
+pub record ReadsFile {R V : Type 0} (seen : R → V) (reads : List ℕ → V → Type 0)
+    (refuses : List ℕ → List ℕ → Type 0) (file : List ℕ) (old new : Meaning)
+    (result : Result R Answer) : Type 0 where
   pub rest : OnlyInput old new
   pub later : old.input_faults ≤ new.input_faults
-  pub judged : MatchResult result (λ value. HasSaid reads file old new (seen value)) (λ answer. HasEnded refuses file old new answer)
+  pub judged : MatchResult result (λ value. HasSaid reads file old new (seen value))
+      (λ answer. HasEnded refuses file old new answer)
 
 -- what judging all values answers: a verdict with the bytes to write, or the line to tell
 abbrev pub Comes : (comes : Outcome → Type 0) → Result (Bool × Vec ℕ) (Stop (Vec ℕ)) → Type 0

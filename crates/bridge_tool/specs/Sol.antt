@@ -24,8 +24,10 @@ pub record IsSolRefused (file : ℕ) (text line : List ℕ) : Type 0 where
 
 -- what is written says the same value, so that it is written again unchanged
 abbrev pub IsSolMeant : List ℕ → Type 0
-IsSolMeant text = (value : Sol) → IsSol text value → length (sol_text value) ≤ 2 ^ 31 → IsSol (sol_text value) value
+IsSolMeant text = (value : Sol) → IsSol text value → length (sol_text value) ≤ 2 ^ 31
+    → IsSol (sol_text value) value
 
 -- no steps are counted
 abbrev pub sol_promise : Option Texts → List ℕ → Promise
-sol_promise texts file = file_promise IsSolRewritten (IsSolRefused 1) texts file (λ old new. new ≡ old) IsSolMeant
+sol_promise texts file =
+    file_promise IsSolRewritten (IsSolRefused 1) texts file (λ old new. new ≡ old) IsSolMeant

@@ -8,7 +8,8 @@ file_text file = if nat_lt 1 file then codes "file " ++ decimal file ++ codes " 
 
 -- how a refusal begins: the file, at what, and its number
 abbrev pub refused_at : ℕ → List ℕ → ℕ → List ℕ
-refused_at file what number = codes "refused " ++ file_text file ++ what ++ codes " " ++ decimal number ++ codes ": "
+refused_at file what number =
+    codes "refused " ++ file_text file ++ what ++ codes " " ++ decimal number ++ codes ": "
 
 abbrev pub refusal : ℕ → List ℕ → ℕ → List ℕ → List ℕ
 refusal file what number text = refused_at file what number ++ text ++ codes "\n"

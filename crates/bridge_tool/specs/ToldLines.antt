@@ -23,4 +23,5 @@ pub record TellsOther (what told : List ℕ) : Type 0 where
 
 -- a line of the text, a row, or the objective
 abbrev pub TellsPlace : List ℕ → List ℕ → Type 0
-TellsPlace text told = TellsLine text told ⊎ TellsOther (codes "row") told ⊎ TellsOther (codes "objective") told
+TellsPlace text told =
+    TellsLine text told ⊎ TellsOther (codes "row") told ⊎ TellsOther (codes "objective") told

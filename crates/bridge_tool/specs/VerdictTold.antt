@@ -52,4 +52,5 @@ fit_line fault = codes "refused file 2: " ++ fit_text fault ++ codes "\n"
 
 -- no file has an objective of a number below 0
 abbrev pub negative_line : ℤ → List ℕ
-negative_line number = codes "refused objective " ++ signed_decimal number ++ codes ": no such objective\n"
+negative_line number =
+    codes "refused objective " ++ signed_decimal number ++ codes ": no such objective\n"

@@ -1,4 +1,5 @@
-// The command check: from an .nl text and a .sol text to the line of a verdict, or to the line to tell.
+// The command check: from an .nl text and a .sol text to the line of a verdict, or to the line to
+// tell.
 ghost use Rattle.std.specs.Prelude.{◌≡◌, ◌≢◌, ◌+◌, ◌≤◌, ◌<ℤ◌, pos, IfOk, MatchOption, MatchResult, None, Some, length};
 ghost use Rattle.linear_programs.specs.Linear.{row_count, variable_count};
 ghost use Rattle.duality.specs.Verdict.{verdict};
@@ -30,8 +31,8 @@ use sol_files::Sol;
 use std::alloc::{AllocError, Global};
 use text_base::{Desk, Ledger, Steps, Stop};
 
-/// Whether a solution fits a file: the same counts, and a value for each variable and for each constraint; or the first
-/// reason why not.
+/// Whether a solution fits a file: the same counts, and a value for each variable and for each
+/// constraint; or the first reason why not.
 pub fn fit(file: &NlFile, sol: &Sol) -> Result<(), FitFault>
     ensures { MatchResult result (λ _. fit_fault file.now.counts (given_by sol.now) ≡ None)
         (λ fault. fit_fault file.now.counts (given_by sol.now) ≡ Some fault) }
@@ -69,7 +70,8 @@ fn plain_objective(number: i32) -> Option<u32>
 fn verdict_of(alloc: Global, linear: &Linear, x: &[Dec], y: &[Dec]) -> Result<Verdict, AllocError>
     requires numbers { length x.now ≡ variable_count (linear_value linear.now) }
     requires duals { length y.now ≡ row_count (linear_value linear.now) }
-    ensures { IfOk result (λ v. answer_of v ≡ verdict (linear_value linear.now) (values_of x.now) (values_of y.now)) }
+    ensures { IfOk result (λ v. answer_of v ≡ verdict (linear_value linear.now) (values_of x.now)
+        (values_of y.now)) }
 {
     let columns = Columns::of(alloc, linear)?;
     Ok(certify(&columns, x, y))
@@ -84,7 +86,8 @@ fn told_verdict(alloc: Global, verdict: Verdict) -> Result<(bool, Vec<u8>), Allo
     Ok((is_yes(verdict), line))
 }
 
-// The verdict on a solution that fits the file, with this objective, or the line of the first fault of the fold.
+// The verdict on a solution that fits the file, with this objective, or the line of the first fault
+// of the fold.
 fn certified<L: Ledger>(
     alloc: Global,
     read: NlRead,
@@ -94,7 +97,8 @@ fn certified<L: Ledger>(
 ) -> Result<(bool, Vec<u8>), Stop<Vec<u8>>>
     requires lines { HasLines read }
     requires fits { unfit (value_of read) sol.now ≡ None }
-    ensures comes { Comes (λ outcome. outcome ≡ by_fold (value_of read) sol.now objective (first_fold_fault read.file objective)) result }
+    ensures comes { Comes (λ outcome. outcome
+        ≡ by_fold (value_of read) sol.now objective (first_fold_fault read.file objective)) result }
     ensures above { steps.old ≤ steps.new }
     ensures counts { steps.new ≤ steps.old + steps_by_number (value_of read) (pos objective) }
 {
@@ -132,7 +136,8 @@ fn judge<L: Ledger>(
     certified(alloc, read, sol, objective, steps)
 }
 
-/// Judges a solution of a file: reads both texts and writes the verdict that they come to. Tells nothing.
+/// Judges a solution of a file: reads both texts and writes the verdict that they come to. Tells
+/// nothing.
 pub(crate) fn check<D: Desk, L: Ledger>(
     alloc: Global,
     nl: &str,
@@ -144,7 +149,8 @@ pub(crate) fn check<D: Desk, L: Ledger>(
         (D.meaning desk.old) (D.meaning desk.new) result }
     ensures known { status_of result ≢ 3 }
     ensures above { steps.old ≤ steps.new }
-    ensures counts { (check_promise (D.meaning desk.old).texts nl.now sol.now).counts steps.old steps.new }
+    ensures counts { (check_promise (D.meaning desk.old).texts nl.now sol.now).counts steps.old
+        steps.new }
     ensures idle { status_of result ≡ 4 → steps.new ≡ steps.old }
 {
     let read = match open_nl(alloc, desk, nl) {

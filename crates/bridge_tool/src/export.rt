@@ -39,8 +39,10 @@ fn export_read<L: Ledger>(
     steps: &mut Steps<L>,
 ) -> Result<Vec<u8>, Stop<Vec<u8>>>
     requires { HasLines read }
-    ensures judges { (text : List ℕ) → IsNl text (value_of read) → Judges (λ t. IsExported t objective) (λ t. IsRefused t objective) text result }
-    ensures means { OnOk result ((text : List ℕ) → IsNl text (value_of read) → IsExportMeant text objective) }
+    ensures judges { (text : List ℕ) → IsNl text (value_of read)
+        → Judges (λ t. IsExported t objective) (λ t. IsRefused t objective) text result }
+    ensures means { OnOk result ((text : List ℕ) → IsNl text (value_of read)
+        → IsExportMeant text objective) }
     ensures above { steps.old ≤ steps.new }
     ensures file { IsFile read.file }
     ensures below { steps.new ≤ steps.old + step_bound read.file }
@@ -59,10 +61,13 @@ fn judge<L: Ledger>(
     objective: u32,
     steps: &mut Steps<L>,
 ) -> Result<Vec<u8>, Stop<Vec<u8>>>
-    ensures judges { (text : List ℕ) → IsFed reader text → Judges (λ t. IsExported t objective) (λ t. IsRefused t objective) text result }
-    ensures means { OnOk result ((text : List ℕ) → IsFed reader text → IsExportMeant text objective) }
+    ensures judges { (text : List ℕ) → IsFed reader text
+        → Judges (λ t. IsExported t objective) (λ t. IsRefused t objective) text result }
+    ensures means { OnOk result ((text : List ℕ) → IsFed reader text
+        → IsExportMeant text objective) }
     ensures above { steps.old ≤ steps.new }
-    ensures counts { (text : List ℕ) → IsFed reader text → Counts text objective steps.old steps.new }
+    ensures counts { (text : List ℕ) → IsFed reader text
+        → Counts text objective steps.old steps.new }
 {
     match reader.finish() {
         Ok(read) => export_read(alloc, read, objective, steps),
@@ -86,7 +91,8 @@ pub(crate) fn export<D: Desk, L: Ledger>(
         (D.meaning desk.old) (D.meaning desk.new) result }
     ensures known { status_of result ≢ 3 }
     ensures above { steps.old ≤ steps.new }
-    ensures counts { (export_promise (D.meaning desk.old).texts file.now objective).counts steps.old steps.new }
+    ensures counts { (export_promise (D.meaning desk.old).texts file.now objective).counts steps.old
+        steps.new }
     ensures idle { status_of result ≡ 4 → steps.new ≡ steps.old }
 {
     match read_nl(alloc, desk, file) {

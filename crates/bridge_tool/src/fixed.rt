@@ -1,4 +1,5 @@
-// The command fixed: from an MPS text of fixed columns to the one written form of what it says, or to the line to tell.
+// The command fixed: from an MPS text of fixed columns to the one written form of what it says, or
+// to the line to tell.
 ghost use Rattle.std.specs.Prelude.{◌≡◌, ◌≢◌, List, ℕ, IfOk, OnOk};
 ghost use Rattle.text_base.specs.Desk.{IsUnknown, OnlyInput};
 ghost use Rattle.fixed_mps.specs.Reader.{IsFed};
@@ -32,7 +33,8 @@ impl Feed for FixedReader {
 
 // Feeds a reader the named text.
 fn read_fixed<D: Desk>(alloc: Global, desk: &mut D, file: &str) -> Result<FixedReader, Unread>
-    ensures text { IfOk result (λ reader. HasRead (D.meaning desk.old).texts file.now LIMIT (D.meaning desk.new).left (IsFed reader)) }
+    ensures text { IfOk result (λ reader. HasRead (D.meaning desk.old).texts file.now LIMIT
+        (D.meaning desk.new).left (IsFed reader)) }
     ensures cause { HasReadCause (IsUnknown (D.meaning desk.old).texts file.now)
         (D.meaning desk.old).input_faults (D.meaning desk.new).input_faults result }
     ensures rest { OnlyInput (D.meaning desk.old) (D.meaning desk.new) }
@@ -43,15 +45,16 @@ fn read_fixed<D: Desk>(alloc: Global, desk: &mut D, file: &str) -> Result<FixedR
 
 // The bytes to write for the text that a reader was fed, or the line to tell.
 fn judge(alloc: Global, reader: FixedReader) -> Result<Vec<u8>, Stop<Vec<u8>>>
-    ensures judges { (text : List ℕ) → IsFed reader text → Judges IsFixedRewritten IsFixedRefused text result }
+    ensures judges { (text : List ℕ) → IsFed reader text
+        → Judges IsFixedRewritten IsFixedRefused text result }
     ensures means { OnOk result ((text : List ℕ) → IsFed reader text → IsFixedMeant text) }
 {
     let read = reader.finish();
     judge_read(alloc, read)
 }
 
-/// Writes an MPS file of fixed columns as free text: reads its text, judges it, and writes what it comes to. Tells
-/// nothing.
+/// Writes an MPS file of fixed columns as free text: reads its text, judges it, and writes what it
+/// comes to. Tells nothing.
 pub(crate) fn rewrite<D: Desk>(alloc: Global, file: &str, desk: &mut D) -> Answer
     ensures worked { IsWorked (fixed_promise (D.meaning desk.old).texts file.now)
         (D.meaning desk.old) (D.meaning desk.new) result }

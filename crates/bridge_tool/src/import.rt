@@ -1,4 +1,5 @@
-// The command import: from an MPS text to the .nl text of a file that means the same, or to the line to tell.
+// The command import: from an MPS text to the .nl text of a file that means the same, or to the
+// line to tell.
 ghost use Rattle.std.specs.Prelude.{◌≢◌, List, ℕ};
 ghost use Rattle.mps_reader.specs.Reader.{IsFed};
 ghost use Rattle.bridge_tool.specs.Answer.{IsWorked, status_of};

@@ -17,19 +17,27 @@ ghost use Rattle.bridge_tool.specs.ToldLines.{TellsLine, TellsPlace};
 
 /// Words come to exactly one outcome, whatever texts a desk has.
 pub fn one_outcome()
-    ensures some { (texts : Option Texts) (words : List (List ℕ)) → (outcome : Outcome) × ComesTo texts words outcome }
-    ensures one { (texts : Option Texts) (words : List (List ℕ)) (a b : Outcome) → ComesTo texts words a → ComesTo texts words b → a ≡ b }
+    ensures some { (texts : Option Texts) (words : List (List ℕ))
+        → (outcome : Outcome) × ComesTo texts words outcome }
+    ensures one { (texts : Option Texts) (words : List (List ℕ)) (a b : Outcome)
+        → ComesTo texts words a → ComesTo texts words b → a ≡ b }
 {}
 
 /// The program of a text that is exported means what its file means.
 pub fn programs_mean_their_files()
-    ensures { (text : List ℕ) (k : ℕ) (bytes : List ℕ) (e : IsExported text k bytes) → IsFile e.value.file → MeansTheFile e.value.file k e.program }
+    ensures { (text : List ℕ) (k : ℕ) (bytes : List ℕ) (e : IsExported text k bytes)
+        → IsFile e.value.file → MeansTheFile e.value.file k e.program }
 {}
 
-/// What is told of a text that is refused names one of the text's lines, and never line 0; an export may name a row or the objective instead. A fault of the fold at a place of the file stands at one of its lines.
+/// What is told of a text that is refused names one of the text's lines, and never line 0; an
+/// export may name a row or the objective instead. A fault of the fold at a place of the file
+/// stands at one of its lines.
 pub fn told_lines_are_lines()
-    ensures export { (text : List ℕ) (k : ℕ) (told : List ℕ) → IsRefused text k told → TellsPlace text told }
+    ensures export { (text : List ℕ) (k : ℕ) (told : List ℕ) → IsRefused text k told
+        → TellsPlace text told }
     ensures nl { (text told : List ℕ) → HasTextRefusal text told → TellsLine text told }
     ensures mps { (text told : List ℕ) → IsMpsRefused text told → TellsLine text told }
-    ensures places { (text : List ℕ) (value : NlValue) (fault : FoldFault) → IsNl text value → HasFaultPlace value.file fault → HasFaultLine (length (lines_of text)) value.places fault }
+    ensures places { (text : List ℕ) (value : NlValue) (fault : FoldFault) → IsNl text value
+        → HasFaultPlace value.file fault → HasFaultLine (length (lines_of text)) value.places
+        fault }
 {}

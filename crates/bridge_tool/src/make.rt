@@ -1,4 +1,5 @@
-// The command make: the instance of a seed and a size is written, read, folded and exported, and summed up.
+// The command make: the instance of a seed and a size is written, read, folded and exported, and
+// summed up.
 ghost use Rattle.std.specs.Prelude.{◌≢◌, ◌+◌, ◌≤◌, List, ℕ, IfOk};
 ghost use Rattle.instances.specs.Instance.{instance};
 ghost use Rattle.linear_fold.specs.FoldedFaults.{step_bound};
@@ -41,7 +42,8 @@ fn export_read<L: Ledger>(
     steps: &mut Steps<L>,
 ) -> Result<Vec<u8>, Stop<Vec<u8>>>
     requires { HasLines read }
-    ensures judges { (text : List ℕ) → IsNl text (value_of read) → Judges IsMade (λ t. IsRefused t 0) text result }
+    ensures judges { (text : List ℕ) → IsNl text (value_of read)
+        → Judges IsMade (λ t. IsRefused t 0) text result }
     ensures above { steps.old ≤ steps.new }
     ensures below { steps.new ≤ steps.old + step_bound read.file }
 {
@@ -77,7 +79,8 @@ fn judge<L: Ledger>(
     }
 }
 
-/// Makes an instance, and writes the summary of what it is exported as. Starts no text, and tells nothing.
+/// Makes an instance, and writes the summary of what it is exported as. Starts no text, and tells
+/// nothing.
 pub(crate) fn make<D: Desk, L: Ledger>(
     alloc: Global,
     seed: u32,
@@ -86,7 +89,8 @@ pub(crate) fn make<D: Desk, L: Ledger>(
     steps: &mut Steps<L>,
 ) -> Answer
     requires { size ≤ 20000 }
-    ensures worked { IsWorked (make_promise seed size) (D.meaning desk.old) (D.meaning desk.new) result }
+    ensures worked { IsWorked (make_promise seed size) (D.meaning desk.old) (D.meaning desk.new)
+        result }
     ensures known { status_of result ≢ 3 }
     ensures leaves { LeavesInput (D.meaning desk.old) (D.meaning desk.new) (status_of result) }
     ensures above { steps.old ≤ steps.new }

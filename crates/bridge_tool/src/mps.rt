@@ -1,4 +1,5 @@
-// The command mps: from an MPS text to the one written form of what it says, or to the line to tell.
+// The command mps: from an MPS text to the one written form of what it says, or to the line to
+// tell.
 ghost use Rattle.std.specs.Prelude.{◌≡◌, ◌≢◌, List, ℕ, IfOk, OnOk};
 ghost use Rattle.text_base.specs.Desk.{IsUnknown, OnlyInput};
 ghost use Rattle.mps_reader.specs.Reader.{IsFed};
@@ -38,7 +39,8 @@ pub(crate) fn read_mps<D: Desk>(
     desk: &mut D,
     file: &str,
 ) -> Result<MpsReader, Unread>
-    ensures text { IfOk result (λ reader. HasRead (D.meaning desk.old).texts file.now LIMIT (D.meaning desk.new).left (IsFed reader)) }
+    ensures text { IfOk result (λ reader. HasRead (D.meaning desk.old).texts file.now LIMIT
+        (D.meaning desk.new).left (IsFed reader)) }
     ensures cause { HasReadCause (IsUnknown (D.meaning desk.old).texts file.now)
         (D.meaning desk.old).input_faults (D.meaning desk.new).input_faults result }
     ensures rest { OnlyInput (D.meaning desk.old) (D.meaning desk.new) }
@@ -71,7 +73,8 @@ pub(crate) fn judge_read(
 
 // The bytes to write for the text that a reader was fed, or the line to tell.
 fn judge(alloc: Global, reader: MpsReader) -> Result<Vec<u8>, Stop<Vec<u8>>>
-    ensures judges { (text : List ℕ) → IsFed reader text → Judges IsRewritten IsMpsRefused text result }
+    ensures judges { (text : List ℕ) → IsFed reader text
+        → Judges IsRewritten IsMpsRefused text result }
     ensures means { OnOk result ((text : List ℕ) → IsFed reader text → IsMpsMeant text) }
 {
     let read = reader.finish();

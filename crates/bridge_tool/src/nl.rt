@@ -16,7 +16,8 @@ use text_base::{Desk, Stop};
 
 // The bytes to write for the text that a reader was fed, or the line to tell.
 fn judge(alloc: Global, reader: NlReader) -> Result<Vec<u8>, Stop<Vec<u8>>>
-    ensures { (text : List ℕ) → IsFed reader text → Judges IsNlRewritten HasTextRefusal text result }
+    ensures { (text : List ℕ) → IsFed reader text
+        → Judges IsNlRewritten HasTextRefusal text result }
 {
     let read = judge_nl(alloc, reader)?;
     let out = write_nl(alloc, &read.file)?;

@@ -32,7 +32,8 @@ impl Feed for NlReader {
 
 /// Feeds a reader the named text.
 pub(crate) fn read_nl<D: Desk>(alloc: Global, desk: &mut D, file: &str) -> Result<NlReader, Unread>
-    ensures text { IfOk result (λ reader. HasRead (D.meaning desk.old).texts file.now LIMIT (D.meaning desk.new).left (IsFed reader)) }
+    ensures text { IfOk result (λ reader. HasRead (D.meaning desk.old).texts file.now LIMIT
+        (D.meaning desk.new).left (IsFed reader)) }
     ensures cause { HasReadCause (IsUnknown (D.meaning desk.old).texts file.now)
         (D.meaning desk.old).input_faults (D.meaning desk.new).input_faults result }
     ensures rest { OnlyInput (D.meaning desk.old) (D.meaning desk.new) }
@@ -43,7 +44,8 @@ pub(crate) fn read_nl<D: Desk>(alloc: Global, desk: &mut D, file: &str) -> Resul
 
 /// What the text says that a reader was fed, or the line to tell.
 pub(crate) fn judge_nl(alloc: Global, reader: NlReader) -> Result<NlRead, Stop<Vec<u8>>>
-    ensures says { (text : List ℕ) → IsFed reader text → Says value_of IsNl HasTextRefusal text result }
+    ensures says { (text : List ℕ) → IsFed reader text
+        → Says value_of IsNl HasTextRefusal text result }
     ensures lines { IfOk result HasLines }
 {
     match reader.finish() {
@@ -58,7 +60,8 @@ pub(crate) fn judge_nl(alloc: Global, reader: NlReader) -> Result<NlRead, Stop<V
 
 /// What the first file of a command says, or the answer that ends the command.
 pub(crate) fn open_nl<D: Desk>(alloc: Global, desk: &mut D, file: &str) -> Result<NlRead, Answer>
-    ensures reads { ReadsFile value_of IsNl HasTextRefusal file.now (D.meaning desk.old) (D.meaning desk.new) result }
+    ensures reads { ReadsFile value_of IsNl HasTextRefusal file.now (D.meaning desk.old)
+        (D.meaning desk.new) result }
     ensures lines { IfOk result HasLines }
     ensures known { IfErr result (λ answer. status_of answer ≢ 3) }
 {

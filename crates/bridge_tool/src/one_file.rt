@@ -18,7 +18,8 @@ pub(crate) fn read<D: Desk, R: Feed + Drop>(
     mut reader: R,
 ) -> Result<R, Unread>
     requires { R.fed reader [] }
-    ensures text { IfOk result (λ reader. HasRead (D.meaning desk.old).texts file.now LIMIT (D.meaning desk.new).left (R.fed reader)) }
+    ensures text { IfOk result (λ reader. HasRead (D.meaning desk.old).texts file.now LIMIT
+        (D.meaning desk.new).left (R.fed reader)) }
     ensures setting { IfOk result (λ read. R.setting read ≡ R.setting reader) }
     ensures cause { HasReadCause (IsUnknown (D.meaning desk.old).texts file.now)
         (D.meaning desk.old).input_faults (D.meaning desk.new).input_faults result }

@@ -43,7 +43,8 @@ pub(crate) fn read_proof<D: Desk>(
     file: &NlFile,
     name: &str,
 ) -> Result<ProofReader, Unread>
-    ensures text { IfOk result (λ reader. HasRead (D.meaning desk.old).texts name.now LIMIT (D.meaning desk.new).left (IsFed (setting_of file.now) reader)) }
+    ensures text { IfOk result (λ reader. HasRead (D.meaning desk.old).texts name.now LIMIT
+        (D.meaning desk.new).left (IsFed (setting_of file.now) reader)) }
     ensures cause { HasReadCause (IsUnknown (D.meaning desk.old).texts name.now)
         (D.meaning desk.old).input_faults (D.meaning desk.new).input_faults result }
     ensures rest { OnlyInput (D.meaning desk.old) (D.meaning desk.new) }
@@ -52,15 +53,18 @@ pub(crate) fn read_proof<D: Desk>(
     read(alloc, desk, name, reader)
 }
 
-/// What the text says that a reader of proofs of a file was fed, or the line to tell; the text is this file of its command.
+/// What the text says that a reader of proofs of a file was fed, or the line to tell; the text is
+/// this file of its command.
 pub(crate) fn judge_proof(
     alloc: Global,
     reader: ProofReader,
     number: u32,
 ) -> Result<Proof, Stop<Vec<u8>>>
     ensures says { (f : File) (text : List ℕ) → IsFed (setting_of f) reader text
-        → Says itself (IsProofText (setting_of f)) (IsProofRefused (setting_of f) number) text result }
-    ensures proof { IfOk result (λ p. (f : File) (text : List ℕ) → IsFed (setting_of f) reader text → IsProofIn f p) }
+        → Says itself (IsProofText (setting_of f)) (IsProofRefused (setting_of f) number) text
+        result }
+    ensures proof { IfOk result (λ p. (f : File) (text : List ℕ) → IsFed (setting_of f) reader text
+        → IsProofIn f p) }
 {
     match reader.finish() {
         Ok(proof) => Ok(proof),
@@ -72,7 +76,8 @@ pub(crate) fn judge_proof(
     }
 }
 
-/// The proof of this file that a text says, which is this one of its command, or the answer that ends the command.
+/// The proof of this file that a text says, which is this one of its command, or the answer that
+/// ends the command.
 pub(crate) fn open_proof<D: Desk>(
     alloc: Global,
     desk: &mut D,
@@ -80,7 +85,9 @@ pub(crate) fn open_proof<D: Desk>(
     name: &str,
     number: u32,
 ) -> Result<Proof, Answer>
-    ensures reads { ReadsFile itself (IsProofText (setting_of file.now)) (IsProofRefused (setting_of file.now) number) name.now (D.meaning desk.old) (D.meaning desk.new) result }
+    ensures reads { ReadsFile itself (IsProofText (setting_of file.now))
+        (IsProofRefused (setting_of file.now) number) name.now (D.meaning desk.old)
+        (D.meaning desk.new) result }
     ensures proof { IfOk result (λ p. IsProofIn file.now p) }
     ensures known { IfErr result (λ answer. status_of answer ≢ 3) }
 {

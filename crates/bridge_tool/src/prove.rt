@@ -1,4 +1,5 @@
-// The command prove: from an .nl text and a proof text to the line of a verdict, or to the line to tell.
+// The command prove: from an .nl text and a proof text to the line of a verdict, or to the line to
+// tell.
 ghost use Rattle.std.specs.Prelude.{◌≡◌, ◌≢◌, ◌+◌, ◌≤◌, true, is_none, IfOk};
 ghost use Rattle.linear_fold.specs.Programs.{linear_value};
 ghost use Rattle.nl_segments.specs.Reader.{HasLines, value_of};
@@ -80,7 +81,8 @@ fn judge<L: Ledger>(
     Ok(told)
 }
 
-/// Judges a proof of a claim on a file: reads both texts and writes the verdict that they come to. Tells nothing.
+/// Judges a proof of a claim on a file: reads both texts and writes the verdict that they come to.
+/// Tells nothing.
 pub(crate) fn prove<D: Desk, L: Ledger>(
     alloc: Global,
     nl: &str,
@@ -92,7 +94,8 @@ pub(crate) fn prove<D: Desk, L: Ledger>(
         (D.meaning desk.old) (D.meaning desk.new) result }
     ensures known { status_of result ≢ 3 }
     ensures above { steps.old ≤ steps.new }
-    ensures counts { (prove_promise (D.meaning desk.old).texts nl.now proof.now).counts steps.old steps.new }
+    ensures counts { (prove_promise (D.meaning desk.old).texts nl.now proof.now).counts steps.old
+        steps.new }
     ensures idle { status_of result ≡ 4 → steps.new ≡ steps.old }
 {
     let read = match open_nl(alloc, desk, nl) {

@@ -1,4 +1,5 @@
-// The command sol: from a .sol text to the one written form of what it says, or to the line to tell.
+// The command sol: from a .sol text to the one written form of what it says, or to the line to
+// tell.
 ghost use Rattle.std.specs.Prelude.{◌≢◌, List, ℕ};
 ghost use Rattle.sol_files.specs.Reader.{IsFed};
 ghost use Rattle.bridge_tool.specs.Answer.{IsWorked, status_of};
@@ -14,7 +15,8 @@ use text_base::{Desk, Stop};
 
 // The bytes to write for the text that a reader was fed, or the line to tell.
 fn judge(alloc: Global, reader: SolReader) -> Result<Vec<u8>, Stop<Vec<u8>>>
-    ensures { (text : List ℕ) → IsFed reader text → Judges IsSolRewritten (IsSolRefused 1) text result }
+    ensures { (text : List ℕ) → IsFed reader text
+        → Judges IsSolRewritten (IsSolRefused 1) text result }
 {
     let sol = judge_sol(alloc, reader, 1)?;
     let out = write_sol(alloc, &sol)?;

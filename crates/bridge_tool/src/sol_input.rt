@@ -36,7 +36,8 @@ pub(crate) fn read_sol<D: Desk>(
     desk: &mut D,
     file: &str,
 ) -> Result<SolReader, Unread>
-    ensures text { IfOk result (λ reader. HasRead (D.meaning desk.old).texts file.now LIMIT (D.meaning desk.new).left (IsFed reader)) }
+    ensures text { IfOk result (λ reader. HasRead (D.meaning desk.old).texts file.now LIMIT
+        (D.meaning desk.new).left (IsFed reader)) }
     ensures cause { HasReadCause (IsUnknown (D.meaning desk.old).texts file.now)
         (D.meaning desk.old).input_faults (D.meaning desk.new).input_faults result }
     ensures rest { OnlyInput (D.meaning desk.old) (D.meaning desk.new) }
@@ -45,9 +46,11 @@ pub(crate) fn read_sol<D: Desk>(
     read(alloc, desk, file, reader)
 }
 
-/// What the text says that a reader was fed, or the line to tell; the text is this file of its command.
+/// What the text says that a reader was fed, or the line to tell; the text is this file of its
+/// command.
 pub(crate) fn judge_sol(alloc: Global, reader: SolReader, file: u32) -> Result<Sol, Stop<Vec<u8>>>
-    ensures { (text : List ℕ) → IsFed reader text → Says itself IsSol (IsSolRefused file) text result }
+    ensures { (text : List ℕ) → IsFed reader text
+        → Says itself IsSol (IsSolRefused file) text result }
 {
     match reader.finish() {
         Ok(sol) => Ok(sol),
@@ -66,7 +69,8 @@ pub(crate) fn open_sol<D: Desk>(
     name: &str,
     file: u32,
 ) -> Result<Sol, Answer>
-    ensures reads { ReadsFile itself IsSol (IsSolRefused file) name.now (D.meaning desk.old) (D.meaning desk.new) result }
+    ensures reads { ReadsFile itself IsSol (IsSolRefused file) name.now (D.meaning desk.old)
+        (D.meaning desk.new) result }
     ensures known { IfErr result (λ answer. status_of answer ≢ 3) }
 {
     match read_sol(alloc, desk, name) {

@@ -23,7 +23,8 @@ fn put_number(line: &mut Vec<u8>, value: Frac) -> Result<(), AllocError>
 
 // A word before an index and one after it.
 fn put_index(line: &mut Vec<u8>, front: &[u8], index: u32, back: &[u8]) -> Result<(), AllocError>
-    ensures { OnOk result (line.new.items ≡ line.old.items ++ (front.now ++ decimal index ++ back.now)) }
+    ensures { OnOk result (line.new.items ≡ line.old.items
+        ++ (front.now ++ decimal index ++ back.now)) }
 {
     let mut digits = Buffer::new();
     put(line, front)?;
@@ -44,21 +45,24 @@ fn put_place(line: &mut Vec<u8>, place: Spot) -> Result<(), AllocError>
 }
 
 fn put_too_wide(line: &mut Vec<u8>, place: Spot) -> Result<(), AllocError>
-    ensures { OnOk result (line.new.items ≡ line.old.items ++ verdict_text (answer_of (TooWide place))) }
+    ensures { OnOk result (line.new.items ≡ line.old.items
+        ++ verdict_text (answer_of (TooWide place))) }
 {
     put(line, b"too wide at ")?;
     put_place(line, place)
 }
 
 fn put_yes(line: &mut Vec<u8>, value: Frac) -> Result<(), AllocError>
-    ensures { OnOk result (line.new.items ≡ line.old.items ++ verdict_text (answer_of (Yes value))) }
+    ensures { OnOk result (line.new.items ≡ line.old.items
+        ++ verdict_text (answer_of (Yes value))) }
 {
     put(line, b"yes ")?;
     put_number(line, value)
 }
 
 fn put_gap(line: &mut Vec<u8>, value: Frac, bound: Frac) -> Result<(), AllocError>
-    ensures { OnOk result (line.new.items ≡ line.old.items ++ verdict_text (answer_of (Gap value bound))) }
+    ensures { OnOk result (line.new.items ≡ line.old.items
+        ++ verdict_text (answer_of (Gap value bound))) }
 {
     put(line, b"gap ")?;
     put_number(line, value)?;
