@@ -1,5 +1,5 @@
 -- What a file with two lists of names comes to: one outcome, and the ends of the command.
-use Rattle.std.proofs.Common.{◌≡◌, ◌∙◌, inl, inr, ◌⊎◌, ℕ, ◌+◌, ◌≤◌, List, Bool, true, false, Option, Some, None, Result, Ok, Err, refl, sym, ap, subst, arith}
+use Rattle.std.proofs.Common.{◌≡◌, ◌∙◌, inl, inr, ◌⊎◌, ◌↔◌, ℕ, ◌+◌, ◌≤◌, List, Bool, true, false, Option, Some, None, Result, Ok, Err, refl, sym, ap, subst, arith}
 use Rattle.std.specs.Prelude.{option_map, IfOk, IsTrue}
 use Rattle.std.specs.Global.{Vec}
 use Rattle.fractions.specs.Rational.{ℚ}
@@ -12,6 +12,7 @@ use Rattle.linear_fold.specs.Programs.{LinearValue, linear_value}
 use Rattle.mps_model.specs.Mps.{Mps}
 use Rattle.mps_model.specs.Text.{mps_text_by}
 use Rattle.name_files.specs.Renamed.{named}
+use Rattle.nl_model.specs.File.{File}
 use Rattle.nl_segments.specs.Grammar.{NlValue}
 use Rattle.nl_segments.specs.Reader.{IsNl}
 use Rattle.row_scaling.specs.Exported.{exported_as}
@@ -21,6 +22,7 @@ use Rattle.row_scaling.specs.declared.scale_fault.ScaleFault.{ScaleFault}
 use Rattle.text_base.specs.Desk.{Meaning, Texts}
 use Rattle.text_base.specs.declared.stop.Stop.{Stop}
 use Rattle.bridge_tool.specs.Answer.{EndsVerdict, IsWorked}
+use Rattle.bridge_tool.specs.Export.{IsExported}
 use Rattle.bridge_tool.specs.NameLists.{AreListed, IsListRefused, after_lists, column_counts, row_counts}
 use Rattle.bridge_tool.specs.NamedExport.{AreNamedMeant, IsNamedExport, IsNamedTextOf, IsUnscaled, Named, NamedComesTo, most_named_steps, named_end, named_promise, named_told}
 use Rattle.bridge_tool.specs.NlTold.{fold_line, scale_line}
@@ -31,7 +33,7 @@ use Rattle.bridge_tool.specs.SeveralFiles.{Comes, ReadsFile, after_file, itself}
 use Rattle.bridge_tool.specs.Stages.{HasFoldFault, HasFolded, HasScaled}
 use Rattle.bridge_tool.specs.declared.answer.Answer.{Answer}
 use Rattle.bridge_tool.proofs.Decided.{decimal_decided, one_scale_fault, scales_without_fault, scaling_decided}
-use Rattle.bridge_tool.proofs.Exporting.{by_decimal, exported, folds_without_fault}
+use Rattle.bridge_tool.proofs.Exporting.{by_decimal, exported, folds_without_fault, same_file}
 use Rattle.bridge_tool.proofs.NameLists.{list_read}
 use Rattle.bridge_tool.proofs.NlRewriting.{nl_read}
 use Rattle.bridge_tool.proofs.OneOutcome.{HasOne, IsPlain}
@@ -196,3 +198,29 @@ module _ (file : List ℕ) (objective : ℕ) (rows columns : List ℕ) where
             counted told false (named_sound file objective rows columns) itself (AreListed (column_counts nl.file)) (IsListRefused (column_counts nl.file) 3) columns
             (λ q. NamedComesTo (of_lists nl r q)) (λ q a b. b ≤ a + most_named_steps (of_lists nl r q)) (λ q. AreNamedMeant (of_lists nl r q))
             old second third down_again c read_columns a b le
+
+-- ---- with names and without them
+
+-- a file is exported with names exactly where it is exported without them
+pub same_verdict : (text : List ℕ) (n : Named) → IsNl text n.nl
+    → ((bytes : List ℕ) × IsExported text n.objective bytes) ↔ ((bytes : List ℕ) × IsNamedExport n bytes)
+same_verdict text n read =
+    (
+      λ h.
+          let e = h.1 in
+          let file = same_file text e.value n.nl e.read read in (
+            mps_text_by value_text (named e.program n.rows n.columns),
+            record {
+              program = e.program;
+              folded = subst (λ (f : File). fold_fault f n.objective ≡ None) file e.folded;
+              scaled = subst (λ (f : File). HasNoScaleFault (linear_of f n.objective)) file e.scaled;
+              exports = subst (λ (f : File). IsExportOf (linear_of f n.objective) e.program) file e.exports;
+              written = refl;
+            }
+          ),
+      λ h.
+          let e = h.1 in (
+            mps_text_by value_text e.program,
+            record { value = n.nl; program = e.program; read = read; folded = e.folded; scaled = e.scaled; exports = e.exports; written = refl }
+          ),
+    )

@@ -1,5 +1,5 @@
 // Each law is proved by a function with an empty body.
-ghost use Rattle.std.specs.Prelude.{◌≡◌, List, ℕ, Option, length};
+ghost use Rattle.std.specs.Prelude.{◌≡◌, ◌↔◌, List, ℕ, Option, length};
 ghost use Rattle.linear_fold.specs.FoldedFaults.{HasFaultPlace};
 ghost use Rattle.linear_fold.specs.declared.fold_fault.FoldFault.{FoldFault};
 ghost use Rattle.nl_model.specs.Rules.{IsFile};
@@ -10,6 +10,7 @@ ghost use Rattle.text_base.specs.Reading.{lines_of};
 ghost use Rattle.bridge_tool.specs.Commands.{ComesTo};
 ghost use Rattle.bridge_tool.specs.Export.{IsExported, MeansTheFile};
 ghost use Rattle.bridge_tool.specs.Mps.{IsMpsRefused};
+ghost use Rattle.bridge_tool.specs.NamedExport.{IsNamedExport, Named};
 ghost use Rattle.bridge_tool.specs.NlTold.{HasFaultLine};
 ghost use Rattle.bridge_tool.specs.Outcome.{Outcome};
 ghost use Rattle.bridge_tool.specs.Refusal.{HasTextRefusal, IsRefused};
@@ -40,4 +41,11 @@ pub fn told_lines_are_lines()
     ensures places { (text : List ℕ) (value : NlValue) (fault : FoldFault) → IsNl text value
         → HasFaultPlace value.file fault → HasFaultLine (length (lines_of text)) value.places
         fault }
+{}
+
+/// A file is exported with the names of two lists exactly where it is exported without them.
+pub fn names_change_no_verdict()
+    ensures { (text : List ℕ) (n : Named) → IsNl text n.nl
+        → ((bytes : List ℕ) × IsExported text n.objective bytes)
+        ↔ ((bytes : List ℕ) × IsNamedExport n bytes) }
 {}
