@@ -204,23 +204,22 @@ module _ (file : List ℕ) (objective : ℕ) (rows columns : List ℕ) where
 -- a file is exported with names exactly where it is exported without them
 pub same_verdict : (text : List ℕ) (n : Named) → IsNl text n.nl
     → ((bytes : List ℕ) × IsExported text n.objective bytes) ↔ ((bytes : List ℕ) × IsNamedExport n bytes)
-same_verdict text n read =
-    (
-      λ h.
-          let e = h.1 in
-          let file = same_file text e.value n.nl e.read read in (
-            mps_text_by value_text (named e.program n.rows n.columns),
-            record {
-              program = e.program;
-              folded = subst (λ (f : File). fold_fault f n.objective ≡ None) file e.folded;
-              scaled = subst (λ (f : File). HasNoScaleFault (linear_of f n.objective)) file e.scaled;
-              exports = subst (λ (f : File). IsExportOf (linear_of f n.objective) e.program) file e.exports;
-              written = refl;
-            }
-          ),
-      λ h.
-          let e = h.1 in (
-            mps_text_by value_text e.program,
-            record { value = n.nl; program = e.program; read = read; folded = e.folded; scaled = e.scaled; exports = e.exports; written = refl }
-          ),
-    )
+same_verdict text n read = (
+  λ h.
+      let e = h.1 in
+      let file = same_file text e.value n.nl e.read read in (
+        mps_text_by value_text (named e.program n.rows n.columns),
+        record {
+          program = e.program;
+          folded = subst (λ (f : File). fold_fault f n.objective ≡ None) file e.folded;
+          scaled = subst (λ (f : File). HasNoScaleFault (linear_of f n.objective)) file e.scaled;
+          exports = subst (λ (f : File). IsExportOf (linear_of f n.objective) e.program) file e.exports;
+          written = refl;
+        },
+      ),
+  λ h.
+      let e = h.1 in (
+        mps_text_by value_text e.program,
+        record { value = n.nl; program = e.program; read = read; folded = e.folded; scaled = e.scaled; exports = e.exports; written = refl },
+      ),
+)

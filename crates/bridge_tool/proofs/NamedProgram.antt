@@ -109,7 +109,7 @@ pub one_meaning : (bytes : List ℕ) (p : Mps ℚ) (rows columns : List (List �
 one_meaning bytes p rows columns t =
     let same : HaveOneMeaning (with_values dec_value (named t.decimal rows columns)) (with_values dec_value t.decimal) = same_meaning (new_name row_name rows) (new_name variable_name columns) t.decimal in
     let of_values : HaveOneMeaning (named (with_values dec_value t.decimal) rows columns) (with_values dec_value t.decimal) =
-        subst (λ (q : Mps ℚ). HaveOneMeaning q (with_values dec_value t.decimal)) (values_named t.decimal rows columns) same in
+    subst (λ (q : Mps ℚ). HaveOneMeaning q (with_values dec_value t.decimal)) (values_named t.decimal rows columns) same in
     subst (λ (q : Mps ℚ). HaveOneMeaning (named q rows columns) q) t.values of_values
 
 -- ---- reading back
@@ -155,7 +155,7 @@ named_meant n p out file exports t = λ bytes e.
     let same : p ≡ e.program = by_decimal (linear_of f k) p e.program exports e.exports (decimal_decided (linear_of f k)) in
     let own : IsNamedTextOf out e.program n.rows n.columns = subst (λ (q : Mps ℚ). IsNamedTextOf out q n.rows n.columns) same t in
     let read : length bytes ≤ 2 ^ 31 → IsReadAs bytes (named e.program n.rows n.columns) =
-        subst (λ (b : List ℕ). length b ≤ 2 ^ 31 → IsReadAs b (named e.program n.rows n.columns)) (own.text ∙ sym e.written) (named_back out e.program n.rows n.columns own) in
+    subst (λ (b : List ℕ). length b ≤ 2 ^ 31 → IsReadAs b (named e.program n.rows n.columns)) (own.text ∙ sym e.written) (named_back out e.program n.rows n.columns own) in
     let meaning = one_meaning out e.program n.rows n.columns own in
     record {
       file = carried f k (named e.program n.rows n.columns) e.program meaning (file_program f k e.program file e.folded e.exports);

@@ -55,11 +55,7 @@ fn read_names<D: Desk>(
 
 // The names of the text that a reader was fed, which is this file of its command, or the line to
 // tell.
-fn judge_names(
-    alloc: Global,
-    file: u32,
-    reader: NameReader,
-) -> Result<NameList, Stop<Vec<u8>>>
+fn judge_names(alloc: Global, file: u32, reader: NameReader) -> Result<NameList, Stop<Vec<u8>>>
     ensures { (counts : Counts) (text : List ℕ) → reader.held.counts ≡ counts → IsFed reader text
         → Says itself (AreListed counts) (IsListRefused counts file) text result }
 {

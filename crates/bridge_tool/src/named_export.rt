@@ -51,15 +51,24 @@ fn judge<L: Ledger>(
     requires rows { length rows.now ≡ read.file.counts.n_con }
     requires columns { length columns.now ≡ read.file.counts.n_var }
     ensures comes { (n : Named) → n ≡ record {
-          nl = value_of read; objective = objective; rows = rows.now; columns = columns.now;
-        } → Comes (NamedComesTo n) result }
+      nl = value_of read;
+      objective = objective;
+      rows = rows.now;
+      columns = columns.now;
+    } → Comes (NamedComesTo n) result }
     ensures means { (n : Named) → n ≡ record {
-          nl = value_of read; objective = objective; rows = rows.now; columns = columns.now;
-        } → IfOk result (λ t. AreNamedMeant n) }
+      nl = value_of read;
+      objective = objective;
+      rows = rows.now;
+      columns = columns.now;
+    } → IfOk result (λ t. AreNamedMeant n) }
     ensures above { steps.old ≤ steps.new }
     ensures counts { (n : Named) → n ≡ record {
-          nl = value_of read; objective = objective; rows = rows.now; columns = columns.now;
-        } → steps.new ≤ steps.old + most_named_steps n }
+      nl = value_of read;
+      objective = objective;
+      rows = rows.now;
+      columns = columns.now;
+    } → steps.new ≤ steps.old + most_named_steps n }
 {
     let linear = fold(alloc, &read, objective, steps)?;
     let scaled = scale(alloc, linear, objective)?;
@@ -83,8 +92,7 @@ pub(crate) fn export_named<D: Desk, L: Ledger>(
         (D.meaning desk.old) (D.meaning desk.new) result }
     ensures known { status_of result ≢ 3 }
     ensures above { steps.old ≤ steps.new }
-    ensures counts {
-        (named_promise (D.meaning desk.old).texts file.now objective rows.now columns.now).counts
+    ensures counts { (named_promise (D.meaning desk.old).texts file.now objective rows.now columns.now).counts
         steps.old steps.new }
     ensures idle { status_of result ≡ 4 → steps.new ≡ steps.old }
 {

@@ -114,8 +114,7 @@ pub(crate) fn return_named<D: Desk, L: Ledger>(
         (D.meaning desk.old) (D.meaning desk.new) result }
     ensures known { status_of result ≢ 3 }
     ensures above { steps.old ≤ steps.new }
-    ensures counts {
-        (named_return_promise (D.meaning desk.old).texts nl.now answer.now rows.now
+    ensures counts { (named_return_promise (D.meaning desk.old).texts nl.now answer.now rows.now
         columns.now).counts steps.old steps.new }
     ensures idle { status_of result ≡ 4 → steps.new ≡ steps.old }
 {

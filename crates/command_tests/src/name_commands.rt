@@ -46,7 +46,13 @@ fn exports(
     out: &str,
 ) -> Result<bool, AllocError> {
     let texts = [("a.nl", KNAPSACK), ("a.row", rows), ("a.col", columns)];
-    comes_to(alloc, &["export", "a.nl", k, "a.row", "a.col"], &texts, status, out)
+    comes_to(
+        alloc,
+        &["export", "a.nl", k, "a.row", "a.col"],
+        &texts,
+        status,
+        out,
+    )
 }
 
 #[test]
@@ -54,16 +60,61 @@ fn exports_with_names(rt: HostRuntime) -> Result<(), Fail> {
     let cases = [
         ("0", "Cap\nProfit\n", "a\nb\nz\n", 0, NAMED),
         ("0", "\n  Cap\n\n", "a\nb\n\nz", 0, NAMED),
-        ("0", "Cap\n", "a\nb\na\n", 2, "refused file 3 line 3: repeated name\n"),
-        ("0", "Cap\nProfit\nx\n", "a\n", 2, "refused file 2 line 3: other count\n"),
-        ("0", "", "a\nb\nz\n", 2, "refused file 2 line 1: other count\n"),
-        ("0", "@Cap\n", "", 2, "refused file 2 line 1: reserved name\n"),
-        ("0", "Cap\n", "a\nb c\n", 2, "refused file 3 line 2: bad name\n"),
-        ("1", "Cap\n", "a\nb\na\n", 2, "refused file 3 line 3: repeated name\n"),
-        ("1", "Cap\n", "a\nb\nz\n", 2, "refused objective 1: no such objective\n"),
+        (
+            "0",
+            "Cap\n",
+            "a\nb\na\n",
+            2,
+            "refused file 3 line 3: repeated name\n",
+        ),
+        (
+            "0",
+            "Cap\nProfit\nx\n",
+            "a\n",
+            2,
+            "refused file 2 line 3: other count\n",
+        ),
+        (
+            "0",
+            "",
+            "a\nb\nz\n",
+            2,
+            "refused file 2 line 1: other count\n",
+        ),
+        (
+            "0",
+            "@Cap\n",
+            "",
+            2,
+            "refused file 2 line 1: reserved name\n",
+        ),
+        (
+            "0",
+            "Cap\n",
+            "a\nb c\n",
+            2,
+            "refused file 3 line 2: bad name\n",
+        ),
+        (
+            "1",
+            "Cap\n",
+            "a\nb\na\n",
+            2,
+            "refused file 3 line 3: repeated name\n",
+        ),
+        (
+            "1",
+            "Cap\n",
+            "a\nb\nz\n",
+            2,
+            "refused objective 1: no such objective\n",
+        ),
     ];
     for (k, rows, columns, status, out) in cases {
-        assert!(rt; exports(rt.alloc(), k, rows, columns, status, out)?, "at {rows} {columns}");
+        assert!(rt;
+            exports(rt.alloc(), k, rows, columns, status, out)?,
+            "at {rows} {columns}"
+        );
     }
     Ok(())
 }
@@ -89,12 +140,32 @@ fn returns_with_names(rt: HostRuntime) -> Result<(), Fail> {
             0,
             "\nOptions\n3\n1\n1\n0\n0\n0\n1\n1\n0\nobjno 0 0\n",
         ),
-        (most.as_str(), "r\n", "answer 1\ncol x0 1\n", 2, "refused file 2 line 2: unknown name\n"),
-        (most.as_str(), "r s\n", "none", 2, "refused file 3 line 1: bad name\n"),
+        (
+            most.as_str(),
+            "r\n",
+            "answer 1\ncol x0 1\n",
+            2,
+            "refused file 2 line 2: unknown name\n",
+        ),
+        (
+            most.as_str(),
+            "r s\n",
+            "none",
+            2,
+            "refused file 3 line 1: bad name\n",
+        ),
     ];
     for (nl, rows, answer, status, out) in cases {
-        let texts = [("a.nl", nl), ("a.row", rows), ("a.col", "v\n"), ("a.answer", answer)];
-        assert!(rt; comes_to(alloc, &words, &texts, status, out)?, "at {answer}");
+        let texts = [
+            ("a.nl", nl),
+            ("a.row", rows),
+            ("a.col", "v\n"),
+            ("a.answer", answer),
+        ];
+        assert!(rt;
+            comes_to(alloc, &words, &texts, status, out)?,
+            "at {answer}"
+        );
     }
     Ok(())
 }
@@ -104,9 +175,17 @@ fn lists_come_after_the_file(rt: HostRuntime) -> Result<(), Fail> {
     let alloc = rt.alloc();
     let texts = [("a.nl", KNAPSACK), ("b", "b3 1 1 0\n")];
     let cases: [(&[&str], u8, &str); 5] = [
-        (&["export", "b", "0", "none", "none"], 2, "refused line 1: binary file\n"),
+        (
+            &["export", "b", "0", "none", "none"],
+            2,
+            "refused line 1: binary file\n",
+        ),
         (&["export", "a.nl", "0", "none", "none"], 4, "input fault\n"),
-        (&["return", "a.nl", "none", "b", "none"], 2, "refused file 3 line 1: bad name\n"),
+        (
+            &["return", "a.nl", "none", "b", "none"],
+            2,
+            "refused file 3 line 1: bad name\n",
+        ),
         (&["export", "a.nl", "0", "b"], 3, "bad words\n"),
         (&["return", "a.nl", "b", "b"], 3, "bad words\n"),
     ];
