@@ -10,7 +10,9 @@ use std::test::Fail;
 
 // Of ONE_WHOLE: an answer; the optimum of the relaxed program; a point that is feasible, and not the best.
 const ANSWER: &str = "answer 1\nstatus 0\nmessage done\ncol x0 2\nrow c0 0.5\n";
+
 const BEST: &str = "done\n\nOptions\n0\n1\n1\n1\n1\n0.5\n1.5\n";
+
 const WORSE: &str = "done\n\nOptions\n0\n1\n1\n1\n1\n0.5\n2\n";
 
 // A command, the texts that it starts, and its status where no call fails.
@@ -50,13 +52,13 @@ fn of_two(command: &'static str, text: &'static str, second: &'static str, statu
 
 // A run that has ended.
 #[derive(Drop)]
-struct Run {
+struct Ended {
     status: u8,
     desk: ShortDesk,
 }
 
 // The run where each call moves at most so many bytes, and those of these numbers fail.
-fn run(alloc: Global, case: &Case, most: usize, failing: &[u64]) -> Result<Run, AllocError> {
+fn run(alloc: Global, case: &Case, most: usize, failing: &[u64]) -> Result<Ended, AllocError> {
     let mut desk = ShortDesk::new(alloc, most, failing)?;
     if let Some(text) = case.first {
         desk.put("a", text.as_bytes())?;
@@ -69,7 +71,7 @@ fn run(alloc: Global, case: &Case, most: usize, failing: &[u64]) -> Result<Run, 
         1 => command(alloc, &mut desk, &[case.command, "a"])?,
         _ => command(alloc, &mut desk, &[case.command, "a", "b"])?,
     };
-    Ok(Run { status, desk })
+    Ok(Ended { status, desk })
 }
 
 // The calls that give a text: its start, its pieces and its end.
@@ -80,11 +82,10 @@ fn input_calls(text: Option<&str>, most: usize) -> usize {
     }
 }
 
-// Whether a run ended as it must where one call failed, the one after this many of input, or after these and so many
-// that moved these bytes: a failed start or read leaves nothing written, a failed write what was written before it, and
-// a failed tell changes nothing but the line.
-fn ends_well(run: &Run, whole: &Run, inputs_failed: bool, moved: usize) -> bool {
-    if inputs_failed {
+// Whether a run ended as it must where one call failed, by the whole run. A failed start or read leaves nothing written;
+// a failed write what was moved before it; a failed tell changes the line alone.
+fn ends_well(run: &Ended, whole: &Ended, input_failed: bool, moved: usize) -> bool {
+    if input_failed {
         return run.status == 4
             && run.desk.written().is_empty()
             && run.desk.told() == b"input fault\n".as_slice();
@@ -99,8 +100,8 @@ fn ends_well(run: &Run, whole: &Run, inputs_failed: bool, moved: usize) -> bool 
         && run.desk.told() == front(whole.desk.told(), moved)
 }
 
-// Whether a run in which the next call fails too has the same status, and tells no fault of input or output.
-fn ends_untold(run: &Run, other: &Run) -> bool {
+// Whether a run where the next call failed too has the same status, and could not tell its fault.
+fn ends_untold(run: &Ended, other: &Ended) -> bool {
     other.status == run.status && (run.status < 4 || other.desk.told().is_empty())
 }
 
@@ -108,7 +109,7 @@ fn ends_untold(run: &Run, other: &Run) -> bool {
 fn fails_so(
     alloc: Global,
     case: &Case,
-    whole: &Run,
+    whole: &Ended,
     most: usize,
     n: usize,
 ) -> Result<bool, AllocError> {
@@ -121,7 +122,7 @@ fn fails_so(
 }
 
 // How many calls a run makes.
-fn call_count(case: &Case, whole: &Run, most: usize) -> usize {
+fn call_count(case: &Case, whole: &Ended, most: usize) -> usize {
     let inputs = input_calls(case.first, most).saturating_add(input_calls(case.second, most));
     let written = whole.desk.written().len().div_ceil(most.max(1));
     let told = whole.desk.told().len().div_ceil(most.max(1));
@@ -147,10 +148,12 @@ fn each_call_may_fail(alloc: Global, case: &Case, most: usize) -> Result<bool, A
 fn is_the_same_in_bytes(alloc: Global, case: &Case) -> Result<bool, AllocError> {
     let whole = run(alloc, case, 4000, &[])?;
     let bytes = run(alloc, case, 1, &[])?;
-    Ok(bytes.status == case.status
-        && whole.status == case.status
-        && bytes.desk.written() == whole.desk.written()
-        && bytes.desk.told() == whole.desk.told())
+    Ok(
+        bytes.status == case.status
+            && whole.status == case.status
+            && bytes.desk.written() == whole.desk.written()
+            && bytes.desk.told() == whole.desk.told(),
+    )
 }
 
 #[test]

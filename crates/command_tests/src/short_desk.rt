@@ -1,5 +1,5 @@
 // A desk in memory whose calls move few bytes.
-ghost use Rattle.text_base.specs.Memory.{meaning_of};
+ghost use Rattle.std.specs.Prelude.{◌≡◌, length, min, take};
 
 use std::alloc::{AllocError, Global};
 use text_base::{Desk, Failed, MemoryDesk};
@@ -45,7 +45,9 @@ impl ShortDesk {
 }
 
 /// The first bytes, so many where there are.
-pub(crate) fn front(bytes: &[u8], count: usize) -> &[u8] {
+pub(crate) fn front(bytes: &[u8], count: usize) -> &[u8]
+    ensures { result.now ≡ take (min count (length bytes.now)) bytes.now }
+{
     &bytes[..count.min(bytes.len())]
 }
 
