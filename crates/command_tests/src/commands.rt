@@ -7,9 +7,9 @@ use nl_segments::NlReader;
 use std::alloc::{AllocError, Global};
 use std::marker::Brand;
 use std::test::Fail;
-use text_base::{Blank, Ledger, MemoryDesk, Steps};
+use text_base::{Blank, Desk, Ledger, MemoryDesk, Steps};
 
-fn run<L: Ledger>(alloc: Global, words: &[String], desk: &mut MemoryDesk, blank: Blank) -> u8
+fn run<D: Desk, L: Ledger>(alloc: Global, words: &[String], desk: &mut D, blank: Blank) -> u8
     requires name { blank.name ≡ L.name }
     requires parts { blank.parts ≡ L.parts }
     requires some { 0 < blank.parts }
@@ -19,16 +19,16 @@ fn run<L: Ledger>(alloc: Global, words: &[String], desk: &mut MemoryDesk, blank:
 }
 
 /// Works the command of these words.
-pub(crate) fn command(
+pub(crate) fn command<D: Desk>(
     alloc: Global,
-    desk: &mut MemoryDesk,
+    desk: &mut D,
     words: &[&str],
 ) -> Result<u8, AllocError> {
     let mut all = Vec::new(alloc);
     for word in words {
         all.push(String::from_str(alloc, *word)?)?;
     }
-    Ok(run::<Brand>(alloc, &all, desk, Blank::new(1)))
+    Ok(run::<D, Brand>(alloc, &all, desk, Blank::new(1)))
 }
 
 /// The first lines of a text.

@@ -8,6 +8,8 @@ mod commands;
 #[cfg(test)]
 mod exports;
 #[cfg(test)]
+mod failing_calls;
+#[cfg(test)]
 mod fixed_commands;
 #[cfg(test)]
 mod import_commands;
@@ -21,5 +23,7 @@ mod name_commands;
 mod proof_commands;
 #[cfg(test)]
 mod return_commands;
+#[cfg(test)]
+mod short_desk;
 #[cfg(test)]
 mod sol_commands;

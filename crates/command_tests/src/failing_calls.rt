@@ -1,0 +1,206 @@
+// Each command over a desk whose calls move few bytes, and of which one fails.
+
+use crate::commands::command;
+use crate::short_desk::{ShortDesk, front};
+use example_texts::mps_texts::{FIXED, PAIRS};
+use example_texts::nl_texts::KNAPSACK;
+use example_texts::proof_texts::{ONE_WHOLE, TWO_LEAVES};
+use std::alloc::{AllocError, Global};
+use std::test::Fail;
+
+// Of ONE_WHOLE: an answer; the optimum of the relaxed program; a point that is feasible, and not the best.
+const ANSWER: &str = "answer 1\nstatus 0\nmessage done\ncol x0 2\nrow c0 0.5\n";
+
+const BEST: &str = "done\n\nOptions\n0\n1\n1\n1\n1\n0.5\n1.5\n";
+
+const WORSE: &str = "done\n\nOptions\n0\n1\n1\n1\n1\n0.5\n2\n";
+
+// A command, the texts that it starts, and its status where no call fails.
+#[derive(Clone, Copy)]
+struct Case {
+    command: &'static str,
+    files: u8,
+    first: Option<&'static str>,
+    second: Option<&'static str>,
+    status: u8,
+}
+
+// A command that starts no second text, whatever its words.
+fn of_first(command: &'static str, files: u8, first: Option<&'static str>, status: u8) -> Case {
+    Case {
+        command,
+        files,
+        first,
+        second: None,
+        status,
+    }
+}
+
+fn of_one(command: &'static str, text: &'static str, status: u8) -> Case {
+    of_first(command, 1, Some(text), status)
+}
+
+fn of_two(command: &'static str, text: &'static str, second: &'static str, status: u8) -> Case {
+    Case {
+        command,
+        files: 2,
+        first: Some(text),
+        second: Some(second),
+        status,
+    }
+}
+
+// A run that has ended.
+#[derive(Drop)]
+struct Ended {
+    status: u8,
+    desk: ShortDesk,
+}
+
+// The run where each call moves at most so many bytes, and those of these numbers fail.
+fn run(alloc: Global, case: &Case, most: usize, failing: &[u64]) -> Result<Ended, AllocError> {
+    let mut desk = ShortDesk::new(alloc, most, failing)?;
+    if let Some(text) = case.first {
+        desk.put("a", text.as_bytes())?;
+    }
+    if let Some(text) = case.second {
+        desk.put("b", text.as_bytes())?;
+    }
+    let status = match case.files {
+        0 => command(alloc, &mut desk, &[case.command, "1", "1"])?,
+        1 => command(alloc, &mut desk, &[case.command, "a"])?,
+        _ => command(alloc, &mut desk, &[case.command, "a", "b"])?,
+    };
+    Ok(Ended { status, desk })
+}
+
+// The calls that give a text: its start, its pieces and its end.
+fn input_calls(text: Option<&str>, most: usize) -> usize {
+    match text {
+        None => 0,
+        Some(text) => text.len().div_ceil(most.max(1)).saturating_add(2),
+    }
+}
+
+// Whether a run ended as it must where one call failed, by the whole run. A failed start or read leaves nothing written;
+// a failed write what was moved before it; a failed tell changes the line alone.
+fn ends_well(run: &Ended, whole: &Ended, input_failed: bool, moved: usize) -> bool {
+    if input_failed {
+        return run.status == 4
+            && run.desk.written().is_empty()
+            && run.desk.told() == b"input fault\n".as_slice();
+    }
+    if moved < whole.desk.written().len() {
+        return run.status == 5
+            && run.desk.written() == front(whole.desk.written(), moved)
+            && run.desk.told() == b"output fault\n".as_slice();
+    }
+    run.status == whole.status
+        && run.desk.written() == whole.desk.written()
+        && run.desk.told() == front(whole.desk.told(), moved)
+}
+
+// Whether a run where the next call failed too has the same status, and could not tell its fault.
+fn ends_untold(run: &Ended, other: &Ended) -> bool {
+    other.status == run.status && (run.status < 4 || other.desk.told().is_empty())
+}
+
+// Whether all is well where call n fails, alone and with the next.
+fn fails_so(
+    alloc: Global,
+    case: &Case,
+    whole: &Ended,
+    most: usize,
+    n: usize,
+) -> Result<bool, AllocError> {
+    let inputs = input_calls(case.first, most).saturating_add(input_calls(case.second, most));
+    let moved = n.saturating_sub(inputs).saturating_mul(most);
+    let call = n as u64;
+    let one = run(alloc, case, most, &[call])?;
+    let two = run(alloc, case, most, &[call, call.saturating_add(1)])?;
+    Ok(ends_well(&one, whole, n < inputs, moved) && ends_untold(&one, &two))
+}
+
+// How many calls a run makes.
+fn call_count(case: &Case, whole: &Ended, most: usize) -> usize {
+    let inputs = input_calls(case.first, most).saturating_add(input_calls(case.second, most));
+    let written = whole.desk.written().len().div_ceil(most.max(1));
+    let told = whole.desk.told().len().div_ceil(most.max(1));
+    inputs.saturating_add(written).saturating_add(told)
+}
+
+// Whether all is well for each call that fails, and for none: then the run ends as it does in whole pieces.
+fn each_call_may_fail(alloc: Global, case: &Case, most: usize) -> Result<bool, AllocError> {
+    let whole = run(alloc, case, 4000, &[])?;
+    if whole.status != case.status {
+        return Ok(false);
+    }
+    let calls = call_count(case, &whole, most);
+    for n in 0..calls.saturating_add(1) {
+        if !fails_so(alloc, case, &whole, most, n)? {
+            return Ok(false);
+        }
+    }
+    Ok(true)
+}
+
+// Whether all is the same where each call moves one byte.
+fn is_the_same_in_bytes(alloc: Global, case: &Case) -> Result<bool, AllocError> {
+    let whole = run(alloc, case, 4000, &[])?;
+    let bytes = run(alloc, case, 1, &[])?;
+    Ok(
+        bytes.status == case.status
+            && whole.status == case.status
+            && bytes.desk.written() == whole.desk.written()
+            && bytes.desk.told() == whole.desk.told(),
+    )
+}
+
+#[test]
+fn calls_of_commands_fail(rt: HostRuntime) -> Result<(), Fail> {
+    let cases = [
+        of_one("export", KNAPSACK, 0),
+        of_one("nl", ONE_WHOLE, 0),
+        of_one("mps", PAIRS, 0),
+        of_one("sol", BEST, 0),
+        of_one("import", PAIRS, 0),
+        of_one("fixed", FIXED, 0),
+        of_two("return", ONE_WHOLE, ANSWER, 0),
+        of_two("check", ONE_WHOLE, BEST, 0),
+        of_two("check", ONE_WHOLE, WORSE, 1),
+        of_two("prove", ONE_WHOLE, TWO_LEAVES, 0),
+    ];
+    for case in cases {
+        assert!(rt; is_the_same_in_bytes(rt.alloc(), &case)?);
+        for most in [7, 4000] {
+            assert!(rt;
+                each_call_may_fail(rt.alloc(), &case, most)?,
+                "at {}",
+                case.command
+            );
+        }
+    }
+    Ok(())
+}
+
+#[test]
+fn calls_of_other_commands_fail(rt: HostRuntime) -> Result<(), Fail> {
+    let cases = [
+        of_first("make", 0, None, 0),
+        of_first("none", 1, None, 3),
+        of_first("prove", 2, Some(TWO_LEAVES), 2),
+        of_one("export", ANSWER, 2),
+        of_two("return", ONE_WHOLE, TWO_LEAVES, 2),
+    ];
+    for case in cases {
+        assert!(rt; is_the_same_in_bytes(rt.alloc(), &case)?);
+        for most in [7, 4000] {
+            assert!(rt;
+                each_call_may_fail(rt.alloc(), &case, most)?,
+                "at {}",
+                case.command
+            );
+        }
+    }
+    Ok(())
+}
