@@ -8,8 +8,11 @@ use example_texts::proof_texts::{ONE_WHOLE, TWO_LEAVES};
 use std::alloc::{AllocError, Global};
 use std::test::Fail;
 
-// Of ONE_WHOLE: an answer; the optimum of the relaxed program; a point that is feasible, and not the best.
+// Of ONE_WHOLE: an answer; one with the name `n` for its row and its column; the optimum of the relaxed program; a
+// point that is feasible, and not the best.
 const ANSWER: &str = "answer 1\nstatus 0\nmessage done\ncol x0 2\nrow c0 0.5\n";
+
+const NAMED: &str = "answer 1\nstatus 0\nmessage done\ncol n 2\nrow n 0.5\n";
 
 const BEST: &str = "done\n\nOptions\n0\n1\n1\n1\n1\n0.5\n1.5\n";
 
@@ -22,6 +25,7 @@ struct Case {
     files: u8,
     first: Option<&'static str>,
     second: Option<&'static str>,
+    lists: Option<&'static str>,
     status: u8,
 }
 
@@ -32,6 +36,7 @@ fn of_first(command: &'static str, files: u8, first: Option<&'static str>, statu
         files,
         first,
         second: None,
+        lists: None,
         status,
     }
 }
@@ -46,7 +51,17 @@ fn of_two(command: &'static str, text: &'static str, second: &'static str, statu
         files: 2,
         first: Some(text),
         second: Some(second),
+        lists: None,
         status,
+    }
+}
+
+// With the names of two lists, which are both this text.
+fn with_names(case: Case, files: u8, list: &'static str) -> Case {
+    Case {
+        files,
+        lists: Some(list),
+        ..case
     }
 }
 
@@ -66,9 +81,15 @@ fn run(alloc: Global, case: &Case, most: usize, failing: &[u64]) -> Result<Ended
     if let Some(text) = case.second {
         desk.put("b", text.as_bytes())?;
     }
+    if let Some(text) = case.lists {
+        desk.put("c", text.as_bytes())?;
+        desk.put("d", text.as_bytes())?;
+    }
     let status = match case.files {
         0 => command(alloc, &mut desk, &[case.command, "1", "1"])?,
         1 => command(alloc, &mut desk, &[case.command, "a"])?,
+        3 => command(alloc, &mut desk, &[case.command, "a", "0", "c", "d"])?,
+        4 => command(alloc, &mut desk, &[case.command, "a", "b", "c", "d"])?,
         _ => command(alloc, &mut desk, &[case.command, "a", "b"])?,
     };
     Ok(Ended { status, desk })
@@ -80,6 +101,14 @@ fn input_calls(text: Option<&str>, most: usize) -> usize {
         None => 0,
         Some(text) => text.len().div_ceil(most.max(1)).saturating_add(2),
     }
+}
+
+// The calls that give all texts of a run.
+fn all_input_calls(case: &Case, most: usize) -> usize {
+    input_calls(case.first, most)
+        .saturating_add(input_calls(case.second, most))
+        .saturating_add(input_calls(case.lists, most))
+        .saturating_add(input_calls(case.lists, most))
 }
 
 // Whether a run ended as it must where one call failed, by the whole run. A failed start or read leaves nothing written;
@@ -113,7 +142,7 @@ fn fails_so(
     most: usize,
     n: usize,
 ) -> Result<bool, AllocError> {
-    let inputs = input_calls(case.first, most).saturating_add(input_calls(case.second, most));
+    let inputs = all_input_calls(case, most);
     let moved = n.saturating_sub(inputs).saturating_mul(most);
     let call = n as u64;
     let one = run(alloc, case, most, &[call])?;
@@ -123,7 +152,7 @@ fn fails_so(
 
 // How many calls a run makes.
 fn call_count(case: &Case, whole: &Ended, most: usize) -> usize {
-    let inputs = input_calls(case.first, most).saturating_add(input_calls(case.second, most));
+    let inputs = all_input_calls(case, most);
     let written = whole.desk.written().len().div_ceil(most.max(1));
     let told = whole.desk.told().len().div_ceil(most.max(1));
     inputs.saturating_add(written).saturating_add(told)
@@ -166,6 +195,8 @@ fn calls_of_commands_fail(rt: HostRuntime) -> Result<(), Fail> {
         of_one("import", PAIRS, 0),
         of_one("fixed", FIXED, 0),
         of_two("return", ONE_WHOLE, ANSWER, 0),
+        with_names(of_one("export", ONE_WHOLE, 0), 3, "n\n"),
+        with_names(of_two("return", ONE_WHOLE, NAMED, 0), 4, "n\n"),
         of_two("check", ONE_WHOLE, BEST, 0),
         of_two("check", ONE_WHOLE, WORSE, 1),
         of_two("prove", ONE_WHOLE, TWO_LEAVES, 0),
