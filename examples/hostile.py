@@ -33,6 +33,8 @@ COMMANDS = {
     "fixed": [text(fixed.FIXED)],
     "return": [returned.MAXIMISED, b"answer 1\nstatus 0\nmessage done\nsign min\ncol x0 3.5\nrow c0 -1.5\nsuffix 0 sstatus x0 1\n"],
     "check": [check.MINIMISED, check.sol(1, 2, [3, 1], [3])],
+    "export with names": [text(KNAPSACK), b"Cap\nProfit\n", b"a\nb\nz\n"],
+    "return with names": [returned.MAXIMISED, b"answer 1\nstatus 0\ncol v 3.5\nrow r -1.5\n", b"r\n", b"v\n"],
     "prove": [text(KNAPSACK), ("proof 1\n" + prove.KNAPSACK_PROOF.replace(" / ", "\n") + "\n").encode()],
 }
 # what the knapsack tells, cut after so many lines
@@ -42,6 +44,13 @@ CUT = {
     "short segment": (11, 13, 15, 17, 18, 19, 21, 22, 24, 25, 26, 28, 29, 30),
     "nonzero count": (20, 23),
 }
+
+
+def spelled(example, names):
+    """The words of an example with files of these names."""
+    if example == "export with names":
+        return ["export", names[0], "0", *names[1:]]
+    return [example.split()[0], *names]
 
 
 class Runs:
@@ -66,7 +75,7 @@ class Runs:
     def run(self, command, files, words=(), **more):
         names = self.write(files)
         self.count += 1
-        return subprocess.run([self.program, command, *names, *words], cwd=self.folder.name, capture_output=True, timeout=600, **more)
+        return subprocess.run([self.program, *spelled(command, names), *words], cwd=self.folder.name, capture_output=True, timeout=600, **more)
 
     def expect(self, holds, what, done):
         if not holds:
@@ -88,12 +97,12 @@ def is_judged(done):
 
 def known(program, command):
     """Whether this program has the command."""
-    done = subprocess.run([program, command], capture_output=True, timeout=60)
-    names = subprocess.run([program, command, *COMMANDS_WORDS[command]], capture_output=True, timeout=60)
+    done = subprocess.run([program, command.split()[0]], capture_output=True, timeout=60)
+    names = subprocess.run([program, *COMMANDS_WORDS[command]], capture_output=True, timeout=60)
     return done.returncode == 3 and names.returncode != 3
 
 
-COMMANDS_WORDS = {command: ["/nonexistent/A"] * len(files) for command, files in COMMANDS.items()} | {"make": ["1", "1"]}
+COMMANDS_WORDS = {command: spelled(command, ["/nonexistent/A"] * len(files)) for command, files in COMMANDS.items()} | {"make": ["make", "1", "1"]}
 
 
 def truncation(program):
