@@ -2,7 +2,7 @@
 // lists are refused.
 
 use crate::commands::command;
-use example_texts::nl_texts::{KNAPSACK, header, text_of};
+use example_texts::nl_texts::{KNAPSACK, Sizes, header, text_of};
 use std::alloc::{AllocError, Global};
 use std::test::Fail;
 use text_base::MemoryDesk;
@@ -17,92 +17,99 @@ const MOST: &str = "O0 1\nn0\nr\n1 7\nb\n2 0\nJ0 1\n0 2\nG0 1\n0 3\n";
 // Minimise x / 3.
 const TIED: &str = "O0 0\no3\nv0\nn3\nb\n3\nG0 1\n0 0\n";
 
-// Whether a command with these lists, as `rows` and `columns`, ends with this status and writes or tells this.
-fn comes_to(
-    alloc: Global,
-    words: &[&str],
-    texts: &[(&str, &str)],
+// An export of the knapsack with objective k and these lists, its status, and what is written or told.
+#[derive(Clone, Copy)]
+struct Exported {
+    k: &'static str,
+    rows: &'static str,
+    columns: &'static str,
     status: u8,
-    out: &str,
-) -> Result<bool, AllocError> {
-    let mut desk = MemoryDesk::new(alloc, 4000)?;
-    for text in texts {
-        desk.put(text.0, text.1.as_bytes())?;
-    }
-    let is = command(alloc, &mut desk, words)?;
-    if status == 0 {
-        return Ok(is == 0 && desk.written() == out.as_bytes() && desk.told().is_empty());
-    }
-    Ok(is == status && desk.written().is_empty() && desk.told() == out.as_bytes())
+    out: &'static str,
 }
 
-// The knapsack with objective k and these lists.
-fn exports(
-    alloc: Global,
-    k: &str,
-    rows: &str,
-    columns: &str,
+fn knapsack(
+    k: &'static str,
+    rows: &'static str,
+    columns: &'static str,
     status: u8,
-    out: &str,
-) -> Result<bool, AllocError> {
-    let texts = [("a.nl", KNAPSACK), ("a.row", rows), ("a.col", columns)];
-    comes_to(
-        alloc,
-        &["export", "a.nl", k, "a.row", "a.col"],
-        &texts,
+    out: &'static str,
+) -> Exported {
+    Exported {
+        k,
+        rows,
+        columns,
         status,
         out,
-    )
+    }
+}
+
+// Whether a run ended with this status and wrote, or told, this.
+fn is_out(desk: &MemoryDesk, is: u8, status: u8, out: &str) -> bool {
+    let out = out.as_bytes();
+    if status == 0 {
+        return is == 0 && desk.written() == out && desk.told().is_empty();
+    }
+    is == status && desk.written().is_empty() && desk.told() == out
+}
+
+fn exports_so(alloc: Global, case: &Exported) -> Result<bool, AllocError> {
+    let mut desk = MemoryDesk::new(alloc, 4000)?;
+    desk.put("a.nl", KNAPSACK.as_bytes())?;
+    desk.put("a.row", case.rows.as_bytes())?;
+    desk.put("a.col", case.columns.as_bytes())?;
+    let words = ["export", "a.nl", case.k, "a.row", "a.col"];
+    let status = command(alloc, &mut desk, &words)?;
+    Ok(is_out(&desk, status, case.status, case.out))
 }
 
 #[test]
 fn exports_with_names(rt: HostRuntime) -> Result<(), Fail> {
     let cases = [
-        ("0", "Cap\nProfit\n", "a\nb\nz\n", 0, NAMED),
-        ("0", "\n  Cap\n\n", "a\nb\n\nz", 0, NAMED),
-        (
+        knapsack("0", "Cap\nProfit\n", "a\nb\nz\n", 0, NAMED),
+        knapsack("0", "\n  Cap\n\n", "a\nb\n\nz", 0, NAMED),
+        knapsack(
             "0",
             "Cap\n",
             "a\nb\na\n",
             2,
             "refused file 3 line 3: repeated name\n",
         ),
-        (
+        knapsack(
             "0",
             "Cap\nProfit\nx\n",
             "a\n",
             2,
             "refused file 2 line 3: other count\n",
         ),
-        (
+        knapsack(
             "0",
             "",
             "a\nb\nz\n",
             2,
             "refused file 2 line 1: other count\n",
         ),
-        (
+        knapsack(
             "0",
             "@Cap\n",
             "",
             2,
             "refused file 2 line 1: reserved name\n",
         ),
-        (
+        knapsack(
             "0",
             "Cap\n",
             "a\nb c\n",
             2,
             "refused file 3 line 2: bad name\n",
         ),
-        (
+        knapsack(
             "1",
             "Cap\n",
             "a\nb\na\n",
             2,
             "refused file 3 line 3: repeated name\n",
         ),
-        (
+        knapsack(
             "1",
             "Cap\n",
             "a\nb\nz\n",
@@ -110,70 +117,109 @@ fn exports_with_names(rt: HostRuntime) -> Result<(), Fail> {
             "refused objective 1: no such objective\n",
         ),
     ];
-    for (k, rows, columns, status, out) in cases {
+    for case in cases {
         assert!(rt;
-            exports(rt.alloc(), k, rows, columns, status, out)?,
-            "at {rows} {columns}"
+            exports_so(rt.alloc(), &case)?,
+            "at {} {}",
+            case.rows,
+            case.columns
         );
     }
     Ok(())
 }
 
+// An answer for a file, whose one column is named `v`, with what comes to it.
+#[derive(Clone, Copy)]
+struct Returned {
+    counts: &'static str,
+    nonzeros: &'static str,
+    body: &'static str,
+    rows: &'static str,
+    answer: &'static str,
+    status: u8,
+    out: &'static str,
+}
+
+impl Returned {
+    fn sizes(&self) -> Sizes {
+        header(self.counts, self.nonzeros, "0")
+    }
+}
+
+fn most(rows: &'static str, answer: &'static str, status: u8, out: &'static str) -> Returned {
+    Returned {
+        counts: "1 1 1",
+        nonzeros: "1 1",
+        body: MOST,
+        rows,
+        answer,
+        status,
+        out,
+    }
+}
+
+fn tied(answer: &'static str, out: &'static str) -> Returned {
+    Returned {
+        counts: "1 0 1",
+        nonzeros: "0 1",
+        body: TIED,
+        rows: "",
+        answer,
+        status: 0,
+        out,
+    }
+}
+
+fn returns_so(alloc: Global, case: &Returned) -> Result<bool, AllocError> {
+    let nl = text_of(alloc, &case.sizes(), case.body)?;
+    let mut desk = MemoryDesk::new(alloc, 4000)?;
+    desk.put("a.nl", nl.as_bytes())?;
+    desk.put("a.answer", case.answer.as_bytes())?;
+    desk.put("a.row", case.rows.as_bytes())?;
+    desk.put("a.col", b"v\n")?;
+    let words = ["return", "a.nl", "a.answer", "a.row", "a.col"];
+    let status = command(alloc, &mut desk, &words)?;
+    Ok(is_out(&desk, status, case.status, case.out))
+}
+
 #[test]
 fn returns_with_names(rt: HostRuntime) -> Result<(), Fail> {
-    let alloc = rt.alloc();
-    let most = text_of(alloc, &header("1 1 1", "1 1", "0"), MOST)?;
-    let tied = text_of(alloc, &header("1 0 1", "0 1", "0"), TIED)?;
-    let words = ["return", "a.nl", "a.answer", "a.row", "a.col"];
     let cases = [
-        (
-            most.as_str(),
+        most(
             "r\n",
             "answer 1\nstatus 0\nmessage done\nsign min\ncol v 3.5\nrow r -1.5\n",
             0,
             "done\n\nOptions\n3\n1\n1\n0\n1\n1\n1\n1\n1.5\n3.5\nobjno 0 0\n",
         ),
-        (
-            tied.as_str(),
-            "",
+        tied(
             "answer 1\nstatus 0\ncol v 0\ncol @z 0\nrow @zdef 0.5\n",
-            0,
             "\nOptions\n3\n1\n1\n0\n0\n0\n1\n1\n0\nobjno 0 0\n",
         ),
-        (
-            most.as_str(),
+        most(
             "r\n",
             "answer 1\ncol x0 1\n",
             2,
             "refused file 2 line 2: unknown name\n",
         ),
-        (
-            most.as_str(),
-            "r s\n",
-            "none",
-            2,
-            "refused file 3 line 1: bad name\n",
-        ),
+        most("r s\n", "none", 2, "refused file 3 line 1: bad name\n"),
     ];
-    for (nl, rows, answer, status, out) in cases {
-        let texts = [
-            ("a.nl", nl),
-            ("a.row", rows),
-            ("a.col", "v\n"),
-            ("a.answer", answer),
-        ];
-        assert!(rt;
-            comes_to(alloc, &words, &texts, status, out)?,
-            "at {answer}"
-        );
+    for case in cases {
+        assert!(rt; returns_so(rt.alloc(), &case)?, "at {}", case.answer);
     }
     Ok(())
 }
 
+// Whether these words end with this status and tell this, at a desk with the knapsack and a binary file.
+fn tells(alloc: Global, words: &[&str], status: u8, line: &str) -> Result<bool, AllocError> {
+    let mut desk = MemoryDesk::new(alloc, 4000)?;
+    desk.put("a.nl", KNAPSACK.as_bytes())?;
+    desk.put("b", b"b3 1 1 0\n")?;
+    let is = command(alloc, &mut desk, words)?;
+    Ok(is_out(&desk, is, status, line))
+}
+
 #[test]
 fn lists_come_after_the_file(rt: HostRuntime) -> Result<(), Fail> {
-    let alloc = rt.alloc();
-    let texts = [("a.nl", KNAPSACK), ("b", "b3 1 1 0\n")];
     let cases: [(&[&str], u8, &str); 5] = [
         (
             &["export", "b", "0", "none", "none"],
@@ -189,8 +235,8 @@ fn lists_come_after_the_file(rt: HostRuntime) -> Result<(), Fail> {
         (&["export", "a.nl", "0", "b"], 3, "bad words\n"),
         (&["return", "a.nl", "b", "b"], 3, "bad words\n"),
     ];
-    for (words, status, out) in cases {
-        assert!(rt; comes_to(alloc, words, &texts, status, out)?, "at {out}");
+    for (words, status, line) in cases {
+        assert!(rt; tells(rt.alloc(), words, status, line)?, "at {line}");
     }
     Ok(())
 }
