@@ -60,6 +60,9 @@ def model_cases():
     yield tree("a wide row", f"o0 / o3 / v0 / n{BIG} / o3 / v1 / n{BIG - 4}", "row 0: row too wide")
     wide = f"O0 0 / o0 / o3 / v0 / n{BIG} / o3 / v1 / n{BIG - 4} / b / 3 / 3"
     yield body("a wide objective", wide, "objective 0: objective too wide", (2, 0, 1, 0, 0, 0, 2, 0))
+    first = ["V4096 4096 0", *(f"{j} 1" for j in range(4096)), "n0"]
+    others = [line for k in range(4097, 6145) for line in (f"V{k} 0 0", f"v{k - 1}")]
+    yield nl("definitions that use each other", head(4096, 0, 0, 0, 0, 0, 0, 2049) + first + others + ["b"] + ["3"] * 4096, "line 8203: fold too large")
     yield nl("no objective 0 to 3", one_term("1"), "objective 3: no such objective", "3")
     yield header("variables beyond the limit", 2, "1048577 1 0 0 0", "too large")
 
