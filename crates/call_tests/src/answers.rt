@@ -1,7 +1,7 @@
 // Answers that come in pieces, and .sol files that are made of them.
 ghost use Rattle.std.specs.Prelude.{◌≡◌, ◌<◌};
 
-use answer_file::{Answer, AnswerFault, AnswerReader, AnswerReason, read_answer};
+use answer_file::{Answer, AnswerFault, AnswerReader, read_answer};
 use dual_return::{ReturnFault, solution};
 use exact_numbers::Dec;
 use example_texts::nl_texts::{Sizes, header, text_of};
@@ -10,7 +10,7 @@ use nl_model::NlFile;
 use nl_segments::{NlRead, read_nl};
 use row_scaling::scale_rows;
 use sol_files::{Sol, write_sol};
-use std::alloc::{AllocError, Global};
+use std::alloc::Global;
 use std::marker::Brand;
 use std::test::Fail;
 use text_base::{Blank, Ledger, Steps, Stop};
@@ -24,7 +24,7 @@ fn read_file(alloc: Global, sizes: &Sizes, body: &str) -> Result<NlRead, Fail> {
 }
 
 // Two variables and three constraints, of which the second has no side.
-pub(crate) fn three_rows(alloc: Global) -> Result<NlRead, Fail> {
+fn three_rows(alloc: Global) -> Result<NlRead, Fail> {
     let sizes = header("2 3 0", "3 0", "0");
     read_file(
         alloc,
@@ -48,13 +48,6 @@ fn read_in_pieces(
         rest = more;
     }
     reader.finish()
-}
-
-fn fault_in(alloc: Global, file: &NlFile, text: &[u8], len: usize) -> Option<(AnswerReason, u32)> {
-    match read_in_pieces(alloc, file, text, len) {
-        Err(Stop::Fault(fault)) => Some((fault.reason, fault.line)),
-        _ => None,
-    }
 }
 
 const WHOLE: &[u8] =
@@ -115,94 +108,6 @@ fn a_whole_answer_in_pieces(rt: HostRuntime) -> Result<(), Fail> {
             Err(_) => return Err(Fail::from("the answer is right")),
         }
     }
-    Ok(())
-}
-
-#[test]
-fn faults_of_answers(rt: HostRuntime) -> Result<(), Fail> {
-    let read = three_rows(rt.alloc())?;
-    let cases = [
-        ("", AnswerReason::BadFirst, 1),
-        ("\n\n", AnswerReason::BadFirst, 3),
-        ("\nanswer 1 1", AnswerReason::BadFirst, 2),
-        ("answer 1\nanswer 1", AnswerReason::BadLine, 2),
-        ("answer 1\nstatus", AnswerReason::BadLine, 2),
-        ("answer 1\nsign max", AnswerReason::BadLine, 2),
-        ("answer 1\nmessage Options", AnswerReason::BadLine, 2),
-        ("answer 1\nsuffix 9 \u{1} x0 1", AnswerReason::BadLine, 2),
-        (
-            "answer 1\nsuffix 0 a x0 1\nsuffix 4 a y 1",
-            AnswerReason::BadLine,
-            3,
-        ),
-        ("answer 1\ncol x2 one", AnswerReason::UnknownName, 2),
-        ("answer 1\ncol x01 1", AnswerReason::UnknownName, 2),
-        ("answer 1\nrow c1 1", AnswerReason::UnknownName, 2),
-        ("answer 1\nsuffix 0 a c0 0.5", AnswerReason::UnknownName, 2),
-        ("answer 1\nsuffix 7 a obj 1", AnswerReason::UnknownName, 2),
-        ("answer 1\nstatus 1000", AnswerReason::BadNumber, 2),
-        ("answer 1\nobjno 2147483648", AnswerReason::BadNumber, 2),
-        ("answer 1\ncol z one", AnswerReason::BadNumber, 2),
-        ("answer 1\nsuffix 8 a y 1", AnswerReason::BadNumber, 2),
-        (
-            "answer 1\nsuffix 0 a x0 1\nsuffix 0 a x0 0.5",
-            AnswerReason::BadNumber,
-            3,
-        ),
-        ("answer 1\nstatus 0\nstatus 1", AnswerReason::Repeated, 3),
-        ("answer 1\nobjno 0\nobjno 0", AnswerReason::Repeated, 3),
-        ("answer 1\nsign min\nsign rate", AnswerReason::Repeated, 3),
-        ("answer 1\ncol x0 1\ncol x0 1", AnswerReason::Repeated, 3),
-        ("answer 1\nrow c0 1\nrow c0 1", AnswerReason::Repeated, 3),
-        (
-            "answer 1\nsuffix 1 a c2 1\nsuffix 1 a c2 1",
-            AnswerReason::Repeated,
-            3,
-        ),
-        ("answer 1\ncol x0 1\ncol z 1\n", AnswerReason::Partial, 4),
-        ("answer 1\nrow c0 1", AnswerReason::Partial, 3),
-    ];
-    for (text, reason, line) in cases {
-        for len in [1, 2, 3, 7] {
-            let found = fault_in(rt.alloc(), &read.file, text.as_bytes(), len);
-            assert!(rt; found == Some((reason, line)), "at {text}");
-        }
-    }
-    Ok(())
-}
-
-fn lines_of(alloc: Global, line: &str, count: u32) -> Result<String, AllocError> {
-    let mut text = String::from_str(alloc, "answer 1\n")?;
-    for _ in 0..count {
-        text.push_str(line)?;
-        text.push_str("\n")?;
-    }
-    Ok(text)
-}
-
-fn suffixes_of(alloc: Global, count: u32) -> Result<String, AllocError> {
-    let mut digits = itoa::Buffer::new();
-    let mut text = String::from_str(alloc, "answer 1\n")?;
-    for i in 0..count {
-        text.push_str("suffix 0 s")?;
-        text.push_str(digits.format(i))?;
-        text.push_str(" x0 1\n")?;
-    }
-    Ok(text)
-}
-
-#[test]
-fn limits_of_answers(rt: HostRuntime) -> Result<(), Fail> {
-    let read = three_rows(rt.alloc())?;
-    let lines = lines_of(rt.alloc(), "message", 65_537)?;
-    let found = fault_in(rt.alloc(), &read.file, lines.as_bytes(), 1000);
-    assert!(rt; found == Some((AnswerReason::TooLarge, 65_538)));
-    let suffixes = suffixes_of(rt.alloc(), 1025)?;
-    let found = fault_in(rt.alloc(), &read.file, suffixes.as_bytes(), 1000);
-    assert!(rt; found == Some((AnswerReason::TooLarge, 1026)));
-    let bytes = vec![in rt.alloc(); b'a'; 65_537]?;
-    let found = fault_in(rt.alloc(), &read.file, &bytes, 1000);
-    assert!(rt; found == Some((AnswerReason::LineTooLong, 1)));
     Ok(())
 }
 

@@ -35,10 +35,6 @@ fn reason_of(read: Result<Sol, Stop<SolFault>>) -> Option<(SolReason, u32)> {
     }
 }
 
-fn fault_in(rt: &HostRuntime, text: &[u8]) -> Option<(SolReason, u32)> {
-    reason_of(read_in_pieces(rt.alloc(), text, 100))
-}
-
 fn is_solved(sol: &Sol) -> bool {
     sol.message().len() == 2
         && sol.options().len() == 3
@@ -72,73 +68,6 @@ fn a_solved_file_is_written(rt: HostRuntime) -> Result<(), Fail> {
         Err(_) => panic!(rt; "the text is right"),
     }
     Ok(())
-}
-
-#[test]
-fn faults_of_numbers(rt: HostRuntime) {
-    assert!(rt; fault_in(&rt, &SOLVED[..62]) == Some((SolReason::Short, 14)));
-    assert!(rt; fault_in(&rt, b"done") == Some((SolReason::NoOptions, 2)));
-    assert!(rt; fault_in(&rt, b"Options\n3\n1\n3\n0") == Some((SolReason::Options, 4)));
-    assert!(rt; fault_in(&rt, b"Options\n10\n") == Some((SolReason::Options, 2)));
-    assert!(rt; fault_in(&rt, b"Options\n0\n2\n1\n") == Some((SolReason::CountsDisagree, 4)));
-    assert!(rt; fault_in(&rt, b"Options\n0\n1048577\n") == Some((SolReason::TooLarge, 3)));
-    assert!(rt; fault_in(&rt, b"Options\n0\nx\n") == Some((SolReason::BadNumber, 3)));
-}
-
-// No options, one constraint, one variable, and no values.
-fn fault_behind(rt: &HostRuntime, text: &[u8]) -> Option<(SolReason, u32)> {
-    let Ok(mut reader) = SolReader::new(rt.alloc()) else {
-        return None;
-    };
-    let _ = reader.feed(b"Options\n0\n1\n0\n1\n0\n");
-    let _ = reader.feed(text);
-    reason_of(reader.finish())
-}
-
-#[test]
-fn faults_behind_numbers(rt: HostRuntime) {
-    assert!(rt; fault_behind(&rt, b"x") == Some((SolReason::Extra, 7)));
-    assert!(rt; fault_behind(&rt, b"objno 0") == Some((SolReason::BadLine, 7)));
-    assert!(rt; fault_behind(&rt, b"objno 0 0\nobjno 0 0") == Some((SolReason::Extra, 8)));
-    assert!(rt; fault_behind(&rt, b"suffix 256 0 0 0 0") == Some((SolReason::BadNumber, 7)));
-    assert!(rt; fault_behind(&rt, b"suffix 0 0 0 0 65537") == Some((SolReason::TooLarge, 7)));
-    assert!(rt; fault_behind(&rt, b"suffix 0 0 0 0 1\n\n") == Some((SolReason::BadLine, 8)));
-}
-
-#[test]
-fn faults_of_suffix_values(rt: HostRuntime) {
-    let repeated = fault_behind(&rt, b"suffix 0 2 0 0 1\na\n\n\n0 1\n0 1");
-    assert!(rt; repeated == Some((SolReason::RepeatedIndex, 12)));
-    let out = fault_behind(&rt, b"suffix 0 2 0 0 0\na\n1 1");
-    assert!(rt; out == Some((SolReason::IndexOut, 9)));
-    let part = fault_behind(&rt, b"suffix 0 2 0 0 0\na\n0 0.5");
-    assert!(rt; part == Some((SolReason::BadNumber, 9)));
-    let real = fault_behind(&rt, b"suffix 4 1 0 0 0\na\n0 0.5");
-    assert!(rt; real.is_none());
-}
-
-// So many message lines, and then this text.
-fn fault_after(rt: &HostRuntime, lines: u32, text: &[u8]) -> Option<(SolReason, u32)> {
-    let Ok(mut reader) = SolReader::new(rt.alloc()) else {
-        return None;
-    };
-    for _ in 0..lines {
-        let _ = reader.feed(b"m\n");
-    }
-    let _ = reader.feed(text);
-    reason_of(reader.finish())
-}
-
-// An empty line before `Options` is no line of the message.
-#[test]
-fn the_longest_message(rt: HostRuntime) {
-    let large = Some((SolReason::TooLarge, 65_537));
-    assert!(rt; fault_after(&rt, 65_536, b"\nOptions\n0\n0\n0\n0\n0\n").is_none());
-    assert!(rt; fault_after(&rt, 65_536, b"Options\n0\n0\n0\n0\n0\n").is_none());
-    assert!(rt; fault_after(&rt, 65_536, b"m\nOptions\n") == large);
-    assert!(rt; fault_after(&rt, 65_536, b"\n\nOptions\n") == large);
-    assert!(rt; fault_after(&rt, 65_536, b"\n") == large);
-    assert!(rt; fault_after(&rt, 65_536, b"") == Some((SolReason::NoOptions, 65_537)));
 }
 
 // A fault is answered once its line has ended, and again.
