@@ -40,3 +40,10 @@ dec_zero m e = ((λ z. ap (λ n. decimal_value n e) z ∙ zero_decimal e), out)
 pub decimal_whole : (n : ℤ) → decimal_value n (pos 0) ≡ whole n
 unfolding lib.IntN.one
 decimal_whole n = same_value (decimal_is n (pos 0)) (whole_value n) (*ℤ-one (n *ℤ pos (10 ^ up (pos 0))))
+
+-- a fraction of denominator 1
+pub frac_whole : (f : Frac) → f.den ≡ 1 → decimal_value f.num (pos 0) ≡ frac_value f
+unfolding lib.IntN.one
+frac_whole f one =
+    let n = f.num *ℤ pos (10 ^ up (pos 0)) in
+    same_value (decimal_is f.num (pos 0)) (own_value (frac_value f)) (ap (λ d. n *ℤ pos d) one ∙ *ℤ-one n)

@@ -1,4 +1,4 @@
-ghost use Rattle.std.specs.Prelude.{◌≡◌, ◌≢◌, ℕ, ◌+◌, ◌-◌, ◌*◌, ◌%◌, ◌^◌, ◌<◌, ◌≤◌, MatchOption, SomeIff, true, false, pos, ◌<ℤ◌, unsigned_abs};
+ghost use Rattle.std.specs.Prelude.{◌≡◌, ◌≢◌, ℕ, ◌+◌, ◌-◌, ◌*◌, ◌%◌, ◌^◌, ◌<◌, ◌≤◌, MatchOption, SomeIff, IfSome, true, false, pos, ◌<ℤ◌, unsigned_abs};
 ghost use Rattle.exact_numbers.specs.Fraction.{IsCofactor};
 ghost use Rattle.exact_numbers.specs.Values.{dec_value, frac_value, IsDecOf, IsFracOf};
 
@@ -7,8 +7,67 @@ use crate::dec::Dec;
 use crate::frac::Frac;
 use crate::mantissa::{WORD, with_sign};
 
+// The powers of 5 that are numbers of 64 bits.
+const FIVES: [u64; 28] = [
+    1,
+    5,
+    25,
+    125,
+    625,
+    3125,
+    15625,
+    78125,
+    390625,
+    1953125,
+    9765625,
+    48828125,
+    244140625,
+    1220703125,
+    6103515625,
+    30517578125,
+    152587890625,
+    762939453125,
+    3814697265625,
+    19073486328125,
+    95367431640625,
+    476837158203125,
+    2384185791015625,
+    11920928955078125,
+    59604644775390625,
+    298023223876953125,
+    1490116119384765625,
+    7450580596923828125,
+];
+
+// A power of 2 or of 5 of 64 bits, with no multiplication.
+#[inline]
+fn small_power(factor: u128, times: u32) -> Option<u64>
+    ensures { IfSome result (λ p. p ≡ factor ^ times) }
+{
+    if factor == 2 && times < 64 {
+        return Some(1 << times);
+    }
+    if factor == 5 && times < 28 {
+        return Some(FIVES[times as usize]);
+    }
+    None
+}
+
 // start * factor ^ times, where it is within the greatest size.
+#[inline]
 pub(crate) fn grown(start: u128, factor: u128, times: u32) -> Option<u128>
+    requires small { start < 2 ^ 127 }
+    requires above { 0 < factor }
+    ensures { SomeIff result (start * factor ^ times < 2 ^ 127) (start * factor ^ times) }
+{
+    match small_power(factor, times) {
+        Some(power) => bounded_product(start, power as u128),
+        None => grown_by(start, factor, times),
+    }
+}
+
+// The same, by one multiplication after the other.
+fn grown_by(start: u128, factor: u128, times: u32) -> Option<u128>
     requires small { start < 2 ^ 127 }
     requires above { 0 < factor }
     ensures { SomeIff result (start * factor ^ times < 2 ^ 127) (start * factor ^ times) }
@@ -109,6 +168,9 @@ impl Frac {
     pub fn to_dec(self) -> Option<Dec>
         ensures { IsDecOf result (frac_value self) }
     {
+        if self.den == 1 {
+            return Dec::new(self.num, 0);
+        }
         let twos = cancel(self.den, 2, 127);
         let fives = cancel(twos.rest, 5, 127);
         if fives.rest != 1 {

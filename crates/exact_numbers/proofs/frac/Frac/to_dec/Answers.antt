@@ -1,4 +1,4 @@
-use Rattle.std.proofs.Common.{rules, arith, ◌≡◌, pos, neg_ℤ, ◌-◌, ◌-ℤ◌, ◌*◌, ◌^◌, ◌≤◌, ◌∙◌, ap, SFits, to_z, of_z, to_z-of_z, unsigned_abs, le-mul_of_pos_right, int_lt, w32}
+use Rattle.std.proofs.Common.{rules, arith, ◌≡◌, pos, neg_ℤ, ◌-◌, ◌-ℤ◌, ◌*◌, ◌^◌, ◌≤◌, ◌∙◌, ap, SFits, to_z, of_z, to_z-of_z, unsigned_abs, subst, le-mul_of_pos_right, int_lt, w32}
 use Rattle.std.proofs.Math.Nat.{one-le-pow}
 use Rattle.std.proofs.Common.{lit<}
 use Rattle.std.specs.Int.{w128}
@@ -7,10 +7,17 @@ use Rattle.exact_numbers.specs.Decimal.{signed}
 use Rattle.exact_numbers.proofs.Fractions.{frac_fits}
 use Rattle.exact_numbers.proofs.OfDec.{cofactor_of}
 use Rattle.exact_numbers.proofs.ToDec.{finite, places_of, no_dec_above, same_at}
-use Rattle.exact_numbers.specs.Values.{frac_value}
+use Rattle.exact_numbers.specs.Values.{frac_value, IsDecOf}
+use Rattle.fractions.specs.Rational.{decimal_value}
+use Rattle.exact_numbers.proofs.Signs.{frac_whole}
 use Rattle.fractions.proofs.Values.{own_value}
 use Rattle.exact_numbers.proofs.Bridge.{not_dec, same_dec_value, match_dec}
 use Rattle.exact_numbers.proofs.frac.Frac.to_dec.Goals as goal
+
+pub returns-then-self-eq1 : goal.returns-then-self-eq1
+returns-then-self-eq1 c =
+    let fm : SFits w128 c.args.self.num = frac_fits _ _ c.args.self.spelled in
+    subst (IsDecOf c.new.result) (ap (λ n. decimal_value n (pos 0)) (to_z-of_z fm) ∙ frac_whole c.args.self c.if-self-eq1.true) c.new.ensures
 
 pub returns-then-fives-ne1 : goal.returns-then-fives-ne1
 returns-then-fives-ne1 c = not_dec _ _ (own_value (frac_value c.args.self)) (λ fits.
@@ -55,4 +62,4 @@ returns c =
     let s = int_lt c.args.self.num (pos 0) in
     let sign : m ≡ signed s (unsigned_abs c.args.self.num * 2 ^ (p - i) * 5 ^ (p - j)) =
     to_z-of_z {w = w128} (record { sfits = c.with_sign.type_inv }) ∙ c.with_sign.ensures ∙ ap (λ x. signed (int_lt x (pos 0)) c.in-Some-grown.size) (to_z-of_z fm) ∙ ap (signed s) made in
-    match_dec c.new.result _ _ (same_dec_value m e _ _ (own_value (frac_value c.args.self)) (same_at c.args.self.num c.args.self.den i j p c.args.self.spelled q m e sign plain)) c.new.ensures
+    match_dec c.new-2.result _ _ (same_dec_value m e _ _ (own_value (frac_value c.args.self)) (same_at c.args.self.num c.args.self.den i j p c.args.self.spelled q m e sign plain)) c.new-2.ensures
