@@ -179,10 +179,10 @@ impl Frac {
         let even = 127 - twos.left;
         let odd = 127 - fives.left;
         let places = even.max(odd);
-        let Some(first) = grown(self.num.unsigned_abs(), 2, places - even) else {
+        let Some(first) = grown_by(self.num.unsigned_abs(), 2, places - even) else {
             return None;
         };
-        let Some(size) = grown(first, 5, places - odd) else {
+        let Some(size) = grown_by(first, 5, places - odd) else {
             return None;
         };
         Dec::new(with_sign(self.num < 0, size), -(places as i32))
