@@ -3,7 +3,8 @@ use Rattle.std.specs.Prelude.{ℕ, ◌==◌, ◌&&◌, Bool, true, false, List, 
 use Rattle.code_tables.specs.declared.field.Field.{Field}
 use Rattle.code_tables.specs.declared.field.FieldRow.{FieldRow}
 
--- row number, header line and place in it (from 1), name, whether the line must have it, whether it must be 0
+-- row number, header line and place in it (from 1), name, whether the line must have it, whether it
+-- must be 0
 pub record HeaderRow : Type 0 where
   pub row : ℕ
   pub line : ℕ
@@ -13,7 +14,8 @@ pub record HeaderRow : Type 0 where
   pub zero : Bool
 
 abbrev pub header_row : ℕ → ℕ → ℕ → List ℕ → Bool → Bool → HeaderRow
-header_row row line place name required zero = record { row = row; line = line; place = place; name = name; required = required; zero = zero }
+header_row row line place name required zero =
+    record { row = row; line = line; place = place; name = name; required = required; zero = zero }
 
 -- row, line, place, name, required, must be 0
 abbrev pub header : List HeaderRow
@@ -64,7 +66,8 @@ header_rows = map row_of header
 
 -- the field of the row at a line and a place
 abbrev pub field_in : List FieldRow → ℕ → ℕ → Option Field
-field_in rows line place = option_map (λ r. r.field) (find (λ r. (r.line == line) && (r.place == place)) rows)
+field_in rows line place =
+    option_map (λ r. r.field) (find (λ r. (r.line == line) && (r.place == place)) rows)
 
 unfoldable pub field_at : ℕ → ℕ → Option Field
 unfolding header_rows

@@ -5,11 +5,15 @@ ghost use Rattle.code_tables.specs.Header.{field_at};
 
 use crate::field::Field;
 
-/// The field at a line and a place: an arm for each row, which is line, place, row, required, must be 0.
+/// The field at a line and a place: an arm for each row, which is line, place, row, required, must
+/// be 0.
 macro_rules! by_place {
-    ($line:expr, $place:expr; $($row_line:literal $row_place:literal => $row:literal $required:literal $zero:literal,)+) => {
-        match ($line, $place) {
-            $(($row_line, $row_place) => Some(Field { row: $row, required: $required, zero: $zero }),)+
+    (
+        $at_line:expr, $at_place:expr;
+        $($line:literal $place:literal => $row:literal $required:literal $zero:literal,)+
+    ) => {
+        match ($at_line, $at_place) {
+            $(($line, $place) => Some(Field { row: $row, required: $required, zero: $zero }),)+
             _ => None,
         }
     };

@@ -16,7 +16,11 @@ pub struct Table<const N: usize, R = FieldRow> {
 /// One row of the header: row, line, place, required, must be 0.
 macro_rules! field_row {
     ($row:literal, $line:literal, $place:literal, $required:literal, $zero:literal) => {
-        FieldRow { line: $line, place: $place, field: Field { row: $row, required: $required, zero: $zero } }
+        FieldRow {
+            line: $line,
+            place: $place,
+            field: Field { row: $row, required: $required, zero: $zero },
+        }
     };
 }
 

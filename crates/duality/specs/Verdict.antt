@@ -40,7 +40,10 @@ first_fault fault (suc n) = option_or (first_fault fault n) (fault n)
 
 -- ---- the value of a form at a point, term by term
 abbrev pub form_step : Form → Numbers → ℚ → ℕ → Option ℚ
-form_step f x s j = if is_zero (f.coefficient j) then Some s else option_and_then (λ v. plus_product s (f.coefficient j) v) (fitting (x j))
+form_step f x s j =
+    if is_zero (f.coefficient j)
+    then Some s
+    else option_and_then (λ v. plus_product s (f.coefficient j) v) (fitting (x j))
 
 unfoldable pub run_form : ℕ → Form → Numbers → Option ℚ
 run_form n f x = run (form_step f x) f.constant n
@@ -66,7 +69,10 @@ is_inside v i = is_not_below i.lower v && is_not_above i.upper v
 
 abbrev pub row_check : ℕ → Interval → Option ℚ → Option Fault
 row_check i s None = Some (too_wide (at_row i))
-row_check i s (Some v) = if sides_fit s then (if is_inside v s then None else Some (row_broken i)) else Some (too_wide (at_row i))
+row_check i s (Some v) =
+    if sides_fit s
+    then (if is_inside v s then None else Some (row_broken i))
+    else Some (too_wide (at_row i))
 
 unfoldable pub row_fault : Linear → Numbers → ℕ → Option Fault
 row_fault f x i = row_check i (row_at f i).side (run_form (variable_count f) (row_at f i).body x)
@@ -76,7 +82,8 @@ unfoldable pub bound_fault : Linear → Numbers → ℕ → Option Fault
 bound_fault f x j = if is_inside (x j) (bounds_of f j) then None else Some (bound_broken j)
 
 -- ---- third: the side of each row that its dual needs
--- the lower side for a number above 0 when minimising; the upper for one below 0; the other way when maximising
+-- the lower side for a number above 0 when minimising; the upper for one below 0; the other way
+-- when maximising
 abbrev pub needed : Bool → ℤ → Interval → Option ℚ
 needed false (pos n) i = i.lower
 needed false (negsuc n) i = i.upper
@@ -87,7 +94,8 @@ abbrev pub has_needed : Bool → ℚ → Interval → Bool
 has_needed max v i = is_zero v || is_some (needed max v.top i)
 
 abbrev pub side_fault : Linear → Numbers → ℕ → Option Fault
-side_fault f y i = if has_needed f.maximise (y i) (row_at f i).side then None else Some (row_side_missing i)
+side_fault f y i =
+    if has_needed f.maximise (y i) (row_at f i).side then None else Some (row_side_missing i)
 
 -- ---- fourth: the reduced cost of each variable, and the bound that it needs
 abbrev pub cost_step : Linear → Numbers → ℕ → ℚ → ℕ → Option ℚ
@@ -113,7 +121,9 @@ row_part_of max i constant s dual =
     if is_zero dual
     then Some s
     else option_and_then
-    (λ side. option_and_then (λ v. option_and_then (λ d. plus_product s v d) (fitting_difference side constant)) (fitting dual))
+    (λ side. option_and_then
+    (λ v. option_and_then (λ d. plus_product s v d) (fitting_difference side constant))
+    (fitting dual))
     (option_and_then fitting (needed max dual.top i))
 
 abbrev pub row_part : Linear → Numbers → ℚ → ℕ → Option ℚ
@@ -123,24 +133,30 @@ abbrev pub cost_part_of : Bool → Interval → ℚ → ℚ → Option ℚ
 cost_part_of max i s d =
     if is_zero d
     then Some s
-    else option_and_then (λ side. plus_product s d side) (option_and_then fitting (needed max d.top i))
+    else option_and_then (λ side. plus_product s d side)
+    (option_and_then fitting (needed max d.top i))
 
 abbrev pub cost_part : Linear → Box → Numbers → ℚ → ℕ → Option ℚ
 cost_part f box y s j = option_and_then (cost_part_of f.maximise (box j) s) (reduced_cost f y j)
 
 unfoldable pub bound_total : Linear → Box → Numbers → Option ℚ
-bound_total f box y = option_and_then (λ s. run (cost_part f box y) s (variable_count f)) (run (row_part f y) f.objective.constant (row_count f))
+bound_total f box y =
+    option_and_then (λ s. run (cost_part f box y) s (variable_count f))
+    (run (row_part f y) f.objective.constant (row_count f))
 
 -- ---- the verdicts
 -- phases three and four
 unfoldable pub dual_fault : Linear → Box → Numbers → Option Fault
-dual_fault f box y = option_or (first_fault (side_fault f y) (row_count f)) (first_fault (cost_fault f box y) (variable_count f))
+dual_fault f box y =
+    option_or (first_fault (side_fault f y) (row_count f))
+    (first_fault (cost_fault f box y) (variable_count f))
 
 -- phases one to four
 unfoldable pub early_fault : Linear → Numbers → Numbers → Option Fault
 early_fault f x y =
     option_or
-    (option_or (first_fault (row_fault f x) (row_count f)) (first_fault (bound_fault f x) (variable_count f)))
+    (option_or (first_fault (row_fault f x) (row_count f))
+    (first_fault (bound_fault f x) (variable_count f)))
     (dual_fault f (bounds_of f) y)
 
 -- the value at the point and then the bound, where each fits
@@ -150,7 +166,8 @@ last_of None None b = refused (too_wide at_objective)
 last_of None (Some v) None = refused (too_wide at_total)
 last_of None (Some v) (Some b) = if is_same v b then yes v else gap v b
 
--- the first verdict of the six phases that applies, for a number for each variable and one for each row
+-- the first verdict of the six phases that applies, for a number for each variable and one for each
+-- row
 unfoldable pub verdict : Linear → List ℚ → List ℚ → Verdict
 verdict f xs ys =
     last_of
@@ -165,7 +182,8 @@ bound_or_fault None (Some b) = bound b
 
 -- the bound that the duals alone show: phases three, four and six
 unfoldable pub dual_bound : Linear → Box → List ℚ → BoundVerdict
-dual_bound f box ys = bound_or_fault (dual_fault f box (value_at ys)) (bound_total f box (value_at ys))
+dual_bound f box ys =
+    bound_or_fault (dual_fault f box (value_at ys)) (bound_total f box (value_at ys))
 
 -- the objective 0, minimised
 abbrev pub without_objective : Linear → Linear

@@ -48,7 +48,11 @@ signed_of word =
 abbrev pub dec_where : (x : ℚ) (fits : Bool) → fits_dec x ≡ fits → Option Dec
 dec_where x false h = None
 dec_where x true h =
-    Some (record { m = (decimal_of x).mantissa; e = (decimal_of x).exponent; spelled = spelled_of x h })
+    Some (record {
+      m = (decimal_of x).mantissa;
+      e = (decimal_of x).exponent;
+      spelled = spelled_of x h;
+    })
 
 -- the Dec of a value, where one has it
 unfoldable pub dec_from : ℚ → Option Dec

@@ -26,12 +26,16 @@ pub spelled_dec : (m e : ℤ) → is_spelled m e ≡ true → IsDec m e
 spelled_dec m e = by (nat_eq (unsigned_abs m) 0 && nat_eq (unsigned_abs e) 0) refl
   where
     zero_dec : IsDec (pos 0) (pos 0)
-    zero_dec = record { mantissa = omega arith; exponent = omega arith; shortest = λ z. (refl, refl) }
+    zero_dec =
+        record { mantissa = omega arith; exponent = omega arith; shortest = λ z. (refl, refl) }
 
     other : Bool
-    other = is_small (unsigned_abs m) && nat_le (unsigned_abs e) 400 && not (nat_eq (unsigned_abs m % 10) 0)
+    other =
+        is_small (unsigned_abs m) && nat_le (unsigned_abs e) 400
+        && not (nat_eq (unsigned_abs m % 10) 0)
 
-    by : (b : Bool) → (nat_eq (unsigned_abs m) 0 && nat_eq (unsigned_abs e) 0) ≡ b → (b || other) ≡ true → IsDec m e
+    by : (b : Bool) → (nat_eq (unsigned_abs m) 0 && nat_eq (unsigned_abs e) 0) ≡ b
+        → (b || other) ≡ true → IsDec m e
     by true both h =
         subst (λ k. IsDec m k) (sym (no_size e (second_of_both _ _ both)))
         (subst (λ k. IsDec k (pos 0)) (sym (no_size m (first_of_both _ _ both))) zero_dec)

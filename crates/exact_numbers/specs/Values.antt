@@ -25,7 +25,8 @@ text_of d = dec_text d.m d.e
 
 -- num / den
 abbrev pub frac_value : Frac → ℚ
-frac_value f = record { top = f.num; bottom = f.den; above = f.spelled.above; lowest = f.spelled.reduced }
+frac_value f =
+    record { top = f.num; bottom = f.den; above = f.spelled.above; lowest = f.spelled.reduced }
 
 -- some Dec has the value x
 pub record FitsDec (x : ℚ) : Type 0 where
@@ -34,14 +35,16 @@ pub record FitsDec (x : ℚ) : Type 0 where
   pub dec : IsDec m e
   pub same : decimal_value m e ≡ x
 
--- the product of d and k is in reach: the product of the mantissa and k is in range, and some Dec has the value
+-- the product of d and k is in reach: the product of the mantissa and k is in range, and some Dec
+-- has the value
 pub record IsInReach (d : Dec) (k : ℤ) : Type 0 where
   pub size : unsigned_abs (d.m *ℤ k) < 2 ^ 127
   pub dec : FitsDec (dec_value d *ℚ whole k)
 
 -- the answer is x where the test holds, and none where it does not
 abbrev pub IsFracWhere : Bool → Option Frac → ℚ → Type 0
-IsFracWhere test result x = MatchOption result (test ≡ false) (λ f. (test ≡ true) × (frac_value f ≡ x))
+IsFracWhere test result x =
+    MatchOption result (test ≡ false) (λ f. (test ≡ true) × (frac_value f ≡ x))
 
 -- the answer is x, and none exactly where x does not fit
 abbrev pub IsFracOf : Option Frac → ℚ → Type 0
@@ -50,7 +53,8 @@ IsFracOf result x = IsFracWhere (fits x) result x
 -- the answer is x, and none exactly where the divisor is 0 or x does not fit
 abbrev pub IsQuotientOf : Type 0 → Option Frac → ℚ → Type 0
 IsQuotientOf is_zero result x =
-    MatchOption result (is_zero ⊎ (fits x ≡ false)) (λ f. (is_zero → ⊥) × (fits x ≡ true) × (frac_value f ≡ x))
+    MatchOption result (is_zero ⊎ (fits x ≡ false))
+    (λ f. (is_zero → ⊥) × (fits x ≡ true) × (frac_value f ≡ x))
 
 -- the answer is x, and none exactly where no Dec has the value
 abbrev pub IsDecOf : Option Dec → ℚ → Type 0
@@ -72,7 +76,8 @@ pub record Decimal : Type 0 where
 
 -- x is a whole multiple of 10 ^ e
 abbrev pub is_multiple : ℚ → ℤ → Bool
-is_multiple x e = nat_eq ((unsigned_abs x.top * 10 ^ below_zero e) % (x.bottom * 10 ^ above_zero e)) 0
+is_multiple x e =
+    nat_eq ((unsigned_abs x.top * 10 ^ below_zero e) % (x.bottom * 10 ^ above_zero e)) 0
 
 -- the whole part of x / 10 ^ e
 abbrev pub mantissa_at : ℚ → ℤ → ℤ
@@ -83,11 +88,14 @@ unfoldable pub exponent_below : ℚ → ℕ → ℤ → ℤ
 exponent_below x zero e = e
 exponent_below x (suc n) e = if is_multiple x e then e else exponent_below x n (e -ℤ pos 1)
 
--- the one spelling of a decimal number: the exponent is the greatest from 400 to -400; zero is (0, 0)
+-- the one spelling of a decimal number: the exponent is the greatest from 400 to -400; zero is
+-- (0, 0)
 unfoldable pub decimal_of : ℚ → Decimal
 decimal_of x =
     let e = exponent_below x 800 (pos 400) in
-    if nat_eq (unsigned_abs x.top) 0 then record { mantissa = pos 0; exponent = pos 0 } else record { mantissa = mantissa_at x e; exponent = e }
+    if nat_eq (unsigned_abs x.top) 0
+    then record { mantissa = pos 0; exponent = pos 0 }
+    else record { mantissa = mantissa_at x e; exponent = e }
 
 -- the written text of a decimal number
 abbrev pub value_text : ℚ → List ℕ
@@ -95,8 +103,13 @@ value_text x = dec_text (decimal_of x).mantissa (decimal_of x).exponent
 
 -- the numbers are those of a Dec: zero is (0, 0), and any other mantissa does not end in 0
 abbrev pub is_spelled : ℤ → ℤ → Bool
-is_spelled m e = (nat_eq (unsigned_abs m) 0 && nat_eq (unsigned_abs e) 0) || (is_small (unsigned_abs m) && nat_le (unsigned_abs e) 400 && not (nat_eq (unsigned_abs m % 10) 0))
+is_spelled m e =
+    (nat_eq (unsigned_abs m) 0 && nat_eq (unsigned_abs e) 0)
+    || (is_small (unsigned_abs m) && nat_le (unsigned_abs e) 400
+    && not (nat_eq (unsigned_abs m % 10) 0))
 
 -- some Dec has the value x, by a test of its spelling
 unfoldable pub fits_dec : ℚ → Bool
-fits_dec x = is_spelled (decimal_of x).mantissa (decimal_of x).exponent && is_multiple x (decimal_of x).exponent
+fits_dec x =
+    is_spelled (decimal_of x).mantissa (decimal_of x).exponent
+    && is_multiple x (decimal_of x).exponent

@@ -176,8 +176,8 @@ impl Frac {
         Some(paired((self.num < 0) != (other.num < 0), size, 1))
     }
 
-    /// The product; none exactly where it does not fit. Sizes are cancelled crosswise first, so that
-    /// no larger number is formed.
+    /// The product; none exactly where it does not fit. Sizes are cancelled crosswise first, so
+    /// that no larger number is formed.
     pub fn mul(self, other: Frac) -> Option<Frac>
         ensures { IsFracOf result (frac_value self *ℚ frac_value other) }
     {

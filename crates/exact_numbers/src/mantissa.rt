@@ -162,8 +162,8 @@ impl Dec {
         self.e >= 0
     }
 
-    /// The product with k; none exactly where the product of the mantissa and k is out of range, or no
-    /// Dec has the value.
+    /// The product with k; none exactly where the product of the mantissa and k is out of range, or
+    /// no Dec has the value.
     pub fn times(self, k: i128) -> Option<Dec>
         ensures { MatchOption result (IsInReach self k → ⊥)
             (λ d. IsInReach self k × (dec_value d ≡ dec_value self *ℚ whole k)) }

@@ -27,8 +27,8 @@ pub fn are_digits(word: &[u8]) -> bool
     }
 }
 
-/// The number that digits write, with a sign before them or none, from -2^31 to 2^31 - 1; none of any
-/// other word.
+/// The number that digits write, with a sign before them or none, from -2^31 to 2^31 - 1; none of
+/// any other word.
 pub fn signed_of(word: &[u8]) -> Option<i32>
     ensures { result ≡ signed_of word.now }
 {
@@ -70,8 +70,8 @@ pub struct PlainIndex {
     pub len: usize,
 }
 
-/// The digits that a text begins with, where they are a whole number of the common form; none of some
-/// other texts.
+/// The digits that a text begins with, where they are a whole number of the common form; none of
+/// some other texts.
 pub fn plain_index(text: &[u8]) -> Option<PlainIndex>
     ensures { IfSome result (λ i. (i.len ≤ length text.now) × (0 < i.len)
         × (whole_of (take i.len text.now) ≡ Some i.number) × IsUnmarked (take i.len text.now)) }

@@ -69,7 +69,8 @@ fn order_of_scaled(a: u128, e: i16, b: u128, f: i16) -> Ordering
     requires second { b < 2 ^ 127 }
     requires exponent { unsigned_abs e ≤ 400 }
     requires other_exponent { unsigned_abs f ≤ 400 }
-    ensures { result ≡ nat_cmp (a * 10 ^ above_zero e * 10 ^ below_zero f) (b * 10 ^ above_zero f * 10 ^ below_zero e) }
+    ensures { result ≡ nat_cmp (a * 10 ^ above_zero e * 10 ^ below_zero f)
+        (b * 10 ^ above_zero f * 10 ^ below_zero e) }
 {
     if e >= f {
         match grown(a, 10, (e - f) as u32) {

@@ -100,7 +100,8 @@ fn kept_length(digits: &[u8]) -> usize
     kept
 }
 
-// How many digits before the point stand before zeros alone, where `after` digits after the point do.
+// How many digits before the point stand before zeros alone, where `after` digits after the point
+// do.
 fn kept_before(whole: &[u8], after: usize) -> usize
     ensures within { result ≤ length whole.now }
     ensures zeros { (k : ℕ) → result ≤ k → k < length whole.now → slice_index whole.now k ≡ 48 }
@@ -134,7 +135,8 @@ fn with_digit(number: u128, digit: u8) -> Option<u128>
 fn with_digits(start: u128, digits: &[u8]) -> Option<u128>
     requires digits { AllDigits 10 digits.now }
     requires small { start < 2 ^ 127 }
-    ensures { SomeIff result (digits_value_after 10 start digits.now < 2 ^ 127) (digits_value_after 10 start digits.now) }
+    ensures { SomeIff result (digits_value_after 10 start digits.now < 2 ^ 127)
+        (digits_value_after 10 start digits.now) }
 {
     let mut number = start;
     for b in digits {
@@ -161,7 +163,8 @@ fn capped_number(digits: &[u8]) -> u128
 
 // The exponent that stands after a mantissa, with its mark; 0 where nothing stands there.
 fn read_exponent(text: &[u8]) -> Option<i128>
-    ensures { MatchOption result (IsExponent text.now → ⊥) (λ x. IsExponent text.now × IsCapped x (exponent_value text.now)) }
+    ensures { MatchOption result (IsExponent text.now → ⊥)
+        (λ x. IsExponent text.now × IsCapped x (exponent_value text.now)) }
 {
     let [_, rest @ ..] = text else {
         return Some(0);
@@ -179,7 +182,8 @@ fn dec_of_digits(negative: bool, whole: &[u8], fraction: &[u8], exponent: i128) 
     requires fraction { AllDigits 10 fraction.now }
     requires low { neg_ℤ (pos cap) ≤ℤ exponent }
     requires high { exponent ≤ℤ pos cap }
-    ensures { IsDecOf result (decimal_value (signed negative (digits_value 10 (whole.now ++ fraction.now)))
+    ensures { IsDecOf result
+        (decimal_value (signed negative (digits_value 10 (whole.now ++ fraction.now)))
         (exponent -ℤ pos (length fraction.now))) }
 {
     let fraction_kept = kept_length(fraction);
@@ -326,7 +330,8 @@ fn read_any(text: &[u8]) -> Result<Dec, NumFault>
 
 /// The whole number that digits alone are, up to 2 ^ 31 - 1.
 pub fn read_whole(text: &[u8]) -> Result<u32, NumFault>
-    ensures { MatchResult result (λ n. IsWholeText text.now × (n ≡ digits_value 10 text.now) × (n < 2 ^ 31))
+    ensures { MatchResult result
+        (λ n. IsWholeText text.now × (n ≡ digits_value 10 text.now) × (n < 2 ^ 31))
         (λ f. WholeFault f text.now) }
 {
     let front = sum_front(text, 0);
@@ -341,7 +346,8 @@ pub fn read_whole(text: &[u8]) -> Result<u32, NumFault>
 
 // A whole number of any length.
 fn read_any_whole(text: &[u8]) -> Result<u32, NumFault>
-    ensures { MatchResult result (λ n. IsWholeText text.now × (n ≡ digits_value 10 text.now) × (n < 2 ^ 31))
+    ensures { MatchResult result
+        (λ n. IsWholeText text.now × (n ≡ digits_value 10 text.now) × (n < 2 ^ 31))
         (λ f. WholeFault f text.now) }
 {
     if text.is_empty() || !are_digits(text) {

@@ -7,7 +7,8 @@ use crate::frac::Frac;
 use crate::num_text::NumText;
 use itoa::Buffer;
 
-// The digits with a point before the last `places` of them, and zeros in front so that one digit stands before it.
+// The digits with a point before the last `places` of them, and zeros in front so that one digit
+// stands before it.
 fn append_with_point(out: &mut NumText, digits: &[u8], places: usize)
     requires digits { length digits.now ≤ 40 }
     requires places { places ≤ 40 }

@@ -15,7 +15,8 @@ pub data Owner : Type 0 where
   constraint : ℕ → Owner
   objective : ℕ → Owner
 
--- there is no such objective; a fault at a node or a term of an owner; or too many coefficients, at the head of an owner
+-- there is no such objective; a fault at a node or a term of an owner; or too many coefficients, at
+-- the head of an owner
 pub data FoldFault : Type 0 where
   no_such_objective : ℕ → FoldFault
   at_place : Owner → Fault → FoldFault
@@ -46,9 +47,12 @@ at_owner o (Some f) = Some (at_place o f)
 abbrev pub head_fault : Owner → ℕ → Option FoldFault
 head_fault o count = (if nat_lt most_coefficients count then Some (fold_too_large o) else None)
 
--- the fault of one owner, where those up to it have `count` coefficients: nodes and terms before the head
+-- the fault of one owner, where those up to it have `count` coefficients: nodes and terms before
+-- the head
 abbrev pub owner_fault : ℕ → ℕ → Owned → Option FoldFault
-owner_fault n count o = option_or (at_owner o.owner (expression_fault o.known n o.expression)) (head_fault o.owner count)
+owner_fault n count o =
+    option_or (at_owner o.owner (expression_fault o.known n o.expression))
+    (head_fault o.owner count)
 
 -- the first fault of owners, where those before have `count` coefficients
 abbrev pub owners_fault : ℕ → ℕ → List Owned → Option FoldFault
@@ -62,21 +66,35 @@ abbrev pub owned_definitions : (Point → Known) → ℕ → List Definition →
 owned_definitions known i [] = []
 owned_definitions known i (d ∷ ds) =
     record { owner = definition i; known = known; expression = d.expression }
-    ∷ owned_definitions (λ at. with_value (known at) d.index (expression_value (known at) at d.expression)) (suc i) ds
+    ∷ owned_definitions
+    (λ at. with_value (known at) d.index (expression_value (known at) at d.expression))
+    (suc i) ds
 
 -- the line of defined variable i, by its values
 abbrev pub defined_line : File → ℕ → Line
 defined_line f i = line_by (λ at. known_values (definitions_of f) at i)
 
 abbrev pub owned_body : File → ℕ → Owned
-owned_body f i = record { owner = constraint i; known = known_values (definitions_of f); expression = body_of f i }
+owned_body f i =
+    record {
+      owner = constraint i;
+      known = known_values (definitions_of f);
+      expression = body_of f i;
+    }
 
 abbrev pub owned_objective : File → ℕ → Owned
-owned_objective f k = record { owner = objective k; known = known_values (definitions_of f); expression = objective_of f k }
+owned_objective f k =
+    record {
+      owner = objective k;
+      known = known_values (definitions_of f);
+      expression = objective_of f k;
+    }
 
 -- the defined variables in file order, the constraints by number, and objective k
 abbrev pub owners_of : File → ℕ → List Owned
-owners_of f k = owned_definitions (λ at. nothing_known) 0 (definitions_of f) ++ (elements_from (owned_body f) 0 f.counts.n_con ++ owned_objective f k ∷ [])
+owners_of f k =
+    owned_definitions (λ at. nothing_known) 0 (definitions_of f)
+    ++ (elements_from (owned_body f) 0 f.counts.n_con ++ owned_objective f k ∷ [])
 
 -- objective k is there, or it is the 0 of a file without objectives
 abbrev pub has_objective : File → ℕ → Bool
@@ -84,4 +102,7 @@ has_objective f k = nat_lt k f.counts.n_obj || ((k == 0) && (f.counts.n_obj == 0
 
 -- the first fault of folding a file with objective k
 unfoldable pub fold_fault : File → ℕ → Option FoldFault
-fold_fault f k = (if has_objective f k then owners_fault f.counts.n_var 0 (owners_of f k) else Some (no_such_objective k))
+fold_fault f k =
+    if has_objective f k
+    then owners_fault f.counts.n_var 0 (owners_of f k)
+    else Some (no_such_objective k)

@@ -15,7 +15,8 @@ use Rattle.file_meaning.specs.Meaning.{body_value, objective_value, side_of, bou
 abbrev pub form_of_line : Line → Form
 form_of_line l = record { constant = l.constant; coefficient = l.coef }
 
--- the constant is the value at 0; the coefficient of variable j is the value with 1 at j and 0 elsewhere, less the constant
+-- the constant is the value at 0; the coefficient of variable j is the value with 1 at j and 0
+-- elsewhere, less the constant
 abbrev pub body_form : File → ℕ → Form
 body_form f i = form_of_line (expression_line (definitions_of f) (body_of f i))
 
@@ -26,7 +27,8 @@ abbrev pub row_of : File → ℕ → Row
 row_of f i = record { name = row_name i; body = body_form f i; side = side_of f i }
 
 abbrev pub variable_of : File → ℕ → Variable
-variable_of f j = record { name = variable_name j; bound = bound_of f j; whole = is_whole_variable f j }
+variable_of f j =
+    record { name = variable_name j; bound = bound_of f j; whole = is_whole_variable f j }
 
 -- n elements of a sequence, from element i on
 unfoldable pub elements_from : {A : Type 0} → (ℕ → A) → ℕ → ℕ → List A
@@ -45,8 +47,10 @@ linear_of f k =
 
 -- at every assignment each body and objective k have the value of their form
 pub record HasLines (f : File) (k : ℕ) : Type 0 where
-  pub bodies : (i : ℕ) → i < f.counts.n_con → (xs : List ℚ) → body_value f i xs ≡ Some (form_value (body_form f i) f.counts.n_var xs)
-  pub objective : (xs : List ℚ) → objective_value f k xs ≡ Some (form_value (objective_form f k) f.counts.n_var xs)
+  pub bodies : (i : ℕ) → i < f.counts.n_con → (xs : List ℚ)
+      → body_value f i xs ≡ Some (form_value (body_form f i) f.counts.n_var xs)
+  pub objective : (xs : List ℚ)
+      → objective_value f k xs ≡ Some (form_value (objective_form f k) f.counts.n_var xs)
 
 -- an expression of the file uses only its variables and its defined variables
 abbrev pub IsWithin : File → Expression → Type 0

@@ -1,4 +1,5 @@
--- What an .nl file means (Gay 2005, "Writing .nl Files"): values at assignments, and which assignments are feasible.
+-- What an .nl file means (Gay 2005, "Writing .nl Files"): values at assignments, and which
+-- assignments are feasible.
 use Rattle.std.specs.Prelude.{ℕ, ◌<◌, Bool, true, false, IsTrue, List, get_or, Option, Some, None}
 use Rattle.std.specs.Option.{option_map}
 use Rattle.fractions.specs.Rational.{ℚ, ◌<ℚ◌, IsWhole}
@@ -58,7 +59,8 @@ pub record IsRelaxed (f : File) (xs : List ℚ) : Type 0 where
 -- moreover each binary or integer variable is whole
 pub record IsFeasible (f : File) (xs : List ℚ) : Type 0 where
   pub relaxed : IsRelaxed f xs
-  pub whole : (j : ℕ) → j < f.counts.n_var → IsTrue (is_whole_variable f j) → IsWhole (value_at xs j)
+  pub whole : (j : ℕ) → j < f.counts.n_var → IsTrue (is_whole_variable f j)
+      → IsWhole (value_at xs j)
 
 -- a value is better than another where it is greater when maximising, and smaller when minimising
 abbrev pub IsBetterValue : Bool → Option ℚ → Option ℚ → Type 0

@@ -12,32 +12,46 @@ ghost use Rattle.file_meaning.specs.FoldFaults.{defined_line, fold_fault};
 ghost use Rattle.file_meaning.specs.LinearFile.{HasLines, IsFormedFile, IsPlain, body_form, coefficient_of, linear_of, number_value, objective_form};
 ghost use Rattle.file_meaning.specs.Meaning.{IsFeasible, IsRelaxed, objective_value};
 
-// Where each body and the objective have the values of their forms, the linear program means what the file means.
+// Where each body and the objective have the values of their forms, the linear program means what
+// the file means.
 pub fn files_are_linear()
-    ensures feasible { (f : File) (k : ℕ) → HasLines f k → (xs : List ℚ) → IsFeasible f xs ↔ IsFeasibleProgram (linear_of f k) xs }
-    ensures relaxed { (f : File) (k : ℕ) → HasLines f k → (xs : List ℚ) → IsRelaxed f xs ↔ IsRelaxedProgram (linear_of f k) xs }
-    ensures objective { (f : File) (k : ℕ) → HasLines f k → (xs : List ℚ) → objective_value f k xs ≡ Some (program_objective (linear_of f k) xs) }
+    ensures feasible { (f : File) (k : ℕ) → HasLines f k → (xs : List ℚ)
+        → IsFeasible f xs ↔ IsFeasibleProgram (linear_of f k) xs }
+    ensures relaxed { (f : File) (k : ℕ) → HasLines f k → (xs : List ℚ)
+        → IsRelaxed f xs ↔ IsRelaxedProgram (linear_of f k) xs }
+    ensures objective { (f : File) (k : ℕ) → HasLines f k → (xs : List ℚ)
+        → objective_value f k xs ≡ Some (program_objective (linear_of f k) xs) }
     ensures sense { (f : File) (k : ℕ) → (linear_of f k).maximise ≡ maximises f k }
     ensures linear { (f : File) (k : ℕ) → IsFormedFile f k → IsLinear (linear_of f k) }
 {}
 
-// Where the trees are numbers, the constant of a form is its number, and a coefficient is the sum of the terms with its variable.
+// Where the trees are numbers, the constant of a form is its number, and a coefficient is the sum
+// of the terms with its variable.
 pub fn plain_files_are_linear()
     ensures lines { (f : File) (k : ℕ) → IsFormedFile f k → IsPlain f k → HasLines f k }
-    ensures constants { (f : File) (k : ℕ) → IsPlain f k → (i : ℕ) → i < f.counts.n_con → (body_form f i).constant ≡ number_value (body_of f i).tree }
-    ensures coefficients { (f : File) (k : ℕ) → IsPlain f k → (i : ℕ) → i < f.counts.n_con → (j : ℕ) → (body_form f i).coefficient j ≡ coefficient_of (get_or f.terms i []) j }
-    ensures objective_constant { (f : File) (k : ℕ) → IsPlain f k → (objective_form f k).constant ≡ number_value (objective_of f k).tree }
-    ensures objective_coefficients { (f : File) (k : ℕ) → IsPlain f k → (j : ℕ) → (objective_form f k).coefficient j ≡ coefficient_of (get_or f.slopes k []) j }
+    ensures constants { (f : File) (k : ℕ) → IsPlain f k → (i : ℕ) → i < f.counts.n_con
+        → (body_form f i).constant ≡ number_value (body_of f i).tree }
+    ensures coefficients { (f : File) (k : ℕ) → IsPlain f k → (i : ℕ) → i < f.counts.n_con → (j : ℕ)
+        → (body_form f i).coefficient j ≡ coefficient_of (get_or f.terms i []) j }
+    ensures objective_constant { (f : File) (k : ℕ) → IsPlain f k
+        → (objective_form f k).constant ≡ number_value (objective_of f k).tree }
+    ensures objective_coefficients { (f : File) (k : ℕ) → IsPlain f k → (j : ℕ)
+        → (objective_form f k).coefficient j ≡ coefficient_of (get_or f.slopes k []) j }
 {}
 
-// In a file without a fold fault the bodies, the objective and the defined variables have the values of lines at every assignment.
+// In a file without a fold fault the bodies, the objective and the defined variables have the
+// values of lines at every assignment.
 pub fn files_without_faults_are_linear()
-    ensures defined { (f : File) (k : ℕ) → IsFormedFile f k → fold_fault f k ≡ None → (i : ℕ) → IsOneOf i (indices_of (definitions_of f)) → (at : Point) → known_values (definitions_of f) at i ≡ Some (line_value f.counts.n_var (defined_line f i) at) }
+    ensures defined { (f : File) (k : ℕ) → IsFormedFile f k → fold_fault f k ≡ None → (i : ℕ)
+        → IsOneOf i (indices_of (definitions_of f)) → (at : Point)
+        → known_values (definitions_of f) at i
+        ≡ Some (line_value f.counts.n_var (defined_line f i) at) }
     ensures lines { (f : File) (k : ℕ) → IsFormedFile f k → fold_fault f k ≡ None → HasLines f k }
 {}
 
-// In a file without a fold fault each part of each tree that is folded has at every point its value at 0 and the sum of
-// its coefficients times the variables. The tree of a definition may use the definitions before it.
+// In a file without a fold fault each part of each tree that is folded has at every point its value
+// at 0 and the sum of its coefficients times the variables. The tree of a definition may use the
+// definitions before it.
 pub fn parts_are_linear()
     ensures definitions { (f : File) (k : ℕ) → IsFormedFile f k → fold_fault f k ≡ None →
         (i : ℕ) (d : Definition) → slice_get (definitions_of f) i ≡ Some d →
@@ -51,7 +65,8 @@ pub fn parts_are_linear()
         IsLinearTree f.counts.n_var (definitions_of f) u }
 {}
 
-// Each file that a builder makes has ordered sides and indices in range, whichever objective is chosen.
+// Each file that a builder makes has ordered sides and indices in range, whichever objective is
+// chosen.
 pub fn files_are_formed()
     ensures { (f : File) → IsFile f → (k : ℕ) → IsFormedFile f k }
 {}

@@ -1,4 +1,5 @@
-// What an .nl file means: the values of its bodies and objectives, its feasible assignments, and its linear program.
+// What an .nl file means: the values of its bodies and objectives, its feasible assignments, and
+// its linear program.
 #![tactic(auto)]
 
 pub mod laws;

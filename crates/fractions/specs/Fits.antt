@@ -17,7 +17,9 @@ least_multiple a b = a * (b / gcd_of a b)
 
 -- a common denominator, two numerators over it and their sum are small
 abbrev pub parts_fit : ℕ → ℤ → ℤ → Bool
-parts_fit m p q = is_small m && is_small (unsigned_abs p) && is_small (unsigned_abs q) && is_small (unsigned_abs (p +ℤ q))
+parts_fit m p q =
+    is_small m && is_small (unsigned_abs p) && is_small (unsigned_abs q)
+    && is_small (unsigned_abs (p +ℤ q))
 
 abbrev pub sum_over_multiple : ℕ → ℚ → ℚ → Bool
 sum_over_multiple m x y = parts_fit m (x.top *ℤ pos (m / x.bottom)) (y.top *ℤ pos (m / y.bottom))

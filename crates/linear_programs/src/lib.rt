@@ -1,2 +1,3 @@
-// What linear programs mean: rows and variables with sides, whole variables, an objective. There is no code.
+// What linear programs mean: rows and variables with sides, whole variables, an objective. There is
+// no code.
 #![tactic(auto)]

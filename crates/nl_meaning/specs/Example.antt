@@ -6,4 +6,5 @@ use Rattle.nl_meaning.specs.Trees.{Tree, number, operator, none, more}
 abbrev pub power_and_least : Tree → Tree → Tree
 power_and_least base exponent =
     operator Sum (more (operator Power (more base (more exponent none)))
-    (more (operator Least (more (number (pos 4) (pos 0)) (more (operator Ceiling (more (number (negsuc 74) (negsuc 0)) none)) none))) none))
+    (more (operator Least (more (number (pos 4) (pos 0))
+    (more (operator Ceiling (more (number (negsuc 74) (negsuc 0)) none)) none))) none))

@@ -45,7 +45,8 @@ constants_line c ls = constant_line (or_zero (on_values c (constants_of ls)))
 abbrev pub operator_line : ℕ → OpClass → List Line → Line
 operator_line n Sum (a ∷ b ∷ []) = line_sum a b
 operator_line n Difference (a ∷ b ∷ []) = line_sum a (line_neg b)
-operator_line n Product (a ∷ b ∷ []) = (if is_constant n a then line_scaled a.constant b else line_scaled b.constant a)
+operator_line n Product (a ∷ b ∷ []) =
+    (if is_constant n a then line_scaled a.constant b else line_scaled b.constant a)
 operator_line n Quotient (a ∷ b ∷ []) = line_scaled (inverse_of b.constant) a
 operator_line n Negation (a ∷ []) = line_neg a
 operator_line n SumOfAll (a ∷ bs) = running_line a bs
@@ -74,13 +75,20 @@ abbrev pub operator_fault : ℕ → OpClass → List Line → Option Reason
 operator_fault n Sum (a ∷ b ∷ []) = too_wide_unless (sums_fit n a b)
 operator_fault n Difference (a ∷ b ∷ []) = too_wide_unless (sums_fit n a (line_neg b))
 operator_fault n Product (a ∷ b ∷ []) =
-    (if is_constant n a then too_wide_unless (products_fit n a.constant b)
-    else (if is_constant n b then too_wide_unless (products_fit n b.constant a) else Some Nonlinear))
+    if is_constant n a then too_wide_unless (products_fit n a.constant b)
+    else if is_constant n b then too_wide_unless (products_fit n b.constant a)
+    else Some Nonlinear
 operator_fault n Quotient (a ∷ b ∷ []) =
-    (if is_constant n b then (if is_zero b.constant then Some DivideByZero else too_wide_unless (products_fit n (inverse_of b.constant) a))
-    else Some Nonlinear)
+    if is_constant n b
+    then (if is_zero b.constant
+    then Some DivideByZero
+    else too_wide_unless (products_fit n (inverse_of b.constant) a))
+    else Some Nonlinear
 operator_fault n SumOfAll (a ∷ bs) = too_wide_unless (running_sums_fit n a bs)
-operator_fault n Power (a ∷ b ∷ []) = (if are_constant n (a ∷ b ∷ []) then power_fault a.constant (exponent_of b.constant) else Some Nonlinear)
+operator_fault n Power (a ∷ b ∷ []) =
+    if are_constant n (a ∷ b ∷ [])
+    then power_fault a.constant (exponent_of b.constant)
+    else Some Nonlinear
 operator_fault n Least ls = nonlinear_unless (are_constant n ls)
 operator_fault n Greatest ls = nonlinear_unless (are_constant n ls)
 operator_fault n Floor ls = nonlinear_unless (are_constant n ls)
@@ -101,17 +109,21 @@ abbrev pub lines_of : (Point → Known) → Trees → List Line
 lines_of known none = []
 lines_of known (more t ts) = line_of known t ∷ lines_of known ts
 
--- the first fault of a tree whose first node has the number i: operands before their operator, from left to right
+-- the first fault of a tree whose first node has the number i: operands before their operator, from
+-- left to right
 abbrev mutual
   pub tree_fault : (Point → Known) → ℕ → ℕ → Tree → Option Fault
   tree_fault known n i (number m e) = fault_at i (too_wide_unless (fits (decimal_value m e)))
   tree_fault known n i (variable j) = None
   tree_fault known n i (defined k) = None
-  tree_fault known n i (operator c ts) = option_or (trees_fault known n (i + 1) ts) (fault_at i (operator_fault n c (lines_of known ts)))
+  tree_fault known n i (operator c ts) =
+      option_or (trees_fault known n (i + 1) ts)
+      (fault_at i (operator_fault n c (lines_of known ts)))
 
   pub trees_fault : (Point → Known) → ℕ → ℕ → Trees → Option Fault
   trees_fault known n i none = None
-  trees_fault known n i (more t ts) = option_or (tree_fault known n i t) (trees_fault known n (i + tree_size t) ts)
+  trees_fault known n i (more t ts) =
+      option_or (tree_fault known n i t) (trees_fault known n (i + tree_size t) ts)
 
 -- ---- linear terms
 -- a line with k added at j
@@ -127,27 +139,36 @@ line_with_terms a (t ∷ ts) = line_with_terms (line_with a t.variable t.factor)
 abbrev pub terms_fault : Line → ℕ → List LinearTerm → Option Fault
 terms_fault a i [] = None
 terms_fault a i (t ∷ ts) =
-    option_or (fault_at i (too_wide_unless (fits t.factor && sum_fits (a.coef t.variable) t.factor)))
+    option_or
+    (fault_at i (too_wide_unless (fits t.factor && sum_fits (a.coef t.variable) t.factor)))
     (terms_fault (line_with a t.variable t.factor) (i + 1) ts)
 
 -- ---- expressions
 -- the first fault of a tree and its linear terms, which are numbered after its nodes
 abbrev pub expression_fault : (Point → Known) → ℕ → Expression → Option Fault
-expression_fault known n x = option_or (tree_fault known n 0 x.tree) (terms_fault (line_of known x.tree) (tree_size x.tree) x.terms)
+expression_fault known n x =
+    option_or (tree_fault known n 0 x.tree)
+    (terms_fault (line_of known x.tree) (tree_size x.tree) x.terms)
 
 -- the first fault of the definitions, in file order
 abbrev pub definitions_fault : (Point → Known) → ℕ → List Definition → Option Fault
 definitions_fault known n [] = None
 definitions_fault known n (d ∷ ds) =
     option_or (expression_fault known n d.expression)
-    (definitions_fault (λ at. with_value (known at) d.index (expression_value (known at) at d.expression)) n ds)
+    (definitions_fault
+    (λ at. with_value (known at) d.index (expression_value (known at) at d.expression))
+    n ds)
 
--- the first fault of a tree, and of an expression, of a file with these defined variables: the definitions come first
+-- the first fault of a tree, and of an expression, of a file with these defined variables: the
+-- definitions come first
 abbrev pub first_fault : ℕ → List Definition → Tree → Option Fault
-first_fault n ds t = option_or (definitions_fault (λ at. nothing_known) n ds) (tree_fault (known_values ds) n 0 t)
+first_fault n ds t =
+    option_or (definitions_fault (λ at. nothing_known) n ds) (tree_fault (known_values ds) n 0 t)
 
 abbrev pub first_expression_fault : ℕ → List Definition → Expression → Option Fault
-first_expression_fault n ds x = option_or (definitions_fault (λ at. nothing_known) n ds) (expression_fault (known_values ds) n x)
+first_expression_fault n ds x =
+    option_or (definitions_fault (λ at. nothing_known) n ds)
+    (expression_fault (known_values ds) n x)
 
 -- ---- coefficients
 -- the value at the point with 1 at j and 0 elsewhere, less the value at the point 0

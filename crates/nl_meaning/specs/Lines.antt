@@ -35,9 +35,14 @@ abbrev pub some_values : ℕ → Point → List Line → List (Option ℚ)
 some_values n at [] = []
 some_values n at (l ∷ ls) = Some (line_value n l at) ∷ some_values n at ls
 
--- the line of a function of points, by its values at 0 and the unit points; a missing value counts as 0
+-- the line of a function of points, by its values at 0 and the unit points; a missing value counts
+-- as 0
 abbrev pub line_by : (Point → Option ℚ) → Line
-line_by f = record { constant = or_zero (f origin); coef = λ j. or_zero (f (unit_point j)) -ℚ or_zero (f origin) }
+line_by f =
+    record {
+      constant = or_zero (f origin);
+      coef = λ j. or_zero (f (unit_point j)) -ℚ or_zero (f origin);
+    }
 
 -- ---- tests
 abbrev pub all_below : (ℕ → Bool) → ℕ → Bool

@@ -70,7 +70,8 @@ all_there (Some x ∷ vs) = option_and_then (λ xs. Some (x ∷ xs)) (all_there 
 abbrev pub power_by : ℚ → ℚ → Option ℚ
 power_by x y = option_and_then (λ n. Some (power_of x n)) (exponent_of y)
 
--- what an operator makes of its operands' values; a quotient by 0 and a power with another exponent are missing
+-- what an operator makes of its operands' values; a quotient by 0 and a power with another exponent
+-- are missing
 abbrev pub on_values : OpClass → List ℚ → Option ℚ
 on_values Sum (x ∷ y ∷ []) = Some (x +ℚ y)
 on_values Difference (x ∷ y ∷ []) = Some (x -ℚ y)
@@ -125,7 +126,8 @@ pub record Expression : Type 0 where
   pub terms : List LinearTerm
 
 abbrev pub expression_value : Known → Point → Expression → Option ℚ
-expression_value known at x = option_and_then (λ v. Some (v +ℚ terms_value at x.terms)) (tree_value known at x.tree)
+expression_value known at x =
+    option_and_then (λ v. Some (v +ℚ terms_value at x.terms)) (tree_value known at x.tree)
 
 -- a defined variable: its index in the file, and what it stands for
 pub record Definition : Type 0 where
@@ -135,7 +137,8 @@ pub record Definition : Type 0 where
 -- the known values, and then those of a list of definitions, of which each may use the earlier ones
 abbrev pub values_after : Known → Point → List Definition → Known
 values_after known at [] = known
-values_after known at (d ∷ ds) = values_after (with_value known d.index (expression_value known at d.expression)) at ds
+values_after known at (d ∷ ds) =
+    values_after (with_value known d.index (expression_value known at d.expression)) at ds
 
 -- the values of a file's defined variables, in file order
 abbrev pub known_values : List Definition → Point → Known
@@ -152,7 +155,8 @@ abbrev pub IsOneOf : ℕ → List ℕ → Type 0
 IsOneOf k [] = ⊥
 IsOneOf k (i ∷ is) = (k ≡ i) ⊎ IsOneOf k is
 
--- the variables are below n, the defined variables are among `is`, and the operands are as many as the operators want
+-- the variables are below n, the defined variables are among `is`, and the operands are as many as
+-- the operators want
 abbrev mutual
   pub IsFormed : ℕ → List ℕ → Tree → Type 0
   IsFormed n is (number m e) = Unit {0}

@@ -9,23 +9,40 @@ ghost use Rattle.nl_meaning.specs.Lines.{line_value};
 ghost use Rattle.nl_meaning.specs.Parts.{IsLinearTree, IsPart};
 ghost use Rattle.nl_meaning.specs.Trees.{AreDefined, Definition, Expression, IsExpressionFormed, IsFormed, Point, Tree, expression_val, indices_of, number, val, variable};
 
-// A tree without a fault has a value at every point: its value at 0 and the sum of its coefficients times the variables.
+// A tree without a fault has a value at every point: its value at 0 and the sum of its coefficients
+// times the variables.
 // The same holds of each of its parts, and of a tree with linear terms.
 pub fn trees_are_linear()
-    ensures trees { (n : ℕ) (ds : List Definition) (t : Tree) → AreDefined n [] ds → IsFormed n (indices_of ds) t → first_fault n ds t ≡ None → (at : Point) → val ds t at ≡ Some (constant_of ds t +ℚ sum_below (λ j. coef ds t j *ℚ at j) n) }
-    ensures parts { (n : ℕ) (ds : List Definition) (t u : Tree) → AreDefined n [] ds → IsFormed n (indices_of ds) t → first_fault n ds t ≡ None → IsPart u t → IsLinearTree n ds u }
-    ensures expressions { (n : ℕ) (ds : List Definition) (x : Expression) → AreDefined n [] ds → IsExpressionFormed n (indices_of ds) x → first_expression_fault n ds x ≡ None → (at : Point) → expression_val ds x at ≡ Some (line_value n (expression_line ds x) at) }
+    ensures trees { (n : ℕ) (ds : List Definition) (t : Tree) → AreDefined n [] ds
+        → IsFormed n (indices_of ds) t → first_fault n ds t ≡ None → (at : Point)
+        → val ds t at ≡ Some (constant_of ds t +ℚ sum_below (λ j. coef ds t j *ℚ at j) n) }
+    ensures parts { (n : ℕ) (ds : List Definition) (t u : Tree) → AreDefined n [] ds
+        → IsFormed n (indices_of ds) t → first_fault n ds t ≡ None → IsPart u t
+        → IsLinearTree n ds u }
+    ensures expressions { (n : ℕ) (ds : List Definition) (x : Expression) → AreDefined n [] ds
+        → IsExpressionFormed n (indices_of ds) x → first_expression_fault n ds x ≡ None
+        → (at : Point) → expression_val ds x at ≡ Some (line_value n (expression_line ds x) at) }
 {}
 
 // A tree with linear terms that uses only the first n variables has no coefficient at or beyond n.
 pub fn coefficients_are_within()
-    ensures { (n : ℕ) (ds : List Definition) → AreDefined n [] ds → (x : Expression) → IsExpressionFormed n (indices_of ds) x → (j : ℕ) → n ≤ j → (expression_line ds x).coef j ≡ zero_ℚ }
+    ensures { (n : ℕ) (ds : List Definition) → AreDefined n [] ds → (x : Expression)
+        → IsExpressionFormed n (indices_of ds) x → (j : ℕ) → n ≤ j
+        → (expression_line ds x).coef j ≡ zero_ℚ }
 {}
 
-// 1.5 ^ 3 + min(4, ceil(-7.5)) is -3.625; the exponent 0.5, a variable as base, and 10 ^ 127 are faults at the power.
+// 1.5 ^ 3 + min(4, ceil(-7.5)) is -3.625; the exponent 0.5, a variable as base, and 10 ^ 127 are
+// faults at the power.
 pub fn example_has_its_value_and_faults()
-    ensures value { (at : Point) → val [] (power_and_least (number (pos 15) (negsuc 0)) (number (pos 3) (pos 0))) at ≡ Some (decimal_value (negsuc 3624) (negsuc 2)) }
-    ensures refused { first_fault 1 [] (power_and_least (number (pos 15) (negsuc 0)) (number (pos 5) (negsuc 0))) ≡ Some (record { place = 1; reason = RefusedPower }) }
-    ensures nonlinear { first_fault 1 [] (power_and_least (variable 0) (number (pos 3) (pos 0))) ≡ Some (record { place = 1; reason = Nonlinear }) }
-    ensures too_wide { first_fault 1 [] (power_and_least (number (pos 1) (pos 1)) (number (pos 127) (pos 0))) ≡ Some (record { place = 1; reason = TooWide }) }
+    ensures value { (at : Point)
+        → val [] (power_and_least (number (pos 15) (negsuc 0)) (number (pos 3) (pos 0))) at
+        ≡ Some (decimal_value (negsuc 3624) (negsuc 2)) }
+    ensures refused { first_fault 1 []
+        (power_and_least (number (pos 15) (negsuc 0)) (number (pos 5) (negsuc 0)))
+        ≡ Some (record { place = 1; reason = RefusedPower }) }
+    ensures nonlinear { first_fault 1 [] (power_and_least (variable 0) (number (pos 3) (pos 0)))
+        ≡ Some (record { place = 1; reason = Nonlinear }) }
+    ensures too_wide { first_fault 1 []
+        (power_and_least (number (pos 1) (pos 1)) (number (pos 127) (pos 0)))
+        ≡ Some (record { place = 1; reason = TooWide }) }
 {}

@@ -1,4 +1,5 @@
-// Expression trees of .nl files: their values, their fold faults, and the law that a tree without a fault is linear.
+// Expression trees of .nl files: their values, their fold faults, and the law that a tree without a
+// fault is linear.
 #![tactic(auto)]
 
 pub mod laws;

@@ -26,13 +26,22 @@ pub record Scan : Type 0 where
 abbrev pub no_lines : Scan
 no_lines = record { lines = []; rest = []; total = 0; fault = None }
 
--- A byte more. Byte 2^31 + 1 of a text is a fault, and else byte 65,537 of a line, to which its LF does not count.
+-- A byte more. Byte 2^31 + 1 of a text is a fault, and else byte 65,537 of a line, to which its LF
+-- does not count.
 abbrev pub with_byte : Scan → ℕ → Scan
 with_byte s b =
-    if nat_le (2 ^ 31) s.total then record s { fault = Some InputTooLong } else
-    if b == 10 then record { lines = s.lines ++ trimmed s.rest ∷ []; rest = []; total = s.total + 1; fault = None } else
-    if nat_le 65536 (length s.rest) then record s { fault = Some LineTooLong } else
-    record { lines = s.lines; rest = s.rest ++ b ∷ []; total = s.total + 1; fault = None }
+    if nat_le (2 ^ 31) s.total
+    then record s { fault = Some InputTooLong }
+    else if b == 10
+    then record {
+      lines = s.lines ++ trimmed s.rest ∷ [];
+      rest = [];
+      total = s.total + 1;
+      fault = None;
+    }
+    else if nat_le 65536 (length s.rest)
+    then record s { fault = Some LineTooLong }
+    else record { lines = s.lines; rest = s.rest ++ b ∷ []; total = s.total + 1; fault = None }
 
 -- nothing is looked for after a line fault
 unfoldable pub next_byte : Scan → ℕ → Scan
@@ -71,7 +80,9 @@ StandsFor text s = Keeps (scan text) s
 
 -- how the lines go on when these bytes come
 abbrev pub GoesOn : Scan → Scan → Taken → LinesState → Type 0
-GoesOn c next (Line n) s = (next.fault ≡ None) × ((line : List ℕ) × (s.line ≡ Some line) × (next.lines ≡ c.lines ++ line ∷ []))
+GoesOn c next (Line n) s =
+    (next.fault ≡ None)
+    × ((line : List ℕ) × (s.line ≡ Some line) × (next.lines ≡ c.lines ++ line ∷ []))
 GoesOn c next More s = (next.fault ≡ None) × (next.lines ≡ c.lines)
 GoesOn c next (Fault fault) s = (next.fault ≡ Some fault) × (next.lines ≡ c.lines) × (s.line ≡ None)
 
@@ -93,17 +104,29 @@ front_of bytes = take_while (λ b. not (b == 10)) bytes
 
 -- what taking a piece answers and leaves, before any fault
 abbrev pub TakesMore : LinesState → List ℕ → LinesState → Type 0
-TakesMore s piece after = (front_of piece ≡ piece) × (length s.rest + length piece ≤ 65536) × (s.total + length piece ≤ 2 ^ 31)
+TakesMore s piece after =
+    (front_of piece ≡ piece) × (length s.rest + length piece ≤ 65536)
+    × (s.total + length piece ≤ 2 ^ 31)
     × (after ≡ record s { rest = s.rest ++ piece; line = None; total = s.total + length piece })
 
 abbrev pub TakesLine : LinesState → List ℕ → ℕ → LinesState → Type 0
-TakesLine s piece n after = (n ≡ length (front_of piece) + 1) × (n ≤ length piece) × (length s.rest + length (front_of piece) ≤ 65536) × (s.total + n ≤ 2 ^ 31)
-    × (after ≡ record s { count = s.count + 1; rest = []; line = Some (trimmed (s.rest ++ front_of piece)); total = s.total + n })
+TakesLine s piece n after =
+    (n ≡ length (front_of piece) + 1) × (n ≤ length piece)
+    × (length s.rest + length (front_of piece) ≤ 65536) × (s.total + n ≤ 2 ^ 31)
+    × (after ≡ record s {
+      count = s.count + 1;
+      rest = [];
+      line = Some (trimmed (s.rest ++ front_of piece));
+      total = s.total + n;
+    })
 
 -- a line that lies whole in a piece, where none was begun
 abbrev pub TakesWhole : LinesState → List ℕ → List ℕ → ℕ → LinesState → Type 0
-TakesWhole s piece line n after = (s.fault ≡ None) × (s.rest ≡ []) × (line ≡ trimmed (front_of piece)) × (n ≡ length (front_of piece) + 1) × (n ≤ length piece)
-    × (length (front_of piece) ≤ 65536) × (s.total + n ≤ 2 ^ 31) × (after ≡ record s { count = s.count + 1; line = None; total = s.total + n })
+TakesWhole s piece line n after =
+    (s.fault ≡ None) × (s.rest ≡ []) × (line ≡ trimmed (front_of piece))
+    × (n ≡ length (front_of piece) + 1) × (n ≤ length piece)
+    × (length (front_of piece) ≤ 65536) × (s.total + n ≤ 2 ^ 31)
+    × (after ≡ record s { count = s.count + 1; line = None; total = s.total + n })
 
 -- the lines go on by this line
 abbrev pub EndsLine : Scan → Scan → List ℕ → Type 0
@@ -111,15 +134,22 @@ EndsLine c next line = (next.fault ≡ None) × (next.lines ≡ c.lines ++ line 
 
 -- byte 65,537 of a line comes, within the input's limit
 abbrev pub HasLongLine : LinesState → List ℕ → Type 0
-HasLongLine s piece = (length s.rest ≤ 65536) × (65536 < length s.rest + length (front_of piece)) × (s.total + (65537 - length s.rest) ≤ 2 ^ 31)
+HasLongLine s piece =
+    (length s.rest ≤ 65536) × (65536 < length s.rest + length (front_of piece))
+    × (s.total + (65537 - length s.rest) ≤ 2 ^ 31)
 
 -- byte 2^31 + 1 of the input comes, and no line before it is too long
 abbrev pub IsLongInput : LinesState → List ℕ → Type 0
-IsLongInput s piece = let k = 2 ^ 31 - s.total in (s.total ≤ 2 ^ 31) × (k < length piece) × (k ≤ length (front_of piece)) × (length s.rest + k ≤ 65536)
+IsLongInput s piece =
+    let k = 2 ^ 31 - s.total in
+    (s.total ≤ 2 ^ 31) × (k < length piece) × (k ≤ length (front_of piece))
+    × (length s.rest + k ≤ 65536)
 
 abbrev pub Faulted : LineFault → LinesState → List ℕ → LinesState → Type 0
-Faulted LineTooLong s piece after = HasLongLine s piece × (after ≡ record s { line = None; fault = Some LineTooLong })
-Faulted InputTooLong s piece after = IsLongInput s piece × (after ≡ record s { line = None; fault = Some InputTooLong })
+Faulted LineTooLong s piece after =
+    HasLongLine s piece × (after ≡ record s { line = None; fault = Some LineTooLong })
+Faulted InputTooLong s piece after =
+    IsLongInput s piece × (after ≡ record s { line = None; fault = Some InputTooLong })
 
 abbrev pub TakesNow : LinesState → List ℕ → Taken → LinesState → Type 0
 TakesNow s piece (Line n) after = TakesLine s piece n after
@@ -134,9 +164,13 @@ TakesBy (Some fault) s piece taken after = (taken ≡ Fault fault) × (after ≡
 abbrev pub TakesPiece : LinesState → List ℕ → Taken → LinesState → Type 0
 TakesPiece s piece taken after = TakesBy s.fault s piece taken after
 
--- what the end of the text leaves: the bytes after the last line end, if there are any, are the line
+-- what the end of the text leaves: the bytes after the last line end, if there are any, are the
+-- line
 abbrev pub end_done : LinesState → LinesState
-end_done s = if length s.rest == 0 then record s { line = None } else record s { count = s.count + 1; rest = []; line = Some (trimmed s.rest) }
+end_done s =
+    if length s.rest == 0
+    then record s { line = None }
+    else record s { count = s.count + 1; rest = []; line = Some (trimmed s.rest) }
 
 -- the number of the line that was given, or of the one that is awaited
 abbrev pub number_of : LinesState → ℕ

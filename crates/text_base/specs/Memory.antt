@@ -27,12 +27,14 @@ pub record MemoryState : Type 0 where
 -- the text of that name
 abbrev pub text_named : List (List ℕ × List ℕ) → List ℕ → Option (List ℕ)
 text_named [] name = None
-text_named (entry ∷ entries) name = if bytes_eq entry.0 name then Some entry.1 else text_named entries name
+text_named (entry ∷ entries) name =
+    if bytes_eq entry.0 name then Some entry.1 else text_named entries name
 
 -- the texts with this one, in place of an older one of that name
 abbrev pub with_text : List (List ℕ × List ℕ) → List ℕ → List ℕ → List (List ℕ × List ℕ)
 with_text [] name text = (name, text) ∷ []
-with_text (entry ∷ entries) name text = if bytes_eq entry.0 name then (entry.0, text) ∷ entries else entry ∷ with_text entries name text
+with_text (entry ∷ entries) name text =
+    if bytes_eq entry.0 name then (entry.0, text) ∷ entries else entry ∷ with_text entries name text
 
 abbrev pub meaning_of : MemoryState → Meaning
 meaning_of s = record {
@@ -63,7 +65,12 @@ start_succeeds s name = not (is_failing s) && is_some (text_named s.texts name)
 
 abbrev pub started : MemoryState → List ℕ → MemoryState
 started s name =
-    if is_failing s then record s { calls = next_count s.calls; left = []; input_faults = next_count s.input_faults }
+    if is_failing s
+    then record s {
+      calls = next_count s.calls;
+      left = [];
+      input_faults = next_count s.input_faults;
+    }
     else record s { calls = next_count s.calls; left = unwrap_or (text_named s.texts name) [] }
 
 -- so many, but no more than the first limit
@@ -77,8 +84,13 @@ read_len s most = limited s.cuts (min most (length s.left))
 
 abbrev pub read_done : MemoryState → ℕ → MemoryState
 read_done s most =
-    if is_failing s then record s { calls = next_count s.calls; input_faults = next_count s.input_faults }
-    else record s { calls = next_count s.calls; left = drop (read_len s most) s.left; cuts = drop 1 s.cuts }
+    if is_failing s
+    then record s { calls = next_count s.calls; input_faults = next_count s.input_faults }
+    else record s {
+      calls = next_count s.calls;
+      left = drop (read_len s most) s.left;
+      cuts = drop 1 s.cuts;
+    }
 
 -- a piece finds room for a byte, or has none
 abbrev pub has_room : ℕ → List ℕ → List ℕ → Bool
@@ -93,7 +105,11 @@ write_succeeds s piece = not (is_failing s) && has_room s.room s.written piece
 
 abbrev pub write_done : MemoryState → List ℕ → MemoryState
 write_done s piece =
-    if write_succeeds s piece then record s { calls = next_count s.calls; written = s.written ++ fitting s.room s.written piece }
+    if write_succeeds s piece
+    then record s {
+      calls = next_count s.calls;
+      written = s.written ++ fitting s.room s.written piece;
+    }
     else record s { calls = next_count s.calls; output_faults = next_count s.output_faults }
 
 abbrev pub tell_succeeds : MemoryState → List ℕ → Bool
@@ -101,7 +117,8 @@ tell_succeeds s piece = not (is_failing s) && has_room s.room s.told piece
 
 abbrev pub tell_done : MemoryState → List ℕ → MemoryState
 tell_done s piece =
-    if tell_succeeds s piece then record s { calls = next_count s.calls; told = s.told ++ fitting s.room s.told piece }
+    if tell_succeeds s piece
+    then record s { calls = next_count s.calls; told = s.told ++ fitting s.room s.told piece }
     else record s { calls = next_count s.calls; message_faults = next_count s.message_faults }
 
 -- a new desk

@@ -18,4 +18,5 @@ stopped_by reader = reader.stopped
 -- memory nothing is said
 abbrev pub HasTaken : {G R V : Type 0} → Rules R → (G → List (List ℕ) → Type 0) → Reader G R V
     → List ℕ → Type 0
-HasTaken rules took reader text = Stands reader.stopped rules (took reader.grammar) reader.lines text
+HasTaken rules took reader text =
+    Stands reader.stopped rules (took reader.grammar) reader.lines text

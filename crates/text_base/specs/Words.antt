@@ -27,7 +27,8 @@ ends_word (b ∷ bytes) = is_blank b
 -- the words of a line: the longest runs of bytes that are no blanks
 abbrev pub words_of : List ℕ → List (List ℕ)
 words_of [] = []
-words_of (b ∷ bytes) = if is_blank b then words_of bytes else onto_word b (ends_word bytes) (words_of bytes)
+words_of (b ∷ bytes) =
+    if is_blank b then words_of bytes else onto_word b (ends_word bytes) (words_of bytes)
 
 -- what words that are lent stand for
 abbrev pub texts : List (Bor (List ℕ)) → List (List ℕ)
@@ -57,7 +58,8 @@ without_blanks (b ∷ bytes) = if is_blank b then without_blanks bytes else b �
 -- the bytes up to a comment: a `#` begins one where it may begin, at the front or after a blank
 abbrev pub up_to_comment : Bool → List ℕ → List ℕ
 up_to_comment may_begin [] = []
-up_to_comment may_begin (b ∷ bytes) = if may_begin && (b == 35) then [] else b ∷ up_to_comment (is_blank b) bytes
+up_to_comment may_begin (b ∷ bytes) =
+    if may_begin && (b == 35) then [] else b ∷ up_to_comment (is_blank b) bytes
 
 -- the line without its comment, which begins at a `#` that is the first byte or follows a blank
 abbrev pub without_comment : List ℕ → List ℕ

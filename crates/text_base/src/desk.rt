@@ -1,4 +1,5 @@
-// The desk: named texts to read, bytes written and bytes told, each of which a desk may leave untold.
+// The desk: named texts to read, bytes written and bytes told, each of which a desk may leave
+// untold.
 ghost use Rattle.std.specs.Prelude.{◌<◌, length, IfOk, IsSome};
 ghost use Rattle.std.specs.Io.{ReadsAtMost, WritesAtMost};
 ghost use Rattle.std.specs.Io.KnownBytes.{ReadConsumes, WriteAppends};
@@ -22,24 +23,30 @@ pub trait Desk {
     /// Puts a first part of what is left into the front of the buffer, and answers its length.
     fn read(&mut self, buf: &mut [u8]) -> Result<usize, Failed>
         ensures bound { ReadsAtMost result buf.new }
-        ensures bytes { ReadConsumes (meaning self.old).left (meaning self.new).left result buf.new }
-        ensures cause { HasCause (meaning self.old).input_faults (meaning self.new).input_faults result }
+        ensures bytes { ReadConsumes (meaning self.old).left
+            (meaning self.new).left result buf.new }
+        ensures cause { HasCause (meaning self.old).input_faults
+            (meaning self.new).input_faults result }
         ensures rest { OnlyInput (meaning self.old) (meaning self.new) };
 
     /// Appends a first part of the piece to the bytes written, and answers its length.
     fn write(&mut self, piece: &[u8]) -> Result<usize, Failed>
         ensures bound { WritesAtMost result piece.now }
         ensures some { IfOk result (λ n. 0 < length piece.now → 0 < n) }
-        ensures bytes { WriteAppends (meaning self.old).written (meaning self.new).written result piece.now }
-        ensures cause { HasCause (meaning self.old).output_faults (meaning self.new).output_faults result }
+        ensures bytes { WriteAppends (meaning self.old).written
+            (meaning self.new).written result piece.now }
+        ensures cause { HasCause (meaning self.old).output_faults
+            (meaning self.new).output_faults result }
         ensures rest { OnlyOutput (meaning self.old) (meaning self.new) };
 
     /// Does the same for the bytes told.
     fn tell(&mut self, piece: &[u8]) -> Result<usize, Failed>
         ensures bound { WritesAtMost result piece.now }
         ensures some { IfOk result (λ n. 0 < length piece.now → 0 < n) }
-        ensures bytes { WriteAppends (meaning self.old).told (meaning self.new).told result piece.now }
-        ensures cause { HasCause (meaning self.old).message_faults (meaning self.new).message_faults result }
+        ensures bytes { WriteAppends (meaning self.old).told
+            (meaning self.new).told result piece.now }
+        ensures cause { HasCause (meaning self.old).message_faults
+            (meaning self.new).message_faults result }
         ensures rest { OnlyMessages (meaning self.old) (meaning self.new) };
 
     /// A desk that tells its texts tells what is left of the current one.

@@ -45,7 +45,8 @@ impl Desk for HostDesk {
     // A text is current exactly after an `Ok`.
     fn start(&mut self, name: &str) -> Result<(), Failed>
         ensures current { has_text self.new ≡ is_ok result }
-        ensures text { Starts (host_meaning self.old).texts name.now (host_meaning self.new).left result }
+        ensures text { Starts (host_meaning self.old).texts name.now
+            (host_meaning self.new).left result }
         ensures cause { HasStartCause (host_meaning self.old).texts name.now
             (host_meaning self.old).input_faults (host_meaning self.new).input_faults result }
         ensures rest { OnlyInput (host_meaning self.old) (host_meaning self.new) }

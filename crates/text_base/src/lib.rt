@@ -1,4 +1,5 @@
-// The desk through which a program meets the outside, steps, names, lines and words of texts, and a reader for any grammar of lines.
+// The desk through which a program meets the outside, steps, names, lines and words of texts, and a
+// reader for any grammar of lines.
 #![tactic(auto)]
 
 mod blanks;

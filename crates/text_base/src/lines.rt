@@ -59,11 +59,40 @@ impl Model for Lines {
     ghost invariant = { IsLines };
 }
 
-// The place of the first line end.
-fn line_end(piece: &[u8]) -> Option<usize>
+// The place of the first line end, byte by byte.
+#[inline]
+fn first_end(piece: &[u8]) -> Option<usize>
     ensures { result ≡ position (λ b. b == 10) piece.now }
 {
     piece.iter().position(|b| *b == b'\n')
+}
+
+// The place of the first line end. Four bytes are looked at in a step.
+fn line_end(piece: &[u8]) -> Option<usize>
+    ensures { result ≡ position (λ b. b == 10) piece.now }
+{
+    let mut rest = piece;
+    let mut passed = 0;
+    'fours: while let [first, second, third, fourth, more @ ..] = rest {
+        if *first == b'\n' {
+            return Some(passed);
+        }
+        if *second == b'\n' {
+            return Some(passed + 1);
+        }
+        if *third == b'\n' {
+            return Some(passed + 2);
+        }
+        if *fourth == b'\n' {
+            return Some(passed + 3);
+        }
+        rest = more;
+        passed += 4;
+    }
+    let Some(place) = first_end(rest) else {
+        return None;
+    };
+    Some(passed + place)
 }
 
 // The length of the front without a line end.
@@ -105,11 +134,14 @@ impl Lines {
     /// Takes bytes until a line ends or the piece is used.
     pub fn take(&mut self, piece: &[u8]) -> Taken
         ensures exact { TakesPiece self.old piece.now result self.new }
-        ensures within { IfLine result (λ n. (0 < n) × (n ≤ length piece.now) × IsSome self.new.line) }
+        ensures within { IfLine result
+            (λ n. (0 < n) × (n ≤ length piece.now) × IsSome self.new.line) }
 
         // However the text was cut into pieces, the lines are its lines.
-        ensures text { (text : List ℕ) → StandsFor text self.old → StandsFor (text ++ taken_of result piece.now) self.new }
-        ensures lines { (text : List ℕ) → StandsFor text self.old → GoesOn (scan text) (scan (text ++ taken_of result piece.now)) result self.new }
+        ensures text { (text : List ℕ) → StandsFor text self.old
+            → StandsFor (text ++ taken_of result piece.now) self.new }
+        ensures lines { (text : List ℕ) → StandsFor text self.old
+            → GoesOn (scan text) (scan (text ++ taken_of result piece.now)) result self.new }
     {
         self.take_piece(piece)
     }
@@ -163,7 +195,11 @@ impl Lines {
         requires rest { self.old.rest ≡ [] }
         requires some { 0 < count }
         requires room { self.old.total + count ≤ 2 ^ 31 }
-        ensures { self.new ≡ record self.old { count = self.old.count + 1; line = None; total = self.old.total + count } }
+        ensures { self.new ≡ record self.old {
+          count = self.old.count + 1;
+          line = None;
+          total = self.old.total + count;
+        } }
     {
         self.line.clear();
         self.ended = false;
@@ -172,7 +208,8 @@ impl Lines {
     }
 
     fn take_front<'a>(&mut self, piece: &'a [u8]) -> Option<Whole<'a>>
-        ensures { MatchOption result (self.new ≡ self.old) (λ w. TakesWhole self.old piece.now w.line.now w.len self.new
+        ensures { MatchOption result (self.new ≡ self.old)
+            (λ w. TakesWhole self.old piece.now w.line.now w.len self.new
             × (w.number ≡ self.new.count)) }
     {
         if !self.is_between() {
@@ -192,14 +229,15 @@ impl Lines {
         })
     }
 
-    /// Takes a line that lies whole in the piece, where none was begun, and copies nothing. After a None nothing
-    /// has changed, and `take` says what comes of the piece.
+    /// Takes a line that lies whole in the piece, where none was begun, and copies nothing. After a
+    /// None nothing has changed, and `take` says what comes of the piece.
     pub(crate) fn take_whole<'a>(&mut self, piece: &'a [u8]) -> Option<Whole<'a>>
         ensures none { result ≡ None → self.new ≡ self.old }
         ensures within { IfSome result (λ w. (0 < w.len) × (w.len ≤ length piece.now)) }
         ensures number { IfSome result (λ w. w.number ≡ self.new.count) }
         ensures one { IfSome result (λ w. IsTextLine w.line.now) }
-        ensures text { IfSome result (λ w. (text : List ℕ) → StandsFor text self.old → StandsFor (text ++ take w.len piece.now) self.new) }
+        ensures text { IfSome result (λ w. (text : List ℕ) → StandsFor text self.old
+            → StandsFor (text ++ take w.len piece.now) self.new) }
         ensures line { IfSome result (λ w. (text : List ℕ) → StandsFor text self.old
             → EndsLine (scan text) (scan (text ++ take w.len piece.now)) w.line.now) }
     {
@@ -210,7 +248,9 @@ impl Lines {
     pub fn end(&mut self) -> bool
         ensures exact { self.new ≡ end_done self.old }
         ensures rest { IsTrue result ↔ (0 < length self.old.rest) }
-        ensures line { result ≡ true → (self.new.line ≡ Some (trimmed self.old.rest)) × (self.new.count ≡ self.old.count + 1) }
+        ensures line { result ≡ true
+            → (self.new.line ≡ Some (trimmed self.old.rest))
+            × (self.new.count ≡ self.old.count + 1) }
         ensures none { result ≡ false → (self.new.line ≡ None) × (self.new.count ≡ self.old.count) }
     {
         if self.ended || self.line.is_empty() {
@@ -232,7 +272,8 @@ impl Lines {
         trim(&self.line)
     }
 
-    /// The number of the line that was given, of the one that has a fault, or of the one that is awaited.
+    /// The number of the line that was given, of the one that has a fault, or of the one that is
+    /// awaited.
     pub fn number(&self) -> u32
         ensures value { result ≡ number_of self.now }
         ensures room { result ≤ 2 ^ 31 + 1 }

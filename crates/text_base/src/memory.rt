@@ -29,7 +29,8 @@ fn place_of(texts: &[Entry], name: &str) -> Option<usize>
 // The place of the text of that name, and what stands there.
 fn find(texts: &[Entry], name: &str) -> Option<usize>
     ensures { MatchOption result (text_named (entries texts.now) name.now ≡ None)
-        (λ i. (i < length texts.now) × (text_named (entries texts.now) name.now ≡ Some (text_at (entries texts.now) i))) }
+        (λ i. (i < length texts.now)
+        × (text_named (entries texts.now) name.now ≡ Some (text_at (entries texts.now) i))) }
 {
     place_of(texts, name)
 }
@@ -44,7 +45,8 @@ fn replace(texts: &mut Vec<Entry>, place: usize, text: Vec<u8>)
 
 // Adds a text.
 fn add(texts: &mut Vec<Entry>, name: &str, text: Vec<u8>) -> Result<(), AllocError>
-    ensures ok { OnOk result (entries texts.new.items ≡ entries texts.old.items ++ (name.now, text.items) ∷ []) }
+    ensures ok { OnOk result
+        (entries texts.new.items ≡ entries texts.old.items ++ (name.now, text.items) ∷ []) }
     ensures err { OnErr result (texts.new.items ≡ texts.old.items) }
 {
     let alloc = *texts.allocator();
@@ -55,7 +57,8 @@ fn add(texts: &mut Vec<Entry>, name: &str, text: Vec<u8>) -> Result<(), AllocErr
 
 // Stores a text, in place of an older one of that name.
 fn store(texts: &mut Vec<Entry>, name: &str, text: Vec<u8>) -> Result<(), AllocError>
-    ensures ok { OnOk result (entries texts.new.items ≡ with_text (entries texts.old.items) name.now text.items) }
+    ensures ok { OnOk result
+        (entries texts.new.items ≡ with_text (entries texts.old.items) name.now text.items) }
     ensures err { OnErr result (texts.new.items ≡ texts.old.items) }
 {
     match place_of(texts, name) {
@@ -83,7 +86,8 @@ fn append_fitting(bytes: &mut Vec<u8>, room: usize, piece: &[u8]) -> Option<usiz
     requires reserved { room ≤ vec_capacity bytes.old }
     ensures none { IsNone result ↔ (has_room room bytes.old.items piece.now ≡ false) }
     ensures some { IfSome result (λ n. n ≡ length (fitting room bytes.old.items piece.now)) }
-    ensures bytes { bytes.new.items ≡ (if has_room room bytes.old.items piece.now then bytes.old.items ++ fitting room bytes.old.items piece.now else bytes.old.items) }
+    ensures bytes { bytes.new.items ≡ (if has_room room bytes.old.items piece.now
+        then bytes.old.items ++ fitting room bytes.old.items piece.now else bytes.old.items) }
     ensures within { vec_len bytes.new ≤ room }
     ensures reserved { room ≤ vec_capacity bytes.new }
 {
@@ -137,7 +141,8 @@ fn use_cut(cuts: &[usize], used: &mut usize)
     }
 }
 
-/// A desk in memory. A call fails exactly where it was told to, where a start names no text that is stored, or where a piece finds no room.
+/// A desk in memory. A call fails exactly where it was told to, where a start names no text that is
+/// stored, or where a piece finds no room.
 #[derive(Drop)]
 pub struct MemoryDesk {
     texts: Vec<Entry>,
@@ -189,7 +194,8 @@ impl MemoryDesk {
         })
     }
 
-    /// Stores a text, in place of an older one of that name. Then there is no current text. Want of memory changes nothing.
+    /// Stores a text, in place of an older one of that name. Then there is no current text. Want of
+    /// memory changes nothing.
     pub fn put(&mut self, name: &str, text: &[u8]) -> Result<(), AllocError>
         ensures ok { OnOk result (self.new ≡ put_done self.old name.now text.now) }
         ensures err { OnErr result (self.new ≡ self.old) }
@@ -204,7 +210,8 @@ impl MemoryDesk {
 
     /// Adds a call that is to fail. Calls of the trait are numbered from 0.
     pub fn fail(&mut self, call: u64) -> Result<(), AllocError>
-        ensures ok { OnOk result (self.new ≡ record self.old { failing = self.old.failing ++ call ∷ [] }) }
+        ensures ok { OnOk result
+            (self.new ≡ record self.old { failing = self.old.failing ++ call ∷ [] }) }
         ensures err { OnErr result (self.new ≡ self.old) }
     {
         self.failing.push(call)?;
@@ -214,7 +221,8 @@ impl MemoryDesk {
     /// Adds a limit for the next successful read that has none.
     pub fn cut(&mut self, most: usize) -> Result<(), AllocError>
         requires { 0 < most }
-        ensures ok { OnOk result (self.new ≡ record self.old { cuts = self.old.cuts ++ most ∷ [] }) }
+        ensures ok { OnOk result
+            (self.new ≡ record self.old { cuts = self.old.cuts ++ most ∷ [] }) }
         ensures err { OnErr result (self.new ≡ self.old) }
     {
         self.cuts.push(most)?;
@@ -246,7 +254,8 @@ impl Desk for MemoryDesk {
     fn start(&mut self, name: &str) -> Result<(), Failed>
         ensures succeeds { is_ok result ≡ start_succeeds self.old name.now }
         ensures exact { self.new ≡ started self.old name.now }
-        ensures text { Starts (meaning_of self.old).texts name.now (meaning_of self.new).left result }
+        ensures text { Starts (meaning_of self.old).texts name.now
+            (meaning_of self.new).left result }
         ensures cause { HasStartCause (meaning_of self.old).texts name.now
             (meaning_of self.old).input_faults (meaning_of self.new).input_faults result }
         ensures rest { OnlyInput (meaning_of self.old) (meaning_of self.new) }
@@ -270,11 +279,14 @@ impl Desk for MemoryDesk {
     fn read(&mut self, buf: &mut [u8]) -> Result<usize, Failed>
         ensures succeeds { is_ok result ≡ not (is_failing self.old) }
         ensures count { IfOk result (λ n. n ≡ read_len self.old (length buf.old)) }
-        ensures buffer { MatchResult result (λ n. buf.new ≡ take n self.old.left ++ drop n buf.old) (λ _. buf.new ≡ buf.old) }
+        ensures buffer { MatchResult result (λ n. buf.new ≡ take n self.old.left ++ drop n buf.old)
+            (λ _. buf.new ≡ buf.old) }
         ensures exact { self.new ≡ read_done self.old (length buf.old) }
         ensures bound { ReadsAtMost result buf.new }
-        ensures bytes { ReadConsumes (meaning_of self.old).left (meaning_of self.new).left result buf.new }
-        ensures cause { HasCause (meaning_of self.old).input_faults (meaning_of self.new).input_faults result }
+        ensures bytes { ReadConsumes (meaning_of self.old).left
+            (meaning_of self.new).left result buf.new }
+        ensures cause { HasCause (meaning_of self.old).input_faults
+            (meaning_of self.new).input_faults result }
         ensures rest { OnlyInput (meaning_of self.old) (meaning_of self.new) }
     {
         if take_number(&mut self.calls, &self.failing) {
@@ -290,12 +302,15 @@ impl Desk for MemoryDesk {
 
     fn write(&mut self, piece: &[u8]) -> Result<usize, Failed>
         ensures succeeds { is_ok result ≡ write_succeeds self.old piece.now }
-        ensures count { IfOk result (λ n. n ≡ length (fitting self.old.room self.old.written piece.now)) }
+        ensures count { IfOk result
+            (λ n. n ≡ length (fitting self.old.room self.old.written piece.now)) }
         ensures exact { self.new ≡ write_done self.old piece.now }
         ensures bound { WritesAtMost result piece.now }
         ensures some { IfOk result (λ n. 0 < length piece.now → 0 < n) }
-        ensures bytes { WriteAppends (meaning_of self.old).written (meaning_of self.new).written result piece.now }
-        ensures cause { HasCause (meaning_of self.old).output_faults (meaning_of self.new).output_faults result }
+        ensures bytes { WriteAppends (meaning_of self.old).written
+            (meaning_of self.new).written result piece.now }
+        ensures cause { HasCause (meaning_of self.old).output_faults
+            (meaning_of self.new).output_faults result }
         ensures rest { OnlyOutput (meaning_of self.old) (meaning_of self.new) }
     {
         if !take_number(&mut self.calls, &self.failing) {
@@ -309,12 +324,15 @@ impl Desk for MemoryDesk {
 
     fn tell(&mut self, piece: &[u8]) -> Result<usize, Failed>
         ensures succeeds { is_ok result ≡ tell_succeeds self.old piece.now }
-        ensures count { IfOk result (λ n. n ≡ length (fitting self.old.room self.old.told piece.now)) }
+        ensures count { IfOk result
+            (λ n. n ≡ length (fitting self.old.room self.old.told piece.now)) }
         ensures exact { self.new ≡ tell_done self.old piece.now }
         ensures bound { WritesAtMost result piece.now }
         ensures some { IfOk result (λ n. 0 < length piece.now → 0 < n) }
-        ensures bytes { WriteAppends (meaning_of self.old).told (meaning_of self.new).told result piece.now }
-        ensures cause { HasCause (meaning_of self.old).message_faults (meaning_of self.new).message_faults result }
+        ensures bytes { WriteAppends (meaning_of self.old).told
+            (meaning_of self.new).told result piece.now }
+        ensures cause { HasCause (meaning_of self.old).message_faults
+            (meaning_of self.new).message_faults result }
         ensures rest { OnlyMessages (meaning_of self.old) (meaning_of self.new) }
     {
         if !take_number(&mut self.calls, &self.failing) {

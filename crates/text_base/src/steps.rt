@@ -21,7 +21,8 @@ impl<L: Ledger> Model for Steps<L> {
 }
 
 impl<L: Ledger> Steps<L> {
-    /// A counter that stands at 0. A blank gives one counter and no more, so generic code cannot set its counter back.
+    /// A counter that stands at 0. A blank gives one counter and no more, so generic code cannot
+    /// set its counter back.
     pub fn new(blank: Blank) -> Self
         requires name { blank.name ≡ L.name }
         requires parts { blank.parts ≡ L.parts }

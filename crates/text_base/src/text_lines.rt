@@ -5,7 +5,8 @@ ghost use Rattle.text_base.specs.TextLines.{cut_at, start_at, AreEnds};
 use std::alloc::{AllocError, Global};
 use std::marker::Model;
 
-/// A list of lines of bytes. The bytes of all lines stand in one row, with the place where each line ends.
+/// A list of lines of bytes. The bytes of all lines stand in one row, with the place where each
+/// line ends.
 #[derive(Drop)]
 pub struct TextLines {
     bytes: Vec<u8>,
