@@ -5,7 +5,6 @@ pub mod Decimals
 pub mod Coprime
 pub mod Fractions
 pub mod Texts
-pub mod Room
 pub mod OfDec
 pub mod Orders
 pub mod ToDec

@@ -76,7 +76,7 @@ pub fn plain_index(text: &[u8]) -> Option<PlainIndex>
     ensures { IfSome result (λ i. (i.len ≤ length text.now) × (0 < i.len)
         × (whole_of (take i.len text.now) ≡ Some i.number) × IsUnmarked (take i.len text.now)) }
 {
-    let front = sum_front(text);
+    let front = sum_front(text, 0);
     if front.len == 0 || front.number > 0x7fff_ffff {
         return None;
     }

@@ -204,8 +204,8 @@ fn dec_of_digits(negative: bool, whole: &[u8], fraction: &[u8], exponent: i128) 
     Dec::new(with_sign(negative, size), place as i32)
 }
 
-// A number of at most so many digits is summed in 64 bits.
-const ROOM: usize = 18;
+// A number is summed in 64 bits while it is below this, so that it has at most 18 digits.
+const ROOM: u64 = 100_000_000_000_000_000;
 
 // The common form is no longer than this.
 const COMMON: usize = 40;
@@ -217,20 +217,17 @@ pub(crate) struct Front {
     pub(crate) len: usize,
 }
 
-// Sums the digits that a text begins with onto a number of so many digits.
-fn sum_onto(text: &[u8], start: u64, before: usize) -> Front
-    requires room { before ≤ 18 }
-    requires small { start < 10 ^ before }
+// Sums the digits that a text begins with onto a number.
+pub(crate) fn sum_front(text: &[u8], start: u64) -> Front
+    requires { start < 10 ^ 18 }
     ensures within { result.len ≤ length text.now }
-    ensures room { before + result.len ≤ 18 }
-    ensures small { result.number < 10 ^ (before + result.len) }
+    ensures small { result.number < 10 ^ 18 }
     ensures digits { AllDigits 10 (take result.len text.now) }
     ensures number { result.number ≡ digits_value_after 10 start (take result.len text.now) }
 {
-    let limit = text.len().min(ROOM - before);
     let mut number = start;
     let mut len = 0;
-    'digits: while len < limit {
+    'digits: while len < text.len() && number < ROOM {
         let byte = text[len];
         if !byte.is_ascii_digit() {
             return Front { number, len };
@@ -239,17 +236,6 @@ fn sum_onto(text: &[u8], start: u64, before: usize) -> Front
         len += 1;
     }
     Front { number, len }
-}
-
-// Sums the digits that a text begins with.
-pub(crate) fn sum_front(text: &[u8]) -> Front
-    ensures within { result.len ≤ length text.now }
-    ensures room { result.len ≤ 18 }
-    ensures small { result.number < 10 ^ result.len }
-    ensures digits { AllDigits 10 (take result.len text.now) }
-    ensures number { result.number ≡ digits_value 10 (take result.len text.now) }
-{
-    sum_onto(text, 0, 0)
 }
 
 // A size with this many places after the point.
@@ -266,7 +252,7 @@ pub(crate) fn read_plain(text: &[u8]) -> Option<Plain>
         × (0 < length text.now) × IsUnmarked text.now) }
 {
     let body = without_sign(text);
-    let whole = sum_front(body);
+    let whole = sum_front(body, 0);
     if whole.len == 0 || body.len() > COMMON {
         return None;
     }
@@ -280,7 +266,7 @@ pub(crate) fn read_plain(text: &[u8]) -> Option<Plain>
         return None;
     }
     let fraction = &body[whole.len + 1..];
-    let front = sum_onto(fraction, whole.number, whole.len);
+    let front = sum_front(fraction, whole.number);
     if front.len != fraction.len() {
         return None;
     }
@@ -348,7 +334,7 @@ pub fn read_whole(text: &[u8]) -> Result<u32, NumFault>
         (λ n. IsWholeText text.now × (n ≡ digits_value 10 text.now) × (n < 2 ^ 31))
         (λ f. WholeFault f text.now) }
 {
-    let front = sum_front(text);
+    let front = sum_front(text, 0);
     if front.len == 0 || front.len < text.len() {
         return read_any_whole(text);
     }

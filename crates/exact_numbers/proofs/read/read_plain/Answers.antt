@@ -10,6 +10,6 @@ returns-then-whole-body c =
 pub returns : goal.returns
 returns c =
     let front = c.sum_front-whole.ensures in
-    let back = c.sum_onto-front.ensures in
-    plain_point c.args.text.now c.without_sign-body.result.now _ c.sum_front-whole.result.len c.sum_onto-front.result.len c.sum_front-whole.result.number _ c.without_sign-body.ensures front.within c.if-whole-body.false c.if-whole-eq0.false
+    let back = c.sum_front-front.ensures in
+    plain_point c.args.text.now c.without_sign-body.result.now _ c.sum_front-whole.result.len c.sum_front-front.result.len c.sum_front-whole.result.number _ c.without_sign-body.ensures front.within c.if-whole-body.false c.if-whole-eq0.false
     c.if-body-gt-COMMON.false c.if-body-whole-ne46.false refl c.if-front-fraction.false front.digits front.number back.digits back.number

@@ -1,13 +1,12 @@
-use Rattle.std.proofs.Common.{◌≡◌, ◌+◌, ◌<◌, ◌≤◌, ◌-◌, ◌^◌, length, take}
+use Rattle.std.proofs.Common.{◌≡◌, ◌<◌, ◌≤◌, ◌-◌, ◌^◌, length, take}
 use Rattle.std.specs.Str.Parse.{AllDigits, digits_value_after}
-use Rattle.exact_numbers.proofs.read.sum_onto.Given as goal
+use Rattle.exact_numbers.proofs.read.sum_front.Given as goal
 
 -- the digits so far are summed
 abbrev pub invariant-digits : goal.invariant-digits
 invariant-digits l = record {
   within : l.len ≤ length l.text;
-  room : l.before + l.len ≤ 18;
-  small : l.number < 10 ^ (l.before + l.len);
+  small : l.number < 10 ^ 18;
   digits : AllDigits 10 (take l.len l.text);
   number : l.number ≡ digits_value_after 10 l.start (take l.len l.text);
 }
