@@ -63,6 +63,9 @@ pub fn plain_dec(word: &[u8]) -> Option<Dec>
     dec_of_plain(word, plain)
 }
 
+// The largest whole number that is read.
+const LARGEST: u64 = 0x7fff_ffff;
+
 /// The whole number of the digits that a text begins with, and how many they are.
 #[derive(Clone, Copy)]
 pub struct PlainIndex {
@@ -77,7 +80,7 @@ pub fn plain_index(text: &[u8]) -> Option<PlainIndex>
         × (whole_of (take i.len text.now) ≡ Some i.number) × IsUnmarked (take i.len text.now)) }
 {
     let front = sum_front(text, 0);
-    if front.len == 0 || front.number > 0x7fff_ffff {
+    if front.len == 0 || front.number > LARGEST {
         return None;
     }
     Some(PlainIndex {
