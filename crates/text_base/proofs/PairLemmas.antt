@@ -2,21 +2,22 @@
 use Rattle.std.proofs.Common.{◌≡◌, ◌∙◌, ℕ, ◌+◌, ◌-◌, ◌<◌, ◌==◌, ◌&&◌, Bool, true, false, List, [], ◌∷◌, ◌++◌, length, take, drop, get_or, refl, sym, ap, ap₂, arith, append-nil, length-drop, length-take, take-append-drop, take_all}
 use Rattle.std.proofs.lemmas.List.{drop_more}
 use Rattle.std.proofs.lemmas.Bool.Decides.{nat_tests}
+use Rattle.text_base.proofs.CommentLemmas.{no_mark}
+use Rattle.text_base.proofs.WordLemmas.{begins}
 use Rattle.text_base.specs.Words.{is_blank, onto_word, ends_word, words_of, up_to_comment, without_comment, IsUnmarked}
 
 no_blank : (b : ℕ) → 35 < b → is_blank b ≡ false
 no_blank b h = grind (arith, nat_tests)
 
-no_mark : (m : Bool) (b : ℕ) → 35 < b → (m && (b == 35)) ≡ false
-no_mark true b h = grind (arith, nat_tests)
-no_mark false b h = refl
+unmarked : (m : Bool) (b : ℕ) → 35 < b → (m && (b == 35)) ≡ false
+unmarked m b h = no_mark m b (λ e. omega (arith, h, e))
 
 -- ---- comments
 
 -- a word in front is kept, and after it no comment begins without a blank
 after_word : (m : Bool) (b : ℕ) (word rest : List ℕ) → 35 < b → IsUnmarked word → up_to_comment m ((b ∷ word) ++ rest) ≡ (b ∷ word) ++ up_to_comment false rest
-after_word m b [] rest h all = rw (no_mark m b h, no_blank b h) refl
-after_word m b (c ∷ word) rest h all = rw (no_mark m b h, no_blank b h) (ap (λ bs. b ∷ bs) (after_word false c word rest all.0 all.1))
+after_word m b [] rest h all = rw (unmarked m b h, no_blank b h) refl
+after_word m b (c ∷ word) rest h all = rw (unmarked m b h, no_blank b h) (ap (λ bs. b ∷ bs) (after_word false c word rest all.0 all.1))
 
 pub without_comment-unmarked : (word : List ℕ) → IsUnmarked word → without_comment word ≡ word
 without_comment-unmarked [] all = refl
@@ -30,13 +31,9 @@ without_comment-pair (b ∷ index) word i w =
 
 -- ---- words
 
-onto_next : (b : ℕ) (words : List (List ℕ)) → onto_word b true words ≡ (b ∷ []) ∷ words
-onto_next b [] = refl
-onto_next b (word ∷ words) = refl
-
 -- a word in front of a blank, or of nothing
 first_word : (b : ℕ) (word rest : List ℕ) → 35 < b → IsUnmarked word → ends_word rest ≡ true → words_of ((b ∷ word) ++ rest) ≡ (b ∷ word) ∷ words_of rest
-first_word b [] rest h all ends = rw (no_blank b h, ends) (onto_next b (words_of rest))
+first_word b [] rest h all ends = rw (no_blank b h, ends) (begins b (words_of rest))
 first_word b (c ∷ word) rest h all ends =
     let more : words_of ((c ∷ word) ++ rest) ≡ (c ∷ word) ∷ words_of rest = first_word c word rest all.0 all.1 ends in
     rw (no_blank b h) (ap₂ (λ e ws. onto_word b e ws) (no_blank c all.0) more)
