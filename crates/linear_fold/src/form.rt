@@ -5,7 +5,7 @@ ghost use Rattle.fractions.specs.Rational.{one_ℚ, zero_ℚ};
 ghost use Rattle.std.specs.Iterator.{YieldsFirst, item_count};
 ghost use Rattle.nl_meaning.specs.Faults.{constant_line, line_with, line_scaled, line_sum};
 ghost use Rattle.nl_meaning.specs.Lines.{is_constant};
-ghost use Rattle.linear_fold.specs.Coefs.{AddsAt, AreAscending};
+ghost use Rattle.linear_fold.specs.Coefs.{AddsAt, AreAscending, coef_in};
 ghost use Rattle.linear_fold.specs.Forms.{AddsScaled, AreWithin, HasPlace, HasRoom, IsZeroFrom, SumsUp, form_line, form_terms, is_open, place_count, terms_left};
 
 use crate::coefficients::Coefficients;
@@ -75,6 +75,17 @@ impl Form {
         Form {
             constant: Frac::zero(),
             kept: Kept::Open(pad.into_work()),
+        }
+    }
+
+    // The closed form of the same constant with these coefficients.
+    pub(crate) fn with_coefficients(&self, coefficients: Coefficients) -> Form
+        ensures line { form_line result ≡ record { constant = (form_line self.now).constant; coef = coef_in coefficients } }
+        ensures closed { is_open result ≡ false }
+    {
+        Form {
+            constant: self.constant,
+            kept: Kept::Closed(coefficients),
         }
     }
 
