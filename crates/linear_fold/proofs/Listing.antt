@@ -1,5 +1,5 @@
 -- Terms that ascend: listed as they stand, they are their own sum.
-use Rattle.std.proofs.Common.{◌≡◌, ◌≢◌, ◌↔◌, ℕ, suc, ◌+◌, ◌<◌, ◌≤◌, ◌∙◌, sym, ap, refl, subst, arith, add-one, true, false, ◌&&◌, Some, None, List, [], ◌∷◌, ◌++◌, drop}
+use Rattle.std.proofs.Common.{◌≡◌, ◌≢◌, ◌↔◌, ℕ, suc, ◌+◌, ◌<◌, ◌≤◌, ◌∙◌, sym, ap, refl, subst, arith, add-one, true, false, ◌&&◌, Some, None, List, [], ◌∷◌, ◌++◌, drop, length}
 use Rattle.std.specs.Option.{option_or}
 use Rattle.std.proofs.lemmas.Bool.{and_from}
 use Rattle.exact_numbers.specs.declared.frac.Frac.{Frac}
@@ -13,10 +13,10 @@ use Rattle.nl_meaning.specs.Lines.{Line}
 use Rattle.nl_meaning.specs.Trees.{LinearTerm}
 use Rattle.nl_model.specs.File.{Term as FileTerm}
 use Rattle.file_meaning.specs.Expressions.{linear_terms}
-use Rattle.linear_fold.specs.Coefs.{Term, found, value_or_zero, coef_in, AreAscending, AreBelow, AreStrictlyAscending}
+use Rattle.linear_fold.specs.Coefs.{Term, found, value_or_zero, coef_in, AreAscending, AreBelow, AreStrictlyAscending, AreZeroTerms}
 use Rattle.linear_fold.proofs.Closing.{found_last, found_other}
-use Rattle.linear_fold.proofs.CoefLemmas.{adds_at, ascending_append, below_append, below_from, found_beyond}
-use Rattle.linear_fold.proofs.FracLemmas.{zero_frac_fits}
+use Rattle.linear_fold.proofs.CoefLemmas.{adds_at, ascending_append, below_append, below_from, found_beyond, nothing_added}
+use Rattle.linear_fold.proofs.FracLemmas.{fits_zero, sum_fits_zero, zero_frac_fits}
 use Rattle.linear_fold.proofs.Scaled.{same_line}
 
 -- ---- the test
@@ -94,3 +94,28 @@ all_listed a i ts k out j rest e l = (
   sym l.fault ∙ ap (terms_fault (list_line k out) j) e,
   sym (ap (line_with_terms (list_line k out)) e) ∙ l.line,
 )
+
+-- ---- terms that add nothing
+pub zero_more : (all rest : List FileTerm) (i : ℕ) (t : FileTerm) (whole : Type 0) → drop i all ≡ t ∷ rest → dec_value t.1 ≡ zero_ℚ → AreZeroTerms (linear_terms (drop i all)) ↔ whole → AreZeroTerms (linear_terms rest) ↔ whole
+zero_more all rest i t whole at z h =
+    let here = subst (λ ts. AreZeroTerms (linear_terms ts) ↔ whole) at h in
+    (λ a. here.0 (z, a), λ w. (here.1 w).1)
+
+pub zero_stop : (all rest : List FileTerm) (i : ℕ) (t : FileTerm) (whole : Type 0) → drop i all ≡ t ∷ rest → dec_value t.1 ≢ zero_ℚ → AreZeroTerms (linear_terms (drop i all)) ↔ whole → whole → ⊥
+zero_stop all rest i t whole at n h w =
+    let here = subst (λ ts. AreZeroTerms (linear_terms ts) ↔ whole) at h in
+    n (here.1 w).0
+
+pub nothing_listed : (a : Line) (i : ℕ) (ts : List LinearTerm) → ((j : ℕ) → fits (a.coef j) ≡ true) → AreZeroTerms ts → (terms_fault a i ts ≡ None) × (a ≡ line_with_terms a ts)
+nothing_listed a i [] f z = (refl, refl)
+nothing_listed a i (t ∷ ts) f z =
+    let same : a ≡ line_with a t.variable t.factor = same_line a (line_with a t.variable t.factor) refl (nothing_added a.coef t.variable t.factor z.0) in
+    let rest = nothing_listed a (i + 1) ts f z.1 in
+    let fine : fits t.factor && sum_fits (a.coef t.variable) t.factor ≡ true = and_from _ _ (ap fits z.0 ∙ fits_zero) (ap (sum_fits (a.coef t.variable)) z.0 ∙ sum_fits_zero (a.coef t.variable) (f t.variable)) in (
+      ap (λ b. option_or (fault_at i (too_wide_unless b)) (terms_fault (line_with a t.variable t.factor) (i + 1) ts)) fine ∙ ap (λ l. terms_fault l (i + 1) ts) (sym same) ∙ rest.0,
+      rest.1 ∙ ap (λ l. line_with_terms l ts) same,
+    )
+
+pub some_term : (ts : List FileTerm) → (AreZeroTerms (linear_terms ts) → ⊥) → 0 < length ts
+some_term [] n = absurd (n tt)
+some_term (t ∷ ts) n = omega arith

@@ -37,6 +37,11 @@ abbrev pub AreStrictlyAscending : ℕ → List LinearTerm → Type 0
 AreStrictlyAscending n [] = Unit {0}
 AreStrictlyAscending n (t ∷ ts) = (n ≤ t.variable) × (t.factor ≢ zero_ℚ) × AreStrictlyAscending (suc t.variable) ts
 
+-- each factor is 0
+abbrev pub AreZeroTerms : List LinearTerm → Type 0
+AreZeroTerms [] = Unit {0}
+AreZeroTerms (t ∷ ts) = (t.factor ≡ zero_ℚ) × AreZeroTerms ts
+
 -- every variable is below n
 abbrev pub AreBelow : ℕ → List Term → Type 0
 AreBelow n [] = Unit {0}

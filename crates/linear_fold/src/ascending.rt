@@ -1,7 +1,7 @@
 // Terms that ascend by variable: as they stand, they are the coefficients of a closed form.
 ghost use Rattle.std.specs.Prelude.{◌≡◌, false, ◌+◌, ◌^◌, ◌≤◌, ◌↔◌, [], length, IfOk, IsTrue};
 ghost use Rattle.file_meaning.specs.Expressions.{linear_terms};
-ghost use Rattle.linear_fold.specs.Coefs.{AreStrictlyAscending};
+ghost use Rattle.linear_fold.specs.Coefs.{AreStrictlyAscending, AreZeroTerms};
 ghost use Rattle.linear_fold.specs.Folds.{ComesToTerms};
 ghost use Rattle.linear_fold.specs.Forms.{form_line, form_terms, is_open};
 
@@ -26,6 +26,18 @@ pub(crate) fn are_ascending(terms: &[(u32, Dec)]) -> bool
             return false;
         }
         least = u64::from(*variable) + 1;
+    }
+    true
+}
+
+/// Whether no term adds anything: each factor is 0.
+pub(crate) fn are_zero(terms: &[(u32, Dec)]) -> bool
+    ensures { IsTrue result ↔ AreZeroTerms (linear_terms terms.now) }
+{
+    for (_, factor) in terms {
+        if !factor.is_zero() {
+            return false;
+        }
     }
     true
 }

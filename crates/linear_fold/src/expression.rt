@@ -11,7 +11,7 @@ ghost use Rattle.linear_fold.specs.Folds.{AddsTerms, AreKnown, AreSlotsWithin, C
 ghost use Rattle.linear_fold.specs.Forms.{form_line, is_open, place_count};
 ghost use Rattle.linear_fold.specs.Operates.{IsBlank, IsWithin, StaysBlank};
 
-use crate::ascending::{are_ascending, closed_terms};
+use crate::ascending::{are_ascending, are_zero, closed_terms};
 use crate::entries::Entry;
 use crate::fold::fold_tree;
 use crate::form::Form;
@@ -215,7 +215,7 @@ fn sum_entry<L: Ledger>(
     match entry {
         Entry::Broken(fault) => Ok(Entry::Broken(fault)),
         Entry::Linear(form) => {
-            if terms.is_empty() {
+            if are_zero(terms) {
                 return Ok(Entry::Linear(form));
             }
             with_terms(alloc, &form, terms, first, total, steps)

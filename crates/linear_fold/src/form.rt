@@ -129,6 +129,18 @@ impl Form {
         }
     }
 
+    // A copy of a closed form.
+    pub(crate) fn copied(&self, alloc: Global) -> Result<Form, AllocError>
+        requires { is_open self.now ≡ false }
+        ensures line { IfOk result (λ f. form_line f ≡ form_line self.now) }
+        ensures closed { IfOk result (λ f. is_open f ≡ false) }
+    {
+        let terms = self.listed();
+        let mut items = Vec::with_capacity(alloc, terms.len())?;
+        items.extend_from_slice(terms)?;
+        Ok(self.with_coefficients(Coefficients::of_items(items)))
+    }
+
     // Whether a closed form has no coefficients.
     pub(crate) fn is_constant(&self) -> bool
         requires { is_open self.now ≡ false }
