@@ -41,13 +41,13 @@ closing_init start touched out e among =
     get_or_default (x ∷ xs) zero d f h = refl
     get_or_default (x ∷ xs) (suc k) d f h = get_or_default xs k d f (omega arith)
 
-found_other : (out : List Term) (t : Term) (q : ℕ) → q ≢ t.0 → found (out ++ t ∷ []) q ≡ found out q
+pub found_other : (out : List Term) (t : Term) (q : ℕ) → q ≢ t.0 → found (out ++ t ∷ []) q ≡ found out q
 found_other [] t q n = found_apart t [] q n
 found_other (x ∷ out) t q n =
     ⊎_elim (λ (e : q ≡ x.0). found_same x (out ++ t ∷ []) q e ∙ sym (found_same x out q e))
     (λ (m : q ≢ x.0). found_apart x (out ++ t ∷ []) q m ∙ found_other out t q n ∙ sym (found_apart x out q m)) (cases_eq q x.0)
 
-found_last : (out : List Term) (t : Term) → found out t.0 ≡ None → found (out ++ t ∷ []) t.0 ≡ Some t.1
+pub found_last : (out : List Term) (t : Term) → found out t.0 ≡ None → found (out ++ t ∷ []) t.0 ≡ Some t.1
 found_last [] t e = found_same t [] t.0 refl
 found_last (x ∷ out) t e =
     ⊎_elim (λ (s : t.0 ≡ x.0). absurd (let clash : Some x.1 ≡ None = sym (found_same x out t.0 s) ∙ e in cc))

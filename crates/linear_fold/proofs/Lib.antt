@@ -1,3 +1,4 @@
+pub mod Listing
 pub mod BodyLemmas
 pub mod Closing
 pub mod CoefLemmas

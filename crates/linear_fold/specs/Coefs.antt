@@ -7,6 +7,7 @@ use Rattle.exact_numbers.specs.Values.{frac_value}
 use Rattle.fractions.specs.Fits.{sum_fits}
 use Rattle.fractions.specs.Rational.{ℚ, zero_ℚ, ◌+ℚ◌, ◌*ℚ◌}
 use Rattle.nl_meaning.specs.Lines.{one_if}
+use Rattle.nl_meaning.specs.Trees.{LinearTerm}
 use Rattle.linear_fold.specs.declared.wide.Wide.{Wide}
 
 -- a variable and its coefficient
@@ -30,6 +31,16 @@ coef_in ts j = value_or_zero (found ts j)
 abbrev pub AreAscending : ℕ → List Term → Type 0
 AreAscending n [] = Unit {0}
 AreAscending n (t ∷ ts) = (n ≤ t.0) × (frac_value t.1 ≢ zero_ℚ) × AreAscending (suc t.0) ts
+
+-- the same of terms that are to be added
+abbrev pub AreStrictlyAscending : ℕ → List LinearTerm → Type 0
+AreStrictlyAscending n [] = Unit {0}
+AreStrictlyAscending n (t ∷ ts) = (n ≤ t.variable) × (t.factor ≢ zero_ℚ) × AreStrictlyAscending (suc t.variable) ts
+
+-- each factor is 0
+abbrev pub AreZeroTerms : List LinearTerm → Type 0
+AreZeroTerms [] = Unit {0}
+AreZeroTerms (t ∷ ts) = (t.factor ≡ zero_ℚ) × AreZeroTerms ts
 
 -- every variable is below n
 abbrev pub AreBelow : ℕ → List Term → Type 0

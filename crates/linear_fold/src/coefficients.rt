@@ -77,7 +77,7 @@ impl Coefficients {
         requires { frac_value factor ≢ zero_ℚ }
         ensures { IfOk result (λ c. c ≡ (variable, factor) ∷ []) }
     {
-        let mut items = Vec::new(alloc);
+        let mut items = Vec::with_capacity(alloc, 1)?;
         items.push((variable, factor))?;
         Ok(Coefficients::of_items(items))
     }

@@ -33,7 +33,7 @@ pub(crate) fn take_operands(
     ensures shorter { vec_len stack.new ≤ vec_len stack.old }
     ensures rest { IfOk result (λ o. reverse stack.new.items ≡ drop count (reverse stack.old.items)) }
 {
-    let mut forms = Vec::new(alloc);
+    let mut forms = Vec::with_capacity(alloc, count as usize)?;
     let mut broken = None;
     for _i in 0..count {
         match stack.pop() {

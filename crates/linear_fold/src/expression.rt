@@ -11,6 +11,7 @@ ghost use Rattle.linear_fold.specs.Folds.{AddsTerms, AreKnown, AreSlotsWithin, C
 ghost use Rattle.linear_fold.specs.Forms.{form_line, is_open, place_count};
 ghost use Rattle.linear_fold.specs.Operates.{IsBlank, IsWithin, StaysBlank};
 
+use crate::ascending::{are_ascending, are_zero, closed_terms};
 use crate::entries::Entry;
 use crate::fold::fold_tree;
 use crate::form::Form;
@@ -143,8 +144,8 @@ fn entry_of_sum(
     }
 }
 
-// A form with terms, of which the first has a number.
-fn with_terms<L: Ledger>(
+// The sum of a form and of terms, of which the first has a number.
+fn summed_terms<L: Ledger>(
     alloc: Global,
     form: &Form,
     terms: &[(u32, Dec)],
@@ -164,6 +165,30 @@ fn with_terms<L: Ledger>(
     put(total, form, steps)?;
     let summed = add_linear_terms(total, terms, first, steps);
     entry_of_sum(alloc, total, summed)
+}
+
+// A form with terms, of which the first has a number.
+fn with_terms<L: Ledger>(
+    alloc: Global,
+    form: &Form,
+    terms: &[(u32, Dec)],
+    first: usize,
+    total: &mut Form,
+    steps: &mut Steps<L>,
+) -> Result<Entry, AllocError>
+    requires blank { IsBlank total.old }
+    requires within { IsWithin (place_count total.old) form.now }
+    requires below { AreTermsBelow (place_count total.old) terms.now }
+    requires first { first ≤ 2 ^ 22 }
+    ensures blank { OnOk result (StaysBlank total.old total.new) }
+    ensures entry { IfOk result (λ e. ComesToTerms (form_line form.now) first (linear_terms terms.now) e) }
+    ensures above { steps.old ≤ steps.new }
+    ensures below { steps.new ≤ steps.old + (place_count total.old + 1) + length terms.now }
+{
+    if form.listed().is_empty() && are_ascending(terms) {
+        return closed_terms(alloc, form, terms, first, steps);
+    }
+    summed_terms(alloc, form, terms, first, total, steps)
 }
 
 // The entry of a tree with terms, of which the first has a number.
@@ -190,7 +215,7 @@ fn sum_entry<L: Ledger>(
     match entry {
         Entry::Broken(fault) => Ok(Entry::Broken(fault)),
         Entry::Linear(form) => {
-            if terms.is_empty() {
+            if are_zero(terms) {
                 return Ok(Entry::Linear(form));
             }
             with_terms(alloc, &form, terms, first, total, steps)

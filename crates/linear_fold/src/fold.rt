@@ -38,27 +38,20 @@ fn variable_entry(alloc: Global, index: u32) -> Result<Entry, AllocError>
 }
 
 // A copy of the form of a defined variable.
-fn defined_entry<L: Ledger>(
+fn defined_entry(
     alloc: Global,
     slots: &[Option<Form>],
     index: u32,
-    total: &mut Form,
-    steps: &mut Steps<L>,
     variables: u32,
 ) -> Result<Entry, AllocError>
     requires given { IsGiven variables slots.now index }
     requires slots { AreSlotsWithin variables slots.now }
-    requires places { place_count total.old ≡ variables }
-    requires blank { IsBlank total.old }
-    ensures blank { OnOk result (StaysBlank total.old total.new) }
     ensures entry { IfOk result (λ e. (i : ℕ) (known : Point → Known) → AreKnown variables known slots.now → IsFolded known variables i (defined index) e) }
     ensures within { IfOk result (λ e. IsEntryWithin variables e) }
-    ensures above { steps.old ≤ steps.new }
-    ensures below { steps.new ≤ steps.old + (variables + 1) }
 {
     match &slots[(index - variables) as usize] {
         Some(form) => {
-            let copy = operate::copied(alloc, form, total, steps)?;
+            let copy = form.copied(alloc)?;
             Ok(Entry::Linear(copy))
         }
         None => unreachable!(),
@@ -120,7 +113,7 @@ fn entry_of<L: Ledger>(
     match node {
         Node::Num(value) => Ok(number_entry(alloc, value, place)),
         Node::Var(index) => variable_entry(alloc, index),
-        Node::Defined(index) => defined_entry(alloc, slots, index, total, steps, variables),
+        Node::Defined(index) => defined_entry(alloc, slots, index, variables),
         Node::Op(opcode, count) => {
             let operands = take_operands(alloc, stack, count)?;
             operation_entry(

@@ -5,7 +5,7 @@ ghost use Rattle.fractions.specs.Rational.{one_ℚ, zero_ℚ};
 ghost use Rattle.std.specs.Iterator.{YieldsFirst, item_count};
 ghost use Rattle.nl_meaning.specs.Faults.{constant_line, line_with, line_scaled, line_sum};
 ghost use Rattle.nl_meaning.specs.Lines.{is_constant};
-ghost use Rattle.linear_fold.specs.Coefs.{AddsAt, AreAscending};
+ghost use Rattle.linear_fold.specs.Coefs.{AddsAt, AreAscending, coef_in};
 ghost use Rattle.linear_fold.specs.Forms.{AddsScaled, AreWithin, HasPlace, HasRoom, IsZeroFrom, SumsUp, form_line, form_terms, is_open, place_count, terms_left};
 
 use crate::coefficients::Coefficients;
@@ -78,6 +78,17 @@ impl Form {
         }
     }
 
+    // The closed form of the same constant with these coefficients.
+    pub(crate) fn with_coefficients(&self, coefficients: Coefficients) -> Form
+        ensures line { form_line result ≡ record { constant = (form_line self.now).constant; coef = coef_in coefficients } }
+        ensures closed { is_open result ≡ false }
+    {
+        Form {
+            constant: self.constant,
+            kept: Kept::Closed(coefficients),
+        }
+    }
+
     /// The constant.
     pub fn constant(&self) -> Frac
         ensures { frac_value result ≡ (form_line self.now).constant }
@@ -116,6 +127,18 @@ impl Form {
             Kept::Closed(coefficients) => coefficients.items(),
             Kept::Open(_) => unreachable!(),
         }
+    }
+
+    // A copy of a closed form.
+    pub(crate) fn copied(&self, alloc: Global) -> Result<Form, AllocError>
+        requires { is_open self.now ≡ false }
+        ensures line { IfOk result (λ f. form_line f ≡ form_line self.now) }
+        ensures closed { IfOk result (λ f. is_open f ≡ false) }
+    {
+        let terms = self.listed();
+        let mut items = Vec::with_capacity(alloc, terms.len())?;
+        items.extend_from_slice(terms)?;
+        Ok(self.with_coefficients(Coefficients::of_items(items)))
     }
 
     // Whether a closed form has no coefficients.

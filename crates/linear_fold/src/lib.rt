@@ -1,6 +1,7 @@
 // The linear program of an .nl file: its expressions folded to linear forms.
 #![tactic(auto)]
 
+mod ascending;
 mod bodies;
 mod coefficients;
 mod constants;

@@ -167,28 +167,6 @@ pub(crate) fn scaled<L: Ledger>(
     outcome_of(alloc, total, summed)
 }
 
-/// A closed form of the same line.
-pub(crate) fn copied<L: Ledger>(
-    alloc: Global,
-    a: &Form,
-    total: &mut Form,
-    steps: &mut Steps<L>,
-) -> Result<Form, AllocError>
-    requires blank { IsBlank total.old }
-    requires within { IsWithin (place_count total.old) a.now }
-    ensures blank { OnOk result (StaysBlank total.old total.new) }
-    ensures line { IfOk result (λ f. form_line f ≡ form_line a.now) }
-    ensures closed { IfOk result (λ f. is_open f ≡ false) }
-    ensures above { steps.old ≤ steps.new }
-    ensures below { steps.new ≤ steps.old + (place_count total.old + 1) }
-{
-    match scaled(alloc, a, Frac::one(), total, steps) {
-        Ok(Outcome::Linear(form)) => Ok(form),
-        Ok(Outcome::Refused(_)) => unreachable!(),
-        Err(error) => Err(error),
-    }
-}
-
 fn negated<L: Ledger>(
     alloc: Global,
     a: &Form,

@@ -94,7 +94,7 @@ impl Work {
             mut touched,
         } = self;
         touched.sort_unstable();
-        let mut items: Vec<(u32, Frac)> = Vec::new(alloc);
+        let mut items: Vec<(u32, Frac)> = Vec::with_capacity(alloc, touched.len())?;
         for variable in &touched {
             let value = places[*variable as usize];
             if !value.is_zero() {

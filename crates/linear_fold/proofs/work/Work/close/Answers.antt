@@ -10,7 +10,7 @@ use Rattle.linear_fold.proofs.work.Work.close.Goals.{then-not-is_zero+in_ok-push
 
 pub loop-variable-init : goal.loop-variable-init
 loop-variable-init c =
-    closing_begin c.args.self c.self.inside.places.items c.self.inside.touched.items c.sort_unstable.new.self.items c.deref-variable-items.result.now c.new-items.result.items c.self.view_is c.new-items.ensures.items c.deref-variable-items.ensures.value c.self.invariant c.sort_unstable.ensures.permutation
+    closing_begin c.args.self c.self.inside.places.items c.self.inside.touched.items c.sort_unstable.new.self.items c.deref-variable-items.result.now c.in_ok-items.items.items c.self.view_is c.in_ok-items.ensures.items c.deref-variable-items.ensures.value c.self.invariant c.sort_unstable.ensures.permutation
 
 pub index-value-requires : goal.index-value-requires
 index-value-requires c =

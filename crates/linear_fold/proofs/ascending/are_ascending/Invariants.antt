@@ -1,0 +1,7 @@
+use Rattle.std.proofs.Common.{◌↔◌, drop}
+use Rattle.file_meaning.specs.Expressions.{linear_terms}
+use Rattle.linear_fold.specs.Coefs.{AreStrictlyAscending}
+use Rattle.linear_fold.proofs.ascending.are_ascending.Given as goal
+
+abbrev pub invariant-loop-variable : goal.invariant-loop-variable
+invariant-loop-variable l = AreStrictlyAscending l.least (linear_terms (drop l.variable-index l.terms)) ↔ AreStrictlyAscending 0 (linear_terms l.terms)
