@@ -15,7 +15,9 @@ use text_base::Stop;
 
 // A number times the factor, as a decimal; none exactly where it does not fit.
 pub(crate) fn scaled_number(number: Frac, factor: Frac) -> Option<Dec>
-    ensures { MatchOption result (¬ NumberFits (frac_value factor) (frac_value number)) (λ d. NumberFits (frac_value factor) (frac_value number) × (dec_value d ≡ frac_value factor *ℚ frac_value number)) }
+    ensures { MatchOption result (¬ NumberFits (frac_value factor) (frac_value number))
+        (λ d. NumberFits (frac_value factor) (frac_value number)
+        × (dec_value d ≡ frac_value factor *ℚ frac_value number)) }
 {
     let Some(product) = factor.mul(number) else {
         return None;
@@ -26,9 +28,12 @@ pub(crate) fn scaled_number(number: Frac, factor: Frac) -> Option<Dec>
 // The terms of a form times the factor. Wide exactly where a number does not fit.
 pub(crate) fn scaled_terms(alloc: Global, form: &Form, factor: Frac) -> Result<Terms, Stop<Wide>>
     requires { is_open form.now ≡ false }
-    ensures scaled { IfOk result (λ terms. AreTermsTimes (frac_value factor) (form_terms form.now) terms) }
+    ensures scaled { IfOk result
+        (λ terms. AreTermsTimes (frac_value factor) (form_terms form.now) terms) }
     ensures ascending { AreAscending 0 (form_terms form.now) }
-    ensures wide { IfErr result (λ stop. IfFault stop (λ _. ¬ All (NumberFits (frac_value factor)) (coefficients_in (form_terms form.now)))) }
+    ensures wide { IfErr result
+        (λ stop. IfFault stop
+        (λ _. ¬ All (NumberFits (frac_value factor)) (coefficients_in (form_terms form.now)))) }
 {
     let mut terms = Terms::new(alloc);
     for term in form.terms() {
