@@ -8,6 +8,7 @@ ghost use Rattle.linear_fold.specs.Coefs.{AreAscending};
 ghost use Rattle.linear_fold.specs.Forms.{form_line, form_terms, is_open};
 ghost use Rattle.row_scaling.specs.Fitting.{coefficients_in, frac_side, listed};
 
+use crate::decimals::has_few_places;
 use crate::fraction_sides::FractionSides;
 use exact_numbers::{Frac, lcm};
 use linear_fold::Form;
@@ -21,6 +22,9 @@ fn with_number(factor: i128, number: Frac) -> Option<i128>
         (λ k. k
         ≡ pos (least_multiple (unsigned_abs factor) (cofactor_of (frac_value number).bottom))) }
 {
+    if has_few_places(number) {
+        return Some(factor);
+    }
     let cofactor = number.cofactor();
     if cofactor == 1 {
         return Some(factor);

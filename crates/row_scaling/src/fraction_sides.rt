@@ -7,6 +7,7 @@ ghost use Rattle.exported_program.specs.Program.{range_of};
 ghost use Rattle.row_scaling.specs.Fitting.{frac_side, less_side, times_side, LessFits, ProductFits, NumberFits, AreSidesFit};
 ghost use Rattle.row_scaling.specs.Rows.{side_value};
 
+use crate::decimals::decimal_of;
 use crate::numbers::same_fraction;
 use exact_numbers::{Dec, Frac};
 use linear_fold::Wide;
@@ -70,7 +71,7 @@ fn decimal(side: Option<Frac>) -> Result<Option<Dec>, Wide>
     let Some(number) = side else {
         return Ok(None);
     };
-    let Some(dec) = number.to_dec() else {
+    let Some(dec) = decimal_of(number) else {
         return Err(Wide);
     };
     Ok(Some(dec))
@@ -90,7 +91,7 @@ fn difference(lower: Frac, upper: Frac) -> Result<Option<Dec>, Wide>
     let Some(number) = upper.sub(lower) else {
         return Err(Wide);
     };
-    let Some(dec) = number.to_dec() else {
+    let Some(dec) = decimal_of(number) else {
         return Err(Wide);
     };
     Ok(Some(dec))

@@ -3,6 +3,7 @@
 
 mod bounds;
 mod columns;
+mod decimals;
 mod export;
 mod factors;
 mod fraction_sides;
