@@ -14,10 +14,10 @@ use crate::answer::Answer;
 use crate::nl_input::read_nl;
 use crate::nl_told::nl_line;
 use crate::one_file::{end, missed};
-use crate::stages::{fold, scale};
+use crate::stages::{exported, fold_read, scale};
 use mps_writer::write_mps;
 use nl_segments::{NlRead, NlReader};
-use row_scaling::{Scaled, program};
+use row_scaling::Scaled;
 use std::alloc::{AllocError, Global};
 use text_base::{Desk, Ledger, Steps, Stop};
 
@@ -25,7 +25,7 @@ use text_base::{Desk, Ledger, Steps, Stop};
 fn write_program(alloc: Global, scaled: Scaled) -> Result<Vec<u8>, AllocError>
     ensures { IfOk result (λ out. IsTextOf out.items (exported_as scaled)) }
 {
-    let mps = program(alloc, &scaled)?;
+    let mps = exported(alloc, scaled)?;
     let _ = mps.rows();
     let out = write_mps(alloc, &mps)?;
     Ok(out)
@@ -48,7 +48,7 @@ fn export_read<L: Ledger>(
     ensures below { steps.new ≤ steps.old + step_bound read.file }
     ensures none { has_objective read.file objective ≡ false → steps.new ≡ steps.old }
 {
-    let linear = fold(alloc, &read, objective, steps)?;
+    let linear = fold_read(alloc, read, objective, steps)?;
     let scaled = scale(alloc, linear, objective)?;
     let out = write_program(alloc, scaled)?;
     Ok(out)

@@ -13,13 +13,13 @@ ghost use Rattle.bridge_tool.specs.Refusal.{IsRefused};
 use crate::answer::Answer;
 use crate::nl_told::nl_line;
 use crate::one_file::end;
-use crate::stages::{fold, scale};
+use crate::stages::{exported, fold_read, scale};
 use crate::summary::{coefficient_count, exported_count, summary_line};
 use instances::make_instance;
 use mps_writer::write_mps;
 use nl_segments::{NlRead, read_nl};
 use nl_writer::write_nl;
-use row_scaling::{Scaled, program};
+use row_scaling::Scaled;
 use std::alloc::{AllocError, Global};
 use text_base::{Desk, Ledger, Steps, Stop};
 
@@ -27,7 +27,7 @@ use text_base::{Desk, Ledger, Steps, Stop};
 fn sum_up(alloc: Global, scaled: Scaled, variables: u32, rows: usize) -> Result<Vec<u8>, AllocError>
     ensures { IfOk result (λ out. IsSummedUp variables rows (exported_as scaled) out.items) }
 {
-    let mps = program(alloc, &scaled)?;
+    let mps = exported(alloc, scaled)?;
     let _ = mps.rows();
     let terms = coefficient_count(&mps, rows);
     let text = write_mps(alloc, &mps)?;
@@ -48,7 +48,7 @@ fn export_read<L: Ledger>(
     ensures below { steps.new ≤ steps.old + step_bound read.file }
 {
     let variables = read.file.header().counts().n_var;
-    let linear = fold(alloc, &read, 0, steps)?;
+    let linear = fold_read(alloc, read, 0, steps)?;
     let rows = exported_count(&linear);
     let scaled = scale(alloc, linear, 0)?;
     let out = sum_up(alloc, scaled, variables, rows)?;

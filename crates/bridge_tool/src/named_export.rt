@@ -1,7 +1,7 @@
 // The command export with names: from the text of a file and two lists of names to the text of its
 // program with these names, or to the line to tell.
 ghost use Rattle.std.specs.Prelude.{◌≡◌, ◌≢◌, ◌+◌, ◌≤◌, length, IfOk};
-ghost use Rattle.name_files.specs.Renamed.{HasExportedNames};
+ghost use Rattle.name_files.specs.Renamed.{HasExportedNames, named};
 ghost use Rattle.nl_segments.specs.Reader.{HasLines, value_of};
 ghost use Rattle.row_scaling.specs.Exported.{exported_as};
 ghost use Rattle.bridge_tool.specs.Answer.{IsWorked, status_of};
@@ -12,13 +12,27 @@ use crate::answer::Answer;
 use crate::name_input::{open_columns, open_rows};
 use crate::nl_input::open_nl;
 use crate::one_file::end_verdict;
-use crate::stages::{fold, scale};
+use crate::stages::{exported, fold_read, scale};
+use mps_model::Mps;
 use mps_writer::write_mps;
 use name_files::{NameList, rename};
 use nl_segments::NlRead;
-use row_scaling::{Scaled, program};
+use row_scaling::Scaled;
 use std::alloc::{AllocError, Global};
 use text_base::{Desk, Ledger, Steps, Stop};
+
+// The program with these names; the one without them is let go.
+fn renamed(
+    alloc: Global,
+    plain: Mps,
+    rows: &NameList,
+    columns: &NameList,
+) -> Result<Mps, AllocError>
+    requires { HasExportedNames (length rows.now) (length columns.now) plain }
+    ensures { IfOk result (λ m. m ≡ named plain rows.now columns.now) }
+{
+    rename(alloc, &plain, rows, columns)
+}
 
 // The written text of the program of a scaled one, with these names.
 fn write_named(
@@ -31,8 +45,8 @@ fn write_named(
     ensures { IfOk result (λ out. IsNamedTextOf out.items (exported_as scaled) rows.now
         columns.now) }
 {
-    let mps = program(alloc, &scaled)?;
-    let mps = rename(alloc, &mps, rows, columns)?;
+    let plain = exported(alloc, scaled)?;
+    let mps = renamed(alloc, plain, rows, columns)?;
     let _ = mps.rows();
     let out = write_mps(alloc, &mps)?;
     Ok(out)
@@ -70,7 +84,7 @@ fn judge<L: Ledger>(
       columns = columns.now;
     } → steps.new ≤ steps.old + most_named_steps n }
 {
-    let linear = fold(alloc, &read, objective, steps)?;
+    let linear = fold_read(alloc, read, objective, steps)?;
     let scaled = scale(alloc, linear, objective)?;
     let out = write_named(alloc, scaled, rows, columns)?;
     Ok((true, out))

@@ -1,17 +1,22 @@
-// The stages that commands share: folding and scaling.
-ghost use Rattle.std.specs.Prelude.{◌≡◌, ◌+◌, ◌≤◌, false};
+// The stages that commands share: folding, scaling and exporting. Where a stage takes what it works
+// on by value, that is let go before the next stage.
+ghost use Rattle.std.specs.Prelude.{◌≡◌, ◌+◌, ◌≤◌, false, IfOk};
+ghost use Rattle.exact_numbers.specs.Values.{dec_value};
 ghost use Rattle.file_meaning.specs.FoldFaults.{has_objective};
 ghost use Rattle.linear_fold.specs.FoldedFaults.{step_bound};
 ghost use Rattle.linear_fold.specs.Programs.{linear_value};
+ghost use Rattle.mps_model.specs.Mps.{with_values};
 ghost use Rattle.nl_model.specs.Rules.{IsFile};
 ghost use Rattle.nl_segments.specs.Reader.{HasLines, value_of};
+ghost use Rattle.row_scaling.specs.Exported.{exported_as};
 ghost use Rattle.bridge_tool.specs.Stages.{Folds, Scales};
 
 use crate::nl_told::{fold_line, scale_line};
 use linear_fold::{Linear, fold_all};
+use mps_model::Mps;
 use nl_segments::NlRead;
-use row_scaling::{Scaled, scale_rows};
-use std::alloc::Global;
+use row_scaling::{Scaled, program, scale_rows};
+use std::alloc::{AllocError, Global};
 use text_base::{Ledger, Steps, Stop};
 
 /// The linear program of what was read, or the line of its first fault.
@@ -39,6 +44,23 @@ pub(crate) fn fold<L: Ledger>(
     }
 }
 
+/// The same of what was read, which is let go.
+pub(crate) fn fold_read<L: Ledger>(
+    alloc: Global,
+    read: NlRead,
+    objective: u32,
+    steps: &mut Steps<L>,
+) -> Result<Linear, Stop<Vec<u8>>>
+    requires { HasLines read }
+    ensures folds { Folds (value_of read) objective result }
+    ensures file { IsFile read.file }
+    ensures above { steps.old ≤ steps.new }
+    ensures below { steps.new ≤ steps.old + step_bound read.file }
+    ensures none { has_objective read.file objective ≡ false → steps.new ≡ steps.old }
+{
+    fold(alloc, &read, objective, steps)
+}
+
 /// The scaled program, or the line of its first fault.
 pub(crate) fn scale(alloc: Global, linear: Linear, objective: u32) -> Result<Scaled, Stop<Vec<u8>>>
     ensures { Scales (linear_value linear) objective result }
@@ -51,4 +73,11 @@ pub(crate) fn scale(alloc: Global, linear: Linear, objective: u32) -> Result<Sca
             Err(Stop::Fault(line))
         }
     }
+}
+
+/// The program that a scaled one is exported as.
+pub(crate) fn exported(alloc: Global, scaled: Scaled) -> Result<Mps, AllocError>
+    ensures { IfOk result (λ m. with_values dec_value m ≡ exported_as scaled) }
+{
+    program(alloc, &scaled)
 }

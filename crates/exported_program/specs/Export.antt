@@ -51,11 +51,13 @@ pub record RowFits (n : ℕ) (r : Row) (k : ℕ) : Type 0 where
   pub coefficients : All (ScaledFits k) (coefficients_below r.body.coefficient n)
   pub lower : IfSide (SideFits k r.body.constant) r.side.lower
   pub upper : IfSide (SideFits k r.body.constant) r.side.upper
-  pub range : IfBoth RangeFits (scaled_side (whole (pos k)) r.body.constant r.side.lower) (scaled_side (whole (pos k)) r.body.constant r.side.upper)
+  pub range : IfBoth RangeFits (scaled_side (whole (pos k)) r.body.constant r.side.lower)
+      (scaled_side (whole (pos k)) r.body.constant r.side.upper)
 
 -- row i is not exported, or its numbers fit
 abbrev pub ExportFits : Linear → ℕ → Type 0
-ExportFits f i = IsTrue (is_exported (row_at f i)) → RowFits (variable_count f) (row_at f i) (factor_of_row f i)
+ExportFits f i = IsTrue (is_exported (row_at f i))
+    → RowFits (variable_count f) (row_at f i) (factor_of_row f i)
 
 -- row i is the first that is too wide
 pub record IsRowTooWide (f : Linear) (i : ℕ) : Type 0 where
@@ -69,7 +71,8 @@ IsDecimal f = All FitsDec (objective_numbers (variable_count f) f.objective)
 -- the numbers of a tied objective fit
 pub record ObjectiveFits (f : Linear) : Type 0 where
   pub factor : factor_of_objective f < 2 ^ 127
-  pub parts : All (ScaledFits (factor_of_objective f)) (objective_numbers (variable_count f) f.objective)
+  pub parts : All (ScaledFits (factor_of_objective f))
+      (objective_numbers (variable_count f) f.objective)
 
 -- the rows fit, and a tied objective does not
 pub record IsObjectiveTooWide (f : Linear) : Type 0 where
@@ -80,4 +83,5 @@ pub record IsObjectiveTooWide (f : Linear) : Type 0 where
 -- ---- the program
 pub record IsProgramOf (f : Linear) (m : Mps Dec) : Type 0 where
   pub plain : IsDecimal f → with_values dec_value m ≡ program f (factor_of_row f)
-  pub tied : ¬ IsDecimal f → with_values dec_value m ≡ tied_program f (factor_of_row f) (factor_of_objective f)
+  pub tied : ¬ IsDecimal f
+      → with_values dec_value m ≡ tied_program f (factor_of_row f) (factor_of_objective f)

@@ -33,7 +33,9 @@ side_less constant (Some s) = (s -ℚ constant) ∷ []
 
 -- a row's coefficients, and its finite sides less its body's constant
 abbrev pub row_numbers : ℕ → Row → List ℚ
-row_numbers n r = coefficients_below r.body.coefficient n ++ side_less r.body.constant r.side.lower ++ side_less r.body.constant r.side.upper
+row_numbers n r =
+    coefficients_below r.body.coefficient n ++ side_less r.body.constant r.side.lower
+    ++ side_less r.body.constant r.side.upper
 
 -- an objective's constant and its coefficients
 abbrev pub objective_numbers : ℕ → Form → List ℚ
@@ -43,7 +45,8 @@ objective_numbers n o = o.constant ∷ coefficients_below o.coefficient n
 -- n without what it shares with 10, in at most as many steps as the first number
 unfoldable pub steps_to_cofactor : ℕ → ℕ → ℕ
 steps_to_cofactor zero n = n
-steps_to_cofactor (suc k) n = cond (nat_eq (gcd_of n 10) 1) n (steps_to_cofactor k (n / gcd_of n 10))
+steps_to_cofactor (suc k) n =
+    cond (nat_eq (gcd_of n 10) 1) n (steps_to_cofactor k (n / gcd_of n 10))
 
 -- the part of n that is prime to 10
 unfoldable pub cofactor_of : ℕ → ℕ

@@ -41,7 +41,9 @@ has_side None (Some u) = true
 unfoldable pub exported_rows : (ℕ → ℕ) → ℕ → List Row → List ScaledRow
 exported_rows factor i [] = []
 exported_rows factor i (r ∷ rs) =
-    cond (has_side r.side.lower r.side.upper) (scaled_row (factor i) r ∷ exported_rows factor (suc i) rs) (exported_rows factor (suc i) rs)
+    cond (has_side r.side.lower r.side.upper)
+    (scaled_row (factor i) r ∷ exported_rows factor (suc i) rs)
+    (exported_rows factor (suc i) rs)
 
 -- x, but none where it is 0
 abbrev pub nonzero : ℚ → Option ℚ
@@ -93,13 +95,15 @@ or_obj_zero (e ∷ es) = e ∷ es
 -- the entries of variable j: of the objective, then of the rows in order
 abbrev pub column_entries : Form → List ScaledRow → ℕ → List (Entry ℚ)
 column_entries objective rows j =
-    or_obj_zero (with_entry 0 (nonzero (objective.coefficient j)) (entries_of (λ r. nonzero (r.coefficient j)) 1 rows))
+    or_obj_zero (with_entry 0 (nonzero (objective.coefficient j))
+    (entries_of (λ r. nonzero (r.coefficient j)) 1 rows))
 
 -- a column for each variable, of which the first is variable j
 unfoldable pub columns_of : Form → List ScaledRow → ℕ → List Variable → List (Column ℚ)
 columns_of objective rows j [] = []
 columns_of objective rows j (v ∷ vs) =
-    record { name = v.name; marked = v.whole; entries = column_entries objective rows j } ∷ columns_of objective rows (suc j) vs
+    record { name = v.name; marked = v.whole; entries = column_entries objective rows j }
+    ∷ columns_of objective rows (suc j) vs
 
 -- a bound of column j
 abbrev pub bound_record : BoundKind → ℕ → ℚ → Bound ℚ
@@ -138,7 +142,8 @@ program_of rows objective variables maximise =
       maximise = maximise;
       rows = record { name = obj_name; kind = N } ∷ map mps_row rows;
       columns = columns_of objective rows 0 variables;
-      rhs = with_entry 0 (nonzero (neg_ℚ objective.constant)) (entries_of (λ r. nonzero (rhs_of r.side.lower r.side.upper)) 1 rows);
+      rhs = with_entry 0 (nonzero (neg_ℚ objective.constant))
+          (entries_of (λ r. nonzero (rhs_of r.side.lower r.side.upper)) 1 rows);
       ranges = entries_of (λ r. range_of r.side.lower r.side.upper) 1 rows;
       bounds = bounds_of 0 variables;
     }
@@ -165,7 +170,10 @@ abbrev pub tie : ℕ → Form → Row
 tie n objective =
     record {
       name = zdef_name;
-      body = record { constant = objective.constant; coefficient = then_at n (neg_ℚ one_ℚ) objective.coefficient };
+      body = record {
+        constant = objective.constant;
+        coefficient = then_at n (neg_ℚ one_ℚ) objective.coefficient;
+      };
       side = record { lower = Some zero_ℚ; upper = Some zero_ℚ };
     }
 
@@ -181,4 +189,5 @@ z_form n = record { constant = zero_ℚ; coefficient = then_at n one_ℚ (λ j. 
 abbrev pub tied_program : Linear → (ℕ → ℕ) → ℕ → Mps ℚ
 tied_program f factor g =
     let n = variable_count f in
-    program_of (exported_rows factor 0 f.rows ++ scaled_row g (tie n f.objective) ∷ []) (z_form n) (f.variables ++ z_variable ∷ []) f.maximise
+    program_of (exported_rows factor 0 f.rows ++ scaled_row g (tie n f.objective) ∷ []) (z_form n)
+    (f.variables ++ z_variable ∷ []) f.maximise

@@ -21,29 +21,51 @@ ghost use Rattle.mps_model.specs.Text.{mps_text_by};
 
 /// The exported program has the file's points, objective and sense, whatever the factors above 0.
 pub fn export_keeps_meaning()
-    ensures points { (f : Linear) (factor : ℕ → ℕ) (xs : List ℚ) → IsLinear f → ((i : ℕ) → 0 < factor i) → IsMpsFeasible (program f factor) xs ↔ IsFeasible f xs }
-    ensures objective { (f : Linear) (factor : ℕ → ℕ) (xs : List ℚ) → mps_objective (program f factor) xs ≡ objective_value f xs }
+    ensures points { (f : Linear) (factor : ℕ → ℕ) (xs : List ℚ) → IsLinear f
+        → ((i : ℕ) → 0 < factor i) → IsMpsFeasible (program f factor) xs ↔ IsFeasible f xs }
+    ensures objective { (f : Linear) (factor : ℕ → ℕ) (xs : List ℚ)
+        → mps_objective (program f factor) xs ≡ objective_value f xs }
     ensures sense { (f : Linear) (factor : ℕ → ℕ) → (program f factor).maximise ≡ f.maximise }
 {}
 
 /// With a tied objective each point is extended by its objective value.
 pub fn tied_export_keeps_meaning()
-    ensures points { (f : Linear) (factor : ℕ → ℕ) (g : ℕ) (xs : List ℚ) (z : ℚ) → IsLinear f → ((i : ℕ) → 0 < factor i) → 0 < g → length xs ≡ variable_count f → IsMpsFeasible (tied_program f factor g) (xs ++ z ∷ []) ↔ (IsFeasible f xs × (z ≡ objective_value f xs)) }
-    ensures objective { (f : Linear) (factor : ℕ → ℕ) (g : ℕ) (xs : List ℚ) (z : ℚ) → length xs ≡ variable_count f → mps_objective (tied_program f factor g) (xs ++ z ∷ []) ≡ z }
-    ensures sense { (f : Linear) (factor : ℕ → ℕ) (g : ℕ) → (tied_program f factor g).maximise ≡ f.maximise }
+    ensures points { (f : Linear) (factor : ℕ → ℕ) (g : ℕ) (xs : List ℚ) (z : ℚ) → IsLinear f
+        → ((i : ℕ) → 0 < factor i) → 0 < g → length xs ≡ variable_count f
+        → IsMpsFeasible (tied_program f factor g) (xs ++ z ∷ [])
+        ↔ (IsFeasible f xs × (z ≡ objective_value f xs)) }
+    ensures objective { (f : Linear) (factor : ℕ → ℕ) (g : ℕ) (xs : List ℚ) (z : ℚ)
+        → length xs ≡ variable_count f
+        → mps_objective (tied_program f factor g) (xs ++ z ∷ []) ≡ z }
+    ensures sense { (f : Linear) (factor : ℕ → ℕ) (g : ℕ)
+        → (tied_program f factor g).maximise ≡ f.maximise }
 {}
 
-/// The least common multiple of the parts of the denominators that are prime to 10 is the least factor, and its multiples are the factors.
+/// The least common multiple of the parts of the denominators that are prime to 10 is the least
+/// factor, and its multiples are the factors.
 pub fn least_factors()
     ensures least { (xs : List ℚ) → IsLeastFactor xs (least_factor xs) }
-    ensures multiples { (xs : List ℚ) (k : ℕ) → All (λ x. IsFinite (whole (pos k) *ℚ x)) xs ↔ (least_factor xs ∣ k) }
-    ensures cofactor { (n c : ℕ) → 0 < n → c ∣ n → AreCoprime c 10 → ((d : ℕ) → d ∣ n → AreCoprime d 10 → d ∣ c) → c ≡ cofactor_of n }
+    ensures multiples { (xs : List ℚ) (k : ℕ)
+        → All (λ x. IsFinite (whole (pos k) *ℚ x)) xs ↔ (least_factor xs ∣ k) }
+    ensures cofactor { (n c : ℕ) → 0 < n → c ∣ n → AreCoprime c 10
+        → ((d : ℕ) → d ∣ n → AreCoprime d 10 → d ∣ c) → c ≡ cofactor_of n }
 {}
 
 /// A dual times the change of its row's body is s times the answer's value times the program's row.
 pub fn duals_return()
-    ensures plain { (f : Linear) (factor : ℕ → ℕ) (s w : ℚ) (i : ℕ) (xs : List ℚ) → i < length f.rows → IsTrue (is_exported (row_at f i)) → dual_of s w (factor i) *ℚ (form_value (row_at f i).body (variable_count f) xs -ℚ form_value (row_at f i).body (variable_count f) []) ≡ s *ℚ w *ℚ row_value (program f factor) xs (program_row f i) }
-    ensures tied { (f : Linear) (factor : ℕ → ℕ) (g : ℕ) (s w : ℚ) (i : ℕ) (xs : List ℚ) (z : ℚ) → IsLinear f → length xs ≡ variable_count f → i < length f.rows → IsTrue (is_exported (row_at f i)) → dual_of s w (factor i) *ℚ (form_value (row_at f i).body (variable_count f) xs -ℚ form_value (row_at f i).body (variable_count f) []) ≡ s *ℚ w *ℚ row_value (tied_program f factor g) (xs ++ z ∷ []) (program_row f i) }
+    ensures plain { (f : Linear) (factor : ℕ → ℕ) (s w : ℚ) (i : ℕ) (xs : List ℚ)
+        → i < length f.rows → IsTrue (is_exported (row_at f i))
+        → dual_of s w (factor i)
+        *ℚ (form_value (row_at f i).body (variable_count f) xs
+        -ℚ form_value (row_at f i).body (variable_count f) [])
+        ≡ s *ℚ w *ℚ row_value (program f factor) xs (program_row f i) }
+    ensures tied { (f : Linear) (factor : ℕ → ℕ) (g : ℕ) (s w : ℚ) (i : ℕ) (xs : List ℚ) (z : ℚ)
+        → IsLinear f → length xs ≡ variable_count f → i < length f.rows
+        → IsTrue (is_exported (row_at f i))
+        → dual_of s w (factor i)
+        *ℚ (form_value (row_at f i).body (variable_count f) xs
+        -ℚ form_value (row_at f i).body (variable_count f) [])
+        ≡ s *ℚ w *ℚ row_value (tied_program f factor g) (xs ++ z ∷ []) (program_row f i) }
 {}
 
 /// The text of a knapsack with three variables.
@@ -53,10 +75,17 @@ pub fn example()
 
 /// The law of export, for the decimal program of a file.
 pub fn decimal_program_keeps_meaning()
-    ensures points { (f : Linear) (m : Mps Dec) (xs : List ℚ) → IsLinear f → IsProgramOf f m → IsDecimal f → IsMpsFeasible (with_values dec_value m) xs ↔ IsFeasible f xs }
-    ensures objective { (f : Linear) (m : Mps Dec) (xs : List ℚ) → IsProgramOf f m → IsDecimal f → mps_objective (with_values dec_value m) xs ≡ objective_value f xs }
-    ensures tied_points { (f : Linear) (m : Mps Dec) (xs : List ℚ) (z : ℚ) → IsLinear f → IsProgramOf f m → ¬ IsDecimal f → length xs ≡ variable_count f → IsMpsFeasible (with_values dec_value m) (xs ++ z ∷ []) ↔ (IsFeasible f xs × (z ≡ objective_value f xs)) }
-    ensures tied_objective { (f : Linear) (m : Mps Dec) (xs : List ℚ) (z : ℚ) → IsProgramOf f m → ¬ IsDecimal f → length xs ≡ variable_count f → mps_objective (with_values dec_value m) (xs ++ z ∷ []) ≡ z }
+    ensures points { (f : Linear) (m : Mps Dec) (xs : List ℚ) → IsLinear f → IsProgramOf f m
+        → IsDecimal f → IsMpsFeasible (with_values dec_value m) xs ↔ IsFeasible f xs }
+    ensures objective { (f : Linear) (m : Mps Dec) (xs : List ℚ) → IsProgramOf f m → IsDecimal f
+        → mps_objective (with_values dec_value m) xs ≡ objective_value f xs }
+    ensures tied_points { (f : Linear) (m : Mps Dec) (xs : List ℚ) (z : ℚ) → IsLinear f
+        → IsProgramOf f m → ¬ IsDecimal f → length xs ≡ variable_count f
+        → IsMpsFeasible (with_values dec_value m) (xs ++ z ∷ [])
+        ↔ (IsFeasible f xs × (z ≡ objective_value f xs)) }
+    ensures tied_objective { (f : Linear) (m : Mps Dec) (xs : List ℚ) (z : ℚ) → IsProgramOf f m
+        → ¬ IsDecimal f → length xs ≡ variable_count f
+        → mps_objective (with_values dec_value m) (xs ++ z ∷ []) ≡ z }
 {}
 
 /// The names of the program, its rows and its columns are names.
@@ -72,10 +101,12 @@ pub fn names_are_names()
 /// No two rows have one name, nor have two columns, and no row is named as a marker line is.
 pub fn names_differ()
     ensures constraints { (i j : ℕ) → i < 2 ^ 32 → j < 2 ^ 32 → row_name i ≡ row_name j → i ≡ j }
-    ensures variables { (i j : ℕ) → i < 2 ^ 32 → j < 2 ^ 32 → variable_name i ≡ variable_name j → i ≡ j }
+    ensures variables { (i j : ℕ) → i < 2 ^ 32 → j < 2 ^ 32 → variable_name i ≡ variable_name j
+        → i ≡ j }
     ensures objective { (i : ℕ) → row_name i ≢ obj_name }
     ensures tied_row { (i : ℕ) → row_name i ≢ zdef_name }
     ensures tied_column { (j : ℕ) → variable_name j ≢ z_name }
     ensures objective_and_tied_row { obj_name ≢ zdef_name }
-    ensures markers { ((i : ℕ) → row_name i ≢ marker_word) × (obj_name ≢ marker_word) × (zdef_name ≢ marker_word) }
+    ensures markers { ((i : ℕ) → row_name i ≢ marker_word) × (obj_name ≢ marker_word)
+        × (zdef_name ≢ marker_word) }
 {}

@@ -1,4 +1,5 @@
-//! The MPS program that a linear program is exported as, and that it means the same. There is no code.
+//! The MPS program that a linear program is exported as, and that it means the same. There is no
+//! code.
 #![tactic(auto)]
 
 pub mod laws;

@@ -3,7 +3,7 @@ use Rattle.std.proofs.Common.{◌≡◌, ◌≢◌, ℕ, zero, suc, ◌+◌, ◌
 use Rattle.std.proofs.Math.ListN.{get_or-append}
 use Rattle.std.proofs.lemmas.List.Elements.{All-push, All-set}
 use Rattle.std.proofs.lemmas.List.Quantifiers.{all_pairs_push}
-use Rattle.std.proofs.lemmas.List.Sums.{sum_by-append, sum_by-set}
+use Rattle.std.proofs.lemmas.List.Sums.{sum_by-append, sum_by-cons, sum_by-set}
 use Rattle.fractions.specs.Rational.{zero_ℚ}
 use Rattle.text_base.specs.Names.{IsName}
 use Rattle.exact_numbers.specs.declared.dec.Dec.{Dec}
@@ -77,29 +77,36 @@ bounds_with_column n k bs h a =
 no_entries : (n : ℕ) → AreEntries {V = Dec} n []
 no_entries n = record { within = λ i d l. absurd (omega (arith, l)); apart = λ i j d l k. absurd (omega (arith, k)) }
 
-empty_column : List ℕ → Bool → Column Dec
-empty_column name marked = record { name = name; marked = marked; entries = [] }
-
-pub column_added : (m old : Mps Dec) (name : List ℕ) (marked : Bool) → IsPartOfMps dec_value m → m ≡ old → CanAddColumn old name → IsName name →
-    IsPartOfMps dec_value (record m { columns = m.columns ++ record { name = name; marked = marked; entries = [] } ∷ [] })
-column_added m old name marked a is h0 named =
-    let c : Column Dec = record { name = name; marked = marked; entries = [] } in
+-- a column of these entries
+pub entries_added : (m old : Mps Dec) (name : List ℕ) (marked : Bool) (es : List (Entry Dec)) → IsPartOfMps dec_value m → m ≡ old → CanAddColumn old name →
+    entry_count old.columns + length es ≤ 2 ^ 24 → AreEntries (length old.rows) es → IsName name →
+    IsPartOfMps dec_value (record m { columns = m.columns ++ record { name = name; marked = marked; entries = es } ∷ [] })
+entries_added m old name marked es a is h0 few0 inside0 named =
+    let c : Column Dec = record { name = name; marked = marked; entries = es } in
     let h : CanAddColumn m name = subst (λ x. CanAddColumn x name) (sym is) h0 in
+    let few : entry_count m.columns + length es ≤ 2 ^ 24 = subst (λ (x : Mps Dec). entry_count x.columns + length es ≤ 2 ^ 24) (sym is) few0 in
+    let inside : AreEntries (length m.rows) es = subst (λ (x : Mps Dec). AreEntries (length x.rows) es) (sym is) inside0 in
     let more : length m.columns ≤ length (m.columns ++ c ∷ []) = omega (arith, count_push m.columns c) in
     record {
       name = a.name;
       rows = a.rows;
       columns = record {
         few = omega (arith, h.few, count_push m.columns c);
-        few_entries = omega (arith, a.columns.few_entries, sum_by-append (λ (c : Column Dec). length c.entries) m.columns (c ∷ []));
+        few_entries = omega (arith, few, sum_by-append (λ (c : Column Dec). length c.entries) m.columns (c ∷ []), sum_by-cons (λ (c : Column Dec). length c.entries) c []);
         named = All-push (λ (c : Column Dec). IsName c.name) m.columns c a.columns.named named;
         apart = all_pairs_push (λ (c d : Column Dec). c.name ≢ d.name) m.columns c a.columns.apart h.new;
-        entries = All-push (λ (c : Column Dec). AreEntries (length m.rows) c.entries) m.columns c a.columns.entries (no_entries (length m.rows));
+        entries = All-push (λ (c : Column Dec). AreEntries (length m.rows) c.entries) m.columns c a.columns.entries inside;
       };
       rhs = a.rhs;
       ranges = a.ranges;
       bounds = bounds_with_column _ _ m.bounds more a.bounds;
     }
+
+pub column_added : (m old : Mps Dec) (name : List ℕ) (marked : Bool) → IsPartOfMps dec_value m → m ≡ old → CanAddColumn old name → IsName name →
+    IsPartOfMps dec_value (record m { columns = m.columns ++ record { name = name; marked = marked; entries = [] } ∷ [] })
+column_added m old name marked a is h named =
+    let few : entry_count m.columns ≤ 2 ^ 24 = a.columns.few_entries in
+    entries_added m old name marked [] a is h (omega (arith, few, ap (λ (x : Mps Dec). entry_count x.columns) is)) (no_entries (length old.rows)) named
 
 -- ---- entries
 one_more : (n : ℕ) (es : List (Entry Dec)) (e : Entry Dec) → AreEntries n es → e.row < n → All (IsOtherEntry e.row) es → AreEntries n (es ++ e ∷ [])

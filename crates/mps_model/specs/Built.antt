@@ -1,11 +1,11 @@
 -- How the lists of an MPS program are seen, and when a part may be added.
-use Rattle.std.specs.Prelude.{◌≡◌, ◌≢◌, ℕ, ◌<◌, ◌^◌, Bool, List, [], ◌∷◌, ◌++◌, length, map, Option, Some, None, All}
+use Rattle.std.specs.Prelude.{◌≡◌, ◌≢◌, ℕ, ◌+◌, ◌<◌, ◌≤◌, ◌^◌, Bool, List, [], ◌∷◌, ◌++◌, length, map, Option, Some, None, All}
 use Rattle.fractions.specs.Rational.{zero_ℚ}
 use Rattle.exact_numbers.specs.declared.dec.Dec.{Dec}
 use Rattle.exact_numbers.specs.Values.{dec_value}
 use Rattle.mps_model.specs.declared.kinds.BoundKind.{BoundKind}
 use Rattle.mps_model.specs.Mps.{MpsRow, Entry, Column, Bound, Mps}
-use Rattle.mps_model.specs.Valid.{marker_word, IsOtherRow, IsOtherColumn, IsOtherEntry, IsOtherBound, IsBounded, IsWithoutNumber, entry_count}
+use Rattle.mps_model.specs.Valid.{marker_word, IsOtherRow, IsOtherColumn, IsOtherEntry, IsOtherBound, IsBounded, IsWithoutNumber, AreEntries, entry_count}
 
 -- a row and its value
 abbrev pub entry_of : ℕ × Dec → Entry Dec
@@ -21,7 +21,8 @@ or_empty None = []
 or_empty (Some name) = name
 
 -- the value of the parts of a program
-abbrev pub mps_of : Option (List ℕ) → Bool → List MpsRow → List (Column Dec) → List (ℕ × Dec) → List (ℕ × Dec) → List (BoundKind × ℕ × Dec) → Mps Dec
+abbrev pub mps_of : Option (List ℕ) → Bool → List MpsRow → List (Column Dec) → List (ℕ × Dec)
+    → List (ℕ × Dec) → List (BoundKind × ℕ × Dec) → Mps Dec
 mps_of name maximise rows columns rhs ranges bounds =
     record {
       name = or_empty name;
@@ -55,6 +56,11 @@ pub record CanAddRow (m : Mps Dec) (name : List ℕ) : Type 0 where
 pub record CanAddColumn (m : Mps Dec) (name : List ℕ) : Type 0 where
   pub few : length m.columns < 2 ^ 21
   pub new : All (IsOtherColumn name) m.columns
+
+-- the entries of a new column: each in a row of the program, no two in one row
+pub record CanAddEntries (m : Mps Dec) (entries : List (ℕ × Dec)) : Type 0 where
+  pub few : entry_count m.columns + length entries ≤ 2 ^ 24
+  pub rows : AreEntries (length m.rows) (map entry_of entries)
 
 -- to the last column
 pub record CanAddEntry (m : Mps Dec) (row : ℕ) : Type 0 where

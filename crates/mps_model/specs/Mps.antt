@@ -1,4 +1,5 @@
--- MPS programs, and what they mean (the usual MPS manuals; the signs of ranges and of upper bounds below 0 are an own profile).
+-- MPS programs, and what they mean (the usual MPS manuals; the signs of ranges and of upper bounds
+-- below 0 are an own profile).
 use Rattle.std.specs.Prelude.{ℕ, suc, ◌<◌, ℤ, pos, negsuc, nat_eq, Bool, true, false, cond, ◌||◌, ◌&&◌, IsTrue, List, [], ◌∷◌, length, map, get_or, Option, Some, None}
 use Rattle.std.specs.Option.{option_or}
 pub use Rattle.fractions.specs.Functions.{or_zero}
@@ -32,7 +33,8 @@ pub record Bound (V : Type 0) : Type 0 where
   pub column : ℕ
   pub value : V
 
--- a program whose numbers are of the type V: decimals as they are written, or fractions, their values
+-- a program whose numbers are of the type V: decimals as they are written, or fractions, their
+-- values
 pub record Mps (V : Type 0) : Type 0 where
   pub name : List ℕ
   pub maximise : Bool
@@ -48,7 +50,8 @@ entry_with v e = record { row = e.row; value = v e.value }
 
 -- a column of the values
 abbrev pub column_with : {V W : Type 0} → (V → W) → Column V → Column W
-column_with v c = record { name = c.name; marked = c.marked; entries = map (entry_with v) c.entries }
+column_with v c =
+    record { name = c.name; marked = c.marked; entries = map (entry_with v) c.entries }
 
 -- a bound of the value
 abbrev pub bound_with : {V W : Type 0} → (V → W) → Bound V → Bound W
@@ -99,7 +102,8 @@ part_of_row i entries x = sum_over (λ e. cond (nat_eq e.row i) (e.value *ℚ x)
 
 -- the sum of all entries of row i, each times its column's value
 unfoldable pub row_value : Mps ℚ → List ℚ → ℕ → ℚ
-row_value m xs i = sum_below (λ j. part_of_row i (column_at m j).entries (value_at xs j)) (length m.columns)
+row_value m xs i =
+    sum_below (λ j. part_of_row i (column_at m j).entries (value_at xs j)) (length m.columns)
 
 -- the interval of a row with the right side b
 abbrev pub row_sides : RowKind → ℚ → Option ℚ → Interval
@@ -109,7 +113,9 @@ row_sides L b (Some r) = record { lower = Some (b -ℚ size_of r); upper = Some 
 row_sides G b None = record { lower = Some b; upper = None }
 row_sides G b (Some r) = record { lower = Some b; upper = Some (b +ℚ size_of r) }
 row_sides E b None = record { lower = Some b; upper = Some b }
-row_sides E b (Some r) = cond (is_negative r) (record { lower = Some (b +ℚ r); upper = Some b }) (record { lower = Some b; upper = Some (b +ℚ r) })
+row_sides E b (Some r) =
+    cond (is_negative r) (record { lower = Some (b +ℚ r); upper = Some b })
+    (record { lower = Some b; upper = Some (b +ℚ r) })
 
 -- nothing asks for a row past the last
 abbrev pub no_row : MpsRow
@@ -148,9 +154,11 @@ upper_set Li v = None
 upper_set Mi v = None
 
 -- the side that the first record of column j that sets one sets
-unfoldable pub side_set : (BoundKind → ℚ → Option (Option ℚ)) → ℕ → List (Bound ℚ) → Option (Option ℚ)
+unfoldable pub side_set : (BoundKind → ℚ → Option (Option ℚ)) → ℕ → List (Bound ℚ)
+    → Option (Option ℚ)
 side_set sets j [] = None
-side_set sets j (b ∷ bs) = option_or (cond (nat_eq b.column j) (sets b.kind b.value) None) (side_set sets j bs)
+side_set sets j (b ∷ bs) =
+    option_or (cond (nat_eq b.column j) (sets b.kind b.value) None) (side_set sets j bs)
 
 -- without a record: 0, but no lower side where the upper one is below 0
 abbrev pub usual_lower : Option (Option ℚ) → Option ℚ
@@ -167,7 +175,10 @@ given None usual = usual
 abbrev pub column_interval : Mps ℚ → ℕ → Interval
 column_interval m j =
     let upper = side_set upper_set j m.bounds in
-    record { lower = given (side_set lower_set j m.bounds) (usual_lower upper); upper = given upper None }
+    record {
+      lower = given (side_set lower_set j m.bounds) (usual_lower upper);
+      upper = given upper None;
+    }
 
 -- a record of this kind makes its column whole
 abbrev pub is_whole_kind : BoundKind → Bool
@@ -194,12 +205,19 @@ is_whole_column m j = (column_at m j).marked || has_whole_record j m.bounds
 pub record IsMpsFeasible (m : Mps ℚ) (xs : List ℚ) : Type 0 where
   pub rows : (i : ℕ) → i < length m.rows → IsInside (row_interval m i) (row_value m xs i)
   pub bounds : (j : ℕ) → j < length m.columns → IsInside (column_interval m j) (value_at xs j)
-  pub whole : (j : ℕ) → j < length m.columns → IsTrue (is_whole_column m j) → IsWhole (value_at xs j)
+  pub whole : (j : ℕ) → j < length m.columns → IsTrue (is_whole_column m j)
+      → IsWhole (value_at xs j)
 
 -- the place of the first N row
 unfoldable pub objective_row : List MpsRow → ℕ
 objective_row [] = 0
-objective_row (r ∷ rs) = elim r.kind [ N ↦ 0 | L ↦ suc (objective_row rs) | G ↦ suc (objective_row rs) | E ↦ suc (objective_row rs) ]
+objective_row (r ∷ rs) =
+    elim r.kind [
+      | N ↦ 0
+      | L ↦ suc (objective_row rs)
+      | G ↦ suc (objective_row rs)
+      | E ↦ suc (objective_row rs)
+    ]
 
 -- the value of the first N row less its right side
 abbrev pub mps_objective : Mps ℚ → List ℚ → ℚ

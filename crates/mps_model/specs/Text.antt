@@ -110,7 +110,8 @@ module _ {V : Type 0} (text : V → List ℕ) where
       ++ section (codes "ROWS") ∷ map row_line m.rows
       ++ section (codes "COLUMNS") ∷ column_lines m.rows false 0 m.columns
       ++ section (codes "RHS") ∷ entry_lines m.rows (codes "RHS") m.rhs
-      ++ unless_empty m.ranges (section (codes "RANGES") ∷ entry_lines m.rows (codes "RNG") m.ranges)
+      ++ unless_empty m.ranges
+      (section (codes "RANGES") ∷ entry_lines m.rows (codes "RNG") m.ranges)
       ++ unless_empty m.bounds (section (codes "BOUNDS") ∷ map (bound_line m.columns) m.bounds)
       ++ section (codes "ENDATA") ∷ []
 

@@ -1,6 +1,6 @@
 // How a program is built.
-ghost use Rattle.std.specs.Prelude.{◌≡◌, ◌++◌, ◌∷◌, [], OnOk, OnErr};
-ghost use Rattle.mps_model.specs.Built.{CanAddRow, CanAddColumn, CanAddEntry, CanAddRhs, CanAddRange, CanAddBound, with_entry_last, or_empty};
+ghost use Rattle.std.specs.Prelude.{◌≡◌, ◌++◌, ◌∷◌, [], OnOk, OnErr, map};
+ghost use Rattle.mps_model.specs.Built.{CanAddRow, CanAddColumn, CanAddEntries, CanAddEntry, CanAddRhs, CanAddRange, CanAddBound, entry_of, with_entry_last, or_empty};
 ghost use Rattle.mps_model.specs.Valid.{IsPartOfMps, IsComplete};
 ghost use Rattle.exact_numbers.specs.Values.{dec_value};
 
@@ -34,15 +34,26 @@ impl Model for MpsBuilder {
 
     ghost Value = { MpsValue DecValue };
 
-    ghost view = { λ m. mps_of m.name m.maximise m.rows.items m.columns.items m.rhs.items m.ranges.items m.bounds.items };
+    ghost view = { λ m. mps_of m.name m.maximise m.rows.items m.columns.items m.rhs.items
+        m.ranges.items m.bounds.items };
 
-    ghost invariant = { λ m. IsPartOfMps dec_value (mps_of m.name m.maximise m.rows.items m.columns.items m.rhs.items m.ranges.items m.bounds.items) };
+    ghost invariant = { λ m. IsPartOfMps dec_value
+        (mps_of m.name m.maximise m.rows.items m.columns.items m.rhs.items m.ranges.items
+        m.bounds.items) };
 }
 
 impl MpsBuilder {
     /// A program without rows and columns.
     pub fn new(alloc: Global, name: Option<Name>, maximise: bool) -> MpsBuilder
-        ensures { result ≡ record { name = or_empty name; maximise = maximise; rows = []; columns = []; rhs = []; ranges = []; bounds = [] } }
+        ensures { result ≡ record {
+          name = or_empty name;
+          maximise = maximise;
+          rows = [];
+          columns = [];
+          rhs = [];
+          ranges = [];
+          bounds = [];
+        } }
     {
         if let Some(text) = &name {
             let _bytes = text.bytes();
@@ -69,7 +80,9 @@ impl MpsBuilder {
     /// Adds a row.
     pub fn add_row(&mut self, name: Name, kind: RowKind) -> Result<(), AllocError>
         requires { CanAddRow self.old name }
-        ensures ok { OnOk result (self.new ≡ record self.old { rows = self.old.rows ++ record { name = name; kind = kind } ∷ [] }) }
+        ensures ok { OnOk result (self.new ≡ record self.old {
+          rows = self.old.rows ++ record { name = name; kind = kind } ∷ [];
+        }) }
         ensures err { OnErr result (self.new ≡ self.old) }
     {
         let _bytes = name.bytes();
@@ -80,7 +93,9 @@ impl MpsBuilder {
     /// Adds a column without entries.
     pub fn add_col(&mut self, name: Name, marked: bool) -> Result<(), AllocError>
         requires { CanAddColumn self.old name }
-        ensures ok { OnOk result (self.new ≡ record self.old { columns = self.old.columns ++ record { name = name; marked = marked; entries = [] } ∷ [] }) }
+        ensures ok { OnOk result (self.new ≡ record self.old {
+          columns = self.old.columns ++ record { name = name; marked = marked; entries = [] } ∷ [];
+        }) }
         ensures err { OnErr result (self.new ≡ self.old) }
     {
         let _bytes = name.bytes();
@@ -89,10 +104,33 @@ impl MpsBuilder {
         Ok(())
     }
 
+    /// Adds a column with these entries.
+    pub fn add_column(
+        &mut self,
+        name: Name,
+        marked: bool,
+        entries: Vec<(u32, Dec)>,
+    ) -> Result<(), AllocError>
+        requires column { CanAddColumn self.old name }
+        requires entries { CanAddEntries self.old entries.items }
+        ensures ok { OnOk result (self.new ≡ record self.old {
+          columns = self.old.columns
+              ++ record { name = name; marked = marked; entries = map entry_of entries.items } ∷ [];
+        }) }
+        ensures err { OnErr result (self.new ≡ self.old) }
+    {
+        let _bytes = name.bytes();
+        let column = MpsColumn::of(name, marked, entries);
+        self.columns.push(column)?;
+        Ok(())
+    }
+
     /// Adds an entry to the last column.
     pub fn add_entry(&mut self, row: u32, value: Dec) -> Result<(), AllocError>
         requires { CanAddEntry self.old row }
-        ensures ok { OnOk result (self.new ≡ record self.old { columns = with_entry_last (record { row = row; value = value }) self.old.columns }) }
+        ensures ok { OnOk result (self.new ≡ record self.old {
+          columns = with_entry_last (record { row = row; value = value }) self.old.columns;
+        }) }
         ensures err { OnErr result (self.new ≡ self.old) }
     {
         let last = self.columns.len() - 1;
@@ -104,7 +142,9 @@ impl MpsBuilder {
     /// Adds the right side of a row.
     pub fn add_rhs(&mut self, row: u32, value: Dec) -> Result<(), AllocError>
         requires { CanAddRhs self.old row }
-        ensures ok { OnOk result (self.new ≡ record self.old { rhs = self.old.rhs ++ record { row = row; value = value } ∷ [] }) }
+        ensures ok { OnOk result (self.new ≡ record self.old {
+          rhs = self.old.rhs ++ record { row = row; value = value } ∷ [];
+        }) }
         ensures err { OnErr result (self.new ≡ self.old) }
     {
         self.rhs.push((row, value))?;
@@ -114,7 +154,9 @@ impl MpsBuilder {
     /// Adds the range of a row.
     pub fn add_range(&mut self, row: u32, value: Dec) -> Result<(), AllocError>
         requires { CanAddRange self.old row }
-        ensures ok { OnOk result (self.new ≡ record self.old { ranges = self.old.ranges ++ record { row = row; value = value } ∷ [] }) }
+        ensures ok { OnOk result (self.new ≡ record self.old {
+          ranges = self.old.ranges ++ record { row = row; value = value } ∷ [];
+        }) }
         ensures err { OnErr result (self.new ≡ self.old) }
     {
         self.ranges.push((row, value))?;
@@ -124,7 +166,9 @@ impl MpsBuilder {
     /// Adds a bound of a column; FR, MI, PL and BV have the value 0.
     pub fn add_bound(&mut self, kind: BoundKind, col: u32, value: Dec) -> Result<(), AllocError>
         requires { CanAddBound self.old kind col value }
-        ensures ok { OnOk result (self.new ≡ record self.old { bounds = self.old.bounds ++ record { kind = kind; column = col; value = value } ∷ [] }) }
+        ensures ok { OnOk result (self.new ≡ record self.old {
+          bounds = self.old.bounds ++ record { kind = kind; column = col; value = value } ∷ [];
+        }) }
         ensures err { OnErr result (self.new ≡ self.old) }
     {
         self.bounds.push((kind, col, value))?;

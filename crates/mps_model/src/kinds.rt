@@ -9,7 +9,8 @@ pub enum RowKind {
     E,
 }
 
-/// Kinds of bounds: lower, upper, fixed, free, no lower, no upper, binary, and the lower and upper ones of whole columns.
+/// Kinds of bounds: lower, upper, fixed, free, no lower, no upper, binary, and the lower and upper
+/// ones of whole columns.
 #[derive(Clone, Copy, Debug, PartialEq, Eq)]
 pub enum BoundKind {
     Lo,

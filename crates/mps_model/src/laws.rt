@@ -8,5 +8,6 @@ ghost use Rattle.mps_model.specs.Text.{mps_text_by};
 
 /// Where numbers are written by their values, a program is written as the program of the values is.
 pub fn text_is_of_values()
-    ensures { (text : ℚ → List ℕ) (m : Mps Dec) → mps_text_by text (with_values dec_value m) ≡ mps_text_by (λ d. text (dec_value d)) m }
+    ensures { (text : ℚ → List ℕ) (m : Mps Dec)
+        → mps_text_by text (with_values dec_value m) ≡ mps_text_by (λ d. text (dec_value d)) m }
 {}

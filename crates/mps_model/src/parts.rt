@@ -40,7 +40,11 @@ impl Model for MpsColumn {
 
     ghost Value = { Column DecValue };
 
-    ghost view = { λ c. record { name = c.name; marked = c.marked; entries = map entry_of c.entries.items } };
+    ghost view = { λ c. record {
+      name = c.name;
+      marked = c.marked;
+      entries = map entry_of c.entries.items;
+    } };
 }
 
 impl MpsColumn {
@@ -52,6 +56,21 @@ impl MpsColumn {
             name,
             marked,
             entries: Vec::new(alloc),
+        }
+    }
+
+    /// A column with these entries.
+    pub(crate) fn of(name: Name, marked: bool, entries: Vec<(u32, Dec)>) -> MpsColumn
+        ensures { result ≡ record {
+          name = name;
+          marked = marked;
+          entries = map entry_of entries.items;
+        } }
+    {
+        MpsColumn {
+            name,
+            marked,
+            entries,
         }
     }
 
@@ -77,7 +96,9 @@ impl MpsColumn {
     }
 
     pub(crate) fn push(&mut self, row: u32, value: Dec) -> Result<(), AllocError>
-        ensures ok { OnOk result (self.new ≡ record self.old { entries = self.old.entries ++ record { row = row; value = value } ∷ [] }) }
+        ensures ok { OnOk result (self.new ≡ record self.old {
+          entries = self.old.entries ++ record { row = row; value = value } ∷ [];
+        }) }
         ensures err { OnErr result (self.new ≡ self.old) }
     {
         self.entries.push((row, value))?;

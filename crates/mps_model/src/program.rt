@@ -31,9 +31,12 @@ impl Model for Mps {
 
     ghost Value = { MpsValue DecValue };
 
-    ghost view = { λ m. mps_of m.name m.maximise m.rows.items m.columns.items m.rhs.items m.ranges.items m.bounds.items };
+    ghost view = { λ m. mps_of m.name m.maximise m.rows.items m.columns.items m.rhs.items
+        m.ranges.items m.bounds.items };
 
-    ghost invariant = { λ m. IsMps dec_value (mps_of m.name m.maximise m.rows.items m.columns.items m.rhs.items m.ranges.items m.bounds.items) };
+    ghost invariant = { λ m. IsMps dec_value
+        (mps_of m.name m.maximise m.rows.items m.columns.items m.rhs.items m.ranges.items
+        m.bounds.items) };
 }
 
 impl Mps {

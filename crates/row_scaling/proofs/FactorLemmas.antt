@@ -62,13 +62,16 @@ by_lcm (Some k) a b c some e h = back_to k (least_multiple a c) h.0 (same_lcm a 
 pub cofactor_is : (x : Frac) (c : ℕ) → IsCofactor (frac_value x).bottom c → c ≡ cofactor_of (frac_value x).bottom
 cofactor_is x c h = only_cofactor (frac_value x).bottom c (frac_value x).above h.0 h.1 h.2
 
-one_dvd : (k : ℕ) → 1 ∣ k
+pub one_dvd : (k : ℕ) → 1 ∣ k
 one_dvd k = subst (λ n. 1 ∣ n) (one-mul k) (dvd-mul_right 1 k)
 
-pub with_one : (z : ℤ) (x : Frac) (c : ℤ) → pos 0 <ℤ z → c ≡ pos 1 → IsCofactor (frac_value x).bottom (unsigned_abs c) → z ≡ pos (least_multiple (unsigned_abs z) (cofactor_of (frac_value x).bottom))
-with_one z x c h e is =
-    let one : 1 ≡ cofactor_of (frac_value x).bottom = sym (ap unsigned_abs e) ∙ cofactor_is x (unsigned_abs c) is in
+pub with_none : (z : ℤ) (x : Frac) → pos 0 <ℤ z → cofactor_of (frac_value x).bottom ≡ 1 → z ≡ pos (least_multiple (unsigned_abs z) (cofactor_of (frac_value x).bottom))
+with_none z x h none =
+    let one : 1 ≡ cofactor_of (frac_value x).bottom = sym none in
     back_to z _ h (same_lcm (unsigned_abs z) (cofactor_of (frac_value x).bottom) (unsigned_abs z) (omega (arith, one)) (subst (λ n. IsLcm (unsigned_abs z) n (unsigned_abs z)) one (dvd_refl (unsigned_abs z), one_dvd (unsigned_abs z), λ k p q. p)))
+
+pub with_one : (z : ℤ) (x : Frac) (c : ℤ) → pos 0 <ℤ z → c ≡ pos 1 → IsCofactor (frac_value x).bottom (unsigned_abs c) → z ≡ pos (least_multiple (unsigned_abs z) (cofactor_of (frac_value x).bottom))
+with_one z x c h e is = with_none z x h (sym (cofactor_is x (unsigned_abs c) is) ∙ ap unsigned_abs e)
 
 -- ---- a number more for each term
 abbrev pub running : ℕ → List Term → ℕ

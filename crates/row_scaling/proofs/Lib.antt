@@ -3,6 +3,7 @@ pub mod ColumnLemmas
 pub mod ColumnsLeft
 pub mod DifferenceLemmas
 pub mod FactorLemmas
+pub mod DecimalLemmas
 pub mod FillLemmas
 pub mod FactoredLemmas
 pub mod FitLemmas

@@ -17,7 +17,8 @@ use Rattle.row_scaling.specs.Scaled.{ScaledValue}
 
 -- the scaled row of constraint i
 abbrev pub scaled_row_of : ℕ → RowValue → ScaledRow
-scaled_row_of i r = record { name = row_name i; coefficient = coefficient_of r.terms; side = interval_of r.side }
+scaled_row_of i r =
+    record { name = row_name i; coefficient = coefficient_of r.terms; side = interval_of r.side }
 
 -- the exported rows in order, of which the first is that of constraint i
 abbrev pub exported_from : ℕ → List (Option FactoredRow) → List ScaledRow
@@ -28,7 +29,8 @@ exported_from i (Some r ∷ rs) = scaled_row_of i r.row ∷ exported_from (suc i
 abbrev pub form_of : ScaledObjective → Form
 form_of o = record { constant = dec_value o.constant; coefficient = coefficient_of o.terms }
 
--- g times the objective, less g times z, is 0: z is variable n, and the form is the objective times g
+-- g times the objective, less g times z, is 0: z is variable n, and the form is the objective
+-- times g
 abbrev pub tied_row : ℕ → ℤ → Form → ScaledRow
 tied_row n g form =
     record {

@@ -40,7 +40,8 @@ pub record IsFactored (n i : ℕ) (row : Row) (r : FactoredRow) : Type 0 where
 -- what row i of a linear program is scaled to: nothing, where it is not exported
 abbrev pub IsScaledAt : Linear → ℕ → Option FactoredRow → Type 0
 IsScaledAt f i None = ¬ IsTrue (is_exported (row_at f i))
-IsScaledAt f i (Some r) = IsTrue (is_exported (row_at f i)) × IsFactored (variable_count f) i (row_at f i) r
+IsScaledAt f i (Some r) =
+    IsTrue (is_exported (row_at f i)) × IsFactored (variable_count f) i (row_at f i) r
 
 -- what every row of a linear program is scaled to
 pub record AreScaledRows (f : Linear) (rows : List (Option FactoredRow)) : Type 0 where

@@ -11,6 +11,7 @@ use Rattle.row_scaling.specs.Exported.{program_objective, program_rows, program_
 
 -- the columns of the program, each with an entry
 pub record AreFilled (s : ScaledValue) (columns : List (Column Dec)) : Type 0 where
-  pub value : map (column_with dec_value) columns ≡ columns_of (program_objective s) (program_rows s) 0 (program_variables s)
+  pub value : map (column_with dec_value) columns
+      ≡ columns_of (program_objective s) (program_rows s) 0 (program_variables s)
   pub count : length columns ≡ column_count s
   pub filled : All HasEntries columns

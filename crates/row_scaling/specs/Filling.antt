@@ -15,7 +15,12 @@ or_first e (d ∷ ds) = d ∷ ds
 
 -- the column of a name and of entries; without entries it gets this number in row 0
 abbrev pub column_from : List ℕ → Bool → List TermOf → Dec → Column Dec
-column_from name marked entries zero = record { name = name; marked = marked; entries = or_first (record { row = 0; value = zero }) (map entry_of entries) }
+column_from name marked entries zero =
+    record {
+      name = name;
+      marked = marked;
+      entries = or_first (record { row = 0; value = zero }) (map entry_of entries);
+    }
 
 -- with one column more
 abbrev pub with_column : Mps Dec → Column Dec → Mps Dec
@@ -27,6 +32,7 @@ pub record AreRising (n : ℕ) (entries : List TermOf) : Type 0 where
   pub rising : AllPairs (λ s t. s.0 < t.0) entries
 
 -- these records are added for column j, and no column after j has one
-pub record AreBoundsAdded (j : ℕ) (records : List (Bound ℚ)) (old now : List (Bound Dec)) : Type 0 where
-  pub value : map (bound_with dec_value) now ≡ map (bound_with dec_value) old ++ records
-  pub before : All (λ b. b.column < j + 1) now
+pub record AreBoundsAdded (j : ℕ) (records : List (Bound ℚ)) (old now : List (Bound Dec)) : Type 0
+  where
+    pub value : map (bound_with dec_value) now ≡ map (bound_with dec_value) old ++ records
+    pub before : All (λ b. b.column < j + 1) now

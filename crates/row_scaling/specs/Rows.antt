@@ -21,7 +21,8 @@ IsBelow n ts = All (λ t. t.0 < n) ts
 abbrev pub side_value : Option Dec → Option ℚ
 side_value s = option_map dec_value s
 
--- a row times its factor: its coefficients, its sides less the constant, and their difference where both are there and differ
+-- a row times its factor: its coefficients, its sides less the constant, and their difference where
+-- both are there and differ
 pub record RowValue : Type 0 where
   pub terms : List TermOf
   pub side : Interval

@@ -11,7 +11,8 @@ use Rattle.row_scaling.specs.declared.row.ScaledObjective.{ScaledObjective}
 use Rattle.row_scaling.specs.declared.row.Tie.{Tie}
 use Rattle.row_scaling.specs.Rows.{RowValue, IsScaledRow, IsSparse, IsBelow}
 
--- rows by constraint, none where it is not exported; bounds and kinds by variable; the tie where the objective is tied
+-- rows by constraint, none where it is not exported; bounds and kinds by variable; the tie where
+-- the objective is tied
 pub record ScaledValue : Type 0 where
   pub rows : List (Option FactoredRow)
   pub objective : ScaledObjective

@@ -22,7 +22,8 @@ abbrev pub HasScaleFault : Linear → ScaleFault → Type 0
 HasScaleFault f (RowTooWide i) = IsRowTooWide f i
 HasScaleFault f ObjectiveTooWide = IsObjectiveTooWide f
 
--- the program that a linear program is exported as: with the least factors, and tied exactly where the objective is not decimal
+-- the program that a linear program is exported as: with the least factors, and tied exactly where
+-- the objective is not decimal
 pub record IsExportOf (f : Linear) (m : Mps ℚ) : Type 0 where
   pub plain : IsDecimal f → m ≡ program f (factor_of_row f)
   pub tied : (IsDecimal f → ⊥) → m ≡ tied_program f (factor_of_row f) (factor_of_objective f)
@@ -31,9 +32,11 @@ pub record IsExportOf (f : Linear) (m : Mps ℚ) : Type 0 where
 abbrev pub factor_at : ScaledValue → ℕ → Option ℤ
 factor_at s i = option_map (λ r. r.factor) (row_at s i)
 
--- the factors of a scaled program: the least ones, of exported rows alone, and of an objective that is tied
+-- the factors of a scaled program: the least ones, of exported rows alone, and of an objective that
+-- is tied
 pub record HasLeastFactors (f : Linear) (s : ScaledValue) : Type 0 where
-  pub exported : (i : ℕ) → IsTrue (is_exported (row_of_program f i)) → factor_at s i ≡ Some (pos (factor_of_row f i))
+  pub exported : (i : ℕ) → IsTrue (is_exported (row_of_program f i))
+      → factor_at s i ≡ Some (pos (factor_of_row f i))
   pub others : (i : ℕ) → (IsTrue (is_exported (row_of_program f i)) → ⊥) → factor_at s i ≡ None
   pub plain : IsDecimal f → objective_factor s ≡ None
   pub tied : (IsDecimal f → ⊥) → objective_factor s ≡ Some (pos (factor_of_objective f))

@@ -20,6 +20,7 @@ pub record IsEntryAdded (p : ℕ) (o : Option ℚ) (old now : List (Entry Dec)) 
   pub before : All (λ e. e.row < p + 1) now
 
 -- what g gives for rows is added, the first being row p
-pub record AreEntriesAdded (g : ScaledRow → Option ℚ) (p : ℕ) (rows : List ScaledRow) (old now : List (Entry Dec)) : Type 0 where
+pub record AreEntriesAdded (g : ScaledRow → Option ℚ) (p : ℕ) (rows : List ScaledRow)
+    (old now : List (Entry Dec)) : Type 0 where
   pub value : map (entry_with dec_value) now ≡ map (entry_with dec_value) old ++ entries_of g p rows
   pub before : All (λ e. e.row < p + length rows) now

@@ -22,7 +22,9 @@ fn add_one(builder: &mut MpsBuilder, j: u32, kind: BoundKind, value: Dec) -> Res
     requires within { j < length builder.old.columns }
     requires before { All (λ b. b.column < j) builder.old.bounds }
     requires zero { IsWithoutNumber kind → dec_value value ≡ zero_ℚ }
-    ensures { OnOk result (builder.new ≡ record builder.old { bounds = builder.old.bounds ++ record { kind = kind; column = j; value = value } ∷ [] }) }
+    ensures { OnOk result (builder.new ≡ record builder.old {
+      bounds = builder.old.bounds ++ record { kind = kind; column = j; value = value } ∷ [];
+    }) }
 {
     builder.add_bound(kind, j, value)?;
     Ok(())
@@ -40,7 +42,11 @@ fn add_both(
     requires apart { SetOtherSides lower.0 upper.0 }
     requires low_zero { IsWithoutNumber lower.0 → dec_value lower.1 ≡ zero_ℚ }
     requires high_zero { IsWithoutNumber upper.0 → dec_value upper.1 ≡ zero_ℚ }
-    ensures { OnOk result (builder.new ≡ record builder.old { bounds = builder.old.bounds ++ record { kind = lower.0; column = j; value = lower.1 } ∷ record { kind = upper.0; column = j; value = upper.1 } ∷ [] }) }
+    ensures { OnOk result (builder.new ≡ record builder.old {
+      bounds = builder.old.bounds
+          ++ record { kind = lower.0; column = j; value = lower.1 }
+          ∷ record { kind = upper.0; column = j; value = upper.1 } ∷ [];
+    }) }
 {
     builder.add_bound(lower.0, j, lower.1)?;
     builder.add_bound(upper.0, j, upper.1)?;
@@ -52,7 +58,9 @@ fn add_column_bounds(builder: &mut MpsBuilder, j: u32, side: Interval) -> Result
     requires within { j < length builder.old.columns }
     requires before { All (λ b. b.column < j) builder.old.bounds }
     ensures only { OnOk result (builder.new ≡ record builder.old { bounds = builder.new.bounds }) }
-    ensures added { OnOk result (AreBoundsAdded j (column_bounds j (side_value side.lo) (side_value side.hi)) builder.old.bounds builder.new.bounds) }
+    ensures added { OnOk result
+        (AreBoundsAdded j (column_bounds j (side_value side.lo) (side_value side.hi))
+        builder.old.bounds builder.new.bounds) }
 {
     match (side.lo, side.hi) {
         (None, None) => {
@@ -83,7 +91,10 @@ fn add_tied_bound(builder: &mut MpsBuilder, scaled: &Scaled) -> Result<(), Alloc
     requires count { length builder.old.columns ≡ column_count scaled.now }
     requires before { All (λ b. b.column < length scaled.now.bounds) builder.old.bounds }
     ensures only { OnOk result (builder.new ≡ record builder.old { bounds = builder.new.bounds }) }
-    ensures value { OnOk result (map (bound_with dec_value) builder.new.bounds ≡ map (bound_with dec_value) builder.old.bounds ++ bounds_of (length scaled.now.bounds) (tied_variables scaled.now.tie)) }
+    ensures value { OnOk result
+        (map (bound_with dec_value) builder.new.bounds
+        ≡ map (bound_with dec_value) builder.old.bounds
+        ++ bounds_of (length scaled.now.bounds) (tied_variables scaled.now.tie)) }
 {
     let Some(_tie) = scaled.tie() else {
         return Ok(());
@@ -98,7 +109,9 @@ pub(crate) fn add_bounds(builder: &mut MpsBuilder, scaled: &Scaled) -> Result<()
     requires count { length builder.old.columns ≡ column_count scaled.now }
     requires empty { builder.old.bounds ≡ [] }
     ensures only { OnOk result (builder.new ≡ record builder.old { bounds = builder.new.bounds }) }
-    ensures value { OnOk result (map (bound_with dec_value) builder.new.bounds ≡ bounds_of 0 (program_variables scaled.now)) }
+    ensures value { OnOk result
+        (map (bound_with dec_value) builder.new.bounds
+        ≡ bounds_of 0 (program_variables scaled.now)) }
 {
     let bounds = scaled.bounds();
     for (j, side) in bounds.iter().enumerate() {

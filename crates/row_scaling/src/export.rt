@@ -6,15 +6,16 @@ ghost use Rattle.row_scaling.specs.Exported.{exported_as};
 
 use crate::bounds::add_bounds;
 use crate::columns::by_column;
-use crate::fill::add_columns;
 use crate::names::name_of;
+use crate::program_columns::add_columns;
 use crate::rows::add_rows;
 use crate::scaled::Scaled;
 use crate::sides::{add_ranges, add_sides};
 use mps_model::{Mps, MpsBuilder};
 use std::alloc::{AllocError, Global};
 
-/// The exported program: its rows are the scaled ones, its objective is as it is or tied to a column of its own.
+/// The exported program: its rows are the scaled ones, its objective is as it is or tied to a
+/// column of its own.
 pub fn program(alloc: Global, scaled: &Scaled) -> Result<Mps, AllocError>
     ensures { IfOk result (λ m. with_values dec_value m ≡ exported_as scaled.now) }
 {
@@ -22,7 +23,7 @@ pub fn program(alloc: Global, scaled: &Scaled) -> Result<Mps, AllocError>
     let columns = by_column(alloc, scaled)?;
     let mut builder = MpsBuilder::new(alloc, Some(name), scaled.maximise());
     add_rows(&mut builder, alloc, scaled)?;
-    add_columns(&mut builder, alloc, scaled, &columns)?;
+    add_columns(&mut builder, alloc, scaled, columns)?;
     add_sides(&mut builder, scaled)?;
     add_ranges(&mut builder, scaled)?;
     add_bounds(&mut builder, scaled)?;

@@ -8,15 +8,23 @@ ghost use Rattle.linear_fold.specs.Coefs.{AreAscending};
 ghost use Rattle.linear_fold.specs.Forms.{form_line, form_terms, is_open};
 ghost use Rattle.row_scaling.specs.Fitting.{coefficients_in, frac_side, listed};
 
+use crate::decimals::has_few_places;
 use crate::fraction_sides::FractionSides;
 use exact_numbers::{Frac, lcm};
 use linear_fold::Form;
 
-// The least multiple of a factor that makes one number more a finite decimal; none where it is beyond the greatest size.
+// The least multiple of a factor that makes one number more a finite decimal; none where it is
+// beyond the greatest size.
 fn with_number(factor: i128, number: Frac) -> Option<i128>
     requires { pos 0 <ℤ factor }
-    ensures { MatchOption result (2 ^ 127 ≤ least_multiple (unsigned_abs factor) (cofactor_of (frac_value number).bottom)) (λ k. k ≡ pos (least_multiple (unsigned_abs factor) (cofactor_of (frac_value number).bottom))) }
+    ensures { MatchOption result
+        (2 ^ 127 ≤ least_multiple (unsigned_abs factor) (cofactor_of (frac_value number).bottom))
+        (λ k. k
+        ≡ pos (least_multiple (unsigned_abs factor) (cofactor_of (frac_value number).bottom))) }
 {
+    if has_few_places(number) {
+        return Some(factor);
+    }
     let cofactor = number.cofactor();
     if cofactor == 1 {
         return Some(factor);
@@ -27,7 +35,9 @@ fn with_number(factor: i128, number: Frac) -> Option<i128>
 // The same with a side, where there is one.
 fn with_side(factor: i128, side: Option<Frac>) -> Option<i128>
     requires { pos 0 <ℤ factor }
-    ensures { (xs : List ℚ) → factor ≡ pos (least_factor xs) → MatchOption result (2 ^ 127 ≤ least_factor (xs ++ listed (frac_side side))) (λ k. k ≡ pos (least_factor (xs ++ listed (frac_side side)))) }
+    ensures { (xs : List ℚ) → factor ≡ pos (least_factor xs)
+        → MatchOption result (2 ^ 127 ≤ least_factor (xs ++ listed (frac_side side)))
+        (λ k. k ≡ pos (least_factor (xs ++ listed (frac_side side)))) }
 {
     match side {
         None => Some(factor),
@@ -40,7 +50,9 @@ fn with_terms(start: i128, form: &Form) -> Option<i128>
     requires above { pos 0 <ℤ start }
     requires closed { is_open form.now ≡ false }
     ensures ascending { AreAscending 0 (form_terms form.now) }
-    ensures factor { (xs : List ℚ) → start ≡ pos (least_factor xs) → MatchOption result (2 ^ 127 ≤ least_factor (xs ++ coefficients_in (form_terms form.now))) (λ k. k ≡ pos (least_factor (xs ++ coefficients_in (form_terms form.now)))) }
+    ensures factor { (xs : List ℚ) → start ≡ pos (least_factor xs)
+        → MatchOption result (2 ^ 127 ≤ least_factor (xs ++ coefficients_in (form_terms form.now)))
+        (λ k. k ≡ pos (least_factor (xs ++ coefficients_in (form_terms form.now)))) }
 {
     let mut factor = start;
     for term in form.terms() {
@@ -57,8 +69,13 @@ pub(crate) fn factor_of_row(body: &Form, sides: &FractionSides) -> Option<i128>
     requires { is_open body.now ≡ false }
     ensures ascending { AreAscending 0 (form_terms body.now) }
     ensures factor { MatchOption result
-        (2 ^ 127 ≤ least_factor (coefficients_in (form_terms body.now) ++ listed (frac_side sides.now.lo) ++ listed (frac_side sides.now.hi)))
-        (λ k. k ≡ pos (least_factor (coefficients_in (form_terms body.now) ++ listed (frac_side sides.now.lo) ++ listed (frac_side sides.now.hi)))) }
+        (2 ^ 127 ≤ least_factor
+        (coefficients_in (form_terms body.now) ++ listed (frac_side sides.now.lo)
+        ++ listed (frac_side sides.now.hi)))
+        (λ k. k ≡ pos
+        (least_factor
+        (coefficients_in (form_terms body.now) ++ listed (frac_side sides.now.lo)
+        ++ listed (frac_side sides.now.hi)))) }
 {
     let Some(coefficients) = with_terms(1, body) else {
         return None;
@@ -69,12 +86,16 @@ pub(crate) fn factor_of_row(body: &Form, sides: &FractionSides) -> Option<i128>
     with_side(lower, sides.hi)
 }
 
-// The least factor of an objective's constant and coefficients; none where it is beyond the greatest size.
+// The least factor of an objective's constant and coefficients; none where it is beyond the
+// greatest size.
 pub(crate) fn factor_of_objective(objective: &Form) -> Option<i128>
     requires { is_open objective.now ≡ false }
     ensures { MatchOption result
-        (2 ^ 127 ≤ least_factor ((form_line objective.now).constant ∷ coefficients_in (form_terms objective.now)))
-        (λ k. k ≡ pos (least_factor ((form_line objective.now).constant ∷ coefficients_in (form_terms objective.now)))) }
+        (2 ^ 127 ≤ least_factor
+        ((form_line objective.now).constant ∷ coefficients_in (form_terms objective.now)))
+        (λ k. k ≡ pos
+        (least_factor
+        ((form_line objective.now).constant ∷ coefficients_in (form_terms objective.now)))) }
 {
     let Some(constant) = with_number(1, objective.constant()) else {
         return None;

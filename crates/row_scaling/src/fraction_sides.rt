@@ -7,6 +7,7 @@ ghost use Rattle.exported_program.specs.Program.{range_of};
 ghost use Rattle.row_scaling.specs.Fitting.{frac_side, less_side, times_side, LessFits, ProductFits, NumberFits, AreSidesFit};
 ghost use Rattle.row_scaling.specs.Rows.{side_value};
 
+use crate::decimals::decimal_of;
 use crate::numbers::same_fraction;
 use exact_numbers::{Dec, Frac};
 use linear_fold::Wide;
@@ -29,7 +30,8 @@ pub(crate) struct DecimalSides {
 // A side less the constant. Wide exactly where a number does not fit.
 fn less(side: Option<Dec>, constant: Frac) -> Result<Option<Frac>, Wide>
     ensures { MatchResult result
-        (λ s. IfSide (LessFits (frac_value constant)) (side_value side) × (frac_side s ≡ less_side (frac_value constant) (side_value side)))
+        (λ s. IfSide (LessFits (frac_value constant)) (side_value side)
+        × (frac_side s ≡ less_side (frac_value constant) (side_value side)))
         (λ _. ¬ IfSide (LessFits (frac_value constant)) (side_value side)) }
 {
     let Some(decimal) = side else {
@@ -47,7 +49,8 @@ fn less(side: Option<Dec>, constant: Frac) -> Result<Option<Frac>, Wide>
 // A side times the factor. Wide exactly where it does not fit.
 fn times(side: Option<Frac>, factor: Frac) -> Result<Option<Frac>, Wide>
     ensures { MatchResult result
-        (λ s. IfSide (ProductFits (frac_value factor)) (frac_side side) × (frac_side s ≡ times_side (frac_value factor) (frac_side side)))
+        (λ s. IfSide (ProductFits (frac_value factor)) (frac_side side)
+        × (frac_side s ≡ times_side (frac_value factor) (frac_side side)))
         (λ _. ¬ IfSide (ProductFits (frac_value factor)) (frac_side side)) }
 {
     let Some(number) = side else {
@@ -68,16 +71,18 @@ fn decimal(side: Option<Frac>) -> Result<Option<Dec>, Wide>
     let Some(number) = side else {
         return Ok(None);
     };
-    let Some(dec) = number.to_dec() else {
+    let Some(dec) = decimal_of(number) else {
         return Err(Wide);
     };
     Ok(Some(dec))
 }
 
-// The upper number less the lower one, none where they do not differ. Wide exactly where it does not fit.
+// The upper number less the lower one, none where they do not differ. Wide exactly where it does
+// not fit.
 fn difference(lower: Frac, upper: Frac) -> Result<Option<Dec>, Wide>
     ensures { MatchResult result
-        (λ r. IfBoth RangeFits (Some (frac_value lower)) (Some (frac_value upper)) × (side_value r ≡ range_of (Some (frac_value lower)) (Some (frac_value upper))))
+        (λ r. IfBoth RangeFits (Some (frac_value lower)) (Some (frac_value upper))
+        × (side_value r ≡ range_of (Some (frac_value lower)) (Some (frac_value upper))))
         (λ _. ¬ IfBoth RangeFits (Some (frac_value lower)) (Some (frac_value upper))) }
 {
     if same_fraction(lower, upper) {
@@ -86,7 +91,7 @@ fn difference(lower: Frac, upper: Frac) -> Result<Option<Dec>, Wide>
     let Some(number) = upper.sub(lower) else {
         return Err(Wide);
     };
-    let Some(dec) = number.to_dec() else {
+    let Some(dec) = decimal_of(number) else {
         return Err(Wide);
     };
     Ok(Some(dec))
@@ -95,7 +100,8 @@ fn difference(lower: Frac, upper: Frac) -> Result<Option<Dec>, Wide>
 // The difference of two sides, where both are there and differ. Wide exactly where it does not fit.
 fn range(lower: Option<Frac>, upper: Option<Frac>) -> Result<Option<Dec>, Wide>
     ensures { MatchResult result
-        (λ r. IfBoth RangeFits (frac_side lower) (frac_side upper) × (side_value r ≡ range_of (frac_side lower) (frac_side upper)))
+        (λ r. IfBoth RangeFits (frac_side lower) (frac_side upper)
+        × (side_value r ≡ range_of (frac_side lower) (frac_side upper)))
         (λ _. ¬ IfBoth RangeFits (frac_side lower) (frac_side upper)) }
 {
     match (lower, upper) {
@@ -107,9 +113,12 @@ fn range(lower: Option<Frac>, upper: Option<Frac>) -> Result<Option<Dec>, Wide>
 // The sides of a row less its body's constant. Wide exactly where a number does not fit.
 pub(crate) fn sides_less(side: Interval, constant: Frac) -> Result<FractionSides, Wide>
     ensures { MatchResult result
-        (λ s. IfSide (LessFits (frac_value constant)) (side_value side.lo) × IfSide (LessFits (frac_value constant)) (side_value side.hi)
-        × (frac_side s.lo ≡ less_side (frac_value constant) (side_value side.lo)) × (frac_side s.hi ≡ less_side (frac_value constant) (side_value side.hi)))
-        (λ _. (IfSide (LessFits (frac_value constant)) (side_value side.lo) × IfSide (LessFits (frac_value constant)) (side_value side.hi)) → ⊥) }
+        (λ s. IfSide (LessFits (frac_value constant)) (side_value side.lo)
+        × IfSide (LessFits (frac_value constant)) (side_value side.hi)
+        × (frac_side s.lo ≡ less_side (frac_value constant) (side_value side.lo))
+        × (frac_side s.hi ≡ less_side (frac_value constant) (side_value side.hi)))
+        (λ _. (IfSide (LessFits (frac_value constant)) (side_value side.lo)
+        × IfSide (LessFits (frac_value constant)) (side_value side.hi)) → ⊥) }
 {
     let Ok(lo) = less(side.lo, constant) else {
         return Err(Wide);
@@ -123,9 +132,12 @@ pub(crate) fn sides_less(side: Interval, constant: Frac) -> Result<FractionSides
 // Both sides times the factor, as fractions. Wide exactly where a number does not fit.
 fn sides_times(sides: &FractionSides, factor: Frac) -> Result<FractionSides, Wide>
     ensures { MatchResult result
-        (λ s. IfSide (ProductFits (frac_value factor)) (frac_side sides.now.lo) × IfSide (ProductFits (frac_value factor)) (frac_side sides.now.hi)
-        × (frac_side s.lo ≡ times_side (frac_value factor) (frac_side sides.now.lo)) × (frac_side s.hi ≡ times_side (frac_value factor) (frac_side sides.now.hi)))
-        (λ _. (IfSide (ProductFits (frac_value factor)) (frac_side sides.now.lo) × IfSide (ProductFits (frac_value factor)) (frac_side sides.now.hi)) → ⊥) }
+        (λ s. IfSide (ProductFits (frac_value factor)) (frac_side sides.now.lo)
+        × IfSide (ProductFits (frac_value factor)) (frac_side sides.now.hi)
+        × (frac_side s.lo ≡ times_side (frac_value factor) (frac_side sides.now.lo))
+        × (frac_side s.hi ≡ times_side (frac_value factor) (frac_side sides.now.hi)))
+        (λ _. (IfSide (ProductFits (frac_value factor)) (frac_side sides.now.lo)
+        × IfSide (ProductFits (frac_value factor)) (frac_side sides.now.hi)) → ⊥) }
 {
     let Ok(lo) = times(sides.lo, factor) else {
         return Err(Wide);
@@ -139,9 +151,13 @@ fn sides_times(sides: &FractionSides, factor: Frac) -> Result<FractionSides, Wid
 // Sides as decimals, with their range. Wide exactly where one of the three is none.
 fn decimal_sides(sides: &FractionSides) -> Result<DecimalSides, Wide>
     ensures { MatchResult result
-        (λ s. IfSide FitsDec (frac_side sides.now.lo) × IfSide FitsDec (frac_side sides.now.hi) × IfBoth RangeFits (frac_side sides.now.lo) (frac_side sides.now.hi)
-        × (side_value s.side.lo ≡ frac_side sides.now.lo) × (side_value s.side.hi ≡ frac_side sides.now.hi) × (side_value s.range ≡ range_of (frac_side sides.now.lo) (frac_side sides.now.hi)))
-        (λ _. (IfSide FitsDec (frac_side sides.now.lo) × IfSide FitsDec (frac_side sides.now.hi) × IfBoth RangeFits (frac_side sides.now.lo) (frac_side sides.now.hi)) → ⊥) }
+        (λ s. IfSide FitsDec (frac_side sides.now.lo) × IfSide FitsDec (frac_side sides.now.hi)
+        × IfBoth RangeFits (frac_side sides.now.lo) (frac_side sides.now.hi)
+        × (side_value s.side.lo ≡ frac_side sides.now.lo)
+        × (side_value s.side.hi ≡ frac_side sides.now.hi)
+        × (side_value s.range ≡ range_of (frac_side sides.now.lo) (frac_side sides.now.hi)))
+        (λ _. (IfSide FitsDec (frac_side sides.now.lo) × IfSide FitsDec (frac_side sides.now.hi)
+        × IfBoth RangeFits (frac_side sides.now.lo) (frac_side sides.now.hi)) → ⊥) }
 {
     let Ok(lo) = decimal(sides.lo) else {
         return Err(Wide);
@@ -158,11 +174,13 @@ fn decimal_sides(sides: &FractionSides) -> Result<DecimalSides, Wide>
     })
 }
 
-// Both sides times the factor, as decimals, with their range. Wide exactly where a number does not fit.
+// Both sides times the factor, as decimals, with their range. Wide exactly where a number does not
+// fit.
 pub(crate) fn scaled_sides(sides: &FractionSides, factor: Frac) -> Result<DecimalSides, Wide>
     ensures { MatchResult result
         (λ s. AreSidesFit (frac_value factor) (frac_side sides.now.lo) (frac_side sides.now.hi)
-        × (side_value s.side.lo ≡ times_side (frac_value factor) (frac_side sides.now.lo)) × (side_value s.side.hi ≡ times_side (frac_value factor) (frac_side sides.now.hi))
+        × (side_value s.side.lo ≡ times_side (frac_value factor) (frac_side sides.now.lo))
+        × (side_value s.side.hi ≡ times_side (frac_value factor) (frac_side sides.now.hi))
         × (side_value s.range ≡ range_of (side_value s.side.lo) (side_value s.side.hi)))
         (λ _. ¬ AreSidesFit (frac_value factor) (frac_side sides.now.lo) (frac_side sides.now.hi)) }
 {

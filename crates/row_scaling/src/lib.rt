@@ -3,14 +3,15 @@
 
 mod bounds;
 mod columns;
+mod decimals;
 mod export;
 mod factors;
-mod fill;
 mod fraction_sides;
 mod laws;
 mod names;
 mod numbers;
 mod objectives;
+mod program_columns;
 mod row;
 mod rows;
 mod scale;

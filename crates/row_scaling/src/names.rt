@@ -5,18 +5,14 @@ ghost use Rattle.text_base.specs.Names.{IsName};
 
 use itoa::Buffer;
 use std::alloc::{AllocError, Global};
-use text_base::{Name, Stop};
+use text_base::Name;
 
 // The name with these bytes.
 pub(crate) fn name_of(alloc: Global, text: &[u8]) -> Result<Name, AllocError>
     requires { IsName text.now }
     ensures { IfOk result (λ name. name ≡ text.now) }
 {
-    match Name::of(alloc, text) {
-        Ok(name) => Ok(name),
-        Err(Stop::Memory) => Err(AllocError),
-        Err(Stop::Fault(_)) => unreachable!(),
-    }
+    Name::tested(alloc, text)
 }
 
 // The name of a letter and a number. The text is room to write it in.

@@ -28,7 +28,9 @@ fn objective_times(
     requires { is_open objective.now ≡ false }
     ensures scaled { IfOk result (λ o. IsObjectiveTimes (frac_value factor) objective.now o) }
     ensures ascending { AreAscending 0 (form_terms objective.now) }
-    ensures wide { IfErr result (λ stop. IfFault stop (λ _. ¬ All (NumberFits (frac_value factor)) (numbers_of objective.now))) }
+    ensures wide { IfErr result
+        (λ stop. IfFault stop
+        (λ _. ¬ All (NumberFits (frac_value factor)) (numbers_of objective.now))) }
 {
     let terms = match scaled_terms(alloc, objective, factor) {
         Ok(terms) => terms,
@@ -81,8 +83,8 @@ fn tied_objective(alloc: Global, objective: &Form) -> Result<TiedObjective, Stop
     }
 }
 
-// The objective as it is where it is decimal, and otherwise tied. Wide exactly where it is not decimal, and a number of
-// the tied one does not fit.
+// The objective as it is where it is decimal, and otherwise tied. Wide exactly where it is not
+// decimal, and a number of the tied one does not fit.
 pub(crate) fn scaled_objective(alloc: Global, objective: &Form) -> Result<TiedObjective, Stop<Wide>>
     requires { is_open objective.now ≡ false }
     ensures scaled { IfOk result (λ o. IsTiedOrPlain objective.now o.objective o.tie) }

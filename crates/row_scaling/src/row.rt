@@ -21,13 +21,18 @@ impl Model for ScaledRow {
 
     ghost view = { λ r. record { terms = r.terms; side = r.side; range = r.range } };
 
-    ghost invariant = { λ r. IsScaledRow (record { terms = r.terms; side = r.side; range = r.range }) };
+    ghost invariant = { λ r. IsScaledRow (record {
+      terms = r.terms;
+      side = r.side;
+      range = r.range;
+    }) };
 }
 
 impl ScaledRow {
     ghost use Rattle.row_scaling.specs.Rows.{RowValue, IsScaledRow};
 
-    /// The row of these coefficients and sides. `range` is the upper side less the lower one, where both are there and differ.
+    /// The row of these coefficients and sides. `range` is the upper side less the lower one, where
+    /// both are there and differ.
     pub fn new(terms: Terms, side: Interval, range: Option<Dec>) -> ScaledRow
         requires { IsScaledRow (record { terms = terms; side = side; range = range }) }
         ensures { result ≡ record { terms = terms; side = side; range = range } }
@@ -51,14 +56,16 @@ pub struct FactoredRow {
     pub row: ScaledRow,
 }
 
-/// An objective: its constant, and its coefficients, ascending and without zeros; times its factor where it is tied.
+/// An objective: its constant, and its coefficients, ascending and without zeros; times its factor
+/// where it is tied.
 #[derive(Drop)]
 pub struct ScaledObjective {
     pub constant: Dec,
     pub terms: Terms,
 }
 
-/// What ties an objective to a column: the objective's factor, and the column's coefficient, which is minus the factor.
+/// What ties an objective to a column: the objective's factor, and the column's coefficient, which
+/// is minus the factor.
 #[derive(Clone, Copy)]
 pub struct Tie {
     pub factor: i128,

@@ -36,7 +36,9 @@ fn add_exported_rows(
 ) -> Result<(), AllocError>
     requires few { length builder.old.rows + length rows.now < 2 ^ 21 }
     requires other { (k : ℕ) → k < 2 ^ 32 → All (IsOtherRow (row_name k)) builder.old.rows }
-    ensures { OnOk result (builder.new ≡ record builder.old { rows = builder.old.rows ++ map mps_row (exported_from 0 rows.now) }) }
+    ensures { OnOk result (builder.new ≡ record builder.old {
+      rows = builder.old.rows ++ map mps_row (exported_from 0 rows.now);
+    }) }
 {
     let mut text = Vec::new(alloc);
     for (i, row) in rows.iter().enumerate() {
@@ -54,7 +56,9 @@ fn add_exported_rows(
 fn add_tied_row(builder: &mut MpsBuilder, alloc: Global, scaled: &Scaled) -> Result<(), AllocError>
     requires few { length builder.old.rows < 2 ^ 21 }
     requires other { All (IsOtherRow zdef_name) builder.old.rows }
-    ensures { OnOk result (builder.new ≡ record builder.old { rows = builder.old.rows ++ map mps_row (tied_rows scaled.now.tie scaled.now) }) }
+    ensures { OnOk result (builder.new ≡ record builder.old {
+      rows = builder.old.rows ++ map mps_row (tied_rows scaled.now.tie scaled.now);
+    }) }
 {
     let Some(_tie) = scaled.tie() else {
         return Ok(());
@@ -71,7 +75,9 @@ pub(crate) fn add_rows(
     scaled: &Scaled,
 ) -> Result<(), AllocError>
     requires { builder.old.rows ≡ [] }
-    ensures { OnOk result (builder.new ≡ record builder.old { rows = record { name = obj_name; kind = N } ∷ map mps_row (program_rows scaled.now) }) }
+    ensures { OnOk result (builder.new ≡ record builder.old {
+      rows = record { name = obj_name; kind = N } ∷ map mps_row (program_rows scaled.now);
+    }) }
 {
     let name = name_of(alloc, b"obj")?;
     builder.add_row(name, RowKind::N)?;

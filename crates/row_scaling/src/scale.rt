@@ -13,9 +13,11 @@ use linear_fold::Linear;
 use std::alloc::Global;
 use text_base::Stop;
 
-/// Multiplies each row that has a side by its least factor, and the objective where it is not decimal.
+/// Multiplies each row that has a side by its least factor, and the objective where it is not
+/// decimal.
 pub fn scale_rows(alloc: Global, linear: &Linear) -> Result<Scaled, Stop<ScaleFault>>
-    // Each row that has a side is this row times its least factor, and so are its sides less its constant.
+    // Each row that has a side is this row times its least factor, and so are its sides less its
+    // constant.
     ensures rows { IfOk result (λ s. AreScaledRows (linear_value linear.now) s.rows) }
 
     // The objective is as it is, or times its least factor where it is not decimal.
@@ -29,7 +31,8 @@ pub fn scale_rows(alloc: Global, linear: &Linear) -> Result<Scaled, Stop<ScaleFa
     // The program that it is exported as, or the first row or the objective that is too wide.
     ensures scaled { IfOk result (λ s. IsScaledOf (linear_value linear.now) s) }
     ensures fine { OnOk result (HasNoScaleFault (linear_value linear.now)) }
-    ensures fault { IfErr result (λ stop. IfFault stop (λ fault. HasScaleFault (linear_value linear.now) fault)) }
+    ensures fault { IfErr result
+        (λ stop. IfFault stop (λ fault. HasScaleFault (linear_value linear.now) fault)) }
 {
     let rows = match scaled_rows(alloc, linear) {
         Ok(rows) => rows,

@@ -22,15 +22,30 @@ impl Model for Scaled {
 
     ghost Value = { ScaledValue };
 
-    ghost view = { λ s. record { rows = s.rows.items; objective = s.objective; tie = s.tie; maximise = s.maximise; bounds = s.bounds.items; kinds = s.kinds.items } };
+    ghost view = { λ s. record {
+      rows = s.rows.items;
+      objective = s.objective;
+      tie = s.tie;
+      maximise = s.maximise;
+      bounds = s.bounds.items;
+      kinds = s.kinds.items;
+    } };
 
-    ghost invariant = { λ s. IsScaled (record { rows = s.rows.items; objective = s.objective; tie = s.tie; maximise = s.maximise; bounds = s.bounds.items; kinds = s.kinds.items }) };
+    ghost invariant = { λ s. IsScaled (record {
+      rows = s.rows.items;
+      objective = s.objective;
+      tie = s.tie;
+      maximise = s.maximise;
+      bounds = s.bounds.items;
+      kinds = s.kinds.items;
+    }) };
 }
 
 impl Scaled {
     ghost use Rattle.row_scaling.specs.Scaled.{IsScaled, row_at, objective_factor};
 
-    /// The scaled program of these parts: rows by constraint, none where one is not exported; bounds and kinds by variable.
+    /// The scaled program of these parts: rows by constraint, none where one is not exported;
+    /// bounds and kinds by variable.
     pub fn new(
         rows: Vec<Option<FactoredRow>>,
         objective: ScaledObjective,
@@ -39,8 +54,22 @@ impl Scaled {
         bounds: Vec<Interval>,
         kinds: Vec<Kind>,
     ) -> Scaled
-        requires { IsScaled (record { rows = rows.items; objective = objective; tie = tie; maximise = maximise; bounds = bounds.items; kinds = kinds.items }) }
-        ensures { result ≡ record { rows = rows.items; objective = objective; tie = tie; maximise = maximise; bounds = bounds.items; kinds = kinds.items } }
+        requires { IsScaled (record {
+          rows = rows.items;
+          objective = objective;
+          tie = tie;
+          maximise = maximise;
+          bounds = bounds.items;
+          kinds = kinds.items;
+        }) }
+        ensures { result ≡ record {
+          rows = rows.items;
+          objective = objective;
+          tie = tie;
+          maximise = maximise;
+          bounds = bounds.items;
+          kinds = kinds.items;
+        } }
     {
         Scaled {
             rows,

@@ -41,9 +41,13 @@ pub(crate) fn whole(number: i128) -> Frac
 fn scale_row(alloc: Global, body: &Form, side: Interval) -> Result<FactoredRow, Stop<Wide>>
     requires closed { is_open body.now ≡ false }
     requires sided { IsTrue (has_side (side_value side.lo) (side_value side.hi)) }
-    ensures scaled { (n i : ℕ) → AreBelow n (form_terms body.now) → IfOk result (λ r. IsFactored n i (row_for i body.now side) r) }
+    ensures scaled { (n i : ℕ) → AreBelow n (form_terms body.now)
+        → IfOk result (λ r. IsFactored n i (row_for i body.now side) r) }
     ensures few { IfOk result (λ r. length r.row.terms ≡ length (form_terms body.now)) }
-    ensures wide { (n i : ℕ) → AreBelow n (form_terms body.now) → IfErr result (λ stop. IfFault stop (λ _. ¬ RowFits n (row_for i body.now side) (factor_for n (row_for i body.now side)))) }
+    ensures wide { (n i : ℕ) → AreBelow n (form_terms body.now)
+        → IfErr result
+        (λ stop. IfFault stop
+        (λ _. ¬ RowFits n (row_for i body.now side) (factor_for n (row_for i body.now side)))) }
 {
     let Ok(less) = sides_less(side, body.constant()) else {
         return Err(Stop::Fault(Wide));
@@ -73,7 +77,8 @@ fn has_side(side: Interval) -> bool
     }
 }
 
-// The row of a constraint times its least factor, none where it has no side. Its fault is that a number does not fit.
+// The row of a constraint times its least factor, none where it has no side. Its fault is that a
+// number does not fit.
 fn scaled_row_at(
     alloc: Global,
     linear: &Linear,
@@ -81,8 +86,12 @@ fn scaled_row_at(
 ) -> Result<Option<FactoredRow>, Stop<ScaleFault>>
     requires { con < length linear.now.bodies }
     ensures scaled { IfOk result (λ o. IsScaledAt (linear_value linear.now) con o) }
-    ensures few { (d : Form) → IfOk result (λ o. term_count_of o ≤ length (form_terms (get_or linear.now.bodies con d))) }
-    ensures wide { IfErr result (λ stop. IfFault stop (λ fault. (fault ≡ RowTooWide con) × ¬ ExportFits (linear_value linear.now) con)) }
+    ensures few { (d : Form)
+        → IfOk result
+        (λ o. term_count_of o ≤ length (form_terms (get_or linear.now.bodies con d))) }
+    ensures wide { IfErr result
+        (λ stop. IfFault stop
+        (λ fault. (fault ≡ RowTooWide con) × ¬ ExportFits (linear_value linear.now) con)) }
 {
     let bodies = linear.bodies();
     let sides = linear.sides();
@@ -104,8 +113,10 @@ pub(crate) fn scaled_rows(
     linear: &Linear,
 ) -> Result<Vec<Option<FactoredRow>>, Stop<ScaleFault>>
     ensures scaled { IfOk result (λ rows. AreScaledRows (linear_value linear.now) rows.items) }
-    ensures few { IfOk result (λ rows. row_term_count rows.items ≤ body_term_count linear.now.bodies) }
-    ensures wide { IfErr result (λ stop. IfFault stop (λ fault. HasScaleFault (linear_value linear.now) fault)) }
+    ensures few { IfOk result
+        (λ rows. row_term_count rows.items ≤ body_term_count linear.now.bodies) }
+    ensures wide { IfErr result
+        (λ stop. IfFault stop (λ fault. HasScaleFault (linear_value linear.now) fault)) }
 {
     let mut rows = Vec::new(alloc);
     for con in 0..linear.bodies().len() as u32 {

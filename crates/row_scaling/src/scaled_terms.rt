@@ -7,6 +7,7 @@ ghost use Rattle.linear_fold.specs.Coefs.{AreAscending};
 ghost use Rattle.linear_fold.specs.Forms.{form_terms, is_open};
 ghost use Rattle.row_scaling.specs.Fitting.{coefficients_in, NumberFits, AreTermsTimes};
 
+use crate::decimals::{decimal_of, is_one};
 use exact_numbers::{Dec, Frac};
 use linear_fold::{Form, Wide};
 use nl_model::Terms;
@@ -14,21 +15,30 @@ use std::alloc::Global;
 use text_base::Stop;
 
 // A number times the factor, as a decimal; none exactly where it does not fit.
+#[inline]
 pub(crate) fn scaled_number(number: Frac, factor: Frac) -> Option<Dec>
-    ensures { MatchOption result (¬ NumberFits (frac_value factor) (frac_value number)) (λ d. NumberFits (frac_value factor) (frac_value number) × (dec_value d ≡ frac_value factor *ℚ frac_value number)) }
+    ensures { MatchOption result (¬ NumberFits (frac_value factor) (frac_value number))
+        (λ d. NumberFits (frac_value factor) (frac_value number)
+        × (dec_value d ≡ frac_value factor *ℚ frac_value number)) }
 {
+    if is_one(factor) {
+        return decimal_of(number);
+    }
     let Some(product) = factor.mul(number) else {
         return None;
     };
-    product.to_dec()
+    decimal_of(product)
 }
 
 // The terms of a form times the factor. Wide exactly where a number does not fit.
 pub(crate) fn scaled_terms(alloc: Global, form: &Form, factor: Frac) -> Result<Terms, Stop<Wide>>
     requires { is_open form.now ≡ false }
-    ensures scaled { IfOk result (λ terms. AreTermsTimes (frac_value factor) (form_terms form.now) terms) }
+    ensures scaled { IfOk result
+        (λ terms. AreTermsTimes (frac_value factor) (form_terms form.now) terms) }
     ensures ascending { AreAscending 0 (form_terms form.now) }
-    ensures wide { IfErr result (λ stop. IfFault stop (λ _. ¬ All (NumberFits (frac_value factor)) (coefficients_in (form_terms form.now)))) }
+    ensures wide { IfErr result
+        (λ stop. IfFault stop
+        (λ _. ¬ All (NumberFits (frac_value factor)) (coefficients_in (form_terms form.now)))) }
 {
     let mut terms = Terms::new(alloc);
     for term in form.terms() {

@@ -18,7 +18,8 @@ use std::alloc::AllocError;
 
 // The lower side, or else the upper one, but none where it is 0.
 fn right_side(row: &ScaledRow) -> Option<Dec>
-    ensures { side_value result ≡ nonzero (rhs_of (side_value row.now.side.lo) (side_value row.now.side.hi)) }
+    ensures { side_value result
+        ≡ nonzero (rhs_of (side_value row.now.side.lo) (side_value row.now.side.hi)) }
 {
     match (row.side.lo, row.side.hi) {
         (Some(side), _) => nonzero(side),
@@ -32,7 +33,8 @@ fn add_right_side(builder: &mut MpsBuilder, place: u32, side: Option<Dec>) -> Re
     requires within { place < length builder.old.rows }
     requires before { All (λ e. e.row < place) builder.old.rhs }
     ensures only { OnOk result (builder.new ≡ record builder.old { rhs = builder.new.rhs }) }
-    ensures added { OnOk result (IsEntryAdded place (side_value side) builder.old.rhs builder.new.rhs) }
+    ensures added { OnOk result
+        (IsEntryAdded place (side_value side) builder.old.rhs builder.new.rhs) }
 {
     let Some(value) = side else {
         return Ok(());
@@ -46,7 +48,8 @@ fn add_range(builder: &mut MpsBuilder, place: u32, range: Option<Dec>) -> Result
     requires bounded { IsBounded builder.old.rows place }
     requires before { All (λ e. e.row < place) builder.old.ranges }
     ensures only { OnOk result (builder.new ≡ record builder.old { ranges = builder.new.ranges }) }
-    ensures added { OnOk result (IsEntryAdded place (side_value range) builder.old.ranges builder.new.ranges) }
+    ensures added { OnOk result
+        (IsEntryAdded place (side_value range) builder.old.ranges builder.new.ranges) }
 {
     let Some(value) = range else {
         return Ok(());
@@ -61,7 +64,9 @@ fn add_row_sides(builder: &mut MpsBuilder, rows: &[Option<FactoredRow>]) -> Resu
     requires before { All (λ e. e.row < 1) builder.old.rhs }
     ensures place { IfOk result (λ p. p ≡ 1 + length (exported_from 0 rows.now)) }
     ensures only { OnOk result (builder.new ≡ record builder.old { rhs = builder.new.rhs }) }
-    ensures added { OnOk result (AreEntriesAdded right_side_of 1 (exported_from 0 rows.now) builder.old.rhs builder.new.rhs) }
+    ensures added { OnOk result
+        (AreEntriesAdded right_side_of 1 (exported_from 0 rows.now) builder.old.rhs
+        builder.new.rhs) }
 {
     let mut place = 1;
     for row in rows {
@@ -78,10 +83,13 @@ fn add_row_sides(builder: &mut MpsBuilder, rows: &[Option<FactoredRow>]) -> Resu
 // Adds the ranges of the exported rows.
 pub(crate) fn add_ranges(builder: &mut MpsBuilder, scaled: &Scaled) -> Result<(), AllocError>
     requires within { length builder.old.rows ≡ 1 + length (program_rows scaled.now) }
-    requires bounded { (i : ℕ) → i < length (program_rows scaled.now) → IsBounded builder.old.rows (1 + i) }
+    requires bounded { (i : ℕ) → i < length (program_rows scaled.now)
+        → IsBounded builder.old.rows (1 + i) }
     requires empty { builder.old.ranges ≡ [] }
     ensures only { OnOk result (builder.new ≡ record builder.old { ranges = builder.new.ranges }) }
-    ensures value { OnOk result (map (entry_with dec_value) builder.new.ranges ≡ entries_of range_in 1 (program_rows scaled.now)) }
+    ensures value { OnOk result
+        (map (entry_with dec_value) builder.new.ranges
+        ≡ entries_of range_in 1 (program_rows scaled.now)) }
 {
     let rows = scaled.rows();
     let mut place = 1;
@@ -102,7 +110,10 @@ fn add_plain_sides(builder: &mut MpsBuilder, scaled: &Scaled) -> Result<(), Allo
     requires within { length builder.old.rows ≡ 1 + length (program_rows scaled.now) }
     requires empty { builder.old.rhs ≡ [] }
     ensures only { OnOk result (builder.new ≡ record builder.old { rhs = builder.new.rhs }) }
-    ensures value { OnOk result (map (entry_with dec_value) builder.new.rhs ≡ with_entry 0 (nonzero (neg_ℚ (program_objective scaled.now).constant)) (entries_of right_side_of 1 (program_rows scaled.now))) }
+    ensures value { OnOk result
+        (map (entry_with dec_value) builder.new.rhs
+        ≡ with_entry 0 (nonzero (neg_ℚ (program_objective scaled.now).constant))
+        (entries_of right_side_of 1 (program_rows scaled.now))) }
 {
     let objective = scaled.objective();
     let side = nonzero(negated(objective.constant));
@@ -117,7 +128,10 @@ fn add_tied_sides(builder: &mut MpsBuilder, scaled: &Scaled) -> Result<(), Alloc
     requires within { length builder.old.rows ≡ 1 + length (program_rows scaled.now) }
     requires empty { builder.old.rhs ≡ [] }
     ensures only { OnOk result (builder.new ≡ record builder.old { rhs = builder.new.rhs }) }
-    ensures value { OnOk result (map (entry_with dec_value) builder.new.rhs ≡ with_entry 0 (nonzero (neg_ℚ (program_objective scaled.now).constant)) (entries_of right_side_of 1 (program_rows scaled.now))) }
+    ensures value { OnOk result
+        (map (entry_with dec_value) builder.new.rhs
+        ≡ with_entry 0 (nonzero (neg_ℚ (program_objective scaled.now).constant))
+        (entries_of right_side_of 1 (program_rows scaled.now))) }
 {
     let place = add_row_sides(builder, scaled.rows())?;
     let objective = scaled.objective();
@@ -131,7 +145,10 @@ pub(crate) fn add_sides(builder: &mut MpsBuilder, scaled: &Scaled) -> Result<(),
     requires within { length builder.old.rows ≡ 1 + length (program_rows scaled.now) }
     requires empty { builder.old.rhs ≡ [] }
     ensures only { OnOk result (builder.new ≡ record builder.old { rhs = builder.new.rhs }) }
-    ensures value { OnOk result (map (entry_with dec_value) builder.new.rhs ≡ with_entry 0 (nonzero (neg_ℚ (program_objective scaled.now).constant)) (entries_of right_side_of 1 (program_rows scaled.now))) }
+    ensures value { OnOk result
+        (map (entry_with dec_value) builder.new.rhs
+        ≡ with_entry 0 (nonzero (neg_ℚ (program_objective scaled.now).constant))
+        (entries_of right_side_of 1 (program_rows scaled.now))) }
 {
     match scaled.tie() {
         None => add_plain_sides(builder, scaled),

@@ -2,8 +2,13 @@ use Rattle.std.proofs.Common.{rules, ◌≡◌, ℕ, ◌<◌, ◌≤◌, ◌^◌
 use Rattle.std.specs.Int.{w128}
 use Rattle.std.proofs.lemmas.Int.{ints}
 use Rattle.exact_numbers.specs.Fraction.{IsLcm}
-use Rattle.row_scaling.proofs.FactorLemmas.{by_lcm, cofactor_is, with_one}
+use Rattle.row_scaling.proofs.FactorLemmas.{by_lcm, cofactor_is, with_none, with_one}
 use Rattle.row_scaling.proofs.factors.with_number.Goals as goal
+
+pub returns-then-has_few_places : goal.returns-then-has_few_places
+returns-then-has_few_places c =
+    let back : to_z w128 (of_z w128 c.args.factor) ≡ c.args.factor = to_z-of_z {w = w128} (record { sfits = c.ranges.factor.sfits }) in
+    back ∙ with_none c.args.factor c.args.number c.requires (c.has_few_places.ensures c.if-has_few_places.true)
 
 pub returns-then-cofactor-eq1 : goal.returns-then-cofactor-eq1
 returns-then-cofactor-eq1 c =

@@ -12,8 +12,8 @@ returns-then-same_fraction c = same_sides _ _ (c.same_fraction.ensures.0 c.if-sa
 pub returns-in_default : goal.returns-in_default
 returns-in_default c = too_wide _ _ (apart c.if-same_fraction.false c.same_fraction.ensures.1) c.in_default.ensures
 
-pub returns-in_default-to_dec : goal.returns-in_default-to_dec
-returns-in_default-to_dec c = no_decimal _ _ (apart c.if-same_fraction.false c.same_fraction.ensures.1) (λ f. c.in_default-to_dec.ensures (subst FitsDec (sym c.in-Some.ensures.1) f))
+pub returns-in_default-decimal_of : goal.returns-in_default-decimal_of
+returns-in_default-decimal_of c = no_decimal _ _ (apart c.if-same_fraction.false c.same_fraction.ensures.1) (λ f. c.in_default-decimal_of.ensures (subst FitsDec (sym c.in-Some.ensures.1) f))
 
 pub returns : goal.returns
-returns c = range_there _ _ c.in-Some-to_dec.dec (apart c.if-same_fraction.false c.same_fraction.ensures.1) c.in-Some.ensures.0 (c.in-Some-to_dec.ensures ∙ c.in-Some.ensures.1)
+returns c = range_there _ _ c.in-Some-decimal_of.dec (apart c.if-same_fraction.false c.same_fraction.ensures.1) c.in-Some.ensures.0 (c.in-Some-decimal_of.ensures ∙ c.in-Some.ensures.1)

@@ -1,12 +1,12 @@
 // The columns of a program.
-ghost use Rattle.std.specs.Prelude.{◌≡◌, ℕ, ◌+◌, ◌<◌, ◌≤◌, ◌^◌, ◌++◌, ◌∷◌, [], length, OnOk, All, map};
+ghost use Rattle.std.specs.Prelude.{◌≡◌, ℕ, ◌+◌, ◌<◌, ◌≤◌, ◌^◌, ◌++◌, ◌∷◌, [], length, OnOk, IfOk, All, map};
 ghost use Rattle.mps_model.specs.Built.{CanAddColumn};
 ghost use Rattle.mps_model.specs.Valid.{entry_count};
 ghost use Rattle.file_meaning.specs.Meaning.{is_whole_kind};
 ghost use Rattle.row_scaling.specs.Columns.{AreColumns, column_count, entries_in_column, total_of};
 ghost use Rattle.row_scaling.specs.Exported.{program_rows};
 ghost use Rattle.row_scaling.specs.Filled.{AreFilled};
-ghost use Rattle.row_scaling.specs.Filling.{AreRising, column_from, with_column};
+ghost use Rattle.row_scaling.specs.Filling.{AreRising, column_from, or_first, with_column};
 ghost use Rattle.row_scaling.specs.Scaled.{term_count};
 
 use crate::names::{name_of, numbered_name};
@@ -28,28 +28,35 @@ fn is_whole(kind: Kind) -> bool
     }
 }
 
+// The entries, with the number zero in row 0 where there are none.
+fn or_zero(entries: Vec<(u32, Dec)>, zero: Dec) -> Result<Vec<(u32, Dec)>, AllocError>
+    ensures { IfOk result (λ v. v.items ≡ or_first (0, zero) entries.items) }
+{
+    if !entries.is_empty() {
+        return Ok(entries);
+    }
+    let mut first = entries;
+    first.push((0, zero))?;
+    Ok(first)
+}
+
 // Adds a column, with the number zero in row 0 where it has no entries.
 fn add_column(
     builder: &mut MpsBuilder,
     name: Name,
     marked: bool,
-    entries: &[(u32, Dec)],
+    entries: Vec<(u32, Dec)>,
     zero: Dec,
 ) -> Result<(), AllocError>
     requires can { CanAddColumn builder.old name }
     requires some { 0 < length builder.old.rows }
-    requires few { entry_count builder.old.columns + length entries.now < 2 ^ 24 }
-    requires rising { AreRising (length builder.old.rows) entries.now }
-    ensures { OnOk result (builder.new ≡ with_column builder.old (column_from name marked entries.now zero)) }
+    requires few { entry_count builder.old.columns + length entries.items < 2 ^ 24 }
+    requires rising { AreRising (length builder.old.rows) entries.items }
+    ensures { OnOk result
+        (builder.new ≡ with_column builder.old (column_from name marked entries.items zero)) }
 {
-    builder.add_col(name, marked)?;
-    if entries.is_empty() {
-        builder.add_entry(0, zero)?;
-        return Ok(());
-    }
-    for entry in entries {
-        builder.add_entry(entry.0, entry.1)?;
-    }
+    let filled = or_zero(entries, zero)?;
+    builder.add_column(name, marked, filled)?;
     Ok(())
 }
 
@@ -58,27 +65,35 @@ pub(crate) fn add_columns(
     builder: &mut MpsBuilder,
     alloc: Global,
     scaled: &Scaled,
-    columns: &[Vec<(u32, Dec)>],
+    columns: Vec<Vec<(u32, Dec)>>,
 ) -> Result<(), AllocError>
     requires rows { length builder.old.rows ≡ 1 + length (program_rows scaled.now) }
     requires empty { builder.old.columns ≡ [] }
-    requires columns { AreColumns (λ c. c.items) (column_count scaled.now) (entries_in_column scaled.now) columns.now }
-    requires total { total_of (λ c. c.items) columns.now ≤ term_count scaled.now + 2 }
-    ensures only { OnOk result (builder.new ≡ record builder.old { columns = builder.new.columns }) }
+    requires columns { AreColumns (λ c. c.items) (column_count scaled.now)
+        (entries_in_column scaled.now) columns.items }
+    requires total { total_of (λ c. c.items) columns.items ≤ term_count scaled.now + 2 }
+    ensures only { OnOk result (builder.new ≡ record builder.old {
+      columns = builder.new.columns;
+    }) }
     ensures whole { OnOk result (AreFilled scaled.now builder.new.columns) }
 {
     let mut text = Vec::new(alloc);
     let kinds = scaled.kinds();
+    let mut rest = columns.into_iter();
     for (j, kind) in kinds.iter().enumerate() {
         let name = numbered_name(alloc, &mut text, b'x', j as u32)?;
-        let entries = &columns[j];
+        let Some(entries) = rest.next() else {
+            unreachable!()
+        };
         add_column(builder, name, is_whole(*kind), entries, zero())?;
     }
     let Some(_tie) = scaled.tie() else {
         return Ok(());
     };
     let name = name_of(alloc, b"z")?;
-    let entries = &columns[kinds.len()];
+    let Some(entries) = rest.next() else {
+        unreachable!()
+    };
     add_column(builder, name, false, entries, zero())?;
     Ok(())
 }
