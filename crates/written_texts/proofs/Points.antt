@@ -6,7 +6,9 @@ use Rattle.std.proofs.lemmas.List.{length-replicate, take_all, drop_all, take-ap
 use Rattle.std.proofs.lemmas.Grind.{replicate_next}
 use Rattle.std.specs.Fmt.{decimal}
 use Rattle.exact_numbers.specs.Written.{zeros, with_point, padded}
-use Rattle.written_texts.proofs.Lengths.{pointed-length}
+use Rattle.exact_numbers.specs.Values.{text_of}
+use Rattle.exact_numbers.specs.declared.dec.Dec.{Dec}
+use Rattle.written_texts.proofs.Lengths.{pointed-length, text-length}
 
 zeros-end : (k : ℕ) → zeros (k + 1) ≡ zeros k ++ 48 ∷ []
 zeros-end k = replicate_next k 48
@@ -54,7 +56,20 @@ no-place ds rest some =
     let whole : length ds - 0 ≡ length ds = omega arith in
     rw (none, whole, take_all (length ds) ds (omega arith), drop_all (length ds) ds (omega arith)) (append_assoc ds (46 ∷ []) rest)
 
-pub pointed-short : (k n : ℕ) → k ≤ 38 → n < 2 ^ 64 → length (with_point k (padded k (decimal n))) ≤ 40
-pointed-short k n few small =
+-- how long such digits are with a text behind them
+pub places-before : (k n : ℕ) (rest total : List ℕ) → k ≤ 38 → n < 2 ^ 64 → total ≡ with_point k (padded k (decimal n)) ++ rest → length total ≤ length rest + 40
+places-before k n rest total few small is =
     let digits = decimal n in
-    omega (arith, pointed-length k (padded k digits), length-append (zeros (k + 1 - length digits)) digits, length-replicate {A = ℕ} (k + 1 - length digits) 48, length-decimal-le 20 n (omega arith) (omega arith) small)
+    omega (
+      arith,
+      ap length is,
+      length-append (with_point k (padded k digits)) rest,
+      pointed-length k (padded k digits),
+      length-append (zeros (k + 1 - length digits)) digits,
+      length-replicate {A = ℕ} (k + 1 - length digits) 48,
+      length-decimal-le 20 n (omega arith) (omega arith) small,
+    )
+
+-- a decimal in front of a text
+pub text-before : (d : Dec) (rest total : List ℕ) → total ≡ text_of d ++ rest → length total ≤ length rest + 60
+text-before d rest total is = omega (arith, ap length is, length-append (text_of d) rest, text-length d)

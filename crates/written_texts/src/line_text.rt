@@ -8,7 +8,8 @@ use exact_numbers::{Dec, NumText};
 use itoa::write_digits;
 use std::marker::Model;
 
-/// Room for a line of at most 128 bytes, which is written from its end to its front and needs no memory beyond its own.
+/// Room for a line of at most 128 bytes, which is written from its end to its front and needs no
+/// memory beyond its own.
 #[derive(Drop)]
 pub struct LineText {
     bytes: [u8; 128],
@@ -93,10 +94,12 @@ impl LineText {
         self.put_word(text.bytes());
     }
 
-    /// Writes the one spelling of a decimal in front; the common form, few digits with a point, goes digit by digit.
+    /// Writes the one spelling of a decimal in front. The common form, few digits with a point, goes
+    /// digit by digit.
     pub fn put_dec(&mut self, value: Dec)
         requires { length self.old ≤ 60 }
-        ensures { self.new ≡ text_of value ++ self.old }
+        ensures spelling { self.new ≡ text_of value ++ self.old }
+        ensures short { length self.new ≤ length self.old + 60 }
     {
         let size = value.m().unsigned_abs();
         let places = value.e().unsigned_abs() as usize;
