@@ -1,64 +1,99 @@
 #!/usr/bin/env bash
-# Times the built program beside a plain converter in C, in one run, and prints the ratio, the growth and the peak.
-# Where `clp` is there (Debian's coinor-clp), it also times `mps`, which reads and writes, beside clp reading alone.
+# Times the built program: `export` beside a plain converter on AMPL's own library (asl2mps.c, which is built here where
+# Debian's libamplsolver-dev is there), and `mps`, which reads and writes, beside clp, which reads alone (coinor-clp).
 #
-#     bench/run.sh PROGRAM [BASELINE]
+#     [TERMS="1000000 2000000 4000000"] [RUNS=5] bench/run.sh PROGRAM [BASELINE]
 #
-# PROGRAM is the built `bridge`. BASELINE is another converter, called as `BASELINE FILE.nl`; without it
-# baseline.c is compiled. Each time is the least of three runs.
+# PROGRAM is the built `bridge`, BASELINE an asl2mps that is built already. Each time is the processor time, user and
+# system, of the best of RUNS runs, each command in turn; a ratio is printed beside asl2mps and clp alone. The first
+# number of TERMS is also that of lists in C and of defined variables, which asl2mps refuses: they stand beside J terms.
 set -eu
 here=$(cd "$(dirname "$0")" && pwd)
 program=$(realpath "$1")
 work=$(mktemp -d)
 trap 'rm -rf "$work"' EXIT
-baseline=${2:-$work/baseline}
-[ -n "${2:-}" ] || cc -O2 -o "$baseline" "$here/baseline.c"
+export RUNS=${RUNS:-5}
+read -ra sizes <<<"${TERMS:-1000000 2000000 4000000}"
 
-# The least time in seconds and the greatest peak in kilobytes of three runs.
+headers=/usr/include/ampl-netlib-solvers
+baseline=
+if [ -n "${2:-}" ]; then
+    baseline=$(realpath "$2")
+elif [ -f "$headers/asl.h" ] && cc -O2 -w -I"$headers" "$here/asl2mps.c" -o "$work/asl2mps" -lamplsolver -lm -ldl; then
+    baseline=$work/asl2mps
+else
+    echo "no baseline: Debian's libamplsolver-dev is not there, or asl2mps.c is not built over it; no ratio of export is printed"
+fi
+command -v clp >/dev/null || echo "no clp (Debian's coinor-clp): no ratio of mps is printed"
+
+# measure STATUS WORDS..: the least processor time in seconds, and the greatest peak in kilobytes.
 measure() {
     python3 - "$@" <<'P'
-import os, subprocess, sys, time
-best, peak = None, 0
-for _ in range(3):
-    begun = time.monotonic()
-    with open(os.devnull, "w") as out:
-        child = subprocess.Popen(sys.argv[1:], stdout=out)
-        _, status, usage = os.wait4(child.pid, 0)
-    if status:
-        sys.exit(f"{sys.argv[1]} ended with {status}")
-    took = time.monotonic() - begun
+import os, subprocess, sys
+wanted, words, best, peak = int(sys.argv[1]), sys.argv[2:], None, 0
+for _ in range(int(os.environ["RUNS"])):
+    child = subprocess.Popen(words, stdin=subprocess.DEVNULL, stdout=subprocess.DEVNULL, stderr=subprocess.DEVNULL)
+    _, status, usage = os.wait4(child.pid, 0)
+    if os.waitstatus_to_exitcode(status) != wanted:
+        sys.exit(f"{' '.join(words)} ended with {os.waitstatus_to_exitcode(status)}, not {wanted}")
+    took = usage.ru_utime + usage.ru_stime
     best = took if best is None else min(best, took)
     peak = max(peak, usage.ru_maxrss)
 print(f"{best:.3f} {peak}")
 P
 }
 
-for size in 100000 200000 400000; do
-    python3 "$here/generate.py" "$work/$size.nl" 100000 "$size" 10
-    read -r seconds peak <<<"$(measure "$program" export "$work/$size.nl")"
-    read -r beside other <<<"$(measure "$baseline" "$work/$size.nl")"
-    python3 - "$size" "$seconds" "$peak" "$beside" "$other" <<'P'
-import sys
-rows, seconds, peak, beside, other = (float(a) for a in sys.argv[1:])
-terms = rows * 10
-print(f"{terms:9.0f} terms: {seconds:.2f} s beside {beside:.2f} s, ratio {seconds / beside:.2f}; peak {peak * 1024 / terms:.0f} bytes a term")
-P
+ratio() { python3 -c "print(f'{$1 / max($2, 0.001):.2f}')"; }
+bytes_each() { echo $(($1 * 1024 / $2)); }
+
+# The .nl text of so many terms, in a form of generate.py.
+nl_text() {
+    local rows=$(($1 / 10))
+    [ -f "$work/$1.$2.nl" ] || python3 "$here/generate.py" "$work/$1.$2.nl" $((rows < 100000 ? rows : 100000)) "$rows" 10 "$2"
+    echo "$work/$1.$2.nl"
+}
+
+echo "export: processor seconds, best of $RUNS runs; reading is export of an objective that the text has not"
+printf '%9s %8s %8s %8s %8s %6s %13s %17s\n' terms form export reading asl2mps ratio "bytes a term" "asl2mps' bytes"
+for size in "${sizes[@]}"; do
+    text=$(nl_text "$size" linear)
+    times=$(measure 0 "$program" export "$text")
+    read -r seconds peak <<<"$times"
+    times=$(measure 2 "$program" export "$text" 1)
+    read -r reading _ <<<"$times"
+    beside=- other=- part=-
+    if [ -n "$baseline" ]; then
+        times=$(measure 0 "$baseline" "$text")
+        read -r beside other <<<"$times"
+        part=$(ratio "$seconds" "$beside") other=$(bytes_each "$other" "$size")
+    fi
+    printf '%9s %8s %8s %8s %8s %6s %13s %17s\n' "$size" linear "$seconds" "$reading" "$beside" "$part" "$(bytes_each "$peak" "$size")" "$other"
+    [ "$size" != "${sizes[0]}" ] || plain=$seconds
 done
 for form in list defined; do
-    python3 "$here/generate.py" "$work/$form.nl" 100000 100000 10 "$form"
-    read -r seconds peak <<<"$(measure "$program" export "$work/$form.nl")"
-    echo "  1000000 terms as $form: $seconds s, $peak kilobytes"
+    text=$(nl_text "${sizes[0]}" "$form")
+    times=$(measure 0 "$program" export "$text")
+    read -r seconds peak <<<"$times"
+    times=$(measure 2 "$program" export "$text" 1)
+    read -r reading _ <<<"$times"
+    printf '%9s %8s %8s %8s %8s %6s %13s   %s times our own J terms\n' "${sizes[0]}" "$form" "$seconds" "$reading" - - "$(bytes_each "$peak" "${sizes[0]}")" "$(ratio "$seconds" "$plain")"
 done
 
-command -v clp >/dev/null || { echo "clp is not there: mps is not timed"; exit 0; }
-for size in 100000 200000 400000; do
-    "$program" export "$work/$size.nl" | sed '1s/$/ FREE/' >"$work/$size.mps"
-    read -r seconds peak <<<"$(measure "$program" mps "$work/$size.mps")"
-    read -r beside other <<<"$(measure clp "$work/$size.mps" -quit)"
-    python3 - "$size" "$seconds" "$peak" "$beside" "$(stat -c %s "$work/$size.mps")" <<'P'
-import sys
-rows, seconds, peak, beside, size = (float(a) for a in sys.argv[1:])
-entries = rows * 10
-print(f"{entries:9.0f} entries ({size / 1e6:.0f} MB): mps {seconds:.2f} s beside {beside:.2f} s, ratio {seconds / beside:.2f}; peak {peak * 1024 / entries:.0f} bytes an entry")
-P
+echo
+echo "mps: read and written; clp reads alone; nl: the .nl text read and written"
+printf '%9s %8s %8s %6s %14s %8s\n' terms mps clp ratio "bytes an entry" nl
+for size in "${sizes[@]}"; do
+    text=$(nl_text "$size" linear)
+    "$program" export "$text" | sed '1s/$/ FREE/' >"$work/$size.mps"
+    times=$(measure 0 "$program" mps "$work/$size.mps")
+    read -r seconds peak <<<"$times"
+    times=$(measure 0 "$program" nl "$text")
+    read -r nl _ <<<"$times"
+    beside=- part=-
+    if command -v clp >/dev/null; then
+        times=$(measure 0 clp "$work/$size.mps" -quit)
+        read -r beside _ <<<"$times"
+        part=$(ratio "$seconds" "$beside")
+    fi
+    printf '%9s %8s %8s %6s %14s %8s\n' "$size" "$seconds" "$beside" "$part" "$(bytes_each "$peak" "$size")" "$nl"
 done

@@ -71,6 +71,15 @@ fn put_rows(out: &mut Vec<u8>, rows: &[MpsRow]) -> Result<(), AllocError>
     put_row_lines(out, rows)
 }
 
+// Room for the text, at 24 bytes a line. It only spares copies: the text grows where it does not suffice.
+fn text_room(mps: &Mps) -> usize {
+    let mut lines = mps.rows().len() + mps.rhs().len() + mps.ranges().len() + mps.bounds().len();
+    for column in mps.columns() {
+        lines = lines.saturating_add(column.entries().len());
+    }
+    lines.saturating_mul(24)
+}
+
 /// The one written text of a program.
 pub fn write_mps(alloc: Global, mps: &Mps) -> Result<Vec<u8>, AllocError>
     ensures spelling { IfOk result (λ v. v.items ≡ mps_text_by text_of mps.now) }
@@ -81,7 +90,7 @@ pub fn write_mps(alloc: Global, mps: &Mps) -> Result<Vec<u8>, AllocError>
     let rhs = mps.rhs();
     let ranges = mps.ranges();
     let bounds = mps.bounds();
-    let mut out = Vec::new(alloc);
+    let mut out = Vec::with_capacity(alloc, text_room(mps))?;
     put_name(&mut out, mps)?;
     put_sense(&mut out, mps.maximise())?;
     put_rows(&mut out, rows)?;

@@ -8,10 +8,10 @@ ghost use Rattle.written_texts.specs.Lines.{indented, line_text, lines_text, unl
 use exact_numbers::Dec;
 use mps_model::MpsRow;
 use std::alloc::AllocError;
-use written_texts::{put_end, put_line, put_next, put_next_dec};
+use written_texts::{LineText, put, put_end, put_line, put_next, put_next_dec};
 
-// A word, the name of a row, and a number.
-fn put_entry(out: &mut Vec<u8>, word: &[u8], row: &[u8], value: Dec) -> Result<(), AllocError>
+// The same word by word, for names of any length.
+fn put_long_entry(out: &mut Vec<u8>, word: &[u8], row: &[u8], value: Dec) -> Result<(), AllocError>
     ensures { OnOk result (out.new.items
         ≡ out.old.items ++ line_text (indented (word.now ∷ row.now ∷ text_of value ∷ []))) }
 {
@@ -19,6 +19,25 @@ fn put_entry(out: &mut Vec<u8>, word: &[u8], row: &[u8], value: Dec) -> Result<(
     put_next(out, row)?;
     put_next_dec(out, value)?;
     put_end(out)
+}
+
+// A word, the name of a row, and a number; with names of at most 32 bytes the line has at most 128 and is appended whole.
+fn put_entry(out: &mut Vec<u8>, word: &[u8], row: &[u8], value: Dec) -> Result<(), AllocError>
+    ensures { OnOk result (out.new.items
+        ≡ out.old.items ++ line_text (indented (word.now ∷ row.now ∷ text_of value ∷ []))) }
+{
+    if word.len() > 32 || row.len() > 32 {
+        return put_long_entry(out, word, row, value);
+    }
+    let mut line = LineText::new();
+    line.put_byte(b'\n');
+    line.put_dec(value);
+    line.put_byte(b' ');
+    line.put_word(row);
+    line.put_byte(b' ');
+    line.put_word(word);
+    line.put_byte(b' ');
+    put(out, line.bytes())
 }
 
 pub(crate) fn put_entries(

@@ -30,7 +30,7 @@ zeros-length : (n : ℕ) → length (zeros n) ≡ n
 zeros-length zero = refl
 zeros-length (suc n) = ap suc (zeros-length n)
 
-pointed-length : (k : ℕ) (ds : List ℕ) → length (with_point k ds) ≤ length ds + 1
+pub pointed-length : (k : ℕ) (ds : List ℕ) → length (with_point k ds) ≤ length ds + 1
 pointed-length k ds =
     let whole = ap (length {A = ℕ}) (take-append-drop (length ds - k) ds) in
     omega (arith, whole, length-append (take (length ds - k) ds) (drop (length ds - k) ds), length-append (take (length ds - k) ds) (46 ∷ drop (length ds - k) ds))

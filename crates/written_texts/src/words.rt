@@ -5,7 +5,8 @@ ghost use Rattle.std.specs.Fmt.{decimal, signed_decimal};
 ghost use Rattle.exact_numbers.specs.Values.{text_of};
 ghost use Rattle.written_texts.specs.Lines.{line_text};
 
-use exact_numbers::{Dec, NumText};
+use crate::line_text::LineText;
+use exact_numbers::Dec;
 use itoa::Buffer;
 use std::alloc::AllocError;
 
@@ -37,8 +38,8 @@ pub fn put_signed(out: &mut Vec<u8>, number: i32) -> Result<(), AllocError>
 pub fn put_dec(out: &mut Vec<u8>, value: Dec) -> Result<(), AllocError>
     ensures { OnOk result (out.new.items ≡ out.old.items ++ text_of value) }
 {
-    let mut text = NumText::new();
-    value.write_to(&mut text);
+    let mut text = LineText::new();
+    text.put_dec(value);
     put(out, text.bytes())
 }
 
@@ -81,8 +82,10 @@ pub fn put_next_signed(out: &mut Vec<u8>, number: i32) -> Result<(), AllocError>
 pub fn put_next_dec(out: &mut Vec<u8>, value: Dec) -> Result<(), AllocError>
     ensures { OnOk result (out.new.items ≡ out.old.items ++ 32 ∷ text_of value) }
 {
-    out.push(b' ')?;
-    put_dec(out, value)
+    let mut text = LineText::new();
+    text.put_dec(value);
+    text.put_byte(b' ');
+    put(out, text.bytes())
 }
 
 /// Ends a line.

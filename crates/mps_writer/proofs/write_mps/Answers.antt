@@ -26,7 +26,7 @@ unfolding mps_lines
 returns-clause-spelling c =
     let m = c.args.mps.now in
     let r : c.rows-rows.result.now ≡ m.rows = c.rows-rows.ensures.value in
-    let name : c.put_name.new.out.items ≡ lines_text (name_lines m.name) = c.in_ok-put_name.ensures ∙ ap (λ x. x ++ lines_text (name_lines m.name)) c.new-out.ensures.items in
+    let name : c.put_name.new.out.items ≡ lines_text (name_lines m.name) = c.in_ok-put_name.ensures ∙ ap (λ x. x ++ lines_text (name_lines m.name)) c.in_ok-out.ensures.items in
     let sense = lines_after [] _ _ _ (sense_lines m.maximise) name (c.in_ok-put_sense.ensures ∙ ap (λ b. c.put_name.new.out.items ++ lines_text (sense_lines b)) c.maximise.ensures) in
     let rows = lines_after [] _ _ _ (section (codes "ROWS") ∷ map row_line m.rows) sense
     (c.in_ok-put_rows.ensures ∙ ap (λ x. c.put_sense.new.out.items ++ lines_text (section (codes "ROWS") ∷ map row_line x)) r) in

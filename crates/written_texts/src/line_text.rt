@@ -1,0 +1,115 @@
+// Room for a line, which is written from its end to its front.
+ghost use Rattle.std.specs.Prelude.{◌≡◌, ℕ, ◌+◌, ◌<◌, ◌≤◌, List, [], ◌∷◌, ◌++◌, length, drop};
+ghost use Rattle.std.specs.Fmt.{decimal};
+ghost use Rattle.exact_numbers.specs.Values.{text_of};
+ghost use Rattle.exact_numbers.specs.Written.{padded, with_point};
+
+use exact_numbers::{Dec, NumText};
+use itoa::write_digits;
+use std::marker::Model;
+
+/// Room for a line of at most 128 bytes, which is written from its end to its front and needs no
+/// memory beyond its own.
+#[derive(Drop)]
+pub struct LineText {
+    bytes: [u8; 128],
+    start: usize,
+}
+
+impl Model for LineText {
+    ghost Value = { List ℕ };
+
+    ghost view = { λ t. drop t.start t.bytes };
+
+    ghost invariant = { λ t. t.start ≤ 128 };
+}
+
+impl LineText {
+    /// The empty line.
+    pub fn new() -> LineText
+        ensures { result ≡ [] }
+    {
+        LineText {
+            bytes: [0; 128],
+            start: 128,
+        }
+    }
+
+    /// The bytes written.
+    pub fn bytes(&self) -> &[u8]
+        ensures { result.now ≡ self.now }
+    {
+        &self.bytes[self.start..]
+    }
+
+    /// Writes a byte in front.
+    pub fn put_byte(&mut self, byte: u8)
+        requires { length self.old < 128 }
+        ensures { self.new ≡ byte ∷ self.old }
+    {
+        self.start -= 1;
+        self.bytes[self.start] = byte;
+    }
+
+    /// Writes a word in front.
+    pub fn put_word(&mut self, word: &[u8])
+        requires { length self.old + length word.now ≤ 128 }
+        ensures { self.new ≡ word.now ++ self.old }
+    {
+        let end = self.start;
+        self.start = end - word.len();
+        self.bytes[self.start..end].copy_from_slice(word);
+    }
+
+    // Writes a number in front.
+    fn put_number(&mut self, number: u64)
+        requires { length self.old + length (decimal number) ≤ 128 }
+        ensures { self.new ≡ decimal number ++ self.old }
+    {
+        self.start = write_digits(number, &mut self.bytes, self.start);
+    }
+
+    // Writes a number in front, with a point before the last `places` of its digits.
+    fn put_places(&mut self, number: u64, places: usize)
+        requires places { places ≤ 38 }
+        requires room { length self.old ≤ 60 }
+        ensures { self.new ≡ with_point places (padded places (decimal number)) ++ self.old }
+    {
+        let mut left = number;
+        for _ in 0..places {
+            self.put_byte(b'0' + (left % 10) as u8);
+            left /= 10;
+        }
+        self.put_byte(b'.');
+        self.put_number(left);
+    }
+
+    // Writes any decimal in front, by way of its text.
+    fn put_any(&mut self, value: Dec)
+        requires { length self.old ≤ 60 }
+        ensures { self.new ≡ text_of value ++ self.old }
+    {
+        let mut text = NumText::new();
+        value.write_to(&mut text);
+        self.put_word(text.bytes());
+    }
+
+    /// Writes the one spelling of a decimal in front. The common form, few digits with a point, goes
+    /// digit by digit.
+    pub fn put_dec(&mut self, value: Dec)
+        requires { length self.old ≤ 60 }
+        ensures spelling { self.new ≡ text_of value ++ self.old }
+        ensures short { length self.new ≤ length self.old + 60 }
+    {
+        let size = value.m().unsigned_abs();
+        let places = value.e().unsigned_abs() as usize;
+        if size > u64::MAX as u128 || value.e() >= 0 || places > 38 {
+            self.put_any(value);
+            return;
+        }
+        self.put_places(size as u64, places);
+        if value.m() < 0 {
+            self.put_byte(b'-');
+        }
+    }
+}
