@@ -1,7 +1,8 @@
 // Numbers as texts, and worked sums and products.
 
 use exact_numbers::{
-    Dec, Frac, NumFault, NumText, are_digits, dec_of, read_dec, read_whole, signed_of, whole_of,
+    Dec, Frac, NumFault, NumText, are_digits, dec_of, plain_dec, plain_index, read_dec, read_whole,
+    signed_of, whole_of,
 };
 use std::test::Fail;
 
@@ -124,4 +125,17 @@ fn words_that_are_numbers(rt: HostRuntime) {
     assert_eq!(rt; dec_of(b"-1.5e1"), Dec::new(-15, 0));
     assert_eq!(rt; dec_of(b"1e401"), None);
     assert_eq!(rt; dec_of(b"."), None);
+}
+
+// Fast ways, whose clauses let them give up.
+#[test]
+fn plain_words_are_taken(rt: HostRuntime) -> Result<(), Fail> {
+    assert_eq!(rt; plain_dec(b"-12.50"), Dec::new(-125, -1));
+    assert_eq!(rt; plain_dec(b"7"), Dec::new(7, 0));
+    assert_eq!(rt; plain_dec(b"1e5"), None);
+    let index = plain_index(b"120 3.5").ok_or("no index")?;
+    assert_eq!(rt; index.number, 120);
+    assert_eq!(rt; index.len, 3);
+    assert!(rt; plain_index(b" 1").is_none());
+    Ok(())
 }
