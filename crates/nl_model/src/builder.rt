@@ -215,6 +215,15 @@ impl NlBuilder {
         Ok(())
     }
 
+    /// Makes room for so many terms more of a constraint.
+    pub fn make_room(&mut self, con: u32, count: usize) -> Result<(), AllocError>
+        requires { con < self.old.counts.n_con }
+        ensures { self.new ≡ self.old }
+    {
+        let row = &mut self.terms[con as usize];
+        row.make_room(count)
+    }
+
     /// The header, and what holds of each draft.
     pub fn header(&self) -> &Header
         ensures options { header_options result.now ≡ self.now.options }

@@ -17,8 +17,8 @@ fn is_whole(value: Dec) -> bool
     value.is_whole()
 }
 
-// Whether a value is not whole where it must be.
-fn is_refused(value: Dec, whole_only: bool) -> bool
+/// Whether a value is not whole where it must be.
+pub(crate) fn is_refused(value: Dec, whole_only: bool) -> bool
     ensures { result ≡ (whole_only && not (is_whole value)) }
 {
     whole_only && !is_whole(value)
