@@ -15,4 +15,4 @@ pub mod Reading
 pub mod Wholes
 pub mod NumberLemmas
 pub mod WholeLemmas
-mod Plain
+pub mod Plain

@@ -1,6 +1,6 @@
 -- Words that are numbers, and the values that they are.
-use Rattle.std.specs.Prelude.{◌≡◌, refl, ℕ, ◌+◌, ◌^◌, ℤ, pos, negsuc, Bool, true, false, ◌&&◌, ◌==◌, nat_lt, List, [], ◌∷◌, length, Option, Some, None, if◌then◌else◌}
-use Rattle.std.specs.List.{list_all}
+use Rattle.std.specs.Prelude.{◌≡◌, refl, ℕ, ◌+◌, ◌<◌, ◌^◌, ℤ, pos, negsuc, Bool, true, false, ◌&&◌, ◌==◌, nat_lt, List, [], ◌∷◌, length, Option, Some, None, if◌then◌else◌}
+use Rattle.std.specs.List.{list_all, AllByRecursion}
 use Rattle.std.specs.Char.{digit_value}
 use Rattle.std.specs.Str.Parse.{digits_value, signed_digits_value, without_leading_sign}
 use Rattle.fractions.specs.Rational.{ℚ}
@@ -8,6 +8,10 @@ use Rattle.exact_numbers.specs.Text.{after_sign, whole_digits, fraction_digits, 
 use Rattle.exact_numbers.specs.Values.{dec_value, decimal_of, fits_dec}
 use Rattle.exact_numbers.specs.declared.dec.Dec.{Dec}
 pub use Rattle.exact_numbers.specs.Spelled.{spelled_of}
+
+-- each byte stands above `#`, and so is neither that nor a blank
+abbrev pub IsUnmarked : List ℕ → Type 0
+IsUnmarked word = AllByRecursion (λ b. 35 < b) word
 
 -- ---- whole numbers
 

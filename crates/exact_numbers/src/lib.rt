@@ -18,5 +18,5 @@ pub use arithmetic::lcm;
 pub use dec::Dec;
 pub use frac::Frac;
 pub use num_text::NumText;
-pub use numbers::{are_digits, dec_of, signed_of, whole_of};
+pub use numbers::{PlainIndex, are_digits, dec_of, plain_dec, plain_index, signed_of, whole_of};
 pub use read::{NumFault, read_dec, read_whole};

@@ -1,9 +1,9 @@
 // Words that are numbers.
-ghost use Rattle.std.specs.Prelude.{◌≡◌};
-ghost use Rattle.exact_numbers.specs.Numbers.{are_digits, dec_of, signed_of, whole_of};
+ghost use Rattle.std.specs.Prelude.{◌≡◌, ◌<◌, ◌≤◌, IfSome, Some, length, take};
+ghost use Rattle.exact_numbers.specs.Numbers.{are_digits, dec_of, signed_of, whole_of, IsUnmarked};
 
 use crate::dec::Dec;
-use crate::read::{NumFault, read_dec, read_whole};
+use crate::read::{NumFault, dec_of_plain, read_dec, read_plain, read_whole, sum_front};
 use std::str;
 
 /// The number that digits write, up to 2^31 - 1; none of any other word.
@@ -49,4 +49,39 @@ pub fn dec_of(word: &[u8]) -> Option<Dec>
         Ok(number) => Some(number),
         Err(_) => None,
     }
+}
+
+/// The number of a decimal word of the common form, digits with a sign, a point or neither; none of
+/// some other words.
+pub fn plain_dec(word: &[u8]) -> Option<Dec>
+    ensures { IfSome result (λ d. (dec_of word.now ≡ Some d) × (0 < length word.now)
+        × IsUnmarked word.now) }
+{
+    let Some(plain) = read_plain(word) else {
+        return None;
+    };
+    dec_of_plain(word, plain)
+}
+
+/// The whole number of the digits that a text begins with, and how many they are.
+#[derive(Clone, Copy)]
+pub struct PlainIndex {
+    pub number: u32,
+    pub len: usize,
+}
+
+/// The digits that a text begins with, where they are a whole number of the common form; none of some
+/// other texts.
+pub fn plain_index(text: &[u8]) -> Option<PlainIndex>
+    ensures { IfSome result (λ i. (i.len ≤ length text.now) × (0 < i.len)
+        × (whole_of (take i.len text.now) ≡ Some i.number) × IsUnmarked (take i.len text.now)) }
+{
+    let front = sum_front(text, 0);
+    if front.len == 0 || front.number > 0x7fff_ffff {
+        return None;
+    }
+    Some(PlainIndex {
+        number: front.number as u32,
+        len: front.len,
+    })
 }

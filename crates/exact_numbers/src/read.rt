@@ -5,6 +5,7 @@ ghost use Rattle.fractions.specs.Rational.{decimal_value};
 ghost use Rattle.exact_numbers.specs.Decimal.{signed};
 ghost use Rattle.exact_numbers.specs.Values.{dec_value, IsDecOf};
 ghost use Rattle.exact_numbers.specs.Text.{begins_minus, after_sign, is_mark, is_point, IsExponent, exponent_value, IsDecText, text_value, DecFault, IsCapped, cap, IsWholeText, WholeFault};
+ghost use Rattle.exact_numbers.specs.Numbers.{IsUnmarked};
 
 use crate::dec::Dec;
 use crate::mantissa::{MAX_SIZE, with_sign};
@@ -207,13 +208,13 @@ const COMMON: usize = 40;
 
 // The digits that a text begins with, as many as there is room for.
 #[derive(Clone, Copy)]
-struct Front {
-    number: u64,
-    len: usize,
+pub(crate) struct Front {
+    pub(crate) number: u64,
+    pub(crate) len: usize,
 }
 
 // Sums the digits that a text begins with onto a number.
-fn sum_front(text: &[u8], start: u64) -> Front
+pub(crate) fn sum_front(text: &[u8], start: u64) -> Front
     requires { start < 10 ^ 18 }
     ensures within { result.len ≤ length text.now }
     ensures small { result.number < 10 ^ 18 }
@@ -235,15 +236,16 @@ fn sum_front(text: &[u8], start: u64) -> Front
 
 // A size with this many places after the point.
 #[derive(Clone, Copy)]
-struct Plain {
+pub(crate) struct Plain {
     size: u64,
     places: u32,
 }
 
 // A number of the common form: digits with one point among them or none. Each byte is read once.
-fn read_plain(text: &[u8]) -> Option<Plain>
+pub(crate) fn read_plain(text: &[u8]) -> Option<Plain>
     ensures { IfSome result (λ p. IsDecText text.now × (p.places ≤ 40) × (text_value text.now
-        ≡ decimal_value (signed (begins_minus text.now) p.size) (neg_ℤ (pos p.places)))) }
+        ≡ decimal_value (signed (begins_minus text.now) p.size) (neg_ℤ (pos p.places)))
+        × (0 < length text.now) × IsUnmarked text.now) }
 {
     let body = without_sign(text);
     let whole = sum_front(body, 0);
@@ -278,11 +280,22 @@ pub fn read_dec(text: &[u8]) -> Result<Dec, NumFault>
     let Some(plain) = read_plain(text) else {
         return read_any(text);
     };
-    let size = with_sign(has_minus(text), plain.size as u128);
-    let Some(number) = Dec::new(size, -(plain.places as i32)) else {
+    let Some(number) = dec_of_plain(text, plain) else {
         return Err(NumFault::TooWide);
     };
     Ok(number)
+}
+
+// The Dec of a size with places after the point and the sign of its text.
+pub(crate) fn dec_of_plain(text: &[u8], plain: Plain) -> Option<Dec>
+    requires { plain.places ≤ 40 }
+    ensures { IsDecOf result (decimal_value (signed (begins_minus text.now) plain.size)
+        (neg_ℤ (pos plain.places))) }
+{
+    Dec::new(
+        with_sign(has_minus(text), plain.size as u128),
+        -(plain.places as i32),
+    )
 }
 
 // A number of any form.

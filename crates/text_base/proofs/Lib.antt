@@ -9,3 +9,4 @@ pub mod LineLemmas
 pub mod CutLines
 pub mod MarkLemmas
 pub mod CommentLemmas
+pub mod PairLemmas

@@ -1,6 +1,7 @@
 -- The words of a line, and its comment.
-use Rattle.std.specs.Prelude.{take, ◌==◌, ℕ, Bool, true, ◌&&◌, ◌||◌, List, [], ◌∷◌, if◌then◌else◌, map, slice_index_or}
+use Rattle.std.specs.Prelude.{take, ◌==◌, ◌<◌, ℕ, Bool, true, ◌&&◌, ◌||◌, List, [], ◌∷◌, if◌then◌else◌, map, slice_index_or}
 use Rattle.std.specs.Borrow.{Bor}
+use Rattle.std.specs.List.{AllByRecursion}
 use Rattle.std.specs.Str.{bytes_eq}
 use Rattle.text_base.specs.declared.blanks.TheConstants.{LONGEST_ROW}
 use Rattle.text_base.specs.declared.runs.Words.{Words}
@@ -8,6 +9,10 @@ use Rattle.text_base.specs.declared.runs.Words.{Words}
 -- a space or a tab
 abbrev pub is_blank : ℕ → Bool
 is_blank b = (b == 32) || (b == 9)
+
+-- each byte stands above `#`, and so is neither that nor a blank
+abbrev pub IsUnmarked : List ℕ → Type 0
+IsUnmarked word = AllByRecursion (λ b. 35 < b) word
 
 -- the byte goes onto the first word, or begins one
 abbrev pub onto_word : ℕ → Bool → List (List ℕ) → List (List ℕ)
