@@ -1,5 +1,5 @@
 -- A row that is an index and a value alone is judged by its pair, and its pair is kept as that of any row.
-use Rattle.std.proofs.Common.{◌≡◌, ◌∙◌, ℕ, ◌^◌, ◌≤◌, Bool, true, false, not, ◌&&◌, List, [], ◌∷◌, length, refl, sym, ap, ap₂, subst, arith, Option, Some, None, get_or, nat_lt}
+use Rattle.std.proofs.Common.{◌≡◌, ◌∙◌, ℕ, ◌+◌, ◌-◌, ◌^◌, ◌<◌, ◌≤◌, take, drop, Bool, true, false, not, ◌&&◌, List, [], ◌∷◌, length, refl, sym, ap, ap₂, subst, arith, Option, Some, None, get_or, nat_lt}
 use Rattle.std.specs.Prelude.{IsSomeAnd, unwrap_or, slice_index, Result, Ok, Err}
 use Rattle.std.specs.List.{list_all}
 use Rattle.std.specs.Char.{digit_value}
@@ -7,7 +7,8 @@ use Rattle.std.specs.Str.Parse.{digits_value}
 use Rattle.std.proofs.lemmas.Bool.{ltb-true}
 use Rattle.std.proofs.lemmas.Bool.Decides.{nat_tests}
 use Rattle.text_base.specs.Judged.{first_reason}
-use Rattle.text_base.specs.Words.{word_at}
+use Rattle.text_base.specs.Words.{IsUnmarked, row_of, without_comment, word_at}
+use Rattle.text_base.proofs.PairLemmas.{pair_line}
 use Rattle.text_base.proofs.FirstReasons.{none_each}
 use Rattle.exact_numbers.specs.declared.dec.Dec.{Dec}
 use Rattle.exact_numbers.specs.Numbers.{are_any_digits, are_digits, dec_of, whole_of}
@@ -172,3 +173,16 @@ pub known_refused : (value fields : Body) (cur : Current) (counts : Counts) (hea
     → (words : List (List ℕ)) → IsPairRow words t → (s : Standing) → IsHeld s value → words_refusal s words ≡ Some r
 known_refused value fields cur counts head full t r same e a counts_is is full_is fault words p =
     refused_by value fields cur words counts head full r same e a (pair_plain words t p) counts_is is full_is (same_known counts head fields.marks full words t p ∙ fault)
+
+-- ---- a line of the common form
+
+two_words : (index word : List ℕ) (i : ℕ) (d : Dec) → whole_of index ≡ Some i → dec_of word ≡ Some d → IsPairRow (index ∷ word ∷ []) (i, d)
+unfolding pair_in
+two_words index word i d whole dec = record { two = refl; says = rw (whole, dec) refl }
+
+pub pair_row : (line word : List ℕ) (n i : ℕ) (d : Dec) → n < length line → get_or line n 0 ≡ 32 → word ≡ take (length line - (n + 1)) (drop (n + 1) line)
+    → 0 < n → whole_of (take n line) ≡ Some i → IsUnmarked (take n line) → dec_of word ≡ Some d → 0 < length word → IsUnmarked word
+    → IsPairRow (row_of (without_comment line)) (i, d)
+pair_row line word n i d within space cut some whole index dec word_some word_unmarked =
+    let words = pair_line line word n within space cut some index word_some word_unmarked in
+    subst (λ ws. IsPairRow ws (i, d)) (sym (ap (take 12) words)) (two_words (take n line) word i d whole dec)

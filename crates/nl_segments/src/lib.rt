@@ -25,6 +25,7 @@ mod nl_reader;
 mod node_row;
 mod nodes;
 mod owner_lines;
+mod pair_line;
 mod pairs;
 mod pending;
 mod places;
