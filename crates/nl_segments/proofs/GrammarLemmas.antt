@@ -13,6 +13,8 @@ use Rattle.nl_segments.specs.declared.nl_read.NlRead.{NlRead}
 use Rattle.nl_segments.specs.Rows.{Row, holds_words}
 use Rattle.nl_segments.specs.Grammar.{Standing, standing, is_in_header, line_refusal, header_refusal, end_refusal}
 use Rattle.nl_segments.specs.declared.fault.NlReason.TheVariants.{EndInHeader}
+use Rattle.nl_model.specs.File.{Term}
+use Rattle.nl_segments.specs.KnownPairs.{IsPairRow}
 use Rattle.nl_segments.specs.Held.{Body, Progress, IsHeld, IsHeaderOf, only_header, HoldsBy, HoldsStanding, TakesRow, Finishes}
 use Rattle.nl_segments.specs.Steps.{after, after_header_row}
 use Rattle.nl_segments.specs.Taking.{TakesAnyRow, TakesHeaderRow}
@@ -67,6 +69,9 @@ pub row_holds_words : (line text : List ℕ) (words : List (Bor (List ℕ))) →
 row_holds_words line text words e w =
     sym (ap (λ n. not (n == 0)) (sym (length-map words (λ x. x.now)) ∙ ap (length {A = List ℕ}) w)
     ∙ row_begins (words_of text) ∙ ap (λ t. not (length (words_of t) == 0)) e)
+
+pub pair_holds_words : (line : List ℕ) (t : Term) → IsPairRow (row_of (without_comment line)) t → holds_words line ≡ true
+pair_holds_words line t p = sym (row_begins (words_of (without_comment line))) ∙ ap (λ n. not (n == 0)) p.two
 
 pub no_row : (g : Progress) (lines : List (List ℕ)) (line : List ℕ) → holds_words line ≡ false → HoldsStanding (standing lines) g → HoldsStanding (standing (lines ++ line ∷ [])) g
 no_row g lines line none h = subst (λ s. HoldsStanding s g) (sym (standing-more lines line ∙ rw none refl)) h

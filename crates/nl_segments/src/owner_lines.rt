@@ -59,6 +59,13 @@ impl OwnerLines {
         self.terms.clear();
     }
 
+    /// Makes room for the lines of so many terms.
+    pub(crate) fn make_room(&mut self, count: usize) -> Result<(), AllocError>
+        ensures { self.new ≡ self.old }
+    {
+        self.terms.reserve_exact(count)
+    }
+
     /// Adds the line of a node.
     pub(crate) fn add_node(&mut self, line: u32) -> Result<(), AllocError>
         ensures { OnOk result (self.new ≡ record self.old { nodes = self.old.nodes ++ line ∷ [] }) }
