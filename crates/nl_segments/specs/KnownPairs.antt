@@ -43,8 +43,9 @@ pub record IsGoodPair (b : Body) (head : Head) (t : Term) (words : List (List �
   pub plain : is_head words ≡ false
   pub says : SaysFreshPair b.draft.counts head b.marks (is_full_at head b.linear b.values) words t
   pub fine :
-    first_reason (next_pair_tests b.draft.counts head b.marks (is_full_at head b.linear b.values) words)
-    ≡ None
+      first_reason (next_pair_tests b.draft.counts head b.marks
+      (is_full_at head b.linear b.values) words)
+      ≡ None
 
 -- there is such a row in this line
 pub record HasGoodPair (b : Body) (head : Head) (t : Term) (line : ℕ) : Type 0 where

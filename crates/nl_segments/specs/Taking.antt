@@ -14,13 +14,17 @@ use Rattle.nl_segments.specs.Steps.{after_header_row, after_row}
 
 -- before the body the header's reader took some rows without a fault, fewer than ten
 abbrev pub AwaitsHeader : Taken → Option Body → Type 0
-AwaitsHeader header None = (rows : List (List (List ℕ))) × (length rows < 10) × IsReading header rows
+AwaitsHeader header None =
+    (rows : List (List (List ℕ))) × (length rows < 10) × IsReading header rows
 AwaitsHeader header (Some b) = Unit {0}
 
 -- a row is taken where nothing is wrong with it; of want of memory nothing is said
-abbrev pub TakesBy : (Standing → List ℕ → Option NlReason) → (Standing → Row → Standing) → Progress → Row → Result (Unit {0}) (Stop NlReason) → Progress → Type 0
-TakesBy refusal after old row (Ok u) new = (s : Standing) → HoldsStanding s old → (refusal s row.text ≡ None) × HoldsStanding (after s row) new
-TakesBy refusal after old row (Err (Fault r)) new = (s : Standing) → HoldsStanding s old → refusal s row.text ≡ Some r
+abbrev pub TakesBy : (Standing → List ℕ → Option NlReason) → (Standing → Row → Standing) → Progress
+    → Row → Result (Unit {0}) (Stop NlReason) → Progress → Type 0
+TakesBy refusal after old row (Ok u) new = (s : Standing) → HoldsStanding s old
+    → (refusal s row.text ≡ None) × HoldsStanding (after s row) new
+TakesBy refusal after old row (Err (Fault r)) new =
+    (s : Standing) → HoldsStanding s old → refusal s row.text ≡ Some r
 TakesBy refusal after old row (Err Memory) new = Unit {0}
 
 -- a row of the header

@@ -54,8 +54,11 @@ fn judge(
     head: Head,
     name: &[u8],
 ) -> Result<(), NlReason>
-    requires { is_in_range builder.now.counts head ≡ true → is_suffix head ≡ false → IsSeenIn seen.now head }
-    ensures { Decides (held_head_tests builder.now.counts seen.now builder.now.suffixes suffixes name.now head) (λ _. Unit {0}) result }
+    requires { is_in_range builder.now.counts head ≡ true → is_suffix head ≡ false
+        → IsSeenIn seen.now head }
+    ensures { Decides
+        (held_head_tests builder.now.counts seen.now builder.now.suffixes suffixes name.now head)
+        (λ _. Unit {0}) result }
 {
     if !is_in_range(builder.header().counts(), head) {
         return Err(NlReason::IndexOut);
@@ -80,8 +83,12 @@ fn new_head(
     suffixes: u32,
     words: &[&[u8]],
 ) -> Result<Head, NlReason>
-    requires { (head : Head) → is_in_range builder.now.counts head ≡ true → is_suffix head ≡ false → IsSeenIn seen.now head }
-    ensures { Decides (new_head_tests builder.now.counts is_open seen.now builder.now.suffixes suffixes (texts words.now)) (λ head. head_of builder.now.counts (texts words.now) ≡ Some head) result }
+    requires { (head : Head) → is_in_range builder.now.counts head ≡ true → is_suffix head ≡ false
+        → IsSeenIn seen.now head }
+    ensures { Decides
+        (new_head_tests builder.now.counts is_open seen.now builder.now.suffixes suffixes
+        (texts words.now))
+        (λ head. head_of builder.now.counts (texts words.now) ≡ Some head) result }
 {
     if is_open {
         return Err(NlReason::ShortSegment);

@@ -47,7 +47,8 @@ fn read_next(
     words: &[&[u8]],
 ) -> Result<(u32, Dec), NlReason>
     requires { index_limit counts.now head ≤ length marks.now }
-    ensures { Decides (next_pair_tests counts.now head marks.now full (texts words.now)) (SaysFreshPair counts.now head marks.now full (texts words.now)) result }
+    ensures { Decides (next_pair_tests counts.now head marks.now full (texts words.now))
+        (SaysFreshPair counts.now head marks.now full (texts words.now)) result }
 {
     let pair = match read_pair(words, index_limit(counts, head), wants_whole(head)) {
         Ok(pair) => pair,
@@ -113,14 +114,19 @@ fn close_line(
     pair: (u32, Dec),
 ) -> Result<(), AllocError>
     requires left { IsSomeAnd current.old (λ c. 0 < c.left) }
-    requires can { IfSome current.old (λ c. CanClose builder.old name.old (with_kept c pair) c.head) }
-    ensures current { OnOk result (IfSome current.old (λ c. current.new ≡ unless_complete (with_kept c pair))) }
-    ensures builder { OnOk result (IfSome current.old (λ c. builder.new ≡ with_closed builder.old name.old (with_kept c pair))) }
-    ensures name { OnOk result (IfSome current.old (λ c. name.new ≡ (if is_nothing (current_awaits (with_kept c pair)) then None else name.old))) }
+    requires can { IfSome current.old
+        (λ c. CanClose builder.old name.old (with_kept c pair) c.head) }
+    ensures current { OnOk result
+        (IfSome current.old (λ c. current.new ≡ unless_complete (with_kept c pair))) }
+    ensures builder { OnOk result
+        (IfSome current.old
+        (λ c. builder.new ≡ with_closed builder.old name.old (with_kept c pair))) }
+    ensures name { OnOk result
+        (IfSome current.old
+        (λ c. name.new
+        ≡ (if is_nothing (current_awaits (with_kept c pair)) then None else name.old))) }
 {
-    let Some(held) = current else {
-        unreachable!()
-    };
+    let Some(held) = current else { unreachable!() };
     keep_pair(held, pair)?;
     if !is_nothing(held.awaited()) {
         return Ok(());
@@ -171,7 +177,8 @@ fn judge_pair(
     pair: (u32, Dec),
 ) -> Result<(), NlReason>
     requires { index_limit counts.now head ≤ length marks.now }
-    ensures { Decides (known_pair_tests counts.now head marks.now full pair) (λ _. Unit {0}) result }
+    ensures { Decides (known_pair_tests counts.now head marks.now full pair)
+        (λ _. Unit {0}) result }
 {
     if pair.0 >= index_limit(counts, head) {
         return Err(NlReason::IndexOut);
@@ -216,7 +223,8 @@ impl BodyReader {
     pub(crate) fn take_known(&mut self, pair: (u32, Dec), line: u32) -> Result<(), Stop<NlReason>>
         requires awaited { IsAwaiting Pair self.old }
         requires exists { HasPairRow pair line }
-        ensures { (words : List (List ℕ)) → IsPairRow words pair → TakesRow self.old words line result self.new }
+        ensures { (words : List (List ℕ)) → IsPairRow words pair
+            → TakesRow self.old words line result self.new }
     {
         if self.is_broken {
             return Err(Stop::Memory);

@@ -22,9 +22,7 @@ pub(crate) fn count_line(current: &mut Option<Current>)
     requires { IsSomeAnd current.old (λ c. 0 < c.left) }
     ensures { IfSome current.old (λ c. current.new ≡ unless_complete (less_line c)) }
 {
-    let Some(held) = current else {
-        unreachable!()
-    };
+    let Some(held) = current else { unreachable!() };
     held.take_line();
     if is_nothing(held.awaited()) {
         *current = None;

@@ -143,7 +143,8 @@ impl NlGrammar {
     fn take_header(&mut self, text: &[u8], number: u32) -> Result<(), Stop<NlReason>>
         requires none { self.old.body ≡ None }
         requires words { 0 < length (words_of text.now) }
-        ensures { TakesHeaderRow self.old (record { line = number; text = text.now }) result self.new }
+        ensures { TakesHeaderRow self.old (record { line = number; text = text.now })
+            result self.new }
     {
         let _ = number;
         let mut header = mem::replace(&mut self.header, HeaderReader::new());

@@ -31,7 +31,8 @@ pub(crate) fn read_pair(
     limit: u32,
     whole_only: bool,
 ) -> Result<(u32, Dec), NlReason>
-    ensures { Decides (pair_form_tests limit whole_only (texts words.now)) (λ t. (pair_in (texts words.now) ≡ Some t) × (t.0 < limit)) result }
+    ensures { Decides (pair_form_tests limit whole_only (texts words.now))
+        (λ t. (pair_in (texts words.now) ≡ Some t) × (t.0 < limit)) result }
 {
     if words.len() != 2 || !are_digits(word_at(words, 0)) {
         return Err(NlReason::BadLine);
