@@ -65,7 +65,8 @@ with_sense k sense = if nat_le sense 1 then Some (Objective k (sense == 1)) else
 abbrev pub objective_head : List (List ℕ) → Option Head
 objective_head words =
     if length words == 2
-    then option_and_then (λ k. option_and_then (with_sense k) (number_at words 1)) (own_number words)
+    then option_and_then (λ k. option_and_then (with_sense k) (number_at words 1))
+    (own_number words)
     else None
 
 -- `V4 1 0`
