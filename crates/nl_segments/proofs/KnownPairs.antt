@@ -1,9 +1,7 @@
 -- A row that is an index and a value alone is judged by its pair, and its pair is kept as that of any row.
-use Rattle.std.proofs.Common.{◌≡◌, ◌∙◌, ℕ, ◌+◌, ◌-◌, ◌^◌, ◌<◌, ◌≤◌, take, drop, Bool, true, false, not, ◌&&◌, List, [], ◌∷◌, length, refl, sym, ap, ap₂, subst, arith, Option, Some, None, get_or, nat_lt}
-use Rattle.std.specs.Prelude.{IsSomeAnd, unwrap_or, slice_index, Result, Ok, Err}
-use Rattle.std.specs.List.{list_all}
+use Rattle.std.proofs.Common.{◌≡◌, ◌∙◌, ℕ, ◌+◌, ◌-◌, ◌<◌, ◌≤◌, take, drop, Bool, true, false, not, List, [], ◌∷◌, length, refl, sym, ap, ap₂, subst, arith, Option, Some, None, get_or}
+use Rattle.std.specs.Prelude.{IsSomeAnd, unwrap_or, slice_index}
 use Rattle.std.specs.Char.{digit_value}
-use Rattle.std.specs.Str.Parse.{digits_value}
 use Rattle.std.proofs.lemmas.Bool.{ltb-true}
 use Rattle.std.proofs.lemmas.Bool.Decides.{nat_tests}
 use Rattle.text_base.specs.Judged.{first_reason}
@@ -15,7 +13,6 @@ use Rattle.exact_numbers.specs.Numbers.{are_any_digits, are_digits, dec_of, whol
 use Rattle.exact_numbers.specs.Spelled.{first_of_both, second_of_both}
 use Rattle.exact_numbers.proofs.Texts.{digit_byte}
 use Rattle.nl_model.specs.declared.counts.Counts.{Counts}
-use Rattle.nl_model.specs.Draft.{Draft}
 use Rattle.nl_model.specs.File.{Term}
 use Rattle.nl_segments.specs.declared.awaited.Awaited.TheVariants.{Pair}
 use Rattle.nl_segments.specs.declared.fault.NlReason.{NlReason}
@@ -23,13 +20,13 @@ use Rattle.nl_segments.specs.declared.head.Head.{Head}
 use Rattle.nl_segments.specs.Rows.{Row}
 use Rattle.nl_segments.specs.Heads.{is_ascii_letter, is_head}
 use Rattle.nl_segments.specs.Pieces.{pair_in}
-use Rattle.nl_segments.specs.Tests.{holds_once, index_limit, pair_form_tests}
+use Rattle.nl_segments.specs.Tests.{index_limit, pair_form_tests}
 use Rattle.nl_segments.specs.Grammar.{Standing}
 use Rattle.nl_segments.specs.Steps.{after_body_row}
 use Rattle.nl_segments.specs.Current.{Current}
 use Rattle.nl_segments.specs.PairSteps.{SaysFreshPair, is_full_at, next_pair_tests}
-use Rattle.nl_segments.specs.Held.{Body, HasRow, HoldsSome, IsAwaiting, IsHeld, IsRowOf, words_refusal}
-use Rattle.nl_segments.specs.KnownPairs.{HasGoodPair, HasPairRow, IsGoodPair, IsPairRow, known_pair_tests}
+use Rattle.nl_segments.specs.Held.{Body, HoldsSome, IsAwaiting, IsHeld, IsRowOf, words_refusal}
+use Rattle.nl_segments.specs.KnownPairs.{HasGoodPair, IsGoodPair, IsPairRow, known_pair_tests}
 use Rattle.nl_segments.proofs.PairCan.{CanTake, IsRead, can_take, pair_room, read_by}
 use Rattle.nl_segments.proofs.PairJudging.{index_of}
 use Rattle.nl_segments.proofs.PairLines.{awaiting, holds_again}

@@ -1,5 +1,4 @@
 use Rattle.std.proofs.Common.{◌∙◌}
-use Rattle.nl_segments.specs.KnownPairs.{HasGoodPair}
 use Rattle.nl_segments.proofs.KnownPairs.{known_good, known_refused, room_for}
 use Rattle.nl_segments.proofs.body.BodyReader.take_known.Goals as goal
 

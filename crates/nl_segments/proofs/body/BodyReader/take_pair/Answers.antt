@@ -1,5 +1,5 @@
 use Rattle.std.proofs.Common.{◌∙◌}
-use Rattle.nl_segments.proofs.KnownPairs.{good_by, heads_are, room_for}
+use Rattle.nl_segments.proofs.KnownPairs.{room_for}
 use Rattle.nl_segments.proofs.PairTaken.{refused_by}
 use Rattle.nl_segments.proofs.body.BodyReader.take_pair.Goals as goal
 
