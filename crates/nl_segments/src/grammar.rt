@@ -6,7 +6,7 @@ ghost use Rattle.nl_segments.specs.Grammar.{standing, nl_rules, SaysFile, fault_
 ghost use Rattle.nl_segments.specs.Held.{HoldsStanding, IsAwaiting};
 ghost use Rattle.nl_segments.specs.KnownPairs.{HasPairRow, IsPairRow};
 ghost use Rattle.nl_segments.specs.Reader.{value_of};
-ghost use Rattle.nl_segments.specs.Taking.{TakesHeaderRow, TakesAnyRow};
+ghost use Rattle.nl_segments.specs.Taking.{TakesHeaderRow, TakesAnyRow, TakesLine};
 
 use crate::body::BodyReader;
 use crate::fault::NlReason;
@@ -77,12 +77,7 @@ impl Grammar for NlGrammar {
         if let Some(pair) = self.next_pair(line) {
             return self.take_pair(pair, number);
         }
-        let text = strip_comment(line);
-        let row = Row::of(text);
-        if row.words().is_empty() {
-            return Ok(());
-        }
-        self.take_row(text, &row, number)
+        self.take_any(line, number)
     }
 
     fn line_fault(&self, fault: LineFault) -> NlReason {
@@ -137,6 +132,19 @@ impl NlGrammar {
             unreachable!()
         };
         body.take_known(pair, number)
+    }
+
+    // Takes a line of any form. The room of its row is not made where a pair is read at once.
+    #[inline(never)]
+    fn take_any(&mut self, line: &[u8], number: u32) -> Result<(), Stop<NlReason>>
+        ensures { TakesLine self.old line.now number result self.new }
+    {
+        let text = strip_comment(line);
+        let row = Row::of(text);
+        if row.words().is_empty() {
+            return Ok(());
+        }
+        self.take_row(text, &row, number)
     }
 
     // Takes a row of the header. After an `Err` nothing was taken.
