@@ -1,4 +1,4 @@
-use Rattle.std.proofs.Common.{◌≡◌, ◌∙◌, true, false, not, sym, ap}
+use Rattle.std.proofs.Common.{◌∙◌, not, sym, ap}
 use Rattle.nl_segments.proofs.GrammarLemmas.{row_holds_words, no_row, some_row}
 use Rattle.nl_segments.proofs.grammar.NlGrammar.take_any.Goals as goal
 
