@@ -1,6 +1,7 @@
--- What the ten header lines of an .nl file say (Gay 2005, "Writing .nl Files"), and what is wrong with one.
--- A line is the list of its words; lines, places and rows are counted from 1. Which numbers are refused,
--- and the order of faults, are this project's own.
+-- What the ten header lines of an .nl file say (Gay 2005, "Writing .nl Files"), and what is wrong
+-- with one.
+-- A line is the list of its words; lines, places and rows are counted from 1. Which numbers are
+-- refused, and the order of faults, are this project's own.
 use Rattle.std.specs.Prelude.{◌≡◌, ℕ, ◌+◌, ◌-◌, ◌^◌, ◌==◌, Bool, true, false, not, ◌&&◌, ◌||◌, nat_lt, nat_le, ℤ, List, [], ◌∷◌, ◌++◌, length, drop, slice_index, slice_index_or, find, Option, Some, None, is_none, Result, Ok, Err, unwrap_or, if◌then◌else◌, codes}
 use Rattle.std.specs.List.{list_any, filter_map}
 use Rattle.std.specs.Str.{bytes_eq}
@@ -38,7 +39,8 @@ number_after row line words number = if row.line == line then number_in words ro
 
 -- the number of the field of this name
 abbrev pub named : (ℕ → ℕ → ℕ) → List ℕ → ℕ
-named number name = option_map_or (λ r. number r.line r.place) (find (λ r. bytes_eq r.name name) header) 0
+named number name =
+    option_map_or (λ r. number r.line r.place) (find (λ r. bytes_eq r.name name) header) 0
 
 -- the counts, where a number stands at each line and place
 unfoldable pub counts_by : (ℕ → ℕ → ℕ) → Counts
@@ -100,9 +102,11 @@ begins_with byte word = slice_index word 0 == byte
 
 -- `g`, and directly after it the number of options
 abbrev pub option_count : List (List ℕ) → Option ℕ
-option_count words = if begins_with 103 (word_at words 0) then whole_of (drop 1 (word_at words 0)) else None
+option_count words =
+    if begins_with 103 (word_at words 0) then whole_of (drop 1 (word_at words 0)) else None
 
--- so many words after the first, at most four, which are signed whole numbers and the second of which is not 3
+-- so many words after the first, at most four, which are signed whole numbers and the second of
+-- which is not 3
 abbrev pub has_options : List (List ℕ) → ℕ → Bool
 has_options words count =
     nat_le count 4 && (length (drop 1 words) == count) && (length (options_of words) == count)
@@ -142,11 +146,13 @@ word_tests field word =
 unfoldable pub words_fault : ℕ → ℕ → List (List ℕ) → Option HeadFault
 words_fault line place [] = None
 words_fault line place (word ∷ words) =
-    option_or (first_reason (word_tests (field_at line place) word)) (words_fault line (place + 1) words)
+    option_or (first_reason (word_tests (field_at line place) word))
+    (words_fault line (place + 1) words)
 
 -- a field that must be there has no word
 unfoldable pub is_short : List FieldRow → ℕ → ℕ → Bool
-is_short rows line count = list_any (λ r. (r.line == line) && r.field.required && nat_lt count r.place) rows
+is_short rows line count =
+    list_any (λ r. (r.line == line) && r.field.required && nat_lt count r.place) rows
 
 -- the rule of a line, once its numbers are known
 unfoldable pub rule_tests : ℕ → Counts → List (Bool × HeadFault)
@@ -159,7 +165,8 @@ rule_tests line counts =
 unfoldable pub number_line_fault : ℕ → Counts → List (List ℕ) → Option HeadFault
 number_line_fault line counts words =
     option_or (words_fault line 1 words)
-    (first_reason ((is_short header_rows line (length words), BadHeaderNumber) ∷ rule_tests line counts))
+    (first_reason ((is_short header_rows line (length words), BadHeaderNumber)
+    ∷ rule_tests line counts))
 
 -- the first fault of the header line that comes after these
 unfoldable pub line_fault : List (List (List ℕ)) → List (List ℕ) → Option HeadFault

@@ -11,7 +11,8 @@ use Rattle.nl_header.specs.declared.fault.HeadFault.{HeadFault}
 use Rattle.nl_header.specs.declared.fault.HeadFault.TheVariants.{TooLarge}
 use Rattle.nl_header.specs.Head.{number_at, number_after, options_in, counts_in, line_fault}
 
--- how many lines were taken, their options, the number of each row of the table, and the fault that was met
+-- how many lines were taken, their options, the number of each row of the table, and the fault that
+-- was met
 pub record Taken : Type 0 where
   pub lines : ℕ
   pub options : List ℤ
@@ -24,7 +25,8 @@ numbers_in lines = map (λ r. number_at lines r.line r.place) header_rows
 
 -- no line has a fault, each judged from the lines before it
 pub record AreClean (lines : List (List (List ℕ))) : Type 0 where
-  pub clean : (i : ℕ) → i < length lines → line_fault (take i lines) (slice_index_or lines i []) ≡ None
+  pub clean : (i : ℕ) → i < length lines
+      → line_fault (take i lines) (slice_index_or lines i []) ≡ None
 
 -- the reader took these lines, which have no fault
 pub record IsReading (s : Taken) (lines : List (List (List ℕ))) : Type 0 where
@@ -41,18 +43,22 @@ pub record SaysHeader (lines : List (List (List ℕ))) (header : Header) : Type 
   pub counts : header_counts header ≡ counts_in lines
 
 -- a line without a fault that is not the last
-pub record GoesOn (before : List (List (List ℕ))) (words : List (List ℕ)) (after : Taken) : Type 0 where
+pub record GoesOn (before : List (List (List ℕ))) (words : List (List ℕ))
+    (after : Taken) : Type 0 where
   pub clean : line_fault before words ≡ None
   pub reading : IsReading after (before ++ words ∷ [])
 
 -- the last line, without a fault
-pub record Ends (before : List (List (List ℕ))) (words : List (List ℕ)) (header : Header) (after : Taken) : Type 0 where
+pub record Ends (before : List (List (List ℕ))) (words : List (List ℕ)) (header : Header)
+    (after : Taken) : Type 0 where
   pub clean : line_fault before words ≡ None
   pub says : SaysHeader (before ++ words ∷ []) header
   pub count : after.lines ≡ 10
 
--- what is answered to a line with these words that comes after the lines before, and where the reader is then
-abbrev pub Takes : List (List (List ℕ)) → List (List ℕ) → Result (Option Header) HeadFault → Taken → Type 0
+-- what is answered to a line with these words that comes after the lines before, and where the
+-- reader is then
+abbrev pub Takes : List (List (List ℕ)) → List (List ℕ) → Result (Option Header) HeadFault
+    → Taken → Type 0
 Takes before words (Ok None) after = GoesOn before words after
 Takes before words (Ok (Some header)) after = Ends before words header after
 Takes before words (Err fault) after = line_fault before words ≡ Some fault
@@ -69,7 +75,8 @@ HasCounted before (Err fault) after = after ≡ before
 unfoldable pub put_in : List FieldRow → ℕ → List (List ℕ) → List ℕ → List ℕ
 put_in [] line words numbers = []
 put_in (r ∷ rows) line words [] = []
-put_in (r ∷ rows) line words (n ∷ numbers) = number_after r line words n ∷ put_in rows line words numbers
+put_in (r ∷ rows) line words (n ∷ numbers) =
+    number_after r line words n ∷ put_in rows line words numbers
 
 -- the counts of the numbers of the rows
 unfoldable pub counts_from : List ℕ → Counts
@@ -110,13 +117,16 @@ counts_from numbers =
 
 -- the rule of the last line alone
 unfoldable pub last_rule : ℕ → Counts → Option HeadFault
-last_rule line counts = first_reason ((line == 10 && not (are_definitions_within counts), TooLarge) ∷ [])
+last_rule line counts =
+    first_reason ((line == 10 && not (are_definitions_within counts), TooLarge) ∷ [])
 
 -- how a line of numbers ends where only the rule of the last line can be broken
 abbrev pub Closes : Taken → Counts → Result (Option Header) HeadFault → Taken → Type 0
 Closes old counts (Ok None) new =
     (old.lines + 1 < 10) × (new ≡ record old { lines = old.lines + 1 })
 Closes old counts (Ok (Some header)) new =
-    (old.lines ≡ 9) × (header_options header ≡ old.options) × (header_counts header ≡ counts) × (new.lines ≡ 10)
+    (old.lines ≡ 9) × (header_options header ≡ old.options) × (header_counts header ≡ counts)
+    × (new.lines ≡ 10)
 Closes old counts (Err fault) new =
-    (old.lines ≡ 9) × (fault ≡ TooLarge) × (is_header old.options counts ≡ false) × (new.lines ≡ old.lines)
+    (old.lines ≡ 9) × (fault ≡ TooLarge) × (is_header old.options counts ≡ false)
+    × (new.lines ≡ old.lines)

@@ -7,7 +7,8 @@ pub enum HeadFault {
     BinaryFile,
     /// The first word is not `g` and a whole number directly after it.
     BadFirstLine,
-    /// The options are more than four, not as many as said, no signed whole numbers, or the second is 3.
+    /// The options are more than four, not as many as said, no signed whole numbers, or the second
+    /// is 3.
     Options,
     /// A word is no whole number up to 2^31 - 1, or a field that must be there is missing.
     BadHeaderNumber,

@@ -60,7 +60,8 @@ fn signed_numbers(words: &[&[u8]]) -> Options
 #[tactic(auto, unfolding(crate::specs::Head::first_line_tests))]
 pub fn read_first(words: &[&[u8]]) -> Result<Options, HeadFault>
     requires { 0 < length words.now }
-    ensures { Decides (first_line_tests (texts words.now)) (λ o. o ≡ options_of (texts words.now)) result }
+    ensures { Decides (first_line_tests (texts words.now))
+        (λ o. o ≡ options_of (texts words.now)) result }
 {
     if begins_with(b'b', words[0]) {
         return Err(HeadFault::BinaryFile);

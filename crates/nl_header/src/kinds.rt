@@ -18,8 +18,8 @@ macro_rules! kind_at {
     };
 }
 
-/// The kind of a variable: nonlinear in constraints and objectives, in constraints only, in objectives
-/// only; then linear, binary, integer.
+/// The kind of a variable: nonlinear in constraints and objectives, in constraints only, in
+/// objectives only; then linear, binary, integer.
 #[tactic(auto, unfolding(nl_model::specs::Kinds::kind_of))]
 pub fn kinds_of(header: &Header, var: u32) -> Kind
     requires { var < (header_counts header.now).n_var }

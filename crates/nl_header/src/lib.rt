@@ -1,4 +1,5 @@
-// The header of an .nl file, read a line at a time by the table of its fields, and the kinds of its variables.
+// The header of an .nl file, read a line at a time by the table of its fields, and the kinds of its
+// variables.
 #![tactic(auto)]
 
 mod fault;

@@ -101,7 +101,8 @@ fn number_in(words: &[&[u8]], place: u32) -> u32
     whole_of(word).unwrap_or(0)
 }
 
-// What a row's number is after a line: that of its place on its own line, and on another line what it was.
+// What a row's number is after a line: that of its place on its own line, and on another line what
+// it was.
 fn number_after(row: FieldRow, line: u32, words: &[&[u8]], number: u32) -> u32
     ensures { result ≡ number_after row line (texts words.now) number }
 {

@@ -33,7 +33,12 @@ impl Model for HeaderReader {
 
     ghost Value = { Taken };
 
-    ghost view = { λ r. record { lines = r.lines; options = r.options; numbers = r.numbers; fault = r.fault } };
+    ghost view = { λ r. record {
+      lines = r.lines;
+      options = r.options;
+      numbers = r.numbers;
+      fault = r.fault;
+    } };
 }
 
 // The numbers of rows after a line with these words.
@@ -142,8 +147,8 @@ impl HeaderReader {
         }
     }
 
-    /// Takes the next header line, without its comment, and answers the header at the tenth. After a
-    /// fault it answers that fault again.
+    /// Takes the next header line, without its comment, and answers the header at the tenth. After
+    /// a fault it answers that fault again.
     pub fn line(&mut self, text: &[u8]) -> Result<Option<Header>, HeadFault>
         requires words { 0 < length (words_of text.now) }
         requires more { self.old.lines < 10 }

@@ -55,7 +55,8 @@ pub fn counts_of(numbers: &[u32; 32]) -> Counts
 // Judges the rules of the lines before the last.
 #[tactic(auto, unfolding(crate::specs::Head::rule_tests, crate::specs::Reading::last_rule))]
 fn judge_rules(line: u32, counts: &Counts) -> Result<(), HeadFault>
-    ensures { Judges (first_reason (rule_tests line counts.now)) (last_rule line counts.now) result }
+    ensures { Judges (first_reason (rule_tests line counts.now))
+        (last_rule line counts.now) result }
 {
     if line == 5 && !are_shared_within(counts) {
         return Err(HeadFault::CountsDisagree);
@@ -66,11 +67,12 @@ fn judge_rules(line: u32, counts: &Counts) -> Result<(), HeadFault>
     Ok(())
 }
 
-/// Judges a line of numbers, but for the rule of the last line. The counts are those of all lines up to
-/// it.
+/// Judges a line of numbers, but for the rule of the last line. The counts are those of all lines
+/// up to it.
 pub fn judge_line(line: u32, text: &[u8], row: &Row<'_>, counts: &Counts) -> Result<(), HeadFault>
     requires { row.now ≡ row_of text.now }
-    ensures { Judges (number_line_fault line counts.now (words_of text.now)) (last_rule line counts.now) result }
+    ensures { Judges (number_line_fault line counts.now (words_of text.now))
+        (last_rule line counts.now) result }
 {
     if let Err(fault) = judge_words(line, text) {
         return Err(fault);

@@ -28,7 +28,8 @@ draft_of b =
 pub record IsKept (d : Draft) (marks : List Bool) (count : ℕ) : Type 0 where
   pub draft : IsDraft d
   pub mark_count : length marks ≡ defined_count d.counts
-  pub marked : (i : ℕ) → i < defined_count d.counts → get_or marks i false ≡ is_defined d.definitions (d.counts.n_var + i)
+  pub marked : (i : ℕ) → i < defined_count d.counts → get_or marks i false
+      ≡ is_defined d.definitions (d.counts.n_var + i)
   pub counted : count ≡ term_count d.terms
 
 abbrev pub IsBuilt : BuilderFields → Type 0

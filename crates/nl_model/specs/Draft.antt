@@ -69,7 +69,8 @@ file_of d =
     }
 
 -- a place for each objective
-pub record ArePlaces (c : Counts) (ds : List Definition) (os : List (Option Objective)) : Type 0 where
+pub record ArePlaces (c : Counts) (ds : List Definition)
+    (os : List (Option Objective)) : Type 0 where
   pub count : length os ≡ c.n_obj
   pub known : All (λ o. IfSome o (λ x. IsTreeKnown c.n_var ds x.tree)) os
 

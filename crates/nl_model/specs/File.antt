@@ -24,7 +24,8 @@ Definition = Def
 abbrev pub Suffix : Type 0
 Suffix = SuffixFields
 
--- the parts of a file; bodies, terms and sides by constraint, objectives and slopes by objective, bounds by variable, the others in file order
+-- the parts of a file; bodies, terms and sides by constraint, objectives and slopes by objective,
+-- bounds by variable, the others in file order
 pub record File : Type 0 where
   pub options : List ℤ
   pub counts : Counts

@@ -17,7 +17,10 @@ use Rattle.nl_model.specs.TreeCode.{tree_code}
 -- what files and drafts share but for objectives
 abbrev Rest : Type 0
 Rest =
-    (List ℤ × Counts) × ((List (Option Tree) × List Definition) × ((List (List Term) × List (List Term)) × ((List Interval × List Interval) × ((List Term × List Term) × List Suffix))))
+    (List ℤ × Counts)
+    × ((List (Option Tree) × List Definition)
+    × ((List (List Term) × List (List Term))
+    × ((List Interval × List Interval) × ((List Term × List Term) × List Suffix))))
 
 abbrev rest_code : Coded Rest
 rest_code =
@@ -30,7 +33,19 @@ rest_code =
 abbrev pub file_code : Coded File
 file_code =
     code_by (List Objective × Rest) (coded× (coded_list objective_row.coded) rest_code)
-    (λ f. (f.objectives, ((f.options, f.counts), ((f.bodies, f.definitions), ((f.terms, f.slopes), ((f.sides, f.bounds), ((f.dual_guesses, f.primal_guesses), f.suffixes)))))))
+    (λ f. (
+      f.objectives,
+      (
+        (f.options, f.counts),
+        (
+          (f.bodies, f.definitions),
+          (
+            (f.terms, f.slopes),
+            ((f.sides, f.bounds), ((f.dual_guesses, f.primal_guesses), f.suffixes)),
+          ),
+        ),
+      ),
+    ))
     (λ p. record {
       options = p.1.0.0;
       counts = p.1.0.1;
@@ -49,8 +64,21 @@ file_code =
 
 abbrev pub draft_code : Coded Draft
 draft_code =
-    code_by (List (Option Objective) × Rest) (coded× (coded_list (coded_option objective_row.coded)) rest_code)
-    (λ f. (f.objectives, ((f.options, f.counts), ((f.bodies, f.definitions), ((f.terms, f.slopes), ((f.sides, f.bounds), ((f.dual_guesses, f.primal_guesses), f.suffixes)))))))
+    code_by (List (Option Objective) × Rest)
+    (coded× (coded_list (coded_option objective_row.coded)) rest_code)
+    (λ f. (
+      f.objectives,
+      (
+        (f.options, f.counts),
+        (
+          (f.bodies, f.definitions),
+          (
+            (f.terms, f.slopes),
+            ((f.sides, f.bounds), ((f.dual_guesses, f.primal_guesses), f.suffixes)),
+          ),
+        ),
+      ),
+    ))
     (λ p. record {
       options = p.1.0.0;
       counts = p.1.0.1;

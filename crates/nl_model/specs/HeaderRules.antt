@@ -1,4 +1,5 @@
--- When the options and the counts are those of a header (Gay 2005, "Writing .nl Files"; the limits are this project's own).
+-- When the options and the counts are those of a header (Gay 2005, "Writing .nl Files"; the limits
+-- are this project's own).
 use Rattle.std.specs.Prelude.{ℕ, ◌+◌, ◌-◌, ◌^◌, ◌≤◌, max, nat_le, nat_lt, ◌==◌, ℤ, pos, Bool, not, ◌&&◌, List, [], ◌∷◌, length}
 use Rattle.std.specs.List.{list_all}
 use Rattle.std.specs.Ordering.{int_eq}
@@ -34,10 +35,12 @@ are_numbers c = list_all (λ n. nat_lt n (2 ^ 31)) (numbers_of c)
 
 -- no logical constraints, no networks and no functions
 abbrev pub has_no_refused : Counts → Bool
-has_no_refused c = (c.n_lcon == 0) && (c.nlnc == 0) && (c.lnc == 0) && (c.nwv == 0) && (c.nfunc == 0)
+has_no_refused c =
+    (c.n_lcon == 0) && (c.nlnc == 0) && (c.lnc == 0) && (c.nwv == 0) && (c.nfunc == 0)
 
 abbrev pub are_sizes_within : Counts → Bool
-are_sizes_within c = nat_le c.n_var (2 ^ 20) && nat_le c.n_con (2 ^ 20) && nat_le c.n_obj 256 && nat_le c.nzc (2 ^ 22)
+are_sizes_within c = nat_le c.n_var (2 ^ 20) && nat_le c.n_con (2 ^ 20) && nat_le c.n_obj 256
+    && nat_le c.nzc (2 ^ 22)
 
 -- variables that are nonlinear in constraints and in objectives are so in each
 abbrev pub are_shared_within : Counts → Bool
@@ -58,7 +61,8 @@ are_definitions_within c = nat_le (defined_count c) (2 ^ 20)
 
 -- whether the counts keep the rules
 abbrev pub are_counts : Counts → Bool
-are_counts c = are_numbers c && has_no_refused c && are_sizes_within c && are_shared_within c && are_whole_within c && are_definitions_within c
+are_counts c = are_numbers c && has_no_refused c && are_sizes_within c && are_shared_within c
+    && are_whole_within c && are_definitions_within c
 
 unfoldable pub is_header : List ℤ → Counts → Bool
 is_header os c = are_options os && are_counts c

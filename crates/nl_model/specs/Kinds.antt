@@ -1,4 +1,5 @@
--- The kinds of variables, by the groups in which they stand (Gay 2005, "Writing .nl Files", order of variables).
+-- The kinds of variables, by the groups in which they stand (Gay 2005, "Writing .nl Files", order
+-- of variables).
 use Rattle.std.specs.Prelude.{ℕ, ◌-◌, max, nat_lt, List, [], ◌∷◌, if◌then◌else◌}
 use Rattle.nl_model.specs.declared.counts.Counts.{Counts}
 use Rattle.nl_model.specs.declared.kind.Kind.{Kind}
@@ -12,7 +13,8 @@ pub record Group : Type 0 where
 abbrev pub group_of : ℕ → Kind → Group
 group_of n k = record { size = n; kind = k }
 
--- nonlinear in constraints and objectives, in constraints only, in objectives only; then linear, binary, integer
+-- nonlinear in constraints and objectives, in constraints only, in objectives only; then linear,
+-- binary, integer
 abbrev pub groups : Counts → List Group
 groups c =
     group_of (c.nlvb - c.nlvbi) Continuous

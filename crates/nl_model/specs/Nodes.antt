@@ -51,11 +51,13 @@ mutual
     a_number : (d : Dec) → IsPrefix (number d.m d.e) (Num d ∷ [])
     a_variable : (j : ℕ) → IsPrefix (variable j) (Var j ∷ [])
     a_defined : (i : ℕ) → IsPrefix (defined i) (Defined i ∷ [])
-    an_operation : (o : ℕ) (ts : Trees) (ns : List Node) → HasCount (class_of o) (count_of ts) → ArePrefixes ts ns → IsPrefix (operator (class_of o) ts) (Op o (count_of ts) ∷ ns)
+    an_operation : (o : ℕ) (ts : Trees) (ns : List Node) → HasCount (class_of o) (count_of ts)
+        → ArePrefixes ts ns → IsPrefix (operator (class_of o) ts) (Op o (count_of ts) ∷ ns)
 
   pub data ArePrefixes : Trees → List Node → Type 0 where
     no_tree : ArePrefixes none []
-    one_more : (t : Tree) (ns : List Node) (ts : Trees) (ms : List Node) → IsPrefix t ns → ArePrefixes ts ms → ArePrefixes (more t ts) (ns ++ ms)
+    one_more : (t : Tree) (ns : List Node) (ts : Trees) (ms : List Node) → IsPrefix t ns
+        → ArePrefixes ts ms → ArePrefixes (more t ts) (ns ++ ms)
 
 -- each operator has as many operands as its class wants, and finds them
 abbrev pub AreNodesFormed : List Node → Type 0
@@ -63,7 +65,8 @@ AreNodesFormed [] = Unit {0}
 AreNodesFormed (Num d ∷ ns) = AreNodesFormed ns
 AreNodesFormed (Var j ∷ ns) = AreNodesFormed ns
 AreNodesFormed (Defined i ∷ ns) = AreNodesFormed ns
-AreNodesFormed (Op o k ∷ ns) = HasCount (class_of o) k × (k ≤ length (trees_of ns)) × AreNodesFormed ns
+AreNodesFormed (Op o k ∷ ns) =
+    HasCount (class_of o) k × (k ≤ length (trees_of ns)) × AreNodesFormed ns
 
 -- the operands of each operator are as many as its class wants
 abbrev mutual

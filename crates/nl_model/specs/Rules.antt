@@ -1,4 +1,5 @@
--- What each .nl file keeps: indices in range, orders, and no repeats (Gay 2005, "Writing .nl Files"; the limits are this project's own).
+-- What each .nl file keeps: indices in range, orders, and no repeats (Gay 2005, "Writing .nl
+-- Files"; the limits are this project's own).
 use Rattle.std.specs.Prelude.{◌≡◌, ◌≢◌, ℕ, ◌+◌, ◌^◌, ◌<◌, ◌≤◌, Bool, false, ◌&&◌, ◌==◌, IsTrue, List, [], ◌∷◌, ◌++◌, length, sum_by, All, AllPairs, Option, Some, None, IfSome}
 use Rattle.std.specs.List.{list_any}
 use Rattle.std.specs.Str.{bytes_eq}
@@ -65,10 +66,12 @@ pub record IsDefinition (n k : ℕ) (ds : List Definition) (x : Definition) : Ty
 -- each definition uses the known ones and those before it
 abbrev pub AreDefinitions : ℕ → ℕ → List Definition → List Definition → Type 0
 AreDefinitions n k known [] = Unit {0}
-AreDefinitions n k known (d ∷ ds) = IsDefinition n k known d × AreDefinitions n k (known ++ d ∷ []) ds
+AreDefinitions n k known (d ∷ ds) =
+    IsDefinition n k known d × AreDefinitions n k (known ++ d ∷ []) ds
 
 -- a place for each constraint
-pub record AreBodies (c : Counts) (ds : List Definition) (bodies : List (Option Tree)) : Type 0 where
+pub record AreBodies (c : Counts) (ds : List Definition)
+    (bodies : List (Option Tree)) : Type 0 where
   pub count : length bodies ≡ c.n_con
   pub known : All (λ b. IfSome b (IsTreeKnown c.n_var ds)) bodies
 

@@ -39,11 +39,14 @@ mutual
   unfolding code_tree code_trees
 
   pub inj_tree : (s t : Tree) → code_tree s ≡ code_tree t → s ≡ t
-  inj_tree (number m e) (number n f) p = λ i. number (coded_ℤ.inj m n (ap (λ g. front (back g)) p) i) (coded_ℤ.inj e f (ap (λ g. back (back g)) p) i)
+  inj_tree (number m e) (number n f) p =
+      λ i. number (coded_ℤ.inj m n (ap (λ g. front (back g)) p) i)
+      (coded_ℤ.inj e f (ap (λ g. back (back g)) p) i)
   inj_tree (variable j) (variable k) p = ap (λ g. variable (num (back g))) p
   inj_tree (defined j) (defined k) p = ap (λ g. defined (num (back g))) p
   inj_tree (operator c ss) (operator d ts) p =
-      λ i. operator (class_row.coded.inj c d (ap (λ g. front (back g)) p) i) (inj_trees ss ts (ap (λ g. back (back g)) p) i)
+      λ i. operator (class_row.coded.inj c d (ap (λ g. front (back g)) p) i)
+      (inj_trees ss ts (ap (λ g. back (back g)) p) i)
   inj_tree (number m e) (variable k) p = let q = ap tag p in cc
   inj_tree (number m e) (defined k) p = let q = ap tag p in cc
   inj_tree (number m e) (operator d ts) p = let q = ap tag p in cc
@@ -59,7 +62,8 @@ mutual
 
   pub inj_trees : (ss ts : Trees) → code_trees ss ≡ code_trees ts → ss ≡ ts
   inj_trees none none p = λ i. none
-  inj_trees (more s ss) (more t ts) p = λ i. more (inj_tree s t (ap front p) i) (inj_trees ss ts (ap back p) i)
+  inj_trees (more s ss) (more t ts) p =
+      λ i. more (inj_tree s t (ap front p) i) (inj_trees ss ts (ap back p) i)
   inj_trees none (more t ts) p = let q = ap is_pair p in cc
   inj_trees (more s ss) none p = let q = ap is_pair p in cc
 

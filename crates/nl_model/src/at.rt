@@ -1,6 +1,7 @@
 // Places of a file.
 
-/// What has a tree and terms: a defined variable by its position in the file's list, a constraint, or an objective.
+/// What has a tree and terms: a defined variable by its position in the file's list, a constraint,
+/// or an objective.
 #[derive(Clone, Copy, Debug, PartialEq, Eq)]
 pub enum Owner {
     Def(u32),

@@ -63,7 +63,8 @@ fn is_suffix_of(suffix: &Suffix, kind: u8, name: &[u8]) -> bool
 impl NlBuilder {
     /// A file of this header with no parts, and the places of bodies, objectives and terms.
     pub fn new(alloc: Global, header: Header) -> Result<NlBuilder, AllocError>
-        ensures { IfOk result (λ b. b ≡ empty_draft (header_options header) (header_counts header)) }
+        ensures { IfOk result
+            (λ b. b ≡ empty_draft (header_options header) (header_counts header)) }
     {
         let counts = *header.counts();
         let rows = counts.n_con as usize;
@@ -97,7 +98,8 @@ impl NlBuilder {
         requires con { con < self.old.counts.n_con }
         requires fresh { is_given self.old.bodies con ≡ false }
         requires within { IsTreeWithin self.old.counts.n_var self.old.definitions tree }
-        ensures { self.new ≡ record self.old { bodies = slice_set self.old.bodies con (Some tree) } }
+        ensures { self.new
+            ≡ record self.old { bodies = slice_set self.old.bodies con (Some tree) } }
     {
         let _ = tree.nodes();
         self.bodies[con as usize] = Some(tree);
@@ -108,7 +110,11 @@ impl NlBuilder {
         requires k { k < self.old.counts.n_obj }
         requires fresh { is_given self.old.objectives k ≡ false }
         requires within { IsTreeWithin self.old.counts.n_var self.old.definitions tree }
-        ensures { self.new ≡ record self.old { objectives = slice_set self.old.objectives k (Some (record { maximise = maximise; tree = tree })) } }
+        ensures { self.new
+            ≡ record self.old {
+              objectives = slice_set self.old.objectives k
+                  (Some (record { maximise = maximise; tree = tree }));
+            } }
     {
         let _ = tree.nodes();
         self.objectives[k as usize] = Some(Objective { maximise, tree });
@@ -122,7 +128,8 @@ impl NlBuilder {
         requires terms { AreTermsBelow self.old.counts.n_var def.terms }
         requires few { length def.terms ≤ most_terms }
         requires within { IsTreeWithin self.old.counts.n_var self.old.definitions def.tree }
-        ensures ok { OnOk result (self.new ≡ record self.old { definitions = self.old.definitions ++ def ∷ [] }) }
+        ensures ok { OnOk result
+            (self.new ≡ record self.old { definitions = self.old.definitions ++ def ∷ [] }) }
         ensures err { OnErr result (self.new ≡ self.old) }
     {
         let _ = def.tree.nodes();
@@ -136,7 +143,9 @@ impl NlBuilder {
     pub fn dual_guess(&mut self, con: u32, value: Dec) -> Result<(), AllocError>
         requires con { con < self.old.counts.n_con }
         requires fresh { All (λ t. t.0 ≢ con) self.old.dual_guesses }
-        ensures ok { OnOk result (self.new ≡ record self.old { dual_guesses = self.old.dual_guesses ++ (con, value) ∷ [] }) }
+        ensures ok { OnOk result
+            (self.new ≡ record self.old
+            { dual_guesses = self.old.dual_guesses ++ (con, value) ∷ [] }) }
         ensures err { OnErr result (self.new ≡ self.old) }
     {
         self.dual_guesses.push((con, value))?;
@@ -147,7 +156,9 @@ impl NlBuilder {
     pub fn primal_guess(&mut self, var: u32, value: Dec) -> Result<(), AllocError>
         requires var { var < self.old.counts.n_var }
         requires fresh { All (λ t. t.0 ≢ var) self.old.primal_guesses }
-        ensures ok { OnOk result (self.new ≡ record self.old { primal_guesses = self.old.primal_guesses ++ (var, value) ∷ [] }) }
+        ensures ok { OnOk result
+            (self.new ≡ record self.old
+            { primal_guesses = self.old.primal_guesses ++ (var, value) ∷ [] }) }
         ensures err { OnErr result (self.new ≡ self.old) }
     {
         self.primal_guesses.push((var, value))?;
@@ -159,7 +170,8 @@ impl NlBuilder {
         requires objects { AreTermsBelow (object_count self.old.counts suffix.kind) suffix.values }
         requires apart { AreIndicesApart suffix.values }
         requires fresh { has_suffix self.old.suffixes suffix.kind suffix.name ≡ false }
-        ensures ok { OnOk result (self.new ≡ record self.old { suffixes = self.old.suffixes ++ suffix ∷ [] }) }
+        ensures ok { OnOk result
+            (self.new ≡ record self.old { suffixes = self.old.suffixes ++ suffix ∷ [] }) }
         ensures err { OnErr result (self.new ≡ self.old) }
     {
         self.suffixes.push(suffix)?;
@@ -170,7 +182,8 @@ impl NlBuilder {
     pub fn side(&mut self, side: Interval) -> Result<(), AllocError>
         requires place { length self.old.sides < self.old.counts.n_con }
         requires ordered { IsOrdered side }
-        ensures ok { OnOk result (self.new ≡ record self.old { sides = self.old.sides ++ side ∷ [] }) }
+        ensures ok { OnOk result
+            (self.new ≡ record self.old { sides = self.old.sides ++ side ∷ [] }) }
         ensures err { OnErr result (self.new ≡ self.old) }
     {
         self.sides.push(side)?;
@@ -181,7 +194,8 @@ impl NlBuilder {
     pub fn bound(&mut self, side: Interval) -> Result<(), AllocError>
         requires place { length self.old.bounds < self.old.counts.n_var }
         requires ordered { IsOrdered side }
-        ensures ok { OnOk result (self.new ≡ record self.old { bounds = self.old.bounds ++ side ∷ [] }) }
+        ensures ok { OnOk result
+            (self.new ≡ record self.old { bounds = self.old.bounds ++ side ∷ [] }) }
         ensures err { OnErr result (self.new ≡ self.old) }
     {
         self.bounds.push(side)?;
@@ -193,7 +207,11 @@ impl NlBuilder {
         requires con { con < self.old.counts.n_con }
         requires var { var < self.old.counts.n_var }
         requires few { term_count self.old.terms < most_terms }
-        ensures ok { OnOk result (self.new ≡ record self.old { terms = slice_set self.old.terms con (get_or self.old.terms con [] ++ (var, value) ∷ []) }) }
+        ensures ok { OnOk result
+            (self.new ≡ record self.old {
+              terms = slice_set self.old.terms con
+                  (get_or self.old.terms con [] ++ (var, value) ∷ []);
+            }) }
         ensures err { OnErr result (self.new ≡ self.old) }
     {
         let row = &mut self.terms[con as usize];
@@ -207,12 +225,25 @@ impl NlBuilder {
         requires k { k < self.old.counts.n_obj }
         requires var { var < self.old.counts.n_var }
         requires few { length (get_or self.old.slopes k []) < most_terms }
-        ensures ok { OnOk result (self.new ≡ record self.old { slopes = slice_set self.old.slopes k (get_or self.old.slopes k [] ++ (var, value) ∷ []) }) }
+        ensures ok { OnOk result
+            (self.new ≡ record self.old {
+              slopes = slice_set self.old.slopes k
+                  (get_or self.old.slopes k [] ++ (var, value) ∷ []);
+            }) }
         ensures err { OnErr result (self.new ≡ self.old) }
     {
         let cost = &mut self.slopes[k as usize];
         cost.push((var, value))?;
         Ok(())
+    }
+
+    /// Makes room for so many terms more of a constraint.
+    pub fn make_room(&mut self, con: u32, count: usize) -> Result<(), AllocError>
+        requires { con < self.old.counts.n_con }
+        ensures { self.new ≡ self.old }
+    {
+        let terms = &mut self.terms[con as usize];
+        terms.make_room(count)
     }
 
     /// The header, and what holds of each draft.

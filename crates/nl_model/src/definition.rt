@@ -2,7 +2,8 @@
 use crate::expr::Expr;
 use crate::terms::Terms;
 
-/// A defined variable: its index in the file, its linear terms, its usage as the file gives it, and its tree.
+/// A defined variable: its index in the file, its linear terms, its usage as the file gives it, and
+/// its tree.
 #[derive(Drop)]
 pub struct Def {
     pub index: u32,

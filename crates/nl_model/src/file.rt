@@ -152,7 +152,8 @@ impl NlFile {
 }
 
 impl NlBuilder {
-    /// The file, where every objective, side and bound was given, and as many terms as the header says.
+    /// The file, where every objective, side and bound was given, and as many terms as the header
+    /// says.
     pub fn finish(self) -> NlFile
         requires objectives { All IsSome self.objectives }
         requires sides { length self.sides ≡ self.counts.n_con }

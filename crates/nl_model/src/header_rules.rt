@@ -144,7 +144,8 @@ fn is_header(options: &Options, counts: &Counts) -> bool
 impl Header {
     /// The header of these options and counts. None where they break a rule.
     pub fn new(options: Options, counts: Counts) -> Option<Header>
-        ensures { MatchOption result (is_header options counts ≡ false) (λ h. (header_options h ≡ options) × (header_counts h ≡ counts)) }
+        ensures { MatchOption result (is_header options counts ≡ false)
+            (λ h. (header_options h ≡ options) × (header_counts h ≡ counts)) }
     {
         if !is_header(&options, &counts) {
             return None;

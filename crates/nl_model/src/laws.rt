@@ -14,7 +14,8 @@ pub fn nodes_are_their_tree()
 
 /// A tree has one list of nodes.
 pub fn a_tree_has_one_list_of_nodes()
-    ensures { (t : Tree) (nodes others : List Node) → IsPrefix t nodes → IsPrefix t others → nodes ≡ others }
+    ensures { (t : Tree) (nodes others : List Node) → IsPrefix t nodes → IsPrefix t others
+        → nodes ≡ others }
 {}
 
 /// Each class but the refused one has one opcode.

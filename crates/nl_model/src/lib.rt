@@ -1,4 +1,5 @@
-// The values of .nl files: headers, expression trees, intervals, lists of terms, and the file with its builder.
+// The values of .nl files: headers, expression trees, intervals, lists of terms, and the file with
+// its builder.
 #![tactic(auto)]
 
 mod at;

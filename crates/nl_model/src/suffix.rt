@@ -2,7 +2,8 @@
 use crate::terms::Terms;
 use text_base::Name;
 
-/// Values of a name for variables, constraints, objectives or the problem, by the low two bits of the kind (0 to 3).
+/// Values of a name for variables, constraints, objectives or the problem, by the low two bits of
+/// the kind (0 to 3).
 #[derive(Drop)]
 pub struct Suffix {
     pub kind: u8,

@@ -2,7 +2,8 @@
 ghost use Rattle.std.specs.Prelude.{◌≡◌};
 ghost use Rattle.nl_model.specs.SuffixKinds.{has_same_objects, object_limit, wants_whole};
 
-/// How many objects a suffix of this kind is for, among so many variables, constraints and objectives.
+/// How many objects a suffix of this kind is for, among so many variables, constraints and
+/// objectives.
 pub fn object_limit(n_var: u32, n_con: u32, n_obj: u32, kind: u8) -> u32
     ensures { result ≡ object_limit n_var n_con n_obj kind }
 {

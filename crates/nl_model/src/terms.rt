@@ -39,6 +39,13 @@ impl Terms {
         Ok(())
     }
 
+    /// Makes room for so many terms more.
+    pub fn make_room(&mut self, count: usize) -> Result<(), AllocError>
+        ensures { self.new ≡ self.old }
+    {
+        self.items.reserve_exact(count)
+    }
+
     /// How many terms there are.
     pub fn len(&self) -> usize
         ensures { result ≡ length self.now }

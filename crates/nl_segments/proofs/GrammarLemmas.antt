@@ -13,9 +13,11 @@ use Rattle.nl_segments.specs.declared.nl_read.NlRead.{NlRead}
 use Rattle.nl_segments.specs.Rows.{Row, holds_words}
 use Rattle.nl_segments.specs.Grammar.{Standing, standing, is_in_header, line_refusal, header_refusal, end_refusal}
 use Rattle.nl_segments.specs.declared.fault.NlReason.TheVariants.{EndInHeader}
+use Rattle.nl_model.specs.File.{Term}
+use Rattle.nl_segments.specs.KnownPairs.{IsPairRow}
 use Rattle.nl_segments.specs.Held.{Body, Progress, IsHeld, IsHeaderOf, only_header, HoldsBy, HoldsStanding, TakesRow, Finishes}
 use Rattle.nl_segments.specs.Steps.{after, after_header_row}
-use Rattle.nl_segments.specs.Taking.{TakesAnyRow, TakesHeaderRow}
+use Rattle.nl_segments.specs.Taking.{TakesAnyRow, TakesHeaderRow, TakesLine}
 use Rattle.nl_segments.proofs.PieceLemmas.{some_are}
 use Rattle.nl_segments.proofs.StandingLemmas.{standing-more}
 
@@ -68,34 +70,36 @@ row_holds_words line text words e w =
     sym (ap (λ n. not (n == 0)) (sym (length-map words (λ x. x.now)) ∙ ap (length {A = List ℕ}) w)
     ∙ row_begins (words_of text) ∙ ap (λ t. not (length (words_of t) == 0)) e)
 
-pub no_row : (g : Progress) (lines : List (List ℕ)) (line : List ℕ) → holds_words line ≡ false → HoldsStanding (standing lines) g → HoldsStanding (standing (lines ++ line ∷ [])) g
-no_row g lines line none h = subst (λ s. HoldsStanding s g) (sym (standing-more lines line ∙ rw none refl)) h
+pub pair_holds_words : (line : List ℕ) (t : Term) → IsPairRow (row_of (without_comment line)) t → holds_words line ≡ true
+pair_holds_words line t p = sym (row_begins (words_of (without_comment line))) ∙ ap (λ n. not (n == 0)) p.two
 
-pub no_row_fine : (s : Standing) (line : List ℕ) → holds_words line ≡ false → line_refusal s line ≡ None
+pub no_row : (g : Progress) (line : List ℕ) (n : ℕ) → holds_words line ≡ false → TakesLine g line n (Ok tt) g
 unfolding line_refusal
-no_row_fine s line none = rw none refl
+no_row g line n none = λ lines e h. (rw none refl, subst (λ s. HoldsStanding s g) (sym (standing-more lines line ∙ rw none refl)) h)
 
-pub row_taken : (old new : Progress) (line : List ℕ) (n : ℕ) (r : Result (Unit {0}) (Stop NlReason)) → holds_words line ≡ true
-    → TakesAnyRow old (record { line = n; text = without_comment line }) r new
+pub some_row : (old new : Progress) (line : List ℕ) (n : ℕ) (r : Result (Unit {0}) (Stop NlReason)) → holds_words line ≡ true
+    → TakesAnyRow old (record { line = n; text = without_comment line }) r new → TakesLine old line n r new
+unfolding line_refusal
+some_row old new line n (Ok u) some takes = λ lines e h.
+    (rw some (takes (standing lines) h).0, subst (λ s. HoldsStanding s new) (sym (standing-more lines line ∙ rw (some, ← e) refl)) (takes (standing lines) h).1)
+some_row old new line n (Err (Fault f)) some takes = λ lines e h. rw some (takes (standing lines) h)
+some_row old new line n (Err Memory) some takes = tt
+
+pub line_taken : (old new : Progress) (line : List ℕ) (n : ℕ) (r : Result (Unit {0}) (Stop NlReason)) → TakesLine old line n r new
     → OnOk r ((lines : List (List ℕ)) → n ≡ length lines + 1 → HoldsStanding (standing lines) old → HoldsStanding (standing (lines ++ line ∷ [])) new)
-row_taken old new line n (Ok u) some takes = λ lines e h.
-    subst (λ s. HoldsStanding s new) (sym (standing-more lines line ∙ rw (some, ← e) refl)) (takes (standing lines) h).1
-row_taken old new line n (Err stop) some takes = tt
+line_taken old new line n (Ok u) takes = λ lines e h. (takes lines e h).1
+line_taken old new line n (Err stop) takes = tt
 
-pub row_fine : (old new : Progress) (line : List ℕ) (n : ℕ) (r : Result (Unit {0}) (Stop NlReason)) → holds_words line ≡ true
-    → TakesAnyRow old (record { line = n; text = without_comment line }) r new
+pub line_fine : (old new : Progress) (line : List ℕ) (n : ℕ) (r : Result (Unit {0}) (Stop NlReason)) → TakesLine old line n r new
     → OnOk r ((lines : List (List ℕ)) → n ≡ length lines + 1 → HoldsStanding (standing lines) old → line_refusal (standing lines) line ≡ None)
-unfolding line_refusal
-row_fine old new line n (Ok u) some takes = λ lines e h. rw some (takes (standing lines) h).0
-row_fine old new line n (Err stop) some takes = tt
+line_fine old new line n (Ok u) takes = λ lines e h. (takes lines e h).0
+line_fine old new line n (Err stop) takes = tt
 
-pub row_fault : (old new : Progress) (line : List ℕ) (n : ℕ) (r : Result (Unit {0}) (Stop NlReason)) → holds_words line ≡ true
-    → TakesAnyRow old (record { line = n; text = without_comment line }) r new
+pub line_fault : (old new : Progress) (line : List ℕ) (n : ℕ) (r : Result (Unit {0}) (Stop NlReason)) → TakesLine old line n r new
     → IfErr r (λ stop. IfFault stop (λ reason. (lines : List (List ℕ)) → n ≡ length lines + 1 → HoldsStanding (standing lines) old → line_refusal (standing lines) line ≡ Some reason))
-unfolding line_refusal
-row_fault old new line n (Ok u) some takes = tt
-row_fault old new line n (Err (Fault f)) some takes = λ lines e h. rw some (takes (standing lines) h)
-row_fault old new line n (Err Memory) some takes = tt
+line_fault old new line n (Ok u) takes = tt
+line_fault old new line n (Err (Fault f)) takes = takes
+line_fault old new line n (Err Memory) takes = tt
 
 -- ---- the end
 

@@ -39,3 +39,4 @@ pub mod HeadLaw
 pub mod CleanRows
 pub mod CleanTexts
 pub mod TreePieces
+pub mod KnownPairs

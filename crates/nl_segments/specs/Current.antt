@@ -14,7 +14,8 @@ use Rattle.nl_segments.specs.declared.node_row.NodeRow.TheVariants.{Whole, Count
 use Rattle.nl_segments.specs.Nodes.{Pending, only_nodes}
 use Rattle.nl_segments.specs.Pieces.{Piece, line_kind, line_count, has_tree, piece_nodes, piece_pending}
 
--- its head and the line of it, how many lines before an expression are still awaited, the pairs that were kept, the nodes so far, and the opcode that awaits its number of operands
+-- its head and the line of it, how many lines before an expression are still awaited, the pairs
+-- that were kept, the nodes so far, and the opcode that awaits its number of operands
 pub record Current : Type 0 where
   pub head : Head
   pub line : ℕ
@@ -24,7 +25,8 @@ pub record Current : Type 0 where
   pub pending : Option Pending
 
 abbrev pub new_current : Head → ℕ → ℕ → Current
-new_current head line left = record { head = head; line = line; left = left; pairs = []; nodes = []; pending = None }
+new_current head line left =
+    record { head = head; line = line; left = left; pairs = []; nodes = []; pending = None }
 
 abbrev pub nodes_await : List Node → Option Pending → Awaited
 nodes_await nodes (Some p) = OperandCount
@@ -32,7 +34,9 @@ nodes_await nodes None = if awaited nodes == 0 then Nothing else NodeLine
 
 -- the line that is awaited
 abbrev pub current_awaits : Current → Awaited
-current_awaits c = if nat_lt 0 c.left then line_kind c.head else if has_tree c.head then nodes_await c.nodes c.pending else Nothing
+current_awaits c =
+    if nat_lt 0 c.left then line_kind c.head else
+    if has_tree c.head then nodes_await c.nodes c.pending else Nothing
 
 -- a node is awaited while an opcode awaits its number of operands
 abbrev pub IsPending : List Node → Pending → Type 0

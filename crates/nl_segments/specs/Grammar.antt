@@ -1,4 +1,5 @@
--- The grammar of .nl texts: which have no fault, what they say, and what is the first fault of the others.
+-- The grammar of .nl texts: which have no fault, what they say, and what is the first fault of the
+-- others.
 use Rattle.std.specs.Prelude.{◌≡◌, ℕ, Bool, nat_lt, List, length, Option, Some, None, option_map, if◌then◌else◌}
 use Rattle.text_base.specs.Judged.{Rules, first_reason}
 use Rattle.text_base.specs.Words.{words_of, row_of, without_comment}
@@ -27,7 +28,10 @@ pub record Standing : Type 0 where
 unfoldable pub standing : List (List ℕ) → Standing
 standing lines =
     let rows = rows_of lines in
-    record { header = header_words rows; pieces = pieces_of (counts_in (header_words rows)) (body_rows rows) }
+    record {
+      header = header_words rows;
+      pieces = pieces_of (counts_in (header_words rows)) (body_rows rows);
+    }
 
 -- the ten rows of the header have not all come
 abbrev pub is_in_header : Standing → Bool
@@ -52,7 +56,8 @@ reason_of Large = TooLarge
 
 -- a row of the header
 abbrev pub header_refusal : Standing → List ℕ → Option NlReason
-header_refusal s text = option_map (λ fault. (reason_of fault)) (line_fault s.header (words_of text))
+header_refusal s text =
+    option_map (λ fault. (reason_of fault)) (line_fault s.header (words_of text))
 
 -- a row of the body
 abbrev pub body_refusal : Standing → List ℕ → Option NlReason
@@ -72,7 +77,9 @@ fault_refusal LongInput = InputTooLong
 
 -- the end of the text
 unfoldable pub end_refusal : Standing → Option NlReason
-end_refusal s = if is_in_header s then Some EndInHeader else first_reason (end_tests (counts_of s) (said s) s.pieces)
+end_refusal s =
+    if is_in_header s then Some EndInHeader
+    else first_reason (end_tests (counts_of s) (said s) s.pieces)
 
 abbrev pub nl_rules : Rules NlReason
 nl_rules = record {

@@ -25,7 +25,8 @@ has_come_suffix suffixes head name = false
 
 -- a segment of this head, or a suffix of this name, came before
 abbrev pub has_come : Segments → List Suffix → Head → List ℕ → Bool
-has_come seen suffixes head name = if is_suffix head then has_come_suffix suffixes head name else has_segment seen head
+has_come seen suffixes head name =
+    if is_suffix head then has_come_suffix suffixes head name else has_segment seen head
 
 -- of a head whose form is right, after so many suffixes
 abbrev pub held_head_tests : Counts → Segments → List Suffix → ℕ → List ℕ → Head → Tests
@@ -37,19 +38,24 @@ held_head_tests c seen suffixes count name head =
 
 abbrev pub formed_tests : Counts → Segments → List Suffix → ℕ → List ℕ → Option Head → Tests
 formed_tests c seen suffixes count name None = []
-formed_tests c seen suffixes count name (Some head) = held_head_tests c seen suffixes count name head
+formed_tests c seen suffixes count name (Some head) =
+    held_head_tests c seen suffixes count name head
 
 -- of the words of a head, where the last piece may be open
 abbrev pub new_head_tests : Counts → Bool → Segments → List Suffix → ℕ → List (List ℕ) → Tests
 new_head_tests c is_open seen suffixes count words =
     (is_open, ShortSegment)
-    ∷ (head_form_tests c words ++ formed_tests c seen suffixes count (name_in words) (head_of c words))
+    ∷ (head_form_tests c words
+    ++ formed_tests c seen suffixes count (name_in words) (head_of c words))
 
 -- ---- What a head does.
 
 -- a piece that awaits no line is complete at once
 abbrev pub begun_current : Counts → Head → ℕ → Option Current
-begun_current c head line = if has_tree head || nat_lt 0 (line_count c head) then Some (new_current head line (line_count c head)) else None
+begun_current c head line =
+    if has_tree head || nat_lt 0 (line_count c head)
+    then Some (new_current head line (line_count c head))
+    else None
 
 abbrev pub begun_name : Head → List ℕ → Option (List ℕ)
 begun_name head name = if is_suffix head then Some name else None
@@ -59,7 +65,10 @@ begun_count head count = if is_suffix head then count + 1 else count
 
 -- a suffix without values is there at once
 abbrev pub begun_draft : Draft → Head → List ℕ → Draft
-begun_draft d (SuffixHead kind n) name = if n == 0 then record d { suffixes = d.suffixes ++ record { kind = kind; name = name; values = [] } ∷ [] } else d
+begun_draft d (SuffixHead kind n) name =
+    if n == 0
+    then record d { suffixes = d.suffixes ++ record { kind = kind; name = name; values = [] } ∷ [] }
+    else d
 begun_draft d head name = d
 
 -- with a head in this line

@@ -22,7 +22,8 @@ is_ascii_letter b = (nat_le 65 b && nat_le b 90) || (nat_le 97 b && nat_le b 122
 
 -- a row is a head where its first letter begins no line of an expression
 abbrev pub is_head : List (List ℕ) → Bool
-is_head words = is_ascii_letter (letter_of words) && not (is_among (codes "onslvhf") (letter_of words))
+is_head words =
+    is_ascii_letter (letter_of words) && not (is_among (codes "onslvhf") (letter_of words))
 
 -- imported functions and logical constraints, which are refused
 abbrev pub is_refused_letter : ℕ → Bool
@@ -43,7 +44,8 @@ number_at words i = whole_of (word_at words i)
 
 -- a letter alone: `r`
 abbrev pub bare_head : Head → List (List ℕ) → Option Head
-bare_head head words = if length words == 1 && (length (word_at words 0) == 1) then Some head else None
+bare_head head words =
+    if length words == 1 && (length (word_at words 0) == 1) then Some head else None
 
 -- a letter and a number: `C0`
 abbrev pub numbered_head : (ℕ → Head) → List (List ℕ) → Option Head
@@ -52,27 +54,36 @@ numbered_head head words = if length words == 1 then option_map head (own_number
 -- a letter and two numbers: `J0 2`
 abbrev pub counted_head : (ℕ → ℕ → Head) → List (List ℕ) → Option Head
 counted_head head words =
-    if length words == 2 then option_and_then (λ i. option_map (head i) (number_at words 1)) (own_number words) else None
+    if length words == 2
+    then option_and_then (λ i. option_map (head i) (number_at words 1)) (own_number words)
+    else None
 
 -- `O0 1`: the sense is 0 or 1
 abbrev pub with_sense : ℕ → ℕ → Option Head
 with_sense k sense = if nat_le sense 1 then Some (Objective k (sense == 1)) else None
 
 abbrev pub objective_head : List (List ℕ) → Option Head
-objective_head words = if length words == 2 then option_and_then (λ k. option_and_then (with_sense k) (number_at words 1)) (own_number words) else None
+objective_head words =
+    if length words == 2
+    then option_and_then (λ k. option_and_then (with_sense k) (number_at words 1))
+    (own_number words)
+    else None
 
 -- `V4 1 0`
 abbrev pub definition_head : List (List ℕ) → Option Head
 definition_head words =
     if length words == 3
-    then option_and_then (λ i. option_and_then (λ j. option_map (Definition i j) (number_at words 2)) (number_at words 1)) (own_number words)
+    then option_and_then
+    (λ i. option_and_then (λ j. option_map (Definition i j) (number_at words 2))
+    (number_at words 1)) (own_number words)
     else None
 
 -- `k3`: one number less than there are variables
 abbrev pub column_head : Counts → List (List ℕ) → Option Head
 column_head c words =
     if length words == 1
-    then option_and_then (λ n. if n + 1 == c.n_var then Some (ColumnCounts n) else None) (own_number words)
+    then option_and_then (λ n. if n + 1 == c.n_var then Some (ColumnCounts n) else None)
+    (own_number words)
     else None
 
 -- `S0 2 name`: the kind is below 256
@@ -82,7 +93,8 @@ of_kind kind n = if nat_lt kind 256 then Some (Suffix kind n) else None
 abbrev pub suffix_head : List (List ℕ) → Option Head
 suffix_head words =
     if length words == 3 && is_name (word_at words 2)
-    then option_and_then (λ kind. option_and_then (of_kind kind) (number_at words 1)) (own_number words)
+    then option_and_then (λ kind. option_and_then (of_kind kind) (number_at words 1))
+    (own_number words)
     else None
 
 -- what a head says, where its form is right

@@ -28,7 +28,10 @@ use Rattle.nl_segments.specs.Current.{Current, IsCurrent, current_awaits}
 use Rattle.nl_segments.specs.Grammar.{Standing, is_in_header, counts_of, said}
 use Rattle.nl_segments.specs.Steps.{after_body_row}
 
--- the file so far; the last piece, where it is not complete; the name of its suffix; marks for its indices; the segments that came; how many nodes, linear terms, values of suffixes and suffixes came; the numbers of columns; how often each variable stands in terms of constraints; and the lines of places
+-- the file so far; the last piece, where it is not complete; the name of its suffix; marks for its
+-- indices; the segments that came; how many nodes, linear terms, values of suffixes and suffixes
+-- came; the numbers of columns; how often each variable stands in terms of constraints; and the
+-- lines of places
 pub record Body : Type 0 where
   pub draft : Draft
   pub current : Option Current
@@ -45,7 +48,8 @@ pub record Body : Type 0 where
 
 -- ---- What holds of pieces without a fault.
 
--- its index is in range; so are the indices of its pairs, each of which says something; where an index comes once, they are apart
+-- its index is in range; so are the indices of its pairs, each of which says something; where an
+-- index comes once, they are apart
 pub record IsSoundPiece (c : Counts) (p : Piece) : Type 0 where
   pub range : is_in_range c p.head ≡ true
   pub below : AreTermsBelow (index_limit c p.head) (piece_pairs p)
@@ -56,7 +60,8 @@ pub record IsSoundPiece (c : Counts) (p : Piece) : Type 0 where
 pub record AreSound (c : Counts) (pieces : List Piece) : Type 0 where
   pub each : All (IsSoundPiece c) pieces
   pub apart : AllPairs (λ p q. is_same_piece q.head q.name p ≡ false) pieces
-  pub complete : (before : List Piece) (p : Piece) → pieces ≡ before ++ p ∷ [] → All (λ q. is_complete c q ≡ true) before
+  pub complete : (before : List Piece) (p : Piece) → pieces ≡ before ++ p ∷ []
+      → All (λ q. is_complete c q ≡ true) before
 
 -- ---- What is held of the last piece.
 
@@ -73,7 +78,8 @@ IsNodeKnown n ds (Var j) = j < n
 IsNodeKnown n ds (Defined i) = IsTrue (is_defined ds i)
 IsNodeKnown n ds (Op o k) = Unit {0}
 
-pub record IsOpen (c : Counts) (d : Draft) (name : Option (List ℕ)) (p : Piece) (cur : Current) : Type 0 where
+pub record IsOpen (c : Counts) (d : Draft) (name : Option (List ℕ)) (p : Piece)
+    (cur : Current) : Type 0 where
   pub incomplete : is_complete c p ≡ false
   pub current : IsCurrent c p cur
   pub pairs : IsTrue (keeps_pairs p.head) → cur.pairs ≡ piece_pairs p
@@ -89,7 +95,8 @@ IsLast c d name (Some p) (Some cur) = IsOpen c d name p cur
 
 -- its indices are marked, where they come once
 abbrev pub IsMarked : Counts → List Bool → Piece → Type 0
-IsMarked c marks p = IsTrue (holds_once p.head) → (i : ℕ) → i < index_limit c p.head → get_or marks i false ≡ has_index (piece_pairs p) i
+IsMarked c marks p = IsTrue (holds_once p.head) → (i : ℕ) → i < index_limit c p.head
+    → get_or marks i false ≡ has_index (piece_pairs p) i
 
 -- the heads of segments that came, but for suffixes
 abbrev pub AreSeen : Counts → Segments → List Piece → Type 0
@@ -110,7 +117,8 @@ pub record IsHeld (s : Standing) (b : Body) : Type 0 where
   pub counts : b.draft.counts ≡ counts_of s
   pub last : IsLast (counts_of s) b.draft b.name (last_piece s.pieces) b.current
   pub marks : IfSome (last_piece s.pieces) (IsMarked (counts_of s) b.marks)
-  pub room : (head : Head) → is_in_range (counts_of s) head ≡ true → index_limit (counts_of s) head ≤ length b.marks
+  pub room : (head : Head) → is_in_range (counts_of s) head ≡ true
+      → index_limit (counts_of s) head ≤ length b.marks
   pub seen : AreSeen (counts_of s) b.seen s.pieces
   pub nodes : b.nodes ≡ node_total (counts_of s) s.pieces
   pub linear : b.linear ≡ pair_total is_linear s.pieces
@@ -144,8 +152,10 @@ words_refusal s words = first_reason (row_tests (counts_of s) (said s) s.pieces 
 
 -- a row is taken where nothing is wrong with it; of want of memory nothing is said
 abbrev pub TakesRow : Body → List (List ℕ) → ℕ → Result (Unit {0}) (Stop NlReason) → Body → Type 0
-TakesRow old words line (Ok u) new = (s : Standing) (row : Row) → IsRowOf row words line → IsHeld s old → (words_refusal s words ≡ None) × IsHeld (after_body_row s row) new
-TakesRow old words line (Err (Fault r)) new = (s : Standing) → IsHeld s old → words_refusal s words ≡ Some r
+TakesRow old words line (Ok u) new = (s : Standing) (row : Row) → IsRowOf row words line
+    → IsHeld s old → (words_refusal s words ≡ None) × IsHeld (after_body_row s row) new
+TakesRow old words line (Err (Fault r)) new =
+    (s : Standing) → IsHeld s old → words_refusal s words ≡ Some r
 TakesRow old words line (Err Memory) new = Unit {0}
 
 -- a row that is no head: the last piece awaits a line of this kind
@@ -157,12 +167,14 @@ abbrev pub end_refusal_of : Standing → Option NlReason
 end_refusal_of s = first_reason (end_tests (counts_of s) (said s) s.pieces)
 
 abbrev pub Finishes : Body → Result NlRead (Stop NlReason) → Type 0
-Finishes b (Ok r) = (s : Standing) → IsHeld s b → (end_refusal_of s ≡ None) × (r.file ≡ file_of (said s)) × (r.places ≡ place_lines (counts_of s) s.pieces)
+Finishes b (Ok r) = (s : Standing) → IsHeld s b → (end_refusal_of s ≡ None)
+    × (r.file ≡ file_of (said s)) × (r.places ≡ place_lines (counts_of s) s.pieces)
 Finishes b (Err (Fault r)) = (s : Standing) → IsHeld s b → end_refusal_of s ≡ Some r
 Finishes b (Err Memory) = Unit {0}
 
 -- these rows are the whole header
-pub record IsHeaderOf (rows : List (List (List ℕ))) (options : List ℤ) (counts : Counts) : Type 0 where
+pub record IsHeaderOf (rows : List (List (List ℕ))) (options : List ℤ)
+    (counts : Counts) : Type 0 where
   pub whole : nat_lt (length rows) 10 ≡ false
   pub same_options : options_in rows ≡ options
   pub same_counts : counts_in rows ≡ counts

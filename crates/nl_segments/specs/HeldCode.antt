@@ -20,18 +20,24 @@ use Rattle.nl_segments.specs.Held.{Body, Progress}
 
 abbrev Parts : Type 0
 Parts =
-    ((Draft × Option Current) × (Option (List ℕ) × List Bool)) × ((Segments × PlaceLines) × (((ℕ × ℕ) × (ℕ × ℕ)) × (List ℕ × List ℕ)))
+    ((Draft × Option Current) × (Option (List ℕ) × List Bool))
+    × ((Segments × PlaceLines) × (((ℕ × ℕ) × (ℕ × ℕ)) × (List ℕ × List ℕ)))
 
 abbrev parts_code : Coded Parts
 parts_code =
-    coded× (coded× (coded× draft_code (coded_option current_row.coded)) (coded× (coded_option (coded_list coded_ℕ)) (coded_list coded_bool)))
+    coded× (coded× (coded× draft_code (coded_option current_row.coded))
+    (coded× (coded_option (coded_list coded_ℕ)) (coded_list coded_bool)))
     (coded× (coded× seen_row.coded places_row.coded)
-    (coded× (coded× (coded× coded_ℕ coded_ℕ) (coded× coded_ℕ coded_ℕ)) (coded× (coded_list coded_ℕ) (coded_list coded_ℕ))))
+    (coded× (coded× (coded× coded_ℕ coded_ℕ) (coded× coded_ℕ coded_ℕ))
+    (coded× (coded_list coded_ℕ) (coded_list coded_ℕ))))
 
 abbrev pub body_code : Coded Body
 body_code =
     code_by Parts parts_code
-    (λ b. (((b.draft, b.current), (b.name, b.marks)), ((b.seen, b.places), (((b.nodes, b.linear), (b.values, b.suffixes)), (b.columns, b.uses)))))
+    (λ b. (
+      ((b.draft, b.current), (b.name, b.marks)),
+      ((b.seen, b.places), (((b.nodes, b.linear), (b.values, b.suffixes)), (b.columns, b.uses))),
+    ))
     (λ p. record {
       draft = p.0.0.0;
       current = p.0.0.1;
@@ -50,7 +56,8 @@ body_code =
 
 abbrev pub progress_code : Coded Progress
 progress_code =
-    code_by (Taken × Option Body) (coded× header_row.coded (coded_option body_code)) (λ g. (g.header, g.body)) (λ p. record { header = p.0; body = p.1 }) (λ _. refl)
+    code_by (Taken × Option Body) (coded× header_row.coded (coded_option body_code))
+    (λ g. (g.header, g.body)) (λ p. record { header = p.0; body = p.1 }) (λ _. refl)
 
 -- the reason and the line of a fault; none for want of memory
 abbrev fault_parts : Stop (TextFault NlReason) → Option (NlReason × ℕ)
@@ -66,4 +73,6 @@ stop_again (Fault f) = refl
 stop_again Memory = refl
 
 abbrev pub stop_code : Coded (Stop (TextFault NlReason))
-stop_code = code_by (Option (NlReason × ℕ)) (coded_option (coded× reason_row.coded coded_ℕ)) fault_parts stop_from stop_again
+stop_code =
+    code_by (Option (NlReason × ℕ)) (coded_option (coded× reason_row.coded coded_ℕ)) fault_parts
+    stop_from stop_again

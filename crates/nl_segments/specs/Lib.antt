@@ -19,3 +19,4 @@ pub mod Steps
 pub mod Taking
 pub mod Tests
 pub mod TreeSteps
+pub mod KnownPairs

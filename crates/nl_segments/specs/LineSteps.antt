@@ -25,4 +25,6 @@ HasRoom d false = length d.bounds < d.counts.n_var
 
 -- of those of variables, as many are left as there are variables from the next one on
 abbrev pub next_interval_tests : Counts → Current → List (List ℕ) → Tests
-next_interval_tests c cur words = interval_form_tests (is_sides cur.head) (not (is_sides cur.head) && is_binary (kind_of c (c.n_var - cur.left))) words
+next_interval_tests c cur words =
+    interval_form_tests (is_sides cur.head)
+    (not (is_sides cur.head) && is_binary (kind_of c (c.n_var - cur.left))) words

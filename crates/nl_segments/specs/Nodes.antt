@@ -45,28 +45,41 @@ counted_opcode o (Some Counted) = Some o
 unfoldable pub dec_of_signed : List ℕ → Option Dec
 dec_of_signed text = option_and_then (λ z. dec_from (whole z)) (signed_of text)
 
--- the node that a row alone is, in a file of n variables: `n` and a decimal text, `s` or `l` and a signed whole number, `v` and an index, or `o` and an opcode
+-- the node that a row alone is, in a file of n variables: `n` and a decimal text, `s` or `l` and a
+-- signed whole number, `v` and an index, or `o` and an opcode
 unfoldable pub node_in : ℕ → List (List ℕ) → Option Node
 node_in n words =
     let letter = letter_of words in
     if letter == 110 then option_map Num (dec_of (leaf_text words)) else
     if (letter == 115) || (letter == 108) then option_map Num (dec_of_signed (leaf_text words)) else
     if letter == 118 then option_map (variable_node n) (own_number words) else
-    if letter == 111 then option_and_then (λ o. fixed_node o (operands_of o)) (own_number words) else None
+    if letter == 111
+    then option_and_then (λ o. fixed_node o (operands_of o)) (own_number words)
+    else None
 
 unfoldable pub opcode_in : List (List ℕ) → Option ℕ
-opcode_in words = if letter_of words == 111 then option_and_then (λ o. counted_opcode o (operands_of o)) (own_number words) else None
+opcode_in words =
+    if letter_of words == 111
+    then option_and_then (λ o. counted_opcode o (operands_of o)) (own_number words)
+    else None
 
 -- an opcode awaits its number of operands
 abbrev pub pending_in : Row → Option Pending
-pending_in row = option_map (λ o. record { opcode = o; line = row.line }) (opcode_in (row_words row))
+pending_in row =
+    option_map (λ o. record { opcode = o; line = row.line }) (opcode_in (row_words row))
 
 abbrev pub placed_in : ℕ → Row → Option Placed
-placed_in n row = option_map (λ node. record { node = node; line = row.line }) (node_in n (row_words row))
+placed_in n row =
+    option_map (λ node. record { node = node; line = row.line }) (node_in n (row_words row))
 
 -- a pending opcode with the number of operands that a row says stands at the opcode's line
 abbrev pub with_operands : Pending → Row → Placed
-with_operands p row = record { node = Op p.opcode (unwrap_or (whole_of (word_at (row_words row) 0)) 0); line = p.line }
+with_operands p row =
+    record {
+      node = Op p.opcode
+          (unwrap_or (whole_of (word_at (row_words row) 0)) 0);
+      line = p.line;
+    }
 
 -- the nodes of rows, before which an opcode may be pending
 unfoldable pub nodes_from : ℕ → Option Pending → List Row → List Placed
@@ -80,7 +93,8 @@ pending_from pending [] = pending
 pending_from None (row ∷ rows) = pending_from (pending_in row) rows
 pending_from (Some p) (row ∷ rows) = pending_from None rows
 
--- the rows of one expression: their nodes, and whether an opcode awaits its number of operands after them
+-- the rows of one expression: their nodes, and whether an opcode awaits its number of operands
+-- after them
 abbrev pub nodes_of : ℕ → List Row → List Placed
 nodes_of n rows = nodes_from n None rows
 

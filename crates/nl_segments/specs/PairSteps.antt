@@ -16,17 +16,24 @@ use Rattle.nl_segments.specs.Held.{keeps_pairs}
 
 -- no more pairs may come, where so many linear terms and values of suffixes came
 abbrev pub is_full_at : Head → ℕ → ℕ → Bool
-is_full_at head linear values = (is_linear head && nat_le most_terms linear) || (is_suffix head && nat_le most_terms values)
+is_full_at head linear values =
+    (is_linear head && nat_le most_terms linear) || (is_suffix head && nat_le most_terms values)
 
 -- the tests of a pair by the marks of the indices that came
 abbrev pub next_pair_tests : Counts → Head → List Bool → Bool → List (List ℕ) → Tests
 next_pair_tests c head marks full words =
     pair_form_tests (index_limit c head) (wants_whole head) words
-    ++ (holds_once head && get_or marks (unwrap_or (whole_of (word_at words 0)) 0) false, RepeatedIndex)
+    ++ (
+      holds_once head
+          && get_or marks (unwrap_or (whole_of (word_at words 0)) 0) false,
+      RepeatedIndex,
+    )
     ∷ (full, TooLarge) ∷ []
 
--- the pair of the next line: its index is in range, and did not come where it comes once, and there is room for it
-pub record SaysFreshPair (c : Counts) (head : Head) (marks : List Bool) (full : Bool) (words : List (List ℕ)) (t : Term) : Type 0 where
+-- the pair of the next line: its index is in range, and did not come where it comes once, and there
+-- is room for it
+pub record SaysFreshPair (c : Counts) (head : Head) (marks : List Bool) (full : Bool)
+    (words : List (List ℕ)) (t : Term) : Type 0 where
   pub says : pair_in words ≡ Some t
   pub below : t.0 < index_limit c head
   pub fresh : (holds_once head && get_or marks t.0 false) ≡ false
@@ -37,16 +44,20 @@ pub record SaysFreshPair (c : Counts) (head : Head) (marks : List Bool) (full : 
 abbrev pub with_given : Draft → Head → Term → Draft
 with_given d (DualGuesses n) t = record d { dual_guesses = d.dual_guesses ++ t ∷ [] }
 with_given d (PrimalGuesses n) t = record d { primal_guesses = d.primal_guesses ++ t ∷ [] }
-with_given d (Terms i n) t = record d { terms = slice_set d.terms i (get_or d.terms i [] ++ t ∷ []) }
-with_given d (Slopes k n) t = record d { slopes = slice_set d.slopes k (get_or d.slopes k [] ++ t ∷ []) }
+with_given d (Terms i n) t =
+    record d { terms = slice_set d.terms i (get_or d.terms i [] ++ t ∷ []) }
+with_given d (Slopes k n) t =
+    record d { slopes = slice_set d.slopes k (get_or d.slopes k [] ++ t ∷ []) }
 with_given d head t = d
 
 -- the file may take it
 abbrev pub CanGive : Draft → Head → Term → Type 0
 CanGive d (DualGuesses n) t = (t.0 < d.counts.n_con) × All (λ s. s.0 ≢ t.0) d.dual_guesses
 CanGive d (PrimalGuesses n) t = (t.0 < d.counts.n_var) × All (λ s. s.0 ≢ t.0) d.primal_guesses
-CanGive d (Terms i n) t = (i < d.counts.n_con) × (t.0 < d.counts.n_var) × (term_count d.terms < most_terms)
-CanGive d (Slopes k n) t = (k < d.counts.n_obj) × (t.0 < d.counts.n_var) × (length (get_or d.slopes k []) < most_terms)
+CanGive d (Terms i n) t =
+    (i < d.counts.n_con) × (t.0 < d.counts.n_var) × (term_count d.terms < most_terms)
+CanGive d (Slopes k n) t =
+    (k < d.counts.n_obj) × (t.0 < d.counts.n_var) × (length (get_or d.slopes k []) < most_terms)
 CanGive d head t = Unit {0}
 
 -- ---- pairs that are kept
@@ -55,14 +66,19 @@ abbrev pub with_kept : Current → Term → Current
 with_kept c t = if keeps_pairs c.head then with_pair c t else less_line c
 
 abbrev pub with_suffix : Draft → Option (List ℕ) → Current → Head → Draft
-with_suffix d name c (Suffix kind n) = record d { suffixes = d.suffixes ++ record { kind = kind; name = unwrap_or name []; values = c.pairs } ∷ [] }
+with_suffix d name c (Suffix kind n) =
+    record d {
+      suffixes = d.suffixes
+          ++ record { kind = kind; name = unwrap_or name []; values = c.pairs } ∷ [];
+    }
 with_suffix d name c head = d
 
 -- a suffix that is complete is given to the file
 abbrev pub with_closed : Draft → Option (List ℕ) → Current → Draft
 with_closed d name c = if is_nothing (current_awaits c) then with_suffix d name c c.head else d
 
-pub record CanAddSuffix (d : Draft) (kind : ℕ) (name : Option (List ℕ)) (values : List Term) : Type 0 where
+pub record CanAddSuffix (d : Draft) (kind : ℕ) (name : Option (List ℕ))
+    (values : List Term) : Type 0 where
   pub named : name ≡ Some (unwrap_or name [])
   pub objects : AreTermsBelow (object_count d.counts kind) values
   pub apart : AreIndicesApart values
@@ -70,7 +86,8 @@ pub record CanAddSuffix (d : Draft) (kind : ℕ) (name : Option (List ℕ)) (val
 
 -- the file may take it
 abbrev pub CanClose : Draft → Option (List ℕ) → Current → Head → Type 0
-CanClose d name c (Suffix kind n) = is_nothing (current_awaits c) ≡ true → CanAddSuffix d kind name c.pairs
+CanClose d name c (Suffix kind n) =
+    is_nothing (current_awaits c) ≡ true → CanAddSuffix d kind name c.pairs
 CanClose d name c head = Unit {0}
 
 -- ---- what judging the next rows needs

@@ -1,4 +1,5 @@
--- The pieces of the body: a head, and the rows up to the next head (Gay 2005, "Writing .nl Files", segments).
+-- The pieces of the body: a head, and the rows up to the next head (Gay 2005, "Writing .nl Files",
+-- segments).
 use Rattle.std.specs.Prelude.{ℕ, ◌==◌, Bool, nat_lt, List, [], ◌∷◌, ◌++◌, length, take, drop, Option, Some, None, option_map, option_and_then, if◌then◌else◌, codes}
 use Rattle.std.specs.List.{fold, filter_map}
 use Rattle.std.specs.Str.{bytes_eq}
@@ -27,7 +28,13 @@ pub record Piece : Type 0 where
 -- a head begins a piece; one of a wrong form, after which nothing is asked, begins none
 abbrev pub with_head : List Piece → Row → Option Head → List Piece
 with_head pieces row None = pieces
-with_head pieces row (Some head) = pieces ++ record { head = head; name = name_in (row_words row); line = row.line; rows = [] } ∷ []
+with_head pieces row (Some head) =
+    pieces ++ record {
+      head = head;
+      name = name_in (row_words row);
+      line = row.line;
+      rows = [];
+    } ∷ []
 
 -- with a row more in the last piece
 unfoldable pub extended : List Piece → Row → List Piece
@@ -36,7 +43,10 @@ extended (p ∷ []) row = record p { rows = p.rows ++ row ∷ [] } ∷ []
 extended (p ∷ q ∷ pieces) row = p ∷ extended (q ∷ pieces) row
 
 abbrev pub with_row : Counts → List Piece → Row → List Piece
-with_row c pieces row = if is_head (row_words row) then with_head pieces row (head_of c (row_words row)) else extended pieces row
+with_row c pieces row =
+    if is_head (row_words row)
+    then with_head pieces row (head_of c (row_words row))
+    else extended pieces row
 
 unfoldable pub pieces_of : Counts → List Row → List Piece
 pieces_of c rows = fold (with_row c) [] rows
@@ -124,7 +134,9 @@ awaited_of c pieces = awaited_by c (last_piece pieces)
 
 -- `index value`
 unfoldable pub pair_in : List (List ℕ) → Option Term
-pair_in words = option_and_then (λ i. option_map (λ d. (i, d)) (dec_of (word_at words 1))) (whole_of (word_at words 0))
+pair_in words =
+    option_and_then (λ i. option_map (λ d. (i, d)) (dec_of (word_at words 1)))
+    (whole_of (word_at words 0))
 
 abbrev pub piece_pairs : Piece → List Term
 piece_pairs p = filter_map (λ r. pair_in (row_words r)) (take (pair_count p.head) p.rows)
@@ -138,11 +150,15 @@ between (Some lo) (Some hi) = Some (record { lo = Some lo; hi = Some hi })
 unfoldable pub interval_in : List (List ℕ) → Option Interval
 interval_in words =
     let kind = word_at words 0 in
-    if bytes_eq kind (codes "0") then between (dec_of (word_at words 1)) (dec_of (word_at words 2)) else
-    if bytes_eq kind (codes "1") then option_map (λ hi. record { lo = None; hi = Some hi }) (dec_of (word_at words 1)) else
-    if bytes_eq kind (codes "2") then option_map (λ lo. record { lo = Some lo; hi = None }) (dec_of (word_at words 1)) else
+    if bytes_eq kind (codes "0") then
+    between (dec_of (word_at words 1)) (dec_of (word_at words 2)) else
+    if bytes_eq kind (codes "1") then
+    option_map (λ hi. record { lo = None; hi = Some hi }) (dec_of (word_at words 1)) else
+    if bytes_eq kind (codes "2") then
+    option_map (λ lo. record { lo = Some lo; hi = None }) (dec_of (word_at words 1)) else
     if bytes_eq kind (codes "3") then Some (record { lo = None; hi = None }) else
-    if bytes_eq kind (codes "4") then between (dec_of (word_at words 1)) (dec_of (word_at words 1)) else None
+    if bytes_eq kind (codes "4") then
+    between (dec_of (word_at words 1)) (dec_of (word_at words 1)) else None
 
 abbrev pub piece_intervals : Piece → List Interval
 piece_intervals p = filter_map (λ r. interval_in (row_words r)) p.rows

@@ -7,11 +7,28 @@ use Rattle.nl_segments.specs.Saying.{OwnerLines, PlaceLines, changed}
 
 -- a head in this line
 abbrev pub with_begun : PlaceLines → ℕ → Head → PlaceLines
-with_begun l line (Body i) = record l { constraints = changed (λ o. record o { head = Some line; nodes = [] }) l.constraints i }
-with_begun l line (Objective k m) = record l { objectives = changed (λ o. record o { head = Some line; nodes = [] }) l.objectives k }
-with_begun l line (Definition i j u) = record l { definitions = l.definitions ++ record { head = Some line; nodes = []; terms = [] } ∷ [] }
-with_begun l line (Terms i n) = record l { constraints = changed (λ o. record o { head = option_or o.head (Some line); terms = [] }) l.constraints i }
-with_begun l line (Slopes k n) = record l { objectives = changed (λ o. record o { terms = [] }) l.objectives k }
+with_begun l line (Body i) =
+    record l {
+      constraints = changed (λ o. record o { head = Some line; nodes = [] })
+          l.constraints i;
+    }
+with_begun l line (Objective k m) =
+    record l {
+      objectives = changed (λ o. record o { head = Some line; nodes = [] })
+          l.objectives k;
+    }
+with_begun l line (Definition i j u) =
+    record l {
+      definitions = l.definitions
+          ++ record { head = Some line; nodes = []; terms = [] } ∷ [];
+    }
+with_begun l line (Terms i n) =
+    record l {
+      constraints = changed
+          (λ o. record o { head = option_or o.head (Some line); terms = [] }) l.constraints i;
+    }
+with_begun l line (Slopes k n) =
+    record l { objectives = changed (λ o. record o { terms = [] }) l.objectives k }
 with_begun l line head = l
 
 abbrev pub more_nodes : ℕ → OwnerLines → OwnerLines
@@ -22,16 +39,22 @@ more_terms line o = record o { terms = o.terms ++ line ∷ [] }
 
 -- a node of the last piece, which has this head
 abbrev pub with_node_line : PlaceLines → ℕ → Head → PlaceLines
-with_node_line l line (Body i) = record l { constraints = changed (more_nodes line) l.constraints i }
-with_node_line l line (Objective k m) = record l { objectives = changed (more_nodes line) l.objectives k }
-with_node_line l line (Definition i j u) = record l { definitions = changed (more_nodes line) l.definitions (length l.definitions - 1) }
+with_node_line l line (Body i) =
+    record l { constraints = changed (more_nodes line) l.constraints i }
+with_node_line l line (Objective k m) =
+    record l { objectives = changed (more_nodes line) l.objectives k }
+with_node_line l line (Definition i j u) =
+    record l { definitions = changed (more_nodes line) l.definitions (length l.definitions - 1) }
 with_node_line l line head = l
 
 -- a term of the last piece, which has this head
 abbrev pub with_term_line : PlaceLines → ℕ → Head → PlaceLines
-with_term_line l line (Definition i j u) = record l { definitions = changed (more_terms line) l.definitions (length l.definitions - 1) }
-with_term_line l line (Terms i n) = record l { constraints = changed (more_terms line) l.constraints i }
-with_term_line l line (Slopes k n) = record l { objectives = changed (more_terms line) l.objectives k }
+with_term_line l line (Definition i j u) =
+    record l { definitions = changed (more_terms line) l.definitions (length l.definitions - 1) }
+with_term_line l line (Terms i n) =
+    record l { constraints = changed (more_terms line) l.constraints i }
+with_term_line l line (Slopes k n) =
+    record l { objectives = changed (more_terms line) l.objectives k }
 with_term_line l line head = l
 
 -- the owner of a head has a place

@@ -68,16 +68,19 @@ HasLines r = (at : At) → HasPlace r.file at → IsSome (line_of r.places at)
 
 -- each place of the file has its line, which is one of so many lines
 abbrev pub HasLinesUpTo : ℕ → NlValue → Type 0
-HasLinesUpTo count v = (at : At) → HasPlace v.file at → IsSomeAnd (line_of v.places at) (λ line. (0 < line) × (line ≤ count))
+HasLinesUpTo count v = (at : At) → HasPlace v.file at
+    → IsSomeAnd (line_of v.places at) (λ line. (0 < line) × (line ≤ count))
 
 -- a head begins the expression of an owner of the file
 abbrev pub BeginsTree : File → Owner → Head → Type 0
 BeginsTree f (Con i) (Body k) = k ≡ i
 BeginsTree f (Obj k) (Objective j maximise) = j ≡ k
-BeginsTree f (Def i) (Definition index j usage) = option_map (λ d. d.index) (slice_get f.definitions i) ≡ Some index
+BeginsTree f (Def i) (Definition index j usage) =
+    option_map (λ d. d.index) (slice_get f.definitions i) ≡ Some index
 BeginsTree f owner head = ⊥
 
--- a tree of an owner has, in prefix form, the nodes of the rows of a piece that begins its expression
+-- a tree of an owner has, in prefix form, the nodes of the rows of a piece that begins its
+-- expression
 pub record HasPiece (s : Standing) (f : File) (owner : Owner) (t : Tree) : Type 0 where
   pub piece : Piece
   pub among : Contains s.pieces piece
@@ -109,7 +112,8 @@ stop_in r = option_map stop_of r.stopped
 
 -- the reader was fed this text
 abbrev pub IsFed : Reading → List ℕ → Type 0
-IsFed r text = Stands r.stopped nl_rules (λ lines. HoldsStanding (standing lines) r.progress) r.lines text
+IsFed r text =
+    Stands r.stopped nl_rules (λ lines. HoldsStanding (standing lines) r.progress) r.lines text
 
 -- what holds of each reader: it was fed some text
 abbrev pub WasFed : Reading → Type 0
@@ -118,7 +122,8 @@ WasFed r = (text : List ℕ) × IsFed r text
 -- the code of what a reader stands for
 abbrev pub reading_code : Coded Reading
 reading_code =
-    code_by (LinesState × (Progress × Option (Stop (TextFault NlReason)))) (coded× lines_row.coded (coded× progress_code (coded_option stop_code)))
+    code_by (LinesState × (Progress × Option (Stop (TextFault NlReason))))
+    (coded× lines_row.coded (coded× progress_code (coded_option stop_code)))
     (λ r. (r.lines, (r.progress, r.stopped)))
     (λ p. record { lines = p.0; progress = p.1.0; stopped = p.1.1 })
     (λ _. refl)

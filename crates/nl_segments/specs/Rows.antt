@@ -1,4 +1,5 @@
--- The rows of an .nl text: its lines that hold words, without their comments. The first ten are the header, and the others are the body.
+-- The rows of an .nl text: its lines that hold words, without their comments. The first ten are the
+-- header, and the others are the body.
 use Rattle.std.specs.Prelude.{ℕ, ◌+◌, ◌==◌, not, Bool, List, [], ◌∷◌, length, take, drop, map, if◌then◌else◌}
 use Rattle.text_base.specs.Words.{words_of, row_of, without_comment}
 
@@ -15,7 +16,9 @@ holds_words line = not (length (words_of (without_comment line)) == 0)
 unfoldable pub rows_from : ℕ → List (List ℕ) → List Row
 rows_from n [] = []
 rows_from n (line ∷ lines) =
-    if holds_words line then record { line = n; text = without_comment line } ∷ rows_from (n + 1) lines else rows_from (n + 1) lines
+    if holds_words line
+    then record { line = n; text = without_comment line } ∷ rows_from (n + 1) lines
+    else rows_from (n + 1) lines
 
 abbrev pub rows_of : List (List ℕ) → List Row
 rows_of lines = rows_from 1 lines

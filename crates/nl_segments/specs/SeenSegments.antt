@@ -4,7 +4,8 @@ use Rattle.nl_model.specs.declared.counts.Counts.{Counts}
 use Rattle.nl_segments.specs.declared.head.Head.{Head}
 use Rattle.nl_segments.specs.declared.head.Head.TheVariants.{Body, Objective, Definition, DualGuesses, PrimalGuesses, Sides, Bounds, ColumnCounts, Terms, Slopes, Suffix}
 
--- a mark for each index of a letter, and one for each letter without an index; the first defined variable has this index
+-- a mark for each index of a letter, and one for each letter without an index; the first defined
+-- variable has this index
 pub record Segments : Type 0 where
   pub first_defined : ℕ
   pub bodies : List Bool
@@ -50,7 +51,8 @@ has_segment s (Suffix kind n) = false
 abbrev pub with_segment : Segments → Head → Segments
 with_segment s (Body i) = record s { bodies = slice_set s.bodies i true }
 with_segment s (Objective k m) = record s { objectives = slice_set s.objectives k true }
-with_segment s (Definition i j u) = record s { definitions = slice_set s.definitions (i - s.first_defined) true }
+with_segment s (Definition i j u) =
+    record s { definitions = slice_set s.definitions (i - s.first_defined) true }
 with_segment s (DualGuesses n) = record s { dual_guesses = true }
 with_segment s (PrimalGuesses n) = record s { primal_guesses = true }
 with_segment s Sides = record s { sides = true }

@@ -17,4 +17,7 @@ after_row s row = if is_in_header s then after_header_row s row else after_body_
 
 -- the line of this number, which may hold no word
 abbrev pub after : Standing → ℕ → List ℕ → Standing
-after s number line = if holds_words line then after_row s (record { line = number; text = without_comment line }) else s
+after s number line =
+    if holds_words line
+    then after_row s (record { line = number; text = without_comment line })
+    else s

@@ -1,4 +1,5 @@
--- What is wrong with a row of the body, or with the end: the first test that holds gives the reason. The order is this project's own.
+-- What is wrong with a row of the body, or with the end: the first test that holds gives the
+-- reason. The order is this project's own.
 use Rattle.std.specs.Prelude.{◌≡◌, false, ◌<◌, ◌≤◌, ℕ, ◌+◌, ◌^◌, ◌==◌, pos, Bool, not, ◌&&◌, ◌||◌, nat_le, nat_lt, List, [], ◌∷◌, ◌++◌, length, sum_by, filter, Option, Some, None, is_some, is_none, unwrap_or, if◌then◌else◌, codes}
 use Rattle.std.specs.List.{list_all, list_any, flat_map}
 use Rattle.std.specs.Option.{option_map_or}
@@ -80,7 +81,8 @@ is_same_head a b = Bool.false
 
 -- a suffix is the same where its name is, too
 abbrev pub is_same_piece : Head → List ℕ → Piece → Bool
-is_same_piece head name p = is_same_head head p.head && (not (is_suffix head) || bytes_eq p.name name)
+is_same_piece head name p =
+    is_same_head head p.head && (not (is_suffix head) || bytes_eq p.name name)
 
 abbrev pub is_repeated : List Piece → Head → List ℕ → Bool
 is_repeated pieces head name = list_any (is_same_piece head name) pieces
@@ -95,8 +97,10 @@ formed_head_tests c pieces name (Some head) =
 
 -- of the words alone
 unfoldable pub head_form_tests : Counts → List (List ℕ) → Tests
-head_form_tests c words =
-    (not (is_segment_letter (letter_of words) || is_refused_letter (letter_of words)), UnknownSegment)
+head_form_tests c words = (
+  not (is_segment_letter (letter_of words) || is_refused_letter (letter_of words)),
+  UnknownSegment,
+)
     ∷ (is_refused_letter (letter_of words), RefusedSegment)
     ∷ (is_none (head_of c words), BadHead) ∷ []
 
@@ -131,7 +135,8 @@ has_index terms i = list_any (λ t. t.0 == i) terms
 -- no more pairs of this kind may come
 abbrev pub is_full : List Piece → Head → Bool
 is_full pieces head =
-    (is_linear head && nat_le most_terms (pair_total is_linear pieces)) || (is_suffix head && nat_le most_terms (pair_total is_suffix pieces))
+    (is_linear head && nat_le most_terms (pair_total is_linear pieces))
+    || (is_suffix head && nat_le most_terms (pair_total is_suffix pieces))
 
 -- of the words alone, where indices are below a limit and values may have to be whole
 unfoldable pub pair_form_tests : ℕ → Bool → List (List ℕ) → Tests
@@ -139,12 +144,20 @@ pair_form_tests limit whole_only words =
     let value = dec_of (word_at words 1) in
     (not (length words == 2 && are_digits (word_at words 0)), BadLine)
     ∷ (not (is_below limit (whole_of (word_at words 0))), IndexOut)
-    ∷ (is_none value || (whole_only && not (option_map_or is_whole value Bool.true)), BadNumber) ∷ []
+    ∷ (
+      is_none value
+          || (whole_only && not (option_map_or is_whole value Bool.true)),
+      BadNumber,
+    ) ∷ []
 
 unfoldable pub pair_tests : Counts → List Piece → Piece → List (List ℕ) → Tests
 pair_tests c pieces p words =
     pair_form_tests (index_limit c p.head) (wants_whole p.head) words
-    ++ (holds_once p.head && has_index (piece_pairs p) (unwrap_or (whole_of (word_at words 0)) 0), RepeatedIndex)
+    ++ (
+      holds_once p.head
+          && has_index (piece_pairs p) (unwrap_or (whole_of (word_at words 0)) 0),
+      RepeatedIndex,
+    )
     ∷ (is_full pieces p.head, TooLarge) ∷ []
 
 -- ---- A line of k.
@@ -166,14 +179,18 @@ side_count kind =
     if bytes_eq kind (codes "4") then Some 1 else None
 
 abbrev pub has_sides : List (List ℕ) → Bool
-has_sides words = option_map_or (λ n. length words == n + 1) (side_count (word_at words 0)) Bool.false
+has_sides words =
+    option_map_or (λ n. length words == n + 1) (side_count (word_at words 0)) Bool.false
 
 abbrev pub is_value_below : ℚ → ℚ → Bool
 is_value_below x y = is_lt (order_of x y)
 
 -- the lower side is above the upper side
 abbrev pub is_empty : Interval → Bool
-is_empty i = option_map_or (λ lo. option_map_or (λ hi. is_value_below (dec_value hi) (dec_value lo)) i.hi Bool.false) i.lo Bool.false
+is_empty i =
+    option_map_or
+    (λ lo. option_map_or (λ hi. is_value_below (dec_value hi) (dec_value lo)) i.hi Bool.false)
+    i.lo Bool.false
 
 -- both sides are there, from 0 to 1
 abbrev pub is_within_unit : Interval → Bool
@@ -255,7 +272,8 @@ node_form_tests c d words =
     ∷ leaf_tests c d words
 
 unfoldable pub node_tests : Counts → Draft → List Piece → List (List ℕ) → Tests
-node_tests c d pieces words = node_form_tests c d words ++ (nat_le (2 ^ 22) (node_total c pieces), TooLarge) ∷ []
+node_tests c d pieces words =
+    node_form_tests c d words ++ (nat_le (2 ^ 22) (node_total c pieces), TooLarge) ∷ []
 
 -- ---- A line with a number of operands.
 
@@ -290,13 +308,16 @@ line_tests c d pieces words (Some p) = awaited_tests c d pieces p words (awaited
 
 -- a row of the body with these words, after these pieces, which say the draft d
 unfoldable pub row_tests : Counts → Draft → List Piece → List (List ℕ) → Tests
-row_tests c d pieces words = if is_head words then head_tests c pieces words else line_tests c d pieces words (last_piece pieces)
+row_tests c d pieces words =
+    if is_head words then head_tests c pieces words
+    else line_tests c d pieces words (last_piece pieces)
 
 -- ---- The end.
 
 -- an objective, or an interval of a constraint or a variable, was not given
 abbrev pub is_short : Draft → Bool
-is_short d = not (list_all is_some d.objectives) || nat_lt (length d.sides) d.counts.n_con || nat_lt (length d.bounds) d.counts.n_var
+is_short d = not (list_all is_some d.objectives) || nat_lt (length d.sides) d.counts.n_con
+    || nat_lt (length d.bounds) d.counts.n_var
 
 -- the numbers of the piece of columns, if it is there
 abbrev pub column_counts : Piece → Head → List ℕ

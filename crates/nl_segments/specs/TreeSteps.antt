@@ -25,8 +25,16 @@ use Rattle.nl_segments.specs.Tests.{Tests, node_form_tests}
 -- a draft with the expression of a piece of this head, after these terms
 abbrev pub with_tree : Draft → Head → List Term → Tree → Draft
 with_tree d (Body i) terms tree = record d { bodies = slice_set d.bodies i (Some tree) }
-with_tree d (Objective k maximise) terms tree = record d { objectives = slice_set d.objectives k (Some (record { maximise = maximise; tree = tree })) }
-with_tree d (Definition i j usage) terms tree = record d { definitions = d.definitions ++ record { index = i; terms = terms; usage = usage; tree = tree } ∷ [] }
+with_tree d (Objective k maximise) terms tree =
+    record d {
+      objectives = slice_set d.objectives k
+          (Some (record { maximise = maximise; tree = tree }));
+    }
+with_tree d (Definition i j usage) terms tree =
+    record d {
+      definitions = d.definitions
+          ++ record { index = i; terms = terms; usage = usage; tree = tree } ∷ [];
+    }
 with_tree d head terms tree = d
 
 -- the index is that of a defined variable that was not given, and its terms are right
@@ -51,11 +59,14 @@ pub record MayTake (d : Draft) (head : Head) (terms : List Term) (tree : Tree) :
 
 -- the last piece is kept where it is not complete; else its expression is in the draft
 abbrev pub IsSettled : Draft → Current → Option Current → Draft → Type 0
-IsSettled old cur (Some kept) new = (is_nothing (current_awaits cur) ≡ false) × (kept ≡ cur) × (new ≡ old)
-IsSettled old cur None new = (is_nothing (current_awaits cur) ≡ true) × (new ≡ with_tree old cur.head cur.pairs (tree_of cur.nodes))
+IsSettled old cur (Some kept) new =
+    (is_nothing (current_awaits cur) ≡ false) × (kept ≡ cur) × (new ≡ old)
+IsSettled old cur None new = (is_nothing (current_awaits cur) ≡ true)
+    × (new ≡ with_tree old cur.head cur.pairs (tree_of cur.nodes))
 
 -- a piece may take a row of its expression, whose node or opcode stands in this line
-pub record CanTakeRow (d : Draft) (l : PlaceLines) (cur : Current) (row : NodeRow) (line : ℕ) : Type 0 where
+pub record CanTakeRow (d : Draft) (l : PlaceLines) (cur : Current) (row : NodeRow)
+    (line : ℕ) : Type 0 where
   pub wanted : 0 < awaited cur.nodes
   pub few : length cur.nodes < 2 ^ 22
   pub formed : IsFormedRow row
@@ -81,4 +92,5 @@ pub record IsNextRow (c : Counts) (nodes : ℕ) (words : List (List ℕ)) (row :
 
 -- what is wrong with a node, after so many nodes
 abbrev pub counted_node_tests : Counts → Draft → ℕ → List (List ℕ) → Tests
-counted_node_tests c d nodes words = node_form_tests c d words ++ (nat_le (2 ^ 22) nodes, TooLarge) ∷ []
+counted_node_tests c d nodes words =
+    node_form_tests c d words ++ (nat_le (2 ^ 22) nodes, TooLarge) ∷ []

@@ -5,6 +5,7 @@ ghost use Rattle.nl_model.specs.Draft.{IsDraft};
 ghost use Rattle.nl_segments.specs.declared.head.Head.{Head};
 ghost use Rattle.nl_segments.specs.Heads.{is_head};
 ghost use Rattle.nl_segments.specs.Held.{IsHeld, IsHeaderOf, only_header, TakesRow, HasRow, Finishes};
+ghost use Rattle.nl_segments.specs.KnownPairs.{is_pair};
 ghost use Rattle.nl_segments.specs.Taking.{body_awaits};
 ghost use Rattle.nl_segments.specs.Tests.{index_limit};
 ghost use Rattle.nl_segments.specs.Ending.{body_end_tests};
@@ -23,7 +24,8 @@ use std::alloc::{AllocError, Global};
 use std::marker::Model;
 use text_base::{Marks, Name, Stop};
 
-/// The rows of the body so far: the file, the last piece where it is not complete, and what judging the next row needs.
+/// The rows of the body so far: the file, the last piece where it is not complete, and what judging
+/// the next row needs.
 #[derive(Drop)]
 pub struct BodyReader {
     pub(crate) alloc: Global,
@@ -53,9 +55,36 @@ impl Model for BodyReader {
 
     ghost coded = { body_code };
 
-    ghost view = { λ b. record { draft = b.builder; current = b.current; name = b.name; marks = b.marks; seen = b.seen; nodes = b.nodes; linear = b.linear; values = b.values; suffixes = b.suffixes; columns = b.columns.items; uses = b.uses.items; places = b.places } };
+    ghost view = { λ b. record {
+      draft = b.builder;
+      current = b.current;
+      name = b.name;
+      marks = b.marks;
+      seen = b.seen;
+      nodes = b.nodes;
+      linear = b.linear;
+      values = b.values;
+      suffixes = b.suffixes;
+      columns = b.columns.items;
+      uses = b.uses.items;
+      places = b.places;
+    } };
 
-    ghost invariant = { λ b. b.is_broken ≡ false → HoldsSome (record { draft = b.builder; current = b.current; name = b.name; marks = b.marks; seen = b.seen; nodes = b.nodes; linear = b.linear; values = b.values; suffixes = b.suffixes; columns = b.columns.items; uses = b.uses.items; places = b.places }) };
+    ghost invariant = { λ b. b.is_broken ≡ false
+        → HoldsSome (record {
+          draft = b.builder;
+          current = b.current;
+          name = b.name;
+          marks = b.marks;
+          seen = b.seen;
+          nodes = b.nodes;
+          linear = b.linear;
+          values = b.values;
+          suffixes = b.suffixes;
+          columns = b.columns.items;
+          uses = b.uses.items;
+          places = b.places;
+        }) };
 }
 
 // So many zeros.
@@ -77,7 +106,9 @@ impl BodyReader {
     /// A reader of the rows after this header.
     pub(crate) fn new(alloc: Global, header: Header) -> Result<BodyReader, AllocError>
         requires { (rows : List (List (List ℕ))) × IsHeaderOf rows header.options header.counts }
-        ensures { IfOk result (λ b. (rows : List (List (List ℕ))) → IsHeaderOf rows header.options header.counts → IsHeld (only_header rows) b) }
+        ensures { IfOk result
+            (λ b. (rows : List (List (List ℕ))) → IsHeaderOf rows header.options header.counts
+            → IsHeld (only_header rows) b) }
     {
         let counts = *header.counts();
         let marks = Marks::new(alloc, most_indices(&counts))?;
@@ -137,6 +168,16 @@ impl BodyReader {
         match &self.current {
             Some(current) => current.awaited(),
             None => Awaited::Nothing,
+        }
+    }
+
+    /// Whether a pair is awaited.
+    pub(crate) fn awaits_pair(&self) -> bool
+        ensures { result ≡ is_pair (body_awaits self.now.current) }
+    {
+        match self.awaited() {
+            Awaited::Pair => true,
+            _ => false,
         }
     }
 

@@ -7,8 +7,8 @@ ghost use Rattle.nl_segments.specs.Held.{HasRow, TakesRow, IsAwaiting};
 
 use crate::body::BodyReader;
 use crate::closing::count_line;
-use crate::counts::read_column;
 use crate::fault::NlReason;
+use crate::number_lines::read_column;
 use text_base::Stop;
 
 impl BodyReader {

@@ -6,6 +6,7 @@ ghost use Rattle.text_base.specs.Words.{texts};
 ghost use Rattle.nl_segments.specs.Heads.{is_head, head_of, is_in_range, name_in};
 ghost use Rattle.nl_segments.specs.HeadSteps.{has_come, has_come_suffix, held_head_tests, new_head_tests, begun_current, begun_name, begun_count, begun_draft};
 ghost use Rattle.nl_segments.specs.Held.{TakesRow, HasRow};
+ghost use Rattle.nl_segments.specs.PlaceSteps.{HasOwner};
 ghost use Rattle.nl_segments.specs.SeenSegments.{IsSeenIn};
 ghost use Rattle.nl_segments.specs.Tests.{is_suffix};
 
@@ -15,6 +16,7 @@ use crate::fault::NlReason;
 use crate::head::Head;
 use crate::head_rules::{is_suffix, line_count};
 use crate::heads::{is_in_range, read_head};
+use crate::places::Places;
 use crate::seen::Seen;
 use nl_model::{Counts, NlBuilder, Suffix, Terms};
 use std::alloc::{AllocError, Global};
@@ -52,8 +54,11 @@ fn judge(
     head: Head,
     name: &[u8],
 ) -> Result<(), NlReason>
-    requires { is_in_range builder.now.counts head ≡ true → is_suffix head ≡ false → IsSeenIn seen.now head }
-    ensures { Decides (held_head_tests builder.now.counts seen.now builder.now.suffixes suffixes name.now head) (λ _. Unit {0}) result }
+    requires { is_in_range builder.now.counts head ≡ true → is_suffix head ≡ false
+        → IsSeenIn seen.now head }
+    ensures { Decides
+        (held_head_tests builder.now.counts seen.now builder.now.suffixes suffixes name.now head)
+        (λ _. Unit {0}) result }
 {
     if !is_in_range(builder.header().counts(), head) {
         return Err(NlReason::IndexOut);
@@ -78,8 +83,12 @@ fn new_head(
     suffixes: u32,
     words: &[&[u8]],
 ) -> Result<Head, NlReason>
-    requires { (head : Head) → is_in_range builder.now.counts head ≡ true → is_suffix head ≡ false → IsSeenIn seen.now head }
-    ensures { Decides (new_head_tests builder.now.counts is_open seen.now builder.now.suffixes suffixes (texts words.now)) (λ head. head_of builder.now.counts (texts words.now) ≡ Some head) result }
+    requires { (head : Head) → is_in_range builder.now.counts head ≡ true → is_suffix head ≡ false
+        → IsSeenIn seen.now head }
+    ensures { Decides
+        (new_head_tests builder.now.counts is_open seen.now builder.now.suffixes suffixes
+        (texts words.now))
+        (λ head. head_of builder.now.counts (texts words.now) ≡ Some head) result }
 {
     if is_open {
         return Err(NlReason::ShortSegment);
@@ -162,6 +171,21 @@ fn begun_count(head: Head, suffixes: u32) -> u32
     suffixes
 }
 
+// Makes room for the terms that a head announces, of which no more are expected than variables.
+fn make_room(builder: &mut NlBuilder, places: &mut Places, head: Head) -> Result<(), AllocError>
+    requires range { is_in_range builder.old.counts head ≡ true }
+    requires owner { HasOwner places.old head }
+    ensures builder { builder.new ≡ builder.old }
+    ensures places { places.new ≡ places.old }
+{
+    let Head::Terms(con, count) = head else {
+        return Ok(());
+    };
+    let room = count.min(builder.header().counts().n_var) as usize;
+    builder.make_room(con, room)?;
+    places.make_room(con, room)
+}
+
 impl BodyReader {
     /// A row that is a head.
     pub(crate) fn take_head(&mut self, words: &[&[u8]], line: u32) -> Result<(), Stop<NlReason>>
@@ -184,6 +208,7 @@ impl BodyReader {
         self.seen.add(head);
         self.suffixes = begun_count(head, self.suffixes);
         self.name = begun_name(self.alloc, head, name)?;
+        make_room(&mut self.builder, &mut self.places, head)?;
         self.places.begin(self.alloc, head, line)?;
         give_empty_suffix(&mut self.builder, self.alloc, head, name)?;
         self.is_broken = false;

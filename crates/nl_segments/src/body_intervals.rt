@@ -39,11 +39,14 @@ fn is_binary(kind: Kind) -> bool
     }
 }
 
-// Whether the next variable is binary, where so many intervals are left. Those of constraints are of none.
+// Whether the next variable is binary, where so many intervals are left. Those of constraints are
+// of none.
 fn wants_unit(header: &Header, of_constraint: bool, left: u32) -> bool
     requires some { 0 < left }
     requires most { of_constraint ≡ false → left ≤ header.now.counts.n_var }
-    ensures { result ≡ (not of_constraint && is_binary (kind_of header.now.counts (header.now.counts.n_var - left))) }
+    ensures { result
+        ≡ (not of_constraint
+        && is_binary (kind_of header.now.counts (header.now.counts.n_var - left))) }
 {
     if of_constraint {
         return false;
@@ -55,7 +58,8 @@ fn wants_unit(header: &Header, of_constraint: bool, left: u32) -> bool
 fn read_next(header: &Header, current: &Current, words: &[&[u8]]) -> Result<Interval, NlReason>
     requires some { 0 < current.now.left }
     requires most { is_sides current.now.head ≡ false → current.now.left ≤ header.now.counts.n_var }
-    ensures { Decides (next_interval_tests header.now.counts current.now (texts words.now)) (SaysInterval (texts words.now)) result }
+    ensures { Decides (next_interval_tests header.now.counts current.now (texts words.now))
+        (SaysInterval (texts words.now)) result }
 {
     let of_constraint = is_sides(current.head());
     let unit = wants_unit(header, of_constraint, current.left());

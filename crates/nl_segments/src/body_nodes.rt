@@ -27,7 +27,8 @@ const MOST_NODES: u32 = 4_194_304;
 
 // A row of an expression, after so many nodes.
 fn read_row(words: &[&[u8]], builder: &NlBuilder, nodes: u32) -> Result<NodeRow, NlReason>
-    ensures { Decides (counted_node_tests builder.now.counts builder.now nodes (texts words.now)) (IsNextRow builder.now.counts nodes (texts words.now)) result }
+    ensures { Decides (counted_node_tests builder.now.counts builder.now nodes (texts words.now))
+        (IsNextRow builder.now.counts nodes (texts words.now)) result }
 {
     let row = match read_node(words, builder) {
         Ok(row) => row,
@@ -88,8 +89,10 @@ fn give_tree(
 // The last piece, where it is not complete; else its expression is given to the file.
 fn settle(builder: &mut NlBuilder, current: Current) -> Result<Option<Current>, AllocError>
     requires tree { has_tree current.head ≡ true }
-    requires fresh { current_awaits current ≡ Nothing → IsFresh builder.old current.head current.pairs }
-    requires known { All (IsNodeKnown builder.old.counts.n_var builder.old.definitions) current.nodes }
+    requires fresh { current_awaits current ≡ Nothing
+        → IsFresh builder.old current.head current.pairs }
+    requires known { All
+        (IsNodeKnown builder.old.counts.n_var builder.old.definitions) current.nodes }
     ensures { IfOk result (λ kept. IsSettled builder.old current kept builder.new) }
 {
     if current.awaited() != Awaited::Nothing {
@@ -112,7 +115,8 @@ pub(crate) fn take_row(
 ) -> Result<Option<Current>, AllocError>
     requires { CanTakeRow builder.old places.old current row line }
     ensures places { OnOk result (places.new ≡ with_row_line places.old line current.head row) }
-    ensures settled { IfOk result (λ kept. IsSettled builder.old (with_node_row current line row) kept builder.new) }
+    ensures settled { IfOk result
+        (λ kept. IsSettled builder.old (with_node_row current line row) kept builder.new) }
 {
     let mut current = current;
     add_row_line(places, current.head(), row, line)?;

@@ -7,9 +7,9 @@ ghost use Rattle.nl_segments.specs.Held.{TakesRow, IsAwaiting, HasRow};
 
 use crate::body::BodyReader;
 use crate::body_nodes::take_row;
-use crate::counts::read_operand_count;
 use crate::fault::NlReason;
 use crate::node_row::NodeRow;
+use crate::number_lines::read_operand_count;
 use nl_model::Node;
 use text_base::Stop;
 

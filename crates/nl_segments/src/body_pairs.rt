@@ -1,5 +1,5 @@
 // A line of an index and a value.
-ghost use Rattle.std.specs.Prelude.{◌≡◌, ◌<◌, ◌≤◌, ◌&&◌, length, get_or, true, false, Some, None, IsSome, IsTrue, IsSomeAnd, IfSome, IfOk, IfErr, OnOk, if◌then◌else◌};
+ghost use Rattle.std.specs.Prelude.{ℕ, List, ◌≡◌, ◌<◌, ◌≤◌, ◌&&◌, length, get_or, true, false, Some, None, IsSome, IsTrue, IsSomeAnd, IfSome, IfOk, IfErr, OnOk, if◌then◌else◌};
 ghost use Rattle.text_base.specs.Judged.{Decides};
 ghost use Rattle.text_base.specs.Words.{texts};
 ghost use Rattle.nl_model.specs.Rules.{most_terms};
@@ -7,6 +7,7 @@ ghost use Rattle.nl_segments.specs.declared.awaited.Awaited.TheVariants.{Pair};
 ghost use Rattle.nl_segments.specs.Current.{current_awaits};
 ghost use Rattle.nl_segments.specs.Heads.{is_head};
 ghost use Rattle.nl_segments.specs.Held.{HasRow, TakesRow, IsAwaiting};
+ghost use Rattle.nl_segments.specs.KnownPairs.{HasGoodPair, HasPairRow, IsGoodPair, IsPairRow, known_pair_tests};
 ghost use Rattle.nl_segments.specs.LineSteps.{unless_complete};
 ghost use Rattle.nl_segments.specs.PairSteps.{CanClose, CanGive, CanUse, SaysFreshPair, next_pair_tests, one_more, with_closed, with_given, with_kept, with_mark, with_suffix, with_use};
 ghost use Rattle.nl_segments.specs.Pieces.{is_nothing};
@@ -20,7 +21,7 @@ use crate::head::Head;
 use crate::head_rules::{
     holds_once, index_limit, is_full, is_linear, is_suffix, keeps_pairs, wants_whole,
 };
-use crate::pairs::read_pair;
+use crate::pairs::{is_refused, read_pair};
 use exact_numbers::Dec;
 use nl_model::{Counts, NlBuilder, Suffix};
 use std::alloc::AllocError;
@@ -46,7 +47,8 @@ fn read_next(
     words: &[&[u8]],
 ) -> Result<(u32, Dec), NlReason>
     requires { index_limit counts.now head ≤ length marks.now }
-    ensures { Decides (next_pair_tests counts.now head marks.now full (texts words.now)) (SaysFreshPair counts.now head marks.now full (texts words.now)) result }
+    ensures { Decides (next_pair_tests counts.now head marks.now full (texts words.now))
+        (SaysFreshPair counts.now head marks.now full (texts words.now)) result }
 {
     let pair = match read_pair(words, index_limit(counts, head), wants_whole(head)) {
         Ok(pair) => pair,
@@ -112,20 +114,27 @@ fn close_line(
     pair: (u32, Dec),
 ) -> Result<(), AllocError>
     requires left { IsSomeAnd current.old (λ c. 0 < c.left) }
-    requires can { IfSome current.old (λ c. CanClose builder.old name.old (with_kept c pair) c.head) }
-    ensures current { OnOk result (IfSome current.old (λ c. current.new ≡ unless_complete (with_kept c pair))) }
-    ensures builder { OnOk result (IfSome current.old (λ c. builder.new ≡ with_closed builder.old name.old (with_kept c pair))) }
-    ensures name { OnOk result (IfSome current.old (λ c. name.new ≡ (if is_nothing (current_awaits (with_kept c pair)) then None else name.old))) }
+    requires can { IfSome current.old
+        (λ c. CanClose builder.old name.old (with_kept c pair) c.head) }
+    ensures current { OnOk result
+        (IfSome current.old (λ c. current.new ≡ unless_complete (with_kept c pair))) }
+    ensures builder { OnOk result
+        (IfSome current.old
+        (λ c. builder.new ≡ with_closed builder.old name.old (with_kept c pair))) }
+    ensures name { OnOk result
+        (IfSome current.old
+        (λ c. name.new
+        ≡ (if is_nothing (current_awaits (with_kept c pair)) then None else name.old))) }
 {
-    let Some(mut held) = current.take() else {
+    let Some(held) = current else { unreachable!() };
+    keep_pair(held, pair)?;
+    if !is_nothing(held.awaited()) {
+        return Ok(());
+    }
+    let Some(whole) = current.take() else {
         unreachable!()
     };
-    keep_pair(&mut held, pair)?;
-    if is_nothing(held.awaited()) {
-        return give_suffix(builder, name.take(), held);
-    }
-    *current = Some(held);
-    Ok(())
+    give_suffix(builder, name.take(), whole)
 }
 
 // Marks an index that comes once.
@@ -159,6 +168,33 @@ fn count(total: &mut u32, counts: bool)
     }
 }
 
+// What is wrong with a pair, whose line is an index and a value alone.
+fn judge_pair(
+    counts: &Counts,
+    head: Head,
+    marks: &Marks,
+    full: bool,
+    pair: (u32, Dec),
+) -> Result<(), NlReason>
+    requires { index_limit counts.now head ≤ length marks.now }
+    ensures { Decides (known_pair_tests counts.now head marks.now full pair)
+        (λ _. Unit {0}) result }
+{
+    if pair.0 >= index_limit(counts, head) {
+        return Err(NlReason::IndexOut);
+    }
+    if is_refused(pair.1, wants_whole(head)) {
+        return Err(NlReason::BadNumber);
+    }
+    if is_repeated(head, marks, pair.0) {
+        return Err(NlReason::RepeatedIndex);
+    }
+    if full {
+        return Err(NlReason::TooLarge);
+    }
+    Ok(())
+}
+
 impl BodyReader {
     /// A line of an index and a value.
     pub(crate) fn take_pair(&mut self, words: &[&[u8]], line: u32) -> Result<(), Stop<NlReason>>
@@ -180,6 +216,42 @@ impl BodyReader {
             Ok(pair) => pair,
             Err(reason) => return Err(Stop::Fault(reason)),
         };
+        self.keep(head, pair, line)
+    }
+
+    /// A line that is an index and a value alone, this pair.
+    pub(crate) fn take_known(&mut self, pair: (u32, Dec), line: u32) -> Result<(), Stop<NlReason>>
+        requires awaited { IsAwaiting Pair self.old }
+        requires exists { HasPairRow pair line }
+        ensures { (words : List (List ℕ)) → IsPairRow words pair
+            → TakesRow self.old words line result self.new }
+    {
+        if self.is_broken {
+            return Err(Stop::Memory);
+        }
+        let Some(current) = &self.current else {
+            unreachable!()
+        };
+        let head = current.head();
+        let full = is_full(head, self.linear, self.values);
+        let counts = self.builder.header().counts();
+        if let Err(reason) = judge_pair(counts, head, &self.marks, full, pair) {
+            return Err(Stop::Fault(reason));
+        }
+        self.keep(head, pair, line)
+    }
+
+    // Keeps a pair with which nothing is wrong, in a piece of this head.
+    fn keep(&mut self, head: Head, pair: (u32, Dec), line: u32) -> Result<(), Stop<NlReason>>
+        requires awaited { IsAwaiting Pair self.old }
+        requires head { IsSomeAnd self.old.current (λ c. head ≡ c.head) }
+        requires good { HasGoodPair self.old head pair line }
+        ensures { (words : List (List ℕ)) → IsGoodPair self.old head pair words
+            → TakesRow self.old words line result self.new }
+    {
+        if self.is_broken {
+            return Err(Stop::Memory);
+        }
         self.is_broken = true;
         give_pair(&mut self.builder, head, pair)?;
         self.places.add_term(head, line)?;

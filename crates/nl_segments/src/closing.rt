@@ -17,24 +17,14 @@ pub(crate) fn is_nothing(awaited: Awaited) -> bool
     }
 }
 
-// The piece, unless it is complete.
-fn unless_complete(current: Current) -> Option<Current>
-    ensures { result ≡ unless_complete current }
-{
-    if is_nothing(current.awaited()) {
-        return None;
-    }
-    Some(current)
-}
-
 /// Counts a line that is kept elsewhere.
 pub(crate) fn count_line(current: &mut Option<Current>)
     requires { IsSomeAnd current.old (λ c. 0 < c.left) }
     ensures { IfSome current.old (λ c. current.new ≡ unless_complete (less_line c)) }
 {
-    let Some(mut held) = current.take() else {
-        unreachable!()
-    };
+    let Some(held) = current else { unreachable!() };
     held.take_line();
-    *current = unless_complete(held);
+    if is_nothing(held.awaited()) {
+        *current = None;
+    }
 }

@@ -14,7 +14,8 @@ use nl_model::{ExprBuilder, Terms};
 use std::alloc::{AllocError, Global};
 use std::marker::Model;
 
-/// The piece that was begun last: its head, how many lines before an expression are still awaited, and what was read of it.
+/// The piece that was begun last: its head, how many lines before an expression are still awaited,
+/// and what was read of it.
 #[derive(Drop)]
 pub struct Current {
     head: Head,
@@ -31,7 +32,14 @@ impl Model for Current {
 
     ghost Value = { CurrentValue };
 
-    ghost view = { λ c. record { head = c.head; line = c.line; left = c.left; pairs = c.pairs; nodes = c.nodes; pending = c.pending } };
+    ghost view = { λ c. record {
+      head = c.head;
+      line = c.line;
+      left = c.left;
+      pairs = c.pairs;
+      nodes = c.nodes;
+      pending = c.pending;
+    } };
 
     ghost invariant = { λ c. IfSome c.pending (IsPending c.nodes) };
 }

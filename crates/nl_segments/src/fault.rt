@@ -36,7 +36,8 @@ pub enum NlReason {
     EndInHeader,
 }
 
-/// The first fault of a text: why, in which line, counted from 1, and the opcode that is refused; 0 for any other reason.
+/// The first fault of a text: why, in which line, counted from 1, and the opcode that is refused; 0
+/// for any other reason.
 #[derive(Clone, Copy, Debug, PartialEq, Eq)]
 pub struct NlFault {
     pub reason: NlReason,

@@ -1,14 +1,18 @@
 // The grammar of .nl texts, a line at a time.
-ghost use Rattle.std.specs.Prelude.{◌≡◌, ◌<◌, [], length, None};
-ghost use Rattle.text_base.specs.Words.{words_of, row_of};
+ghost use Rattle.std.specs.Prelude.{◌≡◌, ◌<◌, ℕ, List, [], length, None, IsSome, IfSome, IsSomeAnd};
+ghost use Rattle.text_base.specs.Words.{words_of, row_of, without_comment};
+ghost use Rattle.nl_segments.specs.declared.awaited.Awaited.TheVariants.{Pair};
 ghost use Rattle.nl_segments.specs.Grammar.{standing, nl_rules, SaysFile, fault_refusal, reason_of};
-ghost use Rattle.nl_segments.specs.Held.{HoldsStanding};
+ghost use Rattle.nl_segments.specs.Held.{HoldsStanding, IsAwaiting};
+ghost use Rattle.nl_segments.specs.KnownPairs.{HasPairRow, IsPairRow};
 ghost use Rattle.nl_segments.specs.Reader.{value_of};
-ghost use Rattle.nl_segments.specs.Taking.{TakesHeaderRow, TakesAnyRow};
+ghost use Rattle.nl_segments.specs.Taking.{TakesHeaderRow, TakesAnyRow, TakesLine};
 
 use crate::body::BodyReader;
 use crate::fault::NlReason;
 use crate::nl_read::NlRead;
+use crate::pair_line::pair_of_line;
+use exact_numbers::Dec;
 use nl_header::{HeadFault, HeaderReader};
 use std::alloc::Global;
 use std::marker::Model;
@@ -70,12 +74,10 @@ impl Grammar for NlGrammar {
     ghost says = { λ s lines r. SaysFile lines (value_of r) };
 
     fn take(&mut self, line: &[u8], number: u32) -> Result<(), Stop<NlReason>> {
-        let text = strip_comment(line);
-        let row = Row::of(text);
-        if row.words().is_empty() {
-            return Ok(());
+        if let Some(pair) = self.next_pair(line) {
+            return self.take_pair(pair, number);
         }
-        self.take_row(text, &row, number)
+        self.take_any(line, number)
     }
 
     fn line_fault(&self, fault: LineFault) -> NlReason {
@@ -105,11 +107,52 @@ impl NlGrammar {
         }
     }
 
+    // The pair of a line, where the body awaits one and the line is one of the common form.
+    fn next_pair(&self, line: &[u8]) -> Option<(u32, Dec)>
+        ensures awaited { IsSome result → IsSomeAnd self.now.body (λ b. IsAwaiting Pair b) }
+        ensures pair { IfSome result (λ t. IsPairRow (row_of (without_comment line.now)) t) }
+    {
+        let Some(body) = &self.body else {
+            return None;
+        };
+        if !body.awaits_pair() {
+            return None;
+        }
+        pair_of_line(line)
+    }
+
+    // Takes a line of the body that is an index and a value alone, this pair.
+    fn take_pair(&mut self, pair: (u32, Dec), number: u32) -> Result<(), Stop<NlReason>>
+        requires awaited { IsSomeAnd self.old.body (λ b. IsAwaiting Pair b) }
+        requires exists { HasPairRow pair number }
+        ensures { (text : List ℕ) → IsPairRow (row_of text) pair
+            → TakesAnyRow self.old (record { line = number; text = text }) result self.new }
+    {
+        let Some(body) = &mut self.body else {
+            unreachable!()
+        };
+        body.take_known(pair, number)
+    }
+
+    // Takes a line of any form. The room of its row is not made where a pair is read at once.
+    #[inline(never)]
+    fn take_any(&mut self, line: &[u8], number: u32) -> Result<(), Stop<NlReason>>
+        ensures { TakesLine self.old line.now number result self.new }
+    {
+        let text = strip_comment(line);
+        let row = Row::of(text);
+        if row.words().is_empty() {
+            return Ok(());
+        }
+        self.take_row(text, &row, number)
+    }
+
     // Takes a row of the header. After an `Err` nothing was taken.
     fn take_header(&mut self, text: &[u8], number: u32) -> Result<(), Stop<NlReason>>
         requires none { self.old.body ≡ None }
         requires words { 0 < length (words_of text.now) }
-        ensures { TakesHeaderRow self.old (record { line = number; text = text.now }) result self.new }
+        ensures { TakesHeaderRow self.old (record { line = number; text = text.now })
+            result self.new }
     {
         let _ = number;
         let mut header = mem::replace(&mut self.header, HeaderReader::new());

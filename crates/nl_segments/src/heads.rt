@@ -202,7 +202,9 @@ pub(crate) fn defined_end(counts: &Counts) -> u64
 
 // Whether the index is that of a defined variable.
 fn is_definition_index(counts: &Counts, index: u32) -> bool
-    ensures { result ≡ (nat_le counts.now.n_var index && nat_lt index (counts.now.n_var + defined_count counts.now)) }
+    ensures { result
+        ≡ (nat_le counts.now.n_var index
+        && nat_lt index (counts.now.n_var + defined_count counts.now)) }
 {
     counts.n_var <= index && (index as u64) < defined_end(counts)
 }
@@ -225,7 +227,8 @@ pub(crate) fn is_in_range(counts: &Counts, head: Head) -> bool
 /// What a head says, or what is wrong with its form.
 #[tactic(auto, unfolding(crate::specs::Tests::head_form_tests))]
 pub(crate) fn read_head(counts: &Counts, words: &[&[u8]]) -> Result<Head, NlReason>
-    ensures { Decides (head_form_tests counts.now (texts words.now)) (λ head. head_of counts.now (texts words.now) ≡ Some head) result }
+    ensures { Decides (head_form_tests counts.now (texts words.now))
+        (λ head. head_of counts.now (texts words.now) ≡ Some head) result }
 {
     let letter = letter_of(words);
     if is_refused_letter(letter) {

@@ -151,7 +151,8 @@ pub(crate) fn read_interval(
     of_constraint: bool,
     unit: bool,
 ) -> Result<Interval, NlReason>
-    ensures { Decides (interval_form_tests of_constraint unit (texts words.now)) (SaysInterval (texts words.now)) result }
+    ensures { Decides (interval_form_tests of_constraint unit (texts words.now))
+        (SaysInterval (texts words.now)) result }
 {
     if of_constraint && is_complementarity(words) {
         return Err(NlReason::Complementarity);

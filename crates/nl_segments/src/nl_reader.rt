@@ -55,11 +55,20 @@ impl Model for NlReader {
 
     ghost coded = { reading_code };
 
-    ghost view = { λ r. record { lines = r.reader.lines; progress = r.reader.grammar; stopped = r.reader.stopped } };
+    ghost view = { λ r. record {
+      lines = r.reader.lines;
+      progress = r.reader.grammar;
+      stopped = r.reader.stopped;
+    } };
 
     ghost use Rattle.nl_segments.specs.Reader.{WasFed};
 
-    ghost invariant = { λ r. WasFed (record { lines = r.reader.lines; progress = r.reader.grammar; stopped = r.reader.stopped }) };
+    ghost invariant = { λ r. WasFed
+        (record {
+          lines = r.reader.lines;
+          progress = r.reader.grammar;
+          stopped = r.reader.stopped;
+        }) };
 }
 
 impl NlReader {
@@ -75,10 +84,16 @@ impl NlReader {
     /// Takes the next piece of the text. An `Err` is answered again by each later call.
     pub fn feed(&mut self, piece: &[u8]) -> Result<(), Stop<NlFault>>
         // It stands for the text before, followed by the piece.
-        ensures stands { (text : List ℕ) → IsFed self.old text → IsFed self.new (text ++ piece.now) }
-        // No line that has ended has a fault, and no line fault is reached; or it is the first fault.
-        ensures fine { OnOk result ((text : List ℕ) → IsFed self.old text → IsFreeSoFar nl_rules (text ++ piece.now)) }
-        ensures fault { IfErr result (λ stop. IfFault stop (λ fault. (text : List ℕ) → IsFed self.old text → HasNlFaultSoFar (text ++ piece.now) fault)) }
+        ensures stands { (text : List ℕ) → IsFed self.old text
+            → IsFed self.new (text ++ piece.now) }
+        // No line that has ended has a fault, and no line fault is reached; or it is the first
+        // fault.
+        ensures fine { OnOk result
+            ((text : List ℕ) → IsFed self.old text → IsFreeSoFar nl_rules (text ++ piece.now)) }
+        ensures fault { IfErr result
+            (λ stop. IfFault stop
+            (λ fault. (text : List ℕ) → IsFed self.old text
+            → HasNlFaultSoFar (text ++ piece.now) fault)) }
         // It keeps the stop that it answers, and no other.
         ensures kept { stop_in self.new ≡ result_err result }
         ensures sticky { IfSome (stop_in self.old) (λ stop. result ≡ Err stop) }

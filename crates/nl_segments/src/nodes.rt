@@ -90,7 +90,8 @@ fn is_undefined(builder: &NlBuilder, index: u32) -> bool
 
 // A variable.
 fn read_variable(builder: &NlBuilder, index: Option<u32>) -> Result<NodeRow, NlReason>
-    ensures { Decides (variable_tests builder.now.counts builder.now index) (IsReadAs (option_map (variable_node builder.now.counts.n_var) index) None) result }
+    ensures { Decides (variable_tests builder.now.counts builder.now index)
+        (IsReadAs (option_map (variable_node builder.now.counts.n_var) index) None) result }
 {
     let counts = builder.header().counts();
     let Some(i) = index else {
@@ -108,7 +109,8 @@ fn read_variable(builder: &NlBuilder, index: Option<u32>) -> Result<NodeRow, NlR
 // What an opcode is with its operands.
 fn opcode_row(opcode: u32, operands: Operands) -> NodeRow
     requires { operands_of opcode ≡ Some operands }
-    ensures row { IsRow (fixed_node opcode (Some operands)) (counted_opcode opcode (Some operands)) result }
+    ensures row { IsRow (fixed_node opcode (Some operands))
+        (counted_opcode opcode (Some operands)) result }
     ensures formed { IsFormedRow result }
 {
     match operands {
@@ -120,7 +122,9 @@ fn opcode_row(opcode: u32, operands: Operands) -> NodeRow
 
 // An opcode.
 fn read_opcode(opcode: Option<u32>) -> Result<NodeRow, NlReason>
-    ensures { Decides (opcode_tests opcode) (IsReadAs (option_and_then (λ o. fixed_node o (operands_of o)) opcode) (option_and_then (λ o. counted_opcode o (operands_of o)) opcode)) result }
+    ensures { Decides (opcode_tests opcode)
+        (IsReadAs (option_and_then (λ o. fixed_node o (operands_of o)) opcode)
+        (option_and_then (λ o. counted_opcode o (operands_of o)) opcode)) result }
 {
     let Some(o) = opcode else {
         return Err(NlReason::BadNumber);
@@ -135,7 +139,9 @@ fn read_opcode(opcode: Option<u32>) -> Result<NodeRow, NlReason>
 #[tactic(auto, unfolding(crate::specs::Nodes::node_in, crate::specs::Nodes::opcode_in))]
 fn read_leaf(words: &[&[u8]], builder: &NlBuilder) -> Result<NodeRow, NlReason>
     requires { is_node_form (texts words.now) ≡ true }
-    ensures { Decides (leaf_tests builder.now.counts builder.now (texts words.now)) (IsReadAs (node_in builder.now.counts.n_var (texts words.now)) (opcode_in (texts words.now))) result }
+    ensures { Decides (leaf_tests builder.now.counts builder.now (texts words.now))
+        (IsReadAs (node_in builder.now.counts.n_var (texts words.now))
+        (opcode_in (texts words.now))) result }
 {
     match letter_of(words) {
         b'n' => read_number(dec_of(leaf_text(words))),
@@ -148,7 +154,9 @@ fn read_leaf(words: &[&[u8]], builder: &NlBuilder) -> Result<NodeRow, NlReason>
 /// A row of an expression.
 #[tactic(auto, unfolding(crate::specs::Tests::node_form_tests))]
 pub(crate) fn read_node(words: &[&[u8]], builder: &NlBuilder) -> Result<NodeRow, NlReason>
-    ensures { Decides (node_form_tests builder.now.counts builder.now (texts words.now)) (IsReadAs (node_in builder.now.counts.n_var (texts words.now)) (opcode_in (texts words.now))) result }
+    ensures { Decides (node_form_tests builder.now.counts builder.now (texts words.now))
+        (IsReadAs (node_in builder.now.counts.n_var (texts words.now))
+        (opcode_in (texts words.now))) result }
 {
     if is_refused_leaf(letter_of(words)) {
         return Err(NlReason::RefusedLeaf);

@@ -6,7 +6,8 @@ ghost use Rattle.std.specs.Option.{option_or};
 use std::alloc::{AllocError, Global};
 use std::marker::Model;
 
-/// The lines of a defined variable, a constraint or an objective: of its head, if it has one, of its nodes in prefix order, and of its terms in file order.
+/// The lines of a defined variable, a constraint or an objective: of its head, if it has one, of
+/// its nodes in prefix order, and of its terms in file order.
 #[derive(Drop)]
 pub struct OwnerLines {
     head: Option<u32>,
@@ -51,12 +52,20 @@ impl OwnerLines {
 
     /// Begins terms, whose head counts where there is no expression.
     pub(crate) fn begin_row(&mut self, line: u32)
-        ensures { self.new ≡ record self.old { head = option_or self.old.head (Some line); terms = [] } }
+        ensures { self.new
+            ≡ record self.old { head = option_or self.old.head (Some line); terms = [] } }
     {
         if self.head.is_none() {
             self.head = Some(line);
         }
         self.terms.clear();
+    }
+
+    /// Makes room for the lines of so many terms.
+    pub(crate) fn make_room(&mut self, count: usize) -> Result<(), AllocError>
+        ensures { self.new ≡ self.old }
+    {
+        self.terms.reserve_exact(count)
     }
 
     /// Adds the line of a node.

@@ -17,8 +17,8 @@ fn is_whole(value: Dec) -> bool
     value.is_whole()
 }
 
-// Whether a value is not whole where it must be.
-fn is_refused(value: Dec, whole_only: bool) -> bool
+/// Whether a value is not whole where it must be.
+pub(crate) fn is_refused(value: Dec, whole_only: bool) -> bool
     ensures { result ≡ (whole_only && not (is_whole value)) }
 {
     whole_only && !is_whole(value)
@@ -31,7 +31,8 @@ pub(crate) fn read_pair(
     limit: u32,
     whole_only: bool,
 ) -> Result<(u32, Dec), NlReason>
-    ensures { Decides (pair_form_tests limit whole_only (texts words.now)) (λ t. (pair_in (texts words.now) ≡ Some t) × (t.0 < limit)) result }
+    ensures { Decides (pair_form_tests limit whole_only (texts words.now))
+        (λ t. (pair_in (texts words.now) ≡ Some t) × (t.0 < limit)) result }
 {
     if words.len() != 2 || !are_digits(word_at(words, 0)) {
         return Err(NlReason::BadLine);

@@ -23,7 +23,11 @@ impl Model for Places {
 
     ghost Value = { PlaceLines };
 
-    ghost view = { λ p. record { definitions = p.definitions.items; constraints = p.constraints.items; objectives = p.objectives.items } };
+    ghost view = { λ p. record {
+      definitions = p.definitions.items;
+      constraints = p.constraints.items;
+      objectives = p.objectives.items;
+    } };
 }
 
 // So many owners with no lines.
@@ -39,7 +43,8 @@ fn owners(alloc: Global, count: usize) -> Result<Vec<OwnerLines>, AllocError>
 
 fn begin_tree(owners: &mut Vec<OwnerLines>, i: usize, line: u32)
     requires { i < length owners.old.items }
-    ensures { owners.new.items ≡ changed (λ o. record o { head = Some line; nodes = [] }) owners.old.items i }
+    ensures { owners.new.items
+        ≡ changed (λ o. record o { head = Some line; nodes = [] }) owners.old.items i }
 {
     let owner = &mut owners[i];
     owner.begin_tree(line);
@@ -47,7 +52,9 @@ fn begin_tree(owners: &mut Vec<OwnerLines>, i: usize, line: u32)
 
 fn begin_row(owners: &mut Vec<OwnerLines>, i: usize, line: u32)
     requires { i < length owners.old.items }
-    ensures { owners.new.items ≡ changed (λ o. record o { head = option_or o.head (Some line); terms = [] }) owners.old.items i }
+    ensures { owners.new.items
+        ≡ changed (λ o. record o { head = option_or o.head (Some line); terms = [] })
+        owners.old.items i }
 {
     let owner = &mut owners[i];
     owner.begin_row(line);
@@ -93,7 +100,11 @@ impl Places {
 
     // A head of a defined variable.
     fn begin_definition(&mut self, alloc: Global, line: u32) -> Result<(), AllocError>
-        ensures { OnOk result (self.new ≡ record self.old { definitions = self.old.definitions ++ record { head = Some line; nodes = []; terms = [] } ∷ [] }) }
+        ensures { OnOk result
+            (self.new ≡ record self.old {
+              definitions = self.old.definitions
+                  ++ record { head = Some line; nodes = []; terms = [] } ∷ [];
+            }) }
     {
         let mut lines = OwnerLines::new(alloc);
         lines.begin_tree(line);
@@ -117,10 +128,23 @@ impl Places {
         Ok(())
     }
 
+    /// Makes room for the lines of so many terms of a constraint.
+    pub(crate) fn make_room(&mut self, con: u32, count: usize) -> Result<(), AllocError>
+        requires { con < length self.old.constraints }
+        ensures { self.new ≡ self.old }
+    {
+        let lines = &mut self.constraints[con as usize];
+        lines.make_room(count)
+    }
+
     // Adds the line of a node or a term of the defined variable that was given last.
     fn add_to_definition(&mut self, line: u32, is_node: bool) -> Result<(), AllocError>
         requires { 0 < length self.old.definitions }
-        ensures { OnOk result (self.new ≡ record self.old { definitions = changed (if is_node then more_nodes line else more_terms line) self.old.definitions (length self.old.definitions - 1) }) }
+        ensures { OnOk result
+            (self.new ≡ record self.old {
+              definitions = changed (if is_node then more_nodes line else more_terms line)
+                  self.old.definitions (length self.old.definitions - 1);
+            }) }
     {
         let last = self.definitions.len() - 1;
         if is_node {

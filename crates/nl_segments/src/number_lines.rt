@@ -16,7 +16,8 @@ const MOST_OPERANDS: u32 = 4_194_304;
 /// The number of a column.
 #[tactic(auto, unfolding(crate::specs::Tests::column_tests))]
 pub(crate) fn read_column(words: &[&[u8]]) -> Result<u32, NlReason>
-    ensures { Decides (column_tests (texts words.now)) (λ n. whole_of (word_at (texts words.now) 0) ≡ Some n) result }
+    ensures { Decides (column_tests (texts words.now))
+        (λ n. whole_of (word_at (texts words.now) 0) ≡ Some n) result }
 {
     if words.len() != 1 || !are_digits(word_at(words, 0)) {
         return Err(NlReason::BadLine);
@@ -30,7 +31,8 @@ pub(crate) fn read_column(words: &[&[u8]]) -> Result<u32, NlReason>
 /// The number of operands of an opcode.
 #[tactic(auto, unfolding(crate::specs::Tests::operand_tests))]
 pub(crate) fn read_operand_count(words: &[&[u8]]) -> Result<u32, NlReason>
-    ensures { Decides (operand_tests (texts words.now)) (SaysOperandCount (texts words.now)) result }
+    ensures { Decides (operand_tests (texts words.now))
+        (SaysOperandCount (texts words.now)) result }
 {
     if words.len() != 1 || !are_digits(word_at(words, 0)) {
         return Err(NlReason::BadLine);
