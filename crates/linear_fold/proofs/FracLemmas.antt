@@ -11,8 +11,8 @@ use Rattle.exact_numbers.proofs.Bridge.{frac_fits_lem, lcm_is}
 use Rattle.exact_numbers.proofs.Coprime.{same_lcm}
 use Rattle.fractions.specs.Divisors.{AreCoprime}
 use Rattle.fractions.specs.Fits.{fits, is_small, sum_fits, sum_over_multiple, parts_fit, least_multiple}
-use Rattle.fractions.specs.Rational.{ℚ, whole, neg_ℚ, zero_ℚ}
-use Rattle.fractions.proofs.Arithmetic.{over_lowest}
+use Rattle.fractions.specs.Rational.{ℚ, whole, neg_ℚ, zero_ℚ, ◌+ℚ◌}
+use Rattle.fractions.proofs.Arithmetic.{over_lowest, zero-+ℚ}
 use Rattle.linear_fold.specs.Coefs.{Term, found, value_or_zero, coef_in}
 use Rattle.linear_fold.specs.Places.{place_in}
 use Rattle.nl_meaning.proofs.LineLemmas.{is_zero-true}
@@ -74,6 +74,10 @@ sum_with_zero f x e = ap (sum_fits (frac_value f)) e ∙ sum_fits_zero (frac_val
 
 pub zero_frac_fits : (f : Frac) → sum_fits zero_ℚ (frac_value f) ≡ true
 zero_frac_fits f = zero_sum_fits (frac_value f) (frac_fits_lem f)
+
+-- 0 + b is b
+pub zero_first : (x : ℚ) (b : Frac) → x ≡ zero_ℚ → (sum_fits x (frac_value b) ≡ true) × (frac_value b ≡ x +ℚ frac_value b)
+zero_first x b e = (ap (λ y. sum_fits y (frac_value b)) e ∙ zero_frac_fits b, sym (ap (λ y. y +ℚ frac_value b) e ∙ zero-+ℚ (frac_value b)))
 
 pub fits_or_zero : (o : Option Frac) → fits (value_or_zero o) ≡ true
 fits_or_zero None = fits_zero

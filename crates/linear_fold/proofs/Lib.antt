@@ -15,4 +15,3 @@ pub mod ProgramLemmas
 pub mod Scaled
 pub mod Stacks
 pub mod ValueLemmas
-pub mod ShortLemmas

@@ -35,7 +35,8 @@ AreAscending n (t ∷ ts) = (n ≤ t.0) × (frac_value t.1 ≢ zero_ℚ) × AreA
 -- the same of terms that are to be added
 abbrev pub AreStrictlyAscending : ℕ → List LinearTerm → Type 0
 AreStrictlyAscending n [] = Unit {0}
-AreStrictlyAscending n (t ∷ ts) = (n ≤ t.variable) × (t.factor ≢ zero_ℚ) × AreStrictlyAscending (suc t.variable) ts
+AreStrictlyAscending n (t ∷ ts) =
+    (n ≤ t.variable) × (t.factor ≢ zero_ℚ) × AreStrictlyAscending (suc t.variable) ts
 
 -- each factor is 0
 abbrev pub AreZeroTerms : List LinearTerm → Type 0
@@ -55,6 +56,7 @@ StandsAt (t ∷ ts) (suc i) j = StandsAt ts i j
 
 -- k is added to the coefficient of variable j; it is too wide exactly where the sum does not fit
 abbrev pub AddsAt : (ℕ → ℚ) → ℕ → ℚ → (ℕ → ℚ) → Result (Unit {0}) (Stop Wide) → Type 0
-AddsAt old j k new (Ok u) = (sum_fits (old j) k ≡ true) × ((i : ℕ) → new i ≡ old i +ℚ k *ℚ one_if (i == j))
+AddsAt old j k new (Ok u) =
+    (sum_fits (old j) k ≡ true) × ((i : ℕ) → new i ≡ old i +ℚ k *ℚ one_if (i == j))
 AddsAt old j k new (Err (Fault w)) = sum_fits (old j) k ≡ false
 AddsAt old j k new (Err Memory) = Unit {0}

@@ -64,7 +64,8 @@ node_total f =
 
 -- the linear terms of all owners
 abbrev pub term_total : File → ℕ
-term_total f = sum_by (λ d. length d.terms) f.definitions + sum_by length f.terms + sum_by length f.slopes
+term_total f = sum_by (λ d. length d.terms) f.definitions + sum_by length f.terms
+    + sum_by length f.slopes
 
 -- folding takes at most so many steps
 abbrev pub step_bound : File → ℕ

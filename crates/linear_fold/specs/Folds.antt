@@ -22,7 +22,8 @@ HasLineOf n f form = (at : Point) → f at ≡ Some (line_value n (form_line for
 
 -- the defined variables that have forms, by their index less n, have their values
 abbrev pub AreKnown : ℕ → (Point → Known) → List (Option Form) → Type 0
-AreKnown n known slots = (k : ℕ) (f : Form) → get_or slots k None ≡ Some f → HasLineOf n (λ at. known at (n + k)) f
+AreKnown n known slots =
+    (k : ℕ) (f : Form) → get_or slots k None ≡ Some f → HasLineOf n (λ at. known at (n + k)) f
 
 -- those forms are closed and of n variables
 abbrev pub AreSlotsWithin : ℕ → List (Option Form) → Type 0
@@ -36,18 +37,21 @@ pub record IsGiven (n : ℕ) (slots : List (Option Form)) (i : ℕ) : Type 0 whe
 
 -- the result for a tree whose first node has the number i
 abbrev pub IsFolded : (Point → Known) → ℕ → ℕ → Tree → Entry → Type 0
-IsFolded known n i t (Linear form) = (tree_fault known n i t ≡ None) × HasLineOf n (λ at. tree_value (known at) at t) form
+IsFolded known n i t (Linear form) =
+    (tree_fault known n i t ≡ None) × HasLineOf n (λ at. tree_value (known at) at t) form
 IsFolded known n i t (Broken fault) = tree_fault known n i t ≡ Some fault
 
 abbrev pub AreFolded : (Point → Known) → ℕ → ℕ → List Tree → List Entry → Type 0
 AreFolded known n i [] [] = Unit {0}
 AreFolded known n i [] (e ∷ es) = ⊥
 AreFolded known n i (t ∷ ts) [] = ⊥
-AreFolded known n i (t ∷ ts) (e ∷ es) = IsFolded known n i t e × AreFolded known n (i + tree_size t) ts es
+AreFolded known n i (t ∷ ts) (e ∷ es) =
+    IsFolded known n i t e × AreFolded known n (i + tree_size t) ts es
 
 -- the result for a tree with its terms
 abbrev pub IsExpressionFolded : (Point → Known) → ℕ → Expression → Entry → Type 0
-IsExpressionFolded known n x (Linear form) = (expression_fault known n x ≡ None) × HasLineOf n (λ at. expression_value (known at) at x) form
+IsExpressionFolded known n x (Linear form) =
+    (expression_fault known n x ≡ None) × HasLineOf n (λ at. expression_value (known at) at x) form
 IsExpressionFolded known n x (Broken fault) = expression_fault known n x ≡ Some fault
 
 -- the forms among entries, and the first fault among them
@@ -71,14 +75,17 @@ abbrev pub AreLinesOf : (Point → Known) → ℕ → Trees → List Form → Ty
 AreLinesOf known n none [] = Unit {0}
 AreLinesOf known n none (f ∷ fs) = ⊥
 AreLinesOf known n (more t ts) [] = ⊥
-AreLinesOf known n (more t ts) (f ∷ fs) = HasLineOf n (λ at. tree_value (known at) at t) f × AreLinesOf known n ts fs
+AreLinesOf known n (more t ts) (f ∷ fs) =
+    HasLineOf n (λ at. tree_value (known at) at t) f × AreLinesOf known n ts fs
 
 -- the first fault of the operands, or their forms; the first node has the number i
-pub record AreOperands (known : Point → Known) (n i : ℕ) (ts : Trees) (forms : List Form) (broken : Option Fault) : Type 0 where
+pub record AreOperands (known : Point → Known) (n i : ℕ) (ts : Trees) (forms : List Form)
+    (broken : Option Fault) : Type 0 where
   pub fault : broken ≡ trees_fault known n i ts
   pub lines : broken ≡ None → AreLinesOf known n ts forms
 
--- a variable is one of n, a defined variable has a form, and an operator finds its operands among so many entries
+-- a variable is one of n, a defined variable has a form, and an operator finds its operands among
+-- so many entries
 abbrev pub NodeFinds : ℕ → List (Option Form) → ℕ → Node → Type 0
 NodeFinds n slots room (Num d) = Unit {0}
 NodeFinds n slots room (Var j) = j < n
@@ -116,5 +123,6 @@ AddsTerms a i ts new (Err Memory) = Unit {0}
 
 -- the closed form of a line with terms, or the first fault among them
 abbrev pub ComesToTerms : Line → ℕ → List LinearTerm → Entry → Type 0
-ComesToTerms a i ts (Linear form) = (terms_fault a i ts ≡ None) × (form_line form ≡ line_with_terms a ts) × (is_open form ≡ false)
+ComesToTerms a i ts (Linear form) =
+    (terms_fault a i ts ≡ None) × (form_line form ≡ line_with_terms a ts) × (is_open form ≡ false)
 ComesToTerms a i ts (Broken fault) = terms_fault a i ts ≡ Some fault

@@ -63,7 +63,8 @@ HasPlaces (Open ps) l = IsZeroFrom (length ps) l
 abbrev pub HasRoom : Form → Line → Type 0
 HasRoom f l = HasPlaces f.kept l
 
--- a + k * b fits: each product with k and each sum does, of the constants and of the coefficients of one variable
+-- a + k * b fits: each product with k and each sum does, of the constants and of the coefficients
+-- of one variable
 pub record ScaledSumFits (a : Line) (k : ℚ) (b : Line) : Type 0 where
   pub product : fits (k *ℚ b.constant) ≡ true
   pub sum : sum_fits a.constant (k *ℚ b.constant) ≡ true

@@ -49,7 +49,9 @@ AreZeroFrom n (f ∷ fs) = IsZeroFrom n (form_line f) × AreZeroFrom n fs
 -- what a class makes of the constants of constant forms; none where one is not constant
 abbrev pub IsValueOf : ℕ → OpClass → List Form → Option Frac → Type 0
 IsValueOf n c fs None = are_constant n (map form_line fs) ≡ false
-IsValueOf n c fs (Some v) = (are_constant n (map form_line fs) ≡ true) × (on_values c (constants_of (map form_line fs)) ≡ Some (frac_value v))
+IsValueOf n c fs (Some v) =
+    (are_constant n (map form_line fs) ≡ true)
+    × (on_values c (constants_of (map form_line fs)) ≡ Some (frac_value v))
 
 -- a sum that fits exactly where a test says so
 abbrev pub SumsTo : Bool → Line → Line → Result (Unit {0}) (Stop Wide) → Type 0
@@ -64,7 +66,8 @@ ComesTo fit sum (Refused r) = (fit ≡ false) × (r ≡ TooWide)
 
 -- an operator over lines of n variables comes to its line or its fault
 abbrev pub Operates : ℕ → OpClass → List Line → Outcome → Type 0
-Operates n c ls (Linear f) = (operator_fault n c ls ≡ None) × (form_line f ≡ operator_line n c ls) × (is_open f ≡ false)
+Operates n c ls (Linear f) =
+    (operator_fault n c ls ≡ None) × (form_line f ≡ operator_line n c ls) × (is_open f ≡ false)
 Operates n c ls (Refused r) = operator_fault n c ls ≡ Some r
 
 abbrev pub lines_of_forms : List Form → List Line

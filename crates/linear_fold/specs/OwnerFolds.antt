@@ -39,7 +39,8 @@ known_by ds = known_values (map definition_of ds)
 
 -- the tree of an owner, 0 where none was given, and its terms
 abbrev pub expression_at : File → Owner → Expression
-expression_at f o = record { tree = tree_or_zero (tree_at f o); terms = linear_terms (terms_at f o) }
+expression_at f o =
+    record { tree = tree_or_zero (tree_at f o); terms = linear_terms (terms_at f o) }
 
 abbrev pub fold_owner_of : Owner → FoldOwner
 fold_owner_of (Def i) = definition i
@@ -47,7 +48,12 @@ fold_owner_of (Con i) = constraint i
 fold_owner_of (Obj k) = objective k
 
 abbrev pub owned_at : File → Owner → Owned
-owned_at f o = record { owner = fold_owner_of o; known = known_by (definitions_before f o); expression = expression_at f o }
+owned_at f o =
+    record {
+      owner = fold_owner_of o;
+      known = known_by (definitions_before f o);
+      expression = expression_at f o;
+    }
 
 -- the nodes and the terms of an owner
 abbrev pub owner_size : File → Owner → ℕ
@@ -62,7 +68,8 @@ pub record AreSlotsOf (f : File) (ds : List Definition) (slots : List (Option Fo
   pub within : AreSlotsWithin f.counts.n_var slots
   pub known : AreKnown f.counts.n_var (known_by ds) slots
   pub given : (i : ℕ) → is_defined ds i ≡ true → IsGiven f.counts.n_var slots i
-  pub free : (i : ℕ) → is_defined ds i ≡ false → f.counts.n_var ≤ i → get_or slots (i - f.counts.n_var) None ≡ None
+  pub free : (i : ℕ) → is_defined ds i ≡ false → f.counts.n_var ≤ i
+      → get_or slots (i - f.counts.n_var) None ≡ None
   pub room : length slots ≡ defined_count f.counts
   pub filled : form_count slots ≡ length ds
 
@@ -76,18 +83,25 @@ pub record HasFolded (f : File) (ds : List Definition) (folder : Folder) : Type 
 
 -- the form of an owner has its values, and is one of the variables of the file
 pub record IsFormOf (f : File) (o : Owner) (form : Form) : Type 0 where
-  pub values : HasLineOf f.counts.n_var (λ at. expression_value (known_by (definitions_before f o) at) at (expression_at f o)) form
+  pub values : HasLineOf f.counts.n_var
+      (λ at. expression_value (known_by (definitions_before f o) at) at (expression_at f o)) form
   pub within : IsWithin f.counts.n_var form
   pub over : IsFormOver f.counts.n_var form
 
 -- the first fault of owners is one of the first of them, whatever follows
 abbrev pub HasStopped : File → ℕ → List Owned → Stop FoldFault → Type 0
-HasStopped f before os (Fault x) = (rest : List Owned) → option_map (named_fault f) (owners_fault f.counts.n_var before (os ++ rest)) ≡ Some x
+HasStopped f before os (Fault x) =
+    (rest : List Owned)
+    → option_map (named_fault f) (owners_fault f.counts.n_var before (os ++ rest)) ≡ Some x
 HasStopped f before os Memory = Unit {0}
 
--- owners are folded in order, before others: none of them has a fault and the coefficients are counted, or the first fault is one of theirs
-abbrev pub AreOwnersFolded : {A : Type 0} → File → ℕ → List Owned → ℕ → Result A (Stop FoldFault) → Type 0
-AreOwnersFolded f before os after (Ok x) = (rest : List Owned) → owners_fault f.counts.n_var before (os ++ rest) ≡ owners_fault f.counts.n_var after rest
+-- owners are folded in order, before others: none of them has a fault and the coefficients are
+-- counted, or the first fault is one of theirs
+abbrev pub AreOwnersFolded : {A : Type 0} → File → ℕ → List Owned → ℕ → Result A (Stop FoldFault)
+    → Type 0
+AreOwnersFolded f before os after (Ok x) =
+    (rest : List Owned)
+    → owners_fault f.counts.n_var before (os ++ rest) ≡ owners_fault f.counts.n_var after rest
 AreOwnersFolded f before os after (Err stop) = HasStopped f before os stop
 
 -- the nodes and the terms of definitions, and of bodies

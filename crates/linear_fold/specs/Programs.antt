@@ -1,4 +1,5 @@
--- A folded file: the form of each body and of an objective, with sides, bounds and kinds; and the linear program that it is.
+-- A folded file: the form of each body and of an objective, with sides, bounds and kinds; and the
+-- linear program that it is.
 use Rattle.std.specs.Prelude.{◌≡◌, ℕ, suc, ◌+◌, ◌≤◌, ◌^◌, Bool, false, List, [], ◌∷◌, length, All}
 use Rattle.std.specs.List.{sum_by}
 use Rattle.linear_programs.specs.Linear.{Form as LinearForm, Row, Variable, Linear}
@@ -31,13 +32,17 @@ form_of f = form_of_line (form_line f)
 abbrev pub rows_from : ℕ → List Form → List Interval → List Row
 rows_from i [] sides = []
 rows_from i (b ∷ bodies) [] = []
-rows_from i (b ∷ bodies) (s ∷ sides) = record { name = row_name i; body = form_of b; side = interval_of s } ∷ rows_from (suc i) bodies sides
+rows_from i (b ∷ bodies) (s ∷ sides) =
+    record { name = row_name i; body = form_of b; side = interval_of s }
+    ∷ rows_from (suc i) bodies sides
 
 -- the variables in order, of which the first is variable j
 abbrev pub variables_from : ℕ → List Interval → List Kind → List Variable
 variables_from j [] kinds = []
 variables_from j (b ∷ bounds) [] = []
-variables_from j (b ∷ bounds) (k ∷ kinds) = record { name = variable_name j; bound = interval_of b; whole = is_whole_kind k } ∷ variables_from (suc j) bounds kinds
+variables_from j (b ∷ bounds) (k ∷ kinds) =
+    record { name = variable_name j; bound = interval_of b; whole = is_whole_kind k }
+    ∷ variables_from (suc j) bounds kinds
 
 -- the linear program of a folded file
 unfoldable pub linear_value : LinearValue → Linear

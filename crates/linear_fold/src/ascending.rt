@@ -42,8 +42,8 @@ pub(crate) fn are_zero(terms: &[(u32, Dec)]) -> bool
     true
 }
 
-/// The closed form of a number and of terms that ascend, of which the first has a number; a step for the number and
-/// for each term.
+/// The closed form of a number and of terms that ascend, of which the first has a number; a step
+/// for the number and for each term.
 pub(crate) fn closed_terms<L: Ledger>(
     alloc: Global,
     number: &Form,
@@ -55,7 +55,8 @@ pub(crate) fn closed_terms<L: Ledger>(
     requires number { form_terms number.now ≡ [] }
     requires ascending { AreStrictlyAscending 0 (linear_terms terms.now) }
     requires first { first ≤ 2 ^ 22 }
-    ensures entry { IfOk result (λ e. ComesToTerms (form_line number.now) first (linear_terms terms.now) e) }
+    ensures entry { IfOk result
+        (λ e. ComesToTerms (form_line number.now) first (linear_terms terms.now) e) }
     ensures above { steps.old ≤ steps.new }
     ensures below { steps.new ≤ steps.old + 1 + length terms.now }
 {

@@ -30,11 +30,15 @@ fn fold_bodies<L: Ledger>(
     ensures folder { OnOk result (HasFolded file.now file.now.definitions folder.new) }
     ensures bodies { IfOk result (λ v. AreBodiesOf file.now 0 v.items) }
     ensures number { IfOk result (λ v. length v.items ≡ file.now.counts.n_con) }
-    ensures counted { IfOk result (λ v. folder.new.count ≡ folder.old.count + coefficients_of v.items) }
-    ensures folded { AreOwnersFolded file.now folder.old.count (elements_from (λ i. owned_at file.now (OfConstraint i)) 0 file.now.counts.n_con) folder.new.count result }
+    ensures counted { IfOk result
+        (λ v. folder.new.count ≡ folder.old.count + coefficients_of v.items) }
+    ensures folded { AreOwnersFolded file.now folder.old.count
+        (elements_from (λ i. owned_at file.now (OfConstraint i)) 0 file.now.counts.n_con)
+        folder.new.count result }
     ensures place { IfErr result (λ stop. IfFault stop (λ fault. HasFaultPlace file.now fault)) }
     ensures above { steps.old ≤ steps.new }
-    ensures below { steps.new ≤ steps.old + 2 * (file.now.counts.n_var + 1) * bodies_size file.now.bodies file.now.terms }
+    ensures below { steps.new
+        ≤ steps.old + 2 * (file.now.counts.n_var + 1) * bodies_size file.now.bodies file.now.terms }
 {
     let counts = file.header().counts();
     let mut bodies = Vec::new(alloc);
@@ -62,11 +66,15 @@ fn fold_objective<L: Ledger>(
     requires has { has_objective file.now objective ≡ true }
     requires folder { HasFolded file.now file.now.definitions folder.old }
     ensures form { IfOk result (λ form. IsFormOf file.now (OfObjective objective) form) }
-    ensures few { IfOk result (λ form. folder.old.count + length (form_terms form) ≤ most_coefficients) }
-    ensures folded { AreOwnersFolded file.now folder.old.count (owned_at file.now (OfObjective objective) ∷ []) folder.new.count result }
+    ensures few { IfOk result
+        (λ form. folder.old.count + length (form_terms form) ≤ most_coefficients) }
+    ensures folded { AreOwnersFolded file.now folder.old.count
+        (owned_at file.now (OfObjective objective) ∷ []) folder.new.count result }
     ensures place { IfErr result (λ stop. IfFault stop (λ fault. HasFaultPlace file.now fault)) }
     ensures above { steps.old ≤ steps.new }
-    ensures below { steps.new ≤ steps.old + 2 * (file.now.counts.n_var + 1) * owner_size file.now (OfObjective objective) }
+    ensures below { steps.new
+        ≤ steps.old + 2 * (file.now.counts.n_var + 1)
+        * owner_size file.now (OfObjective objective) }
 {
     let counts = file.header().counts();
     if objective < counts.n_obj {
@@ -75,7 +83,8 @@ fn fold_objective<L: Ledger>(
     Ok(Form::new(alloc))
 }
 
-/// Folds the defined variables, the bodies and an objective: the forms of these, or the first fault.
+/// Folds the defined variables, the bodies and an objective: the forms of these, or the first
+/// fault.
 pub(crate) fn fold_forms<L: Ledger>(
     alloc: Global,
     file: &NlFile,
@@ -89,8 +98,12 @@ pub(crate) fn fold_forms<L: Ledger>(
     requires folder { HasFolded file.now [] folder.old }
     requires nothing { folder.old.count ≡ 0 }
     ensures forms { IfOk result (λ r. AreFormsOf file.now objective r.0.items r.1) }
-    ensures fine { OnOk result (owners_fault file.now.counts.n_var 0 (owners_of file.now objective) ≡ None) }
-    ensures fault { IfErr result (λ stop. IfFault stop (λ fault. option_map (named_fault file.now) (owners_fault file.now.counts.n_var 0 (owners_of file.now objective)) ≡ Some fault)) }
+    ensures fine { OnOk result
+        (owners_fault file.now.counts.n_var 0 (owners_of file.now objective) ≡ None) }
+    ensures fault { IfErr result
+        (λ stop. IfFault stop
+        (λ fault. option_map (named_fault file.now)
+        (owners_fault file.now.counts.n_var 0 (owners_of file.now objective)) ≡ Some fault)) }
     ensures place { IfErr result (λ stop. IfFault stop (λ fault. HasFaultPlace file.now fault)) }
     ensures above { steps.old ≤ steps.new }
     ensures below { steps.new ≤ steps.old + step_bound file.now }

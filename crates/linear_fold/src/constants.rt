@@ -20,7 +20,8 @@ use std::cmp::Ordering;
 fn constant_of(form: &Form) -> Option<Frac>
     requires { is_open form.now ≡ false }
     ensures value { IfSome result (λ f. frac_value f ≡ (form_line form.now).constant) }
-    ensures test { (n : ℕ) → IsZeroFrom n (form_line form.now) → is_some result ≡ is_constant n (form_line form.now) }
+    ensures test { (n : ℕ) → IsZeroFrom n (form_line form.now)
+        → is_some result ≡ is_constant n (form_line form.now) }
 {
     if form.is_constant() {
         Some(form.constant())
@@ -41,7 +42,9 @@ fn exponent_of(x: Frac) -> Option<u32>
 
 // x to the n, where it fits.
 fn power_of(x: Frac, n: u32) -> Option<Frac>
-    ensures { MatchOption result (fits (power_in (frac_value x) n) ≡ false) (λ f. (fits (power_in (frac_value x) n) ≡ true) × (frac_value f ≡ power_in (frac_value x) n)) }
+    ensures { MatchOption result (fits (power_in (frac_value x) n) ≡ false)
+        (λ f. (fits (power_in (frac_value x) n) ≡ true)
+        × (frac_value f ≡ power_in (frac_value x) n)) }
 {
     let mut power = Frac::one();
     for _ in 0..n {
@@ -56,7 +59,8 @@ fn power_of(x: Frac, n: u32) -> Option<Frac>
 pub(crate) fn power(alloc: Global, a: &Form, b: &Form) -> Outcome
     requires first { is_open a.now ≡ false }
     requires second { is_open b.now ≡ false }
-    ensures { (n : ℕ) → IsZeroFrom n (form_line a.now) → IsZeroFrom n (form_line b.now) → Operates n Power (form_line a.now ∷ form_line b.now ∷ []) result }
+    ensures { (n : ℕ) → IsZeroFrom n (form_line a.now) → IsZeroFrom n (form_line b.now)
+        → Operates n Power (form_line a.now ∷ form_line b.now ∷ []) result }
 {
     let Some(base) = constant_of(a) else {
         return Outcome::Refused(Reason::Nonlinear);
@@ -130,7 +134,8 @@ fn greatest_value(operands: &[Form]) -> Option<Frac>
 pub(crate) fn least(alloc: Global, operands: &[Form]) -> Outcome
     requires some { 0 < length operands.now }
     requires closed { AreClosed operands.now }
-    ensures { (n : ℕ) → AreZeroFrom n operands.now → Operates n Least (lines_of_forms operands.now) result }
+    ensures { (n : ℕ) → AreZeroFrom n operands.now
+        → Operates n Least (lines_of_forms operands.now) result }
 {
     match least_value(operands) {
         Some(value) => Outcome::Linear(Form::of_constant(alloc, value)),
@@ -141,7 +146,8 @@ pub(crate) fn least(alloc: Global, operands: &[Form]) -> Outcome
 pub(crate) fn greatest(alloc: Global, operands: &[Form]) -> Outcome
     requires some { 0 < length operands.now }
     requires closed { AreClosed operands.now }
-    ensures { (n : ℕ) → AreZeroFrom n operands.now → Operates n Greatest (lines_of_forms operands.now) result }
+    ensures { (n : ℕ) → AreZeroFrom n operands.now
+        → Operates n Greatest (lines_of_forms operands.now) result }
 {
     match greatest_value(operands) {
         Some(value) => Outcome::Linear(Form::of_constant(alloc, value)),
@@ -204,7 +210,8 @@ fn floor_of(x: Frac) -> Frac
 
 pub(crate) fn floor(alloc: Global, a: &Form) -> Outcome
     requires { is_open a.now ≡ false }
-    ensures { (n : ℕ) → IsZeroFrom n (form_line a.now) → Operates n Floor (form_line a.now ∷ []) result }
+    ensures { (n : ℕ) → IsZeroFrom n (form_line a.now)
+        → Operates n Floor (form_line a.now ∷ []) result }
 {
     match constant_of(a) {
         Some(value) => Outcome::Linear(Form::of_constant(alloc, floor_of(value))),
@@ -214,7 +221,8 @@ pub(crate) fn floor(alloc: Global, a: &Form) -> Outcome
 
 pub(crate) fn ceiling(alloc: Global, a: &Form) -> Outcome
     requires { is_open a.now ≡ false }
-    ensures { (n : ℕ) → IsZeroFrom n (form_line a.now) → Operates n Ceiling (form_line a.now ∷ []) result }
+    ensures { (n : ℕ) → IsZeroFrom n (form_line a.now)
+        → Operates n Ceiling (form_line a.now ∷ []) result }
 {
     match constant_of(a) {
         Some(value) => {
@@ -237,7 +245,8 @@ fn absolute_of(x: Frac) -> Frac
 
 pub(crate) fn absolute(alloc: Global, a: &Form) -> Outcome
     requires { is_open a.now ≡ false }
-    ensures { (n : ℕ) → IsZeroFrom n (form_line a.now) → Operates n Absolute (form_line a.now ∷ []) result }
+    ensures { (n : ℕ) → IsZeroFrom n (form_line a.now)
+        → Operates n Absolute (form_line a.now ∷ []) result }
 {
     match constant_of(a) {
         Some(value) => Outcome::Linear(Form::of_constant(alloc, absolute_of(value))),

@@ -56,11 +56,15 @@ fn fold_definition<L: Ledger>(
     requires file { IsFile file.now }
     requires at { slice_get file.now.definitions index ≡ Some definition.now }
     requires folder { HasFolded file.now (take index file.now.definitions) folder.old }
-    ensures folder { OnOk result (HasFolded file.now (take (index + 1) file.now.definitions) folder.new) }
-    ensures folded { AreOwnersFolded file.now folder.old.count (owned_at file.now (OfDefinition index) ∷ []) folder.new.count result }
+    ensures folder { OnOk result
+        (HasFolded file.now (take (index + 1) file.now.definitions) folder.new) }
+    ensures folded { AreOwnersFolded file.now folder.old.count
+        (owned_at file.now (OfDefinition index) ∷ []) folder.new.count result }
     ensures place { IfErr result (λ stop. IfFault stop (λ fault. HasFaultPlace file.now fault)) }
     ensures above { steps.old ≤ steps.new }
-    ensures below { steps.new ≤ steps.old + 2 * (file.now.counts.n_var + 1) * (tree_size definition.now.tree + length definition.now.terms) }
+    ensures below { steps.new
+        ≤ steps.old + 2 * (file.now.counts.n_var + 1)
+        * (tree_size definition.now.tree + length definition.now.terms) }
 {
     let form = fold_owner(file, Owner::Def(index), folder, steps)?;
     let slot = (definition.index - folder.variables) as usize;
@@ -78,10 +82,13 @@ pub(crate) fn fold_definitions<L: Ledger>(
     requires counts { AreCounts file.now.counts }
     requires folder { HasFolded file.now [] folder.old }
     ensures folder { OnOk result (HasFolded file.now file.now.definitions folder.new) }
-    ensures folded { AreOwnersFolded file.now folder.old.count (elements_from (λ i. owned_at file.now (OfDefinition i)) 0 (length file.now.definitions)) folder.new.count result }
+    ensures folded { AreOwnersFolded file.now folder.old.count
+        (elements_from (λ i. owned_at file.now (OfDefinition i)) 0 (length file.now.definitions))
+        folder.new.count result }
     ensures place { IfErr result (λ stop. IfFault stop (λ fault. HasFaultPlace file.now fault)) }
     ensures above { steps.old ≤ steps.new }
-    ensures below { steps.new ≤ steps.old + 2 * (file.now.counts.n_var + 1) * definitions_size file.now.definitions }
+    ensures below { steps.new
+        ≤ steps.old + 2 * (file.now.counts.n_var + 1) * definitions_size file.now.definitions }
 {
     for (index, definition) in file.defs().iter().enumerate() {
         match fold_definition(file, index as u32, definition, folder, steps) {

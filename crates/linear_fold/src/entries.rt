@@ -27,11 +27,15 @@ pub(crate) fn take_operands(
     count: u32,
 ) -> Result<Operands, AllocError>
     requires { count ≤ vec_len stack.old }
-    ensures forms { IfOk result (λ o. o.forms.items ≡ forms_of (take count (reverse stack.old.items))) }
-    ensures broken { IfOk result (λ o. o.broken ≡ first_broken (take count (reverse stack.old.items))) }
-    ensures fewer { IfOk result (λ o. vec_len stack.new + length o.forms.items ≤ vec_len stack.old) }
+    ensures forms { IfOk result
+        (λ o. o.forms.items ≡ forms_of (take count (reverse stack.old.items))) }
+    ensures broken { IfOk result
+        (λ o. o.broken ≡ first_broken (take count (reverse stack.old.items))) }
+    ensures fewer { IfOk result
+        (λ o. vec_len stack.new + length o.forms.items ≤ vec_len stack.old) }
     ensures shorter { vec_len stack.new ≤ vec_len stack.old }
-    ensures rest { IfOk result (λ o. reverse stack.new.items ≡ drop count (reverse stack.old.items)) }
+    ensures rest { IfOk result
+        (λ o. reverse stack.new.items ≡ drop count (reverse stack.old.items)) }
 {
     let mut forms = Vec::with_capacity(alloc, count as usize)?;
     let mut broken = None;

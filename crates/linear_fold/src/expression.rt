@@ -46,10 +46,13 @@ fn tree_entry<L: Ledger>(
     requires places { place_count total.old ≡ variables }
     requires blank { IsBlank total.old }
     ensures blank { OnOk result (StaysBlank total.old total.new) }
-    ensures entry { IfOk result (λ e. (known : Point → Known) → AreKnown variables known slots.now → IsFolded known variables 0 (tree_or_zero (option_copied tree.entry)) e) }
+    ensures entry { IfOk result
+        (λ e. (known : Point → Known) → AreKnown variables known slots.now
+        → IsFolded known variables 0 (tree_or_zero (option_copied tree.entry)) e) }
     ensures within { IfOk result (λ e. IsEntryWithin variables e) }
     ensures above { steps.old ≤ steps.new }
-    ensures below { steps.new ≤ steps.old + 2 * (variables + 1) * option_map_or tree_size (option_copied tree.entry) 0 }
+    ensures below { steps.new
+        ≤ steps.old + 2 * (variables + 1) * option_map_or tree_size (option_copied tree.entry) 0 }
 {
     match tree {
         Some(expr) => fold_tree(alloc, expr.nodes(), slots, total, steps, variables),
@@ -61,7 +64,8 @@ fn tree_entry<L: Ledger>(
 fn add_one(total: &mut Form, variable: u32, factor: Dec, place: usize) -> Result<(), Stop<Fault>>
     requires open { is_open total.old ≡ true }
     requires below { variable < place_count total.old }
-    ensures adds { AddsTerms (form_line total.old) place (linear_term (variable, factor) ∷ []) (form_line total.new) result }
+    ensures adds { AddsTerms (form_line total.old) place (linear_term (variable, factor) ∷ [])
+        (form_line total.new) result }
     ensures open { is_open total.new ≡ true }
     ensures places { place_count total.new ≡ place_count total.old }
 {
@@ -88,7 +92,8 @@ fn add_linear_terms<L: Ledger>(
     requires open { is_open total.old ≡ true }
     requires below { AreTermsBelow (place_count total.old) terms.now }
     requires first { first ≤ 2 ^ 22 }
-    ensures adds { AddsTerms (form_line total.old) first (linear_terms terms.now) (form_line total.new) result }
+    ensures adds { AddsTerms (form_line total.old) first (linear_terms terms.now)
+        (form_line total.new) result }
     ensures open { is_open total.new ≡ true }
     ensures places { place_count total.new ≡ place_count total.old }
     ensures above { steps.old ≤ steps.new }
@@ -129,7 +134,9 @@ fn entry_of_sum(
 ) -> Result<Entry, AllocError>
     requires open { is_open total.old ≡ true }
     ensures blank { OnOk result (StaysBlank total.old total.new) }
-    ensures entry { IfOk result (λ e. (a : Line) (i : ℕ) (ts : List LinearTerm) → AddsTerms a i ts (form_line total.old) summed → ComesToTerms a i ts e) }
+    ensures entry { IfOk result
+        (λ e. (a : Line) (i : ℕ) (ts : List LinearTerm)
+        → AddsTerms a i ts (form_line total.old) summed → ComesToTerms a i ts e) }
 {
     match summed {
         Ok(()) => {
@@ -158,7 +165,8 @@ fn summed_terms<L: Ledger>(
     requires below { AreTermsBelow (place_count total.old) terms.now }
     requires first { first ≤ 2 ^ 22 }
     ensures blank { OnOk result (StaysBlank total.old total.new) }
-    ensures entry { IfOk result (λ e. ComesToTerms (form_line form.now) first (linear_terms terms.now) e) }
+    ensures entry { IfOk result
+        (λ e. ComesToTerms (form_line form.now) first (linear_terms terms.now) e) }
     ensures above { steps.old ≤ steps.new }
     ensures below { steps.new ≤ steps.old + (place_count total.old + 1) + length terms.now }
 {
@@ -181,7 +189,8 @@ fn with_terms<L: Ledger>(
     requires below { AreTermsBelow (place_count total.old) terms.now }
     requires first { first ≤ 2 ^ 22 }
     ensures blank { OnOk result (StaysBlank total.old total.new) }
-    ensures entry { IfOk result (λ e. ComesToTerms (form_line form.now) first (linear_terms terms.now) e) }
+    ensures entry { IfOk result
+        (λ e. ComesToTerms (form_line form.now) first (linear_terms terms.now) e) }
     ensures above { steps.old ≤ steps.new }
     ensures below { steps.new ≤ steps.old + (place_count total.old + 1) + length terms.now }
 {
@@ -207,7 +216,11 @@ fn sum_entry<L: Ledger>(
     requires below { AreTermsBelow variables terms.now }
     requires first { first ≤ 2 ^ 22 }
     ensures blank { OnOk result (StaysBlank total.old total.new) }
-    ensures entry { IfOk result (λ e. (known : Point → Known) (tree : Tree) → tree_size tree ≡ first → IsFolded known variables 0 tree entry → IsExpressionFolded known variables (record { tree = tree; terms = linear_terms terms.now }) e) }
+    ensures entry { IfOk result
+        (λ e. (known : Point → Known) (tree : Tree) → tree_size tree ≡ first
+        → IsFolded known variables 0 tree entry
+        → IsExpressionFolded known variables
+        (record { tree = tree; terms = linear_terms terms.now }) e) }
     ensures within { IfOk result (λ e. IsEntryWithin variables e) }
     ensures above { steps.old ≤ steps.new }
     ensures below { steps.new ≤ steps.old + 2 * (variables + 1) * length terms.now }
@@ -239,10 +252,16 @@ pub(crate) fn fold_expression<L: Ledger>(
     requires places { place_count total.old ≡ variables }
     requires blank { IsBlank total.old }
     ensures blank { OnOk result (StaysBlank total.old total.new) }
-    ensures entry { IfOk result (λ e. (known : Point → Known) → AreKnown variables known slots.now → IsExpressionFolded known variables (record { tree = tree_or_zero (option_copied tree.entry); terms = linear_terms terms.now }) e) }
+    ensures entry { IfOk result
+        (λ e. (known : Point → Known) → AreKnown variables known slots.now
+        → IsExpressionFolded known variables
+        (record { tree = tree_or_zero (option_copied tree.entry); terms = linear_terms terms.now })
+        e) }
     ensures within { IfOk result (λ e. IsEntryWithin variables e) }
     ensures above { steps.old ≤ steps.new }
-    ensures below { steps.new ≤ steps.old + 2 * (variables + 1) * (option_map_or tree_size (option_copied tree.entry) 0 + length terms.now) }
+    ensures below { steps.new
+        ≤ steps.old + 2 * (variables + 1)
+        * (option_map_or tree_size (option_copied tree.entry) 0 + length terms.now) }
 {
     let entry = tree_entry(alloc, tree, slots, total, steps, variables)?;
     let first = node_count(tree);

@@ -17,7 +17,8 @@ use std::alloc::{AllocError, Global};
 use text_base::{Ledger, Steps};
 
 fn number_entry(alloc: Global, value: Dec, place: usize) -> Entry
-    ensures entry { (n : ℕ) (known : Point → Known) → IsFolded known n place (number value.m value.e) result }
+    ensures entry { (n : ℕ) (known : Point → Known)
+        → IsFolded known n place (number value.m value.e) result }
     ensures within { (n : ℕ) → IsEntryWithin n result }
 {
     match Frac::of_dec(value) {
@@ -30,7 +31,9 @@ fn number_entry(alloc: Global, value: Dec, place: usize) -> Entry
 }
 
 fn variable_entry(alloc: Global, index: u32) -> Result<Entry, AllocError>
-    ensures entry { IfOk result (λ e. (n i : ℕ) (known : Point → Known) → index < n → IsFolded known n i (variable index) e) }
+    ensures entry { IfOk result
+        (λ e. (n i : ℕ) (known : Point → Known) → index < n
+        → IsFolded known n i (variable index) e) }
     ensures within { IfOk result (λ e. (n : ℕ) → index < n → IsEntryWithin n e) }
 {
     let form = Form::of_variable(alloc, index)?;
@@ -46,7 +49,9 @@ fn defined_entry(
 ) -> Result<Entry, AllocError>
     requires given { IsGiven variables slots.now index }
     requires slots { AreSlotsWithin variables slots.now }
-    ensures entry { IfOk result (λ e. (i : ℕ) (known : Point → Known) → AreKnown variables known slots.now → IsFolded known variables i (defined index) e) }
+    ensures entry { IfOk result
+        (λ e. (i : ℕ) (known : Point → Known) → AreKnown variables known slots.now
+        → IsFolded known variables i (defined index) e) }
     ensures within { IfOk result (λ e. IsEntryWithin variables e) }
 {
     match &slots[(index - variables) as usize] {
@@ -72,7 +77,10 @@ fn operation_entry<L: Ledger>(
     requires places { place_count total.old ≡ variables }
     requires blank { IsBlank total.old }
     ensures blank { OnOk result (StaysBlank total.old total.new) }
-    ensures entry { IfOk result (λ e. (known : Point → Known) (ts : Trees) → AreOperands known variables (place + 1) ts operands.now.forms.items operands.now.broken → IsFolded known variables place (operator class ts) e) }
+    ensures entry { IfOk result
+        (λ e. (known : Point → Known) (ts : Trees)
+        → AreOperands known variables (place + 1) ts operands.now.forms.items operands.now.broken
+        → IsFolded known variables place (operator class ts) e) }
     ensures within { IfOk result (λ e. IsEntryWithin variables e) }
     ensures above { steps.old ≤ steps.new }
     ensures below { steps.new ≤ steps.old + (variables + 1) * length operands.now.forms.items }
@@ -104,11 +112,18 @@ fn entry_of<L: Ledger>(
     requires slots { AreSlotsWithin variables slots.now }
     requires entries { AreWithin variables (forms_of (reverse stack.old.items)) }
     ensures blank { OnOk result (StaysBlank total.old total.new) }
-    ensures within { IfOk result (λ e. AreWithin variables (forms_of (e ∷ reverse stack.new.items))) }
-    ensures size { IfOk result (λ e. (trees : List Tree) → length trees ≡ length stack.old.items → length (with_node node trees) ≡ 1 + length stack.new.items) }
-    ensures entry { IfOk result (λ e. (known : Point → Known) (trees : List Tree) → AreKnown variables known slots.now → AreFolded known variables (place + 1) trees (reverse stack.old.items) → AreFolded known variables place (with_node node trees) (e ∷ reverse stack.new.items)) }
+    ensures within { IfOk result
+        (λ e. AreWithin variables (forms_of (e ∷ reverse stack.new.items))) }
+    ensures size { IfOk result
+        (λ e. (trees : List Tree) → length trees ≡ length stack.old.items
+        → length (with_node node trees) ≡ 1 + length stack.new.items) }
+    ensures entry { IfOk result
+        (λ e. (known : Point → Known) (trees : List Tree) → AreKnown variables known slots.now
+        → AreFolded known variables (place + 1) trees (reverse stack.old.items)
+        → AreFolded known variables place (with_node node trees) (e ∷ reverse stack.new.items)) }
     ensures above { steps.old ≤ steps.new }
-    ensures below { steps.new + (variables + 1) * vec_len stack.new ≤ steps.old + (variables + 1) * vec_len stack.old + (variables + 1) }
+    ensures below { steps.new + (variables + 1) * vec_len stack.new
+        ≤ steps.old + (variables + 1) * vec_len stack.old + (variables + 1) }
 {
     match node {
         Node::Num(value) => Ok(number_entry(alloc, value, place)),
@@ -145,10 +160,13 @@ pub(crate) fn fold_tree<L: Ledger>(
     requires places { place_count total.old ≡ variables }
     requires blank { IsBlank total.old }
     ensures blank { OnOk result (StaysBlank total.old total.new) }
-    ensures entry { IfOk result (λ e. (known : Point → Known) (tree : Tree) → AreKnown variables known slots.now → trees_of nodes.now ≡ tree ∷ [] → IsFolded known variables 0 tree e) }
+    ensures entry { IfOk result
+        (λ e. (known : Point → Known) (tree : Tree) → AreKnown variables known slots.now
+        → trees_of nodes.now ≡ tree ∷ [] → IsFolded known variables 0 tree e) }
     ensures within { IfOk result (λ e. IsEntryWithin variables e) }
     ensures above { steps.old ≤ steps.new }
-    ensures below { steps.new + (variables + 1) ≤ steps.old + 2 * (variables + 1) * length nodes.now }
+    ensures below { steps.new + (variables + 1)
+        ≤ steps.old + 2 * (variables + 1) * length nodes.now }
 {
     let mut stack: Vec<Entry> = Vec::new(alloc);
     for place in (0..nodes.len()).rev() {

@@ -8,21 +8,20 @@ ghost use Rattle.nl_meaning.specs.Lines.{is_constant};
 ghost use Rattle.linear_fold.specs.Coefs.{AddsAt, AreAscending, coef_in};
 ghost use Rattle.linear_fold.specs.Forms.{AddsScaled, AreWithin, HasPlace, HasRoom, IsZeroFrom, SumsUp, form_line, form_terms, is_open, place_count, terms_left};
 
+use crate::accumulator::{Accumulator, sum_of};
 use crate::coefficients::Coefficients;
 use crate::pad::Pad;
-use crate::shortcuts::{product_of, sum_of};
 use crate::wide::Wide;
-use crate::work::Work;
 use exact_numbers::Frac;
 use std::alloc::{AllocError, Global};
 use std::mem;
 use text_base::{Ledger, Steps, Stop};
 
-/// Where the coefficients of a form are kept: in a list, or on a pad.
+/// Where the coefficients of a form are kept: in a list, or in a sparse accumulator (a pad).
 #[derive(Drop)]
 pub enum Kept {
     Closed(Coefficients),
-    Open(Work),
+    Open(Accumulator),
 }
 
 /// A constant, and coefficients that are not 0.
@@ -56,7 +55,8 @@ impl Form {
 
     // A variable, closed.
     pub(crate) fn of_variable(alloc: Global, variable: u32) -> Result<Form, AllocError>
-        ensures line { IfOk result (λ f. form_line f ≡ line_with (constant_line zero_ℚ) variable one_ℚ) }
+        ensures line { IfOk result
+            (λ f. form_line f ≡ line_with (constant_line zero_ℚ) variable one_ℚ) }
         ensures closed { IfOk result (λ f. is_open f ≡ false) }
     {
         let coefficients = Coefficients::of_term(alloc, variable, Frac::one())?;
@@ -74,13 +74,14 @@ impl Form {
     {
         Form {
             constant: Frac::zero(),
-            kept: Kept::Open(pad.into_work()),
+            kept: Kept::Open(pad.into_accumulator()),
         }
     }
 
     // The closed form of the same constant with these coefficients.
     pub(crate) fn with_coefficients(&self, coefficients: Coefficients) -> Form
-        ensures line { form_line result ≡ record { constant = (form_line self.now).constant; coef = coef_in coefficients } }
+        ensures line { form_line result
+            ≡ record { constant = (form_line self.now).constant; coef = coef_in coefficients } }
         ensures closed { is_open result ≡ false }
     {
         Form {
@@ -144,7 +145,8 @@ impl Form {
     // Whether a closed form has no coefficients.
     pub(crate) fn is_constant(&self) -> bool
         requires { is_open self.now ≡ false }
-        ensures { (n : ℕ) → IsZeroFrom n (form_line self.now) → result ≡ is_constant n (form_line self.now) }
+        ensures { (n : ℕ) → IsZeroFrom n (form_line self.now)
+            → result ≡ is_constant n (form_line self.now) }
     {
         self.listed().is_empty()
     }
@@ -152,14 +154,15 @@ impl Form {
     // Adds a factor to the coefficient of a variable.
     pub(crate) fn add_term(&mut self, variable: u32, factor: Frac) -> Result<(), Stop<Wide>>
         requires { HasPlace self.old.kept variable }
-        ensures adds { AddsAt (form_line self.old).coef variable (frac_value factor) (form_line self.new).coef result }
+        ensures adds { AddsAt (form_line self.old).coef variable (frac_value factor)
+            (form_line self.new).coef result }
         ensures constant { (form_line self.new).constant ≡ (form_line self.old).constant }
         ensures open { is_open self.new ≡ is_open self.old }
         ensures places { place_count self.new ≡ place_count self.old }
     {
         match &mut self.kept {
             Kept::Closed(coefficients) => coefficients.add(variable, factor),
-            Kept::Open(work) => work.add(variable, factor),
+            Kept::Open(accumulator) => accumulator.add(variable, factor),
         }
     }
 
@@ -171,7 +174,8 @@ impl Form {
         steps: &mut Steps<L>,
     ) -> Result<(), Stop<Wide>>
         requires { AreWithin self.old.kept terms.now }
-        ensures sums { SumsUp (form_line self.old) (frac_value k) terms.now (form_line self.new) result }
+        ensures sums { SumsUp (form_line self.old) (frac_value k) terms.now (form_line self.new)
+            result }
         ensures open { is_open self.new ≡ is_open self.old }
         ensures places { place_count self.new ≡ place_count self.old }
         ensures counted { OnOk result (steps.new ≡ steps.old + length terms.now) }
@@ -180,7 +184,7 @@ impl Form {
     {
         for term in terms {
             steps.tick();
-            let Some(scaled) = product_of(k, term.1) else {
+            let Some(scaled) = k.mul(term.1) else {
                 return Err(Stop::Fault(Wide));
             };
             match self.add_term(term.0, scaled) {
@@ -200,7 +204,8 @@ impl Form {
     ) -> Result<(), Stop<Wide>>
         requires closed { is_open other.now ≡ false }
         requires room { HasRoom self.old (form_line other.now) }
-        ensures sums { AddsScaled (form_line self.old) (frac_value k) (form_line other.now) (form_line self.new) result }
+        ensures sums { AddsScaled (form_line self.old) (frac_value k) (form_line other.now)
+            (form_line self.new) result }
         ensures open { is_open self.new ≡ is_open self.old }
         ensures places { place_count self.new ≡ place_count self.old }
         ensures counted { OnOk result (steps.new ≡ steps.old + length (form_terms other.now) + 1) }
@@ -210,7 +215,7 @@ impl Form {
     {
         let terms = other.listed();
         steps.tick();
-        let Some(scaled) = product_of(k, other.constant) else {
+        let Some(scaled) = k.mul(other.constant) else {
             return Err(Stop::Fault(Wide));
         };
         let Some(sum) = sum_of(self.constant, scaled) else {
@@ -229,13 +234,14 @@ impl Form {
         self.constant = Frac::zero();
         match &mut self.kept {
             Kept::Closed(coefficients) => coefficients.clear(),
-            Kept::Open(work) => work.clear(),
+            Kept::Open(accumulator) => accumulator.clear(),
         }
     }
 
-    /// Adds k times another form, which is closed. Wide exactly where a product or a sum of one coefficient or of the
-    /// constants does not fit. A step is counted for the constant and for each term of the other form. After Wide and
-    /// want of memory the form is 0. It stays open or closed.
+    /// Adds k times another form, which is closed. Wide exactly where a product or a sum of one
+    /// coefficient or of the constants does not fit. A step is counted for the constant and for
+    /// each term of the other form. After Wide and want of memory the form is 0. It stays open or
+    /// closed.
     pub fn add_scaled<L: Ledger>(
         &mut self,
         other: &Form,
@@ -244,7 +250,8 @@ impl Form {
     ) -> Result<(), Stop<Wide>>
         requires closed { is_open other.now ≡ false }
         requires room { HasRoom self.old (form_line other.now) }
-        ensures sums { AddsScaled (form_line self.old) (frac_value k) (form_line other.now) (form_line self.new) result }
+        ensures sums { AddsScaled (form_line self.old) (frac_value k) (form_line other.now)
+            (form_line self.new) result }
         ensures zero { OnErr result (form_line self.new ≡ constant_line zero_ℚ) }
         ensures open { is_open self.new ≡ is_open self.old }
         ensures places { place_count self.new ≡ place_count self.old }
@@ -270,7 +277,7 @@ impl Form {
     {
         let Form { constant: _, kept } = self;
         match kept {
-            Kept::Open(work) => Pad::of_work(work),
+            Kept::Open(accumulator) => Pad::of_accumulator(accumulator),
             Kept::Closed(_) => unreachable!(),
         }
     }
@@ -299,13 +306,13 @@ impl Form {
     {
         let Form { constant, kept } = self;
         match kept {
-            Kept::Open(work) => {
-                let (coefficients, work) = work.close()?;
+            Kept::Open(accumulator) => {
+                let (coefficients, empty) = accumulator.close()?;
                 let form = Form {
                     constant,
                     kept: Kept::Closed(coefficients),
                 };
-                Ok((form, Pad::of_work(work)))
+                Ok((form, Pad::of_accumulator(empty)))
             }
             Kept::Closed(_) => unreachable!(),
         }

@@ -1,6 +1,7 @@
 // The linear program of an .nl file: its expressions folded to linear forms.
 #![tactic(auto)]
 
+mod accumulator;
 mod ascending;
 mod bodies;
 mod coefficients;
@@ -16,9 +17,7 @@ mod operate;
 mod owners;
 mod pad;
 mod program;
-mod shortcuts;
 mod wide;
-mod work;
 
 pub use fold_fault::FoldFault;
 pub use form::{Form, FormTerms};

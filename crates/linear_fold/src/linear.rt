@@ -5,7 +5,8 @@ use crate::form::Form;
 use nl_model::{Interval, Kind};
 use std::marker::Model;
 
-/// The forms of the bodies and of an objective, with the sides of constraints and the bounds and kinds of variables.
+/// The forms of the bodies and of an objective, with the sides of constraints and the bounds and
+/// kinds of variables.
 #[derive(Drop)]
 pub struct Linear {
     bodies: Vec<Form>,
@@ -22,9 +23,26 @@ impl Model for Linear {
 
     ghost Value = { LinearValue };
 
-    ghost view = { λ l. record { bodies = l.bodies.items; objective = l.objective; number = l.number; maximise = l.maximise; sides = l.sides.items; bounds = l.bounds.items; kinds = l.kinds.items } };
+    ghost view = { λ l. record {
+      bodies = l.bodies.items;
+      objective = l.objective;
+      number = l.number;
+      maximise = l.maximise;
+      sides = l.sides.items;
+      bounds = l.bounds.items;
+      kinds = l.kinds.items;
+    } };
 
-    ghost invariant = { λ l. IsLinear (record { bodies = l.bodies.items; objective = l.objective; number = l.number; maximise = l.maximise; sides = l.sides.items; bounds = l.bounds.items; kinds = l.kinds.items }) };
+    ghost invariant = { λ l. IsLinear
+        (record {
+          bodies = l.bodies.items;
+          objective = l.objective;
+          number = l.number;
+          maximise = l.maximise;
+          sides = l.sides.items;
+          bounds = l.bounds.items;
+          kinds = l.kinds.items;
+        }) };
 }
 
 impl Linear {
@@ -40,8 +58,26 @@ impl Linear {
         bounds: Vec<Interval>,
         kinds: Vec<Kind>,
     ) -> Linear
-        requires { IsLinear (record { bodies = bodies.items; objective = objective; number = number; maximise = maximise; sides = sides.items; bounds = bounds.items; kinds = kinds.items }) }
-        ensures { result ≡ record { bodies = bodies.items; objective = objective; number = number; maximise = maximise; sides = sides.items; bounds = bounds.items; kinds = kinds.items } }
+        requires { IsLinear
+            (record {
+              bodies = bodies.items;
+              objective = objective;
+              number = number;
+              maximise = maximise;
+              sides = sides.items;
+              bounds = bounds.items;
+              kinds = kinds.items;
+            }) }
+        ensures { result
+            ≡ record {
+              bodies = bodies.items;
+              objective = objective;
+              number = number;
+              maximise = maximise;
+              sides = sides.items;
+              bounds = bounds.items;
+              kinds = kinds.items;
+            } }
     {
         Linear {
             bodies,

@@ -32,7 +32,9 @@ fn add_all<L: Ledger>(
 ) -> Result<(), Stop<Wide>>
     requires blank { IsBlank total.old }
     requires within { AreWithin (place_count total.old) operands.now }
-    ensures sums { SumsTo (running_sums_fit (place_count total.old) zero_line (lines_of_forms operands.now)) (running_line zero_line (lines_of_forms operands.now)) (form_line total.new) result }
+    ensures sums { SumsTo
+        (running_sums_fit (place_count total.old) zero_line (lines_of_forms operands.now))
+        (running_line zero_line (lines_of_forms operands.now)) (form_line total.new) result }
     ensures zero { OnErr result (form_line total.new ≡ zero_line) }
     ensures open { is_open total.new ≡ true }
     ensures places { place_count total.new ≡ place_count total.old }
@@ -58,7 +60,9 @@ fn add_difference<L: Ledger>(
     requires blank { IsBlank total.old }
     requires first { IsWithin (place_count total.old) a.now }
     requires second { IsWithin (place_count total.old) b.now }
-    ensures sums { SumsTo (sums_fit (place_count total.old) (form_line a.now) (line_neg (form_line b.now))) (line_sum (form_line a.now) (line_neg (form_line b.now))) (form_line total.new) result }
+    ensures sums { SumsTo
+        (sums_fit (place_count total.old) (form_line a.now) (line_neg (form_line b.now)))
+        (line_sum (form_line a.now) (line_neg (form_line b.now))) (form_line total.new) result }
     ensures zero { OnErr result (form_line total.new ≡ zero_line) }
     ensures open { is_open total.new ≡ true }
     ensures places { place_count total.new ≡ place_count total.old }
@@ -80,7 +84,8 @@ fn add_multiple<L: Ledger>(
 ) -> Result<(), Stop<Wide>>
     requires blank { IsBlank total.old }
     requires within { IsWithin (place_count total.old) a.now }
-    ensures sums { SumsTo (products_fit (place_count total.old) (frac_value k) (form_line a.now)) (line_scaled (frac_value k) (form_line a.now)) (form_line total.new) result }
+    ensures sums { SumsTo (products_fit (place_count total.old) (frac_value k) (form_line a.now))
+        (line_scaled (frac_value k) (form_line a.now)) (form_line total.new) result }
     ensures zero { OnErr result (form_line total.new ≡ zero_line) }
     ensures open { is_open total.new ≡ true }
     ensures places { place_count total.new ≡ place_count total.old }
@@ -99,7 +104,9 @@ fn outcome_of(
     requires open { is_open total.old ≡ true }
     requires zero { OnErr summed (form_line total.old ≡ zero_line) }
     ensures blank { OnOk result (StaysBlank total.old total.new) }
-    ensures outcome { IfOk result (λ o. (fit : Bool) (sum : Line) → SumsTo fit sum (form_line total.old) summed → ComesTo fit sum o) }
+    ensures outcome { IfOk result
+        (λ o. (fit : Bool) (sum : Line) → SumsTo fit sum (form_line total.old) summed
+        → ComesTo fit sum o) }
 {
     match summed {
         Ok(()) => {
@@ -121,7 +128,10 @@ pub(crate) fn sum_of_all<L: Ledger>(
     requires blank { IsBlank total.old }
     requires within { AreWithin (place_count total.old) operands.now }
     ensures blank { OnOk result (StaysBlank total.old total.new) }
-    ensures outcome { IfOk result (λ o. ComesTo (running_sums_fit (place_count total.old) zero_line (lines_of_forms operands.now)) (running_line zero_line (lines_of_forms operands.now)) o) }
+    ensures outcome { IfOk result
+        (λ o. ComesTo
+        (running_sums_fit (place_count total.old) zero_line (lines_of_forms operands.now))
+        (running_line zero_line (lines_of_forms operands.now)) o) }
     ensures above { steps.old ≤ steps.new }
     ensures below { steps.new ≤ steps.old + (place_count total.old + 1) * length operands.now }
 {
@@ -140,7 +150,9 @@ fn difference<L: Ledger>(
     requires first { IsWithin (place_count total.old) a.now }
     requires second { IsWithin (place_count total.old) b.now }
     ensures blank { OnOk result (StaysBlank total.old total.new) }
-    ensures outcome { IfOk result (λ o. Operates (place_count total.old) Difference (form_line a.now ∷ form_line b.now ∷ []) o) }
+    ensures outcome { IfOk result
+        (λ o. Operates (place_count total.old) Difference (form_line a.now ∷ form_line b.now ∷ [])
+        o) }
     ensures above { steps.old ≤ steps.new }
     ensures below { steps.new ≤ steps.old + (place_count total.old + 1) * 2 }
 {
@@ -159,7 +171,9 @@ pub(crate) fn scaled<L: Ledger>(
     requires blank { IsBlank total.old }
     requires within { IsWithin (place_count total.old) a.now }
     ensures blank { OnOk result (StaysBlank total.old total.new) }
-    ensures outcome { IfOk result (λ o. ComesTo (products_fit (place_count total.old) (frac_value k) (form_line a.now)) (line_scaled (frac_value k) (form_line a.now)) o) }
+    ensures outcome { IfOk result
+        (λ o. ComesTo (products_fit (place_count total.old) (frac_value k) (form_line a.now))
+        (line_scaled (frac_value k) (form_line a.now)) o) }
     ensures above { steps.old ≤ steps.new }
     ensures below { steps.new ≤ steps.old + (place_count total.old + 1) }
 {
@@ -176,7 +190,8 @@ fn negated<L: Ledger>(
     requires blank { IsBlank total.old }
     requires within { IsWithin (place_count total.old) a.now }
     ensures blank { OnOk result (StaysBlank total.old total.new) }
-    ensures outcome { IfOk result (λ o. Operates (place_count total.old) Negation (form_line a.now ∷ []) o) }
+    ensures outcome { IfOk result
+        (λ o. Operates (place_count total.old) Negation (form_line a.now ∷ []) o) }
     ensures above { steps.old ≤ steps.new }
     ensures below { steps.new ≤ steps.old + (place_count total.old + 1) }
 {
@@ -194,7 +209,8 @@ fn product<L: Ledger>(
     requires first { IsWithin (place_count total.old) a.now }
     requires second { IsWithin (place_count total.old) b.now }
     ensures blank { OnOk result (StaysBlank total.old total.new) }
-    ensures outcome { IfOk result (λ o. Operates (place_count total.old) Product (form_line a.now ∷ form_line b.now ∷ []) o) }
+    ensures outcome { IfOk result
+        (λ o. Operates (place_count total.old) Product (form_line a.now ∷ form_line b.now ∷ []) o) }
     ensures above { steps.old ≤ steps.new }
     ensures below { steps.new ≤ steps.old + (place_count total.old + 1) }
 {
@@ -218,7 +234,9 @@ fn quotient<L: Ledger>(
     requires first { IsWithin (place_count total.old) a.now }
     requires second { IsWithin (place_count total.old) b.now }
     ensures blank { OnOk result (StaysBlank total.old total.new) }
-    ensures outcome { IfOk result (λ o. Operates (place_count total.old) Quotient (form_line a.now ∷ form_line b.now ∷ []) o) }
+    ensures outcome { IfOk result
+        (λ o. Operates (place_count total.old) Quotient (form_line a.now ∷ form_line b.now ∷ [])
+        o) }
     ensures above { steps.old ≤ steps.new }
     ensures below { steps.new ≤ steps.old + (place_count total.old + 1) }
 {
@@ -244,7 +262,8 @@ pub(crate) fn operate<L: Ledger>(
     requires blank { IsBlank total.old }
     requires within { AreWithin (place_count total.old) operands.now }
     ensures blank { OnOk result (StaysBlank total.old total.new) }
-    ensures outcome { IfOk result (λ o. Operates (place_count total.old) class (lines_of_forms operands.now) o) }
+    ensures outcome { IfOk result
+        (λ o. Operates (place_count total.old) class (lines_of_forms operands.now) o) }
     ensures above { steps.old ≤ steps.new }
     ensures below { steps.new ≤ steps.old + (place_count total.old + 1) * length operands.now }
 {

@@ -23,7 +23,8 @@ use text_base::{Ledger, Steps, Stop};
 // The most coefficients of a folded file.
 const MOST_COEFFICIENTS: usize = 0x80_0000;
 
-/// What folding a file keeps: the forms of defined variables, an open form that is 0, and the coefficients so far.
+/// What folding a file keeps: the forms of defined variables, an open form that is 0, and the
+/// coefficients so far.
 #[derive(Drop)]
 pub(crate) struct Folder {
     pub(crate) alloc: Global,
@@ -82,7 +83,8 @@ fn count_with(count: usize, owner: Owner, form: &Form) -> Result<usize, FoldFaul
     ensures count { IfOk result (λ total. total ≡ count + length (form_terms form.now)) }
     ensures few { IfOk result (λ total. total ≤ most_coefficients) }
     ensures fault { IfErr result (λ fault. fault ≡ FoldTooLarge (Head owner)) }
-    ensures many { IfErr result (λ fault. most_coefficients < count + length (form_terms form.now)) }
+    ensures many { IfErr result
+        (λ fault. most_coefficients < count + length (form_terms form.now)) }
     ensures ascending { AreAscending 0 (form_terms form.now) }
 {
     let total = count + form.listed().len();
@@ -102,13 +104,17 @@ pub(crate) fn fold_owner<L: Ledger>(
     requires file { IsFile file.now }
     requires owner { HasOwner file.now owner }
     requires folder { HasFolded file.now (definitions_before file.now owner) folder.old }
-    ensures folder { OnOk result (HasFolded file.now (definitions_before file.now owner) folder.new) }
+    ensures folder { OnOk result
+        (HasFolded file.now (definitions_before file.now owner) folder.new) }
     ensures form { IfOk result (λ form. IsFormOf file.now owner form) }
-    ensures count { IfOk result (λ form. folder.new.count ≡ folder.old.count + length (form_terms form)) }
-    ensures folded { AreOwnersFolded file.now folder.old.count (owned_at file.now owner ∷ []) folder.new.count result }
+    ensures count { IfOk result
+        (λ form. folder.new.count ≡ folder.old.count + length (form_terms form)) }
+    ensures folded { AreOwnersFolded file.now folder.old.count (owned_at file.now owner ∷ [])
+        folder.new.count result }
     ensures place { IfErr result (λ stop. IfFault stop (λ fault. HasFaultPlace file.now fault)) }
     ensures above { steps.old ≤ steps.new }
-    ensures below { steps.new ≤ steps.old + 2 * (file.now.counts.n_var + 1) * owner_size file.now owner }
+    ensures below { steps.new
+        ≤ steps.old + 2 * (file.now.counts.n_var + 1) * owner_size file.now owner }
 {
     let (tree, terms) = expression_of(file, owner);
     let entry = fold_expression(

@@ -1,15 +1,15 @@
-// Pads.
+// Pads: empty sparse accumulators.
 ghost use Rattle.std.specs.Prelude.{◌≡◌, IfOk, length};
 ghost use Rattle.linear_fold.specs.Places.{AreZeros};
 
-use crate::work::Work;
+use crate::accumulator::Accumulator;
 use std::alloc::{AllocError, Global};
 use std::marker::Model;
 
-/// An empty working area with a place for each variable.
+/// An empty sparse accumulator, with a place for each variable.
 #[derive(Drop)]
 pub struct Pad {
-    work: Work,
+    accumulator: Accumulator,
 }
 
 impl Model for Pad {
@@ -18,9 +18,9 @@ impl Model for Pad {
 
     ghost Value = { ℕ };
 
-    ghost view = { λ p. length p.work };
+    ghost view = { λ p. length p.accumulator };
 
-    ghost invariant = { λ p. AreZeros p.work };
+    ghost invariant = { λ p. AreZeros p.accumulator };
 }
 
 impl Pad {
@@ -28,22 +28,22 @@ impl Pad {
     pub fn new(alloc: Global, n_var: u32) -> Result<Pad, AllocError>
         ensures { IfOk result (λ p. p ≡ n_var) }
     {
-        let work = Work::new(alloc, n_var)?;
-        Ok(Pad { work })
+        let accumulator = Accumulator::new(alloc, n_var)?;
+        Ok(Pad { accumulator })
     }
 
-    pub(crate) fn of_work(work: Work) -> Pad
-        requires { AreZeros work }
-        ensures { result ≡ length work }
+    pub(crate) fn of_accumulator(accumulator: Accumulator) -> Pad
+        requires { AreZeros accumulator }
+        ensures { result ≡ length accumulator }
     {
-        Pad { work }
+        Pad { accumulator }
     }
 
-    pub(crate) fn into_work(self) -> Work
+    pub(crate) fn into_accumulator(self) -> Accumulator
         ensures zeros { AreZeros result }
         ensures count { length result ≡ self }
     {
-        let Pad { work } = self;
-        work
+        let Pad { accumulator } = self;
+        accumulator
     }
 }

@@ -22,7 +22,8 @@ use text_base::{Ledger, Steps, Stop};
 
 // Whether there is such an objective; a file without objectives has the objective 0.
 fn has_objective(counts: &Counts, objective: u32) -> bool
-    ensures { result ≡ (nat_lt objective counts.now.n_obj || ((objective == 0) && (counts.now.n_obj == 0))) }
+    ensures { result
+        ≡ (nat_lt objective counts.now.n_obj || ((objective == 0) && (counts.now.n_obj == 0))) }
 {
     objective < counts.n_obj || (objective == 0 && counts.n_obj == 0)
 }
@@ -109,7 +110,8 @@ pub fn fold_all<L: Ledger>(
     objective: u32,
     steps: &mut Steps<L>,
 ) -> Result<Linear, Stop<FoldFault>>
-    // The linear program of the file, which has no fault; sides, bounds and kinds are the file's own.
+    // The linear program of the file, which has no fault; sides, bounds and kinds are the file's
+    // own.
     ensures linear { IfOk result (λ l. linear_value l ≡ linear_of file.now objective) }
     ensures number { IfOk result (λ l. l.number ≡ objective) }
     ensures sides { IfOk result (λ l. l.sides ≡ file.now.sides) }
@@ -121,7 +123,8 @@ pub fn fold_all<L: Ledger>(
     ensures values { OnOk result (HasLines file.now objective) }
 
     // The first fault, at a place of the file.
-    ensures fault { IfErr result (λ stop. IfFault stop (λ fault. first_fold_fault file.now objective ≡ Some fault)) }
+    ensures fault { IfErr result
+        (λ stop. IfFault stop (λ fault. first_fold_fault file.now objective ≡ Some fault)) }
     ensures place { IfErr result (λ stop. IfFault stop (λ fault. HasFaultPlace file.now fault)) }
 
     // No step is counted where there is no such objective.

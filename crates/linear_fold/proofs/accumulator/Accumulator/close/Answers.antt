@@ -5,8 +5,8 @@ use Rattle.linear_fold.specs.Coefs.{coef_in}
 use Rattle.linear_fold.proofs.CoefLemmas.{not_zero}
 use Rattle.linear_fold.proofs.PlaceLemmas.{place_at, no_marks}
 use Rattle.linear_fold.proofs.Closing.{Closing, closing_begin, closing_pass, closing_more, closed_zeros, closed_coefs, touched_place}
-use Rattle.linear_fold.proofs.work.Work.close.Goals as goal
-use Rattle.linear_fold.proofs.work.Work.close.Goals.{then-not-is_zero+in_ok-push, else-not-is_zero}
+use Rattle.linear_fold.proofs.accumulator.Accumulator.close.Goals as goal
+use Rattle.linear_fold.proofs.accumulator.Accumulator.close.Goals.{then-not-is_zero+in_ok-push, else-not-is_zero}
 
 pub loop-variable-init : goal.loop-variable-init
 loop-variable-init c =
@@ -56,8 +56,8 @@ loop-variable-preserved c =
           (c.is_zero.ensures.0 w.if-not-is_zero.false)))
     ]
 
-pub invariant_of-work : goal.invariant_of-work
-invariant_of-work c = no_marks c.loop-variable.places.items c.clear.new.self.items c.clear.ensures.items (closed_zeros c.args.self c.loop-variable.places.items c.loop-variable.items.items c.deref-variable-items.result.now c.loop-variable.variable-index c.loop-variable-test.false c.loop-variable.invariant)
+pub invariant_of-accumulator : goal.invariant_of-accumulator
+invariant_of-accumulator c = no_marks c.loop-variable.places.items c.clear.new.self.items c.clear.ensures.items (closed_zeros c.args.self c.loop-variable.places.items c.loop-variable.items.items c.deref-variable-items.result.now c.loop-variable.variable-index c.loop-variable-test.false c.loop-variable.invariant)
 
 pub of_items-requires : goal.of_items-requires
 of_items-requires c = c.loop-variable.invariant.ascending

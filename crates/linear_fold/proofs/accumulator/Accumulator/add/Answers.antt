@@ -4,7 +4,7 @@ use Rattle.fractions.specs.Fits.{sum_fits}
 use Rattle.linear_fold.specs.Places.{AreMarked}
 use Rattle.linear_fold.proofs.CoefLemmas.{not_zero}
 use Rattle.linear_fold.proofs.PlaceLemmas.{kept_marks, new_mark, place_at, seen_place, seen_write}
-use Rattle.linear_fold.proofs.work.Work.add.Goals as goal
+use Rattle.linear_fold.proofs.accumulator.Accumulator.add.Goals as goal
 
 pub returns-in_default-clause-adds : goal.returns-in_default-clause-adds
 returns-in_default-clause-adds c =

@@ -1,7 +1,7 @@
 use Rattle.std.proofs.Common.{◌≡◌, ℕ, List, [], ◌∷◌, refl, ◌∙◌, arith, length}
 use Rattle.std.proofs.lemmas.List.{length-set}
 use Rattle.linear_fold.proofs.PlaceLemmas.{one_less, touched_within, untouched}
-use Rattle.linear_fold.proofs.work.Work.clear.Goals as goal
+use Rattle.linear_fold.proofs.accumulator.Accumulator.clear.Goals as goal
 
 pub index_mut-requires : goal.index_mut-requires
 index_mut-requires c =

@@ -1,11 +1,12 @@
-// The coefficients of an open form, each at the place of its variable.
-ghost use Rattle.std.specs.Prelude.{◌≡◌, ◌<◌, ℕ, length, IfOk};
+// A sparse accumulator: the coefficients of an open form, each at the place of its variable.
+ghost use Rattle.std.specs.Prelude.{◌≡◌, ◌<◌, ℕ, length, IfOk, true, false, MatchOption};
 ghost use Rattle.exact_numbers.specs.Values.{frac_value};
+ghost use Rattle.fractions.specs.Fits.{sum_fits};
+ghost use Rattle.fractions.specs.Rational.{◌+ℚ◌};
 ghost use Rattle.linear_fold.specs.Coefs.{AddsAt, coef_in};
 ghost use Rattle.linear_fold.specs.Places.{AreZeros, place_in};
 
 use crate::coefficients::Coefficients;
-use crate::shortcuts::sum_of;
 use crate::wide::Wide;
 use exact_numbers::Frac;
 use std::alloc::{AllocError, Global};
@@ -14,13 +15,13 @@ use text_base::Stop;
 
 /// A place for each variable, and the touched places: those that may hold anything but 0.
 #[derive(Drop)]
-pub struct Work {
+pub struct Accumulator {
     alloc: Global,
     places: Vec<Frac>,
     touched: Vec<u32>,
 }
 
-impl Model for Work {
+impl Model for Accumulator {
     ghost use Rattle.std.specs.Prelude.{List};
     ghost use Rattle.exact_numbers.specs.declared.frac.Frac.{Frac as FracFields};
     ghost use Rattle.linear_fold.specs.Places.{AreMarked};
@@ -32,9 +33,21 @@ impl Model for Work {
     ghost invariant = { λ w. AreMarked w.places.items w.touched.items };
 }
 
-impl Work {
+/// The sum, at once where the first is 0. None exactly where it does not fit.
+pub(crate) fn sum_of(a: Frac, b: Frac) -> Option<Frac>
+    ensures { MatchOption result (sum_fits (frac_value a) (frac_value b) ≡ false)
+        (λ f. (sum_fits (frac_value a) (frac_value b) ≡ true)
+        × (frac_value f ≡ frac_value a +ℚ frac_value b)) }
+{
+    if a.is_zero() {
+        return Some(b);
+    }
+    a.add(b)
+}
+
+impl Accumulator {
     /// So many places, which hold 0.
-    pub(crate) fn new(alloc: Global, count: u32) -> Result<Work, AllocError>
+    pub(crate) fn new(alloc: Global, count: u32) -> Result<Accumulator, AllocError>
         ensures zeros { IfOk result (λ w. AreZeros w) }
         ensures count { IfOk result (λ w. length w ≡ count) }
     {
@@ -42,7 +55,7 @@ impl Work {
         for _ in 0..count {
             places.push(Frac::zero())?;
         }
-        Ok(Work {
+        Ok(Accumulator {
             alloc,
             places,
             touched: Vec::new(alloc),
@@ -52,7 +65,8 @@ impl Work {
     /// Adds a factor to the coefficient of a variable.
     pub(crate) fn add(&mut self, variable: u32, factor: Frac) -> Result<(), Stop<Wide>>
         requires { variable < length self.old }
-        ensures adds { AddsAt (place_in self.old) variable (frac_value factor) (place_in self.new) result }
+        ensures adds { AddsAt (place_in self.old) variable (frac_value factor) (place_in self.new)
+            result }
         ensures count { length self.new ≡ length self.old }
     {
         let old = self.places[variable as usize];
@@ -81,14 +95,14 @@ impl Work {
     }
 }
 
-impl Work {
+impl Accumulator {
     // The coefficients in order, and the places, which hold 0 again.
-    pub(crate) fn close(self) -> Result<(Coefficients, Work), AllocError>
+    pub(crate) fn close(self) -> Result<(Coefficients, Accumulator), AllocError>
         ensures coefficients { IfOk result (λ r. (j : ℕ) → coef_in r.0 j ≡ place_in self j) }
         ensures zeros { IfOk result (λ r. AreZeros r.1) }
         ensures count { IfOk result (λ r. length r.1 ≡ length self) }
     {
-        let Work {
+        let Accumulator {
             alloc,
             mut places,
             mut touched,
@@ -103,11 +117,11 @@ impl Work {
             }
         }
         touched.clear();
-        let work = Work {
+        let accumulator = Accumulator {
             alloc,
             places,
             touched,
         };
-        Ok((Coefficients::of_items(items), work))
+        Ok((Coefficients::of_items(items), accumulator))
     }
 }
