@@ -83,7 +83,8 @@ fn text_room(mps: &Mps) -> usize {
 /// The one written text of a program.
 pub fn write_mps(alloc: Global, mps: &Mps) -> Result<Vec<u8>, AllocError>
     ensures spelling { IfOk result (λ v. v.items ≡ mps_text_by text_of mps.now) }
-    ensures text { IfOk result (λ v. v.items ≡ mps_text_by value_text (with_values dec_value mps.now)) }
+    ensures text { IfOk result
+        (λ v. v.items ≡ mps_text_by value_text (with_values dec_value mps.now)) }
 {
     let rows = mps.rows();
     let columns = mps.columns();

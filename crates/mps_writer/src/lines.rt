@@ -66,7 +66,8 @@ pub(crate) fn put_rhs(
 ) -> Result<(), AllocError>
     requires { All (λ t. t.0 < length rows.now) rhs.now }
     ensures { OnOk result (out.new.items ≡ out.old.items ++ lines_text
-        (section (codes "RHS") ∷ entry_lines text_of rows.now (codes "RHS") (map entry_of rhs.now))) }
+        (section (codes "RHS")
+            ∷ entry_lines text_of rows.now (codes "RHS") (map entry_of rhs.now))) }
 {
     put_line(out, b"RHS")?;
     put_entries(out, rows, b"RHS", rhs)
@@ -80,7 +81,8 @@ pub(crate) fn put_ranges(
 ) -> Result<(), AllocError>
     requires { All (λ t. t.0 < length rows.now) ranges.now }
     ensures { OnOk result (out.new.items ≡ out.old.items ++ lines_text (unless_empty ranges.now
-        (section (codes "RANGES") ∷ entry_lines text_of rows.now (codes "RNG") (map entry_of ranges.now)))) }
+        (section (codes "RANGES")
+            ∷ entry_lines text_of rows.now (codes "RNG") (map entry_of ranges.now)))) }
 {
     if ranges.is_empty() {
         return Ok(());
