@@ -35,7 +35,7 @@ fn put_bound(
 ) -> Result<(), AllocError>
     ensures { OnOk result (out.new.items ≡ out.old.items ++ line_text
         (indented (bound_text kind ∷ codes "BND" ∷ column.now
-            ∷ value_words kind (text_of value)))) }
+        ∷ value_words kind (text_of value)))) }
 {
     put_next(out, kind_word(kind))?;
     put(out, b" BND")?;
@@ -72,7 +72,7 @@ pub(crate) fn put_bounds(
     requires { All (λ t. t.1 < length columns.now) bounds.now }
     ensures { OnOk result (out.new.items ≡ out.old.items ++ lines_text (unless_empty bounds.now
         (section (codes "BOUNDS")
-            ∷ map (bound_line text_of columns.now) (map bound_of bounds.now)))) }
+        ∷ map (bound_line text_of columns.now) (map bound_of bounds.now)))) }
 {
     if bounds.is_empty() {
         return Ok(());

@@ -71,7 +71,8 @@ fn put_rows(out: &mut Vec<u8>, rows: &[MpsRow]) -> Result<(), AllocError>
     put_row_lines(out, rows)
 }
 
-// Room for the text, at 24 bytes a line. It only spares copies: the text grows where it does not suffice.
+// Room for the text, at 24 bytes a line. It only spares copies: the text grows where it does not
+// suffice.
 fn text_room(mps: &Mps) -> usize {
     let mut lines = mps.rows().len() + mps.rhs().len() + mps.ranges().len() + mps.bounds().len();
     for column in mps.columns() {
