@@ -5,7 +5,7 @@
 #     [TERMS="1000000 2000000 4000000"] [RUNS=5] bench/run.sh PROGRAM [BASELINE]
 #
 # PROGRAM is the built `bridge`, BASELINE an asl2mps that is built already. Each time is the processor time, user and
-# system, of the best of RUNS runs, each command in turn; a ratio is printed beside asl2mps and clp alone. The first
+# system, of the best of RUNS runs, commands in turn; a ratio is printed beside asl2mps and clp alone. The first
 # number of TERMS is also that of lists in C and of defined variables, which asl2mps refuses: they stand beside J terms.
 set -eu
 here=$(cd "$(dirname "$0")" && pwd)
@@ -24,22 +24,27 @@ elif [ -f "$headers/asl.h" ] && cc -O2 -w -I"$headers" "$here/asl2mps.c" -o "$wo
 else
     echo "no baseline: Debian's libamplsolver-dev is not there, or asl2mps.c is not built over it; no ratio of export is printed"
 fi
-command -v clp >/dev/null || echo "no clp (Debian's coinor-clp): no ratio of mps is printed"
+clp=$(command -v clp || true)
+[ -n "$clp" ] || echo "no clp (Debian's coinor-clp): no ratio of mps is printed"
 
-# measure STATUS WORDS..: the least processor time in seconds, and the greatest peak in kilobytes.
+# measure STATUS WORDS.. [::: STATUS WORDS..]..: of each command the least processor time in seconds and the greatest
+# peak in kilobytes. The commands run in turn, so that a busy moment of the machine meets all of them.
 measure() {
     python3 - "$@" <<'P'
 import os, subprocess, sys
-wanted, words, best, peak = int(sys.argv[1]), sys.argv[2:], None, 0
+commands, best, peak = [[]], {}, {}
+for word in sys.argv[1:]:
+    commands.append([]) if word == ":::" else commands[-1].append(word)
 for _ in range(int(os.environ["RUNS"])):
-    child = subprocess.Popen(words, stdin=subprocess.DEVNULL, stdout=subprocess.DEVNULL, stderr=subprocess.DEVNULL)
-    _, status, usage = os.wait4(child.pid, 0)
-    if os.waitstatus_to_exitcode(status) != wanted:
-        sys.exit(f"{' '.join(words)} ended with {os.waitstatus_to_exitcode(status)}, not {wanted}")
-    took = usage.ru_utime + usage.ru_stime
-    best = took if best is None else min(best, took)
-    peak = max(peak, usage.ru_maxrss)
-print(f"{best:.3f} {peak}")
+    for i, (wanted, *words) in enumerate(commands):
+        child = subprocess.Popen(words, stdin=subprocess.DEVNULL, stdout=subprocess.DEVNULL, stderr=subprocess.DEVNULL)
+        _, status, usage = os.wait4(child.pid, 0)
+        if os.waitstatus_to_exitcode(status) != int(wanted):
+            sys.exit(f"{' '.join(words)} ended with {os.waitstatus_to_exitcode(status)}, not {wanted}")
+        took = usage.ru_utime + usage.ru_stime
+        best[i] = min(best.get(i, took), took)
+        peak[i] = max(peak.get(i, 0), usage.ru_maxrss)
+print(*(f"{best[i]:.3f} {peak[i]}" for i in best))
 P
 }
 
@@ -57,25 +62,21 @@ echo "export: processor seconds, best of $RUNS runs; reading is export of an obj
 printf '%9s %8s %8s %8s %8s %6s %13s %17s\n' terms form export reading asl2mps ratio "bytes a term" "asl2mps' bytes"
 for size in "${sizes[@]}"; do
     text=$(nl_text "$size" linear)
-    times=$(measure 0 "$program" export "$text")
-    read -r seconds peak <<<"$times"
-    times=$(measure 2 "$program" export "$text" 1)
-    read -r reading _ <<<"$times"
-    beside=- other=- part=-
+    words=(0 "$program" export "$text" ::: 2 "$program" export "$text" 1)
+    [ -z "$baseline" ] || words+=(::: 0 "$baseline" "$text")
+    times=$(measure "${words[@]}")
+    read -r seconds peak reading _ beside other <<<"$times"
+    part=-
     if [ -n "$baseline" ]; then
-        times=$(measure 0 "$baseline" "$text")
-        read -r beside other <<<"$times"
         part=$(ratio "$seconds" "$beside") other=$(bytes_each "$other" "$size")
     fi
-    printf '%9s %8s %8s %8s %8s %6s %13s %17s\n' "$size" linear "$seconds" "$reading" "$beside" "$part" "$(bytes_each "$peak" "$size")" "$other"
+    printf '%9s %8s %8s %8s %8s %6s %13s %17s\n' "$size" linear "$seconds" "$reading" "${beside:--}" "$part" "$(bytes_each "$peak" "$size")" "${other:--}"
     [ "$size" != "${sizes[0]}" ] || plain=$seconds
 done
 for form in list defined; do
     text=$(nl_text "${sizes[0]}" "$form")
-    times=$(measure 0 "$program" export "$text")
-    read -r seconds peak <<<"$times"
-    times=$(measure 2 "$program" export "$text" 1)
-    read -r reading _ <<<"$times"
+    times=$(measure 0 "$program" export "$text" ::: 2 "$program" export "$text" 1)
+    read -r seconds peak reading _ <<<"$times"
     printf '%9s %8s %8s %8s %8s %6s %13s   %s times our own J terms\n' "${sizes[0]}" "$form" "$seconds" "$reading" - - "$(bytes_each "$peak" "${sizes[0]}")" "$(ratio "$seconds" "$plain")"
 done
 
@@ -85,15 +86,11 @@ printf '%9s %8s %8s %6s %14s %8s\n' terms mps clp ratio "bytes an entry" nl
 for size in "${sizes[@]}"; do
     text=$(nl_text "$size" linear)
     "$program" export "$text" | sed '1s/$/ FREE/' >"$work/$size.mps"
-    times=$(measure 0 "$program" mps "$work/$size.mps")
-    read -r seconds peak <<<"$times"
-    times=$(measure 0 "$program" nl "$text")
-    read -r nl _ <<<"$times"
-    beside=- part=-
-    if command -v clp >/dev/null; then
-        times=$(measure 0 clp "$work/$size.mps" -quit)
-        read -r beside _ <<<"$times"
-        part=$(ratio "$seconds" "$beside")
-    fi
-    printf '%9s %8s %8s %6s %14s %8s\n' "$size" "$seconds" "$beside" "$part" "$(bytes_each "$peak" "$size")" "$nl"
+    words=(0 "$program" mps "$work/$size.mps" ::: 0 "$program" nl "$text")
+    [ -z "$clp" ] || words+=(::: 0 "$clp" "$work/$size.mps" -quit)
+    times=$(measure "${words[@]}")
+    read -r seconds peak nl _ beside _ <<<"$times"
+    part=-
+    [ -z "$clp" ] || part=$(ratio "$seconds" "$beside")
+    printf '%9s %8s %8s %6s %14s %8s\n' "$size" "$seconds" "${beside:--}" "$part" "$(bytes_each "$peak" "$size")" "$nl"
 done

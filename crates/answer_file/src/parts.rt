@@ -136,7 +136,8 @@ impl Parts {
     #[tactic(auto, unfolding(crate::specs::Grammar::status_tests))]
     fn take_status(&mut self, words: &[&[u8]]) -> Result<(), Stop<AnswerReason>>
         ensures { Takes (status_tests self.old (texts words.now))
-            (with_said self.old (option_map StatusIs (status_in (texts words.now)))) result self.new }
+            (with_said self.old (option_map StatusIs
+            (status_in (texts words.now)))) result self.new }
     {
         if words.len() != 2 {
             return Err(Stop::Fault(AnswerReason::BadLine));

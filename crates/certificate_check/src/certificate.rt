@@ -40,7 +40,9 @@ fn first_dual_fault(
     requires numbers { length y.now ≡ length columns.now.rows.items }
     requires lowers { length lo.now ≡ length columns.now.columns.items }
     requires uppers { length hi.now ≡ length columns.now.columns.items }
-    ensures { cause_found result ≡ dual_fault (asked goal (program_of columns.now)) (bounds_in lo.now hi.now) (value_at (values_of y.now)) }
+    ensures { cause_found result
+        ≡ dual_fault (asked goal (program_of columns.now)) (bounds_in lo.now hi.now)
+        (value_at (values_of y.now)) }
 {
     if let Some(fault) = first_side_fault(columns, goal, y) {
         return Some(fault);
@@ -51,7 +53,9 @@ fn first_dual_fault(
 // The first fault of the duals within the program's own bounds.
 fn own_dual_fault(columns: &Columns, y: &[Dec]) -> Option<Fault>
     requires { length y.now ≡ length columns.now.rows.items }
-    ensures { cause_found result ≡ dual_fault (program_of columns.now) (bounds_of (program_of columns.now)) (value_at (values_of y.now)) }
+    ensures { cause_found result
+        ≡ dual_fault (program_of columns.now) (bounds_of (program_of columns.now))
+        (value_at (values_of y.now)) }
 {
     let lower: &[Option<Dec>] = &columns.lower;
     let upper: &[Option<Dec>] = &columns.upper;
@@ -61,7 +65,9 @@ fn own_dual_fault(columns: &Columns, y: &[Dec]) -> Option<Fault>
 // The bound of the duals within the program's own bounds.
 fn own_bound(columns: &Columns, y: &[Dec]) -> Option<Frac>
     requires { length y.now ≡ length columns.now.rows.items }
-    ensures { value_found result ≡ bound_total (program_of columns.now) (bounds_of (program_of columns.now)) (value_at (values_of y.now)) }
+    ensures { value_found result
+        ≡ bound_total (program_of columns.now) (bounds_of (program_of columns.now))
+        (value_at (values_of y.now)) }
 {
     let lower: &[Option<Dec>] = &columns.lower;
     let upper: &[Option<Dec>] = &columns.upper;
@@ -73,7 +79,9 @@ fn own_bound(columns: &Columns, y: &[Dec]) -> Option<Frac>
 fn first_early_fault(columns: &Columns, x: &[Dec], y: &[Dec]) -> Option<Fault>
     requires numbers { length x.now ≡ length columns.now.columns.items }
     requires duals { length y.now ≡ length columns.now.rows.items }
-    ensures { cause_found result ≡ early_fault (program_of columns.now) (value_at (values_of x.now)) (value_at (values_of y.now)) }
+    ensures { cause_found result
+        ≡ early_fault (program_of columns.now) (value_at (values_of x.now))
+        (value_at (values_of y.now)) }
 {
     if let Some(fault) = first_row_fault(columns, x) {
         return Some(fault);
@@ -100,7 +108,8 @@ fn compared(value: Frac, bound: Frac) -> Verdict
 fn verdict_on(columns: &Columns, x: &[Dec], y: &[Dec]) -> Verdict
     requires numbers { length x.now ≡ length columns.now.columns.items }
     requires duals { length y.now ≡ length columns.now.rows.items }
-    ensures { answer_of result ≡ verdict (program_of columns.now) (values_of x.now) (values_of y.now) }
+    ensures { answer_of result
+        ≡ verdict (program_of columns.now) (values_of x.now) (values_of y.now) }
 {
     if let Some(fault) = first_early_fault(columns, x, y) {
         return refusal(fault);
@@ -114,13 +123,15 @@ fn verdict_on(columns: &Columns, x: &[Dec], y: &[Dec]) -> Verdict
     }
 }
 
-/// What the point x and the duals y show of a linear program: the first verdict that applies of six phases. The rows at
-/// x, the bounds at x, the sides that the duals need, the reduced costs and the bounds that they need, the value at x, and
-/// the bound of the duals, which is compared with the value.
+/// What the point x and the duals y show of a linear program: the first verdict that applies of six
+/// phases. The rows at x, the bounds at x, the sides that the duals need, the reduced costs and the
+/// bounds that they need, the value at x, and the bound of the duals, which is compared with the
+/// value.
 pub fn certify(columns: &Columns, x: &[Dec], y: &[Dec]) -> Verdict
     requires numbers { length x.now ≡ variable_count (program_of columns.now) }
     requires duals { length y.now ≡ row_count (program_of columns.now) }
-    ensures exact { answer_of result ≡ verdict (program_of columns.now) (values_of x.now) (values_of y.now) }
+    ensures exact { answer_of result
+        ≡ verdict (program_of columns.now) (values_of x.now) (values_of y.now) }
 
     // With a yes x is relaxed feasible and has that value, and no relaxed feasible point is better.
     ensures certified { IsCertified (program_of columns.now) (values_of x.now) result }
@@ -151,7 +162,9 @@ fn bound_on(
     requires numbers { length y.now ≡ length columns.now.rows.items }
     requires lowers { length lo.now ≡ length columns.now.columns.items }
     requires uppers { length hi.now ≡ length columns.now.columns.items }
-    ensures { bound_answer_of result ≡ dual_bound (asked goal (program_of columns.now)) (bounds_in lo.now hi.now) (values_of y.now) }
+    ensures { bound_answer_of result
+        ≡ dual_bound (asked goal (program_of columns.now)) (bounds_in lo.now hi.now)
+        (values_of y.now) }
 {
     if let Some(fault) = first_dual_fault(columns, goal, lo, hi, y) {
         return bound_refusal(fault);
@@ -162,7 +175,8 @@ fn bound_on(
     }
 }
 
-/// The bound on the objective, or on 0, that the duals show within the bounds lo and hi: phases three, four and six.
+/// The bound on the objective, or on 0, that the duals show within the bounds lo and hi: phases
+/// three, four and six.
 pub fn dual_bound(
     columns: &Columns,
     goal: Goal,
@@ -173,10 +187,13 @@ pub fn dual_bound(
     requires lowers { length lo.now ≡ variable_count (program_of columns.now) }
     requires uppers { length hi.now ≡ variable_count (program_of columns.now) }
     requires duals { length y.now ≡ row_count (program_of columns.now) }
-    ensures exact { bound_answer_of result ≡ dual_bound (asked goal (program_of columns.now)) (bounds_in lo.now hi.now) (values_of y.now) }
+    ensures exact { bound_answer_of result
+        ≡ dual_bound (asked goal (program_of columns.now)) (bounds_in lo.now hi.now)
+        (values_of y.now) }
 
     // The bound is as good as the objective at every relaxed point within these bounds.
-    ensures bounded { IsBounded (asked goal (program_of columns.now)) (bounds_in lo.now hi.now) result }
+    ensures bounded { IsBounded (asked goal (program_of columns.now))
+        (bounds_in lo.now hi.now) result }
 {
     bound_on(columns, goal, lo, hi, y)
 }

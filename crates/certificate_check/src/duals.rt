@@ -23,7 +23,8 @@ use nl_model::Interval;
 
 // The side that a number of this sign needs.
 fn needed(maximise: bool, negative: bool, sides: Interval) -> Option<Dec>
-    ensures { (t : ℤ) → negative ≡ int_lt t (pos 0) → side_value result ≡ needed maximise t (interval_of sides) }
+    ensures { (t : ℤ) → negative ≡ int_lt t (pos 0)
+        → side_value result ≡ needed maximise t (interval_of sides) }
 {
     if maximise == negative {
         sides.lo
@@ -60,7 +61,9 @@ fn sense(goal: Goal, columns: &Columns) -> bool
 // Third: the fault of the first row whose dual lacks its side.
 pub(crate) fn first_side_fault(columns: &Columns, goal: Goal, y: &[Dec]) -> Option<Fault>
     requires numbers { length y.now ≡ length columns.now.rows.items }
-    ensures { cause_found result ≡ first_fault (side_fault (asked goal (program_of columns.now)) (value_at (values_of y.now))) (row_count (program_of columns.now)) }
+    ensures { cause_found result
+        ≡ first_fault (side_fault (asked goal (program_of columns.now))
+        (value_at (values_of y.now))) (row_count (program_of columns.now)) }
 {
     let maximise = sense(goal, columns);
     for (i, row) in columns.rows.iter().enumerate() {
@@ -111,7 +114,8 @@ fn cost_at(start: Frac, terms: &[(u32, Frac)], y: &[Dec]) -> Option<Frac>
 fn reduced_cost_of(columns: &Columns, goal: Goal, j: usize, y: &[Dec]) -> Option<Frac>
     requires variable { j < length columns.now.columns.items }
     requires numbers { length y.now ≡ length columns.now.rows.items }
-    ensures { value_found result ≡ reduced_cost (asked goal (program_of columns.now)) (value_at (values_of y.now)) j }
+    ensures { value_found result
+        ≡ reduced_cost (asked goal (program_of columns.now)) (value_at (values_of y.now)) j }
 {
     let costs: &[Frac] = &columns.costs;
     let lists: &[Vec<(u32, Frac)>] = &columns.columns;
@@ -122,7 +126,8 @@ fn reduced_cost_of(columns: &Columns, goal: Goal, j: usize, y: &[Dec]) -> Option
 
 // The fault of the variable of this number whose reduced cost is this, if it fits.
 fn cost_fault_at(number: u32, maximise: bool, bounds: Interval, cost: Option<Frac>) -> Option<Fault>
-    ensures { cause_found result ≡ cost_check maximise (interval_of bounds) number (value_found cost) }
+    ensures { cause_found result
+        ≡ cost_check maximise (interval_of bounds) number (value_found cost) }
 {
     match cost {
         None => Some(Fault::TooWide(Spot::Cost(number))),
@@ -147,7 +152,9 @@ pub(crate) fn first_cost_fault(
     requires numbers { length y.now ≡ length columns.now.rows.items }
     requires lowers { length lo.now ≡ length columns.now.columns.items }
     requires uppers { length hi.now ≡ length columns.now.columns.items }
-    ensures { cause_found result ≡ first_fault (cost_fault (asked goal (program_of columns.now)) (bounds_in lo.now hi.now) (value_at (values_of y.now))) (variable_count (program_of columns.now)) }
+    ensures { cause_found result
+        ≡ first_fault (cost_fault (asked goal (program_of columns.now)) (bounds_in lo.now hi.now)
+        (value_at (values_of y.now))) (variable_count (program_of columns.now)) }
 {
     let maximise = sense(goal, columns);
     for j in 0..columns.columns.len() {
@@ -172,7 +179,9 @@ fn side_fraction(side: Option<Dec>) -> Option<Frac>
 
 // sum + dual * (side - constant)
 fn plus_side(sum: Frac, side: Frac, constant: Frac, dual: Dec) -> Option<Frac>
-    ensures { value_found result ≡ option_and_then (λ v. option_and_then (λ d. plus_product (frac_value sum) v d) (fitting_difference (frac_value side) (frac_value constant))) (fitting (dec_value dual)) }
+    ensures { value_found result
+        ≡ option_and_then (λ v. option_and_then (λ d. plus_product (frac_value sum) v d)
+        (fitting_difference (frac_value side) (frac_value constant))) (fitting (dec_value dual)) }
 {
     match fraction(dual) {
         Some(weight) => match difference(side, constant) {
@@ -185,7 +194,9 @@ fn plus_side(sum: Frac, side: Frac, constant: Frac, dual: Dec) -> Option<Frac>
 
 // The sum with the part of a row.
 fn plus_row(sum: Frac, maximise: bool, sides: Interval, constant: Frac, dual: Dec) -> Option<Frac>
-    ensures { value_found result ≡ row_part_of maximise (interval_of sides) (frac_value constant) (frac_value sum) (dec_value dual) }
+    ensures { value_found result
+        ≡ row_part_of maximise (interval_of sides) (frac_value constant) (frac_value sum)
+        (dec_value dual) }
 {
     if is_zero_dec(dual) {
         return Some(sum);
@@ -198,7 +209,8 @@ fn plus_row(sum: Frac, maximise: bool, sides: Interval, constant: Frac, dual: De
 
 // The sum with the part of a variable whose reduced cost is not 0.
 fn plus_bound(sum: Frac, maximise: bool, bounds: Interval, cost: Frac) -> Option<Frac>
-    ensures { value_found result ≡ cost_part_of maximise (interval_of bounds) (frac_value sum) (frac_value cost) }
+    ensures { value_found result
+        ≡ cost_part_of maximise (interval_of bounds) (frac_value sum) (frac_value cost) }
 {
     if is_zero(cost) {
         return Some(sum);
@@ -212,7 +224,10 @@ fn plus_bound(sum: Frac, maximise: bool, bounds: Interval, cost: Frac) -> Option
 // The goal's constant with the parts of the rows.
 fn rows_total(columns: &Columns, goal: Goal, y: &[Dec]) -> Option<Frac>
     requires numbers { length y.now ≡ length columns.now.rows.items }
-    ensures { value_found result ≡ run (row_part (asked goal (program_of columns.now)) (value_at (values_of y.now))) (asked goal (program_of columns.now)).objective.constant (row_count (program_of columns.now)) }
+    ensures { value_found result
+        ≡ run (row_part (asked goal (program_of columns.now)) (value_at (values_of y.now)))
+        (asked goal (program_of columns.now)).objective.constant
+        (row_count (program_of columns.now)) }
 {
     let maximise = sense(goal, columns);
     let mut sum = goal_constant(goal, columns);
@@ -237,7 +252,9 @@ fn columns_total(
     requires numbers { length y.now ≡ length columns.now.rows.items }
     requires lowers { length lo.now ≡ length columns.now.columns.items }
     requires uppers { length hi.now ≡ length columns.now.columns.items }
-    ensures { value_found result ≡ run (cost_part (asked goal (program_of columns.now)) (bounds_in lo.now hi.now) (value_at (values_of y.now))) (frac_value start) (variable_count (program_of columns.now)) }
+    ensures { value_found result
+        ≡ run (cost_part (asked goal (program_of columns.now)) (bounds_in lo.now hi.now)
+        (value_at (values_of y.now))) (frac_value start) (variable_count (program_of columns.now)) }
 {
     let maximise = sense(goal, columns);
     let mut sum = start;
@@ -265,7 +282,9 @@ pub(crate) fn bound_total(
     requires numbers { length y.now ≡ length columns.now.rows.items }
     requires lowers { length lo.now ≡ length columns.now.columns.items }
     requires uppers { length hi.now ≡ length columns.now.columns.items }
-    ensures { value_found result ≡ bound_total (asked goal (program_of columns.now)) (bounds_in lo.now hi.now) (value_at (values_of y.now)) }
+    ensures { value_found result
+        ≡ bound_total (asked goal (program_of columns.now)) (bounds_in lo.now hi.now)
+        (value_at (values_of y.now)) }
 {
     match rows_total(columns, goal, y) {
         Some(sum) => columns_total(sum, columns, goal, lo, hi, y),

@@ -54,7 +54,9 @@ fn less_product(start: Frac, a: Frac, b: Frac) -> Option<Frac>
 
 // start + a * b, where b fits
 pub(crate) fn plus_number(start: Frac, a: Frac, b: Dec) -> Option<Frac>
-    ensures { value_found result ≡ option_and_then (λ v. plus_product (frac_value start) (frac_value a) v) (fitting (dec_value b)) }
+    ensures { value_found result
+        ≡ option_and_then (λ v. plus_product (frac_value start) (frac_value a) v)
+        (fitting (dec_value b)) }
 {
     match fraction(b) {
         Some(number) => plus_product(start, a, number),
@@ -64,7 +66,9 @@ pub(crate) fn plus_number(start: Frac, a: Frac, b: Dec) -> Option<Frac>
 
 // start - b * a, where b fits
 pub(crate) fn less_number(start: Frac, a: Frac, b: Dec) -> Option<Frac>
-    ensures { value_found result ≡ option_and_then (λ v. less_product (frac_value start) v (frac_value a)) (fitting (dec_value b)) }
+    ensures { value_found result
+        ≡ option_and_then (λ v. less_product (frac_value start) v (frac_value a))
+        (fitting (dec_value b)) }
 {
     match fraction(b) {
         Some(number) => less_product(start, number, a),

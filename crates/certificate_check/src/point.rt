@@ -20,7 +20,8 @@ use nl_model::Interval;
 // The value of a form at a point, term by term.
 fn value_at(form: &Body, x: &[Dec]) -> Option<Frac>
     requires { AreTerms 0 (length x.now) form.now.terms.items }
-    ensures { value_found result ≡ run_form (length x.now) (form_of form.now) (value_at (values_of x.now)) }
+    ensures { value_found result
+        ≡ run_form (length x.now) (form_of form.now) (value_at (values_of x.now)) }
 {
     let mut sum = form.constant;
     for term in &form.terms {
@@ -35,14 +36,18 @@ fn value_at(form: &Body, x: &[Dec]) -> Option<Frac>
 // The value of the objective at a point.
 pub(crate) fn objective_at(columns: &Columns, x: &[Dec]) -> Option<Frac>
     requires { length x.now ≡ length columns.now.columns.items }
-    ensures { value_found result ≡ run_form (variable_count (program_of columns.now)) (program_of columns.now).objective (value_at (values_of x.now)) }
+    ensures { value_found result
+        ≡ run_form (variable_count (program_of columns.now)) (program_of columns.now).objective
+        (value_at (values_of x.now)) }
 {
     value_at(&columns.objective, x)
 }
 
 // Whether the value is not below the side; none where the side does not fit.
 fn is_not_below(side: Option<Dec>, value: Frac) -> Option<bool>
-    ensures { result ≡ (if fits_if_some (side_value side) then Some (is_not_below (side_value side) (frac_value value)) else None) }
+    ensures { result
+        ≡ (if fits_if_some (side_value side)
+        then Some (is_not_below (side_value side) (frac_value value)) else None) }
 {
     match side {
         None => Some(true),
@@ -54,7 +59,9 @@ fn is_not_below(side: Option<Dec>, value: Frac) -> Option<bool>
 }
 
 fn is_not_above(side: Option<Dec>, value: Frac) -> Option<bool>
-    ensures { result ≡ (if fits_if_some (side_value side) then Some (is_not_above (side_value side) (frac_value value)) else None) }
+    ensures { result
+        ≡ (if fits_if_some (side_value side)
+        then Some (is_not_above (side_value side) (frac_value value)) else None) }
 {
     match side {
         None => Some(true),
@@ -67,7 +74,9 @@ fn is_not_above(side: Option<Dec>, value: Frac) -> Option<bool>
 
 // Whether the value is in the interval; none where a side does not fit.
 fn is_within(value: Frac, sides: Interval) -> Option<bool>
-    ensures { result ≡ (if sides_fit (interval_of sides) then Some (is_inside (frac_value value) (interval_of sides)) else None) }
+    ensures { result
+        ≡ (if sides_fit (interval_of sides)
+        then Some (is_inside (frac_value value) (interval_of sides)) else None) }
 {
     match (is_not_below(sides.lo, value), is_not_above(sides.hi, value)) {
         (Some(low), Some(high)) => Some(low && high),
@@ -107,7 +116,9 @@ fn row_fault_at(number: u32, sides: Interval, body: Option<Frac>) -> Option<Faul
 // First: the fault of the first row that has one.
 pub(crate) fn first_row_fault(columns: &Columns, x: &[Dec]) -> Option<Fault>
     requires numbers { length x.now ≡ length columns.now.columns.items }
-    ensures { cause_found result ≡ first_fault (row_fault (program_of columns.now) (value_at (values_of x.now))) (row_count (program_of columns.now)) }
+    ensures { cause_found result
+        ≡ first_fault (row_fault (program_of columns.now) (value_at (values_of x.now)))
+        (row_count (program_of columns.now)) }
 {
     for (i, row) in columns.rows.iter().enumerate() {
         if let Some(fault) = row_fault_at(i as u32, row.side, value_at(&row.body, x)) {
@@ -120,7 +131,9 @@ pub(crate) fn first_row_fault(columns: &Columns, x: &[Dec]) -> Option<Fault>
 // Second: the fault of the first variable that is outside its bounds.
 pub(crate) fn first_bound_fault(columns: &Columns, x: &[Dec]) -> Option<Fault>
     requires numbers { length x.now ≡ length columns.now.columns.items }
-    ensures { cause_found result ≡ first_fault (bound_fault (program_of columns.now) (value_at (values_of x.now))) (variable_count (program_of columns.now)) }
+    ensures { cause_found result
+        ≡ first_fault (bound_fault (program_of columns.now) (value_at (values_of x.now)))
+        (variable_count (program_of columns.now)) }
 {
     for (j, number) in x.iter().enumerate() {
         let bounds = interval_at(&columns.lower, &columns.upper, j);

@@ -7,8 +7,8 @@ ghost use Rattle.nl_model.specs.Rules.{IsFile};
 ghost use Rattle.answer_file.specs.Grammar.{AnswerValue};
 ghost use Rattle.dual_return.specs.Return.{AreDuals, HasOneReturn, MeanTheProgram};
 
-/// The law of return: in a file that folds, the duals that are returned mean what the answer says of
-/// the exported program.
+/// The law of return: in a file that folds, the duals that are returned mean what the answer says
+/// of the exported program.
 pub fn returned_duals_mean_the_program()
     ensures { (f : File) (a : AnswerValue) (duals : List Dec) → IsFile f
         → fold_fault f a.objective ≡ None → AreDuals f a duals → MeanTheProgram f a duals }

@@ -11,8 +11,8 @@ pub const KNAPSACK: &str =
 pub const KNAPSACK_WRITTEN: &str =
     "NAME nl\nOBJSENSE\n MAX\nROWS\n N obj\n L c0\nCOLUMNS\n M0 'MARKER' 'INTORG'\n x0 obj 10\n x0 c0 5\n x1 obj 7\n x1 c0 4\n x2 obj 12\n x2 c0 6.5\n M1 'MARKER' 'INTEND'\nRHS\n RHS c0 10\nBOUNDS\n LO BND x0 0\n UP BND x0 1\n LO BND x1 0\n UP BND x1 1\n LO BND x2 0\n UP BND x2 1\nENDATA\n";
 
-/// The counts of a header that differ from 0: variables, constraints and objectives; terms of constraints and of
-/// objectives; defined variables.
+/// The counts of a header that differ from 0: variables, constraints and objectives; terms of
+/// constraints and of objectives; defined variables.
 #[derive(Clone, Copy)]
 pub struct Sizes {
     pub counts: &'static str,

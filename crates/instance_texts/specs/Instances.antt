@@ -4,7 +4,8 @@ use Rattle.instances.specs.Instance.{instance}
 use Rattle.nl_writer.specs.Written.{nl_text}
 use Rattle.nl_round_trip.specs.Writable.{IsText, IsWritable}
 
--- an instance of at most 20,000 variables can be written: its lines and its text are short enough, too
+-- an instance of at most 20,000 variables can be written: its lines and its text are short enough,
+-- too
 abbrev pub InstancesAreWritable : Type 0
 InstancesAreWritable = (seed size : ℕ) → size ≤ 20000 → IsWritable (instance seed size)
 

@@ -6,7 +6,8 @@ pub fn instances_are_writable()
     ensures { InstancesAreWritable }
 {}
 
-/// What is written of the instance of a seed and a size is a text of the profile, without faults, that says the instance.
+/// What is written of the instance of a seed and a size is a text of the profile, without faults,
+/// that says the instance.
 pub fn instances_are_said()
     ensures { InstancesAreSaid }
 {}

@@ -1,4 +1,5 @@
--- The instance of a seed and a size: a file of n whole variables, n rows over chains of defined variables, and one objective.
+-- The instance of a seed and a size: a file of n whole variables, n rows over chains of defined
+-- variables, and one objective.
 use Rattle.std.specs.Prelude.{refl, ℕ, ◌+◌, ◌-◌, ◌%◌, ◌==◌, true, pos, List, [], ◌∷◌, map, Option, None, Some, if◌then◌else◌}
 use Rattle.std.specs.List.{range_with_len}
 use Rattle.fractions.specs.Rational.{whole}

@@ -28,11 +28,19 @@ drafted seed n k =
 abbrev pub with_row : Draft → ℕ → ℕ → Row → Draft
 with_row d n k row =
     record d {
-      definitions = d.definitions ++ (record { index = n + k; terms = (k, whole_dec row.defining) ∷ []; usage = 0; tree = chained n k }) ∷ [];
+      definitions =
+          d.definitions
+          ++ (record {
+            index = n + k;
+            terms = (k, whole_dec row.defining) ∷ [];
+            usage = 0;
+            tree = chained n k;
+          }) ∷ [];
       bodies = slice_set d.bodies k (Some (defined (n + k)));
       terms = slice_set d.terms k (get_or d.terms k [] ++ (k, whole_dec row.linear) ∷ []);
       sides = d.sides ++ (record { lo = None; hi = Some (whole_dec row.most) }) ∷ [];
-      bounds = d.bounds ++ (record { lo = Some (whole_dec 0); hi = Some (whole_dec row.bound) }) ∷ [];
+      bounds =
+          d.bounds ++ (record { lo = Some (whole_dec 0); hi = Some (whole_dec row.bound) }) ∷ [];
       slopes = slice_set d.slopes 0 (get_or d.slopes 0 [] ++ (k, whole_dec row.slope) ∷ []);
     }
 

@@ -38,8 +38,10 @@ impl Draws {
 
     /// Draws the numbers of row k.
     pub(crate) fn row(&mut self) -> Row
-        ensures state { (seed k : ℕ) → self.old.state ≡ state_after seed (5 * k) → self.new.state ≡ state_after seed (5 * (k + 1)) }
-        ensures row { (seed k : ℕ) → self.old.state ≡ state_after seed (5 * k) → result ≡ row_of seed k }
+        ensures state { (seed k : ℕ) → self.old.state ≡ state_after seed (5 * k)
+            → self.new.state ≡ state_after seed (5 * (k + 1)) }
+        ensures row { (seed k : ℕ) → self.old.state ≡ state_after seed (5 * k)
+            → result ≡ row_of seed k }
     {
         let defining = 1 + self.draw(9);
         let linear = 1 + self.draw(9);

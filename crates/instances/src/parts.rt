@@ -125,7 +125,16 @@ fn define(
     value: u32,
 ) -> Result<(), AllocError>
     requires { CanAddRow builder.old size k }
-    ensures { OnOk result (builder.new ≡ record builder.old { definitions = builder.old.definitions ++ (record { index = size + k; terms = (k, whole_dec value) ∷ []; usage = 0; tree = chained size k }) ∷ [] }) }
+    ensures { OnOk result (builder.new
+        ≡ record builder.old {
+          definitions = builder.old.definitions
+              ++ (record {
+                index = size + k;
+                terms = (k, whole_dec value) ∷ [];
+                usage = 0;
+                tree = chained size k;
+              }) ∷ [];
+        }) }
 {
     let tree = chained(alloc, size, k)?;
     let terms = one_term(alloc, k, value)?;
@@ -164,7 +173,14 @@ fn constrain(
     requires body { is_given builder.old.bodies k ≡ false }
     requires few { term_count builder.old.terms < most_terms }
     requires sides { length builder.old.sides ≡ k }
-    ensures { OnOk result (builder.new ≡ record builder.old { bodies = slice_set builder.old.bodies k (Some (defined (size + k))); terms = slice_set builder.old.terms k (get_or builder.old.terms k [] ++ (k, whole_dec row.now.linear) ∷ []); sides = builder.old.sides ++ (record { lo = None; hi = Some (whole_dec row.now.most) }) ∷ [] }) }
+    ensures { OnOk result (builder.new
+        ≡ record builder.old {
+          bodies = slice_set builder.old.bodies k (Some (defined (size + k)));
+          terms = slice_set builder.old.terms k
+              (get_or builder.old.terms k [] ++ (k, whole_dec row.now.linear) ∷ []);
+          sides = builder.old.sides
+              ++ (record { lo = None; hi = Some (whole_dec row.now.most) }) ∷ [];
+        }) }
 {
     let tree = use_of(alloc, size + k)?;
     builder.body(k, tree);

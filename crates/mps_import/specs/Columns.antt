@@ -38,7 +38,11 @@ with_sets c j bs =
 abbrev pub sets_of : ℕ → List (Bound Dec) → SetSides
 sets_of j bs =
     let values = map (bound_with dec_value) bs in
-    record { lower = side_set lower_set j values; upper = side_set upper_set j values; whole = has_whole_record j values }
+    record {
+      lower = side_set lower_set j values;
+      upper = side_set upper_set j values;
+      whole = has_whole_record j values;
+    }
 
 -- the kind by two tests
 abbrev pub kind_by : Bool → Bool → Kind

@@ -39,7 +39,8 @@ both_sides test (Some l) (Some u) = test (order_of l u)
 
 -- the sides of row i are there, and the test passes their order
 abbrev pub has_sides : (Ordering → Bool) → Mps Dec → ℕ → Bool
-has_sides test m i = both_sides test (row_interval (values_of m) i).lower (row_interval (values_of m) i).upper
+has_sides test m i =
+    both_sides test (row_interval (values_of m) i).lower (row_interval (values_of m) i).upper
 
 -- ---- terms
 abbrev pub is_zero_dec : Dec → Bool
@@ -72,7 +73,8 @@ objective_terms m = row_terms m (objective_row m.rows)
 
 -- ---- the file
 -- no nonlinear parts, no names, no defined variables; suffixes are announced as in usual files
-abbrev pub counts_with : (variables constraints ranges equations binary integer terms slopes : ℕ) → Counts
+abbrev pub counts_with : (variables constraints ranges equations binary integer terms slopes : ℕ)
+    → Counts
 counts_with variables constraints ranges equations binary integer terms slopes =
     record {
       n_var = variables;
@@ -111,8 +113,10 @@ counts_with variables constraints ranges equations binary integer terms slopes =
 -- ranges and equations are the constraints with two sides that differ, or are equal
 unfoldable pub import_counts : Mps Dec → Counts
 import_counts m =
-    counts_with (length m.columns) (length (constraints m)) (count_by (has_sides is_ne m) (constraints m)) (count_by (has_sides is_eq m) (constraints m))
-    (length (columns_that is_binary m)) (length (columns_that is_integer m)) (term_count (constraint_terms m)) (length (objective_terms m))
+    counts_with (length m.columns) (length (constraints m))
+    (count_by (has_sides is_ne m) (constraints m)) (count_by (has_sides is_eq m) (constraints m))
+    (length (columns_that is_binary m)) (length (columns_that is_integer m))
+    (term_count (constraint_terms m)) (length (objective_terms m))
 
 abbrev pub import_options : List ℤ
 import_options = pos 1 ∷ pos 1 ∷ pos 0 ∷ []

@@ -23,7 +23,9 @@ side_test equal s = both_sides (cond equal is_eq is_ne) (interval_of s).lower (i
 
 -- the header and the objective alone
 abbrev pub begun_draft : Mps Dec → Draft
-begun_draft m = record (empty_draft import_options (import_counts m)) { objectives = Some (import_objective m) ∷ [] }
+begun_draft m =
+    record (empty_draft import_options (import_counts m))
+    { objectives = Some (import_objective m) ∷ [] }
 
 -- the parts of a program without a fault
 pub record ArePartsOf (m : Mps Dec) (p : Parts) : Type 0 where
@@ -31,7 +33,8 @@ pub record ArePartsOf (m : Mps Dec) (p : Parts) : Type 0 where
   pub uses : p.uses.items ≡ listed (use_of m.rows) (length m.rows)
   pub objective : p.objective ≡ objective_row m.rows
   pub sides : p.sides.items ≡ map (λ i. sides_from (row_interval (values_of m) i)) (constraints m)
-  pub bounds : p.bounds.items ≡ listed (λ j. sides_from (column_interval (values_of m) j)) (length m.columns)
+  pub bounds : p.bounds.items
+      ≡ listed (λ j. sides_from (column_interval (values_of m) j)) (length m.columns)
   pub order : p.variables.columns.items ≡ order_of_columns m
   pub binary : p.variables.binary ≡ length (columns_that is_binary m)
   pub integer : p.variables.integer ≡ length (columns_that is_integer m)

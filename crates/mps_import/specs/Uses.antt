@@ -17,7 +17,9 @@ rank rows i = length (places (is_constraint rows) i)
 
 -- row i is the next constraint, or the objective, or neither
 abbrev pub use_of : List MpsRow → ℕ → RowUse
-use_of rows i = cond (is_constraint rows i) (Constraint (rank rows i)) (cond (nat_eq i (objective_row rows)) Objective Unused)
+use_of rows i =
+    cond (is_constraint rows i) (Constraint (rank rows i))
+    (cond (nat_eq i (objective_row rows)) Objective Unused)
 
 -- ---- counts
 -- an entry that is not 0 in a row that passes
@@ -60,12 +62,15 @@ terms_left m p js i = terms_from m i p js
 abbrev pub entries_left : Mps Dec → ℕ → List (Entry Dec) → List ℕ → ℕ → List Term
 entries_left m p es js i = filter_map (term_of i p) es ++ terms_from m i (suc p) js
 
--- the terms so far, and those that are still to come, are those of all constraints and of the objective
+-- the terms so far, and those that are still to come, are those of all constraints and of the
+-- objective
 pub record IsOnItsWay (m : Mps Dec) (left : ℕ → List Term) (d : Draft) : Type 0 where
   pub counts : d.counts ≡ import_counts m
   pub rows : length d.terms ≡ length (constraints m)
   pub costs : length d.slopes ≡ 1
-  pub terms : (c : ℕ) → c < length (constraints m) → get_or d.terms c [] ++ left (get_or (constraints m) c 0) ≡ row_terms m (get_or (constraints m) c 0)
+  pub terms : (c : ℕ) → c < length (constraints m)
+      → get_or d.terms c [] ++ left (get_or (constraints m) c 0)
+      ≡ row_terms m (get_or (constraints m) c 0)
   pub slopes : get_or d.slopes 0 [] ++ left (objective_row m.rows) ≡ objective_terms m
 
 -- the term may be added
@@ -77,5 +82,7 @@ CanAddTerm (Constraint k) d = (k < d.counts.n_con) × (term_count d.terms < most
 -- with one term more
 abbrev pub with_term : RowUse → ℕ → Dec → Draft → Draft
 with_term Unused p v d = d
-with_term Objective p v d = record d { slopes = slice_set d.slopes 0 (get_or d.slopes 0 [] ++ (p, v) ∷ []) }
-with_term (Constraint k) p v d = record d { terms = slice_set d.terms k (get_or d.terms k [] ++ (p, v) ∷ []) }
+with_term Objective p v d =
+    record d { slopes = slice_set d.slopes 0 (get_or d.slopes 0 [] ++ (p, v) ∷ []) }
+with_term (Constraint k) p v d =
+    record d { terms = slice_set d.terms k (get_or d.terms k [] ++ (p, v) ∷ []) }

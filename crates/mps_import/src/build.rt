@@ -31,8 +31,8 @@ use text_base::Stop;
 // The most constraints, and the most columns.
 const MOST_PLACES: u32 = 0x10_0000;
 
-// What is known of a program without a fault: what its rows are and the objective's row, the sides of the constraints and
-// of the columns, the variables, and how many terms there are.
+// What is known of a program without a fault: what its rows are and the objective's row, the sides
+// of the constraints and of the columns, the variables, and how many terms there are.
 #[derive(Drop)]
 pub(crate) struct Parts {
     pub(crate) uses: Vec<RowUse>,
@@ -53,7 +53,8 @@ fn is_too_long(constraints: u32, columns: usize) -> bool
 // The parts of a program, or its first fault.
 fn parts_of(alloc: Global, mps: &Mps) -> Result<Parts, Stop<ImportFault>>
     ensures parts { IfOk result (λ p. ArePartsOf mps.now p) }
-    ensures fault { IfErr result (λ stop. IfFault stop (λ fault. import_fault mps.now ≡ Some fault)) }
+    ensures fault { IfErr result
+        (λ stop. IfFault stop (λ fault. import_fault mps.now ≡ Some fault)) }
 {
     let all = mps.rows();
     let rows = row_uses(alloc, all)?;
@@ -123,7 +124,10 @@ fn two_sided(sides: &[Interval], equal: bool) -> u32
 fn counts_of(n_var: usize, sides: &[Interval], variables: &Variables, count: Counted) -> Counts
     requires sides { length sides.now ≤ 2 ^ 20 }
     requires variables { n_var ≤ 2 ^ 20 }
-    ensures { result ≡ counts_with n_var (length sides.now) (count_by (side_test false) sides.now) (count_by (side_test true) sides.now) variables.now.binary variables.now.integer count.constraints count.objective }
+    ensures { result
+        ≡ counts_with n_var (length sides.now) (count_by (side_test false) sides.now)
+        (count_by (side_test true) sides.now) variables.now.binary variables.now.integer
+        count.constraints count.objective }
 {
     Counts {
         n_var: n_var as u32,
@@ -198,7 +202,8 @@ fn number_of(alloc: Global, value: Dec) -> Result<Expr, AllocError>
 fn add_sides(builder: &mut NlBuilder, sides: &[Interval]) -> Result<(), AllocError>
     requires few { length builder.old.sides + length sides.now ≤ builder.old.counts.n_con }
     requires ordered { All IsOrdered sides.now }
-    ensures { OnOk result (builder.new ≡ record builder.old { sides = builder.old.sides ++ sides.now }) }
+    ensures { OnOk result (builder.new
+        ≡ record builder.old { sides = builder.old.sides ++ sides.now }) }
 {
     'sides: for side in sides {
         builder.side(*side)?;
@@ -211,7 +216,11 @@ fn add_bounds(builder: &mut NlBuilder, bounds: &[Interval], order: &[u32]) -> Re
     requires few { length builder.old.bounds + length order.now ≤ builder.old.counts.n_var }
     requires within { All (λ j. j < length bounds.now) order.now }
     requires ordered { All IsOrdered bounds.now }
-    ensures { OnOk result (builder.new ≡ record builder.old { bounds = builder.old.bounds ++ map (λ j. get_or bounds.now j no_sides) order.now }) }
+    ensures { OnOk result (builder.new
+        ≡ record builder.old {
+          bounds = builder.old.bounds
+              ++ map (λ j. get_or bounds.now j no_sides) order.now;
+        }) }
 {
     'variables: for j in order {
         builder.bound(bounds[*j as usize])?;
@@ -261,7 +270,8 @@ pub fn import(alloc: Global, mps: &Mps) -> Result<Imported, Stop<ImportFault>>
     ensures clean { IfOk result (λ x. import_fault mps.now ≡ None) }
     ensures file { IfOk result (λ x. x.file ≡ import_of mps.now) }
     ensures order { IfOk result (λ x. x.order ≡ order_of_columns mps.now) }
-    ensures fault { IfErr result (λ stop. IfFault stop (λ fault. import_fault mps.now ≡ Some fault)) }
+    ensures fault { IfErr result
+        (λ stop. IfFault stop (λ fault. import_fault mps.now ≡ Some fault)) }
 {
     let parts = parts_of(alloc, mps)?;
     let file = file_of(alloc, mps, &parts)?;

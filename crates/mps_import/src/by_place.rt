@@ -33,7 +33,9 @@ fn first_given(before: Option<Dec>, number: Dec) -> Option<Dec>
 fn give(all: &mut Vec<Option<Dec>>, entry: (u32, Dec))
     requires { entry.0 < length all.old.items }
     ensures count { length all.new.items ≡ length all.old.items }
-    ensures value { (i : ℕ) (rest : List (Entry DecValue)) → i < length all.old.items → option_or (get_or all.new.items i None) (at_row i rest) ≡ option_or (get_or all.old.items i None) (at_row i (entry_of entry ∷ rest)) }
+    ensures value { (i : ℕ) (rest : List (Entry DecValue)) → i < length all.old.items
+        → option_or (get_or all.new.items i None) (at_row i rest)
+        ≡ option_or (get_or all.old.items i None) (at_row i (entry_of entry ∷ rest)) }
 {
     let row = entry.0 as usize;
     let number = first_given(all[row], entry.1);
@@ -48,7 +50,8 @@ pub(crate) fn by_row(
 ) -> Result<Vec<Option<Dec>>, AllocError>
     requires { All (λ e. e.row < count) (map entry_of given.now) }
     ensures count { IfOk result (λ v. length v.items ≡ count) }
-    ensures value { IfOk result (λ v. (i : ℕ) → i < count → get_or v.items i None ≡ at_row i (map entry_of given.now)) }
+    ensures value { IfOk result
+        (λ v. (i : ℕ) → i < count → get_or v.items i None ≡ at_row i (map entry_of given.now)) }
 {
     let mut all = nothing(alloc, count)?;
     'given: for entry in given {

@@ -81,7 +81,8 @@ fn usual_lower(upper: Option<Option<Dec>>) -> Option<Dec>
 
 // The side that is set, or else the usual one.
 fn given(side: Option<Option<Dec>>, usual: Option<Dec>) -> Option<Dec>
-    ensures { option_map dec_value result ≡ given (option_map (option_map dec_value) side) (option_map dec_value usual) }
+    ensures { option_map dec_value result
+        ≡ given (option_map (option_map dec_value) side) (option_map dec_value usual) }
 {
     match side {
         Some(set) => set,
@@ -92,7 +93,8 @@ fn given(side: Option<Option<Dec>>, usual: Option<Dec>) -> Option<Dec>
 // The interval of a column.
 fn column_sides(column: ColumnSides) -> Interval
     ensures { interval_of result ≡ record {
-      lower = given (option_map (option_map dec_value) column.lower) (usual_lower (option_map (option_map dec_value) column.upper));
+      lower = given (option_map (option_map dec_value) column.lower)
+          (usual_lower (option_map (option_map dec_value) column.upper));
       upper = given (option_map (option_map dec_value) column.upper) None;
     } }
 {
@@ -114,8 +116,10 @@ fn first_set(side: Option<Option<Dec>>, other: Option<Option<Dec>>) -> Option<Op
 
 // The sides of a column with one record more.
 fn with_record(column: ColumnSides, kind: BoundKind, value: Dec) -> ColumnSides
-    ensures lower { set_value result.lower ≡ option_or (set_value column.lower) (lower_set kind (dec_value value)) }
-    ensures upper { set_value result.upper ≡ option_or (set_value column.upper) (upper_set kind (dec_value value)) }
+    ensures lower { set_value result.lower
+        ≡ option_or (set_value column.lower) (lower_set kind (dec_value value)) }
+    ensures upper { set_value result.upper
+        ≡ option_or (set_value column.upper) (upper_set kind (dec_value value)) }
     ensures whole { result.whole ≡ column.whole || is_whole_kind kind }
 {
     ColumnSides {
@@ -144,7 +148,9 @@ fn no_records(alloc: Global, count: usize) -> Result<Vec<ColumnSides>, AllocErro
 fn record(columns: &mut Vec<ColumnSides>, bound: (BoundKind, u32, Dec))
     requires { bound.1 < length columns.old.items }
     ensures count { length columns.new.items ≡ length columns.old.items }
-    ensures sets { (j : ℕ) (rest : List (Bound DecValue)) → j < length columns.old.items → with_sets (get_or columns.new.items j none_set) j rest ≡ with_sets (get_or columns.old.items j none_set) j (bound_of bound ∷ rest) }
+    ensures sets { (j : ℕ) (rest : List (Bound DecValue)) → j < length columns.old.items
+        → with_sets (get_or columns.new.items j none_set) j rest
+        ≡ with_sets (get_or columns.old.items j none_set) j (bound_of bound ∷ rest) }
 {
     let j = bound.1 as usize;
     let set = with_record(columns[j], bound.0, bound.2);
@@ -159,7 +165,9 @@ fn by_column(
 ) -> Result<Vec<ColumnSides>, AllocError>
     requires { All (λ b. b.column < count) (map bound_of bounds.now) }
     ensures count { IfOk result (λ v. length v.items ≡ count) }
-    ensures sets { IfOk result (λ v. (j : ℕ) → j < count → with_sets (get_or v.items j none_set) j [] ≡ sets_of j (map bound_of bounds.now)) }
+    ensures sets { IfOk result
+        (λ v. (j : ℕ) → j < count
+        → with_sets (get_or v.items j none_set) j [] ≡ sets_of j (map bound_of bounds.now)) }
 {
     let mut columns = no_records(alloc, count)?;
     'bounds: for bound in bounds {
@@ -184,8 +192,12 @@ pub(crate) struct Columns {
 // The sides and the kinds of all columns.
 #[tactic(auto, unfolding(crate::specs::Places::listed))]
 pub(crate) fn sides_and_kinds(alloc: Global, mps: &Mps) -> Result<Columns, AllocError>
-    ensures sides { IfOk result (λ c. c.sides.items ≡ listed (λ j. sides_from (column_interval (values_of mps.now) j)) (length mps.now.columns)) }
-    ensures kinds { IfOk result (λ c. c.kinds.items ≡ listed (column_kind mps.now) (length mps.now.columns)) }
+    ensures sides { IfOk result
+        (λ c. c.sides.items
+        ≡ listed (λ j. sides_from (column_interval (values_of mps.now) j))
+        (length mps.now.columns)) }
+    ensures kinds { IfOk result
+        (λ c. c.kinds.items ≡ listed (column_kind mps.now) (length mps.now.columns)) }
 {
     let all = mps.columns();
     let records = by_column(alloc, all.len(), mps.bounds())?;

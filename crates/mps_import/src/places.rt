@@ -18,7 +18,8 @@ fn is_kind(kind: Kind, other: Kind) -> bool
 
 // Adds a place where it is marked.
 fn add_where(found: &mut Vec<u32>, is_marked: bool, place: u32) -> Result<(), AllocError>
-    ensures { OnOk result (found.new.items ≡ found.old.items ++ (if is_marked then place ∷ [] else [])) }
+    ensures { OnOk result (found.new.items
+        ≡ found.old.items ++ (if is_marked then place ∷ [] else [])) }
 {
     if is_marked {
         found.push(place)?;

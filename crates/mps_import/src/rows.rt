@@ -121,8 +121,13 @@ pub(crate) fn or_zero(number: Option<Dec>) -> Dec
 
 // The sides of a row. None exactly where its range is out of reach.
 fn sides_at(kind: RowKind, rhs: Option<Dec>, range: Option<Dec>) -> Option<Interval>
-    ensures { MatchOption result (is_range_wide kind (or_zero (option_map dec_value rhs)) (option_map dec_value range) ≡ true)
-        (λ s. (is_range_wide kind (or_zero (option_map dec_value rhs)) (option_map dec_value range) ≡ false) × (s ≡ sides_from (row_sides kind (or_zero (option_map dec_value rhs)) (option_map dec_value range)))) }
+    ensures { MatchOption result
+        (is_range_wide kind (or_zero (option_map dec_value rhs)) (option_map dec_value range)
+        ≡ true)
+        (λ s. (is_range_wide kind (or_zero (option_map dec_value rhs)) (option_map dec_value range)
+        ≡ false)
+        × (s ≡ sides_from (row_sides kind (or_zero (option_map dec_value rhs))
+        (option_map dec_value range)))) }
 {
     row_sides(kind, or_zero(rhs), range)
 }
@@ -144,9 +149,13 @@ fn add_where(
 // The sides of the constraints, in order.
 #[tactic(auto, unfolding(crate::specs::Places::places))]
 pub(crate) fn constraint_sides(alloc: Global, mps: &Mps) -> Result<Vec<Interval>, Stop<ImportFault>>
-    ensures sides { IfOk result (λ v. v.items ≡ map (λ i. sides_from (row_interval (values_of mps.now) i)) (constraints mps.now)) }
+    ensures sides { IfOk result
+        (λ v. v.items
+        ≡ map (λ i. sides_from (row_interval (values_of mps.now) i)) (constraints mps.now)) }
     ensures clean { IfOk result (λ v. first_wide mps.now ≡ None) }
-    ensures fault { IfErr result (λ stop. IfFault stop (λ fault. option_map TooWideFault (first_wide mps.now) ≡ Some fault)) }
+    ensures fault { IfErr result
+        (λ stop. IfFault stop (λ fault. option_map TooWideFault (first_wide mps.now)
+        ≡ Some fault)) }
 {
     let rows = mps.rows();
     let rhs = by_row(alloc, rows.len(), mps.rhs())?;

@@ -34,8 +34,10 @@ fn is_zero(value: Dec) -> bool
 // The counts with one entry more.
 fn with_entry(counted: Counted, row_use: RowUse, is_zero: bool) -> Counted
     requires { counted.constraints + counted.objective ≤ most_terms }
-    ensures constraints { result.constraints ≡ counted.constraints + one_if (is_constraint_use row_use && not is_zero) }
-    ensures objective { result.objective ≡ counted.objective + one_if (is_objective_use row_use && not is_zero) }
+    ensures constraints { result.constraints
+        ≡ counted.constraints + one_if (is_constraint_use row_use && not is_zero) }
+    ensures objective { result.objective
+        ≡ counted.objective + one_if (is_objective_use row_use && not is_zero) }
 {
     match row_use {
         RowUse::Unused => counted,
@@ -63,9 +65,13 @@ fn with_entries(counted: Counted, entries: &[(u32, Dec)], uses: &[RowUse]) -> Op
     requires few { counted.constraints + counted.objective ≤ most_terms }
     requires within { All (λ e. e.row < length uses.now) (map entry_of entries.now) }
     ensures { MatchOption result
-        (most_terms < counted.constraints + counted.objective + (hits (is_constraint_at uses.now) (map entry_of entries.now) + hits (is_objective_at uses.now) (map entry_of entries.now)))
-        (λ c. (c.constraints ≡ counted.constraints + hits (is_constraint_at uses.now) (map entry_of entries.now))
-        × (c.objective ≡ counted.objective + hits (is_objective_at uses.now) (map entry_of entries.now))
+        (most_terms < counted.constraints + counted.objective
+        + (hits (is_constraint_at uses.now) (map entry_of entries.now)
+        + hits (is_objective_at uses.now) (map entry_of entries.now)))
+        (λ c. (c.constraints
+        ≡ counted.constraints + hits (is_constraint_at uses.now) (map entry_of entries.now))
+        × (c.objective
+        ≡ counted.objective + hits (is_objective_at uses.now) (map entry_of entries.now))
         × (c.constraints + c.objective ≤ most_terms)) }
 {
     let mut count = counted;
@@ -85,8 +91,10 @@ pub(crate) fn count_terms(mps: &Mps, order: &[u32], uses: &[RowUse]) -> Option<C
     requires order { All (λ j. j < length mps.now.columns) order.now }
     requires uses { length uses.now ≡ length mps.now.rows }
     ensures { MatchOption result
-        (most_terms < hits_in (is_constraint_at uses.now) mps.now order.now + hits_in (is_objective_at uses.now) mps.now order.now)
-        (λ c. (c.constraints ≡ hits_in (is_constraint_at uses.now) mps.now order.now) × (c.objective ≡ hits_in (is_objective_at uses.now) mps.now order.now)
+        (most_terms < hits_in (is_constraint_at uses.now) mps.now order.now
+        + hits_in (is_objective_at uses.now) mps.now order.now)
+        (λ c. (c.constraints ≡ hits_in (is_constraint_at uses.now) mps.now order.now)
+        × (c.objective ≡ hits_in (is_objective_at uses.now) mps.now order.now)
         × (c.constraints + c.objective ≤ most_terms)) }
 {
     let columns = mps.columns();
@@ -132,7 +140,8 @@ fn add_entry(
 ) -> Result<(), AllocError>
     requires variable { variable < builder.old.counts.n_var }
     requires can { is_zero_dec value ≡ false → CanAddTerm row_use builder.old }
-    ensures { OnOk result (builder.new ≡ cond (is_zero_dec value) builder.old (with_term row_use variable value builder.old)) }
+    ensures { OnOk result (builder.new
+        ≡ cond (is_zero_dec value) builder.old (with_term row_use variable value builder.old)) }
 {
     if is_zero(value) {
         return Ok(());
@@ -153,8 +162,11 @@ fn add_column(
     requires uses { uses.now ≡ listed (use_of mps.now.rows) (length mps.now.rows) }
     requires clean { is_too_large mps.now ≡ false }
     requires before { IsOnItsWay mps.now (terms_left mps.now p (drop p order.now)) builder.old }
-    ensures after { OnOk result (IsOnItsWay mps.now (terms_left mps.now (p + 1) (drop (p + 1) order.now)) builder.new) }
-    ensures only { OnOk result (builder.new ≡ record builder.old { terms = builder.new.terms; slopes = builder.new.slopes }) }
+    ensures after { OnOk result
+        (IsOnItsWay mps.now (terms_left mps.now (p + 1) (drop (p + 1) order.now)) builder.new) }
+    ensures only { OnOk result
+        (builder.new
+        ≡ record builder.old { terms = builder.new.terms; slopes = builder.new.slopes }) }
 {
     let columns = mps.columns();
     let j = order[p] as usize;
@@ -180,7 +192,11 @@ pub(crate) fn add_terms(
     requires counts { builder.old.counts ≡ import_counts mps.now }
     requires terms { builder.old.terms ≡ replicate (length (constraints mps.now)) [] }
     requires slopes { builder.old.slopes ≡ [] ∷ [] }
-    ensures { OnOk result (builder.new ≡ record builder.old { terms = constraint_terms mps.now; slopes = objective_terms mps.now ∷ [] }) }
+    ensures { OnOk result (builder.new
+        ≡ record builder.old {
+          terms = constraint_terms mps.now;
+          slopes = objective_terms mps.now ∷ [];
+        }) }
 {
     'variables: for p in 0..order.len() {
         add_column(builder, mps, order, p, uses)?;

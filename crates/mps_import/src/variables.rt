@@ -48,7 +48,8 @@ fn is_zero_to_one(sides: Interval) -> bool
 
 // The kind of a column.
 pub(crate) fn kind_of(whole: bool, sides: Interval) -> Kind
-    ensures { result ≡ kind_by whole (are_zero_to_one (interval_of sides).lower (interval_of sides).upper) }
+    ensures { result
+        ≡ kind_by whole (are_zero_to_one (interval_of sides).lower (interval_of sides).upper) }
 {
     if !whole {
         return Kind::Continuous;
@@ -74,7 +75,9 @@ fn is_empty(sides: Interval) -> bool
 #[tactic(auto, unfolding(crate::specs::Places::places))]
 pub(crate) fn first_empty(sides: &[Interval]) -> Option<u32>
     requires { length sides.now ≤ 2 ^ 21 }
-    ensures { result ≡ first (places (λ j. both_sides is_gt (interval_of (get_or sides.now j no_sides)).lower (interval_of (get_or sides.now j no_sides)).upper) (length sides.now)) }
+    ensures { result
+        ≡ first (places (λ j. both_sides is_gt (interval_of (get_or sides.now j no_sides)).lower
+        (interval_of (get_or sides.now j no_sides)).upper) (length sides.now)) }
 {
     'columns: for j in 0..sides.len() {
         if is_empty(sides[j]) {
@@ -87,7 +90,9 @@ pub(crate) fn first_empty(sides: &[Interval]) -> Option<u32>
 // The continuous columns, then the binary, then the integer ones.
 pub(crate) fn in_kinds(alloc: Global, kinds: &[Kind]) -> Result<Variables, AllocError>
     requires { length kinds.now ≤ 2 ^ 21 }
-    ensures columns { IfOk result (λ v. v.columns.items ≡ of_kind Continuous kinds.now ++ (of_kind Binary kinds.now ++ of_kind Integer kinds.now)) }
+    ensures columns { IfOk result
+        (λ v. v.columns.items
+        ≡ of_kind Continuous kinds.now ++ (of_kind Binary kinds.now ++ of_kind Integer kinds.now)) }
     ensures binary { IfOk result (λ v. v.binary ≡ length (of_kind Binary kinds.now)) }
     ensures integer { IfOk result (λ v. v.integer ≡ length (of_kind Integer kinds.now)) }
 {

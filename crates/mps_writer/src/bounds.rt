@@ -34,7 +34,8 @@ fn put_bound(
     value: Dec,
 ) -> Result<(), AllocError>
     ensures { OnOk result (out.new.items ≡ out.old.items ++ line_text
-        (indented (bound_text kind ∷ codes "BND" ∷ column.now ∷ value_words kind (text_of value)))) }
+        (indented (bound_text kind ∷ codes "BND" ∷ column.now
+        ∷ value_words kind (text_of value)))) }
 {
     put_next(out, kind_word(kind))?;
     put(out, b" BND")?;
@@ -70,7 +71,8 @@ pub(crate) fn put_bounds(
 ) -> Result<(), AllocError>
     requires { All (λ t. t.1 < length columns.now) bounds.now }
     ensures { OnOk result (out.new.items ≡ out.old.items ++ lines_text (unless_empty bounds.now
-        (section (codes "BOUNDS") ∷ map (bound_line text_of columns.now) (map bound_of bounds.now)))) }
+        (section (codes "BOUNDS")
+        ∷ map (bound_line text_of columns.now) (map bound_of bounds.now)))) }
 {
     if bounds.is_empty() {
         return Ok(());

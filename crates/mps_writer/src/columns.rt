@@ -20,7 +20,8 @@ fn put_marker(out: &mut Vec<u8>, i: u32, word: &[u8]) -> Result<(), AllocError>
     put_end(out)
 }
 
-// The marker line between two columns, where one is marked and the other is not; answers the number of marker lines so far.
+// The marker line between two columns, where one is marked and the other is not; answers the number
+// of marker lines so far.
 fn put_change(
     out: &mut Vec<u8>,
     before: bool,

@@ -71,7 +71,8 @@ fn put_rows(out: &mut Vec<u8>, rows: &[MpsRow]) -> Result<(), AllocError>
     put_row_lines(out, rows)
 }
 
-// Room for the text, at 24 bytes a line. It only spares copies: the text grows where it does not suffice.
+// Room for the text, at 24 bytes a line. It only spares copies: the text grows where it does not
+// suffice.
 fn text_room(mps: &Mps) -> usize {
     let mut lines = mps.rows().len() + mps.rhs().len() + mps.ranges().len() + mps.bounds().len();
     for column in mps.columns() {
@@ -83,7 +84,8 @@ fn text_room(mps: &Mps) -> usize {
 /// The one written text of a program.
 pub fn write_mps(alloc: Global, mps: &Mps) -> Result<Vec<u8>, AllocError>
     ensures spelling { IfOk result (λ v. v.items ≡ mps_text_by text_of mps.now) }
-    ensures text { IfOk result (λ v. v.items ≡ mps_text_by value_text (with_values dec_value mps.now)) }
+    ensures text { IfOk result
+        (λ v. v.items ≡ mps_text_by value_text (with_values dec_value mps.now)) }
 {
     let rows = mps.rows();
     let columns = mps.columns();

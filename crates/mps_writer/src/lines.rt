@@ -21,7 +21,8 @@ fn put_long_entry(out: &mut Vec<u8>, word: &[u8], row: &[u8], value: Dec) -> Res
     put_end(out)
 }
 
-// A word, the name of a row, and a number; with names of at most 32 bytes the line has at most 128 and is appended whole.
+// A word, the name of a row, and a number; with names of at most 32 bytes the line has at most 128
+// and is appended whole.
 fn put_entry(out: &mut Vec<u8>, word: &[u8], row: &[u8], value: Dec) -> Result<(), AllocError>
     ensures { OnOk result (out.new.items
         ≡ out.old.items ++ line_text (indented (word.now ∷ row.now ∷ text_of value ∷ []))) }
@@ -66,7 +67,8 @@ pub(crate) fn put_rhs(
 ) -> Result<(), AllocError>
     requires { All (λ t. t.0 < length rows.now) rhs.now }
     ensures { OnOk result (out.new.items ≡ out.old.items ++ lines_text
-        (section (codes "RHS") ∷ entry_lines text_of rows.now (codes "RHS") (map entry_of rhs.now))) }
+        (section (codes "RHS")
+        ∷ entry_lines text_of rows.now (codes "RHS") (map entry_of rhs.now))) }
 {
     put_line(out, b"RHS")?;
     put_entries(out, rows, b"RHS", rhs)
@@ -80,7 +82,8 @@ pub(crate) fn put_ranges(
 ) -> Result<(), AllocError>
     requires { All (λ t. t.0 < length rows.now) ranges.now }
     ensures { OnOk result (out.new.items ≡ out.old.items ++ lines_text (unless_empty ranges.now
-        (section (codes "RANGES") ∷ entry_lines text_of rows.now (codes "RNG") (map entry_of ranges.now)))) }
+        (section (codes "RANGES")
+        ∷ entry_lines text_of rows.now (codes "RNG") (map entry_of ranges.now)))) }
 {
     if ranges.is_empty() {
         return Ok(());

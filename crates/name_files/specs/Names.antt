@@ -1,4 +1,5 @@
--- The names of a file: one in each line that holds words. The order of the tests is this project's own.
+-- The names of a file: one in each line that holds words. The order of the tests is this project's
+-- own.
 use Rattle.std.specs.Prelude.{◌≡◌, ◌≢◌, ℕ, ◌+◌, ◌^◌, ◌<◌, ◌==◌, Bool, false, not, ◌&&◌, ◌||◌, nat_le, nat_lt, List, [], ◌∷◌, ◌++◌, length, take, slice_index, Option, Some, None, is_some, if◌then◌else◌, All, AllPairs}
 use Rattle.std.specs.List.{position, flat_map}
 use Rattle.std.specs.Str.{bytes_eq}

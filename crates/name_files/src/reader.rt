@@ -32,10 +32,11 @@ impl Model for NameReader {
 }
 
 impl NameReader {
-    /// A reader of a new file: so many names are used, and none or so many further ones follow, which are not
-    /// kept.
+    /// A reader of a new file: so many names are used, and none or so many further ones follow,
+    /// which are not kept.
     pub fn new(alloc: Global, used: u32, further: u32) -> Result<NameReader, AllocError>
-        ensures counts { IfOk result (λ reader. reader.held.counts ≡ record { used = used; further = further }) }
+        ensures counts { IfOk result
+            (λ reader. reader.held.counts ≡ record { used = used; further = further }) }
         ensures fed { IfOk result (λ reader. IsFed reader []) }
     {
         let grammar = NameGrammar::new(alloc, used, further);
@@ -64,7 +65,8 @@ impl NameReader {
 
     /// The used names, at the end of the text.
     pub fn finish(self) -> Result<NameList, Stop<NameFault>>
-        ensures reads { (text : List ℕ) → IsFed self text → ReadsNames self.held.counts text result }
+        ensures reads { (text : List ℕ) → IsFed self text
+            → ReadsNames self.held.counts text result }
         ensures sticky { IfSome self.stopped (λ stop. result ≡ Err stop) }
     {
         self.reader.finish()

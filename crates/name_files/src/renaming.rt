@@ -116,8 +116,8 @@ fn add_bounds(builder: &mut MpsBuilder, bounds: &[(BoundKind, u32, Dec)]) -> Res
     Ok(())
 }
 
-/// The program with these names: row `ci` gets name i of the rows, column `xj` name j of the columns,
-/// and a name without a number, as `obj`, an `@` before it.
+/// The program with these names: row `ci` gets name i of the rows, column `xj` name j of the
+/// columns, and a name without a number, as `obj`, an `@` before it.
 pub fn rename(
     alloc: Global,
     mps: &Mps,

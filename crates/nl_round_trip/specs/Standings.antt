@@ -26,8 +26,10 @@ rank (ColumnCounts n) = 8 * 2 ^ 32
 rank (Terms i n) = 9 * 2 ^ 32 + i
 rank (Slopes k n) = 10 * 2 ^ 32 + k
 
--- the pieces are complete, say the draft d, stand before what has a rank from `next` on, and hold so many linear terms, values of suffixes, nodes and suffixes
-pub record IsStanding (o : List ℤ) (c : Counts) (before : List Piece) (d : Draft) (next linear values nodes suffixes : ℕ) : Type 0 where
+-- the pieces are complete, say the draft d, stand before what has a rank from `next` on, and hold
+-- so many linear terms, values of suffixes, nodes and suffixes
+pub record IsStanding (o : List ℤ) (c : Counts) (before : List Piece) (d : Draft)
+    (next linear values nodes suffixes : ℕ) : Type 0 where
   pub done : awaited_of c before ≡ Nothing
   pub said : draft_of o c before ≡ d
   pub ranks : AllByRecursion (λ p. rank p.head < next) before
@@ -36,8 +38,10 @@ pub record IsStanding (o : List ℤ) (c : Counts) (before : List Piece) (d : Dra
   pub nodes_are : node_total c before ≡ nodes
   pub suffixes_are : suffix_count before ≡ suffixes
 
--- written lines that are taken, none of them a number of columns, and what the pieces mean after them
-pub record Reaches (o : List ℤ) (c : Counts) (before : List Piece) (n : ℕ) (lines : List Line) (d : Draft) (next linear values nodes suffixes : ℕ) : Type 0 where
+-- written lines that are taken, none of them a number of columns, and what the pieces mean after
+-- them
+pub record Reaches (o : List ℤ) (c : Counts) (before : List Piece) (n : ℕ) (lines : List Line)
+    (d : Draft) (next linear values nodes suffixes : ℕ) : Type 0 where
   pub after : List Piece
   pub taken : IsTaken o c before n lines after
   pub stands : IsStanding o c after d next linear values nodes suffixes

@@ -23,15 +23,18 @@ rows_at n (words ∷ lines) = row_at n words ∷ rows_at (n + 1) lines
 abbrev pub AreFine : List ℤ → Counts → List Piece → ℕ → List Line → Type 0
 AreFine o c before n [] = Unit {0}
 AreFine o c before n (words ∷ lines) =
-    (first_reason (row_tests c (draft_of o c before) before words) ≡ None) × AreFine o c (with_row c before (row_at n words)) (n + 1) lines
+    (first_reason (row_tests c (draft_of o c before) before words) ≡ None)
+    × AreFine o c (with_row c before (row_at n words)) (n + 1) lines
 
 -- the pieces after these lines
 abbrev pub pieces_after : Counts → List Piece → ℕ → List Line → List Piece
 pieces_after c before n [] = before
-pieces_after c before n (words ∷ lines) = pieces_after c (with_row c before (row_at n words)) (n + 1) lines
+pieces_after c before n (words ∷ lines) =
+    pieces_after c (with_row c before (row_at n words)) (n + 1) lines
 
 -- the lines are read as they are written, have no fault, and lead from these pieces to those
-pub record IsTaken (o : List ℤ) (c : Counts) (before : List Piece) (n : ℕ) (lines : List Line) (after : List Piece) : Type 0 where
+pub record IsTaken (o : List ℤ) (c : Counts) (before : List Piece) (n : ℕ) (lines : List Line)
+    (after : List Piece) : Type 0 where
   pub written : AllByRecursion IsWritten lines
   pub fine : AreFine o c before n lines
   pub pieces : pieces_after c before n lines ≡ after

@@ -16,8 +16,10 @@ use written_texts::{put_end, put_number};
 // Counts each term at its variable.
 fn count_terms(uses: &mut [u32], terms: &[(u32, Dec)])
     requires below { AreTermsBelow (length uses.old) terms.now }
-    requires room { (j : ℕ) → j < length uses.old → get_or uses.old j 0 + length terms.now < 2 ^ 32 }
-    ensures { (j : ℕ) → j < length uses.old → get_or uses.new j 0 ≡ get_or uses.old j 0 + uses_in terms.now j }
+    requires room { (j : ℕ) → j < length uses.old
+        → get_or uses.old j 0 + length terms.now < 2 ^ 32 }
+    ensures { (j : ℕ) → j < length uses.old
+        → get_or uses.new j 0 ≡ get_or uses.old j 0 + uses_in terms.now j }
 {
     for term in terms {
         uses[term.0 as usize] += 1;

@@ -71,8 +71,8 @@ row_at k d p i =
 abbrev pub rows_await : List Row → Awaited
 rows_await rows = row_at (option_count rows) (dual_count rows) (primal_count rows) (length rows)
 
--- ---- A suffix: its first line, and the lines after it. The first of them is its name, then come the
--- lines of its table, and then its values.
+-- ---- A suffix: its first line, and the lines after it. The first of them is its name, then come
+-- the lines of its table, and then its values.
 
 pub record Piece : Type 0 where
   pub head : Row

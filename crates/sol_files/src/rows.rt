@@ -120,7 +120,8 @@ pub(crate) fn read_value(words: &[&[u8]]) -> Result<Dec, SolReason>
 /// An `objno` line, where one may still come or is past.
 pub(crate) fn read_objno(words: &[&[u8]], is_past: bool) -> Result<(i32, i32), SolReason>
     ensures value { IfOk result
-        (λ t. both (signed_of (word_at (texts words.now) 1)) (signed_of (word_at (texts words.now) 2)) ≡ Some t) }
+        (λ t. both (signed_of (word_at (texts words.now) 1))
+        (signed_of (word_at (texts words.now) 2)) ≡ Some t) }
     ensures fine { OnOk result (first_reason (objno_tests is_past (texts words.now)) ≡ None) }
     ensures fault { IfErr result (λ r. first_reason (objno_tests is_past (texts words.now))
         ≡ Some (Here r)) }

@@ -68,7 +68,8 @@ fn judge_pair(
         (first_reason (marked_value_tests limit whole_only marks.now count (texts words.now))
         ≡ None) }
     ensures fault { IfErr result
-        (λ r. first_reason (marked_value_tests limit whole_only marks.now count (texts words.now)) ≡ Some (Here r)) }
+        (λ r. first_reason (marked_value_tests limit whole_only marks.now count (texts words.now))
+        ≡ Some (Here r)) }
 {
     let pair = match read_pair(words, limit, whole_only) {
         Ok(pair) => pair,

@@ -1,5 +1,5 @@
 -- The digits of a number with a point, one after the other from its end.
-use Rattle.std.proofs.Common.{◌≡◌, ◌∙◌, ℕ, suc, ◌+◌, ◌-◌, ◌/◌, ◌%◌, ◌^◌, ◌<◌, ◌≤◌, List, [], ◌∷◌, ◌++◌, length, take, drop, refl, sym, ap, ap₂, arith, ◌⊎◌, inl, inr, append_assoc, length-append}
+use Rattle.std.proofs.Common.{◌≡◌, ◌∙◌, ℕ, suc, ◌+◌, ◌-◌, ◌/◌, ◌%◌, ◌^◌, ◌<◌, ◌≤◌, List, [], ◌∷◌, ◌++◌, length, take, drop, sym, ap, arith, ◌⊎◌, inl, inr, append_assoc, length-append}
 use Rattle.std.proofs.lemmas.Fmt.{decimal_digit, decimal_step_wide, length-decimal-le}
 use Rattle.std.proofs.lemmas.Bool.{cases_lt}
 use Rattle.std.proofs.lemmas.List.{length-replicate, take_all, drop_all, take-append-le, drop-append-le}
@@ -73,3 +73,8 @@ places-before k n rest total few small is =
 -- a decimal in front of a text
 pub text-before : (d : Dec) (rest total : List ℕ) → total ≡ text_of d ++ rest → length total ≤ length rest + 60
 text-before d rest total is = omega (arith, ap length is, length-append (text_of d) rest, text-length d)
+
+-- how long a number is with zeros and a text behind it
+pub zeros-before : (k n : ℕ) (rest total : List ℕ) → k ≤ 20 → n < 2 ^ 64 → total ≡ (decimal n ++ zeros k) ++ rest → length total ≤ length rest + 40
+zeros-before k n rest total few small is =
+    omega (arith, ap length is, length-append (decimal n ++ zeros k) rest, length-append (decimal n) (zeros k), length-replicate {A = ℕ} k 48, length-decimal-le 20 n (omega arith) (omega arith) small)

@@ -11,7 +11,8 @@ ghost use Rattle.exact_numbers.specs.Values.{text_of};
 ghost use Rattle.written_texts.specs.Lines.{Line, indented, lines_text, spaced};
 ghost use Rattle.written_texts.specs.Words.{IsWord, IsKeptWord, IsWordLine};
 
-/// Words with a space between them, or a space before each, are read as themselves, and as no comment.
+/// Words with a space between them, or a space before each, are read as themselves, and as no
+/// comment.
 pub fn words_are_read()
     ensures words { (words : Line) → AllByRecursion IsWord words → words_of (spaced words) ≡ words }
     ensures indented { (words : Line)

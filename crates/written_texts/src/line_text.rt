@@ -1,8 +1,8 @@
 // Room for a line, which is written from its end to its front.
-ghost use Rattle.std.specs.Prelude.{◌≡◌, ℕ, ◌+◌, ◌<◌, ◌≤◌, List, [], ◌∷◌, ◌++◌, length, drop};
+ghost use Rattle.std.specs.Prelude.{◌≡◌, ℕ, ◌+◌, ◌<◌, ◌≤◌, List, [], ◌∷◌, ◌++◌, length, drop, unsigned_abs};
 ghost use Rattle.std.specs.Fmt.{decimal};
 ghost use Rattle.exact_numbers.specs.Values.{text_of};
-ghost use Rattle.exact_numbers.specs.Written.{padded, with_point};
+ghost use Rattle.exact_numbers.specs.Written.{padded, scaled_text, with_point, zeros};
 
 use exact_numbers::{Dec, NumText};
 use itoa::write_digits;
@@ -84,6 +84,33 @@ impl LineText {
         self.put_number(left);
     }
 
+    // Writes a number with so many zeros behind it in front.
+    fn put_zeros(&mut self, number: u64, count: usize)
+        requires few { count ≤ 20 }
+        requires room { length self.old ≤ 60 }
+        ensures { self.new ≡ (decimal number ++ zeros count) ++ self.old }
+    {
+        for _ in 0..count {
+            self.put_byte(b'0');
+        }
+        self.put_number(number);
+    }
+
+    // Writes a number times a small power of ten in front.
+    fn put_scaled(&mut self, number: u64, e: i16)
+        requires few { unsigned_abs e ≤ 20 }
+        requires room { length self.old ≤ 60 }
+        ensures text { self.new ≡ scaled_text (decimal number) e ++ self.old }
+        ensures short { length self.new ≤ length self.old + 40 }
+    {
+        let places = e.unsigned_abs() as usize;
+        if e < 0 {
+            self.put_places(number, places);
+        } else {
+            self.put_zeros(number, places);
+        }
+    }
+
     // Writes any decimal in front, by way of its text.
     fn put_any(&mut self, value: Dec)
         requires { length self.old ≤ 60 }
@@ -94,20 +121,19 @@ impl LineText {
         self.put_word(text.bytes());
     }
 
-    /// Writes the one spelling of a decimal in front. The common form, few digits with a point, goes
-    /// digit by digit.
+    /// Writes the one spelling of a decimal in front. Few digits with a small
+    /// exponent go digit by digit.
     pub fn put_dec(&mut self, value: Dec)
         requires { length self.old ≤ 60 }
         ensures spelling { self.new ≡ text_of value ++ self.old }
         ensures short { length self.new ≤ length self.old + 60 }
     {
         let size = value.m().unsigned_abs();
-        let places = value.e().unsigned_abs() as usize;
-        if size > u64::MAX as u128 || value.e() >= 0 || places > 38 {
+        if size > u64::MAX as u128 || value.e().unsigned_abs() > 20 {
             self.put_any(value);
             return;
         }
-        self.put_places(size as u64, places);
+        self.put_scaled(size as u64, value.e());
         if value.m() < 0 {
             self.put_byte(b'-');
         }
