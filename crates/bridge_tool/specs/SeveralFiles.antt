@@ -1,8 +1,8 @@
 -- Commands of several files.
 --
 -- A command that reads files one after another is a promise that is built from its end:
---   `ends texts file comes counts means`: the files were read, `file` last, and the command comes to
---     this;
+--   `ends texts file comes counts means`: the files were read, `file` last, and the command comes
+--     to this;
 --   `after_file reads refuses texts file next`: this file is read. A text that it refuses ends the
 --     command with its line; else the text says one value, and the rest of the command is
 --     `next value`, which may read a further file;

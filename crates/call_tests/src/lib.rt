@@ -1,4 +1,5 @@
-//! Tests of library calls: values from outside, printed texts, and each call that can want memory with memory to spare.
+//! Tests of library calls: values from outside, printed texts, and each call that can want memory
+//! with memory to spare.
 #![tactic(auto)]
 
 #[cfg(test)]

@@ -1,4 +1,5 @@
-// The command check over a desk in memory: the verdicts on solutions of one file, and why others are refused.
+// The command check over a desk in memory: the verdicts on solutions of one file, and why others
+// are refused.
 
 use crate::commands::command;
 use example_texts::nl_texts::{Sizes, header, text_of};

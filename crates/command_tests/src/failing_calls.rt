@@ -8,8 +8,8 @@ use example_texts::proof_texts::{ONE_WHOLE, TWO_LEAVES};
 use std::alloc::{AllocError, Global};
 use std::test::Fail;
 
-// Of ONE_WHOLE: an answer; one with the name `n` for its row and its column; the optimum of the relaxed program; a
-// point that is feasible, and not the best.
+// Of ONE_WHOLE: an answer; one with the name `n` for its row and its column; the optimum of the
+// relaxed program; a point that is feasible, and not the best.
 const ANSWER: &str = "answer 1\nstatus 0\nmessage done\ncol x0 2\nrow c0 0.5\n";
 
 const NAMED: &str = "answer 1\nstatus 0\nmessage done\ncol n 2\nrow n 0.5\n";
@@ -111,8 +111,9 @@ fn all_input_calls(case: &Case, most: usize) -> usize {
         .saturating_add(input_calls(case.lists, most))
 }
 
-// Whether a run ended as it must where one call failed, by the whole run. A failed start or read leaves nothing written;
-// a failed write what was moved before it; a failed tell changes the line alone.
+// Whether a run ended as it must where one call failed, by the whole run. A failed start or read
+// leaves nothing written; a failed write what was moved before it; a failed tell changes the line
+// alone.
 fn ends_well(run: &Ended, whole: &Ended, input_failed: bool, moved: usize) -> bool {
     if input_failed {
         return run.status == 4
@@ -158,7 +159,8 @@ fn call_count(case: &Case, whole: &Ended, most: usize) -> usize {
     inputs.saturating_add(written).saturating_add(told)
 }
 
-// Whether all is well for each call that fails, and for none: then the run ends as it does in whole pieces.
+// Whether all is well for each call that fails, and for none: then the run ends as it does in whole
+// pieces.
 fn each_call_may_fail(alloc: Global, case: &Case, most: usize) -> Result<bool, AllocError> {
     let whole = run(alloc, case, 4000, &[])?;
     if whole.status != case.status {

@@ -1,4 +1,5 @@
-// The command mps over a desk in memory: what is written or told for whole texts, and for their fronts.
+// The command mps over a desk in memory: what is written or told for whole texts, and for their
+// fronts.
 
 use crate::commands::{command, first_lines};
 use example_texts::mps_texts::{PAIRS, PAIRS_WRITTEN};

@@ -1,5 +1,5 @@
-// The commands export and return with names over a desk in memory: what is written with the names of lists, and why
-// lists are refused.
+// The commands export and return with names over a desk in memory: what is written with the names
+// of lists, and why lists are refused.
 
 use crate::commands::command;
 use example_texts::nl_texts::{KNAPSACK, Sizes, header, text_of};
@@ -17,7 +17,8 @@ const MOST: &str = "O0 1\nn0\nr\n1 7\nb\n2 0\nJ0 1\n0 2\nG0 1\n0 3\n";
 // Minimise x / 3.
 const TIED: &str = "O0 0\no3\nv0\nn3\nb\n3\nG0 1\n0 0\n";
 
-// An export of the knapsack with objective k and these lists, its status, and what is written or told.
+// An export of the knapsack with objective k and these lists, its status, and what is written or
+// told.
 #[derive(Clone, Copy)]
 struct Exported {
     k: &'static str,
@@ -209,7 +210,8 @@ fn returns_with_names(rt: HostRuntime) -> Result<(), Fail> {
     Ok(())
 }
 
-// Whether these words end with this status and tell this, at a desk with the knapsack and a binary file.
+// Whether these words end with this status and tell this, at a desk with the knapsack and a binary
+// file.
 fn tells(alloc: Global, words: &[&str], status: u8, line: &str) -> Result<bool, AllocError> {
     let mut desk = MemoryDesk::new(alloc, 4000)?;
     desk.put("a.nl", KNAPSACK.as_bytes())?;

@@ -1,4 +1,5 @@
-// The command prove over a desk in memory: verdicts on proofs of small files, and why others are refused.
+// The command prove over a desk in memory: verdicts on proofs of small files, and why others are
+// refused.
 
 use crate::commands::command;
 use example_texts::nl_texts::KNAPSACK;
@@ -7,7 +8,8 @@ use std::alloc::{AllocError, Global};
 use std::test::Fail;
 use text_base::MemoryDesk;
 
-// The optimum of the knapsack is 17: the third is left out; or it is in, and then neither of the others fits.
+// The optimum of the knapsack is 17: the third is left out; or it is in, and then neither of the
+// others fits.
 const KNAPSACK_PROOF: &str =
     "proof 1\nvalue 0 17\nsplit 2 0\nduals 0\nsplit 0 0\nsplit 1 0\nduals 0\nweights 1\n0 -1\nweights 1\n0 -1\n";
 

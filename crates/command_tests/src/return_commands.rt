@@ -1,4 +1,5 @@
-// The command return over a desk in memory: the .sol texts of answers for small files, and why others are refused.
+// The command return over a desk in memory: the .sol texts of answers for small files, and why
+// others are refused.
 
 use crate::commands::command;
 use example_texts::nl_texts::{Sizes, header, text_of};
