@@ -11,6 +11,7 @@ pub mod FracLemmas
 pub mod Operators
 pub mod OwnerLemmas
 pub mod PlaceLemmas
+pub mod Products
 pub mod ProgramLemmas
 pub mod Scaled
 pub mod Stacks

@@ -1,10 +1,10 @@
 -- Lists of terms, and the coefficients that they give.
-use Rattle.std.specs.Prelude.{◌≡◌, ◌≢◌, ℕ, zero, suc, ◌==◌, ◌<◌, ◌≤◌, List, [], ◌∷◌, Option, Some, None, Result, Ok, Err, true, false, if◌then◌else◌}
+use Rattle.std.specs.Prelude.{◌≡◌, ◌≢◌, ℕ, zero, suc, ◌==◌, ◌<◌, ◌≤◌, List, [], ◌∷◌, Option, Some, None, Result, Ok, Err, true, false, if◌then◌else◌, ◌⊎◌}
 use Rattle.text_base.specs.declared.stop.Stop.{Stop}
 use Rattle.text_base.specs.declared.stop.Stop.TheVariants.{Fault, Memory}
 use Rattle.exact_numbers.specs.declared.frac.Frac.{Frac}
 use Rattle.exact_numbers.specs.Values.{frac_value}
-use Rattle.fractions.specs.Fits.{sum_fits}
+use Rattle.fractions.specs.Fits.{fits, sum_fits}
 use Rattle.fractions.specs.Rational.{ℚ, zero_ℚ, ◌+ℚ◌, ◌*ℚ◌}
 use Rattle.nl_meaning.specs.Lines.{one_if}
 use Rattle.nl_meaning.specs.Trees.{LinearTerm}
@@ -47,6 +47,20 @@ AreZeroTerms (t ∷ ts) = (t.factor ≡ zero_ℚ) × AreZeroTerms ts
 abbrev pub AreBelow : ℕ → List Term → Type 0
 AreBelow n [] = Unit {0}
 AreBelow n (t ∷ ts) = (t.0 < n) × AreBelow n ts
+
+-- k times each of terms, which all fit
+abbrev pub AreProducts : ℚ → List Term → List Term → Type 0
+AreProducts k [] [] = Unit {0}
+AreProducts k [] (p ∷ ps) = ⊥
+AreProducts k (t ∷ ts) [] = ⊥
+AreProducts k (t ∷ ts) (p ∷ ps) =
+    (p.0 ≡ t.0) × (fits (k *ℚ frac_value t.1) ≡ true) × (frac_value p.1 ≡ k *ℚ frac_value t.1)
+    × AreProducts k ts ps
+
+-- k times one of terms does not fit
+abbrev pub HasWideProduct : ℚ → List Term → Type 0
+HasWideProduct k [] = ⊥
+HasWideProduct k (t ∷ ts) = (fits (k *ℚ frac_value t.1) ≡ false) ⊎ HasWideProduct k ts
 
 -- the term at place i has variable j
 abbrev pub StandsAt : List Term → ℕ → ℕ → Type 0

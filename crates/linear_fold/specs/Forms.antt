@@ -3,7 +3,7 @@ use Rattle.std.specs.Prelude.{◌≡◌, ℕ, ◌<◌, ◌≤◌, List, [], ◌�
 use Rattle.exact_numbers.specs.Values.{frac_value}
 use Rattle.fractions.specs.Fits.{fits, sum_fits}
 use Rattle.fractions.specs.Rational.{ℚ, zero_ℚ, ◌*ℚ◌}
-use Rattle.nl_meaning.specs.Faults.{line_sum, line_scaled, line_with}
+use Rattle.nl_meaning.specs.Faults.{line_sum, line_scaled, line_with, products_fit}
 use Rattle.nl_meaning.specs.Lines.{Line}
 use Rattle.text_base.specs.declared.stop.Stop.{Stop}
 use Rattle.text_base.specs.declared.stop.Stop.TheVariants.{Fault, Memory}
@@ -76,6 +76,13 @@ abbrev pub AddsScaled : Line → ℚ → Line → Line → Result (Unit {0}) (St
 AddsScaled a k b new (Ok u) = ScaledSumFits a k b × (new ≡ line_sum a (line_scaled k b))
 AddsScaled a k b new (Err (Fault w)) = ¬ ScaledSumFits a k b
 AddsScaled a k b new (Err Memory) = Unit {0}
+
+-- k times a closed form; it is too wide exactly where a product does not fit
+abbrev pub Multiplies : Line → ℚ → Result Form (Stop Wide) → Type 0
+Multiplies a k (Ok f) =
+    ((n : ℕ) → products_fit n k a ≡ true) × (form_line f ≡ line_scaled k a) × (is_open f ≡ false)
+Multiplies a k (Err (Fault w)) = (n : ℕ) → IsZeroFrom n a → products_fit n k a ≡ false
+Multiplies a k (Err Memory) = Unit {0}
 
 -- one step: k times a coefficient is added at its variable
 abbrev pub step_fits : Line → ℚ → Term → Bool

@@ -182,15 +182,15 @@ fn whole_under(size: u128) -> Frac
     whole(-(size as i128) - 1)
 }
 
-// The size of a numerator.
-fn size_of(x: Frac) -> u128
+// The numerator without its sign.
+fn numerator_size(x: Frac) -> u128
     ensures value { result ≡ unsigned_abs (frac_value x).top }
     ensures bound { result < 2 ^ 127 }
 {
     x.num().unsigned_abs()
 }
 
-fn parts_of(x: Frac) -> u128
+fn denominator_of(x: Frac) -> u128
     ensures { result ≡ (frac_value x).bottom }
 {
     x.den().unsigned_abs()
@@ -200,12 +200,12 @@ fn parts_of(x: Frac) -> u128
 fn floor_of(x: Frac) -> Frac
     ensures { frac_value result ≡ floor_in (frac_value x) }
 {
-    let parts = parts_of(x);
-    let size = size_of(x);
+    let denominator = denominator_of(x);
+    let size = numerator_size(x);
     if x.is_negative() {
-        return whole_under((size - 1) / parts);
+        return whole_under((size - 1) / denominator);
     }
-    whole_above(size / parts)
+    whole_above(size / denominator)
 }
 
 pub(crate) fn floor(alloc: Global, a: &Form) -> Outcome

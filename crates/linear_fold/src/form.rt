@@ -1,12 +1,13 @@
 // Linear forms.
-ghost use Rattle.std.specs.Prelude.{◌≡◌, ◌+◌, ◌≤◌, ℕ, [], true, false, length, IfOk, OnOk, OnErr};
+ghost use Rattle.std.specs.Prelude.{◌≡◌, ◌+◌, ◌≤◌, ℕ, [], true, false, length, IfOk, IfErr, OnOk, OnErr, ◌≢◌};
+ghost use Rattle.text_base.specs.Stopped.{IfFault};
 ghost use Rattle.exact_numbers.specs.Values.{frac_value};
 ghost use Rattle.fractions.specs.Rational.{one_ℚ, zero_ℚ};
 ghost use Rattle.std.specs.Iterator.{YieldsFirst, item_count};
 ghost use Rattle.nl_meaning.specs.Faults.{constant_line, line_with, line_scaled, line_sum};
 ghost use Rattle.nl_meaning.specs.Lines.{is_constant};
-ghost use Rattle.linear_fold.specs.Coefs.{AddsAt, AreAscending, coef_in};
-ghost use Rattle.linear_fold.specs.Forms.{AddsScaled, AreWithin, HasPlace, HasRoom, IsZeroFrom, SumsUp, form_line, form_terms, is_open, place_count, terms_left};
+ghost use Rattle.linear_fold.specs.Coefs.{AddsAt, AreAscending, AreProducts, HasWideProduct, coef_in};
+ghost use Rattle.linear_fold.specs.Forms.{AddsScaled, AreWithin, HasPlace, HasRoom, IsZeroFrom, Multiplies, SumsUp, form_line, form_terms, is_open, place_count, terms_left};
 
 use crate::accumulator::{Accumulator, sum_of};
 use crate::coefficients::Coefficients;
@@ -29,6 +30,29 @@ pub enum Kept {
 pub struct Form {
     constant: Frac,
     kept: Kept,
+}
+
+// k times each of terms; a step for each.
+fn products_of<L: Ledger>(
+    alloc: Global,
+    terms: &[(u32, Frac)],
+    k: Frac,
+    steps: &mut Steps<L>,
+) -> Result<Vec<(u32, Frac)>, Stop<Wide>>
+    ensures products { IfOk result (λ v. AreProducts (frac_value k) terms.now v.items) }
+    ensures wide { IfErr result (λ s. IfFault s (λ w. HasWideProduct (frac_value k) terms.now)) }
+    ensures above { steps.old ≤ steps.new }
+    ensures below { steps.new ≤ steps.old + length terms.now }
+{
+    let mut products = Vec::with_capacity(alloc, terms.len())?;
+    for term in terms {
+        steps.tick();
+        let Some(product) = k.mul(term.1) else {
+            return Err(Stop::Fault(Wide));
+        };
+        products.push((term.0, product))?;
+    }
+    Ok(products)
 }
 
 impl Form {
@@ -140,6 +164,35 @@ impl Form {
         let mut items = Vec::with_capacity(alloc, terms.len())?;
         items.extend_from_slice(terms)?;
         Ok(self.with_coefficients(Coefficients::of_items(items)))
+    }
+
+    // k times a closed form, where k is not 0; a step for the constant and for each term.
+    pub(crate) fn times<L: Ledger>(
+        &self,
+        alloc: Global,
+        k: Frac,
+        steps: &mut Steps<L>,
+    ) -> Result<Form, Stop<Wide>>
+        requires closed { is_open self.now ≡ false }
+        requires factor { frac_value k ≢ zero_ℚ }
+        ensures product { Multiplies (form_line self.now) (frac_value k) result }
+        ensures above { steps.old ≤ steps.new }
+        ensures below { steps.new ≤ steps.old + length (form_terms self.now) + 1 }
+        ensures ascending { AreAscending 0 (form_terms self.now) }
+    {
+        let terms = self.listed();
+        steps.tick();
+        let Some(constant) = k.mul(self.constant) else {
+            return Err(Stop::Fault(Wide));
+        };
+        let items = match products_of(alloc, terms, k, steps) {
+            Ok(items) => items,
+            Err(stop) => return Err(stop),
+        };
+        Ok(Form {
+            constant,
+            kept: Kept::Closed(Coefficients::of_items(items)),
+        })
     }
 
     // Whether a closed form has no coefficients.

@@ -177,8 +177,15 @@ pub(crate) fn scaled<L: Ledger>(
     ensures above { steps.old ≤ steps.new }
     ensures below { steps.new ≤ steps.old + (place_count total.old + 1) }
 {
-    let summed = add_multiple(total, a, k, steps);
-    outcome_of(alloc, total, summed)
+    if k.is_zero() {
+        let summed = add_multiple(total, a, k, steps);
+        return outcome_of(alloc, total, summed);
+    }
+    match a.times(alloc, k, steps) {
+        Ok(form) => Ok(Outcome::Linear(form)),
+        Err(Stop::Fault(_)) => Ok(Outcome::Refused(Reason::TooWide)),
+        Err(Stop::Memory) => Err(AllocError),
+    }
 }
 
 fn negated<L: Ledger>(

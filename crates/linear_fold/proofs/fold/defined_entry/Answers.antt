@@ -1,6 +1,5 @@
-use Rattle.std.proofs.Common.{◌≡◌, ◌∙◌, ◌+◌, ◌-◌, sym, ap, refl, subst, arith, Some}
+use Rattle.std.proofs.Common.{◌≡◌, ◌∙◌, ◌+◌, ◌-◌, sym, ap, refl, arith, Some}
 use Rattle.nl_meaning.specs.Lines.{line_value}
-use Rattle.linear_fold.specs.Operates.{IsWithin}
 use Rattle.linear_fold.proofs.Folding.{same_within, slot_at}
 use Rattle.linear_fold.proofs.fold.defined_entry.Goals as goal
 
