@@ -106,8 +106,8 @@ pub(crate) fn export_named<D: Desk, L: Ledger>(
         (D.meaning desk.old) (D.meaning desk.new) result }
     ensures known { status_of result ≢ 3 }
     ensures above { steps.old ≤ steps.new }
-    ensures counts { (named_promise (D.meaning desk.old).texts file.now objective rows.now columns.now).counts
-        steps.old steps.new }
+    ensures counts { (named_promise (D.meaning desk.old).texts file.now objective rows.now
+        columns.now).counts steps.old steps.new }
     ensures idle { status_of result ≡ 4 → steps.new ≡ steps.old }
 {
     let read = match open_nl(alloc, desk, file) {
