@@ -30,6 +30,18 @@ pub(crate) fn scaled_number(number: Frac, factor: Frac) -> Option<Dec>
     decimal_of(product)
 }
 
+// How many terms a form has: room alone, of which no clause speaks.
+fn term_count(form: &Form) -> usize
+    requires { is_open form.now ≡ false }
+    ensures { AreAscending 0 (form_terms form.now) }
+{
+    let mut count = 0usize;
+    for _ in form.terms() {
+        count = count.saturating_add(1);
+    }
+    count
+}
+
 // The terms of a form times the factor. Wide exactly where a number does not fit.
 pub(crate) fn scaled_terms(alloc: Global, form: &Form, factor: Frac) -> Result<Terms, Stop<Wide>>
     requires { is_open form.now ≡ false }
@@ -41,6 +53,7 @@ pub(crate) fn scaled_terms(alloc: Global, form: &Form, factor: Frac) -> Result<T
         (λ _. ¬ All (NumberFits (frac_value factor)) (coefficients_in (form_terms form.now)))) }
 {
     let mut terms = Terms::new(alloc);
+    terms.make_room(term_count(form))?;
     for term in form.terms() {
         let Some(value) = scaled_number(term.1, factor) else {
             return Err(Stop::Fault(Wide));
