@@ -1,0 +1,96 @@
+#!/usr/bin/env python3
+"""Checks one crate over libraries that another clone has proved, and builds nothing below it.
+
+    dev/check.py CRATE [--library] [rattle's flags, as --only MODULE::FUNCTION, --test, --jobs N]
+
+GATE (a variable, else ../gate) is a clone in which `rt ci` ran or runs: its crates/X/out/rlib/X.rlib are the proved
+libraries. A crate below CRATE that differs here from GATE's is taken from this clone's own crates/X/out/rlib, which
+--library makes: it builds CRATE itself as a library, and proves it. It says where a library is missing.
+"""
+import os
+import subprocess
+import sys
+
+KIT = "/opt/rattle"
+TOP = os.path.dirname(os.path.dirname(os.path.abspath(__file__)))
+GATE = os.path.abspath(os.environ.get("GATE", f"{TOP}/../gate"))
+PARTS = ("src", "specs", "proofs")
+
+
+def uses():
+    """The libraries that each crate uses, of crates.txt."""
+    found = {}
+    with open(f"{TOP}/crates.txt") as lines:
+        for line in lines:
+            name, colon, rest = line.split("#")[0].partition(":")
+            if colon:
+                found[name.split()[0]] = rest.split()
+    return found
+
+
+def below(used, crate, seen):
+    """Our own crates below one, each after those that it uses."""
+    for name in used[crate]:
+        if name in used and name not in seen:
+            below(used, name, seen)
+            seen.append(name)
+    return seen
+
+
+def is_same(crate):
+    """Whether a crate's text is the same here and at GATE."""
+    for part in PARTS:
+        folders = [f"{top}/crates/{crate}/{part}" for top in (TOP, GATE)]
+        if any(map(os.path.exists, folders)):
+            if subprocess.run(["diff", "-rq", *folders], capture_output=True).returncode:
+                return False
+    return True
+
+
+def library(crate):
+    """The proved library of a crate."""
+    own, gate = (f"{top}/crates/{crate}/out/rlib/{crate}.rlib" for top in (TOP, GATE))
+    found = gate if is_same(crate) else own
+    if not os.path.exists(found):
+        sys.exit(f"no library of {crate}: {found}")
+    return found
+
+
+def words(crate):
+    """The words that name the crate and all libraries for rattle."""
+    used = uses()
+    found = ["--crate-name", crate]
+    found += ["src/main.rt" if os.path.exists(f"{TOP}/crates/{crate}/src/main.rt") else "src/lib.rt"]
+    of_kit = ["std", *[it for it in used[crate] if it not in used]]
+    for name in of_kit:
+        found += ["--extern", f"{name}={KIT}/rlibs/{name}.rlib"]
+    found += ["-L", f"dependency={KIT}/rlibs"]
+    for name in used[crate]:
+        if name in used:
+            found += ["--extern", f"{name}={library(name)}"]
+    for name in below(used, crate, []):
+        found += ["-L", f"dependency={os.path.dirname(library(name))}"]
+    found += ["--antt-project", f"{KIT}/rattle/logic/antt-project.json"]
+    return [*found, "--logic-built", f"{KIT}/logic_built", "--links", f"{crate}="]
+
+
+def main(crate, *flags):
+    flags = list(flags)
+    folder = f"{TOP}/crates/{crate}"
+    if "--library" in flags:
+        flags.remove("--library")
+        os.makedirs(f"{folder}/out/rlib", exist_ok=True)
+        ask = ["build", *words(crate), "--statements", "-o", f"{folder}/out/rlib/{crate}.rlib"]
+    else:
+        ask = ["check", *words(crate)]
+        if "--test" not in flags:
+            os.makedirs(f"{folder}/out/kept", exist_ok=True)
+            ask += ["--incremental", f"{folder}/out/kept"]
+    jobs = [] if "--jobs" in flags else ["--jobs", "1"]
+    return subprocess.run([f"{KIT}/bin/rattle", *ask, *jobs, *flags], cwd=folder).returncode
+
+
+if __name__ == "__main__":
+    if len(sys.argv) < 2:
+        sys.exit(__doc__)
+    sys.exit(main(*sys.argv[1:]))

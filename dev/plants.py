@@ -1,0 +1,158 @@
+#!/usr/bin/env python3
+"""Lists wrong bodies that a crate's contracts let through, as `rt plant --all` does, private functions too.
+
+    dev/plants.py CRATE [--only REGEX] [--first] [--minutes N] [--batch N]
+
+It works over the proved libraries of GATE (see check.py), so that nothing is built or checked before the plants. All plants
+of a batch are tried in one check: a crate of a hundred functions takes some ten minutes. --only takes the functions whose
+file, line and path match. --first tries the bodies that give up alone; without it, public functions also get bodies that
+call the real one. A private function gets one body that fails and one that gives a value.
+It loads the kit's `rt plant` and changes some of its parts, so a new kit may want changes here.
+"""
+import json
+import os
+import re
+import subprocess
+import sys
+import time
+import types
+
+import check
+
+PLANT = f"{check.KIT}/bin/rt-plant"
+# Whether the unchanged call is planted beside the wrong ones.
+CONTROLS = "controls *= len(first) < most"
+
+
+def option(words, name, default):
+    if name not in words:
+        return default
+    at = words.index(name)
+    value = words[at + 1]
+    del words[at : at + 2]
+    return value
+
+
+def flag(words, name):
+    found = name in words
+    words[:] = [it for it in words if it != name]
+    return found
+
+
+def loaded(is_first):
+    """The kit's `rt plant`, as a module."""
+    with open(PLANT) as it:
+        text = it.read()
+    if text.count(CONTROLS) != 1:
+        sys.exit("this kit's rt plant is another one: mend dev/plants.py")
+    kept = "[]" if is_first else "[it for it in controls if it.f.is_pub]"
+    module = types.ModuleType("rt_plant")
+    module.__file__ = PLANT
+    text = text.replace(CONTROLS, f"controls = {kept}")
+    exec(compile(text, PLANT, "exec"), module.__dict__)
+    return module
+
+
+def take_libraries(module, crate):
+    """Puts GATE's libraries in the place of those that rt would build, and their list of functions in that of a check."""
+    made = module.rt.Crate.__init__
+
+    def with_library(self, *words, **named):
+        made(self, *words, **named)
+        if self.name != crate:
+            self.rlib = check.library(self.name)
+
+    def checked(*_):
+        with open(f"{check.library(crate)}/toolchain/mir.json") as it:
+            functions = json.load(it)
+        print("\n" + "\n".join(f"fn {it[0]}: proved" for it in functions))
+        print(f"crate {crate}: proved")
+        return 0
+
+    module.rt.Crate.__init__ = with_library
+    module.rt.main = checked
+
+
+def choose(module, only):
+    """Takes private functions too, with two bodies each."""
+    gives_up, chosen = module.bodies.Bodies.giving_up, module.chosen
+
+    def few(self):
+        found, kinds = gives_up(self), {}
+        for it in found:
+            kinds.setdefault(it.kind == "failure", it)
+        return found if self.f.is_pub else list(kinds.values())
+
+    def matching(crate, source, symbols, _):
+        found = chosen(crate, source, symbols, "src/")
+        found = [[f for f in fs if re.search(only, f.shown)] for fs in found]
+        for f in {f for fs in found for f in fs if not f.is_pub}:
+            f.shown += " (private)"
+        return found
+
+    module.bodies.Bodies.giving_up, module.chosen = few, matching
+
+
+def judge_in_batches(module, size, seconds):
+    """Lets one check both compile and judge: what does not compile is left out, and the rest is checked again."""
+
+    def compiled(_, plants):
+        return [it for it in plants if it.kind == "not-run"]
+
+    def tried(copy, names):
+        words = [it for name in names for it in ("--only", name)]
+        words = [*copy.crate.words([*copy.flags, *words]), *module.rt.KEPT, "--progress"]
+        left = max(min(seconds, copy.end - time.monotonic()), 0)
+        how = {"cwd": copy.folder, "stdin": subprocess.DEVNULL, "stdout": subprocess.PIPE}
+        try:
+            whole = [*module.rt.guarded(), module.rt.RATTLE, "check", *words]
+            ran = subprocess.run(whole, timeout=left, stderr=subprocess.STDOUT, text=True, errors="replace", **how)
+        except subprocess.TimeoutExpired:
+            return None
+        return ran.stdout if ran.returncode >= 0 else None
+
+    def judge_one(copy, now):
+        """Judges a batch, or gives the two halves that it is to be tried in."""
+        while now and not copy.is_late():
+            copy.write(now)
+            said = copy.check(n for it in now for n in it.f.symbols or [it.name])
+            if said and re.search(r"(?m)^(only=|rattle: no verdict)", said):
+                module.read(now, said)
+                return []
+            wrong = {copy.lines.get((file, int(line))) for file, line in module.ERROR.findall(said or "")} - {None}
+            for it in wrong:
+                it.kind = "not-source"
+            if not wrong and len(now) > 1:
+                return [now[: len(now) // 2], now[len(now) // 2 :]]
+            if not wrong and not copy.is_late():
+                now[0].kind, now[0].why = "not-judged", module.NO_END
+                return []
+            now = [it for it in now if it not in wrong]
+        return []
+
+    def judge(copy, plants):
+        batches = [plants[at : at + size] for at in range(0, len(plants), size)]
+        while batches and not copy.is_late():
+            batches[:1] = judge_one(copy, batches[0])
+            print(f"{sum(map(len, batches))} plants left in this pass", file=sys.stderr, flush=True)
+
+    module.Copy.compiled, module.Copy.check, module.Copy.judge = compiled, tried, judge
+
+
+def main(*words):
+    words = list(words)
+    only, minutes = option(words, "--only", ""), option(words, "--minutes", "240")
+    size, is_first = int(option(words, "--batch", "120")), flag(words, "--first")
+    if len(words) != 1:
+        sys.exit(__doc__)
+    module = loaded(is_first)
+    take_libraries(module, words[0])
+    choose(module, only)
+    judge_in_batches(module, size, 3600)
+    os.chdir(f"{check.TOP}/crates/{words[0]}")
+    return module.main(words[0], "--all", "--minutes", minutes, "--max", "100000", "--jobs", "1")
+
+
+if __name__ == "__main__":
+    sys.dont_write_bytecode = True
+    sys.exit(main(*sys.argv[1:]))
