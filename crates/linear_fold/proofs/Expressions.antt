@@ -106,10 +106,6 @@ terms_zero n a (t ∷ ts) z b =
     terms_zero n (line_with a t.variable t.factor) ts
     (λ j g. let low = b.0 in ap₂ (λ x y. x +ℚ t.factor *ℚ y) (z j g) (apart-eqb j t.variable (λ e. omega arith)) ∙ ap (λ x. zero_ℚ +ℚ x) (*ℚ_zero t.factor) ∙ +ℚ_zero zero_ℚ) b.1
 
-pub empty_list : (ts : List Term) → length ts ≡ 0 → ts ≡ []
-empty_list [] e = refl
-empty_list (t ∷ ts) e = absurd (omega arith)
-
 -- ---- a tree with its terms
 module _ (known : Point → Known) (n : ℕ) (tree : Tree) (form : Form) (folded : (tree_fault known n 0 tree ≡ None) × HasLineOf n (λ at. tree_value (known at) at tree) form) where
   pub no_terms : (ts : List Term) → ts ≡ [] → IsExpressionFolded known n (record { tree = tree; terms = linear_terms ts }) (Linear form)
@@ -146,7 +142,3 @@ same_bound n new from len size e h = subst (λ k. new ≤ from + 2 * (n + 1) * k
 pub sum_bound : (n new from len : ℕ) → 0 < len → new ≤ from + (n + 1) + len → new ≤ from + 2 * (n + 1) * len
 sum_bound n new from zero some h = absurd (omega arith)
 sum_bound n new from (suc k) some h = omega arith
-
-pub not_empty : (ts : List Term) → (length ts ≡ 0 → ⊥) → 0 < length ts
-not_empty [] h = absurd (h refl)
-not_empty (t ∷ ts) h = omega arith
