@@ -1,5 +1,5 @@
--- The numbers that are drawn for an instance: a linear congruential generator with common
--- constants; the ranges are this project's own.
+-- The numbers that are drawn for an instance (a linear congruential generator with the constants of
+-- Numerical Recipes; the ranges are this project's own).
 use Rattle.std.specs.Prelude.{ℕ, zero, suc, ◌+◌, ◌*◌, ◌/◌, ◌%◌, ◌^◌}
 use Rattle.instances.specs.declared.draws.Row.{Row}
 
