@@ -73,7 +73,7 @@ def starts(found):
 
 
 def main(program, text, terms, runs="5"):
-    best = None
+    best, program = None, os.path.abspath(program)
     with tempfile.TemporaryDirectory() as folder:
         for _ in range(int(runs)):
             found, sizes = samples(program, text, folder)
