@@ -1,6 +1,6 @@
 ghost use Rattle.std.specs.Prelude.{◌≡◌, ◌≢◌, ℕ, ◌+◌, ◌-◌, ◌*◌, ◌%◌, ◌^◌, ◌<◌, ◌≤◌, MatchOption, SomeIff, IfSome, true, false, pos, ◌<ℤ◌, unsigned_abs};
 ghost use Rattle.exact_numbers.specs.Fraction.{IsCofactor};
-ghost use Rattle.exact_numbers.specs.Values.{dec_value, frac_value, IsDecOf, IsFracOf};
+ghost use Rattle.exact_numbers.specs.Values.{dec_value, fits, frac_value, IsDecOf, IsFracOf};
 
 use crate::arithmetic::{bounded_product, paired};
 use crate::dec::Dec;
@@ -127,6 +127,15 @@ fn cancel(n: u128, factor: u64, times: u32) -> Cancelled
         left -= 1;
     }
     Cancelled { rest, left }
+}
+
+impl Dec {
+    /// Whether a fraction has the same value.
+    pub fn has_fraction(self) -> bool
+        ensures { result ≡ fits (dec_value self) }
+    {
+        Frac::of_dec(self).is_some()
+    }
 }
 
 impl Frac {
