@@ -1,6 +1,6 @@
 ghost use Rattle.std.specs.Prelude.{◌≡◌, ◌≢◌, ℕ, ◌+◌, ◌-◌, ◌*◌, ◌%◌, ◌^◌, ◌<◌, ◌≤◌, MatchOption, SomeIff, IfSome, true, false, pos, ◌<ℤ◌, unsigned_abs};
 ghost use Rattle.exact_numbers.specs.Fraction.{IsCofactor};
-ghost use Rattle.exact_numbers.specs.Values.{dec_value, frac_value, IsDecOf, IsFracOf};
+ghost use Rattle.exact_numbers.specs.Values.{dec_value, fits, frac_value, IsDecOf, IsFracOf};
 
 use crate::arithmetic::{bounded_product, paired};
 use crate::dec::Dec;
@@ -129,20 +129,31 @@ fn cancel(n: u128, factor: u64, times: u32) -> Cancelled
     Cancelled { rest, left }
 }
 
+impl Dec {
+    /// Whether a fraction has the same value.
+    pub fn has_fraction(self) -> bool
+        ensures { result ≡ fits (dec_value self) }
+    {
+        Frac::of_dec(self).is_some()
+    }
+}
+
 impl Frac {
     /// The fraction that a decimal number is; none exactly where it does not fit.
     pub fn of_dec(d: Dec) -> Option<Frac>
         ensures { IsFracOf result (dec_value d) }
     {
-        let size = d.m.unsigned_abs();
-        let negative = d.m < 0;
-        if d.e >= 0 {
-            let Some(num) = grown(size, 10, d.e as u32) else {
+        let m = d.m();
+        let size = m.unsigned_abs();
+        let negative = m < 0;
+        let e = d.e();
+        if e >= 0 {
+            let Some(num) = grown(size, 10, e as u32) else {
                 return None;
             };
             return Some(paired(negative, num, 1));
         }
-        let places = d.e.unsigned_abs() as u32;
+        let places = e.unsigned_abs() as u32;
         let twos = cancel(size, 2, places);
         let fives = cancel(twos.rest, 5, places);
         let Some(even) = grown(1, 2, twos.left) else {
@@ -159,7 +170,7 @@ impl Frac {
         ensures above { pos 0 <ℤ result }
         ensures cofactor { IsCofactor (frac_value self).bottom (unsigned_abs result) }
     {
-        let odd = cancel(self.den, 2, 127);
+        let odd = cancel(self.bottom(), 2, 127);
         let rest = cancel(odd.rest, 5, 127);
         rest.rest as i128
     }
@@ -168,10 +179,12 @@ impl Frac {
     pub fn to_dec(self) -> Option<Dec>
         ensures { IsDecOf result (frac_value self) }
     {
-        if self.den == 1 {
-            return Dec::new(self.num, 0);
+        let top = self.num();
+        let bottom = self.bottom();
+        if bottom == 1 {
+            return Dec::new(top, 0);
         }
-        let twos = cancel(self.den, 2, 127);
+        let twos = cancel(bottom, 2, 127);
         let fives = cancel(twos.rest, 5, 127);
         if fives.rest != 1 {
             return None;
@@ -179,12 +192,12 @@ impl Frac {
         let even = 127 - twos.left;
         let odd = 127 - fives.left;
         let places = even.max(odd);
-        let Some(first) = grown_by(self.num.unsigned_abs(), 2, places - even) else {
+        let Some(first) = grown_by(top.unsigned_abs(), 2, places - even) else {
             return None;
         };
         let Some(size) = grown_by(first, 5, places - odd) else {
             return None;
         };
-        Dec::new(with_sign(self.num < 0, size), -(places as i32))
+        Dec::new(with_sign(top < 0, size), -(places as i32))
     }
 }
