@@ -1,10 +1,11 @@
 -- The names of a file: one in each line that holds words. The order of the tests is this project's
 -- own.
 use Rattle.std.specs.Prelude.{◌≡◌, ◌≢◌, ℕ, ◌+◌, ◌^◌, ◌<◌, ◌==◌, Bool, false, not, ◌&&◌, ◌||◌, nat_le, nat_lt, List, [], ◌∷◌, ◌++◌, length, take, slice_index, Option, Some, None, is_some, if◌then◌else◌, All, AllPairs}
-use Rattle.std.specs.List.{position, flat_map}
+use Rattle.std.specs.List.{flat_map}
 use Rattle.std.specs.Str.{bytes_eq}
 use Rattle.text_base.specs.Judged.{Rules, first_reason}
 use Rattle.text_base.specs.Names.{IsName, is_name}
+pub use Rattle.text_base.specs.Names.{place_of}
 use Rattle.text_base.specs.Words.{words_of, word_at}
 use Rattle.text_base.specs.declared.lines.LineFault.{LineFault}
 use Rattle.text_base.specs.declared.lines.LineFault.TheVariants.{LineTooLong as LongLine, InputTooLong as LongInput}
@@ -37,9 +38,6 @@ standing counts lines =
     record { count = length (names_of lines); names = used_names counts lines }
 
 -- ---- The tests of a line that holds words, and of the end.
-
-abbrev pub place_of : List (List ℕ) → List ℕ → Option ℕ
-place_of names name = position (bytes_eq name) names
 
 -- it begins with `@`, or is the word of marker lines
 abbrev pub is_reserved : List ℕ → Bool

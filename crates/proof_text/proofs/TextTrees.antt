@@ -2,8 +2,8 @@
 -- left, and gives the subtrees and pairs that were awaited before them.
 use Rattle.std.proofs.Common.{◌≡◌, ◌∙◌, ℕ, zero, suc, ◌+◌, ◌-◌, ◌<◌, ◌≤◌, ◌^◌, ◌==◌, ℤ, Bool, true, false, cond, not, ◌&&◌, ◌||◌, nat_le, nat_lt, List, [], ◌∷◌, ◌++◌, length, get_or, Option, Some, None, is_none, IsTrue, All, codes, refl, sym, ap, ap₂, subst, arith, append-nil, append_assoc, length-append}
 use Rattle.std.proofs.lemmas.Bool.{lt-ltb, eqb-true}
-use Rattle.std.proofs.lemmas.Slice.Eq.{bytes_eq-Decides}
 use Rattle.std.specs.Str.{bytes_eq}
+use Rattle.text_base.proofs.NamePlaces.{bytes_same}
 use Rattle.fractions.specs.Fits.{fits}
 use Rattle.fractions.specs.Rational.{whole, zero_ℚ}
 use Rattle.text_base.specs.Judged.{first_reason}
@@ -139,9 +139,6 @@ MayStand Infeasible None = Unit {0}
 MayStand Infeasible (Some (Split j t)) = ⊥
 MayStand Infeasible (Some (Duals n)) = ⊥
 MayStand Infeasible (Some (Weights n)) = Unit {0}
-
-bytes_same : (a b : List ℕ) → bytes_eq a b ≡ true → a ≡ b
-bytes_same a b e = (bytes_eq-Decides a b).0 e
 
 or_false : (b : Bool) → (b || false) ≡ true → b ≡ true
 or_false true e = refl

@@ -3,12 +3,12 @@ use Rattle.std.proofs.Common.{◌≡◌, ◌<◌, ℕ, zero, suc, List, [], ◌�
 use Rattle.std.proofs.lemmas.List.{take-append-drop, length-drop}
 use Rattle.std.proofs.Math.Seq.{take-length}
 use Rattle.std.specs.Str.{bytes_eq}
-use Rattle.std.proofs.lemmas.Slice.Eq.{bytes_eq-Decides}
 use Rattle.text_base.specs.declared.memory.Entry.{Entry}
-use Rattle.std.specs.Prelude.{nat_lt, MatchOption}
+use Rattle.std.specs.Prelude.{MatchOption}
 use Rattle.std.specs.List.{position, position_or_len}
 use Rattle.std.proofs.lemmas.List.Quantifiers.{position-Some}
 use Rattle.text_base.specs.Memory.{text_named, with_text}
+use Rattle.text_base.proofs.NamePlaces.{bytes_same, bytes_self, past_all}
 use Rattle.text_base.specs.Entries.{entry_pair, entries, text_at, text_set}
 
 -- the test for a text of that name
@@ -47,13 +47,6 @@ no_place (e ∷ es) name le = by (no_place es name) (has_name name e) refl
     by rest false is =
         let more = rest (omega (arith, rw is at le)) in
         record { named = rw is more.named; stored = λ text. rw (is, more.stored text) refl }
-
-past_all : {X : Type 0} (p : X → Bool) (xs : List X) → position p xs ≡ None → length xs ≤ position_or_len p xs
-past_all p xs e = by (nat_lt (position_or_len p xs) (length xs)) refl
-  where
-    by : (b : Bool) → nat_lt (position_or_len p xs) (length xs) ≡ b → length xs ≤ position_or_len p xs
-    by true is = absurd (cc (rw is at e))
-    by false is = grind arith
 
 pub place_none : (es : List Entry) (name : List ℕ) → position (has_name name) es ≡ None → IsUnnamed es name
 place_none es name e = no_place es name (past_all (has_name name) es e)
@@ -100,12 +93,9 @@ none_left text taken n none e = ap (λ k. drop k text) (omega arith) ∙ e
 pub rest_whole : (xs text : List ℕ) (k : ℕ) → xs ≡ text → take (length xs - k) (drop k xs) ≡ drop k text
 rest_whole xs text k e = rw e (ap (λ n. take n (drop k text)) (sym (length-drop k text)) ∙ take-length (drop k text))
 
-same_name : (a b : List ℕ) → bytes_eq a b ≡ true → a ≡ b
-same_name a b h = (bytes_eq-Decides a b).0 h
-
 -- a stored text is found by its name
 pub text_named-with : (es : List (List ℕ × List ℕ)) (name text : List ℕ) → text_named (with_text es name text) name ≡ Some text
-text_named-with [] name text = rw ((bytes_eq-Decides name name).1 refl) refl
+text_named-with [] name text = rw (bytes_self name) refl
 text_named-with (e ∷ es) name text = by (text_named-with es name text) (bytes_eq e.0 name) refl
   where
     by : text_named (with_text es name text) name ≡ Some text → (b : Bool) → bytes_eq e.0 name ≡ b → text_named (with_text (e ∷ es) name text) name ≡ Some text
@@ -119,6 +109,6 @@ text_named-others (e ∷ es) name text other differs = by (text_named-others es 
   where
     by : text_named (with_text es name text) other ≡ text_named es other → (b : Bool) → bytes_eq e.0 name ≡ b → text_named (with_text (e ∷ es) name text) other ≡ text_named (e ∷ es) other
     by rest true is =
-        let first : bytes_eq e.0 other ≡ false = rw (same_name e.0 name is) differs in
+        let first : bytes_eq e.0 other ≡ false = rw (bytes_same e.0 name is) differs in
         rw (is, first) refl
     by rest false is = rw (is, rest) refl

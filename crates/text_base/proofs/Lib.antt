@@ -1,4 +1,5 @@
 pub mod Entries
+pub mod NamePlaces
 pub mod ScanLemmas
 pub mod WordLemmas
 pub mod FirstReasons
