@@ -22,7 +22,8 @@ use Rattle.exact_numbers.specs.Numbers.{whole_of}
 use Rattle.nl_lines.specs.Rows.{Row, row_words}
 use Rattle.text_base.specs.Words.{word_at}
 use Rattle.nl_lines.specs.Heads.{is_head, head_of, name_in}
-use Rattle.nl_lines.specs.Nodes.{Placed, Pending, node_in, opcode_in, pending_in, nodes_of, pending_from, only_nodes}
+use Rattle.nl_lines.specs.declared.pending.Pending.{Pending}
+use Rattle.nl_lines.specs.Nodes.{Placed, node_in, opcode_in, pending_in, nodes_of, pending_from, only_nodes}
 use Rattle.nl_lines.specs.Pieces.{Piece, awaited_in, awaited_of, has_tree, is_nothing, last_piece, line_count, line_kind, pair_count, piece_nodes, piece_pairs, piece_pending, extended, tree_awaits, tree_rows, with_row}
 use Rattle.nl_lines.specs.Tests.{Tests, is_full, awaited_tests, formed_head_tests, has_index, head_form_tests, head_tests, holds_once, index_limit, operand_tests, pair_form_tests, pair_tests, row_tests, wants_whole}
 use Rattle.nl_segments.specs.Current.{IsPending}

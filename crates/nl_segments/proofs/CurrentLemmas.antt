@@ -13,7 +13,8 @@ use Rattle.nl_model.specs.declared.node.Node.TheVariants.{Op}
 use Rattle.exact_numbers.specs.Numbers.{whole_of}
 use Rattle.nl_lines.specs.Rows.{Row, row_words}
 use Rattle.text_base.specs.Words.{word_at}
-use Rattle.nl_lines.specs.Nodes.{Placed, Pending, node_in, opcode_in, nodes_from, pending_from, only_nodes}
+use Rattle.nl_lines.specs.declared.pending.Pending.{Pending}
+use Rattle.nl_lines.specs.Nodes.{Placed, node_in, opcode_in, nodes_from, pending_from, only_nodes}
 use Rattle.nl_lines.specs.NodeRows.{IsRow}
 use Rattle.nl_lines.specs.Pieces.{Piece, pair_count, line_count, has_tree, tree_rows, piece_nodes, piece_pending, awaited_in}
 use Rattle.nl_segments.specs.Current.{Current, current_awaits, new_current, less_line, with_node_row, IsCurrent}

@@ -21,7 +21,8 @@ use Rattle.nl_lines.specs.Rows.{Row}
 use Rattle.text_base.specs.Words.{word_at}
 use Rattle.nl_lines.specs.Heads.{is_head, is_in_range}
 use Rattle.exact_numbers.specs.Numbers.{whole_of}
-use Rattle.nl_lines.specs.Nodes.{Placed, Pending, only_lines, node_in, opcode_in}
+use Rattle.nl_lines.specs.declared.pending.Pending.{Pending}
+use Rattle.nl_lines.specs.Nodes.{Placed, only_lines, node_in, opcode_in}
 use Rattle.nl_lines.specs.NodeRows.{IsFormedRow, IsRow, IsNodeKnown}
 use Rattle.nl_lines.specs.Pieces.{Piece, has_tree, pair_count, piece_nodes}
 use Rattle.nl_lines.specs.Tests.{SaysOperandCount, node_form_tests, node_tests, operand_tests}

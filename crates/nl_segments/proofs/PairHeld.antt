@@ -11,7 +11,8 @@ use Rattle.nl_lines.specs.declared.awaited.Awaited.{Awaited}
 use Rattle.nl_lines.specs.declared.awaited.Awaited.TheVariants.{Nothing, Pair, ColumnCount, Interval as IntervalLine}
 use Rattle.nl_lines.specs.declared.head.Head.{Head}
 use Rattle.nl_lines.specs.Rows.{Row}
-use Rattle.nl_lines.specs.Nodes.{Pending, Placed, nodes_of, only_lines, only_nodes}
+use Rattle.nl_lines.specs.declared.pending.Pending.{Pending}
+use Rattle.nl_lines.specs.Nodes.{Placed, nodes_of, only_lines, only_nodes}
 use Rattle.nl_lines.specs.Pieces.{Piece, awaited_in, is_complete, is_nothing, line_count, line_kind, has_tree, pair_count, piece_nodes, piece_pairs, piece_pending, tree_awaits}
 use Rattle.nl_lines.specs.declared.head.Head.TheVariants.{ColumnCounts}
 use Rattle.std.proofs.lemmas.List.{append_assoc, append-nil, take-append-le}

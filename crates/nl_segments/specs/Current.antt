@@ -11,7 +11,8 @@ use Rattle.nl_lines.specs.declared.awaited.Awaited.TheVariants.{Nothing, Node as
 use Rattle.nl_lines.specs.declared.head.Head.{Head}
 use Rattle.nl_lines.specs.declared.node_row.NodeRow.{NodeRow}
 use Rattle.nl_lines.specs.declared.node_row.NodeRow.TheVariants.{Whole, Counted}
-use Rattle.nl_lines.specs.Nodes.{Pending, only_nodes}
+use Rattle.nl_lines.specs.declared.pending.Pending.{Pending}
+use Rattle.nl_lines.specs.Nodes.{only_nodes}
 use Rattle.nl_lines.specs.Pieces.{Piece, line_kind, line_count, has_tree, piece_nodes, piece_pending}
 
 -- its head and the line of it, how many lines before an expression are still awaited, the pairs

@@ -15,8 +15,10 @@ use Rattle.nl_lines.specs.declared.fault.NlReason.{NlReason}
 use Rattle.nl_segments.specs.declared.nl_read.NlRead.{NlRead}
 use Rattle.nl_lines.specs.declared.head.Head.{Head}
 use Rattle.nl_lines.specs.Rows.{Row, row_words}
-use Rattle.nl_lines.specs.Pieces.{Piece, last_piece, is_complete, pair_count, piece_pairs}
+use Rattle.nl_lines.specs.Pieces.{Piece, last_piece, is_complete, pair_count, piece_pairs, keeps_pairs}
 use Rattle.nl_lines.specs.Tests.{all_column_counts, holds_once, index_limit, is_linear, is_same_piece, is_suffix, node_total, pair_total, row_tests, suffix_count, end_tests}
+use Rattle.nl_lines.specs.PairTests.{IsMarked}
+use Rattle.nl_lines.specs.NodeRows.{IsNodeKnown}
 use Rattle.nl_lines.specs.Heads.{is_in_range}
 use Rattle.nl_lines.specs.Saying.{PlaceLines, place_lines}
 use Rattle.nl_lines.specs.SeenSegments.{Segments, IsSeenIn, has_segment}
