@@ -44,7 +44,7 @@ use Rattle.nl_segments.proofs.PairHeld.{IsBefore, before_lines, never, none_with
 use Rattle.nl_lines.proofs.PairJudging.{pair_found}
 use Rattle.nl_segments.proofs.PairLines.{awaited-last, nodes_longer, pairs_longer, suffixes_longer}
 use Rattle.nl_segments.proofs.PairPiece.{pair_lines}
-use Rattle.nl_segments.proofs.CurrentLemmas as current
+use Rattle.nl_lines.proofs.RowLemmas as row_more
 use Rattle.nl_lines.proofs.PieceLemmas.{split, last-append, longer, extended-append}
 use Rattle.nl_lines.proofs.TotalLemmas.{nodes-append}
 use Rattle.nl_rewritten.proofs.Words.{HasNoMark}
@@ -238,7 +238,7 @@ kept_pair o c before p row h clean e fine =
     let once = none_each rest (none_second form rest fine) in
     let full = not_either (is_linear p.head && nat_le most_terms (pair_total is_linear (before ++ p ∷ []))) (is_suffix p.head && nat_le most_terms (pair_total is_suffix (before ++ p ∷ []))) once.1.0 in
     let early : length p.rows < pair_count p.head = subst (λ k. length p.rows < k) (pair_lines c p.head b.same_kind) b.within in
-    let pairs : piece_pairs (longer p row) ≡ piece_pairs p ++ pair.term ∷ [] = current.early_pairs p row pair.term early pair.says in
+    let pairs : piece_pairs (longer p row) ≡ piece_pairs p ++ pair.term ∷ [] = row_more.early_pairs p row pair.term early pair.says in
     let more : length (piece_pairs (longer p row)) ≡ length (piece_pairs p) + 1 = ap length pairs ∙ length-append (piece_pairs p) (pair.term ∷ []) in
     let parts = good_parts o c [] before p h.good in
     let g = parts.1 in
@@ -412,7 +412,7 @@ inside_tree c p kind e tree = by (nat_lt (length p.rows) (line_count c p.head)) 
     by true u q r is = absurd (never (sym (ap in_tree is ∙ tree) ∙ lines_before p.head))
     by false true q r is =
         let late = ltb-false _ _ q in
-        record { place = record { tree = r; late = late; early = omega (arith, late, current.tree_count c p.head r) }; awaits = is }
+        record { place = record { tree = r; late = late; early = omega (arith, late, row_more.tree_count c p.head r) }; awaits = is }
     by false false q r is = absurd (never (sym (ap in_tree is ∙ tree)))
 
 no_pending_node : (ns : List Placed) (q : Option Pending) → tree_awaits ns q ≡ NodeLine → q ≡ None
