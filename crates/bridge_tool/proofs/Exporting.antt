@@ -18,10 +18,10 @@ use Rattle.linear_fold.specs.FoldedFaults.{first_fold_fault, named_fault, step_b
 use Rattle.linear_fold.specs.declared.fold_fault.FoldFault.{FoldFault}
 use Rattle.nl_model.specs.File.{File}
 use Rattle.nl_segments.specs.Grammar.{nl_rules, NlValue, SaysFile, standing, said, counts_of}
-use Rattle.nl_segments.specs.Saying.{place_lines}
+use Rattle.nl_lines.specs.Saying.{place_lines}
 use Rattle.nl_model.specs.Draft.{file_of}
 use Rattle.nl_segments.specs.Reader.{IsNl, HasNlFault, fault_of}
-use Rattle.nl_segments.specs.declared.fault.NlFault.{NlFault}
+use Rattle.nl_lines.specs.declared.fault.NlFault.{NlFault}
 use Rattle.row_scaling.specs.Scaling.{HasNoScaleFault, HasScaleFault, IsExportOf}
 use Rattle.row_scaling.specs.declared.scale_fault.ScaleFault.{ScaleFault}
 use Rattle.bridge_tool.specs.Export.{Counts, IsExported}

@@ -11,7 +11,7 @@ use Rattle.row_scaling.specs.declared.scale_fault.ScaleFault.{ScaleFault}
 use Rattle.row_scaling.specs.declared.scale_fault.ScaleFault.TheVariants.{RowTooWide, ObjectiveTooWide}
 use Rattle.nl_segments.specs.Grammar.{NlValue}
 use Rattle.nl_segments.specs.Reader.{IsNl}
-use Rattle.nl_segments.specs.Saying.{PlaceLines, line_of}
+use Rattle.nl_lines.specs.Saying.{PlaceLines, line_of}
 use Rattle.nl_segments.proofs.CleanTexts.{has_lines_up_to}
 use Rattle.bridge_tool.specs.Mps.{IsMpsRefused}
 use Rattle.bridge_tool.specs.MpsTold.{mps_reason_text}

@@ -2,7 +2,7 @@
 use Rattle.std.proofs.Common.{◌≡◌, ◌∙◌, inl, inr, ◌⊎◌, ℕ, List, refl, sym, ap, ap₂}
 use Rattle.nl_segments.specs.Grammar.{NlValue}
 use Rattle.nl_segments.specs.Reader.{IsNl}
-use Rattle.nl_segments.specs.declared.fault.NlFault.{NlFault}
+use Rattle.nl_lines.specs.declared.fault.NlFault.{NlFault}
 use Rattle.nl_segments.specs.Reader.{fault_of}
 use Rattle.nl_writer.specs.Written.{nl_text}
 use Rattle.nl_rewritten.proofs.Rewriting.{written_again}

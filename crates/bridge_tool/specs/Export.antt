@@ -16,7 +16,7 @@ use Rattle.mps_model.specs.Valid.{IsMps}
 use Rattle.nl_model.specs.File.{File}
 use Rattle.nl_segments.specs.Grammar.{NlValue}
 use Rattle.nl_segments.specs.Reader.{IsNl, HasNlFault}
-use Rattle.nl_segments.specs.declared.fault.NlFault.{NlFault}
+use Rattle.nl_lines.specs.declared.fault.NlFault.{NlFault}
 use Rattle.row_scaling.specs.Scaling.{HasNoScaleFault, IsExportOf}
 use Rattle.text_base.specs.Desk.{Texts}
 use Rattle.bridge_tool.specs.OneFile.{IfText, file_promise}

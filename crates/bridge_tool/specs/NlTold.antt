@@ -3,10 +3,10 @@
 use Rattle.std.specs.Prelude.{ℕ, ◌<◌, ◌≤◌, List, [], ◌++◌, codes, Option, Some, None, IsSomeAnd}
 use Rattle.std.specs.Fmt.{decimal}
 use Rattle.nl_model.specs.declared.at.At.{At}
-use Rattle.nl_segments.specs.declared.fault.NlFault.{NlFault}
-use Rattle.nl_segments.specs.declared.fault.NlReason.{NlReason}
-use Rattle.nl_segments.specs.declared.fault.NlReason.TheVariants.{BinaryFile, BadFirstLine, Options, BadHeaderNumber, CountsDisagree, RefusedCount, TooLarge, LineTooLong, UnknownSegment, RefusedSegment, RepeatedSegment, BadHead, IndexOut, BadLine, BadNumber, ShortSegment, ExtraLine, RefusedOpcode, RefusedLeaf, Undefined, Complementarity, EmptyInterval, BinaryBounds, RepeatedIndex, SosSuffix, Missing, NonzeroCount, ColumnCount, InputTooLong, EndInHeader}
-use Rattle.nl_segments.specs.Saying.{PlaceLines, line_of}
+use Rattle.nl_lines.specs.declared.fault.NlFault.{NlFault}
+use Rattle.nl_lines.specs.declared.fault.NlReason.{NlReason}
+use Rattle.nl_lines.specs.declared.fault.NlReason.TheVariants.{BinaryFile, BadFirstLine, Options, BadHeaderNumber, CountsDisagree, RefusedCount, TooLarge, LineTooLong, UnknownSegment, RefusedSegment, RepeatedSegment, BadHead, IndexOut, BadLine, BadNumber, ShortSegment, ExtraLine, RefusedOpcode, RefusedLeaf, Undefined, Complementarity, EmptyInterval, BinaryBounds, RepeatedIndex, SosSuffix, Missing, NonzeroCount, ColumnCount, InputTooLong, EndInHeader}
+use Rattle.nl_lines.specs.Saying.{PlaceLines, line_of}
 use Rattle.linear_fold.specs.declared.fold_fault.FoldFault.{FoldFault}
 use Rattle.linear_fold.specs.declared.fold_fault.FoldFault.TheVariants.{Nonlinear, DivideByZero, TooWide, RefusedPower, FoldTooLarge, NoSuchObjective}
 use Rattle.row_scaling.specs.declared.scale_fault.ScaleFault.{ScaleFault}

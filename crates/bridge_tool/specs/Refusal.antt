@@ -6,7 +6,7 @@ use Rattle.linear_fold.specs.FoldedFaults.{first_fold_fault}
 use Rattle.linear_fold.specs.declared.fold_fault.FoldFault.{FoldFault}
 use Rattle.nl_segments.specs.Grammar.{NlValue}
 use Rattle.nl_segments.specs.Reader.{IsNl, HasNlFault}
-use Rattle.nl_segments.specs.declared.fault.NlFault.{NlFault}
+use Rattle.nl_lines.specs.declared.fault.NlFault.{NlFault}
 use Rattle.row_scaling.specs.Scaling.{HasScaleFault}
 use Rattle.row_scaling.specs.declared.scale_fault.ScaleFault.{ScaleFault}
 use Rattle.bridge_tool.specs.NlTold.{nl_line, fold_line, scale_line}

@@ -2,7 +2,7 @@
 ghost use Rattle.std.specs.Prelude.{◌≡◌, ◌++◌, IfOk, IsSome, OnOk};
 ghost use Rattle.linear_fold.specs.FoldedFaults.{HasFaultPlace};
 ghost use Rattle.nl_segments.specs.Reader.{HasLines};
-ghost use Rattle.nl_segments.specs.Saying.{line_of};
+ghost use Rattle.nl_lines.specs.Saying.{line_of};
 ghost use Rattle.bridge_tool.specs.NlTold.{fold_line, nl_line, opcode_text, placed_line, reason_text, scale_line};
 
 use crate::told::{put, refusal, refused_at};

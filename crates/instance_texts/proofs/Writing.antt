@@ -15,7 +15,7 @@ use Rattle.nl_model.specs.Nodes.{a_number, a_defined}
 use Rattle.nl_writer.specs.Written.{nl_text}
 use Rattle.nl_round_trip.specs.Writable.{AreTreesWritable, HasNodes, IsText, IsWritable, IsWritableSuffix, linear_count, node_count}
 use Rattle.nl_round_trip.proofs.WholeLaw.{written_is_read}
-use Rattle.nl_segments.specs.Tests.{is_binary}
+use Rattle.nl_lines.specs.Tests.{is_binary}
 use Rattle.instances.specs.Instance.{each, zero_dec, counts_of, definition_of, body_of, slope_of, goal_of, instance}
 use Rattle.instance_texts.proofs.Files.{all_each, is_file, term_total}
 use Rattle.instance_texts.proofs.Lengths.{instance_short}

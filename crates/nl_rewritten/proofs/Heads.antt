@@ -7,10 +7,10 @@ use Rattle.text_base.specs.Names.{is_name}
 use Rattle.text_base.specs.Words.{word_at}
 use Rattle.exact_numbers.proofs.Bridge.{and_true}
 use Rattle.nl_model.specs.declared.counts.Counts.{Counts}
-use Rattle.nl_segments.specs.declared.head.Head.{Head}
-use Rattle.nl_segments.specs.declared.head.Head.TheVariants.{Body, Objective, Definition, DualGuesses, PrimalGuesses, Sides, Bounds, ColumnCounts, Terms, Slopes, Suffix}
-use Rattle.nl_segments.specs.Heads.{letter_of, own_number, number_at, bare_head, numbered_head, counted_head, with_sense, objective_head, definition_head, column_head, of_kind, suffix_head, head_of, name_in}
-use Rattle.nl_segments.specs.Tests.{is_suffix}
+use Rattle.nl_lines.specs.declared.head.Head.{Head}
+use Rattle.nl_lines.specs.declared.head.Head.TheVariants.{Body, Objective, Definition, DualGuesses, PrimalGuesses, Sides, Bounds, ColumnCounts, Terms, Slopes, Suffix}
+use Rattle.nl_lines.specs.Heads.{letter_of, own_number, number_at, bare_head, numbered_head, counted_head, with_sense, objective_head, definition_head, column_head, of_kind, suffix_head, head_of, name_in}
+use Rattle.nl_lines.specs.Tests.{is_suffix}
 use Rattle.nl_rewritten.proofs.Words.{HasNoMark, whole_small}
 
 -- a suffix of such a head can be written

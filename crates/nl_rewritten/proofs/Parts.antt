@@ -15,15 +15,15 @@ use Rattle.nl_model.specs.Draft.{Draft}
 use Rattle.nl_model.specs.File.{Term, Definition, Suffix}
 use Rattle.nl_model.specs.Kinds.{kind_of}
 use Rattle.nl_model.specs.Rules.{AreGuesses, AreIndicesApart, AreSuffixes, AreTermsBelow, IsOrdered, IsSuffix, has_suffix, is_suffix_of, term_count}
-use Rattle.nl_segments.specs.declared.awaited.Awaited.TheVariants.{Interval as IntervalLine}
-use Rattle.nl_segments.specs.declared.head.Head.{Head}
-use Rattle.nl_segments.specs.declared.head.Head.TheVariants.{Body, Definition as DefinitionHead, DualGuesses, PrimalGuesses, Sides, Bounds, Terms, Slopes, Suffix as SuffixHead}
-use Rattle.nl_segments.specs.Pieces.{Piece, line_count, line_kind, pair_count, piece_intervals, piece_pairs}
-use Rattle.nl_segments.specs.Saying.{draft_of, piece_tree, with_terms}
-use Rattle.nl_segments.specs.Tests.{holds_once, index_limit, is_binary, is_linear, is_same_piece, is_sides, is_suffix, is_within_unit, pair_total, suffix_count, wants_whole}
-use Rattle.nl_segments.proofs.FreshLaw.{fresh_bounds, fresh_dual, fresh_primal, fresh_sides}
-use Rattle.nl_segments.proofs.HeadSuffixes.{suffixes_come}
-use Rattle.nl_segments.proofs.TotalLemmas.{pairs-append, pairs-other}
+use Rattle.nl_lines.specs.declared.awaited.Awaited.TheVariants.{Interval as IntervalLine}
+use Rattle.nl_lines.specs.declared.head.Head.{Head}
+use Rattle.nl_lines.specs.declared.head.Head.TheVariants.{Body, Definition as DefinitionHead, DualGuesses, PrimalGuesses, Sides, Bounds, Terms, Slopes, Suffix as SuffixHead}
+use Rattle.nl_lines.specs.Pieces.{Piece, line_count, line_kind, pair_count, piece_intervals, piece_pairs}
+use Rattle.nl_lines.specs.Saying.{draft_of, piece_tree, with_terms}
+use Rattle.nl_lines.specs.Tests.{holds_once, index_limit, is_binary, is_linear, is_same_piece, is_sides, is_suffix, is_within_unit, pair_total, suffix_count, wants_whole}
+use Rattle.nl_lines.proofs.FreshLaw.{fresh_bounds, fresh_dual, fresh_primal, fresh_sides}
+use Rattle.nl_lines.proofs.HeadSuffixes.{suffixes_come}
+use Rattle.nl_lines.proofs.TotalLemmas.{pairs-append, pairs-other}
 use Rattle.nl_round_trip.specs.Writable.{IsWritableSuffix}
 use Rattle.nl_rewritten.proofs.Heads.{IsGoodHead, IsGoodSuffix}
 use Rattle.nl_rewritten.proofs.Rows.{AreGoodIntervals}

@@ -15,10 +15,10 @@ use Rattle.nl_model.specs.File.{Objective, Term}
 use Rattle.nl_model.specs.HeaderRules.{is_header}
 use Rattle.nl_model.specs.Rules.{IsFile, IsTreeKnown, term_count}
 use Rattle.nl_segments.specs.Grammar.{NlValue, counts_of, standing}
-use Rattle.nl_segments.specs.Pieces.{Piece}
+use Rattle.nl_lines.specs.Pieces.{Piece}
 use Rattle.nl_segments.specs.Reader.{IsNl}
-use Rattle.nl_segments.specs.Saying.{draft_of}
-use Rattle.nl_segments.proofs.DraftLemmas.{draft_counts}
+use Rattle.nl_lines.specs.Saying.{draft_of}
+use Rattle.nl_lines.proofs.DraftLemmas.{draft_counts}
 use Rattle.nl_writer.specs.Written.{nl_text}
 use Rattle.nl_round_trip.specs.Writable.{HasNodes, IsText, IsWritable}
 use Rattle.nl_round_trip.proofs.WholeLaw.{written_is_read}

@@ -18,34 +18,35 @@ use Rattle.nl_model.specs.Draft.{Draft}
 use Rattle.nl_model.specs.File.{Term}
 use Rattle.nl_model.specs.Kinds.{kind_of}
 use Rattle.nl_model.specs.Rules.{IsOrdered, most_terms}
-use Rattle.nl_segments.specs.declared.awaited.Awaited.{Awaited}
-use Rattle.nl_segments.specs.declared.awaited.Awaited.TheVariants.{Nothing, Pair, ColumnCount, Interval as IntervalLine, Node as NodeLine, OperandCount}
-use Rattle.nl_segments.specs.declared.head.Head.{Head}
-use Rattle.nl_segments.specs.declared.head.Head.TheVariants.{Body, Objective, Definition as DefinitionHead, Sides, Bounds, ColumnCounts}
-use Rattle.nl_segments.specs.declared.fault.NlReason.TheVariants.{ShortSegment, RepeatedIndex, TooLarge}
-use Rattle.nl_segments.specs.Rows.{Row, row_words}
-use Rattle.nl_segments.specs.Heads.{is_head, head_of, name_in}
-use Rattle.nl_segments.specs.declared.pending.Pending.{Pending}
-use Rattle.nl_segments.specs.Nodes.{Placed, node_in, opcode_in, pending_in, nodes_of, pending_from, with_operands, only_nodes}
+use Rattle.nl_lines.specs.declared.awaited.Awaited.{Awaited}
+use Rattle.nl_lines.specs.declared.awaited.Awaited.TheVariants.{Nothing, Pair, ColumnCount, Interval as IntervalLine, Node as NodeLine, OperandCount}
+use Rattle.nl_lines.specs.declared.head.Head.{Head}
+use Rattle.nl_lines.specs.declared.head.Head.TheVariants.{Body, Objective, Definition as DefinitionHead, Sides, Bounds, ColumnCounts}
+use Rattle.nl_lines.specs.declared.fault.NlReason.TheVariants.{ShortSegment, RepeatedIndex, TooLarge}
+use Rattle.nl_lines.specs.Rows.{Row, row_words}
+use Rattle.nl_lines.specs.Heads.{is_head, head_of, name_in}
+use Rattle.nl_lines.specs.declared.pending.Pending.{Pending}
+use Rattle.nl_lines.specs.Nodes.{Placed, node_in, opcode_in, pending_in, nodes_of, pending_from, with_operands, only_nodes}
 use Rattle.nl_model.specs.Nodes.{awaited}
-use Rattle.nl_segments.specs.Pieces.{Piece, awaited_in, awaited_of, has_tree, interval_in, is_complete, is_nothing, last_piece, line_count, line_kind, pair_count, pair_in, piece_intervals, piece_nodes, piece_pairs, piece_pending, extended, tree_awaits, tree_rows, with_row}
-use Rattle.nl_segments.specs.Saying.{draft_of}
-use Rattle.nl_segments.specs.Tests.{Tests, is_full, awaited_tests, formed_head_tests, has_index, head_form_tests, head_tests, holds_once, index_limit, interval_form_tests, interval_tests, is_binary, is_empty, is_linear, is_sides, is_suffix, is_within_unit, node_form_tests, node_tests, node_total, pair_form_tests, pair_tests, pair_total, row_tests, suffix_count, wants_unit, wants_whole}
-use Rattle.nl_segments.specs.Held.{IsNodeKnown}
+use Rattle.nl_lines.specs.Pieces.{Piece, awaited_in, awaited_of, has_tree, interval_in, is_complete, is_nothing, last_piece, line_count, line_kind, pair_count, pair_in, piece_intervals, piece_nodes, piece_pairs, piece_pending, extended, tree_awaits, tree_rows, with_row}
+use Rattle.nl_lines.specs.Saying.{draft_of}
+use Rattle.nl_lines.specs.Tests.{Tests, is_full, awaited_tests, formed_head_tests, has_index, head_form_tests, head_tests, holds_once, index_limit, interval_form_tests, interval_tests, is_binary, is_empty, is_linear, is_sides, is_suffix, is_within_unit, node_form_tests, node_tests, node_total, pair_form_tests, pair_tests, pair_total, row_tests, suffix_count, wants_unit, wants_whole}
+use Rattle.nl_lines.specs.NodeRows.{IsNodeKnown}
 use Rattle.nl_segments.proofs.CleanRows.{AreClean, clean_none, clean_row}
-use Rattle.nl_segments.proofs.CurrentLemmas.{begun, early_tree, last_nodes, last_pending, late_pairs, late_tree, pending-more}
-use Rattle.nl_segments.proofs.DraftLemmas.{draft_before, says_whole}
+use Rattle.nl_lines.proofs.RowLemmas.{early_tree, last_nodes, last_pending, late_pairs, late_tree, pending-more}
+use Rattle.nl_segments.proofs.CurrentLemmas.{begun}
+use Rattle.nl_lines.proofs.DraftLemmas.{draft_before, says_whole}
 use Rattle.nl_segments.proofs.HeadBegun.{new_piece, no_pairs, no_nodes, nodes_begun, pairs_begun, count_begun}
-use Rattle.nl_segments.proofs.IntervalOrder.{ordered}
-use Rattle.nl_segments.proofs.NodeLemmas.{node_known, opcode_counted}
+use Rattle.nl_lines.proofs.IntervalOrder.{ordered}
+use Rattle.nl_lines.proofs.NodeLemmas.{node_known, opcode_counted}
 use Rattle.nl_segments.proofs.NodeSteps.{in_tree, lines_before, IsInTree, tree_nodes}
 use Rattle.nl_segments.proofs.PairHeld.{IsBefore, before_lines, never, none_within, same_totals}
-use Rattle.nl_segments.proofs.PairJudging.{pair_found}
+use Rattle.nl_lines.proofs.PairJudging.{pair_found}
 use Rattle.nl_segments.proofs.PairLines.{awaited-last, nodes_longer, pairs_longer, suffixes_longer}
 use Rattle.nl_segments.proofs.PairPiece.{pair_lines}
-use Rattle.nl_segments.proofs.CurrentLemmas as current
-use Rattle.nl_segments.proofs.PieceLemmas.{split, last-append, longer, extended-append}
-use Rattle.nl_segments.proofs.TotalLemmas.{nodes-append}
+use Rattle.nl_lines.proofs.RowLemmas as row_more
+use Rattle.nl_lines.proofs.PieceLemmas.{split, last-append, longer, extended-append}
+use Rattle.nl_lines.proofs.TotalLemmas.{nodes-append}
 use Rattle.nl_rewritten.proofs.Words.{HasNoMark}
 use Rattle.nl_rewritten.proofs.Heads.{IsGoodHead, good_head}
 
@@ -237,7 +238,7 @@ kept_pair o c before p row h clean e fine =
     let once = none_each rest (none_second form rest fine) in
     let full = not_either (is_linear p.head && nat_le most_terms (pair_total is_linear (before ++ p ∷ []))) (is_suffix p.head && nat_le most_terms (pair_total is_suffix (before ++ p ∷ []))) once.1.0 in
     let early : length p.rows < pair_count p.head = subst (λ k. length p.rows < k) (pair_lines c p.head b.same_kind) b.within in
-    let pairs : piece_pairs (longer p row) ≡ piece_pairs p ++ pair.term ∷ [] = current.early_pairs p row pair.term early pair.says in
+    let pairs : piece_pairs (longer p row) ≡ piece_pairs p ++ pair.term ∷ [] = row_more.early_pairs p row pair.term early pair.says in
     let more : length (piece_pairs (longer p row)) ≡ length (piece_pairs p) + 1 = ap length pairs ∙ length-append (piece_pairs p) (pair.term ∷ []) in
     let parts = good_parts o c [] before p h.good in
     let g = parts.1 in
@@ -411,7 +412,7 @@ inside_tree c p kind e tree = by (nat_lt (length p.rows) (line_count c p.head)) 
     by true u q r is = absurd (never (sym (ap in_tree is ∙ tree) ∙ lines_before p.head))
     by false true q r is =
         let late = ltb-false _ _ q in
-        record { place = record { tree = r; late = late; early = omega (arith, late, current.tree_count c p.head r) }; awaits = is }
+        record { place = record { tree = r; late = late; early = omega (arith, late, row_more.tree_count c p.head r) }; awaits = is }
     by false false q r is = absurd (never (sym (ap in_tree is ∙ tree)))
 
 no_pending_node : (ns : List Placed) (q : Option Pending) → tree_awaits ns q ≡ NodeLine → q ≡ None

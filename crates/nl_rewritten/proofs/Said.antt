@@ -5,13 +5,13 @@ use Rattle.exact_numbers.proofs.Bridge.{and_true}
 use Rattle.nl_model.specs.declared.counts.Counts.{Counts}
 use Rattle.nl_model.specs.Draft.{Draft}
 use Rattle.nl_model.specs.HeaderRules.{defined_count}
-use Rattle.nl_segments.specs.declared.head.Head.{Head}
-use Rattle.nl_segments.specs.declared.head.Head.TheVariants.{Body, Objective, Definition, DualGuesses, PrimalGuesses, Sides, Bounds, ColumnCounts, Terms, Slopes, Suffix}
-use Rattle.nl_segments.specs.Heads.{is_in_range}
-use Rattle.nl_segments.specs.Pieces.{Piece, is_complete, piece_intervals, piece_pairs}
-use Rattle.nl_segments.specs.Saying.{draft_of, if_complete, piece_tree, said_by, with_terms}
-use Rattle.nl_segments.proofs.DraftLemmas.{draft_counts}
-use Rattle.nl_segments.proofs.PieceLemmas.{draft-append}
+use Rattle.nl_lines.specs.declared.head.Head.{Head}
+use Rattle.nl_lines.specs.declared.head.Head.TheVariants.{Body, Objective, Definition, DualGuesses, PrimalGuesses, Sides, Bounds, ColumnCounts, Terms, Slopes, Suffix}
+use Rattle.nl_lines.specs.Heads.{is_in_range}
+use Rattle.nl_lines.specs.Pieces.{Piece, is_complete, piece_intervals, piece_pairs}
+use Rattle.nl_lines.specs.Saying.{draft_of, if_complete, piece_tree, said_by, with_terms}
+use Rattle.nl_lines.proofs.DraftLemmas.{draft_counts}
+use Rattle.nl_lines.proofs.PieceLemmas.{draft-append}
 use Rattle.nl_rewritten.proofs.Texts.{AreSteps, IsStep}
 
 -- a piece that is complete

@@ -25,18 +25,18 @@ use Rattle.nl_header.proofs.ReaderLemmas.{clean-more}
 use Rattle.nl_model.specs.declared.counts.Counts.{Counts}
 use Rattle.nl_model.specs.HeaderRules.{are_definitions_within, is_header}
 use Rattle.nl_model.specs.Rules.{term_count}
-use Rattle.nl_segments.specs.declared.head.Head.{Head}
-use Rattle.nl_segments.specs.Rows.{Row, holds_words, rows_from}
-use Rattle.nl_segments.specs.Pieces.{Piece, is_complete, piece_pairs, pieces_of}
-use Rattle.nl_segments.specs.Saying.{draft_of}
-use Rattle.nl_segments.specs.Tests.{end_tests, is_linear, is_same_piece, pair_total}
+use Rattle.nl_lines.specs.declared.head.Head.{Head}
+use Rattle.nl_lines.specs.Rows.{Row, holds_words, rows_from}
+use Rattle.nl_lines.specs.Pieces.{Piece, is_complete, piece_pairs, pieces_of}
+use Rattle.nl_lines.specs.Saying.{draft_of}
+use Rattle.nl_lines.specs.Tests.{end_tests, is_linear, is_same_piece, pair_total}
 use Rattle.nl_segments.specs.Grammar.{Standing, counts_of, end_refusal, is_in_header, line_refusal, nl_rules, reason_of, said, standing}
 use Rattle.nl_segments.specs.Held.{AreSound, IsSoundPiece}
 use Rattle.nl_segments.specs.Steps.{after}
 use Rattle.nl_segments.proofs.CleanRows.{IsRunning}
-use Rattle.nl_segments.proofs.DraftLemmas.{draft_counts}
+use Rattle.nl_lines.proofs.DraftLemmas.{draft_counts}
 use Rattle.nl_segments.proofs.EndLemmas.{all_given, short_parts}
-use Rattle.nl_segments.proofs.FreshLaw.{none_before}
+use Rattle.nl_lines.proofs.FreshLaw.{none_before}
 use Rattle.nl_segments.proofs.HeadLaw.{all_complete}
 use Rattle.nl_segments.proofs.PairHeld.{never}
 use Rattle.nl_segments.proofs.StandingLemmas.{standing-more}

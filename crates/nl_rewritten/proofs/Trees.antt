@@ -18,19 +18,19 @@ use Rattle.nl_model.specs.HeaderRules.{defined_count}
 use Rattle.nl_model.specs.Nodes.{awaited, IsPrefix, a_number, a_variable, a_defined, an_operation, ArePrefixes, no_tree, one_more, IsTreeFormed, AreTreesFormed}
 use Rattle.nl_model.specs.Rules.{is_defined, IsTreeWithin, AreTreesWithin, IsTreeKnown, IsDefinition, AreDefinitions, AreTermsBelow}
 use Rattle.nl_model.proofs.Prefixes.{prefix_of_run}
-use Rattle.nl_segments.specs.declared.awaited.Awaited.TheVariants.{Nothing}
-use Rattle.nl_segments.specs.declared.head.Head.{Head}
-use Rattle.nl_segments.specs.declared.head.Head.TheVariants.{Body, Objective as ObjectiveHead, Definition as DefinitionHead}
-use Rattle.nl_segments.specs.declared.pending.Pending.{Pending}
-use Rattle.nl_segments.specs.Nodes.{Placed, only_nodes}
-use Rattle.nl_segments.specs.Pieces.{Piece, awaited_in, has_tree, is_complete, is_nothing, line_count, line_kind, piece_nodes, piece_pairs, piece_pending, tree_awaits}
-use Rattle.nl_segments.specs.Saying.{draft_of, piece_tree}
-use Rattle.nl_segments.specs.Tests.{index_limit, is_linear, is_same_piece, node_total}
-use Rattle.nl_segments.proofs.FreshLaw.{fresh_definition}
+use Rattle.nl_lines.specs.declared.awaited.Awaited.TheVariants.{Nothing}
+use Rattle.nl_lines.specs.declared.head.Head.{Head}
+use Rattle.nl_lines.specs.declared.head.Head.TheVariants.{Body, Objective as ObjectiveHead, Definition as DefinitionHead}
+use Rattle.nl_lines.specs.declared.pending.Pending.{Pending}
+use Rattle.nl_lines.specs.Nodes.{Placed, only_nodes}
+use Rattle.nl_lines.specs.Pieces.{Piece, awaited_in, has_tree, is_complete, is_nothing, line_count, line_kind, piece_nodes, piece_pairs, piece_pending, tree_awaits}
+use Rattle.nl_lines.specs.Saying.{draft_of, piece_tree}
+use Rattle.nl_lines.specs.Tests.{index_limit, is_linear, is_same_piece, node_total}
+use Rattle.nl_lines.proofs.FreshLaw.{fresh_definition}
 use Rattle.nl_segments.proofs.HeadBegun.{some_line}
 use Rattle.nl_segments.proofs.LinesHeld.{tree_part}
 use Rattle.nl_segments.proofs.PairHeld.{never}
-use Rattle.nl_segments.proofs.TotalLemmas.{nodes-append}
+use Rattle.nl_lines.proofs.TotalLemmas.{nodes-append}
 use Rattle.nl_segments.proofs.TreeLaw.{tree_within}
 use Rattle.nl_round_trip.specs.Writable.{HasNodes}
 use Rattle.nl_round_trip.proofs.TreeNodes.{nodes-size}

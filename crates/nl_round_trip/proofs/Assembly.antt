@@ -8,8 +8,8 @@ use Rattle.nl_header.specs.Head.{options_in, counts_in}
 use Rattle.nl_model.specs.File.{File}
 use Rattle.nl_model.specs.Draft.{file_of}
 use Rattle.nl_segments.specs.Grammar.{standing, counts_of, said, end_refusal, is_in_header, nl_rules}
-use Rattle.nl_segments.specs.Pieces.{Piece}
-use Rattle.nl_segments.specs.Saying.{draft_of, place_lines}
+use Rattle.nl_lines.specs.Pieces.{Piece}
+use Rattle.nl_lines.specs.Saying.{draft_of, place_lines}
 use Rattle.written_texts.specs.Lines.{Line, spaced, lines_text}
 use Rattle.written_texts.specs.Words.{IsWritten, IsWordLine}
 use Rattle.nl_writer.specs.Written.{header_lines, body_lines, nl_lines, nl_text}

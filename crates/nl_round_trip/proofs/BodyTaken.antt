@@ -9,10 +9,10 @@ use Rattle.nl_model.specs.Draft.{Draft, empty_draft}
 use Rattle.nl_model.specs.File.{Term, Objective, File}
 use Rattle.nl_model.specs.HeaderRules.{defined_count, AreCounts}
 use Rattle.nl_model.specs.Rules.{AreIndicesApart, most_terms, term_count}
-use Rattle.nl_segments.specs.declared.head.Head.TheVariants.{Body, Objective as ObjectiveHead, Definition as DefinitionHead, DualGuesses, PrimalGuesses, Sides, Bounds, ColumnCounts, Terms, Slopes}
-use Rattle.nl_segments.specs.Pieces.{Piece, last_piece}
-use Rattle.nl_segments.specs.Saying.{draft_of}
-use Rattle.nl_segments.specs.Tests.{is_empty, all_column_counts}
+use Rattle.nl_lines.specs.declared.head.Head.TheVariants.{Body, Objective as ObjectiveHead, Definition as DefinitionHead, DualGuesses, PrimalGuesses, Sides, Bounds, ColumnCounts, Terms, Slopes}
+use Rattle.nl_lines.specs.Pieces.{Piece, last_piece}
+use Rattle.nl_lines.specs.Saying.{draft_of}
+use Rattle.nl_lines.specs.Tests.{is_empty, all_column_counts}
 use Rattle.written_texts.specs.Lines.{Line}
 use Rattle.nl_writer.specs.Written.{by_number, suffix_piece, definition_piece, body_piece, objective_piece, guess_piece, interval_piece, column_piece, term_piece, body_lines}
 use Rattle.nl_round_trip.specs.Standings.{rank, IsStanding, Reaches}

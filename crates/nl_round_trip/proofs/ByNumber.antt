@@ -7,7 +7,7 @@ use Rattle.std.proofs.lemmas.List.Sums.{sum_by-append, sum_by-cons}
 use Rattle.std.proofs.lemmas.Option.{slice_get_within, get_or_from_slice_get, slice_get-get_or}
 use Rattle.nl_model.specs.declared.counts.Counts.{Counts}
 use Rattle.nl_model.specs.Draft.{Draft}
-use Rattle.nl_segments.specs.Pieces.{Piece}
+use Rattle.nl_lines.specs.Pieces.{Piece}
 use Rattle.written_texts.specs.Lines.{Line}
 use Rattle.nl_writer.specs.Written.{by_number}
 use Rattle.nl_round_trip.specs.Standings.{IsStanding, Reaches}

@@ -11,15 +11,15 @@ use Rattle.nl_model.specs.declared.counts.Counts.{Counts}
 use Rattle.nl_model.specs.Draft.{Draft}
 use Rattle.nl_model.specs.File.{Term}
 use Rattle.nl_model.specs.Rules.{term_count, most_terms}
-use Rattle.nl_segments.specs.declared.awaited.Awaited.TheVariants.{Nothing, ColumnCount}
-use Rattle.nl_segments.specs.declared.head.Head.TheVariants.{ColumnCounts, Terms}
-use Rattle.nl_segments.specs.Heads.{head_of, is_in_range}
-use Rattle.nl_segments.specs.Nodes.{nodes_from}
+use Rattle.nl_lines.specs.declared.awaited.Awaited.TheVariants.{Nothing, ColumnCount}
+use Rattle.nl_lines.specs.declared.head.Head.TheVariants.{ColumnCounts, Terms}
+use Rattle.nl_lines.specs.Heads.{head_of, is_in_range}
+use Rattle.nl_lines.specs.Nodes.{nodes_from}
 use Rattle.exact_numbers.specs.Numbers.{whole_of}
-use Rattle.nl_segments.specs.Pieces.{Piece, awaited_in, awaited_of, piece_nodes}
+use Rattle.nl_lines.specs.Pieces.{Piece, awaited_in, awaited_of, piece_nodes}
 use Rattle.text_base.specs.Words.{word_at}
-use Rattle.nl_segments.specs.Rows.{row_words}
-use Rattle.nl_segments.specs.Tests.{column_tests, column_counts, all_column_counts, are_column_counts}
+use Rattle.nl_lines.specs.Rows.{row_words}
+use Rattle.nl_lines.specs.Tests.{column_tests, column_counts, all_column_counts, are_column_counts}
 use Rattle.written_texts.specs.Lines.{Line}
 use Rattle.nl_writer.specs.Written.{lettered, column_lines, column_piece}
 use Rattle.nl_model.specs.UseCounts.{terms_up_to}

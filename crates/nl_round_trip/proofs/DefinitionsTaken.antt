@@ -17,15 +17,15 @@ use Rattle.nl_model.specs.HeaderRules.{defined_count}
 use Rattle.nl_model.specs.Nodes.{IsPrefix, first_of_trees, tree_of}
 use Rattle.nl_model.specs.Rules.{is_defined, AreTermsBelow, most_terms}
 use Rattle.nl_model.proofs.Prefixes.{nodes_are_tree}
-use Rattle.nl_segments.specs.declared.awaited.Awaited.TheVariants.{Nothing}
-use Rattle.nl_segments.specs.declared.head.Head.{Head}
-use Rattle.nl_segments.specs.declared.head.Head.TheVariants.{Body, Definition as DefinitionHead}
-use Rattle.nl_segments.specs.Heads.{head_of, is_in_range}
-use Rattle.nl_segments.specs.Nodes.{nodes_from, pending_from}
-use Rattle.nl_segments.specs.Pieces.{Piece, awaited_of, piece_pairs, piece_nodes, is_complete, pair_in}
-use Rattle.nl_segments.specs.Rows.{row_words}
-use Rattle.nl_segments.specs.Saying.{with_piece, piece_tree}
-use Rattle.nl_segments.specs.Tests.{is_repeated, is_same_piece, node_total}
+use Rattle.nl_lines.specs.declared.awaited.Awaited.TheVariants.{Nothing}
+use Rattle.nl_lines.specs.declared.head.Head.{Head}
+use Rattle.nl_lines.specs.declared.head.Head.TheVariants.{Body, Definition as DefinitionHead}
+use Rattle.nl_lines.specs.Heads.{head_of, is_in_range}
+use Rattle.nl_lines.specs.Nodes.{nodes_from, pending_from}
+use Rattle.nl_lines.specs.Pieces.{Piece, awaited_of, piece_pairs, piece_nodes, is_complete, pair_in}
+use Rattle.nl_lines.specs.Rows.{row_words}
+use Rattle.nl_lines.specs.Saying.{with_piece, piece_tree}
+use Rattle.nl_lines.specs.Tests.{is_repeated, is_same_piece, node_total}
 use Rattle.written_texts.specs.Lines.{Line}
 use Rattle.nl_writer.specs.Trees.{tree_lines}
 use Rattle.std.specs.List.{flat_map}

@@ -5,8 +5,8 @@ use Rattle.std.proofs.lemmas.List.{map-append}
 use Rattle.std.specs.List.{AllByRecursion}
 use Rattle.nl_header.specs.Head.{line_fault}
 use Rattle.nl_segments.specs.Grammar.{standing, line_refusal}
-use Rattle.nl_segments.specs.Rows.{rows_from}
-use Rattle.nl_segments.specs.Pieces.{pieces_of}
+use Rattle.nl_lines.specs.Rows.{rows_from}
+use Rattle.nl_lines.specs.Pieces.{pieces_of}
 use Rattle.nl_segments.specs.Steps.{after}
 use Rattle.written_texts.specs.Lines.{Line, spaced}
 use Rattle.written_texts.specs.Words.{IsWritten}

@@ -15,18 +15,18 @@ use Rattle.std.proofs.lemmas.Bool.Decides.{nat_tests}
 use Rattle.std.specs.List.{AllByRecursion, filter_map}
 use Rattle.nl_model.specs.Draft.{Draft}
 use Rattle.nl_model.specs.Kinds.{kind_of}
-use Rattle.nl_segments.specs.declared.awaited.Awaited.TheVariants.{Nothing, Interval as IntervalLine}
-use Rattle.nl_segments.specs.declared.head.Head.{Head}
-use Rattle.nl_segments.specs.declared.head.Head.TheVariants.{Sides, Bounds, ColumnCounts}
-use Rattle.nl_segments.specs.Heads.{is_head, head_of, is_in_range}
-use Rattle.nl_segments.specs.Nodes.{nodes_from}
-use Rattle.nl_segments.specs.Rows.{row_words}
-use Rattle.nl_segments.proofs.PieceLemmas.{longer}
+use Rattle.nl_lines.specs.declared.awaited.Awaited.TheVariants.{Nothing, Interval as IntervalLine}
+use Rattle.nl_lines.specs.declared.head.Head.{Head}
+use Rattle.nl_lines.specs.declared.head.Head.TheVariants.{Sides, Bounds, ColumnCounts}
+use Rattle.nl_lines.specs.Heads.{is_head, head_of, is_in_range}
+use Rattle.nl_lines.specs.Nodes.{nodes_from}
+use Rattle.nl_lines.specs.Rows.{row_words}
+use Rattle.nl_lines.proofs.PieceLemmas.{longer}
 use Rattle.written_texts.proofs.WordLemmas.{row-written}
 use Rattle.exact_numbers.specs.Numbers.{dec_from}
-use Rattle.nl_segments.specs.Pieces.{Piece, awaited_in, awaited_of, line_kind, line_count, has_tree, piece_nodes, interval_in}
+use Rattle.nl_lines.specs.Pieces.{Piece, awaited_in, awaited_of, line_kind, line_count, has_tree, piece_nodes, interval_in}
 use Rattle.text_base.specs.Words.{word_at}
-use Rattle.nl_segments.specs.Tests.{has_sides, is_empty, is_binary, is_within_unit, is_sides, wants_unit, interval_form_tests, interval_tests}
+use Rattle.nl_lines.specs.Tests.{has_sides, is_empty, is_binary, is_within_unit, is_sides, wants_unit, interval_form_tests, interval_tests}
 use Rattle.exact_numbers.proofs.NumberLemmas.{dec_from-some}
 use Rattle.exact_numbers.specs.Values.{text_of}
 use Rattle.written_texts.specs.Lines.{Line}

@@ -2,9 +2,9 @@
 use Rattle.std.proofs.Common.{◌≡◌, ℕ, ◌+◌, ◌≤◌, ℤ, List, [], ◌∷◌, ◌++◌, length, map, refl, sym, subst, arith, length-append, append_assoc, append-nil}
 use Rattle.std.proofs.lemmas.Bool.{lt-ltb}
 use Rattle.nl_model.specs.declared.counts.Counts.{Counts}
-use Rattle.nl_segments.specs.declared.awaited.Awaited.{Awaited}
-use Rattle.nl_segments.specs.Pieces.{Piece, awaited_in, line_kind, line_count}
-use Rattle.nl_segments.proofs.PieceLemmas.{longer}
+use Rattle.nl_lines.specs.declared.awaited.Awaited.{Awaited}
+use Rattle.nl_lines.specs.Pieces.{Piece, awaited_in, line_kind, line_count}
+use Rattle.nl_lines.proofs.PieceLemmas.{longer}
 use Rattle.written_texts.specs.Lines.{Line}
 use Rattle.nl_round_trip.specs.Taking.{row_at, rows_at, IsTaken}
 use Rattle.nl_round_trip.proofs.TakenLemmas.{taken_none, taken_then, IsLineFine, line_taken}

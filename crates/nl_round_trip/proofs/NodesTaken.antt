@@ -24,21 +24,21 @@ use Rattle.nl_model.specs.Nodes.{opcode_of, awaited, operand_count}
 use Rattle.nl_model.specs.Rules.{is_defined}
 use Rattle.nl_model.proofs.Opcodes.{opcode_of-known}
 use Rattle.nl_model.proofs.Prefixes.{awaited-push}
-use Rattle.nl_segments.specs.declared.awaited.Awaited.TheVariants.{Nothing, Node as NodeLine, OperandCount}
-use Rattle.nl_segments.specs.declared.head.Head.{Head}
-use Rattle.nl_segments.specs.declared.head.Head.TheVariants.{Body, Objective, Definition as DefinitionHead, DualGuesses, PrimalGuesses, Sides, Bounds, ColumnCounts, Terms, Slopes, Suffix}
-use Rattle.nl_segments.specs.Heads.{is_head}
-use Rattle.nl_segments.specs.declared.pending.Pending.{Pending}
-use Rattle.nl_segments.specs.Nodes.{node_in, opcode_in, fixed_node, counted_opcode, variable_node, only_nodes, nodes_from, pending_from}
-use Rattle.nl_segments.specs.Pieces.{Piece, awaited_in, tree_awaits, line_kind, line_count, pair_count, has_tree, tree_rows, piece_nodes, piece_pending, is_complete}
-use Rattle.nl_segments.specs.Rows.{Row}
-use Rattle.nl_segments.specs.Saying.{draft_of, with_piece, said_by, if_complete}
-use Rattle.nl_segments.specs.Tests.{node_form_tests, node_tests, operand_tests, node_total}
-use Rattle.nl_segments.specs.declared.fault.NlReason.TheVariants.{TooLarge}
-use Rattle.nl_segments.proofs.CurrentLemmas.{tree_count, late_tree, last_nodes, last_pending, nodes-more, pending-more}
+use Rattle.nl_lines.specs.declared.awaited.Awaited.TheVariants.{Nothing, Node as NodeLine, OperandCount}
+use Rattle.nl_lines.specs.declared.head.Head.{Head}
+use Rattle.nl_lines.specs.declared.head.Head.TheVariants.{Body, Objective, Definition as DefinitionHead, DualGuesses, PrimalGuesses, Sides, Bounds, ColumnCounts, Terms, Slopes, Suffix}
+use Rattle.nl_lines.specs.Heads.{is_head}
+use Rattle.nl_lines.specs.declared.pending.Pending.{Pending}
+use Rattle.nl_lines.specs.Nodes.{node_in, opcode_in, fixed_node, counted_opcode, variable_node, only_nodes, nodes_from, pending_from}
+use Rattle.nl_lines.specs.Pieces.{Piece, awaited_in, tree_awaits, line_kind, line_count, pair_count, has_tree, tree_rows, piece_nodes, piece_pending, is_complete}
+use Rattle.nl_lines.specs.Rows.{Row}
+use Rattle.nl_lines.specs.Saying.{draft_of, with_piece, said_by, if_complete}
+use Rattle.nl_lines.specs.Tests.{node_form_tests, node_tests, operand_tests, node_total}
+use Rattle.nl_lines.specs.declared.fault.NlReason.TheVariants.{TooLarge}
+use Rattle.nl_lines.proofs.RowLemmas.{tree_count, late_tree, last_nodes, last_pending, nodes-more, pending-more}
 use Rattle.text_base.proofs.FirstReasons.{reason_after}
-use Rattle.nl_segments.proofs.NodeLemmas.{not_large}
-use Rattle.nl_segments.proofs.PieceLemmas.{longer, draft-append}
+use Rattle.nl_lines.proofs.NodeLemmas.{not_large}
+use Rattle.nl_lines.proofs.PieceLemmas.{longer, draft-append}
 use Rattle.exact_numbers.specs.Values.{text_of}
 use Rattle.written_texts.specs.Lines.{Line}
 use Rattle.nl_writer.specs.Trees.{operator_lines, node_lines}

@@ -8,15 +8,15 @@ use Rattle.std.specs.List.{AllByRecursion, filter_map}
 use Rattle.nl_model.specs.declared.counts.Counts.{Counts}
 use Rattle.nl_model.specs.File.{Term}
 use Rattle.nl_model.specs.Rules.{most_terms}
-use Rattle.nl_segments.specs.declared.awaited.Awaited.TheVariants.{Nothing, Pair}
-use Rattle.nl_segments.specs.declared.head.Head.{Head}
-use Rattle.nl_segments.specs.Nodes.{nodes_from}
-use Rattle.nl_segments.specs.Pieces.{Piece, awaited_in, line_kind, line_count, pair_count, has_tree, piece_nodes, piece_pairs, pair_in}
-use Rattle.nl_segments.specs.Rows.{row_words}
-use Rattle.nl_segments.specs.Tests.{index_limit, wants_whole, holds_once, has_index, is_linear, is_suffix, pair_total}
+use Rattle.nl_lines.specs.declared.awaited.Awaited.TheVariants.{Nothing, Pair}
+use Rattle.nl_lines.specs.declared.head.Head.{Head}
+use Rattle.nl_lines.specs.Nodes.{nodes_from}
+use Rattle.nl_lines.specs.Pieces.{Piece, awaited_in, line_kind, line_count, pair_count, has_tree, piece_nodes, piece_pairs, pair_in}
+use Rattle.nl_lines.specs.Rows.{row_words}
+use Rattle.nl_lines.specs.Tests.{index_limit, wants_whole, holds_once, has_index, is_linear, is_suffix, pair_total}
 use Rattle.exact_numbers.specs.Numbers.{is_whole}
-use Rattle.nl_segments.proofs.CurrentLemmas.{early_pairs}
-use Rattle.nl_segments.proofs.PieceLemmas.{longer}
+use Rattle.nl_lines.proofs.RowLemmas.{early_pairs}
+use Rattle.nl_lines.proofs.PieceLemmas.{longer}
 use Rattle.written_texts.specs.Lines.{Line}
 use Rattle.nl_writer.specs.Written.{term_line, term_lines}
 use Rattle.nl_round_trip.specs.Taking.{row_at, rows_at, IsTaken}

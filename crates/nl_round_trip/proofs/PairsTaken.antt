@@ -9,11 +9,11 @@ use Rattle.text_base.specs.Judged.{first_reason}
 use Rattle.exact_numbers.proofs.Texts.{digit_byte}
 use Rattle.nl_model.specs.declared.counts.Counts.{Counts}
 use Rattle.nl_model.specs.File.{Term}
-use Rattle.nl_segments.specs.declared.awaited.Awaited.TheVariants.{Pair}
-use Rattle.nl_segments.specs.Heads.{is_head, is_ascii_letter}
-use Rattle.nl_segments.specs.Pieces.{Piece, awaited_in, piece_pairs, pair_in}
-use Rattle.nl_segments.specs.Rows.{row_words}
-use Rattle.nl_segments.specs.Tests.{index_limit, wants_whole, holds_once, has_index, is_full, pair_form_tests, pair_tests}
+use Rattle.nl_lines.specs.declared.awaited.Awaited.TheVariants.{Pair}
+use Rattle.nl_lines.specs.Heads.{is_head, is_ascii_letter}
+use Rattle.nl_lines.specs.Pieces.{Piece, awaited_in, piece_pairs, pair_in}
+use Rattle.nl_lines.specs.Rows.{row_words}
+use Rattle.nl_lines.specs.Tests.{index_limit, wants_whole, holds_once, has_index, is_full, pair_form_tests, pair_tests}
 use Rattle.exact_numbers.specs.Numbers.{is_whole}
 use Rattle.exact_numbers.specs.Values.{text_of}
 use Rattle.written_texts.specs.Lines.{Line}

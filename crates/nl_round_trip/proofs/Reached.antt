@@ -4,9 +4,9 @@ use Rattle.std.specs.List.{AllByRecursion}
 use Rattle.text_base.specs.Judged.{Open, End, IsClean, first_reason}
 use Rattle.text_base.proofs.JudgedLemmas.{clean_none, clean_last, clean_more}
 use Rattle.nl_header.specs.Head.{options_in, counts_in}
-use Rattle.nl_segments.specs.Pieces.{Piece, with_row}
-use Rattle.nl_segments.specs.Saying.{draft_of}
-use Rattle.nl_segments.specs.Tests.{row_tests}
+use Rattle.nl_lines.specs.Pieces.{Piece, with_row}
+use Rattle.nl_lines.specs.Saying.{draft_of}
+use Rattle.nl_lines.specs.Tests.{row_tests}
 use Rattle.nl_segments.specs.Grammar.{Standing, standing, line_refusal, end_refusal, is_in_header, nl_rules}
 use Rattle.nl_segments.specs.Steps.{after}
 use Rattle.nl_segments.proofs.StandingLemmas.{standing-more}

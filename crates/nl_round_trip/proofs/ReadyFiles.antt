@@ -17,7 +17,7 @@ use Rattle.nl_model.specs.HeaderRules.{defined_count, AreCounts}
 use Rattle.nl_model.specs.Kinds.{kind_of}
 use Rattle.nl_model.specs.Rules.{AreTermsBelow, AreOrdered, IsOrdered, AreDefinitions, IsTreeKnown, IsSuffix, is_suffix_of, has_suffix, object_count}
 use Rattle.nl_model.proofs.Headers.{counts_of_header}
-use Rattle.nl_segments.specs.Tests.{is_empty, is_binary, is_within_unit}
+use Rattle.nl_lines.specs.Tests.{is_empty, is_binary, is_within_unit}
 use Rattle.exact_numbers.specs.Numbers.{is_whole}
 use Rattle.nl_model.specs.SuffixKinds.{wants_whole}
 use Rattle.nl_round_trip.specs.Writable.{HasNodes, IsWritableSuffix, IsWritable}

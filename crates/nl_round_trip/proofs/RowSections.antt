@@ -10,13 +10,13 @@ use Rattle.nl_model.specs.declared.counts.Counts.{Counts}
 use Rattle.nl_model.specs.Draft.{Draft}
 use Rattle.nl_model.specs.File.{Term}
 use Rattle.nl_model.specs.Rules.{most_terms, term_count}
-use Rattle.nl_segments.specs.declared.awaited.Awaited.TheVariants.{Nothing}
-use Rattle.nl_segments.specs.declared.head.Head.{Head}
-use Rattle.nl_segments.specs.declared.head.Head.TheVariants.{Terms, Slopes}
-use Rattle.nl_segments.specs.Heads.{head_of, is_in_range}
-use Rattle.nl_segments.specs.Pieces.{Piece, awaited_of, piece_pairs, pair_count}
-use Rattle.nl_segments.specs.Saying.{with_piece}
-use Rattle.nl_segments.specs.Tests.{index_limit, wants_whole, holds_once, is_linear, is_suffix}
+use Rattle.nl_lines.specs.declared.awaited.Awaited.TheVariants.{Nothing}
+use Rattle.nl_lines.specs.declared.head.Head.{Head}
+use Rattle.nl_lines.specs.declared.head.Head.TheVariants.{Terms, Slopes}
+use Rattle.nl_lines.specs.Heads.{head_of, is_in_range}
+use Rattle.nl_lines.specs.Pieces.{Piece, awaited_of, piece_pairs, pair_count}
+use Rattle.nl_lines.specs.Saying.{with_piece}
+use Rattle.nl_lines.specs.Tests.{index_limit, wants_whole, holds_once, is_linear, is_suffix}
 use Rattle.written_texts.specs.Lines.{Line}
 use Rattle.nl_writer.specs.Written.{lettered, term_piece, by_number}
 use Rattle.written_texts.proofs.WrittenWords.{word-lettered, word-decimal, written-two}

@@ -8,13 +8,13 @@ use Rattle.std.proofs.lemmas.List.Sums.{sum_by-append, sum_by-cons}
 use Rattle.std.specs.List.{AllByRecursion}
 use Rattle.nl_model.specs.declared.counts.Counts.{Counts}
 use Rattle.nl_model.specs.Draft.{Draft}
-use Rattle.nl_segments.specs.declared.awaited.Awaited.TheVariants.{Nothing, Pair}
-use Rattle.nl_segments.specs.declared.head.Head.{Head}
-use Rattle.nl_segments.specs.declared.head.Head.TheVariants.{Body, Objective, Definition, DualGuesses, PrimalGuesses, Sides, Bounds, ColumnCounts, Terms, Slopes, Suffix}
-use Rattle.nl_segments.specs.Pieces.{Piece, awaited_in, line_kind, has_tree, piece_nodes}
-use Rattle.nl_segments.specs.Saying.{with_piece}
-use Rattle.nl_segments.specs.Tests.{is_linear, is_suffix, node_total, suffix_count, is_same_head, is_repeated, column_counts, all_column_counts}
-use Rattle.nl_segments.proofs.PieceLemmas.{draft-append}
+use Rattle.nl_lines.specs.declared.awaited.Awaited.TheVariants.{Nothing, Pair}
+use Rattle.nl_lines.specs.declared.head.Head.{Head}
+use Rattle.nl_lines.specs.declared.head.Head.TheVariants.{Body, Objective, Definition, DualGuesses, PrimalGuesses, Sides, Bounds, ColumnCounts, Terms, Slopes, Suffix}
+use Rattle.nl_lines.specs.Pieces.{Piece, awaited_in, line_kind, has_tree, piece_nodes}
+use Rattle.nl_lines.specs.Saying.{with_piece}
+use Rattle.nl_lines.specs.Tests.{is_linear, is_suffix, node_total, suffix_count, is_same_head, is_repeated, column_counts, all_column_counts}
+use Rattle.nl_lines.proofs.PieceLemmas.{draft-append}
 use Rattle.written_texts.specs.Lines.{Line}
 use Rattle.nl_round_trip.specs.Standings.{rank, IsStanding, Reaches}
 use Rattle.nl_round_trip.proofs.TakenLemmas.{awaited-append, taken_then}

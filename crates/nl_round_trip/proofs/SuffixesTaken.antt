@@ -14,12 +14,12 @@ use Rattle.nl_model.specs.declared.counts.Counts.{Counts}
 use Rattle.nl_model.specs.Draft.{Draft}
 use Rattle.nl_model.specs.File.{Term, Suffix}
 use Rattle.nl_model.specs.Rules.{has_suffix, is_suffix_of, most_terms, AreIndicesApart}
-use Rattle.nl_segments.specs.declared.awaited.Awaited.TheVariants.{Nothing}
-use Rattle.nl_segments.specs.declared.head.Head.{Head}
-use Rattle.nl_segments.specs.declared.head.Head.TheVariants.{Definition as DefinitionHead, Suffix as SuffixHead}
-use Rattle.nl_segments.specs.Heads.{head_of, is_in_range}
-use Rattle.nl_segments.specs.Pieces.{Piece, awaited_of, piece_pairs, pair_in, is_complete}
-use Rattle.nl_segments.specs.Tests.{is_repeated, is_same_piece, suffix_count}
+use Rattle.nl_lines.specs.declared.awaited.Awaited.TheVariants.{Nothing}
+use Rattle.nl_lines.specs.declared.head.Head.{Head}
+use Rattle.nl_lines.specs.declared.head.Head.TheVariants.{Definition as DefinitionHead, Suffix as SuffixHead}
+use Rattle.nl_lines.specs.Heads.{head_of, is_in_range}
+use Rattle.nl_lines.specs.Pieces.{Piece, awaited_of, piece_pairs, pair_in, is_complete}
+use Rattle.nl_lines.specs.Tests.{is_repeated, is_same_piece, suffix_count}
 use Rattle.written_texts.specs.Lines.{Line}
 use Rattle.written_texts.specs.Words.{IsKeptWord}
 use Rattle.nl_writer.specs.Written.{lettered, suffix_piece}
@@ -34,8 +34,8 @@ use Rattle.nl_round_trip.proofs.PairSections.{fresh_apart}
 use Rattle.nl_round_trip.proofs.StandingMore.{columns-append, standing_more, same_standing}
 use Rattle.nl_round_trip.proofs.TreesTaken.{said_whole}
 use Rattle.nl_round_trip.proofs.DefinitionsTaken.{take_nothing}
-use Rattle.nl_segments.specs.Rows.{row_words}
-use Rattle.nl_segments.specs.Saying.{with_piece}
+use Rattle.nl_lines.specs.Rows.{row_words}
+use Rattle.nl_lines.specs.Saying.{with_piece}
 
 abbrev pub suffix_words : Suffix → Line
 suffix_words s = lettered (codes "S") s.kind ∷ decimal (length s.values) ∷ s.name ∷ []

@@ -3,14 +3,14 @@ use Rattle.std.proofs.Common.{◌≡◌, ◌∙◌, ℕ, ◌+◌, true, false, �
 use Rattle.std.specs.List.{AllByRecursion}
 use Rattle.text_base.specs.Judged.{first_reason}
 use Rattle.nl_model.specs.declared.counts.Counts.{Counts}
-use Rattle.nl_segments.specs.declared.awaited.Awaited.{Awaited}
-use Rattle.nl_segments.specs.declared.awaited.Awaited.TheVariants.{Nothing}
-use Rattle.nl_segments.specs.declared.head.Head.{Head}
-use Rattle.nl_segments.specs.Heads.{is_head, head_of, letter_of, name_in, is_segment_letter, is_refused_letter}
-use Rattle.nl_segments.specs.Pieces.{Piece, with_row, awaited_of, awaited_in, last_piece}
-use Rattle.nl_segments.specs.Saying.{draft_of}
-use Rattle.nl_segments.specs.Tests.{row_tests, head_tests, head_form_tests, formed_head_tests, line_tests, awaited_tests}
-use Rattle.nl_segments.proofs.PieceLemmas.{longer, last-append, extended-append}
+use Rattle.nl_lines.specs.declared.awaited.Awaited.{Awaited}
+use Rattle.nl_lines.specs.declared.awaited.Awaited.TheVariants.{Nothing}
+use Rattle.nl_lines.specs.declared.head.Head.{Head}
+use Rattle.nl_lines.specs.Heads.{is_head, head_of, letter_of, name_in, is_segment_letter, is_refused_letter}
+use Rattle.nl_lines.specs.Pieces.{Piece, with_row, awaited_of, awaited_in, last_piece}
+use Rattle.nl_lines.specs.Saying.{draft_of}
+use Rattle.nl_lines.specs.Tests.{row_tests, head_tests, head_form_tests, formed_head_tests, line_tests, awaited_tests}
+use Rattle.nl_lines.proofs.PieceLemmas.{longer, last-append, extended-append}
 use Rattle.written_texts.specs.Lines.{Line}
 use Rattle.written_texts.specs.Words.{IsWritten}
 use Rattle.written_texts.proofs.WordLemmas.{row-written}

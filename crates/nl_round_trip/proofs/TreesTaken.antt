@@ -13,15 +13,15 @@ use Rattle.nl_model.specs.declared.node.Node.{Node}
 use Rattle.nl_model.specs.Draft.{Draft}
 use Rattle.nl_model.specs.Nodes.{IsPrefix, a_number, a_variable, a_defined, an_operation, ArePrefixes, no_tree, one_more, awaited, awaited_after, first_of_trees, tree_of}
 use Rattle.nl_model.proofs.Prefixes.{nodes_are_tree}
-use Rattle.nl_segments.specs.declared.awaited.Awaited.TheVariants.{Nothing}
-use Rattle.nl_segments.specs.declared.head.Head.{Head}
-use Rattle.nl_segments.specs.declared.head.Head.TheVariants.{Body, Objective}
+use Rattle.nl_lines.specs.declared.awaited.Awaited.TheVariants.{Nothing}
+use Rattle.nl_lines.specs.declared.head.Head.{Head}
+use Rattle.nl_lines.specs.declared.head.Head.TheVariants.{Body, Objective}
 use Rattle.exact_numbers.specs.Numbers.{whole_of}
-use Rattle.nl_segments.specs.Heads.{head_of, is_in_range}
-use Rattle.nl_segments.specs.Nodes.{nodes_from, pending_from}
-use Rattle.nl_segments.specs.Pieces.{Piece, awaited_of, has_tree, pair_count, piece_nodes, is_complete}
-use Rattle.nl_segments.specs.Saying.{with_piece, if_complete, piece_tree}
-use Rattle.nl_segments.specs.Tests.{is_linear, is_suffix, is_repeated, node_total}
+use Rattle.nl_lines.specs.Heads.{head_of, is_in_range}
+use Rattle.nl_lines.specs.Nodes.{nodes_from, pending_from}
+use Rattle.nl_lines.specs.Pieces.{Piece, awaited_of, has_tree, pair_count, piece_nodes, is_complete}
+use Rattle.nl_lines.specs.Saying.{with_piece, if_complete, piece_tree}
+use Rattle.nl_lines.specs.Tests.{is_linear, is_suffix, is_repeated, node_total}
 use Rattle.written_texts.specs.Lines.{Line}
 use Rattle.nl_writer.specs.Trees.{tree_lines, node_lines}
 use Rattle.nl_writer.specs.Written.{lettered, sense_word, body_piece, objective_piece}

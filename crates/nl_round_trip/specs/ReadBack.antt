@@ -3,7 +3,7 @@ use Rattle.std.specs.Prelude.{◌≡◌, Result, Ok, Err}
 use Rattle.text_base.specs.declared.stop.Stop.{Stop}
 use Rattle.text_base.specs.declared.stop.Stop.TheVariants.{Fault, Memory}
 use Rattle.nl_model.specs.File.{File}
-use Rattle.nl_segments.specs.declared.fault.NlFault.{NlFault}
+use Rattle.nl_lines.specs.declared.fault.NlFault.{NlFault}
 use Rattle.nl_segments.specs.declared.nl_read.NlRead.{NlRead}
 use Rattle.nl_segments.specs.Reader.{ReadsNl}
 use Rattle.nl_writer.specs.Written.{nl_text}

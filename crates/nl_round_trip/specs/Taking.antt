@@ -2,10 +2,10 @@
 use Rattle.std.specs.Prelude.{◌≡◌, ℕ, ◌+◌, ℤ, List, [], ◌∷◌, None}
 use Rattle.text_base.specs.Judged.{first_reason}
 use Rattle.nl_model.specs.declared.counts.Counts.{Counts}
-use Rattle.nl_segments.specs.Rows.{Row}
-use Rattle.nl_segments.specs.Pieces.{Piece, with_row}
-use Rattle.nl_segments.specs.Saying.{draft_of}
-use Rattle.nl_segments.specs.Tests.{row_tests}
+use Rattle.nl_lines.specs.Rows.{Row}
+use Rattle.nl_lines.specs.Pieces.{Piece, with_row}
+use Rattle.nl_lines.specs.Saying.{draft_of}
+use Rattle.nl_lines.specs.Tests.{row_tests}
 use Rattle.std.specs.List.{AllByRecursion}
 use Rattle.written_texts.specs.Lines.{Line, spaced}
 use Rattle.written_texts.specs.Words.{IsWritten}

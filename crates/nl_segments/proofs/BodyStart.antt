@@ -9,17 +9,17 @@ use Rattle.nl_model.specs.declared.counts.Counts.{Counts}
 use Rattle.nl_model.specs.Draft.{Draft, empty_draft}
 use Rattle.nl_model.specs.HeaderRules.{defined_count}
 use Rattle.nl_header.specs.Head.{options_in, counts_in}
-use Rattle.nl_segments.specs.declared.awaited.Awaited.{Awaited}
-use Rattle.nl_segments.specs.declared.awaited.Awaited.TheVariants.{Nothing, Pair, ColumnCount, Interval, Node, OperandCount}
-use Rattle.nl_segments.specs.declared.fault.NlReason.TheVariants.{ExtraLine}
-use Rattle.nl_segments.specs.declared.head.Head.{Head}
-use Rattle.nl_segments.specs.declared.head.Head.TheVariants.{Body as BodyHead, Objective, Definition, Terms, Slopes, Suffix}
-use Rattle.nl_segments.specs.Heads.{is_head, is_in_range}
-use Rattle.nl_segments.specs.Pieces.{Piece, last_piece, is_nothing, awaited_in, awaited_of}
-use Rattle.nl_segments.specs.Saying.{empty_lines, draft_of, place_lines}
-use Rattle.nl_segments.specs.SeenSegments.{no_segments, has_segment, IsSeenIn}
+use Rattle.nl_lines.specs.declared.awaited.Awaited.{Awaited}
+use Rattle.nl_lines.specs.declared.awaited.Awaited.TheVariants.{Nothing, Pair, ColumnCount, Interval, Node, OperandCount}
+use Rattle.nl_lines.specs.declared.fault.NlReason.TheVariants.{ExtraLine}
+use Rattle.nl_lines.specs.declared.head.Head.{Head}
+use Rattle.nl_lines.specs.declared.head.Head.TheVariants.{Body as BodyHead, Objective, Definition, Terms, Slopes, Suffix}
+use Rattle.nl_lines.specs.Heads.{is_head, is_in_range}
+use Rattle.nl_lines.specs.Pieces.{Piece, last_piece, is_nothing, awaited_in, awaited_of}
+use Rattle.nl_lines.specs.Saying.{empty_lines, draft_of, place_lines}
+use Rattle.nl_lines.specs.SeenSegments.{no_segments, has_segment, IsSeenIn}
 use Rattle.nl_segments.specs.Current.{Current}
-use Rattle.nl_segments.specs.Tests.{index_limit, is_suffix, awaited_tests, line_tests, row_tests}
+use Rattle.nl_lines.specs.Tests.{index_limit, is_suffix, awaited_tests, line_tests, row_tests}
 use Rattle.nl_segments.specs.Grammar.{Standing, counts_of, said}
 use Rattle.nl_model.specs.UseCounts.{use_count}
 use Rattle.nl_segments.specs.Held.{Body, IsHeld, IsHeaderOf, AreSound, IsLast, only_header, words_refusal}

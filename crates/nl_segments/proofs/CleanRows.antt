@@ -13,32 +13,34 @@ use Rattle.nl_model.specs.Draft.{Draft}
 use Rattle.nl_model.specs.File.{Term}
 use Rattle.nl_model.specs.Nodes.{awaited, IsRun}
 use Rattle.nl_model.proofs.Prefixes.{IsRun-push}
-use Rattle.nl_segments.specs.declared.awaited.Awaited.{Awaited}
-use Rattle.nl_segments.specs.declared.awaited.Awaited.TheVariants.{Nothing, Pair, ColumnCount, Interval as IntervalLine, Node as NodeLine, OperandCount}
-use Rattle.nl_segments.specs.declared.head.Head.{Head}
-use Rattle.nl_segments.specs.declared.head.Head.TheVariants.{Sides, Bounds, ColumnCounts}
-use Rattle.nl_segments.specs.declared.fault.NlReason.TheVariants.{ShortSegment, RepeatedIndex, TooLarge}
+use Rattle.nl_lines.specs.declared.awaited.Awaited.{Awaited}
+use Rattle.nl_lines.specs.declared.awaited.Awaited.TheVariants.{Nothing, Pair, ColumnCount, Interval as IntervalLine, Node as NodeLine, OperandCount}
+use Rattle.nl_lines.specs.declared.head.Head.{Head}
+use Rattle.nl_lines.specs.declared.head.Head.TheVariants.{Sides, Bounds, ColumnCounts}
+use Rattle.nl_lines.specs.declared.fault.NlReason.TheVariants.{ShortSegment, RepeatedIndex, TooLarge}
 use Rattle.exact_numbers.specs.Numbers.{whole_of}
-use Rattle.nl_segments.specs.Rows.{Row, row_words}
+use Rattle.nl_lines.specs.Rows.{Row, row_words}
 use Rattle.text_base.specs.Words.{word_at}
-use Rattle.nl_segments.specs.Heads.{is_head, head_of, name_in}
-use Rattle.nl_segments.specs.Nodes.{Placed, Pending, node_in, opcode_in, pending_in, nodes_of, pending_from, only_nodes}
-use Rattle.nl_segments.specs.Pieces.{Piece, awaited_in, awaited_of, has_tree, is_nothing, last_piece, line_count, line_kind, pair_count, piece_nodes, piece_pairs, piece_pending, extended, tree_awaits, tree_rows, with_row}
-use Rattle.nl_segments.specs.Tests.{Tests, is_full, awaited_tests, formed_head_tests, has_index, head_form_tests, head_tests, holds_once, index_limit, operand_tests, pair_form_tests, pair_tests, row_tests, wants_whole}
+use Rattle.nl_lines.specs.Heads.{is_head, head_of, name_in}
+use Rattle.nl_lines.specs.declared.pending.Pending.{Pending}
+use Rattle.nl_lines.specs.Nodes.{Placed, node_in, opcode_in, pending_in, nodes_of, pending_from, only_nodes}
+use Rattle.nl_lines.specs.Pieces.{Piece, awaited_in, awaited_of, has_tree, is_nothing, last_piece, line_count, line_kind, pair_count, piece_nodes, piece_pairs, piece_pending, extended, tree_awaits, tree_rows, with_row}
+use Rattle.nl_lines.specs.Tests.{Tests, is_full, awaited_tests, formed_head_tests, has_index, head_form_tests, head_tests, holds_once, index_limit, operand_tests, pair_form_tests, pair_tests, row_tests, wants_whole}
 use Rattle.nl_segments.specs.Current.{IsPending}
 use Rattle.nl_segments.specs.Held.{AreSound, IsSoundPiece}
-use Rattle.nl_segments.proofs.CurrentLemmas.{begun, early_tree, last_nodes, last_pending, late_tree, pending-more, tree_count}
+use Rattle.nl_lines.proofs.RowLemmas.{early_tree, last_nodes, last_pending, late_tree, pending-more, tree_count}
+use Rattle.nl_segments.proofs.CurrentLemmas.{begun}
 use Rattle.nl_segments.proofs.BodyStart.{no_piece_sound}
 use Rattle.nl_segments.proofs.HeadBegun.{new_piece}
 use Rattle.nl_segments.proofs.HeadLaw.{all_complete, sound_begun}
-use Rattle.nl_segments.proofs.NodeLemmas.{node_formed, opcode_counted}
+use Rattle.nl_lines.proofs.NodeLemmas.{node_formed, opcode_counted}
 use Rattle.nl_segments.proofs.NodeSteps.{in_tree, lines_before, IsInTree, tree_nodes}
-use Rattle.nl_segments.proofs.OpcodeLemmas.{counted_fit}
+use Rattle.nl_lines.proofs.OpcodeLemmas.{counted_fit}
 use Rattle.nl_segments.proofs.PairHeld.{IsBefore, before_lines, is_line_kind, never, none_within, sound_kept}
-use Rattle.nl_segments.proofs.PairJudging.{IsIndex, below_limit, index_of, pair_found}
+use Rattle.nl_lines.proofs.PairJudging.{IsIndex, below_limit, index_of, pair_found}
 use Rattle.nl_segments.proofs.PairLines.{awaited-last, other_last, last_of, last_sound, sound_longer}
 use Rattle.nl_segments.proofs.PairPiece.{IsNextPair, sound_pair}
-use Rattle.nl_segments.proofs.PieceLemmas.{split, longer, extended-append}
+use Rattle.nl_lines.proofs.PieceLemmas.{split, longer, extended-append}
 
 -- ---- what a piece awaits
 

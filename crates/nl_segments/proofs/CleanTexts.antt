@@ -13,13 +13,13 @@ use Rattle.text_base.proofs.FirstReasons.{none_each}
 use Rattle.nl_header.specs.Head.{options_in}
 use Rattle.nl_model.specs.declared.counts.Counts.{Counts}
 use Rattle.nl_model.specs.FilePlaces.{HasPlace}
-use Rattle.nl_segments.specs.declared.head.Head.{Head}
+use Rattle.nl_lines.specs.declared.head.Head.{Head}
 use Rattle.nl_segments.specs.declared.nl_read.NlRead.{NlRead}
-use Rattle.nl_segments.specs.Rows.{Row, holds_words, row_words, rows_from}
-use Rattle.nl_segments.specs.Heads.{is_head, head_of, name_in}
-use Rattle.nl_segments.specs.Pieces.{Piece, extended, is_complete, last_piece, pieces_of, with_row}
-use Rattle.nl_segments.specs.Saying.{line_of}
-use Rattle.nl_segments.specs.Tests.{end_tests}
+use Rattle.nl_lines.specs.Rows.{Row, holds_words, row_words, rows_from}
+use Rattle.nl_lines.specs.Heads.{is_head, head_of, name_in}
+use Rattle.nl_lines.specs.Pieces.{Piece, extended, is_complete, last_piece, pieces_of, with_row}
+use Rattle.nl_lines.specs.Saying.{line_of}
+use Rattle.nl_lines.specs.Tests.{end_tests}
 use Rattle.nl_segments.specs.Grammar.{NlValue, Standing, counts_of, end_refusal, is_in_header, line_refusal, nl_rules, said, SaysFile, standing}
 use Rattle.nl_segments.specs.Reader.{HasLines, HasLinesUpTo, IsNl, value_of}
 use Rattle.nl_segments.specs.Steps.{after}
@@ -30,7 +30,7 @@ use Rattle.nl_segments.proofs.HeadLaw.{all_complete, no_piece}
 use Rattle.nl_segments.proofs.LinesHeld.{AreRowLines, lines_there}
 use Rattle.nl_segments.proofs.PairHeld.{never}
 use Rattle.nl_segments.proofs.PairLines.{last_of, other_last}
-use Rattle.nl_segments.proofs.PieceLemmas.{split, extended-append, longer}
+use Rattle.nl_lines.proofs.PieceLemmas.{split, extended-append, longer}
 use Rattle.nl_segments.proofs.StandingLemmas.{standing-more}
 
 -- ---- the lines of rows

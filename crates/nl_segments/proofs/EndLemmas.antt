@@ -13,13 +13,13 @@ use Rattle.nl_model.specs.File.{Term, Objective, File}
 use Rattle.nl_model.specs.Rules.{AreTermsBelow, term_count}
 use Rattle.nl_model.specs.UseCounts.{terms_up_to, use_count, uses_in}
 use Rattle.nl_model.proofs.UseLemmas.{below, split_rows, next_rows, nothing_below}
-use Rattle.nl_segments.specs.declared.fault.NlReason.{NlReason}
-use Rattle.nl_segments.specs.declared.fault.NlReason.TheVariants.{ShortSegment, Missing, NonzeroCount, ColumnCount as BadColumnCount}
-use Rattle.nl_segments.specs.Saying.{place_lines}
+use Rattle.nl_lines.specs.declared.fault.NlReason.{NlReason}
+use Rattle.nl_lines.specs.declared.fault.NlReason.TheVariants.{ShortSegment, Missing, NonzeroCount, ColumnCount as BadColumnCount}
+use Rattle.nl_lines.specs.Saying.{place_lines}
 use Rattle.std.proofs.lemmas.List.Folds.{list_all_at}
-use Rattle.nl_segments.specs.Pieces.{Piece, last_piece, is_nothing, awaited_of}
+use Rattle.nl_lines.specs.Pieces.{Piece, last_piece, is_nothing, awaited_of}
 use Rattle.nl_segments.specs.Current.{Current}
-use Rattle.nl_segments.specs.Tests.{are_column_counts, is_short, end_tests}
+use Rattle.nl_lines.specs.Tests.{are_column_counts, is_short, end_tests}
 use Rattle.nl_segments.specs.Grammar.{Standing, counts_of, said}
 use Rattle.nl_segments.specs.Held.{Body, IsHeld, IsLast, end_refusal_of}
 use Rattle.nl_segments.specs.Taking.{body_awaits}

@@ -8,14 +8,14 @@ use Rattle.nl_model.specs.Kinds.{kind_of}
 use Rattle.fractions.specs.Rational.{whole, decimal_value, over}
 use Rattle.fractions.specs.Divisors.{gcd_of, steps_of_euclid}
 use Rattle.exact_numbers.specs.Values.{exponent_below, decimal_of, fits_dec}
-use Rattle.nl_segments.specs.Nodes.{dec_of_signed, node_in, opcode_in, nodes_from, pending_from}
-use Rattle.nl_segments.specs.Rows.{rows_from}
-use Rattle.nl_segments.specs.Heads.{head_of, is_in_range}
-use Rattle.nl_segments.specs.Pieces.{extended, pieces_of, last_piece, awaited_in, pair_in, interval_in}
-use Rattle.nl_segments.specs.Saying.{draft_of, place_lines}
-use Rattle.nl_segments.specs.Tests.{head_form_tests, head_tests, pair_form_tests, pair_tests, column_tests, interval_form_tests, interval_tests, node_form_tests, node_tests, operand_tests, row_tests, end_tests}
-use Rattle.nl_segments.specs.declared.fault.NlReason.TheVariants.{TooLarge, UnknownSegment, RefusedSegment, RepeatedSegment, BadHead, IndexOut, BadLine, BadNumber, ShortSegment, ExtraLine, RefusedOpcode, RefusedLeaf, Complementarity, EmptyInterval, RepeatedIndex, SosSuffix, Missing, NonzeroCount, ColumnCount}
-use Rattle.nl_segments.specs.declared.fault.NlReason.{NlReason}
+use Rattle.nl_lines.specs.Nodes.{dec_of_signed, node_in, opcode_in, nodes_from, pending_from}
+use Rattle.nl_lines.specs.Rows.{rows_from}
+use Rattle.nl_lines.specs.Heads.{head_of, is_in_range}
+use Rattle.nl_lines.specs.Pieces.{extended, pieces_of, last_piece, awaited_in, pair_in, interval_in}
+use Rattle.nl_lines.specs.Saying.{draft_of, place_lines}
+use Rattle.nl_lines.specs.Tests.{head_form_tests, head_tests, pair_form_tests, pair_tests, column_tests, interval_form_tests, interval_tests, node_form_tests, node_tests, operand_tests, row_tests, end_tests}
+use Rattle.nl_lines.specs.declared.fault.NlReason.TheVariants.{TooLarge, UnknownSegment, RefusedSegment, RepeatedSegment, BadHead, IndexOut, BadLine, BadNumber, ShortSegment, ExtraLine, RefusedOpcode, RefusedLeaf, Complementarity, EmptyInterval, RepeatedIndex, SosSuffix, Missing, NonzeroCount, ColumnCount}
+use Rattle.nl_lines.specs.declared.fault.NlReason.{NlReason}
 use Rattle.nl_model.specs.File.{Term}
 use Rattle.nl_meaning.specs.Trees.{Tree, number, variable, operator, more, none}
 use Rattle.code_tables.specs.declared.class.OpClass.TheVariants.{Sum}

@@ -8,17 +8,17 @@ use Rattle.text_base.specs.declared.stop.Stop.TheVariants.{Fault, Memory}
 use Rattle.text_base.specs.Words.{words_of, row_of, texts, without_comment}
 use Rattle.nl_header.specs.Reading.{Taken, IsReading, Takes}
 use Rattle.nl_model.specs.declared.header.Header.{Header}
-use Rattle.nl_segments.specs.declared.fault.NlReason.{NlReason}
+use Rattle.nl_lines.specs.declared.fault.NlReason.{NlReason}
 use Rattle.nl_segments.specs.declared.nl_read.NlRead.{NlRead}
-use Rattle.nl_segments.specs.Rows.{Row, holds_words}
+use Rattle.nl_lines.specs.Rows.{Row, holds_words}
 use Rattle.nl_segments.specs.Grammar.{Standing, standing, is_in_header, line_refusal, header_refusal, end_refusal}
-use Rattle.nl_segments.specs.declared.fault.NlReason.TheVariants.{EndInHeader}
+use Rattle.nl_lines.specs.declared.fault.NlReason.TheVariants.{EndInHeader}
 use Rattle.nl_model.specs.File.{Term}
-use Rattle.nl_segments.specs.KnownPairs.{IsPairRow}
+use Rattle.nl_lines.specs.PairTests.{IsPairRow}
 use Rattle.nl_segments.specs.Held.{Body, Progress, IsHeld, IsHeaderOf, only_header, HoldsBy, HoldsStanding, TakesRow, Finishes}
 use Rattle.nl_segments.specs.Steps.{after, after_header_row}
 use Rattle.nl_segments.specs.Taking.{TakesAnyRow, TakesHeaderRow, TakesLine}
-use Rattle.nl_segments.proofs.PieceLemmas.{some_are}
+use Rattle.nl_lines.proofs.PieceLemmas.{some_are}
 use Rattle.nl_segments.proofs.StandingLemmas.{standing-more}
 
 -- ---- the header

@@ -7,15 +7,15 @@ use Rattle.std.proofs.lemmas.List.Elements.{filter-append}
 use Rattle.std.proofs.lemmas.Grind.{flat_map-append}
 use Rattle.nl_model.specs.declared.counts.Counts.{Counts}
 use Rattle.nl_model.specs.Draft.{Draft}
-use Rattle.nl_segments.specs.declared.head.Head.{Head}
-use Rattle.nl_segments.specs.declared.head.Head.TheVariants.{Body, Objective, Definition, DualGuesses, PrimalGuesses, Sides, Bounds, ColumnCounts, Terms, Slopes, Suffix}
-use Rattle.nl_segments.specs.Nodes.{nodes_from, pending_from}
-use Rattle.nl_segments.specs.Pieces.{Piece, awaited_in, is_nothing, is_complete, line_kind, line_count, has_tree, pair_count, tree_rows, piece_nodes, piece_pairs, piece_pending}
-use Rattle.nl_segments.specs.Saying.{if_complete, said_by, draft_of}
-use Rattle.nl_segments.specs.Tests.{node_total, pair_total, suffix_count, all_column_counts, column_counts, is_suffix}
+use Rattle.nl_lines.specs.declared.head.Head.{Head}
+use Rattle.nl_lines.specs.declared.head.Head.TheVariants.{Body, Objective, Definition, DualGuesses, PrimalGuesses, Sides, Bounds, ColumnCounts, Terms, Slopes, Suffix}
+use Rattle.nl_lines.specs.Nodes.{nodes_from, pending_from}
+use Rattle.nl_lines.specs.Pieces.{Piece, awaited_in, is_nothing, is_complete, line_kind, line_count, has_tree, pair_count, tree_rows, piece_nodes, piece_pairs, piece_pending}
+use Rattle.nl_lines.specs.Saying.{if_complete, said_by, draft_of}
+use Rattle.nl_lines.specs.Tests.{node_total, pair_total, suffix_count, all_column_counts, column_counts, is_suffix}
 use Rattle.nl_segments.specs.HeadSteps.{begun_draft, begun_count}
-use Rattle.nl_segments.proofs.PieceLemmas.{draft-append, drop_none, some_are, take_none}
-use Rattle.nl_segments.proofs.TotalLemmas.{nodes-append, pairs-append, pairs-other}
+use Rattle.nl_lines.proofs.PieceLemmas.{draft-append, drop_none, some_are, take_none}
+use Rattle.nl_lines.proofs.TotalLemmas.{nodes-append, pairs-append, pairs-other}
 
 abbrev pub new_piece : Head → List ℕ → ℕ → Piece
 new_piece head name line = record { head = head; name = name; line = line; rows = [] }

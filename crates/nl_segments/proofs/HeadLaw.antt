@@ -12,29 +12,30 @@ use Rattle.nl_model.specs.declared.counts.Counts.{Counts}
 use Rattle.nl_model.specs.Draft.{Draft}
 use Rattle.nl_model.specs.File.{Suffix as SuffixValue}
 use Rattle.nl_model.specs.Rules.{has_suffix}
-use Rattle.nl_segments.specs.declared.fault.NlReason.TheVariants.{ShortSegment}
-use Rattle.nl_segments.specs.declared.head.Head.{Head}
-use Rattle.nl_segments.specs.declared.head.Head.TheVariants.{Suffix}
-use Rattle.nl_segments.specs.Heads.{is_head, head_of, name_in, is_in_range}
-use Rattle.nl_segments.specs.Rows.{Row, row_words}
-use Rattle.nl_segments.specs.Pieces.{Piece, last_piece, awaited_of, is_complete, is_nothing, has_tree, line_count, pair_count, with_row}
-use Rattle.nl_segments.specs.Saying.{place_lines}
-use Rattle.nl_segments.specs.SeenSegments.{Segments, IsSeenIn, with_segment}
+use Rattle.nl_lines.specs.declared.fault.NlReason.TheVariants.{ShortSegment}
+use Rattle.nl_lines.specs.declared.head.Head.{Head}
+use Rattle.nl_lines.specs.declared.head.Head.TheVariants.{Suffix}
+use Rattle.nl_lines.specs.Heads.{is_head, head_of, name_in, is_in_range}
+use Rattle.nl_lines.specs.Rows.{Row, row_words}
+use Rattle.nl_lines.specs.Pieces.{Piece, last_piece, awaited_of, is_complete, is_nothing, has_tree, line_count, pair_count, with_row}
+use Rattle.nl_lines.specs.Saying.{place_lines}
+use Rattle.nl_lines.specs.SeenSegments.{Segments, IsSeenIn, with_segment}
 use Rattle.nl_segments.specs.Current.{Current, new_current}
 use Rattle.nl_segments.specs.PlaceSteps.{with_begun, HasOwner}
 use Rattle.nl_segments.specs.Grammar.{Standing, counts_of, said}
 use Rattle.nl_segments.specs.Steps.{after_body_row}
-use Rattle.nl_segments.specs.Tests.{is_suffix, is_linear, is_same_piece, is_repeated, index_limit, has_index, head_form_tests, formed_head_tests, head_tests, row_tests}
+use Rattle.nl_lines.specs.Tests.{is_suffix, is_linear, is_same_piece, is_repeated, index_limit, has_index, head_form_tests, formed_head_tests, head_tests, row_tests}
 use Rattle.nl_model.specs.UseCounts.{use_count}
-use Rattle.nl_segments.specs.Held.{Body, IsSoundPiece, AreSound, IsOpen, IsLast, IsMarked, IsNodeLeft, IsHeld, HoldsSome, IsRowOf, HasRow, words_refusal}
+use Rattle.nl_lines.specs.PairTests.{IsMarked}
+use Rattle.nl_segments.specs.Held.{Body, IsSoundPiece, AreSound, IsOpen, IsLast, IsNodeLeft, IsHeld, HoldsSome, IsRowOf, HasRow, words_refusal}
 use Rattle.nl_segments.specs.HeadSteps.{has_come, has_come_suffix, held_head_tests, formed_tests, new_head_tests, begun_current, begun_name, begun_count, begun_draft, with_begun_head}
-use Rattle.nl_segments.proofs.PieceLemmas.{split, last-append, lines-append, take_none}
-use Rattle.nl_segments.proofs.DraftLemmas.{draft_counts}
+use Rattle.nl_lines.proofs.PieceLemmas.{split, last-append, lines-append, take_none}
+use Rattle.nl_lines.proofs.DraftLemmas.{draft_counts}
 use Rattle.nl_segments.proofs.PlaceLemmas.{owner_there, place_begun}
 use Rattle.nl_segments.specs.Taking.{body_awaits}
 use Rattle.nl_segments.proofs.CurrentLemmas.{begun}
 use Rattle.nl_segments.proofs.EndLemmas.{last_awaits}
-use Rattle.nl_segments.proofs.HeadSuffixes.{suffixes_come}
+use Rattle.nl_lines.proofs.HeadSuffixes.{suffixes_come}
 use Rattle.nl_segments.proofs.HeadSeen.{seen_begun, any_name, within_marks}
 use Rattle.nl_segments.proofs.HeadBegun.{new_piece, no_pairs, whole_at_once, draft_begun, terms_begun, nodes_begun, pairs_begun, count_begun, columns_begun}
 use Rattle.nl_segments.proofs.HeadRefusal.{IsNew, is_new}

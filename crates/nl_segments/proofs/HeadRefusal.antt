@@ -7,13 +7,13 @@ use Rattle.text_base.specs.Judged.{first_reason}
 use Rattle.text_base.proofs.FirstReasons.{none_head, none_first, reason_before, reason_after}
 use Rattle.nl_model.specs.declared.counts.Counts.{Counts}
 use Rattle.nl_model.specs.File.{Suffix}
-use Rattle.nl_segments.specs.declared.fault.NlReason.TheVariants.{TooLarge, RepeatedSegment, IndexOut, ShortSegment, SosSuffix}
-use Rattle.nl_segments.specs.declared.fault.NlReason.{NlReason}
-use Rattle.nl_segments.specs.declared.head.Head.{Head}
-use Rattle.nl_segments.specs.Heads.{head_of, name_in, is_in_range}
+use Rattle.nl_lines.specs.declared.fault.NlReason.TheVariants.{TooLarge, RepeatedSegment, IndexOut, ShortSegment, SosSuffix}
+use Rattle.nl_lines.specs.declared.fault.NlReason.{NlReason}
+use Rattle.nl_lines.specs.declared.head.Head.{Head}
+use Rattle.nl_lines.specs.Heads.{head_of, name_in, is_in_range}
 use Rattle.nl_segments.specs.HeadSteps.{has_come, held_head_tests, formed_tests, new_head_tests}
-use Rattle.nl_segments.specs.SeenSegments.{Segments}
-use Rattle.nl_segments.specs.Tests.{is_suffix, head_form_tests}
+use Rattle.nl_lines.specs.SeenSegments.{Segments}
+use Rattle.nl_lines.specs.Tests.{is_suffix, head_form_tests}
 
 -- no test of a head holds
 all_false : (a b d f : Bool) → first_reason ((a, IndexOut) ∷ (b, SosSuffix) ∷ (d, RepeatedSegment) ∷ (f, TooLarge) ∷ []) ≡ None

@@ -6,16 +6,16 @@ use Rattle.std.proofs.lemmas.List.{length-set}
 use Rattle.std.proofs.lemmas.List.Folds.{list_any-append}
 use Rattle.text_base.specs.Names.{IsName, is_name, has_name_bytes}
 use Rattle.nl_model.specs.declared.counts.Counts.{Counts}
-use Rattle.nl_segments.specs.declared.head.Head.{Head}
-use Rattle.nl_segments.specs.declared.head.Head.TheVariants.{Body, Objective, Definition, DualGuesses, PrimalGuesses, Sides, Bounds, ColumnCounts, Terms, Slopes, Suffix}
-use Rattle.nl_segments.specs.Heads.{head_of, name_in, is_in_range, numbered_head, counted_head, bare_head, objective_head, definition_head, column_head, suffix_head, with_sense, letter_of, own_number, number_at}
+use Rattle.nl_lines.specs.declared.head.Head.{Head}
+use Rattle.nl_lines.specs.declared.head.Head.TheVariants.{Body, Objective, Definition, DualGuesses, PrimalGuesses, Sides, Bounds, ColumnCounts, Terms, Slopes, Suffix}
+use Rattle.nl_lines.specs.Heads.{head_of, name_in, is_in_range, numbered_head, counted_head, bare_head, objective_head, definition_head, column_head, suffix_head, with_sense, letter_of, own_number, number_at}
 use Rattle.text_base.specs.Words.{word_at}
-use Rattle.nl_segments.specs.Pieces.{Piece}
-use Rattle.nl_segments.specs.SeenSegments.{Segments, IsSeenIn, with_segment}
-use Rattle.nl_segments.specs.Tests.{is_suffix, is_same_head, is_same_piece}
+use Rattle.nl_lines.specs.Pieces.{Piece}
+use Rattle.nl_lines.specs.SeenSegments.{Segments, IsSeenIn, with_segment}
+use Rattle.nl_lines.specs.Tests.{is_suffix, is_same_head, is_same_piece}
 use Rattle.nl_segments.specs.Held.{AreSeen}
 use Rattle.nl_segments.proofs.HeadBegun.{new_piece}
-use Rattle.nl_segments.proofs.SeenLemmas.{marked}
+use Rattle.nl_lines.proofs.SeenLemmas.{marked}
 
 -- ---- marks
 

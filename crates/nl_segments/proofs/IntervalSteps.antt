@@ -9,29 +9,30 @@ use Rattle.nl_model.specs.declared.counts.Counts.{Counts}
 use Rattle.nl_model.specs.declared.interval.Interval.{Interval}
 use Rattle.nl_model.specs.Draft.{Draft}
 use Rattle.nl_model.specs.Kinds.{kind_of}
-use Rattle.nl_segments.specs.declared.awaited.Awaited.{Awaited}
-use Rattle.nl_segments.specs.declared.awaited.Awaited.TheVariants.{ColumnCount, Interval as IntervalLine}
-use Rattle.nl_segments.specs.declared.head.Head.{Head}
-use Rattle.nl_segments.specs.declared.head.Head.TheVariants.{Sides, Bounds, ColumnCounts}
-use Rattle.nl_segments.specs.declared.fault.NlReason.{NlReason}
+use Rattle.nl_lines.specs.declared.awaited.Awaited.{Awaited}
+use Rattle.nl_lines.specs.declared.awaited.Awaited.TheVariants.{ColumnCount, Interval as IntervalLine}
+use Rattle.nl_lines.specs.declared.head.Head.{Head}
+use Rattle.nl_lines.specs.declared.head.Head.TheVariants.{Sides, Bounds, ColumnCounts}
+use Rattle.nl_lines.specs.declared.fault.NlReason.{NlReason}
 use Rattle.exact_numbers.specs.Numbers.{whole_of}
-use Rattle.nl_segments.specs.Rows.{Row, row_words}
+use Rattle.nl_lines.specs.Rows.{Row, row_words}
 use Rattle.text_base.specs.Words.{word_at}
-use Rattle.nl_segments.specs.Heads.{is_head}
-use Rattle.nl_segments.specs.Pieces.{Piece, pair_count, line_count, line_kind, interval_in, piece_counts, piece_intervals}
-use Rattle.nl_segments.specs.Tests.{all_column_counts, column_counts, column_tests, holds_once, interval_form_tests, interval_tests, is_binary, is_sides}
+use Rattle.nl_lines.specs.Heads.{is_head}
+use Rattle.nl_lines.specs.Pieces.{Piece, pair_count, line_count, line_kind, interval_in, piece_counts, piece_intervals}
+use Rattle.nl_lines.specs.Tests.{all_column_counts, column_counts, column_tests, holds_once, interval_form_tests, interval_tests, is_binary, is_sides}
 use Rattle.text_base.specs.Judged.{first_reason}
 use Rattle.nl_segments.specs.Steps.{after_body_row}
 use Rattle.nl_segments.specs.Grammar.{Standing, counts_of, said}
 use Rattle.nl_segments.specs.Current.{Current, IsCurrent, current_awaits, less_line}
 use Rattle.nl_segments.specs.LineSteps.{unless_complete, with_interval, HasRoom, next_interval_tests}
-use Rattle.nl_segments.specs.Saying.{draft_of, said_by}
+use Rattle.nl_lines.specs.Saying.{draft_of, said_by}
 use Rattle.nl_model.specs.UseCounts.{use_count}
 use Rattle.nl_segments.specs.Held.{AreSound, Body, HoldsSome, IsAwaiting, IsHeld, IsNodeLeft, IsOpen, IsRowOf, words_refusal}
-use Rattle.nl_segments.proofs.CurrentLemmas.{late_pairs, with_line}
-use Rattle.nl_segments.proofs.DraftLemmas.{draft_counts, with_bound, with_column, with_side}
-use Rattle.nl_segments.proofs.FreshLaw.{none_before, fresh_sides, fresh_bounds}
-use Rattle.nl_segments.proofs.PieceLemmas.{longer, draft-append}
+use Rattle.nl_lines.proofs.RowLemmas.{late_pairs}
+use Rattle.nl_segments.proofs.CurrentLemmas.{with_line}
+use Rattle.nl_lines.proofs.DraftLemmas.{draft_counts, with_bound, with_column, with_side}
+use Rattle.nl_lines.proofs.FreshLaw.{none_before, fresh_sides, fresh_bounds}
+use Rattle.nl_lines.proofs.PieceLemmas.{longer, draft-append}
 use Rattle.nl_segments.proofs.PairLines.{at, opened, awaiting, awaits_as, judged_by, row_after, last_sound}
 use Rattle.nl_segments.proofs.PairHeld.{IsEarly, early, held_longer, same_totals, places_no_pair, open_line, columns-append, columns_kept, is_line_kind, none_within, sound_kept}
 

@@ -10,33 +10,33 @@ use Rattle.nl_model.specs.declared.counts.Counts.{Counts}
 use Rattle.nl_model.specs.Draft.{Draft, file_of, given}
 use Rattle.nl_model.specs.File.{Term, Definition, Objective}
 use Rattle.nl_model.specs.Nodes.{tree_of}
-use Rattle.nl_segments.specs.declared.awaited.Awaited.{Awaited}
-use Rattle.nl_segments.specs.declared.awaited.Awaited.TheVariants.{Nothing}
-use Rattle.nl_segments.specs.declared.head.Head.{Head}
-use Rattle.nl_segments.specs.declared.head.Head.TheVariants.{Body as BodyHead, Objective as ObjectiveHead, Definition as DefinitionHead, DualGuesses, PrimalGuesses, Sides, Bounds, ColumnCounts, Terms, Slopes, Suffix}
-use Rattle.nl_segments.specs.declared.pending.Pending.{Pending}
+use Rattle.nl_lines.specs.declared.awaited.Awaited.{Awaited}
+use Rattle.nl_lines.specs.declared.awaited.Awaited.TheVariants.{Nothing}
+use Rattle.nl_lines.specs.declared.head.Head.{Head}
+use Rattle.nl_lines.specs.declared.head.Head.TheVariants.{Body as BodyHead, Objective as ObjectiveHead, Definition as DefinitionHead, DualGuesses, PrimalGuesses, Sides, Bounds, ColumnCounts, Terms, Slopes, Suffix}
+use Rattle.nl_lines.specs.declared.pending.Pending.{Pending}
 use Rattle.nl_model.specs.declared.node.Node.{Node}
-use Rattle.nl_segments.specs.Rows.{Row, row_words}
-use Rattle.nl_segments.specs.Heads.{is_in_range}
-use Rattle.nl_segments.specs.Nodes.{Placed, node_in, opcode_in, pending_in, nodes_from, only_nodes, only_lines}
-use Rattle.nl_segments.specs.Pieces.{Piece, awaited_in, has_tree, is_complete, is_nothing, line_count, line_kind, pair_count, piece_nodes, piece_pairs, piece_pending, tree_awaits, tree_rows}
-use Rattle.nl_segments.specs.Saying.{OwnerLines, PlaceLines, no_lines, said_by, draft_of, place_lines, lines_by, line_of, piece_tree, node_lines, term_lines, with_tree_lines, with_term_lines, with_slope_lines}
+use Rattle.nl_lines.specs.Rows.{Row, row_words}
+use Rattle.nl_lines.specs.Heads.{is_in_range}
+use Rattle.nl_lines.specs.Nodes.{Placed, node_in, opcode_in, pending_in, nodes_from, only_nodes, only_lines}
+use Rattle.nl_lines.specs.Pieces.{Piece, awaited_in, has_tree, is_complete, is_nothing, line_count, line_kind, pair_count, piece_nodes, piece_pairs, piece_pending, tree_awaits, tree_rows}
+use Rattle.nl_lines.specs.Saying.{OwnerLines, PlaceLines, no_lines, said_by, draft_of, place_lines, lines_by, line_of, piece_tree, node_lines, term_lines, with_tree_lines, with_term_lines, with_slope_lines}
 use Rattle.nl_model.specs.declared.at.At.{At}
 use Rattle.nl_model.specs.FilePlaces.{HasPlace}
 use Rattle.nl_model.specs.declared.at.At.TheVariants.{Node as NodeAt, Term as TermAt, Head as HeadAt}
 use Rattle.nl_model.specs.declared.at.Owner.TheVariants.{Def, Con, Obj}
-use Rattle.nl_segments.specs.Tests.{is_same_piece}
+use Rattle.nl_lines.specs.Tests.{is_same_piece}
 use Rattle.nl_segments.specs.Held.{AreSound, IsSoundPiece}
-use Rattle.nl_segments.proofs.PieceLemmas.{draft-append, lines-append}
-use Rattle.nl_segments.proofs.DraftLemmas.{draft_counts}
+use Rattle.nl_lines.proofs.PieceLemmas.{draft-append, lines-append}
+use Rattle.nl_lines.proofs.DraftLemmas.{draft_counts}
 use Rattle.nl_segments.specs.PlaceSteps.{HasOwner}
 use Rattle.nl_segments.proofs.HeadBegun.{some_line}
 use Rattle.nl_segments.proofs.PlaceLemmas.{owner_there}
-use Rattle.nl_segments.proofs.FreshLaw.{none_before, fresh_terms, fresh_slopes}
+use Rattle.nl_lines.proofs.FreshLaw.{none_before, fresh_terms, fresh_slopes}
 use Rattle.std.proofs.lemmas.List.{get_or_past}
 use Rattle.std.proofs.lemmas.List.Elements.{All-cons, All-drop, All-map, All-take}
 use Rattle.std.proofs.lemmas.Option.{slice_get_past, slice_get-get_or}
-use Rattle.nl_segments.proofs.LineLaw.{AreLines, IsLined, AllLined, AreDefs, tree_nodes, with_tree_at, with_row_at, defs_push, node_there, term_there}
+use Rattle.nl_lines.proofs.LineLaw.{AreLines, IsLined, AllLined, AreDefs, tree_nodes, with_tree_at, with_row_at, defs_push, node_there, term_there}
 
 -- ---- one piece
 

@@ -11,23 +11,26 @@ use Rattle.nl_model.specs.Draft.{Draft}
 use Rattle.nl_model.specs.File.{Term}
 use Rattle.nl_model.specs.Nodes.{tree_of}
 use Rattle.nl_model.specs.Rules.{most_terms}
-use Rattle.nl_segments.specs.declared.awaited.Awaited.{Awaited}
-use Rattle.nl_segments.specs.declared.awaited.Awaited.TheVariants.{Nothing, Pair, ColumnCount, Interval as IntervalLine, Node as NodeLine, OperandCount}
-use Rattle.nl_segments.specs.declared.head.Head.{Head}
-use Rattle.nl_segments.specs.declared.head.Head.TheVariants.{Body as BodyHead, Objective, Definition, ColumnCounts, Suffix}
-use Rattle.nl_segments.specs.Rows.{Row}
-use Rattle.nl_segments.specs.Nodes.{Placed, nodes_from}
-use Rattle.nl_segments.specs.Pieces.{Piece, line_kind, line_count, pair_count, has_tree, is_nothing, is_complete, piece_nodes, piece_pending, piece_pairs}
-use Rattle.nl_segments.specs.Tests.{has_index, index_limit, is_linear, is_suffix}
-use Rattle.nl_segments.specs.Saying.{PlaceLines, lines_by, place_lines, piece_tree, draft_of}
+use Rattle.nl_lines.specs.declared.awaited.Awaited.{Awaited}
+use Rattle.nl_lines.specs.declared.awaited.Awaited.TheVariants.{Nothing, Pair, ColumnCount, Interval as IntervalLine, Node as NodeLine, OperandCount}
+use Rattle.nl_lines.specs.declared.head.Head.{Head}
+use Rattle.nl_lines.specs.declared.head.Head.TheVariants.{Body as BodyHead, Objective, Definition, ColumnCounts, Suffix}
+use Rattle.nl_lines.specs.Rows.{Row}
+use Rattle.nl_lines.specs.Nodes.{Placed, nodes_from}
+use Rattle.nl_lines.specs.Pieces.{Piece, line_kind, line_count, pair_count, has_tree, is_nothing, is_complete, piece_nodes, piece_pending, piece_pairs, keeps_pairs}
+use Rattle.nl_lines.specs.Tests.{has_index, index_limit, is_linear, is_suffix}
+use Rattle.nl_lines.specs.Saying.{PlaceLines, lines_by, place_lines, piece_tree, draft_of}
 use Rattle.nl_segments.specs.Current.{Current, IsCurrent, current_awaits, nodes_await}
 use Rattle.nl_segments.specs.TreeSteps.{IsSettled, with_tree}
 use Rattle.nl_model.specs.UseCounts.{use_count}
-use Rattle.nl_segments.specs.Held.{Body, AreSeen, IsHeld, IsLast, IsMarked, IsNodeKnown, IsNodeLeft, IsOpen, keeps_pairs}
-use Rattle.nl_segments.proofs.CurrentLemmas.{awaits, late_tree, late_pairs, last_nodes, nodes-more, tree_count}
-use Rattle.nl_segments.proofs.DraftLemmas.{draft_counts, says_whole, draft_before, with_body, with_objective, with_definition}
-use Rattle.nl_segments.proofs.PieceLemmas.{longer, last-append, lines-append}
-use Rattle.nl_segments.proofs.TotalLemmas.{nodes-append}
+use Rattle.nl_lines.specs.PairTests.{IsMarked}
+use Rattle.nl_lines.specs.NodeRows.{IsNodeKnown}
+use Rattle.nl_segments.specs.Held.{Body, AreSeen, IsHeld, IsLast, IsNodeLeft, IsOpen}
+use Rattle.nl_lines.proofs.RowLemmas.{late_tree, late_pairs, last_nodes, nodes-more, tree_count}
+use Rattle.nl_segments.proofs.CurrentLemmas.{awaits}
+use Rattle.nl_lines.proofs.DraftLemmas.{draft_counts, says_whole, draft_before, with_body, with_objective, with_definition}
+use Rattle.nl_lines.proofs.PieceLemmas.{longer, last-append, lines-append}
+use Rattle.nl_lines.proofs.TotalLemmas.{nodes-append}
 use Rattle.nl_segments.proofs.PairLines.{at, last_sound, sound_longer, are_seen_longer, suffixes_longer}
 
 -- ---- where a row of an expression is awaited

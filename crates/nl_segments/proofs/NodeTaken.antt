@@ -11,37 +11,39 @@ use Rattle.nl_header.specs.Head.{counts_in}
 use Rattle.nl_model.specs.declared.counts.Counts.{Counts}
 use Rattle.nl_model.specs.declared.node.Node.{Node}
 use Rattle.nl_model.specs.declared.node.Node.TheVariants.{Op}
-use Rattle.nl_segments.specs.declared.awaited.Awaited.{Awaited}
-use Rattle.nl_segments.specs.declared.awaited.Awaited.TheVariants.{Nothing, Pair, ColumnCount, Interval as IntervalLine, Node as NodeLine, OperandCount}
-use Rattle.nl_segments.specs.declared.head.Head.{Head}
-use Rattle.nl_segments.specs.declared.head.Head.TheVariants.{Definition}
-use Rattle.nl_segments.specs.declared.node_row.NodeRow.{NodeRow}
-use Rattle.nl_segments.specs.declared.node_row.NodeRow.TheVariants.{Whole, Counted}
-use Rattle.nl_segments.specs.Rows.{Row}
+use Rattle.nl_lines.specs.declared.awaited.Awaited.{Awaited}
+use Rattle.nl_lines.specs.declared.awaited.Awaited.TheVariants.{Nothing, Pair, ColumnCount, Interval as IntervalLine, Node as NodeLine, OperandCount}
+use Rattle.nl_lines.specs.declared.head.Head.{Head}
+use Rattle.nl_lines.specs.declared.head.Head.TheVariants.{Definition}
+use Rattle.nl_lines.specs.declared.node_row.NodeRow.{NodeRow}
+use Rattle.nl_lines.specs.declared.node_row.NodeRow.TheVariants.{Whole, Counted}
+use Rattle.nl_lines.specs.Rows.{Row}
 use Rattle.text_base.specs.Words.{word_at}
-use Rattle.nl_segments.specs.Heads.{is_head, is_in_range}
+use Rattle.nl_lines.specs.Heads.{is_head, is_in_range}
 use Rattle.exact_numbers.specs.Numbers.{whole_of}
-use Rattle.nl_segments.specs.Nodes.{Placed, Pending, only_lines, node_in, opcode_in}
-use Rattle.nl_segments.specs.NodeRows.{IsFormedRow, IsRow}
-use Rattle.nl_segments.specs.Pieces.{Piece, has_tree, pair_count, piece_nodes}
-use Rattle.nl_segments.specs.Tests.{SaysOperandCount, node_form_tests, node_tests, operand_tests}
-use Rattle.nl_segments.specs.Saying.{PlaceLines, term_lines, lines_by, place_lines}
+use Rattle.nl_lines.specs.declared.pending.Pending.{Pending}
+use Rattle.nl_lines.specs.Nodes.{Placed, only_lines, node_in, opcode_in}
+use Rattle.nl_lines.specs.NodeRows.{IsFormedRow, IsRow, IsNodeKnown}
+use Rattle.nl_lines.specs.Pieces.{Piece, has_tree, pair_count, piece_nodes}
+use Rattle.nl_lines.specs.Tests.{SaysOperandCount, node_form_tests, node_tests, operand_tests}
+use Rattle.nl_lines.specs.Saying.{PlaceLines, term_lines, lines_by, place_lines}
 use Rattle.nl_segments.specs.Grammar.{Standing, counts_of, said}
 use Rattle.nl_segments.specs.Steps.{after_body_row}
 use Rattle.nl_segments.specs.Current.{Current, IsPending, current_awaits, with_node_row}
 use Rattle.nl_segments.specs.PlaceSteps.{HasOwner, HasBegun, with_node_line}
 use Rattle.nl_segments.specs.TreeSteps.{CanTakeRow, IsNextRow, IsSettled, row_count, with_row_line, counted_node_tests}
-use Rattle.nl_segments.specs.Held.{Body, HoldsSome, IsAwaiting, IsHeld, IsNodeKnown, IsNodeLeft, IsRowOf, words_refusal}
-use Rattle.nl_segments.proofs.CurrentLemmas.{IsRowStep, count_step, last_nodes, node_step, row_fields, row_placed, with_row}
-use Rattle.nl_segments.proofs.PieceLemmas.{longer, lines-append}
+use Rattle.nl_segments.specs.Held.{Body, HoldsSome, IsAwaiting, IsHeld, IsNodeLeft, IsRowOf, words_refusal}
+use Rattle.nl_lines.proofs.RowLemmas.{last_nodes}
+use Rattle.nl_segments.proofs.CurrentLemmas.{IsRowStep, count_step, node_step, row_fields, row_placed, with_row}
+use Rattle.nl_lines.proofs.PieceLemmas.{longer, lines-append}
 use Rattle.nl_segments.proofs.PlaceLemmas.{owner_there, place_node, place_same}
-use Rattle.nl_segments.proofs.TotalLemmas.{nodes-append}
+use Rattle.nl_lines.proofs.TotalLemmas.{nodes-append}
 use Rattle.nl_segments.proofs.PairLines.{at, awaits_as, opened, judged_by, row_after, last_sound}
 use Rattle.nl_segments.proofs.TreeFresh.{fresh_tree}
-use Rattle.nl_segments.specs.declared.fault.NlReason.TheVariants.{TooLarge}
+use Rattle.nl_lines.specs.declared.fault.NlReason.TheVariants.{TooLarge}
 use Rattle.nl_model.specs.Draft.{Draft}
-use Rattle.nl_segments.proofs.NodeLemmas.{node_known}
-use Rattle.nl_segments.proofs.OpcodeLemmas.{counted_fit}
+use Rattle.nl_lines.proofs.NodeLemmas.{node_known}
+use Rattle.nl_lines.proofs.OpcodeLemmas.{counted_fit}
 use Rattle.nl_model.specs.File.{Definition as DefinitionValue}
 use Rattle.nl_model.specs.Nodes.{awaited}
 use Rattle.nl_segments.proofs.NodeSteps.{in_tree, beyond, IsInTree, in_tree_of, tree_nodes, IsRowMore, IsTreeStep, row_held}

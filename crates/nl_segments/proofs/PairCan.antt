@@ -8,29 +8,30 @@ use Rattle.nl_model.specs.declared.counts.Counts.{Counts}
 use Rattle.nl_model.specs.Draft.{Draft}
 use Rattle.nl_model.specs.File.{Term}
 use Rattle.nl_model.specs.Rules.{AreIndicesApart, AreTermsBelow, has_suffix, most_terms, object_count, term_count}
-use Rattle.nl_segments.specs.declared.awaited.Awaited.TheVariants.{Pair}
-use Rattle.nl_segments.specs.declared.head.Head.{Head}
-use Rattle.nl_segments.specs.declared.head.Head.TheVariants.{Body as BodyHead, DualGuesses, PrimalGuesses, Terms, Slopes, Suffix}
-use Rattle.nl_segments.specs.Rows.{Row, row_words}
-use Rattle.nl_segments.specs.Heads.{is_in_range}
-use Rattle.nl_segments.specs.Pieces.{pair_in, piece_pairs}
+use Rattle.nl_lines.specs.declared.awaited.Awaited.TheVariants.{Pair}
+use Rattle.nl_lines.specs.declared.head.Head.{Head}
+use Rattle.nl_lines.specs.declared.head.Head.TheVariants.{Body as BodyHead, DualGuesses, PrimalGuesses, Terms, Slopes, Suffix}
+use Rattle.nl_lines.specs.Rows.{Row, row_words}
+use Rattle.nl_lines.specs.Heads.{is_in_range}
+use Rattle.nl_lines.specs.Pieces.{pair_in, piece_pairs, keeps_pairs}
 use Rattle.nl_segments.specs.PlaceSteps.{HasBegun, HasOwner}
-use Rattle.nl_segments.specs.Saying.{draft_of, place_lines, said_by}
-use Rattle.nl_segments.specs.Tests.{holds_once, index_limit, is_linear, is_same_piece, is_suffix}
+use Rattle.nl_lines.specs.Saying.{draft_of, place_lines, said_by}
+use Rattle.nl_lines.specs.Tests.{holds_once, index_limit, is_linear, is_same_piece, is_suffix}
 use Rattle.nl_segments.specs.Grammar.{Standing, counts_of}
 use Rattle.nl_segments.specs.Current.{Current}
-use Rattle.nl_segments.specs.PairSteps.{SaysFreshPair, CanClose, CanGive, CanUse, is_full_at, with_given, with_kept}
-use Rattle.nl_segments.specs.Held.{Body, HasRow, HoldsSome, IsAwaiting, IsHeld, IsMarked, keeps_pairs}
-use Rattle.nl_segments.proofs.DraftLemmas.{draft_before, says_whole}
-use Rattle.nl_segments.proofs.FreshLaw.{none_before, fresh_dual, fresh_primal}
-use Rattle.nl_segments.proofs.HeadSuffixes.{suffixes_come}
+use Rattle.nl_lines.specs.PairTests.{SaysFreshPair, is_full_at, IsMarked}
+use Rattle.nl_segments.specs.PairSteps.{CanClose, CanGive, CanUse, with_given, with_kept}
+use Rattle.nl_segments.specs.Held.{Body, HasRow, HoldsSome, IsAwaiting, IsHeld}
+use Rattle.nl_lines.proofs.DraftLemmas.{draft_before, says_whole}
+use Rattle.nl_lines.proofs.FreshLaw.{none_before, fresh_dual, fresh_primal}
+use Rattle.nl_lines.proofs.HeadSuffixes.{suffixes_come}
 use Rattle.nl_segments.proofs.PairDraft.{begun_there}
 use Rattle.nl_segments.proofs.PlaceLemmas.{owner_there}
 use Rattle.nl_segments.proofs.PairHeld.{early}
-use Rattle.nl_segments.proofs.PairLaw.{terms_few, slopes_few, uses_few}
+use Rattle.nl_lines.proofs.PairLaw.{terms_few, slopes_few, uses_few}
 use Rattle.nl_segments.proofs.PairLines.{at, Opened, opened, awaits_as, last_sound}
 use Rattle.nl_segments.proofs.PairPiece.{IsNextPair, none_has, sound_pair, kept_pairs}
-use Rattle.nl_segments.proofs.PieceLemmas.{longer, draft-append}
+use Rattle.nl_lines.proofs.PieceLemmas.{longer, draft-append}
 
 -- ---- what is known of the piece
 

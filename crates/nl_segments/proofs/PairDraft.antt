@@ -8,26 +8,25 @@ use Rattle.std.proofs.lemmas.List.{drop_all, length-append, length-replicate, le
 use Rattle.nl_model.specs.declared.counts.Counts.{Counts}
 use Rattle.nl_model.specs.Draft.{Draft, empty_draft}
 use Rattle.nl_model.specs.File.{Term}
-use Rattle.nl_segments.specs.declared.awaited.Awaited.TheVariants.{Nothing, Pair}
-use Rattle.nl_segments.specs.declared.head.Head.{Head}
-use Rattle.nl_segments.specs.declared.head.Head.TheVariants.{Body, Objective, Definition, DualGuesses, PrimalGuesses, Terms, Slopes, Suffix}
-use Rattle.nl_segments.specs.Rows.{Row}
-use Rattle.nl_segments.specs.Nodes.{only_lines, nodes_from, nodes_of, pending_from, pending_of}
-use Rattle.nl_segments.specs.Pieces.{Piece, awaited_in, is_complete, has_tree, is_nothing, line_count, line_kind, pair_count, piece_pairs, tree_awaits, tree_rows}
-use Rattle.nl_segments.specs.Saying.{node_lines, draft_of, said_by, with_piece, place_lines, lines_by, term_lines}
+use Rattle.nl_lines.specs.declared.awaited.Awaited.TheVariants.{Nothing, Pair}
+use Rattle.nl_lines.specs.declared.head.Head.{Head}
+use Rattle.nl_lines.specs.declared.head.Head.TheVariants.{Body, Objective, Definition, DualGuesses, PrimalGuesses, Terms, Slopes, Suffix}
+use Rattle.nl_lines.specs.Rows.{Row}
+use Rattle.nl_lines.specs.Nodes.{only_lines, nodes_from, nodes_of, pending_from, pending_of}
+use Rattle.nl_lines.specs.Pieces.{Piece, awaited_in, is_complete, has_tree, is_nothing, line_count, line_kind, pair_count, piece_pairs, tree_awaits, tree_rows, keeps_pairs}
+use Rattle.nl_lines.specs.Saying.{node_lines, draft_of, said_by, with_piece, place_lines, lines_by, term_lines}
 use Rattle.nl_segments.specs.PlaceSteps.{HasBegun, with_term_line}
-use Rattle.nl_segments.specs.Heads.{is_in_range}
-use Rattle.nl_segments.specs.Tests.{is_linear, is_suffix}
+use Rattle.nl_lines.specs.Heads.{is_in_range}
+use Rattle.nl_lines.specs.Tests.{is_linear, is_suffix}
 use Rattle.nl_segments.specs.Current.{Current, current_awaits}
 use Rattle.nl_model.specs.UseCounts.{use_count}
-use Rattle.nl_segments.specs.Held.{keeps_pairs}
 use Rattle.nl_segments.specs.PairSteps.{with_closed, with_given, with_suffix, with_use}
-use Rattle.nl_segments.proofs.CurrentLemmas.{early_tree}
-use Rattle.nl_segments.proofs.DraftLemmas.{draft_before, with_dual, with_primal, with_term, with_slope, with_suffix as suffix_said}
-use Rattle.nl_segments.proofs.FreshLaw.{either}
-use Rattle.nl_segments.proofs.PairLaw.{use_more}
+use Rattle.nl_lines.proofs.RowLemmas.{early_tree}
+use Rattle.nl_lines.proofs.DraftLemmas.{draft_before, with_dual, with_primal, with_term, with_slope, with_suffix as suffix_said}
+use Rattle.nl_lines.proofs.FreshLaw.{either}
+use Rattle.nl_lines.proofs.PairLaw.{use_more}
 use Rattle.nl_segments.proofs.PairPiece.{IsNextPair, few_rows}
-use Rattle.nl_segments.proofs.PieceLemmas.{longer, lines-append}
+use Rattle.nl_lines.proofs.PieceLemmas.{longer, lines-append}
 use Rattle.nl_segments.proofs.PlaceLemmas.{place_term, owner_there}
 
 -- ---- a defined variable is not complete by its terms alone

@@ -7,27 +7,31 @@ use Rattle.nl_model.specs.declared.counts.Counts.{Counts}
 use Rattle.nl_model.specs.Draft.{Draft}
 use Rattle.nl_model.specs.Nodes.{awaited}
 use Rattle.nl_model.specs.Rules.{AreTermsBelow, AreIndicesApart, most_terms}
-use Rattle.nl_segments.specs.declared.awaited.Awaited.{Awaited}
-use Rattle.nl_segments.specs.declared.awaited.Awaited.TheVariants.{Nothing, Pair, ColumnCount, Interval as IntervalLine}
-use Rattle.nl_segments.specs.declared.head.Head.{Head}
-use Rattle.nl_segments.specs.Rows.{Row}
-use Rattle.nl_segments.specs.Nodes.{Pending, Placed, nodes_of, only_lines, only_nodes}
-use Rattle.nl_segments.specs.Pieces.{Piece, awaited_in, is_complete, is_nothing, line_count, line_kind, has_tree, pair_count, piece_nodes, piece_pairs, piece_pending, tree_awaits}
-use Rattle.nl_segments.specs.declared.head.Head.TheVariants.{ColumnCounts}
+use Rattle.nl_lines.specs.declared.awaited.Awaited.{Awaited}
+use Rattle.nl_lines.specs.declared.awaited.Awaited.TheVariants.{Nothing, Pair, ColumnCount, Interval as IntervalLine}
+use Rattle.nl_lines.specs.declared.head.Head.{Head}
+use Rattle.nl_lines.specs.Rows.{Row}
+use Rattle.nl_lines.specs.declared.pending.Pending.{Pending}
+use Rattle.nl_lines.specs.Nodes.{Placed, nodes_of, only_lines, only_nodes}
+use Rattle.nl_lines.specs.Pieces.{Piece, awaited_in, is_complete, is_nothing, line_count, line_kind, has_tree, pair_count, piece_nodes, piece_pairs, piece_pending, tree_awaits}
+use Rattle.nl_lines.specs.declared.head.Head.TheVariants.{ColumnCounts}
 use Rattle.std.proofs.lemmas.List.{append_assoc, append-nil, take-append-le}
-use Rattle.nl_segments.specs.Tests.{all_column_counts, column_counts, index_limit, is_same_piece, is_linear, is_suffix, pair_total}
-use Rattle.nl_segments.specs.Saying.{place_lines}
+use Rattle.nl_lines.specs.Tests.{all_column_counts, column_counts, index_limit, is_same_piece, is_linear, is_suffix, pair_total}
+use Rattle.nl_lines.specs.Saying.{place_lines}
 use Rattle.nl_segments.specs.Grammar.{counts_of, said}
 use Rattle.nl_segments.specs.Current.{Current, IsCurrent, current_awaits, less_line}
-use Rattle.nl_segments.specs.SeenSegments.{IsSeenIn, has_segment}
+use Rattle.nl_lines.specs.SeenSegments.{IsSeenIn, has_segment}
 use Rattle.nl_segments.specs.LineSteps.{unless_complete}
 use Rattle.nl_model.specs.UseCounts.{use_count}
-use Rattle.nl_segments.specs.Held.{Body, IsHeld, IsLast, IsMarked, IsNodeKnown, IsNodeLeft, IsOpen, IsSoundPiece}
-use Rattle.nl_segments.proofs.CurrentLemmas.{awaits, early_tree, late_pairs, with_line}
-use Rattle.nl_segments.proofs.DraftLemmas.{draft_counts}
-use Rattle.nl_segments.proofs.PieceLemmas.{longer, last-append, lines-append}
+use Rattle.nl_lines.specs.PairTests.{IsMarked}
+use Rattle.nl_lines.specs.NodeRows.{IsNodeKnown}
+use Rattle.nl_segments.specs.Held.{Body, IsHeld, IsLast, IsNodeLeft, IsOpen, IsSoundPiece}
+use Rattle.nl_lines.proofs.RowLemmas.{early_tree, late_pairs}
+use Rattle.nl_segments.proofs.CurrentLemmas.{awaits, with_line}
+use Rattle.nl_lines.proofs.DraftLemmas.{draft_counts}
+use Rattle.nl_lines.proofs.PieceLemmas.{longer, last-append, lines-append}
 use Rattle.nl_segments.proofs.PlaceLemmas.{place_same}
-use Rattle.nl_segments.proofs.TotalLemmas.{pairs-append, pairs-other}
+use Rattle.nl_lines.proofs.TotalLemmas.{pairs-append, pairs-other}
 use Rattle.nl_segments.proofs.PairLines.{at, sound_longer, are_seen_longer, suffixes_longer, nodes_longer}
 
 -- ---- a line before any expression is awaited

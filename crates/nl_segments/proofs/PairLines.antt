@@ -9,19 +9,19 @@ use Rattle.std.proofs.lemmas.List.Folds.{list_any-append}
 use Rattle.std.proofs.lemmas.List.Quantifiers.{all_pairs_push}
 use Rattle.text_base.specs.Judged.{first_reason}
 use Rattle.nl_model.specs.declared.counts.Counts.{Counts}
-use Rattle.nl_segments.specs.declared.awaited.Awaited.{Awaited}
-use Rattle.nl_segments.specs.declared.head.Head.{Head}
-use Rattle.nl_segments.specs.Rows.{Row, row_words}
-use Rattle.nl_segments.specs.Heads.{is_head}
-use Rattle.nl_segments.specs.Pieces.{Piece, last_piece, is_complete, piece_nodes, piece_pairs, awaited_of, awaited_in}
-use Rattle.nl_segments.specs.Tests.{awaited_tests, is_same_piece, is_suffix, node_total, pair_total, row_tests, suffix_count}
+use Rattle.nl_lines.specs.declared.awaited.Awaited.{Awaited}
+use Rattle.nl_lines.specs.declared.head.Head.{Head}
+use Rattle.nl_lines.specs.Rows.{Row, row_words}
+use Rattle.nl_lines.specs.Heads.{is_head}
+use Rattle.nl_lines.specs.Pieces.{Piece, last_piece, is_complete, piece_nodes, piece_pairs, awaited_of, awaited_in}
+use Rattle.nl_lines.specs.Tests.{awaited_tests, is_same_piece, is_suffix, node_total, pair_total, row_tests, suffix_count}
 use Rattle.nl_segments.specs.Grammar.{Standing, counts_of, said}
 use Rattle.nl_segments.specs.Steps.{after_body_row}
 use Rattle.nl_segments.specs.Current.{Current, current_awaits}
 use Rattle.nl_segments.specs.Held.{Body, HasRow, AreSeen, HoldsSome, IsRowOf, IsAwaiting, AreSound, IsHeld, IsLast, IsOpen, IsSoundPiece, words_refusal}
 use Rattle.nl_segments.proofs.CurrentLemmas.{awaits}
-use Rattle.nl_segments.proofs.PieceLemmas.{split, longer, extended-append}
-use Rattle.nl_segments.proofs.TotalLemmas.{nodes-append, pairs-append, pairs-other}
+use Rattle.nl_lines.proofs.PieceLemmas.{split, longer, extended-append}
+use Rattle.nl_lines.proofs.TotalLemmas.{nodes-append, pairs-append, pairs-other}
 
 -- ---- the piece that is held
 

@@ -10,17 +10,19 @@ use Rattle.std.proofs.lemmas.List.Quantifiers.{all_pairs_push}
 use Rattle.nl_model.specs.declared.counts.Counts.{Counts}
 use Rattle.nl_model.specs.File.{Term}
 use Rattle.nl_model.specs.Rules.{AreTermsBelow, AreIndicesApart}
-use Rattle.nl_segments.specs.declared.awaited.Awaited.TheVariants.{Pair}
-use Rattle.nl_segments.specs.declared.head.Head.{Head}
-use Rattle.nl_segments.specs.declared.head.Head.TheVariants.{Sides, Bounds, ColumnCounts}
-use Rattle.nl_segments.specs.Rows.{Row, row_words}
-use Rattle.nl_segments.specs.Pieces.{Piece, line_count, line_kind, pair_count, pair_in, piece_pairs}
-use Rattle.nl_segments.specs.Tests.{has_index, holds_once, index_limit}
+use Rattle.nl_lines.specs.declared.awaited.Awaited.TheVariants.{Pair}
+use Rattle.nl_lines.specs.declared.head.Head.{Head}
+use Rattle.nl_lines.specs.declared.head.Head.TheVariants.{Sides, Bounds, ColumnCounts}
+use Rattle.nl_lines.specs.Rows.{Row, row_words}
+use Rattle.nl_lines.specs.Pieces.{Piece, line_count, line_kind, pair_count, pair_in, piece_pairs, keeps_pairs}
+use Rattle.nl_lines.specs.Tests.{has_index, holds_once, index_limit}
 use Rattle.nl_segments.specs.Current.{Current, IsCurrent, less_line, with_pair}
-use Rattle.nl_segments.specs.Held.{IsMarked, IsSoundPiece, keeps_pairs}
+use Rattle.nl_lines.specs.PairTests.{IsMarked}
+use Rattle.nl_segments.specs.Held.{IsSoundPiece}
 use Rattle.nl_segments.specs.PairSteps.{with_kept, with_mark}
-use Rattle.nl_segments.proofs.CurrentLemmas.{early_pairs, with_line}
-use Rattle.nl_segments.proofs.PieceLemmas.{longer}
+use Rattle.nl_lines.proofs.RowLemmas.{early_pairs}
+use Rattle.nl_segments.proofs.CurrentLemmas.{with_line}
+use Rattle.nl_lines.proofs.PieceLemmas.{longer}
 
 -- ---- heads of pairs
 

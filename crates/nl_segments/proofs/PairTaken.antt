@@ -9,32 +9,34 @@ use Rattle.nl_model.specs.Draft.{Draft}
 use Rattle.nl_model.specs.File.{Term}
 use Rattle.nl_model.specs.Rules.{most_terms}
 use Rattle.std.proofs.lemmas.Bool.{ltb-true}
-use Rattle.nl_segments.specs.declared.awaited.Awaited.TheVariants.{ColumnCount, Pair}
-use Rattle.nl_segments.specs.declared.fault.NlReason.{NlReason}
-use Rattle.nl_segments.specs.declared.head.Head.{Head}
-use Rattle.nl_segments.specs.declared.head.Head.TheVariants.{DualGuesses, Terms, Suffix}
-use Rattle.nl_segments.specs.Rows.{Row}
-use Rattle.nl_segments.specs.Heads.{is_head, is_in_range}
-use Rattle.nl_segments.specs.Pieces.{Piece, is_nothing, piece_pairs}
+use Rattle.nl_lines.specs.declared.awaited.Awaited.TheVariants.{ColumnCount, Pair}
+use Rattle.nl_lines.specs.declared.fault.NlReason.{NlReason}
+use Rattle.nl_lines.specs.declared.head.Head.{Head}
+use Rattle.nl_lines.specs.declared.head.Head.TheVariants.{DualGuesses, Terms, Suffix}
+use Rattle.nl_lines.specs.Rows.{Row}
+use Rattle.nl_lines.specs.Heads.{is_head, is_in_range}
+use Rattle.nl_lines.specs.Pieces.{Piece, is_nothing, piece_pairs}
 use Rattle.nl_segments.specs.PlaceSteps.{with_term_line}
-use Rattle.nl_segments.specs.Saying.{draft_of}
-use Rattle.nl_segments.specs.Tests.{index_limit, is_full, is_linear, is_suffix, pair_total}
+use Rattle.nl_lines.specs.Saying.{draft_of}
+use Rattle.nl_lines.specs.Tests.{index_limit, is_full, is_linear, is_suffix, pair_total}
 use Rattle.nl_segments.specs.Grammar.{Standing, counts_of}
 use Rattle.nl_segments.specs.Steps.{after_body_row}
 use Rattle.nl_segments.specs.Current.{Current, current_awaits}
 use Rattle.nl_segments.specs.LineSteps.{unless_complete}
-use Rattle.nl_segments.specs.PairSteps.{is_full_at, next_pair_tests, one_more, with_closed, with_given, with_kept, with_mark, with_suffix, with_use}
+use Rattle.nl_lines.specs.PairTests.{is_full_at, next_pair_tests, IsMarked}
+use Rattle.nl_segments.specs.PairSteps.{one_more, with_closed, with_given, with_kept, with_mark, with_suffix, with_use}
 use Rattle.nl_model.specs.UseCounts.{use_count}
-use Rattle.nl_segments.specs.Held.{Body, IsAwaiting, IsHeld, IsMarked, IsNodeKnown, IsNodeLeft, IsRowOf, words_refusal}
+use Rattle.nl_lines.specs.NodeRows.{IsNodeKnown}
+use Rattle.nl_segments.specs.Held.{Body, IsAwaiting, IsHeld, IsNodeLeft, IsRowOf, words_refusal}
 use Rattle.nl_segments.proofs.CurrentLemmas.{awaits}
-use Rattle.nl_segments.proofs.DraftLemmas.{draft_counts}
+use Rattle.nl_lines.proofs.DraftLemmas.{draft_counts}
 use Rattle.nl_segments.proofs.PairCan.{IsRead, IsPairNext, pair_next}
 use Rattle.nl_segments.proofs.PairDraft.{draft_lengths, draft_pair, terms_closed, uses_pair, users_kept, places_pair}
 use Rattle.nl_segments.proofs.PairHeld.{held_longer, columns_kept}
-use Rattle.nl_segments.proofs.PairJudging.{same_pair_tests}
+use Rattle.nl_lines.proofs.PairJudging.{same_pair_tests}
 use Rattle.nl_segments.proofs.PairLines.{at, opened, awaits_as, judged_by, last_sound, pairs_longer, row_after}
 use Rattle.nl_segments.proofs.PairPiece.{IsNextPair, pairs_are, sound_pair, marks_kept, marked_pair, kept_fields, kept_current, kept_pairs}
-use Rattle.nl_segments.proofs.PieceLemmas.{longer}
+use Rattle.nl_lines.proofs.PieceLemmas.{longer}
 
 -- ---- what a pair changes
 

@@ -5,17 +5,17 @@ use Rattle.std.specs.List.{fold}
 use Rattle.std.proofs.lemmas.Bool.{ltb-true}
 use Rattle.std.proofs.lemmas.List.{length-append, length-set, length-replicate}
 use Rattle.nl_model.specs.declared.counts.Counts.{Counts}
-use Rattle.nl_segments.specs.declared.head.Head.{Head}
-use Rattle.nl_segments.specs.declared.head.Head.TheVariants.{Body, Objective, Definition, DualGuesses, Terms, Slopes}
-use Rattle.nl_segments.specs.Heads.{is_in_range}
-use Rattle.nl_segments.specs.Rows.{Row}
-use Rattle.nl_segments.specs.Nodes.{nodes_from}
-use Rattle.nl_segments.specs.Pieces.{Piece, has_tree}
-use Rattle.nl_segments.specs.Tests.{is_linear}
-use Rattle.nl_segments.specs.Saying.{OwnerLines, PlaceLines, no_lines, empty_lines, node_lines, term_lines, with_tree_lines, with_term_lines, with_slope_lines, changed, lines_by, place_lines}
+use Rattle.nl_lines.specs.declared.head.Head.{Head}
+use Rattle.nl_lines.specs.declared.head.Head.TheVariants.{Body, Objective, Definition, DualGuesses, Terms, Slopes}
+use Rattle.nl_lines.specs.Heads.{is_in_range}
+use Rattle.nl_lines.specs.Rows.{Row}
+use Rattle.nl_lines.specs.Nodes.{nodes_from}
+use Rattle.nl_lines.specs.Pieces.{Piece, has_tree}
+use Rattle.nl_lines.specs.Tests.{is_linear}
+use Rattle.nl_lines.specs.Saying.{OwnerLines, PlaceLines, no_lines, empty_lines, node_lines, term_lines, with_tree_lines, with_term_lines, with_slope_lines, changed, lines_by, place_lines}
 use Rattle.nl_segments.specs.PlaceSteps.{HasOwner, with_begun, with_node_line, with_term_line, more_nodes, more_terms}
-use Rattle.nl_segments.proofs.PieceLemmas.{drop_none, longer, take_none}
-use Rattle.nl_segments.proofs.DraftLemmas.{set_again, get_set}
+use Rattle.nl_lines.proofs.PieceLemmas.{drop_none, longer, take_none}
+use Rattle.nl_lines.proofs.DraftLemmas.{set_again, get_set}
 
 -- ---- owners
 

@@ -1,8 +1,8 @@
 -- What no lines mean.
 use Rattle.std.proofs.Common.{[], refl}
 use Rattle.nl_header.specs.Reading.{Taken, IsReading}
-use Rattle.nl_segments.specs.Rows.{rows_from}
-use Rattle.nl_segments.specs.Pieces.{pieces_of}
+use Rattle.nl_lines.specs.Rows.{rows_from}
+use Rattle.nl_lines.specs.Pieces.{pieces_of}
 use Rattle.nl_segments.specs.Grammar.{standing}
 use Rattle.nl_segments.specs.Held.{HoldsBy}
 use Rattle.std.specs.Prelude.{None}

@@ -6,8 +6,8 @@ use Rattle.text_base.specs.declared.stop.Stop.{Stop}
 use Rattle.text_base.specs.declared.stop.Stop.TheVariants.{Fault, Memory}
 use Rattle.text_base.specs.declared.fault.TextFault.{TextFault}
 use Rattle.text_base.specs.Reading.{HasFaultSoFar, Reads}
-use Rattle.nl_segments.specs.declared.fault.NlFault.{NlFault}
-use Rattle.nl_segments.specs.declared.fault.NlReason.{NlReason}
+use Rattle.nl_lines.specs.declared.fault.NlFault.{NlFault}
+use Rattle.nl_lines.specs.declared.fault.NlReason.{NlReason}
 use Rattle.nl_segments.specs.Grammar.{nl_rules, SaysFile}
 use Rattle.nl_segments.specs.Reader.{stop_of, ReadsNl, HasNlFaultSoFar, value_of}
 

@@ -9,19 +9,19 @@ use Rattle.nl_model.specs.Draft.{is_given}
 use Rattle.nl_model.specs.File.{Term}
 use Rattle.nl_model.specs.HeaderRules.{defined_count}
 use Rattle.nl_model.specs.Rules.{AreTermsBelow, is_defined, most_terms}
-use Rattle.nl_segments.specs.declared.head.Head.{Head}
-use Rattle.nl_segments.specs.declared.head.Head.TheVariants.{Body as BodyHead, Objective, Definition, DualGuesses}
-use Rattle.nl_segments.specs.Heads.{is_in_range}
-use Rattle.nl_segments.specs.Pieces.{Piece, has_tree, piece_pairs}
-use Rattle.nl_segments.specs.Tests.{index_limit, is_linear, is_same_piece, pair_total}
-use Rattle.nl_segments.specs.Saying.{draft_of}
+use Rattle.nl_lines.specs.declared.head.Head.{Head}
+use Rattle.nl_lines.specs.declared.head.Head.TheVariants.{Body as BodyHead, Objective, Definition, DualGuesses}
+use Rattle.nl_lines.specs.Heads.{is_in_range}
+use Rattle.nl_lines.specs.Pieces.{Piece, has_tree, piece_pairs, keeps_pairs}
+use Rattle.nl_lines.specs.Tests.{index_limit, is_linear, is_same_piece, pair_total}
+use Rattle.nl_lines.specs.Saying.{draft_of}
 use Rattle.nl_segments.specs.Grammar.{Standing}
 use Rattle.nl_segments.specs.Current.{Current}
 use Rattle.nl_segments.specs.TreeSteps.{IsFresh}
-use Rattle.nl_segments.specs.Held.{Body, IsHeld, IsOpen, keeps_pairs}
-use Rattle.nl_segments.proofs.DraftLemmas.{draft_before}
-use Rattle.nl_segments.proofs.FreshLaw.{none_before, fresh_body, fresh_objective, fresh_definition}
-use Rattle.nl_segments.proofs.TotalLemmas.{pairs-append}
+use Rattle.nl_segments.specs.Held.{Body, IsHeld, IsOpen}
+use Rattle.nl_lines.proofs.DraftLemmas.{draft_before}
+use Rattle.nl_lines.proofs.FreshLaw.{none_before, fresh_body, fresh_objective, fresh_definition}
+use Rattle.nl_lines.proofs.TotalLemmas.{pairs-append}
 use Rattle.nl_segments.proofs.PairLines.{at, opened, last_sound}
 use Rattle.nl_segments.proofs.NodeSteps.{tree_says}
 

@@ -6,9 +6,9 @@ use Rattle.nl_model.specs.declared.node.Node.{Node}
 use Rattle.nl_model.specs.Nodes.{IsPrefix, a_number, a_variable, a_defined, an_operation, ArePrefixes, no_tree, one_more, AreNodesOf}
 use Rattle.nl_model.specs.Draft.{Draft}
 use Rattle.nl_model.specs.Rules.{IsTreeWithin, AreTreesWithin}
-use Rattle.nl_segments.specs.Held.{IsNodeKnown}
+use Rattle.nl_lines.specs.NodeRows.{IsNodeKnown}
 use Rattle.nl_segments.specs.Current.{Current}
-use Rattle.nl_segments.specs.declared.head.Head.{Head}
+use Rattle.nl_lines.specs.declared.head.Head.{Head}
 use Rattle.nl_segments.specs.TreeSteps.{IsFresh, MayTake}
 
 -- node by node

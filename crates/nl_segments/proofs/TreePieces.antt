@@ -15,23 +15,23 @@ use Rattle.nl_model.specs.File.{Definition, File, Objective}
 use Rattle.nl_model.specs.FilePlaces.{tree_at}
 use Rattle.nl_model.specs.Nodes.{awaited, IsPrefix}
 use Rattle.nl_model.proofs.Prefixes.{prefix_of_run}
-use Rattle.nl_segments.specs.declared.awaited.Awaited.TheVariants.{Nothing}
-use Rattle.nl_segments.specs.declared.head.Head.{Head}
-use Rattle.nl_segments.specs.declared.head.Head.TheVariants.{Body as BodyHead, Objective as ObjectiveHead, Definition as DefinitionHead, DualGuesses, PrimalGuesses, Sides, Bounds, ColumnCounts, Terms, Slopes, Suffix}
-use Rattle.nl_segments.specs.declared.pending.Pending.{Pending}
-use Rattle.nl_segments.specs.Nodes.{Placed, only_nodes}
-use Rattle.nl_segments.specs.Pieces.{Piece, awaited_in, has_tree, is_complete, is_nothing, line_count, line_kind, piece_nodes, piece_pairs, piece_pending, tree_awaits}
-use Rattle.nl_segments.specs.Saying.{draft_of, piece_tree, said_by}
+use Rattle.nl_lines.specs.declared.awaited.Awaited.TheVariants.{Nothing}
+use Rattle.nl_lines.specs.declared.head.Head.{Head}
+use Rattle.nl_lines.specs.declared.head.Head.TheVariants.{Body as BodyHead, Objective as ObjectiveHead, Definition as DefinitionHead, DualGuesses, PrimalGuesses, Sides, Bounds, ColumnCounts, Terms, Slopes, Suffix}
+use Rattle.nl_lines.specs.declared.pending.Pending.{Pending}
+use Rattle.nl_lines.specs.Nodes.{Placed, only_nodes}
+use Rattle.nl_lines.specs.Pieces.{Piece, awaited_in, has_tree, is_complete, is_nothing, line_count, line_kind, piece_nodes, piece_pairs, piece_pending, tree_awaits}
+use Rattle.nl_lines.specs.Saying.{draft_of, piece_tree, said_by}
 use Rattle.nl_segments.specs.Grammar.{NlValue, Standing, counts_of, said, standing}
 use Rattle.nl_segments.specs.Reader.{BeginsTree, HasPiece, HasPieces, IsNl}
 use Rattle.nl_segments.proofs.CleanRows.{IsRunning}
 use Rattle.nl_segments.proofs.CleanTexts.{IsWholeText, whole_text}
-use Rattle.nl_segments.proofs.DraftLemmas.{draft_counts}
-use Rattle.nl_segments.proofs.FreshLaw.{either}
+use Rattle.nl_lines.proofs.DraftLemmas.{draft_counts}
+use Rattle.nl_lines.proofs.FreshLaw.{either}
 use Rattle.nl_segments.proofs.LinesHeld.{always, body_in, given_in, tree_part}
 use Rattle.nl_segments.proofs.HeadBegun.{some_line}
 use Rattle.nl_segments.proofs.PairHeld.{never}
-use Rattle.nl_segments.proofs.PieceLemmas.{draft-append}
+use Rattle.nl_lines.proofs.PieceLemmas.{draft-append}
 
 -- ---- lists with one more
 

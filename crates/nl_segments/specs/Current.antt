@@ -6,13 +6,14 @@ use Rattle.nl_model.specs.declared.counts.Counts.{Counts}
 use Rattle.nl_model.specs.declared.node.Node.{Node}
 use Rattle.nl_model.specs.File.{Term}
 use Rattle.nl_model.specs.Nodes.{awaited}
-use Rattle.nl_segments.specs.declared.awaited.Awaited.{Awaited}
-use Rattle.nl_segments.specs.declared.awaited.Awaited.TheVariants.{Nothing, Node as NodeLine, OperandCount}
-use Rattle.nl_segments.specs.declared.head.Head.{Head}
-use Rattle.nl_segments.specs.declared.node_row.NodeRow.{NodeRow}
-use Rattle.nl_segments.specs.declared.node_row.NodeRow.TheVariants.{Whole, Counted}
-use Rattle.nl_segments.specs.Nodes.{Pending, only_nodes}
-use Rattle.nl_segments.specs.Pieces.{Piece, line_kind, line_count, has_tree, piece_nodes, piece_pending}
+use Rattle.nl_lines.specs.declared.awaited.Awaited.{Awaited}
+use Rattle.nl_lines.specs.declared.awaited.Awaited.TheVariants.{Nothing, Node as NodeLine, OperandCount}
+use Rattle.nl_lines.specs.declared.head.Head.{Head}
+use Rattle.nl_lines.specs.declared.node_row.NodeRow.{NodeRow}
+use Rattle.nl_lines.specs.declared.node_row.NodeRow.TheVariants.{Whole, Counted}
+use Rattle.nl_lines.specs.declared.pending.Pending.{Pending}
+use Rattle.nl_lines.specs.Nodes.{only_nodes}
+use Rattle.nl_lines.specs.Pieces.{Piece, line_kind, line_count, has_tree, piece_nodes, piece_pending}
 
 -- its head and the line of it, how many lines before an expression are still awaited, the pairs
 -- that were kept, the nodes so far, and the opcode that awaits its number of operands

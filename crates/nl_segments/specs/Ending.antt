@@ -2,9 +2,9 @@
 use Rattle.std.specs.Prelude.{◌≡◌, ℕ, ◌+◌, ◌==◌, Bool, ◌&&◌, not, List, [], ◌∷◌, get_or, length, All, IsSome}
 use Rattle.nl_model.specs.Draft.{Draft}
 use Rattle.nl_model.specs.Rules.{term_count}
-use Rattle.nl_segments.specs.declared.fault.NlReason.TheVariants.{ShortSegment, Missing, NonzeroCount, ColumnCount as BadColumnCount}
-use Rattle.nl_segments.specs.Pieces.{is_nothing}
-use Rattle.nl_segments.specs.Tests.{Tests, is_short}
+use Rattle.nl_lines.specs.declared.fault.NlReason.TheVariants.{ShortSegment, Missing, NonzeroCount, ColumnCount as BadColumnCount}
+use Rattle.nl_lines.specs.Pieces.{is_nothing}
+use Rattle.nl_lines.specs.Tests.{Tests, is_short}
 use Rattle.nl_segments.specs.Held.{Body}
 use Rattle.nl_segments.specs.Taking.{body_awaits}
 

@@ -11,12 +11,12 @@ use Rattle.nl_header.specs.declared.fault.HeadFault.TheVariants.{BinaryFile as B
 use Rattle.nl_model.specs.declared.counts.Counts.{Counts}
 use Rattle.nl_model.specs.File.{File}
 use Rattle.nl_model.specs.Draft.{Draft, file_of}
-use Rattle.nl_segments.specs.declared.fault.NlReason.{NlReason}
-use Rattle.nl_segments.specs.declared.fault.NlReason.TheVariants.{BinaryFile, BadFirstLine, Options, BadHeaderNumber, CountsDisagree, RefusedCount, TooLarge, LineTooLong, InputTooLong, EndInHeader}
-use Rattle.nl_segments.specs.Rows.{rows_of, holds_words, header_words, body_rows}
-use Rattle.nl_segments.specs.Pieces.{Piece, pieces_of}
-use Rattle.nl_segments.specs.Saying.{draft_of, PlaceLines, place_lines}
-use Rattle.nl_segments.specs.Tests.{row_tests, end_tests}
+use Rattle.nl_lines.specs.declared.fault.NlReason.{NlReason}
+use Rattle.nl_lines.specs.declared.fault.NlReason.TheVariants.{BinaryFile, BadFirstLine, Options, BadHeaderNumber, CountsDisagree, RefusedCount, TooLarge, LineTooLong, InputTooLong, EndInHeader}
+use Rattle.nl_lines.specs.Rows.{rows_of, holds_words, header_words, body_rows}
+use Rattle.nl_lines.specs.Pieces.{Piece, pieces_of}
+use Rattle.nl_lines.specs.Saying.{draft_of, PlaceLines, place_lines}
+use Rattle.nl_lines.specs.Tests.{row_tests, end_tests}
 
 -- ---- What lines mean for the next one.
 

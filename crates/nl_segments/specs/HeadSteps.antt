@@ -5,13 +5,13 @@ use Rattle.nl_model.specs.declared.counts.Counts.{Counts}
 use Rattle.nl_model.specs.Draft.{Draft}
 use Rattle.nl_model.specs.File.{Suffix}
 use Rattle.nl_model.specs.Rules.{has_suffix}
-use Rattle.nl_segments.specs.declared.fault.NlReason.TheVariants.{TooLarge, RepeatedSegment, IndexOut, ShortSegment, SosSuffix}
-use Rattle.nl_segments.specs.declared.head.Head.{Head}
-use Rattle.nl_segments.specs.declared.head.Head.TheVariants.{Suffix as SuffixHead}
-use Rattle.nl_segments.specs.Heads.{is_in_range, head_of, name_in}
-use Rattle.nl_segments.specs.Pieces.{has_tree, line_count}
-use Rattle.nl_segments.specs.Tests.{Tests, is_suffix, head_form_tests}
-use Rattle.nl_segments.specs.SeenSegments.{Segments, has_segment, with_segment}
+use Rattle.nl_lines.specs.declared.fault.NlReason.TheVariants.{TooLarge, RepeatedSegment, IndexOut, ShortSegment, SosSuffix}
+use Rattle.nl_lines.specs.declared.head.Head.{Head}
+use Rattle.nl_lines.specs.declared.head.Head.TheVariants.{Suffix as SuffixHead}
+use Rattle.nl_lines.specs.Heads.{is_in_range, head_of, name_in}
+use Rattle.nl_lines.specs.Pieces.{has_tree, line_count}
+use Rattle.nl_lines.specs.Tests.{Tests, is_suffix, head_form_tests}
+use Rattle.nl_lines.specs.SeenSegments.{Segments, has_segment, with_segment}
 use Rattle.nl_segments.specs.PlaceSteps.{with_begun}
 use Rattle.nl_segments.specs.Current.{Current, new_current}
 use Rattle.nl_segments.specs.Held.{Body}

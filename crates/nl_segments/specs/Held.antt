@@ -5,25 +5,23 @@ use Rattle.text_base.specs.declared.stop.Stop.{Stop}
 use Rattle.text_base.specs.declared.stop.Stop.TheVariants.{Fault, Memory}
 use Rattle.text_base.specs.Judged.{first_reason}
 use Rattle.nl_model.specs.declared.counts.Counts.{Counts}
-use Rattle.nl_model.specs.declared.node.Node.{Node}
-use Rattle.nl_model.specs.declared.node.Node.TheVariants.{Num, Var, Defined, Op}
 use Rattle.nl_model.specs.Draft.{Draft, file_of}
 use Rattle.nl_header.specs.Head.{options_in, counts_in}
 use Rattle.nl_header.specs.Reading.{Taken, IsReading}
-use Rattle.nl_model.specs.File.{Definition}
-use Rattle.nl_model.specs.Rules.{AreTermsBelow, AreIndicesApart, is_defined, most_terms}
+use Rattle.nl_model.specs.Rules.{AreTermsBelow, AreIndicesApart, most_terms}
 use Rattle.nl_model.specs.UseCounts.{use_count}
-use Rattle.nl_segments.specs.declared.awaited.Awaited.{Awaited}
-use Rattle.nl_segments.specs.declared.fault.NlReason.{NlReason}
+use Rattle.nl_lines.specs.declared.awaited.Awaited.{Awaited}
+use Rattle.nl_lines.specs.declared.fault.NlReason.{NlReason}
 use Rattle.nl_segments.specs.declared.nl_read.NlRead.{NlRead}
-use Rattle.nl_segments.specs.declared.head.Head.{Head}
-use Rattle.nl_segments.specs.declared.head.Head.TheVariants.{Definition as DefinitionHead, Suffix as SuffixHead}
-use Rattle.nl_segments.specs.Rows.{Row, row_words}
-use Rattle.nl_segments.specs.Pieces.{Piece, last_piece, is_complete, pair_count, piece_pairs}
-use Rattle.nl_segments.specs.Tests.{all_column_counts, has_index, holds_once, index_limit, is_linear, is_same_piece, is_suffix, node_total, pair_total, row_tests, suffix_count, end_tests}
-use Rattle.nl_segments.specs.Heads.{is_in_range}
-use Rattle.nl_segments.specs.Saying.{PlaceLines, place_lines}
-use Rattle.nl_segments.specs.SeenSegments.{Segments, IsSeenIn, has_segment}
+use Rattle.nl_lines.specs.declared.head.Head.{Head}
+use Rattle.nl_lines.specs.Rows.{Row, row_words}
+use Rattle.nl_lines.specs.Pieces.{Piece, last_piece, is_complete, pair_count, piece_pairs, keeps_pairs}
+use Rattle.nl_lines.specs.Tests.{all_column_counts, holds_once, index_limit, is_linear, is_same_piece, is_suffix, node_total, pair_total, row_tests, suffix_count, end_tests}
+use Rattle.nl_lines.specs.PairTests.{IsMarked}
+use Rattle.nl_lines.specs.NodeRows.{IsNodeKnown}
+use Rattle.nl_lines.specs.Heads.{is_in_range}
+use Rattle.nl_lines.specs.Saying.{PlaceLines, place_lines}
+use Rattle.nl_lines.specs.SeenSegments.{Segments, IsSeenIn, has_segment}
 use Rattle.nl_segments.specs.Current.{Current, IsCurrent, current_awaits}
 use Rattle.nl_segments.specs.Grammar.{Standing, is_in_header, counts_of, said}
 use Rattle.nl_segments.specs.Steps.{after_body_row}
@@ -65,19 +63,6 @@ pub record AreSound (c : Counts) (pieces : List Piece) : Type 0 where
 
 -- ---- What is held of the last piece.
 
--- its pairs are kept until it is complete
-abbrev pub keeps_pairs : Head → Bool
-keeps_pairs (DefinitionHead i j usage) = true
-keeps_pairs (SuffixHead kind n) = true
-keeps_pairs head = false
-
--- a node uses variables below n, and defined variables that are there
-abbrev pub IsNodeKnown : ℕ → List Definition → Node → Type 0
-IsNodeKnown n ds (Num d) = Unit {0}
-IsNodeKnown n ds (Var j) = j < n
-IsNodeKnown n ds (Defined i) = IsTrue (is_defined ds i)
-IsNodeKnown n ds (Op o k) = Unit {0}
-
 pub record IsOpen (c : Counts) (d : Draft) (name : Option (List ℕ)) (p : Piece)
     (cur : Current) : Type 0 where
   pub incomplete : is_complete c p ≡ false
@@ -92,11 +77,6 @@ IsLast c d name None None = Unit {0}
 IsLast c d name None (Some cur) = ⊥
 IsLast c d name (Some p) None = is_complete c p ≡ true
 IsLast c d name (Some p) (Some cur) = IsOpen c d name p cur
-
--- its indices are marked, where they come once
-abbrev pub IsMarked : Counts → List Bool → Piece → Type 0
-IsMarked c marks p = IsTrue (holds_once p.head) → (i : ℕ) → i < index_limit c p.head
-    → get_or marks i false ≡ has_index (piece_pairs p) i
 
 -- the heads of segments that came, but for suffixes
 abbrev pub AreSeen : Counts → Segments → List Piece → Type 0

@@ -11,11 +11,11 @@ use Rattle.nl_model.specs.FileCode.{draft_code}
 use Rattle.nl_segments.specs.contracts.current.Current.{the_row as current_row}
 use Rattle.nl_segments.specs.contracts.seen.Seen.{the_row as seen_row}
 use Rattle.nl_segments.specs.contracts.places.Places.{the_row as places_row}
-use Rattle.nl_segments.specs.contracts.fault.NlReason.{the_row as reason_row}
-use Rattle.nl_segments.specs.declared.fault.NlReason.{NlReason}
+use Rattle.nl_lines.specs.contracts.fault.NlReason.{the_row as reason_row}
+use Rattle.nl_lines.specs.declared.fault.NlReason.{NlReason}
 use Rattle.nl_segments.specs.Current.{Current}
-use Rattle.nl_segments.specs.SeenSegments.{Segments}
-use Rattle.nl_segments.specs.Saying.{PlaceLines}
+use Rattle.nl_lines.specs.SeenSegments.{Segments}
+use Rattle.nl_lines.specs.Saying.{PlaceLines}
 use Rattle.nl_segments.specs.Held.{Body, Progress}
 
 abbrev Parts : Type 0

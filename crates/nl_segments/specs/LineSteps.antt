@@ -4,8 +4,8 @@ use Rattle.nl_model.specs.declared.counts.Counts.{Counts}
 use Rattle.nl_model.specs.declared.interval.Interval.{Interval}
 use Rattle.nl_model.specs.Draft.{Draft}
 use Rattle.nl_model.specs.Kinds.{kind_of}
-use Rattle.nl_segments.specs.Pieces.{is_nothing}
-use Rattle.nl_segments.specs.Tests.{Tests, interval_form_tests, is_binary, is_sides}
+use Rattle.nl_lines.specs.Pieces.{is_nothing}
+use Rattle.nl_lines.specs.Tests.{Tests, interval_form_tests, is_binary, is_sides}
 use Rattle.nl_segments.specs.Current.{Current, current_awaits}
 
 -- a piece is held until it is complete

@@ -1,43 +1,13 @@
 -- What a pair does to what is held, and by which tests it is judged.
-use Rattle.std.specs.Prelude.{◌≡◌, ◌≢◌, ℕ, ◌+◌, ◌<◌, ◌++◌, ◌∷◌, [], Bool, true, false, ◌&&◌, ◌||◌, nat_le, List, length, Option, Some, unwrap_or, get_or, slice_set, All, if◌then◌else◌}
-use Rattle.nl_model.specs.declared.counts.Counts.{Counts}
+use Rattle.std.specs.Prelude.{◌≡◌, ◌≢◌, ℕ, ◌+◌, ◌<◌, ◌++◌, ◌∷◌, [], Bool, true, false, List, length, Option, Some, unwrap_or, get_or, slice_set, All, if◌then◌else◌}
 use Rattle.nl_model.specs.Draft.{Draft}
 use Rattle.nl_model.specs.File.{Term}
 use Rattle.nl_model.specs.Rules.{AreIndicesApart, AreTermsBelow, has_suffix, most_terms, object_count, term_count}
-use Rattle.nl_segments.specs.declared.fault.NlReason.TheVariants.{TooLarge, RepeatedIndex}
-use Rattle.nl_segments.specs.declared.head.Head.{Head}
-use Rattle.nl_segments.specs.declared.head.Head.TheVariants.{DualGuesses, PrimalGuesses, Terms, Slopes, Suffix}
-use Rattle.exact_numbers.specs.Numbers.{whole_of}
-use Rattle.text_base.specs.Words.{word_at}
-use Rattle.nl_segments.specs.Pieces.{is_nothing, pair_in}
-use Rattle.nl_segments.specs.Tests.{Tests, holds_once, index_limit, is_linear, is_suffix, pair_form_tests, wants_whole}
+use Rattle.nl_lines.specs.declared.head.Head.{Head}
+use Rattle.nl_lines.specs.declared.head.Head.TheVariants.{DualGuesses, PrimalGuesses, Terms, Slopes, Suffix}
+use Rattle.nl_lines.specs.Pieces.{is_nothing, keeps_pairs}
+use Rattle.nl_lines.specs.Tests.{holds_once}
 use Rattle.nl_segments.specs.Current.{Current, current_awaits, less_line, with_pair}
-use Rattle.nl_segments.specs.Held.{keeps_pairs}
-
--- no more pairs may come, where so many linear terms and values of suffixes came
-abbrev pub is_full_at : Head → ℕ → ℕ → Bool
-is_full_at head linear values =
-    (is_linear head && nat_le most_terms linear) || (is_suffix head && nat_le most_terms values)
-
--- the tests of a pair by the marks of the indices that came
-abbrev pub next_pair_tests : Counts → Head → List Bool → Bool → List (List ℕ) → Tests
-next_pair_tests c head marks full words =
-    pair_form_tests (index_limit c head) (wants_whole head) words
-    ++ (
-      holds_once head
-          && get_or marks (unwrap_or (whole_of (word_at words 0)) 0) false,
-      RepeatedIndex,
-    )
-    ∷ (full, TooLarge) ∷ []
-
--- the pair of the next line: its index is in range, and did not come where it comes once, and there
--- is room for it
-pub record SaysFreshPair (c : Counts) (head : Head) (marks : List Bool) (full : Bool)
-    (words : List (List ℕ)) (t : Term) : Type 0 where
-  pub says : pair_in words ≡ Some t
-  pub below : t.0 < index_limit c head
-  pub fresh : (holds_once head && get_or marks t.0 false) ≡ false
-  pub room : full ≡ false
 
 -- ---- pairs that the file takes at once
 

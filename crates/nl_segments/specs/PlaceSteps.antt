@@ -1,9 +1,9 @@
 -- What a head, a node and a term more do to the lines of places.
 use Rattle.std.specs.Prelude.{ℕ, ◌-◌, ◌<◌, [], ◌∷◌, ◌++◌, length, Some}
 use Rattle.std.specs.Option.{option_or}
-use Rattle.nl_segments.specs.declared.head.Head.{Head}
-use Rattle.nl_segments.specs.declared.head.Head.TheVariants.{Body, Objective, Definition, Terms, Slopes}
-use Rattle.nl_segments.specs.Saying.{OwnerLines, PlaceLines, changed}
+use Rattle.nl_lines.specs.declared.head.Head.{Head}
+use Rattle.nl_lines.specs.declared.head.Head.TheVariants.{Body, Objective, Definition, Terms, Slopes}
+use Rattle.nl_lines.specs.Saying.{OwnerLines, PlaceLines, changed}
 
 -- a head in this line
 abbrev pub with_begun : PlaceLines → ℕ → Head → PlaceLines

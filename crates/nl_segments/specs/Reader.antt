@@ -15,15 +15,15 @@ use Rattle.nl_model.specs.File.{File}
 use Rattle.nl_model.specs.FilePlaces.{HasPlace, tree_at}
 use Rattle.nl_model.specs.Nodes.{IsPrefix}
 use Rattle.nl_meaning.specs.Trees.{Tree}
-use Rattle.nl_segments.specs.declared.head.Head.{Head}
-use Rattle.nl_segments.specs.declared.head.Head.TheVariants.{Body, Definition, Objective}
-use Rattle.nl_segments.specs.Nodes.{only_nodes}
-use Rattle.nl_segments.specs.Pieces.{Piece, piece_nodes}
-use Rattle.nl_segments.specs.declared.fault.NlFault.{NlFault}
-use Rattle.nl_segments.specs.declared.fault.NlReason.{NlReason}
-use Rattle.nl_segments.specs.declared.fault.NlReason.TheVariants.{RefusedOpcode}
+use Rattle.nl_lines.specs.declared.head.Head.{Head}
+use Rattle.nl_lines.specs.declared.head.Head.TheVariants.{Body, Definition, Objective}
+use Rattle.nl_lines.specs.Nodes.{only_nodes}
+use Rattle.nl_lines.specs.Pieces.{Piece, piece_nodes}
+use Rattle.nl_lines.specs.declared.fault.NlFault.{NlFault}
+use Rattle.nl_lines.specs.declared.fault.NlReason.{NlReason}
+use Rattle.nl_lines.specs.declared.fault.NlReason.TheVariants.{RefusedOpcode}
 use Rattle.nl_segments.specs.declared.nl_read.NlRead.{NlRead}
-use Rattle.nl_segments.specs.Saying.{line_of}
+use Rattle.nl_lines.specs.Saying.{line_of}
 use Rattle.nl_segments.specs.Grammar.{Standing, standing, counts_of, nl_rules, NlValue, SaysFile}
 use Rattle.nl_segments.specs.Held.{Progress, HoldsStanding}
 use Rattle.nl_segments.specs.HeldCode.{progress_code, stop_code}

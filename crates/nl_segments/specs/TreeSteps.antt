@@ -7,20 +7,19 @@ use Rattle.nl_model.specs.File.{Term}
 use Rattle.nl_model.specs.HeaderRules.{defined_count}
 use Rattle.nl_model.specs.Nodes.{awaited, tree_of}
 use Rattle.nl_model.specs.Rules.{AreTermsBelow, IsTreeWithin, is_defined, most_terms}
-use Rattle.nl_segments.specs.declared.awaited.Awaited.TheVariants.{Nothing}
-use Rattle.nl_segments.specs.declared.fault.NlReason.TheVariants.{TooLarge}
-use Rattle.nl_segments.specs.declared.head.Head.{Head}
-use Rattle.nl_segments.specs.declared.head.Head.TheVariants.{Body, Objective, Definition}
-use Rattle.nl_segments.specs.declared.node_row.NodeRow.{NodeRow}
-use Rattle.nl_segments.specs.declared.node_row.NodeRow.TheVariants.{Whole, Counted}
+use Rattle.nl_lines.specs.declared.awaited.Awaited.TheVariants.{Nothing}
+use Rattle.nl_lines.specs.declared.fault.NlReason.TheVariants.{TooLarge}
+use Rattle.nl_lines.specs.declared.head.Head.{Head}
+use Rattle.nl_lines.specs.declared.head.Head.TheVariants.{Body, Objective, Definition}
+use Rattle.nl_lines.specs.declared.node_row.NodeRow.{NodeRow}
+use Rattle.nl_lines.specs.declared.node_row.NodeRow.TheVariants.{Whole, Counted}
 use Rattle.nl_segments.specs.Current.{Current, current_awaits, with_node_row}
-use Rattle.nl_segments.specs.Held.{IsNodeKnown}
-use Rattle.nl_segments.specs.NodeRows.{IsFormedRow, IsReadAs}
-use Rattle.nl_segments.specs.Nodes.{node_in, opcode_in}
-use Rattle.nl_segments.specs.Pieces.{has_tree, is_nothing}
+use Rattle.nl_lines.specs.NodeRows.{IsNodeKnown, IsFormedRow, IsReadAs}
+use Rattle.nl_lines.specs.Nodes.{node_in, opcode_in}
+use Rattle.nl_lines.specs.Pieces.{has_tree, is_nothing}
 use Rattle.nl_segments.specs.PlaceSteps.{HasBegun, HasOwner, with_node_line}
-use Rattle.nl_segments.specs.Saying.{PlaceLines}
-use Rattle.nl_segments.specs.Tests.{Tests, node_form_tests}
+use Rattle.nl_lines.specs.Saying.{PlaceLines}
+use Rattle.nl_lines.specs.Tests.{Tests, node_form_tests}
 
 -- a draft with the expression of a piece of this head, after these terms
 abbrev pub with_tree : Draft → Head → List Term → Tree → Draft

@@ -2,23 +2,21 @@
 ghost use Rattle.std.specs.Prelude.{◌≡◌, ◌≤◌, ℕ, List, IfOk, IfErr, OnOk, Some, None, replicate, false};
 ghost use Rattle.text_base.specs.Words.{texts};
 ghost use Rattle.nl_model.specs.Draft.{IsDraft};
-ghost use Rattle.nl_segments.specs.declared.head.Head.{Head};
-ghost use Rattle.nl_segments.specs.Heads.{is_head};
+ghost use Rattle.nl_lines.specs.declared.head.Head.{Head};
+ghost use Rattle.nl_lines.specs.Heads.{is_head};
 ghost use Rattle.nl_segments.specs.Held.{IsHeld, IsHeaderOf, only_header, TakesRow, HasRow, Finishes};
-ghost use Rattle.nl_segments.specs.KnownPairs.{is_pair};
+ghost use Rattle.nl_lines.specs.PairTests.{is_pair};
 ghost use Rattle.nl_segments.specs.Taking.{body_awaits};
-ghost use Rattle.nl_segments.specs.Tests.{index_limit};
+ghost use Rattle.nl_lines.specs.Tests.{index_limit};
 ghost use Rattle.nl_segments.specs.Ending.{body_end_tests};
 ghost use Rattle.text_base.specs.Judged.{Decides};
 
-use crate::awaited::Awaited;
 use crate::current::Current;
 use crate::ending::{are_sums, is_short};
-use crate::fault::NlReason;
 use crate::nl_read::NlRead;
 use crate::places::Places;
 use crate::seen::Seen;
-use crate::words::is_head;
+use nl_lines::{Awaited, NlReason, is_head};
 use nl_model::{Counts, Header, NlBuilder, defined_count};
 use std::alloc::{AllocError, Global};
 use std::marker::Model;

@@ -1,14 +1,13 @@
 // A line with the number of a column.
 ghost use Rattle.std.specs.Prelude.{◌≡◌, false};
 ghost use Rattle.text_base.specs.Words.{texts};
-ghost use Rattle.nl_segments.specs.declared.awaited.Awaited.TheVariants.{ColumnCount};
-ghost use Rattle.nl_segments.specs.Heads.{is_head};
+ghost use Rattle.nl_lines.specs.declared.awaited.Awaited.TheVariants.{ColumnCount};
+ghost use Rattle.nl_lines.specs.Heads.{is_head};
 ghost use Rattle.nl_segments.specs.Held.{HasRow, TakesRow, IsAwaiting};
 
 use crate::body::BodyReader;
 use crate::closing::count_line;
-use crate::fault::NlReason;
-use crate::number_lines::read_column;
+use nl_lines::{NlReason, read_column};
 use text_base::Stop;
 
 impl BodyReader {

@@ -3,21 +3,18 @@ ghost use Rattle.std.specs.Prelude.{◌≡◌, ◌<◌, true, false, Some, None,
 ghost use Rattle.text_base.specs.Judged.{Decides};
 ghost use Rattle.text_base.specs.Names.{IsName};
 ghost use Rattle.text_base.specs.Words.{texts};
-ghost use Rattle.nl_segments.specs.Heads.{is_head, head_of, is_in_range, name_in};
+ghost use Rattle.nl_lines.specs.Heads.{is_head, head_of, is_in_range};
 ghost use Rattle.nl_segments.specs.HeadSteps.{has_come, has_come_suffix, held_head_tests, new_head_tests, begun_current, begun_name, begun_count, begun_draft};
 ghost use Rattle.nl_segments.specs.Held.{TakesRow, HasRow};
 ghost use Rattle.nl_segments.specs.PlaceSteps.{HasOwner};
-ghost use Rattle.nl_segments.specs.SeenSegments.{IsSeenIn};
-ghost use Rattle.nl_segments.specs.Tests.{is_suffix};
+ghost use Rattle.nl_lines.specs.SeenSegments.{IsSeenIn};
+ghost use Rattle.nl_lines.specs.Tests.{is_suffix};
 
 use crate::body::BodyReader;
-use crate::current::{Current, has_tree};
-use crate::fault::NlReason;
-use crate::head::Head;
-use crate::head_rules::{is_suffix, line_count};
-use crate::heads::{is_in_range, read_head};
+use crate::current::Current;
 use crate::places::Places;
 use crate::seen::Seen;
+use nl_lines::{Head, NlReason, has_tree, is_in_range, is_suffix, line_count, read_head};
 use nl_model::{Counts, NlBuilder, Suffix, Terms};
 use std::alloc::{AllocError, Global};
 use text_base::{Name, Stop, word_at};

@@ -4,31 +4,20 @@ ghost use Rattle.text_base.specs.Judged.{Decides};
 ghost use Rattle.text_base.specs.Words.{texts};
 ghost use Rattle.nl_model.specs.Kinds.{kind_of};
 ghost use Rattle.nl_model.specs.Rules.{IsOrdered};
-ghost use Rattle.nl_segments.specs.declared.awaited.Awaited.TheVariants.{Interval as IntervalLine};
-ghost use Rattle.nl_segments.specs.Heads.{is_head};
+ghost use Rattle.nl_lines.specs.declared.awaited.Awaited.TheVariants.{Interval as IntervalLine};
+ghost use Rattle.nl_lines.specs.Heads.{is_head};
 ghost use Rattle.nl_segments.specs.Held.{HasRow, TakesRow, IsAwaiting};
 ghost use Rattle.nl_segments.specs.LineSteps.{HasRoom, next_interval_tests, with_interval};
-ghost use Rattle.nl_segments.specs.Tests.{SaysInterval, is_binary, is_sides};
+ghost use Rattle.nl_lines.specs.Tests.{SaysInterval, is_binary, is_sides};
 
 use crate::body::BodyReader;
 use crate::closing::count_line;
 use crate::current::Current;
-use crate::fault::NlReason;
-use crate::head::Head;
-use crate::intervals::read_interval;
 use nl_header::kinds_of;
+use nl_lines::{NlReason, is_sides, read_interval};
 use nl_model::{Header, Interval, Kind, NlBuilder};
 use std::alloc::AllocError;
 use text_base::Stop;
-
-fn is_sides(head: Head) -> bool
-    ensures { result ≡ is_sides head }
-{
-    match head {
-        Head::Sides => true,
-        _ => false,
-    }
-}
 
 fn is_binary(kind: Kind) -> bool
     ensures { result ≡ is_binary kind }

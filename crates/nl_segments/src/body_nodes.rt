@@ -2,22 +2,19 @@
 ghost use Rattle.std.specs.Prelude.{◌≡◌, true, false, IfOk, OnOk, All};
 ghost use Rattle.text_base.specs.Judged.{Decides};
 ghost use Rattle.text_base.specs.Words.{texts};
-ghost use Rattle.nl_segments.specs.declared.awaited.Awaited.TheVariants.{Node, Nothing};
+ghost use Rattle.nl_lines.specs.declared.awaited.Awaited.TheVariants.{Node, Nothing};
 ghost use Rattle.nl_segments.specs.Current.{current_awaits, with_node_row};
-ghost use Rattle.nl_segments.specs.Heads.{is_head};
-ghost use Rattle.nl_segments.specs.Held.{TakesRow, IsAwaiting, HasRow, IsNodeKnown};
-ghost use Rattle.nl_segments.specs.Pieces.{has_tree};
+ghost use Rattle.nl_lines.specs.Heads.{is_head};
+ghost use Rattle.nl_lines.specs.NodeRows.{IsNodeKnown};
+ghost use Rattle.nl_segments.specs.Held.{TakesRow, IsAwaiting, HasRow};
+ghost use Rattle.nl_lines.specs.Pieces.{has_tree};
 ghost use Rattle.nl_segments.specs.PlaceSteps.{HasOwner, HasBegun};
 ghost use Rattle.nl_segments.specs.TreeSteps.{CanTakeRow, IsNextRow, MayTake, IsFresh, with_tree, IsSettled, row_count, with_row_line, counted_node_tests};
 
-use crate::awaited::Awaited;
 use crate::body::BodyReader;
 use crate::current::Current;
-use crate::fault::NlReason;
-use crate::head::Head;
-use crate::node_row::NodeRow;
-use crate::nodes::read_node;
 use crate::places::Places;
+use nl_lines::{Awaited, Head, NlReason, NodeRow, read_node};
 use nl_model::{Def, Expr, NlBuilder, Terms};
 use std::alloc::AllocError;
 use text_base::Stop;

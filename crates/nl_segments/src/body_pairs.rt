@@ -1,67 +1,27 @@
 // A line of an index and a value.
 ghost use Rattle.std.specs.Prelude.{ℕ, List, ◌≡◌, ◌<◌, ◌≤◌, ◌&&◌, length, get_or, true, false, Some, None, IsSome, IsTrue, IsSomeAnd, IfSome, IfOk, IfErr, OnOk, if◌then◌else◌};
-ghost use Rattle.text_base.specs.Judged.{Decides};
 ghost use Rattle.text_base.specs.Words.{texts};
 ghost use Rattle.nl_model.specs.Rules.{most_terms};
-ghost use Rattle.nl_segments.specs.declared.awaited.Awaited.TheVariants.{Pair};
+ghost use Rattle.nl_lines.specs.declared.awaited.Awaited.TheVariants.{Pair};
 ghost use Rattle.nl_segments.specs.Current.{current_awaits};
-ghost use Rattle.nl_segments.specs.Heads.{is_head};
+ghost use Rattle.nl_lines.specs.Heads.{is_head};
 ghost use Rattle.nl_segments.specs.Held.{HasRow, TakesRow, IsAwaiting};
-ghost use Rattle.nl_segments.specs.KnownPairs.{HasGoodPair, HasPairRow, IsGoodPair, IsPairRow, known_pair_tests};
+ghost use Rattle.nl_lines.specs.PairTests.{IsPairRow};
+ghost use Rattle.nl_segments.specs.KnownPairs.{HasGoodPair, HasPairRow, IsGoodPair};
 ghost use Rattle.nl_segments.specs.LineSteps.{unless_complete};
-ghost use Rattle.nl_segments.specs.PairSteps.{CanClose, CanGive, CanUse, SaysFreshPair, next_pair_tests, one_more, with_closed, with_given, with_kept, with_mark, with_suffix, with_use};
-ghost use Rattle.nl_segments.specs.Pieces.{is_nothing};
-ghost use Rattle.nl_segments.specs.Tests.{holds_once, index_limit};
+ghost use Rattle.nl_segments.specs.PairSteps.{CanClose, CanGive, CanUse, one_more, with_closed, with_given, with_kept, with_mark, with_suffix, with_use};
+ghost use Rattle.nl_lines.specs.Pieces.{is_nothing};
 
 use crate::body::BodyReader;
-use crate::closing::is_nothing;
 use crate::current::Current;
-use crate::fault::NlReason;
-use crate::head::Head;
-use crate::head_rules::{
-    holds_once, index_limit, is_full, is_linear, is_suffix, keeps_pairs, wants_whole,
-};
-use crate::pairs::{is_refused, read_pair};
 use exact_numbers::Dec;
-use nl_model::{Counts, NlBuilder, Suffix};
+use nl_lines::{
+    Head, NlReason, holds_once, is_full, is_linear, is_nothing, is_suffix, judge_pair, keeps_pairs,
+    read_next_pair,
+};
+use nl_model::{NlBuilder, Suffix};
 use std::alloc::AllocError;
 use text_base::{Marks, Name, Stop};
-
-// Whether the index came before, where it comes once.
-fn is_repeated(head: Head, marks: &Marks, index: u32) -> bool
-    requires { index < length marks.now }
-    ensures { result ≡ (holds_once head && get_or marks.now index false) }
-{
-    if !holds_once(head) {
-        return false;
-    }
-    marks.is_marked(index)
-}
-
-// The pair of the next line.
-fn read_next(
-    counts: &Counts,
-    head: Head,
-    marks: &Marks,
-    full: bool,
-    words: &[&[u8]],
-) -> Result<(u32, Dec), NlReason>
-    requires { index_limit counts.now head ≤ length marks.now }
-    ensures { Decides (next_pair_tests counts.now head marks.now full (texts words.now))
-        (SaysFreshPair counts.now head marks.now full (texts words.now)) result }
-{
-    let pair = match read_pair(words, index_limit(counts, head), wants_whole(head)) {
-        Ok(pair) => pair,
-        Err(reason) => return Err(reason),
-    };
-    if is_repeated(head, marks, pair.0) {
-        return Err(NlReason::RepeatedIndex);
-    }
-    if full {
-        return Err(NlReason::TooLarge);
-    }
-    Ok(pair)
-}
 
 // Gives the file a pair that is not kept.
 fn give_pair(builder: &mut NlBuilder, head: Head, pair: (u32, Dec)) -> Result<(), AllocError>
@@ -168,33 +128,6 @@ fn count(total: &mut u32, counts: bool)
     }
 }
 
-// What is wrong with a pair, whose line is an index and a value alone.
-fn judge_pair(
-    counts: &Counts,
-    head: Head,
-    marks: &Marks,
-    full: bool,
-    pair: (u32, Dec),
-) -> Result<(), NlReason>
-    requires { index_limit counts.now head ≤ length marks.now }
-    ensures { Decides (known_pair_tests counts.now head marks.now full pair)
-        (λ _. Unit {0}) result }
-{
-    if pair.0 >= index_limit(counts, head) {
-        return Err(NlReason::IndexOut);
-    }
-    if is_refused(pair.1, wants_whole(head)) {
-        return Err(NlReason::BadNumber);
-    }
-    if is_repeated(head, marks, pair.0) {
-        return Err(NlReason::RepeatedIndex);
-    }
-    if full {
-        return Err(NlReason::TooLarge);
-    }
-    Ok(())
-}
-
 impl BodyReader {
     /// A line of an index and a value.
     pub(crate) fn take_pair(&mut self, words: &[&[u8]], line: u32) -> Result<(), Stop<NlReason>>
@@ -212,7 +145,7 @@ impl BodyReader {
         let head = current.head();
         let full = is_full(head, self.linear, self.values);
         let counts = self.builder.header().counts();
-        let pair = match read_next(counts, head, &self.marks, full, words) {
+        let pair = match read_next_pair(counts, head, &self.marks, full, words) {
             Ok(pair) => pair,
             Err(reason) => return Err(Stop::Fault(reason)),
         };

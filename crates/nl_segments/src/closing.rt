@@ -2,20 +2,9 @@
 ghost use Rattle.std.specs.Prelude.{◌≡◌, ◌<◌, IsSomeAnd, IfSome};
 ghost use Rattle.nl_segments.specs.LineSteps.{unless_complete};
 ghost use Rattle.nl_segments.specs.Current.{less_line};
-ghost use Rattle.nl_segments.specs.Pieces.{is_nothing};
 
-use crate::awaited::Awaited;
 use crate::current::Current;
-
-/// Whether a piece is complete.
-pub(crate) fn is_nothing(awaited: Awaited) -> bool
-    ensures { result ≡ is_nothing awaited }
-{
-    match awaited {
-        Awaited::Nothing => true,
-        _ => false,
-    }
-}
+use nl_lines::is_nothing;
 
 /// Counts a line that is kept elsewhere.
 pub(crate) fn count_line(current: &mut Option<Current>)

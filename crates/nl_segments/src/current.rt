@@ -2,14 +2,10 @@
 ghost use Rattle.std.specs.Prelude.{◌≡◌, ◌<◌, ◌^◌, length, OnOk, IfSome};
 ghost use Rattle.nl_model.specs.Nodes.{awaited};
 ghost use Rattle.nl_segments.specs.Current.{IsPending, new_current, nodes_await, current_awaits, less_line, with_pair, with_node_row};
-ghost use Rattle.nl_segments.specs.Pieces.{has_tree, line_kind};
-ghost use Rattle.nl_segments.specs.NodeRows.{IsFormedRow};
+ghost use Rattle.nl_lines.specs.NodeRows.{IsFormedRow};
 
-use crate::awaited::Awaited;
-use crate::head::Head;
-use crate::node_row::NodeRow;
-use crate::pending::Pending;
 use exact_numbers::Dec;
+use nl_lines::{Awaited, Head, NodeRow, Pending, has_tree, line_kind};
 use nl_model::{ExprBuilder, Terms};
 use std::alloc::{AllocError, Global};
 use std::marker::Model;
@@ -42,30 +38,6 @@ impl Model for Current {
     } };
 
     ghost invariant = { λ c. IfSome c.pending (IsPending c.nodes) };
-}
-
-/// Whether an expression follows the lines of a head.
-pub(crate) fn has_tree(head: Head) -> bool
-    ensures { result ≡ has_tree head }
-{
-    match head {
-        Head::Body(_) => true,
-        Head::Objective(_, _) => true,
-        Head::Definition(_, _, _) => true,
-        _ => false,
-    }
-}
-
-// What the lines of a head are.
-fn line_kind(head: Head) -> Awaited
-    ensures { result ≡ line_kind head }
-{
-    match head {
-        Head::Sides => Awaited::Interval,
-        Head::Bounds => Awaited::Interval,
-        Head::ColumnCounts(_) => Awaited::ColumnCount,
-        _ => Awaited::Pair,
-    }
 }
 
 impl Current {

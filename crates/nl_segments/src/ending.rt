@@ -2,7 +2,7 @@
 ghost use Rattle.std.specs.Prelude.{◌≡◌, is_some, get_or};
 ghost use Rattle.std.specs.List.{list_all};
 ghost use Rattle.nl_segments.specs.Ending.{are_sums};
-ghost use Rattle.nl_segments.specs.Tests.{is_short};
+ghost use Rattle.nl_lines.specs.Tests.{is_short};
 
 use nl_model::NlBuilder;
 

@@ -1,19 +1,19 @@
 // The grammar of .nl texts, a line at a time.
 ghost use Rattle.std.specs.Prelude.{◌≡◌, ◌<◌, ℕ, List, [], length, None, IsSome, IfSome, IsSomeAnd};
 ghost use Rattle.text_base.specs.Words.{words_of, row_of, without_comment};
-ghost use Rattle.nl_segments.specs.declared.awaited.Awaited.TheVariants.{Pair};
-ghost use Rattle.nl_segments.specs.Grammar.{standing, nl_rules, SaysFile, fault_refusal, reason_of};
+ghost use Rattle.nl_lines.specs.declared.awaited.Awaited.TheVariants.{Pair};
+ghost use Rattle.nl_segments.specs.Grammar.{standing, nl_rules, SaysFile, reason_of};
 ghost use Rattle.nl_segments.specs.Held.{HoldsStanding, IsAwaiting};
-ghost use Rattle.nl_segments.specs.KnownPairs.{HasPairRow, IsPairRow};
+ghost use Rattle.nl_lines.specs.PairTests.{IsPairRow};
+ghost use Rattle.nl_segments.specs.KnownPairs.{HasPairRow};
 ghost use Rattle.nl_segments.specs.Reader.{value_of};
 ghost use Rattle.nl_segments.specs.Taking.{TakesHeaderRow, TakesAnyRow, TakesLine};
 
 use crate::body::BodyReader;
-use crate::fault::NlReason;
 use crate::nl_read::NlRead;
-use crate::pair_line::pair_of_line;
 use exact_numbers::Dec;
 use nl_header::{HeadFault, HeaderReader};
+use nl_lines::{NlReason, pair_of_line};
 use std::alloc::Global;
 use std::marker::Model;
 use std::mem;

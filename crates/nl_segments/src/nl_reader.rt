@@ -6,9 +6,9 @@ ghost use Rattle.text_base.specs.Reading.{IsFreeSoFar};
 ghost use Rattle.nl_segments.specs.Grammar.{nl_rules};
 ghost use Rattle.nl_segments.specs.Reader.{IsFed, ReadsNl, HasNlFaultSoFar, HasLines, stop_of, stop_in, fault_of, opcode_of};
 
-use crate::fault::{NlFault, NlReason};
 use crate::grammar::NlGrammar;
 use crate::nl_read::NlRead;
+use nl_lines::{NlFault, NlReason};
 use std::alloc::{AllocError, Global};
 use std::marker::Model;
 use text_base::{Reader, Stop, TextFault};

@@ -1,6 +1,6 @@
 // The lines of one owner.
 ghost use Rattle.std.specs.Prelude.{◌≡◌, ◌++◌, ◌∷◌, [], None, Some, OnOk, slice_get};
-ghost use Rattle.nl_segments.specs.Saying.{no_lines};
+ghost use Rattle.nl_lines.specs.Saying.{no_lines};
 ghost use Rattle.std.specs.Option.{option_or};
 
 use std::alloc::{AllocError, Global};
@@ -16,7 +16,7 @@ pub struct OwnerLines {
 }
 
 impl Model for OwnerLines {
-    ghost use Rattle.nl_segments.specs.Saying.{OwnerLines as LinesValue};
+    ghost use Rattle.nl_lines.specs.Saying.{OwnerLines as LinesValue};
 
     ghost Value = { LinesValue };
 

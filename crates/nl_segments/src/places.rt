@@ -1,11 +1,11 @@
 // The lines of all nodes, terms and heads of a file.
 ghost use Rattle.std.specs.Prelude.{◌≡◌, ◌<◌, ◌+◌, ◌-◌, if◌then◌else◌, ◌++◌, ◌∷◌, [], length, replicate, get_or, slice_get, slice_set, Some, IsSome, IfOk, OnOk, option_copied};
-ghost use Rattle.nl_segments.specs.Saying.{changed, empty_lines, no_lines, owner_lines, line_of};
+ghost use Rattle.nl_lines.specs.Saying.{changed, empty_lines, no_lines, owner_lines, line_of};
 ghost use Rattle.nl_segments.specs.PlaceSteps.{HasOwner, HasBegun, more_nodes, more_terms, with_begun, with_node_line, with_term_line};
 ghost use Rattle.std.specs.Option.{option_or};
 
-use crate::head::Head;
 use crate::owner_lines::OwnerLines;
+use nl_lines::Head;
 use nl_model::{At, Counts, Owner};
 use std::alloc::{AllocError, Global};
 use std::marker::Model;
@@ -19,7 +19,7 @@ pub struct Places {
 }
 
 impl Model for Places {
-    ghost use Rattle.nl_segments.specs.Saying.{PlaceLines};
+    ghost use Rattle.nl_lines.specs.Saying.{PlaceLines};
 
     ghost Value = { PlaceLines };
 
@@ -193,7 +193,7 @@ impl Places {
     }
 
     /// The line of a place, where the file has it.
-    #[tactic(auto, unfolding(crate::specs::Saying::line_of))]
+    #[tactic(auto, unfolding(nl_lines::specs::Saying::line_of))]
     pub(crate) fn line_at(&self, at: At) -> Option<u32>
         ensures { result ≡ line_of self.now at }
     {

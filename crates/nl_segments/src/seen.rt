@@ -1,8 +1,8 @@
 // Which segments have come.
 ghost use Rattle.std.specs.Prelude.{◌≡◌, false, replicate, IfOk};
-ghost use Rattle.nl_segments.specs.SeenSegments.{no_segments, has_segment, with_segment, IsSeenIn};
+ghost use Rattle.nl_lines.specs.SeenSegments.{no_segments, has_segment, with_segment, IsSeenIn};
 
-use crate::head::Head;
+use nl_lines::Head;
 use nl_model::Counts;
 use std::alloc::{AllocError, Global};
 use std::marker::Model;
@@ -24,7 +24,7 @@ pub struct Seen {
 }
 
 impl Model for Seen {
-    ghost use Rattle.nl_segments.specs.SeenSegments.{Segments};
+    ghost use Rattle.nl_lines.specs.SeenSegments.{Segments};
 
     ghost Value = { Segments };
 

@@ -2,8 +2,8 @@ use Rattle.std.proofs.Common.{◌≡◌, ◌∙◌, sym, ap, subst, Some, None}
 use Rattle.text_base.specs.Judged.{first_reason}
 use Rattle.text_base.specs.Words.{texts}
 use Rattle.nl_segments.specs.HeadSteps.{held_head_tests}
-use Rattle.nl_segments.specs.Heads.{head_of}
-use Rattle.nl_segments.specs.Tests.{head_form_tests}
+use Rattle.nl_lines.specs.Heads.{head_of}
+use Rattle.nl_lines.specs.Tests.{head_form_tests}
 use Rattle.nl_segments.proofs.HeadRefusal.{form_fault, form_fine}
 use Rattle.nl_segments.proofs.body_heads.new_head.Goals as goal
 

@@ -1,7 +1,7 @@
 use Rattle.std.proofs.Common.{◌∙◌, sym, ap, subst, All}
 use Rattle.nl_segments.specs.Current.{Current, current_awaits}
-use Rattle.nl_segments.specs.Held.{IsNodeKnown}
-use Rattle.nl_segments.specs.Pieces.{has_tree}
+use Rattle.nl_lines.specs.NodeRows.{IsNodeKnown}
+use Rattle.nl_lines.specs.Pieces.{has_tree}
 use Rattle.nl_segments.specs.PlaceSteps.{HasBegun, HasOwner}
 use Rattle.nl_segments.specs.TreeSteps.{IsFresh}
 use Rattle.nl_segments.proofs.CurrentLemmas.{row_fields}

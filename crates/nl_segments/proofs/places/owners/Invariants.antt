@@ -1,5 +1,5 @@
 use Rattle.std.proofs.Common.{◌≡◌, replicate}
-use Rattle.nl_segments.specs.Saying.{no_lines}
+use Rattle.nl_lines.specs.Saying.{no_lines}
 use Rattle.nl_segments.proofs.places.owners.Given as goal
 
 abbrev pub invariant-filled : goal.invariant-filled

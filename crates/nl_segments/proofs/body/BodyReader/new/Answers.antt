@@ -1,11 +1,11 @@
 use Rattle.std.proofs.Common.{◌∙◌, ◌≤◌, None, refl, sym, ap, length, replicate, false, subst}
 use Rattle.std.proofs.lemmas.List.{length-replicate}
 use Rattle.nl_model.specs.declared.counts.Counts.{Counts}
-use Rattle.nl_segments.specs.Saying.{empty_lines}
-use Rattle.nl_segments.specs.SeenSegments.{no_segments}
+use Rattle.nl_lines.specs.Saying.{empty_lines}
+use Rattle.nl_lines.specs.SeenSegments.{no_segments}
 use Rattle.nl_model.specs.HeaderRules.{defined_count}
 use Rattle.nl_segments.specs.Held.{Body, only_header}
-use Rattle.nl_segments.specs.Tests.{index_limit}
+use Rattle.nl_lines.specs.Tests.{index_limit}
 use Rattle.nl_segments.proofs.BodyStart.{IsNew, start_held}
 use Rattle.nl_segments.proofs.body.BodyReader.new.Goals as goal
 use Rattle.nl_segments.proofs.body.BodyReader.new.Goals.{After-new-5}

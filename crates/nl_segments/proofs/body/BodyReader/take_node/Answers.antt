@@ -1,7 +1,7 @@
 use Rattle.std.proofs.Common.{◌≡◌, ◌∙◌, sym, subst, refl, Some}
 use Rattle.text_base.specs.Judged.{first_reason}
 use Rattle.text_base.specs.Words.{texts}
-use Rattle.nl_segments.specs.declared.awaited.Awaited.TheVariants.{Node as NodeLine}
+use Rattle.nl_lines.specs.declared.awaited.Awaited.TheVariants.{Node as NodeLine}
 use Rattle.nl_segments.specs.contracts.body.BodyReader.{the_view}
 use Rattle.nl_segments.specs.Held.{Body, IsHeld}
 use Rattle.nl_segments.specs.TreeSteps.{counted_node_tests}

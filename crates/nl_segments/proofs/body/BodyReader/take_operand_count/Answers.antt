@@ -1,8 +1,8 @@
 use Rattle.std.proofs.Common.{◌∙◌, sym, subst, refl}
 use Rattle.text_base.specs.Words.{texts}
 use Rattle.nl_model.specs.declared.node.Node.TheVariants.{Op}
-use Rattle.nl_segments.specs.declared.awaited.Awaited.TheVariants.{OperandCount}
-use Rattle.nl_segments.specs.declared.node_row.NodeRow.TheVariants.{Whole}
+use Rattle.nl_lines.specs.declared.awaited.Awaited.TheVariants.{OperandCount}
+use Rattle.nl_lines.specs.declared.node_row.NodeRow.TheVariants.{Whole}
 use Rattle.nl_segments.specs.contracts.body.BodyReader.{the_view}
 use Rattle.nl_segments.specs.Held.{IsHeld}
 use Rattle.nl_segments.proofs.PairLines.{awaiting, holds_again}

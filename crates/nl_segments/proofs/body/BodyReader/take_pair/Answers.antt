@@ -3,8 +3,8 @@ use Rattle.nl_segments.proofs.KnownPairs.{room_for}
 use Rattle.nl_segments.proofs.PairTaken.{refused_by}
 use Rattle.nl_segments.proofs.body.BodyReader.take_pair.Goals as goal
 
-pub read_next-requires : goal.read_next-requires
-read_next-requires c = room_for _ c.in-Some.current c.counts-counts.result.now c.head-head.result c.in-Some.is (c.counts-counts.ensures.value ∙ c.header.ensures.counts) c.head-head.ensures (c.self.invariant c.if-self.false)
+pub read_next_pair-requires : goal.read_next_pair-requires
+read_next_pair-requires c = room_for _ c.in-Some.current c.counts-counts.result.now c.head-head.result c.in-Some.is (c.counts-counts.ensures.value ∙ c.header.ensures.counts) c.head-head.ensures (c.self.invariant c.if-self.false)
 
 pub returns-in-Err : goal.returns-in-Err
 returns-in-Err c =

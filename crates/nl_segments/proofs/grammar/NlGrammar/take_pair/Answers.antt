@@ -1,6 +1,6 @@
 use Rattle.std.proofs.Common.{◌≡◌, ◌∙◌, Some, sym, subst, ap}
 use Rattle.text_base.specs.Words.{row_of}
-use Rattle.nl_segments.specs.Rows.{Row}
+use Rattle.nl_lines.specs.Rows.{Row}
 use Rattle.nl_segments.specs.Held.{Progress}
 use Rattle.nl_segments.specs.Taking.{TakesAnyRow}
 use Rattle.nl_segments.proofs.GrammarLemmas.{row_in_body}

@@ -1,6 +1,6 @@
 use Rattle.std.proofs.Common.{◌≡◌, ◌∙◌, Some, None, refl, sym, subst, ap}
 use Rattle.text_base.specs.Words.{texts, row_of}
-use Rattle.nl_segments.specs.Rows.{Row}
+use Rattle.nl_lines.specs.Rows.{Row}
 use Rattle.nl_segments.specs.Held.{Progress, TakesRow}
 use Rattle.nl_segments.specs.Taking.{TakesAnyRow, TakesHeaderRow}
 use Rattle.nl_segments.proofs.GrammarLemmas.{row_in_body, row_in_header}

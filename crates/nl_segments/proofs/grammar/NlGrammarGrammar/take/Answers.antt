@@ -1,6 +1,6 @@
 use Rattle.std.proofs.Common.{refl}
 use Rattle.text_base.specs.Words.{row_of, without_comment}
-use Rattle.nl_segments.specs.Rows.{Row}
+use Rattle.nl_lines.specs.Rows.{Row}
 use Rattle.nl_segments.proofs.GrammarLemmas.{line_fault, line_fine, line_taken, pair_holds_words, some_row}
 use Rattle.nl_segments.proofs.grammar.NlGrammarGrammar.take.Goals as goal
 

@@ -1,0 +1,15 @@
+pub mod DraftLemmas
+pub mod FreshLaw
+pub mod HeadSuffixes
+pub mod IntervalOrder
+pub mod LineLaw
+pub mod NodeLemmas
+pub mod NumberLemmas
+pub mod OpcodeLemmas
+pub mod PairJudging
+pub mod PairLaw
+pub mod PairRows
+pub mod PieceLemmas
+pub mod RowLemmas
+pub mod SeenLemmas
+pub mod TotalLemmas

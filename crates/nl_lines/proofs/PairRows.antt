@@ -1,0 +1,92 @@
+-- A row that is an index and a value alone is judged by its pair.
+use Rattle.std.proofs.Common.{◌≡◌, ◌∙◌, ℕ, ◌+◌, ◌-◌, ◌<◌, ◌≤◌, take, drop, Bool, true, false, not, List, [], ◌∷◌, length, refl, sym, ap, subst, arith, Option, Some, None, get_or}
+use Rattle.std.specs.Prelude.{unwrap_or, slice_index}
+use Rattle.std.specs.Char.{digit_value}
+use Rattle.std.proofs.lemmas.Bool.{ltb-true}
+use Rattle.std.proofs.lemmas.Bool.Decides.{nat_tests}
+use Rattle.text_base.specs.Judged.{first_reason}
+use Rattle.text_base.specs.Words.{IsUnmarked, row_of, without_comment, word_at}
+use Rattle.text_base.proofs.PairLemmas.{pair_line}
+use Rattle.text_base.proofs.FirstReasons.{none_each}
+use Rattle.exact_numbers.specs.declared.dec.Dec.{Dec}
+use Rattle.exact_numbers.specs.Numbers.{are_any_digits, are_digits, dec_of, whole_of}
+use Rattle.exact_numbers.specs.Spelled.{first_of_both, second_of_both}
+use Rattle.exact_numbers.proofs.Texts.{digit_byte}
+use Rattle.nl_model.specs.declared.counts.Counts.{Counts}
+use Rattle.nl_model.specs.File.{Term}
+use Rattle.nl_lines.specs.declared.head.Head.{Head}
+use Rattle.nl_lines.specs.Heads.{is_ascii_letter, is_head}
+use Rattle.nl_lines.specs.Pieces.{pair_in}
+use Rattle.nl_lines.specs.Tests.{index_limit, pair_form_tests}
+use Rattle.nl_lines.specs.PairTests.{IsPairRow, SaysFreshPair, known_pair_tests, next_pair_tests}
+use Rattle.nl_lines.proofs.PairJudging.{index_of}
+
+-- ---- the words of such a row
+
+value_of : (words : List (List ℕ)) (t : Term) → pair_in words ≡ Some t → dec_of (word_at words 1) ≡ Some t.1
+unfolding pair_in
+value_of words t e = by (whole_of (word_at words 0)) (dec_of (word_at words 1)) refl refl
+  where
+    by : (i : Option ℕ) (d : Option Dec) → whole_of (word_at words 0) ≡ i → dec_of (word_at words 1) ≡ d → dec_of (word_at words 1) ≡ Some t.1
+    by None d p q = absurd (let none : None ≡ Some t = rw p at e in cc)
+    by (Some i) None p q = absurd (let none : None ≡ Some t = rw (p, q) at e in cc)
+    by (Some i) (Some d) p q = let same : Some (i, d) ≡ Some t = rw (p, q) at e in q ∙ ap (λ (o : Option Term). Some (unwrap_or {T = Term} o (i, d)).1) same
+
+whole_digits : (word : List ℕ) (i : ℕ) → whole_of word ≡ Some i → are_digits word ≡ true
+unfolding whole_of
+whole_digits word i e = by (are_digits word) refl
+  where
+    by : (t : Bool) → are_digits word ≡ t → are_digits word ≡ true
+    by true h = h
+    by false h = absurd (let none : None ≡ Some i = rw h at e in cc)
+
+no_letter : (b : ℕ) → 48 ≤ b → b ≤ 57 → is_ascii_letter b ≡ false
+no_letter b low high = grind (arith, nat_tests)
+
+digits_plain : (word : List ℕ) → are_digits word ≡ true → is_ascii_letter (slice_index word 0) ≡ false
+digits_plain [] e = absurd cc
+digits_plain (b ∷ word) e =
+    let all : are_any_digits (b ∷ word) ≡ true = second_of_both _ _ e in
+    let byte = digit_byte b (ltb-true (digit_value b) 10 (first_of_both _ _ all)) in
+    no_letter b byte.0 byte.1
+
+index_digits : (words : List (List ℕ)) (t : Term) → IsPairRow words t → are_digits (word_at words 0) ≡ true
+index_digits words t p = whole_digits (word_at words 0) t.0 (index_of words t p.says)
+
+pub pair_plain : (words : List (List ℕ)) (t : Term) → IsPairRow words t → is_head words ≡ false
+pair_plain words t p = rw (digits_plain (word_at words 0) (index_digits words t p)) refl
+
+-- ---- judging
+
+pub same_known : (c : Counts) (head : Head) (marks : List Bool) (full : Bool) (words : List (List ℕ)) (t : Term) → IsPairRow words t
+    → first_reason (next_pair_tests c head marks full words) ≡ first_reason (known_pair_tests c head marks full t)
+unfolding pair_form_tests
+same_known c head marks full words t p = rw (p.two, index_digits words t p, index_of words t p.says, value_of words t p.says) refl
+
+not_false : (b : Bool) → not b ≡ false → b ≡ true
+not_false true e = refl
+not_false false e = absurd cc
+
+pub fresh_known : (c : Counts) (head : Head) (marks : List Bool) (full : Bool) (words : List (List ℕ)) (t : Term) → IsPairRow words t
+    → first_reason (known_pair_tests c head marks full t) ≡ None → SaysFreshPair c head marks full words t
+fresh_known c head marks full words t p e =
+    let none = none_each (known_pair_tests c head marks full t) e in
+    record {
+      says = p.says;
+      below = ltb-true t.0 (index_limit c head) (not_false _ none.0);
+      fresh = none.1.1.0;
+      room = none.1.1.1.0;
+    }
+
+-- ---- a line of the common form
+
+two_words : (index word : List ℕ) (i : ℕ) (d : Dec) → whole_of index ≡ Some i → dec_of word ≡ Some d → IsPairRow (index ∷ word ∷ []) (i, d)
+unfolding pair_in
+two_words index word i d whole dec = record { two = refl; says = rw (whole, dec) refl }
+
+pub pair_row : (line word : List ℕ) (n i : ℕ) (d : Dec) → n < length line → get_or line n 0 ≡ 32 → word ≡ take (length line - (n + 1)) (drop (n + 1) line)
+    → 0 < n → whole_of (take n line) ≡ Some i → IsUnmarked (take n line) → dec_of word ≡ Some d → 0 < length word → IsUnmarked word
+    → IsPairRow (row_of (without_comment line)) (i, d)
+pair_row line word n i d within space cut some whole index dec word_some word_unmarked =
+    let words = pair_line line word n within space cut some index word_some word_unmarked in
+    subst (λ ws. IsPairRow ws (i, d)) (sym (ap (take 12) words)) (two_words (take n line) word i d whole dec)

@@ -1,0 +1,127 @@
+-- The heads of segments (Gay 2005, "Writing .nl Files", segments).
+use Rattle.std.specs.Prelude.{ℕ, ◌+◌, ◌==◌, Bool, ◌&&◌, ◌||◌, not, nat_le, nat_lt, List, length, drop, slice_index, Option, Some, None, option_map, option_and_then, if◌then◌else◌, codes}
+use Rattle.std.specs.List.{list_any}
+use Rattle.text_base.specs.Names.{is_name}
+use Rattle.nl_model.specs.declared.counts.Counts.{Counts}
+use Rattle.nl_model.specs.HeaderRules.{defined_count}
+use Rattle.nl_lines.specs.declared.head.Head.{Head}
+use Rattle.nl_lines.specs.declared.head.Head.TheVariants.{Body, Objective, Definition, DualGuesses, PrimalGuesses, Sides, Bounds, ColumnCounts, Terms, Slopes, Suffix}
+use Rattle.exact_numbers.specs.Numbers.{whole_of}
+use Rattle.text_base.specs.Words.{word_at}
+
+-- the first byte of the first word
+abbrev pub letter_of : List (List ℕ) → ℕ
+letter_of words = slice_index (word_at words 0) 0
+
+-- one of the letters of a text
+abbrev pub is_among : List ℕ → ℕ → Bool
+is_among letters letter = list_any (λ l. l == letter) letters
+
+abbrev pub is_ascii_letter : ℕ → Bool
+is_ascii_letter b = (nat_le 65 b && nat_le b 90) || (nat_le 97 b && nat_le b 122)
+
+-- a row is a head where its first letter begins no line of an expression
+abbrev pub is_head : List (List ℕ) → Bool
+is_head words =
+    is_ascii_letter (letter_of words) && not (is_among (codes "onslvhf") (letter_of words))
+
+-- imported functions and logical constraints, which are refused
+abbrev pub is_refused_letter : ℕ → Bool
+is_refused_letter letter = is_among (codes "FLK") letter
+
+abbrev pub is_segment_letter : ℕ → Bool
+is_segment_letter letter = is_among (codes "COVdxrbkJGS") letter
+
+-- ---- The forms of heads: none where the number of words or a number is wrong.
+
+-- the number that directly follows the letter
+abbrev pub own_number : List (List ℕ) → Option ℕ
+own_number words = whole_of (drop 1 (word_at words 0))
+
+-- the number that another word is
+abbrev pub number_at : List (List ℕ) → ℕ → Option ℕ
+number_at words i = whole_of (word_at words i)
+
+-- a letter alone: `r`
+abbrev pub bare_head : Head → List (List ℕ) → Option Head
+bare_head head words =
+    if length words == 1 && (length (word_at words 0) == 1) then Some head else None
+
+-- a letter and a number: `C0`
+abbrev pub numbered_head : (ℕ → Head) → List (List ℕ) → Option Head
+numbered_head head words = if length words == 1 then option_map head (own_number words) else None
+
+-- a letter and two numbers: `J0 2`
+abbrev pub counted_head : (ℕ → ℕ → Head) → List (List ℕ) → Option Head
+counted_head head words =
+    if length words == 2
+    then option_and_then (λ i. option_map (head i) (number_at words 1)) (own_number words)
+    else None
+
+-- `O0 1`: the sense is 0 or 1
+abbrev pub with_sense : ℕ → ℕ → Option Head
+with_sense k sense = if nat_le sense 1 then Some (Objective k (sense == 1)) else None
+
+abbrev pub objective_head : List (List ℕ) → Option Head
+objective_head words =
+    if length words == 2
+    then option_and_then (λ k. option_and_then (with_sense k) (number_at words 1))
+    (own_number words)
+    else None
+
+-- `V4 1 0`
+abbrev pub definition_head : List (List ℕ) → Option Head
+definition_head words =
+    if length words == 3
+    then option_and_then
+    (λ i. option_and_then (λ j. option_map (Definition i j) (number_at words 2))
+    (number_at words 1)) (own_number words)
+    else None
+
+-- `k3`: one number less than there are variables
+abbrev pub column_head : Counts → List (List ℕ) → Option Head
+column_head c words =
+    if length words == 1
+    then option_and_then (λ n. if n + 1 == c.n_var then Some (ColumnCounts n) else None)
+    (own_number words)
+    else None
+
+-- `S0 2 name`: the kind is below 256
+abbrev pub of_kind : ℕ → ℕ → Option Head
+of_kind kind n = if nat_lt kind 256 then Some (Suffix kind n) else None
+
+abbrev pub suffix_head : List (List ℕ) → Option Head
+suffix_head words =
+    if length words == 3 && is_name (word_at words 2)
+    then option_and_then (λ kind. option_and_then (of_kind kind) (number_at words 1))
+    (own_number words)
+    else None
+
+-- what a head says, where its form is right
+unfoldable pub head_of : Counts → List (List ℕ) → Option Head
+head_of c words =
+    let letter = letter_of words in
+    if letter == 67 then numbered_head Body words else
+    if letter == 79 then objective_head words else
+    if letter == 86 then definition_head words else
+    if letter == 100 then numbered_head DualGuesses words else
+    if letter == 120 then numbered_head PrimalGuesses words else
+    if letter == 114 then bare_head Sides words else
+    if letter == 98 then bare_head Bounds words else
+    if letter == 107 then column_head c words else
+    if letter == 74 then counted_head Terms words else
+    if letter == 71 then counted_head Slopes words else
+    if letter == 83 then suffix_head words else None
+
+-- the name of a suffix is the third word
+abbrev pub name_in : List (List ℕ) → List ℕ
+name_in words = word_at words 2
+
+-- the index of a head is one of the file's
+unfoldable pub is_in_range : Counts → Head → Bool
+is_in_range c (Body i) = nat_lt i c.n_con
+is_in_range c (Objective k maximise) = nat_lt k c.n_obj
+is_in_range c (Definition i j usage) = nat_le c.n_var i && nat_lt i (c.n_var + defined_count c)
+is_in_range c (Terms i n) = nat_lt i c.n_con
+is_in_range c (Slopes k n) = nat_lt k c.n_obj
+is_in_range c head = Bool.true

@@ -1,0 +1,9 @@
+pub mod Heads
+pub mod NodeRows
+pub mod Nodes
+pub mod PairTests
+pub mod Pieces
+pub mod Rows
+pub mod Saying
+pub mod SeenSegments
+pub mod Tests

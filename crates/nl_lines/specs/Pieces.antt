@@ -1,0 +1,174 @@
+-- The pieces of the body: a head, and the rows up to the next head (Gay 2005, "Writing .nl Files",
+-- segments).
+use Rattle.std.specs.Prelude.{ℕ, ◌==◌, Bool, nat_lt, List, [], ◌∷◌, ◌++◌, length, take, drop, Option, Some, None, option_map, option_and_then, if◌then◌else◌, codes}
+use Rattle.std.specs.List.{fold, filter_map}
+use Rattle.std.specs.Str.{bytes_eq}
+use Rattle.exact_numbers.specs.declared.dec.Dec.{Dec}
+use Rattle.nl_model.specs.declared.counts.Counts.{Counts}
+use Rattle.nl_model.specs.declared.interval.Interval.{Interval}
+use Rattle.nl_model.specs.File.{Term}
+use Rattle.nl_model.specs.Nodes.{awaited}
+use Rattle.nl_lines.specs.declared.awaited.Awaited.{Awaited}
+use Rattle.nl_lines.specs.declared.awaited.Awaited.TheVariants.{Nothing, Pair, ColumnCount, Interval as IntervalLine, Node as NodeLine, OperandCount}
+use Rattle.nl_lines.specs.declared.head.Head.{Head}
+use Rattle.nl_lines.specs.declared.head.Head.TheVariants.{Body, Objective, Definition, DualGuesses, PrimalGuesses, Sides, Bounds, ColumnCounts, Terms, Slopes, Suffix}
+use Rattle.exact_numbers.specs.Numbers.{whole_of, dec_of}
+use Rattle.nl_lines.specs.Rows.{Row, row_words}
+use Rattle.text_base.specs.Words.{word_at}
+use Rattle.nl_lines.specs.Heads.{is_head, head_of, name_in}
+use Rattle.nl_lines.specs.Nodes.{Placed, Pending, nodes_of, pending_of, only_nodes}
+
+-- what the head says, its third word, which names a suffix, its line, and the rows after it
+pub record Piece : Type 0 where
+  pub head : Head
+  pub name : List ℕ
+  pub line : ℕ
+  pub rows : List Row
+
+-- a head begins a piece; one of a wrong form, after which nothing is asked, begins none
+abbrev pub with_head : List Piece → Row → Option Head → List Piece
+with_head pieces row None = pieces
+with_head pieces row (Some head) =
+    pieces ++ record {
+      head = head;
+      name = name_in (row_words row);
+      line = row.line;
+      rows = [];
+    } ∷ []
+
+-- with a row more in the last piece
+unfoldable pub extended : List Piece → Row → List Piece
+extended [] row = []
+extended (p ∷ []) row = record p { rows = p.rows ++ row ∷ [] } ∷ []
+extended (p ∷ q ∷ pieces) row = p ∷ extended (q ∷ pieces) row
+
+abbrev pub with_row : Counts → List Piece → Row → List Piece
+with_row c pieces row =
+    if is_head (row_words row)
+    then with_head pieces row (head_of c (row_words row))
+    else extended pieces row
+
+unfoldable pub pieces_of : Counts → List Row → List Piece
+pieces_of c rows = fold (with_row c) [] rows
+
+-- the piece that was begun last
+unfoldable pub last_piece : List Piece → Option Piece
+last_piece [] = None
+last_piece (p ∷ []) = Some p
+last_piece (p ∷ q ∷ pieces) = last_piece (q ∷ pieces)
+
+-- ---- Which lines complete a piece.
+
+-- lines of an index and a value that follow a head
+abbrev pub pair_count : Head → ℕ
+pair_count (Body i) = 0
+pair_count (Objective k maximise) = 0
+pair_count (Definition i j usage) = j
+pair_count (DualGuesses n) = n
+pair_count (PrimalGuesses n) = n
+pair_count Sides = 0
+pair_count Bounds = 0
+pair_count (ColumnCounts n) = 0
+pair_count (Terms i n) = n
+pair_count (Slopes k n) = n
+pair_count (Suffix kind n) = n
+
+-- the pairs of a piece are kept until it is complete
+abbrev pub keeps_pairs : Head → Bool
+keeps_pairs (Definition i j usage) = Bool.true
+keeps_pairs (Suffix kind n) = Bool.true
+keeps_pairs head = Bool.false
+
+-- lines that follow a head, before any expression
+abbrev pub line_count : Counts → Head → ℕ
+line_count c Sides = c.n_con
+line_count c Bounds = c.n_var
+line_count c (ColumnCounts n) = n
+line_count c head = pair_count head
+
+-- what each of these lines is
+abbrev pub line_kind : Head → Awaited
+line_kind Sides = IntervalLine
+line_kind Bounds = IntervalLine
+line_kind (ColumnCounts n) = ColumnCount
+line_kind head = Pair
+
+-- an expression follows these lines
+abbrev pub has_tree : Head → Bool
+has_tree (Body i) = Bool.true
+has_tree (Objective k maximise) = Bool.true
+has_tree (Definition i j usage) = Bool.true
+has_tree head = Bool.false
+
+-- the rows of the expression of a piece, its nodes, and the opcode that is pending after them
+abbrev pub tree_rows : Piece → List Row
+tree_rows p = if has_tree p.head then drop (pair_count p.head) p.rows else []
+
+abbrev pub piece_nodes : Counts → Piece → List Placed
+piece_nodes c p = nodes_of c.n_var (tree_rows p)
+
+abbrev pub piece_pending : Piece → Option Pending
+piece_pending p = pending_of (tree_rows p)
+
+-- what an expression awaits
+abbrev pub tree_awaits : List Placed → Option Pending → Awaited
+tree_awaits nodes (Some p) = OperandCount
+tree_awaits nodes None = if awaited (only_nodes nodes) == 0 then Nothing else NodeLine
+
+-- the line that a piece awaits
+unfoldable pub awaited_in : Counts → Piece → Awaited
+awaited_in c p =
+    if nat_lt (length p.rows) (line_count c p.head) then line_kind p.head else
+    if has_tree p.head then tree_awaits (piece_nodes c p) (piece_pending p) else Nothing
+
+abbrev pub is_nothing : Awaited → Bool
+is_nothing Nothing = Bool.true
+is_nothing a = Bool.false
+
+abbrev pub is_complete : Counts → Piece → Bool
+is_complete c p = is_nothing (awaited_in c p)
+
+-- what the piece that was begun last awaits; nothing where no head has come yet
+abbrev pub awaited_of : Counts → List Piece → Awaited
+awaited_of c pieces = awaited_by c (last_piece pieces)
+  where
+    awaited_by : Counts → Option Piece → Awaited
+    awaited_by c None = Nothing
+    awaited_by c (Some p) = awaited_in c p
+
+-- ---- What lines say.
+
+-- `index value`
+unfoldable pub pair_in : List (List ℕ) → Option Term
+pair_in words =
+    option_and_then (λ i. option_map (λ d. (i, d)) (dec_of (word_at words 1)))
+    (whole_of (word_at words 0))
+
+abbrev pub piece_pairs : Piece → List Term
+piece_pairs p = filter_map (λ r. pair_in (row_words r)) (take (pair_count p.head) p.rows)
+
+abbrev pub between : Option Dec → Option Dec → Option Interval
+between None hi = None
+between (Some lo) None = None
+between (Some lo) (Some hi) = Some (record { lo = Some lo; hi = Some hi })
+
+-- `0 lo hi`, `1 hi`, `2 lo`, `3` or `4 value`
+unfoldable pub interval_in : List (List ℕ) → Option Interval
+interval_in words =
+    let kind = word_at words 0 in
+    if bytes_eq kind (codes "0") then
+    between (dec_of (word_at words 1)) (dec_of (word_at words 2)) else
+    if bytes_eq kind (codes "1") then
+    option_map (λ hi. record { lo = None; hi = Some hi }) (dec_of (word_at words 1)) else
+    if bytes_eq kind (codes "2") then
+    option_map (λ lo. record { lo = Some lo; hi = None }) (dec_of (word_at words 1)) else
+    if bytes_eq kind (codes "3") then Some (record { lo = None; hi = None }) else
+    if bytes_eq kind (codes "4") then
+    between (dec_of (word_at words 1)) (dec_of (word_at words 1)) else None
+
+abbrev pub piece_intervals : Piece → List Interval
+piece_intervals p = filter_map (λ r. interval_in (row_words r)) p.rows
+
+-- the numbers of columns
+abbrev pub piece_counts : Piece → List ℕ
+piece_counts p = filter_map (λ r. whole_of (word_at (row_words r) 0)) p.rows

@@ -1,0 +1,35 @@
+// The lines of segments of .nl texts: what they are and say, and what judges the words of a line by
+// themselves.
+#![tactic(auto)]
+
+mod awaited;
+mod fault;
+mod head;
+mod head_rules;
+mod heads;
+mod intervals;
+mod judging;
+mod node_row;
+mod nodes;
+mod number_lines;
+mod pair_line;
+mod pairs;
+mod pending;
+mod words;
+
+pub use awaited::{Awaited, is_nothing};
+pub use fault::{NlFault, NlReason};
+pub use head::Head;
+pub use head_rules::{
+    has_tree, holds_once, is_full, is_linear, is_sides, is_suffix, keeps_pairs, line_count,
+    line_kind,
+};
+pub use heads::{is_in_range, read_head};
+pub use intervals::read_interval;
+pub use judging::{judge_pair, read_next_pair};
+pub use node_row::NodeRow;
+pub use nodes::read_node;
+pub use number_lines::{read_column, read_operand_count};
+pub use pair_line::pair_of_line;
+pub use pending::Pending;
+pub use words::is_head;
