@@ -2,6 +2,7 @@
 #![tactic(auto)]
 
 mod bounds;
+mod codes;
 mod columns;
 mod fault;
 mod grammar;

@@ -1,0 +1,116 @@
+-- Names by their codes.
+use Rattle.std.proofs.Common.{◌≡◌, ◌≢◌, ◌∙◌, ℕ, ◌+◌, ◌-◌, ◌*◌, ◌<◌, ◌≤◌, ◌^◌, List, [], ◌∷◌, ◌++◌, Bool, true, false, length, get_or, Some, None, refl, sym, ap, ap₂, arith, subst, Fits, w8}
+use Rattle.std.specs.Prelude.{All, AllPairs, nat_le}
+use Rattle.std.specs.Str.{bytes_eq}
+use Rattle.std.proofs.Math.Nat.{pow-le-pow_right}
+use Rattle.std.proofs.Math.ListN.{get_or-append}
+use Rattle.std.proofs.Math.Seq.{get_or-append_seam}
+use Rattle.std.proofs.lemmas.Bool.Decides.{nat_tests}
+use Rattle.std.proofs.lemmas.Grind.{pow_more, get_or_default_zero}
+use Rattle.std.proofs.lemmas.List.{length-map, map-append, get_or-map, length-append}
+use Rattle.std.proofs.lemmas.List.Elements.{All-head, All-tail, All-push}
+use Rattle.mps_reader.specs.Codes.{bytes_code, code_of, AreBytes, HaveCodes}
+use Rattle.mps_reader.specs.Saying.{place_of}
+use Rattle.text_base.proofs.NamePlaces.{place_at, place_none, bytes_differ}
+
+-- ---- sizes
+
+most : (n : ℕ) → n ≤ 7 → 256 ^ n ≤ 256 ^ 7
+most n le = pow-le-pow_right (omega arith) le
+
+-- one more byte in front
+pub code_grows : (code b place : ℕ) → code < 2 * 256 ^ (7 - place) → b < 256 → 0 < place → place ≤ 7 → code * 256 + b < 2 * 256 ^ (7 - (place - 1))
+code_grows code b place small byte some le =
+    let less : 7 - (place - 1) ≡ (7 - place) + 1 = omega (arith, some, le) in
+    let power : 256 ^ (7 - (place - 1)) ≡ 256 ^ (7 - place) * 256 = ap (λ (k : ℕ). 256 ^ k) less ∙ pow_more 256 (7 - place) in
+    omega (arith, power, small, byte)
+
+pub code_fits : (code b place : ℕ) → code < 2 * 256 ^ (7 - place) → b < 256 → 0 < place → place ≤ 7 → code * 256 + b < 2 ^ 64
+code_fits code b place small byte some le =
+    let grown = code_grows code b place small byte some le in
+    let limit = most (7 - (place - 1)) (omega arith) in
+    omega (arith, grown, limit)
+
+pub one_is_small : (n : ℕ) → 1 < 2 * 256 ^ n
+one_is_small n =
+    let least : 0 ≤ n = omega arith in
+    let some : 256 ^ 0 ≤ 256 ^ n = pow-le-pow_right (omega arith) least in
+    omega (arith, some)
+
+-- ---- other bytes have other codes
+
+pub are_bytes : (name : List ℕ) → ((i : ℕ) → Fits w8 (get_or name i 0)) → AreBytes name
+are_bytes name fits = λ i d lt. let here : Fits w8 (get_or name i 0) = fits i in omega (arith, here, get_or_default_zero name i d lt)
+
+some_code : (bytes : List ℕ) → 0 < bytes_code bytes
+some_code [] = omega arith
+some_code (b ∷ bytes) = let more = some_code bytes in omega (arith, more)
+
+same_bytes : (xs ys : List ℕ) → AreBytes xs → AreBytes ys → bytes_code xs ≡ bytes_code ys → xs ≡ ys
+same_bytes [] [] hx hy e = refl
+same_bytes [] (c ∷ ys) hx hy e = let more = some_code ys in absurd (omega (arith, more, e))
+same_bytes (b ∷ xs) [] hx hy e = let more = some_code xs in absurd (omega (arith, more, e))
+same_bytes (b ∷ xs) (c ∷ ys) hx hy e =
+    let first = All-head (λ (n : ℕ). n < 256) b xs hx in
+    let other = All-head (λ (n : ℕ). n < 256) c ys hy in
+    let digit : b ≡ c = omega (arith, e, first, other) in
+    let rest : bytes_code xs ≡ bytes_code ys = omega (arith, e, first, other) in
+    ap₂ (λ n ns. n ∷ ns) digit (same_bytes xs ys (All-tail (λ (n : ℕ). n < 256) b xs hx) (All-tail (λ (n : ℕ). n < 256) c ys hy) rest)
+
+short_code : (name : List ℕ) → nat_le (length name) 7 ≡ true → code_of name ≡ bytes_code name
+unfolding code_of
+short_code name e = rw e refl
+
+long_code : (name : List ℕ) → nat_le (length name) 7 ≡ false → code_of name ≡ 0
+unfolding code_of
+long_code name e = rw e refl
+
+short : (name : List ℕ) → 0 < code_of name → nat_le (length name) 7 ≡ true
+short name some = by (nat_le (length name) 7) refl
+  where
+    by : (t : Bool) → nat_le (length name) 7 ≡ t → nat_le (length name) 7 ≡ true
+    by true e = e
+    by false e = let none = long_code name e in absurd (omega (arith, some, none))
+
+pub same_name : (xs ys : List ℕ) → AreBytes xs → AreBytes ys → code_of xs ≡ code_of ys → 0 < code_of ys → xs ≡ ys
+same_name xs ys hx hy e some =
+    let first : 0 < code_of xs = omega (arith, e, some) in
+    same_bytes xs ys hx hy (sym (short_code xs (short xs first)) ∙ e ∙ short_code ys (short ys some))
+
+-- ---- places
+
+-- a name whose code stands at a place has that place
+pub place_by_code : (names : List (List ℕ)) (codes name : List ℕ) (p : ℕ) → HaveCodes names codes → AreBytes name → p < length codes → get_or codes p 0 ≡ code_of name → 0 < code_of name → place_of names name ≡ Some p
+place_by_code names codes name p h bytes within e some =
+    let lt : p < length names = subst (λ (n : ℕ). p < n) (ap length h.coded ∙ length-map names code_of) within in
+    let code : code_of (get_or names p []) ≡ code_of name =
+    sym (get_or-map code_of names p [] 0 lt) ∙ sym (ap (λ (cs : List ℕ). get_or cs p 0) h.coded) ∙ e in
+    let same : get_or names p [] ≡ name = same_name (get_or names p []) name (h.bytes p [] lt) bytes code some in
+    sym (ap (place_of names) same) ∙ place_at names p [] h.apart lt
+
+none_apart : (names : List (List ℕ)) (name : List ℕ) → AllPairs (λ m n. m ≢ n) names → All (λ n. bytes_eq name n ≡ false) names → AllPairs (λ m n. m ≢ n) (names ++ name ∷ [])
+none_apart names name apart other = λ i j d below within. by i j d below (omega (arith, within, length-append names (name ∷ [])))
+  where
+    at : (i j : ℕ) (d : List ℕ) → i < j → j ≤ length names → (t : Bool) → nat_le (length names) j ≡ t → get_or (names ++ name ∷ []) i d ≢ get_or (names ++ name ∷ []) j d
+    at i j d below le true e =
+        let last : j ≡ length names = grind (arith, nat_tests, le, e) in
+        let new : get_or (names ++ name ∷ []) j d ≡ name = ap (λ (k : ℕ). get_or (names ++ name ∷ []) k d) last ∙ get_or-append_seam names name [] d in
+        let old : get_or (names ++ name ∷ []) i d ≡ get_or names i d = get_or-append names (name ∷ []) d i (omega (arith, last, below)) in
+        let differ = bytes_differ name (get_or names i d) (other i d (omega (arith, last, below))) in
+        λ same. differ (sym new ∙ sym same ∙ old)
+    at i j d below le false e =
+        let lt : j < length names = grind (arith, nat_tests, e) in
+        let later : get_or (names ++ name ∷ []) j d ≡ get_or names j d = get_or-append names (name ∷ []) d j lt in
+        let old : get_or (names ++ name ∷ []) i d ≡ get_or names i d = get_or-append names (name ∷ []) d i (omega (arith, lt, below)) in
+        λ same. apart i j d below lt (sym old ∙ same ∙ later)
+
+    by : (i j : ℕ) (d : List ℕ) → i < j → j ≤ length names → get_or (names ++ name ∷ []) i d ≢ get_or (names ++ name ∷ []) j d
+    by i j d below le = at i j d below le (nat_le (length names) j) refl
+
+pub one_more_code : (names : List (List ℕ)) (codes name : List ℕ) → HaveCodes names codes → AreBytes name → place_of names name ≡ None → length names < 2 ^ 21 → HaveCodes (names ++ name ∷ []) (codes ++ code_of name ∷ [])
+one_more_code names codes name h bytes new room = record {
+  few = omega (arith, room, length-append names (name ∷ []));
+  bytes = All-push AreBytes names name h.bytes bytes;
+  apart = none_apart names name h.apart (place_none names name new);
+  coded = ap (λ (cs : List ℕ). cs ++ code_of name ∷ []) h.coded ∙ sym (map-append code_of names (name ∷ []));
+}
