@@ -1,19 +1,18 @@
 -- Coefficients that are kept as decimals.
-use Rattle.std.proofs.Common.{◌≡◌, ℕ, ◌<◌, arith, ◌∙◌, sym, ap, refl, absurd, subst, List, [], ◌∷◌, ◌++◌, Option, Some, None, IfSome, pos}
+use Rattle.std.proofs.Common.{◌≡◌, ℕ, ◌<◌, arith, ◌∙◌, sym, ap, refl, subst, List, [], ◌∷◌, ◌++◌, Option, Some, None, IfSome, pos}
 use Rattle.std.proofs.Math.Nat.{eq-one_of_dvd-one}
 use Rattle.fractions.specs.Rational.{ℚ, one_ℚ, whole, ◌*ℚ◌}
 use Rattle.fractions.proofs.Arithmetic.{one-*ℚ}
 use Rattle.exact_numbers.specs.declared.dec.Dec.{Dec}
-use Rattle.exact_numbers.specs.declared.frac.Frac.{Frac}
 use Rattle.exact_numbers.specs.Values.{dec_value, frac_value}
 use Rattle.exported_program.specs.Factor.{IsFinite, cofactor_of, least_factor}
 use Rattle.fractions.specs.Fits.{least_multiple}
 use Rattle.std.proofs.lemmas.Nat.Gcd.{dvd_refl}
 use Rattle.exact_numbers.specs.Fraction.{IsLcm}
-use Rattle.exported_program.proofs.Factor.{finite_multiple, factor_above}
+use Rattle.exported_program.proofs.Factor.{finite_multiple}
 use Rattle.linear_fold.specs.Coefs.{Term, AreDecimalsOf}
 use Rattle.row_scaling.specs.Rows.{TermOf}
-use Rattle.row_scaling.specs.Fitting.{coefficients_in, IsTermTimes, AreTermsTimes}
+use Rattle.row_scaling.specs.Fitting.{coefficients_in, AreTermsTimes}
 use Rattle.row_scaling.proofs.FactorLemmas.{same_lcm, one_dvd, running, running_is}
 use Rattle.row_scaling.proofs.DecimalLemmas.{plain_number}
 
