@@ -2,8 +2,9 @@
 use Rattle.std.specs.Prelude.{◌≡◌, ◌≢◌, ℕ, zero, suc, ◌==◌, ◌<◌, ◌≤◌, List, [], ◌∷◌, Option, Some, None, Result, Ok, Err, true, false, if◌then◌else◌, ◌⊎◌}
 use Rattle.text_base.specs.declared.stop.Stop.{Stop}
 use Rattle.text_base.specs.declared.stop.Stop.TheVariants.{Fault, Memory}
+use Rattle.exact_numbers.specs.declared.dec.Dec.{Dec}
 use Rattle.exact_numbers.specs.declared.frac.Frac.{Frac}
-use Rattle.exact_numbers.specs.Values.{frac_value}
+use Rattle.exact_numbers.specs.Values.{dec_value, frac_value}
 use Rattle.fractions.specs.Fits.{fits, sum_fits}
 use Rattle.fractions.specs.Rational.{ℚ, zero_ℚ, ◌+ℚ◌, ◌*ℚ◌}
 use Rattle.nl_meaning.specs.Lines.{one_if}
@@ -47,6 +48,14 @@ AreZeroTerms (t ∷ ts) = (t.factor ≡ zero_ℚ) × AreZeroTerms ts
 abbrev pub AreBelow : ℕ → List Term → Type 0
 AreBelow n [] = Unit {0}
 AreBelow n (t ∷ ts) = (t.0 < n) × AreBelow n ts
+
+-- the same variables with the same coefficients, as decimals
+abbrev pub AreDecimalsOf : List (ℕ × Dec) → List Term → Type 0
+AreDecimalsOf [] [] = Unit {0}
+AreDecimalsOf [] (t ∷ ts) = ⊥
+AreDecimalsOf (d ∷ ds) [] = ⊥
+AreDecimalsOf (d ∷ ds) (t ∷ ts) =
+    (d.0 ≡ t.0) × (dec_value d.1 ≡ frac_value t.1) × AreDecimalsOf ds ts
 
 -- k times each of terms, which all fit
 abbrev pub AreProducts : ℚ → List Term → List Term → Type 0

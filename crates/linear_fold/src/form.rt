@@ -1,19 +1,19 @@
 // Linear forms.
-ghost use Rattle.std.specs.Prelude.{◌≡◌, ◌+◌, ◌≤◌, ℕ, [], true, false, length, IfOk, IfErr, OnOk, OnErr, ◌≢◌};
+ghost use Rattle.std.specs.Prelude.{◌≡◌, ◌+◌, ◌≤◌, ℕ, [], true, false, length, IfOk, IfErr, IfSome, OnOk, OnErr, ◌≢◌};
 ghost use Rattle.text_base.specs.Stopped.{IfFault};
 ghost use Rattle.exact_numbers.specs.Values.{frac_value};
 ghost use Rattle.fractions.specs.Rational.{one_ℚ, zero_ℚ};
 ghost use Rattle.std.specs.Iterator.{YieldsFirst, item_count};
 ghost use Rattle.nl_meaning.specs.Faults.{constant_line, line_with, line_scaled, line_sum};
 ghost use Rattle.nl_meaning.specs.Lines.{is_constant};
-ghost use Rattle.linear_fold.specs.Coefs.{AddsAt, AreAscending, AreProducts, HasWideProduct, coef_in};
+ghost use Rattle.linear_fold.specs.Coefs.{AddsAt, AreAscending, AreDecimalsOf, AreProducts, HasWideProduct, coef_in};
 ghost use Rattle.linear_fold.specs.Forms.{AddsScaled, AreWithin, HasPlace, HasRoom, IsZeroFrom, Multiplies, SumsUp, form_line, form_terms, is_open, place_count, terms_left};
 
 use crate::accumulator::{Accumulator, sum_of};
 use crate::coefficients::Coefficients;
 use crate::pad::Pad;
 use crate::wide::Wide;
-use exact_numbers::Frac;
+use exact_numbers::{Dec, Frac};
 use std::alloc::{AllocError, Global};
 use std::mem;
 use text_base::{Ledger, Steps, Stop};
@@ -140,6 +140,14 @@ impl Form {
         FormTerms {
             rest: self.listed(),
         }
+    }
+
+    /// The terms of a closed form as decimals, ascending by variable, where they are kept so.
+    pub fn decimals(&self) -> Option<&[(u32, Dec)]>
+        requires { is_open self.now ≡ false }
+        ensures { IfSome result (λ ds. AreDecimalsOf ds.now (form_terms self.now)) }
+    {
+        None
     }
 
     // The terms of a closed form, in order.

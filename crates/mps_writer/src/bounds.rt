@@ -1,32 +1,73 @@
 // The bounds of the columns.
-ghost use Rattle.std.specs.Prelude.{◌≡◌, ◌<◌, ◌++◌, ◌∷◌, [], length, OnOk, map, codes, All};
+ghost use Rattle.std.specs.Prelude.{◌≡◌, ◌<◌, ◌≤◌, ◌++◌, ◌∷◌, [], length, OnOk, map, codes, All};
 ghost use Rattle.mps_model.specs.Built.{bound_of};
 ghost use Rattle.mps_model.specs.Text.{bound_line, bound_text, value_words, section};
 ghost use Rattle.exact_numbers.specs.Values.{text_of};
-ghost use Rattle.written_texts.specs.Lines.{indented, line_text, lines_text, unless_empty};
+ghost use Rattle.written_texts.specs.Lines.{indented, line_text, lines_text, spaced, unless_empty};
 
 use exact_numbers::Dec;
 use mps_model::{BoundKind, MpsColumn};
 use std::alloc::AllocError;
-use written_texts::{put, put_end, put_line, put_next, put_next_dec};
+use written_texts::{LineText, put, put_end, put_line, put_next_dec};
 
-fn kind_word(kind: BoundKind) -> &'static [u8]
-    ensures { result.now ≡ bound_text kind }
+// The words before the column's name, with a space before and after each.
+fn bound_front(kind: BoundKind) -> &'static [u8]
+    ensures text { result.now ≡ codes " " ++ bound_text kind ++ codes " BND " }
+    ensures short { length result.now ≤ 8 }
 {
     match kind {
-        BoundKind::Lo => b"LO",
-        BoundKind::Up => b"UP",
-        BoundKind::Fx => b"FX",
-        BoundKind::Fr => b"FR",
-        BoundKind::Mi => b"MI",
-        BoundKind::Pl => b"PL",
-        BoundKind::Bv => b"BV",
-        BoundKind::Li => b"LI",
-        BoundKind::Ui => b"UI",
+        BoundKind::Lo => b" LO BND ",
+        BoundKind::Up => b" UP BND ",
+        BoundKind::Fx => b" FX BND ",
+        BoundKind::Fr => b" FR BND ",
+        BoundKind::Mi => b" MI BND ",
+        BoundKind::Pl => b" PL BND ",
+        BoundKind::Bv => b" BV BND ",
+        BoundKind::Li => b" LI BND ",
+        BoundKind::Ui => b" UI BND ",
     }
 }
 
-// A line of a bound; FR, MI, PL and BV stand without their value.
+// Writes the column's name in front, and the value behind it where the kind has one.
+fn put_tail(line: &mut LineText, column: &[u8], kind: BoundKind, value: Dec)
+    requires name { length column.now ≤ 32 }
+    requires room { length line.old ≤ 1 }
+    ensures text { line.new
+        ≡ spaced (column.now ∷ value_words kind (text_of value)) ++ line.old }
+    ensures short { length line.new ≤ 120 }
+{
+    match kind {
+        BoundKind::Fr | BoundKind::Mi | BoundKind::Pl | BoundKind::Bv => line.put_word(column),
+        _ => {
+            line.put_dec(value);
+            line.put_byte(b' ');
+            line.put_word(column);
+        }
+    }
+}
+
+// The same word by word, for names of any length.
+fn put_long_bound(
+    out: &mut Vec<u8>,
+    column: &[u8],
+    kind: BoundKind,
+    value: Dec,
+) -> Result<(), AllocError>
+    ensures { OnOk result (out.new.items ≡ out.old.items ++ line_text
+        (indented (bound_text kind ∷ codes "BND" ∷ column.now
+        ∷ value_words kind (text_of value)))) }
+{
+    put(out, bound_front(kind))?;
+    put(out, column)?;
+    match kind {
+        BoundKind::Fr | BoundKind::Mi | BoundKind::Pl | BoundKind::Bv => {}
+        _ => put_next_dec(out, value)?,
+    }
+    put_end(out)
+}
+
+// A line of a bound; FR, MI, PL and BV stand without their value. With a name of at most 32 bytes
+// the line is appended whole.
 fn put_bound(
     out: &mut Vec<u8>,
     column: &[u8],
@@ -37,14 +78,14 @@ fn put_bound(
         (indented (bound_text kind ∷ codes "BND" ∷ column.now
         ∷ value_words kind (text_of value)))) }
 {
-    put_next(out, kind_word(kind))?;
-    put(out, b" BND")?;
-    put_next(out, column)?;
-    match kind {
-        BoundKind::Fr | BoundKind::Mi | BoundKind::Pl | BoundKind::Bv => {}
-        _ => put_next_dec(out, value)?,
+    if column.len() > 32 {
+        return put_long_bound(out, column, kind, value);
     }
-    put_end(out)
+    let mut line = LineText::new();
+    line.put_byte(b'\n');
+    put_tail(&mut line, column, kind, value);
+    line.put_word(bound_front(kind));
+    put(out, line.bytes())
 }
 
 fn put_bound_lines(

@@ -1,10 +1,10 @@
 //! The written text of MPS programs: free MPS, one spelling for each program.
 #![tactic(auto)]
 
-ghost use Rattle.std.specs.Prelude.{◌≡◌, ◌++◌, ◌∷◌, OnOk, IfOk, map, codes};
+ghost use Rattle.std.specs.Prelude.{◌≡◌, ◌≤◌, ◌++◌, ◌∷◌, length, OnOk, IfOk, map, codes};
 ghost use Rattle.exact_numbers.specs.Values.{dec_value, text_of, value_text};
 ghost use Rattle.mps_model.specs.Mps.{with_values};
-ghost use Rattle.mps_model.specs.Text.{mps_text_by, name_lines, sense_lines, section, row_line};
+ghost use Rattle.mps_model.specs.Text.{mps_text_by, kind_text, name_lines, sense_lines, section, row_line};
 ghost use Rattle.written_texts.specs.Lines.{line_text, lines_text};
 
 mod bounds;
@@ -16,7 +16,7 @@ use columns::put_columns;
 use lines::{put_ranges, put_rhs};
 use mps_model::{Mps, MpsRow, RowKind};
 use std::alloc::{AllocError, Global};
-use written_texts::{put, put_end, put_line, put_next};
+use written_texts::{LineText, put, put_end, put_line, put_next};
 
 // The line of the name; none where the name is empty.
 fn put_name(out: &mut Vec<u8>, mps: &Mps) -> Result<(), AllocError>
@@ -40,18 +40,41 @@ fn put_sense(out: &mut Vec<u8>, maximise: bool) -> Result<(), AllocError>
     Ok(())
 }
 
+// The letter of a kind of row, with a space before and after it.
+fn row_front(kind: RowKind) -> &'static [u8]
+    ensures text { result.now ≡ codes " " ++ kind_text kind ++ codes " " }
+    ensures short { length result.now ≤ 3 }
+{
+    match kind {
+        RowKind::N => b" N ",
+        RowKind::L => b" L ",
+        RowKind::G => b" G ",
+        RowKind::E => b" E ",
+    }
+}
+
+// The same word by word, for names of any length.
+fn put_long_row(out: &mut Vec<u8>, row: &MpsRow) -> Result<(), AllocError>
+    ensures { OnOk result (out.new.items ≡ out.old.items ++ line_text (row_line row.now)) }
+{
+    put(out, row_front(row.kind))?;
+    put(out, row.name.bytes())?;
+    put_end(out)
+}
+
+// A line of a row; with a name of at most 64 bytes it is appended whole.
 fn put_row(out: &mut Vec<u8>, row: &MpsRow) -> Result<(), AllocError>
     ensures { OnOk result (out.new.items ≡ out.old.items ++ line_text (row_line row.now)) }
 {
-    let kind: &[u8] = match row.kind {
-        RowKind::N => b"N",
-        RowKind::L => b"L",
-        RowKind::G => b"G",
-        RowKind::E => b"E",
-    };
-    put_next(out, kind)?;
-    put_next(out, row.name.bytes())?;
-    put_end(out)
+    let name = row.name.bytes();
+    if name.len() > 64 {
+        return put_long_row(out, row);
+    }
+    let mut line = LineText::new();
+    line.put_byte(b'\n');
+    line.put_word(name);
+    line.put_word(row_front(row.kind));
+    put(out, line.bytes())
 }
 
 fn put_row_lines(out: &mut Vec<u8>, rows: &[MpsRow]) -> Result<(), AllocError>

@@ -13,7 +13,7 @@ use Rattle.mps_model.specs.declared.kinds.RowKind.{RowKind}
 use Rattle.mps_model.specs.Mps.{MpsRow, Entry, Column, Bound, Mps}
 use Rattle.mps_model.specs.Valid.{AreRows, AreColumns, AreEntries, AreRanges, AreBounds, IsOtherRow, IsOtherColumn, IsOtherEntry, IsOtherBound, IsBounded, IsWithoutNumber, entry_count}
 use Rattle.name_files.specs.Renamed.{named_row, named_column, named_rows, named_columns, named, with_names}
-use Rattle.mps_model.specs.Built.{CanAddRow, CanAddColumn, CanAddEntry, CanAddRhs, CanAddRange, CanAddBound, entry_of, bound_of, with_entry_last, last_entries}
+use Rattle.mps_model.specs.Built.{CanAddRow, CanAddColumn, CanAddEntries, CanAddRhs, CanAddRange, CanAddBound, entry_of, bound_of}
 
 -- ---- the first elements of a list
 
@@ -109,25 +109,12 @@ first_at [] c d k lt = absurd (omega (arith, lt))
 first_at (x ∷ done) c d zero lt = refl
 first_at (x ∷ done) c d (suc k) lt = first_at done c d k (omega (arith, lt))
 
-entry_last : (e : Entry Dec) (done : List (Column Dec)) (c : Column Dec) → with_entry_last e (done ++ c ∷ []) ≡ done ++ record c { entries = c.entries ++ e ∷ [] } ∷ []
-entry_last e [] c = refl
-entry_last e (d ∷ []) c = refl
-entry_last e (d ∷ f ∷ done) c = ap (λ cs. d ∷ cs) (entry_last e (f ∷ done) c)
-
-entries_last : (done : List (Column Dec)) (c : Column Dec) → last_entries (done ++ c ∷ []) ≡ c.entries
-entries_last [] c = refl
-entries_last (d ∷ []) c = refl
-entries_last (d ∷ f ∷ done) c = entries_last (f ∷ done) c
-
 count_last : (done : List (Column Dec)) (c : Column Dec) → entry_count (done ++ c ∷ []) ≡ entry_count done + length c.entries
 count_last done c =
     let count = λ (c : Column Dec). length c.entries in
     sum_by-append count done (c ∷ []) ∙ ap (λ n. entry_count done + n) (sum_by-cons count c [] ∙ omega arith)
 
--- with the first k of the entries
-abbrev pub filled_to : ℕ → List (ℕ × Dec) → Column Dec → Column Dec
-filled_to k ts c = record c { entries = map entry_of (take k ts) }
-
+-- the last of the columns
 module _ (n : ℕ) (done : List (Column Dec)) (c : Column Dec) (a : AreColumns n (done ++ c ∷ [])) where
   pub can_add_column : (m : Mps Dec) → m.columns ≡ done → CanAddColumn m c.name
   can_add_column m same =
@@ -140,28 +127,13 @@ module _ (n : ℕ) (done : List (Column Dec)) (c : Column Dec) (a : AreColumns n
   are_entries : AreEntries n c.entries
   are_entries = subst (λ (x : Column Dec). AreEntries n x.entries) (last_at done c c) (a.entries (length done) c (omega (arith, length-append done (c ∷ []))))
 
-  module _ (ts : List (ℕ × Dec)) (is : map entry_of ts ≡ c.entries) (k : ℕ) (t : ℕ × Dec) (lt : k < length ts) (at : t ≡ get_or ts k t) (m : Mps Dec) where
-    pub can_add_entry : length m.rows ≡ n → m.columns ≡ done ++ filled_to k ts c ∷ [] → CanAddEntry m t.0
-    can_add_entry rows same =
-        let own : AreEntries n (map entry_of ts) = subst (AreEntries n) (sym is) are_entries in
-        let here : entry_of t ≡ get_or (map entry_of ts) k (entry_of t) = at_mapped entry_of ts k t lt at in
-        let inside : k < length (map entry_of ts) = within_mapped entry_of ts k t lt at in
-        let size : length (map entry_of (take k ts)) ≡ k = length-map (take k ts) entry_of ∙ length-take-le k ts (omega (arith, lt)) in
-        let row : t.0 < n = subst (λ (e : Entry Dec). e.row < n) (sym here) (own.within k (entry_of t) inside) in
-        record {
-          some = omega (arith, ap length same, length-append done (filled_to k ts c ∷ []));
-          within = omega (arith, row, rows);
-          few = omega (arith, a.few_entries, ap entry_count same, count_last done (filled_to k ts c), count_last done c, size, inside, ap length is);
-          new = subst (All (IsOtherEntry t.0)) (take-map entry_of k ts ∙ sym (ap last_entries same ∙ entries_last done (filled_to k ts c))) (before (λ (e g : Entry Dec). e.row ≢ g.row) (map entry_of ts) k (entry_of t) own.apart inside here);
-        }
-
--- one entry more
-pub entry_put : (old m new : Mps Dec) (c : Column Dec) (ts : List (ℕ × Dec)) (k : ℕ) (t : ℕ × Dec) → k < length ts → t ≡ get_or ts k t →
-    m ≡ record old { columns = old.columns ++ filled_to k ts c ∷ [] } → new ≡ record m { columns = with_entry_last (entry_of t) m.columns } → new ≡ record old { columns = old.columns ++ filled_to (k + 1) ts c ∷ [] }
-entry_put old m new c ts k t lt at first second =
-    second
-    ∙ ap (λ (b : Mps Dec). record b { columns = with_entry_last (entry_of t) b.columns }) first
-    ∙ ap (λ cs. record old { columns = cs }) (entry_last (entry_of t) old.columns (filled_to k ts c) ∙ ap (λ es. old.columns ++ record c { entries = es } ∷ []) (one_more entry_of ts k t lt at))
+  pub can_add_entries : (m : Mps Dec) → m.columns ≡ done → length m.rows ≡ n → (ts : List (ℕ × Dec)) → map entry_of ts ≡ c.entries → CanAddEntries m ts
+  can_add_entries m same rows ts is =
+      let size : length ts ≡ length c.entries = sym (length-map ts entry_of) ∙ ap length is in
+      record {
+        few = omega (arith, a.few_entries, ap entry_count same, count_last done c, size);
+        rows = subst (λ k. AreEntries k (map entry_of ts)) (sym rows) (subst (AreEntries n) (sym is) are_entries);
+      }
 
 -- ---- rows with other names
 

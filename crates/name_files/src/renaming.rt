@@ -43,18 +43,20 @@ fn add_rows(
 }
 
 // Adds a column like this one, with another name.
-fn add_column(builder: &mut MpsBuilder, name: Name, column: &MpsColumn) -> Result<(), AllocError>
+fn add_column(
+    alloc: Global,
+    builder: &mut MpsBuilder,
+    name: Name,
+    column: &MpsColumn,
+) -> Result<(), AllocError>
     requires { AreColumns (length builder.old.rows)
         (builder.old.columns ++ record column.now { name = name } ∷ []) }
     ensures { OnOk result (builder.new ≡ record builder.old {
       columns = builder.old.columns ++ record column.now { name = name } ∷ [];
     }) }
 {
-    builder.add_col(name, column.marked())?;
-    let entries = column.entries();
-    for entry in entries {
-        builder.add_entry(entry.0, entry.1)?;
-    }
+    let entries = Vec::from_slice(alloc, column.entries())?;
+    builder.add_column(name, column.marked(), entries)?;
     Ok(())
 }
 
@@ -73,7 +75,7 @@ fn add_columns(
 {
     for column in columns {
         let name = new_name(alloc, b'x', names, column.name().bytes())?;
-        add_column(builder, name, column)?;
+        add_column(alloc, builder, name, column)?;
     }
     Ok(())
 }

@@ -48,7 +48,7 @@ pub fewer_wide : (xs ys : List ℚ) → 2 ^ 127 ≤ least_factor xs → 2 ^ 127 
 fewer_wide xs ys h = let small : least_factor xs ≤ least_factor (xs ++ ys) = le_of_dvd (factor_above (xs ++ ys)) (factor_of_fewer xs ys) in omega (arith, h, small)
 
 -- ---- the answer of the least common multiple
-same_lcm : (a b m : ℕ) → 0 < b → IsLcm a b m → m ≡ least_multiple a b
+pub same_lcm : (a b m : ℕ) → 0 < b → IsLcm a b m → m ≡ least_multiple a b
 same_lcm a b m h l = let r = is_lcm a b h in dvd_antisymm (l.2 (least_multiple a b) r.first r.second) (r.least m l.0 l.1)
 
 pub back_to : (z : ℤ) (n : ℕ) → pos 0 <ℤ z → unsigned_abs z ≡ n → z ≡ pos n

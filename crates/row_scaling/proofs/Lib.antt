@@ -7,6 +7,7 @@ pub mod DecimalLemmas
 pub mod FillLemmas
 pub mod FactoredLemmas
 pub mod FitLemmas
+pub mod KeptDecimals
 pub mod LawLemmas
 pub mod LinearLemmas
 pub mod NumberLemmas

@@ -45,8 +45,8 @@ fn with_side(factor: i128, side: Option<Frac>) -> Option<i128>
     }
 }
 
-// The same with the coefficients of a form.
-fn with_terms(start: i128, form: &Form) -> Option<i128>
+// The same with the coefficients of a form, one by one.
+fn with_fractions(start: i128, form: &Form) -> Option<i128>
     requires above { pos 0 <ℤ start }
     requires closed { is_open form.now ≡ false }
     ensures ascending { AreAscending 0 (form_terms form.now) }
@@ -62,6 +62,22 @@ fn with_terms(start: i128, form: &Form) -> Option<i128>
         factor = next;
     }
     Some(factor)
+}
+
+// The same with the coefficients of a form; those that are kept as decimals add nothing.
+fn with_terms(start: i128, form: &Form) -> Option<i128>
+    requires above { pos 0 <ℤ start }
+    requires closed { is_open form.now ≡ false }
+    ensures ascending { AreAscending 0 (form_terms form.now) }
+    ensures factor { (xs : List ℚ) → start ≡ pos (least_factor xs)
+        → MatchOption result (2 ^ 127 ≤ least_factor (xs ++ coefficients_in (form_terms form.now)))
+        (λ k. k ≡ pos (least_factor (xs ++ coefficients_in (form_terms form.now)))) }
+{
+    let _terms = form.terms();
+    match form.decimals() {
+        Some(_) => Some(start),
+        None => with_fractions(start, form),
+    }
 }
 
 // The least factor of a row's coefficients and sides; none where it is beyond the greatest size.

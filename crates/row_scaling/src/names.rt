@@ -3,9 +3,12 @@ ghost use Rattle.std.specs.Prelude.{◌≡◌, ◌≤◌, ◌∷◌, IfOk};
 ghost use Rattle.std.specs.Fmt.{decimal};
 ghost use Rattle.text_base.specs.Names.{IsName};
 
-use itoa::Buffer;
+use itoa::write_digits;
 use std::alloc::{AllocError, Global};
 use text_base::Name;
+
+// A letter and the digits of 32 bits have no more bytes.
+const LONGEST: usize = 11;
 
 // The name with these bytes.
 pub(crate) fn name_of(alloc: Global, text: &[u8]) -> Result<Name, AllocError>
@@ -15,20 +18,14 @@ pub(crate) fn name_of(alloc: Global, text: &[u8]) -> Result<Name, AllocError>
     Name::tested(alloc, text)
 }
 
-// The name of a letter and a number. The text is room to write it in.
-pub(crate) fn numbered_name(
-    alloc: Global,
-    text: &mut Vec<u8>,
-    letter: u8,
-    number: u32,
-) -> Result<Name, AllocError>
+// The name of a letter and a number. Its bytes are made in an array, from the last digit on.
+pub(crate) fn numbered_name(alloc: Global, letter: u8, number: u32) -> Result<Name, AllocError>
     requires { 33 ≤ letter }
     ensures { IfOk result (λ name. name ≡ letter ∷ decimal number) }
 {
-    let mut buffer = Buffer::new();
-    let digits = buffer.format(number);
-    text.clear();
-    text.push(letter)?;
-    text.extend_from_slice(digits.as_bytes())?;
-    name_of(alloc, text)
+    let mut bytes = [0u8; LONGEST];
+    let digits = write_digits(number as u64, &mut bytes, LONGEST);
+    let start = digits - 1;
+    bytes[start] = letter;
+    Name::tested(alloc, &bytes[start..])
 }

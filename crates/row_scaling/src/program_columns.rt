@@ -77,11 +77,10 @@ pub(crate) fn add_columns(
     }) }
     ensures whole { OnOk result (AreFilled scaled.now builder.new.columns) }
 {
-    let mut text = Vec::new(alloc);
     let kinds = scaled.kinds();
     let mut rest = columns.into_iter();
     for (j, kind) in kinds.iter().enumerate() {
-        let name = numbered_name(alloc, &mut text, b'x', j as u32)?;
+        let name = numbered_name(alloc, b'x', j as u32)?;
         let Some(entries) = rest.next() else {
             unreachable!()
         };

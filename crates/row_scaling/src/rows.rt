@@ -40,12 +40,11 @@ fn add_exported_rows(
       rows = builder.old.rows ++ map mps_row (exported_from 0 rows.now);
     }) }
 {
-    let mut text = Vec::new(alloc);
     for (i, row) in rows.iter().enumerate() {
         let Some(factored) = row else {
             continue;
         };
-        let name = numbered_name(alloc, &mut text, b'c', i as u32)?;
+        let name = numbered_name(alloc, b'c', i as u32)?;
         let kind = kind_of(&factored.row);
         builder.add_row(name, kind)?;
     }

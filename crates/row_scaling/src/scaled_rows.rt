@@ -118,8 +118,9 @@ pub(crate) fn scaled_rows(
     ensures wide { IfErr result
         (λ stop. IfFault stop (λ fault. HasScaleFault (linear_value linear.now) fault)) }
 {
-    let mut rows = Vec::new(alloc);
-    for con in 0..linear.bodies().len() as u32 {
+    let bodies = linear.bodies();
+    let mut rows = Vec::with_capacity(alloc, bodies.len())?;
+    for con in 0..bodies.len() as u32 {
         let row = match scaled_row_at(alloc, linear, con) {
             Ok(row) => row,
             Err(stop) => return Err(stop),

@@ -1,5 +1,5 @@
 // The terms of a form times a factor, as decimals.
-ghost use Rattle.std.specs.Prelude.{◌≡◌, MatchOption, All, IfOk, IfErr, false};
+ghost use Rattle.std.specs.Prelude.{◌≡◌, MatchOption, All, IfOk, IfErr, IfSome, false};
 ghost use Rattle.text_base.specs.Stopped.{IfFault};
 ghost use Rattle.fractions.specs.Rational.{◌*ℚ◌};
 ghost use Rattle.exact_numbers.specs.Values.{dec_value, frac_value};
@@ -11,7 +11,7 @@ use crate::decimals::{decimal_of, is_one};
 use exact_numbers::{Dec, Frac};
 use linear_fold::{Form, Wide};
 use nl_model::Terms;
-use std::alloc::Global;
+use std::alloc::{AllocError, Global};
 use text_base::Stop;
 
 // A number times the factor, as a decimal; none exactly where it does not fit.
@@ -42,8 +42,8 @@ fn term_count(form: &Form) -> usize
     count
 }
 
-// The terms of a form times the factor. Wide exactly where a number does not fit.
-pub(crate) fn scaled_terms(alloc: Global, form: &Form, factor: Frac) -> Result<Terms, Stop<Wide>>
+// The terms of a form times the factor, one by one. Wide exactly where a number does not fit.
+fn terms_times(alloc: Global, form: &Form, factor: Frac) -> Result<Terms, Stop<Wide>>
     requires { is_open form.now ≡ false }
     ensures scaled { IfOk result
         (λ terms. AreTermsTimes (frac_value factor) (form_terms form.now) terms) }
@@ -61,4 +61,45 @@ pub(crate) fn scaled_terms(alloc: Global, form: &Form, factor: Frac) -> Result<T
         terms.push((term.0, value))?;
     }
     Ok(terms)
+}
+
+// The same terms.
+fn copied_terms(alloc: Global, decimals: &[(u32, Dec)]) -> Result<Terms, AllocError>
+    ensures { IfOk result (λ terms. terms ≡ decimals.now) }
+{
+    let mut terms = Terms::new(alloc);
+    terms.make_room(decimals.len())?;
+    for term in decimals {
+        terms.push(*term)?;
+    }
+    Ok(terms)
+}
+
+// The decimals of a form that is kept as decimals, where the factor is 1.
+fn decimals_at_one(form: &Form, factor: Frac) -> Option<&[(u32, Dec)]>
+    requires { is_open form.now ≡ false }
+    ensures { IfSome result
+        (λ ds. AreTermsTimes (frac_value factor) (form_terms form.now) ds.now) }
+{
+    if !is_one(factor) {
+        return None;
+    }
+    form.decimals()
+}
+
+// The terms of a form times the factor. Wide exactly where a number does not fit.
+pub(crate) fn scaled_terms(alloc: Global, form: &Form, factor: Frac) -> Result<Terms, Stop<Wide>>
+    requires { is_open form.now ≡ false }
+    ensures scaled { IfOk result
+        (λ terms. AreTermsTimes (frac_value factor) (form_terms form.now) terms) }
+    ensures ascending { AreAscending 0 (form_terms form.now) }
+    ensures wide { IfErr result
+        (λ stop. IfFault stop
+        (λ _. ¬ All (NumberFits (frac_value factor)) (coefficients_in (form_terms form.now)))) }
+{
+    let _terms = form.terms();
+    match decimals_at_one(form, factor) {
+        Some(decimals) => Ok(copied_terms(alloc, decimals)?),
+        None => terms_times(alloc, form, factor),
+    }
 }

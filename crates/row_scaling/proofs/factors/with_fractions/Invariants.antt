@@ -1,7 +1,7 @@
 use Rattle.std.proofs.Common.{◌≡◌, pos, unsigned_abs, ◌<ℤ◌}
 use Rattle.linear_fold.specs.Forms.{form_terms, terms_left}
 use Rattle.row_scaling.proofs.FactorLemmas.{running}
-use Rattle.row_scaling.proofs.factors.with_terms.Given as goal
+use Rattle.row_scaling.proofs.factors.with_fractions.Given as goal
 
 abbrev pub invariant-loop-term : goal.invariant-loop-term
 invariant-loop-term l =

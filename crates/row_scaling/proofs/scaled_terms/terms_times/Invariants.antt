@@ -3,7 +3,7 @@ use Rattle.exact_numbers.specs.Values.{frac_value}
 use Rattle.linear_fold.specs.Forms.{form_terms, terms_left}
 use Rattle.row_scaling.specs.Rows.{TermOf}
 use Rattle.row_scaling.specs.Fitting.{coefficients_in, NumberFits, AreTermsTimes}
-use Rattle.row_scaling.proofs.scaled_terms.scaled_terms.Given as goal
+use Rattle.row_scaling.proofs.scaled_terms.terms_times.Given as goal
 
 abbrev pub invariant-loop-term : goal.invariant-loop-term
 invariant-loop-term l =
