@@ -5,5 +5,3 @@ pub mod Values
 pub mod Text
 pub mod Spelled
 pub mod Numbers
-pub mod Packed
-pub mod Held

@@ -12,7 +12,6 @@ mod numbers;
 mod of_dec;
 mod order;
 mod read;
-mod words;
 mod write;
 
 pub use arithmetic::lcm;
