@@ -16,6 +16,7 @@ mod linear;
 mod operate;
 mod owners;
 mod pad;
+mod parts;
 mod program;
 mod wide;
 
