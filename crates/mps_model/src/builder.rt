@@ -70,6 +70,21 @@ impl MpsBuilder {
         }
     }
 
+    /// Makes room for so many rows, each with its right side, and columns and bounds more.
+    pub fn make_room(
+        &mut self,
+        rows: usize,
+        columns: usize,
+        bounds: usize,
+    ) -> Result<(), AllocError>
+        ensures { self.new ≡ self.old }
+    {
+        self.rows.reserve_exact(rows)?;
+        self.rhs.reserve_exact(rows)?;
+        self.columns.reserve_exact(columns)?;
+        self.bounds.reserve_exact(bounds)
+    }
+
     /// Sets whether the objective is maximised.
     pub fn set_maximise(&mut self, maximise: bool)
         ensures { self.new ≡ record self.old { maximise = maximise } }

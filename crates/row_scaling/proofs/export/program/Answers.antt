@@ -16,6 +16,6 @@ finish-requires c =
 
 pub returns : goal.returns
 returns c =
-    whole_program c.args.scaled.now c.in_ok-name.name c.maximise.result c.new-builder.result c.add_rows.new.builder c.add_columns.new.builder c.add_sides.new.builder c.add_ranges.new.builder c.add_bounds.new.builder
-    c.new-builder.ensures c.in_ok-add_rows.ensures c.in_ok-add_columns.ensures.only c.in_ok-add_sides.ensures.only c.in_ok-add_ranges.ensures.only c.in_ok-add_bounds.ensures.only
+    whole_program c.args.scaled.now c.in_ok-name.name c.maximise.result c.make_room.new.builder c.add_rows.new.builder c.add_columns.new.builder c.add_sides.new.builder c.add_ranges.new.builder c.add_bounds.new.builder
+    (c.make_room.ensures ∙ c.new-builder.ensures) c.in_ok-add_rows.ensures c.in_ok-add_columns.ensures.only c.in_ok-add_sides.ensures.only c.in_ok-add_ranges.ensures.only c.in_ok-add_bounds.ensures.only
     c.finish.result c.in_ok-name.ensures c.maximise.ensures.value c.in_ok-add_columns.ensures.whole c.in_ok-add_sides.ensures.value c.in_ok-add_ranges.ensures.value c.in_ok-add_bounds.ensures.value c.finish.ensures
