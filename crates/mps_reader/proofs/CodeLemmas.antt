@@ -9,9 +9,10 @@ use Rattle.std.proofs.lemmas.Bool.Decides.{nat_tests}
 use Rattle.std.proofs.lemmas.Grind.{pow_more, get_or_default_zero}
 use Rattle.std.proofs.lemmas.List.{length-map, map-append, get_or-map, length-append}
 use Rattle.std.proofs.lemmas.List.Elements.{All-head, All-tail, All-push}
+use Rattle.text_base.specs.Names.{IsName, is_name}
 use Rattle.mps_reader.specs.Codes.{bytes_code, code_of, AreBytes, HaveCodes}
-use Rattle.mps_reader.specs.Saying.{place_of}
-use Rattle.text_base.proofs.NamePlaces.{place_at, place_none, bytes_differ}
+use Rattle.mps_reader.specs.Saying.{place_of, last_name}
+use Rattle.text_base.proofs.NamePlaces.{place_at, place_none, bytes_differ, bytes_same}
 
 -- ---- sizes
 
@@ -77,6 +78,17 @@ same_name xs ys hx hy e some =
     let first : 0 < code_of xs = omega (arith, e, some) in
     same_bytes xs ys hx hy (sym (short_code xs (short xs first)) ∙ e ∙ short_code ys (short ys some))
 
+-- ---- names
+
+is_name-true : (name : List ℕ) → IsName name → is_name name ≡ true
+is_name-true name h = rw h.each (grind (arith, nat_tests, h.some, h.most))
+
+pub last_is_name : (names : List (List ℕ)) (name : List ℕ) → All (λ n. is_name n ≡ true) names → bytes_eq name (last_name names) ≡ true → 0 < length name → is_name name ≡ true
+unfolding last_name
+last_is_name [] name h e some = let none : length name ≡ 0 = ap length (bytes_same name [] e) in absurd (omega (arith, some, none))
+last_is_name (n ∷ []) name h e some = ap is_name (bytes_same name n e) ∙ All-head (λ n. is_name n ≡ true) n [] h
+last_is_name (n ∷ o ∷ names) name h e some = last_is_name (o ∷ names) name (All-tail (λ n. is_name n ≡ true) n (o ∷ names) h) e some
+
 -- ---- places
 
 -- a name whose code stands at a place has that place
@@ -107,10 +119,11 @@ none_apart names name apart other = λ i j d below within. by i j d below (omega
     by : (i j : ℕ) (d : List ℕ) → i < j → j ≤ length names → get_or (names ++ name ∷ []) i d ≢ get_or (names ++ name ∷ []) j d
     by i j d below le = at i j d below le (nat_le (length names) j) refl
 
-pub one_more_code : (names : List (List ℕ)) (codes name : List ℕ) → HaveCodes names codes → AreBytes name → place_of names name ≡ None → length names < 2 ^ 21 → HaveCodes (names ++ name ∷ []) (codes ++ code_of name ∷ [])
-one_more_code names codes name h bytes new room = record {
+pub one_more_code : (names : List (List ℕ)) (codes name : List ℕ) → HaveCodes names codes → AreBytes name → IsName name → place_of names name ≡ None → length names < 2 ^ 21 → HaveCodes (names ++ name ∷ []) (codes ++ code_of name ∷ [])
+one_more_code names codes name h bytes named new room = record {
   few = omega (arith, room, length-append names (name ∷ []));
   bytes = All-push AreBytes names name h.bytes bytes;
+  named = All-push (λ n. is_name n ≡ true) names name h.named (is_name-true name named);
   apart = none_apart names name h.apart (place_none names name new);
   coded = ap (λ (cs : List ℕ). cs ++ code_of name ∷ []) h.coded ∙ sym (map-append code_of names (name ∷ []));
 }

@@ -1,5 +1,6 @@
 -- Short names as numbers.
-use Rattle.std.specs.Prelude.{◌≡◌, ◌≢◌, ℕ, ◌+◌, ◌*◌, ◌<◌, ◌≤◌, ◌^◌, nat_le, List, [], ◌∷◌, length, map, All, AllPairs, if◌then◌else◌}
+use Rattle.std.specs.Prelude.{◌≡◌, ◌≢◌, true, ℕ, ◌+◌, ◌*◌, ◌<◌, ◌≤◌, ◌^◌, nat_le, List, [], ◌∷◌, length, map, All, AllPairs, if◌then◌else◌}
+use Rattle.text_base.specs.Names.{is_name}
 
 -- the bytes as digits of base 256, the first the lowest, with a 1 above the last: other bytes have
 -- another number
@@ -19,5 +20,6 @@ AreBytes name = All (λ b. b < 256) name
 pub record HaveCodes (names : List (List ℕ)) (codes : List ℕ) : Type 0 where
   pub few : length names ≤ 2 ^ 21
   pub bytes : All AreBytes names
+  pub named : All (λ n. is_name n ≡ true) names
   pub apart : AllPairs (λ m n. m ≢ n) names
   pub coded : codes ≡ map code_of names

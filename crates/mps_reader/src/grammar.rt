@@ -7,7 +7,7 @@ ghost use Rattle.mps_reader.specs.Steps.{after_words};
 
 use crate::fault::MpsReason;
 use crate::state::State;
-use crate::words::{is_data, is_left_out};
+use crate::words::{is_data, is_left_out, three_words};
 use mps_model::Mps;
 use std::alloc::{AllocError, Global};
 use std::marker::Model;
@@ -50,6 +50,9 @@ impl Grammar for MpsGrammar {
 
     fn take(&mut self, line: &[u8], number: u32) -> Result<(), Stop<MpsReason>> {
         let _ = number;
+        if let Some((first, second, third)) = three_words(line) {
+            return self.take_words(true, &[first, second, third]);
+        }
         let row = Row::of(line);
         if is_left_out(line, &row) {
             return Ok(());
