@@ -4,6 +4,7 @@ pub mod Closing
 pub mod CoefLemmas
 pub mod ConstantLemmas
 pub mod CountLemmas
+pub mod DecimalLemmas
 pub mod DefinitionLemmas
 pub mod Expressions
 pub mod Folding

@@ -1,5 +1,5 @@
 -- Forms as data, and the lines that they are.
-use Rattle.std.specs.Prelude.{◌≡◌, ℕ, ◌<◌, ◌≤◌, List, [], ◌∷◌, length, Bool, true, false, ◌&&◌, Result, Ok, Err}
+use Rattle.std.specs.Prelude.{◌≡◌, ℕ, ◌<◌, ◌≤◌, List, [], ◌∷◌, length, drop, Bool, true, false, ◌&&◌, Result, Ok, Err}
 use Rattle.exact_numbers.specs.Values.{frac_value}
 use Rattle.fractions.specs.Fits.{fits, sum_fits}
 use Rattle.fractions.specs.Rational.{ℚ, zero_ℚ, ◌*ℚ◌}
@@ -49,7 +49,7 @@ form_terms f = kept_terms f.kept
 
 -- the terms that are still to come
 abbrev pub terms_left : FormTerms → List Term
-terms_left ts = ts.rest.now
+terms_left ts = drop ts.next ts.all.now
 
 -- no coefficient from n on
 abbrev pub IsZeroFrom : ℕ → Line → Type 0

@@ -1,4 +1,6 @@
 pub mod Coefs
+pub mod Decimals
+pub mod TermLists
 pub mod FoldedFaults
 pub mod Folds
 pub mod Forms

@@ -122,6 +122,6 @@ impl Accumulator {
             places,
             touched,
         };
-        Ok((Coefficients::of_items(items), accumulator))
+        Ok((Coefficients::of_items(alloc, items), accumulator))
     }
 }

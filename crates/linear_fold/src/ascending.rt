@@ -1,5 +1,7 @@
 // Terms that ascend by variable: as they stand, they are the coefficients of a closed form.
 ghost use Rattle.std.specs.Prelude.{◌≡◌, false, ◌+◌, ◌^◌, ◌≤◌, ◌↔◌, [], length, IfOk, IsTrue};
+ghost use Rattle.exact_numbers.specs.Values.{dec_value};
+ghost use Rattle.fractions.specs.Fits.{fits};
 ghost use Rattle.file_meaning.specs.Expressions.{linear_terms};
 ghost use Rattle.linear_fold.specs.Coefs.{AreStrictlyAscending, AreZeroTerms};
 ghost use Rattle.linear_fold.specs.Folds.{ComesToTerms};
@@ -42,6 +44,13 @@ pub(crate) fn are_zero(terms: &[(u32, Dec)]) -> bool
     true
 }
 
+// Whether a decimal has a fraction.
+fn has_fraction(number: Dec) -> bool
+    ensures { result ≡ fits (dec_value number) }
+{
+    Frac::of_dec(number).is_some()
+}
+
 /// The closed form of a number and of terms that ascend, of which the first has a number; a step
 /// for the number and for each term.
 pub(crate) fn closed_terms<L: Ledger>(
@@ -61,17 +70,15 @@ pub(crate) fn closed_terms<L: Ledger>(
     ensures below { steps.new ≤ steps.old + 1 + length terms.now }
 {
     steps.tick();
-    let mut items = Vec::with_capacity(alloc, terms.len())?;
     for (index, term) in terms.iter().enumerate() {
         steps.tick();
-        let Some(factor) = Frac::of_dec(term.1) else {
+        if !has_fraction(term.1) {
             return Ok(Entry::Broken(Fault {
                 place: first + index,
                 reason: Reason::TooWide,
             }));
-        };
-        items.push((term.0, factor))?;
+        }
     }
-    let form = number.with_coefficients(Coefficients::of_items(items));
-    Ok(Entry::Linear(form))
+    let coefficients = Coefficients::of_decimals(alloc, terms)?;
+    Ok(Entry::Linear(number.with_coefficients(coefficients)))
 }

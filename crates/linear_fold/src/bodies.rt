@@ -41,7 +41,7 @@ fn fold_bodies<L: Ledger>(
         ≤ steps.old + 2 * (file.now.counts.n_var + 1) * bodies_size file.now.bodies file.now.terms }
 {
     let counts = file.header().counts();
-    let mut bodies = Vec::new(alloc);
+    let mut bodies = Vec::with_capacity(alloc, counts.n_con as usize)?;
     for con in 0..counts.n_con {
         let form = match fold_owner(file, Owner::Con(con), folder, steps) {
             Ok(form) => form,

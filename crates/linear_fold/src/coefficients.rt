@@ -1,58 +1,41 @@
-// The coefficients of a closed form.
-ghost use Rattle.std.specs.Prelude.{◌≡◌, ◌≢◌, ◌↔◌, ◌∷◌, IfOk, IsTrue, ◌≤◌, ◌<◌, [], length, take, drop};
+// The coefficients of a closed form: fractions, or the decimals of a file.
+ghost use Rattle.std.specs.Prelude.{◌≡◌, ◌≢◌, ◌∷◌, ◌<◌, ◌^◌, ◌==◌, IfOk, IfSome, [], get_or, length};
 ghost use Rattle.exact_numbers.specs.Values.{frac_value};
 ghost use Rattle.fractions.specs.Rational.{zero_ℚ};
-ghost use Rattle.linear_fold.specs.Coefs.{AddsAt, AreAscending, AreBelow, StandsAt, coef_in};
+ghost use Rattle.linear_fold.specs.Coefs.{AddsAt, AreAscending, AreDecimalsOf, coef_in};
+ghost use Rattle.linear_fold.specs.Decimals.{AreDecimals, fraction_terms};
 
+use crate::decimal_terms::DecimalTerms;
+use crate::fraction_terms::FractionTerms;
 use crate::wide::Wide;
-use exact_numbers::Frac;
+use exact_numbers::{Dec, Frac};
 use std::alloc::{AllocError, Global};
 use std::marker::Model;
+use std::mem;
 use text_base::Stop;
+
+/// Terms with fractions, or with decimals.
+#[derive(Drop)]
+pub enum TermList {
+    Fractions(FractionTerms),
+    Decimals(DecimalTerms),
+}
 
 /// Coefficients that are not 0, ascending by variable.
 #[derive(Drop)]
 pub struct Coefficients {
-    items: Vec<(u32, Frac)>,
+    alloc: Global,
+    list: TermList,
 }
 
 impl Model for Coefficients {
     ghost use Rattle.std.specs.Prelude.{List, ℕ};
     ghost use Rattle.exact_numbers.specs.declared.frac.Frac.{Frac as FracFields};
-    ghost use Rattle.linear_fold.specs.Coefs.{AreAscending};
+    ghost use Rattle.linear_fold.specs.TermLists.{listed_terms};
 
     ghost Value = { List (ℕ × FracFields) };
 
-    ghost view = { λ c. c.items.items };
-
-    ghost invariant = { λ c. AreAscending 0 c.items.items };
-}
-
-// The place of the first term whose variable is not below another.
-fn place_of(terms: &[(u32, Frac)], variable: u32) -> usize
-    requires { AreAscending 0 terms.now }
-    ensures within { result ≤ length terms.now }
-    ensures before { AreBelow variable (take result terms.now) }
-    ensures after { AreAscending variable (drop result terms.now) }
-{
-    let mut place = 0;
-    for term in terms {
-        if term.0 >= variable {
-            return place;
-        }
-        place += 1;
-    }
-    place
-}
-
-// Whether the term at a place has a variable.
-fn stands_at(terms: &[(u32, Frac)], place: usize, variable: u32) -> bool
-    ensures { IsTrue result ↔ StandsAt terms.now place variable }
-{
-    if place >= terms.len() {
-        return false;
-    }
-    terms[place].0 == variable
+    ghost view = { λ c. listed_terms c.list };
 }
 
 impl Coefficients {
@@ -61,15 +44,31 @@ impl Coefficients {
         ensures { result ≡ [] }
     {
         Coefficients {
-            items: Vec::new(alloc),
+            alloc,
+            list: TermList::Fractions(FractionTerms::new(alloc)),
         }
     }
 
-    pub(crate) fn of_items(items: Vec<(u32, Frac)>) -> Self
+    pub(crate) fn of_items(alloc: Global, items: Vec<(u32, Frac)>) -> Self
         requires { AreAscending 0 items.items }
         ensures { result ≡ items.items }
     {
-        Coefficients { items }
+        Coefficients {
+            alloc,
+            list: TermList::Fractions(FractionTerms::of_items(items)),
+        }
+    }
+
+    // A copy of decimals.
+    pub(crate) fn of_decimals(alloc: Global, terms: &[(u32, Dec)]) -> Result<Self, AllocError>
+        requires { AreDecimals 0 terms.now }
+        ensures { IfOk result (λ c. c ≡ fraction_terms terms.now) }
+    {
+        let decimals = DecimalTerms::of_slice(alloc, terms)?;
+        Ok(Coefficients {
+            alloc,
+            list: TermList::Decimals(decimals),
+        })
     }
 
     // One term.
@@ -77,57 +76,109 @@ impl Coefficients {
         requires { frac_value factor ≢ zero_ℚ }
         ensures { IfOk result (λ c. c ≡ (variable, factor) ∷ []) }
     {
-        let mut items = Vec::with_capacity(alloc, 1)?;
-        items.push((variable, factor))?;
-        Ok(Coefficients::of_items(items))
+        let terms = FractionTerms::of_term(alloc, variable, factor)?;
+        Ok(Coefficients {
+            alloc,
+            list: TermList::Fractions(terms),
+        })
     }
 
-    pub(crate) fn items(&self) -> &[(u32, Frac)]
-        ensures items { result.now ≡ self.now }
+    // The same, and that they ascend.
+    pub(crate) fn ordered(&self) -> &Self
+        ensures same { result.now ≡ self.now }
         ensures ascending { AreAscending 0 self.now }
     {
-        &self.items
+        match &self.list {
+            TermList::Fractions(terms) => {
+                let _items = terms.items();
+                self
+            }
+            TermList::Decimals(terms) => {
+                let _items = terms.items();
+                self
+            }
+        }
+    }
+
+    // How many there are.
+    pub(crate) fn len(&self) -> usize
+        ensures count { result ≡ length self.now }
+        ensures few { result < 2 ^ 63 }
+    {
+        match &self.list {
+            TermList::Fractions(terms) => terms.items().len(),
+            TermList::Decimals(terms) => terms.items().len(),
+        }
+    }
+
+    pub(crate) fn is_empty(&self) -> bool
+        ensures { result ≡ (length self.now == 0) }
+    {
+        self.len() == 0
+    }
+
+    // The coefficient at a place, with its variable.
+    pub(crate) fn at(&self, place: usize) -> (u32, Frac)
+        requires { place < length self.now }
+        ensures { result ≡ get_or self.now place result }
+    {
+        match &self.list {
+            TermList::Fractions(terms) => terms.items()[place],
+            TermList::Decimals(terms) => terms.at(place),
+        }
+    }
+
+    // The decimals, where they are kept.
+    pub(crate) fn decimals(&self) -> Option<&[(u32, Dec)]>
+        ensures { IfSome result (λ ds. AreDecimalsOf ds.now self.now) }
+    {
+        match &self.list {
+            TermList::Fractions(_) => None,
+            TermList::Decimals(terms) => Some(terms.items()),
+        }
+    }
+
+    // A copy.
+    pub(crate) fn copied(&self, alloc: Global) -> Result<Self, AllocError>
+        ensures { IfOk result (λ c. c ≡ self.now) }
+    {
+        match &self.list {
+            TermList::Fractions(terms) => {
+                let mut items = Vec::with_capacity(alloc, terms.items().len())?;
+                items.extend_from_slice(terms.items())?;
+                Ok(Coefficients::of_items(alloc, items))
+            }
+            TermList::Decimals(terms) => Coefficients::of_decimals(alloc, terms.items()),
+        }
     }
 
     pub(crate) fn clear(&mut self)
         ensures { self.new ≡ [] }
     {
-        self.items.clear();
+        self.list = TermList::Fractions(FractionTerms::new(self.alloc));
     }
 
-    // Adds to the term at a place, whose variable is given.
-    fn add_at(&mut self, place: usize, variable: u32, factor: Frac) -> Result<(), Stop<Wide>>
-        requires within { place < length self.old }
-        requires before { AreBelow variable (take place self.old) }
-        requires after { AreAscending variable (drop place self.old) }
-        requires there { StandsAt self.old place variable }
-        ensures { AddsAt (coef_in self.old) variable (frac_value factor) (coef_in self.new) result }
+    // The terms with fractions; there are none left.
+    fn take_fractions(&mut self) -> Result<FractionTerms, AllocError>
+        ensures { IfOk result (λ c. c ≡ self.old) }
     {
-        let Some(sum) = self.items[place].1.add(factor) else {
-            return Err(Stop::Fault(Wide));
-        };
-        if sum.is_zero() {
-            let _term = self.items.remove(place);
-            return Ok(());
+        let none = TermList::Fractions(FractionTerms::new(self.alloc));
+        match mem::replace(&mut self.list, none) {
+            TermList::Fractions(terms) => Ok(terms),
+            TermList::Decimals(terms) => terms.fractions(self.alloc),
         }
-        self.items[place] = (variable, sum);
-        Ok(())
     }
 
     /// Adds a factor to the coefficient of a variable.
     pub(crate) fn add(&mut self, variable: u32, factor: Frac) -> Result<(), Stop<Wide>>
         ensures { AddsAt (coef_in self.old) variable (frac_value factor) (coef_in self.new) result }
     {
-        let place = place_of(&self.items, variable);
-        if stands_at(&self.items, place, variable) {
-            return self.add_at(place, variable, factor);
-        }
-        if factor.is_zero() {
-            return Ok(());
-        }
-        let Ok(()) = self.items.insert(place, (variable, factor)) else {
+        let Ok(terms) = self.take_fractions() else {
             return Err(Stop::Memory);
         };
-        Ok(())
+        let mut terms = terms;
+        let added = terms.add(variable, factor);
+        self.list = TermList::Fractions(terms);
+        added
     }
 }

@@ -35,7 +35,7 @@ pub struct Form {
 // k times each of terms; a step for each.
 fn products_of<L: Ledger>(
     alloc: Global,
-    terms: &[(u32, Frac)],
+    terms: &Coefficients,
     k: Frac,
     steps: &mut Steps<L>,
 ) -> Result<Vec<(u32, Frac)>, Stop<Wide>>
@@ -45,8 +45,9 @@ fn products_of<L: Ledger>(
     ensures below { steps.new ≤ steps.old + length terms.now }
 {
     let mut products = Vec::with_capacity(alloc, terms.len())?;
-    for term in terms {
+    for index in 0..terms.len() {
         steps.tick();
+        let term = terms.at(index);
         let Some(product) = k.mul(term.1) else {
             return Err(Stop::Fault(Wide));
         };
@@ -125,7 +126,8 @@ impl Form {
         ensures ascending { AreAscending 0 (form_terms self.now) }
     {
         FormTerms {
-            rest: self.listed(),
+            all: self.listed(),
+            next: 0,
         }
     }
 
@@ -134,17 +136,17 @@ impl Form {
         requires { is_open self.now ≡ false }
         ensures { IfSome result (λ ds. AreDecimalsOf ds.now (form_terms self.now)) }
     {
-        None
+        self.listed().decimals()
     }
 
-    // The terms of a closed form, in order.
-    pub(crate) fn listed(&self) -> &[(u32, Frac)]
+    // The coefficients of a closed form.
+    pub(crate) fn listed(&self) -> &Coefficients
         requires { is_open self.now ≡ false }
         ensures terms { result.now ≡ form_terms self.now }
         ensures ascending { AreAscending 0 (form_terms self.now) }
     {
         match &self.kept {
-            Kept::Closed(coefficients) => coefficients.items(),
+            Kept::Closed(coefficients) => coefficients.ordered(),
             Kept::Open(_) => unreachable!(),
         }
     }
@@ -155,10 +157,8 @@ impl Form {
         ensures line { IfOk result (λ f. form_line f ≡ form_line self.now) }
         ensures closed { IfOk result (λ f. is_open f ≡ false) }
     {
-        let terms = self.listed();
-        let mut items = Vec::with_capacity(alloc, terms.len())?;
-        items.extend_from_slice(terms)?;
-        Ok(self.with_coefficients(Coefficients::of_items(items)))
+        let coefficients = self.listed().copied(alloc)?;
+        Ok(self.with_coefficients(coefficients))
     }
 
     // k times a closed form, where k is not 0; a step for the constant and for each term.
@@ -186,7 +186,7 @@ impl Form {
         };
         Ok(Form {
             constant,
-            kept: Kept::Closed(Coefficients::of_items(items)),
+            kept: Kept::Closed(Coefficients::of_items(alloc, items)),
         })
     }
 
@@ -217,7 +217,7 @@ impl Form {
     // Adds k times terms, a step for each.
     fn add_terms<L: Ledger>(
         &mut self,
-        terms: &[(u32, Frac)],
+        terms: &Coefficients,
         k: Frac,
         steps: &mut Steps<L>,
     ) -> Result<(), Stop<Wide>>
@@ -230,8 +230,9 @@ impl Form {
         ensures above { steps.old ≤ steps.new }
         ensures below { steps.new ≤ steps.old + length terms.now }
     {
-        for term in terms {
+        for index in 0..terms.len() {
             steps.tick();
+            let term = terms.at(index);
             let Some(scaled) = k.mul(term.1) else {
                 return Err(Stop::Fault(Wide));
             };
@@ -370,7 +371,8 @@ impl Form {
 /// The terms of a form, ascending by variable.
 #[derive(Drop)]
 pub struct FormTerms<'a> {
-    pub(crate) rest: &'a [(u32, Frac)],
+    pub(crate) all: &'a Coefficients,
+    pub(crate) next: usize,
 }
 
 impl Iterator for FormTerms<'_> {
@@ -381,12 +383,11 @@ impl Iterator for FormTerms<'_> {
     ghost remaining = { item_count terms_left };
 
     fn next(&mut self) -> Option<(u32, Frac)> {
-        match self.rest {
-            [] => None,
-            [first, rest @ ..] => {
-                self.rest = rest;
-                Some(*first)
-            }
+        if self.next >= self.all.len() {
+            return None;
         }
+        let term = self.all.at(self.next);
+        self.next += 1;
+        Some(term)
     }
 }

@@ -1,7 +1,12 @@
-use Rattle.std.proofs.Common.{◌≡◌, ◌+◌, ◌∷◌, sym, subst, arith, drop}
+use Rattle.std.proofs.Common.{◌≡◌, ◌∙◌, ◌+◌, ◌++◌, ◌∷◌, [], List, sym, ap, subst, arith, drop, take, length, true}
+use Rattle.exact_numbers.specs.Values.{dec_value}
+use Rattle.fractions.specs.Fits.{fits}
 use Rattle.file_meaning.specs.Expressions.{linear_term, linear_terms}
+use Rattle.linear_fold.specs.Coefs.{Term}
+use Rattle.linear_fold.specs.Decimals.{frac_of, fraction_terms}
 use Rattle.linear_fold.specs.Forms.{form_line}
-use Rattle.linear_fold.proofs.Expressions.{term_at}
+use Rattle.linear_fold.proofs.DecimalLemmas.{AllFit, are_decimals, fit_more, frac_of-value, one_fraction_more}
+use Rattle.linear_fold.proofs.Expressions.{no_terms_left, term_at}
 use Rattle.linear_fold.proofs.Listing.{IsListed, one_listed}
 use Rattle.linear_fold.proofs.ascending.closed_terms.Goals as goal
 
@@ -13,10 +18,19 @@ loop-index-preserved g c =
     let a = form_line c.args.number.now in
     let whole = linear_terms all in
     let rest = linear_terms (drop (i + 1) all) in
-    let out = c.loop-index.items.items in
+    let out = fraction_terms (take i all) in
+    let at = term_at all i t c.loop-index-test.true c.index-terms-index.is in
+    let fit : fits (dec_value t.1) ≡ true = sym c.has_fraction.ensures ∙ c.if-not-has_fraction.false in
     let place : c.args.first + i + 1 ≡ c.args.first + (i + 1) = omega arith in
-    let left : IsListed a c.args.first whole a.constant out (c.args.first + i) (linear_term t ∷ rest) = subst (λ ts. IsListed a c.args.first whole a.constant out (c.args.first + i) (linear_terms ts)) (term_at all i t c.loop-index-test.true c.index-terms-index.is) c.loop-index.invariant.listed in
+    let left : IsListed a c.args.first whole a.constant out (c.args.first + i) (linear_term t ∷ rest) = subst (λ ts. IsListed a c.args.first whole a.constant out (c.args.first + i) (linear_terms ts)) at c.loop-index.invariant.listed in
+    let more : IsListed a c.args.first whole a.constant (out ++ (t.0, frac_of t.1) ∷ []) (c.args.first + i + 1) rest = one_listed a c.args.first whole a.constant out (c.args.first + i) (linear_term t) rest left (frac_of t.1) fit (frac_of-value t.1 fit) in
     record {
-      listed = subst (λ j. IsListed a c.args.first whole a.constant c.push.new.self.items j rest) place (subst (λ ps. IsListed a c.args.first whole a.constant ps (c.args.first + i + 1) rest) (sym c.in_ok-push.ensures.items) (one_listed a c.args.first whole a.constant out (c.args.first + i) (linear_term t) rest left c.in-Some.factor c.in-Some.ensures.0 c.in-Some.ensures.1));
+      listed = subst (λ j. IsListed a c.args.first whole a.constant (fraction_terms (take (i + 1) all)) j rest) place (subst (λ (ps : List Term). IsListed a c.args.first whole a.constant ps (c.args.first + i + 1) rest) (sym (one_fraction_more all i t c.loop-index-test.true c.index-terms-index.is)) more);
+      fit = fit_more all (drop (i + 1) all) i t (AllFit all) at fit c.loop-index.invariant.fit;
       counted = let h = c.loop-index.invariant.counted in let k = c.tick-in-loop-index.ensures in omega arith;
     }
+
+pub of_decimals-requires : goal.of_decimals-requires
+of_decimals-requires g c =
+    are_decimals 0 c.args.terms.now c.requires.ascending
+    (c.loop-index.invariant.fit (subst AllFit (sym (no_terms_left c.args.terms.now c.loop-index.index c.loop-index-test.false)) tt))

@@ -1,12 +1,15 @@
-use Rattle.std.proofs.Common.{◌≡◌, ◌+◌, drop}
+use Rattle.std.proofs.Common.{◌≡◌, ◌+◌, drop, take}
 use Rattle.file_meaning.specs.Expressions.{linear_terms}
+use Rattle.linear_fold.specs.Decimals.{fraction_terms}
 use Rattle.linear_fold.specs.Forms.{form_line}
+use Rattle.linear_fold.proofs.DecimalLemmas.{AllFit}
 use Rattle.linear_fold.proofs.Listing.{IsListed}
 use Rattle.linear_fold.proofs.ascending.closed_terms.Given as goal
 
 abbrev pub invariant-loop-index : goal.invariant-loop-index
 invariant-loop-index g l =
     record {
-      listed : IsListed (form_line l.number) l.first (linear_terms l.terms) (form_line l.number).constant l.items.items (l.first + l.index) (linear_terms (drop l.index l.terms));
+      listed : IsListed (form_line l.number) l.first (linear_terms l.terms) (form_line l.number).constant (fraction_terms (take l.index l.terms)) (l.first + l.index) (linear_terms (drop l.index l.terms));
+      fit : AllFit (drop l.index l.terms) → AllFit l.terms;
       counted : l.steps ≡ l.fn.steps + 1 + l.index;
     }

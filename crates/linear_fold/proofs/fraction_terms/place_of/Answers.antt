@@ -1,7 +1,7 @@
 use Rattle.std.proofs.Common.{◌≡◌, arith, sym, ap, subst, ◌+◌, take, get_or, length, ◌<◌, add-one}
 use Rattle.linear_fold.specs.Coefs.{AreBelow}
 use Rattle.linear_fold.proofs.CoefLemmas.{ascending_there, ascending_none, below_more}
-use Rattle.linear_fold.proofs.coefficients.place_of.Goals as goal
+use Rattle.linear_fold.proofs.fraction_terms.place_of.Goals as goal
 
 pub returns-then-term-variable-clause-after : goal.returns-then-term-variable-clause-after
 returns-then-term-variable-clause-after c =

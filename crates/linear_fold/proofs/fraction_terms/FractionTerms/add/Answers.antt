@@ -4,7 +4,7 @@ use Rattle.fractions.specs.Fits.{sum_fits}
 use Rattle.linear_fold.specs.Coefs.{AreAscending, AreBelow, StandsAt, coef_in}
 use Rattle.linear_fold.proofs.CoefLemmas.{HasGap, seen_none, seen_inserted, not_zero, stands_within, nothing_added}
 use Rattle.linear_fold.proofs.FracLemmas.{coef_fits, sum_fits_zero, zero_frac_fits}
-use Rattle.linear_fold.proofs.coefficients.Coefficients.add.Goals as goal
+use Rattle.linear_fold.proofs.fraction_terms.FractionTerms.add.Goals as goal
 
 pub add_at-requires-clause-within : goal.add_at-requires-clause-within
 add_at-requires-clause-within c =

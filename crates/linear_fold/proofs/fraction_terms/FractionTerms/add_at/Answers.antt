@@ -3,7 +3,7 @@ use Rattle.exact_numbers.specs.Values.{frac_value}
 use Rattle.fractions.specs.Fits.{sum_fits}
 use Rattle.linear_fold.specs.Coefs.{AreAscending, coef_in}
 use Rattle.linear_fold.proofs.CoefLemmas.{HasTerm, seen_old, seen_removed, seen_set, not_zero}
-use Rattle.linear_fold.proofs.coefficients.Coefficients.add_at.Goals as goal
+use Rattle.linear_fold.proofs.fraction_terms.FractionTerms.add_at.Goals as goal
 
 pub returns-in_default : goal.returns-in_default
 returns-in_default c =
