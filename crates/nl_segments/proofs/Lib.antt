@@ -40,3 +40,5 @@ pub mod CleanRows
 pub mod CleanTexts
 pub mod TreePieces
 pub mod KnownPairs
+pub mod LeafLemmas
+pub mod NodeKept

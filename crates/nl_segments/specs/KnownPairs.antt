@@ -1,11 +1,9 @@
 -- A row that is an index and a value alone: its pair, how that is judged, and that it is kept.
-use Rattle.std.specs.Prelude.{◌≡◌, ℕ, Bool, true, false, not, ◌&&◌, nat_lt, List, [], ◌∷◌, length, Some, None, get_or}
+use Rattle.std.specs.Prelude.{◌≡◌, ℕ, Bool, false, not, ◌&&◌, nat_lt, List, [], ◌∷◌, length, Some, None, get_or}
 use Rattle.exact_numbers.specs.Numbers.{is_whole}
 use Rattle.text_base.specs.Judged.{first_reason}
 use Rattle.nl_model.specs.declared.counts.Counts.{Counts}
 use Rattle.nl_model.specs.File.{Term}
-use Rattle.nl_segments.specs.declared.awaited.Awaited.{Awaited}
-use Rattle.nl_segments.specs.declared.awaited.Awaited.TheVariants.{Pair}
 use Rattle.nl_segments.specs.declared.fault.NlReason.TheVariants.{BadNumber, IndexOut, RepeatedIndex, TooLarge}
 use Rattle.nl_segments.specs.declared.head.Head.{Head}
 use Rattle.nl_segments.specs.Heads.{is_head}
@@ -24,11 +22,6 @@ pub record HasPairRow (t : Term) (line : ℕ) : Type 0 where
   pub words : List (List ℕ)
   pub exists : HasRow words line
   pub pair : IsPairRow words t
-
--- a pair is awaited
-abbrev pub is_pair : Awaited → Bool
-is_pair Pair = true
-is_pair kind = false
 
 -- what is wrong with the pair of such a row
 abbrev pub known_pair_tests : Counts → Head → List Bool → Bool → Term → Tests

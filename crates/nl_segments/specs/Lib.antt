@@ -20,3 +20,5 @@ pub mod Taking
 pub mod Tests
 pub mod TreeSteps
 pub mod KnownPairs
+pub mod KnownNodes
+pub mod Leaves
