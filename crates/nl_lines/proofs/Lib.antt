@@ -2,6 +2,7 @@ pub mod DraftLemmas
 pub mod FreshLaw
 pub mod HeadSuffixes
 pub mod IntervalOrder
+pub mod LeafLemmas
 pub mod LineLaw
 pub mod NodeLemmas
 pub mod NumberLemmas

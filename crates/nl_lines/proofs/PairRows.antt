@@ -32,7 +32,7 @@ value_of words t e = by (whole_of (word_at words 0)) (dec_of (word_at words 1)) 
     by (Some i) None p q = absurd (let none : None ≡ Some t = rw (p, q) at e in cc)
     by (Some i) (Some d) p q = let same : Some (i, d) ≡ Some t = rw (p, q) at e in q ∙ ap (λ (o : Option Term). Some (unwrap_or {T = Term} o (i, d)).1) same
 
-whole_digits : (word : List ℕ) (i : ℕ) → whole_of word ≡ Some i → are_digits word ≡ true
+pub whole_digits : (word : List ℕ) (i : ℕ) → whole_of word ≡ Some i → are_digits word ≡ true
 unfolding whole_of
 whole_digits word i e = by (are_digits word) refl
   where

@@ -1,4 +1,5 @@
 pub mod Heads
+pub mod Leaves
 pub mod NodeRows
 pub mod Nodes
 pub mod PairTests

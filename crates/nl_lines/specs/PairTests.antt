@@ -1,22 +1,15 @@
 -- By which tests a pair is judged: by its words, or by itself where a row is an index and a value
 -- alone, and by the marks of the indices that came.
-use Rattle.std.specs.Prelude.{◌≡◌, ℕ, ◌<◌, ◌++◌, ◌∷◌, [], Bool, true, false, IsTrue, not, ◌&&◌, ◌||◌, nat_le, nat_lt, List, length, Some, unwrap_or, get_or}
+use Rattle.std.specs.Prelude.{◌≡◌, ℕ, ◌<◌, ◌++◌, ◌∷◌, [], Bool, false, IsTrue, not, ◌&&◌, ◌||◌, nat_le, nat_lt, List, length, Some, unwrap_or, get_or}
 use Rattle.nl_model.specs.declared.counts.Counts.{Counts}
 use Rattle.nl_model.specs.File.{Term}
 use Rattle.nl_model.specs.Rules.{most_terms}
-use Rattle.nl_lines.specs.declared.awaited.Awaited.{Awaited}
-use Rattle.nl_lines.specs.declared.awaited.Awaited.TheVariants.{Pair}
 use Rattle.nl_lines.specs.declared.fault.NlReason.TheVariants.{BadNumber, IndexOut, RepeatedIndex, TooLarge}
 use Rattle.nl_lines.specs.declared.head.Head.{Head}
 use Rattle.exact_numbers.specs.Numbers.{whole_of, is_whole}
 use Rattle.text_base.specs.Words.{word_at}
 use Rattle.nl_lines.specs.Pieces.{Piece, pair_in, piece_pairs}
 use Rattle.nl_lines.specs.Tests.{Tests, has_index, holds_once, index_limit, is_linear, is_suffix, pair_form_tests, wants_whole}
-
--- a pair is awaited
-abbrev pub is_pair : Awaited → Bool
-is_pair Pair = true
-is_pair kind = false
 
 -- the indices of a piece are marked, where they come once
 abbrev pub IsMarked : Counts → List Bool → Piece → Type 0

@@ -49,7 +49,7 @@ pub fn read_next_pair(
     Ok(pair)
 }
 
-/// What is wrong with a pair, whose line is an index and a value alone, after the pairs of its piece.
+/// What is wrong with a pair whose line is an index and a value alone, after those of its piece.
 pub fn judge_pair(
     counts: &Counts,
     head: Head,

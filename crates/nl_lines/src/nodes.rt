@@ -62,8 +62,8 @@ fn dec_of_signed(word: &[u8]) -> Option<Dec>
     }
 }
 
-// A number.
-fn read_number(value: Option<Dec>) -> Result<NodeRow, NlReason>
+/// A number.
+pub fn read_number(value: Option<Dec>) -> Result<NodeRow, NlReason>
     ensures { Decides (number_tests value) (IsReadAs (option_map Num value) None) result }
 {
     match value {
@@ -88,8 +88,8 @@ fn is_undefined(builder: &NlBuilder, index: u32) -> bool
     builder.header().counts().n_var <= index && !builder.has_def(index)
 }
 
-// A variable.
-fn read_variable(builder: &NlBuilder, index: Option<u32>) -> Result<NodeRow, NlReason>
+/// A variable.
+pub fn read_variable(builder: &NlBuilder, index: Option<u32>) -> Result<NodeRow, NlReason>
     ensures { Decides (variable_tests builder.now.counts builder.now index)
         (IsReadAs (option_map (variable_node builder.now.counts.n_var) index) None) result }
 {
@@ -120,8 +120,8 @@ fn opcode_row(opcode: u32, operands: Operands) -> NodeRow
     }
 }
 
-// An opcode.
-fn read_opcode(opcode: Option<u32>) -> Result<NodeRow, NlReason>
+/// An opcode.
+pub fn read_opcode(opcode: Option<u32>) -> Result<NodeRow, NlReason>
     ensures { Decides (opcode_tests opcode)
         (IsReadAs (option_and_then (λ o. fixed_node o (operands_of o)) opcode)
         (option_and_then (λ o. counted_opcode o (operands_of o)) opcode)) result }

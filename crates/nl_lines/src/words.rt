@@ -7,8 +7,8 @@ ghost use Rattle.nl_lines.specs.Nodes.{leaf_text};
 use exact_numbers::whole_of;
 use text_base::word_at;
 
-// The first byte; 0 where there is none.
-fn first_byte(word: &[u8]) -> u8
+/// The first byte; 0 where there is none.
+pub fn first_byte(word: &[u8]) -> u8
     ensures { result ≡ slice_index word.now 0 }
 {
     match word {
@@ -17,8 +17,8 @@ fn first_byte(word: &[u8]) -> u8
     }
 }
 
-// The bytes after the first.
-fn after_first(word: &[u8]) -> &[u8]
+/// The bytes after the first.
+pub fn after_first(word: &[u8]) -> &[u8]
     ensures { result.now ≡ drop 1 word.now }
 {
     match word {

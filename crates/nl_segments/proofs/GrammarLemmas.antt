@@ -1,6 +1,6 @@
 -- What rows and the end do to the whole reader.
 use Rattle.std.proofs.Common.{◌≡◌, ◌∙◌, ℕ, ◌+◌, true, false, List, [], ◌∷◌, ◌++◌, length, take, not, ◌==◌, Bor, refl, sym, ap, subst, IfOk, IfErr, OnOk}
-use Rattle.std.specs.Prelude.{Some, None, Result, Ok, Err}
+use Rattle.std.specs.Prelude.{Some, None, Option, Result, Ok, Err, IsSomeAnd}
 use Rattle.std.proofs.lemmas.List.{length-map}
 use Rattle.text_base.specs.Stopped.{IfFault}
 use Rattle.text_base.specs.declared.stop.Stop.{Stop}
@@ -14,10 +14,15 @@ use Rattle.nl_lines.specs.Rows.{Row, holds_words}
 use Rattle.nl_segments.specs.Grammar.{Standing, standing, is_in_header, line_refusal, header_refusal, end_refusal}
 use Rattle.nl_lines.specs.declared.fault.NlReason.TheVariants.{EndInHeader}
 use Rattle.nl_model.specs.File.{Term}
+use Rattle.nl_lines.specs.declared.awaited.Awaited.TheVariants.{Node, Pair}
+use Rattle.nl_lines.specs.declared.leaf.Leaf.{Leaf}
+use Rattle.nl_lines.specs.declared.leaf.Leaf.TheVariants.{Number, Variable, Opcode}
+use Rattle.nl_segments.specs.Current.{Current, current_awaits}
 use Rattle.nl_lines.specs.PairTests.{IsPairRow}
-use Rattle.nl_segments.specs.Held.{Body, Progress, IsHeld, IsHeaderOf, only_header, HoldsBy, HoldsStanding, TakesRow, Finishes}
+use Rattle.nl_lines.specs.Leaves.{IsLeafRow, IsWordOf}
+use Rattle.nl_segments.specs.Held.{Body, Progress, IsAwaiting, IsHeld, IsHeaderOf, only_header, HoldsBy, HoldsStanding, TakesRow, Finishes}
 use Rattle.nl_segments.specs.Steps.{after, after_header_row}
-use Rattle.nl_segments.specs.Taking.{TakesAnyRow, TakesHeaderRow, TakesLine}
+use Rattle.nl_segments.specs.Taking.{TakesAnyRow, TakesHeaderRow, TakesLine, body_awaits, line_awaits}
 use Rattle.nl_lines.proofs.PieceLemmas.{some_are}
 use Rattle.nl_segments.proofs.StandingLemmas.{standing-more}
 
@@ -59,6 +64,24 @@ row_in_body t old new row (Ok u) takes = λ s h. rw (in_body s old h) (takes s r
 row_in_body t old new row (Err (Fault f)) takes = λ s h. rw (in_body s old h) (takes s h)
 row_in_body t old new row (Err Memory) takes = tt
 
+-- ---- what is awaited
+
+pub pair_awaited : (b : Option Body) → line_awaits b ≡ Pair → IsSomeAnd b (λ b. IsAwaiting Pair b)
+pair_awaited None e = absurd cc
+pair_awaited (Some b) e = by b.current e
+  where
+    by : (o : Option Current) → body_awaits o ≡ Pair → IsSomeAnd o (λ c. current_awaits c ≡ Pair)
+    by None e = absurd cc
+    by (Some cur) e = e
+
+pub node_awaited : (b : Option Body) → line_awaits b ≡ Node → IsSomeAnd b (λ b. IsAwaiting Node b)
+node_awaited None e = absurd cc
+node_awaited (Some b) e = by b.current e
+  where
+    by : (o : Option Current) → body_awaits o ≡ Node → IsSomeAnd o (λ c. current_awaits c ≡ Node)
+    by None e = absurd cc
+    by (Some cur) e = e
+
 -- ---- a line
 
 row_begins : (words : List (List ℕ)) → not (length (take 12 words) == 0) ≡ not (length words == 0)
@@ -72,6 +95,14 @@ row_holds_words line text words e w =
 
 pub pair_holds_words : (line : List ℕ) (t : Term) → IsPairRow (row_of (without_comment line)) t → holds_words line ≡ true
 pair_holds_words line t p = sym (row_begins (words_of (without_comment line))) ∙ ap (λ n. not (n == 0)) p.two
+
+word_holds_words : (line : List ℕ) (letter : ℕ) → IsWordOf letter (row_of (without_comment line)) → holds_words line ≡ true
+word_holds_words line letter w = sym (row_begins (words_of (without_comment line))) ∙ ap (λ n. not (n == 0)) w.one
+
+pub leaf_holds_words : (line : List ℕ) (leaf : Leaf) → IsLeafRow (row_of (without_comment line)) leaf → holds_words line ≡ true
+leaf_holds_words line (Number d) p = word_holds_words line 110 p.0
+leaf_holds_words line (Variable i) p = word_holds_words line 118 p.0
+leaf_holds_words line (Opcode o) p = word_holds_words line 111 p.0
 
 pub no_row : (g : Progress) (line : List ℕ) (n : ℕ) → holds_words line ≡ false → TakesLine g line n (Ok tt) g
 unfolding line_refusal

@@ -27,3 +27,4 @@ pub mod CleanRows
 pub mod CleanTexts
 pub mod TreePieces
 pub mod KnownPairs
+pub mod NodeKept

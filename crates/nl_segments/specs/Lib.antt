@@ -12,3 +12,4 @@ pub mod Steps
 pub mod Taking
 pub mod TreeSteps
 pub mod KnownPairs
+pub mod KnownNodes

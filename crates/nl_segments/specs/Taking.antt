@@ -51,3 +51,8 @@ TakesLine old line number (Err Memory) new = Unit {0}
 abbrev pub body_awaits : Option Current → Awaited
 body_awaits None = Nothing
 body_awaits (Some cur) = current_awaits cur
+
+-- the line that the whole reader awaits, once it has a body
+abbrev pub line_awaits : Option Body → Awaited
+line_awaits None = Nothing
+line_awaits (Some b) = body_awaits b.current

@@ -5,7 +5,6 @@ ghost use Rattle.nl_model.specs.Draft.{IsDraft};
 ghost use Rattle.nl_lines.specs.declared.head.Head.{Head};
 ghost use Rattle.nl_lines.specs.Heads.{is_head};
 ghost use Rattle.nl_segments.specs.Held.{IsHeld, IsHeaderOf, only_header, TakesRow, HasRow, Finishes};
-ghost use Rattle.nl_lines.specs.PairTests.{is_pair};
 ghost use Rattle.nl_segments.specs.Taking.{body_awaits};
 ghost use Rattle.nl_lines.specs.Tests.{index_limit};
 ghost use Rattle.nl_segments.specs.Ending.{body_end_tests};
@@ -159,23 +158,13 @@ impl BodyReader {
         }
     }
 
-    // The line that is awaited.
-    fn awaited(&self) -> Awaited
+    /// The line that is awaited.
+    pub(crate) fn awaited(&self) -> Awaited
         ensures { result ≡ body_awaits self.now.current }
     {
         match &self.current {
             Some(current) => current.awaited(),
             None => Awaited::Nothing,
-        }
-    }
-
-    /// Whether a pair is awaited.
-    pub(crate) fn awaits_pair(&self) -> bool
-        ensures { result ≡ is_pair (body_awaits self.now.current) }
-    {
-        match self.awaited() {
-            Awaited::Pair => true,
-            _ => false,
         }
     }
 

@@ -1,12 +1,14 @@
 // A line with a node.
-ghost use Rattle.std.specs.Prelude.{◌≡◌, true, false, IfOk, OnOk, All};
+ghost use Rattle.std.specs.Prelude.{◌≡◌, ℕ, List, true, false, IfSome, IsSomeAnd, OnOk, All};
 ghost use Rattle.text_base.specs.Judged.{Decides};
 ghost use Rattle.text_base.specs.Words.{texts};
+ghost use Rattle.nl_model.specs.Nodes.{tree_of};
 ghost use Rattle.nl_lines.specs.declared.awaited.Awaited.TheVariants.{Node, Nothing};
 ghost use Rattle.nl_segments.specs.Current.{current_awaits, with_node_row};
 ghost use Rattle.nl_lines.specs.Heads.{is_head};
 ghost use Rattle.nl_lines.specs.NodeRows.{IsNodeKnown};
 ghost use Rattle.nl_segments.specs.Held.{TakesRow, IsAwaiting, HasRow};
+ghost use Rattle.nl_segments.specs.KnownNodes.{HasGoodNode, IsGoodNode};
 ghost use Rattle.nl_lines.specs.Pieces.{has_tree};
 ghost use Rattle.nl_segments.specs.PlaceSteps.{HasOwner, HasBegun};
 ghost use Rattle.nl_segments.specs.TreeSteps.{CanTakeRow, IsNextRow, MayTake, IsFresh, with_tree, IsSettled, row_count, with_row_line, counted_node_tests};
@@ -20,7 +22,7 @@ use std::alloc::AllocError;
 use text_base::Stop;
 
 /// A file has at most so many nodes.
-const MOST_NODES: u32 = 4_194_304;
+pub(crate) const MOST_NODES: u32 = 4_194_304;
 
 // A row of an expression, after so many nodes.
 fn read_row(words: &[&[u8]], builder: &NlBuilder, nodes: u32) -> Result<NodeRow, NlReason>
@@ -83,42 +85,47 @@ fn give_tree(
     Ok(())
 }
 
-// The last piece, where it is not complete; else its expression is given to the file.
-fn settle(builder: &mut NlBuilder, current: Current) -> Result<Option<Current>, AllocError>
-    requires tree { has_tree current.head ≡ true }
-    requires fresh { current_awaits current ≡ Nothing
-        → IsFresh builder.old current.head current.pairs }
+// Gives the expression of a piece that is complete to the file.
+fn give_whole(builder: &mut NlBuilder, whole: Current) -> Result<(), AllocError>
+    requires complete { current_awaits whole ≡ Nothing }
+    requires tree { has_tree whole.head ≡ true }
+    requires fresh { IsFresh builder.old whole.head whole.pairs }
     requires known { All
-        (IsNodeKnown builder.old.counts.n_var builder.old.definitions) current.nodes }
-    ensures { IfOk result (λ kept. IsSettled builder.old current kept builder.new) }
+        (IsNodeKnown builder.old.counts.n_var builder.old.definitions) whole.nodes }
+    ensures { OnOk result
+        (builder.new ≡ with_tree builder.old whole.head whole.pairs (tree_of whole.nodes)) }
 {
-    if current.awaited() != Awaited::Nothing {
-        return Ok(Some(current));
-    }
-    let head = current.head();
-    let (terms, nodes) = current.into_parts();
+    let head = whole.head();
+    let (terms, nodes) = whole.into_parts();
     let tree = nodes.finish();
-    give_tree(builder, head, terms, tree)?;
-    Ok(None)
+    give_tree(builder, head, terms, tree)
 }
 
-/// Takes a row of the expression of a piece, whose node or opcode stands in this line.
+/// Takes a row of the expression of the piece that is held, whose node or opcode stands in this
+/// line. A piece that is complete is not held any more, and its expression is given to the file.
 pub(crate) fn take_row(
     builder: &mut NlBuilder,
     places: &mut Places,
-    current: Current,
+    current: &mut Option<Current>,
     row: NodeRow,
     line: u32,
-) -> Result<Option<Current>, AllocError>
-    requires { CanTakeRow builder.old places.old current row line }
-    ensures places { OnOk result (places.new ≡ with_row_line places.old line current.head row) }
-    ensures settled { IfOk result
-        (λ kept. IsSettled builder.old (with_node_row current line row) kept builder.new) }
+) -> Result<(), AllocError>
+    requires { IsSomeAnd current.old (λ c. CanTakeRow builder.old places.old c row line) }
+    ensures places { OnOk result (IfSome current.old
+        (λ c. places.new ≡ with_row_line places.old line c.head row)) }
+    ensures settled { OnOk result (IfSome current.old
+        (λ c. IsSettled builder.old (with_node_row c line row) current.new builder.new)) }
 {
-    let mut current = current;
-    add_row_line(places, current.head(), row, line)?;
-    current.take_row(row, line)?;
-    settle(builder, current)
+    let Some(held) = current else { unreachable!() };
+    add_row_line(places, held.head(), row, line)?;
+    held.take_row(row, line)?;
+    if held.awaited() != Awaited::Nothing {
+        return Ok(());
+    }
+    let Some(whole) = current.take() else {
+        unreachable!()
+    };
+    give_whole(builder, whole)
 }
 
 impl BodyReader {
@@ -136,12 +143,28 @@ impl BodyReader {
             Ok(row) => row,
             Err(reason) => return Err(Stop::Fault(reason)),
         };
+        self.keep_node(row, line)
+    }
+
+    /// Keeps a row of an expression with which nothing is wrong.
+    pub(crate) fn keep_node(&mut self, row: NodeRow, line: u32) -> Result<(), Stop<NlReason>>
+        requires awaited { IsAwaiting Node self.old }
+        requires good { HasGoodNode self.old row line }
+        ensures { (words : List (List ℕ)) → IsGoodNode self.old row words
+            → TakesRow self.old words line result self.new }
+    {
+        if self.is_broken {
+            return Err(Stop::Memory);
+        }
         self.is_broken = true;
-        let Some(current) = self.current.take() else {
-            unreachable!();
-        };
         self.nodes += row_count(row);
-        self.current = take_row(&mut self.builder, &mut self.places, current, row, line)?;
+        take_row(
+            &mut self.builder,
+            &mut self.places,
+            &mut self.current,
+            row,
+            line,
+        )?;
         self.is_broken = false;
         Ok(())
     }

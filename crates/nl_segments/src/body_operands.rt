@@ -32,7 +32,7 @@ impl BodyReader {
             Err(reason) => return Err(Stop::Fault(reason)),
         };
         self.is_broken = true;
-        let Some(current) = self.current.take() else {
+        let Some(current) = &self.current else {
             unreachable!();
         };
         let Some(pending) = current.pending() else {
@@ -40,10 +40,10 @@ impl BodyReader {
         };
         let row = NodeRow::Whole(Node::Op(pending.opcode, count));
         self.nodes += 1;
-        self.current = take_row(
+        take_row(
             &mut self.builder,
             &mut self.places,
-            current,
+            &mut self.current,
             row,
             pending.line,
         )?;

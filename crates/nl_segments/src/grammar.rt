@@ -1,19 +1,21 @@
 // The grammar of .nl texts, a line at a time.
-ghost use Rattle.std.specs.Prelude.{◌≡◌, ◌<◌, ℕ, List, [], length, None, IsSome, IfSome, IsSomeAnd};
-ghost use Rattle.text_base.specs.Words.{words_of, row_of, without_comment};
-ghost use Rattle.nl_lines.specs.declared.awaited.Awaited.TheVariants.{Pair};
-ghost use Rattle.nl_segments.specs.Grammar.{standing, nl_rules, SaysFile, reason_of};
+ghost use Rattle.std.specs.Prelude.{◌≡◌, ◌<◌, ℕ, List, [], length, None, IsSomeAnd};
+ghost use Rattle.text_base.specs.Words.{words_of, row_of};
+ghost use Rattle.nl_lines.specs.declared.awaited.Awaited.TheVariants.{Node, Pair};
+ghost use Rattle.nl_segments.specs.Grammar.{standing, nl_rules, SaysFile, fault_refusal, reason_of};
 ghost use Rattle.nl_segments.specs.Held.{HoldsStanding, IsAwaiting};
+ghost use Rattle.nl_segments.specs.KnownNodes.{HasLeafRow};
 ghost use Rattle.nl_lines.specs.PairTests.{IsPairRow};
 ghost use Rattle.nl_segments.specs.KnownPairs.{HasPairRow};
+ghost use Rattle.nl_lines.specs.Leaves.{IsLeafRow};
 ghost use Rattle.nl_segments.specs.Reader.{value_of};
-ghost use Rattle.nl_segments.specs.Taking.{TakesHeaderRow, TakesAnyRow, TakesLine};
+ghost use Rattle.nl_segments.specs.Taking.{TakesHeaderRow, TakesAnyRow, TakesLine, line_awaits};
 
 use crate::body::BodyReader;
 use crate::nl_read::NlRead;
 use exact_numbers::Dec;
 use nl_header::{HeadFault, HeaderReader};
-use nl_lines::{NlReason, pair_of_line};
+use nl_lines::{Awaited, Leaf, NlReason, leaf_of_line, pair_of_line};
 use std::alloc::Global;
 use std::marker::Model;
 use std::mem;
@@ -74,10 +76,7 @@ impl Grammar for NlGrammar {
     ghost says = { λ s lines r. SaysFile lines (value_of r) };
 
     fn take(&mut self, line: &[u8], number: u32) -> Result<(), Stop<NlReason>> {
-        if let Some(pair) = self.next_pair(line) {
-            return self.take_pair(pair, number);
-        }
-        self.take_any(line, number)
+        self.take_line(line, number)
     }
 
     fn line_fault(&self, fault: LineFault) -> NlReason {
@@ -107,18 +106,61 @@ impl NlGrammar {
         }
     }
 
-    // The pair of a line, where the body awaits one and the line is one of the common form.
-    fn next_pair(&self, line: &[u8]) -> Option<(u32, Dec)>
-        ensures awaited { IsSome result → IsSomeAnd self.now.body (λ b. IsAwaiting Pair b) }
-        ensures pair { IfSome result (λ t. IsPairRow (row_of (without_comment line.now)) t) }
+    // The line that the body awaits.
+    fn awaited(&self) -> Awaited
+        ensures { result ≡ line_awaits self.now.body }
     {
-        let Some(body) = &self.body else {
-            return None;
-        };
-        if !body.awaits_pair() {
-            return None;
+        match &self.body {
+            Some(body) => body.awaited(),
+            None => Awaited::Nothing,
         }
-        pair_of_line(line)
+    }
+
+    // Takes a line.
+    fn take_line(&mut self, line: &[u8], number: u32) -> Result<(), Stop<NlReason>>
+        ensures { TakesLine self.old line.now number result self.new }
+    {
+        match self.awaited() {
+            Awaited::Pair => self.take_pair_line(line, number),
+            Awaited::Node => self.take_node_line(line, number),
+            _ => self.take_any(line, number),
+        }
+    }
+
+    // Takes a line where the body awaits a pair, which is read at once where it has the common form.
+    fn take_pair_line(&mut self, line: &[u8], number: u32) -> Result<(), Stop<NlReason>>
+        requires { line_awaits self.old.body ≡ Pair }
+        ensures { TakesLine self.old line.now number result self.new }
+    {
+        let Some(pair) = pair_of_line(line) else {
+            return self.take_any(line, number);
+        };
+        self.take_pair(pair, number)
+    }
+
+    // Takes a line where the body awaits a node, which is read at once where it is a letter and a
+    // number of the common form.
+    fn take_node_line(&mut self, line: &[u8], number: u32) -> Result<(), Stop<NlReason>>
+        requires { line_awaits self.old.body ≡ Node }
+        ensures { TakesLine self.old line.now number result self.new }
+    {
+        let Some(leaf) = leaf_of_line(line) else {
+            return self.take_any(line, number);
+        };
+        self.take_leaf(leaf, number)
+    }
+
+    // Takes a line of the body that is a letter and a number alone, which say this.
+    fn take_leaf(&mut self, leaf: Leaf, number: u32) -> Result<(), Stop<NlReason>>
+        requires awaited { IsSomeAnd self.old.body (λ b. IsAwaiting Node b) }
+        requires exists { HasLeafRow leaf number }
+        ensures { (text : List ℕ) → IsLeafRow (row_of text) leaf
+            → TakesAnyRow self.old (record { line = number; text = text }) result self.new }
+    {
+        let Some(body) = &mut self.body else {
+            unreachable!()
+        };
+        body.take_leaf(leaf, number)
     }
 
     // Takes a line of the body that is an index and a value alone, this pair.

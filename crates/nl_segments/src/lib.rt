@@ -5,6 +5,7 @@ mod body;
 mod body_columns;
 mod body_heads;
 mod body_intervals;
+mod body_leaves;
 mod body_nodes;
 mod body_operands;
 mod body_pairs;

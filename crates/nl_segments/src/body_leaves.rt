@@ -1,0 +1,49 @@
+// A line with a node that is a letter and a number alone.
+ghost use Rattle.std.specs.Prelude.{List, ℕ};
+ghost use Rattle.text_base.specs.Judged.{Decides};
+ghost use Rattle.nl_lines.specs.declared.awaited.Awaited.TheVariants.{Node};
+ghost use Rattle.nl_segments.specs.Held.{IsAwaiting, TakesRow};
+ghost use Rattle.nl_segments.specs.KnownNodes.{HasLeafRow};
+ghost use Rattle.nl_lines.specs.Leaves.{IsLeafRow};
+ghost use Rattle.nl_segments.specs.TreeSteps.{IsNextRow, counted_node_tests};
+
+use crate::body::BodyReader;
+use crate::body_nodes::MOST_NODES;
+use nl_lines::{Leaf, NlReason, NodeRow, read_leaf_row};
+use nl_model::NlBuilder;
+use text_base::Stop;
+
+// A row of an expression, after so many nodes.
+fn read_next(leaf: Leaf, builder: &NlBuilder, nodes: u32) -> Result<NodeRow, NlReason>
+    ensures { (words : List (List ℕ)) → IsLeafRow words leaf
+        → Decides (counted_node_tests builder.now.counts builder.now nodes words)
+        (IsNextRow builder.now.counts nodes words) result }
+{
+    let row = match read_leaf_row(leaf, builder) {
+        Ok(row) => row,
+        Err(reason) => return Err(reason),
+    };
+    if nodes >= MOST_NODES {
+        return Err(NlReason::TooLarge);
+    }
+    Ok(row)
+}
+
+impl BodyReader {
+    /// A line that is a letter and a number alone, which say this.
+    pub(crate) fn take_leaf(&mut self, leaf: Leaf, line: u32) -> Result<(), Stop<NlReason>>
+        requires awaited { IsAwaiting Node self.old }
+        requires exists { HasLeafRow leaf line }
+        ensures { (words : List (List ℕ)) → IsLeafRow words leaf
+            → TakesRow self.old words line result self.new }
+    {
+        if self.is_broken {
+            return Err(Stop::Memory);
+        }
+        let row = match read_next(leaf, &self.builder, self.nodes) {
+            Ok(row) => row,
+            Err(reason) => return Err(Stop::Fault(reason)),
+        };
+        self.keep_node(row, line)
+    }
+}
