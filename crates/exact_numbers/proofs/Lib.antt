@@ -16,3 +16,4 @@ pub mod Wholes
 pub mod NumberLemmas
 pub mod WholeLemmas
 pub mod Plain
+pub mod Few

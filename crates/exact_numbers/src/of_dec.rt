@@ -129,11 +129,17 @@ fn cancel(n: u128, factor: u64, times: u32) -> Cancelled
     Cancelled { rest, left }
 }
 
+// Below this a mantissa times 10 ^ 19 is in range; so is 10 ^ 38.
+const FEW: u128 = 0x8000_0000_0000_0000;
+
 impl Dec {
     /// Whether a fraction has the same value.
     pub fn has_fraction(self) -> bool
         ensures { result ≡ fits (dec_value self) }
     {
+        if self.m.unsigned_abs() < FEW && self.e >= -38 && self.e <= 19 {
+            return true;
+        }
         Frac::of_dec(self).is_some()
     }
 }
