@@ -1,16 +1,18 @@
-use Rattle.std.proofs.Common.{[], ◌≡◌, ℕ, suc, ◌+◌, ◌<◌, ◌≤◌, ◌∙◌, sym, ap, ap₂, subst, arith, Bool, true, false, List, ◌∷◌, ◌++◌, length, get_or, drop, map, All, add-one, drop-cons}
-use Rattle.std.proofs.lemmas.List.{length-map, get_or-map, drop_all}
-use Rattle.mps_model.specs.Mps.{Bound, Entry, Column, MpsRow, Mps, with_values}
+use Rattle.std.proofs.Common.{[], ◌≡◌, ℕ, suc, ◌+◌, ◌<◌, ◌≤◌, ◌∙◌, sym, ap, ap₂, subst, arith, Bool, true, false, List, ◌∷◌, ◌++◌, length, get_or, drop, take, map, All, Some, add-one, drop-cons}
+use Rattle.std.proofs.lemmas.List.{length-map, get_or-map, drop_all, take_more, map-append}
+use Rattle.std.proofs.lemmas.Option.{slice_get_within, get_or_from_slice_get}
+use Rattle.std.specs.List.{slice_get}
+use Rattle.mps_model.specs.Mps.{Bound, Entry, Column, MpsRow, Mps, no_row, with_values}
 use Rattle.mps_model.specs.declared.kinds.BoundKind.{BoundKind}
-use Rattle.mps_model.specs.Text.{entry_lines, change_lines, markers_after, column_lines, mps_text_by}
+use Rattle.mps_model.specs.Text.{entry_line, entry_lines, change_lines, markers_after, column_lines, mps_text_by}
 use Rattle.mps_model.proofs.Texts.{text_by_values}
 use Rattle.exact_numbers.specs.Values.{dec_value, text_of, value_text}
 use Rattle.exact_numbers.proofs.Spelling.{value_text-decimal}
 use Rattle.exact_numbers.specs.declared.dec.Dec.{Dec}
 use Rattle.mps_model.specs.Built.{bound_of, entry_of}
 use Rattle.mps_model.specs.Valid.{AreColumns}
-use Rattle.written_texts.specs.Lines.{Line, lines_text, unless_empty}
-use Rattle.written_texts.proofs.Writing.{lines_after, rest_written}
+use Rattle.written_texts.specs.Lines.{Line, indented, line_text, lines_text, unless_empty}
+use Rattle.written_texts.proofs.Writing.{line_after, lines_after, rest_written}
 
 pub markers_more : (b m : Bool) (i : ℕ) → markers_after b m i ≤ i + 1
 markers_more false true i = omega arith
@@ -23,6 +25,24 @@ pub terms_in_rows : (n : ℕ) (ts : List (ℕ × Dec)) (es : List (Entry Dec)) �
 terms_in_rows n ts es e h = λ k d l.
     let m : k < length es = subst (λ es. k < length es) e (omega (arith, length-map ts entry_of)) in
     subst (λ (x : Entry Dec). x.row < n) (ap (λ es. get_or es k (entry_of d)) (sym e) ∙ get_or-map entry_of ts k d (entry_of d) l) (h k (entry_of d) m)
+
+-- one entry more, in a row of that name
+pub entry_written : (rows : List MpsRow) (names : List (List ℕ)) (word row : List ℕ) (ts : List (ℕ × Dec)) (i : ℕ) (t : ℕ × Dec) (out0 out1 out2 : List ℕ) → i < length ts → t ≡ get_or ts i t →
+    names ≡ map (λ (r : MpsRow). r.name) rows → Some row ≡ slice_get names t.0 →
+    out1 ≡ out0 ++ lines_text (entry_lines text_of rows word (map entry_of (take i ts))) → out2 ≡ out1 ++ line_text (indented (word ∷ row ∷ text_of t.1 ∷ [])) →
+    out2 ≡ out0 ++ lines_text (entry_lines text_of rows word (map entry_of (take (i + 1) ts)))
+entry_written rows names word row ts i t out0 out1 out2 h is same found first second =
+    let at : slice_get (map (λ (r : MpsRow). r.name) rows) t.0 ≡ Some row = subst (λ ns. slice_get ns t.0 ≡ Some row) same (sym found) in
+    let inside : t.0 < length rows = omega (arith, slice_get_within (map (λ (r : MpsRow). r.name) rows) t.0 row at, length-map rows (λ (r : MpsRow). r.name)) in
+    let name : row ≡ (get_or rows t.0 no_row).name =
+    sym (get_or_from_slice_get (map (λ (r : MpsRow). r.name) rows) t.0 row [] at) ∙ get_or-map (λ (r : MpsRow). r.name) rows t.0 no_row [] inside in
+    let line : Entry Dec → Line = entry_line text_of rows word in
+    let now : out2 ≡ out1 ++ line_text (line (entry_of t)) = second ∙ ap (λ r. out1 ++ line_text (indented (word ∷ r ∷ text_of t.1 ∷ []))) name in
+    let more : map line (map entry_of (take (i + 1) ts)) ≡ map line (map entry_of (take i ts)) ++ line (entry_of t) ∷ [] =
+    ap (λ xs. map line (map entry_of xs)) (take_more ts i t h ∙ ap (λ x. take i ts ++ x ∷ []) (sym is))
+    ∙ ap (map line) (map-append entry_of (take i ts) (t ∷ []))
+    ∙ map-append line (map entry_of (take i ts)) (entry_of t ∷ []) in
+    line_after out0 out1 out2 (map line (map entry_of (take i ts))) (line (entry_of t)) first now ∙ ap (λ ls. out0 ++ lines_text ls) (sym more)
 
 module _ (rows : List MpsRow) (cols : List (Column Dec)) (before : Bool) (i index : ℕ) where
   pub column_written : (c : Column Dec) (out0 out1 out2 total word : List ℕ) (ts : List (Entry Dec)) (marked next : Bool) (n : ℕ) → index < length cols → c ≡ get_or cols index c →

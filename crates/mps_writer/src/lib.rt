@@ -119,7 +119,7 @@ pub fn write_mps(alloc: Global, mps: &Mps) -> Result<Vec<u8>, AllocError>
     put_name(&mut out, mps)?;
     put_sense(&mut out, mps.maximise())?;
     put_rows(&mut out, rows)?;
-    put_columns(&mut out, rows, columns)?;
+    put_columns(&mut out, alloc, rows, columns)?;
     put_rhs(&mut out, rows, rhs)?;
     put_ranges(&mut out, rows, ranges)?;
     put_bounds(&mut out, columns, bounds)?;
