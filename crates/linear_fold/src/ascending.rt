@@ -1,7 +1,5 @@
 // Terms that ascend by variable: as they stand, they are the coefficients of a closed form.
 ghost use Rattle.std.specs.Prelude.{◌≡◌, false, ◌+◌, ◌^◌, ◌≤◌, ◌↔◌, [], length, IfOk, IsTrue};
-ghost use Rattle.exact_numbers.specs.Values.{dec_value};
-ghost use Rattle.fractions.specs.Fits.{fits};
 ghost use Rattle.file_meaning.specs.Expressions.{linear_terms};
 ghost use Rattle.linear_fold.specs.Coefs.{AreStrictlyAscending, AreZeroTerms};
 ghost use Rattle.linear_fold.specs.Folds.{ComesToTerms};
@@ -10,7 +8,7 @@ ghost use Rattle.linear_fold.specs.Forms.{form_line, form_terms, is_open};
 use crate::coefficients::Coefficients;
 use crate::entries::Entry;
 use crate::form::Form;
-use exact_numbers::{Dec, Frac};
+use exact_numbers::Dec;
 use nl_meaning::{Fault, Reason};
 use std::alloc::{AllocError, Global};
 use text_base::{Ledger, Steps};
@@ -44,13 +42,6 @@ pub(crate) fn are_zero(terms: &[(u32, Dec)]) -> bool
     true
 }
 
-// Whether a decimal has a fraction.
-fn has_fraction(number: Dec) -> bool
-    ensures { result ≡ fits (dec_value number) }
-{
-    Frac::of_dec(number).is_some()
-}
-
 /// The closed form of a number and of terms that ascend, of which the first has a number; a step
 /// for the number and for each term.
 pub(crate) fn closed_terms<L: Ledger>(
@@ -72,7 +63,7 @@ pub(crate) fn closed_terms<L: Ledger>(
     steps.tick();
     for (index, term) in terms.iter().enumerate() {
         steps.tick();
-        if !has_fraction(term.1) {
+        if !term.1.has_fraction() {
             return Ok(Entry::Broken(Fault {
                 place: first + index,
                 reason: Reason::TooWide,
