@@ -1,5 +1,5 @@
 // Lists of terms.
-ghost use Rattle.std.specs.Prelude.{◌≡◌, ◌<◌, ◌++◌, ◌∷◌, [], length, OnOk, OnErr, Some, slice_get};
+ghost use Rattle.std.specs.Prelude.{◌≡◌, ◌<◌, ◌++◌, ◌∷◌, [], length, IfOk, OnOk, OnErr, Some, slice_get};
 
 use exact_numbers::Dec;
 use std::alloc::{AllocError, Global};
@@ -28,6 +28,14 @@ impl Terms {
         Terms {
             items: Vec::new(alloc),
         }
+    }
+
+    /// These terms.
+    pub fn of_slice(alloc: Global, terms: &[(u32, Dec)]) -> Result<Self, AllocError>
+        ensures { IfOk result (λ new. new ≡ terms.now) }
+    {
+        let items = Vec::from_slice(alloc, terms)?;
+        Ok(Terms { items })
     }
 
     /// Adds a term at the end.

@@ -67,12 +67,7 @@ fn terms_times(alloc: Global, form: &Form, factor: Frac) -> Result<Terms, Stop<W
 fn copied_terms(alloc: Global, decimals: &[(u32, Dec)]) -> Result<Terms, AllocError>
     ensures { IfOk result (λ terms. terms ≡ decimals.now) }
 {
-    let mut terms = Terms::new(alloc);
-    terms.make_room(decimals.len())?;
-    for term in decimals {
-        terms.push(*term)?;
-    }
-    Ok(terms)
+    Terms::of_slice(alloc, decimals)
 }
 
 // The decimals of a form that is kept as decimals, where the factor is 1.
