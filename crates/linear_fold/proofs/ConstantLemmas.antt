@@ -24,9 +24,8 @@ use Rattle.nl_meaning.specs.Lines.{Line, is_constant, are_constant, constants_of
 use Rattle.nl_meaning.specs.Trees.{on_values}
 use Rattle.code_tables.specs.declared.class.OpClass.{OpClass}
 use Rattle.code_tables.specs.declared.class.OpClass.TheVariants.{Least, Greatest, Power}
-use Rattle.linear_fold.specs.declared.form.Form.{Form}
-use Rattle.linear_fold.specs.Forms.{form_line, is_open, IsZeroFrom}
-use Rattle.linear_fold.specs.Operates.{AreClosed, AreZeroFrom, IsValueOf}
+use Rattle.linear_fold.specs.declared.parts.Part.{Part}
+use Rattle.linear_fold.specs.Operates.{AreClosed, AreOperands, IsClosed, IsOperand, IsValueOf, part_line}
 use Rattle.linear_fold.proofs.Operators.{fault_first}
 
 -- ---- signs
@@ -247,68 +246,64 @@ greatest_more x y ys = refl
 abbrev pub greatest_choice : Choice
 greatest_choice = record { best = greatest_of; better = greater_of; none = greatest_none; more = greatest_more; same = greater_same }
 
-pub record Choosing (c : Choice) (first cur : ℚ) (left all : List Form) : Type 0 where
-  pub value : c.best cur (constants_of (map form_line left)) ≡ c.best first (constants_of (map form_line all))
-  pub tests : (n : ℕ) → AreZeroFrom n all → (are_constant n (map form_line left) ≡ are_constant n (map form_line all)) × AreZeroFrom n left
+pub record Choosing (c : Choice) (first cur : ℚ) (left all : List Part) : Type 0 where
+  pub value : c.best cur (constants_of (map part_line left)) ≡ c.best first (constants_of (map part_line all))
+  pub tests : (n : ℕ) → AreOperands n all → (are_constant n (map part_line left) ≡ are_constant n (map part_line all)) × AreOperands n left
   pub closed : AreClosed left
 
-pub choosing_init : (c : Choice) (first : ℚ) (fs : List Form) → AreClosed fs → Choosing c first first fs fs
+pub choosing_init : (c : Choice) (first : ℚ) (fs : List Part) → AreClosed fs → Choosing c first first fs fs
 choosing_init c first fs h = record { value = refl; tests = λ n z. (refl, z); closed = h }
 
-pub closed_here : (c : Choice) (first cur : ℚ) (x : Form) (left rest all : List Form) → left ≡ x ∷ rest → Choosing c first cur left all → is_open x ≡ false
+pub closed_here : (c : Choice) (first cur : ℚ) (x : Part) (left rest all : List Part) → left ≡ x ∷ rest → Choosing c first cur left all → IsClosed x
 closed_here c first cur x left rest all is h = (subst AreClosed is h.closed).0
 
-module _ (c : Choice) (first cur new : ℚ) (x : Form) (left rest all : List Form) (is : left ≡ x ∷ rest) (h : Choosing c first cur left all) where
+module _ (c : Choice) (first cur new : ℚ) (x : Part) (left rest all : List Part) (is : left ≡ x ∷ rest) (h : Choosing c first cur left all) where
   here : Choosing c first cur (x ∷ rest) all
   here = subst (λ l. Choosing c first cur l all) is h
 
-  pub choosing_more : (v : ℚ) → v ≡ (form_line x).constant → ((n : ℕ) → IsZeroFrom n (form_line x) → is_constant n (form_line x) ≡ true) → new ≡ c.better cur v → Choosing c first new rest all
+  pub choosing_more : (v : ℚ) → v ≡ (part_line x).constant → ((n : ℕ) → IsOperand n x → is_constant n (part_line x) ≡ true) → new ≡ c.better cur v → Choosing c first new rest all
   choosing_more v is_v t e =
       let o = here in
       record {
-        value = ap (λ y. c.best y (constants_of (map form_line rest))) (e ∙ ap (c.better cur) is_v) ∙ sym (c.more cur (form_line x).constant (constants_of (map form_line rest))) ∙ o.value;
-        tests = λ n z. let r = o.tests n z in (ap (λ b. b && are_constant n (map form_line rest)) (sym (t n r.1.0)) ∙ r.0, r.1.1);
+        value = ap (λ y. c.best y (constants_of (map part_line rest))) (e ∙ ap (c.better cur) is_v) ∙ sym (c.more cur (part_line x).constant (constants_of (map part_line rest))) ∙ o.value;
+        tests = λ n z. let r = o.tests n z in (ap (λ b. b && are_constant n (map part_line rest)) (sym (t n r.1.0)) ∙ r.0, r.1.1);
         closed = o.closed.1;
       }
 
-  pub choosing_stop : ((n : ℕ) → IsZeroFrom n (form_line x) → is_constant n (form_line x) ≡ false) → (n : ℕ) → AreZeroFrom n all → are_constant n (map form_line all) ≡ false
+  pub choosing_stop : ((n : ℕ) → IsOperand n x → is_constant n (part_line x) ≡ false) → (n : ℕ) → AreOperands n all → are_constant n (map part_line all) ≡ false
   choosing_stop t n z =
       let r = here.tests n z in
-      sym r.0 ∙ ap (λ b. b && are_constant n (map form_line rest)) (t n r.1.0)
+      sym r.0 ∙ ap (λ b. b && are_constant n (map part_line rest)) (t n r.1.0)
 
-module _ (c : Choice) (first cur : ℚ) (x : Form) (left fs all : List Form) (none : left ≡ []) (is : all ≡ x ∷ fs) (start : first ≡ (form_line x).constant) (h : Choosing c first cur left all) where
-  choosing_value : cur ≡ c.best (form_line x).constant (constants_of (map form_line fs))
+module _ (c : Choice) (first cur : ℚ) (x : Part) (left fs all : List Part) (none : left ≡ []) (is : all ≡ x ∷ fs) (start : first ≡ (part_line x).constant) (h : Choosing c first cur left all) where
+  choosing_value : cur ≡ c.best (part_line x).constant (constants_of (map part_line fs))
   choosing_value =
       let o : Choosing c first cur [] (x ∷ fs) = subst (λ l. Choosing c first cur l (x ∷ fs)) none (subst (λ a. Choosing c first cur left a) is h) in
-      sym (c.none cur) ∙ o.value ∙ c.more first (form_line x).constant (constants_of (map form_line fs))
-      ∙ ap (λ y. c.best y (constants_of (map form_line fs))) (ap (λ y. c.better y (form_line x).constant) start ∙ c.same (form_line x).constant)
+      sym (c.none cur) ∙ o.value ∙ c.more first (part_line x).constant (constants_of (map part_line fs))
+      ∙ ap (λ y. c.best y (constants_of (map part_line fs))) (ap (λ y. c.better y (part_line x).constant) start ∙ c.same (part_line x).constant)
 
-  pub choosing_tests : (n : ℕ) → AreZeroFrom n all → are_constant n (map form_line all) ≡ true
+  pub choosing_tests : (n : ℕ) → AreOperands n all → are_constant n (map part_line all) ≡ true
   choosing_tests n z =
       let o : Choosing c first cur [] all = subst (λ l. Choosing c first cur l all) none h in
       sym (o.tests n z).0
 
-  pub choosing_end : constants_of (map form_line all) ≡ (form_line x).constant ∷ constants_of (map form_line fs)
-  choosing_end = ap (λ a. constants_of (map form_line a)) is
+  pub choosing_end : constants_of (map part_line all) ≡ (part_line x).constant ∷ constants_of (map part_line fs)
+  choosing_end = ap (λ a. constants_of (map part_line a)) is
 
-  pub choosing_best : cur ≡ c.best (form_line x).constant (constants_of (map form_line fs))
+  pub choosing_best : cur ≡ c.best (part_line x).constant (constants_of (map part_line fs))
   choosing_best = choosing_value
 
-pub least_found : (n : ℕ) (x : Form) (fs all : List Form) (v : Frac) → all ≡ x ∷ fs → are_constant n (map form_line all) ≡ true → frac_value v ≡ least_of (form_line x).constant (constants_of (map form_line fs)) → IsValueOf n Least all (Some v)
-least_found n x fs all v is t e = (t, ap (λ a. on_values Least (constants_of (map form_line a))) is ∙ ap Some (sym e))
+pub least_found : (n : ℕ) (x : Part) (fs all : List Part) (v : Frac) → all ≡ x ∷ fs → are_constant n (map part_line all) ≡ true → frac_value v ≡ least_of (part_line x).constant (constants_of (map part_line fs)) → IsValueOf n Least all (Some v)
+least_found n x fs all v is t e = (t, ap (λ a. on_values Least (constants_of (map part_line a))) is ∙ ap Some (sym e))
 
-pub greatest_found : (n : ℕ) (x : Form) (fs all : List Form) (v : Frac) → all ≡ x ∷ fs → are_constant n (map form_line all) ≡ true → frac_value v ≡ greatest_of (form_line x).constant (constants_of (map form_line fs)) → IsValueOf n Greatest all (Some v)
-greatest_found n x fs all v is t e = (t, ap (λ a. on_values Greatest (constants_of (map form_line a))) is ∙ ap Some (sym e))
+pub greatest_found : (n : ℕ) (x : Part) (fs all : List Part) (v : Frac) → all ≡ x ∷ fs → are_constant n (map part_line all) ≡ true → frac_value v ≡ greatest_of (part_line x).constant (constants_of (map part_line fs)) → IsValueOf n Greatest all (Some v)
+greatest_found n x fs all v is t e = (t, ap (λ a. on_values Greatest (constants_of (map part_line a))) is ∙ ap Some (sym e))
 
-pub first_of_forms : (fs : List Form) (x : Form) → 0 < length fs → x ≡ get_or fs 0 x → fs ≡ x ∷ drop 1 fs
-first_of_forms [] x h e = absurd (omega arith)
-first_of_forms (f ∷ fs) x h e = ap (λ y. y ∷ fs) (sym e)
-
-pub first_varies : (n : ℕ) (x : Form) (fs all : List Form) → all ≡ x ∷ fs → AreZeroFrom n all → ((m : ℕ) → IsZeroFrom m (form_line x) → is_constant m (form_line x) ≡ false) → are_constant n (map form_line all) ≡ false
+pub first_varies : (n : ℕ) (x : Part) (fs all : List Part) → all ≡ x ∷ fs → AreOperands n all → ((m : ℕ) → IsOperand m x → is_constant m (part_line x) ≡ false) → are_constant n (map part_line all) ≡ false
 first_varies n x fs all is z t =
-    ap (λ a. are_constant n (map form_line a)) is ∙ ap (λ b. b && are_constant n (map form_line fs)) (t n (subst (AreZeroFrom n) is z).0)
+    ap (λ a. are_constant n (map part_line a)) is ∙ ap (λ b. b && are_constant n (map part_line fs)) (t n (subst (AreOperands n) is z).0)
 
-pub closed_first : (x : Form) (fs all : List Form) → all ≡ x ∷ fs → AreClosed all → is_open x ≡ false
+pub closed_first : (x : Part) (fs all : List Part) → all ≡ x ∷ fs → AreClosed all → IsClosed x
 closed_first x fs all is h = (subst AreClosed is h).0
 
 -- a size below 0 is above 0
@@ -326,7 +321,7 @@ pub ceiling_is : (x : ℚ) → neg_ℚ (floor_of (neg_ℚ x)) ≡ ceiling_of x
 unfolding ceiling_of
 ceiling_is x = refl
 
--- ---- powers of forms
+-- ---- powers
 module _ (n : ℕ) (a b : Line) (ca : is_constant n a ≡ true) (cb : is_constant n b ≡ true) where
   both : are_constant n (a ∷ b ∷ []) ≡ true
   both = and_from _ _ ca (and_from _ _ cb refl)

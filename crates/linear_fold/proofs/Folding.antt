@@ -11,20 +11,28 @@ use Rattle.fractions.proofs.Arithmetic.{*ℚ_zero, +ℚ_zero, zero-+ℚ, neg_zer
 use Rattle.nl_meaning.specs.declared.Fault.{Fault}
 use Rattle.nl_meaning.specs.declared.Reason.{Reason}
 use Rattle.nl_meaning.specs.Lines.{Line, some_values, line_value, line_by, is_constant}
-use Rattle.nl_meaning.specs.Faults.{line_with, line_sum, line_scaled, line_neg, running_line, constant_line, operator_fault, operator_line, fault_at, lines_of, trees_fault}
-use Rattle.nl_meaning.specs.Trees.{Point, Known, Trees, none, more, on_values, operator_value, tree_value, trees_values, HasCount}
+use Rattle.nl_meaning.specs.Faults.{line_with, line_sum, line_scaled, line_neg, running_line, constant_line, operator_fault, operator_line, fault_at, lines_of, tree_fault, trees_fault}
+use Rattle.nl_meaning.specs.Trees.{Point, Known, Tree, operator, Trees, none, more, on_values, operator_value, tree_value, trees_values, HasCount}
 use Rattle.nl_meaning.proofs.LineLemmas.{same_constant, same_coef, no_coef, apart-eqb}
 use Rattle.nl_meaning.proofs.Linear.{all_there-some, constant_value, variable_value, operator_has_line}
+use Rattle.linear_fold.specs.declared.entries.Entry.{Entry}
+use Rattle.linear_fold.specs.declared.entries.Entry.TheVariants.{Linear as Whole, Broken as Faulty}
 use Rattle.linear_fold.specs.declared.form.Form.{Form}
+use Rattle.linear_fold.specs.declared.parts.Part.{Part}
+use Rattle.linear_fold.specs.declared.parts.Part.TheVariants.{Number, Variable, Linear, Broken}
 use Rattle.linear_fold.specs.Coefs.{coef_in}
 use Rattle.linear_fold.specs.Forms.{form_line, is_open, IsZeroFrom}
-use Rattle.linear_fold.specs.Operates.{IsWithin, AreWithin}
-use Rattle.linear_fold.specs.Folds.{HasLineOf, AreLinesOf, AreOperands}
+use Rattle.linear_fold.specs.Operates.{IsOperand, IsSound, IsWithin, AreOperands, lines_of_parts, part_line}
+use Rattle.linear_fold.specs.Folds.{HasLine, HasLineOf, IsLined, AreLinesOf, AreOperandsOf, ArePartsWithin, IsClosedForm, IsEntryOf, IsEntryWithin, IsFolded, IsPartFolded, IsPartWithin, first_broken}
 use Rattle.linear_fold.proofs.CoefLemmas.{adds_at, found_same, found_apart}
 use Rattle.linear_fold.specs.Coefs.{value_or_zero}
+use Rattle.linear_fold.proofs.PartLemmas.{multiple_zero_from}
 use Rattle.linear_fold.proofs.Scaled.{same_line}
 
 -- a function of points that has the values of a line
+pub same_values : (n : ℕ) (f : Point → Option ℚ) (a l : Line) → a ≡ l → HasLine n f l → HasLine n f a
+same_values n f a l e h at = h at ∙ ap (λ m. Some (line_value n m at)) (sym e)
+
 pub same_form : (n : ℕ) (f : Point → Option ℚ) (a : Form) (l : Line) → form_line a ≡ l → ((at : Point) → f at ≡ Some (line_value n l at)) → HasLineOf n f a
 same_form n f a l e h at = h at ∙ ap (λ m. Some (line_value n m at)) (sym e)
 
@@ -37,15 +45,14 @@ variable_lined n j h at = ap Some (variable_value n j at h)
 pub constant_within : (n : ℕ) (f : Form) (k : ℚ) → form_line f ≡ constant_line k → is_open f ≡ false → IsWithin n f
 constant_within n f k e c = record { closed = c; zero_from = λ j h. ap (λ l. l.coef j) e }
 
-pub variable_within : (n j : ℕ) (f : Form) → j < n → form_line f ≡ line_with (constant_line zero_ℚ) j one_ℚ → is_open f ≡ false → IsWithin n f
-variable_within n j f l e c =
-    record {
-      closed = c;
-      zero_from = λ i g. ap (λ m. m.coef i) e ∙ ap (λ x. zero_ℚ +ℚ one_ℚ *ℚ x) (apart-eqb i j (omega arith)) ∙ ap (λ x. zero_ℚ +ℚ x) (*ℚ_zero one_ℚ) ∙ +ℚ_zero zero_ℚ;
-    }
+pub number_within : (n : ℕ) (k : Frac) → IsPartWithin n (Number k)
+number_within n k = record { sound = tt; zero_from = λ j h. refl }
 
-pub same_within : (n : ℕ) (a b : Form) → form_line a ≡ form_line b → is_open a ≡ false → IsWithin n b → IsWithin n a
-same_within n a b e c w = record { closed = c; zero_from = λ j g. ap (λ m. m.coef j) e ∙ w.zero_from j g }
+pub multiple_within : (n j : ℕ) (k : Frac) → j < n → IsPartWithin n (Variable j k)
+multiple_within n j k l = record { sound = l; zero_from = multiple_zero_from n j (frac_value k) l }
+
+pub form_within : (n : ℕ) (a b : Form) → form_line a ≡ form_line b → is_open a ≡ false → IsWithin n b → IsPartWithin n (Linear a)
+form_within n a b e c w = record { sound = c; zero_from = λ j g. ap (λ m. m.coef j) e ∙ w.zero_from j g }
 
 pub one_not_zero : (x : ℚ) → x ≡ one_ℚ → x ≢ zero_ℚ
 unfolding whole
@@ -56,40 +63,43 @@ term_line c k j e f =
     same_line (record { constant = frac_value c; coef = coef_in ((j, k) ∷ []) }) (line_with (constant_line zero_ℚ) j one_ℚ) e
     (adds_at (λ i. zero_ℚ) (coef_in ((j, k) ∷ [])) j one_ℚ (ap value_or_zero (found_same (j, k) [] j refl) ∙ f ∙ sym (zero-+ℚ one_ℚ)) (λ i n. ap value_or_zero (found_apart (j, k) [] i n)))
 
--- a form of a tree's values has the tree's line
-pub is_line_of : (n : ℕ) (f : Point → Option ℚ) (a : Form) → IsWithin n a → HasLineOf n f a → form_line a ≡ line_by f
-is_line_of n f a w h =
-    same_line _ _ (sym (same_constant n f (form_line a) h))
+-- a line of a tree's values is the tree's line
+pub is_line_by : (n : ℕ) (f : Point → Option ℚ) (l : Line) → IsZeroFrom n l → HasLine n f l → l ≡ line_by f
+is_line_by n f l w h =
+    same_line _ _ (sym (same_constant n f l h))
     (λ j. ⊎_elim
-    (λ (l : j < n). sym (same_coef n f (form_line a) h j l))
-    (λ (g : n ≤ j). w.zero_from j g ∙ sym (no_coef n f (form_line a) h j g))
+    (λ (p : j < n). sym (same_coef n f l h j p))
+    (λ (g : n ≤ j). w j g ∙ sym (no_coef n f l h j g))
     (cases_lt j n))
 
-module _ (known : Point → Known) (n : ℕ) where
-  lines_are : (ts : Trees) (fs : List Form) → AreWithin n fs → AreLinesOf known n ts fs → map form_line fs ≡ lines_of known ts
-  lines_are none [] w h = refl
-  lines_are none (f ∷ fs) w h = absurd h
-  lines_are (more t ts) [] w h = absurd h
-  lines_are (more t ts) (f ∷ fs) w h = ap₂ ◌∷◌ (is_line_of n (λ at. tree_value (known at) at t) f w.0 h.0) (lines_are ts fs w.1 h.1)
-
-  values_are : (ts : Trees) (fs : List Form) → AreLinesOf known n ts fs → (at : Point) → trees_values (known at) at ts ≡ some_values n at (map form_line fs)
-  values_are none [] h at = refl
-  values_are none (f ∷ fs) h at = absurd h
-  values_are (more t ts) [] h at = absurd h
-  values_are (more t ts) (f ∷ fs) h at = ap₂ ◌∷◌ (h.0 at) (values_are ts fs h.1 at)
-
-length-forms : (fs : List Form) → length (map form_line fs) ≡ length fs
-length-forms [] = refl
-length-forms (f ∷ fs) = ap suc (length-forms fs)
+pub is_line_of : (n : ℕ) (f : Point → Option ℚ) (a : Form) → IsWithin n a → HasLineOf n f a → form_line a ≡ line_by f
+is_line_of n f a w h = is_line_by n f (form_line a) w.zero_from h
 
 -- ---- no coefficient from n on
 abbrev AreZeroLines : ℕ → List Line → Type 0
 AreZeroLines n [] = Unit {0}
 AreZeroLines n (l ∷ ls) = IsZeroFrom n l × AreZeroLines n ls
 
-lines_zero : (n : ℕ) (fs : List Form) → AreWithin n fs → AreZeroLines n (map form_line fs)
+module _ (known : Point → Known) (n : ℕ) where
+  lines_are : (ts : Trees) (ls : List Line) → AreZeroLines n ls → AreLinesOf known n ts ls → ls ≡ lines_of known ts
+  lines_are none [] w h = refl
+  lines_are none (l ∷ ls) w h = absurd h
+  lines_are (more t ts) [] w h = absurd h
+  lines_are (more t ts) (l ∷ ls) w h = ap₂ ◌∷◌ (is_line_by n (λ at. tree_value (known at) at t) l w.0 h.0) (lines_are ts ls w.1 h.1)
+
+  values_are : (ts : Trees) (ls : List Line) → AreLinesOf known n ts ls → (at : Point) → trees_values (known at) at ts ≡ some_values n at ls
+  values_are none [] h at = refl
+  values_are none (l ∷ ls) h at = absurd h
+  values_are (more t ts) [] h at = absurd h
+  values_are (more t ts) (l ∷ ls) h at = ap₂ ◌∷◌ (h.0 at) (values_are ts ls h.1 at)
+
+pub length-parts : (ps : List Part) → length (lines_of_parts ps) ≡ length ps
+length-parts [] = refl
+length-parts (p ∷ ps) = ap suc (length-parts ps)
+
+lines_zero : (n : ℕ) (ps : List Part) → AreOperands n ps → AreZeroLines n (lines_of_parts ps)
 lines_zero n [] w = tt
-lines_zero n (f ∷ fs) w = (w.0.zero_from, lines_zero n fs w.1)
+lines_zero n (p ∷ ps) w = (w.0.zero_from, lines_zero n ps w.1)
 
 sum_zero : (n : ℕ) (a b : Line) → IsZeroFrom n a → IsZeroFrom n b → IsZeroFrom n (line_sum a b)
 sum_zero n a b p q j h = ap₂ ◌+ℚ◌ (p j h) (q j h) ∙ +ℚ_zero zero_ℚ
@@ -139,29 +149,74 @@ operator_zero n Absolute ls h z = λ j g. refl
 operator_zero n Refused ls h z = absurd h
 
 -- ---- an operator
-pub operator_within : (n : ℕ) (c : OpClass) (fs : List Form) (f : Form) → HasCount c (length fs) → AreWithin n fs → form_line f ≡ operator_line n c (map form_line fs) → is_open f ≡ false → IsWithin n f
-operator_within n c fs f count w e closed =
+pub operator_within : (n : ℕ) (c : OpClass) (ps : List Part) (p : Part) → HasCount c (length ps) → AreOperands n ps → part_line p ≡ operator_line n c (lines_of_parts ps) → IsSound n p → IsOperand n p
+operator_within n c ps p count w e sound =
     record {
-      closed = closed;
-      zero_from = λ j g. ap (λ l. l.coef j) e ∙ operator_zero n c (map form_line fs) (subst (HasCount c) (sym (length-forms fs)) count) (lines_zero n fs w) j g;
+      sound = sound;
+      zero_from = λ j g. ap (λ l. l.coef j) e ∙ operator_zero n c (lines_of_parts ps) (subst (HasCount c) (sym (length-parts ps)) count) (lines_zero n ps w) j g;
     }
 
-module _ (known : Point → Known) (n i : ℕ) (c : OpClass) (ts : Trees) (fs : List Form) (broken : Option Fault) (whole_one : broken ≡ None) (count : HasCount c (length fs)) (within : AreWithin n fs) (operands : AreOperands known n (i + 1) ts fs broken) where
-  pub operator_lined : (f : Form) → operator_fault n c (map form_line fs) ≡ None → form_line f ≡ operator_line n c (map form_line fs) → (option_or (trees_fault known n (i + 1) ts) (fault_at i (operator_fault n c (lines_of known ts))) ≡ None) × HasLineOf n (λ at. operator_value c (trees_values (known at) at ts)) f
-  operator_lined f clean line =
+module _ (known : Point → Known) (n i : ℕ) (c : OpClass) (ts : Trees) (ps : List Part) (whole_one : first_broken ps ≡ None) (count : HasCount c (length ps)) (within : AreOperands n ps) (operands : AreOperandsOf known n (i + 1) ts ps) where
+  operator_lined : (l : Line) → operator_fault n c (lines_of_parts ps) ≡ None → l ≡ operator_line n c (lines_of_parts ps) → IsLined known n i (operator c ts) l
+  operator_lined l clean line =
       let lines = operands.lines whole_one in
-      let many : HasCount c (length (map form_line fs)) = subst (HasCount c) (sym (length-forms fs)) count in (
-        ap₂ option_or (sym operands.fault ∙ whole_one) (ap (λ ls. fault_at i (operator_fault n c ls)) (sym (lines_are known n ts fs within lines)) ∙ ap (fault_at i) clean),
-        same_form n _ f _ line
+      let many : HasCount c (length (lines_of_parts ps)) = subst (HasCount c) (sym (length-parts ps)) count in (
+        ap₂ option_or (sym operands.fault ∙ whole_one) (ap (λ ls. fault_at i (operator_fault n c ls)) (sym (lines_are known n ts (lines_of_parts ps) (lines_zero n ps within) lines)) ∙ ap (fault_at i) clean),
+        same_values n _ l _ line
             (λ at.
-            ap (operator_value c) (values_are known n ts fs lines at) ∙ ap (option_and_then (on_values c)) (all_there-some n at (map form_line fs))
-            ∙ operator_has_line n c (map form_line fs) many clean at),
+            ap (operator_value c) (values_are known n ts (lines_of_parts ps) lines at) ∙ ap (option_and_then (on_values c)) (all_there-some n at (lines_of_parts ps))
+            ∙ operator_has_line n c (lines_of_parts ps) many clean at),
       )
 
-  pub operator_broken : (x : Reason) → operator_fault n c (map form_line fs) ≡ Some x → option_or (trees_fault known n (i + 1) ts) (fault_at i (operator_fault n c (lines_of known ts))) ≡ Some (record { place = i; reason = x })
+  pub operator_broken : (x : Reason) → operator_fault n c (lines_of_parts ps) ≡ Some x → tree_fault known n i (operator c ts) ≡ Some (record { place = i; reason = x })
   operator_broken x h =
       let lines = operands.lines whole_one in
-      ap₂ option_or (sym operands.fault ∙ whole_one) (ap (λ ls. fault_at i (operator_fault n c ls)) (sym (lines_are known n ts fs within lines)) ∙ ap (fault_at i) h)
+      ap₂ option_or (sym operands.fault ∙ whole_one) (ap (λ ls. fault_at i (operator_fault n c ls)) (sym (lines_are known n ts (lines_of_parts ps) (lines_zero n ps within) lines)) ∙ ap (fault_at i) h)
+
+  pub operator_folded : (p : Part) → operator_fault n c (lines_of_parts ps) ≡ None → part_line p ≡ operator_line n c (lines_of_parts ps) → IsSound n p → IsPartFolded known n i (operator c ts) p
+  operator_folded (Number k) clean line sound = operator_lined (part_line (Number k)) clean line
+  operator_folded (Variable j k) clean line sound = operator_lined (part_line (Variable j k)) clean line
+  operator_folded (Linear f) clean line sound = operator_lined (form_line f) clean line
+  operator_folded (Broken x) clean line sound = absurd sound
+
+pub faulty_operands : (known : Point → Known) (n i : ℕ) (c : OpClass) (ts : Trees) (ps : List Part) → AreOperandsOf known n (i + 1) ts ps → (x : Fault) → first_broken ps ≡ Some x → tree_fault known n i (operator c ts) ≡ Some x
+faulty_operands known n i c ts ps operands x e = ap (λ o. option_or o (fault_at i (operator_fault n c (lines_of known ts)))) (sym operands.fault ∙ e)
+
+pub operand_within : (n : ℕ) (p : Part) → IsOperand n p → IsPartWithin n p
+operand_within n (Number k) w = w
+operand_within n (Variable j k) w = w
+operand_within n (Linear f) w = w
+operand_within n (Broken x) w = tt
+
+-- where no operand has a fault
+pub all_operands : (n : ℕ) (ps : List Part) → ArePartsWithin n ps → first_broken ps ≡ None → AreOperands n ps
+all_operands n [] w e = tt
+all_operands n (Number k ∷ ps) w e = (w.0, all_operands n ps w.1 e)
+all_operands n (Variable j k ∷ ps) w e = (w.0, all_operands n ps w.1 e)
+all_operands n (Linear f ∷ ps) w e = (w.0, all_operands n ps w.1 e)
+all_operands n (Broken x ∷ ps) w e = cc
+
+-- ---- the whole tree
+module _ (known : Point → Known) (n : ℕ) (t : Tree) where
+  entry_lined : (l : Line) (e : Entry) → IsLined known n 0 t l → IsClosedForm l e → IsFolded known n 0 t e
+  entry_lined l (Whole f) h is = (h.0, same_values n _ (form_line f) l is.0 h.1)
+  entry_lined l (Faulty x) h is = absurd is
+
+  pub entry_folded : (p : Part) (e : Entry) → IsEntryOf p e → IsPartFolded known n 0 t p → IsFolded known n 0 t e
+  entry_folded (Number k) e is h = entry_lined (part_line (Number k)) e h is
+  entry_folded (Variable j k) e is h = entry_lined (part_line (Variable j k)) e h is
+  entry_folded (Linear f) e is h = subst (IsFolded known n 0 t) (sym is) h
+  entry_folded (Broken x) e is h = subst (IsFolded known n 0 t) (sym is) h
+
+entry_closed : (n : ℕ) (l : Line) (e : Entry) → IsZeroFrom n l → IsClosedForm l e → IsEntryWithin n e
+entry_closed n l (Whole f) z is = record { closed = is.1; zero_from = λ j g. ap (λ m. m.coef j) is.0 ∙ z j g }
+entry_closed n l (Faulty x) z is = absurd is
+
+pub entry_is_within : (n : ℕ) (p : Part) (e : Entry) → IsEntryOf p e → IsPartWithin n p → IsEntryWithin n e
+entry_is_within n (Number k) e is w = entry_closed n (part_line (Number k)) e w.zero_from is
+entry_is_within n (Variable j k) e is w = entry_closed n (part_line (Variable j k)) e w.zero_from is
+entry_is_within n (Linear f) e is w = subst (IsEntryWithin n) (sym is) (record { closed = w.sound; zero_from = w.zero_from })
+entry_is_within n (Broken x) e is w = subst (IsEntryWithin n) (sym is) tt
 
 pub slot_at : (slots : List (Option Form)) (k : ℕ) (x : Option Form) → k < length slots → x ≡ get_or slots k x → get_or slots k None ≡ x
 slot_at [] k x h e = absurd (omega arith)

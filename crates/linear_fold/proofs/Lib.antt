@@ -11,6 +11,7 @@ pub mod Folding
 pub mod FracLemmas
 pub mod Operators
 pub mod OwnerLemmas
+pub mod PartLemmas
 pub mod PlaceLemmas
 pub mod Products
 pub mod ProgramLemmas

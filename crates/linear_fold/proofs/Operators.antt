@@ -1,9 +1,10 @@
 -- What the operators on forms come to.
-use Rattle.std.proofs.Common.{◌≡◌, ℕ, zero, suc, ◌+◌, ◌*◌, ◌<◌, ◌≤◌, ◌∙◌, sym, ap, ap₂, refl, subst, Bool, true, false, ◌&&◌, Option, Some, Result, Ok, Err, IfOk, List, [], ◌∷◌, map, drop, get_or, length, ⊎_elim, arith, add-one, drop-cons, if◌then◌else◌}
+use Rattle.std.proofs.Common.{◌≡◌, ℕ, zero, suc, ◌+◌, ◌*◌, ◌<◌, ◌≤◌, ◌∙◌, sym, ap, ap₂, refl, subst, subst₂, Bool, true, false, ◌&&◌, Option, Some, Result, Ok, Err, IfOk, List, [], ◌∷◌, map, get_or, length, reverse, ⊎_elim, arith, ◌-◌, if◌then◌else◌}
 use Rattle.std.proofs.lemmas.Bool.{cases_lt, and_from, and_parts, false_from_ne_true}
 use Rattle.std.proofs.Math.Nat.{mul-le-mul_left}
 use Rattle.text_base.specs.declared.stop.Stop.{Stop}
 use Rattle.text_base.specs.declared.stop.Stop.TheVariants.{Fault, Memory}
+use Rattle.code_tables.specs.declared.class.OpClass.{OpClass}
 use Rattle.code_tables.specs.declared.class.OpClass.TheVariants.{Sum, Difference, Product, Quotient, Negation, List as SumOfAll}
 use Rattle.fractions.specs.Fits.{fits, sum_fits}
 use Rattle.fractions.specs.Rational.{ℚ, zero_ℚ, one_ℚ, ◌+ℚ◌, ◌*ℚ◌, neg_ℚ, inverse_of}
@@ -14,6 +15,7 @@ use Rattle.nl_meaning.specs.Faults.{line_sum, line_scaled, line_neg, sums_fit, p
 use Rattle.nl_meaning.specs.Lines.{Line, is_zero, is_constant}
 use Rattle.nl_meaning.proofs.LineLemmas.{all_below-true}
 use Rattle.linear_fold.specs.declared.form.Form.{Form}
+use Rattle.linear_fold.specs.declared.parts.Part.{Part}
 use Rattle.linear_fold.specs.declared.operate.Outcome.{Outcome}
 use Rattle.linear_fold.specs.declared.operate.Outcome.TheVariants.{Linear, Refused}
 use Rattle.linear_fold.specs.declared.wide.Wide.{Wide}
@@ -21,17 +23,11 @@ use Rattle.linear_fold.specs.Coefs.{AreAscending}
 use Rattle.linear_fold.specs.Forms.{form_line, form_terms, place_count, IsZeroFrom, HasRoom, HasPlaces, kept_places, ScaledSumFits, AddsScaled}
 use Rattle.linear_fold.specs.declared.form.Kept.{Kept}
 use Rattle.linear_fold.specs.declared.form.Kept.TheVariants.{Closed, Open}
-use Rattle.linear_fold.specs.Operates.{zero_line, IsWithin, AreWithin, AreClosed, AreZeroFrom, SumsTo, ComesTo, Operates}
-use Rattle.exact_numbers.proofs.Bridge.{frac_fits_lem}
+use Rattle.linear_fold.specs.Operates.{zero_line, IsWithin, IsOperand, AreOperands, SumsTo, ComesTo, Operates, part_line}
 use Rattle.linear_fold.proofs.FracLemmas.{fits_zero, sum_fits_zero, zero_sum_fits, fits_neg}
-use Rattle.linear_fold.proofs.Scaled.{same_line, kept_fits, closed_coef, few_terms, all_below-intro}
-
-pub record FitsLine (l : Line) : Type 0 where
-  pub constant : fits l.constant ≡ true
-  pub coefs : (j : ℕ) → fits (l.coef j) ≡ true
-
-pub form_fits : (f : Form) → FitsLine (form_line f)
-form_fits f = record { constant = frac_fits_lem f.constant; coefs = λ j. kept_fits f.kept j }
+pub use Rattle.linear_fold.proofs.PartLemmas.{FitsLine, form_fits}
+use Rattle.linear_fold.proofs.PartLemmas.{part_fits}
+use Rattle.linear_fold.proofs.Scaled.{same_line, closed_coef, few_terms, all_below-intro}
 
 pub neg_fits : (l : Line) → FitsLine l → FitsLine (line_neg l)
 neg_fits l h = record { constant = fits_neg l.constant ∙ h.constant; coefs = λ j. fits_neg (l.coef j) ∙ h.coefs j }
@@ -141,58 +137,49 @@ module _ (z a b : Line) (empty : z ≡ zero_line) (k m x : ℚ) (one : k ≡ one
       added a b m (line_neg b) (scaled_by_minus m x b is_neg x_one) (neg_fits b fb) n za zb new r (subst (λ l. AddsScaled l m b new r) same second)
 
 -- ---- running sums
-pub record Running (n : ℕ) (total : Line) (left all : List Form) : Type 0 where
-  pub line : running_line total (map form_line left) ≡ running_line zero_line (map form_line all)
-  pub fit : running_sums_fit n total (map form_line left) ≡ running_sums_fit n zero_line (map form_line all)
+pub record Running (n : ℕ) (total : Line) (left all : List Part) : Type 0 where
+  pub line : running_line total (map part_line left) ≡ running_line zero_line (map part_line all)
+  pub fit : running_sums_fit n total (map part_line left) ≡ running_sums_fit n zero_line (map part_line all)
   pub zero_from : IsZeroFrom n total
-  pub within : AreWithin n left
+  pub within : AreOperands n left
 
-pub running_init : (n : ℕ) (total : Line) (fs : List Form) → total ≡ zero_line → AreWithin n fs → Running n total fs fs
+pub running_init : (n : ℕ) (total : Line) (fs : List Part) → total ≡ zero_line → AreOperands n fs → Running n total fs fs
 running_init n total fs e w =
     record {
-      line = ap (λ c. running_line c (map form_line fs)) e;
-      fit = ap (λ c. running_sums_fit n c (map form_line fs)) e;
+      line = ap (λ c. running_line c (map part_line fs)) e;
+      fit = ap (λ c. running_sums_fit n c (map part_line fs)) e;
       zero_from = λ j h. ap (λ c. c.coef j) e;
       within = w;
     }
 
-pub next_form : (fs : List Form) (i : ℕ) (x : Form) → i < length fs → x ≡ get_or fs i x → drop i fs ≡ x ∷ drop (i + 1) fs
-next_form fs i x h e = drop-cons fs i x h ∙ ap₂ (λ y k. y ∷ drop k fs) (sym e) (sym (add-one i))
-
-pub none_left : (fs : List Form) (i : ℕ) → length fs ≤ i → drop i fs ≡ []
-none_left [] zero h = refl
-none_left [] (suc i) h = refl
-none_left (f ∷ fs) zero h = absurd (omega arith)
-none_left (f ∷ fs) (suc i) h = none_left fs i (omega arith)
-
-module _ (n : ℕ) (total : Line) (x : Form) (left rest all : List Form) (is : left ≡ x ∷ rest) (r : Running n total left all) (k : ℚ) (one : k ≡ one_ℚ) where
+module _ (n : ℕ) (total : Line) (x : Part) (left rest all : List Part) (is : left ≡ x ∷ rest) (r : Running n total left all) (k : ℚ) (one : k ≡ one_ℚ) where
   opened : Running n total (x ∷ rest) all
   opened = subst (λ l. Running n total l all) is r
 
-  step : (new : Line) (o : Result (Unit {0}) (Stop Wide)) → AddsScaled total k (form_line x) new o → SumsTo (sums_fit n total (form_line x)) (line_sum total (form_line x)) new o
-  step new o h = added total (form_line x) k (form_line x) (scaled_by_one k (form_line x) one) (form_fits x) n opened.zero_from opened.within.0.zero_from new o h
+  step : (new : Line) (o : Result (Unit {0}) (Stop Wide)) → AddsScaled total k (part_line x) new o → SumsTo (sums_fit n total (part_line x)) (line_sum total (part_line x)) new o
+  step new o h = added total (part_line x) k (part_line x) (scaled_by_one k (part_line x) one) (part_fits x) n opened.zero_from opened.within.0.zero_from new o h
 
-  pub here_within : IsWithin n x
+  pub here_within : IsOperand n x
   here_within = opened.within.0
 
-  pub running_more : (new : Line) → ScaledSumFits total k (form_line x) × (new ≡ line_sum total (line_scaled k (form_line x))) → Running n new rest all
+  pub running_more : (new : Line) → ScaledSumFits total k (part_line x) × (new ≡ line_sum total (line_scaled k (part_line x))) → Running n new rest all
   running_more new h =
-      let s = sum_ok total (form_line x) k (form_line x) (scaled_by_one k (form_line x) one) (form_fits x) n opened.zero_from opened.within.0.zero_from new h in
+      let s = sum_ok total (part_line x) k (part_line x) (scaled_by_one k (part_line x) one) (part_fits x) n opened.zero_from opened.within.0.zero_from new h in
       let o = opened in
       record {
-        line = ap (λ c. running_line c (map form_line rest)) s.1 ∙ o.line;
-        fit = ap (λ c. running_sums_fit n c (map form_line rest)) s.1 ∙ ap (λ b. b && running_sums_fit n (line_sum total (form_line x)) (map form_line rest)) (sym s.0) ∙ o.fit;
+        line = ap (λ c. running_line c (map part_line rest)) s.1 ∙ o.line;
+        fit = ap (λ c. running_sums_fit n c (map part_line rest)) s.1 ∙ ap (λ b. b && running_sums_fit n (line_sum total (part_line x)) (map part_line rest)) (sym s.0) ∙ o.fit;
         zero_from = λ j g. ap (λ c. c.coef j) s.1 ∙ ap₂ ◌+ℚ◌ (o.zero_from j g) (o.within.0.zero_from j g) ∙ +ℚ_zero zero_ℚ;
         within = o.within.1;
       }
 
-  pub running_stop : (new other : Line) (stop : Stop Wide) → AddsScaled total k (form_line x) new (Err stop) → SumsTo (running_sums_fit n zero_line (map form_line all)) (running_line zero_line (map form_line all)) other (Err stop)
+  pub running_stop : (new other : Line) (stop : Stop Wide) → AddsScaled total k (part_line x) new (Err stop) → SumsTo (running_sums_fit n zero_line (map part_line all)) (running_line zero_line (map part_line all)) other (Err stop)
   running_stop new other (Fault w) h =
       let o = opened in
-      sym o.fit ∙ ap (λ b. b && running_sums_fit n (line_sum total (form_line x)) (map form_line rest)) (step new (Err (Fault w)) h)
+      sym o.fit ∙ ap (λ b. b && running_sums_fit n (line_sum total (part_line x)) (map part_line rest)) (step new (Err (Fault w)) h)
   running_stop new other Memory h = tt
 
-pub running_end : (n : ℕ) (total : Line) (left all : List Form) → left ≡ [] → Running n total left all → (running_sums_fit n zero_line (map form_line all) ≡ true) × (total ≡ running_line zero_line (map form_line all))
+pub running_end : (n : ℕ) (total : Line) (left all : List Part) → left ≡ [] → Running n total left all → (running_sums_fit n zero_line (map part_line all) ≡ true) × (total ≡ running_line zero_line (map part_line all))
 running_end n total left all is r =
     let o : Running n total [] all = subst (λ l. Running n total l all) is r in
     (sym o.fit, o.line)
@@ -202,7 +189,7 @@ pub if_ok : {T E : Type 0} (r : Result T E) (P Q : T → Type 0) → ((x : T) �
 if_ok (Ok x) P Q f h = f x h
 if_ok (Err e) P Q f h = h
 
-pub difference_comes : (n : ℕ) (a b : Line) (o : Outcome) → ComesTo (sums_fit n a (line_neg b)) (line_sum a (line_neg b)) o → Operates n Difference (a ∷ b ∷ []) o
+pub difference_comes : (n : ℕ) (a b : Line) (o : Outcome) → ComesTo n (sums_fit n a (line_neg b)) (line_sum a (line_neg b)) o → Operates n Difference (a ∷ b ∷ []) o
 difference_comes n a b (Linear f) h = (ap too_wide_unless h.0, h.1, h.2)
 difference_comes n a b (Refused r) h = ap too_wide_unless h.0 ∙ ap Some (sym h.1)
 
@@ -222,7 +209,7 @@ pub fault_second : (p : Bool) (x y : Option Reason) → p ≡ false → (if p th
 fault_second true x y e = cc
 fault_second false x y e = refl
 
-pub product_first : (n : ℕ) (a b : Line) (o : Outcome) (k : ℚ) → k ≡ a.constant → is_constant n a ≡ true → ComesTo (products_fit n k b) (line_scaled k b) o → Operates n Product (a ∷ b ∷ []) o
+pub product_first : (n : ℕ) (a b : Line) (o : Outcome) (k : ℚ) → k ≡ a.constant → is_constant n a ≡ true → ComesTo n (products_fit n k b) (line_scaled k b) o → Operates n Product (a ∷ b ∷ []) o
 product_first n a b (Linear f) k is t h = (
   fault_first _ _ _ t ∙ ap too_wide_unless (ap (λ x. products_fit n x b) (sym is) ∙ h.0),
   h.1 ∙ ap (λ x. line_scaled x b) is ∙ sym (line_first _ _ _ t),
@@ -230,7 +217,7 @@ product_first n a b (Linear f) k is t h = (
 )
 product_first n a b (Refused r) k is t h = fault_first _ _ _ t ∙ ap too_wide_unless (ap (λ x. products_fit n x b) (sym is) ∙ h.0) ∙ ap Some (sym h.1)
 
-pub product_second : (n : ℕ) (a b : Line) (o : Outcome) (k : ℚ) → k ≡ b.constant → is_constant n a ≡ false → is_constant n b ≡ true → ComesTo (products_fit n k a) (line_scaled k a) o → Operates n Product (a ∷ b ∷ []) o
+pub product_second : (n : ℕ) (a b : Line) (o : Outcome) (k : ℚ) → k ≡ b.constant → is_constant n a ≡ false → is_constant n b ≡ true → ComesTo n (products_fit n k a) (line_scaled k a) o → Operates n Product (a ∷ b ∷ []) o
 product_second n a b (Linear f) k is s t h = (
   fault_second _ _ _ s ∙ fault_first _ _ _ t ∙ ap too_wide_unless (ap (λ x. products_fit n x a) (sym is) ∙ h.0),
   h.1 ∙ ap (λ x. line_scaled x a) is ∙ sym (line_second _ _ _ s),
@@ -244,7 +231,7 @@ product_none n a b s t = fault_second _ _ _ s ∙ fault_second _ _ _ t
 pub quotient_zero : (n : ℕ) (a b : Line) → is_constant n b ≡ true → is_zero b.constant ≡ true → operator_fault n Quotient (a ∷ b ∷ []) ≡ Some DivideByZero
 quotient_zero n a b t z = fault_first _ _ _ t ∙ fault_first _ _ _ z
 
-pub quotient_comes : (n : ℕ) (a b : Line) (o : Outcome) (k : ℚ) → k ≡ inverse_of b.constant → is_constant n b ≡ true → is_zero b.constant ≡ false → ComesTo (products_fit n k a) (line_scaled k a) o → Operates n Quotient (a ∷ b ∷ []) o
+pub quotient_comes : (n : ℕ) (a b : Line) (o : Outcome) (k : ℚ) → k ≡ inverse_of b.constant → is_constant n b ≡ true → is_zero b.constant ≡ false → ComesTo n (products_fit n k a) (line_scaled k a) o → Operates n Quotient (a ∷ b ∷ []) o
 quotient_comes n a b (Linear f) k is t z h = (
   fault_first _ _ _ t ∙ fault_second _ _ _ z ∙ ap too_wide_unless (ap (λ x. products_fit n x a) (sym is) ∙ h.0),
   h.1 ∙ ap (λ x. line_scaled x a) is,
@@ -252,7 +239,7 @@ quotient_comes n a b (Linear f) k is t z h = (
 )
 quotient_comes n a b (Refused r) k is t z h = fault_first _ _ _ t ∙ fault_second _ _ _ z ∙ ap too_wide_unless (ap (λ x. products_fit n x a) (sym is) ∙ h.0) ∙ ap Some (sym h.1)
 
-pub negation_comes : (n : ℕ) (a : Line) (o : Outcome) (k : ℚ) → line_scaled k a ≡ line_neg a → FitsLine a → ComesTo (products_fit n k a) (line_scaled k a) o → Operates n Negation (a ∷ []) o
+pub negation_comes : (n : ℕ) (a : Line) (o : Outcome) (k : ℚ) → line_scaled k a ≡ line_neg a → FitsLine a → ComesTo n (products_fit n k a) (line_scaled k a) o → Operates n Negation (a ∷ []) o
 negation_comes n a (Linear f) k is small h = (refl, h.1 ∙ is, h.2)
 negation_comes n a (Refused r) k is small h =
     let parts : FitsLine (line_scaled k a) = subst FitsLine (sym is) (neg_fits a small) in
@@ -267,40 +254,44 @@ zero_sums_fit n a h = and_from _ _ (zero_sum_fits a.constant h.constant) (all_be
 from_first : (n : ℕ) (a : Line) (ls : List Line) → FitsLine a → running_sums_fit n zero_line (a ∷ ls) ≡ running_sums_fit n a ls
 from_first n a ls h = ap₂ (λ b c. b && running_sums_fit n c ls) (zero_sums_fit n a h) (zero_line_sum a)
 
-pub sum_of_all_comes : (n : ℕ) (fs : List Form) (o : Outcome) → 0 < length fs → ComesTo (running_sums_fit n zero_line (map form_line fs)) (running_line zero_line (map form_line fs)) o → Operates n SumOfAll (map form_line fs) o
+pub sum_of_all_comes : (n : ℕ) (fs : List Part) (o : Outcome) → 0 < length fs → ComesTo n (running_sums_fit n zero_line (map part_line fs)) (running_line zero_line (map part_line fs)) o → Operates n SumOfAll (map part_line fs) o
 sum_of_all_comes n [] o some h = absurd (omega arith)
 sum_of_all_comes n (f ∷ fs) (Linear g) some h = (
-  ap too_wide_unless (sym (from_first n (form_line f) (map form_line fs) (form_fits f)) ∙ h.0),
-  h.1 ∙ ap (λ c. running_line c (map form_line fs)) (zero_line_sum (form_line f)),
+  ap too_wide_unless (sym (from_first n (part_line f) (map part_line fs) (part_fits f)) ∙ h.0),
+  h.1 ∙ ap (λ c. running_line c (map part_line fs)) (zero_line_sum (part_line f)),
   h.2,
 )
-sum_of_all_comes n (f ∷ fs) (Refused r) some h = ap too_wide_unless (sym (from_first n (form_line f) (map form_line fs) (form_fits f)) ∙ h.0) ∙ ap Some (sym h.1)
+sum_of_all_comes n (f ∷ fs) (Refused r) some h = ap too_wide_unless (sym (from_first n (part_line f) (map part_line fs) (part_fits f)) ∙ h.0) ∙ ap Some (sym h.1)
 
 and_true_right : (b : Bool) → b && true ≡ b
 and_true_right true = refl
 and_true_right false = refl
 
-pub sum_comes : (n : ℕ) (fs : List Form) (o : Outcome) → length fs ≡ 2 → ComesTo (running_sums_fit n zero_line (map form_line fs)) (running_line zero_line (map form_line fs)) o → Operates n Sum (map form_line fs) o
+pub sum_comes : (n : ℕ) (fs : List Part) (o : Outcome) → length fs ≡ 2 → ComesTo n (running_sums_fit n zero_line (map part_line fs)) (running_line zero_line (map part_line fs)) o → Operates n Sum (map part_line fs) o
 sum_comes n [] o two h = absurd (omega arith)
 sum_comes n (f ∷ []) o two h = absurd (omega arith)
 sum_comes n (f ∷ g ∷ x ∷ fs) o two h = absurd (omega arith)
 sum_comes n (f ∷ g ∷ []) (Linear r) two h = (
-  ap too_wide_unless (sym (and_true_right (sums_fit n (form_line f) (form_line g))) ∙ sym (from_first n (form_line f) (form_line g ∷ []) (form_fits f)) ∙ h.0),
-  h.1 ∙ ap (λ c. line_sum c (form_line g)) (zero_line_sum (form_line f)),
+  ap too_wide_unless (sym (and_true_right (sums_fit n (part_line f) (part_line g))) ∙ sym (from_first n (part_line f) (part_line g ∷ []) (part_fits f)) ∙ h.0),
+  h.1 ∙ ap (λ c. line_sum c (part_line g)) (zero_line_sum (part_line f)),
   h.2,
 )
 sum_comes n (f ∷ g ∷ []) (Refused r) two h =
-    ap too_wide_unless (sym (and_true_right (sums_fit n (form_line f) (form_line g))) ∙ sym (from_first n (form_line f) (form_line g ∷ []) (form_fits f)) ∙ h.0) ∙ ap Some (sym h.1)
+    ap too_wide_unless (sym (and_true_right (sums_fit n (part_line f) (part_line g))) ∙ sym (from_first n (part_line f) (part_line g ∷ []) (part_fits f)) ∙ h.0) ∙ ap Some (sym h.1)
 
 -- ---- steps
-pub times_more : (n i from old new terms : ℕ) → old ≤ from + (n + 1) * i → new ≤ old + terms + 1 → terms ≤ n → new ≤ from + (n + 1) * (i + 1)
-times_more n i from old new terms a b c = omega arith
+pub one_done : (n p total from old new : ℕ) → 0 < p → p ≤ total → old ≤ from + (n + 1) * (total - p) → new ≤ old + (n + 1) → new ≤ from + (n + 1) * (total - (p - 1))
+one_done n p total from old new some within a b =
+    let one : total - (p - 1) ≡ total - p + 1 = omega arith in
+    subst (λ k. new ≤ from + (n + 1) * k) (sym one)
+    (let e : (n + 1) * (total - p + 1) ≡ (n + 1) * (total - p) + (n + 1) = omega arith in
+    omega arith)
 
-pub times_within : (n i m from old new terms : ℕ) → i < m → old ≤ from + (n + 1) * i → new ≤ old + terms + 1 → terms ≤ n → new ≤ from + (n + 1) * m
-times_within n i m from old new terms l a b c =
-    let up : i + 1 ≤ m = omega arith in
-    let most : (n + 1) * (i + 1) ≤ (n + 1) * m = mul-le-mul_left (n + 1) up in
-    let one = times_more n i from old new terms a b c in
+pub done_within : (n p total from old new : ℕ) → 0 < p → p ≤ total → old ≤ from + (n + 1) * (total - p) → new ≤ old + (n + 1) → new ≤ from + (n + 1) * total
+done_within n p total from old new some within a b =
+    let h = one_done n p total from old new some within a b in
+    let less : total - (p - 1) ≤ total = omega arith in
+    let most : (n + 1) * (total - (p - 1)) ≤ (n + 1) * total = mul-le-mul_left (n + 1) less in
     omega arith
 
 pub copy_fits : (n : ℕ) (k : ℚ) (a : Line) → k ≡ one_ℚ → FitsLine a → products_fit n k a ≡ true
@@ -308,17 +299,23 @@ copy_fits n k a e small =
     let parts : FitsLine (line_scaled k a) = subst FitsLine (sym (scaled_by_one k a e)) small in
     and_from _ _ parts.constant (all_below-intro (λ j. fits (k *ℚ a.coef j)) n (λ j p. parts.coefs j))
 
--- ---- the forms of many
-pub closed_of : (n : ℕ) (fs : List Form) → AreWithin n fs → AreClosed fs
-closed_of n [] w = tt
-closed_of n (f ∷ fs) w = (w.0.closed, closed_of n fs w.1)
-
-pub zero_of : (n : ℕ) (fs : List Form) → AreWithin n fs → AreZeroFrom n fs
-zero_of n [] w = tt
-zero_of n (f ∷ fs) w = (w.0.zero_from, zero_of n fs w.1)
-
-pub pair_of : (fs : List Form) (a b : Form) → length fs ≡ 2 → a ≡ get_or fs 0 a → b ≡ get_or fs 1 b → fs ≡ a ∷ b ∷ []
+-- ---- two operands, the first of them last
+pub pair_of : (ps : List Part) (a b : Part) → length ps ≡ 2 → a ≡ get_or ps 1 a → b ≡ get_or ps 0 b → reverse ps ≡ a ∷ b ∷ []
 pair_of [] a b two e f = absurd (omega arith)
 pair_of (x ∷ []) a b two e f = absurd (omega arith)
-pair_of (x ∷ y ∷ z ∷ fs) a b two e f = absurd (omega arith)
+pair_of (x ∷ y ∷ z ∷ ps) a b two e f = absurd (omega arith)
 pair_of (x ∷ y ∷ []) a b two e f = ap₂ (λ p q. p ∷ q ∷ []) (sym e) (sym f)
+
+pub single_of : (ps : List Part) (a : Part) → length ps ≡ 1 → a ≡ get_or ps 0 a → reverse ps ≡ a ∷ []
+single_of [] a one e = absurd (omega arith)
+single_of (x ∷ y ∷ ps) a one e = absurd (omega arith)
+single_of (x ∷ []) a one e = ap (λ p. p ∷ []) (sym e)
+
+pub two_within : (n : ℕ) (ps : List Part) (a b : Part) → ps ≡ a ∷ b ∷ [] → AreOperands n ps → IsOperand n a × IsOperand n b
+two_within n ps a b e w = let h = subst (AreOperands n) e w in (h.0, h.1.0)
+
+pub one_within : (n : ℕ) (ps : List Part) (a : Part) → ps ≡ a ∷ [] → AreOperands n ps → IsOperand n a
+one_within n ps a e w = (subst (AreOperands n) e w).0
+
+pub as_operands : (n : ℕ) (c d : OpClass) (ps qs : List Part) (o : Outcome) → c ≡ d → ps ≡ qs → Operates n d (map part_line qs) o → Operates n c (map part_line ps) o
+as_operands n c d ps qs o e f h = subst₂ (λ k rs. Operates n k (map part_line rs) o) (sym e) (sym f) h

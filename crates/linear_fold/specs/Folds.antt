@@ -12,13 +12,19 @@ use Rattle.nl_model.specs.declared.node.Node.{Node}
 use Rattle.nl_model.specs.declared.node.Node.TheVariants.{Num, Var, Defined, Op}
 use Rattle.linear_fold.specs.declared.entries.Entry.{Entry}
 use Rattle.linear_fold.specs.declared.entries.Entry.TheVariants.{Linear, Broken}
+use Rattle.linear_fold.specs.declared.parts.Part.{Part}
+use Rattle.linear_fold.specs.declared.parts.Part.TheVariants.{Number as Constant, Variable as Multiple, Linear as Whole, Broken as Faulty}
 use Rattle.linear_fold.specs.declared.form.Form.{Form}
 use Rattle.linear_fold.specs.Forms.{form_line, is_open}
-use Rattle.linear_fold.specs.Operates.{IsWithin}
+use Rattle.linear_fold.specs.Operates.{IsOperand, IsWithin, lines_of_parts, part_line}
 
--- the value of f at each point is that of the line of a form of n variables
+-- the value of f at each point is that of a line of n variables
+abbrev pub HasLine : ℕ → (Point → Option ℚ) → Line → Type 0
+HasLine n f l = (at : Point) → f at ≡ Some (line_value n l at)
+
+-- the same of the line of a form
 abbrev pub HasLineOf : ℕ → (Point → Option ℚ) → Form → Type 0
-HasLineOf n f form = (at : Point) → f at ≡ Some (line_value n (form_line form) at)
+HasLineOf n f form = HasLine n f (form_line form)
 
 -- the defined variables that have forms, by their index less n, have their values
 abbrev pub AreKnown : ℕ → (Point → Known) → List (Option Form) → Type 0
@@ -41,12 +47,24 @@ IsFolded known n i t (Linear form) =
     (tree_fault known n i t ≡ None) × HasLineOf n (λ at. tree_value (known at) at t) form
 IsFolded known n i t (Broken fault) = tree_fault known n i t ≡ Some fault
 
-abbrev pub AreFolded : (Point → Known) → ℕ → ℕ → List Tree → List Entry → Type 0
-AreFolded known n i [] [] = Unit {0}
-AreFolded known n i [] (e ∷ es) = ⊥
-AreFolded known n i (t ∷ ts) [] = ⊥
-AreFolded known n i (t ∷ ts) (e ∷ es) =
-    IsFolded known n i t e × AreFolded known n (i + tree_size t) ts es
+-- a tree whose first node has the number i has a line and no fault
+abbrev pub IsLined : (Point → Known) → ℕ → ℕ → Tree → Line → Type 0
+IsLined known n i t l =
+    (tree_fault known n i t ≡ None) × HasLine n (λ at. tree_value (known at) at t) l
+
+-- what a part of a tree comes to
+abbrev pub IsPartFolded : (Point → Known) → ℕ → ℕ → Tree → Part → Type 0
+IsPartFolded known n i t (Constant k) = IsLined known n i t (part_line (Constant k))
+IsPartFolded known n i t (Multiple j k) = IsLined known n i t (part_line (Multiple j k))
+IsPartFolded known n i t (Whole f) = IsLined known n i t (form_line f)
+IsPartFolded known n i t (Faulty x) = tree_fault known n i t ≡ Some x
+
+abbrev pub ArePartsFolded : (Point → Known) → ℕ → ℕ → List Tree → List Part → Type 0
+ArePartsFolded known n i [] [] = Unit {0}
+ArePartsFolded known n i [] (p ∷ ps) = ⊥
+ArePartsFolded known n i (t ∷ ts) [] = ⊥
+ArePartsFolded known n i (t ∷ ts) (p ∷ ps) =
+    IsPartFolded known n i t p × ArePartsFolded known n (i + tree_size t) ts ps
 
 -- the result for a tree with its terms
 abbrev pub IsExpressionFolded : (Point → Known) → ℕ → Expression → Entry → Type 0
@@ -54,38 +72,57 @@ IsExpressionFolded known n x (Linear form) =
     (expression_fault known n x ≡ None) × HasLineOf n (λ at. expression_value (known at) at x) form
 IsExpressionFolded known n x (Broken fault) = expression_fault known n x ≡ Some fault
 
--- the forms among entries, and the first fault among them
-abbrev pub forms_of : List Entry → List Form
-forms_of [] = []
-forms_of (Linear form ∷ es) = form ∷ forms_of es
-forms_of (Broken fault ∷ es) = forms_of es
-
-abbrev pub first_broken : List Entry → Option Fault
+-- the first fault among parts
+abbrev pub first_broken : List Part → Option Fault
 first_broken [] = None
-first_broken (Linear form ∷ es) = first_broken es
-first_broken (Broken fault ∷ es) = Some fault
+first_broken (Constant k ∷ ps) = first_broken ps
+first_broken (Multiple j k ∷ ps) = first_broken ps
+first_broken (Whole f ∷ ps) = first_broken ps
+first_broken (Faulty x ∷ ps) = Some x
+
+-- a fault, or a part of n variables
+abbrev pub IsPartWithin : ℕ → Part → Type 0
+IsPartWithin n (Constant k) = IsOperand n (Constant k)
+IsPartWithin n (Multiple j k) = IsOperand n (Multiple j k)
+IsPartWithin n (Whole f) = IsOperand n (Whole f)
+IsPartWithin n (Faulty x) = Unit {0}
+
+abbrev pub ArePartsWithin : ℕ → List Part → Type 0
+ArePartsWithin n [] = Unit {0}
+ArePartsWithin n (p ∷ ps) = IsPartWithin n p × ArePartsWithin n ps
+
+-- the closed form of a line
+abbrev pub IsClosedForm : Line → Entry → Type 0
+IsClosedForm l (Linear f) = (form_line f ≡ l) × (is_open f ≡ false)
+IsClosedForm l (Broken x) = ⊥
+
+-- a whole tree's part as a form, or its fault
+abbrev pub IsEntryOf : Part → Entry → Type 0
+IsEntryOf (Constant k) e = IsClosedForm (part_line (Constant k)) e
+IsEntryOf (Multiple j k) e = IsClosedForm (part_line (Multiple j k)) e
+IsEntryOf (Whole f) e = e ≡ Linear f
+IsEntryOf (Faulty x) e = e ≡ Broken x
 
 -- the form of an entry is closed and of n variables
 abbrev pub IsEntryWithin : ℕ → Entry → Type 0
 IsEntryWithin n (Linear form) = IsWithin n form
 IsEntryWithin n (Broken fault) = Unit {0}
 
--- forms for trees, one each
-abbrev pub AreLinesOf : (Point → Known) → ℕ → Trees → List Form → Type 0
+-- lines for trees, one each
+abbrev pub AreLinesOf : (Point → Known) → ℕ → Trees → List Line → Type 0
 AreLinesOf known n none [] = Unit {0}
-AreLinesOf known n none (f ∷ fs) = ⊥
+AreLinesOf known n none (l ∷ ls) = ⊥
 AreLinesOf known n (more t ts) [] = ⊥
-AreLinesOf known n (more t ts) (f ∷ fs) =
-    HasLineOf n (λ at. tree_value (known at) at t) f × AreLinesOf known n ts fs
+AreLinesOf known n (more t ts) (l ∷ ls) =
+    HasLine n (λ at. tree_value (known at) at t) l × AreLinesOf known n ts ls
 
--- the first fault of the operands, or their forms; the first node has the number i
-pub record AreOperands (known : Point → Known) (n i : ℕ) (ts : Trees) (forms : List Form)
-    (broken : Option Fault) : Type 0 where
-  pub fault : broken ≡ trees_fault known n i ts
-  pub lines : broken ≡ None → AreLinesOf known n ts forms
+-- operands have the first fault of their trees, or their lines; the first node has the number i
+pub record AreOperandsOf (known : Point → Known) (n i : ℕ) (ts : Trees) (ps : List Part) : Type 0 where
+  pub fault : first_broken ps ≡ trees_fault known n i ts
+  pub lines : first_broken ps ≡ None → AreLinesOf known n ts (lines_of_parts ps)
 
 -- a variable is one of n, a defined variable has a form, and an operator finds its operands among
--- so many entries
+-- so many parts
 abbrev pub NodeFinds : ℕ → List (Option Form) → ℕ → Node → Type 0
 NodeFinds n slots room (Num d) = Unit {0}
 NodeFinds n slots room (Var j) = j < n

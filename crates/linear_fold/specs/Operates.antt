@@ -1,16 +1,18 @@
--- What an operator makes of forms.
-use Rattle.std.specs.Prelude.{◌≡◌, ℕ, Bool, true, false, List, [], ◌∷◌, map, Option, Some, None, Result, Ok, Err}
+-- The parts of a tree, and what an operator makes of them.
+use Rattle.std.specs.Prelude.{◌≡◌, ℕ, ◌<◌, Bool, true, false, List, [], ◌∷◌, map, Option, Some, None, Result, Ok, Err}
 use Rattle.text_base.specs.declared.stop.Stop.{Stop}
 use Rattle.text_base.specs.declared.stop.Stop.TheVariants.{Fault, Memory}
 use Rattle.code_tables.specs.declared.class.OpClass.{OpClass}
-use Rattle.fractions.specs.Rational.{zero_ℚ}
+use Rattle.fractions.specs.Rational.{ℚ, zero_ℚ}
 use Rattle.nl_meaning.specs.declared.Reason.TheVariants.{TooWide}
-use Rattle.nl_meaning.specs.Faults.{constant_line, operator_fault, operator_line}
+use Rattle.nl_meaning.specs.Faults.{constant_line, line_with, operator_fault, operator_line}
 use Rattle.nl_meaning.specs.Lines.{Line, are_constant, constants_of}
 use Rattle.nl_meaning.specs.Trees.{on_values}
 use Rattle.exact_numbers.specs.declared.frac.Frac.{Frac}
 use Rattle.exact_numbers.specs.Values.{frac_value}
 use Rattle.linear_fold.specs.declared.form.Form.{Form}
+use Rattle.linear_fold.specs.declared.parts.Part.{Part}
+use Rattle.linear_fold.specs.declared.parts.Part.TheVariants.{Number, Variable, Linear as Whole, Broken}
 use Rattle.linear_fold.specs.declared.operate.Outcome.{Outcome}
 use Rattle.linear_fold.specs.declared.operate.Outcome.TheVariants.{Linear, Refused}
 use Rattle.linear_fold.specs.declared.wide.Wide.{Wide}
@@ -34,24 +36,53 @@ pub record IsWithin (n : ℕ) (f : Form) : Type 0 where
   pub closed : is_open f ≡ false
   pub zero_from : IsZeroFrom n (form_line f)
 
-abbrev pub AreWithin : ℕ → List Form → Type 0
-AreWithin n [] = Unit {0}
-AreWithin n (f ∷ fs) = IsWithin n f × AreWithin n fs
+-- k times variable j
+abbrev pub multiple_line : ℕ → ℚ → Line
+multiple_line j k = line_with zero_line j k
 
-abbrev pub AreClosed : List Form → Type 0
+-- the line of a part; a fault has none
+abbrev pub part_line : Part → Line
+part_line (Number k) = constant_line (frac_value k)
+part_line (Variable j k) = multiple_line j (frac_value k)
+part_line (Whole f) = form_line f
+part_line (Broken x) = zero_line
+
+abbrev pub lines_of_parts : List Part → List Line
+lines_of_parts ps = map part_line ps
+
+-- no fault, and no open form
+abbrev pub IsClosed : Part → Type 0
+IsClosed (Number k) = Unit {0}
+IsClosed (Variable j k) = Unit {0}
+IsClosed (Whole f) = is_open f ≡ false
+IsClosed (Broken x) = ⊥
+
+abbrev pub AreClosed : List Part → Type 0
 AreClosed [] = Unit {0}
-AreClosed (f ∷ fs) = (is_open f ≡ false) × AreClosed fs
+AreClosed (p ∷ ps) = IsClosed p × AreClosed ps
 
-abbrev pub AreZeroFrom : ℕ → List Form → Type 0
-AreZeroFrom n [] = Unit {0}
-AreZeroFrom n (f ∷ fs) = IsZeroFrom n (form_line f) × AreZeroFrom n fs
+-- the same, and a variable is one of the first n
+abbrev pub IsSound : ℕ → Part → Type 0
+IsSound n (Number k) = Unit {0}
+IsSound n (Variable j k) = j < n
+IsSound n (Whole f) = is_open f ≡ false
+IsSound n (Broken x) = ⊥
 
--- what a class makes of the constants of constant forms; none where one is not constant
-abbrev pub IsValueOf : ℕ → OpClass → List Form → Option Frac → Type 0
-IsValueOf n c fs None = are_constant n (map form_line fs) ≡ false
-IsValueOf n c fs (Some v) =
-    (are_constant n (map form_line fs) ≡ true)
-    × (on_values c (constants_of (map form_line fs)) ≡ Some (frac_value v))
+-- such a part without coefficients from n on
+pub record IsOperand (n : ℕ) (p : Part) : Type 0 where
+  pub sound : IsSound n p
+  pub zero_from : IsZeroFrom n (part_line p)
+
+abbrev pub AreOperands : ℕ → List Part → Type 0
+AreOperands n [] = Unit {0}
+AreOperands n (p ∷ ps) = IsOperand n p × AreOperands n ps
+
+-- what a class makes of the constants of constant parts; none where one is not constant
+abbrev pub IsValueOf : ℕ → OpClass → List Part → Option Frac → Type 0
+IsValueOf n c ps None = are_constant n (lines_of_parts ps) ≡ false
+IsValueOf n c ps (Some v) =
+    (are_constant n (lines_of_parts ps) ≡ true)
+    × (on_values c (constants_of (lines_of_parts ps)) ≡ Some (frac_value v))
 
 -- a sum that fits exactly where a test says so
 abbrev pub SumsTo : Bool → Line → Line → Result (Unit {0}) (Stop Wide) → Type 0
@@ -59,16 +90,13 @@ SumsTo fit sum new (Ok u) = (fit ≡ true) × (new ≡ sum)
 SumsTo fit sum new (Err (Fault w)) = fit ≡ false
 SumsTo fit sum new (Err Memory) = Unit {0}
 
--- the closed form of a line, or too wide, by a test whether it fits
-abbrev pub ComesTo : Bool → Line → Outcome → Type 0
-ComesTo fit sum (Linear f) = (fit ≡ true) × (form_line f ≡ sum) × (is_open f ≡ false)
-ComesTo fit sum (Refused r) = (fit ≡ false) × (r ≡ TooWide)
+-- a part of n variables with a line, or too wide, by a test whether it fits
+abbrev pub ComesTo : ℕ → Bool → Line → Outcome → Type 0
+ComesTo n fit sum (Linear p) = (fit ≡ true) × (part_line p ≡ sum) × IsSound n p
+ComesTo n fit sum (Refused r) = (fit ≡ false) × (r ≡ TooWide)
 
 -- an operator over lines of n variables comes to its line or its fault
 abbrev pub Operates : ℕ → OpClass → List Line → Outcome → Type 0
-Operates n c ls (Linear f) =
-    (operator_fault n c ls ≡ None) × (form_line f ≡ operator_line n c ls) × (is_open f ≡ false)
+Operates n c ls (Linear p) =
+    (operator_fault n c ls ≡ None) × (part_line p ≡ operator_line n c ls) × IsSound n p
 Operates n c ls (Refused r) = operator_fault n c ls ≡ Some r
-
-abbrev pub lines_of_forms : List Form → List Line
-lines_of_forms fs = map form_line fs

@@ -1,34 +1,17 @@
 // The operators that want constants.
-ghost use Rattle.std.specs.Prelude.{◌≡◌, ℕ, ◌+◌, ◌<◌, ◌^◌, pos, negsuc, [], ◌∷◌, false, true, length, unsigned_abs, is_some, IfSome, MatchOption};
+ghost use Rattle.std.specs.Prelude.{◌≡◌, ℕ, ◌+◌, ◌<◌, ◌^◌, pos, negsuc, [], ◌∷◌, false, true, length, reverse, unsigned_abs, MatchOption};
 ghost use Rattle.code_tables.specs.declared.class.OpClass.TheVariants.{Absolute, Ceiling, Floor, Greatest, Least, Power};
 ghost use Rattle.exact_numbers.specs.Values.{frac_value};
 ghost use Rattle.fractions.specs.Fits.{fits};
 ghost use Rattle.fractions.specs.Functions.{absolute_of as absolute_in, exponent_of as exponent_in, floor_of as floor_in, greater_of, lesser_of, power_of as power_in};
 ghost use Rattle.fractions.specs.Rational.{whole as whole_number};
-ghost use Rattle.nl_meaning.specs.Lines.{is_constant};
-ghost use Rattle.linear_fold.specs.Forms.{IsZeroFrom, form_line, is_open};
-ghost use Rattle.linear_fold.specs.Operates.{AreClosed, AreZeroFrom, IsValueOf, Operates, lines_of_forms};
+ghost use Rattle.linear_fold.specs.Operates.{AreClosed, AreOperands, IsClosed, IsOperand, IsValueOf, Operates, lines_of_parts, part_line};
 
-use crate::form::Form;
 use crate::operate::Outcome;
+use crate::parts::Part;
 use exact_numbers::Frac;
 use nl_meaning::Reason;
-use std::alloc::Global;
 use std::cmp::Ordering;
-
-// The value of a constant form.
-fn constant_of(form: &Form) -> Option<Frac>
-    requires { is_open form.now ≡ false }
-    ensures value { IfSome result (λ f. frac_value f ≡ (form_line form.now).constant) }
-    ensures test { (n : ℕ) → IsZeroFrom n (form_line form.now)
-        → is_some result ≡ is_constant n (form_line form.now) }
-{
-    if form.is_constant() {
-        Some(form.constant())
-    } else {
-        None
-    }
-}
 
 // The value of an exponent that is whole and from 0 to 127.
 fn exponent_of(x: Frac) -> Option<u32>
@@ -56,23 +39,23 @@ fn power_of(x: Frac, n: u32) -> Option<Frac>
     Some(power)
 }
 
-pub(crate) fn power(alloc: Global, a: &Form, b: &Form) -> Outcome
-    requires first { is_open a.now ≡ false }
-    requires second { is_open b.now ≡ false }
-    ensures { (n : ℕ) → IsZeroFrom n (form_line a.now) → IsZeroFrom n (form_line b.now)
-        → Operates n Power (form_line a.now ∷ form_line b.now ∷ []) result }
+pub(crate) fn power(a: &Part, b: &Part) -> Outcome
+    requires first { IsClosed a.now }
+    requires second { IsClosed b.now }
+    ensures { (n : ℕ) → IsOperand n a.now → IsOperand n b.now
+        → Operates n Power (part_line a.now ∷ part_line b.now ∷ []) result }
 {
-    let Some(base) = constant_of(a) else {
+    let Some(base) = a.constant() else {
         return Outcome::Refused(Reason::Nonlinear);
     };
-    let Some(exponent) = constant_of(b) else {
+    let Some(exponent) = b.constant() else {
         return Outcome::Refused(Reason::Nonlinear);
     };
     let Some(times) = exponent_of(exponent) else {
         return Outcome::Refused(Reason::RefusedPower);
     };
     match power_of(base, times) {
-        Some(value) => Outcome::Linear(Form::of_constant(alloc, value)),
+        Some(value) => Outcome::Linear(Part::Number(value)),
         None => Outcome::Refused(Reason::TooWide),
     }
 }
@@ -96,16 +79,17 @@ fn greater(a: Frac, b: Frac) -> Frac
 }
 
 // The least of constant forms; none where one is not constant.
-fn least_value(operands: &[Form]) -> Option<Frac>
+fn least_value(operands: &[Part]) -> Option<Frac>
     requires some { 0 < length operands.now }
-    requires closed { AreClosed operands.now }
-    ensures { (n : ℕ) → AreZeroFrom n operands.now → IsValueOf n Least operands.now result }
+    requires closed { AreClosed (reverse operands.now) }
+    ensures { (n : ℕ) → AreOperands n (reverse operands.now) → IsValueOf n Least (reverse operands.now) result }
 {
-    let Some(mut least) = constant_of(&operands[0]) else {
+    let last = operands.len() - 1;
+    let Some(mut least) = operands[last].constant() else {
         return None;
     };
-    for operand in operands {
-        let Some(value) = constant_of(operand) else {
+    for place in (0..operands.len()).rev() {
+        let Some(value) = operands[place].constant() else {
             return None;
         };
         least = lesser(least, value);
@@ -114,16 +98,17 @@ fn least_value(operands: &[Form]) -> Option<Frac>
 }
 
 // The greatest of constant forms; none where one is not constant.
-fn greatest_value(operands: &[Form]) -> Option<Frac>
+fn greatest_value(operands: &[Part]) -> Option<Frac>
     requires some { 0 < length operands.now }
-    requires closed { AreClosed operands.now }
-    ensures { (n : ℕ) → AreZeroFrom n operands.now → IsValueOf n Greatest operands.now result }
+    requires closed { AreClosed (reverse operands.now) }
+    ensures { (n : ℕ) → AreOperands n (reverse operands.now) → IsValueOf n Greatest (reverse operands.now) result }
 {
-    let Some(mut greatest) = constant_of(&operands[0]) else {
+    let last = operands.len() - 1;
+    let Some(mut greatest) = operands[last].constant() else {
         return None;
     };
-    for operand in operands {
-        let Some(value) = constant_of(operand) else {
+    for place in (0..operands.len()).rev() {
+        let Some(value) = operands[place].constant() else {
             return None;
         };
         greatest = greater(greatest, value);
@@ -131,26 +116,26 @@ fn greatest_value(operands: &[Form]) -> Option<Frac>
     Some(greatest)
 }
 
-pub(crate) fn least(alloc: Global, operands: &[Form]) -> Outcome
+pub(crate) fn least(operands: &[Part]) -> Outcome
     requires some { 0 < length operands.now }
-    requires closed { AreClosed operands.now }
-    ensures { (n : ℕ) → AreZeroFrom n operands.now
-        → Operates n Least (lines_of_forms operands.now) result }
+    requires closed { AreClosed (reverse operands.now) }
+    ensures { (n : ℕ) → AreOperands n (reverse operands.now)
+        → Operates n Least (lines_of_parts (reverse operands.now)) result }
 {
     match least_value(operands) {
-        Some(value) => Outcome::Linear(Form::of_constant(alloc, value)),
+        Some(value) => Outcome::Linear(Part::Number(value)),
         None => Outcome::Refused(Reason::Nonlinear),
     }
 }
 
-pub(crate) fn greatest(alloc: Global, operands: &[Form]) -> Outcome
+pub(crate) fn greatest(operands: &[Part]) -> Outcome
     requires some { 0 < length operands.now }
-    requires closed { AreClosed operands.now }
-    ensures { (n : ℕ) → AreZeroFrom n operands.now
-        → Operates n Greatest (lines_of_forms operands.now) result }
+    requires closed { AreClosed (reverse operands.now) }
+    ensures { (n : ℕ) → AreOperands n (reverse operands.now)
+        → Operates n Greatest (lines_of_parts (reverse operands.now)) result }
 {
     match greatest_value(operands) {
-        Some(value) => Outcome::Linear(Form::of_constant(alloc, value)),
+        Some(value) => Outcome::Linear(Part::Number(value)),
         None => Outcome::Refused(Reason::Nonlinear),
     }
 }
@@ -208,26 +193,26 @@ fn floor_of(x: Frac) -> Frac
     whole_above(size / denominator)
 }
 
-pub(crate) fn floor(alloc: Global, a: &Form) -> Outcome
-    requires { is_open a.now ≡ false }
-    ensures { (n : ℕ) → IsZeroFrom n (form_line a.now)
-        → Operates n Floor (form_line a.now ∷ []) result }
+pub(crate) fn floor(a: &Part) -> Outcome
+    requires { IsClosed a.now }
+    ensures { (n : ℕ) → IsOperand n a.now
+        → Operates n Floor (part_line a.now ∷ []) result }
 {
-    match constant_of(a) {
-        Some(value) => Outcome::Linear(Form::of_constant(alloc, floor_of(value))),
+    match a.constant() {
+        Some(value) => Outcome::Linear(Part::Number(floor_of(value))),
         None => Outcome::Refused(Reason::Nonlinear),
     }
 }
 
-pub(crate) fn ceiling(alloc: Global, a: &Form) -> Outcome
-    requires { is_open a.now ≡ false }
-    ensures { (n : ℕ) → IsZeroFrom n (form_line a.now)
-        → Operates n Ceiling (form_line a.now ∷ []) result }
+pub(crate) fn ceiling(a: &Part) -> Outcome
+    requires { IsClosed a.now }
+    ensures { (n : ℕ) → IsOperand n a.now
+        → Operates n Ceiling (part_line a.now ∷ []) result }
 {
-    match constant_of(a) {
+    match a.constant() {
         Some(value) => {
             let ceiling = floor_of(value.neg()).neg();
-            Outcome::Linear(Form::of_constant(alloc, ceiling))
+            Outcome::Linear(Part::Number(ceiling))
         }
         None => Outcome::Refused(Reason::Nonlinear),
     }
@@ -243,13 +228,13 @@ fn absolute_of(x: Frac) -> Frac
     x
 }
 
-pub(crate) fn absolute(alloc: Global, a: &Form) -> Outcome
-    requires { is_open a.now ≡ false }
-    ensures { (n : ℕ) → IsZeroFrom n (form_line a.now)
-        → Operates n Absolute (form_line a.now ∷ []) result }
+pub(crate) fn absolute(a: &Part) -> Outcome
+    requires { IsClosed a.now }
+    ensures { (n : ℕ) → IsOperand n a.now
+        → Operates n Absolute (part_line a.now ∷ []) result }
 {
-    match constant_of(a) {
-        Some(value) => Outcome::Linear(Form::of_constant(alloc, absolute_of(value))),
+    match a.constant() {
+        Some(value) => Outcome::Linear(Part::Number(absolute_of(value))),
         None => Outcome::Refused(Reason::Nonlinear),
     }
 }

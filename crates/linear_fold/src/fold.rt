@@ -1,14 +1,15 @@
 // Trees folded to forms, from the last node to the first.
-ghost use Rattle.std.specs.Prelude.{◌≡◌, ℕ, ◌+◌, ◌*◌, ◌<◌, ◌≤◌, None, List, [], ◌∷◌, IfOk, OnOk, length, reverse, vec_len};
+ghost use Rattle.std.specs.Prelude.{◌≡◌, ℕ, ◌+◌, ◌*◌, ◌<◌, ◌≤◌, List, [], ◌∷◌, IfOk, OnOk, length, reverse, vec_len};
 ghost use Rattle.nl_meaning.specs.Trees.{HasCount, Known, Point, Tree, Trees, defined, number, operator, variable};
 ghost use Rattle.nl_model.specs.Nodes.{AreNodesFormed, trees_of, with_node};
-ghost use Rattle.linear_fold.specs.Folds.{AreFolded, AreKnown, AreNodesWithin, AreOperands, AreSlotsWithin, IsEntryWithin, IsFolded, IsGiven, NodeFinds, forms_of};
+ghost use Rattle.linear_fold.specs.Folds.{AreKnown, AreNodesWithin, AreOperandsOf, ArePartsFolded, ArePartsWithin, AreSlotsWithin, IsEntryWithin, IsFolded, IsGiven, IsPartFolded, IsPartWithin, NodeFinds};
 ghost use Rattle.linear_fold.specs.Forms.{place_count};
-ghost use Rattle.linear_fold.specs.Operates.{AreWithin, IsBlank, StaysBlank};
+ghost use Rattle.linear_fold.specs.Operates.{IsBlank, StaysBlank};
 
-use crate::entries::{Entry, Operands, take_operands};
+use crate::entries::Entry;
 use crate::form::Form;
 use crate::operate::{self, Outcome};
+use crate::parts::{Part, first_fault};
 use code_tables::{OpClass, class_of};
 use exact_numbers::{Dec, Frac};
 use nl_meaning::{Fault, Reason};
@@ -16,130 +17,126 @@ use nl_model::Node;
 use std::alloc::{AllocError, Global};
 use text_base::{Ledger, Steps};
 
-fn number_entry(alloc: Global, value: Dec, place: usize) -> Entry
-    ensures entry { (n : ℕ) (known : Point → Known)
-        → IsFolded known n place (number value.m value.e) result }
-    ensures within { (n : ℕ) → IsEntryWithin n result }
+fn number_part(value: Dec, place: usize) -> Part
+    ensures part { (n : ℕ) (known : Point → Known)
+        → IsPartFolded known n place (number value.m value.e) result }
+    ensures within { (n : ℕ) → IsPartWithin n result }
 {
     match Frac::of_dec(value) {
-        Some(constant) => Entry::Linear(Form::of_constant(alloc, constant)),
-        None => Entry::Broken(Fault {
+        Some(constant) => Part::Number(constant),
+        None => Part::Broken(Fault {
             place,
             reason: Reason::TooWide,
         }),
     }
 }
 
-fn variable_entry(alloc: Global, index: u32) -> Result<Entry, AllocError>
-    ensures entry { IfOk result
-        (λ e. (n i : ℕ) (known : Point → Known) → index < n
-        → IsFolded known n i (variable index) e) }
-    ensures within { IfOk result (λ e. (n : ℕ) → index < n → IsEntryWithin n e) }
+fn variable_part(index: u32) -> Part
+    ensures part { (n i : ℕ) (known : Point → Known) → index < n
+        → IsPartFolded known n i (variable index) result }
+    ensures within { (n : ℕ) → index < n → IsPartWithin n result }
 {
-    let form = Form::of_variable(alloc, index)?;
-    Ok(Entry::Linear(form))
+    Part::Variable(index, Frac::one())
 }
 
 // A copy of the form of a defined variable.
-fn defined_entry(
+fn defined_part(
     alloc: Global,
     slots: &[Option<Form>],
     index: u32,
     variables: u32,
-) -> Result<Entry, AllocError>
+) -> Result<Part, AllocError>
     requires given { IsGiven variables slots.now index }
     requires slots { AreSlotsWithin variables slots.now }
-    ensures entry { IfOk result
-        (λ e. (i : ℕ) (known : Point → Known) → AreKnown variables known slots.now
-        → IsFolded known variables i (defined index) e) }
-    ensures within { IfOk result (λ e. IsEntryWithin variables e) }
+    ensures part { IfOk result
+        (λ p. (i : ℕ) (known : Point → Known) → AreKnown variables known slots.now
+        → IsPartFolded known variables i (defined index) p) }
+    ensures within { IfOk result (λ p. IsPartWithin variables p) }
 {
     match &slots[(index - variables) as usize] {
         Some(form) => {
             let copy = form.copied(alloc)?;
-            Ok(Entry::Linear(copy))
+            Ok(Part::Linear(copy))
         }
         None => unreachable!(),
     }
 }
 
-fn operation_entry<L: Ledger>(
+// What an operator comes to; its first operand is the last of the list.
+fn operation_part<L: Ledger>(
     alloc: Global,
     class: OpClass,
-    operands: &Operands,
+    operands: &[Part],
     place: usize,
     total: &mut Form,
     steps: &mut Steps<L>,
     variables: u32,
-) -> Result<Entry, AllocError>
-    requires count { operands.now.broken ≡ None → HasCount class (length operands.now.forms.items) }
-    requires within { AreWithin variables operands.now.forms.items }
+) -> Result<Part, AllocError>
+    requires count { HasCount class (length operands.now) }
+    requires within { ArePartsWithin variables (reverse operands.now) }
     requires places { place_count total.old ≡ variables }
     requires blank { IsBlank total.old }
     ensures blank { OnOk result (StaysBlank total.old total.new) }
-    ensures entry { IfOk result
-        (λ e. (known : Point → Known) (ts : Trees)
-        → AreOperands known variables (place + 1) ts operands.now.forms.items operands.now.broken
-        → IsFolded known variables place (operator class ts) e) }
-    ensures within { IfOk result (λ e. IsEntryWithin variables e) }
+    ensures part { IfOk result
+        (λ p. (known : Point → Known) (ts : Trees)
+        → AreOperandsOf known variables (place + 1) ts (reverse operands.now)
+        → IsPartFolded known variables place (operator class ts) p) }
+    ensures within { IfOk result (λ p. IsPartWithin variables p) }
     ensures above { steps.old ≤ steps.new }
-    ensures below { steps.new ≤ steps.old + (variables + 1) * length operands.now.forms.items }
+    ensures below { steps.new ≤ steps.old + (variables + 1) * length operands.now }
 {
-    if let Some(fault) = operands.broken {
-        return Ok(Entry::Broken(fault));
+    if let Some(fault) = first_fault(operands) {
+        return Ok(Part::Broken(fault));
     }
-    match operate::operate(alloc, class, &operands.forms, total, steps) {
-        Ok(Outcome::Linear(form)) => Ok(Entry::Linear(form)),
-        Ok(Outcome::Refused(reason)) => Ok(Entry::Broken(Fault { place, reason })),
+    match operate::operate(alloc, class, operands, total, steps) {
+        Ok(Outcome::Linear(part)) => Ok(part),
+        Ok(Outcome::Refused(reason)) => Ok(Part::Broken(Fault { place, reason })),
         Err(error) => Err(error),
     }
 }
 
-// The entry of a node; an operator takes its operands from the stack.
-fn entry_of<L: Ledger>(
+// The part of a node; an operator takes its operands from the stack, whose top is at its end.
+fn part_of<L: Ledger>(
     alloc: Global,
     node: Node,
     place: usize,
-    stack: &mut Vec<Entry>,
+    stack: &mut Vec<Part>,
     slots: &[Option<Form>],
     total: &mut Form,
     steps: &mut Steps<L>,
     variables: u32,
-) -> Result<Entry, AllocError>
+) -> Result<Part, AllocError>
     requires finds { NodeFinds variables slots.now (vec_len stack.old) node }
     requires places { place_count total.old ≡ variables }
     requires blank { IsBlank total.old }
     requires slots { AreSlotsWithin variables slots.now }
-    requires entries { AreWithin variables (forms_of (reverse stack.old.items)) }
+    requires parts { ArePartsWithin variables (reverse stack.old.items) }
     ensures blank { OnOk result (StaysBlank total.old total.new) }
     ensures within { IfOk result
-        (λ e. AreWithin variables (forms_of (e ∷ reverse stack.new.items))) }
+        (λ p. ArePartsWithin variables (p ∷ reverse stack.new.items)) }
     ensures size { IfOk result
-        (λ e. (trees : List Tree) → length trees ≡ length stack.old.items
+        (λ p. (trees : List Tree) → length trees ≡ length stack.old.items
         → length (with_node node trees) ≡ 1 + length stack.new.items) }
-    ensures entry { IfOk result
-        (λ e. (known : Point → Known) (trees : List Tree) → AreKnown variables known slots.now
-        → AreFolded known variables (place + 1) trees (reverse stack.old.items)
-        → AreFolded known variables place (with_node node trees) (e ∷ reverse stack.new.items)) }
+    ensures part { IfOk result
+        (λ p. (known : Point → Known) (trees : List Tree) → AreKnown variables known slots.now
+        → ArePartsFolded known variables (place + 1) trees (reverse stack.old.items)
+        → ArePartsFolded known variables place (with_node node trees)
+        (p ∷ reverse stack.new.items)) }
     ensures above { steps.old ≤ steps.new }
     ensures below { steps.new + (variables + 1) * vec_len stack.new
         ≤ steps.old + (variables + 1) * vec_len stack.old + (variables + 1) }
 {
     match node {
-        Node::Num(value) => Ok(number_entry(alloc, value, place)),
-        Node::Var(index) => variable_entry(alloc, index),
-        Node::Defined(index) => defined_entry(alloc, slots, index, variables),
+        Node::Num(value) => Ok(number_part(value, place)),
+        Node::Var(index) => Ok(variable_part(index)),
+        Node::Defined(index) => defined_part(alloc, slots, index, variables),
         Node::Op(opcode, count) => {
-            let operands = take_operands(alloc, stack, count)?;
-            operation_entry(
-                alloc,
-                class_of(opcode),
-                &operands,
-                place,
-                total,
-                steps,
-                variables,
-            )
+            let rest = stack.len() - count as usize;
+            let operands = stack.split_at(rest).1;
+            let class = class_of(opcode);
+            let part = operation_part(alloc, class, operands, place, total, steps, variables)?;
+            stack.truncate(rest);
+            Ok(part)
         }
     }
 }
@@ -168,9 +165,9 @@ pub(crate) fn fold_tree<L: Ledger>(
     ensures below { steps.new + (variables + 1)
         ≤ steps.old + 2 * (variables + 1) * length nodes.now }
 {
-    let mut stack: Vec<Entry> = Vec::new(alloc);
+    let mut stack: Vec<Part> = Vec::new(alloc);
     for place in (0..nodes.len()).rev() {
-        let entry = entry_of(
+        let part = part_of(
             alloc,
             nodes[place],
             place,
@@ -180,10 +177,10 @@ pub(crate) fn fold_tree<L: Ledger>(
             steps,
             variables,
         )?;
-        stack.push(entry)?;
+        stack.push(part)?;
     }
     match stack.pop() {
-        Some(entry) => Ok(entry),
+        Some(part) => part.into_entry(alloc),
         None => unreachable!(),
     }
 }

@@ -18,6 +18,7 @@ mod linear;
 mod operate;
 mod owners;
 mod pad;
+mod parts;
 mod program;
 mod wide;
 

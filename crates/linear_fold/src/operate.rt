@@ -1,15 +1,16 @@
 // The operators on forms.
-ghost use Rattle.std.specs.Prelude.{◌≡◌, false, Bool, ◌+◌, ◌*◌, ◌≤◌, [], ◌∷◌, true, IfOk, OnOk, OnErr, length};
+ghost use Rattle.std.specs.Prelude.{◌≡◌, false, Bool, ◌+◌, ◌*◌, ◌≤◌, [], ◌∷◌, true, IfOk, OnOk, OnErr, length, ℕ, ◌<◌, reverse};
 ghost use Rattle.code_tables.specs.declared.class.OpClass.TheVariants.{Difference, Product, Quotient, Negation};
 ghost use Rattle.exact_numbers.specs.Values.{frac_value};
-ghost use Rattle.nl_meaning.specs.Faults.{line_neg, line_scaled, line_sum, products_fit, running_line, running_sums_fit, sums_fit};
+ghost use Rattle.nl_meaning.specs.Faults.{constant_line, line_neg, line_scaled, line_sum, products_fit, running_line, running_sums_fit, sums_fit};
 ghost use Rattle.nl_meaning.specs.Lines.{Line};
 ghost use Rattle.nl_meaning.specs.Trees.{HasCount};
-ghost use Rattle.linear_fold.specs.Forms.{form_line, is_open, place_count};
-ghost use Rattle.linear_fold.specs.Operates.{AreWithin, ComesTo, IsBlank, IsWithin, Operates, StaysBlank, SumsTo, lines_of_forms, zero_line};
+ghost use Rattle.linear_fold.specs.Forms.{AddsScaled, form_line, is_open, place_count};
+ghost use Rattle.linear_fold.specs.Operates.{AreOperands, ComesTo, IsBlank, IsOperand, IsSound, IsWithin, Operates, StaysBlank, SumsTo, lines_of_parts, multiple_line, part_line, zero_line};
 
 use crate::constants;
 use crate::form::Form;
+use crate::parts::Part;
 use crate::wide::Wide;
 use code_tables::OpClass;
 use exact_numbers::Frac;
@@ -20,29 +21,90 @@ use text_base::{Ledger, Steps, Stop};
 /// The form of an operator, or why it has none.
 #[derive(Drop)]
 pub enum Outcome {
-    Linear(Form),
+    Linear(Part),
     Refused(Reason),
 }
 
-// Adds forms to an open form that is 0, from the left.
-fn add_all<L: Ledger>(
+// Adds k times a factor times a variable to an open form; a step for the constant, which is 0, and
+// for the term.
+fn add_variable<L: Ledger>(
     total: &mut Form,
-    operands: &[Form],
+    variable: u32,
+    factor: Frac,
+    k: Frac,
+    steps: &mut Steps<L>,
+) -> Result<(), Stop<Wide>>
+    requires open { is_open total.old ≡ true }
+    requires below { variable < place_count total.old }
+    ensures sums { AddsScaled (form_line total.old) (frac_value k)
+        (multiple_line variable (frac_value factor)) (form_line total.new) result }
+    ensures zero { OnErr result (form_line total.new ≡ zero_line) }
+    ensures open { is_open total.new ≡ true }
+    ensures places { place_count total.new ≡ place_count total.old }
+    ensures counted { steps.new ≡ steps.old + 2 }
+{
+    steps.tick();
+    steps.tick();
+    let Some(scaled) = k.mul(factor) else {
+        total.clear();
+        return Err(Stop::Fault(Wide));
+    };
+    match total.add_term(variable, scaled) {
+        Ok(()) => Ok(()),
+        Err(stop) => {
+            total.clear();
+            Err(stop)
+        }
+    }
+}
+
+// Adds k times an operand to an open form.
+fn add_part<L: Ledger>(
+    alloc: Global,
+    total: &mut Form,
+    part: &Part,
+    k: Frac,
+    steps: &mut Steps<L>,
+) -> Result<(), Stop<Wide>>
+    requires open { is_open total.old ≡ true }
+    requires within { IsOperand (place_count total.old) part.now }
+    ensures sums { AddsScaled (form_line total.old) (frac_value k) (part_line part.now)
+        (form_line total.new) result }
+    ensures zero { OnErr result (form_line total.new ≡ zero_line) }
+    ensures open { is_open total.new ≡ true }
+    ensures places { place_count total.new ≡ place_count total.old }
+    ensures above { steps.old ≤ steps.new }
+    ensures below { steps.new ≤ steps.old + (place_count total.old + 1) }
+{
+    match part {
+        Part::Number(number) => total.add_scaled(&Form::of_constant(alloc, *number), k, steps),
+        Part::Variable(variable, factor) => add_variable(total, *variable, *factor, k, steps),
+        Part::Linear(form) => total.add_scaled(form, k, steps),
+        Part::Broken(_) => unreachable!(),
+    }
+}
+
+// Adds operands to an open form that is 0, from the first, which is the last of the list.
+fn add_all<L: Ledger>(
+    alloc: Global,
+    total: &mut Form,
+    operands: &[Part],
     steps: &mut Steps<L>,
 ) -> Result<(), Stop<Wide>>
     requires blank { IsBlank total.old }
-    requires within { AreWithin (place_count total.old) operands.now }
+    requires within { AreOperands (place_count total.old) (reverse operands.now) }
     ensures sums { SumsTo
-        (running_sums_fit (place_count total.old) zero_line (lines_of_forms operands.now))
-        (running_line zero_line (lines_of_forms operands.now)) (form_line total.new) result }
+        (running_sums_fit (place_count total.old) zero_line (lines_of_parts (reverse operands.now)))
+        (running_line zero_line (lines_of_parts (reverse operands.now))) (form_line total.new)
+        result }
     ensures zero { OnErr result (form_line total.new ≡ zero_line) }
     ensures open { is_open total.new ≡ true }
     ensures places { place_count total.new ≡ place_count total.old }
     ensures above { steps.old ≤ steps.new }
     ensures below { steps.new ≤ steps.old + (place_count total.old + 1) * length operands.now }
 {
-    for operand in operands {
-        match total.add_scaled(operand, Frac::one(), steps) {
+    for place in (0..operands.len()).rev() {
+        match add_part(alloc, total, &operands[place], Frac::one(), steps) {
             Ok(()) => {}
             Err(stop) => return Err(stop),
         }
@@ -52,25 +114,26 @@ fn add_all<L: Ledger>(
 
 // Adds a difference to an open form that is 0.
 fn add_difference<L: Ledger>(
+    alloc: Global,
     total: &mut Form,
-    a: &Form,
-    b: &Form,
+    a: &Part,
+    b: &Part,
     steps: &mut Steps<L>,
 ) -> Result<(), Stop<Wide>>
     requires blank { IsBlank total.old }
-    requires first { IsWithin (place_count total.old) a.now }
-    requires second { IsWithin (place_count total.old) b.now }
+    requires first { IsOperand (place_count total.old) a.now }
+    requires second { IsOperand (place_count total.old) b.now }
     ensures sums { SumsTo
-        (sums_fit (place_count total.old) (form_line a.now) (line_neg (form_line b.now)))
-        (line_sum (form_line a.now) (line_neg (form_line b.now))) (form_line total.new) result }
+        (sums_fit (place_count total.old) (part_line a.now) (line_neg (part_line b.now)))
+        (line_sum (part_line a.now) (line_neg (part_line b.now))) (form_line total.new) result }
     ensures zero { OnErr result (form_line total.new ≡ zero_line) }
     ensures open { is_open total.new ≡ true }
     ensures places { place_count total.new ≡ place_count total.old }
     ensures above { steps.old ≤ steps.new }
     ensures below { steps.new ≤ steps.old + (place_count total.old + 1) * 2 }
 {
-    match total.add_scaled(a, Frac::one(), steps) {
-        Ok(()) => total.add_scaled(b, Frac::one().neg(), steps),
+    match add_part(alloc, total, a, Frac::one(), steps) {
+        Ok(()) => add_part(alloc, total, b, Frac::one().neg(), steps),
         Err(stop) => Err(stop),
     }
 }
@@ -105,13 +168,13 @@ fn outcome_of(
     requires zero { OnErr summed (form_line total.old ≡ zero_line) }
     ensures blank { OnOk result (StaysBlank total.old total.new) }
     ensures outcome { IfOk result
-        (λ o. (fit : Bool) (sum : Line) → SumsTo fit sum (form_line total.old) summed
-        → ComesTo fit sum o) }
+        (λ o. (n : ℕ) (fit : Bool) (sum : Line) → SumsTo fit sum (form_line total.old) summed
+        → ComesTo n fit sum o) }
 {
     match summed {
         Ok(()) => {
             let form = total.take(alloc)?;
-            Ok(Outcome::Linear(form))
+            Ok(Outcome::Linear(Part::Linear(form)))
         }
         Err(Stop::Fault(_)) => Ok(Outcome::Refused(Reason::TooWide)),
         Err(Stop::Memory) => Err(AllocError),
@@ -121,47 +184,47 @@ fn outcome_of(
 /// The running sum of forms from the left.
 pub(crate) fn sum_of_all<L: Ledger>(
     alloc: Global,
-    operands: &[Form],
+    operands: &[Part],
     total: &mut Form,
     steps: &mut Steps<L>,
 ) -> Result<Outcome, AllocError>
     requires blank { IsBlank total.old }
-    requires within { AreWithin (place_count total.old) operands.now }
+    requires within { AreOperands (place_count total.old) (reverse operands.now) }
     ensures blank { OnOk result (StaysBlank total.old total.new) }
     ensures outcome { IfOk result
-        (λ o. ComesTo
-        (running_sums_fit (place_count total.old) zero_line (lines_of_forms operands.now))
-        (running_line zero_line (lines_of_forms operands.now)) o) }
+        (λ o. ComesTo (place_count total.old)
+        (running_sums_fit (place_count total.old) zero_line (lines_of_parts (reverse operands.now)))
+        (running_line zero_line (lines_of_parts (reverse operands.now))) o) }
     ensures above { steps.old ≤ steps.new }
     ensures below { steps.new ≤ steps.old + (place_count total.old + 1) * length operands.now }
 {
-    let summed = add_all(total, operands, steps);
+    let summed = add_all(alloc, total, operands, steps);
     outcome_of(alloc, total, summed)
 }
 
 fn difference<L: Ledger>(
     alloc: Global,
-    a: &Form,
-    b: &Form,
+    a: &Part,
+    b: &Part,
     total: &mut Form,
     steps: &mut Steps<L>,
 ) -> Result<Outcome, AllocError>
     requires blank { IsBlank total.old }
-    requires first { IsWithin (place_count total.old) a.now }
-    requires second { IsWithin (place_count total.old) b.now }
+    requires first { IsOperand (place_count total.old) a.now }
+    requires second { IsOperand (place_count total.old) b.now }
     ensures blank { OnOk result (StaysBlank total.old total.new) }
     ensures outcome { IfOk result
-        (λ o. Operates (place_count total.old) Difference (form_line a.now ∷ form_line b.now ∷ [])
+        (λ o. Operates (place_count total.old) Difference (part_line a.now ∷ part_line b.now ∷ [])
         o) }
     ensures above { steps.old ≤ steps.new }
     ensures below { steps.new ≤ steps.old + (place_count total.old + 1) * 2 }
 {
-    let summed = add_difference(total, a, b, steps);
+    let summed = add_difference(alloc, total, a, b, steps);
     outcome_of(alloc, total, summed)
 }
 
-/// k times a form.
-pub(crate) fn scaled<L: Ledger>(
+// k times a closed form.
+fn scaled_form<L: Ledger>(
     alloc: Global,
     a: &Form,
     k: Frac,
@@ -172,7 +235,7 @@ pub(crate) fn scaled<L: Ledger>(
     requires within { IsWithin (place_count total.old) a.now }
     ensures blank { OnOk result (StaysBlank total.old total.new) }
     ensures outcome { IfOk result
-        (λ o. ComesTo (products_fit (place_count total.old) (frac_value k) (form_line a.now))
+        (λ o. ComesTo (place_count total.old) (products_fit (place_count total.old) (frac_value k) (form_line a.now))
         (line_scaled (frac_value k) (form_line a.now)) o) }
     ensures above { steps.old ≤ steps.new }
     ensures below { steps.new ≤ steps.old + (place_count total.old + 1) }
@@ -182,23 +245,79 @@ pub(crate) fn scaled<L: Ledger>(
         return outcome_of(alloc, total, summed);
     }
     match a.times(alloc, k, steps) {
-        Ok(form) => Ok(Outcome::Linear(form)),
+        Ok(form) => Ok(Outcome::Linear(Part::Linear(form))),
         Err(Stop::Fault(_)) => Ok(Outcome::Refused(Reason::TooWide)),
         Err(Stop::Memory) => Err(AllocError),
     }
 }
 
-fn negated<L: Ledger>(
+// k times a number.
+fn scaled_number(number: Frac, k: Frac) -> Outcome
+    ensures { (n : ℕ) → ComesTo n
+        (products_fit n (frac_value k) (constant_line (frac_value number)))
+        (line_scaled (frac_value k) (constant_line (frac_value number))) result }
+{
+    match k.mul(number) {
+        Some(number) => Outcome::Linear(Part::Number(number)),
+        None => Outcome::Refused(Reason::TooWide),
+    }
+}
+
+// k times a factor times a variable.
+fn scaled_multiple(variable: u32, factor: Frac, k: Frac) -> Outcome
+    ensures { (n : ℕ) → variable < n → ComesTo n
+        (products_fit n (frac_value k) (multiple_line variable (frac_value factor)))
+        (line_scaled (frac_value k) (multiple_line variable (frac_value factor))) result }
+{
+    match k.mul(factor) {
+        Some(factor) => Outcome::Linear(Part::Variable(variable, factor)),
+        None => Outcome::Refused(Reason::TooWide),
+    }
+}
+
+/// k times an operand.
+pub(crate) fn scaled<L: Ledger>(
     alloc: Global,
-    a: &Form,
+    a: &Part,
+    k: Frac,
     total: &mut Form,
     steps: &mut Steps<L>,
 ) -> Result<Outcome, AllocError>
     requires blank { IsBlank total.old }
-    requires within { IsWithin (place_count total.old) a.now }
+    requires within { IsOperand (place_count total.old) a.now }
     ensures blank { OnOk result (StaysBlank total.old total.new) }
     ensures outcome { IfOk result
-        (λ o. Operates (place_count total.old) Negation (form_line a.now ∷ []) o) }
+        (λ o. ComesTo (place_count total.old) (products_fit (place_count total.old) (frac_value k) (part_line a.now))
+        (line_scaled (frac_value k) (part_line a.now)) o) }
+    ensures above { steps.old ≤ steps.new }
+    ensures below { steps.new ≤ steps.old + (place_count total.old + 1) }
+{
+    match a {
+        Part::Number(number) => {
+            steps.tick();
+            Ok(scaled_number(*number, k))
+        }
+        Part::Variable(variable, factor) => {
+            steps.tick();
+            steps.tick();
+            Ok(scaled_multiple(*variable, *factor, k))
+        }
+        Part::Linear(form) => scaled_form(alloc, form, k, total, steps),
+        Part::Broken(_) => unreachable!(),
+    }
+}
+
+fn negated<L: Ledger>(
+    alloc: Global,
+    a: &Part,
+    total: &mut Form,
+    steps: &mut Steps<L>,
+) -> Result<Outcome, AllocError>
+    requires blank { IsBlank total.old }
+    requires within { IsOperand (place_count total.old) a.now }
+    ensures blank { OnOk result (StaysBlank total.old total.new) }
+    ensures outcome { IfOk result
+        (λ o. Operates (place_count total.old) Negation (part_line a.now ∷ []) o) }
     ensures above { steps.old ≤ steps.new }
     ensures below { steps.new ≤ steps.old + (place_count total.old + 1) }
 {
@@ -207,86 +326,112 @@ fn negated<L: Ledger>(
 
 fn product<L: Ledger>(
     alloc: Global,
-    a: &Form,
-    b: &Form,
+    a: &Part,
+    b: &Part,
     total: &mut Form,
     steps: &mut Steps<L>,
 ) -> Result<Outcome, AllocError>
     requires blank { IsBlank total.old }
-    requires first { IsWithin (place_count total.old) a.now }
-    requires second { IsWithin (place_count total.old) b.now }
+    requires first { IsOperand (place_count total.old) a.now }
+    requires second { IsOperand (place_count total.old) b.now }
     ensures blank { OnOk result (StaysBlank total.old total.new) }
     ensures outcome { IfOk result
-        (λ o. Operates (place_count total.old) Product (form_line a.now ∷ form_line b.now ∷ []) o) }
+        (λ o. Operates (place_count total.old) Product (part_line a.now ∷ part_line b.now ∷ []) o) }
     ensures above { steps.old ≤ steps.new }
     ensures below { steps.new ≤ steps.old + (place_count total.old + 1) }
 {
-    if a.is_constant() {
-        return scaled(alloc, b, a.constant(), total, steps);
+    if let Some(k) = a.constant() {
+        return scaled(alloc, b, k, total, steps);
     }
-    if b.is_constant() {
-        return scaled(alloc, a, b.constant(), total, steps);
+    if let Some(k) = b.constant() {
+        return scaled(alloc, a, k, total, steps);
     }
     Ok(Outcome::Refused(Reason::Nonlinear))
 }
 
 fn quotient<L: Ledger>(
     alloc: Global,
-    a: &Form,
-    b: &Form,
+    a: &Part,
+    b: &Part,
     total: &mut Form,
     steps: &mut Steps<L>,
 ) -> Result<Outcome, AllocError>
     requires blank { IsBlank total.old }
-    requires first { IsWithin (place_count total.old) a.now }
-    requires second { IsWithin (place_count total.old) b.now }
+    requires first { IsOperand (place_count total.old) a.now }
+    requires second { IsOperand (place_count total.old) b.now }
     ensures blank { OnOk result (StaysBlank total.old total.new) }
     ensures outcome { IfOk result
-        (λ o. Operates (place_count total.old) Quotient (form_line a.now ∷ form_line b.now ∷ [])
+        (λ o. Operates (place_count total.old) Quotient (part_line a.now ∷ part_line b.now ∷ [])
         o) }
     ensures above { steps.old ≤ steps.new }
     ensures below { steps.new ≤ steps.old + (place_count total.old + 1) }
 {
-    if !b.is_constant() {
+    let Some(divisor) = b.constant() else {
         return Ok(Outcome::Refused(Reason::Nonlinear));
-    }
-    let divisor = b.constant();
+    };
     if divisor.is_zero() {
         return Ok(Outcome::Refused(Reason::DivideByZero));
     }
     scaled(alloc, a, divisor.reciprocal(), total, steps)
 }
 
+// Two operands, the first of them last in the list.
+fn two_of(operands: &[Part]) -> (&Part, &Part)
+    requires { length operands.now ≡ 2 }
+    ensures { reverse operands.now ≡ result.0.now ∷ result.1.now ∷ [] }
+{
+    (&operands[1], &operands[0])
+}
+
+fn one_of(operands: &[Part]) -> &Part
+    requires { length operands.now ≡ 1 }
+    ensures { reverse operands.now ≡ result.now ∷ [] }
+{
+    &operands[0]
+}
+
 /// The form or the fault of an operator.
 pub(crate) fn operate<L: Ledger>(
     alloc: Global,
     class: OpClass,
-    operands: &[Form],
+    operands: &[Part],
     total: &mut Form,
     steps: &mut Steps<L>,
 ) -> Result<Outcome, AllocError>
     requires count { HasCount class (length operands.now) }
     requires blank { IsBlank total.old }
-    requires within { AreWithin (place_count total.old) operands.now }
+    requires within { AreOperands (place_count total.old) (reverse operands.now) }
     ensures blank { OnOk result (StaysBlank total.old total.new) }
     ensures outcome { IfOk result
-        (λ o. Operates (place_count total.old) class (lines_of_forms operands.now) o) }
+        (λ o. Operates (place_count total.old) class (lines_of_parts (reverse operands.now)) o) }
     ensures above { steps.old ≤ steps.new }
     ensures below { steps.new ≤ steps.old + (place_count total.old + 1) * length operands.now }
 {
     match class {
         OpClass::Sum => sum_of_all(alloc, operands, total, steps),
         OpClass::List => sum_of_all(alloc, operands, total, steps),
-        OpClass::Difference => difference(alloc, &operands[0], &operands[1], total, steps),
-        OpClass::Product => product(alloc, &operands[0], &operands[1], total, steps),
-        OpClass::Quotient => quotient(alloc, &operands[0], &operands[1], total, steps),
-        OpClass::Negation => negated(alloc, &operands[0], total, steps),
-        OpClass::Power => Ok(constants::power(alloc, &operands[0], &operands[1])),
-        OpClass::Least => Ok(constants::least(alloc, operands)),
-        OpClass::Greatest => Ok(constants::greatest(alloc, operands)),
-        OpClass::Floor => Ok(constants::floor(alloc, &operands[0])),
-        OpClass::Ceiling => Ok(constants::ceiling(alloc, &operands[0])),
-        OpClass::Absolute => Ok(constants::absolute(alloc, &operands[0])),
+        OpClass::Difference => {
+            let (a, b) = two_of(operands);
+            difference(alloc, a, b, total, steps)
+        }
+        OpClass::Product => {
+            let (a, b) = two_of(operands);
+            product(alloc, a, b, total, steps)
+        }
+        OpClass::Quotient => {
+            let (a, b) = two_of(operands);
+            quotient(alloc, a, b, total, steps)
+        }
+        OpClass::Negation => negated(alloc, one_of(operands), total, steps),
+        OpClass::Power => {
+            let (a, b) = two_of(operands);
+            Ok(constants::power(a, b))
+        }
+        OpClass::Least => Ok(constants::least(operands)),
+        OpClass::Greatest => Ok(constants::greatest(operands)),
+        OpClass::Floor => Ok(constants::floor(one_of(operands))),
+        OpClass::Ceiling => Ok(constants::ceiling(one_of(operands))),
+        OpClass::Absolute => Ok(constants::absolute(one_of(operands))),
         OpClass::Refused => unreachable!(),
     }
 }

@@ -1,17 +1,17 @@
 use Rattle.std.proofs.Common.{◌≡◌, ◌≤◌, ◌+◌, ◌-◌, ◌*◌, length, reverse, drop}
 use Rattle.nl_meaning.specs.Trees.{Known, Point}
 use Rattle.nl_model.specs.Nodes.{trees_of}
-use Rattle.linear_fold.specs.Folds.{AreFolded, AreKnown, forms_of}
+use Rattle.linear_fold.specs.Folds.{AreKnown, ArePartsFolded, ArePartsWithin}
 use Rattle.linear_fold.specs.Forms.{place_count}
-use Rattle.linear_fold.specs.Operates.{AreWithin, IsBlank}
+use Rattle.linear_fold.specs.Operates.{IsBlank}
 use Rattle.linear_fold.proofs.fold.fold_tree.Given as goal
 
 abbrev pub invariant-loop-place : goal.invariant-loop-place
 invariant-loop-place g l =
     record {
-      folded : (known : Point → Known) → AreKnown l.variables known l.slots → AreFolded known l.variables l.place (trees_of (drop l.place l.nodes)) (reverse l.stack.items);
+      folded : (known : Point → Known) → AreKnown l.variables known l.slots → ArePartsFolded known l.variables l.place (trees_of (drop l.place l.nodes)) (reverse l.stack.items);
       many : length (trees_of (drop l.place l.nodes)) ≡ length l.stack.items;
-      within : AreWithin l.variables (forms_of (reverse l.stack.items));
+      within : ArePartsWithin l.variables (reverse l.stack.items);
       above : l.fn.steps ≤ l.steps;
       blank : IsBlank l.total;
       places : place_count l.total ≡ l.variables;

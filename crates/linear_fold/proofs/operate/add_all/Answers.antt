@@ -1,46 +1,55 @@
-use Rattle.std.proofs.Common.{◌∙◌, arith, refl, ◌+◌, length, drop}
+use Rattle.std.proofs.Common.{◌≡◌, ◌∷◌, ◌∙◌, ◌≤◌, ap, arith, refl, ◌+◌, ◌*◌, ◌-◌, length, reverse, subst, sym, take}
 use Rattle.exact_numbers.specs.Values.{frac_value}
-use Rattle.linear_fold.specs.Forms.{form_line, form_terms, place_count}
-use Rattle.linear_fold.proofs.Operators.{few_of_form, here_within, next_form, running_init, running_more, running_stop, times_more, times_within}
+use Rattle.linear_fold.specs.Forms.{form_line, place_count}
+use Rattle.linear_fold.specs.Operates.{IsOperand}
+use Rattle.linear_fold.proofs.Operators.{Running, here_within, running_init, running_more, running_stop, running_end, one_done, done_within}
+use Rattle.linear_fold.proofs.PartLemmas.{last_first, take_all, take_none}
 use Rattle.linear_fold.proofs.operate.add_all.Goals as goal
 
-pub loop-operand-init : goal.loop-operand-init
-loop-operand-init g c =
+pub loop-place-init : goal.loop-place-init
+loop-place-init g c =
     record {
-      running = running_init (place_count c.args.total.now) (form_line c.args.total.now) c.args.operands.now c.requires.blank.line c.requires.within;
+      running =
+          subst (λ ps. Running (place_count c.args.total.now) (form_line c.args.total.now) (reverse ps) (reverse c.args.operands.now)) (sym (take_all c.args.operands.now (length c.args.operands.now) (omega arith)))
+          (running_init (place_count c.args.total.now) (form_line c.args.total.now) (reverse c.args.operands.now) c.requires.blank.line c.requires.within);
       open_on = c.requires.blank.open_on;
       places = refl;
       above = omega arith;
       below = omega arith;
     }
 
-pub loop-operand-preserved : goal.loop-operand-preserved
-loop-operand-preserved g c =
-    let i = c.loop-operand.operand-index in
+pub add_part-requires-clause-within : goal.add_part-requires-clause-within
+add_part-requires-clause-within g c =
     let n = place_count c.args.total.now in
-    let is = next_form c.args.operands.now i c.operand-item.result c.loop-operand-test.true c.operand-item.is in
-    let r = c.loop-operand.invariant.running in
-    let few = few_of_form n c.operand-item.result (here_within n (form_line c.loop-operand.total) c.operand-item.result (drop i c.args.operands.now) (drop (i + 1) c.args.operands.now) c.args.operands.now is r (frac_value c.one.result) c.one.ensures) c.in-Ok.ensures.ascending in
+    let x = c.index-operands-place.result in
+    let is = last_first c.args.operands.now c.loop-place.place x c.loop-place-test.true c.loop-place.auto.place c.index-operands-place.is in
+    subst (λ k. IsOperand k x) (sym c.loop-place.invariant.places)
+    (here_within n (form_line c.loop-place.total) x (reverse (take c.loop-place.place c.args.operands.now)) (reverse (take (c.loop-place.place - 1) c.args.operands.now)) (reverse c.args.operands.now) is c.loop-place.invariant.running (frac_value c.one.result) c.one.ensures)
+
+pub loop-place-preserved : goal.loop-place-preserved
+loop-place-preserved g c =
+    let n = place_count c.args.total.now in
+    let x = c.index-operands-place.result in
+    let is = last_first c.args.operands.now c.loop-place.place x c.loop-place-test.true c.loop-place.auto.place c.index-operands-place.is in
     record {
-      running = running_more n (form_line c.loop-operand.total) c.operand-item.result (drop i c.args.operands.now) (drop (i + 1) c.args.operands.now) c.args.operands.now is r (frac_value c.one.result) c.one.ensures (form_line c.add_scaled.new.self) c.in-Ok.ensures.sums;
-      open_on = c.in-Ok.ensures.open ∙ c.loop-operand.invariant.open_on;
-      places = c.in-Ok.ensures.places ∙ c.loop-operand.invariant.places;
-      above = (let h = c.loop-operand.invariant.above in let k = c.in-Ok.ensures.above in omega arith);
-      below = times_more n i c.args.steps.now c.loop-operand.steps c.add_scaled.new.steps (length (form_terms c.operand-item.result)) c.loop-operand.invariant.below c.in-Ok.ensures.below few;
+      running = running_more n (form_line c.loop-place.total) x (reverse (take c.loop-place.place c.args.operands.now)) (reverse (take (c.loop-place.place - 1) c.args.operands.now)) (reverse c.args.operands.now) is c.loop-place.invariant.running (frac_value c.one.result) c.one.ensures (form_line c.add_part.new.total) c.in-Ok.ensures.sums;
+      open_on = c.in-Ok.ensures.open;
+      places = c.in-Ok.ensures.places ∙ c.loop-place.invariant.places;
+      above = (let h = c.loop-place.invariant.above in let k = c.in-Ok.ensures.above in omega arith);
+      below = one_done n c.loop-place.place (length c.args.operands.now) c.args.steps.now c.loop-place.steps c.add_part.new.steps c.loop-place-test.true c.loop-place.auto.place c.loop-place.invariant.below (subst (λ k. c.add_part.new.steps ≤ c.loop-place.steps + (k + 1)) c.loop-place.invariant.places c.in-Ok.ensures.below);
     }
 
 pub returns-in-Err-clause-sums : goal.returns-in-Err-clause-sums
 returns-in-Err-clause-sums g c =
-    let i = c.loop-operand.operand-index in
     let n = place_count c.args.total.now in
-    let is = next_form c.args.operands.now i c.operand-item.result c.loop-operand-test.true c.operand-item.is in
-    running_stop n (form_line c.loop-operand.total) c.operand-item.result (drop i c.args.operands.now) (drop (i + 1) c.args.operands.now) c.args.operands.now is c.loop-operand.invariant.running (frac_value c.one.result) c.one.ensures (form_line c.add_scaled.new.self) (form_line c.add_scaled.new.self) c.in-Err.stop c.in-Err.ensures.sums
+    let x = c.index-operands-place.result in
+    let is = last_first c.args.operands.now c.loop-place.place x c.loop-place-test.true c.loop-place.auto.place c.index-operands-place.is in
+    running_stop n (form_line c.loop-place.total) x (reverse (take c.loop-place.place c.args.operands.now)) (reverse (take (c.loop-place.place - 1) c.args.operands.now)) (reverse c.args.operands.now) is c.loop-place.invariant.running (frac_value c.one.result) c.one.ensures (form_line c.add_part.new.total) (form_line c.add_part.new.total) c.in-Err.stop c.in-Err.ensures.sums
 
 pub returns-in-Err-clause-below : goal.returns-in-Err-clause-below
 returns-in-Err-clause-below g c =
-    let i = c.loop-operand.operand-index in
-    let n = place_count c.args.total.now in
-    let is = next_form c.args.operands.now i c.operand-item.result c.loop-operand-test.true c.operand-item.is in
-    let r = c.loop-operand.invariant.running in
-    let few = few_of_form n c.operand-item.result (here_within n (form_line c.loop-operand.total) c.operand-item.result (drop i c.args.operands.now) (drop (i + 1) c.args.operands.now) c.args.operands.now is r (frac_value c.one.result) c.one.ensures) c.in-Err.ensures.ascending in
-    times_within n i (length c.args.operands.now) c.args.steps.now c.loop-operand.steps c.add_scaled.new.steps (length (form_terms c.operand-item.result)) c.loop-operand-test.true c.loop-operand.invariant.below c.in-Err.ensures.below few
+    done_within (place_count c.args.total.now) c.loop-place.place (length c.args.operands.now) c.args.steps.now c.loop-place.steps c.add_part.new.steps c.loop-place-test.true c.loop-place.auto.place c.loop-place.invariant.below (subst (λ k. c.add_part.new.steps ≤ c.loop-place.steps + (k + 1)) c.loop-place.invariant.places c.in-Err.ensures.below)
+
+pub returns-clause-sums : goal.returns-clause-sums
+returns-clause-sums g c =
+    running_end (place_count c.args.total.now) (form_line c.loop-place.total) (reverse (take c.loop-place.place c.args.operands.now)) (reverse c.args.operands.now) (ap reverse (take_none c.args.operands.now c.loop-place.place (let h = c.loop-place-test.false in omega arith))) c.loop-place.invariant.running

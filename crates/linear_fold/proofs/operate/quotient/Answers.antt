@@ -1,22 +1,23 @@
 use Rattle.std.proofs.Common.{◌∙◌, ap, sym}
 use Rattle.exact_numbers.specs.Values.{frac_value}
 use Rattle.fractions.specs.Rational.{inverse_of}
-use Rattle.linear_fold.specs.Forms.{form_line, place_count}
+use Rattle.linear_fold.specs.Forms.{place_count}
+use Rattle.linear_fold.specs.Operates.{part_line}
 use Rattle.linear_fold.proofs.FracLemmas.{zero_test, nonzero_test}
 use Rattle.linear_fold.proofs.Operators.{if_ok, quotient_zero, quotient_comes}
 use Rattle.linear_fold.proofs.operate.quotient.Goals as goal
 
 pub returns-then-is_zero-clause-outcome : goal.returns-then-is_zero-clause-outcome
 returns-then-is_zero-clause-outcome g c =
-    quotient_zero (place_count c.args.total.now) (form_line c.args.a.now) (form_line c.args.b.now)
-    (sym (c.is_constant.ensures (place_count c.args.total.now) c.requires.second.zero_from) ∙ c.if-not-is_constant.false)
-    (zero_test _ (sym c.constant-divisor.ensures ∙ c.is_zero.ensures.0 c.if-is_zero.true))
+    quotient_zero (place_count c.args.total.now) (part_line c.args.a.now) (part_line c.args.b.now)
+    (sym (c.in-Some.ensures.test (place_count c.args.total.now) c.requires.second))
+    (zero_test _ (sym c.in-Some.ensures.value ∙ c.is_zero.ensures.0 c.if-is_zero.true))
 
 pub returns-clause-outcome : goal.returns-clause-outcome
 returns-clause-outcome g c =
     if_ok c.scaled.result _ _
-    (λ o h. quotient_comes (place_count c.args.total.now) (form_line c.args.a.now) (form_line c.args.b.now) o (frac_value c.reciprocal.result)
-    (c.reciprocal.ensures ∙ ap inverse_of c.constant-divisor.ensures)
-    (sym (c.is_constant.ensures (place_count c.args.total.now) c.requires.second.zero_from) ∙ c.if-not-is_constant.false)
-    (nonzero_test _ c.is_zero.result (λ z. c.is_zero.ensures.1 (c.constant-divisor.ensures ∙ z)) c.if-is_zero.false) h)
+    (λ o h. quotient_comes (place_count c.args.total.now) (part_line c.args.a.now) (part_line c.args.b.now) o (frac_value c.reciprocal.result)
+    (c.reciprocal.ensures ∙ ap inverse_of c.in-Some.ensures.value)
+    (sym (c.in-Some.ensures.test (place_count c.args.total.now) c.requires.second))
+    (nonzero_test _ c.is_zero.result (λ z. c.is_zero.ensures.1 (c.in-Some.ensures.value ∙ z)) c.if-is_zero.false) h)
     c.scaled.ensures.outcome

@@ -1,13 +1,22 @@
-use Rattle.std.proofs.Common.{arith}
+use Rattle.std.proofs.Common.{subst, sym}
+use Rattle.exact_numbers.specs.Values.{frac_value}
+use Rattle.nl_meaning.specs.Faults.{line_scaled, products_fit}
 use Rattle.linear_fold.specs.Forms.{place_count}
-use Rattle.linear_fold.proofs.Operators.{few_of_form}
+use Rattle.linear_fold.specs.Operates.{ComesTo, IsOperand, part_line}
+use Rattle.linear_fold.proofs.PartLemmas.{whole_within}
 use Rattle.linear_fold.proofs.operate.scaled.Goals as goal
 
-pub returns-in-Ok-clause-below : goal.returns-in-Ok-clause-below
-returns-in-Ok-clause-below g c = let few = few_of_form (place_count c.args.total.now) c.args.a.now c.requires.within c.in-Ok.ensures.ascending in let h = c.in-Ok.ensures.below in omega arith
+pub scaled_form-requires-clause-within : goal.scaled_form-requires-clause-within
+scaled_form-requires-clause-within g c = whole_within (place_count c.args.total.now) c.in-Linear.form (subst (IsOperand (place_count c.args.total.now)) c.in-Linear.is c.requires.within)
 
-pub returns-in-Err-Fault-clause-below : goal.returns-in-Err-Fault-clause-below
-returns-in-Err-Fault-clause-below g c = let few = few_of_form (place_count c.args.total.now) c.args.a.now c.requires.within c.in-Err-Fault.ensures.ascending in let h = c.in-Err-Fault.ensures.below in omega arith
+pub returns-in-Number-clause-outcome : goal.returns-in-Number-clause-outcome
+returns-in-Number-clause-outcome g c =
+    let n = place_count c.args.total.now in
+    let k = frac_value c.args.k in
+    subst (λ p. ComesTo n (products_fit n k (part_line p)) (line_scaled k (part_line p)) c.scaled_number.result) (sym c.in-Number.is) (c.scaled_number.ensures n)
 
-pub returns-in-Err-Memory-clause-below : goal.returns-in-Err-Memory-clause-below
-returns-in-Err-Memory-clause-below g c = let few = few_of_form (place_count c.args.total.now) c.args.a.now c.requires.within c.in-Err-Memory.ensures.ascending in let h = c.in-Err-Memory.ensures.below in omega arith
+pub returns-in-Variable-clause-outcome : goal.returns-in-Variable-clause-outcome
+returns-in-Variable-clause-outcome g c =
+    let n = place_count c.args.total.now in
+    let k = frac_value c.args.k in
+    subst (λ p. ComesTo n (products_fit n k (part_line p)) (line_scaled k (part_line p)) c.scaled_multiple.result) (sym c.in-Variable.is) (c.scaled_multiple.ensures n (subst (IsOperand n) c.in-Variable.is c.requires.within).sound)

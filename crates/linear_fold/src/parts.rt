@@ -1,0 +1,118 @@
+// What the parts of a tree come to. A number, and a factor times a variable, are no forms yet: they allocate nothing.
+ghost use Rattle.std.specs.Prelude.{◌≡◌, ◌∷◌, List, ℕ, false, IfOk, IfSome, is_some, reverse};
+ghost use Rattle.exact_numbers.specs.Values.{frac_value};
+ghost use Rattle.fractions.specs.Rational.{zero_ℚ};
+ghost use Rattle.nl_meaning.specs.Lines.{is_constant, is_zero};
+ghost use Rattle.linear_fold.specs.Forms.{IsZeroFrom, form_line, is_open};
+ghost use Rattle.linear_fold.specs.Folds.{IsEntryOf, first_broken};
+ghost use Rattle.linear_fold.specs.Operates.{IsClosed, IsOperand, multiple_line, part_line};
+
+use crate::coefficients::Coefficients;
+use crate::entries::Entry;
+use crate::form::Form;
+use exact_numbers::Frac;
+use nl_meaning::Fault;
+use std::alloc::{AllocError, Global};
+
+/// What a part of a tree came to: a number, a factor times a variable, a form, or a fault.
+#[derive(Drop)]
+pub enum Part {
+    Number(Frac),
+    Variable(u32, Frac),
+    Linear(Form),
+    Broken(Fault),
+}
+
+// The first fault of a part and of those after it, whose first fault is known.
+fn fault_before(part: &Part, after: Option<Fault>) -> Option<Fault>
+    ensures { (ps : List Part) → after ≡ first_broken ps → result ≡ first_broken (part.now ∷ ps) }
+{
+    match part {
+        Part::Number(_) => after,
+        Part::Variable(_, _) => after,
+        Part::Linear(_) => after,
+        Part::Broken(fault) => Some(*fault),
+    }
+}
+
+/// The first fault among operands, of which the first is the last of the list.
+pub(crate) fn first_fault(operands: &[Part]) -> Option<Fault>
+    ensures { result ≡ first_broken (reverse operands.now) }
+{
+    let mut broken = None;
+    for operand in operands {
+        broken = fault_before(operand, broken);
+    }
+    broken
+}
+
+// The constant of a closed form without coefficients.
+fn constant_of(form: &Form) -> Option<Frac>
+    requires { is_open form.now ≡ false }
+    ensures value { IfSome result (λ f. frac_value f ≡ (form_line form.now).constant) }
+    ensures test { (n : ℕ) → IsZeroFrom n (form_line form.now)
+        → is_some result ≡ is_constant n (form_line form.now) }
+{
+    if form.is_constant() {
+        Some(form.constant())
+    } else {
+        None
+    }
+}
+
+// 0 times a variable is the constant 0; no other multiple is constant.
+fn constant_of_multiple(factor: Frac) -> Option<Frac>
+    ensures value { IfSome result (λ f. frac_value f ≡ zero_ℚ) }
+    ensures test { is_some result ≡ is_zero (frac_value factor) }
+{
+    if factor.is_zero() {
+        Some(factor)
+    } else {
+        None
+    }
+}
+
+// A factor times a variable, as a closed form.
+fn form_of_multiple(alloc: Global, variable: u32, factor: Frac) -> Result<Form, AllocError>
+    ensures line { IfOk result (λ f. form_line f ≡ multiple_line variable (frac_value factor)) }
+    ensures closed { IfOk result (λ f. is_open f ≡ false) }
+{
+    let zero = Form::new(alloc);
+    if factor.is_zero() {
+        return Ok(zero);
+    }
+    let coefficients = Coefficients::of_term(alloc, variable, factor)?;
+    Ok(zero.with_coefficients(coefficients))
+}
+
+impl Part {
+    /// The value of a part that is constant.
+    pub(crate) fn constant(&self) -> Option<Frac>
+        requires { IsClosed self.now }
+        ensures value { IfSome result (λ f. frac_value f ≡ (part_line self.now).constant) }
+        ensures test { (n : ℕ) → IsOperand n self.now
+            → is_some result ≡ is_constant n (part_line self.now) }
+    {
+        match self {
+            Part::Number(number) => Some(*number),
+            Part::Variable(_, factor) => constant_of_multiple(*factor),
+            Part::Linear(form) => constant_of(form),
+            Part::Broken(_) => unreachable!(),
+        }
+    }
+
+    /// The form of a whole tree, or its fault.
+    pub(crate) fn into_entry(self, alloc: Global) -> Result<Entry, AllocError>
+        ensures { IfOk result (λ e. IsEntryOf self e) }
+    {
+        match self {
+            Part::Number(number) => Ok(Entry::Linear(Form::of_constant(alloc, number))),
+            Part::Variable(variable, factor) => {
+                let form = form_of_multiple(alloc, variable, factor)?;
+                Ok(Entry::Linear(form))
+            }
+            Part::Linear(form) => Ok(Entry::Linear(form)),
+            Part::Broken(fault) => Ok(Entry::Broken(fault)),
+        }
+    }
+}
