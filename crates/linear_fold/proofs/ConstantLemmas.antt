@@ -1,5 +1,5 @@
 -- The operators that want constants.
-use Rattle.std.proofs.Common.{◌≡◌, ℕ, zero, suc, ◌+◌, ◌*◌, ◌/◌, ◌-◌, ◌^◌, ◌<◌, ◌≤◌, ◌∙◌, sym, ap, refl, subst, subst₂, arith, mul-pos, Bool, true, false, cond, ◌&&◌, ℤ, pos, negsuc, ◌*ℤ◌, ◌<ℤ◌, ◌≤ℤ◌, unsigned_abs, Some, None, option_and_then, List, [], ◌∷◌, map, drop, get_or, length, if◌then◌else◌, lit<}
+use Rattle.std.proofs.Common.{◌≡◌, ℕ, zero, suc, ◌+◌, ◌*◌, ◌/◌, ◌-◌, ◌^◌, ◌<◌, ◌≤◌, ◌∙◌, sym, ap, refl, subst, subst₂, arith, mul-pos, Bool, true, false, cond, ◌&&◌, ℤ, pos, negsuc, ◌*ℤ◌, ◌<ℤ◌, ◌≤ℤ◌, unsigned_abs, Some, None, option_and_then, List, [], ◌∷◌, map, if◌then◌else◌, lit<}
 use Rattle.std.specs.Int.{int_div_euclid}
 use Rattle.std.specs.Prelude.{int_lt}
 use Rattle.std.specs.Ordering.{int_cmp}

@@ -1,31 +1,28 @@
 -- What the entries of a fold come to.
-use Rattle.std.proofs.Common.{◌≡◌, ◌≢◌, ℕ, zero, suc, ◌+◌, ◌<◌, ◌≤◌, ◌∙◌, sym, ap, ap₂, refl, subst, Bool, true, false, None, Some, Option, List, [], ◌∷◌, map, length, ⊎_elim, arith, option_and_then, if◌then◌else◌, get_or}
+use Rattle.std.proofs.Common.{◌≡◌, ℕ, zero, suc, ◌+◌, ◌<◌, ◌≤◌, ◌∙◌, sym, ap, ap₂, refl, subst, Bool, true, false, None, Some, Option, List, [], ◌∷◌, length, ⊎_elim, arith, option_and_then, if◌then◌else◌, get_or}
 use Rattle.std.specs.Option.{option_or}
 use Rattle.std.proofs.lemmas.Bool.{cases_lt}
 use Rattle.code_tables.specs.declared.class.OpClass.{OpClass}
 use Rattle.code_tables.specs.declared.class.OpClass.TheVariants.{Sum, Difference, Product, Quotient, Negation, List as SumOfAll, Power, Least, Greatest, Floor, Ceiling, Absolute, Refused}
 use Rattle.exact_numbers.specs.declared.frac.Frac.{Frac}
 use Rattle.exact_numbers.specs.Values.{frac_value}
-use Rattle.fractions.specs.Rational.{ℚ, zero_ℚ, one_ℚ, whole, ◌+ℚ◌, ◌*ℚ◌, neg_ℚ, inverse_of}
-use Rattle.fractions.proofs.Arithmetic.{*ℚ_zero, +ℚ_zero, zero-+ℚ, neg_zero}
+use Rattle.fractions.specs.Rational.{ℚ, zero_ℚ, one_ℚ, ◌+ℚ◌, ◌*ℚ◌, neg_ℚ, inverse_of}
+use Rattle.fractions.proofs.Arithmetic.{*ℚ_zero, +ℚ_zero, neg_zero}
 use Rattle.nl_meaning.specs.declared.Fault.{Fault}
 use Rattle.nl_meaning.specs.declared.Reason.{Reason}
 use Rattle.nl_meaning.specs.Lines.{Line, some_values, line_value, line_by, is_constant}
-use Rattle.nl_meaning.specs.Faults.{line_with, line_sum, line_scaled, line_neg, running_line, constant_line, operator_fault, operator_line, fault_at, lines_of, tree_fault, trees_fault}
+use Rattle.nl_meaning.specs.Faults.{line_with, line_sum, line_scaled, line_neg, running_line, constant_line, operator_fault, operator_line, fault_at, lines_of, tree_fault}
 use Rattle.nl_meaning.specs.Trees.{Point, Known, Tree, operator, Trees, none, more, on_values, operator_value, tree_value, trees_values, HasCount}
-use Rattle.nl_meaning.proofs.LineLemmas.{same_constant, same_coef, no_coef, apart-eqb}
+use Rattle.nl_meaning.proofs.LineLemmas.{same_constant, same_coef, no_coef}
 use Rattle.nl_meaning.proofs.Linear.{all_there-some, constant_value, variable_value, operator_has_line}
 use Rattle.linear_fold.specs.declared.entries.Entry.{Entry}
 use Rattle.linear_fold.specs.declared.entries.Entry.TheVariants.{Linear as Whole, Broken as Faulty}
 use Rattle.linear_fold.specs.declared.form.Form.{Form}
 use Rattle.linear_fold.specs.declared.parts.Part.{Part}
 use Rattle.linear_fold.specs.declared.parts.Part.TheVariants.{Number, Variable, Linear, Broken}
-use Rattle.linear_fold.specs.Coefs.{coef_in}
 use Rattle.linear_fold.specs.Forms.{form_line, is_open, IsZeroFrom}
 use Rattle.linear_fold.specs.Operates.{IsOperand, IsSound, IsWithin, AreOperands, lines_of_parts, part_line}
 use Rattle.linear_fold.specs.Folds.{HasLine, HasLineOf, IsLined, AreLinesOf, AreOperandsOf, ArePartsWithin, IsClosedForm, IsEntryOf, IsEntryWithin, IsFolded, IsPartFolded, IsPartWithin, first_broken}
-use Rattle.linear_fold.proofs.CoefLemmas.{adds_at, found_same, found_apart}
-use Rattle.linear_fold.specs.Coefs.{value_or_zero}
 use Rattle.linear_fold.proofs.PartLemmas.{multiple_zero_from}
 use Rattle.linear_fold.proofs.Scaled.{same_line}
 
@@ -53,15 +50,6 @@ multiple_within n j k l = record { sound = l; zero_from = multiple_zero_from n j
 
 pub form_within : (n : ℕ) (a b : Form) → form_line a ≡ form_line b → is_open a ≡ false → IsWithin n b → IsPartWithin n (Linear a)
 form_within n a b e c w = record { sound = c; zero_from = λ j g. ap (λ m. m.coef j) e ∙ w.zero_from j g }
-
-pub one_not_zero : (x : ℚ) → x ≡ one_ℚ → x ≢ zero_ℚ
-unfolding whole
-one_not_zero x e z = (let h : one_ℚ ≡ zero_ℚ = sym e ∙ z in let k = ap (λ (y : ℚ). y.top) h in cc)
-
-pub term_line : (c k : Frac) (j : ℕ) → frac_value c ≡ zero_ℚ → frac_value k ≡ one_ℚ → (record { constant = frac_value c; coef = coef_in ((j, k) ∷ []) }) ≡ line_with (constant_line zero_ℚ) j one_ℚ
-term_line c k j e f =
-    same_line (record { constant = frac_value c; coef = coef_in ((j, k) ∷ []) }) (line_with (constant_line zero_ℚ) j one_ℚ) e
-    (adds_at (λ i. zero_ℚ) (coef_in ((j, k) ∷ [])) j one_ℚ (ap value_or_zero (found_same (j, k) [] j refl) ∙ f ∙ sym (zero-+ℚ one_ℚ)) (λ i n. ap value_or_zero (found_apart (j, k) [] i n)))
 
 -- a line of a tree's values is the tree's line
 pub is_line_by : (n : ℕ) (f : Point → Option ℚ) (l : Line) → IsZeroFrom n l → HasLine n f l → l ≡ line_by f

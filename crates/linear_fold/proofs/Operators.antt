@@ -1,5 +1,5 @@
 -- What the operators on forms come to.
-use Rattle.std.proofs.Common.{◌≡◌, ℕ, zero, suc, ◌+◌, ◌*◌, ◌<◌, ◌≤◌, ◌∙◌, sym, ap, ap₂, refl, subst, subst₂, Bool, true, false, ◌&&◌, Option, Some, Result, Ok, Err, IfOk, List, [], ◌∷◌, map, get_or, length, reverse, ⊎_elim, arith, ◌-◌, if◌then◌else◌}
+use Rattle.std.proofs.Common.{◌≡◌, ℕ, ◌+◌, ◌*◌, ◌<◌, ◌≤◌, ◌∙◌, sym, ap, ap₂, refl, subst, subst₂, Bool, true, false, ◌&&◌, Option, Some, Result, Ok, Err, IfOk, List, [], ◌∷◌, map, get_or, length, reverse, ⊎_elim, arith, ◌-◌, if◌then◌else◌}
 use Rattle.std.proofs.lemmas.Bool.{cases_lt, and_from, and_parts, false_from_ne_true}
 use Rattle.std.proofs.Math.Nat.{mul-le-mul_left}
 use Rattle.text_base.specs.declared.stop.Stop.{Stop}
@@ -20,7 +20,7 @@ use Rattle.linear_fold.specs.declared.operate.Outcome.{Outcome}
 use Rattle.linear_fold.specs.declared.operate.Outcome.TheVariants.{Linear, Refused}
 use Rattle.linear_fold.specs.declared.wide.Wide.{Wide}
 use Rattle.linear_fold.specs.Coefs.{AreAscending}
-use Rattle.linear_fold.specs.Forms.{form_line, form_terms, place_count, IsZeroFrom, HasRoom, HasPlaces, kept_places, ScaledSumFits, AddsScaled}
+use Rattle.linear_fold.specs.Forms.{form_terms, place_count, IsZeroFrom, HasRoom, HasPlaces, kept_places, ScaledSumFits, AddsScaled}
 use Rattle.linear_fold.specs.declared.form.Kept.{Kept}
 use Rattle.linear_fold.specs.declared.form.Kept.TheVariants.{Closed, Open}
 use Rattle.linear_fold.specs.Operates.{zero_line, IsWithin, IsOperand, AreOperands, SumsTo, ComesTo, Operates, part_line}

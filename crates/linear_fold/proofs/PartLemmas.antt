@@ -1,5 +1,5 @@
 -- The parts of a tree: numbers, multiples of a variable, forms.
-use Rattle.std.proofs.Common.{◌≡◌, ◌≢◌, ℕ, zero, suc, ◌+◌, ◌-◌, ◌<◌, ◌≤◌, ◌==◌, ◌∙◌, sym, ap, ap₂, refl, subst, Bool, true, false, ◌&&◌, Option, Some, None, Result, Ok, Err, List, [], ◌∷◌, ◌++◌, take, drop, reverse, length, get_or, add-one, drop-cons, length-drop, arith, if◌then◌else◌, ⊎_elim}
+use Rattle.std.proofs.Common.{◌≡◌, ◌≢◌, ℕ, zero, suc, ◌+◌, ◌-◌, ◌<◌, ◌≤◌, ◌==◌, ◌∙◌, sym, ap, ap₂, refl, subst, Bool, true, false, Result, Ok, Err, List, [], ◌∷◌, ◌++◌, take, drop, reverse, length, get_or, drop-cons, length-drop, arith, ⊎_elim}
 use Rattle.std.proofs.lemmas.Bool.{cases_eq, eq-eqb, and_from, and_parts, false_from_ne_true}
 use Rattle.std.proofs.lemmas.List.{length-reverse, reverse-append, take-append-drop}
 use Rattle.std.proofs.Math.Seq.{take-add, take-append_seam, drop-append_seam}
@@ -9,12 +9,11 @@ use Rattle.exact_numbers.specs.declared.frac.Frac.{Frac}
 use Rattle.exact_numbers.specs.Values.{frac_value}
 use Rattle.exact_numbers.proofs.Bridge.{frac_fits_lem}
 use Rattle.fractions.specs.Fits.{fits, sum_fits}
-use Rattle.fractions.specs.Rational.{ℚ, zero_ℚ, one_ℚ, ◌+ℚ◌, ◌*ℚ◌}
+use Rattle.fractions.specs.Rational.{ℚ, zero_ℚ, ◌+ℚ◌, ◌*ℚ◌}
 use Rattle.fractions.proofs.Arithmetic.{*ℚ_one, *ℚ_zero, +ℚ_zero, zero-+ℚ}
-use Rattle.nl_meaning.specs.declared.Fault.{Fault}
 use Rattle.nl_meaning.specs.Faults.{constant_line, line_scaled, line_sum, products_fit}
 use Rattle.nl_meaning.specs.Lines.{Line, is_zero, is_constant, one_if}
-use Rattle.nl_meaning.proofs.LineLemmas.{all_below-true, apart-eqb, is_zero-true, same-eqb}
+use Rattle.nl_meaning.proofs.LineLemmas.{all_below-true, apart-eqb}
 use Rattle.linear_fold.specs.declared.form.Form.{Form}
 use Rattle.linear_fold.specs.declared.parts.Part.{Part}
 use Rattle.linear_fold.specs.declared.parts.Part.TheVariants.{Number, Variable, Linear, Broken}
@@ -64,6 +63,7 @@ module _ (n : ℕ) (k x : ℚ) where
     where
       rest : (j : ℕ) → fits (k *ℚ zero_ℚ) ≡ true
       rest j = ap fits (*ℚ_zero k) ∙ fits_zero
+
       by : (b : Bool) → fits (k *ℚ x) ≡ b → products_fit n k (constant_line x) ≡ b
       by true e = and_from _ _ e (all_below-intro (λ j. fits (k *ℚ zero_ℚ)) n (λ j l. rest j))
       by false e = false_from_ne_true _ (λ t. (let clash = sym e ∙ (and_parts _ _ t).0 in cc))
@@ -116,7 +116,7 @@ module _ (a : Line) (k x : ℚ) (j : ℕ) (small : FitsLine a) where
               (cases_eq i j);
         },
         same_line new (line_sum a (line_scaled k (multiple_line j x))) (c ∙ sym (ap (λ z. a.constant +ℚ z) none ∙ +ℚ_zero a.constant))
-        (λ i. h.1 i ∙ ap (λ z. a.coef i +ℚ z) (sym (zero-+ℚ (m *ℚ one_if (i == j))) ∙ ap (λ l. l.coef i) (multiple_scaled 0 k x j m is))),
+            (λ i. h.1 i ∙ ap (λ z. a.coef i +ℚ z) (sym (zero-+ℚ (m *ℚ one_if (i == j))) ∙ ap (λ l. l.coef i) (multiple_scaled 0 k x j m is))),
       )
   adds_multiple new m (Err (Stopped w)) fit is c h = multiple_stop m w is h
   adds_multiple new m (Err Memory) fit is c h = tt

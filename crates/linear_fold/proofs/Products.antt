@@ -1,5 +1,5 @@
 -- A closed form times a number.
-use Rattle.std.proofs.Common.{◌≡◌, ◌≢◌, ℕ, suc, zero, ◌+◌, ◌<◌, ◌≤◌, ⊎_elim, ◌⊎◌, inl, inr, ◌∙◌, sym, ap, refl, subst, arith, true, false, Err, List, [], ◌∷◌, ◌++◌, drop, length, get_or, append-nil, append_assoc, ap₂, drop-cons}
+use Rattle.std.proofs.Common.{◌≡◌, ◌≢◌, ℕ, suc, zero, ◌+◌, ◌<◌, ◌≤◌, ⊎_elim, inl, inr, ◌∙◌, sym, ap, refl, subst, arith, true, false, Err, List, [], ◌∷◌, ◌++◌, drop, length, get_or, append-nil, append_assoc, ap₂, drop-cons}
 use Rattle.std.proofs.lemmas.Bool.{and_from, and_parts, cases_eq, cases_lt, false_from_ne_true}
 use Rattle.exact_numbers.specs.declared.frac.Frac.{Frac}
 use Rattle.exact_numbers.specs.Values.{frac_value}

@@ -1,5 +1,5 @@
 -- Stacks with the top at the end.
-use Rattle.std.proofs.Common.{◌≡◌, ℕ, zero, suc, ◌+◌, ◌-◌, ◌*◌, ◌<◌, ◌≤◌, ◌∙◌, sym, ap, ap₂, refl, subst, subst₂, List, [], ◌∷◌, ◌++◌, reverse, take, drop, length, None, Some, Option, arith, length-drop, drop-cons, get_or}
+use Rattle.std.proofs.Common.{◌≡◌, ℕ, zero, suc, ◌+◌, ◌-◌, ◌*◌, ◌<◌, ◌≤◌, ◌∙◌, sym, ap, ap₂, refl, subst, subst₂, List, [], ◌∷◌, ◌++◌, reverse, take, drop, length, None, Option, arith, length-drop, drop-cons, get_or}
 use Rattle.std.specs.Option.{option_or}
 use Rattle.std.proofs.lemmas.List.{reverse-append, length-reverse}
 use Rattle.std.proofs.Math.Nat.{mul-le-mul_left}

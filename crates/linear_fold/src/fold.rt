@@ -134,9 +134,9 @@ fn part_of<L: Ledger>(
             let rest = stack.len() - count as usize;
             let operands = stack.split_at(rest).1;
             let class = class_of(opcode);
-            let part = operation_part(alloc, class, operands, place, total, steps, variables)?;
+            let made = operation_part(alloc, class, operands, place, total, steps, variables);
             stack.truncate(rest);
-            Ok(part)
+            made
         }
     }
 }

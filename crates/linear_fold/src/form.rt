@@ -2,9 +2,9 @@
 ghost use Rattle.std.specs.Prelude.{◌≡◌, ◌+◌, ◌≤◌, ℕ, [], true, false, length, IfOk, IfErr, IfSome, OnOk, OnErr, ◌≢◌};
 ghost use Rattle.text_base.specs.Stopped.{IfFault};
 ghost use Rattle.exact_numbers.specs.Values.{frac_value};
-ghost use Rattle.fractions.specs.Rational.{one_ℚ, zero_ℚ};
+ghost use Rattle.fractions.specs.Rational.{zero_ℚ};
 ghost use Rattle.std.specs.Iterator.{YieldsFirst, item_count};
-ghost use Rattle.nl_meaning.specs.Faults.{constant_line, line_with, line_scaled, line_sum};
+ghost use Rattle.nl_meaning.specs.Faults.{constant_line, line_scaled, line_sum};
 ghost use Rattle.nl_meaning.specs.Lines.{is_constant};
 ghost use Rattle.linear_fold.specs.Coefs.{AddsAt, AreAscending, AreDecimalsOf, AreProducts, HasWideProduct, coef_in};
 ghost use Rattle.linear_fold.specs.Forms.{AddsScaled, AreWithin, HasPlace, HasRoom, IsZeroFrom, Multiplies, SumsUp, form_line, form_terms, is_open, place_count, terms_left};
@@ -76,19 +76,6 @@ impl Form {
             constant,
             kept: Kept::Closed(Coefficients::new(alloc)),
         }
-    }
-
-    // A variable, closed.
-    pub(crate) fn of_variable(alloc: Global, variable: u32) -> Result<Form, AllocError>
-        ensures line { IfOk result
-            (λ f. form_line f ≡ line_with (constant_line zero_ℚ) variable one_ℚ) }
-        ensures closed { IfOk result (λ f. is_open f ≡ false) }
-    {
-        let coefficients = Coefficients::of_term(alloc, variable, Frac::one())?;
-        Ok(Form {
-            constant: Frac::zero(),
-            kept: Kept::Closed(coefficients),
-        })
     }
 
     /// The form 0, open on a pad.

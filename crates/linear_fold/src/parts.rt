@@ -65,11 +65,7 @@ fn constant_of_multiple(factor: Frac) -> Option<Frac>
     ensures value { IfSome result (λ f. frac_value f ≡ zero_ℚ) }
     ensures test { is_some result ≡ is_zero (frac_value factor) }
 {
-    if factor.is_zero() {
-        Some(factor)
-    } else {
-        None
-    }
+    if factor.is_zero() { Some(factor) } else { None }
 }
 
 // A factor times a variable, as a closed form.

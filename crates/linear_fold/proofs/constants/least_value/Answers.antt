@@ -1,6 +1,6 @@
-use Rattle.std.proofs.Common.{◌≡◌, ◌∷◌, ◌∙◌, ◌-◌, ap, arith, length, refl, reverse, subst, sym, take}
+use Rattle.std.proofs.Common.{◌-◌, ap, arith, length, reverse, subst, sym, take}
 use Rattle.exact_numbers.specs.Values.{frac_value}
-use Rattle.linear_fold.proofs.ConstantLemmas.{Choosing, least_choice, least_found, choosing_init, choosing_more, choosing_stop, choosing_tests, choosing_best, closed_first, closed_here, first_varies}
+use Rattle.linear_fold.proofs.ConstantLemmas.{Choosing, least_choice, least_found, choosing_init, choosing_more, choosing_tests, choosing_best, closed_first, closed_here, first_varies}
 use Rattle.linear_fold.proofs.PartLemmas.{first_of_all, last_first, take_all, take_none}
 use Rattle.linear_fold.proofs.constants.least_value.Goals as goal
 

@@ -1,4 +1,4 @@
-use Rattle.std.proofs.Common.{◌∙◌, ap}
+use Rattle.std.proofs.Common.{ap}
 use Rattle.exact_numbers.specs.Values.{frac_value}
 use Rattle.nl_meaning.specs.Faults.{constant_line, fault_at, too_wide_unless}
 use Rattle.linear_fold.proofs.Folding.{constant_lined, number_within, same_values}

@@ -1,4 +1,4 @@
-use Rattle.std.proofs.Common.{◌≡◌, ◌∷◌, ◌∙◌, ◌≤◌, ap, arith, refl, ◌+◌, ◌*◌, ◌-◌, length, reverse, subst, sym, take}
+use Rattle.std.proofs.Common.{◌∙◌, ◌≤◌, ap, arith, refl, ◌+◌, ◌-◌, length, reverse, subst, sym, take}
 use Rattle.exact_numbers.specs.Values.{frac_value}
 use Rattle.linear_fold.specs.Forms.{form_line, place_count}
 use Rattle.linear_fold.specs.Operates.{IsOperand}

@@ -1,4 +1,4 @@
-use Rattle.std.proofs.Common.{◌≡◌, ◌≤◌, ◌∷◌, ◌∙◌, [], length, refl, reverse, sym, subst}
+use Rattle.std.proofs.Common.{◌≡◌, ◌≤◌, ◌∙◌, length, refl, reverse, sym, subst}
 use Rattle.std.proofs.lemmas.List.{length-reverse}
 use Rattle.nl_meaning.specs.Trees.{HasCount}
 use Rattle.linear_fold.specs.Forms.{place_count}

@@ -1,4 +1,4 @@
-use Rattle.std.proofs.Common.{◌≡◌, ◌∙◌, ap, refl, sym}
+use Rattle.std.proofs.Common.{◌∙◌, ap, refl}
 use Rattle.exact_numbers.specs.Values.{frac_value}
 use Rattle.nl_meaning.specs.Lines.{Line}
 use Rattle.linear_fold.specs.Coefs.{coef_in}
