@@ -137,3 +137,12 @@ tree_stop w total p start to new a =
     let most : 2 * w * (total - p) ≤ 2 * w * total = mul-le-mul_left (2 * w) less in
     let f : w * (new + 1) ≡ w * new + w = omega arith in
     omega arith
+
+pub some_node : (nodes : List Node) → length (trees_of nodes) ≡ 1 → 0 < length nodes
+some_node [] e = absurd (omega arith)
+some_node (x ∷ ns) e = omega arith
+
+pub no_step : (w start nodes : ℕ) → 0 < nodes → start + w ≤ start + 2 * w * nodes
+no_step w start nodes some =
+    let most : 2 * w * 1 ≤ 2 * w * nodes = mul-le-mul_left (2 * w) some in
+    omega arith

@@ -17,6 +17,9 @@ use nl_model::Node;
 use std::alloc::{AllocError, Global};
 use text_base::{Ledger, Steps};
 
+// A stack has room for so many parts at first.
+const MOST_AT_FIRST: usize = 16;
+
 fn number_part(value: Dec, place: usize) -> Part
     ensures part { (n : ℕ) (known : Point → Known)
         → IsPartFolded known n place (number value.m value.e) result }
@@ -165,7 +168,7 @@ pub(crate) fn fold_tree<L: Ledger>(
     ensures below { steps.new + (variables + 1)
         ≤ steps.old + 2 * (variables + 1) * length nodes.now }
 {
-    let mut stack: Vec<Part> = Vec::new(alloc);
+    let mut stack: Vec<Part> = Vec::with_capacity(alloc, nodes.len().min(MOST_AT_FIRST))?;
     for place in (0..nodes.len()).rev() {
         let part = part_of(
             alloc,

@@ -3,8 +3,11 @@ use Rattle.nl_model.specs.Nodes.{trees_of, with_node}
 use Rattle.linear_fold.specs.Folds.{ArePartsFolded, ArePartsWithin, NodeFinds}
 use Rattle.linear_fold.proofs.Folding.{entry_folded, entry_is_within}
 use Rattle.linear_fold.proofs.Operators.{if_ok}
-use Rattle.linear_fold.proofs.Stacks.{node_at, finds_at, top_first, top_folded, tree_steps}
+use Rattle.linear_fold.proofs.Stacks.{no_step, some_node, node_at, finds_at, top_first, top_folded, tree_steps}
 use Rattle.linear_fold.proofs.fold.fold_tree.Goals as goal
+
+pub returns-in_err-stack-clause-below : goal.returns-in_err-stack-clause-below
+returns-in_err-stack-clause-below g c = no_step (c.args.variables + 1) c.args.steps.now (length c.args.nodes.now) (some_node c.args.nodes.now c.requires.one)
 
 pub part_of-requires-clause-finds : goal.part_of-requires-clause-finds
 part_of-requires-clause-finds g c =
