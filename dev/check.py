@@ -5,7 +5,9 @@
 
 GATE (a variable, else ../gate) is a clone in which `rt ci` ran or runs: its crates/X/out/rlib/X.rlib are the proved
 libraries. A crate below CRATE that differs here from GATE's is taken from this clone's own crates/X/out/rlib, which
---library makes: it builds CRATE itself as a library, and proves it. It says where a library is missing.
+--library makes: it builds CRATE itself as a library, and proves it. It says where a library is missing. Libraries over
+two builds of one crate do not go together: OWN (a variable, names of crates) are those taken from this clone although
+their text is the same, since a crate below them differs.
 """
 import os
 import subprocess
@@ -38,7 +40,9 @@ def below(used, crate, seen):
 
 
 def is_same(crate):
-    """Whether a crate's text is the same here and at GATE."""
+    """Whether a crate's text is the same here and at GATE, and it is not to be taken from here all the same."""
+    if crate in os.environ.get("OWN", "").split():
+        return False
     for part in PARTS:
         folders = [f"{top}/crates/{crate}/{part}" for top in (TOP, GATE)]
         if any(map(os.path.exists, folders)):
