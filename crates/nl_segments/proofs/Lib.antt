@@ -42,3 +42,4 @@ pub mod TreePieces
 pub mod KnownPairs
 pub mod LeafLemmas
 pub mod NodeKept
+pub mod WholeRows

@@ -22,3 +22,4 @@ pub mod TreeSteps
 pub mod KnownPairs
 pub mod KnownNodes
 pub mod Leaves
+pub mod WholeRows

@@ -34,6 +34,7 @@ mod pairs;
 mod pending;
 mod places;
 mod seen;
+mod whole_line;
 mod words;
 
 pub use awaited::Awaited;
