@@ -37,6 +37,16 @@ fn operand_count(node: Node) -> u32
     }
 }
 
+// Makes room for a node alone, where it is the whole expression: most constraints have one number.
+fn make_room(nodes: &mut Vec<Node>, node: Node) -> Result<(), AllocError>
+    ensures { nodes.new.items ≡ nodes.old.items }
+{
+    if nodes.is_empty() && operand_count(node) == 0 {
+        return nodes.reserve_exact(1);
+    }
+    Ok(())
+}
+
 impl ExprBuilder {
     /// No nodes.
     pub fn new(alloc: Global) -> ExprBuilder
@@ -56,6 +66,7 @@ impl ExprBuilder {
     }
 
     /// Adds the next node.
+    #[inline]
     pub fn push(&mut self, node: Node) -> Result<(), AllocError>
         requires wanted { 0 < awaited self.old }
         requires few { length self.old < 2 ^ 22 }
@@ -63,6 +74,7 @@ impl ExprBuilder {
         ensures ok { OnOk result (self.new ≡ self.old ++ node ∷ []) }
         ensures err { OnErr result (self.new ≡ self.old) }
     {
+        make_room(&mut self.nodes, node)?;
         self.nodes.push(node)?;
         self.wants = self.wants - 1 + operand_count(node) as u64;
         Ok(())
