@@ -8,3 +8,4 @@ pub mod Rows
 pub mod Saying
 pub mod SeenSegments
 pub mod Tests
+pub mod WholeRows
