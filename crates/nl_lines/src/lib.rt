@@ -18,6 +18,7 @@ mod number_lines;
 mod pair_line;
 mod pairs;
 mod pending;
+mod segment;
 mod whole_line;
 mod words;
 
