@@ -29,6 +29,7 @@ use Rattle.bridge_tool.specs.Refusal.{HasTextRefusal, HasFoldRefusal, HasScaleRe
 use Rattle.bridge_tool.specs.NlTold.{nl_line, fold_line, scale_line}
 use Rattle.bridge_tool.proofs.Decided.{IsDecided, decimal_decided, scaling_decided, scales_without_fault, one_scale_fault}
 use Rattle.bridge_tool.proofs.Decisions.{AreDecided}
+use Rattle.bridge_tool.proofs.Options.{same_some}
 
 -- ---- texts
 
@@ -60,9 +61,6 @@ folds_without_fault f k fault e is = named f (fold_fault f k) fault e is
 
 folds_of_one_text : (text : List ℕ) (k : ℕ) (a b : NlValue) (fault : FoldFault) → IsNl text a → IsNl text b → fold_fault a.file k ≡ None → first_fold_fault b.file k ≡ Some fault → ⊥
 folds_of_one_text text k a b fault ra rb e is = folds_without_fault a.file k fault e (subst (λ (f : File). first_fold_fault f k ≡ Some fault) (sym (same_file text a b ra rb)) is)
-
-same_some : {A : Type 0} (a b : A) (o : Option A) → o ≡ Some a → o ≡ Some b → a ≡ b
-same_some a b o e f = cc
 
 same_fold_line : (text : List ℕ) (k : ℕ) (a b : List ℕ) → HasFoldRefusal text k a → HasFoldRefusal text k b → a ≡ b
 same_fold_line text k a b h j =

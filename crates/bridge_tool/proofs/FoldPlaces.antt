@@ -23,12 +23,10 @@ use Rattle.linear_fold.proofs.BodyLemmas.{owners_are}
 use Rattle.linear_fold.proofs.CountLemmas.{count_zero}
 use Rattle.linear_fold.proofs.Folding.{constant_lined}
 use Rattle.linear_fold.proofs.OwnerLemmas.{expression_among, owner_is, owner_place}
+use Rattle.bridge_tool.proofs.Options.{some_same}
 
 abbrev IsPlaced : File → FileFault → Type 0
 IsPlaced f x = HasFaultPlace f (named_fault f x)
-
-same_some : {A : Type 0} (x y : A) → Some x ≡ Some y → x ≡ y
-same_some x y e = cc
 
 -- ---- one owner, where those before it have few coefficients
 module _ (f : File) (o : Owner) where
@@ -60,7 +58,7 @@ module _ (f : File) (o : Owner) where
       by true q e =
           let many = ltb-true most_coefficients (before + coefficients) q in
           let some = has_head (tree_at f o) (terms_at f o) (λ t ts. let none = nothing_counted t ts in omega arith) in
-          subst (IsPlaced f) (same_some (fold_too_large (fold_owner_of o)) x e)
+          subst (IsPlaced f) (some_same (fold_too_large (fold_owner_of o)) x e)
           (subst (λ w. IsTrue (is_some (tree_at f w) || not (length (terms_at f w) == 0))) (sym (owner_is o)) some)
 
   placed : (before : ℕ) (x : FileFault) → before ≤ most_coefficients → owner_fault width (before + coefficients) (owned_at f o) ≡ Some x → IsPlaced f x
@@ -70,7 +68,7 @@ module _ (f : File) (o : Owner) where
           → option_or (at_owner (fold_owner_of o) r) (head_fault (fold_owner_of o) (before + coefficients)) ≡ Some x → IsPlaced f x
       by None q e = placed_head before x few e
       by (Some y) q e =
-          subst (IsPlaced f) (same_some (at_place (fold_owner_of o) y) x e)
+          subst (IsPlaced f) (some_same (at_place (fold_owner_of o) y) x e)
           (subst (λ w. HasFaultPlace f (fault_for y.reason (place_at f w y.place))) (sym (owner_is o))
           (owner_place f o y.reason y.place (expression_among (known_by (definitions_before f o)) width (tree_at f o) (terms_at f o) y q)))
 
@@ -110,7 +108,7 @@ owners_placed f (w ∷ os) before x h few e = by (owner_fault n total w) refl e 
     by : (r : Option FileFault) → owner_fault n total w ≡ r → option_or r (owners_fault n total os) ≡ Some x → (total ≤ most_coefficients → owners_fault n total os ≡ Some x → IsPlaced f x) → IsPlaced f x
     by None q e rest = rest (few_after w.owner (at_owner w.owner (expression_fault w.known n w.expression)) total q) e
     by (Some y) q e rest =
-        subst (IsPlaced f) (same_some y x e)
+        subst (IsPlaced f) (some_same y x e)
         (placed f h.0.0 before y few (subst (λ v. owner_fault n (before + coefficient_count n (owned_line v)) v ≡ Some y) h.0.1 q))
 
 pub fold_placed : (f : File) (k : ℕ) (x : FoldFault) → first_fold_fault f k ≡ Some x → HasFaultPlace f x
@@ -123,8 +121,8 @@ fold_placed f k x e = by (has_objective f k) e
 
     at : (r : Option FileFault) → owners_fault f.counts.n_var 0 (owners_of f k) ≡ r → option_map (named_fault f) r ≡ Some x → HasFaultPlace f x
     at None q e = absurd cc
-    at (Some y) q e = subst (HasFaultPlace f) (same_some (named_fault f y) x e) (owners_placed f (owners_of f k) 0 y all (omega arith) q)
+    at (Some y) q e = subst (HasFaultPlace f) (some_same (named_fault f y) x e) (owners_placed f (owners_of f k) 0 y all (omega arith) q)
 
     by : (b : Bool) → option_map (named_fault f) (if b then owners_fault f.counts.n_var 0 (owners_of f k) else Some (no_such_objective k)) ≡ Some x → HasFaultPlace f x
     by true e = at (owners_fault f.counts.n_var 0 (owners_of f k)) refl e
-    by false e = subst (HasFaultPlace f) (same_some (named_fault f (no_such_objective k)) x e) tt
+    by false e = subst (HasFaultPlace f) (some_same (named_fault f (no_such_objective k)) x e) tt

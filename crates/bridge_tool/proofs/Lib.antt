@@ -19,6 +19,7 @@ pub mod NamedReturning
 pub mod NlRewriting
 pub mod Numbers
 pub mod OneOutcome
+pub mod Options
 pub mod Proving
 pub mod Outcomes
 pub mod Returning

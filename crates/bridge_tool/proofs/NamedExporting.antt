@@ -38,11 +38,9 @@ use Rattle.bridge_tool.proofs.NameLists.{list_read}
 use Rattle.bridge_tool.proofs.NlRewriting.{nl_read}
 use Rattle.bridge_tool.proofs.OneOutcome.{HasOne, IsPlain}
 use Rattle.bridge_tool.proofs.SeveralFiles.{HasComeDown, IsSound, begun, counted, ended, further, idle, sound_after, sound_end, stopped}
+use Rattle.bridge_tool.proofs.Options.{same_some}
 
 -- ---- one outcome
-
-same_some : {A : Type 0} (a b : A) (o : Option A) → o ≡ Some a → o ≡ Some b → a ≡ b
-same_some a b o e f = cc
 
 module _ (n : Named) where
   abbrev f : Linear

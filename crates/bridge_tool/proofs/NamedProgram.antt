@@ -4,8 +4,7 @@ use Rattle.fractions.specs.Rational.{ℚ}
 use Rattle.linear_programs.specs.Linear.{Linear, Row, Variable}
 use Rattle.linear_programs.specs.Names.{row_name, variable_name}
 use Rattle.exact_numbers.specs.declared.dec.Dec.{Dec}
-use Rattle.exact_numbers.specs.Values.{dec_value, value_text, text_of}
-use Rattle.exact_numbers.proofs.Spelling.{value_text-decimal}
+use Rattle.exact_numbers.specs.Values.{dec_value, value_text}
 use Rattle.export_round_trip.specs.ReadAs.{IsReadAs}
 use Rattle.exported_program.specs.Export.{IsDecimal, factor_of_row, factor_of_objective}
 use Rattle.file_meaning.specs.LinearFile.{elements_from, linear_of, row_of, variable_of}
@@ -13,7 +12,6 @@ use Rattle.file_meaning.proofs.Elements.{all_elements, elements_length}
 use Rattle.mps_model.specs.Mps.{Column, Mps, column_with, with_values}
 use Rattle.mps_model.specs.Text.{mps_text_by}
 use Rattle.mps_model.specs.Valid.{IsMps}
-use Rattle.mps_model.proofs.Texts.{text_by_values}
 use Rattle.mps_reader.specs.Reader.{IsMpsText}
 use Rattle.mps_reader.specs.Written.{mps_text}
 use Rattle.mps_reader.proofs.RoundTrip.{written_again}
@@ -29,6 +27,7 @@ use Rattle.bridge_tool.specs.NamedExport.{AreNamedMeant, IsNamedTextOf, Named}
 use Rattle.bridge_tool.proofs.Decided.{decimal_decided}
 use Rattle.bridge_tool.proofs.Exporting.{by_decimal}
 use Rattle.bridge_tool.proofs.Meaning.{file_program}
+use Rattle.export_round_trip.proofs.Reading.{text_of_values}
 
 -- ---- names of a file's program
 
@@ -113,12 +112,6 @@ one_meaning bytes p rows columns t =
     subst (λ (q : Mps ℚ). HaveOneMeaning (named q rows columns) q) t.values of_values
 
 -- ---- reading back
-
-same_texts : (λ d. value_text (dec_value d)) ≡ text_of
-same_texts = λ i. λ d. value_text-decimal d.m d.e d.spelled i
-
-text_of_values : (m : Mps Dec) → mps_text m ≡ mps_text_by value_text (with_values dec_value m)
-text_of_values m = ap (λ t. mps_text_by t m) (sym same_texts) ∙ sym (text_by_values value_text dec_value m)
 
 -- the values of the decimal program with these names
 named_values : (bytes : List ℕ) (p : Mps ℚ) (rows columns : List (List ℕ)) → (t : IsNamedTextOf bytes p rows columns) → with_values dec_value (named t.decimal rows columns) ≡ named p rows columns

@@ -51,6 +51,7 @@ use Rattle.bridge_tool.proofs.NlRewriting.{nl_read}
 use Rattle.bridge_tool.proofs.OneOutcome.{HasOne, IsPlain}
 use Rattle.bridge_tool.proofs.Proving.{steps_so}
 use Rattle.bridge_tool.proofs.SeveralFiles.{HasComeDown, IsSound, begun, counted, ended, further, idle, sound_after, sound_end, stopped}
+use Rattle.bridge_tool.proofs.Options.{same_some}
 
 -- ---- the second file
 
@@ -71,9 +72,6 @@ answer_read s = record {
 }
 
 -- ---- what both come to
-
-same_some : {A : Type 0} (a b : A) (o : Option A) → o ≡ Some a → o ≡ Some b → a ≡ b
-same_some a b o e f = cc
 
 module _ (nl : NlValue) (a : AnswerValue) where
   one_bytes : (x y : List ℕ) → IsReturned nl a x → IsReturned nl a y → x ≡ y

@@ -19,6 +19,7 @@ use Rattle.bridge_tool.proofs.Decisions.{AreRead}
 use Rattle.bridge_tool.proofs.Ending.{HasComeTo, IsKnown, fault_status, memory_worked, missed_worked, refused_worked, wrote_worked}
 use Rattle.bridge_tool.proofs.Known.{OnlyInput-same, OnlyInput-then}
 use Rattle.bridge_tool.proofs.OneOutcome.{HasOne, IsPlain}
+use Rattle.bridge_tool.proofs.Options.{same_some}
 
 -- ---- promises
 
@@ -28,13 +29,10 @@ pub record IsSound (p : Promise) : Type 0 where
   pub last : (a b : List ℕ) → p.last a → p.last b → a ≡ b
   pub idle : (n : ℕ) → p.counts n n
 
-same_some : {A : Type 0} (o : Option A) (a b : A) → o ≡ Some a → o ≡ Some b → a ≡ b
-same_some o a b e h = cc
-
 pub sound_end : (texts : Texts) (file : List ℕ) (comes : Outcome → Type 0) (counts : ℕ → ℕ → Type 0) (means : Type 0) → HasOne IsPlain comes → ((n : ℕ) → counts n n) → IsSound (ends texts file comes counts means)
 sound_end texts file comes counts means one idle = record {
   one = one;
-  last = λ a b h k. same_some (texts file) a b h k;
+  last = λ a b h k. same_some a b (texts file) h k;
   idle = idle;
 }
 

@@ -17,6 +17,7 @@ use Rattle.bridge_tool.specs.declared.transfer.TheConstants.{LIMIT}
 use Rattle.bridge_tool.proofs.OneOutcome.{HasOne, text_has_one}
 use Rattle.bridge_tool.proofs.Decisions.{AreDecided}
 use Rattle.bridge_tool.proofs.Ending.{HasComeTo, IsKnown, fault_status, line_none, memory_worked, missed_worked as missed_so, refused_worked, wrote_worked}
+use Rattle.bridge_tool.proofs.Options.{some_same}
 
 module _ (accepts refuses : List ℕ → List ℕ → Type 0) where
   text_known : (text : List ℕ) (o : Outcome) → TextComesTo accepts refuses text o → IsKnown o
@@ -64,14 +65,11 @@ holds_of_read None file left fed P read h = tt
 holds_of_read (Some texts) file left fed P read h =
     subst (λ (t : Option (List ℕ)). IfSome t (λ text. P (take LIMIT text))) (sym read.read.named) (subst P read.read.front (h read.bytes read.taken))
 
-same_some : {A : Type 0} (a b : A) → Some a ≡ Some b → a ≡ b
-same_some a b e = cc
-
 -- what is left is the rest of the text that was read
 rest_left : (texts : Option Texts) (file : List ℕ) (left : Option (List ℕ)) (fed : List ℕ → Type 0) (text : List ℕ) → HasRead texts file LIMIT left fed → text_of texts file ≡ Some text → left ≡ Some (drop LIMIT text)
 rest_left None file left fed text read is = absurd cc
 rest_left (Some texts) file left fed text read is =
-    read.read.rest ∙ ap (λ t. Some (drop LIMIT t)) (same_some read.read.text text (sym read.read.named ∙ is))
+    read.read.rest ∙ ap (λ t. Some (drop LIMIT t)) (some_same read.read.text text (sym read.read.named ∙ is))
 
 module _ (accepts refuses : List ℕ → List ℕ → Type 0) (d : AreDecided accepts refuses) where
   at_file : (texts : Texts) (file text bytes : List ℕ) (o : Outcome) → texts file ≡ Some text → bytes ≡ take LIMIT text → FileComesTo (TextComesTo accepts refuses) (texts file) o → TextComesTo accepts refuses bytes o

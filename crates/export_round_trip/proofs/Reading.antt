@@ -95,7 +95,7 @@ short_names f k m file is =
 same_texts : (λ d. value_text (dec_value d)) ≡ text_of
 same_texts = λ i. λ d. value_text-decimal d.m d.e d.spelled i
 
-text_of_values : (m : Mps Dec) → mps_text m ≡ mps_text_by value_text (with_values dec_value m)
+pub text_of_values : (m : Mps Dec) → mps_text m ≡ mps_text_by value_text (with_values dec_value m)
 text_of_values m = ap (λ t. mps_text_by t m) (sym same_texts) ∙ sym (text_by_values value_text dec_value m)
 
 pub read_back : (f : File) (k : ℕ) (m : Mps Dec) → IsFile f → IsProgramOf (linear_of f k) m → IsMps dec_value m → IsReadAs (mps_text_by value_text (with_values dec_value m)) (with_values dec_value m)

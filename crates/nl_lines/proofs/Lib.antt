@@ -14,3 +14,4 @@ pub mod PieceLemmas
 pub mod RowLemmas
 pub mod SeenLemmas
 pub mod TotalLemmas
+pub mod WholeRows

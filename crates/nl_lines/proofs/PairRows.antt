@@ -43,7 +43,7 @@ whole_digits word i e = by (are_digits word) refl
 no_letter : (b : ℕ) → 48 ≤ b → b ≤ 57 → is_ascii_letter b ≡ false
 no_letter b low high = grind (arith, nat_tests)
 
-digits_plain : (word : List ℕ) → are_digits word ≡ true → is_ascii_letter (slice_index word 0) ≡ false
+pub digits_plain : (word : List ℕ) → are_digits word ≡ true → is_ascii_letter (slice_index word 0) ≡ false
 digits_plain [] e = absurd cc
 digits_plain (b ∷ word) e =
     let all : are_any_digits (b ∷ word) ≡ true = second_of_both _ _ e in
@@ -63,7 +63,7 @@ pub same_known : (c : Counts) (head : Head) (marks : List Bool) (full : Bool) (w
 unfolding pair_form_tests
 same_known c head marks full words t p = rw (p.two, index_digits words t p, index_of words t p.says, value_of words t p.says) refl
 
-not_false : (b : Bool) → not b ≡ false → b ≡ true
+pub not_false : (b : Bool) → not b ≡ false → b ≡ true
 not_false true e = refl
 not_false false e = absurd cc
 

@@ -7,4 +7,6 @@ pub mod Pieces
 pub mod Rows
 pub mod Saying
 pub mod SeenSegments
+pub mod Segment
 pub mod Tests
+pub mod WholeRows

@@ -9,12 +9,12 @@ use Rattle.nl_model.specs.declared.interval.Interval.{Interval}
 use Rattle.nl_model.specs.File.{Term}
 use Rattle.nl_model.specs.Nodes.{awaited}
 use Rattle.nl_lines.specs.declared.awaited.Awaited.{Awaited}
-use Rattle.nl_lines.specs.declared.awaited.Awaited.TheVariants.{Nothing, Pair, ColumnCount, Interval as IntervalLine, Node as NodeLine, OperandCount}
+use Rattle.nl_lines.specs.declared.awaited.Awaited.TheVariants.{Nothing, Node as NodeLine, OperandCount}
 use Rattle.nl_lines.specs.declared.head.Head.{Head}
-use Rattle.nl_lines.specs.declared.head.Head.TheVariants.{Body, Objective, Definition, DualGuesses, PrimalGuesses, Sides, Bounds, ColumnCounts, Terms, Slopes, Suffix}
 use Rattle.exact_numbers.specs.Numbers.{whole_of, dec_of}
 use Rattle.nl_lines.specs.Rows.{Row, row_words}
 use Rattle.text_base.specs.Words.{word_at}
+use Rattle.nl_lines.specs.Segment.{kind_in, lines_in, pairs_in, segment_of}
 use Rattle.nl_lines.specs.Heads.{is_head, head_of, name_in}
 use Rattle.nl_lines.specs.Nodes.{Placed, Pending, nodes_of, pending_of, only_nodes}
 
@@ -61,44 +61,23 @@ last_piece (p ∷ q ∷ pieces) = last_piece (q ∷ pieces)
 
 -- lines of an index and a value that follow a head
 abbrev pub pair_count : Head → ℕ
-pair_count (Body i) = 0
-pair_count (Objective k maximise) = 0
-pair_count (Definition i j usage) = j
-pair_count (DualGuesses n) = n
-pair_count (PrimalGuesses n) = n
-pair_count Sides = 0
-pair_count Bounds = 0
-pair_count (ColumnCounts n) = 0
-pair_count (Terms i n) = n
-pair_count (Slopes k n) = n
-pair_count (Suffix kind n) = n
+pair_count head = pairs_in (segment_of head).lines
 
 -- the pairs of a piece are kept until it is complete
 abbrev pub keeps_pairs : Head → Bool
-keeps_pairs (Definition i j usage) = Bool.true
-keeps_pairs (Suffix kind n) = Bool.true
-keeps_pairs head = Bool.false
+keeps_pairs head = (segment_of head).kept
 
 -- lines that follow a head, before any expression
 abbrev pub line_count : Counts → Head → ℕ
-line_count c Sides = c.n_con
-line_count c Bounds = c.n_var
-line_count c (ColumnCounts n) = n
-line_count c head = pair_count head
+line_count c head = lines_in c (segment_of head).lines
 
 -- what each of these lines is
 abbrev pub line_kind : Head → Awaited
-line_kind Sides = IntervalLine
-line_kind Bounds = IntervalLine
-line_kind (ColumnCounts n) = ColumnCount
-line_kind head = Pair
+line_kind head = kind_in (segment_of head).lines
 
 -- an expression follows these lines
 abbrev pub has_tree : Head → Bool
-has_tree (Body i) = Bool.true
-has_tree (Objective k maximise) = Bool.true
-has_tree (Definition i j usage) = Bool.true
-has_tree head = Bool.false
+has_tree head = (segment_of head).has_tree
 
 -- the rows of the expression of a piece, its nodes, and the opcode that is pending after them
 abbrev pub tree_rows : Piece → List Row

@@ -17,8 +17,8 @@ use Rattle.nl_model.specs.Draft.{Draft}
 use Rattle.nl_model.specs.File.{Term}
 use Rattle.nl_model.specs.HeaderRules.{defined_count}
 use Rattle.nl_model.specs.Kinds.{kind_of}
-use Rattle.nl_model.specs.SuffixKinds.{has_same_objects, wants_whole as is_whole_kind}
-use Rattle.nl_model.specs.Rules.{is_defined, object_count, most_terms, term_count}
+use Rattle.nl_model.specs.SuffixKinds.{has_same_objects}
+use Rattle.nl_model.specs.Rules.{is_defined, most_terms, term_count}
 use Rattle.nl_model.specs.UseCounts.{terms_up_to}
 use Rattle.nl_lines.specs.declared.awaited.Awaited.{Awaited}
 use Rattle.nl_lines.specs.declared.awaited.Awaited.TheVariants.{Nothing, Pair, ColumnCount, Interval as IntervalLine, Node as NodeLine, OperandCount}
@@ -29,6 +29,7 @@ use Rattle.nl_lines.specs.declared.head.Head.TheVariants.{Body, Objective, Defin
 use Rattle.exact_numbers.specs.Numbers.{are_digits, whole_of, dec_of, is_whole}
 use Rattle.nl_lines.specs.Nodes.{dec_of_signed, leaf_text}
 use Rattle.text_base.specs.Words.{word_at}
+use Rattle.nl_lines.specs.Segment.{are_linear, are_sides, are_suffix_values, are_whole, limit_in, segment_of}
 use Rattle.nl_lines.specs.Heads.{letter_of, is_among, is_head, is_segment_letter, is_refused_letter, own_number, head_of, name_in, is_in_range}
 use Rattle.nl_lines.specs.Pieces.{Piece, awaited_of, is_nothing, last_piece, piece_nodes, piece_pairs, piece_counts, interval_in}
 
@@ -47,14 +48,10 @@ node_total c pieces = sum_by (λ p. length (piece_nodes c p)) pieces
 
 -- linear terms of constraints, objectives and defined variables
 abbrev pub is_linear : Head → Bool
-is_linear (Definition i j usage) = Bool.true
-is_linear (Terms i n) = Bool.true
-is_linear (Slopes k n) = Bool.true
-is_linear head = Bool.false
+is_linear head = are_linear (segment_of head).total
 
 abbrev pub is_suffix : Head → Bool
-is_suffix (Suffix kind n) = Bool.true
-is_suffix head = Bool.false
+is_suffix head = are_suffix_values (segment_of head).total
 
 abbrev pub pair_total : (Head → Bool) → List Piece → ℕ
 pair_total counts pieces = sum_by (λ p. length (piece_pairs p)) (filter (λ p. counts p.head) pieces)
@@ -113,21 +110,15 @@ head_tests c pieces words =
 
 -- indices of a piece are below this
 abbrev pub index_limit : Counts → Head → ℕ
-index_limit c (DualGuesses n) = c.n_con
-index_limit c (Suffix kind n) = object_count c kind
-index_limit c head = c.n_var
+index_limit c head = limit_in c (segment_of head).indices
 
 -- each value of a suffix is whole unless the bit of value 4 is there
 abbrev pub wants_whole : Head → Bool
-wants_whole (Suffix kind n) = is_whole_kind kind
-wants_whole head = Bool.false
+wants_whole head = are_whole (segment_of head).indices
 
 -- an index comes once in a piece
 abbrev pub holds_once : Head → Bool
-holds_once (DualGuesses n) = Bool.true
-holds_once (PrimalGuesses n) = Bool.true
-holds_once (Suffix kind n) = Bool.true
-holds_once head = Bool.false
+holds_once head = (segment_of head).once
 
 abbrev pub has_index : List Term → ℕ → Bool
 has_index terms i = list_any (λ t. t.0 == i) terms
@@ -205,8 +196,7 @@ is_binary Integer = Bool.false
 
 -- the intervals of constraints, where complementarity is refused
 abbrev pub is_sides : Head → Bool
-is_sides Sides = Bool.true
-is_sides head = Bool.false
+is_sides head = are_sides (segment_of head).lines
 
 -- the interval of the next variable, which is binary
 abbrev pub wants_unit : Counts → Piece → Bool

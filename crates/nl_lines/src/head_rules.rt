@@ -1,11 +1,12 @@
-// What a head says of the lines after it.
+// What a head says of the lines after it, by the table of segments.
 ghost use Rattle.std.specs.Prelude.{◌≡◌};
-ghost use Rattle.nl_lines.specs.Pieces.{has_tree, keeps_pairs, line_count, line_kind, pair_count};
+ghost use Rattle.nl_lines.specs.Pieces.{has_tree, keeps_pairs, line_count, line_kind};
 ghost use Rattle.nl_lines.specs.PairTests.{is_full_at};
 ghost use Rattle.nl_lines.specs.Tests.{holds_once, index_limit, is_linear, is_sides, is_suffix, wants_whole};
 
 use crate::awaited::Awaited;
 use crate::head::Head;
+use crate::segment::{Indices, Lines, Total, segment_of};
 use nl_model::{Counts, object_limit};
 
 // There are at most so many linear terms, and so many values of suffixes.
@@ -15,10 +16,10 @@ const MOST_TERMS: u32 = 4_194_304;
 pub fn index_limit(counts: &Counts, head: Head) -> u32
     ensures { result ≡ index_limit counts.now head }
 {
-    match head {
-        Head::DualGuesses(_) => counts.n_con,
-        Head::Suffix(kind, _) => object_limit(counts.n_var, counts.n_con, counts.n_obj, kind),
-        _ => counts.n_var,
+    match segment_of(head).indices {
+        Indices::Variables => counts.n_var,
+        Indices::Constraints => counts.n_con,
+        Indices::Objects(kind) => object_limit(counts.n_var, counts.n_con, counts.n_obj, kind),
     }
 }
 
@@ -26,8 +27,8 @@ pub fn index_limit(counts: &Counts, head: Head) -> u32
 pub fn wants_whole(head: Head) -> bool
     ensures { result ≡ wants_whole head }
 {
-    match head {
-        Head::Suffix(kind, _) => nl_model::wants_whole(kind),
+    match segment_of(head).indices {
+        Indices::Objects(kind) => nl_model::wants_whole(kind),
         _ => false,
     }
 }
@@ -36,22 +37,15 @@ pub fn wants_whole(head: Head) -> bool
 pub fn holds_once(head: Head) -> bool
     ensures { result ≡ holds_once head }
 {
-    match head {
-        Head::DualGuesses(_) => true,
-        Head::PrimalGuesses(_) => true,
-        Head::Suffix(_, _) => true,
-        _ => false,
-    }
+    segment_of(head).once
 }
 
 /// Whether pairs are linear terms.
 pub fn is_linear(head: Head) -> bool
     ensures { result ≡ is_linear head }
 {
-    match head {
-        Head::Definition(_, _, _) => true,
-        Head::Terms(_, _) => true,
-        Head::Slopes(_, _) => true,
+    match segment_of(head).total {
+        Total::Linear => true,
         _ => false,
     }
 }
@@ -60,8 +54,8 @@ pub fn is_linear(head: Head) -> bool
 pub fn is_suffix(head: Head) -> bool
     ensures { result ≡ is_suffix head }
 {
-    match head {
-        Head::Suffix(_, _) => true,
+    match segment_of(head).total {
+        Total::SuffixValues => true,
         _ => false,
     }
 }
@@ -70,11 +64,7 @@ pub fn is_suffix(head: Head) -> bool
 pub fn keeps_pairs(head: Head) -> bool
     ensures { result ≡ keeps_pairs head }
 {
-    match head {
-        Head::Definition(_, _, _) => true,
-        Head::Suffix(_, _) => true,
-        _ => false,
-    }
+    segment_of(head).kept
 }
 
 /// Whether no more pairs may come, where so many linear terms and values of suffixes came.
@@ -87,30 +77,15 @@ pub fn is_full(head: Head, linear: u32, values: u32) -> bool
     is_suffix(head) && values >= MOST_TERMS
 }
 
-// How many pairs follow a head.
-fn pair_count(head: Head) -> u32
-    ensures { result ≡ pair_count head }
-{
-    match head {
-        Head::Definition(_, n, _) => n,
-        Head::DualGuesses(n) => n,
-        Head::PrimalGuesses(n) => n,
-        Head::Terms(_, n) => n,
-        Head::Slopes(_, n) => n,
-        Head::Suffix(_, n) => n,
-        _ => 0,
-    }
-}
-
 /// How many lines follow a head, before any expression.
 pub fn line_count(counts: &Counts, head: Head) -> u32
     ensures { result ≡ line_count counts.now head }
 {
-    match head {
-        Head::Sides => counts.n_con,
-        Head::Bounds => counts.n_var,
-        Head::ColumnCounts(n) => n,
-        _ => pair_count(head),
+    match segment_of(head).lines {
+        Lines::Pairs(n) => n,
+        Lines::EachConstraint => counts.n_con,
+        Lines::EachVariable => counts.n_var,
+        Lines::Columns(n) => n,
     }
 }
 
@@ -118,23 +93,18 @@ pub fn line_count(counts: &Counts, head: Head) -> u32
 pub fn has_tree(head: Head) -> bool
     ensures { result ≡ has_tree head }
 {
-    match head {
-        Head::Body(_) => true,
-        Head::Objective(_, _) => true,
-        Head::Definition(_, _, _) => true,
-        _ => false,
-    }
+    segment_of(head).has_tree
 }
 
 /// What the lines of a head are, before any expression.
 pub fn line_kind(head: Head) -> Awaited
     ensures { result ≡ line_kind head }
 {
-    match head {
-        Head::Sides => Awaited::Interval,
-        Head::Bounds => Awaited::Interval,
-        Head::ColumnCounts(_) => Awaited::ColumnCount,
-        _ => Awaited::Pair,
+    match segment_of(head).lines {
+        Lines::Pairs(_) => Awaited::Pair,
+        Lines::EachConstraint => Awaited::Interval,
+        Lines::EachVariable => Awaited::Interval,
+        Lines::Columns(_) => Awaited::ColumnCount,
     }
 }
 
@@ -142,8 +112,8 @@ pub fn line_kind(head: Head) -> Awaited
 pub fn is_sides(head: Head) -> bool
     ensures { result ≡ is_sides head }
 {
-    match head {
-        Head::Sides => true,
+    match segment_of(head).lines {
+        Lines::EachConstraint => true,
         _ => false,
     }
 }

@@ -8,8 +8,8 @@ use crate::leaf::Leaf;
 use crate::words::{after_first, first_byte};
 use exact_numbers::{plain_dec, plain_index};
 
-// The whole number that a text is, in the common form.
-fn plain_whole(text: &[u8]) -> Option<u32>
+/// The whole number that a text is, in the common form.
+pub fn plain_whole(text: &[u8]) -> Option<u32>
     ensures { IfSome result (λ n. (whole_of text.now ≡ Some n) × IsUnmarked text.now) }
 {
     let Some(index) = plain_index(text) else {

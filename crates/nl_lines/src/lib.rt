@@ -18,6 +18,8 @@ mod number_lines;
 mod pair_line;
 mod pairs;
 mod pending;
+mod segment;
+mod whole_line;
 mod words;
 
 pub use awaited::{Awaited, is_nothing};
@@ -38,4 +40,5 @@ pub use nodes::read_node;
 pub use number_lines::{read_column, read_operand_count};
 pub use pair_line::pair_of_line;
 pub use pending::Pending;
+pub use whole_line::whole_of_line;
 pub use words::is_head;

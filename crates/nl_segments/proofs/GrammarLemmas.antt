@@ -14,7 +14,7 @@ use Rattle.nl_lines.specs.Rows.{Row, holds_words}
 use Rattle.nl_segments.specs.Grammar.{Standing, standing, is_in_header, line_refusal, header_refusal, end_refusal}
 use Rattle.nl_lines.specs.declared.fault.NlReason.TheVariants.{EndInHeader}
 use Rattle.nl_model.specs.File.{Term}
-use Rattle.nl_lines.specs.declared.awaited.Awaited.TheVariants.{Node, Pair}
+use Rattle.nl_lines.specs.declared.awaited.Awaited.TheVariants.{ColumnCount, Node, Pair}
 use Rattle.nl_lines.specs.declared.leaf.Leaf.{Leaf}
 use Rattle.nl_lines.specs.declared.leaf.Leaf.TheVariants.{Number, Variable, Opcode}
 use Rattle.nl_segments.specs.Current.{Current, current_awaits}
@@ -23,6 +23,7 @@ use Rattle.nl_lines.specs.Leaves.{IsLeafRow, IsWordOf}
 use Rattle.nl_segments.specs.Held.{Body, Progress, IsAwaiting, IsHeld, IsHeaderOf, only_header, HoldsBy, HoldsStanding, TakesRow, Finishes}
 use Rattle.nl_segments.specs.Steps.{after, after_header_row}
 use Rattle.nl_segments.specs.Taking.{TakesAnyRow, TakesHeaderRow, TakesLine, body_awaits, line_awaits}
+use Rattle.nl_lines.specs.WholeRows.{IsWholeRow}
 use Rattle.nl_lines.proofs.PieceLemmas.{some_are}
 use Rattle.nl_segments.proofs.StandingLemmas.{standing-more}
 
@@ -82,6 +83,14 @@ node_awaited (Some b) e = by b.current e
     by None e = absurd cc
     by (Some cur) e = e
 
+pub column_awaited : (b : Option Body) → line_awaits b ≡ ColumnCount → IsSomeAnd b (λ b. IsAwaiting ColumnCount b)
+column_awaited None e = absurd cc
+column_awaited (Some b) e = by b.current e
+  where
+    by : (o : Option Current) → body_awaits o ≡ ColumnCount → IsSomeAnd o (λ c. current_awaits c ≡ ColumnCount)
+    by None e = absurd cc
+    by (Some cur) e = e
+
 -- ---- a line
 
 row_begins : (words : List (List ℕ)) → not (length (take 12 words) == 0) ≡ not (length words == 0)
@@ -103,6 +112,9 @@ pub leaf_holds_words : (line : List ℕ) (leaf : Leaf) → IsLeafRow (row_of (wi
 leaf_holds_words line (Number d) p = word_holds_words line 110 p.0
 leaf_holds_words line (Variable i) p = word_holds_words line 118 p.0
 leaf_holds_words line (Opcode o) p = word_holds_words line 111 p.0
+
+pub whole_holds_words : (line : List ℕ) (n : ℕ) → IsWholeRow (row_of (without_comment line)) n → holds_words line ≡ true
+whole_holds_words line n w = sym (row_begins (words_of (without_comment line))) ∙ ap (λ n. not (n == 0)) w.one
 
 pub no_row : (g : Progress) (line : List ℕ) (n : ℕ) → holds_words line ≡ false → TakesLine g line n (Ok tt) g
 unfolding line_refusal

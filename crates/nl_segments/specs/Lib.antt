@@ -13,3 +13,4 @@ pub mod Taking
 pub mod TreeSteps
 pub mod KnownPairs
 pub mod KnownNodes
+pub mod KnownColumns

@@ -1,9 +1,11 @@
 // A line with the number of a column.
-ghost use Rattle.std.specs.Prelude.{◌≡◌, false};
+ghost use Rattle.std.specs.Prelude.{◌≡◌, ℕ, List, false};
 ghost use Rattle.text_base.specs.Words.{texts};
 ghost use Rattle.nl_lines.specs.declared.awaited.Awaited.TheVariants.{ColumnCount};
 ghost use Rattle.nl_lines.specs.Heads.{is_head};
 ghost use Rattle.nl_segments.specs.Held.{HasRow, TakesRow, IsAwaiting};
+ghost use Rattle.nl_lines.specs.WholeRows.{IsWholeRow};
+ghost use Rattle.nl_segments.specs.KnownColumns.{HasWholeRow};
 
 use crate::body::BodyReader;
 use crate::closing::count_line;
@@ -18,7 +20,6 @@ impl BodyReader {
         requires exists { HasRow (texts words.now) line }
         ensures { TakesRow self.old (texts words.now) line result self.new }
     {
-        let _ = line;
         if self.is_broken {
             return Err(Stop::Memory);
         }
@@ -26,6 +27,20 @@ impl BodyReader {
             Ok(number) => number,
             Err(reason) => return Err(Stop::Fault(reason)),
         };
+        self.take_known_column(number, line)
+    }
+
+    /// A line that is the number of a column alone.
+    pub(crate) fn take_known_column(&mut self, number: u32, line: u32) -> Result<(), Stop<NlReason>>
+        requires awaited { IsAwaiting ColumnCount self.old }
+        requires exists { HasWholeRow number line }
+        ensures { (words : List (List ℕ)) → IsWholeRow words number
+            → TakesRow self.old words line result self.new }
+    {
+        let _ = line;
+        if self.is_broken {
+            return Err(Stop::Memory);
+        }
         self.is_broken = true;
         self.columns.push(number)?;
         count_line(&mut self.current);

@@ -1,7 +1,7 @@
 // The grammar of .nl texts, a line at a time.
 ghost use Rattle.std.specs.Prelude.{◌≡◌, ◌<◌, ℕ, List, [], length, None, IsSomeAnd};
 ghost use Rattle.text_base.specs.Words.{words_of, row_of};
-ghost use Rattle.nl_lines.specs.declared.awaited.Awaited.TheVariants.{Node, Pair};
+ghost use Rattle.nl_lines.specs.declared.awaited.Awaited.TheVariants.{ColumnCount, Node, Pair};
 ghost use Rattle.nl_segments.specs.Grammar.{standing, nl_rules, SaysFile, fault_refusal, reason_of};
 ghost use Rattle.nl_segments.specs.Held.{HoldsStanding, IsAwaiting};
 ghost use Rattle.nl_segments.specs.KnownNodes.{HasLeafRow};
@@ -10,12 +10,14 @@ ghost use Rattle.nl_segments.specs.KnownPairs.{HasPairRow};
 ghost use Rattle.nl_lines.specs.Leaves.{IsLeafRow};
 ghost use Rattle.nl_segments.specs.Reader.{value_of};
 ghost use Rattle.nl_segments.specs.Taking.{TakesHeaderRow, TakesAnyRow, TakesLine, line_awaits};
+ghost use Rattle.nl_lines.specs.WholeRows.{IsWholeRow};
+ghost use Rattle.nl_segments.specs.KnownColumns.{HasWholeRow};
 
 use crate::body::BodyReader;
 use crate::nl_read::NlRead;
 use exact_numbers::Dec;
 use nl_header::{HeadFault, HeaderReader};
-use nl_lines::{Awaited, Leaf, NlReason, leaf_of_line, pair_of_line};
+use nl_lines::{Awaited, Leaf, NlReason, leaf_of_line, pair_of_line, whole_of_line};
 use std::alloc::Global;
 use std::marker::Model;
 use std::mem;
@@ -123,6 +125,7 @@ impl NlGrammar {
         match self.awaited() {
             Awaited::Pair => self.take_pair_line(line, number),
             Awaited::Node => self.take_node_line(line, number),
+            Awaited::ColumnCount => self.take_column_line(line, number),
             _ => self.take_any(line, number),
         }
     }
@@ -148,6 +151,31 @@ impl NlGrammar {
             return self.take_any(line, number);
         };
         self.take_leaf(leaf, number)
+    }
+
+    // Takes a line where the body awaits the number of a column, which is read at once where it has
+    // the common form.
+    fn take_column_line(&mut self, line: &[u8], number: u32) -> Result<(), Stop<NlReason>>
+        requires { line_awaits self.old.body ≡ ColumnCount }
+        ensures { TakesLine self.old line.now number result self.new }
+    {
+        let Some(count) = whole_of_line(line) else {
+            return self.take_any(line, number);
+        };
+        self.take_column(count, number)
+    }
+
+    // Takes a line of the body that is the number of a column alone.
+    fn take_column(&mut self, count: u32, number: u32) -> Result<(), Stop<NlReason>>
+        requires awaited { IsSomeAnd self.old.body (λ b. IsAwaiting ColumnCount b) }
+        requires exists { HasWholeRow count number }
+        ensures { (text : List ℕ) → IsWholeRow (row_of text) count
+            → TakesAnyRow self.old (record { line = number; text = text }) result self.new }
+    {
+        let Some(body) = &mut self.body else {
+            unreachable!()
+        };
+        body.take_known_column(count, number)
     }
 
     // Takes a line of the body that is a letter and a number alone, which say this.

@@ -1,0 +1,32 @@
+-- A row that is a whole number alone.
+use Rattle.std.proofs.Common.{◌≡◌, ◌∙◌, ℕ, ◌<◌, take, false, List, [], ◌∷◌, length, refl, sym, ap, subst, Some, None}
+use Rattle.std.proofs.lemmas.Bool.{eqb-true, ltb-true}
+use Rattle.text_base.specs.Judged.{first_reason}
+use Rattle.text_base.specs.Words.{IsUnmarked, row_of, without_comment, word_at}
+use Rattle.text_base.proofs.FirstReasons.{none_each}
+use Rattle.text_base.proofs.PairLemmas.{without_comment-unmarked, words_of-one}
+use Rattle.exact_numbers.specs.Numbers.{whole_of}
+use Rattle.exact_numbers.specs.Spelled.{first_of_both}
+use Rattle.nl_lines.specs.Heads.{is_head}
+use Rattle.nl_lines.specs.Tests.{column_tests}
+use Rattle.nl_lines.specs.WholeRows.{IsWholeRow}
+use Rattle.nl_lines.proofs.PairRows.{digits_plain, not_false, whole_digits}
+
+pub whole_line : (line : List ℕ) (n : ℕ) → whole_of line ≡ Some n → IsUnmarked line → IsWholeRow (row_of (without_comment line)) n
+whole_line line n e all =
+    let some : 0 < length line = ltb-true 0 (length line) (first_of_both _ _ (whole_digits line n e)) in
+    let words : row_of (without_comment line) ≡ line ∷ [] = ap row_of (without_comment-unmarked line all) ∙ ap (take 12) (words_of-one line some all) in
+    subst (λ ws. IsWholeRow ws n) (sym words) (record { one = refl; says = e })
+
+pub whole_plain : (words : List (List ℕ)) (n : ℕ) → IsWholeRow words n → is_head words ≡ false
+whole_plain words n w = rw (digits_plain (word_at words 0) (whole_digits (word_at words 0) n w.says)) refl
+
+pub column_fine : (words : List (List ℕ)) (n : ℕ) → IsWholeRow words n → first_reason (column_tests words) ≡ None
+unfolding column_tests
+column_fine words n w = rw (w.one, whole_digits (word_at words 0) n w.says, w.says) refl
+
+pub column_row : (words : List (List ℕ)) (n : ℕ) → first_reason (column_tests words) ≡ None → whole_of (word_at words 0) ≡ Some n → IsWholeRow words n
+unfolding column_tests
+column_row words n fine e =
+    let none = none_each (column_tests words) fine in
+    record { one = eqb-true (length words) 1 (first_of_both _ _ (not_false _ none.0)); says = e }
