@@ -13,9 +13,10 @@ ghost use Rattle.bridge_tool.specs.Stages.{Folds, Scales};
 
 use crate::nl_told::{fold_line, scale_line};
 use linear_fold::{Linear, fold_all};
+use mps_export::program;
 use mps_model::Mps;
 use nl_segments::NlRead;
-use row_scaling::{Scaled, program, scale_rows};
+use row_scaling::{Scaled, scale_rows};
 use std::alloc::{AllocError, Global};
 use text_base::{Ledger, Steps, Stop};
 

@@ -8,7 +8,7 @@ use Rattle.exported_program.specs.Program.{nonzero, range_of}
 use Rattle.exported_program.proofs.Sides.{nonzero_cases, difference_zero}
 use Rattle.exact_numbers.specs.declared.dec.Dec.{Dec}
 use Rattle.exact_numbers.specs.Values.{dec_value, FitsDec}
-use Rattle.row_scaling.proofs.ColumnLemmas.{zero_left_out}
+use Rattle.row_scaling.proofs.SharedLemmas.{zero_left_out}
 
 pub value_fits : (d : Dec) (x : ℚ) → dec_value d ≡ x → FitsDec x
 value_fits d x e = record { m = d.m; e = d.e; dec = d.spelled; same = e }

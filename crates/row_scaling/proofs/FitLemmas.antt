@@ -15,7 +15,7 @@ use Rattle.linear_fold.specs.declared.form.Kept.{Kept}
 use Rattle.linear_fold.specs.declared.form.Kept.TheVariants.{Closed, Open}
 use Rattle.linear_fold.specs.Forms.{kept_coef, kept_terms, is_kept_open}
 use Rattle.row_scaling.specs.Fitting.{coefficients_in}
-use Rattle.row_scaling.proofs.NumberLemmas.{zero_decimal}
+use Rattle.row_scaling.proofs.SharedLemmas.{zero_decimal}
 
 pub all_left : (P : ℚ → Type 0) (xs ys : List ℚ) → All P (xs ++ ys) → All P xs
 all_left P xs ys h = λ k d l. subst P (get_or-append xs ys d k l) (h k d (omega (arith, length-append xs ys)))

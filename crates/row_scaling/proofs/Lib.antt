@@ -1,10 +1,6 @@
-pub mod AddLemmas
-pub mod ColumnLemmas
-pub mod ColumnsLeft
+pub mod DecimalLemmas
 pub mod DifferenceLemmas
 pub mod FactorLemmas
-pub mod DecimalLemmas
-pub mod FillLemmas
 pub mod FactoredLemmas
 pub mod FitLemmas
 pub mod KeptDecimals
@@ -12,12 +8,8 @@ pub mod LawLemmas
 pub mod LinearLemmas
 pub mod NumberLemmas
 pub mod ObjectiveLemmas
-pub mod ProgramLemmas
 pub mod RowFitLemmas
-pub mod RowLemmas
 pub mod ScaleLemmas
+pub mod SharedLemmas
 pub mod TermLemmas
-pub mod TieLemmas
-pub mod VariableLemmas
 pub mod WholeDecimals
-pub mod WholeLemmas

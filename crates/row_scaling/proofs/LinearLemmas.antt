@@ -24,7 +24,7 @@ use Rattle.row_scaling.specs.declared.scale_fault.ScaleFault.TheVariants.{RowToo
 use Rattle.row_scaling.specs.Factored.{AreScaledRows, IsFactored, IsScaledAt, body_term_count, factor_for, row_for, term_count_of}
 use Rattle.row_scaling.specs.Scaled.{row_term_count}
 use Rattle.row_scaling.specs.Scaling.{HasScaleFault}
-use Rattle.row_scaling.proofs.RowLemmas.{rest_of}
+use Rattle.row_scaling.proofs.SharedLemmas.{rest_of}
 use Rattle.row_scaling.specs.Rows.{side_value}
 
 rows_there : (p i : ℕ) (bs : List Form) (ss : List Interval) (b : Form) (s : Interval) (r : Row) → i < length bs → length ss ≡ length bs → b ≡ get_or bs i b → s ≡ get_or ss i s → get_or (rows_from p bs ss) i r ≡ row_for (p + i) b s

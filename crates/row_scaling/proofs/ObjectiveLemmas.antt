@@ -24,7 +24,7 @@ use Rattle.row_scaling.specs.Factored.{AreTiedFit, IsObjectiveTimes, IsTooWide, 
 use Rattle.row_scaling.specs.Fitting.{coefficients_in, NumberFits}
 use Rattle.row_scaling.proofs.FitLemmas.{Finite, to_terms, from_terms, zero_finite, same_factor}
 use Rattle.row_scaling.proofs.LinearLemmas.{count_is}
-use Rattle.row_scaling.proofs.NumberLemmas.{zero_decimal, zero_fits}
+use Rattle.row_scaling.proofs.SharedLemmas.{zero_decimal, zero_fits}
 use Rattle.row_scaling.proofs.RowFitLemmas.{all_map, number_of, scaled_of, zero_number}
 use Rattle.row_scaling.proofs.TermLemmas.{times_fit}
 

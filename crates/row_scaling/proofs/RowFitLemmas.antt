@@ -18,7 +18,7 @@ use Rattle.row_scaling.specs.Factored.{row_for, factor_for}
 use Rattle.row_scaling.specs.Fitting.{coefficients_in, listed, less_side, times_side, LessFits, ProductFits, NumberFits, AreSidesFit}
 use Rattle.row_scaling.specs.Rows.{side_value}
 use Rattle.row_scaling.proofs.FitLemmas.{Finite, all_left, all_right, to_terms, from_terms, zero_finite, same_factor}
-use Rattle.row_scaling.proofs.NumberLemmas.{zero_decimal, zero_fits}
+use Rattle.row_scaling.proofs.SharedLemmas.{zero_decimal, zero_fits}
 
 pub zero_number : (q : ℚ) → NumberFits q zero_ℚ
 zero_number q =

@@ -29,7 +29,7 @@ use Rattle.row_scaling.proofs.LawLemmas.{plain_as, tied_as_scaled}
 use Rattle.row_scaling.proofs.LinearLemmas.{count_is, row_count, scaled_fits}
 use Rattle.row_scaling.proofs.ObjectiveLemmas.{decimal_back, decimal_there, factor_is, tied_back, tied_there, times_all}
 use Rattle.row_scaling.proofs.TermLemmas.{times_below, times_coefficient, times_length, times_sparse}
-use Rattle.row_scaling.proofs.TieLemmas.{one_not_zero}
+use Rattle.row_scaling.proofs.SharedLemmas.{one_not_zero}
 
 -- ---- rows
 -- row k times its factor, where it is exported

@@ -5,7 +5,7 @@ use Rattle.std.proofs.lemmas.Bool.{cases_eq}
 use Rattle.fractions.proofs.Arithmetic.{+ℚ_zero, *ℚ_zero, zero-*ℚ, *ℚ_comm, *ℚ_cancel}
 use Rattle.linear_fold.proofs.CoefLemmas.{found_same, found_apart}
 use Rattle.file_meaning.specs.LinearFile.{coefficient_of}
-use Rattle.row_scaling.proofs.ColumnLemmas.{nothing_in, first_in, later_in}
+use Rattle.row_scaling.proofs.SharedLemmas.{nothing_in, first_in, later_in}
 use Rattle.fractions.specs.Rational.{ℚ, zero_ℚ, ◌+ℚ◌, ◌*ℚ◌}
 use Rattle.exact_numbers.specs.declared.dec.Dec.{Dec}
 use Rattle.exact_numbers.specs.Values.{dec_value, frac_value}

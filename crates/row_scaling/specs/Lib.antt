@@ -1,10 +1,6 @@
-pub mod Columns
 pub mod Exported
 pub mod Factored
-pub mod Filled
-pub mod Filling
 pub mod Fitting
 pub mod Rows
 pub mod Scaled
 pub mod Scaling
-pub mod Sides

@@ -1,5 +1,5 @@
 // The sides of a row as fractions, and as decimals once they are multiplied by a factor.
-ghost use Rattle.std.specs.Prelude.{◌≡◌, MatchOption, MatchResult};
+ghost use Rattle.std.specs.Prelude.{◌≡◌, ◌↔◌, IsTrue, MatchOption, MatchResult};
 ghost use Rattle.fractions.specs.Rational.{◌*ℚ◌};
 ghost use Rattle.exact_numbers.specs.Values.{dec_value, frac_value, FitsDec};
 ghost use Rattle.exported_program.specs.Export.{IfSide, IfBoth, RangeFits};
@@ -8,10 +8,10 @@ ghost use Rattle.row_scaling.specs.Fitting.{frac_side, less_side, times_side, Le
 ghost use Rattle.row_scaling.specs.Rows.{side_value};
 
 use crate::decimals::decimal_of;
-use crate::numbers::same_fraction;
 use exact_numbers::{Dec, Frac};
 use linear_fold::Wide;
 use nl_model::Interval;
+use std::cmp::Ordering;
 
 /// Two sides, each of which may be missing.
 #[derive(Clone, Copy)]
@@ -75,6 +75,12 @@ fn decimal(side: Option<Frac>) -> Result<Option<Dec>, Wide>
         return Err(Wide);
     };
     Ok(Some(dec))
+}
+
+fn same_fraction(a: Frac, b: Frac) -> bool
+    ensures { IsTrue result ↔ (frac_value a ≡ frac_value b) }
+{
+    a.order(b) == Ordering::Equal
 }
 
 // The upper number less the lower one, none where they do not differ. Wide exactly where it does

@@ -10,7 +10,6 @@ ghost use Rattle.row_scaling.specs.Fitting.{NumberFits};
 ghost use Rattle.row_scaling.specs.Scaled.{IsTie};
 
 use crate::factors::factor_of_objective;
-use crate::numbers::negated;
 use crate::row::{ScaledObjective, Tie};
 use crate::scaled_rows::whole;
 use crate::scaled_terms::{scaled_number, scaled_terms};
@@ -51,7 +50,7 @@ fn tie(factor: i128) -> Tie
     match whole(factor).to_dec() {
         Some(decimal) => Tie {
             factor,
-            weight: negated(decimal),
+            weight: decimal.neg(),
         },
         None => unreachable!(),
     }

@@ -1,0 +1,10 @@
+pub mod AddLemmas
+pub mod ColumnLemmas
+pub mod ColumnsLeft
+pub mod FillLemmas
+pub mod NumberLemmas
+pub mod ProgramLemmas
+pub mod RowLemmas
+pub mod TieLemmas
+pub mod VariableLemmas
+pub mod WholeLemmas

@@ -1,0 +1,4 @@
+pub mod Columns
+pub mod Filled
+pub mod Filling
+pub mod Sides
