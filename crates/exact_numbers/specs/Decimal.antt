@@ -11,3 +11,9 @@ pub record IsDec (m e : ℤ) : Type 0 where
   pub mantissa : unsigned_abs m < 2 ^ 127
   pub exponent : unsigned_abs e ≤ 400
   pub shortest : unsigned_abs m % 10 ≡ 0 → (m ≡ pos 0) × (e ≡ pos 0)
+
+-- the number that a Dec is seen as
+pub record DecValue : Type 0 where
+  pub m : ℤ
+  pub e : ℤ
+  pub spelled : IsDec m e

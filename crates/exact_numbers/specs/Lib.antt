@@ -5,3 +5,5 @@ pub mod Values
 pub mod Text
 pub mod Spelled
 pub mod Numbers
+pub mod Packed
+pub mod Held

@@ -82,7 +82,7 @@ impl Dec {
     pub fn zero() -> Dec
         ensures { dec_value result ≡ zero_ℚ }
     {
-        Dec { m: 0, e: 0 }
+        Dec::of_parts(0, 0)
     }
 
     /// The Dec of a whole number.
@@ -93,24 +93,21 @@ impl Dec {
             return Dec::zero();
         }
         let stripped = strip_zeros(n.unsigned_abs() as u128);
-        Dec {
-            m: with_sign(n < 0, stripped.rest),
-            e: stripped.zeros as i16,
-        }
+        Dec::of_parts(with_sign(n < 0, stripped.rest), stripped.zeros as i16)
     }
 
     /// Whether this is 0.
     pub fn is_zero(self) -> bool
         ensures { IsTrue result ↔ (dec_value self ≡ zero_ℚ) }
     {
-        self.m == 0
+        self.m() == 0
     }
 
     /// Whether this is below 0.
     pub fn is_negative(self) -> bool
         ensures { IsTrue result ↔ (dec_value self <ℚ zero_ℚ) }
     {
-        self.m < 0
+        self.m() < 0
     }
 
     /// The Dec of the value m * 10 ^ e; none exactly where there is none.
@@ -118,24 +115,21 @@ impl Dec {
         ensures { IsDecOf result (decimal_value m e) }
     {
         if m == 0 {
-            return Some(Dec { m: 0, e: 0 });
+            return Some(Dec::of_parts(0, 0));
         }
         let stripped = strip_zeros(m.unsigned_abs());
         let exponent = e as i64 + stripped.zeros as i64;
         if stripped.rest > MAX_SIZE || exponent < -400 || exponent > 400 {
             return None;
         }
-        Some(Dec {
-            m: with_sign(m < 0, stripped.rest),
-            e: exponent as i16,
-        })
+        Some(Dec::of_parts(with_sign(m < 0, stripped.rest), exponent as i16))
     }
 
     /// The mantissa, whose last digit is not 0 unless this is 0.
     pub fn m(self) -> i128
         ensures { result ≡ mantissa_of self }
     {
-        self.m
+        self.words.whole()
     }
 
     /// The exponent of ten, from -400 to 400.
@@ -149,17 +143,14 @@ impl Dec {
     pub fn neg(self) -> Dec
         ensures { dec_value result ≡ neg_ℚ (dec_value self) }
     {
-        Dec {
-            m: -self.m,
-            e: self.e,
-        }
+        Dec::of_parts(-self.m(), self.e())
     }
 
     /// Whether this is a whole number.
     pub fn is_whole(self) -> bool
         ensures { IsTrue result ↔ IsWhole (dec_value self) }
     {
-        self.e >= 0
+        self.e() >= 0
     }
 
     /// The product with k; none exactly where the product of the mantissa and k is out of range, or
@@ -168,9 +159,9 @@ impl Dec {
         ensures { MatchOption result (IsInReach self k → ⊥)
             (λ d. IsInReach self k × (dec_value d ≡ dec_value self *ℚ whole k)) }
     {
-        let Some(product) = bounded_product(self.m, k) else {
+        let Some(product) = bounded_product(self.m(), k) else {
             return None;
         };
-        Dec::new(product, self.e as i32)
+        Dec::new(product, self.e() as i32)
     }
 }

@@ -149,15 +149,17 @@ impl Frac {
     pub fn of_dec(d: Dec) -> Option<Frac>
         ensures { IsFracOf result (dec_value d) }
     {
-        let size = d.m.unsigned_abs();
-        let negative = d.m < 0;
-        if d.e >= 0 {
-            let Some(num) = grown(size, 10, d.e as u32) else {
+        let m = d.m();
+        let size = m.unsigned_abs();
+        let negative = m < 0;
+        let e = d.e();
+        if e >= 0 {
+            let Some(num) = grown(size, 10, e as u32) else {
                 return None;
             };
             return Some(paired(negative, num, 1));
         }
-        let places = d.e.unsigned_abs() as u32;
+        let places = e.unsigned_abs() as u32;
         let twos = cancel(size, 2, places);
         let fives = cancel(twos.rest, 5, places);
         let Some(even) = grown(1, 2, twos.left) else {
@@ -174,7 +176,7 @@ impl Frac {
         ensures above { pos 0 <ℤ result }
         ensures cofactor { IsCofactor (frac_value self).bottom (unsigned_abs result) }
     {
-        let odd = cancel(self.den, 2, 127);
+        let odd = cancel(self.bottom(), 2, 127);
         let rest = cancel(odd.rest, 5, 127);
         rest.rest as i128
     }
@@ -183,10 +185,12 @@ impl Frac {
     pub fn to_dec(self) -> Option<Dec>
         ensures { IsDecOf result (frac_value self) }
     {
-        if self.den == 1 {
-            return Dec::new(self.num, 0);
+        let top = self.num();
+        let bottom = self.bottom();
+        if bottom == 1 {
+            return Dec::new(top, 0);
         }
-        let twos = cancel(self.den, 2, 127);
+        let twos = cancel(bottom, 2, 127);
         let fives = cancel(twos.rest, 5, 127);
         if fives.rest != 1 {
             return None;
@@ -194,12 +198,12 @@ impl Frac {
         let even = 127 - twos.left;
         let odd = 127 - fives.left;
         let places = even.max(odd);
-        let Some(first) = grown_by(self.num.unsigned_abs(), 2, places - even) else {
+        let Some(first) = grown_by(top.unsigned_abs(), 2, places - even) else {
             return None;
         };
         let Some(size) = grown_by(first, 5, places - odd) else {
             return None;
         };
-        Dec::new(with_sign(self.num < 0, size), -(places as i32))
+        Dec::new(with_sign(top < 0, size), -(places as i32))
     }
 }

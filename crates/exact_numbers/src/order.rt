@@ -41,23 +41,25 @@ impl Frac {
     pub fn order(self, other: Frac) -> Ordering
         ensures { result ≡ order_of (frac_value self) (frac_value other) }
     {
-        if self.num < 0 && other.num < 0 {
+        let num = self.num();
+        let other_num = other.num();
+        if num < 0 && other_num < 0 {
             order_of_sizes(
-                other.num.unsigned_abs(),
-                other.den,
-                self.num.unsigned_abs(),
-                self.den,
+                other_num.unsigned_abs(),
+                other.bottom(),
+                num.unsigned_abs(),
+                self.bottom(),
             )
-        } else if self.num < 0 {
+        } else if num < 0 {
             Ordering::Less
-        } else if other.num < 0 {
+        } else if other_num < 0 {
             Ordering::Greater
         } else {
             order_of_sizes(
-                self.num.unsigned_abs(),
-                self.den,
-                other.num.unsigned_abs(),
-                other.den,
+                num.unsigned_abs(),
+                self.bottom(),
+                other_num.unsigned_abs(),
+                other.bottom(),
             )
         }
     }
@@ -90,26 +92,18 @@ impl Dec {
     pub fn order(self, other: Dec) -> Ordering
         ensures { result ≡ order_of (dec_value self) (dec_value other) }
     {
-        if self.m < 0 {
-            if other.m < 0 {
-                order_of_scaled(
-                    other.m.unsigned_abs(),
-                    other.e,
-                    self.m.unsigned_abs(),
-                    self.e,
-                )
+        let m = self.m();
+        let n = other.m();
+        if m < 0 {
+            if n < 0 {
+                order_of_scaled(n.unsigned_abs(), other.e(), m.unsigned_abs(), self.e())
             } else {
                 Ordering::Less
             }
-        } else if other.m < 0 {
+        } else if n < 0 {
             Ordering::Greater
         } else {
-            order_of_scaled(
-                self.m.unsigned_abs(),
-                self.e,
-                other.m.unsigned_abs(),
-                other.e,
-            )
+            order_of_scaled(m.unsigned_abs(), self.e(), n.unsigned_abs(), other.e())
         }
     }
 }

@@ -1,5 +1,4 @@
-use Rattle.std.proofs.Common.{arith, ap₂, ◌∙◌, ◌≡◌, ◌-ℤ◌, pos, neg_ℤ, to_z, of_z}
-use mir.Syntax.{w16, w128}
+use Rattle.std.proofs.Common.{arith, ap₂, ◌∙◌, ◌≡◌, neg_ℤ}
 use Rattle.std.proofs.lemmas.Int.{ints}
 use Rattle.fractions.specs.Rational.{decimal_value}
 use Rattle.exact_numbers.proofs.Decimals.{abs_is}
@@ -12,6 +11,6 @@ returns c =
     let parts = abs_is c.args.self.m in
     let near = c.args.self.spelled.exponent in
     let places = abs_is c.args.self.e in
-    let m : to_z w128 (of_z w128 (pos 0 -ℤ to_z w128 (of_z w128 c.args.self.m))) ≡ neg_ℤ c.args.self.m = omega (arith, ints) in
-    let e : to_z w16 (of_z w16 c.args.self.e) ≡ c.args.self.e = omega (arith, ints) in
+    let m : c.of_parts.result.m ≡ neg_ℤ c.args.self.m = omega (arith, ints, c.m.ensures, c.of_parts.ensures.mantissa) in
+    let e : c.of_parts.result.e ≡ c.args.self.e = omega (arith, ints, c.of_parts.ensures.exponent, c.e.ensures) in
     ap₂ decimal_value m e ∙ decimal-neg c.args.self.m c.args.self.e

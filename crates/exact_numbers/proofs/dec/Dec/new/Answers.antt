@@ -1,4 +1,5 @@
-use Rattle.std.proofs.Common.{arith, ◌≡◌, ◌*◌, ◌^◌, pos, ◌+ℤ◌, unsigned_abs, rules, to_z, of_z, to_z-of_z, ◌∙◌, ap, int_lt}
+use Rattle.std.proofs.Common.{arith, ◌≡◌, ◌*◌, ◌^◌, pos, ◌+ℤ◌, unsigned_abs, rules, to_z-of_z, ◌∙◌, ap, ap₂, int_lt}
+use Rattle.fractions.specs.Rational.{decimal_value}
 use Rattle.exact_numbers.specs.Decimal.{signed}
 use mir.Syntax.{w128}
 use Rattle.std.proofs.lemmas.Int.{ints}
@@ -20,17 +21,18 @@ returns-then-stripped-gt-MAX_SIZE c = not_dec _ _ (decimal_is c.args.m c.args.e)
       | then-stripped-gt-MAX_SIZE-via-else-stripped-gt-MAX_SIZE+else-exponent-ltminus400+then-exponent-gt400 w ↦ omega (arith, ints, only.1)
     ])
 
-pub invariant_of-result-2 : goal.invariant_of-result-2
-invariant_of-result-2 c =
-    record { spelled = is_dec _ _ _ _ (to_z-of_z {w = w128} (record { sfits = c.with_sign.type_inv }) ∙ c.with_sign.ensures) c.strip_zeros-stripped.ensures.shortest (omega arith) (omega (arith, ints)) (omega (arith, ints)) }
+pub of_parts-requires-2 : goal.of_parts-requires-2
+of_parts-requires-2 c =
+    is_dec _ _ _ _ (to_z-of_z {w = w128} (record { sfits = c.with_sign.type_inv }) ∙ c.with_sign.ensures) c.strip_zeros-stripped.ensures.shortest (omega arith) (omega (arith, ints)) (omega (arith, ints))
 
 pub returns : goal.returns
 returns c =
     let whole : unsigned_abs c.args.m ≡ c.strip_zeros-stripped.result.rest * 10 ^ c.strip_zeros-stripped.result.zeros = search rules in
-    let sign : to_z w128 (of_z w128 c.with_sign.result) ≡ signed (int_lt c.args.m (pos 0)) c.strip_zeros-stripped.result.rest = to_z-of_z {w = w128} (record { sfits = c.with_sign.type_inv }) ∙ c.with_sign.ensures ∙ ap (λ x. signed (int_lt x (pos 0)) c.strip_zeros-stripped.result.rest) (to_z-of_z c.ranges.m) in
-    same_dec_value _ _ _ _ (decimal_is c.args.m c.args.e) (shortened c.args.m c.args.e _ _ c.strip_zeros-stripped.result.rest c.strip_zeros-stripped.result.zeros whole sign (omega (arith, ints)))
+    let sign : c.of_parts-2.result.m ≡ signed (int_lt c.args.m (pos 0)) c.strip_zeros-stripped.result.rest = c.of_parts-2.ensures.mantissa ∙ to_z-of_z {w = w128} (record { sfits = c.with_sign.type_inv }) ∙ c.with_sign.ensures ∙ ap (λ x. signed (int_lt x (pos 0)) c.strip_zeros-stripped.result.rest) (to_z-of_z c.ranges.m) in
+    same_dec_value _ _ _ _ (decimal_is c.args.m c.args.e) (shortened c.args.m c.args.e _ _ c.strip_zeros-stripped.result.rest c.strip_zeros-stripped.result.zeros whole sign (omega (arith, ints, c.of_parts-2.ensures.exponent)))
 
 pub returns-then-m-eq0 : goal.returns-then-m-eq0
 returns-then-m-eq0 c =
     let none : c.args.m ≡ pos 0 = search rules in
-    decimal_zero c.args.m c.args.e (pos 0) none
+    ap₂ decimal_value c.of_parts.ensures.mantissa c.of_parts.ensures.exponent
+    ∙ decimal_zero c.args.m c.args.e (pos 0) none
