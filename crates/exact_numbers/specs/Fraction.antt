@@ -10,12 +10,6 @@ pub record IsFrac (num : ℤ) (den : ℕ) : Type 0 where
   pub small : den < 2 ^ 127
   pub reduced : AreCoprime (unsigned_abs num) den
 
--- the numbers that a Frac is seen as
-pub record FracValue : Type 0 where
-  pub num : ℤ
-  pub den : ℕ
-  pub spelled : IsFrac num den
-
 -- m is the least common multiple of a and b
 abbrev pub IsLcm : ℕ → ℕ → ℕ → Type 0
 IsLcm a b m = (a ∣ m) × (b ∣ m) × ((k : ℕ) → a ∣ k → b ∣ k → m ∣ k)

@@ -19,7 +19,10 @@ fn reduced(negative: bool, num: u128, den: u128) -> Option<Frac>
     if size > MAX_SIZE || parts > MAX_SIZE {
         return None;
     }
-    Some(Frac::of_parts(with_sign(negative, size), parts))
+    Some(Frac {
+        num: with_sign(negative, size),
+        den: parts,
+    })
 }
 
 // The pair of a sign, a numerator's size and a denominator that is reduced already.
@@ -28,7 +31,10 @@ pub(crate) fn paired(negative: bool, num: u128, den: u128) -> Frac
     ensures numerator { result.num ≡ signed negative num }
     ensures denominator { result.den ≡ den }
 {
-    Frac::of_parts(with_sign(negative, num), den)
+    Frac {
+        num: with_sign(negative, num),
+        den,
+    }
 }
 
 // a * b, by one multiplication of 64 bits.
@@ -104,50 +110,45 @@ impl Frac {
     pub fn num(self) -> i128
         ensures { result ≡ (frac_value self).top }
     {
-        self.top.whole()
+        self.num
     }
 
     /// The denominator in lowest terms, above 0.
     pub fn den(self) -> i128
         ensures { result ≡ pos (frac_value self).bottom }
     {
-        self.bottom() as i128
-    }
-
-    // The same, with no sign.
-    #[inline]
-    pub(crate) fn bottom(self) -> u128
-        ensures { result ≡ self.den }
-    {
-        self.bottom.size()
+        self.den as i128
     }
 
     /// The same size with the other sign.
     pub fn neg(self) -> Frac
         ensures { frac_value result ≡ neg_ℚ (frac_value self) }
     {
-        Frac::of_parts(-self.num(), self.bottom())
+        Frac {
+            num: -self.num,
+            den: self.den,
+        }
     }
 
     /// Whether this is 0.
     pub fn is_zero(self) -> bool
         ensures { IsTrue result ↔ (frac_value self ≡ zero_ℚ) }
     {
-        self.num() == 0
+        self.num == 0
     }
 
     /// Whether this is below 0.
     pub fn is_negative(self) -> bool
         ensures { IsTrue result ↔ (frac_value self <ℚ zero_ℚ) }
     {
-        self.num() < 0
+        self.num < 0
     }
 
     // Whether this is 1.
     fn is_one(self) -> bool
         ensures { result ≡ true → frac_value self ≡ one_ℚ }
     {
-        self.num() == 1 && self.bottom() == 1
+        self.num == 1 && self.den == 1
     }
 
     // The sum of whole numbers, with no division.
@@ -157,10 +158,10 @@ impl Frac {
         ensures { IsFracWhere (sum_fits (frac_value self) (frac_value other)) result
             (frac_value self +ℚ frac_value other) }
     {
-        let Some(sum) = bounded_sum(self.num(), other.num()) else {
+        let Some(sum) = bounded_sum(self.num, other.num) else {
             return None;
         };
-        Some(Frac::of_parts(sum, 1))
+        Some(Frac { num: sum, den: 1 })
     }
 
     // The product of whole numbers, with no division.
@@ -169,12 +170,10 @@ impl Frac {
         requires second { other.den ≡ 1 }
         ensures { IsFracOf result (frac_value self *ℚ frac_value other) }
     {
-        let top = self.num();
-        let other_top = other.num();
-        let Some(size) = bounded_product(top.unsigned_abs(), other_top.unsigned_abs()) else {
+        let Some(size) = bounded_product(self.num.unsigned_abs(), other.num.unsigned_abs()) else {
             return None;
         };
-        Some(paired((top < 0) != (other_top < 0), size, 1))
+        Some(paired((self.num < 0) != (other.num < 0), size, 1))
     }
 
     /// The product; none exactly where it does not fit. Sizes are cancelled crosswise first, so
@@ -182,9 +181,7 @@ impl Frac {
     pub fn mul(self, other: Frac) -> Option<Frac>
         ensures { IsFracOf result (frac_value self *ℚ frac_value other) }
     {
-        let bottom = self.bottom();
-        let other_bottom = other.bottom();
-        if bottom == 1 && other_bottom == 1 {
+        if self.den == 1 && other.den == 1 {
             return self.mul_whole(other);
         }
         if other.is_one() {
@@ -193,19 +190,17 @@ impl Frac {
         if self.is_one() {
             return Some(other);
         }
-        let top = self.num();
-        let other_top = other.num();
-        let size = top.unsigned_abs();
-        let other_size = other_top.unsigned_abs();
-        let first = gcd(size, other_bottom);
-        let second = gcd(other_size, bottom);
+        let size = self.num.unsigned_abs();
+        let other_size = other.num.unsigned_abs();
+        let first = gcd(size, other.den);
+        let second = gcd(other_size, self.den);
         let Some(num) = bounded_product(size / first, other_size / second) else {
             return None;
         };
-        let Some(den) = bounded_product(bottom / second, other_bottom / first) else {
+        let Some(den) = bounded_product(self.den / second, other.den / first) else {
             return None;
         };
-        Some(paired((top < 0) != (other_top < 0), num, den))
+        Some(paired((self.num < 0) != (other.num < 0), num, den))
     }
 
     /// The sum; none exactly where a part of it over the least common denominator is out of range.
@@ -213,21 +208,19 @@ impl Frac {
         ensures { IsFracWhere (sum_fits (frac_value self) (frac_value other)) result
             (frac_value self +ℚ frac_value other) }
     {
-        let bottom = self.bottom();
-        let other_bottom = other.bottom();
-        if bottom == 1 && other_bottom == 1 {
+        if self.den == 1 && other.den == 1 {
             return self.add_whole(other);
         }
-        let common = gcd(bottom, other_bottom);
-        let scale = other_bottom / common;
-        let other_scale = bottom / common;
-        let Some(den) = bounded_product(bottom, scale) else {
+        let common = gcd(self.den, other.den);
+        let scale = other.den / common;
+        let other_scale = self.den / common;
+        let Some(den) = bounded_product(self.den, scale) else {
             return None;
         };
-        let Some(first) = scaled_up(self.num(), scale) else {
+        let Some(first) = scaled_up(self.num, scale) else {
             return None;
         };
-        let Some(second) = scaled_up(other.num(), other_scale) else {
+        let Some(second) = scaled_up(other.num, other_scale) else {
             return None;
         };
         let Some(sum) = bounded_sum(first, second) else {
@@ -250,8 +243,7 @@ impl Frac {
         requires { frac_value self ≢ zero_ℚ }
         ensures { frac_value result ≡ inverse_of (frac_value self) }
     {
-        let top = self.num();
-        paired(top < 0, self.bottom(), top.unsigned_abs())
+        paired(self.num < 0, self.den, self.num.unsigned_abs())
     }
 
     /// The quotient; none exactly where the divisor is 0 or it does not fit.
@@ -259,7 +251,7 @@ impl Frac {
         ensures { IsQuotientOf (frac_value other ≡ zero_ℚ) result
             (frac_value self *ℚ inverse_of (frac_value other)) }
     {
-        if other.num() == 0 {
+        if other.num == 0 {
             return None;
         }
         self.mul(other.reciprocal())

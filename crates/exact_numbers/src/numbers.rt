@@ -53,6 +53,7 @@ pub fn dec_of(word: &[u8]) -> Option<Dec>
 
 /// The number of a decimal word of the common form, digits with a sign, a point or neither; none of
 /// some other words.
+#[inline]
 pub fn plain_dec(word: &[u8]) -> Option<Dec>
     ensures { IfSome result (λ d. (dec_of word.now ≡ Some d) × (0 < length word.now)
         × IsUnmarked word.now) }

@@ -137,7 +137,8 @@ impl Dec {
     pub fn has_fraction(self) -> bool
         ensures { result ≡ fits (dec_value self) }
     {
-        if self.m.unsigned_abs() < FEW && self.e >= -38 && self.e <= 19 {
+        let e = self.e();
+        if self.m().unsigned_abs() < FEW && e >= -38 && e <= 19 {
             return true;
         }
         Frac::of_dec(self).is_some()
@@ -176,7 +177,7 @@ impl Frac {
         ensures above { pos 0 <ℤ result }
         ensures cofactor { IsCofactor (frac_value self).bottom (unsigned_abs result) }
     {
-        let odd = cancel(self.bottom(), 2, 127);
+        let odd = cancel(self.den, 2, 127);
         let rest = cancel(odd.rest, 5, 127);
         rest.rest as i128
     }
@@ -185,12 +186,10 @@ impl Frac {
     pub fn to_dec(self) -> Option<Dec>
         ensures { IsDecOf result (frac_value self) }
     {
-        let top = self.num();
-        let bottom = self.bottom();
-        if bottom == 1 {
-            return Dec::new(top, 0);
+        if self.den == 1 {
+            return Dec::new(self.num, 0);
         }
-        let twos = cancel(bottom, 2, 127);
+        let twos = cancel(self.den, 2, 127);
         let fives = cancel(twos.rest, 5, 127);
         if fives.rest != 1 {
             return None;
@@ -198,12 +197,12 @@ impl Frac {
         let even = 127 - twos.left;
         let odd = 127 - fives.left;
         let places = even.max(odd);
-        let Some(first) = grown_by(top.unsigned_abs(), 2, places - even) else {
+        let Some(first) = grown_by(self.num.unsigned_abs(), 2, places - even) else {
             return None;
         };
         let Some(size) = grown_by(first, 5, places - odd) else {
             return None;
         };
-        Dec::new(with_sign(top < 0, size), -(places as i32))
+        Dec::new(with_sign(self.num < 0, size), -(places as i32))
     }
 }

@@ -41,25 +41,23 @@ impl Frac {
     pub fn order(self, other: Frac) -> Ordering
         ensures { result ≡ order_of (frac_value self) (frac_value other) }
     {
-        let num = self.num();
-        let other_num = other.num();
-        if num < 0 && other_num < 0 {
+        if self.num < 0 && other.num < 0 {
             order_of_sizes(
-                other_num.unsigned_abs(),
-                other.bottom(),
-                num.unsigned_abs(),
-                self.bottom(),
+                other.num.unsigned_abs(),
+                other.den,
+                self.num.unsigned_abs(),
+                self.den,
             )
-        } else if num < 0 {
+        } else if self.num < 0 {
             Ordering::Less
-        } else if other_num < 0 {
+        } else if other.num < 0 {
             Ordering::Greater
         } else {
             order_of_sizes(
-                num.unsigned_abs(),
-                self.bottom(),
-                other_num.unsigned_abs(),
-                other.bottom(),
+                self.num.unsigned_abs(),
+                self.den,
+                other.num.unsigned_abs(),
+                other.den,
             )
         }
     }

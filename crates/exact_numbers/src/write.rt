@@ -73,11 +73,11 @@ impl Frac {
     {
         out.clear();
         let mut buffer = Buffer::new();
-        out.append(buffer.format(self.num()).as_bytes());
-        if self.bottom() != 1 {
+        out.append(buffer.format(self.num).as_bytes());
+        if self.den != 1 {
             out.push(b'/');
             let mut den_buffer = Buffer::new();
-            out.append(den_buffer.format(self.bottom()).as_bytes());
+            out.append(den_buffer.format(self.den).as_bytes());
         }
     }
 }

@@ -1,10 +1,8 @@
-use Rattle.std.proofs.Common.{arith, ◌∙◌, to_z-of_z, subst, sym}
+use Rattle.std.proofs.Common.{arith, ◌∙◌, to_z-of_z}
 use mir.Syntax.{w128}
-use Rattle.exact_numbers.specs.Decimal.{signed}
-use Rattle.exact_numbers.proofs.Pairs.{SameValue, pair}
 use Rattle.exact_numbers.proofs.Coprime.{reduced_by}
 use Rattle.exact_numbers.proofs.Fractions.{only_reduced, is_frac, reduced_same}
-use Rattle.exact_numbers.proofs.Bridge.{not_fits, fitting, pair_is}
+use Rattle.exact_numbers.proofs.Bridge.{not_fits, fitting_parts, pair_is}
 use Rattle.exact_numbers.proofs.arithmetic.reduced.Goals as goal
 use Rattle.exact_numbers.proofs.arithmetic.reduced.Goals.{then-size-gt-MAX_SIZE-via-then-size-gt-MAX_SIZE, then-size-gt-MAX_SIZE-via-else-size-gt-MAX_SIZE+then-parts-gt-MAX_SIZE}
 
@@ -16,14 +14,13 @@ returns-then-size-gt-MAX_SIZE c = not_fits _ _ (pair_is _ _ c.requires) (λ fits
       | then-size-gt-MAX_SIZE-via-else-size-gt-MAX_SIZE+then-parts-gt-MAX_SIZE w ↦ omega (arith, only.1)
     ])
 
-pub of_parts-requires : goal.of_parts-requires
-of_parts-requires c =
-    is_frac c.args.negative c.args.num c.args.den c.gcd-common.result (reduced_by _ _ _ c.requires c.gcd-common.ensures.greatest) _ (to_z-of_z {w = w128} (record { sfits = c.with_sign.type_inv }) ∙ c.with_sign.ensures) (omega arith) (omega arith)
+pub invariant_of-result : goal.invariant_of-result
+invariant_of-result c =
+    record { spelled = is_frac c.args.negative c.args.num c.args.den c.gcd-common.result (reduced_by _ _ _ c.requires c.gcd-common.ensures.greatest) _ (to_z-of_z {w = w128} (record { sfits = c.with_sign.type_inv }) ∙ c.with_sign.ensures) (omega arith) (omega arith) }
 
 pub returns : goal.returns
 returns c =
     let r = reduced_by _ _ _ c.requires c.gcd-common.ensures.greatest in
-    let sign = c.of_parts.ensures.numerator ∙ to_z-of_z {w = w128} (record { sfits = c.with_sign.type_inv }) ∙ c.with_sign.ensures in
-    fitting c.of_parts.result _ _ (pair_is _ _ c.requires)
-    (subst (λ d. SameValue (pair c.of_parts.result.num d) (pair (signed c.args.negative c.args.num) c.args.den)) (sym c.of_parts.ensures.denominator)
-    (reduced_same c.args.negative c.args.num c.args.den c.gcd-common.result r _ sign))
+    let sign = to_z-of_z {w = w128} (record { sfits = c.with_sign.type_inv }) ∙ c.with_sign.ensures in
+    fitting_parts _ _ _ _ (is_frac c.args.negative c.args.num c.args.den c.gcd-common.result r _ sign (omega arith) (omega arith)) _ _ (pair_is _ _ c.requires)
+    (reduced_same c.args.negative c.args.num c.args.den c.gcd-common.result r _ sign)

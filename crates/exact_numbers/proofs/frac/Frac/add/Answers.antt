@@ -1,8 +1,8 @@
-use Rattle.std.proofs.Common.{rules, ◌≡◌, ◌/◌, ◌*◌, SFits, to_z-of_z, unsigned_abs, ◌∙◌, sym, ap, ap₂, subst, ◌<◌, ◌^◌, pos, ◌*ℤ◌, ◌+ℤ◌, int_lt, to_z, of_z}
+use Rattle.std.proofs.Common.{rules, ◌≡◌, ◌/◌, ◌*◌, SFits, to_z-of_z, unsigned_abs, ◌∙◌, sym, ap, ap₂, subst, ◌<◌, ◌^◌, pos, ◌*ℤ◌, ◌+ℤ◌, int_lt}
 use mir.Syntax.{w128}
 use Rattle.exact_numbers.proofs.Pairs.{SameValue, pair, sum_of}
 use Rattle.exact_numbers.specs.Decimal.{signed}
-use Rattle.exact_numbers.proofs.Fractions.{added, in_range_fits, sized_fits, signed_self}
+use Rattle.exact_numbers.proofs.Fractions.{added, frac_fits, in_range_fits, sized_fits, signed_self}
 use Rattle.exact_numbers.specs.Values.{frac_value}
 use Rattle.exact_numbers.proofs.Bridge.{not_sum, summed, sum_is, pair_is, in_range}
 use Rattle.fractions.specs.Rational.{over, ◌+ℚ◌}
@@ -11,36 +11,28 @@ use Rattle.exact_numbers.proofs.frac.Frac.add.Goals as goal
 
 pub returns-in_default : goal.returns-in_default
 returns-in_default c = not_sum (frac_value c.args.self) (frac_value c.args.other) (λ fits.
-    let p = c.bottom-bottom.ensures in
-    let q = c.bottom-other_bottom.ensures in
-    let w = added c.args.self.num c.args.self.den c.args.other.num c.args.other.den _ c.args.self.spelled c.args.other.spelled (simp (p, q) at c.gcd-common.ensures.greatest) in
-    (simp (p, q) at c.in_default.ensures) (w.only fits).0)
+    let w = added c.args.self.num c.args.self.den c.args.other.num c.args.other.den _ c.args.self.spelled c.args.other.spelled c.gcd-common.ensures.greatest in
+    c.in_default.ensures (w.only fits).0)
 
 pub returns-in_default-scaled_up : goal.returns-in_default-scaled_up
 returns-in_default-scaled_up c = not_sum (frac_value c.args.self) (frac_value c.args.other) (λ fits.
-    let p = c.bottom-bottom.ensures in
-    let q = c.bottom-other_bottom.ensures in
-    let w = added c.args.self.num c.args.self.den c.args.other.num c.args.other.den _ c.args.self.spelled c.args.other.spelled (simp (p, q) at c.gcd-common.ensures.greatest) in
-    let n : to_z w128 (of_z w128 c.num.result) ≡ c.args.self.num = to_z-of_z {w = w128} (record { sfits = c.num.type_inv }) ∙ c.num.ensures in
-    (simp (n, q) at c.in_default-scaled_up.ensures) (w.only fits).1)
+    let w = added c.args.self.num c.args.self.den c.args.other.num c.args.other.den _ c.args.self.spelled c.args.other.spelled c.gcd-common.ensures.greatest in
+    let f : SFits w128 c.args.self.num = frac_fits _ _ c.args.self.spelled in
+    (simp to_z-of_z at c.in_default-scaled_up.ensures) (w.only fits).1)
 
 pub returns-in_default-scaled_up-2 : goal.returns-in_default-scaled_up-2
 returns-in_default-scaled_up-2 c = not_sum (frac_value c.args.self) (frac_value c.args.other) (λ fits.
-    let p = c.bottom-bottom.ensures in
-    let q = c.bottom-other_bottom.ensures in
-    let w = added c.args.self.num c.args.self.den c.args.other.num c.args.other.den _ c.args.self.spelled c.args.other.spelled (simp (p, q) at c.gcd-common.ensures.greatest) in
-    let k : to_z w128 (of_z w128 c.num-2.result) ≡ c.args.other.num = to_z-of_z {w = w128} (record { sfits = c.num-2.type_inv }) ∙ c.num-2.ensures in
-    (simp (k, p) at c.in_default-scaled_up-2.ensures) (w.only fits).2)
+    let w = added c.args.self.num c.args.self.den c.args.other.num c.args.other.den _ c.args.self.spelled c.args.other.spelled c.gcd-common.ensures.greatest in
+    let f : SFits w128 c.args.other.num = frac_fits _ _ c.args.other.spelled in
+    (simp to_z-of_z at c.in_default-scaled_up-2.ensures) (w.only fits).2)
 
 pub returns-in_default-bounded_sum : goal.returns-in_default-bounded_sum
 returns-in_default-bounded_sum c = not_sum (frac_value c.args.self) (frac_value c.args.other) (λ fits.
-    let p = c.bottom-bottom.ensures in
-    let q = c.bottom-other_bottom.ensures in
-    let w = added c.args.self.num c.args.self.den c.args.other.num c.args.other.den _ c.args.self.spelled c.args.other.spelled (simp (p, q) at c.gcd-common.ensures.greatest) in
-    let n : to_z w128 (of_z w128 c.num.result) ≡ c.args.self.num = to_z-of_z {w = w128} (record { sfits = c.num.type_inv }) ∙ c.num.ensures in
-    let k : to_z w128 (of_z w128 c.num-2.result) ≡ c.args.other.num = to_z-of_z {w = w128} (record { sfits = c.num-2.type_inv }) ∙ c.num-2.ensures in
-    let first = simp (n, q) at c.in-Some-scaled_up.ensures in
-    let second = simp (k, p) at c.in-Some-scaled_up-2.ensures in
+    let w = added c.args.self.num c.args.self.den c.args.other.num c.args.other.den _ c.args.self.spelled c.args.other.spelled c.gcd-common.ensures.greatest in
+    let f : SFits w128 c.args.self.num = frac_fits _ _ c.args.self.spelled in
+    let g : SFits w128 c.args.other.num = frac_fits _ _ c.args.other.spelled in
+    let first = simp to_z-of_z at c.in-Some-scaled_up.ensures in
+    let second = simp to_z-of_z at c.in-Some-scaled_up-2.ensures in
     let first_fits : SFits w128 c.in-Some-scaled_up.first = sized_fits _ (subst (λ z. unsigned_abs z < 2 ^ 127) (sym first.1) first.0) in
     let second_fits : SFits w128 c.in-Some-scaled_up-2.second = sized_fits _ (subst (λ z. unsigned_abs z < 2 ^ 127) (sym second.1) second.0) in
     let plain = simp to_z-of_z at c.in_default-bounded_sum.ensures in
@@ -48,22 +40,18 @@ returns-in_default-bounded_sum c = not_sum (frac_value c.args.self) (frac_value 
 
 pub reduced-requires : goal.reduced-requires
 reduced-requires c =
-    let p = c.bottom-bottom.ensures in
-    let q = c.bottom-other_bottom.ensures in
-    let w = added c.args.self.num c.args.self.den c.args.other.num c.args.other.den _ c.args.self.spelled c.args.other.spelled (simp (p, q) at c.gcd-common.ensures.greatest) in
-    let den = simp (p, q) at c.in-Some.ensures in
+    let w = added c.args.self.num c.args.self.den c.args.other.num c.args.other.den _ c.args.self.spelled c.args.other.spelled c.gcd-common.ensures.greatest in
+    let den = c.in-Some.ensures in
     rw den.1 w.above
 
 pub returns : goal.returns
 returns c =
-    let p = c.bottom-bottom.ensures in
-    let q = c.bottom-other_bottom.ensures in
-    let w = added c.args.self.num c.args.self.den c.args.other.num c.args.other.den _ c.args.self.spelled c.args.other.spelled (simp (p, q) at c.gcd-common.ensures.greatest) in
-    let den = simp (p, q) at c.in-Some.ensures in
-    let n : to_z w128 (of_z w128 c.num.result) ≡ c.args.self.num = to_z-of_z {w = w128} (record { sfits = c.num.type_inv }) ∙ c.num.ensures in
-    let k : to_z w128 (of_z w128 c.num-2.result) ≡ c.args.other.num = to_z-of_z {w = w128} (record { sfits = c.num-2.type_inv }) ∙ c.num-2.ensures in
-    let first = simp (n, q) at c.in-Some-scaled_up.ensures in
-    let second = simp (k, p) at c.in-Some-scaled_up-2.ensures in
+    let w = added c.args.self.num c.args.self.den c.args.other.num c.args.other.den _ c.args.self.spelled c.args.other.spelled c.gcd-common.ensures.greatest in
+    let den = c.in-Some.ensures in
+    let f : SFits w128 c.args.self.num = frac_fits _ _ c.args.self.spelled in
+    let g : SFits w128 c.args.other.num = frac_fits _ _ c.args.other.spelled in
+    let first = simp to_z-of_z at c.in-Some-scaled_up.ensures in
+    let second = simp to_z-of_z at c.in-Some-scaled_up-2.ensures in
     let first_fits : SFits w128 c.in-Some-scaled_up.first = sized_fits _ (subst (λ z. unsigned_abs z < 2 ^ 127) (sym first.1) first.0) in
     let second_fits : SFits w128 c.in-Some-scaled_up-2.second = sized_fits _ (subst (λ z. unsigned_abs z < 2 ^ 127) (sym second.1) second.0) in
     let plain = simp to_z-of_z at c.in-Some-bounded_sum.ensures in

@@ -1,10 +1,10 @@
-use Rattle.std.proofs.Common.{◌∙◌, sym, subst, SFits, to_z-of_z, unsigned_abs, ◌<◌, ◌^◌, to_z, of_z, ◌≡◌}
+use Rattle.std.proofs.Common.{◌∙◌, sym, subst, SFits, to_z-of_z, unsigned_abs, ◌<◌, ◌^◌}
 use mir.Syntax.{w128}
 use Rattle.exact_numbers.specs.Values.{frac_value}
 use Rattle.exact_numbers.proofs.Pairs.{SameValue, pair, sum_of}
-use Rattle.exact_numbers.proofs.Fractions.{sized_fits}
+use Rattle.exact_numbers.proofs.Fractions.{frac_fits, sized_fits}
 use Rattle.exact_numbers.proofs.Wholes.{whole_sum, whole_frac}
-use Rattle.exact_numbers.proofs.Bridge.{not_sum, sum_fits_in, sum_is, fitting}
+use Rattle.exact_numbers.proofs.Bridge.{not_sum, sum_fits_in, sum_is, fitting_parts}
 use Rattle.exact_numbers.proofs.frac.Frac.add_whole.Goals as goal
 
 pub returns-in_default : goal.returns-in_default
@@ -12,27 +12,29 @@ returns-in_default c =
     not_sum (frac_value c.args.self) (frac_value c.args.other)
     (λ fits.
     let w = whole_sum c.args.self.num c.args.self.den c.args.other.num c.args.other.den c.args.self.spelled c.args.other.spelled c.requires.first c.requires.second in
-    let n : to_z w128 (of_z w128 c.num.result) ≡ c.args.self.num = to_z-of_z {w = w128} (record { sfits = c.num.type_inv }) ∙ c.num.ensures in
-    let k : to_z w128 (of_z w128 c.num-2.result) ≡ c.args.other.num = to_z-of_z {w = w128} (record { sfits = c.num-2.type_inv }) ∙ c.num-2.ensures in
-    (simp (n, k) at c.in_default.ensures) (w.only fits))
+    let f : SFits w128 c.args.self.num = frac_fits _ _ c.args.self.spelled in
+    let g : SFits w128 c.args.other.num = frac_fits _ _ c.args.other.spelled in
+    (simp to_z-of_z at c.in_default.ensures) (w.only fits))
 
-pub of_parts-requires : goal.of_parts-requires
-of_parts-requires c =
-    let n : to_z w128 (of_z w128 c.num.result) ≡ c.args.self.num = to_z-of_z {w = w128} (record { sfits = c.num.type_inv }) ∙ c.num.ensures in
-    let k : to_z w128 (of_z w128 c.num-2.result) ≡ c.args.other.num = to_z-of_z {w = w128} (record { sfits = c.num-2.type_inv }) ∙ c.num-2.ensures in
-    let sum = simp (n, k) at c.in-Some.ensures in
+pub invariant_of-result : goal.invariant_of-result
+invariant_of-result c =
+    let f : SFits w128 c.args.self.num = frac_fits _ _ c.args.self.spelled in
+    let g : SFits w128 c.args.other.num = frac_fits _ _ c.args.other.spelled in
+    let sum = simp to_z-of_z at c.in-Some.ensures in
     let small = subst (λ z. unsigned_abs z < 2 ^ 127) (sym sum.1) sum.0 in
     let fit : SFits w128 c.in-Some.sum = sized_fits _ small in
-    simp to_z-of_z (whole_frac c.in-Some.sum small)
+    record { spelled = simp to_z-of_z (whole_frac c.in-Some.sum small) }
 
 pub returns : goal.returns
 returns c =
     let w = whole_sum c.args.self.num c.args.self.den c.args.other.num c.args.other.den c.args.self.spelled c.args.other.spelled c.requires.first c.requires.second in
-    let n : to_z w128 (of_z w128 c.num.result) ≡ c.args.self.num = to_z-of_z {w = w128} (record { sfits = c.num.type_inv }) ∙ c.num.ensures in
-    let k : to_z w128 (of_z w128 c.num-2.result) ≡ c.args.other.num = to_z-of_z {w = w128} (record { sfits = c.num-2.type_inv }) ∙ c.num-2.ensures in
-    let sum = simp (n, k) at c.in-Some.ensures in
+    let f : SFits w128 c.args.self.num = frac_fits _ _ c.args.self.spelled in
+    let g : SFits w128 c.args.other.num = frac_fits _ _ c.args.other.spelled in
+    let sum = simp to_z-of_z at c.in-Some.ensures in
     let small = subst (λ z. unsigned_abs z < 2 ^ 127) (sym sum.1) sum.0 in
     let fit : SFits w128 c.in-Some.sum = sized_fits _ small in
-    let plain = c.of_parts.ensures.numerator ∙ to_z-of_z fit ∙ sum.1 in
-    let same : SameValue (pair c.of_parts.result.num c.of_parts.result.den) (sum_of (pair c.args.self.num c.args.self.den) (pair c.args.other.num c.args.other.den)) = simp (plain, c.of_parts.ensures.denominator) w.same in
-    (sum_fits_in (frac_value c.args.self) (frac_value c.args.other) (w.fits sum.0), (fitting c.of_parts.result _ _ (sum_is (frac_value c.args.self) (frac_value c.args.other)) same).1)
+    let plain = to_z-of_z fit ∙ sum.1 in
+    let same = subst (λ z. SameValue (pair z 1) (sum_of (pair c.args.self.num c.args.self.den) (pair c.args.other.num c.args.other.den))) (sym plain) w.same in (
+      sum_fits_in (frac_value c.args.self) (frac_value c.args.other) (w.fits sum.0),
+      (fitting_parts _ _ _ _ (whole_frac _ (subst (λ z. unsigned_abs z < 2 ^ 127) (sym plain) sum.0)) _ _ (sum_is (frac_value c.args.self) (frac_value c.args.other)) same).1,
+    )

@@ -1,4 +1,4 @@
-use Rattle.std.proofs.Common.{rules, pos, ◌≡◌, IsTrue, ◌↔◌, of_z, sym, ◌∙◌}
+use Rattle.std.proofs.Common.{rules, pos, ◌≡◌, IsTrue, ◌↔◌, of_z}
 use mir.Syntax.{w128}
 use lib.Dec.{eqb}
 use Rattle.exact_numbers.proofs.Bridge.{zero_link}
@@ -6,6 +6,6 @@ use Rattle.exact_numbers.proofs.frac.Frac.is_zero.Goals as goal
 
 pub returns : goal.returns
 returns c =
-    let test : IsTrue (eqb (of_z w128 c.num.result) 0) ↔ (c.num.result ≡ pos 0) = search rules in
+    let test : IsTrue (eqb (of_z w128 c.args.self.num) 0) ↔ (c.args.self.num ≡ pos 0) = search rules in
     let link = zero_link c.args.self in
-    (λ t. link.0 (sym c.num.ensures ∙ test.0 t), λ e. test.1 (c.num.ensures ∙ link.1 e))
+    (λ t. link.0 (test.0 t), λ e. test.1 (link.1 e))
