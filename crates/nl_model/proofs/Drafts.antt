@@ -5,7 +5,8 @@ use Rattle.std.proofs.lemmas.List.{length_push, get_or_default}
 use Rattle.std.proofs.lemmas.List.Elements.{All-push, All-set, All-get_or, All-head, All-tail, All-cons, All-nil}
 use Rattle.std.proofs.lemmas.List.Sums.{sum_by-set}
 use Rattle.nl_model.specs.File.{Term, Objective}
-use Rattle.nl_model.specs.Rules.{AreTerms, AreTermsBelow, term_count, most_terms, IsTreeKnown, IsFile}
+use Rattle.nl_model.specs.Rules.{AreTerms, AreTermsBelow, term_count, most_terms, IsOrdered, IsTreeKnown, IsFile}
+use Rattle.nl_model.specs.declared.interval.Interval.{Interval}
 use Rattle.nl_model.specs.Draft.{Draft, IsDraft, given, file_of}
 use Rattle.nl_model.specs.Built.{IsKept}
 
@@ -138,3 +139,28 @@ none_empty os k o h inside e empty =
   where
     none_some : is_some {T = Objective} None ≡ true → ⊥
     none_some p = cc
+
+-- one more interval of a constraint
+pub kept-side : (d : Draft) (marks : List Bool) (count : ℕ) (side : Interval) → IsKept d marks count → length d.sides < d.counts.n_con → IsOrdered side
+    → IsKept (record d { sides = d.sides ++ side ∷ [] }) marks count
+kept-side d marks count side k place ordered =
+    let more = length_push d.sides side in
+    record {
+      draft = record {
+        ruled = k.draft.ruled;
+        definitions = k.draft.definitions;
+        bodies = k.draft.bodies;
+        objectives = k.draft.objectives;
+        terms = k.draft.terms;
+        side_count = omega (arith, more, place);
+        sides = All-push IsOrdered d.sides side k.draft.sides ordered;
+        bound_count = k.draft.bound_count;
+        bounds = k.draft.bounds;
+        dual_guesses = k.draft.dual_guesses;
+        primal_guesses = k.draft.primal_guesses;
+        suffixes = k.draft.suffixes;
+      };
+      mark_count = k.mark_count;
+      marked = k.marked;
+      counted = k.counted;
+    }

@@ -186,6 +186,7 @@ impl NlBuilder {
             (self.new ≡ record self.old { sides = self.old.sides ++ side ∷ [] }) }
         ensures err { OnErr result (self.new ≡ self.old) }
     {
+        let _lo = side.lo;
         self.sides.push(side)?;
         Ok(())
     }
@@ -198,6 +199,7 @@ impl NlBuilder {
             (self.new ≡ record self.old { bounds = self.old.bounds ++ side ∷ [] }) }
         ensures err { OnErr result (self.new ≡ self.old) }
     {
+        let _lo = side.lo;
         self.bounds.push(side)?;
         Ok(())
     }

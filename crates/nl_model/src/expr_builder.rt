@@ -74,8 +74,10 @@ impl ExprBuilder {
         ensures ok { OnOk result (self.new ≡ self.old ++ node ∷ []) }
         ensures err { OnErr result (self.new ≡ self.old) }
     {
-        make_room(&mut self.nodes, node)?;
-        self.nodes.push(node)?;
+        let kept = node;
+        let pushed = node;
+        make_room(&mut self.nodes, kept)?;
+        self.nodes.push(pushed)?;
         self.wants = self.wants - 1 + operand_count(node) as u64;
         Ok(())
     }
