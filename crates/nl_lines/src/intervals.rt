@@ -106,14 +106,15 @@ fn interval_in(words: &[&[u8]]) -> Option<Interval>
         return Some(Interval { lo: None, hi: None });
     }
     if kind == b"4".as_slice() {
-        return between(first, first);
+        let same = first;
+        return between(first, same);
     }
     None
 }
 
 // Whether the lower side is above the upper side.
-fn is_empty(interval: Interval) -> bool
-    ensures { result ≡ is_empty interval }
+fn is_empty(interval: &Interval) -> bool
+    ensures { result ≡ is_empty interval.now }
 {
     let Some(lo) = interval.lo else {
         return false;
@@ -125,8 +126,8 @@ fn is_empty(interval: Interval) -> bool
 }
 
 // Whether both sides are there, from 0 to 1.
-fn is_within_unit(interval: Interval) -> bool
-    ensures { result ≡ is_within_unit interval }
+fn is_within_unit(interval: &Interval) -> bool
+    ensures { result ≡ is_within_unit interval.now }
 {
     let Some(lo) = interval.lo else {
         return false;
@@ -159,10 +160,10 @@ pub fn read_interval(words: &[&[u8]], of_constraint: bool, unit: bool) -> Result
     let Some(interval) = interval_in(words) else {
         return Err(NlReason::BadNumber);
     };
-    if is_empty(interval) {
+    if is_empty(&interval) {
         return Err(NlReason::EmptyInterval);
     }
-    if unit && !is_within_unit(interval) {
+    if unit && !is_within_unit(&interval) {
         return Err(NlReason::BinaryBounds);
     }
     Ok(interval)
