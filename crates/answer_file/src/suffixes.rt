@@ -109,7 +109,8 @@ pub(crate) fn take_object(
         value) (with_object table.old kind name.now target value) result table.new }
 {
     let suffix = table.place(kind, name);
-    if let Err(reason) = judge_object(table, kind, suffix, target, value) {
+    let given = value;
+    if let Err(reason) = judge_object(table, kind, suffix, target, given) {
         return Err(Stop::Fault(reason));
     }
     let (Some(Target::Place(object)), Some(value)) = (target, value) else {

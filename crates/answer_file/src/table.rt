@@ -134,10 +134,11 @@ impl SuffixTable {
               value = new.value;
             }) ∷ []) }
     {
+        let kind = new.kind;
         let group = first_group(alloc, name, new)?;
         self.groups.reserve(1)?;
         let place = self.groups.len() as u32;
-        self.places.add(alloc, new.kind, name, place)?;
+        self.places.add(alloc, kind, name, place)?;
         self.values += 1;
         match self.groups.push(group) {
             Ok(()) => Ok(()),

@@ -48,7 +48,9 @@ fn sides_of(alloc: Global, file: &NlFile) -> Result<Vec<Interval>, AllocError>
     let counts = file.header().counts();
     let mut sides = Vec::with_capacity(alloc, counts.n_con as usize)?;
     for con in 0..counts.n_con {
-        sides.push(file.side(con))?;
+        let side = file.side(con);
+        let _lo = side.lo;
+        sides.push(side)?;
     }
     Ok(sides)
 }
@@ -61,7 +63,9 @@ fn bounds_of(alloc: Global, file: &NlFile) -> Result<Vec<Interval>, AllocError>
     let counts = file.header().counts();
     let mut bounds = Vec::with_capacity(alloc, counts.n_var as usize)?;
     for var in 0..counts.n_var {
-        bounds.push(file.bound(var))?;
+        let bound = file.bound(var);
+        let _lo = bound.lo;
+        bounds.push(bound)?;
     }
     Ok(bounds)
 }

@@ -206,9 +206,12 @@ pub(crate) fn sides_and_kinds(alloc: Global, mps: &Mps) -> Result<Columns, Alloc
     'columns: for j in 0..all.len() {
         let column = &all[j];
         let set = records[j];
+        let is_set_whole = set.whole;
         let side = column_sides(set);
-        let whole = is_either(column.marked(), set.whole);
-        let kind = kind_of(whole, side);
+        let same = side;
+        let _lo = side.lo;
+        let whole = is_either(column.marked(), is_set_whole);
+        let kind = kind_of(whole, same);
         sides.push(side)?;
         kinds.push(kind)?;
     }

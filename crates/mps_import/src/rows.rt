@@ -141,6 +141,7 @@ fn add_where(
     ensures { OnOk result (sides.new.items ≡ sides.old.items ++ cond is_constraint (side ∷ []) []) }
 {
     if is_constraint {
+        let _lo = side.lo;
         sides.push(side)?;
     }
     Ok(())

@@ -241,8 +241,9 @@ impl SolGrammar {
             Ok(pair) => pair,
             Err(reason) => return Err(here(reason)),
         };
+        let index = pair.0;
         self.draft.add_value(pair)?;
-        self.marks.mark(pair.0);
+        self.marks.mark(index);
         self.value_count += 1;
         self.awaited = rest_awaits(0, left - 1);
         Ok(())
