@@ -4,4 +4,4 @@ use Rattle.linear_fold.proofs.program.sides_of.Goals as goal
 
 pub loop-con-preserved : goal.loop-con-preserved
 loop-con-preserved c =
-    c.in_ok-push.ensures.items ∙ ap (λ xs. xs ++ c.side.result ∷ []) c.loop-con.invariant ∙ sym (take_next c.args.file.now.sides c.loop-con.con c.side.result c.side.ensures)
+    c.in_ok-push.ensures.items ∙ ap (λ xs. xs ++ c.side-side.result ∷ []) c.loop-con.invariant ∙ sym (take_next c.args.file.now.sides c.loop-con.con c.side-side.result c.side-side.ensures)
