@@ -9,7 +9,7 @@ use Rattle.nl_model.specs.declared.counts.Counts.{Counts}
 use Rattle.nl_model.specs.Draft.{Draft, empty_draft, is_given}
 use Rattle.nl_model.specs.Rules.{is_defined}
 use Rattle.nl_lines.specs.declared.head.Head.{Head}
-use Rattle.nl_lines.specs.declared.head.Head.TheVariants.{Body, Objective, Definition, DualGuesses, PrimalGuesses, Sides, Bounds, Terms, Slopes, Suffix}
+use Rattle.nl_lines.specs.declared.head.Head.TheVariants.{Body, Objective, Definition, DualGuesses, PrimalGuesses, Sides, Bounds, ColumnCounts, Terms, Slopes, Suffix}
 use Rattle.nl_lines.specs.Pieces.{Piece, is_complete}
 use Rattle.nl_lines.specs.Tests.{is_suffix, is_same_head, is_same_piece}
 use Rattle.nl_lines.specs.Saying.{if_complete, said_by, with_piece, draft_of}
@@ -76,116 +76,59 @@ none_there A zero i = refl
 none_there A (suc n) zero = refl
 none_there A (suc n) (suc i) = none_there A n i
 
-body_kept : (i : ℕ) (d : Draft) (p : Piece) (h : Head) → is_same_head (Body i) h ≡ false → is_given d.bodies i ≡ false → is_given (said_by d p h).bodies i ≡ false
-body_kept i d p (Body k) e f = either (λ x. is_given x.bodies i ≡ false) d _ p f (given_other d.bodies i k _ (eqb-false i k e) ∙ f)
-body_kept i d p (Objective k m) e f = either (λ x. is_given x.bodies i ≡ false) d _ p f f
-body_kept i d p (Definition k j u) e f = either (λ x. is_given x.bodies i ≡ false) d _ p f f
-body_kept i d p (Suffix k m) e f = either (λ x. is_given x.bodies i ≡ false) d _ p f f
-body_kept i d p head e f = f
+-- ---- a head that did not come before
 
-pub fresh_body : (o : List ℤ) (c : Counts) (pieces : List Piece) (i : ℕ) (name : List ℕ) → list_any (is_same_piece (Body i) name) pieces ≡ false → is_given (draft_of o c pieces).bodies i ≡ false
+-- nothing is there of what a head gives; suffixes and numbers of columns are not asked
+abbrev pub GaveNone : Draft → Head → Type 0
+GaveNone d (Body i) = is_given d.bodies i ≡ false
+GaveNone d (Objective k m) = is_given d.objectives k ≡ false
+GaveNone d (Definition i j u) = is_defined d.definitions i ≡ false
+GaveNone d (DualGuesses n) = d.dual_guesses ≡ []
+GaveNone d (PrimalGuesses n) = d.primal_guesses ≡ []
+GaveNone d Sides = d.sides ≡ []
+GaveNone d Bounds = d.bounds ≡ []
+GaveNone d (Terms i n) = get_or d.terms i [] ≡ []
+GaveNone d (Slopes k n) = get_or d.slopes k [] ≡ []
+GaveNone d head = Unit {0}
+
+-- another segment leaves it so
+kept : (d : Draft) (p : Piece) (g h : Head) → is_same_head h g ≡ false → GaveNone d h → GaveNone (said_by d p g) h
+kept d p g (ColumnCounts n) e f = tt
+kept d p g (Suffix a n) e f = tt
+kept d p (Body k) (Body i) e f = either (λ x. is_given x.bodies i ≡ false) d _ p f (given_other d.bodies i k _ (eqb-false i k e) ∙ f)
+kept d p (Body k) h e f = either (λ x. GaveNone x h) d _ p f f
+kept d p (Objective k m) (Objective i n) e f = either (λ x. is_given x.objectives i ≡ false) d _ p f (given_other d.objectives i k _ (eqb-false i k e) ∙ f)
+kept d p (Objective k m) h e f = either (λ x. GaveNone x h) d _ p f f
+kept d p (Definition k j u) (Definition i l v) e f = either (λ x. is_defined x.definitions i ≡ false) d _ p f (list_any-append (λ x. x.index == i) d.definitions _ ∙ rw (f, unlike_swapped i k e) refl)
+kept d p (Definition k j u) h e f = either (λ x. GaveNone x h) d _ p f f
+kept d p (DualGuesses n) (DualGuesses m) e f = absurd cc
+kept d p (DualGuesses n) h e f = f
+kept d p (PrimalGuesses n) (PrimalGuesses m) e f = absurd cc
+kept d p (PrimalGuesses n) h e f = f
+kept d p Sides Sides e f = absurd cc
+kept d p Sides h e f = f
+kept d p Bounds Bounds e f = absurd cc
+kept d p Bounds h e f = f
+kept d p (ColumnCounts n) h e f = f
+kept d p (Terms k m) (Terms i n) e f = get_or-set_other d.terms k i _ [] (eqb-false i k e) ∙ f
+kept d p (Terms k m) h e f = f
+kept d p (Slopes k m) (Slopes i n) e f = get_or-set_other d.slopes k i _ [] (eqb-false i k e) ∙ f
+kept d p (Slopes k m) h e f = f
+kept d p (Suffix k m) h e f = either (λ x. GaveNone x h) d _ p f f
+
+none_at_first : (o : List ℤ) (c : Counts) (h : Head) → GaveNone (empty_draft o c) h
+none_at_first o c (Body i) = none_given _ c.n_con i
+none_at_first o c (Objective k m) = none_given _ c.n_obj k
+none_at_first o c (Definition i j u) = refl
+none_at_first o c (DualGuesses n) = refl
+none_at_first o c (PrimalGuesses n) = refl
+none_at_first o c Sides = refl
+none_at_first o c Bounds = refl
+none_at_first o c (Terms i n) = none_there _ c.n_con i
+none_at_first o c (Slopes k n) = none_there _ c.n_obj k
+none_at_first o c head = tt
+
+pub gave_none : (o : List ℤ) (c : Counts) (pieces : List Piece) (h : Head) (name : List ℕ) → is_suffix h ≡ false → list_any (is_same_piece h name) pieces ≡ false → GaveNone (draft_of o c pieces) h
 unfolding draft_of
-fresh_body o c pieces i name e =
-    keeps (λ d. is_given d.bodies i ≡ false) (is_same_piece (Body i) name) (λ d p s f. body_kept i d p p.head (unlike_head (Body i) name p refl s) f) pieces (empty_draft o c) e (none_given _ c.n_con i)
-
-objective_kept : (i : ℕ) (n : Bool) (d : Draft) (p : Piece) (h : Head) → is_same_head (Objective i n) h ≡ false → is_given d.objectives i ≡ false → is_given (said_by d p h).objectives i ≡ false
-objective_kept i n d p (Body k) e f = either (λ x. is_given x.objectives i ≡ false) d _ p f f
-objective_kept i n d p (Objective k m) e f = either (λ x. is_given x.objectives i ≡ false) d _ p f (given_other d.objectives i k _ (eqb-false i k e) ∙ f)
-objective_kept i n d p (Definition k j u) e f = either (λ x. is_given x.objectives i ≡ false) d _ p f f
-objective_kept i n d p (Suffix k m) e f = either (λ x. is_given x.objectives i ≡ false) d _ p f f
-objective_kept i n d p head e f = f
-
-pub fresh_objective : (o : List ℤ) (c : Counts) (pieces : List Piece) (i : ℕ) (n : Bool) (name : List ℕ) → list_any (is_same_piece (Objective i n) name) pieces ≡ false → is_given (draft_of o c pieces).objectives i ≡ false
-unfolding draft_of
-fresh_objective o c pieces i n name e =
-    keeps (λ d. is_given d.objectives i ≡ false) (is_same_piece (Objective i n) name) (λ d p s f. objective_kept i n d p p.head (unlike_head (Objective i n) name p refl s) f) pieces (empty_draft o c) e (none_given _ c.n_obj i)
-
-definition_kept : (i l v : ℕ) (d : Draft) (p : Piece) (h : Head) → is_same_head (Definition i l v) h ≡ false → is_defined d.definitions i ≡ false → is_defined (said_by d p h).definitions i ≡ false
-definition_kept i l v d p (Body k) e f = either (λ x. is_defined x.definitions i ≡ false) d _ p f f
-definition_kept i l v d p (Objective k m) e f = either (λ x. is_defined x.definitions i ≡ false) d _ p f f
-definition_kept i l v d p (Definition k j u) e f = either (λ x. is_defined x.definitions i ≡ false) d _ p f (list_any-append (λ x. x.index == i) d.definitions _ ∙ rw (f, unlike_swapped i k e) refl)
-definition_kept i l v d p (Suffix k m) e f = either (λ x. is_defined x.definitions i ≡ false) d _ p f f
-definition_kept i l v d p head e f = f
-
-pub fresh_definition : (o : List ℤ) (c : Counts) (pieces : List Piece) (i l v : ℕ) (name : List ℕ) → list_any (is_same_piece (Definition i l v) name) pieces ≡ false → is_defined (draft_of o c pieces).definitions i ≡ false
-unfolding draft_of
-fresh_definition o c pieces i l v name e =
-    keeps (λ d. is_defined d.definitions i ≡ false) (is_same_piece (Definition i l v) name) (λ d p s f. definition_kept i l v d p p.head (unlike_head (Definition i l v) name p refl s) f) pieces (empty_draft o c) e refl
-
-dual_kept : (n : ℕ) (d : Draft) (p : Piece) (h : Head) → is_same_head (DualGuesses n) h ≡ false → d.dual_guesses ≡ [] → (said_by d p h).dual_guesses ≡ []
-dual_kept n d p (Body k) e f = either (λ x. x.dual_guesses ≡ []) d _ p f f
-dual_kept n d p (Objective k m) e f = either (λ x. x.dual_guesses ≡ []) d _ p f f
-dual_kept n d p (Definition k j u) e f = either (λ x. x.dual_guesses ≡ []) d _ p f f
-dual_kept n d p (DualGuesses m) e f = absurd cc
-dual_kept n d p (Suffix k m) e f = either (λ x. x.dual_guesses ≡ []) d _ p f f
-dual_kept n d p head e f = f
-
-pub fresh_dual : (o : List ℤ) (c : Counts) (pieces : List Piece) (n : ℕ) (name : List ℕ) → list_any (is_same_piece (DualGuesses n) name) pieces ≡ false → (draft_of o c pieces).dual_guesses ≡ []
-unfolding draft_of
-fresh_dual o c pieces n name e =
-    keeps (λ d. d.dual_guesses ≡ []) (is_same_piece (DualGuesses n) name) (λ d p s f. dual_kept n d p p.head (unlike_head (DualGuesses n) name p refl s) f) pieces (empty_draft o c) e refl
-
-primal_kept : (n : ℕ) (d : Draft) (p : Piece) (h : Head) → is_same_head (PrimalGuesses n) h ≡ false → d.primal_guesses ≡ [] → (said_by d p h).primal_guesses ≡ []
-primal_kept n d p (Body k) e f = either (λ x. x.primal_guesses ≡ []) d _ p f f
-primal_kept n d p (Objective k m) e f = either (λ x. x.primal_guesses ≡ []) d _ p f f
-primal_kept n d p (Definition k j u) e f = either (λ x. x.primal_guesses ≡ []) d _ p f f
-primal_kept n d p (PrimalGuesses m) e f = absurd cc
-primal_kept n d p (Suffix k m) e f = either (λ x. x.primal_guesses ≡ []) d _ p f f
-primal_kept n d p head e f = f
-
-pub fresh_primal : (o : List ℤ) (c : Counts) (pieces : List Piece) (n : ℕ) (name : List ℕ) → list_any (is_same_piece (PrimalGuesses n) name) pieces ≡ false → (draft_of o c pieces).primal_guesses ≡ []
-unfolding draft_of
-fresh_primal o c pieces n name e =
-    keeps (λ d. d.primal_guesses ≡ []) (is_same_piece (PrimalGuesses n) name) (λ d p s f. primal_kept n d p p.head (unlike_head (PrimalGuesses n) name p refl s) f) pieces (empty_draft o c) e refl
-
-sides_kept : (d : Draft) (p : Piece) (h : Head) → is_same_head Sides h ≡ false → d.sides ≡ [] → (said_by d p h).sides ≡ []
-sides_kept d p (Body k) e f = either (λ x. x.sides ≡ []) d _ p f f
-sides_kept d p (Objective k m) e f = either (λ x. x.sides ≡ []) d _ p f f
-sides_kept d p (Definition k j u) e f = either (λ x. x.sides ≡ []) d _ p f f
-sides_kept d p Sides e f = absurd cc
-sides_kept d p (Suffix k m) e f = either (λ x. x.sides ≡ []) d _ p f f
-sides_kept d p head e f = f
-
-pub fresh_sides : (o : List ℤ) (c : Counts) (pieces : List Piece) (name : List ℕ) → list_any (is_same_piece Sides name) pieces ≡ false → (draft_of o c pieces).sides ≡ []
-unfolding draft_of
-fresh_sides o c pieces name e =
-    keeps (λ d. d.sides ≡ []) (is_same_piece Sides name) (λ d p s f. sides_kept d p p.head (unlike_head Sides name p refl s) f) pieces (empty_draft o c) e refl
-
-bounds_kept : (d : Draft) (p : Piece) (h : Head) → is_same_head Bounds h ≡ false → d.bounds ≡ [] → (said_by d p h).bounds ≡ []
-bounds_kept d p (Body k) e f = either (λ x. x.bounds ≡ []) d _ p f f
-bounds_kept d p (Objective k m) e f = either (λ x. x.bounds ≡ []) d _ p f f
-bounds_kept d p (Definition k j u) e f = either (λ x. x.bounds ≡ []) d _ p f f
-bounds_kept d p Bounds e f = absurd cc
-bounds_kept d p (Suffix k m) e f = either (λ x. x.bounds ≡ []) d _ p f f
-bounds_kept d p head e f = f
-
-pub fresh_bounds : (o : List ℤ) (c : Counts) (pieces : List Piece) (name : List ℕ) → list_any (is_same_piece Bounds name) pieces ≡ false → (draft_of o c pieces).bounds ≡ []
-unfolding draft_of
-fresh_bounds o c pieces name e =
-    keeps (λ d. d.bounds ≡ []) (is_same_piece Bounds name) (λ d p s f. bounds_kept d p p.head (unlike_head Bounds name p refl s) f) pieces (empty_draft o c) e refl
-
-terms_kept : (i n : ℕ) (d : Draft) (p : Piece) (h : Head) → is_same_head (Terms i n) h ≡ false → get_or d.terms i [] ≡ [] → get_or (said_by d p h).terms i [] ≡ []
-terms_kept i n d p (Body k) e f = either (λ x. get_or x.terms i [] ≡ []) d _ p f f
-terms_kept i n d p (Objective k m) e f = either (λ x. get_or x.terms i [] ≡ []) d _ p f f
-terms_kept i n d p (Definition k j u) e f = either (λ x. get_or x.terms i [] ≡ []) d _ p f f
-terms_kept i n d p (Terms k m) e f = get_or-set_other d.terms k i _ [] (eqb-false i k e) ∙ f
-terms_kept i n d p (Suffix k m) e f = either (λ x. get_or x.terms i [] ≡ []) d _ p f f
-terms_kept i n d p head e f = f
-
-pub fresh_terms : (o : List ℤ) (c : Counts) (pieces : List Piece) (i n : ℕ) (name : List ℕ) → list_any (is_same_piece (Terms i n) name) pieces ≡ false → get_or (draft_of o c pieces).terms i [] ≡ []
-unfolding draft_of
-fresh_terms o c pieces i n name e =
-    keeps (λ d. get_or d.terms i [] ≡ []) (is_same_piece (Terms i n) name) (λ d p s f. terms_kept i n d p p.head (unlike_head (Terms i n) name p refl s) f) pieces (empty_draft o c) e (none_there _ c.n_con i)
-
-slopes_kept : (i n : ℕ) (d : Draft) (p : Piece) (h : Head) → is_same_head (Slopes i n) h ≡ false → get_or d.slopes i [] ≡ [] → get_or (said_by d p h).slopes i [] ≡ []
-slopes_kept i n d p (Body k) e f = either (λ x. get_or x.slopes i [] ≡ []) d _ p f f
-slopes_kept i n d p (Objective k m) e f = either (λ x. get_or x.slopes i [] ≡ []) d _ p f f
-slopes_kept i n d p (Definition k j u) e f = either (λ x. get_or x.slopes i [] ≡ []) d _ p f f
-slopes_kept i n d p (Slopes k m) e f = get_or-set_other d.slopes k i _ [] (eqb-false i k e) ∙ f
-slopes_kept i n d p (Suffix k m) e f = either (λ x. get_or x.slopes i [] ≡ []) d _ p f f
-slopes_kept i n d p head e f = f
-
-pub fresh_slopes : (o : List ℤ) (c : Counts) (pieces : List Piece) (i n : ℕ) (name : List ℕ) → list_any (is_same_piece (Slopes i n) name) pieces ≡ false → get_or (draft_of o c pieces).slopes i [] ≡ []
-unfolding draft_of
-fresh_slopes o c pieces i n name e =
-    keeps (λ d. get_or d.slopes i [] ≡ []) (is_same_piece (Slopes i n) name) (λ d p s f. slopes_kept i n d p p.head (unlike_head (Slopes i n) name p refl s) f) pieces (empty_draft o c) e (none_there _ c.n_obj i)
+gave_none o c pieces h name plain e =
+    keeps (λ d. GaveNone d h) (is_same_piece h name) (λ d p s f. kept d p p.head h (unlike_head h name p plain s) f) pieces (empty_draft o c) e (none_at_first o c h)

@@ -10,16 +10,13 @@ use Rattle.nl_model.specs.declared.counts.Counts.{Counts}
 use Rattle.nl_model.specs.Draft.{Draft, empty_draft}
 use Rattle.nl_model.specs.Rules.{has_suffix, is_suffix_of}
 use Rattle.nl_lines.specs.declared.head.Head.{Head}
-use Rattle.nl_lines.specs.declared.head.Head.TheVariants.{Body, Objective, Definition, DualGuesses, PrimalGuesses, Sides, Bounds, ColumnCounts, Terms, Slopes, Suffix}
+use Rattle.nl_lines.specs.declared.head.Head.TheVariants.{Body, Objective, Definition, Suffix}
 use Rattle.nl_lines.specs.Pieces.{Piece, is_complete}
 use Rattle.nl_lines.specs.Tests.{is_same_head, is_same_piece}
 use Rattle.nl_lines.specs.Saying.{said_by, with_piece, draft_of}
 use Rattle.nl_lines.proofs.DraftLemmas.{piece_counts}
 use Rattle.nl_lines.proofs.FreshLaw.{either}
-
-or_none : (m : Bool) → m ≡ (m || false)
-or_none true = refl
-or_none false = refl
+use Rattle.nl_lines.proofs.SeenLemmas.{or_false}
 
 swapped : (i k : ℕ) → (i == k) ≡ (k == i)
 swapped i k = by (i == k) refl
@@ -35,23 +32,17 @@ swapped i k = by (i == k) refl
 -- with a piece more that is complete
 one_more : (kind n : ℕ) (name : List ℕ) (d : Draft) (p : Piece) (h : Head) → is_complete d.counts p ≡ true
     → has_suffix (said_by d p h).suffixes kind name ≡ (has_suffix d.suffixes kind name || (is_same_head (Suffix kind n) h && bytes_eq p.name name))
-one_more kind n name d p (Body i) e = either (λ x. has_suffix x.suffixes kind name ≡ (has_suffix d.suffixes kind name || false)) d _ p (or_none _) (or_none _)
-one_more kind n name d p (Objective k m) e = either (λ x. has_suffix x.suffixes kind name ≡ (has_suffix d.suffixes kind name || false)) d _ p (or_none _) (or_none _)
-one_more kind n name d p (Definition i j u) e = either (λ x. has_suffix x.suffixes kind name ≡ (has_suffix d.suffixes kind name || false)) d _ p (or_none _) (or_none _)
-one_more kind n name d p (DualGuesses m) e = or_none (has_suffix d.suffixes kind name)
-one_more kind n name d p (PrimalGuesses m) e = or_none (has_suffix d.suffixes kind name)
-one_more kind n name d p Sides e = or_none (has_suffix d.suffixes kind name)
-one_more kind n name d p Bounds e = or_none (has_suffix d.suffixes kind name)
-one_more kind n name d p (ColumnCounts m) e = or_none (has_suffix d.suffixes kind name)
-one_more kind n name d p (Terms i m) e = or_none (has_suffix d.suffixes kind name)
-one_more kind n name d p (Slopes k m) e = or_none (has_suffix d.suffixes kind name)
+one_more kind n name d p (Body i) e = either (λ x. has_suffix x.suffixes kind name ≡ (has_suffix d.suffixes kind name || false)) d _ p (or_false _) (or_false _)
+one_more kind n name d p (Objective k m) e = either (λ x. has_suffix x.suffixes kind name ≡ (has_suffix d.suffixes kind name || false)) d _ p (or_false _) (or_false _)
+one_more kind n name d p (Definition i j u) e = either (λ x. has_suffix x.suffixes kind name ≡ (has_suffix d.suffixes kind name || false)) d _ p (or_false _) (or_false _)
 one_more kind n name d p (Suffix k m) e =
     rw e (list_any-append (is_suffix_of kind name) d.suffixes _
-    ∙ ap (λ b. has_suffix d.suffixes kind name || b) (sym (or_none ((k % 4 == kind % 4) && bytes_eq p.name name)) ∙ ap (λ b. b && bytes_eq p.name name) (swapped (k % 4) (kind % 4))))
+    ∙ ap (λ b. has_suffix d.suffixes kind name || b) (sym (or_false ((k % 4 == kind % 4) && bytes_eq p.name name)) ∙ ap (λ b. b && bytes_eq p.name name) (swapped (k % 4) (kind % 4))))
+one_more kind n name d p h e = or_false (has_suffix d.suffixes kind name)
 
 fold_suffixes : (c : Counts) (kind n : ℕ) (name : List ℕ) (pieces : List Piece) (d : Draft) → d.counts ≡ c → All (λ p. is_complete c p ≡ true) pieces
     → has_suffix (fold with_piece d pieces).suffixes kind name ≡ (has_suffix d.suffixes kind name || list_any (is_same_piece (Suffix kind n) name) pieces)
-fold_suffixes c kind n name [] d same all = or_none (has_suffix d.suffixes kind name)
+fold_suffixes c kind n name [] d same all = or_false (has_suffix d.suffixes kind name)
 fold_suffixes c kind n name (p ∷ pieces) d same all =
     let first : is_complete d.counts p ≡ true = ap (λ k. is_complete k p) same ∙ all 0 p (omega arith) in
     fold_suffixes c kind n name pieces (with_piece d p) (piece_counts d p p.head ∙ same) (λ k x lt. all (suc k) x (omega (arith, lt)))

@@ -3,11 +3,11 @@ use Rattle.std.specs.Prelude.{ℕ, ◌+◌, ◌==◌, Bool, ◌&&◌, ◌||◌, 
 use Rattle.std.specs.List.{list_any}
 use Rattle.text_base.specs.Names.{is_name}
 use Rattle.nl_model.specs.declared.counts.Counts.{Counts}
-use Rattle.nl_model.specs.HeaderRules.{defined_count}
 use Rattle.nl_lines.specs.declared.head.Head.{Head}
 use Rattle.nl_lines.specs.declared.head.Head.TheVariants.{Body, Objective, Definition, DualGuesses, PrimalGuesses, Sides, Bounds, ColumnCounts, Terms, Slopes, Suffix}
 use Rattle.exact_numbers.specs.Numbers.{whole_of}
 use Rattle.text_base.specs.Words.{word_at}
+use Rattle.nl_lines.specs.Segment.{is_subject_of, segment_of}
 
 -- the first byte of the first word
 abbrev pub letter_of : List (List ℕ) → ℕ
@@ -117,11 +117,6 @@ head_of c words =
 abbrev pub name_in : List (List ℕ) → List ℕ
 name_in words = word_at words 2
 
--- the index of a head is one of the file's
+-- what a head is of is the file's
 unfoldable pub is_in_range : Counts → Head → Bool
-is_in_range c (Body i) = nat_lt i c.n_con
-is_in_range c (Objective k maximise) = nat_lt k c.n_obj
-is_in_range c (Definition i j usage) = nat_le c.n_var i && nat_lt i (c.n_var + defined_count c)
-is_in_range c (Terms i n) = nat_lt i c.n_con
-is_in_range c (Slopes k n) = nat_lt k c.n_obj
-is_in_range c head = Bool.true
+is_in_range c head = is_subject_of c (segment_of head).subject

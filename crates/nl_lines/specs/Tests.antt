@@ -17,7 +17,6 @@ use Rattle.nl_model.specs.Draft.{Draft}
 use Rattle.nl_model.specs.File.{Term}
 use Rattle.nl_model.specs.HeaderRules.{defined_count}
 use Rattle.nl_model.specs.Kinds.{kind_of}
-use Rattle.nl_model.specs.SuffixKinds.{has_same_objects}
 use Rattle.nl_model.specs.Rules.{is_defined, most_terms, term_count}
 use Rattle.nl_model.specs.UseCounts.{terms_up_to}
 use Rattle.nl_lines.specs.declared.awaited.Awaited.{Awaited}
@@ -25,11 +24,11 @@ use Rattle.nl_lines.specs.declared.awaited.Awaited.TheVariants.{Nothing, Pair, C
 use Rattle.nl_lines.specs.declared.fault.NlReason.{NlReason}
 use Rattle.nl_lines.specs.declared.fault.NlReason.TheVariants.{TooLarge, UnknownSegment, RefusedSegment, RepeatedSegment, BadHead, IndexOut, BadLine, BadNumber, ShortSegment, ExtraLine, RefusedOpcode, RefusedLeaf, Undefined, Complementarity, EmptyInterval, BinaryBounds, RepeatedIndex, SosSuffix, Missing, NonzeroCount, ColumnCount as BadColumnCount}
 use Rattle.nl_lines.specs.declared.head.Head.{Head}
-use Rattle.nl_lines.specs.declared.head.Head.TheVariants.{Body, Objective, Definition, DualGuesses, PrimalGuesses, Sides, Bounds, ColumnCounts, Terms, Slopes, Suffix}
+use Rattle.nl_lines.specs.declared.head.Head.TheVariants.{ColumnCounts}
 use Rattle.exact_numbers.specs.Numbers.{are_digits, whole_of, dec_of, is_whole}
 use Rattle.nl_lines.specs.Nodes.{dec_of_signed, leaf_text}
 use Rattle.text_base.specs.Words.{word_at}
-use Rattle.nl_lines.specs.Segment.{are_linear, are_sides, are_suffix_values, are_whole, limit_in, segment_of}
+use Rattle.nl_lines.specs.Segment.{are_linear, are_sides, are_suffix_values, are_whole, is_same_segment, limit_in, segment_of}
 use Rattle.nl_lines.specs.Heads.{letter_of, is_among, is_head, is_segment_letter, is_refused_letter, own_number, head_of, name_in, is_in_range}
 use Rattle.nl_lines.specs.Pieces.{Piece, awaited_of, is_nothing, last_piece, piece_nodes, piece_pairs, piece_counts, interval_in}
 
@@ -63,18 +62,7 @@ suffix_count pieces = length (filter (λ p. is_suffix p.head) pieces)
 
 -- the same letter and index; for suffixes, the same low two bits of the kind
 abbrev pub is_same_head : Head → Head → Bool
-is_same_head (Body i) (Body k) = i == k
-is_same_head (Objective i maximise) (Objective k sense) = i == k
-is_same_head (Definition i j usage) (Definition k l uses) = i == k
-is_same_head (DualGuesses m) (DualGuesses n) = Bool.true
-is_same_head (PrimalGuesses m) (PrimalGuesses n) = Bool.true
-is_same_head Sides Sides = Bool.true
-is_same_head Bounds Bounds = Bool.true
-is_same_head (ColumnCounts m) (ColumnCounts n) = Bool.true
-is_same_head (Terms i m) (Terms k n) = i == k
-is_same_head (Slopes i m) (Slopes k n) = i == k
-is_same_head (Suffix a m) (Suffix b n) = has_same_objects a b
-is_same_head a b = Bool.false
+is_same_head a b = is_same_segment (segment_of a) (segment_of b)
 
 -- a suffix is the same where its name is, too
 abbrev pub is_same_piece : Head → List ℕ → Piece → Bool

@@ -1,16 +1,22 @@
 // What a head says of the lines after it, by the table of segments.
-ghost use Rattle.std.specs.Prelude.{◌≡◌};
+ghost use Rattle.std.specs.Prelude.{◌≡◌, ◌*◌};
 ghost use Rattle.nl_lines.specs.Pieces.{has_tree, keeps_pairs, line_count, line_kind};
 ghost use Rattle.nl_lines.specs.PairTests.{is_full_at};
+ghost use Rattle.nl_lines.specs.SeenSegments.{mark_of, letters, most_indices};
+ghost use Rattle.nl_lines.specs.Segment.{index_of};
 ghost use Rattle.nl_lines.specs.Tests.{holds_once, index_limit, is_linear, is_sides, is_suffix, wants_whole};
 
 use crate::awaited::Awaited;
 use crate::head::Head;
-use crate::segment::{Indices, Lines, Total, segment_of};
+use crate::heads::defined_end;
+use crate::segment::{Indices, Lines, Subject, Total, segment_of};
 use nl_model::{Counts, object_limit};
 
 // There are at most so many linear terms, and so many values of suffixes.
 const MOST_TERMS: u32 = 4_194_304;
+
+// There are so many letters.
+const LETTERS: u64 = 11;
 
 /// The indices of pairs are below this.
 pub fn index_limit(counts: &Counts, head: Head) -> u32
@@ -116,4 +122,33 @@ pub fn is_sides(head: Head) -> bool
         Lines::EachConstraint => true,
         _ => false,
     }
+}
+
+// The index of what a segment is of.
+fn index_of(subject: Subject) -> u32
+    ensures { result ≡ index_of subject }
+{
+    match subject {
+        Subject::File => 0,
+        Subject::Constraint(i) => i,
+        Subject::Objective(k) => k,
+        Subject::Defined(i) => i,
+        Subject::Suffixes(kind) => (kind % 4) as u32,
+    }
+}
+
+/// Where the mark of a head stands among those of all segments.
+pub fn mark_of(head: Head) -> u64
+    ensures { result ≡ mark_of head }
+{
+    let segment = segment_of(head);
+    LETTERS * index_of(segment.subject) as u64 + segment.letter as u64
+}
+
+/// How many marks there are for the segments of a file.
+pub fn mark_count(counts: &Counts) -> u64
+    ensures { result ≡ letters * most_indices counts.now }
+{
+    let rows = counts.n_con.max(counts.n_obj) as u64;
+    LETTERS * rows.max(defined_end(counts).max(4))
 }

@@ -9,6 +9,7 @@ ghost use Rattle.nl_lines.specs.declared.head.Head.TheVariants.{Body, DualGuesse
 
 use crate::fault::NlReason;
 use crate::head::Head;
+use crate::segment::{Subject, segment_of};
 use crate::words::{is_refused_letter, is_segment_letter, letter_of, number_at, own_number};
 use nl_model::Counts;
 use text_base::{is_name, word_at};
@@ -214,13 +215,12 @@ fn is_definition_index(counts: &Counts, index: u32) -> bool
 pub fn is_in_range(counts: &Counts, head: Head) -> bool
     ensures { result ≡ is_in_range counts.now head }
 {
-    match head {
-        Head::Body(i) => i < counts.n_con,
-        Head::Objective(k, _) => k < counts.n_obj,
-        Head::Definition(i, _, _) => is_definition_index(counts, i),
-        Head::Terms(i, _) => i < counts.n_con,
-        Head::Slopes(k, _) => k < counts.n_obj,
-        _ => true,
+    match segment_of(head).subject {
+        Subject::File => true,
+        Subject::Constraint(i) => i < counts.n_con,
+        Subject::Objective(k) => k < counts.n_obj,
+        Subject::Defined(i) => is_definition_index(counts, i),
+        Subject::Suffixes(_) => true,
     }
 }
 

@@ -27,7 +27,7 @@ pub use fault::{NlFault, NlReason};
 pub use head::Head;
 pub use head_rules::{
     has_tree, holds_once, is_full, is_linear, is_sides, is_suffix, keeps_pairs, line_count,
-    line_kind,
+    line_kind, mark_count, mark_of,
 };
 pub use heads::{is_in_range, read_head};
 pub use intervals::read_interval;

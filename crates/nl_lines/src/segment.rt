@@ -2,9 +2,22 @@
 ghost use Rattle.std.specs.Prelude.{◌≡◌, true};
 ghost use Rattle.nl_lines.specs.Segment.{plain, segment_of};
 ghost use Rattle.nl_lines.specs.declared.segment.Lines.TheVariants.{Pairs};
+ghost use Rattle.nl_lines.specs.declared.segment.Subject.TheVariants.{File};
 ghost use Rattle.nl_lines.specs.declared.segment.Total.TheVariants.{Linear};
 
 use crate::head::Head;
+
+/// What a segment is of.
+#[derive(Clone, Copy, Debug)]
+pub enum Subject {
+    File,
+    Constraint(u32),
+    Objective(u32),
+    /// A defined variable, by its index.
+    Defined(u32),
+    /// What suffixes of this kind are for.
+    Suffixes(u8),
+}
 
 /// Which lines follow a head, before any expression.
 #[derive(Clone, Copy, Debug)]
@@ -41,6 +54,9 @@ pub enum Total {
 /// What there is to know of a segment.
 #[derive(Clone, Copy, Debug)]
 pub struct Segment {
+    /// The number of its letter, in the order in which segments are written.
+    pub letter: u32,
+    pub subject: Subject,
     pub lines: Lines,
     /// An expression follows the lines.
     pub has_tree: bool,
@@ -53,10 +69,12 @@ pub struct Segment {
 }
 
 // A segment of these lines alone.
-fn plain(lines: Lines) -> Segment
-    ensures { result ≡ plain lines }
+fn plain(letter: u32, subject: Subject, lines: Lines) -> Segment
+    ensures { result ≡ plain letter subject lines }
 {
     Segment {
+        letter,
+        subject,
         lines,
         has_tree: false,
         indices: Indices::Variables,
@@ -66,24 +84,34 @@ fn plain(lines: Lines) -> Segment
     }
 }
 
+// A segment of an expression alone.
+fn expression(letter: u32, subject: Subject) -> Segment
+    ensures { result ≡ record (plain letter subject (Pairs 0)) { has_tree = true } }
+{
+    Segment {
+        has_tree: true,
+        ..plain(letter, subject, Lines::Pairs(0))
+    }
+}
+
 // A segment of so many linear terms.
-fn linear(n: u32) -> Segment
-    ensures { result ≡ record (plain (Pairs n)) { total = Linear } }
+fn linear(letter: u32, subject: Subject, n: u32) -> Segment
+    ensures { result ≡ record (plain letter subject (Pairs n)) { total = Linear } }
 {
     Segment {
         total: Total::Linear,
-        ..plain(Lines::Pairs(n))
+        ..plain(letter, subject, Lines::Pairs(n))
     }
 }
 
 // A segment of so many guesses.
-fn guesses(n: u32, indices: Indices) -> Segment
-    ensures { result ≡ record (plain (Pairs n)) { indices = indices; once = true } }
+fn guesses(letter: u32, n: u32, indices: Indices) -> Segment
+    ensures { result ≡ record (plain letter File (Pairs n)) { indices = indices; once = true } }
 {
     Segment {
         indices,
         once: true,
-        ..plain(Lines::Pairs(n))
+        ..plain(letter, Subject::File, Lines::Pairs(n))
     }
 }
 
@@ -92,30 +120,25 @@ pub fn segment_of(head: Head) -> Segment
     ensures { result ≡ segment_of head }
 {
     match head {
-        Head::Body(_) => Segment {
-            has_tree: true,
-            ..plain(Lines::Pairs(0))
-        },
-        Head::Objective(_, _) => Segment {
-            has_tree: true,
-            ..plain(Lines::Pairs(0))
-        },
-        Head::Definition(_, n, _) => Segment {
-            has_tree: true,
-            kept: true,
-            ..linear(n)
-        },
-        Head::DualGuesses(n) => guesses(n, Indices::Constraints),
-        Head::PrimalGuesses(n) => guesses(n, Indices::Variables),
-        Head::Sides => plain(Lines::EachConstraint),
-        Head::Bounds => plain(Lines::EachVariable),
-        Head::ColumnCounts(n) => plain(Lines::Columns(n)),
-        Head::Terms(_, n) => linear(n),
-        Head::Slopes(_, n) => linear(n),
         Head::Suffix(kind, n) => Segment {
+            subject: Subject::Suffixes(kind),
             kept: true,
             total: Total::SuffixValues,
-            ..guesses(n, Indices::Objects(kind))
+            ..guesses(0, n, Indices::Objects(kind))
         },
+        Head::Definition(i, n, _) => Segment {
+            has_tree: true,
+            kept: true,
+            ..linear(1, Subject::Defined(i), n)
+        },
+        Head::Body(i) => expression(2, Subject::Constraint(i)),
+        Head::Objective(k, _) => expression(3, Subject::Objective(k)),
+        Head::DualGuesses(n) => guesses(4, n, Indices::Constraints),
+        Head::PrimalGuesses(n) => guesses(5, n, Indices::Variables),
+        Head::Sides => plain(6, Subject::File, Lines::EachConstraint),
+        Head::Bounds => plain(7, Subject::File, Lines::EachVariable),
+        Head::ColumnCounts(n) => plain(8, Subject::File, Lines::Columns(n)),
+        Head::Terms(i, n) => linear(9, Subject::Constraint(i), n),
+        Head::Slopes(k, n) => linear(10, Subject::Objective(k), n),
     }
 }

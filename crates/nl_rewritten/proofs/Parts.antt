@@ -21,7 +21,7 @@ use Rattle.nl_lines.specs.declared.head.Head.TheVariants.{Body, Definition as De
 use Rattle.nl_lines.specs.Pieces.{Piece, line_count, line_kind, pair_count, piece_intervals, piece_pairs}
 use Rattle.nl_lines.specs.Saying.{draft_of, piece_tree, with_terms}
 use Rattle.nl_lines.specs.Tests.{holds_once, index_limit, is_binary, is_linear, is_same_piece, is_sides, is_suffix, is_within_unit, pair_total, suffix_count, wants_whole}
-use Rattle.nl_lines.proofs.FreshLaw.{fresh_bounds, fresh_dual, fresh_primal, fresh_sides}
+use Rattle.nl_lines.proofs.FreshLaw.{gave_none}
 use Rattle.nl_lines.proofs.HeadSuffixes.{suffixes_come}
 use Rattle.nl_lines.proofs.TotalLemmas.{pairs-append, pairs-other}
 use Rattle.nl_round_trip.specs.Writable.{IsWritableSuffix}
@@ -161,7 +161,7 @@ intervals_step : (o : List ℤ) (c : Counts) (before : List Piece) (p : Piece) �
 intervals_step o c before p s k Sides e =
     let d = draft_of o c before in
     let g = intervals_of o c before p Sides s e refl in
-    let all : piece_intervals p ≡ d.sides ++ piece_intervals p = ap (λ (xs : List Interval). xs ++ piece_intervals p) (sym (fresh_sides o c before p.name (fresh_as o c before p Sides s e))) in
+    let all : piece_intervals p ≡ d.sides ++ piece_intervals p = ap (λ (xs : List Interval). xs ++ piece_intervals p) (sym (gave_none o c before Sides p.name refl (fresh_as o c before p Sides s e))) in
     let most : length p.rows ≤ c.n_con = subst (λ h. length p.rows ≤ line_count c h) e g.most in
     subst (λ xs. AreIntervalsKept c xs d.bounds) all (record {
       side_most = omega (arith, most, g.count);
@@ -173,7 +173,7 @@ intervals_step o c before p s k Sides e =
 intervals_step o c before p s k Bounds e =
     let d = draft_of o c before in
     let g = intervals_of o c before p Bounds s e refl in
-    let all : piece_intervals p ≡ d.bounds ++ piece_intervals p = ap (λ (xs : List Interval). xs ++ piece_intervals p) (sym (fresh_bounds o c before p.name (fresh_as o c before p Bounds s e))) in
+    let all : piece_intervals p ≡ d.bounds ++ piece_intervals p = ap (λ (xs : List Interval). xs ++ piece_intervals p) (sym (gave_none o c before Bounds p.name refl (fresh_as o c before p Bounds s e))) in
     let most : length p.rows ≤ c.n_var = subst (λ h. length p.rows ≤ line_count c h) e g.most in
     subst (λ xs. AreIntervalsKept c d.sides xs) all (record {
       side_most = k.side_most;
@@ -212,7 +212,7 @@ GuessesKept c pieces d = AreGuessesKept c d.dual_guesses d.primal_guesses
 guesses_step : (o : List ℤ) (c : Counts) (before : List Piece) (p : Piece) → IsStep o c before p → GuessesKept c before (draft_of o c before) → (h : Head) → p.head ≡ h → GuessesKept c (before ++ p ∷ []) (said_whole c (draft_of o c before) p h)
 guesses_step o c before p s k (DualGuesses n) e =
     let d = draft_of o c before in
-    let all : piece_pairs p ≡ d.dual_guesses ++ piece_pairs p = ap (λ (xs : List Term). xs ++ piece_pairs p) (sym (fresh_dual o c before n p.name (fresh_as o c before p (DualGuesses n) s e))) in
+    let all : piece_pairs p ≡ d.dual_guesses ++ piece_pairs p = ap (λ (xs : List Term). xs ++ piece_pairs p) (sym (gave_none o c before (DualGuesses n) p.name refl (fresh_as o c before p (DualGuesses n) s e))) in
     let few : n < 2 ^ 31 = good_as o c before p (DualGuesses n) s e in
     let size = size_as o c before p (DualGuesses n) s e in
     subst (λ xs. AreGuessesKept c xs d.primal_guesses) all (record {
@@ -223,7 +223,7 @@ guesses_step o c before p s k (DualGuesses n) e =
     })
 guesses_step o c before p s k (PrimalGuesses n) e =
     let d = draft_of o c before in
-    let all : piece_pairs p ≡ d.primal_guesses ++ piece_pairs p = ap (λ (xs : List Term). xs ++ piece_pairs p) (sym (fresh_primal o c before n p.name (fresh_as o c before p (PrimalGuesses n) s e))) in
+    let all : piece_pairs p ≡ d.primal_guesses ++ piece_pairs p = ap (λ (xs : List Term). xs ++ piece_pairs p) (sym (gave_none o c before (PrimalGuesses n) p.name refl (fresh_as o c before p (PrimalGuesses n) s e))) in
     let few : n < 2 ^ 31 = good_as o c before p (PrimalGuesses n) s e in
     let size = size_as o c before p (PrimalGuesses n) s e in
     subst (λ xs. AreGuessesKept c d.dual_guesses xs) all (record {

@@ -26,7 +26,7 @@ use Rattle.nl_lines.specs.Nodes.{Placed, only_nodes}
 use Rattle.nl_lines.specs.Pieces.{Piece, awaited_in, has_tree, is_complete, is_nothing, line_count, line_kind, piece_nodes, piece_pairs, piece_pending, tree_awaits}
 use Rattle.nl_lines.specs.Saying.{draft_of, piece_tree}
 use Rattle.nl_lines.specs.Tests.{index_limit, is_linear, is_same_piece, node_total}
-use Rattle.nl_lines.proofs.FreshLaw.{fresh_definition}
+use Rattle.nl_lines.proofs.FreshLaw.{gave_none}
 use Rattle.nl_segments.proofs.HeadBegun.{some_line}
 use Rattle.nl_segments.proofs.LinesHeld.{tree_part}
 use Rattle.nl_segments.proofs.PairHeld.{never}
@@ -232,7 +232,7 @@ one_piece o c before p s k (DefinitionHead i j u) e =
     (record {
       from = within.0;
       below = within.1;
-      fresh = fresh_definition o c before i j u p.name (subst (λ h. list_any (is_same_piece h p.name) before ≡ false) e s.fresh);
+      fresh = gave_none o c before (DefinitionHead i j u) p.name refl (subst (λ h. list_any (is_same_piece h p.name) before ≡ false) e s.fresh);
       terms = subst (λ h. AreTermsBelow (index_limit c h) (piece_pairs p)) e s.sound.below;
       few = s.few (ap is_linear e);
       tree = t.known;

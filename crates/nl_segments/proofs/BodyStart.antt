@@ -1,28 +1,25 @@
 -- What the reader of the body holds before any row, and a row that nothing awaits.
-use Rattle.std.proofs.Common.{◌≡◌, ◌∙◌, ℕ, zero, suc, ◌+◌, ◌-◌, ◌<◌, ◌≤◌, true, false, List, [], ◌∷◌, length, replicate, get_or, refl, sym, ap, subst, arith, Option, Some, None, nat_le, nat_lt, ◌&&◌}
+use Rattle.std.proofs.Common.{◌≡◌, ◌∙◌, ℕ, zero, suc, ◌*◌, ◌≤◌, true, false, List, [], ◌∷◌, length, replicate, refl, sym, ap, subst, arith, Option, Some, None, nat_lt}
 use Rattle.std.specs.Prelude.{ℤ}
-use Rattle.std.proofs.lemmas.Bool.{ltb-true}
-use Rattle.std.proofs.lemmas.Bool.Decides.{nat_tests}
 use Rattle.std.proofs.lemmas.List.{length-replicate, get_or-replicate, length-append}
 use Rattle.text_base.specs.Judged.{first_reason}
 use Rattle.nl_model.specs.declared.counts.Counts.{Counts}
 use Rattle.nl_model.specs.Draft.{Draft, empty_draft}
-use Rattle.nl_model.specs.HeaderRules.{defined_count}
 use Rattle.nl_header.specs.Head.{options_in, counts_in}
 use Rattle.nl_lines.specs.declared.awaited.Awaited.{Awaited}
 use Rattle.nl_lines.specs.declared.awaited.Awaited.TheVariants.{Nothing, Pair, ColumnCount, Interval, Node, OperandCount}
 use Rattle.nl_lines.specs.declared.fault.NlReason.TheVariants.{ExtraLine}
 use Rattle.nl_lines.specs.declared.head.Head.{Head}
-use Rattle.nl_lines.specs.declared.head.Head.TheVariants.{Body as BodyHead, Objective, Definition, Terms, Slopes, Suffix}
-use Rattle.nl_lines.specs.Heads.{is_head, is_in_range}
+use Rattle.nl_lines.specs.Heads.{is_head}
 use Rattle.nl_lines.specs.Pieces.{Piece, last_piece, is_nothing, awaited_in, awaited_of}
 use Rattle.nl_lines.specs.Saying.{empty_lines, draft_of, place_lines}
-use Rattle.nl_lines.specs.SeenSegments.{no_segments, has_segment, IsSeenIn}
+use Rattle.nl_lines.specs.SeenSegments.{letters, mark_of, most_indices, no_segments}
+use Rattle.nl_lines.proofs.SeenLemmas.{mark_few}
 use Rattle.nl_segments.specs.Current.{Current}
-use Rattle.nl_lines.specs.Tests.{index_limit, is_suffix, awaited_tests, line_tests, row_tests}
+use Rattle.nl_lines.specs.Tests.{index_limit, awaited_tests, line_tests, row_tests}
 use Rattle.nl_segments.specs.Grammar.{Standing, counts_of, said}
 use Rattle.nl_model.specs.UseCounts.{use_count}
-use Rattle.nl_segments.specs.Held.{Body, IsHeld, IsHeaderOf, AreSound, IsLast, only_header, words_refusal}
+use Rattle.nl_segments.specs.Held.{Body, IsHeld, IsHeaderOf, AreSeen, AreSound, IsLast, only_header, words_refusal}
 use Rattle.nl_segments.specs.Taking.{body_awaits}
 use Rattle.nl_segments.proofs.CurrentLemmas.{awaits}
 
@@ -36,25 +33,12 @@ no_piece_sound c =
       complete = λ before p e. absurd (omega (arith, ap (length {A = Piece}) e, length-append before (p ∷ [])));
     }
 
-unmarked : (n i : ℕ) → i < n → (i < length (replicate n false)) × (get_or (replicate n false) i false ≡ false)
-unmarked n i lt = (rw (length-replicate n false) lt, get_or-replicate n i false false lt)
-
-defined_place : (n k i : ℕ) → (nat_le n i && nat_lt i (n + k)) ≡ true → (n ≤ i) × (i - n < k)
-defined_place n k i e = grind (arith, nat_tests)
-
-seen_none : (c : Counts) (head : Head) → is_in_range c head ≡ true → is_suffix head ≡ false
-    → IsSeenIn (no_segments c (defined_count c)) head × (has_segment (no_segments c (defined_count c)) head ≡ false)
-unfolding is_in_range
-seen_none c (BodyHead i) r f = unmarked c.n_con i (ltb-true i c.n_con r)
-seen_none c (Objective k m) r f = unmarked c.n_obj k (ltb-true k c.n_obj r)
-seen_none c (Definition i j u) r f =
-    let here = defined_place c.n_var (defined_count c) i r in
-    let mark = unmarked (defined_count c) (i - c.n_var) here.1 in
-    ((here.0, mark.0), mark.1)
-seen_none c (Terms i n) r f = unmarked c.n_con i (ltb-true i c.n_con r)
-seen_none c (Slopes k n) r f = unmarked c.n_obj k (ltb-true k c.n_obj r)
-seen_none c (Suffix kind n) r f = absurd cc
-seen_none c head r f = (tt, refl)
+seen_none : (c : Counts) → AreSeen c (no_segments c) []
+seen_none c head range =
+    let few = mark_few c head range in (
+      rw (length-replicate (letters * most_indices c) false) few,
+      λ plain. get_or-replicate (letters * most_indices c) (mark_of head) false false few,
+    )
 
 no_use : (n j : ℕ) → use_count (replicate n []) j ≡ 0
 no_use zero j = refl
@@ -77,7 +61,7 @@ pub record IsNew (o : List ℤ) (c : Counts) (b : Body) : Type 0 where
   pub draft : b.draft ≡ empty_draft o c
   pub current : b.current ≡ None
   pub room : (head : Head) → index_limit c head ≤ length b.marks
-  pub seen : b.seen ≡ no_segments c (defined_count c)
+  pub seen : b.seen ≡ no_segments c
   pub nodes : b.nodes ≡ 0
   pub linear : b.linear ≡ 0
   pub values : b.values ≡ 0
@@ -97,7 +81,7 @@ new_held rows b whole new =
       last = rw (no_last, new.current) tt;
       marks = rw no_last tt;
       room = λ head r. new.room head;
-      seen = λ head r f. rw new.seen (seen_none c head r f);
+      seen = rw new.seen (seen_none c);
       nodes = new.nodes;
       linear = new.linear;
       values = new.values;

@@ -36,7 +36,7 @@ use Rattle.nl_segments.specs.Taking.{body_awaits}
 use Rattle.nl_segments.proofs.CurrentLemmas.{begun}
 use Rattle.nl_segments.proofs.EndLemmas.{last_awaits}
 use Rattle.nl_lines.proofs.HeadSuffixes.{suffixes_come}
-use Rattle.nl_segments.proofs.HeadSeen.{seen_begun, any_name, within_marks}
+use Rattle.nl_segments.proofs.HeadSeen.{seen_begun, any_name}
 use Rattle.nl_segments.proofs.HeadBegun.{new_piece, no_pairs, whole_at_once, draft_begun, terms_begun, nodes_begun, pairs_begun, count_begun, columns_begun}
 use Rattle.nl_segments.proofs.HeadRefusal.{IsNew, is_new}
 
@@ -75,7 +75,7 @@ come_repeated s b head name h closed range = by (is_suffix head) refl
 
     by : (t : Bool) → is_suffix head ≡ t → has_come b.seen b.draft.suffixes head name ≡ is_repeated s.pieces head name
     by true e = suffix head e
-    by false e = rw e ((h.seen head range e).1 ∙ any_name head name s.pieces e)
+    by false e = rw e ((h.seen head range).1 e ∙ any_name head name s.pieces e)
 
 -- ---- what is wrong
 
@@ -218,7 +218,7 @@ held_begun s b head name line h closed range fresh =
           (last_begun (counts_of s) (begun_draft b.draft head name) s.pieces head name line);
       marks = marks_begun (counts_of s) (length b.marks) s.pieces head name line;
       room = λ k within. subst (λ n. index_limit (counts_of s) k ≤ n) (sym (length-replicate (length b.marks) false)) (h.room k within);
-      seen = seen_begun (counts_of s) b.seen s.pieces head name line h.seen range;
+      seen = seen_begun (counts_of s) b.seen s.pieces head name line h.seen;
       nodes = h.nodes ∙ nodes_begun (counts_of s) s.pieces head name line;
       linear = h.linear ∙ pairs_begun is_linear s.pieces head name line;
       values = h.values ∙ pairs_begun is_suffix s.pieces head name line;
@@ -267,7 +267,7 @@ new_of b is_open words head e is none =
     is_new b.draft.counts (is_some b.current) b.seen b.draft.suffixes b.suffixes words head is (ap (λ o. first_reason (new_head_tests b.draft.counts o b.seen b.draft.suffixes b.suffixes words)) (sym e) ∙ none)
 
 pub marks_there : (b : Body) (head : Head) → HoldsSome b → is_in_range b.draft.counts head ≡ true → IsSeenIn b.seen head
-marks_there b head h range = within_marks (counts_of h.0) b.seen h.0.pieces head h.1.seen (ap (λ c. is_in_range c head) (sym h.1.counts) ∙ range)
+marks_there b head h range = (h.1.seen head (ap (λ c. is_in_range c head) (sym h.1.counts) ∙ range)).0
 
 pub place_there : (b : Body) (head : Head) → HoldsSome b → is_in_range b.draft.counts head ≡ true → HasOwner b.places head
 place_there b head h range = rw h.1.places (owner_there (counts_of h.0) h.0.pieces head (ap (λ c. is_in_range c head) (sym h.1.counts) ∙ range))

@@ -1,5 +1,5 @@
 -- The segments that came, with a head more; and the name of a suffix.
-use Rattle.std.proofs.Common.{◌≡◌, ◌∙◌, ℕ, ◌-◌, ◌==◌, Bool, true, false, ◌&&◌, ◌||◌, List, [], ◌∷◌, ◌++◌, length, refl, sym, ap, ap₂, arith, Option, Some, None}
+use Rattle.std.proofs.Common.{◌≡◌, ◌∙◌, ℕ, ◌==◌, Bool, true, false, ◌&&◌, ◌||◌, List, [], ◌∷◌, ◌++◌, length, refl, sym, ap, ap₂, arith, Option, Some, None}
 use Rattle.std.specs.Prelude.{not, if◌then◌else◌, ◌+◌, nat_le, option_map, option_and_then}
 use Rattle.std.specs.List.{list_any}
 use Rattle.std.proofs.lemmas.List.{length-set}
@@ -7,54 +7,17 @@ use Rattle.std.proofs.lemmas.List.Folds.{list_any-append}
 use Rattle.text_base.specs.Names.{IsName, is_name, has_name_bytes}
 use Rattle.nl_model.specs.declared.counts.Counts.{Counts}
 use Rattle.nl_lines.specs.declared.head.Head.{Head}
-use Rattle.nl_lines.specs.declared.head.Head.TheVariants.{Body, Objective, Definition, DualGuesses, PrimalGuesses, Sides, Bounds, ColumnCounts, Terms, Slopes, Suffix}
-use Rattle.nl_lines.specs.Heads.{head_of, name_in, is_in_range, numbered_head, counted_head, bare_head, objective_head, definition_head, column_head, suffix_head, with_sense, letter_of, own_number, number_at}
+use Rattle.nl_lines.specs.declared.head.Head.TheVariants.{Body, Objective, Definition, DualGuesses, PrimalGuesses, Sides, Bounds, ColumnCounts, Terms, Slopes}
+use Rattle.nl_lines.specs.Heads.{head_of, name_in, numbered_head, counted_head, bare_head, objective_head, definition_head, column_head, suffix_head, with_sense, letter_of, own_number, number_at}
 use Rattle.text_base.specs.Words.{word_at}
 use Rattle.nl_lines.specs.Pieces.{Piece}
-use Rattle.nl_lines.specs.SeenSegments.{Segments, IsSeenIn, with_segment}
+use Rattle.nl_lines.specs.SeenSegments.{Segments, mark_of, with_segment}
 use Rattle.nl_lines.specs.Tests.{is_suffix, is_same_head, is_same_piece}
 use Rattle.nl_segments.specs.Held.{AreSeen}
 use Rattle.nl_segments.proofs.HeadBegun.{new_piece}
 use Rattle.nl_lines.proofs.SeenLemmas.{marked}
 
 -- ---- marks
-
--- there are as many marks
-record SameMarks (s t : Segments) : Type 0 where
-  first : t.first_defined ≡ s.first_defined
-  bodies : length t.bodies ≡ length s.bodies
-  objectives : length t.objectives ≡ length s.objectives
-  definitions : length t.definitions ≡ length s.definitions
-  terms : length t.terms ≡ length s.terms
-  slopes : length t.slopes ≡ length s.slopes
-
-same_marks : (s : Segments) (g : Head) → SameMarks s (with_segment s g)
-same_marks s (Body i) = record { first = refl; bodies = length-set s.bodies i true; objectives = refl; definitions = refl; terms = refl; slopes = refl }
-same_marks s (Objective k m) = record { first = refl; bodies = refl; objectives = length-set s.objectives k true; definitions = refl; terms = refl; slopes = refl }
-same_marks s (Definition i j u) = record { first = refl; bodies = refl; objectives = refl; definitions = length-set s.definitions (i - s.first_defined) true; terms = refl; slopes = refl }
-same_marks s (Terms i n) = record { first = refl; bodies = refl; objectives = refl; definitions = refl; terms = length-set s.terms i true; slopes = refl }
-same_marks s (Slopes k n) = record { first = refl; bodies = refl; objectives = refl; definitions = refl; terms = refl; slopes = length-set s.slopes k true }
-same_marks s head = record { first = refl; bodies = refl; objectives = refl; definitions = refl; terms = refl; slopes = refl }
-
-still_within : (s t : Segments) (h : Head) → SameMarks s t → IsSeenIn s h → IsSeenIn t h
-still_within s t (Body i) e w = rw e.bodies w
-still_within s t (Objective k m) e w = rw e.objectives w
-still_within s t (Definition i j u) e w = rw (e.first, e.definitions) w
-still_within s t (Terms i n) e w = rw e.terms w
-still_within s t (Slopes k n) e w = rw e.slopes w
-still_within s t head e w = w
-
--- a suffix has no mark
-suffix_within : (s : Segments) (h : Head) → is_suffix h ≡ true → IsSeenIn s h
-suffix_within s (Suffix k n) e = tt
-suffix_within s head e = absurd cc
-
-pub within_marks : (c : Counts) (s : Segments) (pieces : List Piece) (h : Head) → AreSeen c s pieces → is_in_range c h ≡ true → IsSeenIn s h
-within_marks c s pieces h seen range = by (is_suffix h) refl
-  where
-    by : (t : Bool) → is_suffix h ≡ t → IsSeenIn s h
-    by true e = suffix_within s h e
-    by false e = (seen h range e).0
 
 same_name : (head g : Head) (name : List ℕ) (line : ℕ) → is_suffix head ≡ false → list_any (is_same_piece head []) (new_piece g name line ∷ []) ≡ is_same_head head g
 same_name head g name line f = by (is_same_head head g) refl
@@ -63,18 +26,14 @@ same_name head g name line f = by (is_same_head head g) refl
     by true e = rw (e, f) refl
     by false e = rw e refl
 
-pub seen_begun : (c : Counts) (s : Segments) (pieces : List Piece) (g : Head) (name : List ℕ) (line : ℕ) → AreSeen c s pieces → is_in_range c g ≡ true
-    → AreSeen c (with_segment s g) (pieces ++ new_piece g name line ∷ [])
-seen_begun c s pieces g name line seen range = each
-  where
-    each : AreSeen c (with_segment s g) (pieces ++ new_piece g name line ∷ [])
-    each head within plain =
-        let before = seen head within plain in (
-          still_within s (with_segment s g) head (same_marks s g) before.0,
-          marked s g head before.0 (within_marks c s pieces g seen range) plain
-              ∙ ap₂ (λ a b. a || b) before.1 (sym (same_name head g name line plain))
-              ∙ sym (list_any-append (is_same_piece head []) pieces (new_piece g name line ∷ [])),
-        )
+pub seen_begun : (c : Counts) (s : Segments) (pieces : List Piece) (g : Head) (name : List ℕ) (line : ℕ) → AreSeen c s pieces → AreSeen c (with_segment s g) (pieces ++ new_piece g name line ∷ [])
+seen_begun c s pieces g name line seen head range =
+    let before = seen head range in (
+      rw (length-set s (mark_of g) true) before.0,
+      λ plain. marked s g head before.0
+          ∙ ap₂ (λ a b. a || b) (before.1 plain) (sym (same_name head g name line plain))
+          ∙ sym (list_any-append (is_same_piece head []) pieces (new_piece g name line ∷ [])),
+    )
 
 -- no name is asked but that of a suffix
 pub any_name : (head : Head) (name : List ℕ) (pieces : List Piece) → is_suffix head ≡ false → list_any (is_same_piece head []) pieces ≡ list_any (is_same_piece head name) pieces

@@ -31,7 +31,7 @@ use Rattle.nl_segments.specs.Held.{AreSound, Body, HoldsSome, IsAwaiting, IsHeld
 use Rattle.nl_lines.proofs.RowLemmas.{late_pairs}
 use Rattle.nl_segments.proofs.CurrentLemmas.{with_line}
 use Rattle.nl_lines.proofs.DraftLemmas.{draft_counts, with_bound, with_column, with_side}
-use Rattle.nl_lines.proofs.FreshLaw.{none_before, fresh_sides, fresh_bounds}
+use Rattle.nl_lines.proofs.FreshLaw.{none_before, gave_none}
 use Rattle.nl_lines.proofs.PieceLemmas.{longer, draft-append}
 use Rattle.nl_segments.proofs.PairLines.{at, opened, awaiting, awaits_as, judged_by, row_after, last_sound}
 use Rattle.nl_segments.proofs.PairHeld.{IsEarly, early, held_longer, same_totals, places_no_pair, open_line, columns-append, columns_kept, is_line_kind, none_within, sound_kept}
@@ -223,7 +223,7 @@ few_intervals p = few_from p.rows
 room_said : (o : List ℤ) (c : Counts) (before : List Piece) (p : Piece) → AreSound c (before ++ p ∷ []) → IsIntervalHead p.head → length p.rows < line_count c p.head → HasRoom (draft_of o c (before ++ p ∷ [])) (is_sides p.head)
 room_said o c before p h (of_constraints e) within =
     let fresh = none_before before p h.apart in
-    let none = fresh_sides o c before p.name (rw e at fresh) in
+    let none = gave_none o c before Sides p.name refl (rw e at fresh) in
     let said : (draft_of o c (before ++ p ∷ [])).sides ≡ piece_intervals p = ap (λ d. d.sides) (draft-append o c before p ∙ ap (said_by (draft_of o c before) p) e) ∙ ap (λ is. is ++ piece_intervals p) none in
     let few = few_intervals p in
     let lt : length p.rows < c.n_con = rw e at within in
@@ -231,7 +231,7 @@ room_said o c before p h (of_constraints e) within =
     subst (HasRoom (draft_of o c (before ++ p ∷ []))) (ap is_sides (sym e)) (let same = ap length said in omega arith)
 room_said o c before p h (of_variables e) within =
     let fresh = none_before before p h.apart in
-    let none = fresh_bounds o c before p.name (rw e at fresh) in
+    let none = gave_none o c before Bounds p.name refl (rw e at fresh) in
     let said : (draft_of o c (before ++ p ∷ [])).bounds ≡ piece_intervals p = ap (λ d. d.bounds) (draft-append o c before p ∙ ap (said_by (draft_of o c before) p) e) ∙ ap (λ is. is ++ piece_intervals p) none in
     let few = few_intervals p in
     let lt : length p.rows < c.n_var = rw e at within in

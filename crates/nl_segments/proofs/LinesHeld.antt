@@ -32,7 +32,7 @@ use Rattle.nl_lines.proofs.DraftLemmas.{draft_counts}
 use Rattle.nl_segments.specs.PlaceSteps.{HasOwner}
 use Rattle.nl_segments.proofs.HeadBegun.{some_line}
 use Rattle.nl_segments.proofs.PlaceLemmas.{owner_there}
-use Rattle.nl_lines.proofs.FreshLaw.{none_before, fresh_terms, fresh_slopes}
+use Rattle.nl_lines.proofs.FreshLaw.{none_before, gave_none}
 use Rattle.std.proofs.lemmas.List.{get_or_past}
 use Rattle.std.proofs.lemmas.List.Elements.{All-cons, All-drop, All-map, All-take}
 use Rattle.std.proofs.lemmas.Option.{slice_get_past, slice_get-get_or}
@@ -221,8 +221,8 @@ all_whole P c (p ∷ ps) s w r =
     )
 
 unused : (o : List ℤ) (c : Counts) (before : List Piece) (name : List ℕ) (h : Head) → list_any (is_same_piece h name) before ≡ false → IsUnused (draft_of o c before) h
-unused o c before name (Terms i n) e = fresh_terms o c before i n name e
-unused o c before name (Slopes k n) e = fresh_slopes o c before k n name e
+unused o c before name (Terms i n) e = gave_none o c before (Terms i n) name refl e
+unused o c before name (Slopes k n) e = gave_none o c before (Slopes k n) name refl e
 unused o c before name head e = tt
 
 abbrev Lined : (ℕ → Type 0) → List ℤ → Counts → List Piece → Type 0

@@ -23,7 +23,7 @@ use Rattle.nl_lines.specs.PairTests.{SaysFreshPair, is_full_at, IsMarked}
 use Rattle.nl_segments.specs.PairSteps.{CanClose, CanGive, CanUse, with_given, with_kept}
 use Rattle.nl_segments.specs.Held.{Body, HasRow, HoldsSome, IsAwaiting, IsHeld}
 use Rattle.nl_lines.proofs.DraftLemmas.{draft_before, says_whole}
-use Rattle.nl_lines.proofs.FreshLaw.{none_before, fresh_dual, fresh_primal}
+use Rattle.nl_lines.proofs.FreshLaw.{none_before, gave_none}
 use Rattle.nl_lines.proofs.HeadSuffixes.{suffixes_come}
 use Rattle.nl_segments.proofs.PairDraft.{begun_there}
 use Rattle.nl_segments.proofs.PlaceLemmas.{owner_there}
@@ -136,7 +136,7 @@ can_give_by s b cur row t n (DualGuesses k) e =
     let none = n.next.fresh (ap holds_once e) in
     let guesses : b.draft.dual_guesses ≡ piece_pairs p =
     ap (λ d. d.dual_guesses) (draft_is s b cur row t n ∙ draft-append o c n.parts.before p ∙ ap (said_by (draft_of o c n.parts.before) p) e)
-    ∙ ap (λ ts. ts ++ piece_pairs p) (fresh_dual o c n.parts.before k p.name (not_before s b cur row t n (DualGuesses k) e)) in
+    ∙ ap (λ ts. ts ++ piece_pairs p) (gave_none o c n.parts.before (DualGuesses k) p.name refl (not_before s b cur row t n (DualGuesses k) e)) in
     let count = ap (λ k. k.n_con) n.held.counts in
     (omega arith, subst (All (λ s. s.0 ≢ t.0)) (sym guesses) (none_has (piece_pairs p) t.0 none))
 can_give_by s b cur row t n (PrimalGuesses k) e =
@@ -147,7 +147,7 @@ can_give_by s b cur row t n (PrimalGuesses k) e =
     let none = n.next.fresh (ap holds_once e) in
     let guesses : b.draft.primal_guesses ≡ piece_pairs p =
     ap (λ d. d.primal_guesses) (draft_is s b cur row t n ∙ draft-append o c n.parts.before p ∙ ap (said_by (draft_of o c n.parts.before) p) e)
-    ∙ ap (λ ts. ts ++ piece_pairs p) (fresh_primal o c n.parts.before k p.name (not_before s b cur row t n (PrimalGuesses k) e)) in
+    ∙ ap (λ ts. ts ++ piece_pairs p) (gave_none o c n.parts.before (PrimalGuesses k) p.name refl (not_before s b cur row t n (PrimalGuesses k) e)) in
     let count = ap (λ k. k.n_var) n.held.counts in
     (omega arith, subst (All (λ s. s.0 ≢ t.0)) (sym guesses) (none_has (piece_pairs p) t.0 none))
 can_give_by s b cur row t n (Terms i k) e =

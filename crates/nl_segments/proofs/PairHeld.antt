@@ -16,16 +16,15 @@ use Rattle.nl_lines.specs.Nodes.{Placed, nodes_of, only_lines, only_nodes}
 use Rattle.nl_lines.specs.Pieces.{Piece, awaited_in, is_complete, is_nothing, line_count, line_kind, has_tree, pair_count, piece_nodes, piece_pairs, piece_pending, tree_awaits}
 use Rattle.nl_lines.specs.declared.head.Head.TheVariants.{ColumnCounts}
 use Rattle.std.proofs.lemmas.List.{append_assoc, append-nil, take-append-le}
-use Rattle.nl_lines.specs.Tests.{all_column_counts, column_counts, index_limit, is_same_piece, is_linear, is_suffix, pair_total}
+use Rattle.nl_lines.specs.Tests.{all_column_counts, column_counts, index_limit, is_linear, is_suffix, pair_total}
 use Rattle.nl_lines.specs.Saying.{place_lines}
 use Rattle.nl_segments.specs.Grammar.{counts_of, said}
 use Rattle.nl_segments.specs.Current.{Current, IsCurrent, current_awaits, less_line}
-use Rattle.nl_lines.specs.SeenSegments.{IsSeenIn, has_segment}
 use Rattle.nl_segments.specs.LineSteps.{unless_complete}
 use Rattle.nl_model.specs.UseCounts.{use_count}
 use Rattle.nl_lines.specs.PairTests.{IsMarked}
 use Rattle.nl_lines.specs.NodeRows.{IsNodeKnown}
-use Rattle.nl_segments.specs.Held.{Body, IsHeld, IsLast, IsNodeLeft, IsOpen, IsSoundPiece}
+use Rattle.nl_segments.specs.Held.{Body, AreSeen, IsHeld, IsLast, IsNodeLeft, IsOpen, IsSoundPiece}
 use Rattle.nl_lines.proofs.RowLemmas.{early_tree, late_pairs}
 use Rattle.nl_segments.proofs.CurrentLemmas.{awaits, with_line}
 use Rattle.nl_lines.proofs.DraftLemmas.{draft_counts}
@@ -133,7 +132,7 @@ held_longer header before p row cur old new h sound within g =
       last = rw lasts (last_closed c new.draft new.name (longer p row) cur new.current g.is_current g.current g.open_if);
       marks = rw lasts g.marks;
       room = λ head range. subst (λ n. index_limit c head ≤ n) (sym g.room) (h.room head range);
-      seen = λ head range other. subst (λ s. IsSeenIn s head × (has_segment s head ≡ list_any (is_same_piece head []) ps)) (sym g.seen) (are_seen_longer c old before p row h.seen head range other);
+      seen = subst (λ s. AreSeen c s ps) (sym g.seen) (are_seen_longer c old before p row h.seen);
       nodes = g.nodes ∙ h.nodes ∙ sym nodes_same;
       linear = g.linear;
       values = g.values;

@@ -135,7 +135,7 @@ pub seen_longer : (before : List Piece) (p : Piece) (row : Row) (head : Head) �
 seen_longer before p row head = list_any-append (is_same_piece head []) before (longer p row ∷ []) ∙ sym (list_any-append (is_same_piece head []) before (p ∷ []))
 
 pub are_seen_longer : (c : Counts) (b : Body) (before : List Piece) (p : Piece) (row : Row) → AreSeen c b.seen (before ++ p ∷ []) → AreSeen c b.seen (before ++ longer p row ∷ [])
-are_seen_longer c b before p row h head range other = (let old = h head range other in (old.0, old.1 ∙ sym (seen_longer before p row head)))
+are_seen_longer c b before p row h head range = (let old = h head range in (old.0, λ plain. old.1 plain ∙ sym (seen_longer before p row head)))
 
 pub suffixes_longer : (before : List Piece) (p : Piece) (row : Row) → suffix_count (before ++ longer p row ∷ []) ≡ suffix_count (before ++ p ∷ [])
 suffixes_longer before p row =

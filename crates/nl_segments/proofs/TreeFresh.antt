@@ -20,7 +20,7 @@ use Rattle.nl_segments.specs.Current.{Current}
 use Rattle.nl_segments.specs.TreeSteps.{IsFresh}
 use Rattle.nl_segments.specs.Held.{Body, IsHeld, IsOpen}
 use Rattle.nl_lines.proofs.DraftLemmas.{draft_before}
-use Rattle.nl_lines.proofs.FreshLaw.{none_before, fresh_body, fresh_objective, fresh_definition}
+use Rattle.nl_lines.proofs.FreshLaw.{none_before, gave_none}
 use Rattle.nl_lines.proofs.TotalLemmas.{pairs-append}
 use Rattle.nl_segments.proofs.PairLines.{at, opened, last_sound}
 use Rattle.nl_segments.proofs.NodeSteps.{tree_says}
@@ -68,15 +68,15 @@ fresh_by header before p b cur h held begun tree e = by h e
     range h e = ap (λ x. is_in_range x h) held.counts ∙ ap (is_in_range c) (sym e) ∙ (last_sound c before p held.sound).range
 
     by : (h : Head) → p.head ≡ h → IsFresh b.draft h cur.pairs
-    by (BodyHead i) e = (body_in b.draft.counts i (range (BodyHead i) e), ap (λ d. is_given d.bodies i) draft ∙ fresh_body o c before i p.name (none (BodyHead i) e))
-    by (Objective k m) e = (objective_in b.draft.counts k m (range (Objective k m) e), ap (λ d. is_given d.objectives k) draft ∙ fresh_objective o c before k m p.name (none (Objective k m) e))
+    by (BodyHead i) e = (body_in b.draft.counts i (range (BodyHead i) e), ap (λ d. is_given d.bodies i) draft ∙ gave_none o c before (BodyHead i) p.name refl (none (BodyHead i) e))
+    by (Objective k m) e = (objective_in b.draft.counts k m (range (Objective k m) e), ap (λ d. is_given d.objectives k) draft ∙ gave_none o c before (Objective k m) p.name refl (none (Objective k m) e))
     by (Definition i j u) e =
         let within = definition_in b.draft.counts i j u (range (Definition i j u) e) in
         let same = begun.pairs (subst (λ h. IsTrue (keeps_pairs h)) (sym e) refl) in
         record {
           from = within.0;
           below = within.1;
-          fresh = ap (λ d. is_defined d.definitions i) draft ∙ fresh_definition o c before i j u p.name (none (Definition i j u) e);
+          fresh = ap (λ d. is_defined d.definitions i) draft ∙ gave_none o c before (Definition i j u) p.name refl (none (Definition i j u) e);
           terms =
               subst (λ (x : Counts). AreTermsBelow x.n_var cur.pairs) (sym held.counts)
               (subst (λ ts. AreTermsBelow c.n_var ts) (sym same)

@@ -78,11 +78,12 @@ IsLast c d name None (Some cur) = ⊥
 IsLast c d name (Some p) None = is_complete c p ≡ true
 IsLast c d name (Some p) (Some cur) = IsOpen c d name p cur
 
--- the heads of segments that came, but for suffixes
+-- the heads of segments that came, but for suffixes; each head has a mark
 abbrev pub AreSeen : Counts → Segments → List Piece → Type 0
 AreSeen c seen pieces =
-    (head : Head) → is_in_range c head ≡ true → is_suffix head ≡ false
-    → IsSeenIn seen head × (has_segment seen head ≡ list_any (is_same_piece head []) pieces)
+    (head : Head) → is_in_range c head ≡ true → IsSeenIn seen head
+    × (is_suffix head ≡ false
+    → has_segment seen head ≡ list_any (is_same_piece head []) pieces)
 
 -- an opcode that awaits its number of operands may still become a node
 abbrev pub IsNodeLeft : Option Current → ℕ → Type 0

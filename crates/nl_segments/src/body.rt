@@ -16,7 +16,7 @@ use crate::nl_read::NlRead;
 use crate::places::Places;
 use crate::seen::Seen;
 use nl_lines::{Awaited, NlReason, is_head};
-use nl_model::{Counts, Header, NlBuilder, defined_count};
+use nl_model::{Counts, Header, NlBuilder};
 use std::alloc::{AllocError, Global};
 use std::marker::Model;
 use text_base::{Marks, Name, Stop};
@@ -109,7 +109,7 @@ impl BodyReader {
     {
         let counts = *header.counts();
         let marks = Marks::new(alloc, most_indices(&counts))?;
-        let seen = Seen::new(alloc, &counts, defined_count(&counts) as u32)?;
+        let seen = Seen::new(alloc, &counts)?;
         let uses = zeros(alloc, counts.n_var as usize)?;
         let places = Places::new(alloc, &counts)?;
         let builder = NlBuilder::new(alloc, header)?;

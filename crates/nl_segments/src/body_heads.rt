@@ -34,7 +34,7 @@ fn has_come_suffix(builder: &NlBuilder, head: Head, name: &[u8]) -> bool
 
 // Whether a segment of this head, or a suffix of this name, came before.
 fn has_come(builder: &NlBuilder, seen: &Seen, head: Head, name: &[u8]) -> bool
-    requires { is_suffix head ≡ false → IsSeenIn seen.now head }
+    requires { IsSeenIn seen.now head }
     ensures { result ≡ has_come seen.now builder.now.suffixes head name.now }
 {
     if is_suffix(head) {
@@ -51,8 +51,7 @@ fn judge(
     head: Head,
     name: &[u8],
 ) -> Result<(), NlReason>
-    requires { is_in_range builder.now.counts head ≡ true → is_suffix head ≡ false
-        → IsSeenIn seen.now head }
+    requires { is_in_range builder.now.counts head ≡ true → IsSeenIn seen.now head }
     ensures { Decides
         (held_head_tests builder.now.counts seen.now builder.now.suffixes suffixes name.now head)
         (λ _. Unit {0}) result }
@@ -80,7 +79,7 @@ fn new_head(
     suffixes: u32,
     words: &[&[u8]],
 ) -> Result<Head, NlReason>
-    requires { (head : Head) → is_in_range builder.now.counts head ≡ true → is_suffix head ≡ false
+    requires { (head : Head) → is_in_range builder.now.counts head ≡ true
         → IsSeenIn seen.now head }
     ensures { Decides
         (new_head_tests builder.now.counts is_open seen.now builder.now.suffixes suffixes

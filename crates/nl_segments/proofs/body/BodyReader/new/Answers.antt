@@ -3,7 +3,6 @@ use Rattle.std.proofs.lemmas.List.{length-replicate}
 use Rattle.nl_model.specs.declared.counts.Counts.{Counts}
 use Rattle.nl_lines.specs.Saying.{empty_lines}
 use Rattle.nl_lines.specs.SeenSegments.{no_segments}
-use Rattle.nl_model.specs.HeaderRules.{defined_count}
 use Rattle.nl_segments.specs.Held.{Body, only_header}
 use Rattle.nl_lines.specs.Tests.{index_limit}
 use Rattle.nl_segments.proofs.BodyStart.{IsNew, start_held}
@@ -33,7 +32,7 @@ is_new c =
       draft = c.in_ok-builder.ensures;
       current = refl;
       room = λ head. subst (λ n. index_limit c.args.header.counts head ≤ n) (sym (ap length c.in_ok-marks.ensures ∙ length-replicate c.most_indices.result false)) (subst (λ k. index_limit k head ≤ c.most_indices.result) c.counts.ensures.value (c.most_indices.ensures head));
-      seen = c.in_ok-seen.ensures ∙ ap (no_segments c.counts.result.now) c.defined_count.ensures ∙ ap (λ k. no_segments k (defined_count k)) c.counts.ensures.value;
+      seen = c.in_ok-seen.ensures ∙ ap no_segments c.counts.ensures.value;
       nodes = refl;
       linear = refl;
       values = refl;
