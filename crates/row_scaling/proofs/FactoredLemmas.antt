@@ -1,5 +1,5 @@
 -- A row times its least factor.
-use Rattle.std.proofs.Common.{◌≡◌, ◌≢◌, ℕ, ◌<◌, ◌^◌, ◌∙◌, sym, ap, ap₂, refl, subst, arith, false, List, ◌++◌, IsTrue, ℤ, pos, unsigned_abs, Option, Some, None}
+use Rattle.std.proofs.Common.{◌≡◌, ◌≢◌, ℕ, ◌<◌, ◌^◌, ◌∙◌, sym, ap, ap₂, refl, subst, arith, List, ◌++◌, IsTrue, ℤ, pos, unsigned_abs, Option, Some, None}
 use Rattle.std.proofs.lemmas.Int.{ints}
 use Rattle.fractions.specs.Rational.{ℚ, zero_ℚ, whole, ◌*ℚ◌}
 use Rattle.fractions.proofs.Arithmetic.{same_whole}

@@ -1,5 +1,5 @@
 -- Which numbers of a row fit, by its terms and its sides.
-use Rattle.std.proofs.Common.{◌≡◌, ℕ, ◌<◌, ◌≤◌, ◌^◌, ◌∙◌, sym, ap, ap₂, refl, subst, arith, false, List, ◌++◌, All, pos, Option, Some, None}
+use Rattle.std.proofs.Common.{◌≡◌, ℕ, ◌<◌, ◌≤◌, ◌^◌, ◌∙◌, sym, ap, ap₂, refl, subst, arith, List, ◌++◌, All, pos, Option, Some, None}
 use Rattle.std.proofs.lemmas.List.Elements.{All-append}
 use Rattle.fractions.specs.Rational.{ℚ, zero_ℚ, whole, ◌-ℚ◌}
 use Rattle.fractions.proofs.Arithmetic.{*ℚ_zero}
