@@ -3,7 +3,7 @@ ghost use Rattle.std.specs.Prelude.{◌≡◌, ◌<◌};
 
 use exact_numbers::Frac;
 use example_texts::nl_texts::{KNAPSACK, KNAPSACK_WRITTEN};
-use linear_fold::{Form, Pad, Wide, fold_all};
+use linear_fold::{Form, Sum, Wide, fold_all};
 use mps_export::program;
 use mps_writer::write_mps;
 use nl_model::NlFile;
@@ -14,7 +14,7 @@ use std::marker::Brand;
 use std::test::Fail;
 use text_base::{Blank, Ledger, Steps, Stop};
 
-// Adds twice a constant to the open form 0, and closes it.
+// Adds twice a constant to the sum 0, and takes it.
 fn doubled<L: Ledger>(alloc: Global, value: Frac, blank: Blank) -> Result<Frac, Stop<Wide>>
     requires name { blank.name ≡ L.name }
     requires parts { blank.parts ≡ L.parts }
@@ -22,11 +22,11 @@ fn doubled<L: Ledger>(alloc: Global, value: Frac, blank: Blank) -> Result<Frac, 
 {
     let mut steps = Steps::<L>::new(blank);
     let other = Form::of_constant(alloc, value);
-    let mut sum = Form::on_pad(Pad::new(alloc, 4)?);
+    let mut sum = Sum::new(alloc, 4)?;
     let two = Frac::one().add(Frac::one()).ok_or(Stop::Memory)?;
     sum.add_scaled(&other, two, &mut steps)?;
-    let (closed, _pad) = sum.close()?;
-    Ok(closed.constant())
+    let taken = sum.take(alloc)?;
+    Ok(taken.constant())
 }
 
 #[test]

@@ -1,5 +1,5 @@
 -- Rows that are copies of bodies and sides, and the program that they are.
-use Rattle.std.proofs.Common.{◌≡◌, ℕ, zero, suc, ◌+◌, ◌<◌, ◌≤◌, ◌∙◌, sym, ap, ap₂, subst, refl, arith, false, List, [], ◌∷◌, ◌++◌, length, drop, map, get_or, All, Option, Some, None, option_map, add-one, drop-cons, append_assoc, append-nil, subst₂}
+use Rattle.std.proofs.Common.{◌≡◌, ℕ, zero, suc, ◌+◌, ◌<◌, ◌≤◌, ◌∙◌, sym, ap, ap₂, subst, refl, arith, List, [], ◌∷◌, ◌++◌, length, drop, map, get_or, All, Option, Some, None, option_map, add-one, drop-cons, append_assoc, append-nil, subst₂}
 use Rattle.std.specs.Prelude.{slice_get}
 use Rattle.std.specs.Option.{option_map_or}
 use Rattle.std.proofs.lemmas.Option.{get_or_from_slice_get, same_Some, slice_get-map}
@@ -14,10 +14,8 @@ use Rattle.nl_model.specs.declared.kind.Kind.TheVariants.{Continuous}
 use Rattle.file_meaning.specs.LinearFile.{elements_from, row_name, variable_name}
 use Rattle.file_meaning.specs.Meaning.{interval_of, is_whole_kind}
 use Rattle.linear_fold.specs.declared.form.Form.{Form}
-use Rattle.linear_fold.specs.declared.form.Kept.{Kept}
-use Rattle.linear_fold.specs.declared.form.Kept.TheVariants.{Closed, Open}
 use Rattle.linear_fold.specs.Coefs.{Term, AreAscending, AreBelow, coef_in}
-use Rattle.linear_fold.specs.Forms.{form_terms, is_open, is_kept_open, kept_coef, kept_terms}
+use Rattle.linear_fold.specs.Forms.{form_terms}
 use Rattle.linear_fold.specs.Programs.{IsFormOver, form_of as folded_form, rows_from, variables_from}
 use Rattle.certificate_check.specs.declared.form.Body.{Body}
 use Rattle.certificate_check.specs.declared.form.Row.{Row}
@@ -32,13 +30,9 @@ unfolding AreTerms
 are_terms from n [] h k = tt
 are_terms from n (t ∷ ts) h k = (h.0, k.0, h.1, are_terms (suc t.0) n ts h.2 k.1)
 
--- ---- a copy of a closed form is the form
-pub copy_is : (form : Form) (b : Body) → is_open form ≡ false → IsCopy form b → form_of b ≡ folded_form form
-copy_is form b closed copy = ap₂ (λ c f. record { constant = c; coefficient = f }) copy.constant (ap coef_in copy.terms ∙ kept_is form.kept closed)
-  where
-    kept_is : (k : Kept) → is_kept_open k ≡ false → coef_in (kept_terms k) ≡ kept_coef k
-    kept_is (Closed ts) h = refl
-    kept_is (Open ps) h = absurd (cc)
+-- ---- a copy of a form is the form
+pub copy_is : (form : Form) (b : Body) → IsCopy form b → form_of b ≡ folded_form form
+copy_is form b copy = ap₂ (λ c f. record { constant = c; coefficient = f }) copy.constant (ap coef_in copy.terms)
 
 -- ---- rows, one by one: those so far, with any for what is left
 abbrev pub AreRowsSoFar : List Form → List Interval → List Row → ℕ → Type 0
@@ -58,7 +52,7 @@ pub row_within : (n : ℕ) (bodies : List Form) (rows new : List Row) (i : ℕ) 
 row_within n bodies rows new i b r so over l is copy up pushed k q at = pushed_one rows k (subst (λ rs. slice_get rs k ≡ Some q) pushed at) so
   where
     fine : AreTerms 0 n r.body.terms.items
-    fine = are_terms 0 n r.body.terms.items up (subst (AreBelow n) (sym copy.terms) (subst (λ (f : Form). AreBelow n (form_terms f)) (sym is) (over i b l).below))
+    fine = are_terms 0 n r.body.terms.items up (subst (AreBelow n) (sym copy.terms) (subst (λ (f : Form). AreBelow n (form_terms f)) (sym is) (over i b l)))
 
     pushed_one : (rs : List Row) (k : ℕ) → slice_get (rs ++ r ∷ []) k ≡ Some q → AreWithin n rs → AreTerms 0 n q.body.terms.items
     pushed_one [] zero e h = subst (λ (x : Row). AreTerms 0 n x.body.terms.items) (same_Some r q e) fine
@@ -84,11 +78,11 @@ rows_count (b ∷ bs) [] (r ∷ rs) h = absurd h
 rows_count (b ∷ bs) (s ∷ ss) (r ∷ rs) h = ap suc (rows_count bs ss rs h.2)
 
 -- ---- the rows of the program
-row_is : (all : List Row) (i : ℕ) (b : Form) (r : Row) (s : Interval) → is_open b ≡ false → IsCopy b r.body → r.side ≡ s → slice_get all i ≡ Some r → record { name = row_name i; body = folded_form b; side = interval_of s } ≡ row_of all i
+row_is : (all : List Row) (i : ℕ) (b : Form) (r : Row) (s : Interval) → IsCopy b r.body → r.side ≡ s → slice_get all i ≡ Some r → record { name = row_name i; body = folded_form b; side = interval_of s } ≡ row_of all i
 unfolding body_in side_in
-row_is all i b r s closed copy side at =
+row_is all i b r s copy side at =
     ap₂ (λ x y. record { name = row_name i; body = x; side = y })
-    (sym (ap (λ o. option_map_or (λ (r : Row). form_of r.body) o zero_form) at ∙ copy_is b r.body closed copy))
+    (sym (ap (λ o. option_map_or (λ (r : Row). form_of r.body) o zero_form) at ∙ copy_is b r.body copy))
     (sym (ap (λ o. option_map_or (λ (r : Row). interval_of r.side) o unbounded) at ∙ ap interval_of side))
 
 pub rows_are : (n : ℕ) (all : List Row) (i : ℕ) (bodies : List Form) (sides : List Interval) (rows : List Row) → All (IsFormOver n) bodies → AreRowsOf bodies sides rows → ((k : ℕ) (r : Row) → slice_get rows k ≡ Some r → slice_get all (i + k) ≡ Some r) → elements_from (row_of all) i (length rows) ≡ rows_from i bodies sides
@@ -101,7 +95,7 @@ rows_are n all i (b ∷ bs) (s ∷ ss) (r ∷ rs) over h at =
     let zero_more : i + 0 ≡ i = omega arith in
     let here : slice_get all i ≡ Some r = ap (slice_get all) (sym zero_more) ∙ at 0 r refl in
     ap₂ (λ (x : LinearRow) xs. x ∷ xs)
-    (sym (row_is all i b r s (All-head (IsFormOver n) b bs over).closed h.0 h.1 here))
+    (sym (row_is all i b r s h.0 h.1 here))
     (rows_are n all (suc i) bs ss rs (All-tail (IsFormOver n) b bs over) h.2 (λ k q e. let next : suc i + k ≡ i + suc k = omega arith in ap (slice_get all) next ∙ at (suc k) q e))
 
 -- ---- its variables

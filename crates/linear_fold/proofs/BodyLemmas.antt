@@ -1,5 +1,5 @@
 -- The owners of a file in order, the forms of its bodies, and all steps.
-use Rattle.std.proofs.Common.{◌≡◌, ℕ, zero, suc, ◌+◌, ◌*◌, ◌<◌, ◌≤◌, ◌∙◌, sym, ap, ap₂, refl, subst, subst₂, arith, false, Option, Some, None, option_map, option_and_then, List, [], ◌∷◌, ◌++◌, map, length, take, drop, get_or, slice_get, sum_by}
+use Rattle.std.proofs.Common.{◌≡◌, ℕ, zero, suc, ◌+◌, ◌*◌, ◌<◌, ◌≤◌, ◌∙◌, sym, ap, ap₂, refl, subst, subst₂, arith, Option, Some, None, option_map, option_and_then, List, [], ◌∷◌, ◌++◌, map, length, take, drop, get_or, slice_get, sum_by}
 use Rattle.std.specs.Option.{option_map_or}
 use Rattle.std.proofs.lemmas.List.Sums.{sum_by-append, sum_by-cons, sum_by-take-le, sum_by_more}
 use Rattle.text_base.specs.declared.stop.Stop.{Stop}
@@ -18,8 +18,7 @@ use Rattle.linear_fold.specs.FoldedFaults.{named_fault, node_total, step_bound, 
 use Rattle.linear_fold.specs.declared.entries.Entry.TheVariants.{Linear}
 use Rattle.linear_fold.specs.Coefs.{AreAscending, AreBelow}
 use Rattle.linear_fold.specs.Folds.{IsExpressionFolded}
-use Rattle.linear_fold.specs.Forms.{form_line, form_terms, is_open}
-use Rattle.linear_fold.specs.Operates.{IsWithin}
+use Rattle.linear_fold.specs.Forms.{IsWithin, form_line, form_terms}
 use Rattle.fractions.specs.Rational.{zero_ℚ}
 use Rattle.nl_meaning.specs.Faults.{constant_line}
 use Rattle.nl_model.specs.FilePlaces.{terms_at, tree_at}
@@ -180,7 +179,7 @@ three_parts f k from a b new first second third =
     (steps_more n from b new (definitions_size f.definitions + bodies_size f.bodies f.terms) (owner_size f (Obj k)) (steps_more n from a b (definitions_size f.definitions) (bodies_size f.bodies f.terms) first second) third)
 
 -- ---- the objective of a file without objectives
-module _ (f : File) (file : IsFile f) (k : ℕ) (form : Form) (past : f.counts.n_obj ≤ k) (line : form_line form ≡ constant_line zero_ℚ) (closed : is_open form ≡ false) (none : form_terms form ≡ []) where
+module _ (f : File) (file : IsFile f) (k : ℕ) (form : Form) (past : f.counts.n_obj ≤ k) (line : form_line form ≡ constant_line zero_ℚ) (none : form_terms form ≡ []) where
   no_tree : tree_at f (Obj k) ≡ None
   no_tree = ap (option_map (λ o. o.tree)) (slice_get_past f.objectives k (subst (λ m. m ≤ k) (sym file.objectives.count) past))
 
@@ -193,10 +192,10 @@ module _ (f : File) (file : IsFile f) (k : ℕ) (form : Form) (past : f.counts.n
       (no_terms (known_by f.definitions) f.counts.n_var zero_tree form (zero_folded (known_by f.definitions) f.counts.n_var form line) [] refl)
 
   within_here : IsWithin f.counts.n_var form
-  within_here = constant_within f.counts.n_var form zero_ℚ line closed
+  within_here = constant_within f.counts.n_var form zero_ℚ line
 
   pub zero_form : IsFormOf f (Obj k) form
-  zero_form = record { values = folded_here.1; within = within_here; over = record { closed = closed; below = subst (AreBelow f.counts.n_var) (sym none) tt } }
+  zero_form = record { values = folded_here.1; within = within_here; over = subst (AreBelow f.counts.n_var) (sym none) tt }
 
   pub zero_clean : (before : ℕ) → before ≤ most_coefficients → (rest : List Owned) → owners_fault f.counts.n_var before (owned_at f (Obj k) ∷ rest) ≡ owners_fault f.counts.n_var before rest
   zero_clean before few =

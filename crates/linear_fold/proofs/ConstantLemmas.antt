@@ -25,7 +25,7 @@ use Rattle.nl_meaning.specs.Trees.{on_values}
 use Rattle.code_tables.specs.declared.class.OpClass.{OpClass}
 use Rattle.code_tables.specs.declared.class.OpClass.TheVariants.{Least, Greatest, Power}
 use Rattle.linear_fold.specs.declared.parts.Part.{Part}
-use Rattle.linear_fold.specs.Operates.{AreClosed, AreOperands, IsClosed, IsOperand, IsValueOf, part_line}
+use Rattle.linear_fold.specs.Operates.{AreOperands, AreUnbroken, IsOperand, IsUnbroken, IsValueOf, part_line}
 use Rattle.linear_fold.proofs.Operators.{fault_first}
 
 -- ---- signs
@@ -249,13 +249,13 @@ greatest_choice = record { best = greatest_of; better = greater_of; none = great
 pub record Choosing (c : Choice) (first cur : ℚ) (left all : List Part) : Type 0 where
   pub value : c.best cur (constants_of (map part_line left)) ≡ c.best first (constants_of (map part_line all))
   pub tests : (n : ℕ) → AreOperands n all → (are_constant n (map part_line left) ≡ are_constant n (map part_line all)) × AreOperands n left
-  pub closed : AreClosed left
+  pub unbroken : AreUnbroken left
 
-pub choosing_init : (c : Choice) (first : ℚ) (fs : List Part) → AreClosed fs → Choosing c first first fs fs
-choosing_init c first fs h = record { value = refl; tests = λ n z. (refl, z); closed = h }
+pub choosing_init : (c : Choice) (first : ℚ) (fs : List Part) → AreUnbroken fs → Choosing c first first fs fs
+choosing_init c first fs h = record { value = refl; tests = λ n z. (refl, z); unbroken = h }
 
-pub closed_here : (c : Choice) (first cur : ℚ) (x : Part) (left rest all : List Part) → left ≡ x ∷ rest → Choosing c first cur left all → IsClosed x
-closed_here c first cur x left rest all is h = (subst AreClosed is h.closed).0
+pub unbroken_here : (c : Choice) (first cur : ℚ) (x : Part) (left rest all : List Part) → left ≡ x ∷ rest → Choosing c first cur left all → IsUnbroken x
+unbroken_here c first cur x left rest all is h = (subst AreUnbroken is h.unbroken).0
 
 module _ (c : Choice) (first cur new : ℚ) (x : Part) (left rest all : List Part) (is : left ≡ x ∷ rest) (h : Choosing c first cur left all) where
   here : Choosing c first cur (x ∷ rest) all
@@ -267,7 +267,7 @@ module _ (c : Choice) (first cur new : ℚ) (x : Part) (left rest all : List Par
       record {
         value = ap (λ y. c.best y (constants_of (map part_line rest))) (e ∙ ap (c.better cur) is_v) ∙ sym (c.more cur (part_line x).constant (constants_of (map part_line rest))) ∙ o.value;
         tests = λ n z. let r = o.tests n z in (ap (λ b. b && are_constant n (map part_line rest)) (sym (t n r.1.0)) ∙ r.0, r.1.1);
-        closed = o.closed.1;
+        unbroken = o.unbroken.1;
       }
 
   pub choosing_stop : ((n : ℕ) → IsOperand n x → is_constant n (part_line x) ≡ false) → (n : ℕ) → AreOperands n all → are_constant n (map part_line all) ≡ false
@@ -303,8 +303,8 @@ pub first_varies : (n : ℕ) (x : Part) (fs all : List Part) → all ≡ x ∷ f
 first_varies n x fs all is z t =
     ap (λ a. are_constant n (map part_line a)) is ∙ ap (λ b. b && are_constant n (map part_line fs)) (t n (subst (AreOperands n) is z).0)
 
-pub closed_first : (x : Part) (fs all : List Part) → all ≡ x ∷ fs → AreClosed all → IsClosed x
-closed_first x fs all is h = (subst AreClosed is h).0
+pub unbroken_first : (x : Part) (fs all : List Part) → all ≡ x ∷ fs → AreUnbroken all → IsUnbroken x
+unbroken_first x fs all is h = (subst AreUnbroken is h).0
 
 -- a size below 0 is above 0
 pub some_size : (x : ℚ) → x.top <ℤ pos 0 → 0 < unsigned_abs x.top

@@ -1,6 +1,6 @@
 -- How many coefficients a line has.
-use Rattle.std.proofs.Common.{◌≡◌, ◌≢◌, ℕ, zero, suc, ◌+◌, ◌<◌, ◌≤◌, ◌∙◌, sym, ap, ap₂, refl, arith, ⊎_elim, true, if◌then◌else◌, List, [], ◌∷◌, length}
-use Rattle.std.proofs.lemmas.Bool.{cases_eq, cases_lt, false_from_ne_true}
+use Rattle.std.proofs.Common.{◌≡◌, ◌≢◌, ℕ, zero, suc, ◌+◌, ◌<◌, ◌∙◌, sym, ap, ap₂, refl, arith, ⊎_elim, true, if◌then◌else◌, List, [], ◌∷◌, length}
+use Rattle.std.proofs.lemmas.Bool.{cases_eq, false_from_ne_true}
 use Rattle.exact_numbers.specs.Values.{frac_value}
 use Rattle.fractions.specs.Rational.{ℚ, whole, zero_ℚ}
 use Rattle.nl_meaning.specs.Lines.{Line, is_zero}
@@ -8,11 +8,10 @@ use Rattle.nl_meaning.proofs.LineLemmas.{is_zero-true}
 use Rattle.file_meaning.specs.FoldFaults.{coefficient_count}
 use Rattle.linear_fold.specs.declared.form.Form.{Form}
 use Rattle.linear_fold.specs.Coefs.{Term, AreAscending, AreBelow, coef_in, value_or_zero}
-use Rattle.linear_fold.specs.Forms.{form_line, form_terms}
-use Rattle.linear_fold.specs.Operates.{IsWithin}
+use Rattle.linear_fold.specs.Forms.{IsWithin, form_line, form_terms}
 use Rattle.linear_fold.specs.Programs.{IsFormOver}
 use Rattle.linear_fold.proofs.CoefLemmas.{found_apart, found_before, found_same}
-use Rattle.linear_fold.proofs.Scaled.{closed_coef}
+use Rattle.linear_fold.proofs.Scaled.{terms_below}
 
 abbrev one_where : ℚ → ℕ
 one_where x = if is_zero x then 0 else 1
@@ -69,19 +68,9 @@ list_count n c low (t ∷ ts) a b =
     count_more n (line_of_terms c (t ∷ ts)) (line_of_terms c ts) t.0 b.0 (λ z. a.1 (sym there ∙ z)) (ap value_or_zero (found_before (suc t.0) ts t.0 a.2 (omega arith))) (λ j e. ap value_or_zero (found_apart t ts j e))
     ∙ ap suc (list_count n c (suc t.0) ts a.2 b.1)
 
-pub terms_below : (n low : ℕ) (ts : List Term) → AreAscending low ts → ((j : ℕ) → n ≤ j → coef_in ts j ≡ zero_ℚ) → AreBelow n ts
-terms_below n low [] a z = tt
-terms_below n low (t ∷ ts) a z = (
-  ⊎_elim (λ (l : t.0 < n). l) (λ (g : n ≤ t.0). absurd (a.1 (sym (ap value_or_zero (found_same t ts t.0 refl)) ∙ z t.0 g))) (cases_lt t.0 n),
-  terms_below n (suc t.0) ts a.2 (λ j g.
-      ⊎_elim (λ (e : j ≡ t.0). ap value_or_zero (found_before (suc t.0) ts j a.2 (omega arith))) (λ (m : j ≢ t.0). sym (ap value_or_zero (found_apart t ts j m)) ∙ z j g) (cases_eq j t.0)),
-)
-
 -- ---- forms
 pub over_of : (n : ℕ) (f : Form) → IsWithin n f → AreAscending 0 (form_terms f) → IsFormOver n f
-over_of n f w a = record { closed = w.closed; below = terms_below n 0 (form_terms f) a (λ j g. sym (closed_coef f.kept w.closed j) ∙ w.zero_from j g) }
+over_of n f w a = terms_below n 0 (form_terms f) a w
 
 pub form_count_is : (n : ℕ) (f : Form) → IsWithin n f → AreAscending 0 (form_terms f) → coefficient_count n (form_line f) ≡ length (form_terms f)
-form_count_is n f w a =
-    count_same n (form_line f) (line_of_terms (frac_value f.constant) (form_terms f)) (λ j h. closed_coef f.kept w.closed j)
-    ∙ list_count n (frac_value f.constant) 0 (form_terms f) a (over_of n f w a).below
+form_count_is n f w a = list_count n (frac_value f.constant) 0 (form_terms f) a (over_of n f w a)

@@ -23,9 +23,9 @@ use Rattle.file_meaning.specs.Expressions.{linear_terms, zero_tree}
 use Rattle.linear_fold.specs.declared.entries.Entry.{Entry}
 use Rattle.linear_fold.specs.declared.entries.Entry.TheVariants.{Linear, Broken}
 use Rattle.linear_fold.specs.declared.form.Form.{Form}
-use Rattle.linear_fold.specs.declared.wide.Wide.{Wide}
-use Rattle.linear_fold.specs.Forms.{form_line, AddsScaled, IsZeroFrom}
-use Rattle.linear_fold.specs.Operates.{IsWithin, zero_line}
+use Rattle.linear_fold.specs.declared.too_wide.Wide.{Wide}
+use Rattle.linear_fold.specs.Forms.{form_line, AddsScaled, IsWithin, IsZeroFrom}
+use Rattle.linear_fold.specs.Operates.{zero_line}
 use Rattle.linear_fold.specs.Folds.{AddsTerms, AreNodesWithin, AreTreesGiven, ComesToTerms, HasLineOf, IsEntryWithin, IsExpressionFolded, IsFolded, IsTreeGiven}
 use Rattle.linear_fold.proofs.Folding.{constant_lined, is_line_of, same_form}
 use Rattle.linear_fold.proofs.FracLemmas.{fits_zero}
@@ -58,7 +58,7 @@ mutual
   prefixes_within n slots no_tree g = tt
   prefixes_within n slots (one_more t ns ts ms h k) g = nodes_append n slots ns ms (prefix_within n slots h g.0) (prefixes_within n slots k g.1)
 
--- ---- a form on a pad
+-- ---- a form added to a sum that is 0
 module _ (z : Line) (empty : z ≡ zero_line) (a : Line) (k : ℚ) (one : k ≡ one_ℚ) (n : ℕ) (za : IsZeroFrom n a) where
   pub put_line : (new : Line) → AddsScaled z k a new (Ok tt) → new ≡ a
   put_line new h = (multiplied z empty a k n za new (Ok tt) h).1 ∙ scaled_by_one k a one
@@ -124,7 +124,7 @@ module _ (known : Point → Known) (n : ℕ) (tree : Tree) (form : Form) (folded
       ap₂ option_or folded.0 (ap₂ (λ l i. terms_fault l i ts) (sym line) size ∙ h)
 
 pub entry_within : (n : ℕ) (a : Line) (i : ℕ) (ts : List LinearTerm) (e : Entry) → IsZeroFrom n a → AreTermsBelow n ts → ComesToTerms a i ts e → IsEntryWithin n e
-entry_within n a i ts (Linear g) z b h = record { closed = h.2; zero_from = λ j k. ap (λ l. l.coef j) h.1 ∙ terms_zero n a ts z b j k }
+entry_within n a i ts (Linear g) z b h = λ j k. ap (λ l. l.coef j) h.1 ∙ terms_zero n a ts z b j k
 entry_within n a i ts (Broken f) z b h = tt
 
 -- the missing tree is the number 0

@@ -20,9 +20,9 @@ use Rattle.linear_fold.specs.declared.entries.Entry.TheVariants.{Linear as Whole
 use Rattle.linear_fold.specs.declared.form.Form.{Form}
 use Rattle.linear_fold.specs.declared.parts.Part.{Part}
 use Rattle.linear_fold.specs.declared.parts.Part.TheVariants.{Number, Variable, Linear, Broken}
-use Rattle.linear_fold.specs.Forms.{form_line, is_open, IsZeroFrom}
-use Rattle.linear_fold.specs.Operates.{IsOperand, IsSound, IsWithin, AreOperands, lines_of_parts, part_line}
-use Rattle.linear_fold.specs.Folds.{HasLine, HasLineOf, IsLined, AreLinesOf, AreOperandsOf, ArePartsWithin, IsClosedForm, IsEntryOf, IsEntryWithin, IsFolded, IsPartFolded, IsPartWithin, first_broken}
+use Rattle.linear_fold.specs.Forms.{form_line, IsWithin, IsZeroFrom}
+use Rattle.linear_fold.specs.Operates.{IsOperand, IsSound, AreOperands, lines_of_parts, part_line}
+use Rattle.linear_fold.specs.Folds.{HasLine, HasLineOf, IsLined, AreLinesOf, AreOperandsOf, ArePartsWithin, ComesToLine, IsEntryOf, IsEntryWithin, IsFolded, IsPartFolded, IsPartWithin, first_broken}
 use Rattle.linear_fold.proofs.PartLemmas.{multiple_zero_from}
 use Rattle.linear_fold.proofs.Scaled.{same_line}
 
@@ -39,8 +39,8 @@ constant_lined n k at = ap Some (sym (constant_value n k at))
 pub variable_lined : (n j : ℕ) → j < n → (at : Point) → Some (at j) ≡ Some (line_value n (line_with (constant_line zero_ℚ) j one_ℚ) at)
 variable_lined n j h at = ap Some (variable_value n j at h)
 
-pub constant_within : (n : ℕ) (f : Form) (k : ℚ) → form_line f ≡ constant_line k → is_open f ≡ false → IsWithin n f
-constant_within n f k e c = record { closed = c; zero_from = λ j h. ap (λ l. l.coef j) e }
+pub constant_within : (n : ℕ) (f : Form) (k : ℚ) → form_line f ≡ constant_line k → IsWithin n f
+constant_within n f k e j h = ap (λ l. l.coef j) e
 
 pub number_within : (n : ℕ) (k : Frac) → IsPartWithin n (Number k)
 number_within n k = record { sound = tt; zero_from = λ j h. refl }
@@ -48,8 +48,8 @@ number_within n k = record { sound = tt; zero_from = λ j h. refl }
 pub multiple_within : (n j : ℕ) (k : Frac) → j < n → IsPartWithin n (Variable j k)
 multiple_within n j k l = record { sound = l; zero_from = multiple_zero_from n j (frac_value k) l }
 
-pub form_within : (n : ℕ) (a b : Form) → form_line a ≡ form_line b → is_open a ≡ false → IsWithin n b → IsPartWithin n (Linear a)
-form_within n a b e c w = record { sound = c; zero_from = λ j g. ap (λ m. m.coef j) e ∙ w.zero_from j g }
+pub form_within : (n : ℕ) (a b : Form) → form_line a ≡ form_line b → IsWithin n b → IsPartWithin n (Linear a)
+form_within n a b e w = record { sound = tt; zero_from = λ j g. ap (λ m. m.coef j) e ∙ w j g }
 
 -- a line of a tree's values is the tree's line
 pub is_line_by : (n : ℕ) (f : Point → Option ℚ) (l : Line) → IsZeroFrom n l → HasLine n f l → l ≡ line_by f
@@ -61,7 +61,7 @@ is_line_by n f l w h =
     (cases_lt j n))
 
 pub is_line_of : (n : ℕ) (f : Point → Option ℚ) (a : Form) → IsWithin n a → HasLineOf n f a → form_line a ≡ line_by f
-is_line_of n f a w h = is_line_by n f (form_line a) w.zero_from h
+is_line_of n f a w h = is_line_by n f (form_line a) w h
 
 -- ---- no coefficient from n on
 abbrev AreZeroLines : ℕ → List Line → Type 0
@@ -186,8 +186,8 @@ all_operands n (Broken x ∷ ps) w e = cc
 
 -- ---- the whole tree
 module _ (known : Point → Known) (n : ℕ) (t : Tree) where
-  entry_lined : (l : Line) (e : Entry) → IsLined known n 0 t l → IsClosedForm l e → IsFolded known n 0 t e
-  entry_lined l (Whole f) h is = (h.0, same_values n _ (form_line f) l is.0 h.1)
+  entry_lined : (l : Line) (e : Entry) → IsLined known n 0 t l → ComesToLine l e → IsFolded known n 0 t e
+  entry_lined l (Whole f) h is = (h.0, same_values n _ (form_line f) l is h.1)
   entry_lined l (Faulty x) h is = absurd is
 
   pub entry_folded : (p : Part) (e : Entry) → IsEntryOf p e → IsPartFolded known n 0 t p → IsFolded known n 0 t e
@@ -196,14 +196,14 @@ module _ (known : Point → Known) (n : ℕ) (t : Tree) where
   entry_folded (Linear f) e is h = subst (IsFolded known n 0 t) (sym is) h
   entry_folded (Broken x) e is h = subst (IsFolded known n 0 t) (sym is) h
 
-entry_closed : (n : ℕ) (l : Line) (e : Entry) → IsZeroFrom n l → IsClosedForm l e → IsEntryWithin n e
-entry_closed n l (Whole f) z is = record { closed = is.1; zero_from = λ j g. ap (λ m. m.coef j) is.0 ∙ z j g }
-entry_closed n l (Faulty x) z is = absurd is
+entry_of_line : (n : ℕ) (l : Line) (e : Entry) → IsZeroFrom n l → ComesToLine l e → IsEntryWithin n e
+entry_of_line n l (Whole f) z is = λ j g. ap (λ m. m.coef j) is ∙ z j g
+entry_of_line n l (Faulty x) z is = absurd is
 
 pub entry_is_within : (n : ℕ) (p : Part) (e : Entry) → IsEntryOf p e → IsPartWithin n p → IsEntryWithin n e
-entry_is_within n (Number k) e is w = entry_closed n (part_line (Number k)) e w.zero_from is
-entry_is_within n (Variable j k) e is w = entry_closed n (part_line (Variable j k)) e w.zero_from is
-entry_is_within n (Linear f) e is w = subst (IsEntryWithin n) (sym is) (record { closed = w.sound; zero_from = w.zero_from })
+entry_is_within n (Number k) e is w = entry_of_line n (part_line (Number k)) e w.zero_from is
+entry_is_within n (Variable j k) e is w = entry_of_line n (part_line (Variable j k)) e w.zero_from is
+entry_is_within n (Linear f) e is w = subst (IsEntryWithin n) (sym is) w.zero_from
 entry_is_within n (Broken x) e is w = subst (IsEntryWithin n) (sym is) tt
 
 pub slot_at : (slots : List (Option Form)) (k : ℕ) (x : Option Form) → k < length slots → x ≡ get_or slots k x → get_or slots k None ≡ x

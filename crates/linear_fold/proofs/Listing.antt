@@ -60,8 +60,8 @@ module _ (a : Line) (i : ℕ) (ts : List LinearTerm) (k : ℚ) (out : List Term)
 
   module _ (f : Frac) (fine : fits t.factor ≡ true) (is : frac_value f ≡ t.factor) where
     -- the sum of a list and of a term behind it is the list with that term
-    pub closed_terms : list_line k (out ++ (t.variable, f) ∷ []) ≡ line_with (list_line k out) t.variable t.factor
-    closed_terms =
+    pub one_more_line : list_line k (out ++ (t.variable, f) ∷ []) ≡ line_with (list_line k out) t.variable t.factor
+    one_more_line =
         same_line (list_line k (out ++ (t.variable, f) ∷ [])) (line_with (list_line k out) t.variable t.factor) refl
         (adds_at (coef_in out) (coef_in (out ++ (t.variable, f) ∷ [])) t.variable t.factor
         (ap value_or_zero (found_last out (t.variable, f) nothing) ∙ is ∙ sym (zero-+ℚ t.factor) ∙ ap (λ o. value_or_zero o +ℚ t.factor) (sym nothing))
@@ -74,10 +74,10 @@ module _ (a : Line) (i : ℕ) (ts : List LinearTerm) (k : ℚ) (out : List Term)
     one_listed =
         record {
           fault =
-              ap (λ m. terms_fault m (j + 1) rest) closed_terms
+              ap (λ m. terms_fault m (j + 1) rest) one_more_line
               ∙ ap (λ b. option_or (fault_at j (too_wide_unless b)) (terms_fault (line_with (list_line k out) t.variable t.factor) (j + 1) rest)) (sym (and_from _ _ fine sum_fine))
               ∙ l.fault;
-          line = ap (λ m. line_with_terms m rest) closed_terms ∙ l.line;
+          line = ap (λ m. line_with_terms m rest) one_more_line ∙ l.line;
           ascending = ascending_append 0 t.variable out ((t.variable, f) ∷ []) (omega arith) l.ascending lower (omega arith, subst (λ x. x ≢ zero_ℚ) (sym is) l.above.1, tt);
           bound = suc t.variable;
           below = below_append (suc t.variable) out ((t.variable, f) ∷ []) (below_from t.variable (suc t.variable) out (omega arith) lower) (omega arith, tt);

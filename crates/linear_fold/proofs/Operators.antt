@@ -18,30 +18,21 @@ use Rattle.linear_fold.specs.declared.form.Form.{Form}
 use Rattle.linear_fold.specs.declared.parts.Part.{Part}
 use Rattle.linear_fold.specs.declared.operate.Outcome.{Outcome}
 use Rattle.linear_fold.specs.declared.operate.Outcome.TheVariants.{Linear, Refused}
-use Rattle.linear_fold.specs.declared.wide.Wide.{Wide}
+use Rattle.linear_fold.specs.declared.too_wide.Wide.{Wide}
 use Rattle.linear_fold.specs.Coefs.{AreAscending}
-use Rattle.linear_fold.specs.Forms.{form_terms, place_count, IsZeroFrom, HasRoom, HasPlaces, kept_places, ScaledSumFits, AddsScaled}
-use Rattle.linear_fold.specs.declared.form.Kept.{Kept}
-use Rattle.linear_fold.specs.declared.form.Kept.TheVariants.{Closed, Open}
-use Rattle.linear_fold.specs.Operates.{zero_line, IsWithin, IsOperand, AreOperands, SumsTo, ComesTo, Operates, part_line}
+use Rattle.linear_fold.specs.Forms.{form_terms, IsWithin, IsZeroFrom, ScaledSumFits, AddsScaled}
+use Rattle.linear_fold.specs.Operates.{zero_line, IsOperand, AreOperands, SumsTo, ComesTo, Operates, part_line}
 use Rattle.linear_fold.proofs.FracLemmas.{fits_zero, sum_fits_zero, zero_sum_fits, fits_neg}
 pub use Rattle.linear_fold.proofs.PartLemmas.{FitsLine, form_fits}
 use Rattle.linear_fold.proofs.PartLemmas.{part_fits}
-use Rattle.linear_fold.proofs.Scaled.{same_line, closed_coef, few_terms, all_below-intro}
+use Rattle.linear_fold.proofs.Scaled.{same_line, few_terms, all_below-intro}
 
 pub neg_fits : (l : Line) → FitsLine l → FitsLine (line_neg l)
 neg_fits l h = record { constant = fits_neg l.constant ∙ h.constant; coefs = λ j. fits_neg (l.coef j) ∙ h.coefs j }
 
--- ---- an open form has room, and a closed one has few terms
-pub has_room : (f : Form) (l : Line) → IsZeroFrom (place_count f) l → HasRoom f l
-has_room f l z = by f.kept z
-  where
-    by : (k : Kept) → IsZeroFrom (kept_places k) l → HasPlaces k l
-    by (Closed ts) y = tt
-    by (Open ps) y = y
-
+-- ---- a form of n variables has few terms
 pub few_of_form : (n : ℕ) (f : Form) → IsWithin n f → AreAscending 0 (form_terms f) → length (form_terms f) ≤ n
-few_of_form n f w a = let r = few_terms n 0 (form_terms f) a (λ j g. sym (closed_coef f.kept w.closed j) ∙ w.zero_from j g) (omega arith) in omega arith
+few_of_form n f w a = let r = few_terms n 0 (form_terms f) a w (omega arith) in omega arith
 
 -- ---- multiples by 1 and -1
 pub scaled_by_one : (k : ℚ) (b : Line) → k ≡ one_ℚ → line_scaled k b ≡ b

@@ -29,8 +29,7 @@ use Rattle.linear_fold.specs.declared.form.Form.{Form}
 use Rattle.linear_fold.specs.FoldedFaults.{HasFaultPlace, fault_for, named_fault, owner_of, place_at}
 use Rattle.linear_fold.specs.declared.entries.Entry.{Entry}
 use Rattle.linear_fold.specs.Coefs.{AreAscending}
-use Rattle.linear_fold.specs.Forms.{form_line, form_terms}
-use Rattle.linear_fold.specs.Operates.{IsWithin}
+use Rattle.linear_fold.specs.Forms.{IsWithin, form_line, form_terms}
 use Rattle.linear_fold.specs.Folds.{AreKnown, AreSlotsWithin, AreTreesGiven, HasLineOf, IsExpressionFolded, IsGiven, IsTreeGiven}
 use Rattle.linear_fold.specs.OwnerFolds.{AreSlotsOf, HasOwner, IsFormOf, definitions_before, expression_at, fold_owner_of, known_by, owned_at}
 use Rattle.linear_fold.proofs.CoefLemmas.{apart_test}

@@ -15,22 +15,26 @@ use Rattle.nl_meaning.specs.Faults.{constant_line, line_scaled, line_sum, produc
 use Rattle.nl_meaning.specs.Lines.{Line, is_zero, is_constant, one_if}
 use Rattle.nl_meaning.proofs.LineLemmas.{all_below-true, apart-eqb}
 use Rattle.linear_fold.specs.declared.form.Form.{Form}
+use Rattle.linear_fold.specs.declared.sum.Sum.{Sum}
 use Rattle.linear_fold.specs.declared.parts.Part.{Part}
 use Rattle.linear_fold.specs.declared.parts.Part.TheVariants.{Number, Variable, Linear, Broken}
-use Rattle.linear_fold.specs.declared.wide.Wide.{Wide}
+use Rattle.linear_fold.specs.declared.too_wide.Wide.{Wide}
 use Rattle.linear_fold.specs.Coefs.{AddsAt, coef_in, value_or_zero}
-use Rattle.linear_fold.specs.Forms.{form_line, AddsScaled, IsZeroFrom, ScaledSumFits}
-use Rattle.linear_fold.specs.Operates.{AreClosed, AreOperands, IsClosed, IsOperand, IsSound, IsWithin, multiple_line, part_line}
+use Rattle.linear_fold.specs.Forms.{form_line, sum_line, AddsScaled, IsWithin, IsZeroFrom, ScaledSumFits}
+use Rattle.linear_fold.specs.Operates.{AreOperands, AreUnbroken, IsOperand, IsSound, IsUnbroken, multiple_line, part_line}
 use Rattle.linear_fold.proofs.CoefLemmas.{adds_at, found_apart, found_same}
-use Rattle.linear_fold.proofs.FracLemmas.{fits_zero, sum_fits_zero, zero_test}
-use Rattle.linear_fold.proofs.Scaled.{all_below-intro, kept_fits, same_line}
+use Rattle.linear_fold.proofs.FracLemmas.{coef_fits, fits_zero, place_fits, sum_fits_zero, zero_test}
+use Rattle.linear_fold.proofs.Scaled.{all_below-intro, same_line}
 
 pub record FitsLine (l : Line) : Type 0 where
   pub constant : fits l.constant ≡ true
   pub coefs : (j : ℕ) → fits (l.coef j) ≡ true
 
 pub form_fits : (f : Form) → FitsLine (form_line f)
-form_fits f = record { constant = frac_fits_lem f.constant; coefs = λ j. kept_fits f.kept j }
+form_fits f = record { constant = frac_fits_lem f.constant; coefs = coef_fits f.coefficients }
+
+pub total_fits : (s : Sum) → FitsLine (sum_line s)
+total_fits s = record { constant = frac_fits_lem s.constant; coefs = place_fits s.accumulator }
 
 -- ---- the coefficients of a multiple
 multiple_at : (i j : ℕ) (k : ℚ) → i ≡ j → (multiple_line j k).coef i ≡ k
@@ -141,18 +145,18 @@ multiple_constant n j x l = by (is_zero x) refl
         cc)))
 
 -- ---- operands
-pub sound_closed : (n : ℕ) (p : Part) → IsSound n p → IsClosed p
-sound_closed n (Number k) h = tt
-sound_closed n (Variable j k) h = tt
-sound_closed n (Linear f) h = h
-sound_closed n (Broken x) h = h
+pub sound_unbroken : (n : ℕ) (p : Part) → IsSound n p → IsUnbroken p
+sound_unbroken n (Number k) h = tt
+sound_unbroken n (Variable j k) h = tt
+sound_unbroken n (Linear f) h = tt
+sound_unbroken n (Broken x) h = h
 
 pub whole_within : (n : ℕ) (f : Form) → IsOperand n (Linear f) → IsWithin n f
-whole_within n f w = record { closed = w.sound; zero_from = w.zero_from }
+whole_within n f w = w.zero_from
 
-pub closed_of : (n : ℕ) (ps : List Part) → AreOperands n ps → AreClosed ps
-closed_of n [] w = tt
-closed_of n (p ∷ ps) w = (sound_closed n p w.0.sound, closed_of n ps w.1)
+pub unbroken_of : (n : ℕ) (ps : List Part) → AreOperands n ps → AreUnbroken ps
+unbroken_of n [] w = tt
+unbroken_of n (p ∷ ps) w = (sound_unbroken n p w.0.sound, unbroken_of n ps w.1)
 
 pub part_fits : (p : Part) → FitsLine (part_line p)
 part_fits (Number k) = record { constant = frac_fits_lem k; coefs = λ j. fits_zero }

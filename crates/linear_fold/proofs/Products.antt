@@ -1,4 +1,4 @@
--- A closed form times a number.
+-- A form times a number.
 use Rattle.std.proofs.Common.{◌≡◌, ◌≢◌, ℕ, suc, zero, ◌+◌, ◌<◌, ◌≤◌, ⊎_elim, inl, inr, ◌∙◌, sym, ap, refl, subst, arith, true, false, Err, List, [], ◌∷◌, ◌++◌, drop, length, get_or, append-nil, append_assoc, ap₂, drop-cons}
 use Rattle.std.proofs.lemmas.Bool.{and_from, and_parts, cases_eq, cases_lt, false_from_ne_true}
 use Rattle.exact_numbers.specs.declared.frac.Frac.{Frac}
@@ -12,7 +12,7 @@ use Rattle.linear_fold.specs.Coefs.{Term, value_or_zero, coef_in, AreAscending, 
 use Rattle.text_base.specs.declared.stop.Stop.{Stop}
 use Rattle.text_base.specs.declared.stop.Stop.TheVariants.{Fault, Memory}
 use Rattle.text_base.specs.Stopped.{IfFault}
-use Rattle.linear_fold.specs.declared.wide.Wide.{Wide}
+use Rattle.linear_fold.specs.declared.too_wide.Wide.{Wide}
 use Rattle.linear_fold.specs.Forms.{IsZeroFrom, Multiplies}
 use Rattle.linear_fold.proofs.CoefLemmas.{found_same, found_apart}
 use Rattle.linear_fold.proofs.FracLemmas.{fits_zero}

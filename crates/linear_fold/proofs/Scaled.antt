@@ -1,5 +1,5 @@
 -- The steps over the terms of a form come to the sum with its multiple.
-use Rattle.std.proofs.Common.{◌≡◌, ◌≢◌, ℕ, zero, suc, ◌+◌, ◌<◌, ◌≤◌, ◌∙◌, sym, ap, ap₂, refl, subst, arith, Bool, true, false, Some, None, Result, Ok, Err, ◌==◌, List, [], ◌∷◌, length, ⊎_elim}
+use Rattle.std.proofs.Common.{◌≡◌, ◌≢◌, ℕ, zero, suc, ◌+◌, ◌<◌, ◌≤◌, ◌∙◌, sym, ap, ap₂, refl, subst, arith, Bool, true, false, ◌&&◌, Some, None, Result, Ok, Err, ◌==◌, List, [], ◌∷◌, length, ⊎_elim}
 use Rattle.std.proofs.lemmas.Bool.{cases_eq, cases_lt, and_from, and_parts, false_from_ne_true}
 use Rattle.text_base.specs.declared.stop.Stop.{Stop}
 use Rattle.text_base.specs.declared.stop.Stop.TheVariants.{Fault, Memory}
@@ -11,14 +11,12 @@ use Rattle.fractions.proofs.Arithmetic.{*ℚ_one, *ℚ_zero, +ℚ_zero}
 use Rattle.nl_meaning.specs.Faults.{constant_line, line_sum, line_scaled, line_with}
 use Rattle.nl_meaning.specs.Lines.{Line, all_below, is_zero, is_constant}
 use Rattle.nl_meaning.proofs.LineLemmas.{same-eqb, apart-eqb, all_below-true, is_zero-true}
-use Rattle.linear_fold.specs.declared.form.Kept.{Kept}
-use Rattle.linear_fold.specs.declared.form.Kept.TheVariants.{Closed, Open}
-use Rattle.linear_fold.specs.declared.wide.Wide.{Wide}
+use Rattle.linear_fold.specs.declared.too_wide.Wide.{Wide}
 use Rattle.linear_fold.specs.Coefs.{Term, found, value_or_zero, coef_in, AreAscending, AreBelow}
 use Rattle.linear_fold.specs.Places.{place_in, AreZeros}
-use Rattle.linear_fold.specs.Forms.{kept_coef, is_kept_open, kept_terms, IsZeroFrom, HasPlaces, AreWithin, ScaledSumFits, stepped, step_fits, adds_fit, with_scaled, SumsUp, AddsScaled}
+use Rattle.linear_fold.specs.Forms.{IsZeroFrom, ScaledSumFits, stepped, step_fits, adds_fit, with_scaled, SumsUp, AddsScaled}
 use Rattle.linear_fold.proofs.CoefLemmas.{apart_test, found_same, found_apart, found_before}
-use Rattle.linear_fold.proofs.FracLemmas.{sum_fits_zero, fits_zero, coef_fits, place_fits}
+use Rattle.linear_fold.proofs.FracLemmas.{sum_fits_zero, fits_zero}
 
 -- lines with one constant and the same coefficients are one line
 pub same_line : (a b : Line) → a.constant ≡ b.constant → ((j : ℕ) → a.coef j ≡ b.coef j) → a ≡ b
@@ -85,15 +83,7 @@ constant_of_steps : (a : Line) (k : ℚ) (ts : List Term) → (with_scaled a k t
 constant_of_steps a k [] = refl
 constant_of_steps a k (t ∷ ts) = constant_of_steps (stepped a k t) k ts
 
--- ---- forms
-pub kept_fits : (k : Kept) (j : ℕ) → fits (kept_coef k j) ≡ true
-kept_fits (Closed ts) j = coef_fits ts j
-kept_fits (Open ps) j = place_fits ps j
-
-pub closed_coef : (k : Kept) → is_kept_open k ≡ false → (j : ℕ) → kept_coef k j ≡ coef_in (kept_terms k) j
-closed_coef (Closed ts) e j = refl
-closed_coef (Open ps) e j = cc
-
+-- ---- a multiple of a form
 module _ (a b : Line) (sum k : ℚ) (ts : List Term) (small : (j : ℕ) → fits (a.coef j) ≡ true) (ascending : AreAscending 0 ts) (is : (j : ℕ) → b.coef j ≡ coef_in ts j) where
   scaled_done : fits (k *ℚ b.constant) ≡ true → sum_fits a.constant (k *ℚ b.constant) ≡ true → sum ≡ a.constant +ℚ k *ℚ b.constant → (l : Line) → (adds_fit (record { constant = sum; coef = a.coef }) k ts ≡ true) × (l ≡ with_scaled (record { constant = sum; coef = a.coef }) k ts) → ScaledSumFits a k b × (l ≡ line_sum a (line_scaled k b))
   scaled_done p s e l h = (
@@ -127,24 +117,27 @@ term_added a new k t scaled is small constant h = (
   same_line _ _ constant (λ i. h.1 i ∙ ap (λ x. (line_with a t.0 x).coef i) is),
 )
 
+-- and the terms that are left
+pub steps_left : (a new : Line) (k : ℚ) (t : Term) (rest left : List Term) → left ≡ t ∷ rest → (step_fits a k t ≡ true) × (new ≡ stepped a k t) → (adds_fit new k rest ≡ adds_fit a k left) × (with_scaled new k rest ≡ with_scaled a k left)
+steps_left a new k t rest left at h = (
+  ap (λ l. adds_fit l k rest) h.1 ∙ ap (λ b. b && adds_fit (stepped a k t) k rest) (sym h.0) ∙ ap (adds_fit a k) (sym at),
+  ap (λ l. with_scaled l k rest) h.1 ∙ ap (with_scaled a k) (sym at),
+)
+
 pub term_wide : (a : Line) (k : ℚ) (t : Term) (scaled : ℚ) → scaled ≡ k *ℚ frac_value t.1 → sum_fits (a.coef t.0) scaled ≡ false → step_fits a k t ≡ false
 term_wide a k t scaled is e = false_from_ne_true _ (λ h. let both = and_parts _ _ h in (let clash : true ≡ false = sym both.1 ∙ ap (sum_fits (a.coef t.0)) (sym is) ∙ e in cc))
 
 pub product_wide : (a : Line) (k : ℚ) (t : Term) → fits (k *ℚ frac_value t.1) ≡ false → step_fits a k t ≡ false
 product_wide a k t e = false_from_ne_true _ (λ h. let both = and_parts _ _ h in (let clash : true ≡ false = sym both.0 ∙ e in cc))
 
--- ---- places
-pub within_terms : (k : Kept) (ts : List Term) (l : Line) → AreAscending 0 ts → ((j : ℕ) → l.coef j ≡ coef_in ts j) → HasPlaces k l → AreWithin k ts
-within_terms (Closed us) ts l a is h = tt
-within_terms (Open ps) ts l a is h = all_below_places 0 ts a (λ j g. sym (is j) ∙ h j g)
-  where
-    all_below_places : (n : ℕ) (us : List Term) → AreAscending n us → ((j : ℕ) → length ps ≤ j → coef_in us j ≡ zero_ℚ) → AreBelow (length ps) us
-    all_below_places n [] b z = tt
-    all_below_places n (t ∷ us) b z = (
-      ⊎_elim (λ (low : t.0 < length ps). low) (λ (g : length ps ≤ t.0). absurd (b.1 (sym (ap value_or_zero (found_same t us t.0 refl)) ∙ z t.0 g))) (cases_lt t.0 (length ps)),
-      all_below_places (suc t.0) us b.2 (λ j g.
-          ⊎_elim (λ (e : j ≡ t.0). ap value_or_zero (found_before (suc t.0) us j b.2 (omega arith))) (λ (n2 : j ≢ t.0). sym (ap value_or_zero (found_apart t us j n2)) ∙ z j g) (cases_eq j t.0)),
-    )
+-- ---- a form of n variables
+pub terms_below : (n low : ℕ) (ts : List Term) → AreAscending low ts → ((j : ℕ) → n ≤ j → coef_in ts j ≡ zero_ℚ) → AreBelow n ts
+terms_below n low [] a z = tt
+terms_below n low (t ∷ ts) a z = (
+  ⊎_elim (λ (l : t.0 < n). l) (λ (g : n ≤ t.0). absurd (a.1 (sym (ap value_or_zero (found_same t ts t.0 refl)) ∙ z t.0 g))) (cases_lt t.0 n),
+  terms_below n (suc t.0) ts a.2 (λ j g.
+      ⊎_elim (λ (e : j ≡ t.0). ap value_or_zero (found_before (suc t.0) ts j a.2 (omega arith))) (λ (m : j ≢ t.0). sym (ap value_or_zero (found_apart t ts j m)) ∙ z j g) (cases_eq j t.0)),
+)
 
 pub zero_places : (ps : List Frac) (c : ℚ) → c ≡ zero_ℚ → AreZeros ps → (record { constant = c; coef = place_in ps }) ≡ constant_line zero_ℚ
 zero_places ps c e z = same_line (record { constant = c; coef = place_in ps }) (constant_line zero_ℚ) e z
@@ -169,17 +162,16 @@ is_zero_zero : is_zero zero_ℚ ≡ true
 unfolding whole
 is_zero_zero = refl
 
-pub constant_test : (c : ℚ) (k : Kept) → is_kept_open k ≡ false → AreAscending 0 (kept_terms k) → (n : ℕ) → IsZeroFrom n (record { constant = c; coef = kept_coef k }) → is_nil (kept_terms k) ≡ is_constant n (record { constant = c; coef = kept_coef k })
-constant_test c (Open ps) e a n z = cc
-constant_test c (Closed []) e a n z = sym (all_below-intro (λ j. is_zero zero_ℚ) n (λ j h. is_zero_zero))
-constant_test c (Closed (t ∷ ts)) e a n z =
+pub constant_test : (c : ℚ) (ts : List Term) → AreAscending 0 ts → (n : ℕ) → IsZeroFrom n (record { constant = c; coef = coef_in ts }) → is_nil ts ≡ is_constant n (record { constant = c; coef = coef_in ts })
+constant_test c [] a n z = sym (all_below-intro (λ j. is_zero zero_ℚ) n (λ j h. is_zero_zero))
+constant_test c (t ∷ ts) a n z =
     let there : coef_in (t ∷ ts) t.0 ≡ frac_value t.1 = ap value_or_zero (found_same t ts t.0 refl) in
     ⊎_elim
     (λ (l : t.0 < n). sym (all_below-false (λ j. is_zero (coef_in (t ∷ ts) j)) n t.0 l (ap is_zero there ∙ false_from_ne_true _ (λ y. a.1 (is_zero-true (frac_value t.1) y)))))
     (λ (g : n ≤ t.0). absurd (a.1 (sym there ∙ z t.0 g)))
     (cases_lt t.0 n)
 
--- how many terms a closed form has
+-- how many terms a form of n variables has
 pub few_terms : (n low : ℕ) (ts : List Term) → AreAscending low ts → ((j : ℕ) → n ≤ j → coef_in ts j ≡ zero_ℚ) → low ≤ n → low + length ts ≤ n
 few_terms n low [] a z h = omega arith
 few_terms n low (t ∷ ts) a z h =

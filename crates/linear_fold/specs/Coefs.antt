@@ -1,5 +1,5 @@
 -- Lists of terms, and the coefficients that they give.
-use Rattle.std.specs.Prelude.{◌≡◌, ◌≢◌, ℕ, zero, suc, ◌==◌, ◌<◌, ◌≤◌, List, [], ◌∷◌, Option, Some, None, Result, Ok, Err, true, false, if◌then◌else◌, ◌⊎◌}
+use Rattle.std.specs.Prelude.{◌≡◌, ◌≢◌, ℕ, suc, ◌==◌, ◌<◌, ◌≤◌, List, [], ◌∷◌, Option, Some, None, Result, Ok, Err, true, false, if◌then◌else◌, ◌⊎◌}
 use Rattle.text_base.specs.declared.stop.Stop.{Stop}
 use Rattle.text_base.specs.declared.stop.Stop.TheVariants.{Fault, Memory}
 use Rattle.exact_numbers.specs.declared.dec.Dec.{Dec}
@@ -9,7 +9,7 @@ use Rattle.fractions.specs.Fits.{fits, sum_fits}
 use Rattle.fractions.specs.Rational.{ℚ, zero_ℚ, ◌+ℚ◌, ◌*ℚ◌}
 use Rattle.nl_meaning.specs.Lines.{one_if}
 use Rattle.nl_meaning.specs.Trees.{LinearTerm}
-use Rattle.linear_fold.specs.declared.wide.Wide.{Wide}
+use Rattle.linear_fold.specs.declared.too_wide.Wide.{Wide}
 
 -- a variable and its coefficient
 abbrev pub Term : Type 0
@@ -70,12 +70,6 @@ AreProducts k (t ∷ ts) (p ∷ ps) =
 abbrev pub HasWideProduct : ℚ → List Term → Type 0
 HasWideProduct k [] = ⊥
 HasWideProduct k (t ∷ ts) = (fits (k *ℚ frac_value t.1) ≡ false) ⊎ HasWideProduct k ts
-
--- the term at place i has variable j
-abbrev pub StandsAt : List Term → ℕ → ℕ → Type 0
-StandsAt [] i j = ⊥
-StandsAt (t ∷ ts) zero j = t.0 ≡ j
-StandsAt (t ∷ ts) (suc i) j = StandsAt ts i j
 
 -- k is added to the coefficient of variable j; it is too wide exactly where the sum does not fit
 abbrev pub AddsAt : (ℕ → ℚ) → ℕ → ℚ → (ℕ → ℚ) → Result (Unit {0}) (Stop Wide) → Type 0

@@ -1,5 +1,5 @@
 -- What folding a tree comes to.
-use Rattle.std.specs.Prelude.{◌≡◌, ◌≢◌, ℕ, ◌+◌, ◌-◌, ◌<◌, ◌≤◌, List, [], ◌∷◌, length, get_or, false, Option, Some, None, Result, Ok, Err}
+use Rattle.std.specs.Prelude.{◌≡◌, ◌≢◌, ℕ, ◌+◌, ◌-◌, ◌<◌, ◌≤◌, List, [], ◌∷◌, length, get_or, Option, Some, None, Result, Ok, Err}
 use Rattle.text_base.specs.declared.stop.Stop.{Stop}
 use Rattle.text_base.specs.declared.stop.Stop.TheVariants.{Fault as Stopped, Memory}
 use Rattle.code_tables.specs.Opcodes.{class_of}
@@ -15,8 +15,8 @@ use Rattle.linear_fold.specs.declared.entries.Entry.TheVariants.{Linear, Broken}
 use Rattle.linear_fold.specs.declared.parts.Part.{Part}
 use Rattle.linear_fold.specs.declared.parts.Part.TheVariants.{Number as Constant, Variable as Multiple, Linear as Whole, Broken as Faulty}
 use Rattle.linear_fold.specs.declared.form.Form.{Form}
-use Rattle.linear_fold.specs.Forms.{form_line, is_open}
-use Rattle.linear_fold.specs.Operates.{IsOperand, IsWithin, lines_of_parts, part_line}
+use Rattle.linear_fold.specs.Forms.{IsWithin, form_line}
+use Rattle.linear_fold.specs.Operates.{IsOperand, lines_of_parts, part_line}
 
 -- the value of f at each point is that of a line of n variables
 abbrev pub HasLine : ℕ → (Point → Option ℚ) → Line → Type 0
@@ -31,7 +31,7 @@ abbrev pub AreKnown : ℕ → (Point → Known) → List (Option Form) → Type 
 AreKnown n known slots =
     (k : ℕ) (f : Form) → get_or slots k None ≡ Some f → HasLineOf n (λ at. known at (n + k)) f
 
--- those forms are closed and of n variables
+-- those forms are of n variables
 abbrev pub AreSlotsWithin : ℕ → List (Option Form) → Type 0
 AreSlotsWithin n slots = (k : ℕ) (f : Form) → get_or slots k None ≡ Some f → IsWithin n f
 
@@ -91,19 +91,19 @@ abbrev pub ArePartsWithin : ℕ → List Part → Type 0
 ArePartsWithin n [] = Unit {0}
 ArePartsWithin n (p ∷ ps) = IsPartWithin n p × ArePartsWithin n ps
 
--- the closed form of a line
-abbrev pub IsClosedForm : Line → Entry → Type 0
-IsClosedForm l (Linear f) = (form_line f ≡ l) × (is_open f ≡ false)
-IsClosedForm l (Broken x) = ⊥
+-- a form of a line
+abbrev pub ComesToLine : Line → Entry → Type 0
+ComesToLine l (Linear f) = form_line f ≡ l
+ComesToLine l (Broken x) = ⊥
 
 -- a whole tree's part as a form, or its fault
 abbrev pub IsEntryOf : Part → Entry → Type 0
-IsEntryOf (Constant k) e = IsClosedForm (part_line (Constant k)) e
-IsEntryOf (Multiple j k) e = IsClosedForm (part_line (Multiple j k)) e
+IsEntryOf (Constant k) e = ComesToLine (part_line (Constant k)) e
+IsEntryOf (Multiple j k) e = ComesToLine (part_line (Multiple j k)) e
 IsEntryOf (Whole f) e = e ≡ Linear f
 IsEntryOf (Faulty x) e = e ≡ Broken x
 
--- the form of an entry is closed and of n variables
+-- the form of an entry is of n variables
 abbrev pub IsEntryWithin : ℕ → Entry → Type 0
 IsEntryWithin n (Linear form) = IsWithin n form
 IsEntryWithin n (Broken fault) = Unit {0}
@@ -158,8 +158,8 @@ AddsTerms a i ts new (Ok u) = (terms_fault a i ts ≡ None) × (new ≡ line_wit
 AddsTerms a i ts new (Err (Stopped fault)) = terms_fault a i ts ≡ Some fault
 AddsTerms a i ts new (Err Memory) = Unit {0}
 
--- the closed form of a line with terms, or the first fault among them
+-- the form of a line with terms, or the first fault among them
 abbrev pub ComesToTerms : Line → ℕ → List LinearTerm → Entry → Type 0
 ComesToTerms a i ts (Linear form) =
-    (terms_fault a i ts ≡ None) × (form_line form ≡ line_with_terms a ts) × (is_open form ≡ false)
+    (terms_fault a i ts ≡ None) × (form_line form ≡ line_with_terms a ts)
 ComesToTerms a i ts (Broken fault) = terms_fault a i ts ≡ Some fault

@@ -1,5 +1,5 @@
--- Forms as data, and the lines that they are.
-use Rattle.std.specs.Prelude.{◌≡◌, ℕ, ◌<◌, ◌≤◌, List, [], ◌∷◌, length, drop, Bool, true, false, ◌&&◌, Result, Ok, Err}
+-- Forms and sums as data, and the lines that they are.
+use Rattle.std.specs.Prelude.{◌≡◌, ℕ, ◌≤◌, List, [], ◌∷◌, length, drop, Bool, true, false, ◌&&◌, Result, Ok, Err}
 use Rattle.exact_numbers.specs.Values.{frac_value}
 use Rattle.fractions.specs.Fits.{fits, sum_fits}
 use Rattle.fractions.specs.Rational.{ℚ, zero_ℚ, ◌*ℚ◌}
@@ -7,45 +7,28 @@ use Rattle.nl_meaning.specs.Faults.{line_sum, line_scaled, line_with, products_f
 use Rattle.nl_meaning.specs.Lines.{Line}
 use Rattle.text_base.specs.declared.stop.Stop.{Stop}
 use Rattle.text_base.specs.declared.stop.Stop.TheVariants.{Fault, Memory}
-use Rattle.linear_fold.specs.declared.wide.Wide.{Wide}
+use Rattle.linear_fold.specs.declared.too_wide.Wide.{Wide}
 use Rattle.linear_fold.specs.declared.form.Form.{Form}
 use Rattle.linear_fold.specs.declared.form.FormTerms.{FormTerms}
-use Rattle.linear_fold.specs.declared.form.Kept.{Kept}
-use Rattle.linear_fold.specs.declared.form.Kept.TheVariants.{Closed, Open}
-use Rattle.linear_fold.specs.Coefs.{Term, AreBelow, coef_in}
+use Rattle.linear_fold.specs.declared.sum.Sum.{Sum}
+use Rattle.linear_fold.specs.Coefs.{Term, coef_in}
 use Rattle.linear_fold.specs.Places.{place_in}
-
-abbrev pub kept_coef : Kept → ℕ → ℚ
-kept_coef (Closed ts) j = coef_in ts j
-kept_coef (Open ps) j = place_in ps j
 
 -- its constant and its coefficients
 abbrev pub form_line : Form → Line
-form_line f = record { constant = frac_value f.constant; coef = kept_coef f.kept }
+form_line f = record { constant = frac_value f.constant; coef = coef_in f.coefficients }
 
-abbrev pub is_kept_open : Kept → Bool
-is_kept_open (Closed ts) = false
-is_kept_open (Open ps) = true
-
--- it lies on a pad
-abbrev pub is_open : Form → Bool
-is_open f = is_kept_open f.kept
-
-abbrev pub kept_places : Kept → ℕ
-kept_places (Closed ts) = 0
-kept_places (Open ps) = length ps
-
--- the places of the pad on which it lies
-abbrev pub place_count : Form → ℕ
-place_count f = kept_places f.kept
-
-abbrev pub kept_terms : Kept → List Term
-kept_terms (Closed ts) = ts
-kept_terms (Open ps) = []
-
--- the terms of a closed form
+-- its terms
 abbrev pub form_terms : Form → List Term
-form_terms f = kept_terms f.kept
+form_terms f = f.coefficients
+
+-- the constant of a sum, and the coefficients at its places
+abbrev pub sum_line : Sum → Line
+sum_line s = record { constant = frac_value s.constant; coef = place_in s.accumulator }
+
+-- how many places a sum has
+abbrev pub place_count : Sum → ℕ
+place_count s = length s.accumulator
 
 -- the terms that are still to come
 abbrev pub terms_left : FormTerms → List Term
@@ -55,13 +38,9 @@ terms_left ts = drop ts.next ts.all.now
 abbrev pub IsZeroFrom : ℕ → Line → Type 0
 IsZeroFrom n l = (j : ℕ) → n ≤ j → l.coef j ≡ zero_ℚ
 
--- an open form has a place for each coefficient of a line
-abbrev pub HasPlaces : Kept → Line → Type 0
-HasPlaces (Closed ts) l = Unit {0}
-HasPlaces (Open ps) l = IsZeroFrom (length ps) l
-
-abbrev pub HasRoom : Form → Line → Type 0
-HasRoom f l = HasPlaces f.kept l
+-- a form without coefficients from n on
+abbrev pub IsWithin : ℕ → Form → Type 0
+IsWithin n f = IsZeroFrom n (form_line f)
 
 -- a + k * b fits: each product with k and each sum does, of the constants and of the coefficients
 -- of one variable
@@ -77,10 +56,10 @@ AddsScaled a k b new (Ok u) = ScaledSumFits a k b × (new ≡ line_sum a (line_s
 AddsScaled a k b new (Err (Fault w)) = ¬ ScaledSumFits a k b
 AddsScaled a k b new (Err Memory) = Unit {0}
 
--- k times a closed form; it is too wide exactly where a product does not fit
+-- k times a form; it is too wide exactly where a product does not fit
 abbrev pub Multiplies : Line → ℚ → Result Form (Stop Wide) → Type 0
 Multiplies a k (Ok f) =
-    ((n : ℕ) → products_fit n k a ≡ true) × (form_line f ≡ line_scaled k a) × (is_open f ≡ false)
+    ((n : ℕ) → products_fit n k a ≡ true) × (form_line f ≡ line_scaled k a)
 Multiplies a k (Err (Fault w)) = (n : ℕ) → IsZeroFrom n a → products_fit n k a ≡ false
 Multiplies a k (Err Memory) = Unit {0}
 
@@ -105,12 +84,3 @@ abbrev pub SumsUp : Line → ℚ → List Term → Line → Result (Unit {0}) (S
 SumsUp a k ts new (Ok u) = (adds_fit a k ts ≡ true) × (new ≡ with_scaled a k ts)
 SumsUp a k ts new (Err (Fault w)) = adds_fit a k ts ≡ false
 SumsUp a k ts new (Err Memory) = Unit {0}
-
--- an open form has a place for a variable, and for those of terms
-abbrev pub HasPlace : Kept → ℕ → Type 0
-HasPlace (Closed ts) j = Unit {0}
-HasPlace (Open ps) j = j < length ps
-
-abbrev pub AreWithin : Kept → List Term → Type 0
-AreWithin (Closed ts) us = Unit {0}
-AreWithin (Open ps) us = AreBelow (length ps) us

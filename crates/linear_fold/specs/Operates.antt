@@ -10,31 +10,25 @@ use Rattle.nl_meaning.specs.Lines.{Line, are_constant, constants_of}
 use Rattle.nl_meaning.specs.Trees.{on_values}
 use Rattle.exact_numbers.specs.declared.frac.Frac.{Frac}
 use Rattle.exact_numbers.specs.Values.{frac_value}
-use Rattle.linear_fold.specs.declared.form.Form.{Form}
+use Rattle.linear_fold.specs.declared.sum.Sum.{Sum}
 use Rattle.linear_fold.specs.declared.parts.Part.{Part}
 use Rattle.linear_fold.specs.declared.parts.Part.TheVariants.{Number, Variable, Linear as Whole, Broken}
 use Rattle.linear_fold.specs.declared.operate.Outcome.{Outcome}
 use Rattle.linear_fold.specs.declared.operate.Outcome.TheVariants.{Linear, Refused}
-use Rattle.linear_fold.specs.declared.wide.Wide.{Wide}
-use Rattle.linear_fold.specs.Forms.{form_line, is_open, place_count, IsZeroFrom}
+use Rattle.linear_fold.specs.declared.too_wide.Wide.{Wide}
+use Rattle.linear_fold.specs.Forms.{form_line, place_count, sum_line, IsZeroFrom}
 
 abbrev pub zero_line : Line
 zero_line = constant_line zero_ℚ
 
--- an open form that is 0
-pub record IsBlank (f : Form) : Type 0 where
-  pub open_on : is_open f ≡ true
-  pub line : form_line f ≡ zero_line
+-- a sum that is 0
+abbrev pub IsBlank : Sum → Type 0
+IsBlank s = sum_line s ≡ zero_line
 
--- such a form before and after
-pub record StaysBlank (old new : Form) : Type 0 where
+-- such a sum before and after
+pub record StaysBlank (old new : Sum) : Type 0 where
   pub blank : IsBlank new
   pub places : place_count new ≡ place_count old
-
--- a closed form without coefficients from n on
-pub record IsWithin (n : ℕ) (f : Form) : Type 0 where
-  pub closed : is_open f ≡ false
-  pub zero_from : IsZeroFrom n (form_line f)
 
 -- k times variable j
 abbrev pub multiple_line : ℕ → ℚ → Line
@@ -50,22 +44,22 @@ part_line (Broken x) = zero_line
 abbrev pub lines_of_parts : List Part → List Line
 lines_of_parts ps = map part_line ps
 
--- no fault, and no open form
-abbrev pub IsClosed : Part → Type 0
-IsClosed (Number k) = Unit {0}
-IsClosed (Variable j k) = Unit {0}
-IsClosed (Whole f) = is_open f ≡ false
-IsClosed (Broken x) = ⊥
+-- no fault
+abbrev pub IsUnbroken : Part → Type 0
+IsUnbroken (Number k) = Unit {0}
+IsUnbroken (Variable j k) = Unit {0}
+IsUnbroken (Whole f) = Unit {0}
+IsUnbroken (Broken x) = ⊥
 
-abbrev pub AreClosed : List Part → Type 0
-AreClosed [] = Unit {0}
-AreClosed (p ∷ ps) = IsClosed p × AreClosed ps
+abbrev pub AreUnbroken : List Part → Type 0
+AreUnbroken [] = Unit {0}
+AreUnbroken (p ∷ ps) = IsUnbroken p × AreUnbroken ps
 
 -- the same, and a variable is one of the first n
 abbrev pub IsSound : ℕ → Part → Type 0
 IsSound n (Number k) = Unit {0}
 IsSound n (Variable j k) = j < n
-IsSound n (Whole f) = is_open f ≡ false
+IsSound n (Whole f) = Unit {0}
 IsSound n (Broken x) = ⊥
 
 -- such a part without coefficients from n on

@@ -17,8 +17,8 @@ use Rattle.linear_fold.specs.declared.form.Form.{Form}
 use Rattle.linear_fold.specs.declared.owners.Folder.{Folder}
 use Rattle.linear_fold.specs.Folds.{AreKnown, AreSlotsWithin, HasLineOf, IsGiven}
 use Rattle.linear_fold.specs.FoldedFaults.{named_fault}
-use Rattle.linear_fold.specs.Forms.{form_terms, place_count}
-use Rattle.linear_fold.specs.Operates.{IsBlank, IsWithin}
+use Rattle.linear_fold.specs.Forms.{IsWithin, form_terms, place_count}
+use Rattle.linear_fold.specs.Operates.{IsBlank}
 use Rattle.linear_fold.specs.Programs.{IsFormOver}
 
 -- the file has the owner

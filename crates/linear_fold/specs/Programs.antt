@@ -1,6 +1,6 @@
 -- A folded file: the form of each body and of an objective, with sides, bounds and kinds; and the
 -- linear program that it is.
-use Rattle.std.specs.Prelude.{◌≡◌, ℕ, suc, ◌+◌, ◌≤◌, ◌^◌, Bool, false, List, [], ◌∷◌, length, All}
+use Rattle.std.specs.Prelude.{◌≡◌, ℕ, suc, ◌+◌, ◌≤◌, ◌^◌, Bool, List, [], ◌∷◌, length, All}
 use Rattle.std.specs.List.{sum_by}
 use Rattle.linear_programs.specs.Linear.{Form as LinearForm, Row, Variable, Linear}
 use Rattle.linear_programs.specs.Names.{row_name, variable_name}
@@ -13,7 +13,7 @@ use Rattle.file_meaning.specs.Meaning.{interval_of, is_whole_kind}
 use Rattle.file_meaning.specs.LinearFile.{elements_from, form_of_line}
 use Rattle.linear_fold.specs.declared.form.Form.{Form}
 use Rattle.linear_fold.specs.Coefs.{AreBelow}
-use Rattle.linear_fold.specs.Forms.{form_line, form_terms, is_open}
+use Rattle.linear_fold.specs.Forms.{form_line, form_terms}
 
 -- bodies and sides by constraint, bounds and kinds by variable; the number of the objective
 pub record LinearValue : Type 0 where
@@ -58,10 +58,9 @@ linear_value l =
 abbrev pub kinds_in : File → List Kind
 kinds_in f = elements_from (kind_of f.counts) 0 f.counts.n_var
 
--- a closed form of the first n variables
-pub record IsFormOver (n : ℕ) (f : Form) : Type 0 where
-  pub closed : is_open f ≡ false
-  pub below : AreBelow n (form_terms f)
+-- a form of the first n variables
+abbrev pub IsFormOver : ℕ → Form → Type 0
+IsFormOver n f = AreBelow n (form_terms f)
 
 abbrev pub coefficient_total : LinearValue → ℕ
 coefficient_total l = sum_by (λ f. length (form_terms f)) l.bodies + length (form_terms l.objective)

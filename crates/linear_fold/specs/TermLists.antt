@@ -1,4 +1,4 @@
--- The coefficients of a closed form, which are kept in one of two ways.
+-- The coefficients of a form, which are kept in one of two ways.
 use Rattle.std.specs.Prelude.{List}
 use Rattle.linear_fold.specs.declared.coefficients.TermList.{TermList}
 use Rattle.linear_fold.specs.declared.coefficients.TermList.TheVariants.{Fractions, Decimals}

@@ -1,4 +1,4 @@
-// A sparse accumulator: the coefficients of an open form, each at the place of its variable.
+// A sparse accumulator: the coefficients of a sum, each at the place of its variable.
 ghost use Rattle.std.specs.Prelude.{◌≡◌, ◌<◌, ℕ, length, IfOk, true, false, MatchOption};
 ghost use Rattle.exact_numbers.specs.Values.{frac_value};
 ghost use Rattle.fractions.specs.Fits.{sum_fits};
@@ -7,7 +7,7 @@ ghost use Rattle.linear_fold.specs.Coefs.{AddsAt, coef_in};
 ghost use Rattle.linear_fold.specs.Places.{AreZeros, place_in};
 
 use crate::coefficients::Coefficients;
-use crate::wide::Wide;
+use crate::too_wide::Wide;
 use exact_numbers::Frac;
 use std::alloc::{AllocError, Global};
 use std::marker::Model;
@@ -46,6 +46,17 @@ pub(crate) fn sum_of(a: Frac, b: Frac) -> Option<Frac>
 }
 
 impl Accumulator {
+    /// No places.
+    pub(crate) fn without_places(alloc: Global) -> Accumulator
+        ensures { AreZeros result }
+    {
+        Accumulator {
+            alloc,
+            places: Vec::new(alloc),
+            touched: Vec::new(alloc),
+        }
+    }
+
     /// So many places, which hold 0.
     pub(crate) fn new(alloc: Global, count: u32) -> Result<Accumulator, AllocError>
         ensures zeros { IfOk result (λ w. AreZeros w) }
@@ -122,6 +133,6 @@ impl Accumulator {
             places,
             touched,
         };
-        Ok((Coefficients::of_items(alloc, items), accumulator))
+        Ok((Coefficients::of_items(items), accumulator))
     }
 }

@@ -1,9 +1,9 @@
-// Terms that ascend by variable: as they stand, they are the coefficients of a closed form.
-ghost use Rattle.std.specs.Prelude.{◌≡◌, false, ◌+◌, ◌^◌, ◌≤◌, ◌↔◌, [], length, IfOk, IsTrue};
+// Terms that ascend by variable: as they stand, they are the coefficients of a form.
+ghost use Rattle.std.specs.Prelude.{◌≡◌, ◌+◌, ◌^◌, ◌≤◌, ◌↔◌, [], length, IfOk, IsTrue};
 ghost use Rattle.file_meaning.specs.Expressions.{linear_terms};
 ghost use Rattle.linear_fold.specs.Coefs.{AreStrictlyAscending, AreZeroTerms};
 ghost use Rattle.linear_fold.specs.Folds.{ComesToTerms};
-ghost use Rattle.linear_fold.specs.Forms.{form_line, form_terms, is_open};
+ghost use Rattle.linear_fold.specs.Forms.{form_line, form_terms};
 
 use crate::coefficients::Coefficients;
 use crate::entries::Entry;
@@ -42,16 +42,15 @@ pub(crate) fn are_zero(terms: &[(u32, Dec)]) -> bool
     true
 }
 
-/// The closed form of a number and of terms that ascend, of which the first has a number; a step
-/// for the number and for each term.
-pub(crate) fn closed_terms<L: Ledger>(
+/// The form of a number and of terms that ascend, of which the first has a number; a step for the
+/// number and for each term.
+pub(crate) fn form_of_ascending<L: Ledger>(
     alloc: Global,
     number: &Form,
     terms: &[(u32, Dec)],
     first: usize,
     steps: &mut Steps<L>,
 ) -> Result<Entry, AllocError>
-    requires closed { is_open number.now ≡ false }
     requires number { form_terms number.now ≡ [] }
     requires ascending { AreStrictlyAscending 0 (linear_terms terms.now) }
     requires first { first ≤ 2 ^ 22 }

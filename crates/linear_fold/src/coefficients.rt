@@ -1,18 +1,15 @@
-// The coefficients of a closed form: fractions, or the decimals of a file.
+// The coefficients of a form: fractions, or the decimals of a file.
 ghost use Rattle.std.specs.Prelude.{◌≡◌, ◌≢◌, ◌∷◌, ◌<◌, ◌^◌, ◌==◌, IfOk, IfSome, [], get_or, length};
 ghost use Rattle.exact_numbers.specs.Values.{frac_value};
 ghost use Rattle.fractions.specs.Rational.{zero_ℚ};
-ghost use Rattle.linear_fold.specs.Coefs.{AddsAt, AreAscending, AreDecimalsOf, coef_in};
+ghost use Rattle.linear_fold.specs.Coefs.{AreAscending, AreDecimalsOf};
 ghost use Rattle.linear_fold.specs.Decimals.{AreDecimals, fraction_terms};
 
 use crate::decimal_terms::DecimalTerms;
 use crate::fraction_terms::FractionTerms;
-use crate::wide::Wide;
 use exact_numbers::{Dec, Frac};
 use std::alloc::{AllocError, Global};
 use std::marker::Model;
-use std::mem;
-use text_base::Stop;
 
 /// Terms with fractions, or with decimals.
 #[derive(Drop)]
@@ -24,7 +21,6 @@ pub enum TermList {
 /// Coefficients that are not 0, ascending by variable.
 #[derive(Drop)]
 pub struct Coefficients {
-    alloc: Global,
     list: TermList,
 }
 
@@ -44,17 +40,15 @@ impl Coefficients {
         ensures { result ≡ [] }
     {
         Coefficients {
-            alloc,
             list: TermList::Fractions(FractionTerms::new(alloc)),
         }
     }
 
-    pub(crate) fn of_items(alloc: Global, items: Vec<(u32, Frac)>) -> Self
+    pub(crate) fn of_items(items: Vec<(u32, Frac)>) -> Self
         requires { AreAscending 0 items.items }
         ensures { result ≡ items.items }
     {
         Coefficients {
-            alloc,
             list: TermList::Fractions(FractionTerms::of_items(items)),
         }
     }
@@ -66,7 +60,6 @@ impl Coefficients {
     {
         let decimals = DecimalTerms::of_slice(alloc, terms)?;
         Ok(Coefficients {
-            alloc,
             list: TermList::Decimals(decimals),
         })
     }
@@ -78,7 +71,6 @@ impl Coefficients {
     {
         let terms = FractionTerms::of_term(alloc, variable, factor)?;
         Ok(Coefficients {
-            alloc,
             list: TermList::Fractions(terms),
         })
     }
@@ -146,39 +138,9 @@ impl Coefficients {
             TermList::Fractions(terms) => {
                 let mut items = Vec::with_capacity(alloc, terms.items().len())?;
                 items.extend_from_slice(terms.items())?;
-                Ok(Coefficients::of_items(alloc, items))
+                Ok(Coefficients::of_items(items))
             }
             TermList::Decimals(terms) => Coefficients::of_decimals(alloc, terms.items()),
         }
-    }
-
-    pub(crate) fn clear(&mut self)
-        ensures { self.new ≡ [] }
-    {
-        self.list = TermList::Fractions(FractionTerms::new(self.alloc));
-    }
-
-    // The terms with fractions; there are none left.
-    fn take_fractions(&mut self) -> Result<FractionTerms, AllocError>
-        ensures { IfOk result (λ c. c ≡ self.old) }
-    {
-        let none = TermList::Fractions(FractionTerms::new(self.alloc));
-        match mem::replace(&mut self.list, none) {
-            TermList::Fractions(terms) => Ok(terms),
-            TermList::Decimals(terms) => terms.fractions(self.alloc),
-        }
-    }
-
-    /// Adds a factor to the coefficient of a variable.
-    pub(crate) fn add(&mut self, variable: u32, factor: Frac) -> Result<(), Stop<Wide>>
-        ensures { AddsAt (coef_in self.old) variable (frac_value factor) (coef_in self.new) result }
-    {
-        let Ok(terms) = self.take_fractions() else {
-            return Err(Stop::Memory);
-        };
-        let mut terms = terms;
-        let added = terms.add(variable, factor);
-        self.list = TermList::Fractions(terms);
-        added
     }
 }

@@ -5,7 +5,7 @@ ghost use Rattle.exact_numbers.specs.Values.{frac_value};
 ghost use Rattle.fractions.specs.Fits.{fits};
 ghost use Rattle.fractions.specs.Functions.{absolute_of as absolute_in, exponent_of as exponent_in, floor_of as floor_in, greater_of, lesser_of, power_of as power_in};
 ghost use Rattle.fractions.specs.Rational.{whole as whole_number};
-ghost use Rattle.linear_fold.specs.Operates.{AreClosed, AreOperands, IsClosed, IsOperand, IsValueOf, Operates, lines_of_parts, part_line};
+ghost use Rattle.linear_fold.specs.Operates.{AreOperands, AreUnbroken, IsOperand, IsUnbroken, IsValueOf, Operates, lines_of_parts, part_line};
 
 use crate::operate::Outcome;
 use crate::parts::Part;
@@ -40,8 +40,8 @@ fn power_of(x: Frac, n: u32) -> Option<Frac>
 }
 
 pub(crate) fn power(a: &Part, b: &Part) -> Outcome
-    requires first { IsClosed a.now }
-    requires second { IsClosed b.now }
+    requires first { IsUnbroken a.now }
+    requires second { IsUnbroken b.now }
     ensures { (n : ℕ) → IsOperand n a.now → IsOperand n b.now
         → Operates n Power (part_line a.now ∷ part_line b.now ∷ []) result }
 {
@@ -81,7 +81,7 @@ fn greater(a: Frac, b: Frac) -> Frac
 // The least of constant forms; none where one is not constant.
 fn least_value(operands: &[Part]) -> Option<Frac>
     requires some { 0 < length operands.now }
-    requires closed { AreClosed (reverse operands.now) }
+    requires unbroken { AreUnbroken (reverse operands.now) }
     ensures { (n : ℕ) → AreOperands n (reverse operands.now) → IsValueOf n Least (reverse operands.now) result }
 {
     let last = operands.len() - 1;
@@ -100,7 +100,7 @@ fn least_value(operands: &[Part]) -> Option<Frac>
 // The greatest of constant forms; none where one is not constant.
 fn greatest_value(operands: &[Part]) -> Option<Frac>
     requires some { 0 < length operands.now }
-    requires closed { AreClosed (reverse operands.now) }
+    requires unbroken { AreUnbroken (reverse operands.now) }
     ensures { (n : ℕ) → AreOperands n (reverse operands.now) → IsValueOf n Greatest (reverse operands.now) result }
 {
     let last = operands.len() - 1;
@@ -118,7 +118,7 @@ fn greatest_value(operands: &[Part]) -> Option<Frac>
 
 pub(crate) fn least(operands: &[Part]) -> Outcome
     requires some { 0 < length operands.now }
-    requires closed { AreClosed (reverse operands.now) }
+    requires unbroken { AreUnbroken (reverse operands.now) }
     ensures { (n : ℕ) → AreOperands n (reverse operands.now)
         → Operates n Least (lines_of_parts (reverse operands.now)) result }
 {
@@ -130,7 +130,7 @@ pub(crate) fn least(operands: &[Part]) -> Outcome
 
 pub(crate) fn greatest(operands: &[Part]) -> Outcome
     requires some { 0 < length operands.now }
-    requires closed { AreClosed (reverse operands.now) }
+    requires unbroken { AreUnbroken (reverse operands.now) }
     ensures { (n : ℕ) → AreOperands n (reverse operands.now)
         → Operates n Greatest (lines_of_parts (reverse operands.now)) result }
 {
@@ -194,7 +194,7 @@ fn floor_of(x: Frac) -> Frac
 }
 
 pub(crate) fn floor(a: &Part) -> Outcome
-    requires { IsClosed a.now }
+    requires { IsUnbroken a.now }
     ensures { (n : ℕ) → IsOperand n a.now
         → Operates n Floor (part_line a.now ∷ []) result }
 {
@@ -205,7 +205,7 @@ pub(crate) fn floor(a: &Part) -> Outcome
 }
 
 pub(crate) fn ceiling(a: &Part) -> Outcome
-    requires { IsClosed a.now }
+    requires { IsUnbroken a.now }
     ensures { (n : ℕ) → IsOperand n a.now
         → Operates n Ceiling (part_line a.now ∷ []) result }
 {
@@ -229,7 +229,7 @@ fn absolute_of(x: Frac) -> Frac
 }
 
 pub(crate) fn absolute(a: &Part) -> Outcome
-    requires { IsClosed a.now }
+    requires { IsUnbroken a.now }
     ensures { (n : ℕ) → IsOperand n a.now
         → Operates n Absolute (part_line a.now ∷ []) result }
 {

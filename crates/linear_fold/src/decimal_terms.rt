@@ -1,8 +1,7 @@
 // Terms with decimals.
-ghost use Rattle.std.specs.Prelude.{◌≡◌, ◌<◌, IfOk, [], get_or, length};
+ghost use Rattle.std.specs.Prelude.{◌≡◌, ◌<◌, IfOk, get_or, length};
 ghost use Rattle.linear_fold.specs.Decimals.{AreDecimals, fraction_terms};
 
-use crate::fraction_terms::FractionTerms;
 use exact_numbers::{Dec, Frac};
 use std::alloc::{AllocError, Global};
 use std::marker::Model;
@@ -53,22 +52,5 @@ impl DecimalTerms {
             Some(fraction) => (variable, fraction),
             None => unreachable!(),
         }
-    }
-
-    // The terms with fractions.
-    pub(crate) fn fractions(&self, alloc: Global) -> Result<FractionTerms, AllocError>
-        ensures { IfOk result (λ c. c ≡ fraction_terms self.now) }
-    {
-        let mut items = Vec::with_capacity(alloc, self.items.len())?;
-        for place in 0..self.items.len() {
-            items.push(self.at(place))?;
-        }
-        Ok(FractionTerms::of_items(items))
-    }
-
-    pub(crate) fn clear(&mut self)
-        ensures { self.new ≡ [] }
-    {
-        self.items.clear();
     }
 }

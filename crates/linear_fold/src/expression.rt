@@ -1,5 +1,5 @@
 // Expressions folded to forms: a tree, which may be missing, and its linear terms.
-ghost use Rattle.std.specs.Prelude.{◌≡◌, true, ℕ, ◌+◌, ◌*◌, ◌^◌, ◌<◌, ◌≤◌, List, [], ◌∷◌, IfOk, IfSome, OnOk, OnErr, length, option_copied};
+ghost use Rattle.std.specs.Prelude.{◌≡◌, ℕ, ◌+◌, ◌*◌, ◌^◌, ◌<◌, ◌≤◌, List, [], ◌∷◌, IfOk, IfSome, OnOk, OnErr, length, option_copied};
 ghost use Rattle.std.specs.Option.{option_map_or};
 ghost use Rattle.text_base.specs.Stopped.{IfFault};
 ghost use Rattle.nl_meaning.specs.Lines.{Line};
@@ -8,13 +8,14 @@ ghost use Rattle.nl_model.specs.Nodes.{IsTreeFormed};
 ghost use Rattle.nl_model.specs.Rules.{AreTermsBelow};
 ghost use Rattle.file_meaning.specs.Expressions.{linear_term, linear_terms, tree_or_zero};
 ghost use Rattle.linear_fold.specs.Folds.{AddsTerms, AreKnown, AreSlotsWithin, ComesToTerms, IsEntryWithin, IsExpressionFolded, IsFolded, IsTreeGiven};
-ghost use Rattle.linear_fold.specs.Forms.{form_line, is_open, place_count};
-ghost use Rattle.linear_fold.specs.Operates.{IsBlank, IsWithin, StaysBlank};
+ghost use Rattle.linear_fold.specs.Forms.{IsWithin, form_line, place_count, sum_line};
+ghost use Rattle.linear_fold.specs.Operates.{IsBlank, StaysBlank};
 
-use crate::ascending::{are_ascending, are_zero, closed_terms};
+use crate::ascending::{are_ascending, are_zero, form_of_ascending};
 use crate::entries::Entry;
 use crate::fold::fold_tree;
 use crate::form::Form;
+use crate::sum::Sum;
 use exact_numbers::{Dec, Frac};
 use nl_meaning::{Fault, Reason};
 use nl_model::{Expr, Terms};
@@ -37,7 +38,7 @@ fn tree_entry<L: Ledger>(
     alloc: Global,
     tree: Option<&Expr>,
     slots: &[Option<Form>],
-    total: &mut Form,
+    total: &mut Sum,
     steps: &mut Steps<L>,
     variables: u32,
 ) -> Result<Entry, AllocError>
@@ -61,12 +62,10 @@ fn tree_entry<L: Ledger>(
 }
 
 // Adds a term, which has a number.
-fn add_one(total: &mut Form, variable: u32, factor: Dec, place: usize) -> Result<(), Stop<Fault>>
-    requires open { is_open total.old ≡ true }
-    requires below { variable < place_count total.old }
-    ensures adds { AddsTerms (form_line total.old) place (linear_term (variable, factor) ∷ [])
-        (form_line total.new) result }
-    ensures open { is_open total.new ≡ true }
+fn add_one(total: &mut Sum, variable: u32, factor: Dec, place: usize) -> Result<(), Stop<Fault>>
+    requires { variable < place_count total.old }
+    ensures adds { AddsTerms (sum_line total.old) place (linear_term (variable, factor) ∷ [])
+        (sum_line total.new) result }
     ensures places { place_count total.new ≡ place_count total.old }
 {
     let wide = Fault {
@@ -84,17 +83,15 @@ fn add_one(total: &mut Form, variable: u32, factor: Dec, place: usize) -> Result
 
 // Adds terms one by one, of which the first has a number; a step for each.
 fn add_linear_terms<L: Ledger>(
-    total: &mut Form,
+    total: &mut Sum,
     terms: &[(u32, Dec)],
     first: usize,
     steps: &mut Steps<L>,
 ) -> Result<(), Stop<Fault>>
-    requires open { is_open total.old ≡ true }
     requires below { AreTermsBelow (place_count total.old) terms.now }
     requires first { first ≤ 2 ^ 22 }
-    ensures adds { AddsTerms (form_line total.old) first (linear_terms terms.now)
-        (form_line total.new) result }
-    ensures open { is_open total.new ≡ true }
+    ensures adds { AddsTerms (sum_line total.old) first (linear_terms terms.now)
+        (sum_line total.new) result }
     ensures places { place_count total.new ≡ place_count total.old }
     ensures above { steps.old ≤ steps.new }
     ensures below { steps.new ≤ steps.old + length terms.now }
@@ -109,12 +106,11 @@ fn add_linear_terms<L: Ledger>(
     Ok(())
 }
 
-// Puts a form on an open form that is 0.
-fn put<L: Ledger>(total: &mut Form, form: &Form, steps: &mut Steps<L>) -> Result<(), AllocError>
+// Adds a form to a sum that is 0.
+fn put<L: Ledger>(total: &mut Sum, form: &Form, steps: &mut Steps<L>) -> Result<(), AllocError>
     requires blank { IsBlank total.old }
     requires within { IsWithin (place_count total.old) form.now }
-    ensures line { OnOk result (form_line total.new ≡ form_line form.now) }
-    ensures open { is_open total.new ≡ true }
+    ensures line { OnOk result (sum_line total.new ≡ form_line form.now) }
     ensures places { place_count total.new ≡ place_count total.old }
     ensures above { steps.old ≤ steps.new }
     ensures below { steps.new ≤ steps.old + (place_count total.old + 1) }
@@ -126,17 +122,16 @@ fn put<L: Ledger>(total: &mut Form, form: &Form, steps: &mut Steps<L>) -> Result
     }
 }
 
-// The entry of a sum that lies on an open form, which is 0 again.
+// The entry of a sum, which is 0 again.
 fn entry_of_sum(
     alloc: Global,
-    total: &mut Form,
+    total: &mut Sum,
     summed: Result<(), Stop<Fault>>,
 ) -> Result<Entry, AllocError>
-    requires open { is_open total.old ≡ true }
     ensures blank { OnOk result (StaysBlank total.old total.new) }
     ensures entry { IfOk result
         (λ e. (a : Line) (i : ℕ) (ts : List LinearTerm)
-        → AddsTerms a i ts (form_line total.old) summed → ComesToTerms a i ts e) }
+        → AddsTerms a i ts (sum_line total.old) summed → ComesToTerms a i ts e) }
 {
     match summed {
         Ok(()) => {
@@ -157,7 +152,7 @@ fn summed_terms<L: Ledger>(
     form: &Form,
     terms: &[(u32, Dec)],
     first: usize,
-    total: &mut Form,
+    total: &mut Sum,
     steps: &mut Steps<L>,
 ) -> Result<Entry, AllocError>
     requires blank { IsBlank total.old }
@@ -181,7 +176,7 @@ fn with_terms<L: Ledger>(
     form: &Form,
     terms: &[(u32, Dec)],
     first: usize,
-    total: &mut Form,
+    total: &mut Sum,
     steps: &mut Steps<L>,
 ) -> Result<Entry, AllocError>
     requires blank { IsBlank total.old }
@@ -195,7 +190,7 @@ fn with_terms<L: Ledger>(
     ensures below { steps.new ≤ steps.old + (place_count total.old + 1) + length terms.now }
 {
     if form.listed().is_empty() && are_ascending(terms) {
-        return closed_terms(alloc, form, terms, first, steps);
+        return form_of_ascending(alloc, form, terms, first, steps);
     }
     summed_terms(alloc, form, terms, first, total, steps)
 }
@@ -206,7 +201,7 @@ fn sum_entry<L: Ledger>(
     entry: Entry,
     terms: &[(u32, Dec)],
     first: usize,
-    total: &mut Form,
+    total: &mut Sum,
     steps: &mut Steps<L>,
     variables: u32,
 ) -> Result<Entry, AllocError>
@@ -242,7 +237,7 @@ pub(crate) fn fold_expression<L: Ledger>(
     tree: Option<&Expr>,
     terms: &Terms,
     slots: &[Option<Form>],
-    total: &mut Form,
+    total: &mut Sum,
     steps: &mut Steps<L>,
     variables: u32,
 ) -> Result<Entry, AllocError>

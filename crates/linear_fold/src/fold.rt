@@ -10,6 +10,7 @@ use crate::entries::Entry;
 use crate::form::Form;
 use crate::operate::{self, Outcome};
 use crate::parts::{Part, first_fault};
+use crate::sum::Sum;
 use code_tables::{OpClass, class_of};
 use exact_numbers::{Dec, Frac};
 use nl_meaning::{Fault, Reason};
@@ -71,7 +72,7 @@ fn operation_part<L: Ledger>(
     class: OpClass,
     operands: &[Part],
     place: usize,
-    total: &mut Form,
+    total: &mut Sum,
     steps: &mut Steps<L>,
     variables: u32,
 ) -> Result<Part, AllocError>
@@ -105,7 +106,7 @@ fn part_of<L: Ledger>(
     place: usize,
     stack: &mut Vec<Part>,
     slots: &[Option<Form>],
-    total: &mut Form,
+    total: &mut Sum,
     steps: &mut Steps<L>,
     variables: u32,
 ) -> Result<Part, AllocError>
@@ -149,7 +150,7 @@ pub(crate) fn fold_tree<L: Ledger>(
     alloc: Global,
     nodes: &[Node],
     slots: &[Option<Form>],
-    total: &mut Form,
+    total: &mut Sum,
     steps: &mut Steps<L>,
     variables: u32,
 ) -> Result<Entry, AllocError>

@@ -17,14 +17,14 @@ mod fraction_terms;
 mod linear;
 mod operate;
 mod owners;
-mod pad;
 mod parts;
 mod program;
-mod wide;
+mod sum;
+mod too_wide;
 
 pub use fold_fault::FoldFault;
 pub use form::{Form, FormTerms};
 pub use linear::Linear;
-pub use pad::Pad;
 pub use program::fold_all;
-pub use wide::Wide;
+pub use sum::Sum;
+pub use too_wide::Wide;

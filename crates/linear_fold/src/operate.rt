@@ -1,17 +1,18 @@
 // The operators on forms.
-ghost use Rattle.std.specs.Prelude.{◌≡◌, false, Bool, ◌+◌, ◌*◌, ◌≤◌, [], ◌∷◌, true, IfOk, OnOk, OnErr, length, ℕ, ◌<◌, reverse};
+ghost use Rattle.std.specs.Prelude.{◌≡◌, Bool, ◌+◌, ◌*◌, ◌≤◌, [], ◌∷◌, IfOk, OnOk, OnErr, length, ℕ, ◌<◌, reverse};
 ghost use Rattle.code_tables.specs.declared.class.OpClass.TheVariants.{Difference, Product, Quotient, Negation};
 ghost use Rattle.exact_numbers.specs.Values.{frac_value};
 ghost use Rattle.nl_meaning.specs.Faults.{constant_line, line_neg, line_scaled, line_sum, products_fit, running_line, running_sums_fit, sums_fit};
 ghost use Rattle.nl_meaning.specs.Lines.{Line};
 ghost use Rattle.nl_meaning.specs.Trees.{HasCount};
-ghost use Rattle.linear_fold.specs.Forms.{AddsScaled, form_line, is_open, place_count};
-ghost use Rattle.linear_fold.specs.Operates.{AreOperands, ComesTo, IsBlank, IsOperand, IsSound, IsWithin, Operates, StaysBlank, SumsTo, lines_of_parts, multiple_line, part_line, zero_line};
+ghost use Rattle.linear_fold.specs.Forms.{AddsScaled, IsWithin, form_line, place_count, sum_line};
+ghost use Rattle.linear_fold.specs.Operates.{AreOperands, ComesTo, IsBlank, IsOperand, IsSound, Operates, StaysBlank, SumsTo, lines_of_parts, multiple_line, part_line, zero_line};
 
 use crate::constants;
 use crate::form::Form;
 use crate::parts::Part;
-use crate::wide::Wide;
+use crate::sum::Sum;
+use crate::too_wide::Wide;
 use code_tables::OpClass;
 use exact_numbers::Frac;
 use nl_meaning::Reason;
@@ -25,21 +26,19 @@ pub enum Outcome {
     Refused(Reason),
 }
 
-// Adds k times a factor times a variable to an open form; a step for the constant, which is 0, and
+// Adds k times a factor times a variable to a sum; a step for the constant, which is 0, and
 // for the term.
 fn add_variable<L: Ledger>(
-    total: &mut Form,
+    total: &mut Sum,
     variable: u32,
     factor: Frac,
     k: Frac,
     steps: &mut Steps<L>,
 ) -> Result<(), Stop<Wide>>
-    requires open { is_open total.old ≡ true }
     requires below { variable < place_count total.old }
-    ensures sums { AddsScaled (form_line total.old) (frac_value k)
-        (multiple_line variable (frac_value factor)) (form_line total.new) result }
-    ensures zero { OnErr result (form_line total.new ≡ zero_line) }
-    ensures open { is_open total.new ≡ true }
+    ensures sums { AddsScaled (sum_line total.old) (frac_value k)
+        (multiple_line variable (frac_value factor)) (sum_line total.new) result }
+    ensures zero { OnErr result (sum_line total.new ≡ zero_line) }
     ensures places { place_count total.new ≡ place_count total.old }
     ensures counted { steps.new ≡ steps.old + 2 }
 {
@@ -58,20 +57,18 @@ fn add_variable<L: Ledger>(
     }
 }
 
-// Adds k times an operand to an open form.
+// Adds k times an operand to a sum.
 fn add_part<L: Ledger>(
     alloc: Global,
-    total: &mut Form,
+    total: &mut Sum,
     part: &Part,
     k: Frac,
     steps: &mut Steps<L>,
 ) -> Result<(), Stop<Wide>>
-    requires open { is_open total.old ≡ true }
-    requires within { IsOperand (place_count total.old) part.now }
-    ensures sums { AddsScaled (form_line total.old) (frac_value k) (part_line part.now)
-        (form_line total.new) result }
-    ensures zero { OnErr result (form_line total.new ≡ zero_line) }
-    ensures open { is_open total.new ≡ true }
+    requires { IsOperand (place_count total.old) part.now }
+    ensures sums { AddsScaled (sum_line total.old) (frac_value k) (part_line part.now)
+        (sum_line total.new) result }
+    ensures zero { OnErr result (sum_line total.new ≡ zero_line) }
     ensures places { place_count total.new ≡ place_count total.old }
     ensures above { steps.old ≤ steps.new }
     ensures below { steps.new ≤ steps.old + (place_count total.old + 1) }
@@ -84,10 +81,10 @@ fn add_part<L: Ledger>(
     }
 }
 
-// Adds operands to an open form that is 0, from the first, which is the last of the list.
+// Adds operands to a sum that is 0, from the first, which is the last of the list.
 fn add_all<L: Ledger>(
     alloc: Global,
-    total: &mut Form,
+    total: &mut Sum,
     operands: &[Part],
     steps: &mut Steps<L>,
 ) -> Result<(), Stop<Wide>>
@@ -95,10 +92,9 @@ fn add_all<L: Ledger>(
     requires within { AreOperands (place_count total.old) (reverse operands.now) }
     ensures sums { SumsTo
         (running_sums_fit (place_count total.old) zero_line (lines_of_parts (reverse operands.now)))
-        (running_line zero_line (lines_of_parts (reverse operands.now))) (form_line total.new)
+        (running_line zero_line (lines_of_parts (reverse operands.now))) (sum_line total.new)
         result }
-    ensures zero { OnErr result (form_line total.new ≡ zero_line) }
-    ensures open { is_open total.new ≡ true }
+    ensures zero { OnErr result (sum_line total.new ≡ zero_line) }
     ensures places { place_count total.new ≡ place_count total.old }
     ensures above { steps.old ≤ steps.new }
     ensures below { steps.new ≤ steps.old + (place_count total.old + 1) * length operands.now }
@@ -112,10 +108,10 @@ fn add_all<L: Ledger>(
     Ok(())
 }
 
-// Adds a difference to an open form that is 0.
+// Adds a difference to a sum that is 0.
 fn add_difference<L: Ledger>(
     alloc: Global,
-    total: &mut Form,
+    total: &mut Sum,
     a: &Part,
     b: &Part,
     steps: &mut Steps<L>,
@@ -125,9 +121,8 @@ fn add_difference<L: Ledger>(
     requires second { IsOperand (place_count total.old) b.now }
     ensures sums { SumsTo
         (sums_fit (place_count total.old) (part_line a.now) (line_neg (part_line b.now)))
-        (line_sum (part_line a.now) (line_neg (part_line b.now))) (form_line total.new) result }
-    ensures zero { OnErr result (form_line total.new ≡ zero_line) }
-    ensures open { is_open total.new ≡ true }
+        (line_sum (part_line a.now) (line_neg (part_line b.now))) (sum_line total.new) result }
+    ensures zero { OnErr result (sum_line total.new ≡ zero_line) }
     ensures places { place_count total.new ≡ place_count total.old }
     ensures above { steps.old ≤ steps.new }
     ensures below { steps.new ≤ steps.old + (place_count total.old + 1) * 2 }
@@ -138,9 +133,9 @@ fn add_difference<L: Ledger>(
     }
 }
 
-// Adds k times a form to an open form that is 0.
+// Adds k times a form to a sum that is 0.
 fn add_multiple<L: Ledger>(
-    total: &mut Form,
+    total: &mut Sum,
     a: &Form,
     k: Frac,
     steps: &mut Steps<L>,
@@ -148,9 +143,8 @@ fn add_multiple<L: Ledger>(
     requires blank { IsBlank total.old }
     requires within { IsWithin (place_count total.old) a.now }
     ensures sums { SumsTo (products_fit (place_count total.old) (frac_value k) (form_line a.now))
-        (line_scaled (frac_value k) (form_line a.now)) (form_line total.new) result }
-    ensures zero { OnErr result (form_line total.new ≡ zero_line) }
-    ensures open { is_open total.new ≡ true }
+        (line_scaled (frac_value k) (form_line a.now)) (sum_line total.new) result }
+    ensures zero { OnErr result (sum_line total.new ≡ zero_line) }
     ensures places { place_count total.new ≡ place_count total.old }
     ensures above { steps.old ≤ steps.new }
     ensures below { steps.new ≤ steps.old + (place_count total.old + 1) }
@@ -158,17 +152,16 @@ fn add_multiple<L: Ledger>(
     total.add_scaled(a, k, steps)
 }
 
-// The closed form of a sum that lies on an open form, which is 0 again.
+// The form of a sum, which is 0 again, where all was added.
 fn outcome_of(
     alloc: Global,
-    total: &mut Form,
+    total: &mut Sum,
     summed: Result<(), Stop<Wide>>,
 ) -> Result<Outcome, AllocError>
-    requires open { is_open total.old ≡ true }
-    requires zero { OnErr summed (form_line total.old ≡ zero_line) }
+    requires { OnErr summed (sum_line total.old ≡ zero_line) }
     ensures blank { OnOk result (StaysBlank total.old total.new) }
     ensures outcome { IfOk result
-        (λ o. (n : ℕ) (fit : Bool) (sum : Line) → SumsTo fit sum (form_line total.old) summed
+        (λ o. (n : ℕ) (fit : Bool) (sum : Line) → SumsTo fit sum (sum_line total.old) summed
         → ComesTo n fit sum o) }
 {
     match summed {
@@ -185,7 +178,7 @@ fn outcome_of(
 pub(crate) fn sum_of_all<L: Ledger>(
     alloc: Global,
     operands: &[Part],
-    total: &mut Form,
+    total: &mut Sum,
     steps: &mut Steps<L>,
 ) -> Result<Outcome, AllocError>
     requires blank { IsBlank total.old }
@@ -206,7 +199,7 @@ fn difference<L: Ledger>(
     alloc: Global,
     a: &Part,
     b: &Part,
-    total: &mut Form,
+    total: &mut Sum,
     steps: &mut Steps<L>,
 ) -> Result<Outcome, AllocError>
     requires blank { IsBlank total.old }
@@ -223,12 +216,12 @@ fn difference<L: Ledger>(
     outcome_of(alloc, total, summed)
 }
 
-// k times a closed form.
+// k times a form.
 fn scaled_form<L: Ledger>(
     alloc: Global,
     a: &Form,
     k: Frac,
-    total: &mut Form,
+    total: &mut Sum,
     steps: &mut Steps<L>,
 ) -> Result<Outcome, AllocError>
     requires blank { IsBlank total.old }
@@ -280,7 +273,7 @@ pub(crate) fn scaled<L: Ledger>(
     alloc: Global,
     a: &Part,
     k: Frac,
-    total: &mut Form,
+    total: &mut Sum,
     steps: &mut Steps<L>,
 ) -> Result<Outcome, AllocError>
     requires blank { IsBlank total.old }
@@ -310,7 +303,7 @@ pub(crate) fn scaled<L: Ledger>(
 fn negated<L: Ledger>(
     alloc: Global,
     a: &Part,
-    total: &mut Form,
+    total: &mut Sum,
     steps: &mut Steps<L>,
 ) -> Result<Outcome, AllocError>
     requires blank { IsBlank total.old }
@@ -328,7 +321,7 @@ fn product<L: Ledger>(
     alloc: Global,
     a: &Part,
     b: &Part,
-    total: &mut Form,
+    total: &mut Sum,
     steps: &mut Steps<L>,
 ) -> Result<Outcome, AllocError>
     requires blank { IsBlank total.old }
@@ -353,7 +346,7 @@ fn quotient<L: Ledger>(
     alloc: Global,
     a: &Part,
     b: &Part,
-    total: &mut Form,
+    total: &mut Sum,
     steps: &mut Steps<L>,
 ) -> Result<Outcome, AllocError>
     requires blank { IsBlank total.old }
@@ -395,7 +388,7 @@ pub(crate) fn operate<L: Ledger>(
     alloc: Global,
     class: OpClass,
     operands: &[Part],
-    total: &mut Form,
+    total: &mut Sum,
     steps: &mut Steps<L>,
 ) -> Result<Outcome, AllocError>
     requires count { HasCount class (length operands.now) }

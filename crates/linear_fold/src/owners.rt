@@ -8,13 +8,14 @@ ghost use Rattle.file_meaning.specs.FoldFaults.{most_coefficients};
 ghost use Rattle.linear_fold.specs.declared.fold_fault.FoldFault.TheVariants.{FoldTooLarge};
 ghost use Rattle.linear_fold.specs.FoldedFaults.{HasFaultPlace, fault_for, place_after};
 ghost use Rattle.linear_fold.specs.Coefs.{AreAscending};
-ghost use Rattle.linear_fold.specs.Forms.{form_terms, is_open};
+ghost use Rattle.linear_fold.specs.Forms.{form_terms};
 ghost use Rattle.linear_fold.specs.OwnerFolds.{AreOwnersFolded, HasFolded, HasOwner, IsFormOf, definitions_before, owned_at, owner_size};
 
 use crate::entries::Entry;
 use crate::expression::{fold_expression, node_count};
 use crate::fold_fault::FoldFault;
 use crate::form::Form;
+use crate::sum::Sum;
 use nl_meaning::{Fault, Reason};
 use nl_model::{At, Expr, NlFile, Owner, Terms};
 use std::alloc::Global;
@@ -23,13 +24,13 @@ use text_base::{Ledger, Steps, Stop};
 // The most coefficients of a folded file.
 const MOST_COEFFICIENTS: usize = 0x80_0000;
 
-/// What folding a file keeps: the forms of defined variables, an open form that is 0, and the
-/// coefficients so far.
+/// What folding a file keeps: the forms of defined variables, a sum that is 0, and the coefficients
+/// so far.
 #[derive(Drop)]
 pub(crate) struct Folder {
     pub(crate) alloc: Global,
     pub(crate) slots: Vec<Option<Form>>,
-    pub(crate) total: Form,
+    pub(crate) total: Sum,
     pub(crate) count: usize,
     pub(crate) variables: u32,
 }
@@ -78,8 +79,7 @@ fn fault_of(owner: Owner, nodes: usize, fault: Fault) -> FoldFault
 
 // The coefficients with those of the form of an owner, where they are not too many.
 fn count_with(count: usize, owner: Owner, form: &Form) -> Result<usize, FoldFault>
-    requires few { count ≤ most_coefficients }
-    requires closed { is_open form.now ≡ false }
+    requires { count ≤ most_coefficients }
     ensures count { IfOk result (λ total. total ≡ count + length (form_terms form.now)) }
     ensures few { IfOk result (λ total. total ≤ most_coefficients) }
     ensures fault { IfErr result (λ fault. fault ≡ FoldTooLarge (Head owner)) }

@@ -1,11 +1,11 @@
 // What the parts of a tree come to. A number, and a factor times a variable, are no forms yet: they allocate nothing.
-ghost use Rattle.std.specs.Prelude.{◌≡◌, ◌∷◌, List, ℕ, false, IfOk, IfSome, is_some, reverse};
+ghost use Rattle.std.specs.Prelude.{◌≡◌, ◌∷◌, List, ℕ, IfOk, IfSome, is_some, reverse};
 ghost use Rattle.exact_numbers.specs.Values.{frac_value};
 ghost use Rattle.fractions.specs.Rational.{zero_ℚ};
 ghost use Rattle.nl_meaning.specs.Lines.{is_constant, is_zero};
-ghost use Rattle.linear_fold.specs.Forms.{IsZeroFrom, form_line, is_open};
+ghost use Rattle.linear_fold.specs.Forms.{IsWithin, form_line};
 ghost use Rattle.linear_fold.specs.Folds.{IsEntryOf, first_broken};
-ghost use Rattle.linear_fold.specs.Operates.{IsClosed, IsOperand, multiple_line, part_line};
+ghost use Rattle.linear_fold.specs.Operates.{IsOperand, IsUnbroken, multiple_line, part_line};
 
 use crate::coefficients::Coefficients;
 use crate::entries::Entry;
@@ -46,11 +46,10 @@ pub(crate) fn first_fault(operands: &[Part]) -> Option<Fault>
     broken
 }
 
-// The constant of a closed form without coefficients.
+// The constant of a form without coefficients.
 fn constant_of(form: &Form) -> Option<Frac>
-    requires { is_open form.now ≡ false }
     ensures value { IfSome result (λ f. frac_value f ≡ (form_line form.now).constant) }
-    ensures test { (n : ℕ) → IsZeroFrom n (form_line form.now)
+    ensures test { (n : ℕ) → IsWithin n form.now
         → is_some result ≡ is_constant n (form_line form.now) }
 {
     if form.is_constant() {
@@ -68,10 +67,9 @@ fn constant_of_multiple(factor: Frac) -> Option<Frac>
     if factor.is_zero() { Some(factor) } else { None }
 }
 
-// A factor times a variable, as a closed form.
+// A factor times a variable, as a form.
 fn form_of_multiple(alloc: Global, variable: u32, factor: Frac) -> Result<Form, AllocError>
-    ensures line { IfOk result (λ f. form_line f ≡ multiple_line variable (frac_value factor)) }
-    ensures closed { IfOk result (λ f. is_open f ≡ false) }
+    ensures { IfOk result (λ f. form_line f ≡ multiple_line variable (frac_value factor)) }
 {
     let zero = Form::new(alloc);
     if factor.is_zero() {
@@ -84,7 +82,7 @@ fn form_of_multiple(alloc: Global, variable: u32, factor: Frac) -> Result<Form, 
 impl Part {
     /// The value of a part that is constant.
     pub(crate) fn constant(&self) -> Option<Frac>
-        requires { IsClosed self.now }
+        requires { IsUnbroken self.now }
         ensures value { IfSome result (λ f. frac_value f ≡ (part_line self.now).constant) }
         ensures test { (n : ℕ) → IsOperand n self.now
             → is_some result ≡ is_constant n (part_line self.now) }

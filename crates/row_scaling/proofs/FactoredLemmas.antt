@@ -1,5 +1,5 @@
 -- A row times its least factor.
-use Rattle.std.proofs.Common.{◌≡◌, ◌≢◌, ℕ, ◌<◌, ◌^◌, ◌∙◌, sym, ap, ap₂, refl, subst, arith, false, List, ◌++◌, IsTrue, ℤ, pos, unsigned_abs, Option, Some, None}
+use Rattle.std.proofs.Common.{◌≡◌, ◌≢◌, ℕ, ◌<◌, ◌^◌, ◌∙◌, sym, ap, ap₂, refl, subst, arith, List, ◌++◌, IsTrue, ℤ, pos, unsigned_abs, Option, Some, None}
 use Rattle.std.proofs.lemmas.Int.{ints}
 use Rattle.fractions.specs.Rational.{ℚ, zero_ℚ, whole, ◌*ℚ◌}
 use Rattle.fractions.proofs.Arithmetic.{same_whole}
@@ -15,8 +15,8 @@ use Rattle.file_meaning.specs.LinearFile.{coefficient_of}
 use Rattle.linear_programs.specs.Names.{row_name}
 use Rattle.linear_fold.specs.Coefs.{AreAscending, AreBelow}
 use Rattle.linear_fold.specs.declared.form.Form.{Form}
-use Rattle.linear_fold.specs.Forms.{form_line, form_terms, is_open}
-use Rattle.linear_fold.specs.declared.wide.Wide.{Wide}
+use Rattle.linear_fold.specs.Forms.{form_line, form_terms}
+use Rattle.linear_fold.specs.declared.too_wide.Wide.{Wide}
 use Rattle.text_base.specs.Stopped.{IfFault}
 use Rattle.text_base.specs.declared.stop.Stop.{Stop}
 use Rattle.text_base.specs.declared.stop.Stop.TheVariants.{Fault, Memory}
@@ -24,7 +24,6 @@ use Rattle.row_scaling.specs.Exported.{scaled_row_of}
 use Rattle.row_scaling.specs.Factored.{IsFactored, row_for, factor_for}
 use Rattle.row_scaling.specs.Fitting.{coefficients_in, listed, less_side, times_side, LessFits, AreSidesFit, AreTermsTimes}
 use Rattle.row_scaling.specs.Rows.{TermOf, RowValue, IsScaledRow, side_value}
-use Rattle.row_scaling.proofs.FitLemmas.{kept_coefficient}
 use Rattle.row_scaling.proofs.RowFitLemmas.{same_multiplier, same_numbers, all_fit, times_less}
 use Rattle.row_scaling.proofs.TermLemmas.{times_fit, times_below, times_sparse, times_coefficient}
 
@@ -52,7 +51,7 @@ is_scaled q c l u lo hi b us d m e f some up sided times first second range =
       range = range;
     }
 
-module _ (n i : ℕ) (b : Form) (s : Interval) (closed : is_open b ≡ false) (up : AreAscending 0 (form_terms b)) (below : AreBelow n (form_terms b)) (lo hi : Option ℚ)
+module _ (n i : ℕ) (b : Form) (s : Interval) (up : AreAscending 0 (form_terms b)) (below : AreBelow n (form_terms b)) (lo hi : Option ℚ)
     (e : lo ≡ less_side (form_line b).constant (side_value s.lo)) (f : hi ≡ less_side (form_line b).constant (side_value s.hi))
     (q : ℚ) (g : q ≡ whole (pos (least_factor (coefficients_in (form_terms b) ++ listed lo ++ listed hi)))) where
   same_row : (v : RowValue) → AreTermsTimes q (form_terms b) v.terms → side_value v.side.lo ≡ times_side q lo → side_value v.side.hi ≡ times_side q hi → scaled_row_of i v ≡ scaled_row (factor_for n (row_for i b s)) (row_for i b s)
@@ -60,9 +59,9 @@ module _ (n i : ℕ) (b : Form) (s : Interval) (closed : is_open b ≡ false) (u
       let c = (form_line b).constant in
       let k = factor_for n (row_for i b s) in
       let w = whole (pos k) in
-      let same = same_multiplier n i b s closed up below lo hi e f q g in
+      let same = same_multiplier n i b s up below lo hi e f q g in
       let coefficient : (j : ℕ) → coefficient_of v.terms j ≡ w *ℚ (form_line b).coef j =
-      λ j. times_coefficient q 0 (form_terms b) v.terms times up j ∙ ap₂ (λ x y. x *ℚ y) same (sym (kept_coefficient b.kept j closed)) in
+      λ j. times_coefficient q 0 (form_terms b) v.terms times up j ∙ ap (λ x. x *ℚ (form_line b).coef j) same in
       let lower : side_value v.side.lo ≡ scaled_side w c (side_value s.lo) = first ∙ ap₂ times_side same e ∙ times_less w c (side_value s.lo) in
       let upper : side_value v.side.hi ≡ scaled_side w c (side_value s.hi) = second ∙ ap₂ times_side same f ∙ times_less w c (side_value s.hi) in
       λ t. record { name = row_name i; coefficient = λ j. coefficient j t; side = record { lower = lower t; upper = upper t } }
@@ -74,8 +73,8 @@ module _ (n i : ℕ) (b : Form) (s : Interval) (closed : is_open b ≡ false) (u
   factored z x v is factor less_lo less_hi sides scaled times first second =
       let xs = coefficients_in (form_terms b) ++ listed lo ++ listed hi in
       record {
-        fits = all_fit n i b s closed up below lo hi e f q g less_lo less_hi (fraction_small x (least_factor xs) (is ∙ g)) sides (times_fit q (form_terms b) v.terms times);
-        factor = factor ∙ ap pos (sym (same_numbers n i b s closed up below lo hi e f));
+        fits = all_fit n i b s up below lo hi e f q g less_lo less_hi (fraction_small x (least_factor xs) (is ∙ g)) sides (times_fit q (form_terms b) v.terms times);
+        factor = factor ∙ ap pos (sym (same_numbers n i b s up below lo hi e f));
         scaled = same_row v times first second;
         over = record { row = scaled; below = times_below q n (form_terms b) v.terms times below };
       }

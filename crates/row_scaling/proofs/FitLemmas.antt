@@ -1,5 +1,5 @@
 -- What holds of the numbers of a form, by its coefficients and by its terms.
-use Rattle.std.proofs.Common.{◌≡◌, ◌≢◌, ℕ, zero, suc, ◌<◌, ◌≤◌, ◌∙◌, sym, ap, refl, subst, arith, ⊎_elim, false, List, [], ◌∷◌, ◌++◌, All, pos, length-append}
+use Rattle.std.proofs.Common.{◌≡◌, ◌≢◌, ℕ, zero, suc, ◌<◌, ◌≤◌, ◌∙◌, sym, ap, refl, subst, arith, ⊎_elim, List, [], ◌∷◌, ◌++◌, All, pos, length-append}
 use Rattle.std.proofs.Math.ListN.{get_or-append}
 use Rattle.std.proofs.lemmas.Bool.{cases_eq, cases_lt}
 use Rattle.std.proofs.lemmas.List.Elements.{All-nil, All-cons, All-head, All-tail, All-push}
@@ -11,9 +11,6 @@ use Rattle.exported_program.proofs.Factor.{factor_multiples}
 use Rattle.exact_numbers.specs.Values.{frac_value}
 use Rattle.linear_fold.specs.Coefs.{Term, coef_in, value_or_zero, AreAscending, AreBelow}
 use Rattle.linear_fold.proofs.CoefLemmas.{found_same, found_apart}
-use Rattle.linear_fold.specs.declared.form.Kept.{Kept}
-use Rattle.linear_fold.specs.declared.form.Kept.TheVariants.{Closed, Open}
-use Rattle.linear_fold.specs.Forms.{kept_coef, kept_terms, is_kept_open}
 use Rattle.row_scaling.specs.Fitting.{coefficients_in}
 use Rattle.row_scaling.proofs.SharedLemmas.{zero_decimal}
 
@@ -51,17 +48,13 @@ module _ (P : ℚ → Type 0) where
       All-cons P (frac_value t.1) (coefficients_in ts) (subst P (ap value_or_zero (found_same t ts t.0 refl)) (h t.0 a.0 b.0))
       (terms_of n (suc t.0) ts a.2 b.1 (λ j l k. subst P (ap value_or_zero (found_apart t ts j (λ e. omega (arith, e, l)))) (h j (omega (arith, a.0, l)) k)))
 
-pub kept_coefficient : (k : Kept) (j : ℕ) → is_kept_open k ≡ false → kept_coef k j ≡ coef_in (kept_terms k) j
-kept_coefficient (Closed ts) j e = refl
-kept_coefficient (Open ps) j e = cc
+-- the numbers of terms of n variables, by their coefficients and by the terms
+module _ (n : ℕ) (ts : List Term) (up : AreAscending 0 ts) (below : AreBelow n ts) where
+  pub to_terms : (P : ℚ → Type 0) → All P (coefficients_below (coef_in ts) n) → All P (coefficients_in ts)
+  to_terms P h = terms_of P n 0 ts up below (λ j l m. of_below P (coef_in ts) n h j m)
 
--- the numbers of a kept list of n variables, by its coefficients and by its terms
-module _ (n : ℕ) (k : Kept) (closed : is_kept_open k ≡ false) (up : AreAscending 0 (kept_terms k)) (below : AreBelow n (kept_terms k)) where
-  pub to_terms : (P : ℚ → Type 0) → All P (coefficients_below (kept_coef k) n) → All P (coefficients_in (kept_terms k))
-  to_terms P h = terms_of P n 0 (kept_terms k) up below (λ j l m. subst P (kept_coefficient k j closed) (of_below P (kept_coef k) n h j m))
-
-  pub from_terms : (P : ℚ → Type 0) → P zero_ℚ → All P (coefficients_in (kept_terms k)) → All P (coefficients_below (kept_coef k) n)
-  from_terms P z h = below_of P (kept_coef k) n (λ j l. subst P (sym (kept_coefficient k j closed)) (of_terms P z (kept_terms k) h j))
+  pub from_terms : (P : ℚ → Type 0) → P zero_ℚ → All P (coefficients_in ts) → All P (coefficients_below (coef_in ts) n)
+  from_terms P z h = below_of P (coef_in ts) n (λ j l. of_terms P z ts h j)
 
 -- ---- equal factors
 abbrev pub Finite : ℕ → ℚ → Type 0

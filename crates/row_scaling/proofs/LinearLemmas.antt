@@ -16,7 +16,7 @@ use Rattle.nl_model.specs.declared.interval.Interval.{Interval}
 use Rattle.nl_model.specs.declared.kind.Kind.{Kind}
 use Rattle.linear_fold.specs.Coefs.{AreBelow}
 use Rattle.linear_fold.specs.declared.form.Form.{Form}
-use Rattle.linear_fold.specs.Forms.{form_terms, is_open}
+use Rattle.linear_fold.specs.Forms.{form_terms}
 use Rattle.linear_fold.specs.Programs.{LinearValue, IsLinear, IsFormOver, linear_value, rows_from, variables_from}
 use Rattle.row_scaling.specs.declared.row.FactoredRow.{FactoredRow}
 use Rattle.row_scaling.specs.declared.scale_fault.ScaleFault.{ScaleFault}
@@ -60,11 +60,8 @@ module _ (l : LinearValue) (is : IsLinear l) where
     form_over : IsFormOver (length l.bounds) b
     form_over = subst (IsFormOver (length l.bounds)) (sym e) (is.bodies i b h)
 
-    pub body_closed : is_open b ≡ false
-    body_closed = form_over.closed
-
     body_below : AreBelow (variable_count (linear_value l)) (form_terms b)
-    body_below = subst (λ n. AreBelow n (form_terms b)) (sym count_is) form_over.below
+    body_below = subst (λ n. AreBelow n (form_terms b)) (sym count_is) form_over
 
     pub not_exported : has_side (side_value s.lo) (side_value s.hi) ≡ false → IsTrue (is_exported (row_at (linear_value l) i)) → ⊥
     not_exported none t = let x : has_side (side_value s.lo) (side_value s.hi) ≡ true = sym (ap is_exported row_is) ∙ t in cc

@@ -1,5 +1,5 @@
 -- An objective's numbers, by its coefficients and by its terms.
-use Rattle.std.proofs.Common.{◌≡◌, ℕ, ◌<◌, ◌^◌, ◌∙◌, sym, ap, subst, false, List, [], ◌∷◌, All, pos, Result, Ok, Err, IfErr}
+use Rattle.std.proofs.Common.{◌≡◌, ℕ, ◌<◌, ◌^◌, ◌∙◌, sym, ap, subst, List, [], ◌∷◌, All, pos, Result, Ok, Err, IfErr}
 use Rattle.std.proofs.lemmas.List.Elements.{All-nil, All-cons, All-head, All-tail}
 use Rattle.fractions.specs.Fits.{fits}
 use Rattle.fractions.specs.Rational.{ℚ, zero_ℚ, one_ℚ, whole}
@@ -14,8 +14,8 @@ use Rattle.text_base.specs.declared.stop.Stop.{Stop}
 use Rattle.text_base.specs.declared.stop.Stop.TheVariants.{Fault, Memory}
 use Rattle.linear_fold.specs.Coefs.{Term, AreAscending, AreBelow}
 use Rattle.linear_fold.specs.declared.form.Form.{Form}
-use Rattle.linear_fold.specs.declared.wide.Wide.{Wide}
-use Rattle.linear_fold.specs.Forms.{form_line, form_terms, is_open}
+use Rattle.linear_fold.specs.declared.too_wide.Wide.{Wide}
+use Rattle.linear_fold.specs.Forms.{form_line, form_terms}
 use Rattle.linear_fold.specs.Programs.{LinearValue, IsLinear, form_of, linear_value}
 use Rattle.exact_numbers.proofs.Bridge.{frac_fits_lem}
 use Rattle.row_scaling.specs.declared.objectives.TiedObjective.{TiedObjective}
@@ -43,19 +43,19 @@ all_as_one (t ∷ ts) h = All-cons (NumberFits one_ℚ) (frac_value t.1) (coeffi
 of_one : (x : ℚ) → NumberFits one_ℚ x → FitsDec x
 of_one x h = subst FitsDec (one-*ℚ x) h.dec
 
-module _ (n : ℕ) (b : Form) (closed : is_open b ≡ false) (up : AreAscending 0 (form_terms b)) (below : AreBelow n (form_terms b)) where
+module _ (n : ℕ) (b : Form) (up : AreAscending 0 (form_terms b)) (below : AreBelow n (form_terms b)) where
   abbrev c : ℚ
   c = (form_line b).constant
 
   to : (P : ℚ → Type 0) → All P (objective_numbers n (form_of b)) → All P (numbers_of b)
   to P h =
       All-cons P c (coefficients_in (form_terms b)) (All-head P c (coefficients_below (form_line b).coef n) h)
-      (to_terms n b.kept closed up below P (All-tail P c (coefficients_below (form_line b).coef n) h))
+      (to_terms n (form_terms b) up below P (All-tail P c (coefficients_below (form_line b).coef n) h))
 
   from : (P : ℚ → Type 0) → P zero_ℚ → All P (numbers_of b) → All P (objective_numbers n (form_of b))
   from P z h =
       All-cons P c (coefficients_below (form_line b).coef n) (All-head P c (coefficients_in (form_terms b)) h)
-      (from_terms n b.kept closed up below P z (All-tail P c (coefficients_in (form_terms b)) h))
+      (from_terms n (form_terms b) up below P z (All-tail P c (coefficients_in (form_terms b)) h))
 
   same_objective : least_factor (objective_numbers n (form_of b)) ≡ least_factor (numbers_of b)
   same_objective = same_factor (objective_numbers n (form_of b)) (numbers_of b) (λ k. to (Finite k)) (λ k. from (Finite k) (zero_finite k))
@@ -82,30 +82,30 @@ module _ (n : ℕ) (b : Form) (closed : is_open b ≡ false) (up : AreAscending 
 -- ---- the objective of a folded file
 module _ (l : LinearValue) (is : IsLinear l) (up : AreAscending 0 (form_terms l.objective)) where
   pub objective_below : AreBelow (variable_count (linear_value l)) (form_terms l.objective)
-  objective_below = subst (λ n. AreBelow n (form_terms l.objective)) (sym (count_is l is)) is.objective.below
+  objective_below = subst (λ n. AreBelow n (form_terms l.objective)) (sym (count_is l is)) is.objective
 
   pub factor_is : factor_of_objective (linear_value l) ≡ least_factor (numbers_of l.objective)
   unfolding linear_value
-  factor_is = same_objective (variable_count (linear_value l)) l.objective is.objective.closed up objective_below
+  factor_is = same_objective (variable_count (linear_value l)) l.objective up objective_below
 
   pub decimal_there : IsDecimal (linear_value l) → All (NumberFits one_ℚ) (numbers_of l.objective)
   unfolding linear_value
-  decimal_there h = decimal_to (variable_count (linear_value l)) l.objective is.objective.closed up objective_below h
+  decimal_there h = decimal_to (variable_count (linear_value l)) l.objective up objective_below h
 
   pub decimal_back : All (NumberFits one_ℚ) (numbers_of l.objective) → IsDecimal (linear_value l)
   unfolding linear_value
-  decimal_back h = decimal_from (variable_count (linear_value l)) l.objective is.objective.closed up objective_below h
+  decimal_back h = decimal_from (variable_count (linear_value l)) l.objective up objective_below h
 
   pub tied_there : ObjectiveFits (linear_value l) → AreTiedFit l.objective
   unfolding linear_value
-  tied_there h = tied_to (variable_count (linear_value l)) l.objective is.objective.closed up objective_below (factor_of_objective (linear_value l)) factor_is h.factor h.parts
+  tied_there h = tied_to (variable_count (linear_value l)) l.objective up objective_below (factor_of_objective (linear_value l)) factor_is h.factor h.parts
 
   pub tied_back : AreTiedFit l.objective → ObjectiveFits (linear_value l)
   unfolding linear_value
   tied_back h =
       record {
         factor = subst (λ k. k < 2 ^ 127) (sym factor_is) h.small;
-        parts = tied_from (variable_count (linear_value l)) l.objective is.objective.closed up objective_below (factor_of_objective (linear_value l)) (sym factor_is) h;
+        parts = tied_from (variable_count (linear_value l)) l.objective up objective_below (factor_of_objective (linear_value l)) (sym factor_is) h;
       }
 
 -- all numbers of an objective times q fit

@@ -1,5 +1,5 @@
 -- Which numbers of a row fit, by its terms and its sides.
-use Rattle.std.proofs.Common.{◌≡◌, ℕ, ◌<◌, ◌≤◌, ◌^◌, ◌∙◌, sym, ap, ap₂, refl, subst, arith, false, List, ◌++◌, All, pos, Option, Some, None}
+use Rattle.std.proofs.Common.{◌≡◌, ℕ, ◌<◌, ◌≤◌, ◌^◌, ◌∙◌, sym, ap, ap₂, refl, subst, arith, List, ◌++◌, All, pos, Option, Some, None}
 use Rattle.std.proofs.lemmas.List.Elements.{All-append}
 use Rattle.fractions.specs.Rational.{ℚ, zero_ℚ, whole, ◌-ℚ◌}
 use Rattle.fractions.proofs.Arithmetic.{*ℚ_zero}
@@ -13,7 +13,7 @@ use Rattle.linear_fold.proofs.FracLemmas.{fits_zero}
 use Rattle.fractions.specs.Fits.{fits}
 use Rattle.linear_fold.specs.Coefs.{AreAscending, AreBelow}
 use Rattle.linear_fold.specs.declared.form.Form.{Form}
-use Rattle.linear_fold.specs.Forms.{form_line, form_terms, is_open}
+use Rattle.linear_fold.specs.Forms.{form_line, form_terms}
 use Rattle.row_scaling.specs.Factored.{row_for, factor_for}
 use Rattle.row_scaling.specs.Fitting.{coefficients_in, listed, less_side, times_side, LessFits, ProductFits, NumberFits, AreSidesFit}
 use Rattle.row_scaling.specs.Rows.{side_value}
@@ -69,7 +69,7 @@ pub numbers_of : (q : ℚ) (o : Option ℚ) → IfSide (ProductFits q) o → IfS
 numbers_of q None h g = tt
 numbers_of q (Some x) h g = record { frac = h; dec = g }
 
-module _ (n i : ℕ) (b : Form) (s : Interval) (closed : is_open b ≡ false) (up : AreAscending 0 (form_terms b)) (below : AreBelow n (form_terms b)) where
+module _ (n i : ℕ) (b : Form) (s : Interval) (up : AreAscending 0 (form_terms b)) (below : AreBelow n (form_terms b)) where
   abbrev row : Row
   row = row_for i b s
 
@@ -93,8 +93,8 @@ module _ (n i : ℕ) (b : Form) (s : Interval) (closed : is_open b ≡ false) (u
       let hi = listed (less_side c u) in
       ap₂ (λ p q. least_factor (xs ++ p ++ q)) (listed_less c l) (listed_less c u)
       ∙ same_factor (xs ++ lo ++ hi) (ts ++ lo ++ hi)
-      (λ k h. let first = all_left (Finite k) (xs ++ lo) hi h in All-append (Finite k) (ts ++ lo) hi (All-append (Finite k) ts lo (to_terms n b.kept closed up below (Finite k) (all_left (Finite k) xs lo first)) (all_right (Finite k) xs lo first)) (all_right (Finite k) (xs ++ lo) hi h))
-      (λ k h. let first = all_left (Finite k) (ts ++ lo) hi h in All-append (Finite k) (xs ++ lo) hi (All-append (Finite k) xs lo (from_terms n b.kept closed up below (Finite k) (zero_finite k) (all_left (Finite k) ts lo first)) (all_right (Finite k) ts lo first)) (all_right (Finite k) (ts ++ lo) hi h))
+      (λ k h. let first = all_left (Finite k) (xs ++ lo) hi h in All-append (Finite k) (ts ++ lo) hi (All-append (Finite k) ts lo (to_terms n (form_terms b) up below (Finite k) (all_left (Finite k) xs lo first)) (all_right (Finite k) xs lo first)) (all_right (Finite k) (xs ++ lo) hi h))
+      (λ k h. let first = all_left (Finite k) (ts ++ lo) hi h in All-append (Finite k) (xs ++ lo) hi (All-append (Finite k) xs lo (from_terms n (form_terms b) up below (Finite k) (zero_finite k) (all_left (Finite k) ts lo first)) (all_right (Finite k) ts lo first)) (all_right (Finite k) (ts ++ lo) hi h))
 
   pub no_sides_fit : ((IfSide (LessFits c) l × IfSide (LessFits c) u) → ⊥) → ¬ RowFits n row (factor_for n row)
   no_sides_fit bad h = bad (side_map (SideFits (factor_for n row) c) (LessFits c) l (λ x f. record { side = f.side; less = f.less }) h.lower, side_map (SideFits (factor_for n row) c) (LessFits c) u (λ x f. record { side = f.side; less = f.less }) h.upper)
@@ -126,7 +126,7 @@ module _ (n i : ℕ) (b : Form) (s : Interval) (closed : is_open b ≡ false) (u
 
       pub no_terms_fit : ¬ All (NumberFits q) (coefficients_in (form_terms b)) → ¬ RowFits n row (factor_for n row)
       no_terms_fit bad h =
-          bad (subst (λ r. All (NumberFits r) (coefficients_in (form_terms b))) (sym same_multiplier) (to_terms n b.kept closed up below (NumberFits (whole (pos (factor_for n row)))) (all_map (coefficients_below (form_line b).coef n) (number_of (factor_for n row)) h.coefficients)))
+          bad (subst (λ r. All (NumberFits r) (coefficients_in (form_terms b))) (sym same_multiplier) (to_terms n (form_terms b) up below (NumberFits (whole (pos (factor_for n row)))) (all_map (coefficients_below (form_line b).coef n) (number_of (factor_for n row)) h.coefficients)))
 
       pub all_fit : IfSide (LessFits c) l → IfSide (LessFits c) u → least_factor (numbers lo hi) < 2 ^ 127 → AreSidesFit q lo hi → All (NumberFits q) (coefficients_in (form_terms b)) → RowFits n row (factor_for n row)
       all_fit first second small sides terms =
@@ -136,7 +136,7 @@ module _ (n i : ℕ) (b : Form) (s : Interval) (closed : is_open b ≡ false) (u
           let under : k < 2 ^ 127 = omega (arith, small, same_numbers) in
           record {
             factor = under;
-            coefficients = all_map (coefficients_below (form_line b).coef n) (scaled_of k) (from_terms n b.kept closed up below (NumberFits w) (zero_number w) (subst (λ r. All (NumberFits r) (coefficients_in (form_terms b))) same_multiplier terms));
+            coefficients = all_map (coefficients_below (form_line b).coef n) (scaled_of k) (from_terms n (form_terms b) up below (NumberFits w) (zero_number w) (subst (λ r. All (NumberFits r) (coefficients_in (form_terms b))) same_multiplier terms));
             lower = side_fits k c l first both.lower;
             upper = side_fits k c u second both.upper;
             range = subst (λ p. IfBoth RangeFits p (scaled_side w c u)) (times_less w c l) (subst (IfBoth RangeFits (times_side w (less_side c l))) (times_less w c u) both.range);

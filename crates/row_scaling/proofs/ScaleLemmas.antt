@@ -24,7 +24,6 @@ use Rattle.row_scaling.specs.Factored.{AreScaledRows, IsObjectiveTimes, IsScaled
 use Rattle.row_scaling.specs.Scaled.{ScaledValue, IsRowOver, IsScaled, IsTie, row_term_count}
 use Rattle.row_scaling.specs.Scaling.{HasLeastFactors, HasNoScaleFault, IsExportOf, IsScaledOf}
 use Rattle.row_scaling.proofs.FactoredLemmas.{multiplier_some}
-use Rattle.row_scaling.proofs.FitLemmas.{kept_coefficient}
 use Rattle.row_scaling.proofs.LawLemmas.{plain_as, tied_as_scaled}
 use Rattle.row_scaling.proofs.LinearLemmas.{count_is, row_count, scaled_fits}
 use Rattle.row_scaling.proofs.ObjectiveLemmas.{decimal_back, decimal_there, factor_is, tied_back, tied_there, times_all}
@@ -106,7 +105,7 @@ tie_of l o (Some t) h = h.1.tie
 
 module _ (l : LinearValue) (is : IsLinear l) (up : AreAscending 0 (form_terms l.objective)) where
   times_coefficients : (q : ℚ) (o : ScaledObjective) → IsObjectiveTimes q l.objective o → (j : ℕ) → coefficient_of o.terms j ≡ q *ℚ (form_line l.objective).coef j
-  times_coefficients q o h j = times_coefficient q 0 (form_terms l.objective) o.terms h.terms up j ∙ ap (λ x. q *ℚ x) (sym (kept_coefficient l.objective.kept j is.objective.closed))
+  times_coefficients q o h j = times_coefficient q 0 (form_terms l.objective) o.terms h.terms up j
 
   plain_form : (o : ScaledObjective) → IsObjectiveTimes one_ℚ l.objective o → form_of o ≡ (linear_value l).objective
   unfolding linear_value
@@ -129,7 +128,7 @@ module _ (l : LinearValue) (is : IsLinear l) (up : AreAscending 0 (form_terms l.
         record {
           rows = λ k d g. subst (λ x. IfSome x (λ y. IsRowOver (length l.bounds) y.row)) (get_or_default rows k None d g) (over_at k (get_or rows k None) (r.scaled k g));
           sparse = times_sparse m.q m.some 0 (form_terms l.objective) o.terms m.times.terms up;
-          below = times_below m.q (length l.bounds) (form_terms l.objective) o.terms m.times.terms is.objective.below;
+          below = times_below m.q (length l.bounds) (form_terms l.objective) o.terms m.times.terms is.objective;
           tie = tie_of l o t h;
           kinds = is.kinds;
           few_rows = subst (λ n. n ≤ 2 ^ 20) (sym count) is.few_rows;

@@ -1,11 +1,11 @@
 // The least factors of rows and objectives.
-ghost use Rattle.std.specs.Prelude.{◌≡◌, ◌≤◌, ◌^◌, ◌++◌, ◌∷◌, List, MatchOption, pos, unsigned_abs, ◌<ℤ◌, false};
+ghost use Rattle.std.specs.Prelude.{◌≡◌, ◌≤◌, ◌^◌, ◌++◌, ◌∷◌, List, MatchOption, pos, unsigned_abs, ◌<ℤ◌};
 ghost use Rattle.fractions.specs.Rational.{ℚ};
 ghost use Rattle.exact_numbers.specs.Values.{frac_value};
 ghost use Rattle.exported_program.specs.Factor.{cofactor_of, least_factor};
 ghost use Rattle.fractions.specs.Fits.{least_multiple};
 ghost use Rattle.linear_fold.specs.Coefs.{AreAscending};
-ghost use Rattle.linear_fold.specs.Forms.{form_line, form_terms, is_open};
+ghost use Rattle.linear_fold.specs.Forms.{form_line, form_terms};
 ghost use Rattle.row_scaling.specs.Fitting.{coefficients_in, frac_side, listed};
 
 use crate::decimals::has_few_places;
@@ -47,8 +47,7 @@ fn with_side(factor: i128, side: Option<Frac>) -> Option<i128>
 
 // The same with the coefficients of a form, one by one.
 fn with_fractions(start: i128, form: &Form) -> Option<i128>
-    requires above { pos 0 <ℤ start }
-    requires closed { is_open form.now ≡ false }
+    requires { pos 0 <ℤ start }
     ensures ascending { AreAscending 0 (form_terms form.now) }
     ensures factor { (xs : List ℚ) → start ≡ pos (least_factor xs)
         → MatchOption result (2 ^ 127 ≤ least_factor (xs ++ coefficients_in (form_terms form.now)))
@@ -66,8 +65,7 @@ fn with_fractions(start: i128, form: &Form) -> Option<i128>
 
 // The same with the coefficients of a form; those that are kept as decimals add nothing.
 fn with_terms(start: i128, form: &Form) -> Option<i128>
-    requires above { pos 0 <ℤ start }
-    requires closed { is_open form.now ≡ false }
+    requires { pos 0 <ℤ start }
     ensures ascending { AreAscending 0 (form_terms form.now) }
     ensures factor { (xs : List ℚ) → start ≡ pos (least_factor xs)
         → MatchOption result (2 ^ 127 ≤ least_factor (xs ++ coefficients_in (form_terms form.now)))
@@ -82,7 +80,6 @@ fn with_terms(start: i128, form: &Form) -> Option<i128>
 
 // The least factor of a row's coefficients and sides; none where it is beyond the greatest size.
 pub(crate) fn factor_of_row(body: &Form, sides: &FractionSides) -> Option<i128>
-    requires { is_open body.now ≡ false }
     ensures ascending { AreAscending 0 (form_terms body.now) }
     ensures factor { MatchOption result
         (2 ^ 127 ≤ least_factor
@@ -105,7 +102,6 @@ pub(crate) fn factor_of_row(body: &Form, sides: &FractionSides) -> Option<i128>
 // The least factor of an objective's constant and coefficients; none where it is beyond the
 // greatest size.
 pub(crate) fn factor_of_objective(objective: &Form) -> Option<i128>
-    requires { is_open objective.now ≡ false }
     ensures { MatchOption result
         (2 ^ 127 ≤ least_factor
         ((form_line objective.now).constant ∷ coefficients_in (form_terms objective.now)))

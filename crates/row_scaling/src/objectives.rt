@@ -1,10 +1,10 @@
 // The objective of a folded file, times its least factor where it is not decimal.
-ghost use Rattle.std.specs.Prelude.{◌≡◌, ◌≢◌, ◌<ℤ◌, pos, IfOk, IfErr, IfSome, All, None, false};
+ghost use Rattle.std.specs.Prelude.{◌≡◌, ◌≢◌, ◌<ℤ◌, pos, IfOk, IfErr, IfSome, All, None};
 ghost use Rattle.text_base.specs.Stopped.{IfFault};
 ghost use Rattle.fractions.specs.Rational.{one_ℚ};
 ghost use Rattle.exact_numbers.specs.Values.{frac_value};
 ghost use Rattle.linear_fold.specs.Coefs.{AreAscending};
-ghost use Rattle.linear_fold.specs.Forms.{form_terms, is_open};
+ghost use Rattle.linear_fold.specs.Forms.{form_terms};
 ghost use Rattle.row_scaling.specs.Factored.{AreTiedFit, IsObjectiveTimes, IsTiedOrPlain, IsTiedTo, IsTooWide, numbers_of};
 ghost use Rattle.row_scaling.specs.Fitting.{NumberFits};
 ghost use Rattle.row_scaling.specs.Scaled.{IsTie};
@@ -24,7 +24,6 @@ fn objective_times(
     objective: &Form,
     factor: Frac,
 ) -> Result<ScaledObjective, Stop<Wide>>
-    requires { is_open objective.now ≡ false }
     ensures scaled { IfOk result (λ o. IsObjectiveTimes (frac_value factor) objective.now o) }
     ensures ascending { AreAscending 0 (form_terms objective.now) }
     ensures wide { IfErr result
@@ -65,7 +64,6 @@ pub(crate) struct TiedObjective {
 
 // An objective times its least factor, tied. Wide exactly where a number does not fit.
 fn tied_objective(alloc: Global, objective: &Form) -> Result<TiedObjective, Stop<Wide>>
-    requires { is_open objective.now ≡ false }
     ensures scaled { IfOk result (λ o. IfSome o.tie (λ t. IsTiedTo objective.now o.objective t)) }
     ensures tied { IfOk result (λ o. o.tie ≢ None) }
     ensures wide { IfErr result (λ stop. IfFault stop (λ _. ¬ AreTiedFit objective.now)) }
@@ -85,7 +83,6 @@ fn tied_objective(alloc: Global, objective: &Form) -> Result<TiedObjective, Stop
 // The objective as it is where it is decimal, and otherwise tied. Wide exactly where it is not
 // decimal, and a number of the tied one does not fit.
 pub(crate) fn scaled_objective(alloc: Global, objective: &Form) -> Result<TiedObjective, Stop<Wide>>
-    requires { is_open objective.now ≡ false }
     ensures scaled { IfOk result (λ o. IsTiedOrPlain objective.now o.objective o.tie) }
     ensures ascending { AreAscending 0 (form_terms objective.now) }
     ensures wide { IfErr result (λ stop. IfFault stop (λ _. IsTooWide objective.now)) }

@@ -7,7 +7,7 @@ ghost use Rattle.exported_program.specs.Export.{ExportFits, RowFits};
 ghost use Rattle.exported_program.specs.Program.{has_side};
 ghost use Rattle.linear_fold.specs.Coefs.{AreBelow};
 ghost use Rattle.linear_fold.specs.declared.form.Form.{Form};
-ghost use Rattle.linear_fold.specs.Forms.{form_terms, is_open};
+ghost use Rattle.linear_fold.specs.Forms.{form_terms};
 ghost use Rattle.linear_fold.specs.Programs.{linear_value};
 ghost use Rattle.row_scaling.specs.Factored.{AreScaledRows, IsFactored, IsScaledAt, body_term_count, factor_for, row_for, term_count_of};
 ghost use Rattle.row_scaling.specs.Scaled.{row_term_count};
@@ -39,8 +39,7 @@ pub(crate) fn whole(number: i128) -> Frac
 
 // A row times its least factor. Wide exactly where a number does not fit.
 fn scale_row(alloc: Global, body: &Form, side: Interval) -> Result<FactoredRow, Stop<Wide>>
-    requires closed { is_open body.now ≡ false }
-    requires sided { IsTrue (has_side (side_value side.lo) (side_value side.hi)) }
+    requires { IsTrue (has_side (side_value side.lo) (side_value side.hi)) }
     ensures scaled { (n i : ℕ) → AreBelow n (form_terms body.now)
         → IfOk result (λ r. IsFactored n i (row_for i body.now side) r) }
     ensures few { IfOk result (λ r. length r.row.terms ≡ length (form_terms body.now)) }

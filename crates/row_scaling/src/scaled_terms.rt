@@ -1,10 +1,10 @@
 // The terms of a form times a factor, as decimals.
-ghost use Rattle.std.specs.Prelude.{◌≡◌, MatchOption, All, IfOk, IfErr, IfSome, false};
+ghost use Rattle.std.specs.Prelude.{◌≡◌, MatchOption, All, IfOk, IfErr, IfSome};
 ghost use Rattle.text_base.specs.Stopped.{IfFault};
 ghost use Rattle.fractions.specs.Rational.{◌*ℚ◌};
 ghost use Rattle.exact_numbers.specs.Values.{dec_value, frac_value};
 ghost use Rattle.linear_fold.specs.Coefs.{AreAscending};
-ghost use Rattle.linear_fold.specs.Forms.{form_terms, is_open};
+ghost use Rattle.linear_fold.specs.Forms.{form_terms};
 ghost use Rattle.row_scaling.specs.Fitting.{coefficients_in, NumberFits, AreTermsTimes};
 
 use crate::decimals::{decimal_of, is_one};
@@ -32,7 +32,6 @@ pub(crate) fn scaled_number(number: Frac, factor: Frac) -> Option<Dec>
 
 // How many terms a form has: room alone, of which no clause speaks.
 fn term_count(form: &Form) -> usize
-    requires { is_open form.now ≡ false }
     ensures { AreAscending 0 (form_terms form.now) }
 {
     let mut count = 0usize;
@@ -44,7 +43,6 @@ fn term_count(form: &Form) -> usize
 
 // The terms of a form times the factor, one by one. Wide exactly where a number does not fit.
 fn terms_times(alloc: Global, form: &Form, factor: Frac) -> Result<Terms, Stop<Wide>>
-    requires { is_open form.now ≡ false }
     ensures scaled { IfOk result
         (λ terms. AreTermsTimes (frac_value factor) (form_terms form.now) terms) }
     ensures ascending { AreAscending 0 (form_terms form.now) }
@@ -72,7 +70,6 @@ fn copied_terms(alloc: Global, decimals: &[(u32, Dec)]) -> Result<Terms, AllocEr
 
 // The decimals of a form that is kept as decimals, where the factor is 1.
 fn decimals_at_one(form: &Form, factor: Frac) -> Option<&[(u32, Dec)]>
-    requires { is_open form.now ≡ false }
     ensures { IfSome result
         (λ ds. AreTermsTimes (frac_value factor) (form_terms form.now) ds.now) }
 {
@@ -84,7 +81,6 @@ fn decimals_at_one(form: &Form, factor: Frac) -> Option<&[(u32, Dec)]>
 
 // The terms of a form times the factor. Wide exactly where a number does not fit.
 pub(crate) fn scaled_terms(alloc: Global, form: &Form, factor: Frac) -> Result<Terms, Stop<Wide>>
-    requires { is_open form.now ≡ false }
     ensures scaled { IfOk result
         (λ terms. AreTermsTimes (frac_value factor) (form_terms form.now) terms) }
     ensures ascending { AreAscending 0 (form_terms form.now) }

@@ -1,11 +1,11 @@
 use Rattle.std.proofs.Common.{◌-◌, ap, arith, length, reverse, subst, sym, take}
 use Rattle.exact_numbers.specs.Values.{frac_value}
-use Rattle.linear_fold.proofs.ConstantLemmas.{Choosing, least_choice, least_found, choosing_init, choosing_more, choosing_tests, choosing_best, closed_first, closed_here, first_varies}
+use Rattle.linear_fold.proofs.ConstantLemmas.{Choosing, least_choice, least_found, choosing_init, choosing_more, choosing_tests, choosing_best, unbroken_first, unbroken_here, first_varies}
 use Rattle.linear_fold.proofs.PartLemmas.{first_of_all, last_first, take_all, take_none}
 use Rattle.linear_fold.proofs.constants.least_value.Goals as goal
 
 pub constant-requires : goal.constant-requires
-constant-requires c = closed_first c.index-operands-last.result (reverse (take (length c.args.operands.now - 1) c.args.operands.now)) (reverse c.args.operands.now) (first_of_all c.args.operands.now c.index-operands-last.result c.requires.some c.index-operands-last.is) c.requires.closed
+constant-requires c = unbroken_first c.index-operands-last.result (reverse (take (length c.args.operands.now - 1) c.args.operands.now)) (reverse c.args.operands.now) (first_of_all c.args.operands.now c.index-operands-last.result c.requires.some c.index-operands-last.is) c.requires.unbroken
 
 pub returns-in_default : goal.returns-in_default
 returns-in_default c n z =
@@ -15,11 +15,11 @@ returns-in_default c n z =
 pub loop-place-init : goal.loop-place-init
 loop-place-init c =
     subst (λ ps. Choosing least_choice (frac_value c.in-Some.least) (frac_value c.in-Some.least) (reverse ps) (reverse c.args.operands.now)) (sym (take_all c.args.operands.now (length c.args.operands.now) (omega arith)))
-    (choosing_init least_choice _ (reverse c.args.operands.now) c.requires.closed)
+    (choosing_init least_choice _ (reverse c.args.operands.now) c.requires.unbroken)
 
 pub constant-requires-in-loop-place : goal.constant-requires-in-loop-place
 constant-requires-in-loop-place c =
-    closed_here least_choice (frac_value c.in-Some.least) (frac_value c.loop-place.least) c.index-operands-place.result (reverse (take c.loop-place.place c.args.operands.now)) (reverse (take (c.loop-place.place - 1) c.args.operands.now)) (reverse c.args.operands.now)
+    unbroken_here least_choice (frac_value c.in-Some.least) (frac_value c.loop-place.least) c.index-operands-place.result (reverse (take c.loop-place.place c.args.operands.now)) (reverse (take (c.loop-place.place - 1) c.args.operands.now)) (reverse c.args.operands.now)
     (last_first c.args.operands.now c.loop-place.place c.index-operands-place.result c.loop-place-test.true c.loop-place.auto.place c.index-operands-place.is) c.loop-place.invariant
 
 pub loop-place-preserved : goal.loop-place-preserved

@@ -1,8 +1,7 @@
 use Rattle.std.proofs.Common.{subst, arith, length}
 use Rattle.file_meaning.specs.Expressions.{linear_terms}
 use Rattle.linear_fold.specs.Folds.{IsEntryWithin, IsFolded}
-use Rattle.linear_fold.specs.Forms.{form_line}
-use Rattle.linear_fold.specs.Operates.{IsWithin}
+use Rattle.linear_fold.specs.Forms.{IsWithin, form_line}
 use Rattle.linear_fold.proofs.Listing.{nothing_listed, some_term}
 use Rattle.linear_fold.proofs.Operators.{form_fits, if_ok}
 use Rattle.linear_fold.specs.declared.entries.Entry.TheVariants.{Linear}
@@ -15,7 +14,7 @@ returns-then-are_zero-clause-entry g c known tree size folded =
     let within : IsWithin c.args.variables form = subst (IsEntryWithin c.args.variables) c.in-Linear.is c.requires.within in
     let zeros = c.are_zero.ensures.0 c.if-are_zero.true in
     let none = nothing_listed (form_line form) c.args.first (linear_terms c.args.terms.now) (form_fits form).coefs zeros in
-    some_terms known c.args.variables tree form (subst (IsFolded known c.args.variables 0 tree) c.in-Linear.is folded) (linear_terms c.args.terms.now) c.args.first (Linear form) within size (terms_formed c.args.variables c.args.terms.now c.requires.below) (none.0, none.1, within.closed)
+    some_terms known c.args.variables tree form (subst (IsFolded known c.args.variables 0 tree) c.in-Linear.is folded) (linear_terms c.args.terms.now) c.args.first (Linear form) within size (terms_formed c.args.variables c.args.terms.now c.requires.below) none
 
 pub returns-else-are_zero-clause-entry : goal.returns-else-are_zero-clause-entry
 returns-else-are_zero-clause-entry g c =
@@ -29,7 +28,7 @@ pub returns-else-are_zero-clause-within : goal.returns-else-are_zero-clause-with
 returns-else-are_zero-clause-within g c =
     let within : IsWithin c.args.variables c.in-Linear.form = subst (IsEntryWithin c.args.variables) c.in-Linear.is c.requires.within in
     if_ok c.with_terms.result _ _
-    (λ e h. entry_within c.args.variables (form_line c.in-Linear.form) c.args.first (linear_terms c.args.terms.now) e within.zero_from (terms_formed c.args.variables c.args.terms.now c.requires.below) h)
+    (λ e h. entry_within c.args.variables (form_line c.in-Linear.form) c.args.first (linear_terms c.args.terms.now) e within (terms_formed c.args.variables c.args.terms.now c.requires.below) h)
     c.with_terms.ensures.entry
 
 pub returns-else-are_zero-clause-below : goal.returns-else-are_zero-clause-below

@@ -23,4 +23,4 @@ returns-in-None-clause-entry g c known are =
     subst (λ t. IsFolded known c.args.variables 0 (tree_or_zero (option_copied t)) (Linear c.new.result)) (sym c.in-None.is) (zero_folded known c.args.variables c.new.result c.new.ensures.line)
 
 pub returns-in-None-clause-within : goal.returns-in-None-clause-within
-returns-in-None-clause-within g c = constant_within c.args.variables c.new.result zero_ℚ c.new.ensures.line c.new.ensures.closed
+returns-in-None-clause-within g c = constant_within c.args.variables c.new.result zero_ℚ c.new.ensures.line

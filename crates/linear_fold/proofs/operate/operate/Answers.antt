@@ -3,7 +3,7 @@ use Rattle.std.proofs.lemmas.List.{length-reverse}
 use Rattle.nl_meaning.specs.Trees.{HasCount}
 use Rattle.linear_fold.specs.Forms.{place_count}
 use Rattle.linear_fold.proofs.Operators.{as_operands, if_ok, one_within, sum_comes, sum_of_all_comes, two_within}
-use Rattle.linear_fold.proofs.PartLemmas.{closed_of, sound_closed}
+use Rattle.linear_fold.proofs.PartLemmas.{unbroken_of, sound_unbroken}
 use Rattle.linear_fold.proofs.operate.operate.Goals as goal
 
 pub difference-requires-clause-first : goal.difference-requires-clause-first
@@ -28,25 +28,25 @@ pub negated-requires-clause-within : goal.negated-requires-clause-within
 negated-requires-clause-within g c = one_within _ _ _ c.one_of.ensures c.requires.within
 
 pub power-requires-clause-first : goal.power-requires-clause-first
-power-requires-clause-first g c = sound_closed (place_count c.args.total.now) _ (two_within _ _ _ _ c.two_of-in-Power.ensures c.requires.within).0.sound
+power-requires-clause-first g c = sound_unbroken (place_count c.args.total.now) _ (two_within _ _ _ _ c.two_of-in-Power.ensures c.requires.within).0.sound
 
 pub power-requires-clause-second : goal.power-requires-clause-second
-power-requires-clause-second g c = sound_closed (place_count c.args.total.now) _ (two_within _ _ _ _ c.two_of-in-Power.ensures c.requires.within).1.sound
+power-requires-clause-second g c = sound_unbroken (place_count c.args.total.now) _ (two_within _ _ _ _ c.two_of-in-Power.ensures c.requires.within).1.sound
 
-pub least-requires-clause-closed : goal.least-requires-clause-closed
-least-requires-clause-closed g c = closed_of (place_count c.args.total.now) (reverse c.args.operands.now) c.requires.within
+pub least-requires-clause-unbroken : goal.least-requires-clause-unbroken
+least-requires-clause-unbroken g c = unbroken_of (place_count c.args.total.now) (reverse c.args.operands.now) c.requires.within
 
-pub greatest-requires-clause-closed : goal.greatest-requires-clause-closed
-greatest-requires-clause-closed g c = closed_of (place_count c.args.total.now) (reverse c.args.operands.now) c.requires.within
+pub greatest-requires-clause-unbroken : goal.greatest-requires-clause-unbroken
+greatest-requires-clause-unbroken g c = unbroken_of (place_count c.args.total.now) (reverse c.args.operands.now) c.requires.within
 
 pub floor-requires : goal.floor-requires
-floor-requires g c = sound_closed (place_count c.args.total.now) _ (one_within _ _ _ c.one_of-in-Floor.ensures c.requires.within).sound
+floor-requires g c = sound_unbroken (place_count c.args.total.now) _ (one_within _ _ _ c.one_of-in-Floor.ensures c.requires.within).sound
 
 pub ceiling-requires : goal.ceiling-requires
-ceiling-requires g c = sound_closed (place_count c.args.total.now) _ (one_within _ _ _ c.one_of-in-Ceiling.ensures c.requires.within).sound
+ceiling-requires g c = sound_unbroken (place_count c.args.total.now) _ (one_within _ _ _ c.one_of-in-Ceiling.ensures c.requires.within).sound
 
 pub absolute-requires : goal.absolute-requires
-absolute-requires g c = sound_closed (place_count c.args.total.now) _ (one_within _ _ _ c.one_of-in-Absolute.ensures c.requires.within).sound
+absolute-requires g c = sound_unbroken (place_count c.args.total.now) _ (one_within _ _ _ c.one_of-in-Absolute.ensures c.requires.within).sound
 
 pub returns-in-Sum-clause-outcome : goal.returns-in-Sum-clause-outcome
 returns-in-Sum-clause-outcome g c =

@@ -11,8 +11,8 @@ returns-in_default c =
     let x = frac_value c.args.objective.now.constant in
     fewer_wide (x ∷ []) (coefficients_in (form_terms c.args.objective.now)) (subst (λ n. 2 ^ 127 ≤ n) (first_number (frac_value c.constant.result) x c.constant.ensures) c.in_default.ensures)
 
-pub with_terms-requires-clause-above : goal.with_terms-requires-clause-above
-with_terms-requires-clause-above c =
+pub with_terms-requires : goal.with_terms-requires
+with_terms-requires c =
     let back : to_z w128 (of_z w128 c.in-Some.constant) ≡ c.in-Some.constant = search rules in
     factor_positive _ (frac_value c.args.objective.now.constant ∷ []) (back ∙ c.in-Some.ensures ∙ ap pos (first_number (frac_value c.constant.result) _ c.constant.ensures))
 

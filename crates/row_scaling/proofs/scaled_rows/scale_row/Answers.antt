@@ -17,7 +17,7 @@ pub returns-in_default-factor_of_row-clause-wide : goal.returns-in_default-facto
 returns-in_default-factor_of_row-clause-wide c = λ n i below.
     let s = c.in-Ok.ensures in
     let con = c.constant.ensures in
-    no_factor_fits n i c.args.body.now c.args.side c.requires.closed c.in_default-factor_of_row.ensures.ascending below (frac_side c.in-Ok.less.lo) (frac_side c.in-Ok.less.hi)
+    no_factor_fits n i c.args.body.now c.args.side c.in_default-factor_of_row.ensures.ascending below (frac_side c.in-Ok.less.lo) (frac_side c.in-Ok.less.hi)
     (s.2 ∙ ap (λ x. less_side x (side_value c.args.side.lo)) con) (s.3 ∙ ap (λ x. less_side x (side_value c.args.side.hi)) con) c.in_default-factor_of_row.ensures.factor
 
 pub whole-multiplier-requires : goal.whole-multiplier-requires
@@ -30,7 +30,7 @@ returns-in_default-scaled_sides-clause-wide c = λ n i below.
     let back : to_z w128 (of_z w128 c.in-Some.factor) ≡ c.in-Some.factor = search rules in
     let s = c.in-Ok.ensures in
     let con = c.constant.ensures in
-    no_scaled_fit n i c.args.body.now c.args.side c.requires.closed c.in-Some.ensures.ascending below (frac_side c.in-Ok.less.lo) (frac_side c.in-Ok.less.hi)
+    no_scaled_fit n i c.args.body.now c.args.side c.in-Some.ensures.ascending below (frac_side c.in-Ok.less.lo) (frac_side c.in-Ok.less.hi)
     (s.2 ∙ ap (λ x. less_side x (side_value c.args.side.lo)) con) (s.3 ∙ ap (λ x. less_side x (side_value c.args.side.hi)) con)
     (frac_value c.whole-multiplier.result) (c.whole-multiplier.ensures ∙ ap whole (back ∙ c.in-Some.ensures.factor)) c.in_default-scaled_sides.ensures
 
@@ -43,7 +43,7 @@ new-row-requires c =
     is_scaled (frac_value c.whole-multiplier.result) (frac_value c.constant.result) (side_value c.args.side.lo) (side_value c.args.side.hi) (frac_side c.in-Ok.less.lo) (frac_side c.in-Ok.less.hi) c.args.body.now
     _ c.in-Ok-scaled_sides.sides.side c.in-Ok-scaled_sides.sides.range s.2 s.3
     (multiplier_some _ xs (c.whole-multiplier.ensures ∙ ap whole (back ∙ c.in-Some.ensures.factor)))
-    c.in-Some.ensures.ascending c.requires.sided c.in-Ok-scaled_terms.ensures.scaled p.1 p.2 p.3
+    c.in-Some.ensures.ascending c.requires c.in-Ok-scaled_terms.ensures.scaled p.1 p.2 p.3
 
 pub returns-in-Err-clause-wide : goal.returns-in-Err-clause-wide
 returns-in-Err-clause-wide c = λ n i below.
@@ -51,7 +51,7 @@ returns-in-Err-clause-wide c = λ n i below.
     let s = c.in-Ok.ensures in
     let con = c.constant.ensures in
     fault_map c.in-Err.stop
-    (no_terms_fit n i c.args.body.now c.args.side c.requires.closed c.in-Some.ensures.ascending below (frac_side c.in-Ok.less.lo) (frac_side c.in-Ok.less.hi)
+    (no_terms_fit n i c.args.body.now c.args.side c.in-Some.ensures.ascending below (frac_side c.in-Ok.less.lo) (frac_side c.in-Ok.less.hi)
     (s.2 ∙ ap (λ x. less_side x (side_value c.args.side.lo)) con) (s.3 ∙ ap (λ x. less_side x (side_value c.args.side.hi)) con)
     (frac_value c.whole-multiplier.result) (c.whole-multiplier.ensures ∙ ap whole (back ∙ c.in-Some.ensures.factor)))
     c.in-Err.ensures.wide
@@ -68,9 +68,9 @@ returns-clause-scaled c = λ n i below.
     let scaled : IsScaledRow v = is_scaled (frac_value c.whole-multiplier.result) (frac_value c.constant.result) (side_value c.args.side.lo) (side_value c.args.side.hi) (frac_side c.in-Ok.less.lo) (frac_side c.in-Ok.less.hi) b
     _ c.in-Ok-scaled_sides.sides.side c.in-Ok-scaled_sides.sides.range s.2 s.3
     (multiplier_some _ xs (c.whole-multiplier.ensures ∙ ap whole (back ∙ c.in-Some.ensures.factor)))
-    c.in-Some.ensures.ascending c.requires.sided c.in-Ok-scaled_terms.ensures.scaled p.1 p.2 p.3 in
+    c.in-Some.ensures.ascending c.requires c.in-Ok-scaled_terms.ensures.scaled p.1 p.2 p.3 in
     subst (λ w. IsFactored n i (row_for i b c.args.side) (record { factor = to_z w128 (of_z w128 c.in-Some.factor); row = w })) (sym c.new-row.ensures)
-    (factored n i b c.args.side c.requires.closed c.in-Some.ensures.ascending below (frac_side c.in-Ok.less.lo) (frac_side c.in-Ok.less.hi)
+    (factored n i b c.args.side c.in-Some.ensures.ascending below (frac_side c.in-Ok.less.lo) (frac_side c.in-Ok.less.hi)
     (s.2 ∙ ap (λ x. less_side x (side_value c.args.side.lo)) con) (s.3 ∙ ap (λ x. less_side x (side_value c.args.side.hi)) con)
     (frac_value c.whole-multiplier.result) (c.whole-multiplier.ensures ∙ ap whole (back ∙ c.in-Some.ensures.factor))
     _ c.whole-multiplier.result v (λ t. frac_value c.whole-multiplier.result) (back ∙ c.in-Some.ensures.factor)

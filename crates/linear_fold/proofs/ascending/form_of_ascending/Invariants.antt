@@ -4,7 +4,7 @@ use Rattle.linear_fold.specs.Decimals.{fraction_terms}
 use Rattle.linear_fold.specs.Forms.{form_line}
 use Rattle.linear_fold.proofs.DecimalLemmas.{AllFit}
 use Rattle.linear_fold.proofs.Listing.{IsListed}
-use Rattle.linear_fold.proofs.ascending.closed_terms.Given as goal
+use Rattle.linear_fold.proofs.ascending.form_of_ascending.Given as goal
 
 abbrev pub invariant-loop-index : goal.invariant-loop-index
 invariant-loop-index g l =

@@ -1,4 +1,4 @@
-use Rattle.std.proofs.Common.{◌≡◌, ◌∙◌, ◌+◌, ◌++◌, ◌∷◌, [], List, sym, ap, subst, arith, drop, take, length, true}
+use Rattle.std.proofs.Common.{◌≡◌, ◌∙◌, ◌+◌, ◌++◌, ◌∷◌, [], List, sym, subst, arith, drop, take, true}
 use Rattle.exact_numbers.specs.Values.{dec_value}
 use Rattle.fractions.specs.Fits.{fits}
 use Rattle.file_meaning.specs.Expressions.{linear_term, linear_terms}
@@ -8,7 +8,7 @@ use Rattle.linear_fold.specs.Forms.{form_line}
 use Rattle.linear_fold.proofs.DecimalLemmas.{AllFit, are_decimals, fit_more, frac_of-value, one_fraction_more}
 use Rattle.linear_fold.proofs.Expressions.{no_terms_left, term_at}
 use Rattle.linear_fold.proofs.Listing.{IsListed, one_listed}
-use Rattle.linear_fold.proofs.ascending.closed_terms.Goals as goal
+use Rattle.linear_fold.proofs.ascending.form_of_ascending.Goals as goal
 
 pub loop-index-preserved : goal.loop-index-preserved
 loop-index-preserved g c =

@@ -1,0 +1,156 @@
+// Sums of linear forms.
+ghost use Rattle.std.specs.Prelude.{◌≡◌, ◌+◌, ◌<◌, ◌≤◌, IfOk, OnErr, OnOk, length};
+ghost use Rattle.exact_numbers.specs.Values.{frac_value};
+ghost use Rattle.fractions.specs.Rational.{zero_ℚ};
+ghost use Rattle.nl_meaning.specs.Faults.{constant_line};
+ghost use Rattle.linear_fold.specs.Coefs.{AddsAt, AreAscending, AreBelow};
+ghost use Rattle.linear_fold.specs.Forms.{AddsScaled, IsWithin, SumsUp, form_line, form_terms, place_count, sum_line};
+
+use crate::accumulator::{Accumulator, sum_of};
+use crate::coefficients::Coefficients;
+use crate::form::Form;
+use crate::too_wide::Wide;
+use exact_numbers::Frac;
+use std::alloc::{AllocError, Global};
+use std::mem;
+use text_base::{Ledger, Steps, Stop};
+
+/// What is added to: a constant, and a sparse accumulator of coefficients.
+#[derive(Drop)]
+pub struct Sum {
+    constant: Frac,
+    accumulator: Accumulator,
+}
+
+impl Sum {
+    /// The sum 0, with a place for each variable.
+    pub fn new(alloc: Global, n_var: u32) -> Result<Sum, AllocError>
+        ensures line { IfOk result (λ s. sum_line s ≡ constant_line zero_ℚ) }
+        ensures places { IfOk result (λ s. place_count s ≡ n_var) }
+    {
+        let accumulator = Accumulator::new(alloc, n_var)?;
+        Ok(Sum {
+            constant: Frac::zero(),
+            accumulator,
+        })
+    }
+
+    // Adds a factor to the coefficient of a variable.
+    pub(crate) fn add_term(&mut self, variable: u32, factor: Frac) -> Result<(), Stop<Wide>>
+        requires { variable < place_count self.old }
+        ensures adds { AddsAt (sum_line self.old).coef variable (frac_value factor)
+            (sum_line self.new).coef result }
+        ensures constant { (sum_line self.new).constant ≡ (sum_line self.old).constant }
+        ensures places { place_count self.new ≡ place_count self.old }
+    {
+        self.accumulator.add(variable, factor)
+    }
+
+    // Adds k times terms, a step for each.
+    fn add_terms<L: Ledger>(
+        &mut self,
+        terms: &Coefficients,
+        k: Frac,
+        steps: &mut Steps<L>,
+    ) -> Result<(), Stop<Wide>>
+        requires { AreBelow (place_count self.old) terms.now }
+        ensures sums { SumsUp (sum_line self.old) (frac_value k) terms.now (sum_line self.new)
+            result }
+        ensures places { place_count self.new ≡ place_count self.old }
+        ensures counted { OnOk result (steps.new ≡ steps.old + length terms.now) }
+        ensures above { steps.old ≤ steps.new }
+        ensures below { steps.new ≤ steps.old + length terms.now }
+    {
+        for index in 0..terms.len() {
+            steps.tick();
+            let term = terms.at(index);
+            let Some(scaled) = k.mul(term.1) else {
+                return Err(Stop::Fault(Wide));
+            };
+            match self.add_term(term.0, scaled) {
+                Ok(()) => {}
+                Err(stop) => return Err(stop),
+            }
+        }
+        Ok(())
+    }
+
+    // Adds k times a form; what is left after an error is not said.
+    fn add_parts<L: Ledger>(
+        &mut self,
+        form: &Form,
+        k: Frac,
+        steps: &mut Steps<L>,
+    ) -> Result<(), Stop<Wide>>
+        requires { IsWithin (place_count self.old) form.now }
+        ensures sums { AddsScaled (sum_line self.old) (frac_value k) (form_line form.now)
+            (sum_line self.new) result }
+        ensures places { place_count self.new ≡ place_count self.old }
+        ensures counted { OnOk result (steps.new ≡ steps.old + length (form_terms form.now) + 1) }
+        ensures above { steps.old ≤ steps.new }
+        ensures below { steps.new ≤ steps.old + length (form_terms form.now) + 1 }
+        ensures ascending { AreAscending 0 (form_terms form.now) }
+    {
+        let terms = form.listed();
+        steps.tick();
+        let Some(scaled) = k.mul(form.constant()) else {
+            return Err(Stop::Fault(Wide));
+        };
+        let Some(sum) = sum_of(self.constant, scaled) else {
+            return Err(Stop::Fault(Wide));
+        };
+        self.constant = sum;
+        self.add_terms(terms, k, steps)
+    }
+
+    // Sets the constant and each coefficient to 0.
+    pub(crate) fn clear(&mut self)
+        ensures line { sum_line self.new ≡ constant_line zero_ℚ }
+        ensures places { place_count self.new ≡ place_count self.old }
+    {
+        self.constant = Frac::zero();
+        self.accumulator.clear();
+    }
+
+    /// Adds k times a form. Wide exactly where a product or a sum of one coefficient or of the
+    /// constants does not fit. A step is counted for the constant and for each term of the form.
+    /// After Wide and want of memory the sum is 0.
+    pub fn add_scaled<L: Ledger>(
+        &mut self,
+        form: &Form,
+        k: Frac,
+        steps: &mut Steps<L>,
+    ) -> Result<(), Stop<Wide>>
+        requires { IsWithin (place_count self.old) form.now }
+        ensures sums { AddsScaled (sum_line self.old) (frac_value k) (form_line form.now)
+            (sum_line self.new) result }
+        ensures zero { OnErr result (sum_line self.new ≡ constant_line zero_ℚ) }
+        ensures places { place_count self.new ≡ place_count self.old }
+        ensures counted { OnOk result (steps.new ≡ steps.old + length (form_terms form.now) + 1) }
+        ensures above { steps.old ≤ steps.new }
+        ensures below { steps.new ≤ steps.old + length (form_terms form.now) + 1 }
+        ensures ascending { AreAscending 0 (form_terms form.now) }
+    {
+        match self.add_parts(form, k, steps) {
+            Ok(()) => Ok(()),
+            Err(stop) => {
+                self.clear();
+                Err(stop)
+            }
+        }
+    }
+
+    /// The form of the sum, which is 0 again.
+    pub fn take(&mut self, alloc: Global) -> Result<Form, AllocError>
+        ensures line { IfOk result (λ f. form_line f ≡ sum_line self.old) }
+        ensures zero { OnOk result (sum_line self.new ≡ constant_line zero_ℚ) }
+        ensures places { OnOk result (place_count self.new ≡ place_count self.old) }
+    {
+        let full = mem::replace(&mut self.accumulator, Accumulator::without_places(alloc));
+        let (coefficients, empty) = full.close()?;
+        let form = Form::of_parts(self.constant, coefficients);
+        self.constant = Frac::zero();
+        self.accumulator = empty;
+        Ok(form)
+    }
+}
