@@ -59,7 +59,8 @@ fn cap(hi: &mut [Option<Dec>], j: usize, most: Dec) -> Option<Dec>
     ensures count { length hi.new ≡ length hi.old }
 {
     let before = hi[j];
-    hi[j] = least(before, most);
+    let side = before;
+    hi[j] = least(side, most);
     before
 }
 
@@ -72,7 +73,8 @@ fn raise(lo: &mut [Option<Dec>], j: usize, least: Dec) -> Option<Dec>
     ensures count { length lo.new ≡ length lo.old }
 {
     let before = lo[j];
-    lo[j] = greatest(before, least);
+    let side = before;
+    lo[j] = greatest(side, least);
     before
 }
 

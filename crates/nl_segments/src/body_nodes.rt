@@ -117,7 +117,8 @@ pub(crate) fn take_row(
         (λ c. IsSettled builder.old (with_node_row c line row) current.new builder.new)) }
 {
     let Some(held) = current else { unreachable!() };
-    add_row_line(places, held.head(), row, line)?;
+    let placed = row;
+    add_row_line(places, held.head(), placed, line)?;
     held.take_row(row, line)?;
     if held.awaited() != Awaited::Nothing {
         return Ok(());
@@ -157,7 +158,8 @@ impl BodyReader {
             return Err(Stop::Memory);
         }
         self.is_broken = true;
-        self.nodes += row_count(row);
+        let counted = row;
+        self.nodes += row_count(counted);
         take_row(
             &mut self.builder,
             &mut self.places,

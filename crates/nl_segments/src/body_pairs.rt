@@ -168,7 +168,8 @@ impl BodyReader {
         let head = current.head();
         let full = is_full(head, self.linear, self.values);
         let counts = self.builder.header().counts();
-        if let Err(reason) = judge_pair(counts, head, &self.marks, full, pair) {
+        let judged = pair;
+        if let Err(reason) = judge_pair(counts, head, &self.marks, full, judged) {
             return Err(Stop::Fault(reason));
         }
         self.keep(head, pair, line)
@@ -186,11 +187,13 @@ impl BodyReader {
             return Err(Stop::Memory);
         }
         self.is_broken = true;
-        give_pair(&mut self.builder, head, pair)?;
+        let index = pair.0;
+        let given = pair;
+        give_pair(&mut self.builder, head, given)?;
         self.places.add_term(head, line)?;
         close_line(&mut self.builder, &mut self.name, &mut self.current, pair)?;
-        mark(&mut self.marks, head, pair.0);
-        count_use(&mut self.uses, head, pair.0);
+        mark(&mut self.marks, head, index);
+        count_use(&mut self.uses, head, index);
         count(&mut self.linear, is_linear(head));
         count(&mut self.values, is_suffix(head));
         self.is_broken = false;

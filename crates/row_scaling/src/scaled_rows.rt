@@ -96,7 +96,8 @@ fn scaled_row_at(
     let sides = linear.sides();
     let body = &bodies[con as usize];
     let side = sides[con as usize];
-    if !has_side(side) {
+    let asked = side;
+    if !has_side(asked) {
         return Ok(None);
     }
     match scale_row(alloc, body, side) {
