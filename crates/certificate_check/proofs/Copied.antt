@@ -4,7 +4,7 @@ use Rattle.std.specs.Prelude.{slice_get}
 use Rattle.std.specs.Option.{option_map_or}
 use Rattle.std.proofs.lemmas.Option.{get_or_from_slice_get, same_Some, slice_get-map}
 use Rattle.std.proofs.lemmas.List.{drop_all}
-use Rattle.std.proofs.lemmas.List.Elements.{All-head, All-tail}
+use Rattle.std.proofs.lemmas.List.Elements.{All-tail}
 use Rattle.linear_programs.specs.Linear.{Row as LinearRow, Variable, unbounded}
 use Rattle.linear_programs.specs.Linear.{zero_form}
 use Rattle.exact_numbers.specs.declared.dec.Dec.{Dec}
