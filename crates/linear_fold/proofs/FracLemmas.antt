@@ -69,9 +69,6 @@ fits_neg x =
     let parts = over_lowest (neg_ℤ x.top) x.bottom x.above (subst (λ n. AreCoprime n x.bottom) (sym (neg_size x.top)) x.lowest) in
     ap₂ (λ t b. is_small (unsigned_abs t) && is_small b) parts.0 parts.1 ∙ ap (λ n. is_small n && is_small x.bottom) (neg_size x.top)
 
-pub sum_with_zero : (f : Frac) (x : ℚ) → x ≡ zero_ℚ → sum_fits (frac_value f) x ≡ true
-sum_with_zero f x e = ap (sum_fits (frac_value f)) e ∙ sum_fits_zero (frac_value f) (frac_fits_lem f)
-
 pub zero_frac_fits : (f : Frac) → sum_fits zero_ℚ (frac_value f) ≡ true
 zero_frac_fits f = zero_sum_fits (frac_value f) (frac_fits_lem f)
 
