@@ -2,7 +2,7 @@
 use Rattle.std.proofs.Common.{◌≡◌, ◌∙◌, inl, inr, ◌⊎◌, ℕ, ◌+◌, ◌<◌, ◌≤◌, ◌==◌, ℤ, pos, negsuc, Bool, true, false, List, length, if◌then◌else◌, Option, Some, None, Result, Ok, Err, refl, sym, ap, ap₂, subst, arith}
 use Rattle.std.specs.Prelude.{◌&&◌, ◌<ℤ◌, nat_lt, option_map, IfOk, IsTrue}
 use Rattle.std.specs.Global.{Vec}
-use Rattle.std.proofs.lemmas.Bool.{eqb-true, ltb-false}
+use Rattle.std.proofs.lemmas.Bool.{eqb-true, ltb-false, and_parts}
 use Rattle.std.proofs.lemmas.Int.{ints}
 use Rattle.fractions.specs.Rational.{ℚ}
 use Rattle.duality.specs.Verdict.{Verdict, verdict, yes, gap, refused}
@@ -77,11 +77,6 @@ same_counts true false true e = absurd cc
 same_counts true true c e = absurd cc
 same_counts false b c e = absurd cc
 
-both_true : (a b : Bool) → (a && b) ≡ true → (a ≡ true) × (b ≡ true)
-both_true true true e = (refl, refl)
-both_true true false e = absurd cc
-both_true false b e = absurd cc
-
 full : (n given : ℕ) → IsEmptyOrFull n given → nat_lt given n ≡ false → given ≡ n
 full n given (inl empty) e = let le : n ≤ given = ltb-false given n e in omega (arith, le, empty)
 full n given (inr is) e = is
@@ -91,7 +86,7 @@ module _ (nl : NlValue) (s : Sol) (fits : unfit nl s ≡ None) where
   tests = same_counts _ _ _ fits
 
   same : (nl.file.counts.n_con ≡ s.n_con) × (nl.file.counts.n_var ≡ s.n_var)
-  same = let t = both_true _ _ tests.0 in (eqb-true _ _ t.0, eqb-true _ _ t.1)
+  same = let t = and_parts _ _ tests.0 in (eqb-true _ _ t.0, eqb-true _ _ t.1)
 
   pub all_primals : (k : ℕ) → IsEmptyOrFull s.n_var (length s.primals) → length s.primals ≡ variable_count (linear_of nl.file k)
   all_primals k given = full nl.file.counts.n_var (length s.primals) (subst (λ (n : ℕ). IsEmptyOrFull n (length s.primals)) (sym same.1) given) tests.1 ∙ sym (count_lem nl.file k)

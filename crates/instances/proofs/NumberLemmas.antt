@@ -1,7 +1,7 @@
 -- The numbers of an instance, and its header.
 use Rattle.std.proofs.Common.{◌≡◌, ◌∙◌, ℕ, ◌+◌, ◌≤◌, ◌^◌, max, ltb, Bool, true, ◌&&◌, pos, List, [], ◌∷◌, ◌++◌, refl, sym, ap, ap₂, subst, arith}
 use Rattle.std.proofs.lemmas.Int.{ints}
-use Rattle.std.proofs.lemmas.Bool.{lt-ltb, le-leb}
+use Rattle.std.proofs.lemmas.Bool.{lt-ltb, le-leb, and_from}
 use Rattle.fractions.specs.Rational.{whole, zero_ℚ, ◌≤ℚ◌}
 use Rattle.fractions.proofs.Arithmetic.{whole-≤ℚ}
 use Rattle.exact_numbers.specs.declared.dec.Dec.{Dec}
@@ -42,9 +42,6 @@ above_zero n d e zero most =
 
 -- ---- the header
 
-both : (a b : Bool) → a ≡ true → b ≡ true → (a && b) ≡ true
-both a b e f = rw (e, f) refl
-
 sizes : (n : ℕ) → n ≤ 20000 → are_numbers (counts_of n) ≡ true
 sizes n le =
     let small : ltb n (2 ^ 31) ≡ true = lt-ltb n (2 ^ 31) (omega (arith, le)) in
@@ -53,12 +50,12 @@ sizes n le =
 pub is_headed : (n : ℕ) → n ≤ 20000 → is_header (pos 1 ∷ pos 1 ∷ pos 0 ∷ []) (counts_of n) ≡ true
 unfolding is_header
 is_headed n le =
-    both (are_options (pos 1 ∷ pos 1 ∷ pos 0 ∷ [])) (are_counts (counts_of n)) refl (
-    both _ _ (
-    both _ _ (
-    both _ _ (
-    both _ _ (both _ _ (sizes n le) refl)
-    (both _ _ (both _ _ (both _ _ (le-leb n (2 ^ 20) (omega (arith, le))) (le-leb n (2 ^ 20) (omega (arith, le)))) refl) (le-leb n (2 ^ 22) (omega (arith, le))))
+    and_from (are_options (pos 1 ∷ pos 1 ∷ pos 0 ∷ [])) (are_counts (counts_of n)) refl (
+    and_from _ _ (
+    and_from _ _ (
+    and_from _ _ (
+    and_from _ _ (and_from _ _ (sizes n le) refl)
+    (and_from _ _ (and_from _ _ (and_from _ _ (le-leb n (2 ^ 20) (omega (arith, le))) (le-leb n (2 ^ 20) (omega (arith, le)))) refl) (le-leb n (2 ^ 22) (omega (arith, le))))
     ) refl
-    ) (both _ _ refl (le-leb (max 0 0 + 0 + n) n (omega arith)))
+    ) (and_from _ _ refl (le-leb (max 0 0 + 0 + n) n (omega arith)))
     ) (le-leb (defined_count (counts_of n)) (2 ^ 20) (omega (arith, le))))

@@ -277,9 +277,6 @@ module _ (m : Mps Dec) where
     few_columns = le_by (2 ^ 20) (length m.columns) both_few.1
 
 -- ---- the header
-both : (a b : Bool) → a ≡ true → b ≡ true → (a && b) ≡ true
-both a b e f = ap₂ (λ x y. x && y) e f
-
 le_in : (a b : ℕ) → a ≤ b → nat_le a b ≡ true
 le_in a b h = grind (arith, nat_tests)
 

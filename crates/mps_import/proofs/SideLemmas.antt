@@ -1,5 +1,6 @@
 -- The sides of rows and columns are decimals.
 use Rattle.std.proofs.Common.{◌≡◌, ℕ, ◌<◌, ◌∙◌, sym, ap, ap₂, refl, subst, arith, Bool, true, false, not, ◌&&◌, cond, nat_eq, ◌%◌, ◌^◌, ℤ, pos, neg_ℤ, unsigned_abs, List, [], ◌∷◌, map, Option, Some, None, MatchOption}
+use Rattle.std.proofs.lemmas.Bool.{not-false}
 use Rattle.std.proofs.lemmas.Int.{ints}
 use Rattle.std.specs.Option.{option_map, option_or}
 use Rattle.std.specs.Prelude.{option_and_then}
@@ -106,12 +107,8 @@ or_zero_fits (Some x) f = f
 pub rhs_fits : (i : ℕ) (es : List (Entry Dec)) → FitsDec (or_zero (at_row i (map (entry_with dec_value) es)))
 rhs_fits i es = or_zero_fits (at_row i (map (entry_with dec_value) es)) (at_row_fits i es)
 
-not_not : (b : Bool) → not b ≡ false → b ≡ true
-not_not true e = refl
-not_not false e = let r = e in cc
-
 sum_in : (kind : RowKind) (b r : ℚ) → is_range_wide kind b (Some r) ≡ false → FitsDec (b +ℚ range_step kind r)
-sum_in kind b r e = fits_dec_out (b +ℚ range_step kind r) (last (fits b) (fits r) (sum_fits b (range_step kind r)) (fits_dec (b +ℚ range_step kind r)) (not_not (is_in_reach kind b r) e))
+sum_in kind b r e = fits_dec_out (b +ℚ range_step kind r) (last (fits b) (fits r) (sum_fits b (range_step kind r)) (fits_dec (b +ℚ range_step kind r)) (not-false (is_in_reach kind b r) e))
   where
     last : (p q s t : Bool) → p && q && s && t ≡ true → t ≡ true
     last true true true t h = h

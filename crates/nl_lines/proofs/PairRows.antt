@@ -2,7 +2,7 @@
 use Rattle.std.proofs.Common.{◌≡◌, ◌∙◌, ℕ, ◌+◌, ◌-◌, ◌<◌, ◌≤◌, take, drop, Bool, true, false, not, List, [], ◌∷◌, length, refl, sym, ap, subst, arith, Option, Some, None, get_or}
 use Rattle.std.specs.Prelude.{unwrap_or, slice_index}
 use Rattle.std.specs.Char.{digit_value}
-use Rattle.std.proofs.lemmas.Bool.{ltb-true}
+use Rattle.std.proofs.lemmas.Bool.{ltb-true, not-false}
 use Rattle.std.proofs.lemmas.Bool.Decides.{nat_tests}
 use Rattle.text_base.specs.Judged.{first_reason}
 use Rattle.text_base.specs.Words.{IsUnmarked, row_of, without_comment, word_at}
@@ -63,17 +63,13 @@ pub same_known : (c : Counts) (head : Head) (marks : List Bool) (full : Bool) (w
 unfolding pair_form_tests
 same_known c head marks full words t p = rw (p.two, index_digits words t p, index_of words t p.says, value_of words t p.says) refl
 
-pub not_false : (b : Bool) → not b ≡ false → b ≡ true
-not_false true e = refl
-not_false false e = absurd cc
-
 pub fresh_known : (c : Counts) (head : Head) (marks : List Bool) (full : Bool) (words : List (List ℕ)) (t : Term) → IsPairRow words t
     → first_reason (known_pair_tests c head marks full t) ≡ None → SaysFreshPair c head marks full words t
 fresh_known c head marks full words t p e =
     let none = none_each (known_pair_tests c head marks full t) e in
     record {
       says = p.says;
-      below = ltb-true t.0 (index_limit c head) (not_false _ none.0);
+      below = ltb-true t.0 (index_limit c head) (not-false _ none.0);
       fresh = none.1.1.0;
       room = none.1.1.1.0;
     }

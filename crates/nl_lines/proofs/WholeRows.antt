@@ -1,6 +1,6 @@
 -- A row that is a whole number alone.
 use Rattle.std.proofs.Common.{◌≡◌, ◌∙◌, ℕ, ◌<◌, take, false, List, [], ◌∷◌, length, refl, sym, ap, subst, Some, None}
-use Rattle.std.proofs.lemmas.Bool.{eqb-true, ltb-true}
+use Rattle.std.proofs.lemmas.Bool.{eqb-true, ltb-true, not-false}
 use Rattle.text_base.specs.Judged.{first_reason}
 use Rattle.text_base.specs.Words.{IsUnmarked, row_of, without_comment, word_at}
 use Rattle.text_base.proofs.FirstReasons.{none_each}
@@ -10,7 +10,7 @@ use Rattle.exact_numbers.specs.Spelled.{first_of_both}
 use Rattle.nl_lines.specs.Heads.{is_head}
 use Rattle.nl_lines.specs.Tests.{column_tests}
 use Rattle.nl_lines.specs.WholeRows.{IsWholeRow}
-use Rattle.nl_lines.proofs.PairRows.{digits_plain, not_false, whole_digits}
+use Rattle.nl_lines.proofs.PairRows.{digits_plain, whole_digits}
 
 pub whole_line : (line : List ℕ) (n : ℕ) → whole_of line ≡ Some n → IsUnmarked line → IsWholeRow (row_of (without_comment line)) n
 whole_line line n e all =
@@ -29,4 +29,4 @@ pub column_row : (words : List (List ℕ)) (n : ℕ) → first_reason (column_te
 unfolding column_tests
 column_row words n fine e =
     let none = none_each (column_tests words) fine in
-    record { one = eqb-true (length words) 1 (first_of_both _ _ (not_false _ none.0)); says = e }
+    record { one = eqb-true (length words) 1 (first_of_both _ _ (not-false _ none.0)); says = e }

@@ -1,29 +1,25 @@
 -- What the rules of headers say, as facts.
 use Rattle.std.proofs.Common.{◌≡◌, ◌+◌, ◌-◌, ◌^◌, max, Bool, true, false, ◌&&◌, leb, List, IsTrue, refl}
-use Rattle.std.proofs.lemmas.Bool.{leb-true}
+use Rattle.std.proofs.lemmas.Bool.{leb-true, and_parts}
 use Rattle.std.specs.Prelude.{ℤ}
 use Rattle.nl_model.specs.declared.counts.Counts.{Counts}
 use Rattle.nl_model.specs.HeaderRules.{are_options, are_numbers, has_no_refused, are_sizes_within, are_shared_within, are_whole_within, are_definitions_within, are_counts, is_header, AreCounts}
 
-both : (a b : Bool) → (a && b) ≡ true → (a ≡ true) × (b ≡ true)
-both true b h = (refl, h)
-both false b h = absurd (cc)
-
 pub counts_of_header : (os : List ℤ) (c : Counts) → IsTrue (is_header os c) → AreCounts c
 unfolding is_header
 counts_of_header os c h =
-    let all = (both (are_options os) (are_counts c) h).1 in
-    let p5 = both (are_numbers c && has_no_refused c && are_sizes_within c && are_shared_within c && are_whole_within c) (are_definitions_within c) all in
-    let p4 = both (are_numbers c && has_no_refused c && are_sizes_within c && are_shared_within c) (are_whole_within c) p5.0 in
-    let p3 = both (are_numbers c && has_no_refused c && are_sizes_within c) (are_shared_within c) p4.0 in
-    let p2 = both (are_numbers c && has_no_refused c) (are_sizes_within c) p3.0 in
-    let s3 = both (leb c.n_var (2 ^ 20) && leb c.n_con (2 ^ 20) && leb c.n_obj 256) (leb c.nzc (2 ^ 22)) p2.1 in
-    let s2 = both (leb c.n_var (2 ^ 20) && leb c.n_con (2 ^ 20)) (leb c.n_obj 256) s3.0 in
-    let s1 = both (leb c.n_var (2 ^ 20)) (leb c.n_con (2 ^ 20)) s2.0 in
-    let b1 = both (leb c.nlvb c.nlvc) (leb c.nlvb c.nlvo) p3.1 in
-    let w3 = both (leb c.nlvbi c.nlvb && leb c.nlvci (c.nlvc - c.nlvb) && leb c.nlvoi (c.nlvo - c.nlvc)) (leb (max c.nlvc c.nlvo + c.nbv + c.niv) c.n_var) p4.1 in
-    let w2 = both (leb c.nlvbi c.nlvb && leb c.nlvci (c.nlvc - c.nlvb)) (leb c.nlvoi (c.nlvo - c.nlvc)) w3.0 in
-    let w1 = both (leb c.nlvbi c.nlvb) (leb c.nlvci (c.nlvc - c.nlvb)) w2.0 in
+    let all = (and_parts (are_options os) (are_counts c) h).1 in
+    let p5 = and_parts (are_numbers c && has_no_refused c && are_sizes_within c && are_shared_within c && are_whole_within c) (are_definitions_within c) all in
+    let p4 = and_parts (are_numbers c && has_no_refused c && are_sizes_within c && are_shared_within c) (are_whole_within c) p5.0 in
+    let p3 = and_parts (are_numbers c && has_no_refused c && are_sizes_within c) (are_shared_within c) p4.0 in
+    let p2 = and_parts (are_numbers c && has_no_refused c) (are_sizes_within c) p3.0 in
+    let s3 = and_parts (leb c.n_var (2 ^ 20) && leb c.n_con (2 ^ 20) && leb c.n_obj 256) (leb c.nzc (2 ^ 22)) p2.1 in
+    let s2 = and_parts (leb c.n_var (2 ^ 20) && leb c.n_con (2 ^ 20)) (leb c.n_obj 256) s3.0 in
+    let s1 = and_parts (leb c.n_var (2 ^ 20)) (leb c.n_con (2 ^ 20)) s2.0 in
+    let b1 = and_parts (leb c.nlvb c.nlvc) (leb c.nlvb c.nlvo) p3.1 in
+    let w3 = and_parts (leb c.nlvbi c.nlvb && leb c.nlvci (c.nlvc - c.nlvb) && leb c.nlvoi (c.nlvo - c.nlvc)) (leb (max c.nlvc c.nlvo + c.nbv + c.niv) c.n_var) p4.1 in
+    let w2 = and_parts (leb c.nlvbi c.nlvb && leb c.nlvci (c.nlvc - c.nlvb)) (leb c.nlvoi (c.nlvo - c.nlvc)) w3.0 in
+    let w1 = and_parts (leb c.nlvbi c.nlvb) (leb c.nlvci (c.nlvc - c.nlvb)) w2.0 in
     record {
       variables = leb-true _ _ s1.0;
       constraints = leb-true _ _ s1.1;

@@ -3,7 +3,7 @@ use Rattle.std.proofs.Common.{◌≡◌, ◌∙◌, ℕ, ◌+◌, ◌<◌, ◌�
 use Rattle.std.specs.Prelude.{IfSome, is_none, unwrap_or}
 use Rattle.std.specs.List.{cons_option}
 use Rattle.std.specs.Option.{option_map_or}
-use Rattle.std.proofs.lemmas.Bool.{leb-false, ltb-true, ltb-false, not-false}
+use Rattle.std.proofs.lemmas.Bool.{leb-false, ltb-true, ltb-false, not-false, and_from, or_parts}
 use Rattle.std.proofs.lemmas.List.{map-append, get_or_append_left, get_or_push}
 use Rattle.std.proofs.lemmas.List.Elements.{All-push, All-append, filter_map-append}
 use Rattle.text_base.specs.Judged.{first_reason}
@@ -195,10 +195,6 @@ early_left c before p row within h =
 no_intervals : (h : Head) → line_kind h ≡ Pair → line_kind h ≡ IntervalLine → ⊥
 no_intervals h e f = let clash : Pair ≡ IntervalLine = sym e ∙ f in cc
 
-not_either : (a b : Bool) → (a || b) ≡ false → (a ≡ false) × (b ≡ false)
-not_either true b e = absurd cc
-not_either false b e = (refl, e)
-
 room_for : (counts : Head → Bool) (h : Head) (n m : ℕ) → (counts h && nat_le (2 ^ 22) n) ≡ false → m ≡ cond (counts h) (n + 1) n → n ≤ 2 ^ 22 → m ≤ 2 ^ 22
 room_for counts h n m room e few = by (counts h) refl
   where
@@ -236,7 +232,7 @@ kept_pair o c before p row h clean e fine =
     let formed = none_first form rest fine in
     let pair = pair_found (index_limit c p.head) (wants_whole p.head) words formed in
     let once = none_each rest (none_second form rest fine) in
-    let full = not_either (is_linear p.head && nat_le most_terms (pair_total is_linear (before ++ p ∷ []))) (is_suffix p.head && nat_le most_terms (pair_total is_suffix (before ++ p ∷ []))) once.1.0 in
+    let full = or_parts (is_linear p.head && nat_le most_terms (pair_total is_linear (before ++ p ∷ []))) (is_suffix p.head && nat_le most_terms (pair_total is_suffix (before ++ p ∷ []))) once.1.0 in
     let early : length p.rows < pair_count p.head = subst (λ k. length p.rows < k) (pair_lines c p.head b.same_kind) b.within in
     let pairs : piece_pairs (longer p row) ≡ piece_pairs p ++ pair.term ∷ [] = row_more.early_pairs p row pair.term early pair.says in
     let more : length (piece_pairs (longer p row)) ≡ length (piece_pairs p) + 1 = ap length pairs ∙ length-append (piece_pairs p) (pair.term ∷ []) in
@@ -321,9 +317,6 @@ good_interval c p words fine =
     by None e n f u = absurd cc
     by (Some i) e n f u = record { interval = i; says = e; in_order = ordered i f; unit = λ w. not-false (is_within_unit i) (not_both (wants_unit c p) (not (is_within_unit i)) u w) }
 
-both_true : (a b : Bool) → a ≡ true → b ≡ true → (a && b) ≡ true
-both_true a b e f = rw (e, f) refl
-
 longer_intervals : (c : Counts) (p : Piece) (row : Row) → length p.rows < line_count c p.head → IsGoodInterval c p (row_words row) → AreGoodIntervals c p → AreGoodIntervals c (longer p row)
 longer_intervals c p row within i h =
     let is : piece_intervals (longer p row) ≡ piece_intervals p ++ i.interval ∷ [] = filter_map-append (λ (r : Row). interval_in (row_words r)) p.rows (row ∷ []) ∙ ap (λ x. piece_intervals p ++ cons_option x []) i.says in
@@ -339,7 +332,7 @@ longer_intervals c p row within i h =
   where
     at_end : is_sides p.head ≡ false → (j : ℕ) → j ≡ length p.rows → is_binary (kind_of c j) ≡ true → is_within_unit i.interval ≡ true
     at_end s j same binary =
-        i.unit (both_true (not (is_sides p.head)) (is_binary (kind_of c (length p.rows))) (ap not s) (subst (λ k. is_binary (kind_of c k) ≡ true) same binary))
+        i.unit (and_from (not (is_sides p.head)) (is_binary (kind_of c (length p.rows))) (ap not s) (subst (λ k. is_binary (kind_of c k) ≡ true) same binary))
 
     by : is_sides p.head ≡ false → (j : ℕ) (d : Interval) → j < length (piece_intervals p ++ i.interval ∷ []) → is_binary (kind_of c j) ≡ true → piece_intervals (longer p row) ≡ piece_intervals p ++ i.interval ∷ []
         → (t : Bool) → nat_lt j (length (piece_intervals p)) ≡ t → is_within_unit (get_or (piece_intervals (longer p row)) j d) ≡ true

@@ -2,7 +2,7 @@
 use Rattle.std.proofs.Common.{◌≡◌, ◌∙◌, ℕ, ◌+◌, ◌<◌, ◌≤◌, Bool, true, false, ◌&&◌, List, [], ◌∷◌, ◌++◌, length, refl, sym, ap, subst, arith, nat_lt, nat_le, Some}
 use Rattle.std.specs.Prelude.{ℤ, IsTrue}
 use Rattle.std.specs.List.{list_any}
-use Rattle.std.proofs.lemmas.Bool.{ltb-true, leb-true}
+use Rattle.std.proofs.lemmas.Bool.{ltb-true, leb-true, and_parts}
 use Rattle.nl_header.specs.Head.{options_in, counts_in}
 use Rattle.nl_model.specs.declared.counts.Counts.{Counts}
 use Rattle.nl_model.specs.Draft.{is_given}
@@ -25,11 +25,6 @@ use Rattle.nl_lines.proofs.TotalLemmas.{pairs-append}
 use Rattle.nl_segments.proofs.PairLines.{at, opened, last_sound}
 use Rattle.nl_segments.proofs.NodeSteps.{tree_says}
 
-both : (a b : Bool) → (a && b) ≡ true → (a ≡ true) × (b ≡ true)
-both true true e = (refl, refl)
-both true false e = absurd cc
-both false b e = absurd cc
-
 body_in : (c : Counts) (i : ℕ) → is_in_range c (BodyHead i) ≡ true → i < c.n_con
 unfolding is_in_range
 body_in c i e = ltb-true i c.n_con e
@@ -41,7 +36,7 @@ objective_in c k m e = ltb-true k c.n_obj e
 definition_in : (c : Counts) (i j u : ℕ) → is_in_range c (Definition i j u) ≡ true → (c.n_var ≤ i) × (i < c.n_var + defined_count c)
 unfolding is_in_range
 definition_in c i j u e =
-    let parts = both (nat_le c.n_var i) (nat_lt i (c.n_var + defined_count c)) e in
+    let parts = and_parts (nat_le c.n_var i) (nat_lt i (c.n_var + defined_count c)) e in
     (leb-true c.n_var i parts.0, ltb-true i (c.n_var + defined_count c) parts.1)
 
 -- the terms that are kept are few

@@ -1,7 +1,7 @@
 -- A text without faults is a proof: its rows give one tree. The walk goes over the lines that are
 -- left, and gives the subtrees and pairs that were awaited before them.
 use Rattle.std.proofs.Common.{◌≡◌, ◌∙◌, ℕ, zero, suc, ◌+◌, ◌-◌, ◌<◌, ◌≤◌, ◌^◌, ◌==◌, ℤ, Bool, true, false, cond, not, ◌&&◌, ◌||◌, nat_le, nat_lt, List, [], ◌∷◌, ◌++◌, length, get_or, Option, Some, None, is_none, IsTrue, All, codes, refl, sym, ap, ap₂, subst, arith, append-nil, append_assoc, length-append}
-use Rattle.std.proofs.lemmas.Bool.{lt-ltb, eqb-true}
+use Rattle.std.proofs.lemmas.Bool.{lt-ltb, eqb-true, and_parts, not-false}
 use Rattle.std.specs.Str.{bytes_eq}
 use Rattle.text_base.proofs.NamePlaces.{bytes_same}
 use Rattle.fractions.specs.Fits.{fits}
@@ -74,15 +74,6 @@ GoOn f c lines = (nodes : List ProofNode) (pairs own : List Pair) (subtrees left
 is_zero : (n : ℕ) → (n == 0) ≡ true → n ≡ 0
 is_zero n e = eqb-true n 0 e
 
-both_true : (a b : Bool) → (a && b) ≡ true → (a ≡ true) × (b ≡ true)
-both_true true true e = (refl, refl)
-both_true true false e = absurd cc
-both_true false b e = absurd cc
-
-not_false : (b : Bool) → not b ≡ false → b ≡ true
-not_false true e = refl
-not_false false e = absurd cc
-
 le_false : (a b : ℕ) → nat_le a b ≡ false → b < a
 le_false a b e = grind arith
 
@@ -90,7 +81,7 @@ end_grows : (f : File) (c : Claim) → GoOn f c []
 unfolding standing_from end_tests nodes_in pairs_in AreTrees
 end_grows f c nodes pairs own subtrees left few fine =
     let tests = none_each (end_tests (claimed c nodes pairs own subtrees left)) fine in
-    let whole = both_true (subtrees == 0) (left == 0) (not_false (is_whole_tree (claimed c nodes pairs own subtrees left)) tests.1.0) in
+    let whole = and_parts (subtrees == 0) (left == 0) (not-false (is_whole_tree (claimed c nodes pairs own subtrees left)) tests.1.0) in
     record {
       own = [];
       trees = [];
@@ -159,7 +150,7 @@ leaf_may (Some n) = tt
 may_stand : (c : Claim) (words : Row) → is_node_row (Some c) words ≡ true → MayStand c (node_in words)
 may_stand (Value k d) words h = tt
 may_stand Infeasible words h =
-    let first = both_true (begins words (codes "weights")) (length words == 2) (or_false (begins words (codes "weights") && (length words == 2)) h) in
+    let first = and_parts (begins words (codes "weights")) (length words == 2) (or_false (begins words (codes "weights") && (length words == 2)) h) in
     subst (MayStand Infeasible) (sym (weights_node words first.0)) (leaf_may (whole_of (word_at words 1)))
 
 split_alone : (c : Claim) (j : ℕ) (t : ℤ) (low high : ProofTree) → MayStand c (Some (Split j t)) → IsAlone c (split j t low high)
@@ -233,7 +224,7 @@ split_fine f j t out continuous =
     let n = f.counts.n_var in
     let below : j < n = subst (λ m. j < m) (elements_length kind 0 n) (le_false (length (elements_from kind 0 n)) j out) in
     let here : 0 + j ≡ j = omega arith in
-    (below, ap (λ (i : ℕ). is_whole_kind (kind i)) (sym here) ∙ ap is_whole_kind (sym (elements_at kind 0 n j Continuous below)) ∙ not_false (is_whole_kind (get_or (elements_from kind 0 n) j Continuous)) continuous)
+    (below, ap (λ (i : ℕ). is_whole_kind (kind i)) (sym here) ∙ ap is_whole_kind (sym (elements_at kind 0 n j Continuous below)) ∙ not-false (is_whole_kind (get_or (elements_from kind 0 n) j Continuous)) continuous)
 
 node_grows : (f : File) (c : Claim) (lines : List (List ℕ)) → GoOn f c lines → (nodes : List ProofNode) (pairs own : List Pair) (subtrees left : ℕ) → length nodes < 2 ^ 16 → 0 < subtrees → left ≡ 0
     → (o : Option ProofNode) → is_none o ≡ false → is_split_out (setting_of f).kinds o ≡ false → is_split_continuous (setting_of f).kinds o ≡ false → MayStand c o
@@ -298,7 +289,7 @@ row_grows f c lines next nodes pairs own subtrees left few words = by ((subtrees
         let each = none_each (node_tests s st words) tests in
         let none = lt_false left awaited in
         node_grows f c lines next nodes pairs own subtrees left (le_false (2 ^ 16) (length nodes) each.1.1.1.1.0) (some_awaited subtrees left part none) none
-        (node_in words) each.1.0 each.1.1.0 each.1.1.1.0 (may_stand c words (not_false (is_node_row (Some c) words) each.0)) fine
+        (node_in words) each.1.0 each.1.1.0 each.1.1.1.0 (may_stand c words (not-false (is_node_row (Some c) words) each.0)) fine
 
 line_grows : (f : File) (c : Claim) (lines : List (List ℕ)) → GoOn f c lines → (line : List ℕ) → GoOn f c (line ∷ lines)
 unfolding line_tests standing_from

@@ -3,7 +3,7 @@ use Rattle.std.proofs.Common.{◌≡◌, ℕ, ◌+◌, ◌-◌, ◌<◌, ◌≤�
 use Rattle.std.specs.Prelude.{IfSome, is_none, unwrap_or}
 use Rattle.std.specs.Ordering.{int_eq}
 use Rattle.std.specs.List.{AllByRecursion}
-use Rattle.std.proofs.lemmas.Bool.{ltb-true, ltb-false, eqb-true}
+use Rattle.std.proofs.lemmas.Bool.{ltb-true, ltb-false, eqb-true, not-false}
 use Rattle.std.proofs.lemmas.List.{length_push}
 use Rattle.exact_numbers.specs.Numbers.{are_digits, dec_of, has_31_bits, signed_of, whole_of}
 use Rattle.std.specs.Str.Parse.{signed_digits_value, without_leading_sign}
@@ -30,10 +30,6 @@ use Rattle.sol_files.proofs.Kept.{Speaks, HasOptions, HasNoSuffixes, HasSuffixes
 pub fine_next : (b : Bool) (r : Refusal) (o : Option Refusal) → cond b (Some r) o ≡ None → (b ≡ false) × (o ≡ None)
 fine_next true r o e = absurd cc
 fine_next false r o e = (refl, e)
-
-pub was_not : (b : Bool) → not b ≡ false → b ≡ true
-was_not true e = refl
-was_not false e = absurd cc
 
 pub is_number : (limit : ℕ) (o : Option ℕ) → is_below limit o ≡ true → unwrap_or o 0 < limit
 is_number limit None e = absurd cc
@@ -79,7 +75,7 @@ kept_count s words h f =
     let one = fine_next (not (length words == 1)) (Here BadLine) _ f in
     let two = fine_next (not (are_digits (word_at words 0))) (Here BadNumber) _ one.1 in
     let three = fine_next (not (is_below 10 (whole_of (word_at words 0)))) (Here BadOptions) None two.1 in
-    let less = is_number 10 (whole_of (word_at words 0)) (was_not _ three.0) in
+    let less = is_number 10 (whole_of (word_at words 0)) (not-false _ three.0) in
     let room = h.options.room in
     await_options (record s { awaited = options_await (number_in words 0) }) (number_in words 0) h.said
     (record { each = h.options.each; second = h.options.second; room = omega (arith, less, room) }) h.n_con h.n_var h.objno (record { duals = h.rest.0.duals; primals = h.rest.0.primals }, h.rest.1)
@@ -118,7 +114,7 @@ size_less words more a b c f =
     let one = fine_next (not (length words == 1)) a _ f in
     let two = fine_next (not (are_digits (word_at words 0))) b _ one.1 in
     let three = fine_next (not (is_below (2 ^ 20 + 1) (whole_of (word_at words 0)))) c more two.1 in
-    (is_number (2 ^ 20 + 1) (whole_of (word_at words 0)) (was_not _ three.0), three.1)
+    (is_number (2 ^ 20 + 1) (whole_of (word_at words 0)) (not-false _ three.0), three.1)
 
 pub kept_constraints : (s : Standing) (words : Row) → KeepsAt Constraints s → first_reason (row_tests Constraints s words) ≡ None → Keeps (after_row Constraints s words)
 unfolding row_tests after_row KeptAt
@@ -136,7 +132,7 @@ is_given full n h = by (n == 0) refl h
 pub kept_dual_count : (s : Standing) (words : Row) → KeepsAt DualCount s → first_reason (row_tests DualCount s words) ≡ None → Keeps (after_row DualCount s words)
 unfolding row_tests after_row KeptAt
 kept_dual_count s words h f =
-    let given = is_given s.sol.n_con (number_in words 0) (was_not _ (fine_next _ _ _ (size_less words _ _ _ _ f).1).0) in
+    let given = is_given s.sol.n_con (number_in words 0) (not-false _ (fine_next _ _ _ (size_less words _ _ _ _ f).1).0) in
     record { said = h.said; options = h.options; n_con = h.n_con; n_var = h.n_var; objno = h.objno; rest = (record { none = record { duals = h.rest.0.duals; primals = h.rest.0.primals }; count = given }, h.rest.1) }
 
 pub kept_variables : (s : Standing) (words : Row) → KeepsAt Variables s → first_reason (row_tests Variables s words) ≡ None → Keeps (after_row Variables s words)
@@ -167,7 +163,7 @@ keeps_values s d p said options con var objno h none = by (nat_lt 0 d) (nat_lt 0
 pub kept_primal_count : (s : Standing) (words : Row) → KeepsAt PrimalCount s → first_reason (row_tests PrimalCount s words) ≡ None → Keeps (after_row PrimalCount s words)
 unfolding row_tests after_row KeptAt
 kept_primal_count s words h f =
-    let given = is_given s.sol.n_var (number_in words 0) (was_not _ (fine_next _ _ _ (size_less words _ _ _ _ f).1).0) in
+    let given = is_given s.sol.n_var (number_in words 0) (not-false _ (fine_next _ _ _ (size_less words _ _ _ _ f).1).0) in
     let next : Standing = record s { awaited = values_await s.dual_count (number_in words 0); primal_count = number_in words 0 } in
     keeps_values next s.dual_count (number_in words 0) h.said h.options h.n_con h.n_var h.objno
     (ready_counts next [] (values_await s.dual_count (number_in words 0)) refl (record { duals = h.rest.0.none.duals; primals = h.rest.0.none.primals }) h.rest.0.count given) h.rest.1

@@ -5,7 +5,7 @@ use Rattle.std.specs.Option.{option_map_or}
 use Rattle.std.proofs.lemmas.Slice.Eq.{bytes_eq-Decides}
 use Rattle.std.specs.Str.Parse.{digits_value}
 use Rattle.std.specs.List.{AllByRecursion, sum_by}
-use Rattle.std.proofs.lemmas.Bool.{and_from, and_parts, ltb-true, leb-true, leb-false, eqb-false}
+use Rattle.std.proofs.lemmas.Bool.{and_from, and_parts, ltb-true, leb-true, leb-false, eqb-false, not-false}
 use Rattle.std.proofs.lemmas.List.{length_push, length-append, append-nil}
 use Rattle.std.proofs.lemmas.List.Sums.{sum_by-cons}
 use Rattle.exact_numbers.specs.declared.dec.Dec.{Dec}
@@ -30,7 +30,7 @@ use Rattle.sol_files.specs.Steps.{after_message, after_row, after_name, after_ta
 use Rattle.sol_files.specs.Written.{IsSaidLine, IsSignedPair, IsWritableSuffix, are_values}
 use Rattle.sol_files.proofs.ShortWords.{row-line}
 use Rattle.sol_files.proofs.Kept.{Speaks, HasOptions, Late, KeptAt, KeepsAt, Keeps}
-use Rattle.sol_files.proofs.KeptRows.{IsThere, all_push, fine_next, is_number, is_there, signed_of-fits, was_not}
+use Rattle.sol_files.proofs.KeptRows.{IsThere, all_push, fine_next, is_number, is_there, signed_of-fits}
 
 -- ---- the message
 
@@ -128,10 +128,10 @@ pub kept_head : (s : Standing) (words : Row) → KeepsAt Tail s → first_reason
 unfolding KeptAt
 kept_head s words h f =
     let all = none_each (suffix_tests s.suffix_count s.table_count words) f in
-    let numbers : are_head_numbers words ≡ true = was_not (are_head_numbers words) all.1.1.0 in
+    let numbers : are_head_numbers words ≡ true = not-false (are_head_numbers words) all.1.1.0 in
     let kind = is_number 256 (whole_of (word_at words 1)) (and_parts _ _ (and_parts _ _ (and_parts _ _ numbers).0).0).0 in
     let room = leb-false 1024 s.suffix_count all.1.1.1.0 in
-    let tables = has_room s.table_count (whole_of (word_at words 5)) (was_not (has_table_room s.table_count (whole_of (word_at words 5))) all.1.1.1.1.0) in
+    let tables = has_room s.table_count (whole_of (word_at words 5)) (not-false (has_table_room s.table_count (whole_of (word_at words 5))) all.1.1.1.1.0) in
     let given = h.rest.0 in
     let old = h.rest.1 in
     let begun = old.begun in
@@ -223,7 +223,7 @@ pub kept_name : (s : Standing) (head : SuffixHead) (words : Row) → KeepsAt (Na
 unfolding KeptAt are_values
 kept_name s head words h f =
     let all = none_each (name_tests words) f in
-    let is = was_not ((length words == 1) && is_name (word_at words 0)) all.0 in
+    let is = not-false ((length words == 1) && is_name (word_at words 0)) all.0 in
     let x = named_suffix head (word_at words 0) in
     let next = after_name s head words in
     let fits = h.rest.0 in
@@ -321,7 +321,7 @@ wide_whole : (w : Bool) (o : Option Dec) (d : Dec) → o ≡ Some d → (is_none
 wide_whole false o d e f = refl
 wide_whole true o d e f =
     let test : not (is_whole d) ≡ false = rw e at f in
-    was_not (is_whole d) test
+    not-false (is_whole d) test
 
 index_there : (limit : ℕ) (o : Option ℕ) → is_below limit o ≡ true → IsThere o
 index_there limit None e = absurd cc
@@ -335,7 +335,7 @@ pub kept_value : (s : Standing) (left : ℕ) (words : Row) → KeepsAt (Values l
 unfolding row_tests after_row KeptAt
 kept_value s left words h f =
     let all = none_each (value_tests s words) f in
-    let inside = was_not (is_below (index_limit s.sol) (whole_of (word_at words 0))) all.1.1.0 in
+    let inside = not-false (is_below (index_limit s.sol) (whole_of (word_at words 0))) all.1.1.0 in
     let index = index_there (index_limit s.sol) (whole_of (word_at words 0)) inside in
     let number = is_there (dec_of (word_at words 1)) (or_each _ _ all.1.1.1.0).0 in
     let whole = wide_whole (wants_whole (last_kind s.sol.suffixes)) (dec_of (word_at words 1)) number.value number.is all.1.1.1.0 in

@@ -1,5 +1,6 @@
 -- A value that was read keeps the rules of values.
 use Rattle.std.proofs.Common.{◌≡◌, ◌∙◌, ℕ, zero, suc, ◌<◌, ◌≤◌, Bool, true, false, cond, List, [], ◌∷◌, ◌++◌, length, take, drop, Option, Some, None, refl, sym, ap, subst, arith, ◌==◌}
+use Rattle.std.proofs.lemmas.Bool.{not-false}
 use Rattle.std.specs.List.{AllByRecursion}
 use Rattle.std.proofs.lemmas.List.{take_all, drop_all}
 use Rattle.text_base.specs.Cut.{IsTextLine}
@@ -24,7 +25,7 @@ use Rattle.sol_files.specs.Reader.{IsSol}
 use Rattle.sol_files.specs.Written.{KeepsRules}
 use Rattle.sol_files.proofs.StandingLemmas.{standing-more, no_lines, with_draft}
 use Rattle.sol_files.proofs.Kept.{KeptAt, KeepsAt, Keeps}
-use Rattle.sol_files.proofs.KeptRows.{kept_count, kept_option, kept_constraints, kept_dual_count, kept_variables, kept_primal_count, kept_dual, kept_primal, was_not}
+use Rattle.sol_files.proofs.KeptRows.{kept_count, kept_option, kept_constraints, kept_dual_count, kept_variables, kept_primal_count, kept_dual, kept_primal}
 use Rattle.sol_files.proofs.KeptTail.{kept_message, kept_tail, kept_name, kept_table, kept_value}
 
 -- ---- a line more
@@ -170,5 +171,5 @@ read_keeps text sol h =
     let at_last : last_reason sol_rules lines (last_of text) ≡ None =
     ap (λ ls. last_reason sol_rules ls (last_of text)) (sym whole) ∙ ap (reason_after sol_rules (last_of text) (take n lines)) (sym (drop_all n lines (omega arith))) ∙ h.clean.clean n (omega arith) in
     let tests = none_each (end_tests s) (last_fine (scan text).fault lines at_last) in
-    let tail = tail_of s.awaited (was_not (is_tail s.awaited) tests.1.1.0) in
+    let tail = tail_of s.awaited (not-false (is_tail s.awaited) tests.1.1.0) in
     subst KeepsRules (sym h.said) (rules_kept s (subst (λ a. KeepsAt a s) tail kept))
