@@ -328,7 +328,8 @@ impl ProofGrammar {
         if !self.begun {
             return Err(Stop::Fault(ProofReason::BadFirst));
         }
-        let Some(claim) = self.claim else {
+        let given = self.claim;
+        let Some(claim) = given else {
             return Err(Stop::Fault(ProofReason::Short));
         };
         if !self.is_whole_tree() {

@@ -68,8 +68,9 @@ impl LeafPairs {
             ≡ record self.old { own = self.old.own ++ pair ∷ [] }) }
         ensures rows { self.new.rows ≡ self.old.rows }
     {
+        let row = pair.0;
         self.own.push(pair)?;
-        self.marks.mark(pair.0);
+        self.marks.mark(row);
         Ok(())
     }
 
