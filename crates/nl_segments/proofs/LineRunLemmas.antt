@@ -1,6 +1,6 @@
 -- Runs of lines: one line more, and the line at a place.
-use Rattle.std.proofs.Common.{◌≡◌, ◌∙◌, ℕ, ◌+◌, ◌-◌, ◌<◌, ◌≤◌, List, [], ◌∷◌, ◌++◌, length, get_or, refl, sym, ap, ap₂, arith, drop, suc, zero, Option, Some, None, append_assoc}
-use Rattle.std.specs.Prelude.{slice_get, slice_set}
+use Rattle.std.proofs.Common.{◌≡◌, ◌∙◌, ℕ, ◌+◌, ◌-◌, ◌<◌, ◌≤◌, List, [], ◌∷◌, ◌++◌, length, get_or, sym, ap, ap₂, arith, drop, suc, zero, Option, Some, None, Result, Ok, Err, append_assoc}
+use Rattle.std.specs.Prelude.{slice_get, slice_set, OnOk}
 use Rattle.std.specs.List.{range_with_len}
 use Rattle.nl_segments.specs.declared.line_runs.LineRun.{LineRun}
 use Rattle.nl_segments.specs.LineRuns.{lines_in, run_lines}
@@ -21,8 +21,12 @@ one_run [] r line first last =
     ap (λ a. range_with_len a (r.last + 1 - a) ++ []) first ∙ ap (λ n. range_with_len line n ++ []) one
 one_run (x ∷ xs) r line first last = ap (λ ys. lines_in x ++ ys) (one_run xs r line first last) ∙ sym (append_assoc (lines_in x) (run_lines xs) (line ∷ []))
 
-pub pushed : (now : List ℕ) (old grown new : List LineRun) (r : LineRun) (line : ℕ) → run_lines old ≡ now → grown ≡ old → new ≡ grown ++ r ∷ [] → r.first ≡ line → r.last ≡ line → run_lines new ≡ now ++ line ∷ []
+pushed : (now : List ℕ) (old grown new : List LineRun) (r : LineRun) (line : ℕ) → run_lines old ≡ now → grown ≡ old → new ≡ grown ++ r ∷ [] → r.first ≡ line → r.last ≡ line → run_lines new ≡ now ++ line ∷ []
 pushed now old grown new r line view same is first last = ap run_lines (is ∙ ap (λ xs. xs ++ r ∷ []) same) ∙ one_run old r line first last ∙ ap (λ xs. xs ++ line ∷ []) view
+
+pub begun : {E : Type 0} (o : Result (Unit {0}) E) (now : List ℕ) (old grown new : List LineRun) (r : LineRun) (line : ℕ) → run_lines old ≡ now → grown ≡ old → r.first ≡ line → r.last ≡ line → OnOk o (new ≡ grown ++ r ∷ []) → OnOk o (run_lines new ≡ now ++ line ∷ [])
+begun (Ok u) now old grown new r line view same first last is = pushed now old grown new r line view same is first last
+begun (Err e) now old grown new r line view same first last is = tt
 
 -- a run that is one longer
 longer : (r s : LineRun) (line : ℕ) → s.first ≡ r.first → s.last ≡ line → r.last + 1 ≡ line → r.first ≤ line → lines_in s ≡ lines_in r ++ line ∷ []

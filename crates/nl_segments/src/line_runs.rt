@@ -28,6 +28,7 @@ impl Model for LineRuns {
 }
 
 // Adds a line to the last run, where it follows that; whether it does.
+#[inline]
 fn grow_last(runs: &mut Vec<LineRun>, line: u32) -> bool
     ensures grown { result ≡ true
         → run_lines runs.new.items ≡ run_lines runs.old.items ++ line ∷ [] }
@@ -46,6 +47,19 @@ fn grow_last(runs: &mut Vec<LineRun>, line: u32) -> bool
         last: line,
     };
     true
+}
+
+// Begins a run with a line. Its room is not made where a run grows.
+#[inline(never)]
+fn begin_run(runs: &mut Vec<LineRun>, line: u32) -> Result<(), AllocError>
+    ensures { OnOk result (runs.new.items
+        ≡ runs.old.items ++ record { first = line; last = line } ∷ []) }
+{
+    runs.push(LineRun {
+        first: line,
+        last: line,
+    })?;
+    Ok(())
 }
 
 // The line at a place.
@@ -85,17 +99,14 @@ impl LineRuns {
     }
 
     /// Adds a line.
+    #[inline]
     pub(crate) fn push(&mut self, line: u32) -> Result<(), AllocError>
         ensures { OnOk result (self.new ≡ self.old ++ line ∷ []) }
     {
         if grow_last(&mut self.runs, line) {
             return Ok(());
         }
-        self.runs.push(LineRun {
-            first: line,
-            last: line,
-        })?;
-        Ok(())
+        begin_run(&mut self.runs, line)
     }
 
     /// The line at a place.

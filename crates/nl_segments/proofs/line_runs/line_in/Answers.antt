@@ -18,13 +18,13 @@ loop-run-preserved c =
     let i = c.loop-run.run-index in
     let after : i + 1 ≡ suc i = omega arith in
     elim c.if-run.branch [
-      then-run+else-left-more w ↦
-        let some : r.first ≤ r.last = grind (arith, nat_tests, w.if-run.true) in
-        let more : c.loop-run.left ≡ r.last + 1 - r.first + c.if-run.left = grind (arith, nat_tests, w.left-is, w.if-run.true, w.if-left-more.false) in
-        found_after c.args.runs.now i (i + 1) d r c.loop-run.left c.if-run.left _ after c.loop-run-test.true refl some more c.loop-run.invariant
+      | then-run+else-left-more w ↦
+          let some : r.first ≤ r.last = grind (arith, nat_tests, w.if-run.true) in
+          let more : c.loop-run.left ≡ r.last + 1 - r.first + c.if-run.left = grind (arith, nat_tests, w.left-is, w.if-run.true, w.if-left-more.false) in
+          found_after c.args.runs.now i (i + 1) d r c.loop-run.left c.if-run.left _ after c.loop-run-test.true refl some more c.loop-run.invariant
       | else-run w ↦
-        let none : r.last < r.first = grind (arith, nat_tests, w.if-run.false) in
-        found_beyond c.args.runs.now i (i + 1) d r c.loop-run.left c.if-run.left _ after c.loop-run-test.true refl none w.left-is c.loop-run.invariant
+          let none : r.last < r.first = grind (arith, nat_tests, w.if-run.false) in
+          found_beyond c.args.runs.now i (i + 1) d r c.loop-run.left c.if-run.left _ after c.loop-run-test.true refl none w.left-is c.loop-run.invariant
     ]
 
 pub returns : goal.returns
