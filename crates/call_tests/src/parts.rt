@@ -83,12 +83,11 @@ fn started(alloc: Global) -> Result<NlBuilder, Fail> {
 
 // Adds an interval of a constraint and one of a variable.
 fn add_sides(builder: &mut NlBuilder) -> Result<(), AllocError> {
-    let free = Interval { lo: None, hi: None };
     if builder.sides() < builder.header().counts().n_con {
-        builder.side(free)?;
+        builder.side(Interval { lo: None, hi: None })?;
     }
     if builder.bounds() < builder.header().counts().n_var {
-        builder.bound(free)?;
+        builder.bound(Interval { lo: None, hi: None })?;
     }
     Ok(())
 }

@@ -17,3 +17,4 @@ pub mod NumberLemmas
 pub mod WholeLemmas
 pub mod Plain
 pub mod Few
+pub mod Zeros

@@ -211,6 +211,20 @@ impl Frac {
         if self.den == 1 && other.den == 1 {
             return self.add_whole(other);
         }
+        if self.is_zero() {
+            return Some(other);
+        }
+        if other.is_zero() {
+            return Some(self);
+        }
+        self.add_parts(other)
+    }
+
+    // The sum over the least common denominator.
+    fn add_parts(self, other: Frac) -> Option<Frac>
+        ensures { IsFracWhere (sum_fits (frac_value self) (frac_value other)) result
+            (frac_value self +ℚ frac_value other) }
+    {
         let common = gcd(self.den, other.den);
         let scale = other.den / common;
         let other_scale = self.den / common;

@@ -39,10 +39,6 @@ pub decimals_of : (n : ℕ) (ds : List DecimalTerm) → AreDecimals n ds → Are
 decimals_of n [] a = tt
 decimals_of n (d ∷ ds) a = (refl, sym (frac_of-value d.1 a.2), decimals_of (suc d.0) ds a.3)
 
-pub fraction_count : (ds : List DecimalTerm) → length (fraction_terms ds) ≡ length ds
-fraction_count [] = refl
-fraction_count (d ∷ ds) = ap suc (fraction_count ds)
-
 -- ---- one of them
 module _ (ds : List DecimalTerm) (p : ℕ) (d : DecimalTerm) (within : p < length ds) (is : d ≡ get_or ds p d) where
   pub fits_at : AreDecimals 0 ds → fits (dec_value d.1) ≡ true

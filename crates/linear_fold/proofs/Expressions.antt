@@ -28,7 +28,7 @@ use Rattle.linear_fold.specs.Forms.{form_line, AddsScaled, IsWithin, IsZeroFrom}
 use Rattle.linear_fold.specs.Operates.{zero_line}
 use Rattle.linear_fold.specs.Folds.{AddsTerms, AreNodesWithin, AreTreesGiven, ComesToTerms, HasLineOf, IsEntryWithin, IsExpressionFolded, IsFolded, IsTreeGiven}
 use Rattle.linear_fold.proofs.Folding.{constant_lined, is_line_of, same_form}
-use Rattle.linear_fold.proofs.FracLemmas.{fits_zero}
+use Rattle.exact_numbers.proofs.Zeros.{fits_zero}
 use Rattle.linear_fold.proofs.Operators.{FitsLine, copy_fits, multiplied, scaled_by_one}
 
 -- ---- nodes

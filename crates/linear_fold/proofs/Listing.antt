@@ -16,7 +16,7 @@ use Rattle.file_meaning.specs.Expressions.{linear_terms}
 use Rattle.linear_fold.specs.Coefs.{Term, found, value_or_zero, coef_in, AreAscending, AreBelow, AreStrictlyAscending, AreZeroTerms}
 use Rattle.linear_fold.proofs.Closing.{found_last, found_other}
 use Rattle.linear_fold.proofs.CoefLemmas.{adds_at, ascending_append, below_append, below_from, found_beyond, nothing_added}
-use Rattle.linear_fold.proofs.FracLemmas.{fits_zero, sum_fits_zero, zero_frac_fits}
+use Rattle.exact_numbers.proofs.Zeros.{fits_zero, sum_fits_zero, zero_frac_fits}
 use Rattle.linear_fold.proofs.Scaled.{same_line}
 
 -- ---- the test

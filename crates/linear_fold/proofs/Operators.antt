@@ -22,7 +22,8 @@ use Rattle.linear_fold.specs.declared.too_wide.Wide.{Wide}
 use Rattle.linear_fold.specs.Coefs.{AreAscending}
 use Rattle.linear_fold.specs.Forms.{form_terms, IsWithin, IsZeroFrom, ScaledSumFits, AddsScaled}
 use Rattle.linear_fold.specs.Operates.{zero_line, IsOperand, AreOperands, SumsTo, ComesTo, Operates, part_line}
-use Rattle.linear_fold.proofs.FracLemmas.{fits_zero, sum_fits_zero, zero_sum_fits, fits_neg}
+use Rattle.exact_numbers.proofs.Zeros.{fits_zero, sum_fits_zero, zero_sum_fits}
+use Rattle.linear_fold.proofs.FracLemmas.{fits_neg}
 pub use Rattle.linear_fold.proofs.PartLemmas.{FitsLine, form_fits}
 use Rattle.linear_fold.proofs.PartLemmas.{part_fits}
 use Rattle.linear_fold.proofs.Scaled.{same_line, few_terms, all_below-intro}

@@ -35,7 +35,7 @@ use Rattle.linear_fold.specs.OwnerFolds.{AreSlotsOf, HasOwner, IsFormOf, definit
 use Rattle.linear_fold.proofs.CoefLemmas.{apart_test}
 use Rattle.linear_fold.proofs.CountLemmas.{count_zero, form_count_is}
 use Rattle.linear_fold.proofs.Folding.{constant_lined, is_line_of}
-use Rattle.linear_fold.proofs.FracLemmas.{fits_zero}
+use Rattle.exact_numbers.proofs.Zeros.{fits_zero}
 
 -- ---- the definition at a position
 pub definition_at : (n k : ℕ) (known ds : List Definition) → AreDefinitions n k known ds → (i : ℕ) (d : Definition) → slice_get ds i ≡ Some d → IsDefinition n k (known ++ take i ds) d

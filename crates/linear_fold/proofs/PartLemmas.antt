@@ -23,7 +23,8 @@ use Rattle.linear_fold.specs.Coefs.{AddsAt, coef_in, value_or_zero}
 use Rattle.linear_fold.specs.Forms.{form_line, sum_line, AddsScaled, IsWithin, IsZeroFrom, ScaledSumFits}
 use Rattle.linear_fold.specs.Operates.{AreOperands, AreUnbroken, IsOperand, IsSound, IsUnbroken, multiple_line, part_line}
 use Rattle.linear_fold.proofs.CoefLemmas.{adds_at, found_apart, found_same}
-use Rattle.linear_fold.proofs.FracLemmas.{coef_fits, fits_zero, place_fits, sum_fits_zero, zero_test}
+use Rattle.exact_numbers.proofs.Zeros.{fits_zero, sum_fits_zero}
+use Rattle.linear_fold.proofs.FracLemmas.{coef_fits, place_fits, zero_test}
 use Rattle.linear_fold.proofs.Scaled.{all_below-intro, same_line}
 
 pub record FitsLine (l : Line) : Type 0 where

@@ -15,7 +15,7 @@ use Rattle.text_base.specs.Stopped.{IfFault}
 use Rattle.linear_fold.specs.declared.too_wide.Wide.{Wide}
 use Rattle.linear_fold.specs.Forms.{IsZeroFrom, Multiplies}
 use Rattle.linear_fold.proofs.CoefLemmas.{found_same, found_apart}
-use Rattle.linear_fold.proofs.FracLemmas.{fits_zero}
+use Rattle.exact_numbers.proofs.Zeros.{fits_zero}
 use Rattle.linear_fold.proofs.Scaled.{same_line, all_below-intro, all_below-false}
 
 pub product_coef : (k : ℚ) (ts ps : List Term) (j : ℕ) → AreProducts k ts ps → (coef_in ps j ≡ k *ℚ coef_in ts j) × (fits (k *ℚ coef_in ts j) ≡ true)

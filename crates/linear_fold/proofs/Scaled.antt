@@ -16,7 +16,7 @@ use Rattle.linear_fold.specs.Coefs.{Term, found, value_or_zero, coef_in, AreAsce
 use Rattle.linear_fold.specs.Places.{place_in, AreZeros}
 use Rattle.linear_fold.specs.Forms.{IsZeroFrom, ScaledSumFits, stepped, step_fits, adds_fit, with_scaled, SumsUp, AddsScaled}
 use Rattle.linear_fold.proofs.CoefLemmas.{apart_test, found_same, found_apart, found_before}
-use Rattle.linear_fold.proofs.FracLemmas.{sum_fits_zero, fits_zero}
+use Rattle.exact_numbers.proofs.Zeros.{sum_fits_zero, fits_zero}
 
 -- lines with one constant and the same coefficients are one line
 pub same_line : (a b : Line) → a.constant ≡ b.constant → ((j : ℕ) → a.coef j ≡ b.coef j) → a ≡ b

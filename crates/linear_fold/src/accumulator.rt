@@ -1,8 +1,6 @@
 // A sparse accumulator: the coefficients of a sum, each at the place of its variable.
-ghost use Rattle.std.specs.Prelude.{◌≡◌, ◌<◌, ℕ, length, IfOk, true, false, MatchOption};
+ghost use Rattle.std.specs.Prelude.{◌≡◌, ◌<◌, ℕ, length, IfOk, true, false};
 ghost use Rattle.exact_numbers.specs.Values.{frac_value};
-ghost use Rattle.fractions.specs.Fits.{sum_fits};
-ghost use Rattle.fractions.specs.Rational.{◌+ℚ◌};
 ghost use Rattle.linear_fold.specs.Coefs.{AddsAt, coef_in};
 ghost use Rattle.linear_fold.specs.Places.{AreZeros, place_in};
 
@@ -31,18 +29,6 @@ impl Model for Accumulator {
     ghost view = { λ w. w.places.items };
 
     ghost invariant = { λ w. AreMarked w.places.items w.touched.items };
-}
-
-/// The sum, at once where the first is 0. None exactly where it does not fit.
-pub(crate) fn sum_of(a: Frac, b: Frac) -> Option<Frac>
-    ensures { MatchOption result (sum_fits (frac_value a) (frac_value b) ≡ false)
-        (λ f. (sum_fits (frac_value a) (frac_value b) ≡ true)
-        × (frac_value f ≡ frac_value a +ℚ frac_value b)) }
-{
-    if a.is_zero() {
-        return Some(b);
-    }
-    a.add(b)
 }
 
 impl Accumulator {
@@ -81,7 +67,7 @@ impl Accumulator {
         ensures count { length self.new ≡ length self.old }
     {
         let old = self.places[variable as usize];
-        let Some(sum) = sum_of(old, factor) else {
+        let Some(sum) = old.add(factor) else {
             return Err(Stop::Fault(Wide));
         };
         if !old.is_zero() {

@@ -6,7 +6,7 @@ ghost use Rattle.nl_meaning.specs.Faults.{constant_line};
 ghost use Rattle.linear_fold.specs.Coefs.{AddsAt, AreAscending, AreBelow};
 ghost use Rattle.linear_fold.specs.Forms.{AddsScaled, IsWithin, SumsUp, form_line, form_terms, place_count, sum_line};
 
-use crate::accumulator::{Accumulator, sum_of};
+use crate::accumulator::Accumulator;
 use crate::coefficients::Coefficients;
 use crate::form::Form;
 use crate::too_wide::Wide;
@@ -96,7 +96,7 @@ impl Sum {
         let Some(scaled) = k.mul(form.constant()) else {
             return Err(Stop::Fault(Wide));
         };
-        let Some(sum) = sum_of(self.constant, scaled) else {
+        let Some(sum) = self.constant.add(scaled) else {
             return Err(Stop::Fault(Wide));
         };
         self.constant = sum;

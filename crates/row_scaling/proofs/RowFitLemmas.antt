@@ -9,7 +9,7 @@ use Rattle.exported_program.specs.Factor.{least_factor, coefficients_below, side
 use Rattle.exported_program.specs.Program.{scaled_side}
 use Rattle.exact_numbers.specs.Values.{FitsDec}
 use Rattle.nl_model.specs.declared.interval.Interval.{Interval}
-use Rattle.linear_fold.proofs.FracLemmas.{fits_zero}
+use Rattle.exact_numbers.proofs.Zeros.{fits_zero}
 use Rattle.fractions.specs.Fits.{fits}
 use Rattle.linear_fold.specs.Coefs.{AreAscending, AreBelow}
 use Rattle.linear_fold.specs.declared.form.Form.{Form}
