@@ -28,3 +28,4 @@ pub mod CleanTexts
 pub mod TreePieces
 pub mod KnownPairs
 pub mod NodeKept
+pub mod LineRunLemmas

@@ -14,3 +14,4 @@ pub mod TreeSteps
 pub mod KnownPairs
 pub mod KnownNodes
 pub mod KnownColumns
+pub mod LineRuns

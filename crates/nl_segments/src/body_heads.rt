@@ -6,13 +6,11 @@ ghost use Rattle.text_base.specs.Words.{texts};
 ghost use Rattle.nl_lines.specs.Heads.{is_head, head_of, is_in_range, name_in};
 ghost use Rattle.nl_segments.specs.HeadSteps.{has_come, has_come_suffix, held_head_tests, new_head_tests, begun_current, begun_name, begun_count, begun_draft};
 ghost use Rattle.nl_segments.specs.Held.{TakesRow, HasRow};
-ghost use Rattle.nl_segments.specs.PlaceSteps.{HasOwner};
 ghost use Rattle.nl_lines.specs.SeenSegments.{IsSeenIn};
 ghost use Rattle.nl_lines.specs.Tests.{is_suffix};
 
 use crate::body::BodyReader;
 use crate::current::Current;
-use crate::places::Places;
 use crate::seen::Seen;
 use nl_lines::{Head, NlReason, has_tree, is_in_range, is_suffix, line_count, read_head};
 use nl_model::{Counts, NlBuilder, Suffix, Terms};
@@ -168,18 +166,15 @@ fn begun_count(head: Head, suffixes: u32) -> u32
 }
 
 // Makes room for the terms that a head announces, of which no more are expected than variables.
-fn make_room(builder: &mut NlBuilder, places: &mut Places, head: Head) -> Result<(), AllocError>
-    requires range { is_in_range builder.old.counts head ≡ true }
-    requires owner { HasOwner places.old head }
-    ensures builder { builder.new ≡ builder.old }
-    ensures places { places.new ≡ places.old }
+fn make_room(builder: &mut NlBuilder, head: Head) -> Result<(), AllocError>
+    requires { is_in_range builder.old.counts head ≡ true }
+    ensures { builder.new ≡ builder.old }
 {
     let Head::Terms(con, count) = head else {
         return Ok(());
     };
     let room = count.min(builder.header().counts().n_var) as usize;
-    builder.make_room(con, room)?;
-    places.make_room(con, room)
+    builder.make_room(con, room)
 }
 
 impl BodyReader {
@@ -204,7 +199,7 @@ impl BodyReader {
         self.seen.add(head);
         self.suffixes = begun_count(head, self.suffixes);
         self.name = begun_name(self.alloc, head, name)?;
-        make_room(&mut self.builder, &mut self.places, head)?;
+        make_room(&mut self.builder, head)?;
         self.places.begin(self.alloc, head, line)?;
         give_empty_suffix(&mut self.builder, self.alloc, head, name)?;
         self.is_broken = false;

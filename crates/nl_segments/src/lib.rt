@@ -14,6 +14,7 @@ mod current;
 mod ending;
 mod grammar;
 mod law;
+mod line_runs;
 mod nl_read;
 mod nl_reader;
 mod owner_lines;

@@ -3,6 +3,7 @@ ghost use Rattle.std.specs.Prelude.{◌≡◌, ◌++◌, ◌∷◌, [], None, So
 ghost use Rattle.nl_lines.specs.Saying.{no_lines};
 ghost use Rattle.std.specs.Option.{option_or};
 
+use crate::line_runs::LineRuns;
 use std::alloc::{AllocError, Global};
 use std::marker::Model;
 
@@ -11,8 +12,8 @@ use std::marker::Model;
 #[derive(Drop)]
 pub struct OwnerLines {
     head: Option<u32>,
-    nodes: Vec<u32>,
-    terms: Vec<u32>,
+    nodes: LineRuns,
+    terms: LineRuns,
 }
 
 impl Model for OwnerLines {
@@ -20,7 +21,7 @@ impl Model for OwnerLines {
 
     ghost Value = { LinesValue };
 
-    ghost view = { λ o. record { head = o.head; nodes = o.nodes.items; terms = o.terms.items } };
+    ghost view = { λ o. record { head = o.head; nodes = o.nodes; terms = o.terms } };
 }
 
 impl OwnerLines {
@@ -30,8 +31,8 @@ impl OwnerLines {
     {
         OwnerLines {
             head: None,
-            nodes: Vec::new(alloc),
-            terms: Vec::new(alloc),
+            nodes: LineRuns::new(alloc),
+            terms: LineRuns::new(alloc),
         }
     }
 
@@ -61,27 +62,18 @@ impl OwnerLines {
         self.terms.clear();
     }
 
-    /// Makes room for the lines of so many terms.
-    pub(crate) fn make_room(&mut self, count: usize) -> Result<(), AllocError>
-        ensures { self.new ≡ self.old }
-    {
-        self.terms.reserve_exact(count)
-    }
-
     /// Adds the line of a node.
     pub(crate) fn add_node(&mut self, line: u32) -> Result<(), AllocError>
         ensures { OnOk result (self.new ≡ record self.old { nodes = self.old.nodes ++ line ∷ [] }) }
     {
-        self.nodes.push(line)?;
-        Ok(())
+        self.nodes.push(line)
     }
 
     /// Adds the line of a term.
     pub(crate) fn add_term(&mut self, line: u32) -> Result<(), AllocError>
         ensures { OnOk result (self.new ≡ record self.old { terms = self.old.terms ++ line ∷ [] }) }
     {
-        self.terms.push(line)?;
-        Ok(())
+        self.terms.push(line)
     }
 
     /// The line of the head.
@@ -95,13 +87,13 @@ impl OwnerLines {
     pub(crate) fn node(&self, i: u32) -> Option<u32>
         ensures { result ≡ slice_get self.now.nodes i }
     {
-        self.nodes.get(i as usize).copied()
+        self.nodes.get(i)
     }
 
     /// The line of a term.
     pub(crate) fn term(&self, i: u32) -> Option<u32>
         ensures { result ≡ slice_get self.now.terms i }
     {
-        self.terms.get(i as usize).copied()
+        self.terms.get(i)
     }
 }

@@ -128,15 +128,6 @@ impl Places {
         Ok(())
     }
 
-    /// Makes room for the lines of so many terms of a constraint.
-    pub(crate) fn make_room(&mut self, con: u32, count: usize) -> Result<(), AllocError>
-        requires { con < length self.old.constraints }
-        ensures { self.new ≡ self.old }
-    {
-        let lines = &mut self.constraints[con as usize];
-        lines.make_room(count)
-    }
-
     // Adds the line of a node or a term of the defined variable that was given last.
     fn add_to_definition(&mut self, line: u32, is_node: bool) -> Result<(), AllocError>
         requires { 0 < length self.old.definitions }

@@ -1,10 +1,10 @@
 -- Decimals with few places behind the point.
 use Prim.Native.Nat.{◌∣◌}
-use Rattle.std.proofs.Common.{◌≡◌, ℕ, ◌*◌, ◌^◌, ◌∙◌, sym, ap, ap₂, subst, arith, ℤ, pos, negsuc, ◌*ℤ◌, Option, Some, None, MatchOption, IfSome}
+use Rattle.std.proofs.Common.{◌≡◌, ℕ, ◌*◌, ◌^◌, ◌∙◌, sym, ap, ap₂, subst, arith, ℤ, pos, ◌*ℤ◌, Option, Some, None, MatchOption, IfSome}
 use Rattle.std.proofs.Math.Nat.{dvd-mul_right, eq-one_of_dvd-one}
 use Rattle.std.proofs.lemmas.Nat.Gcd.{dvd_refl, dvd_trans}
 use Rattle.fractions.specs.Fits.{fits}
-use Rattle.fractions.specs.Rational.{ℚ, one_ℚ, ◌*ℚ◌, decimal_value}
+use Rattle.fractions.specs.Rational.{ℚ, one_ℚ, ◌*ℚ◌, above_zero, below_zero, decimal_value}
 use Rattle.fractions.proofs.Signed.{times_twice}
 use Rattle.fractions.proofs.Values.{same_value, own_value}
 use Rattle.fractions.proofs.Arithmetic.{decimal_value_lem, one-*ℚ}
@@ -18,23 +18,24 @@ use Rattle.exported_program.proofs.Factor.{only_cofactor}
 use Rattle.row_scaling.specs.Fitting.{NumberFits}
 use Rattle.row_scaling.proofs.FactorLemmas.{one_dvd}
 
-pub no_cofactor : (x : ℚ) (k : ℕ) → x.bottom * k ≡ 10 ^ 6 → cofactor_of x.bottom ≡ 1
-no_cofactor x k e =
-    let tens : x.bottom ∣ 10 ^ 6 = subst (λ n. x.bottom ∣ n) e (dvd-mul_right x.bottom k) in
+pub no_cofactor : (x : ℚ) (k p : ℕ) → x.bottom * k ≡ 10 ^ p → cofactor_of x.bottom ≡ 1
+no_cofactor x k p e =
+    let tens : x.bottom ∣ 10 ^ p = subst (λ n. x.bottom ∣ n) e (dvd-mul_right x.bottom k) in
     sym (only_cofactor x.bottom 1 x.above (one_dvd x.bottom) (λ d h l. eq-one_of_dvd-one h)
-    (λ d h apart. subst (λ n. d ∣ n) (coprime-pow d 10 6 apart d (dvd_refl d) (dvd_trans d h tens)) (dvd_refl d)))
+    (λ d h apart. subst (λ n. d ∣ n) (coprime-pow d 10 p apart d (dvd_refl d) (dvd_trans d h tens)) (dvd_refl d)))
 
-pub short_value : (x : ℚ) (k : ℕ) → x.bottom * k ≡ 10 ^ 6 → decimal_value (x.top *ℤ pos k) (negsuc 5) ≡ x
-short_value x k e =
-    same_value (decimal_value_lem (x.top *ℤ pos k) (negsuc 5)) (own_value x)
-    (times_twice (x.top *ℤ pos k) 1 x.bottom ∙ times_twice x.top k (1 * x.bottom) ∙ ap (λ n. x.top *ℤ pos n) (turned k x.bottom ∙ e))
+pub short_value : (x : ℚ) (k : ℕ) (e : ℤ) → above_zero e ≡ 0 → x.bottom * k ≡ 10 ^ below_zero e → decimal_value (x.top *ℤ pos k) e ≡ x
+short_value x k e none is =
+    same_value (decimal_value_lem (x.top *ℤ pos k) e) (own_value x)
+    (times_twice (x.top *ℤ pos k) (10 ^ above_zero e) x.bottom ∙ times_twice x.top k (10 ^ above_zero e * x.bottom)
+    ∙ ap (λ n. x.top *ℤ pos n) (ap (λ z. k * (10 ^ z * x.bottom)) none ∙ turned k x.bottom ∙ is))
   where
     turned : (k b : ℕ) → k * (1 * b) ≡ b * k
     turned k b = omega arith
 
-pub short_is : (o : Option Dec) (x : ℚ) (m e : ℤ) (k : ℕ) → m ≡ x.top *ℤ pos k → e ≡ negsuc 5 → x.bottom * k ≡ 10 ^ 6 → IsDecOf o (decimal_value m e) → IfSome o (λ d. dec_value d ≡ x)
-short_is None x m e k top places whole h = tt
-short_is (Some d) x m e k top places whole h = h ∙ ap₂ decimal_value top places ∙ short_value x k whole
+pub short_is : (o : Option Dec) (x : ℚ) (m e f : ℤ) (k : ℕ) → m ≡ x.top *ℤ pos k → f ≡ e → above_zero e ≡ 0 → x.bottom * k ≡ 10 ^ below_zero e → IsDecOf o (decimal_value m f) → IfSome o (λ d. dec_value d ≡ x)
+short_is None x m e f k top same places whole h = tt
+short_is (Some d) x m e f k top same places whole h = h ∙ ap₂ decimal_value top same ∙ short_value x k e places whole
 
 -- a number times 1
 pub plain_number : (o : Option Dec) (q : ℚ) (x : Frac) → q ≡ one_ℚ → IsDecOf o (frac_value x) →

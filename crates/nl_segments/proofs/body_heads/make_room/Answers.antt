@@ -5,4 +5,4 @@ use Rattle.nl_segments.proofs.body_heads.make_room.Goals as goal
 
 pub make_room-requires : goal.make_room-requires
 unfolding is_in_range
-make_room-requires c = ltb-true _ _ (subst (λ x. is_in_range c.args.builder.now.counts x ≡ true) c.in-Terms.is c.requires.range)
+make_room-requires c = ltb-true _ _ (subst (λ x. is_in_range c.args.builder.now.counts x ≡ true) c.in-Terms.is c.requires)
