@@ -12,7 +12,7 @@ use Rattle.name_files.specs.Names.{Counts, end_reason, is_full, name_rules, name
 use Rattle.name_files.specs.declared.fault.NameReason.{NameReason}
 use Rattle.name_files.specs.declared.fault.NameReason.TheVariants.{OtherCount}
 use Rattle.nl_model.specs.File.{File}
-use Rattle.nl_model.specs.declared.counts.Counts.{Counts as FileCounts}
+use Rattle.nl_model.specs.declared.header_counts.Counts.{Counts as FileCounts}
 use Rattle.bridge_tool.specs.NameLists.{AreListed, IsListRefused, column_counts, row_counts}
 use Rattle.bridge_tool.specs.NamesTold.{name_line, name_reason_text}
 use Rattle.bridge_tool.specs.SeveralFiles.{ReadsFile, itself}

@@ -2,7 +2,7 @@
 use Rattle.std.proofs.Common.{◌≡◌, inl, inr, ◌∙◌, ℕ, ℤ, ◌≤◌, Bool, true, false, List, [], ◌++◌, length, Option, IsTrue, sym, ap, subst, arith}
 use Rattle.std.proofs.lemmas.Bool.{leb-true}
 use Rattle.exact_numbers.specs.declared.dec.Dec.{Dec}
-use Rattle.nl_model.specs.declared.counts.Counts.{Counts}
+use Rattle.nl_model.specs.declared.header_counts.Counts.{Counts}
 use Rattle.nl_model.specs.File.{File}
 use Rattle.nl_model.specs.HeaderRules.{is_header, are_options, are_counts}
 use Rattle.exact_numbers.proofs.NumberLemmas.{first_of_both}

@@ -2,7 +2,7 @@
 use Rattle.std.proofs.Common.{◌≡◌, ◌∙◌, ℕ, zero, suc, ◌+◌, ◌-◌, ◌%◌, ◌<◌, ◌≤◌, ◌==◌, Bool, true, false, pos, List, [], ◌∷◌, ◌++◌, length, get_or, replicate, Some, None, refl, sym, ap, ap₂, subst, arith, append_assoc, append-nil}
 use Rattle.std.proofs.Common.{ℤ, ◌*◌, All, IsSome}
 use Rattle.std.proofs.lemmas.List.Elements.{All-nil, All-cons}
-use Rattle.nl_model.specs.declared.counts.Counts.{Counts}
+use Rattle.nl_model.specs.declared.header_counts.Counts.{Counts}
 use Rattle.std.specs.Prelude.{slice_set, is_some, option_and_then, slice_get, if◌then◌else◌}
 use Rattle.std.proofs.lemmas.List.{get_or_at, length-append, length-replicate, set_at}
 use Rattle.std.proofs.lemmas.List.FromFn.{length-map-range_with_len, map-range_with_len_more}

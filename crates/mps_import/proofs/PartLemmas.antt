@@ -21,7 +21,7 @@ use Rattle.nl_meaning.specs.Trees.{Tree, number}
 use Rattle.nl_model.specs.Draft.{Draft}
 use Rattle.nl_model.specs.HeaderRules.{is_header}
 use Rattle.nl_model.specs.Rules.{term_count, most_terms, IsOrdered}
-use Rattle.nl_model.specs.declared.counts.Counts.{Counts}
+use Rattle.nl_model.specs.declared.header_counts.Counts.{Counts}
 use Rattle.nl_model.specs.declared.interval.Interval.{Interval as Sides}
 use Rattle.nl_model.specs.declared.kind.Kind.{Kind}
 use Rattle.nl_model.specs.declared.kind.Kind.TheVariants.{Continuous, Binary, Integer}

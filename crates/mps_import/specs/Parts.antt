@@ -7,7 +7,7 @@ use Rattle.file_meaning.specs.Meaning.{interval_of}
 use Rattle.mps_model.specs.Mps.{Mps, row_interval, column_interval, objective_row}
 use Rattle.nl_model.specs.Draft.{Draft, empty_draft}
 use Rattle.nl_model.specs.Rules.{term_count, most_terms}
-use Rattle.nl_model.specs.declared.counts.Counts.{Counts}
+use Rattle.nl_model.specs.declared.header_counts.Counts.{Counts}
 use Rattle.nl_model.specs.declared.interval.Interval.{Interval as Sides}
 use Rattle.mps_import.specs.declared.build.Parts.{Parts}
 use Rattle.mps_import.specs.Decimals.{sides_from}

@@ -3,7 +3,7 @@ use Rattle.std.proofs.Common.{◌≡◌, ◌∙◌, ℕ, ◌+◌, ◌<◌, Bool,
 use Rattle.std.specs.Prelude.{IsTrue}
 use Rattle.std.proofs.lemmas.List.{get_or_append_left, length-append}
 use Rattle.code_tables.specs.Header.{header_rows}
-use Rattle.nl_model.specs.declared.counts.Counts.{Counts}
+use Rattle.nl_model.specs.declared.header_counts.Counts.{Counts}
 use Rattle.nl_model.specs.declared.header.Header.{Header}
 use Rattle.nl_model.specs.HeaderRules.{is_header, are_definitions_within}
 use Rattle.text_base.specs.Judged.{first_reason}

@@ -3,7 +3,7 @@ use Rattle.std.specs.Prelude.{◌≡◌, ℕ, ◌+◌, ◌<◌, ◌==◌, not, �
 use Rattle.code_tables.specs.declared.field.FieldRow.{FieldRow}
 use Rattle.code_tables.specs.Header.{header_rows}
 use Rattle.text_base.specs.Judged.{first_reason}
-use Rattle.nl_model.specs.declared.counts.Counts.{Counts}
+use Rattle.nl_model.specs.declared.header_counts.Counts.{Counts}
 use Rattle.nl_model.specs.declared.header.Header.{Header}
 use Rattle.nl_model.specs.HeaderWords.{header_options, header_counts}
 use Rattle.nl_model.specs.HeaderRules.{are_definitions_within, is_header}

@@ -5,7 +5,7 @@ use Rattle.std.specs.List.{fold, list_any}
 use Rattle.std.proofs.lemmas.Bool.{eqb-true, eqb-false}
 use Rattle.std.proofs.lemmas.List.{length-append, get_or_append_left, get_or_push, get_or-set_other}
 use Rattle.std.proofs.lemmas.List.Folds.{list_any_none, list_any-append}
-use Rattle.nl_model.specs.declared.counts.Counts.{Counts}
+use Rattle.nl_model.specs.declared.header_counts.Counts.{Counts}
 use Rattle.nl_model.specs.Draft.{Draft, empty_draft, is_given}
 use Rattle.nl_model.specs.Rules.{is_defined}
 use Rattle.nl_lines.specs.declared.head.Head.{Head}

@@ -4,7 +4,7 @@ use Rattle.std.specs.Prelude.{IfSome, option_map, option_and_then, slice_index}
 use Rattle.code_tables.specs.Opcodes.{operands_of}
 use Rattle.exact_numbers.specs.declared.dec.Dec.{Dec}
 use Rattle.exact_numbers.specs.Numbers.{dec_of}
-use Rattle.nl_model.specs.declared.counts.Counts.{Counts}
+use Rattle.nl_model.specs.declared.header_counts.Counts.{Counts}
 use Rattle.nl_model.specs.declared.node.Node.TheVariants.{Num}
 use Rattle.nl_model.specs.Draft.{Draft}
 use Rattle.text_base.specs.Judged.{Decides, first_reason}

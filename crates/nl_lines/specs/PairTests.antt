@@ -1,7 +1,7 @@
 -- By which tests a pair is judged: by its words, or by itself where a row is an index and a value
 -- alone, and by the marks of the indices that came.
 use Rattle.std.specs.Prelude.{◌≡◌, ℕ, ◌<◌, ◌++◌, ◌∷◌, [], Bool, false, IsTrue, not, ◌&&◌, ◌||◌, nat_le, nat_lt, List, length, Some, unwrap_or, get_or}
-use Rattle.nl_model.specs.declared.counts.Counts.{Counts}
+use Rattle.nl_model.specs.declared.header_counts.Counts.{Counts}
 use Rattle.nl_model.specs.File.{Term}
 use Rattle.nl_model.specs.Rules.{most_terms}
 use Rattle.nl_lines.specs.declared.fault.NlReason.TheVariants.{BadNumber, IndexOut, RepeatedIndex, TooLarge}

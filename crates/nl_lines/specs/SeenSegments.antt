@@ -1,6 +1,6 @@
 -- What a reader holds of the heads that have come.
 use Rattle.std.specs.Prelude.{ℕ, ◌+◌, ◌*◌, ◌<◌, max, Bool, true, false, List, replicate, length, get_or, slice_set}
-use Rattle.nl_model.specs.declared.counts.Counts.{Counts}
+use Rattle.nl_model.specs.declared.header_counts.Counts.{Counts}
 use Rattle.nl_model.specs.HeaderRules.{defined_count}
 use Rattle.nl_lines.specs.declared.head.Head.{Head}
 use Rattle.nl_lines.specs.declared.segment.Segment.{Segment}

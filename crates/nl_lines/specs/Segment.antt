@@ -1,7 +1,7 @@
 -- What there is to know of each segment, by its head: one table (Gay 2005, "Writing .nl Files",
 -- segments).
 use Rattle.std.specs.Prelude.{ℕ, ◌+◌, ◌==◌, ◌%◌, Bool, true, false, ◌&&◌, nat_le, nat_lt}
-use Rattle.nl_model.specs.declared.counts.Counts.{Counts}
+use Rattle.nl_model.specs.declared.header_counts.Counts.{Counts}
 use Rattle.nl_model.specs.HeaderRules.{defined_count}
 use Rattle.nl_model.specs.Rules.{object_count}
 use Rattle.nl_model.specs.SuffixKinds.{wants_whole as is_whole_kind}

@@ -9,7 +9,7 @@ use Rattle.fractions.specs.Rational.{ℚ, whole}
 use Rattle.code_tables.specs.Opcodes.{operands_of}
 use Rattle.exact_numbers.specs.declared.dec.Dec.{Dec}
 use Rattle.exact_numbers.specs.Values.{dec_value, order_of}
-use Rattle.nl_model.specs.declared.counts.Counts.{Counts}
+use Rattle.nl_model.specs.declared.header_counts.Counts.{Counts}
 use Rattle.nl_model.specs.declared.interval.Interval.{Interval}
 use Rattle.nl_model.specs.declared.kind.Kind.{Kind}
 use Rattle.nl_model.specs.declared.kind.Kind.TheVariants.{Continuous, Binary, Integer}

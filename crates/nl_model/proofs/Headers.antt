@@ -2,7 +2,7 @@
 use Rattle.std.proofs.Common.{◌≡◌, ◌+◌, ◌-◌, ◌^◌, max, Bool, true, false, ◌&&◌, leb, List, IsTrue, refl}
 use Rattle.std.proofs.lemmas.Bool.{leb-true, and_parts}
 use Rattle.std.specs.Prelude.{ℤ}
-use Rattle.nl_model.specs.declared.counts.Counts.{Counts}
+use Rattle.nl_model.specs.declared.header_counts.Counts.{Counts}
 use Rattle.nl_model.specs.HeaderRules.{are_options, are_numbers, has_no_refused, are_sizes_within, are_shared_within, are_whole_within, are_definitions_within, are_counts, is_header, AreCounts}
 
 pub counts_of_header : (os : List ℤ) (c : Counts) → IsTrue (is_header os c) → AreCounts c

@@ -2,7 +2,7 @@
 use Rattle.std.specs.Prelude.{ℕ, ℤ, List, Option}
 use Rattle.exact_numbers.specs.declared.dec.Dec.{Dec}
 use Rattle.nl_meaning.specs.Trees.{Tree}
-use Rattle.nl_model.specs.declared.counts.Counts.{Counts}
+use Rattle.nl_model.specs.declared.header_counts.Counts.{Counts}
 use Rattle.nl_model.specs.declared.definition.Def.{Def}
 use Rattle.nl_model.specs.declared.interval.Interval.{Interval}
 use Rattle.nl_model.specs.declared.objective.Objective.{Objective as ObjectiveFields}

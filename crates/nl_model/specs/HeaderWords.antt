@@ -1,6 +1,6 @@
 -- What a header holds.
 use Rattle.std.specs.Prelude.{ℤ, List}
-use Rattle.nl_model.specs.declared.counts.Counts.{Counts}
+use Rattle.nl_model.specs.declared.header_counts.Counts.{Counts}
 use Rattle.nl_model.specs.declared.header.Header.{Header}
 
 -- the options of its first line

@@ -7,7 +7,7 @@ use Rattle.fractions.specs.Rational.{◌≤ℚ◌}
 use Rattle.exact_numbers.specs.Values.{dec_value}
 use Rattle.exact_numbers.specs.declared.dec.Dec.{Dec}
 use Rattle.nl_meaning.specs.Trees.{Tree, number, variable, defined, operator, Trees, none, more}
-use Rattle.nl_model.specs.declared.counts.Counts.{Counts}
+use Rattle.nl_model.specs.declared.header_counts.Counts.{Counts}
 use Rattle.nl_model.specs.declared.interval.Interval.{Interval}
 use Rattle.nl_model.specs.File.{Term, Objective, Definition, Suffix, File}
 use Rattle.nl_model.specs.HeaderRules.{is_header, defined_count}

@@ -2,7 +2,7 @@
 ghost use Rattle.std.specs.Prelude.{IsTrue};
 ghost use Rattle.nl_model.specs.HeaderRules.{is_header};
 
-use crate::counts::Counts;
+use crate::header_counts::Counts;
 use crate::options::Options;
 
 /// The first ten lines of a file that hold words: options and counts that keep the rules.

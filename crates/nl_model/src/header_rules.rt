@@ -3,8 +3,8 @@ ghost use Rattle.std.specs.Prelude.{◌≡◌, ◌≤◌, ◌^◌, false, IsTrue
 ghost use Rattle.nl_model.specs.HeaderRules.{AreCounts, are_counts, are_definitions_within, are_numbers, are_options, are_shared_within, are_sizes_within, are_whole_within, defined_count, has_no_refused, has_second_three, is_header, numbers_of};
 ghost use Rattle.nl_model.specs.HeaderWords.{header_counts, header_options};
 
-use crate::counts::Counts;
 use crate::header::Header;
+use crate::header_counts::Counts;
 use crate::options::Options;
 
 // The most options of a header.

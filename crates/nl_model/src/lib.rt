@@ -4,13 +4,13 @@
 
 mod at;
 mod builder;
-mod counts;
 mod decs;
 mod definition;
 mod expr;
 mod expr_builder;
 mod file;
 mod header;
+mod header_counts;
 mod header_rules;
 mod interval;
 mod kind;
@@ -25,13 +25,13 @@ mod terms;
 
 pub use at::{At, Owner};
 pub use builder::NlBuilder;
-pub use counts::Counts;
 pub use decs::Decs;
 pub use definition::Def;
 pub use expr::Expr;
 pub use expr_builder::ExprBuilder;
 pub use file::NlFile;
 pub use header::Header;
+pub use header_counts::Counts;
 pub use header_rules::{are_shared_within, are_whole_within, defined_count, has_second_three};
 pub use interval::Interval;
 pub use kind::Kind;

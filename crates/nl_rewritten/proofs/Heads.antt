@@ -6,7 +6,7 @@ use Rattle.std.proofs.lemmas.Bool.{ltb-true}
 use Rattle.text_base.specs.Names.{is_name}
 use Rattle.text_base.specs.Words.{word_at}
 use Rattle.exact_numbers.proofs.Bridge.{and_true}
-use Rattle.nl_model.specs.declared.counts.Counts.{Counts}
+use Rattle.nl_model.specs.declared.header_counts.Counts.{Counts}
 use Rattle.nl_lines.specs.declared.head.Head.{Head}
 use Rattle.nl_lines.specs.declared.head.Head.TheVariants.{Body, Objective, Definition, DualGuesses, PrimalGuesses, Sides, Bounds, ColumnCounts, Terms, Slopes, Suffix}
 use Rattle.nl_lines.specs.Heads.{letter_of, own_number, number_at, bare_head, numbered_head, counted_head, with_sense, objective_head, definition_head, column_head, of_kind, suffix_head, head_of, name_in}

@@ -9,7 +9,7 @@ use Rattle.text_base.specs.Reading.{lines_of}
 use Rattle.exact_numbers.specs.Numbers.{has_31_bits}
 use Rattle.nl_header.specs.Head.{options_in}
 use Rattle.nl_meaning.specs.Trees.{tree_size}
-use Rattle.nl_model.specs.declared.counts.Counts.{Counts}
+use Rattle.nl_model.specs.declared.header_counts.Counts.{Counts}
 use Rattle.nl_model.specs.Draft.{Draft, file_of, given}
 use Rattle.nl_model.specs.File.{Objective, Term}
 use Rattle.nl_model.specs.HeaderRules.{is_header}

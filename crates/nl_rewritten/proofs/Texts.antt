@@ -22,7 +22,7 @@ use Rattle.nl_header.specs.declared.fault.HeadFault.{HeadFault}
 use Rattle.nl_header.specs.Reading.{AreClean as IsCleanHeader}
 use Rattle.nl_header.proofs.HeaderLaw.{AreNineClean, header-rule}
 use Rattle.nl_header.proofs.ReaderLemmas.{clean-more}
-use Rattle.nl_model.specs.declared.counts.Counts.{Counts}
+use Rattle.nl_model.specs.declared.header_counts.Counts.{Counts}
 use Rattle.nl_model.specs.HeaderRules.{are_definitions_within, is_header}
 use Rattle.nl_model.specs.Rules.{term_count}
 use Rattle.nl_lines.specs.declared.head.Head.{Head}

@@ -17,7 +17,7 @@ use Rattle.exact_numbers.proofs.Texts.{digit_byte}
 use Rattle.nl_header.specs.Head.{line_fault, number_line_fault, words_fault, word_tests, number_tests, must_be_zero, limit_of, is_short, rule_tests, first_line_tests, counts_in, counts_by, options_in}
 use Rattle.exact_numbers.specs.Numbers.{has_31_bits, signed_of}
 use Rattle.exact_numbers.proofs.NumberLemmas.{signed_of-signed_decimal}
-use Rattle.nl_model.specs.declared.counts.Counts.{Counts}
+use Rattle.nl_model.specs.declared.header_counts.Counts.{Counts}
 use Rattle.nl_model.specs.HeaderRules.{has_second_three, numbers_of, are_numbers, has_no_refused}
 use Rattle.written_texts.specs.Lines.{Line}
 use Rattle.written_texts.specs.Words.{IsKeptWord, IsWritten}

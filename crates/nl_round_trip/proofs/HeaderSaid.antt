@@ -7,7 +7,7 @@ use Rattle.code_tables.specs.Header.{header_rows, field_at}
 use Rattle.exact_numbers.proofs.Bridge.{and_true}
 use Rattle.nl_header.specs.Head.{line_fault, is_short, rule_tests, counts_in, counts_by, options_in}
 use Rattle.exact_numbers.specs.Numbers.{has_31_bits, whole_of}
-use Rattle.nl_model.specs.declared.counts.Counts.{Counts}
+use Rattle.nl_model.specs.declared.header_counts.Counts.{Counts}
 use Rattle.nl_model.specs.HeaderRules.{has_second_three, are_options, are_numbers, has_no_refused, are_sizes_within, are_shared_within, are_whole_within, are_definitions_within, are_counts, is_header, AreCounts}
 use Rattle.nl_model.proofs.Headers.{counts_of_header}
 use Rattle.written_texts.specs.Lines.{Line, spaced}

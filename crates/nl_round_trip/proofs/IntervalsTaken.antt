@@ -8,7 +8,7 @@ use Rattle.text_base.specs.Judged.{first_reason}
 use Rattle.exact_numbers.proofs.Bridge.{and_true}
 use Rattle.exact_numbers.specs.declared.dec.Dec.{Dec}
 use Rattle.fractions.specs.Rational.{decimal_value}
-use Rattle.nl_model.specs.declared.counts.Counts.{Counts}
+use Rattle.nl_model.specs.declared.header_counts.Counts.{Counts}
 use Rattle.nl_model.specs.declared.interval.Interval.{Interval}
 use Rattle.std.proofs.Common.{nat_lt, length-append}
 use Rattle.std.proofs.lemmas.Bool.Decides.{nat_tests}

@@ -1,7 +1,7 @@
 -- Lines of one kind are taken, one after the other.
 use Rattle.std.proofs.Common.{◌≡◌, ℕ, ◌+◌, ◌≤◌, ℤ, List, [], ◌∷◌, ◌++◌, length, map, refl, sym, subst, arith, length-append, append_assoc, append-nil}
 use Rattle.std.proofs.lemmas.Bool.{lt-ltb}
-use Rattle.nl_model.specs.declared.counts.Counts.{Counts}
+use Rattle.nl_model.specs.declared.header_counts.Counts.{Counts}
 use Rattle.nl_lines.specs.declared.awaited.Awaited.{Awaited}
 use Rattle.nl_lines.specs.Pieces.{Piece, awaited_in, line_kind, line_count}
 use Rattle.nl_lines.proofs.PieceLemmas.{longer}

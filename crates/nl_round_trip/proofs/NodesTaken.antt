@@ -14,7 +14,7 @@ use Rattle.code_tables.specs.declared.class.Operands.{Operands}
 use Rattle.code_tables.specs.declared.class.Operands.TheVariants.{One, Two, Counted as OnNextLine}
 use Rattle.exact_numbers.specs.declared.dec.Dec.{Dec}
 use Rattle.nl_meaning.specs.Trees.{HasCount}
-use Rattle.nl_model.specs.declared.counts.Counts.{Counts}
+use Rattle.nl_model.specs.declared.header_counts.Counts.{Counts}
 use Rattle.nl_model.specs.declared.node.Node.{Node}
 use Rattle.nl_model.specs.declared.node.Node.TheVariants.{Num, Var, Defined, Op}
 use Rattle.nl_model.specs.Draft.{Draft}

@@ -4,7 +4,7 @@ use Rattle.std.specs.Prelude.{codes}
 use Rattle.std.specs.List.{AllByRecursion, filter_map}
 use Rattle.std.proofs.lemmas.Bool.Decides.{nat_tests}
 use Rattle.std.proofs.lemmas.List.{get_or_at, get_or_append_left}
-use Rattle.nl_model.specs.declared.counts.Counts.{Counts}
+use Rattle.nl_model.specs.declared.header_counts.Counts.{Counts}
 use Rattle.nl_model.specs.Draft.{Draft}
 use Rattle.nl_model.specs.File.{Term}
 use Rattle.nl_model.specs.Rules.{AreIndicesApart}

@@ -7,7 +7,7 @@ use Rattle.std.specs.Fmt.{decimal}
 use Rattle.std.specs.Str.Parse.{AllDigits}
 use Rattle.text_base.specs.Judged.{first_reason}
 use Rattle.exact_numbers.proofs.Texts.{digit_byte}
-use Rattle.nl_model.specs.declared.counts.Counts.{Counts}
+use Rattle.nl_model.specs.declared.header_counts.Counts.{Counts}
 use Rattle.nl_model.specs.File.{Term}
 use Rattle.nl_lines.specs.declared.awaited.Awaited.TheVariants.{Pair}
 use Rattle.nl_lines.specs.Heads.{is_head, is_ascii_letter}

@@ -10,7 +10,7 @@ use Rattle.std.proofs.lemmas.List.Sums.{sum_by-cons}
 use Rattle.std.specs.Fmt.{decimal}
 use Rattle.text_base.specs.Names.{is_name}
 use Rattle.exact_numbers.proofs.Bridge.{and_true}
-use Rattle.nl_model.specs.declared.counts.Counts.{Counts}
+use Rattle.nl_model.specs.declared.header_counts.Counts.{Counts}
 use Rattle.nl_model.specs.Draft.{Draft}
 use Rattle.nl_model.specs.File.{Term, Suffix}
 use Rattle.nl_model.specs.Rules.{has_suffix, is_suffix_of, most_terms, AreIndicesApart}

@@ -8,7 +8,7 @@ use Rattle.nl_meaning.specs.Trees.{Tree, Trees, count_of, tree_size}
 use Rattle.nl_model.specs.File.{Definition}
 use Rattle.nl_model.specs.HeaderRules.{defined_count}
 use Rattle.nl_model.specs.Rules.{IsTreeWithin}
-use Rattle.nl_model.specs.declared.counts.Counts.{Counts}
+use Rattle.nl_model.specs.declared.header_counts.Counts.{Counts}
 use Rattle.nl_model.specs.declared.node.Node.{Node}
 use Rattle.nl_model.specs.Draft.{Draft}
 use Rattle.nl_model.specs.Nodes.{IsPrefix, a_number, a_variable, a_defined, an_operation, ArePrefixes, no_tree, one_more, awaited, awaited_after, first_of_trees, tree_of}

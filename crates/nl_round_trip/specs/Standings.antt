@@ -1,7 +1,7 @@
 -- What pieces mean for the next one, piece by piece in the written order.
 use Rattle.std.specs.Prelude.{◌≡◌, ℕ, ◌+◌, ◌*◌, ◌^◌, ◌<◌, ℤ, List}
 use Rattle.std.specs.List.{AllByRecursion}
-use Rattle.nl_model.specs.declared.counts.Counts.{Counts}
+use Rattle.nl_model.specs.declared.header_counts.Counts.{Counts}
 use Rattle.nl_model.specs.Draft.{Draft}
 use Rattle.nl_lines.specs.declared.awaited.Awaited.TheVariants.{Nothing}
 use Rattle.nl_lines.specs.declared.head.Head.{Head}

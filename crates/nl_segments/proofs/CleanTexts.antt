@@ -11,7 +11,7 @@ use Rattle.text_base.specs.Reading.{last_of as last_line, lines_of, Reads}
 use Rattle.text_base.specs.Words.{without_comment}
 use Rattle.text_base.proofs.FirstReasons.{none_each}
 use Rattle.nl_header.specs.Head.{options_in}
-use Rattle.nl_model.specs.declared.counts.Counts.{Counts}
+use Rattle.nl_model.specs.declared.header_counts.Counts.{Counts}
 use Rattle.nl_model.specs.FilePlaces.{HasPlace}
 use Rattle.nl_lines.specs.declared.head.Head.{Head}
 use Rattle.nl_segments.specs.declared.nl_read.NlRead.{NlRead}

@@ -8,7 +8,7 @@ use Rattle.std.proofs.lemmas.List.Quantifiers.{all_pairs_push}
 use Rattle.text_base.specs.Judged.{first_reason}
 use Rattle.text_base.proofs.FirstReasons.{same_reasons}
 use Rattle.nl_header.specs.Head.{options_in}
-use Rattle.nl_model.specs.declared.counts.Counts.{Counts}
+use Rattle.nl_model.specs.declared.header_counts.Counts.{Counts}
 use Rattle.nl_model.specs.Draft.{Draft}
 use Rattle.nl_model.specs.File.{Suffix as SuffixValue}
 use Rattle.nl_model.specs.Rules.{has_suffix}

@@ -6,7 +6,7 @@ use Rattle.std.specs.List.{list_any, cons_option}
 use Rattle.std.proofs.lemmas.List.{length-append, length-map, length-replicate, append-nil, get_or_append_left}
 use Rattle.std.proofs.lemmas.Bool.{ltb-true, ltb-false}
 use Rattle.nl_meaning.specs.Trees.{Tree, tree_size}
-use Rattle.nl_model.specs.declared.counts.Counts.{Counts}
+use Rattle.nl_model.specs.declared.header_counts.Counts.{Counts}
 use Rattle.nl_model.specs.Draft.{Draft, file_of, given}
 use Rattle.nl_model.specs.File.{Term, Definition, Objective}
 use Rattle.nl_model.specs.Nodes.{tree_of}

@@ -8,7 +8,7 @@ use Rattle.std.proofs.lemmas.List.Elements.{All-push}
 use Rattle.text_base.specs.Judged.{first_reason}
 use Rattle.text_base.proofs.FirstReasons.{none_first}
 use Rattle.nl_header.specs.Head.{counts_in}
-use Rattle.nl_model.specs.declared.counts.Counts.{Counts}
+use Rattle.nl_model.specs.declared.header_counts.Counts.{Counts}
 use Rattle.nl_model.specs.declared.node.Node.{Node}
 use Rattle.nl_model.specs.declared.node.Node.TheVariants.{Op}
 use Rattle.nl_lines.specs.declared.awaited.Awaited.{Awaited}

@@ -4,7 +4,7 @@ use Rattle.std.specs.Prelude.{IfSome, unwrap_or}
 use Rattle.std.specs.List.{list_any}
 use Rattle.std.proofs.lemmas.Bool.{ltb-true, leb-false}
 use Rattle.nl_header.specs.Head.{options_in}
-use Rattle.nl_model.specs.declared.counts.Counts.{Counts}
+use Rattle.nl_model.specs.declared.header_counts.Counts.{Counts}
 use Rattle.nl_model.specs.Draft.{Draft}
 use Rattle.nl_model.specs.File.{Term}
 use Rattle.nl_model.specs.Rules.{AreIndicesApart, AreTermsBelow, has_suffix, most_terms, object_count, term_count}

@@ -4,7 +4,7 @@ use Rattle.std.specs.Prelude.{IfSome, ◌^◌}
 use Rattle.std.proofs.lemmas.List.{length-append}
 use Rattle.text_base.specs.Judged.{first_reason}
 use Rattle.nl_header.specs.Head.{options_in}
-use Rattle.nl_model.specs.declared.counts.Counts.{Counts}
+use Rattle.nl_model.specs.declared.header_counts.Counts.{Counts}
 use Rattle.nl_model.specs.Draft.{Draft}
 use Rattle.nl_model.specs.File.{Term}
 use Rattle.nl_model.specs.Rules.{most_terms}

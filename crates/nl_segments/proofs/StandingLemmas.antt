@@ -5,7 +5,7 @@ use Rattle.std.proofs.lemmas.List.{append-nil, length-append, length-map, length
 use Rattle.std.proofs.lemmas.List.Sums.{fold-append}
 use Rattle.text_base.specs.Words.{words_of, without_comment}
 use Rattle.nl_header.specs.Head.{counts_in}
-use Rattle.nl_model.specs.declared.counts.Counts.{Counts}
+use Rattle.nl_model.specs.declared.header_counts.Counts.{Counts}
 use Rattle.nl_lines.specs.Rows.{Row, holds_words, rows_from, rows_of, header_words, body_rows}
 use Rattle.nl_lines.specs.Pieces.{with_row, pieces_of}
 use Rattle.nl_segments.specs.Grammar.{Standing, standing, is_in_header}

@@ -7,7 +7,7 @@ use Rattle.std.proofs.lemmas.List.Elements.{All-contains, Contains-append_left, 
 use Rattle.text_base.specs.Reading.{lines_of}
 use Rattle.nl_header.specs.Head.{options_in}
 use Rattle.nl_meaning.specs.Trees.{Tree}
-use Rattle.nl_model.specs.declared.counts.Counts.{Counts}
+use Rattle.nl_model.specs.declared.header_counts.Counts.{Counts}
 use Rattle.nl_model.specs.declared.at.Owner.{Owner}
 use Rattle.nl_model.specs.declared.at.Owner.TheVariants.{Con, Def, Obj}
 use Rattle.nl_model.specs.Draft.{Draft, file_of}

@@ -8,7 +8,7 @@ use Rattle.text_base.specs.declared.lines.LineFault.TheVariants.{LineTooLong as 
 use Rattle.nl_header.specs.Head.{line_fault, options_in, counts_in}
 use Rattle.nl_header.specs.declared.fault.HeadFault.{HeadFault}
 use Rattle.nl_header.specs.declared.fault.HeadFault.TheVariants.{BinaryFile as BinaryHead, BadFirstLine as BadFirst, Options as BadOptions, BadHeaderNumber as BadNumberInHeader, CountsDisagree as Disagree, RefusedCount as Refused, TooLarge as Large}
-use Rattle.nl_model.specs.declared.counts.Counts.{Counts}
+use Rattle.nl_model.specs.declared.header_counts.Counts.{Counts}
 use Rattle.nl_model.specs.File.{File}
 use Rattle.nl_model.specs.Draft.{Draft, file_of}
 use Rattle.nl_lines.specs.declared.fault.NlReason.{NlReason}

@@ -4,7 +4,7 @@ use Rattle.std.specs.List.{list_any}
 use Rattle.text_base.specs.declared.stop.Stop.{Stop}
 use Rattle.text_base.specs.declared.stop.Stop.TheVariants.{Fault, Memory}
 use Rattle.text_base.specs.Judged.{first_reason}
-use Rattle.nl_model.specs.declared.counts.Counts.{Counts}
+use Rattle.nl_model.specs.declared.header_counts.Counts.{Counts}
 use Rattle.nl_model.specs.Draft.{Draft, file_of}
 use Rattle.nl_header.specs.Head.{options_in, counts_in}
 use Rattle.nl_header.specs.Reading.{Taken, IsReading}

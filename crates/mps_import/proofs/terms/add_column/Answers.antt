@@ -5,7 +5,7 @@ use Rattle.mps_model.specs.Built.{entry_of}
 use Rattle.mps_model.specs.Mps.{Entry, Column, no_column}
 use Rattle.mps_model.specs.Valid.{AreEntries}
 use Rattle.nl_model.specs.Draft.{Draft}
-use Rattle.nl_model.specs.declared.counts.Counts.{Counts}
+use Rattle.nl_model.specs.declared.header_counts.Counts.{Counts}
 use Rattle.mps_import.specs.Import.{entries_at, import_counts, is_zero_dec}
 use Rattle.mps_import.specs.Uses.{IsOnItsWay, entries_left, use_of}
 use Rattle.mps_import.specs.declared.rows.RowUse.TheVariants.{Unused}

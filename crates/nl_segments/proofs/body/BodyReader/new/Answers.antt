@@ -1,6 +1,6 @@
 use Rattle.std.proofs.Common.{◌∙◌, ◌≤◌, None, refl, sym, ap, length, replicate, false, subst}
 use Rattle.std.proofs.lemmas.List.{length-replicate}
-use Rattle.nl_model.specs.declared.counts.Counts.{Counts}
+use Rattle.nl_model.specs.declared.header_counts.Counts.{Counts}
 use Rattle.nl_lines.specs.Saying.{empty_lines}
 use Rattle.nl_lines.specs.SeenSegments.{no_segments}
 use Rattle.nl_segments.specs.Held.{Body, only_header}
