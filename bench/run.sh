@@ -71,13 +71,13 @@ for size in "${sizes[@]}"; do
         part=$(ratio "$seconds" "$beside") other=$(bytes_each "$other" "$size")
     fi
     printf '%9s %8s %8s %8s %8s %6s %13s %17s\n' "$size" linear "$seconds" "$reading" "${beside:--}" "$part" "$(bytes_each "$peak" "$size")" "${other:--}"
-    [ "$size" != "${sizes[0]}" ] || plain=$seconds
 done
 for form in list defined; do
     text=$(nl_text "${sizes[0]}" "$form")
-    times=$(measure 0 "$program" export "$text" ::: 2 "$program" export "$text" 1)
-    read -r seconds peak reading _ <<<"$times"
-    printf '%9s %8s %8s %8s %8s %6s %13s   %s times our own J terms\n' "${sizes[0]}" "$form" "$seconds" "$reading" - - "$(bytes_each "$peak" "${sizes[0]}")" "$(ratio "$seconds" "$plain")"
+    plain=$(nl_text "${sizes[0]}" linear)
+    times=$(measure 0 "$program" export "$text" ::: 2 "$program" export "$text" 1 ::: 0 "$program" export "$plain")
+    read -r seconds peak reading _ beside _ <<<"$times"
+    printf '%9s %8s %8s %8s %8s %6s %13s   %s times our own J terms\n' "${sizes[0]}" "$form" "$seconds" "$reading" - - "$(bytes_each "$peak" "${sizes[0]}")" "$(ratio "$seconds" "$beside")"
 done
 
 echo
