@@ -1,4 +1,5 @@
 pub mod AddLemmas
+pub mod BatchLemmas
 pub mod ColumnLemmas
 pub mod ColumnsLeft
 pub mod FillLemmas

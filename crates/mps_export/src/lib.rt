@@ -1,6 +1,7 @@
 // The program that a linear program with scaled rows is exported as.
 #![tactic(auto)]
 
+mod batches;
 mod bounds;
 mod columns;
 mod export;
