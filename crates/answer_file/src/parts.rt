@@ -328,6 +328,7 @@ impl Parts {
             (λ reason. first_reason (end_tests scope.now self) ≡ Some reason)) }
     {
         if let Err(reason) = self.judge_end(scope) {
+            drop(self);
             return Err(Stop::Fault(reason));
         }
         let objective = self.objective.unwrap_or(0);

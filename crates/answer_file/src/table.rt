@@ -82,6 +82,17 @@ fn with_objective(alloc: Global, objective: u32, suffix: Suffix) -> Result<Suffi
     })
 }
 
+// The suffixes of groups, with the number of the objective.
+fn suffixes_of(alloc: Global, objective: u32, groups: Vec<Group>) -> Result<Vec<Suffix>, AllocError>
+    ensures { IfOk result (λ v. v.items ≡ map (with_objective objective) groups.items) }
+{
+    let mut suffixes = Vec::new(alloc);
+    for group in groups {
+        suffixes.push(with_objective(alloc, objective, group.into_suffix())?)?;
+    }
+    Ok(suffixes)
+}
+
 impl SuffixTable {
     /// No suffixes.
     pub(crate) fn new(alloc: Global) -> SuffixTable
@@ -168,6 +179,13 @@ impl SuffixTable {
         Ok(())
     }
 
+    // The suffixes alone.
+    fn into_groups(self) -> Vec<Group>
+        ensures { result.items ≡ self }
+    {
+        self.groups
+    }
+
     /// The suffixes, with the number of the objective.
     pub(crate) fn into_suffixes(
         self,
@@ -176,10 +194,6 @@ impl SuffixTable {
     ) -> Result<Vec<Suffix>, AllocError>
         ensures { IfOk result (λ v. v.items ≡ map (with_objective objective) self) }
     {
-        let mut suffixes = Vec::new(alloc);
-        for group in self.groups {
-            suffixes.push(with_objective(alloc, objective, group.into_suffix())?)?;
-        }
-        Ok(suffixes)
+        suffixes_of(alloc, objective, self.into_groups())
     }
 }

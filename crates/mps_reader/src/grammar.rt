@@ -69,6 +69,7 @@ impl Grammar for MpsGrammar {
 
     fn finish(self) -> Result<Mps, Stop<MpsReason>> {
         if self.is_broken {
+            drop(self);
             return Err(Stop::Memory);
         }
         match self.state.finish() {

@@ -1,5 +1,5 @@
 -- What is missing at the end, by what the reader of the body holds.
-use Rattle.std.proofs.Common.{◌≡◌, ◌∙◌, ℕ, zero, suc, ◌+◌, ◌<◌, ◌≤◌, Bool, true, false, not, ◌&&◌, ◌==◌, List, [], ◌∷◌, length, get_or, All, nat_lt, refl, sym, ap, ap₂, subst, arith, add-one, Option, Some, None}
+use Rattle.std.proofs.Common.{◌≡◌, ◌∙◌, ℕ, zero, suc, ◌+◌, ◌<◌, ◌≤◌, Bool, true, false, not, ◌&&◌, ◌==◌, List, [], ◌∷◌, length, get_or, All, nat_lt, refl, sym, ap, ap₂, subst, arith, add-one, Option, Some, None, Err}
 use Rattle.std.proofs.lemmas.Bool.{ltb-true, ltb-false, eqb-true}
 use Rattle.std.proofs.lemmas.Bool.Decides.{nat_tests}
 use Rattle.std.proofs.lemmas.List.{get_or_past}
@@ -7,6 +7,9 @@ use Rattle.std.proofs.lemmas.List.Sums.{sum_by-cons}
 use Rattle.std.specs.Prelude.{IsSome, is_some, drop, ◌||◌}
 use Rattle.std.specs.List.{list_all}
 use Rattle.text_base.specs.Judged.{first_reason}
+use Rattle.text_base.specs.Stopped.{IfFault}
+use Rattle.text_base.specs.declared.stop.Stop.{Stop}
+use Rattle.text_base.specs.declared.stop.Stop.TheVariants.{Fault, Memory}
 use Rattle.nl_model.specs.declared.header_counts.Counts.{Counts}
 use Rattle.nl_model.specs.Draft.{Draft, IsDraft, is_given, file_of}
 use Rattle.nl_model.specs.File.{Term, Objective, File}
@@ -21,7 +24,7 @@ use Rattle.nl_lines.specs.Pieces.{Piece, last_piece, is_nothing, awaited_of}
 use Rattle.nl_segments.specs.Current.{Current}
 use Rattle.nl_lines.specs.Tests.{are_column_counts, is_short, end_tests}
 use Rattle.nl_segments.specs.Grammar.{Standing, counts_of, said}
-use Rattle.nl_segments.specs.Held.{Body, IsHeld, IsLast, end_refusal_of}
+use Rattle.nl_segments.specs.Held.{Body, Finishes, IsHeld, IsLast, end_refusal_of}
 use Rattle.nl_segments.specs.Taking.{body_awaits}
 use Rattle.nl_segments.specs.Ending.{are_sums, body_end_tests, IsReady}
 use Rattle.nl_segments.proofs.CurrentLemmas.{awaits}
@@ -155,6 +158,10 @@ not_given os k lt g = given_at os k lt ∙ rw g refl
 
 pub missing : (b same : Body) → b ≡ same → IsDraft b.draft → (r : NlReason) → first_reason (body_end_tests b) ≡ Some r → (s : Standing) → IsHeld s same → end_refusal_of s ≡ Some r
 missing b same e d r f s h = end_by s b d (subst (IsHeld s) (sym e) h) ∙ f
+
+pub stopped : (b : Body) → IsDraft b.draft → (stop : Stop NlReason) → IfFault stop (λ r. first_reason (body_end_tests b) ≡ Some r) → Finishes b (Err stop)
+stopped b d (Fault r) f = missing b b refl d r f
+stopped b d Memory f = tt
 
 pub finished : (b same : Body) → b ≡ same → IsDraft b.draft → first_reason (body_end_tests b) ≡ None → (f : File) → f ≡ file_of b.draft
     → (s : Standing) → IsHeld s same → (end_refusal_of s ≡ None) × (f ≡ file_of (said s)) × (b.places ≡ place_lines (counts_of s) s.pieces)

@@ -8,7 +8,8 @@ ghost use Rattle.nl_segments.specs.Held.{IsHeld, IsHeaderOf, only_header, TakesR
 ghost use Rattle.nl_segments.specs.Taking.{body_awaits};
 ghost use Rattle.nl_lines.specs.Tests.{index_limit};
 ghost use Rattle.nl_segments.specs.Ending.{body_end_tests};
-ghost use Rattle.text_base.specs.Judged.{Decides};
+ghost use Rattle.text_base.specs.Judged.{Decides, first_reason};
+ghost use Rattle.text_base.specs.Stopped.{IfFault};
 
 use crate::current::Current;
 use crate::ending::{are_sums, is_short};
@@ -189,19 +190,43 @@ impl BodyReader {
         Ok(())
     }
 
+    // The same, or want of memory where half of a row was taken.
+    fn judge_whole(&self) -> Result<(), Stop<NlReason>>
+        ensures draft { IsDraft self.now.draft }
+        ensures fine { OnOk result (first_reason (body_end_tests self.now) ≡ None) }
+        ensures fault { IfErr result (λ stop. IfFault stop
+            (λ reason. first_reason (body_end_tests self.now) ≡ Some reason)) }
+    {
+        let judged = self.judge_end();
+        if self.is_broken {
+            return Err(Stop::Memory);
+        }
+        match judged {
+            Ok(()) => Ok(()),
+            Err(reason) => Err(Stop::Fault(reason)),
+        }
+    }
+
+    // The file and the lines of its places alone.
+    fn into_parts(self) -> (NlBuilder, Places)
+        ensures builder { result.0 ≡ self.draft }
+        ensures places { result.1 ≡ self.places }
+    {
+        (self.builder, self.places)
+    }
+
     /// The file and the lines of its places, at the end of the text.
     pub(crate) fn finish(self) -> Result<NlRead, Stop<NlReason>>
         ensures { Finishes self result }
     {
-        if self.is_broken {
-            return Err(Stop::Memory);
+        let judged = self.judge_whole();
+        let (builder, places) = self.into_parts();
+        match judged {
+            Ok(()) => Ok(NlRead {
+                file: builder.finish(),
+                places,
+            }),
+            Err(stop) => Err(stop),
         }
-        if let Err(reason) = self.judge_end() {
-            return Err(Stop::Fault(reason));
-        }
-        Ok(NlRead {
-            file: self.builder.finish(),
-            places: self.places,
-        })
     }
 }
