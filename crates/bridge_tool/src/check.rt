@@ -169,8 +169,13 @@ pub(crate) fn check<D: Desk, L: Ledger>(
     };
     let solution = match open_sol(alloc, desk, sol, 2) {
         Ok(solution) => solution,
-        Err(answer) => return answer,
+        Err(answer) => {
+            drop(read);
+            return answer;
+        }
     };
     let judged = judge(alloc, &read, &solution, steps);
+    drop(read);
+    drop(solution);
     end_verdict(desk, judged)
 }
