@@ -77,11 +77,21 @@ fn verdict_of(alloc: Global, linear: &Linear, x: &[Dec], y: &[Dec]) -> Result<Ve
     Ok(certify(&columns, x, y))
 }
 
-// Whether a verdict is yes, and its line.
-fn told_verdict(alloc: Global, verdict: Verdict) -> Result<(bool, Vec<u8>), AllocError>
-    ensures holds { IfOk result (λ t. t.0 ≡ is_yes (answer_of verdict)) }
-    ensures line { IfOk result (λ t. t.1.items ≡ verdict_line (answer_of verdict)) }
+// Whether that verdict is yes, and its line.
+fn told_verdict(
+    alloc: Global,
+    linear: &Linear,
+    x: &[Dec],
+    y: &[Dec],
+) -> Result<(bool, Vec<u8>), AllocError>
+    requires numbers { length x.now ≡ variable_count (linear_value linear.now) }
+    requires duals { length y.now ≡ row_count (linear_value linear.now) }
+    ensures holds { IfOk result (λ t. t.0
+        ≡ is_yes (verdict (linear_value linear.now) (values_of x.now) (values_of y.now))) }
+    ensures line { IfOk result (λ t. t.1.items
+        ≡ verdict_line (verdict (linear_value linear.now) (values_of x.now) (values_of y.now))) }
 {
+    let verdict = verdict_of(alloc, linear, x, y)?;
     let line = verdict_line(alloc, verdict)?;
     Ok((is_yes(verdict), line))
 }
@@ -90,38 +100,38 @@ fn told_verdict(alloc: Global, verdict: Verdict) -> Result<(bool, Vec<u8>), Allo
 // of the fold.
 fn certified<L: Ledger>(
     alloc: Global,
-    read: NlRead,
+    read: &NlRead,
     sol: &Sol,
     objective: u32,
     steps: &mut Steps<L>,
 ) -> Result<(bool, Vec<u8>), Stop<Vec<u8>>>
-    requires lines { HasLines read }
-    requires fits { unfit (value_of read) sol.now ≡ None }
-    ensures comes { Comes (λ outcome. outcome
-        ≡ by_fold (value_of read) sol.now objective (first_fold_fault read.file objective)) result }
+    requires lines { HasLines read.now }
+    requires fits { unfit (value_of read.now) sol.now ≡ None }
+    ensures comes { Comes (λ outcome. outcome ≡ by_fold (value_of read.now) sol.now objective
+        (first_fold_fault read.now.file objective)) result }
     ensures above { steps.old ≤ steps.new }
-    ensures counts { steps.new ≤ steps.old + steps_by_number (value_of read) (pos objective) }
+    ensures counts { steps.new
+        ≤ steps.old + steps_by_number (value_of read.now) (pos objective) }
 {
     let x = sol.primals();
     let y = sol.duals();
-    let linear = fold(alloc, &read, objective, steps)?;
-    let verdict = verdict_of(alloc, &linear, x.items(), y.items())?;
-    let told = told_verdict(alloc, verdict)?;
+    let linear = fold(alloc, read, objective, steps)?;
+    let told = told_verdict(alloc, &linear, x.items(), y.items())?;
     Ok(told)
 }
 
 // The verdict of a file and a solution, or the line to tell.
 fn judge<L: Ledger>(
     alloc: Global,
-    read: NlRead,
+    read: &NlRead,
     sol: &Sol,
     steps: &mut Steps<L>,
 ) -> Result<(bool, Vec<u8>), Stop<Vec<u8>>>
-    requires { HasLines read }
-    ensures comes { Comes (λ outcome. outcome ≡ check_outcome (value_of read) sol.now) result }
-    ensures file { IsFile read.file }
+    requires { HasLines read.now }
+    ensures comes { Comes (λ outcome. outcome ≡ check_outcome (value_of read.now) sol.now) result }
+    ensures file { IsFile read.now.file }
     ensures above { steps.old ≤ steps.new }
-    ensures counts { steps.new ≤ steps.old + most_steps (value_of read) sol.now }
+    ensures counts { steps.new ≤ steps.old + most_steps (value_of read.now) sol.now }
 {
     let _ = read.file.header();
     if let Err(fault) = fit(&read.file, sol) {
@@ -159,8 +169,13 @@ pub(crate) fn check<D: Desk, L: Ledger>(
     };
     let solution = match open_sol(alloc, desk, sol, 2) {
         Ok(solution) => solution,
-        Err(answer) => return answer,
+        Err(answer) => {
+            drop(read);
+            return answer;
+        }
     };
-    let judged = judge(alloc, read, &solution, steps);
+    let judged = judge(alloc, &read, &solution, steps);
+    drop(read);
+    drop(solution);
     end_verdict(desk, judged)
 }

@@ -1,6 +1,6 @@
 // The command make: the instance of a seed and a size is written, read, folded and exported, and
 // summed up.
-ghost use Rattle.std.specs.Prelude.{◌≢◌, ◌+◌, ◌≤◌, List, ℕ, IfOk};
+ghost use Rattle.std.specs.Prelude.{◌≡◌, ◌≢◌, ◌+◌, ◌≤◌, List, ℕ, IfOk};
 ghost use Rattle.instances.specs.Instance.{instance};
 ghost use Rattle.linear_fold.specs.FoldedFaults.{step_bound};
 ghost use Rattle.nl_segments.specs.Reader.{HasLines, IsNl, value_of};
@@ -55,6 +55,17 @@ fn export_read<L: Ledger>(
     Ok(out)
 }
 
+// The written text of an instance.
+fn instance_text(alloc: Global, seed: u32, size: u32) -> Result<Vec<u8>, AllocError>
+    requires { size ≤ 20000 }
+    ensures { IfOk result (λ text. text.items ≡ made_text seed size) }
+{
+    let file = make_instance(alloc, seed, size)?;
+    let text = write_nl(alloc, &file);
+    drop(file);
+    text
+}
+
 // The summary of the written text of an instance, or the line to tell.
 fn judge<L: Ledger>(
     alloc: Global,
@@ -67,8 +78,7 @@ fn judge<L: Ledger>(
     ensures above { steps.old ≤ steps.new }
     ensures counts { steps.new ≤ steps.old + step_bound (instance seed size) }
 {
-    let file = make_instance(alloc, seed, size)?;
-    let text = write_nl(alloc, &file)?;
+    let text = instance_text(alloc, seed, size)?;
     match read_nl(alloc, &text) {
         Ok(read) => export_read(alloc, read, steps),
         Err(Stop::Memory) => Err(Stop::Memory),

@@ -116,12 +116,21 @@ pub(crate) fn export_named<D: Desk, L: Ledger>(
     };
     let row_names = match open_rows(alloc, desk, &read.file, 2, rows) {
         Ok(names) => names,
-        Err(ended) => return ended,
+        Err(ended) => {
+            drop(read);
+            return ended;
+        }
     };
     let column_names = match open_columns(alloc, desk, &read.file, 3, columns) {
         Ok(names) => names,
-        Err(ended) => return ended,
+        Err(ended) => {
+            drop(read);
+            drop(row_names);
+            return ended;
+        }
     };
     let judged = judge(alloc, read, objective, &row_names, &column_names, steps);
+    drop(row_names);
+    drop(column_names);
     end_verdict(desk, judged)
 }

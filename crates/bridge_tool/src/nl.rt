@@ -20,7 +20,9 @@ fn judge(alloc: Global, reader: NlReader) -> Result<Vec<u8>, Stop<Vec<u8>>>
         → Judges IsNlRewritten HasTextRefusal text result }
 {
     let read = judge_nl(alloc, reader)?;
-    let out = write_nl(alloc, &read.file)?;
+    let out = write_nl(alloc, &read.file);
+    drop(read);
+    let out = out?;
     Ok(out)
 }
 

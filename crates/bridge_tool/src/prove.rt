@@ -63,21 +63,22 @@ fn told_verdict(alloc: Global, verdict: ProofVerdict) -> Result<(bool, Vec<u8>),
 // The verdict on a proof of a file, or the line of the first fault of the fold.
 fn judge<L: Ledger>(
     alloc: Global,
-    read: NlRead,
+    read: &NlRead,
     proof: &Proof,
     steps: &mut Steps<L>,
 ) -> Result<(bool, Vec<u8>), Stop<Vec<u8>>>
-    requires lines { HasLines read }
-    requires proof { IsProofIn read.file proof.now }
-    ensures comes { Comes (λ outcome. outcome ≡ prove_outcome (value_of read) proof.now) result }
-    ensures means { IfOk result (λ t. t.0 ≡ true → IsProvedOf (value_of read) proof.now) }
+    requires lines { HasLines read.now }
+    requires proof { IsProofIn read.now.file proof.now }
+    ensures comes { Comes (λ outcome. outcome ≡ prove_outcome (value_of read.now) proof.now) result }
+    ensures means { IfOk result (λ t. t.0 ≡ true → IsProvedOf (value_of read.now) proof.now) }
     ensures above { steps.old ≤ steps.new }
-    ensures counts { steps.new ≤ steps.old + most_steps (value_of read) proof.now }
+    ensures counts { steps.new ≤ steps.old + most_steps (value_of read.now) proof.now }
 {
     let objective = claimed_objective(proof.claim());
-    let linear = fold(alloc, &read, objective, steps)?;
-    let verdict = verdict_of(alloc, &linear, proof)?;
-    let told = told_verdict(alloc, verdict)?;
+    let linear = fold(alloc, read, objective, steps)?;
+    let verdict = verdict_of(alloc, &linear, proof);
+    drop(linear);
+    let told = told_verdict(alloc, verdict?)?;
     Ok(told)
 }
 
@@ -104,8 +105,13 @@ pub(crate) fn prove<D: Desk, L: Ledger>(
     };
     let given = match open_proof(alloc, desk, &read.file, proof, 2) {
         Ok(given) => given,
-        Err(answer) => return answer,
+        Err(answer) => {
+            drop(read);
+            return answer;
+        }
     };
-    let judged = judge(alloc, read, &given, steps);
+    let judged = judge(alloc, &read, &given, steps);
+    drop(read);
+    drop(given);
     end_verdict(desk, judged)
 }

@@ -53,18 +53,18 @@ fn make<L: Ledger>(
 // The bytes to write for an answer for a file, or the line to tell.
 fn judge<L: Ledger>(
     alloc: Global,
-    read: NlRead,
+    read: &NlRead,
     given: &Given,
     steps: &mut Steps<L>,
 ) -> Result<(bool, Vec<u8>), Stop<Vec<u8>>>
-    requires lines { HasLines read }
-    requires made { IsAnswerFor read.file given.now }
-    ensures comes { Comes (ReturnsAs (value_of read) given.now) result }
-    ensures file { IsFile read.file }
+    requires lines { HasLines read.now }
+    requires made { IsAnswerFor read.now.file given.now }
+    ensures comes { Comes (ReturnsAs (value_of read.now) given.now) result }
+    ensures file { IsFile read.now.file }
     ensures above { steps.old ≤ steps.new }
-    ensures counts { steps.new ≤ steps.old + most_return_steps (value_of read) given.now }
+    ensures counts { steps.new ≤ steps.old + most_return_steps (value_of read.now) given.now }
 {
-    let sol = make(alloc, &read, given, steps)?;
+    let sol = make(alloc, read, given, steps)?;
     let out = write_sol(alloc, &sol)?;
     Ok((true, out))
 }
@@ -92,9 +92,14 @@ pub(crate) fn return_answer<D: Desk, L: Ledger>(
     };
     let given = match open_answer(alloc, desk, &read.file, answer) {
         Ok(given) => given,
-        Err(ended) => return ended,
+        Err(ended) => {
+            drop(read);
+            return ended;
+        }
     };
-    let judged = judge(alloc, read, &given, steps);
+    let judged = judge(alloc, &read, &given, steps);
+    drop(read);
+    drop(given);
     end_verdict(desk, judged)
 }
 
@@ -124,16 +129,28 @@ pub(crate) fn return_named<D: Desk, L: Ledger>(
     };
     let row_names = match open_rows(alloc, desk, &read.file, 3, rows) {
         Ok(names) => names,
-        Err(ended) => return ended,
+        Err(ended) => {
+            drop(read);
+            return ended;
+        }
     };
     let column_names = match open_columns(alloc, desk, &read.file, 4, columns) {
         Ok(names) => names,
-        Err(ended) => return ended,
+        Err(ended) => {
+            drop(read);
+            drop(row_names);
+            return ended;
+        }
     };
     let given = match open_named(alloc, desk, &read.file, row_names, column_names, answer) {
         Ok(given) => given,
-        Err(ended) => return ended,
+        Err(ended) => {
+            drop(read);
+            return ended;
+        }
     };
-    let judged = judge(alloc, read, &given, steps);
+    let judged = judge(alloc, &read, &given, steps);
+    drop(read);
+    drop(given);
     end_verdict(desk, judged)
 }

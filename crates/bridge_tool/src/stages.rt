@@ -66,7 +66,9 @@ pub(crate) fn fold_read<L: Ledger>(
 pub(crate) fn scale(alloc: Global, linear: Linear, objective: u32) -> Result<Scaled, Stop<Vec<u8>>>
     ensures { Scales (linear_value linear) objective result }
 {
-    match scale_rows(alloc, &linear) {
+    let scaled = scale_rows(alloc, &linear);
+    drop(linear);
+    match scaled {
         Ok(scaled) => Ok(scaled),
         Err(Stop::Memory) => Err(Stop::Memory),
         Err(Stop::Fault(fault)) => {

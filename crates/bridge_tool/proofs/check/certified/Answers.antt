@@ -6,21 +6,18 @@ use Rattle.nl_segments.specs.Reader.{value_of}
 use Rattle.bridge_tool.proofs.Checking.{all_duals, all_primals, steps_so}
 use Rattle.bridge_tool.proofs.check.certified.Goals as goal
 
-pub verdict_of-requires-clause-numbers : goal.verdict_of-requires-clause-numbers
-verdict_of-requires-clause-numbers g c =
-    ap length (c.items.ensures ∙ c.primals-x.ensures.value) ∙ all_primals (value_of c.args.read) c.args.sol.now c.requires.fits c.args.objective c.primals-x.ensures.given
+pub told_verdict-requires-clause-numbers : goal.told_verdict-requires-clause-numbers
+told_verdict-requires-clause-numbers g c =
+    ap length (c.items.ensures ∙ c.primals-x.ensures.value) ∙ all_primals (value_of c.args.read.now) c.args.sol.now c.requires.fits c.args.objective c.primals-x.ensures.given
     ∙ ap variable_count (sym c.in_ok-linear.ensures.folds.linear)
 
-pub verdict_of-requires-clause-duals : goal.verdict_of-requires-clause-duals
-verdict_of-requires-clause-duals g c =
-    ap length (c.items-2.ensures ∙ c.duals-y.ensures.value) ∙ all_duals (value_of c.args.read) c.args.sol.now c.requires.fits c.args.objective c.duals-y.ensures.given
+pub told_verdict-requires-clause-duals : goal.told_verdict-requires-clause-duals
+told_verdict-requires-clause-duals g c =
+    ap length (c.items-2.ensures ∙ c.duals-y.ensures.value) ∙ all_duals (value_of c.args.read.now) c.args.sol.now c.requires.fits c.args.objective c.duals-y.ensures.given
     ∙ ap row_count (sym c.in_ok-linear.ensures.folds.linear)
 
-pub returns-in_err-verdict-clause-counts : goal.returns-in_err-verdict-clause-counts
-returns-in_err-verdict-clause-counts g c = steps_so (has_objective c.args.read.file c.args.objective) _ _ (step_bound c.args.read.file) c.fold.ensures.below c.fold.ensures.none
-
 pub returns-in_err-told-clause-counts : goal.returns-in_err-told-clause-counts
-returns-in_err-told-clause-counts g c = steps_so (has_objective c.args.read.file c.args.objective) _ _ (step_bound c.args.read.file) c.fold.ensures.below c.fold.ensures.none
+returns-in_err-told-clause-counts g c = steps_so (has_objective c.args.read.now.file c.args.objective) _ _ (step_bound c.args.read.now.file) c.fold.ensures.below c.fold.ensures.none
 
 pub returns-clause-counts : goal.returns-clause-counts
-returns-clause-counts g c = steps_so (has_objective c.args.read.file c.args.objective) _ _ (step_bound c.args.read.file) c.fold.ensures.below c.fold.ensures.none
+returns-clause-counts g c = steps_so (has_objective c.args.read.now.file c.args.objective) _ _ (step_bound c.args.read.now.file) c.fold.ensures.below c.fold.ensures.none
