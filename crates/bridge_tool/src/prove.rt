@@ -69,7 +69,8 @@ fn judge<L: Ledger>(
 ) -> Result<(bool, Vec<u8>), Stop<Vec<u8>>>
     requires lines { HasLines read.now }
     requires proof { IsProofIn read.now.file proof.now }
-    ensures comes { Comes (λ outcome. outcome ≡ prove_outcome (value_of read.now) proof.now) result }
+    ensures comes { Comes (λ outcome. outcome ≡ prove_outcome (value_of read.now) proof.now)
+        result }
     ensures means { IfOk result (λ t. t.0 ≡ true → IsProvedOf (value_of read.now) proof.now) }
     ensures above { steps.old ≤ steps.new }
     ensures counts { steps.new ≤ steps.old + most_steps (value_of read.now) proof.now }

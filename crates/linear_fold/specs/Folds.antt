@@ -117,9 +117,10 @@ AreLinesOf known n (more t ts) (l ∷ ls) =
     HasLine n (λ at. tree_value (known at) at t) l × AreLinesOf known n ts ls
 
 -- operands have the first fault of their trees, or their lines; the first node has the number i
-pub record AreOperandsOf (known : Point → Known) (n i : ℕ) (ts : Trees) (ps : List Part) : Type 0 where
-  pub fault : first_broken ps ≡ trees_fault known n i ts
-  pub lines : first_broken ps ≡ None → AreLinesOf known n ts (lines_of_parts ps)
+pub record AreOperandsOf (known : Point → Known) (n i : ℕ) (ts : Trees) (ps : List Part) : Type 0
+  where
+    pub fault : first_broken ps ≡ trees_fault known n i ts
+    pub lines : first_broken ps ≡ None → AreLinesOf known n ts (lines_of_parts ps)
 
 -- a variable is one of n, a defined variable has a form, and an operator finds its operands among
 -- so many parts

@@ -82,7 +82,8 @@ fn greater(a: Frac, b: Frac) -> Frac
 fn least_value(operands: &[Part]) -> Option<Frac>
     requires some { 0 < length operands.now }
     requires unbroken { AreUnbroken (reverse operands.now) }
-    ensures { (n : ℕ) → AreOperands n (reverse operands.now) → IsValueOf n Least (reverse operands.now) result }
+    ensures { (n : ℕ) → AreOperands n (reverse operands.now)
+        → IsValueOf n Least (reverse operands.now) result }
 {
     let last = operands.len() - 1;
     let Some(mut least) = operands[last].constant() else {
@@ -101,7 +102,8 @@ fn least_value(operands: &[Part]) -> Option<Frac>
 fn greatest_value(operands: &[Part]) -> Option<Frac>
     requires some { 0 < length operands.now }
     requires unbroken { AreUnbroken (reverse operands.now) }
-    ensures { (n : ℕ) → AreOperands n (reverse operands.now) → IsValueOf n Greatest (reverse operands.now) result }
+    ensures { (n : ℕ) → AreOperands n (reverse operands.now)
+        → IsValueOf n Greatest (reverse operands.now) result }
 {
     let last = operands.len() - 1;
     let Some(mut greatest) = operands[last].constant() else {

@@ -228,7 +228,8 @@ fn scaled_form<L: Ledger>(
     requires within { IsWithin (place_count total.old) a.now }
     ensures blank { OnOk result (StaysBlank total.old total.new) }
     ensures outcome { IfOk result
-        (λ o. ComesTo (place_count total.old) (products_fit (place_count total.old) (frac_value k) (form_line a.now))
+        (λ o. ComesTo (place_count total.old)
+        (products_fit (place_count total.old) (frac_value k) (form_line a.now))
         (line_scaled (frac_value k) (form_line a.now)) o) }
     ensures above { steps.old ≤ steps.new }
     ensures below { steps.new ≤ steps.old + (place_count total.old + 1) }
@@ -280,7 +281,8 @@ pub(crate) fn scaled<L: Ledger>(
     requires within { IsOperand (place_count total.old) a.now }
     ensures blank { OnOk result (StaysBlank total.old total.new) }
     ensures outcome { IfOk result
-        (λ o. ComesTo (place_count total.old) (products_fit (place_count total.old) (frac_value k) (part_line a.now))
+        (λ o. ComesTo (place_count total.old)
+        (products_fit (place_count total.old) (frac_value k) (part_line a.now))
         (line_scaled (frac_value k) (part_line a.now)) o) }
     ensures above { steps.old ≤ steps.new }
     ensures below { steps.new ≤ steps.old + (place_count total.old + 1) }

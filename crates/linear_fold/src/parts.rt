@@ -1,4 +1,5 @@
-// What the parts of a tree come to. A number, and a factor times a variable, are no forms yet: they allocate nothing.
+// What the parts of a tree come to. A number, and a factor times a variable, are no forms yet: they
+// allocate nothing.
 ghost use Rattle.std.specs.Prelude.{◌≡◌, ◌∷◌, List, ℕ, IfOk, IfSome, is_some, reverse};
 ghost use Rattle.exact_numbers.specs.Values.{frac_value};
 ghost use Rattle.fractions.specs.Rational.{zero_ℚ};
