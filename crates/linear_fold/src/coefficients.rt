@@ -48,8 +48,14 @@ impl Coefficients {
         requires { AreAscending 0 items.items }
         ensures { result ≡ items.items }
     {
+        Coefficients::of_fractions(FractionTerms::of_items(items))
+    }
+
+    pub(crate) fn of_fractions(terms: FractionTerms) -> Self
+        ensures { result ≡ terms }
+    {
         Coefficients {
-            list: TermList::Fractions(FractionTerms::of_items(items)),
+            list: TermList::Fractions(terms),
         }
     }
 
