@@ -1,5 +1,5 @@
 -- Places at which listed terms are put.
-use Rattle.std.proofs.Common.{◌≡◌, ◌≢◌, ℕ, zero, suc, ◌<◌, ◌≤◌, ◌∙◌, sym, ap, refl, subst, arith, ⊎_elim, ◌==◌, true, false, Option, None, Some, List, [], ◌∷◌, ◌++◌, length, slice_set}
+use Rattle.std.proofs.Common.{◌≡◌, ◌≢◌, ℕ, zero, suc, ◌<◌, ◌∙◌, sym, ap, refl, subst, arith, ⊎_elim, ◌==◌, true, false, None, Some, List, [], ◌∷◌, ◌++◌, length, slice_set}
 use Rattle.std.proofs.lemmas.Bool.{cases_eq, eqb-true}
 use Rattle.std.proofs.lemmas.List.{length-set}
 use Rattle.exact_numbers.specs.declared.frac.Frac.{Frac}

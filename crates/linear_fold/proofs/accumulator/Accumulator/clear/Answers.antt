@@ -1,5 +1,4 @@
 use Rattle.std.proofs.Common.{◌∙◌, ap, sym, length}
-use Rattle.linear_fold.specs.Places.{put_all}
 use Rattle.linear_fold.proofs.PutLemmas.{put_length}
 use Rattle.linear_fold.proofs.accumulator.Accumulator.clear.Goals as goal
 

@@ -1,4 +1,4 @@
-use Rattle.std.proofs.Common.{◌∷◌, [], sym, subst}
+use Rattle.std.proofs.Common.{sym, subst}
 use Rattle.linear_fold.specs.Coefs.{AreAscending, AreBelow}
 use Rattle.linear_fold.proofs.CoefLemmas.{ascending_last}
 use Rattle.linear_fold.proofs.fraction_terms.FractionTerms.push.Goals as goal
