@@ -153,22 +153,23 @@ fn close_places(
     Ok((coefficients, accumulator))
 }
 
-// The listed terms, where no place holds anything but 0; a new list has room for as many.
+// A copy of the listed terms, which has room for no more, where no place holds anything but 0.
 fn close_listed(
     alloc: Global,
     places: MarkedPlaces,
-    listed: FractionTerms,
+    mut listed: FractionTerms,
 ) -> Result<(Coefficients, Accumulator), AllocError>
     requires { AreZeros places }
     ensures coefficients { IfOk result (λ r. r.0 ≡ listed) }
     ensures zeros { IfOk result (λ r. AreZeros r.1) }
     ensures count { IfOk result (λ r. length r.1 ≡ length places) }
 {
-    let room = FractionTerms::with_capacity(alloc, listed.items().len())?;
+    let terms = FractionTerms::of_slice(alloc, listed.items())?;
+    listed.clear();
     let accumulator = Accumulator {
         alloc,
         places,
-        listed: room,
+        listed,
     };
-    Ok((Coefficients::of_fractions(listed), accumulator))
+    Ok((Coefficients::of_fractions(terms), accumulator))
 }

@@ -62,11 +62,13 @@ impl FractionTerms {
 }
 
 impl FractionTerms {
-    /// No coefficients, with room for so many.
-    pub(crate) fn with_capacity(alloc: Global, count: usize) -> Result<Self, AllocError>
-        ensures { IfOk result (λ c. c ≡ []) }
+    /// A copy of terms.
+    pub(crate) fn of_slice(alloc: Global, terms: &[(u32, Frac)]) -> Result<Self, AllocError>
+        requires { AreAscending 0 terms.now }
+        ensures { IfOk result (λ c. c ≡ terms.now) }
     {
-        let items = Vec::with_capacity(alloc, count)?;
+        let mut items = Vec::with_capacity(alloc, terms.len())?;
+        items.extend_from_slice(terms)?;
         Ok(FractionTerms { items })
     }
 
