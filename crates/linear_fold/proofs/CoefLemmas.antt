@@ -1,6 +1,8 @@
 -- The coefficients that lists of terms give.
-use Rattle.std.proofs.Common.{◌≡◌, ◌≢◌, ℕ, suc, ◌<◌, ◌≤◌, ◌∙◌, sym, ap, ap₂, refl, arith, ⊎_elim, Bool, true, false, ◌==◌, if◌then◌else◌, Some, None, List, [], ◌∷◌, ◌++◌}
+use Rattle.std.proofs.Common.{◌≡◌, ◌≢◌, ℕ, zero, suc, ◌<◌, ◌≤◌, ◌∙◌, sym, ap, ap₂, refl, subst, arith, ⊎_elim, Bool, true, false, ◌==◌, if◌then◌else◌, Some, None, List, [], ◌∷◌, ◌++◌, length, get_or}
 use Rattle.std.proofs.lemmas.Bool.{cases_eq, eq-eqb, eqb-true}
+use Rattle.exact_numbers.specs.declared.frac.Frac.{Frac}
+use Rattle.exact_numbers.specs.Values.{frac_value}
 use Rattle.fractions.specs.Rational.{ℚ, zero_ℚ, ◌+ℚ◌, ◌*ℚ◌}
 use Rattle.fractions.proofs.Arithmetic.{+ℚ_zero, *ℚ_zero, *ℚ_one}
 use Rattle.nl_meaning.specs.Lines.{one_if}
@@ -63,3 +65,28 @@ nothing_added old j k e i = adds_at old old j k (sym (ap (λ x. old j +ℚ x) e 
 
 pub not_zero : (r : Bool) (x : ℚ) → (x ≡ zero_ℚ → r ≡ true) → r ≡ false → x ≢ zero_ℚ
 not_zero r x f e z = (let clash : true ≡ false = sym (f z) ∙ e in cc)
+
+-- one more term that comes last
+pub ascending_last : (ts : List Term) (v : ℕ) (f : Frac) → AreAscending 0 ts → AreBelow v ts → frac_value f ≢ zero_ℚ → AreAscending 0 (ts ++ (v, f) ∷ [])
+ascending_last ts v f a b n = ascending_append 0 v ts ((v, f) ∷ []) (omega arith) a b (omega arith, n, tt)
+
+-- what is ascending lies between the bound and the last term
+module _ (t : Term) where
+  ascending_at : (n : ℕ) (ts : List Term) (k : ℕ) → AreAscending n ts → k < length ts → t ≡ get_or ts k t → n ≤ t.0
+  ascending_at n [] k a h e = absurd (omega arith)
+  ascending_at n (s ∷ ts) zero a h e = subst (λ (q : Term). n ≤ q.0) (sym e) a.0
+  ascending_at n (s ∷ ts) (suc k) a h e = let first = a.0 in (let rest = ascending_at (suc s.0) ts k a.2 (omega arith) e in omega arith)
+
+  pub below_last : (v n : ℕ) (ts : List Term) (k : ℕ) → AreAscending n ts → suc k ≡ length ts → t ≡ get_or ts k t → t.0 < v → AreBelow v ts
+  below_last v n [] k a h e less = tt
+  below_last v n (s ∷ []) zero a h e less = (subst (λ (q : Term). q.0 < v) e less, tt)
+  below_last v n (s ∷ r ∷ ts) zero a h e less = absurd (omega arith)
+  below_last v n (s ∷ ts) (suc k) a h e less = (
+    let later = ascending_at (suc s.0) ts k a.2 (omega arith) e in omega arith,
+    below_last v (suc s.0) ts k a.2 (omega arith) e less,
+  )
+
+  pub last_below : (v : ℕ) (ts : List Term) (k : ℕ) → AreBelow v ts → k < length ts → t ≡ get_or ts k t → t.0 < v
+  last_below v [] k b h e = absurd (omega arith)
+  last_below v (s ∷ ts) zero b h e = subst (λ (q : Term). q.0 < v) (sym e) b.0
+  last_below v (s ∷ ts) (suc k) b h e = last_below v ts k b.1 (omega arith) e

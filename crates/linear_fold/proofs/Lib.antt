@@ -14,6 +14,7 @@ pub mod OwnerLemmas
 pub mod PartLemmas
 pub mod PlaceLemmas
 pub mod Products
+pub mod PutLemmas
 pub mod ProgramLemmas
 pub mod Scaled
 pub mod Stacks

@@ -1,9 +1,10 @@
 -- A place for each variable, which holds its coefficient.
-use Rattle.std.specs.Prelude.{◌≡◌, ◌≢◌, ℕ, zero, suc, ◌<◌, List, [], ◌∷◌, length}
+use Rattle.std.specs.Prelude.{◌≡◌, ◌≢◌, ℕ, zero, suc, ◌<◌, List, [], ◌∷◌, length, slice_set}
 use Rattle.std.specs.List.{Contains}
 use Rattle.exact_numbers.specs.declared.frac.Frac.{Frac}
 use Rattle.exact_numbers.specs.Values.{frac_value}
 use Rattle.fractions.specs.Rational.{ℚ, zero_ℚ}
+use Rattle.linear_fold.specs.Coefs.{Term, AreBelow}
 
 -- the coefficient at place j; 0 where there is no such place
 abbrev pub place_in : List Frac → ℕ → ℚ
@@ -19,3 +20,13 @@ AreZeros ps = (j : ℕ) → place_in ps j ≡ zero_ℚ
 pub record AreMarked (ps : List Frac) (touched : List ℕ) : Type 0 where
   pub among : (j : ℕ) → place_in ps j ≢ zero_ℚ → Contains touched j
   pub there : (j : ℕ) → Contains touched j → j < length ps
+
+-- the places with the terms of a list put at theirs
+abbrev pub put_all : List Term → List Frac → List Frac
+put_all [] ps = ps
+put_all (t ∷ ts) ps = put_all ts (slice_set ps t.0 t.1)
+
+-- each listed term has a place, and where anything is listed no place holds anything but 0
+pub record AreListed (ps : List Frac) (ts : List Term) : Type 0 where
+  pub below : AreBelow (length ps) ts
+  pub zeros : ts ≢ [] → AreZeros ps

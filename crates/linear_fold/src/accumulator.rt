@@ -1,34 +1,37 @@
 // A sparse accumulator: the coefficients of a sum, each at the place of its variable.
-ghost use Rattle.std.specs.Prelude.{◌≡◌, ◌<◌, ℕ, length, IfOk, true, false};
+ghost use Rattle.std.specs.Prelude.{◌≡◌, ◌≢◌, ◌<◌, ℕ, [], length, IfOk, true};
 ghost use Rattle.exact_numbers.specs.Values.{frac_value};
-ghost use Rattle.linear_fold.specs.Coefs.{AddsAt, coef_in};
-ghost use Rattle.linear_fold.specs.Places.{AreZeros, place_in};
+ghost use Rattle.linear_fold.specs.Coefs.{AddsAt, AreBelow, coef_in};
+ghost use Rattle.linear_fold.specs.Places.{AreListed, AreZeros, place_in, put_all};
 
 use crate::coefficients::Coefficients;
+use crate::fraction_terms::FractionTerms;
+use crate::marked_places::MarkedPlaces;
 use crate::too_wide::Wide;
 use exact_numbers::Frac;
 use std::alloc::{AllocError, Global};
 use std::marker::Model;
 use text_base::Stop;
 
-/// A place for each variable, and the touched places: those that may hold anything but 0.
+/// A place for each variable, and terms that are not yet put at theirs: while the variables that
+/// are added ascend, their terms are only listed.
 #[derive(Drop)]
 pub struct Accumulator {
     alloc: Global,
-    places: Vec<Frac>,
-    touched: Vec<u32>,
+    places: MarkedPlaces,
+    listed: FractionTerms,
 }
 
 impl Model for Accumulator {
     ghost use Rattle.std.specs.Prelude.{List};
     ghost use Rattle.exact_numbers.specs.declared.frac.Frac.{Frac as FracFields};
-    ghost use Rattle.linear_fold.specs.Places.{AreMarked};
+    ghost use Rattle.linear_fold.specs.Places.{AreListed, put_all};
 
     ghost Value = { List FracFields };
 
-    ghost view = { λ w. w.places.items };
+    ghost view = { λ w. put_all w.listed w.places };
 
-    ghost invariant = { λ w. AreMarked w.places.items w.touched.items };
+    ghost invariant = { λ w. AreListed w.places w.listed };
 }
 
 impl Accumulator {
@@ -38,8 +41,8 @@ impl Accumulator {
     {
         Accumulator {
             alloc,
-            places: Vec::new(alloc),
-            touched: Vec::new(alloc),
+            places: MarkedPlaces::without_places(alloc),
+            listed: FractionTerms::new(alloc),
         }
     }
 
@@ -48,14 +51,11 @@ impl Accumulator {
         ensures zeros { IfOk result (λ w. AreZeros w) }
         ensures count { IfOk result (λ w. length w ≡ count) }
     {
-        let mut places = Vec::new(alloc);
-        for _ in 0..count {
-            places.push(Frac::zero())?;
-        }
+        let places = MarkedPlaces::new(alloc, count)?;
         Ok(Accumulator {
             alloc,
             places,
-            touched: Vec::new(alloc),
+            listed: FractionTerms::new(alloc),
         })
     }
 
@@ -66,19 +66,31 @@ impl Accumulator {
             result }
         ensures count { length self.new ≡ length self.old }
     {
-        let old = self.places[variable as usize];
-        let Some(sum) = old.add(factor) else {
-            return Err(Stop::Fault(Wide));
-        };
-        if !old.is_zero() {
-            self.places[variable as usize] = sum;
+        if factor.is_zero() {
             return Ok(());
         }
-        let Ok(()) = self.touched.push(variable) else {
+        if !comes_last(&self.listed, &self.places, variable) {
+            return self.add_at(variable, factor);
+        }
+        let Ok(()) = self.listed.push(variable, factor) else {
             return Err(Stop::Memory);
         };
-        self.places[variable as usize] = sum;
         Ok(())
+    }
+
+    // The same, at its place.
+    fn add_at(&mut self, variable: u32, factor: Frac) -> Result<(), Stop<Wide>>
+        requires { variable < length self.old }
+        ensures adds { AddsAt (place_in self.old) variable (frac_value factor) (place_in self.new)
+            result }
+        ensures count { length self.new ≡ length self.old }
+    {
+        let put = self.places.put_all(self.listed.items());
+        self.listed.clear();
+        let Ok(()) = put else {
+            return Err(Stop::Memory);
+        };
+        self.places.add(variable, factor)
     }
 
     /// Sets each place to 0.
@@ -86,13 +98,10 @@ impl Accumulator {
         ensures zeros { AreZeros self.new }
         ensures count { length self.new ≡ length self.old }
     {
-        'touched: while let Some(variable) = self.touched.pop() {
-            self.places[variable as usize] = Frac::zero();
-        }
+        self.listed.clear();
+        self.places.clear();
     }
-}
 
-impl Accumulator {
     // The coefficients in order, and the places, which hold 0 again.
     pub(crate) fn close(self) -> Result<(Coefficients, Accumulator), AllocError>
         ensures coefficients { IfOk result (λ r. (j : ℕ) → coef_in r.0 j ≡ place_in self j) }
@@ -101,24 +110,66 @@ impl Accumulator {
     {
         let Accumulator {
             alloc,
-            mut places,
-            mut touched,
-        } = self;
-        touched.sort_unstable();
-        let mut items: Vec<(u32, Frac)> = Vec::with_capacity(alloc, touched.len())?;
-        for variable in &touched {
-            let value = places[*variable as usize];
-            if !value.is_zero() {
-                items.push((*variable, value))?;
-                places[*variable as usize] = Frac::zero();
-            }
-        }
-        touched.clear();
-        let accumulator = Accumulator {
-            alloc,
             places,
-            touched,
-        };
-        Ok((Coefficients::of_items(items), accumulator))
+            listed,
+        } = self;
+        if listed.items().is_empty() {
+            return close_places(alloc, places, listed);
+        }
+        close_listed(alloc, places, listed)
     }
+}
+
+// Whether a variable comes after each that is listed, and no place holds anything but 0.
+#[inline]
+fn comes_last(listed: &FractionTerms, places: &MarkedPlaces, variable: u32) -> bool
+    requires { AreListed places.now listed.now }
+    ensures last { result ≡ true → AreBelow variable listed.now }
+    ensures zeros { result ≡ true → AreZeros places.now }
+{
+    if listed.items().is_empty() {
+        return places.are_untouched();
+    }
+    listed.comes_last(variable)
+}
+
+// The coefficients at the places, where nothing is listed.
+fn close_places(
+    alloc: Global,
+    places: MarkedPlaces,
+    listed: FractionTerms,
+) -> Result<(Coefficients, Accumulator), AllocError>
+    requires { listed ≡ [] }
+    ensures coefficients { IfOk result (λ r. (j : ℕ) → coef_in r.0 j ≡ place_in places j) }
+    ensures zeros { IfOk result (λ r. AreZeros r.1) }
+    ensures count { IfOk result (λ r. length r.1 ≡ length places) }
+{
+    let (coefficients, places) = places.close()?;
+    let accumulator = Accumulator {
+        alloc,
+        places,
+        listed,
+    };
+    Ok((coefficients, accumulator))
+}
+
+// A copy of the listed terms, which has room for no more, where no place holds anything but 0.
+fn close_listed(
+    alloc: Global,
+    places: MarkedPlaces,
+    mut listed: FractionTerms,
+) -> Result<(Coefficients, Accumulator), AllocError>
+    requires { AreZeros places }
+    ensures coefficients { IfOk result (λ r. r.0 ≡ listed) }
+    ensures zeros { IfOk result (λ r. AreZeros r.1) }
+    ensures count { IfOk result (λ r. length r.1 ≡ length places) }
+{
+    let terms = FractionTerms::of_slice(alloc, listed.items())?;
+    listed.clear();
+    let accumulator = Accumulator {
+        alloc,
+        places,
+        listed,
+    };
+    Ok((Coefficients::of_fractions(terms), accumulator))
 }

@@ -48,8 +48,14 @@ impl Coefficients {
         requires { AreAscending 0 items.items }
         ensures { result ≡ items.items }
     {
+        Coefficients::of_fractions(FractionTerms::of_items(items))
+    }
+
+    pub(crate) fn of_fractions(terms: FractionTerms) -> Self
+        ensures { result ≡ terms }
+    {
         Coefficients {
-            list: TermList::Fractions(FractionTerms::of_items(items)),
+            list: TermList::Fractions(terms),
         }
     }
 
@@ -136,9 +142,8 @@ impl Coefficients {
     {
         match &self.list {
             TermList::Fractions(terms) => {
-                let mut items = Vec::with_capacity(alloc, terms.items().len())?;
-                items.extend_from_slice(terms.items())?;
-                Ok(Coefficients::of_items(items))
+                let copy = FractionTerms::of_slice(alloc, terms.items())?;
+                Ok(Coefficients::of_fractions(copy))
             }
             TermList::Decimals(terms) => Coefficients::of_decimals(alloc, terms.items()),
         }

@@ -1,8 +1,8 @@
 // Terms with fractions.
-ghost use Rattle.std.specs.Prelude.{◌≡◌, ◌≢◌, ◌∷◌, IfOk, []};
+ghost use Rattle.std.specs.Prelude.{◌≡◌, ◌≢◌, ◌∷◌, ◌++◌, ◌↔◌, IfOk, IsTrue, OnErr, OnOk, []};
 ghost use Rattle.exact_numbers.specs.Values.{frac_value};
 ghost use Rattle.fractions.specs.Rational.{zero_ℚ};
-ghost use Rattle.linear_fold.specs.Coefs.{AreAscending};
+ghost use Rattle.linear_fold.specs.Coefs.{AreAscending, AreBelow};
 
 use exact_numbers::Frac;
 use std::alloc::{AllocError, Global};
@@ -58,5 +58,46 @@ impl FractionTerms {
         ensures ascending { AreAscending 0 self.now }
     {
         &self.items
+    }
+}
+
+impl FractionTerms {
+    /// A copy of terms.
+    pub(crate) fn of_slice(alloc: Global, terms: &[(u32, Frac)]) -> Result<Self, AllocError>
+        requires { AreAscending 0 terms.now }
+        ensures { IfOk result (λ c. c ≡ terms.now) }
+    {
+        let mut items = Vec::with_capacity(alloc, terms.len())?;
+        items.extend_from_slice(terms)?;
+        Ok(FractionTerms { items })
+    }
+
+    /// Whether a variable comes after each that is there.
+    #[inline]
+    pub(crate) fn comes_last(&self, variable: u32) -> bool
+        ensures { IsTrue result ↔ AreBelow variable self.now }
+    {
+        match self.items.last() {
+            Some(last) => last.0 < variable,
+            None => true,
+        }
+    }
+
+    /// Adds a term that comes last.
+    #[inline]
+    pub(crate) fn push(&mut self, variable: u32, factor: Frac) -> Result<(), AllocError>
+        requires last { AreBelow variable self.old }
+        requires factor { frac_value factor ≢ zero_ℚ }
+        ensures more { OnOk result (self.new ≡ self.old ++ (variable, factor) ∷ []) }
+        ensures same { OnErr result (self.new ≡ self.old) }
+    {
+        self.items.push((variable, factor))?;
+        Ok(())
+    }
+
+    pub(crate) fn clear(&mut self)
+        ensures { self.new ≡ [] }
+    {
+        self.items.clear();
     }
 }

@@ -15,6 +15,7 @@ mod fold_fault;
 mod form;
 mod fraction_terms;
 mod linear;
+mod marked_places;
 mod operate;
 mod owners;
 mod parts;

@@ -1,6 +1,6 @@
 use Rattle.std.proofs.Common.{◌≡◌, length}
 use Rattle.linear_fold.specs.Places.{AreZeros}
-use Rattle.linear_fold.proofs.accumulator.Accumulator.new.Given as goal
+use Rattle.linear_fold.proofs.marked_places.MarkedPlaces.new.Given as goal
 
 abbrev pub invariant-loop : goal.invariant-loop
 invariant-loop l =

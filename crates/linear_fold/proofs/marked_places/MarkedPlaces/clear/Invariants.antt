@@ -1,6 +1,6 @@
 use Rattle.std.proofs.Common.{◌≡◌, length, vec_len}
 use Rattle.linear_fold.specs.Places.{AreMarked}
-use Rattle.linear_fold.proofs.accumulator.Accumulator.clear.Given as goal
+use Rattle.linear_fold.proofs.marked_places.MarkedPlaces.clear.Given as goal
 
 abbrev pub invariant-touched : goal.invariant-touched
 invariant-touched l =
