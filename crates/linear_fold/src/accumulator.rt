@@ -126,6 +126,7 @@ fn comes_last(listed: &FractionTerms, places: &MarkedPlaces, variable: u32) -> b
     requires { AreListed places.now listed.now }
     ensures last { result ≡ true → AreBelow variable listed.now }
     ensures zeros { result ≡ true → AreZeros places.now }
+    ensures found { listed.now ≢ [] → AreBelow variable listed.now → result ≡ true }
 {
     if listed.items().is_empty() {
         return places.are_untouched();
