@@ -2,7 +2,7 @@
 ghost use Rattle.std.specs.Prelude.{◌≡◌, ◌≢◌, ◌<◌, ℕ, [], length, IfOk, true};
 ghost use Rattle.exact_numbers.specs.Values.{frac_value};
 ghost use Rattle.linear_fold.specs.Coefs.{AddsAt, AreBelow, coef_in};
-ghost use Rattle.linear_fold.specs.Places.{AreListed, AreZeros, place_in, put_all};
+ghost use Rattle.linear_fold.specs.Places.{AreListed, AreZeros, place_in};
 
 use crate::coefficients::Coefficients;
 use crate::fraction_terms::FractionTerms;
