@@ -2,7 +2,7 @@
 ghost use Rattle.std.specs.Prelude.{◌≡◌, ◌≢◌, ◌<◌, ℕ, [], length, IfOk, true};
 ghost use Rattle.exact_numbers.specs.Values.{frac_value};
 ghost use Rattle.linear_fold.specs.Coefs.{AddsAt, AreBelow, coef_in};
-ghost use Rattle.linear_fold.specs.Places.{AreListed, AreZeros, place_in, put_all};
+ghost use Rattle.linear_fold.specs.Places.{AreListed, AreZeros, place_in};
 
 use crate::coefficients::Coefficients;
 use crate::fraction_terms::FractionTerms;
@@ -126,6 +126,7 @@ fn comes_last(listed: &FractionTerms, places: &MarkedPlaces, variable: u32) -> b
     requires { AreListed places.now listed.now }
     ensures last { result ≡ true → AreBelow variable listed.now }
     ensures zeros { result ≡ true → AreZeros places.now }
+    ensures found { listed.now ≢ [] → AreBelow variable listed.now → result ≡ true }
 {
     if listed.items().is_empty() {
         return places.are_untouched();
