@@ -1,5 +1,6 @@
 // Answers that come in pieces, and .sol files that are made of them.
 ghost use Rattle.std.specs.Prelude.{◌≡◌, ◌<◌};
+ghost use Rattle.dual_return.specs.Return.{IsAnswerFor};
 
 use answer_file::{Answer, AnswerFault, AnswerReader, read_answer};
 use dual_return::{ReturnFault, solution};
@@ -104,11 +105,35 @@ fn a_whole_answer_in_pieces(rt: HostRuntime) -> Result<(), Fail> {
                 assert!(rt; are_lines_read(&answer));
                 assert!(rt; are_values_read(&answer));
                 assert!(rt; are_suffixes_read(&answer));
+                drop(answer);
             }
-            Err(_) => return Err(Fail::from("the answer is right")),
+            Err(_) => panic!(rt; "the answer is right"),
         }
     }
+    drop(read);
     Ok(())
+}
+
+// The .sol value of an answer that was read.
+fn solved<L: Ledger>(
+    alloc: Global,
+    file: &NlFile,
+    answer: &Answer,
+    steps: &mut Steps<L>,
+) -> Result<Sol, Stop<ReturnFault>>
+    requires { IsAnswerFor file.now answer.now }
+{
+    let Ok(linear) = fold_all(alloc, file, answer.objective(), steps) else {
+        return Err(Stop::Memory);
+    };
+    let rows = scale_rows(alloc, &linear);
+    drop(linear);
+    let Ok(scaled) = rows else {
+        return Err(Stop::Memory);
+    };
+    let sol = solution(alloc, file, &scaled, answer);
+    drop(scaled);
+    sol
 }
 
 // The .sol value of an answer that has no fault.
@@ -126,13 +151,22 @@ fn returned<L: Ledger>(
     let Ok(answer) = read_answer(alloc, file, text) else {
         return Err(Stop::Memory);
     };
-    let Ok(linear) = fold_all(alloc, file, answer.objective(), &mut steps) else {
-        return Err(Stop::Memory);
+    let sol = solved(alloc, file, &answer, &mut steps);
+    drop(answer);
+    sol
+}
+
+fn is_written(
+    alloc: Global,
+    answered: Result<Sol, Stop<ReturnFault>>,
+    wanted: &str,
+) -> Result<bool, Fail> {
+    let Ok(sol) = answered else {
+        return Ok(false);
     };
-    let Ok(scaled) = scale_rows(alloc, &linear) else {
-        return Err(Stop::Memory);
-    };
-    solution(alloc, file, &scaled, &answer)
+    let written = write_sol(alloc, &sol);
+    drop(sol);
+    Ok(written?.as_slice() == wanted.as_bytes())
 }
 
 // Whether an answer for a file is returned as this text.
@@ -144,13 +178,9 @@ fn is_returned(
     wanted: &str,
 ) -> Result<bool, Fail> {
     let read = read_file(alloc, sizes, body)?;
-    match returned::<Brand>(alloc, &read.file, answer.as_bytes(), Blank::new(1)) {
-        Ok(sol) => {
-            let written = write_sol(alloc, &sol)?;
-            Ok(written.as_slice() == wanted.as_bytes())
-        }
-        Err(_) => Ok(false),
-    }
+    let answered = returned::<Brand>(alloc, &read.file, answer.as_bytes(), Blank::new(1));
+    drop(read);
+    is_written(alloc, answered, wanted)
 }
 
 #[test]
@@ -175,12 +205,19 @@ fn duals_are_unscaled(rt: HostRuntime) -> Result<(), Fail> {
     Ok(())
 }
 
+// Whether this is the fault of the dual of row 0.
+fn is_fault<T: Drop>(answered: Result<T, Stop<ReturnFault>>) -> bool {
+    match answered {
+        Err(Stop::Fault(ReturnFault::DualTooWide(con))) => con == 0,
+        _ => false,
+    }
+}
+
 fn is_too_wide(alloc: Global, sizes: &Sizes, body: &str, answer: &str) -> Result<bool, Fail> {
     let read = read_file(alloc, sizes, body)?;
-    match returned::<Brand>(alloc, &read.file, answer.as_bytes(), Blank::new(1)) {
-        Err(Stop::Fault(ReturnFault::DualTooWide(con))) => Ok(con == 0),
-        _ => Ok(false),
-    }
+    let answered = returned::<Brand>(alloc, &read.file, answer.as_bytes(), Blank::new(1));
+    drop(read);
+    Ok(is_fault(answered))
 }
 
 #[test]

@@ -27,8 +27,10 @@ fn says_value(claim: Claim, objective: u32, value: Dec) -> bool {
 #[test]
 fn a_proof_is_read(rt: HostRuntime) -> Result<(), Fail> {
     let file = small_file(rt.alloc())?;
-    let Ok(proof) = read_proof(rt.alloc(), &file, TWO_LEAVES.as_bytes()) else {
-        return Err(Fail::from("no proof"));
+    let read = read_proof(rt.alloc(), &file, TWO_LEAVES.as_bytes());
+    drop(file);
+    let Ok(proof) = read else {
+        panic!(rt; "no proof");
     };
     let two = Dec::of_whole(2);
     assert!(rt; says_value(proof.claim(), 0, two));
@@ -39,20 +41,23 @@ fn a_proof_is_read(rt: HostRuntime) -> Result<(), Fail> {
     ];
     assert!(rt; proof.nodes() == nodes.as_slice());
     assert!(rt; proof.pairs().items() == [(0, Dec::of_whole(1))].as_slice());
+    drop(proof);
     Ok(())
 }
 
 #[test]
 fn a_proof_comes_in_pieces(rt: HostRuntime) -> Result<(), Fail> {
     let file = small_file(rt.alloc())?;
-    let mut reader = ProofReader::new(rt.alloc(), &file)?;
+    let mut reader = ProofReader::new(rt.alloc(), &file).expect(&rt, "memory");
     for piece in TWO_LEAVES.as_bytes().chunks(1) {
-        assert_eq!(rt; reader.feed(piece), Ok(()));
+        assert!(rt; reader.feed(piece).is_ok());
     }
     let Ok(proof) = reader.finish() else {
-        return Err(Fail::from("no proof"));
+        panic!(rt; "no proof");
     };
     assert_eq!(rt; proof.nodes().len(), 3);
+    drop(proof);
+    drop(file);
     Ok(())
 }
 
@@ -60,10 +65,10 @@ fn a_proof_comes_in_pieces(rt: HostRuntime) -> Result<(), Fail> {
 #[test]
 fn there_are_so_many_nodes(rt: HostRuntime) -> Result<(), Fail> {
     let file = small_file(rt.alloc())?;
-    let mut reader = ProofReader::new(rt.alloc(), &file)?;
-    assert_eq!(rt; reader.feed(b"proof 1\nvalue 0 2\n"), Ok(()));
+    let mut reader = ProofReader::new(rt.alloc(), &file).expect(&rt, "memory");
+    assert!(rt; reader.feed(b"proof 1\nvalue 0 2\n").is_ok());
     for _ in 0..65_536 {
-        assert_eq!(rt; reader.feed(b"split 0 0\n"), Ok(()));
+        assert!(rt; reader.feed(b"split 0 0\n").is_ok());
     }
     let fault = ProofFault {
         reason: ProofReason::TooLarge,
@@ -71,5 +76,7 @@ fn there_are_so_many_nodes(rt: HostRuntime) -> Result<(), Fail> {
     };
     assert_eq!(rt; reader.feed(b"split 0 0\n"), Err(Stop::Fault(fault)));
     assert_eq!(rt; reader.feed(b""), Err(Stop::Fault(fault)));
+    drop(reader);
+    drop(file);
     Ok(())
 }

@@ -32,8 +32,9 @@ fn columns_of<L: Ledger>(alloc: Global, file: &NlFile, blank: Blank) -> Result<C
     let Ok(linear) = fold_all(alloc, file, 0, &mut steps) else {
         return Err(Fail::from("fold"));
     };
-    let columns = Columns::of(alloc, &linear)?;
-    Ok(columns)
+    let columns = Columns::of(alloc, &linear);
+    drop(linear);
+    Ok(columns?)
 }
 
 // The verdict, where the lists have the lengths of the columns.
@@ -63,31 +64,27 @@ fn bound_on(
 #[test]
 fn a_file_is_judged(rt: HostRuntime) -> Result<(), Fail> {
     let file = small_file(rt.alloc())?;
-    let columns = columns_of::<Brand>(rt.alloc(), &file, Blank::new(1))?;
+    let made = columns_of::<Brand>(rt.alloc(), &file, Blank::new(1));
+    drop(file);
+    let tiny = Dec::new(1, -400).expect(&rt, "a number");
+    let columns = made?;
     let one = Dec::of_whole(1);
-    let two = Dec::of_whole(2);
-    assert_eq!(rt;
-        verdict_on(&columns, &[one], &[one]),
-        Some(Verdict::RowBroken(0))
-    );
-    assert_eq!(rt;
-        verdict_on(&columns, &[two], &[one]),
-        Some(Verdict::BoundBroken(0))
-    );
-    let tiny = Dec::new(1, -400).ok_or("tiny")?;
-    assert_eq!(rt;
-        verdict_on(&columns, &[tiny], &[one]),
-        Some(Verdict::TooWide(Spot::Row(0)))
-    );
-    let first = Frac::one();
-    assert_eq!(rt;
-        bound_on(&columns, &[None], &[Some(one)], &[one]),
-        Some(BoundVerdict::Bound(first))
-    );
-    assert_eq!(rt;
-        bound_on(&columns, &[Some(one)], &[None], &[one]),
-        Some(BoundVerdict::BoundSideMissing(0))
-    );
+    let points = [
+        (one, Verdict::RowBroken(0)),
+        (Dec::of_whole(2), Verdict::BoundBroken(0)),
+        (tiny, Verdict::TooWide(Spot::Row(0))),
+    ];
+    for (x, wanted) in points {
+        assert_eq!(rt; verdict_on(&columns, &[x], &[one]), Some(wanted));
+    }
+    let bounds = [
+        (None, Some(one), BoundVerdict::Bound(Frac::one())),
+        (Some(one), None, BoundVerdict::BoundSideMissing(0)),
+    ];
+    for (lo, hi, wanted) in bounds {
+        assert_eq!(rt; bound_on(&columns, &[lo], &[hi], &[one]), Some(wanted));
+    }
+    drop(columns);
     Ok(())
 }
 
@@ -123,5 +120,6 @@ fn counts_come_first(rt: HostRuntime) -> Result<(), Fail> {
     for (given, wanted) in cases {
         assert_eq!(rt; fit_counts(&file, given), wanted);
     }
+    drop(file);
     Ok(())
 }

@@ -22,10 +22,11 @@ fn read_in_pieces(alloc: Global, text: &[u8], len: usize) -> Result<Mps, Stop<Mp
 
 fn is_written(alloc: Global, len: usize) -> bool {
     match read_in_pieces(alloc, FIXED.as_bytes(), len) {
-        Ok(mps) => match write_mps(alloc, &mps) {
-            Ok(out) => out.as_slice() == FIXED_WRITTEN.as_bytes(),
-            Err(_) => false,
-        },
+        Ok(mps) => {
+            let out = write_mps(alloc, &mps);
+            drop(mps);
+            out.is_ok_and(|out| out.as_slice() == FIXED_WRITTEN.as_bytes())
+        }
         Err(_) => false,
     }
 }

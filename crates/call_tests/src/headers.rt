@@ -4,7 +4,6 @@ use crate::segments::fault_of;
 use nl_header::kinds_of;
 use nl_model::{Header, Kind};
 use nl_segments::{NlReason, read_nl};
-use std::test::Fail;
 
 #[test]
 fn faults_of_header_lines(rt: HostRuntime) {
@@ -54,8 +53,10 @@ fn kind_at(header: &Header, var: u32) -> Option<Kind> {
 }
 
 #[test]
-fn kinds_by_groups(rt: HostRuntime) -> Result<(), Fail> {
-    let read = read_nl(rt.alloc(), GROUPS).ok().ok_or("refused")?;
+fn kinds_by_groups(rt: HostRuntime) {
+    let Ok(read) = read_nl(rt.alloc(), GROUPS) else {
+        panic!(rt; "refused");
+    };
     let header = read.file.header();
     assert_eq!(rt; header.options().items(), [1, 1, 0].as_slice());
     let kinds = [
@@ -72,5 +73,5 @@ fn kinds_by_groups(rt: HostRuntime) -> Result<(), Fail> {
         assert_eq!(rt; kind_at(header, var as u32), Some(*kind));
     }
     assert_eq!(rt; kind_at(header, 8), None);
-    Ok(())
+    drop(read);
 }

@@ -49,8 +49,10 @@ fn is_imported_as(
 ) -> Result<bool, AllocError> {
     match imported(alloc, text) {
         Some(Ok(file)) => {
-            let out = write_nl(alloc, &file.file)?;
-            Ok(out.as_slice() == written.as_bytes() && is_order(&file.order, columns))
+            let out = write_nl(alloc, &file.file);
+            let is_ordered = is_order(&file.order, columns);
+            drop(file);
+            Ok(out?.as_slice() == written.as_bytes() && is_ordered)
         }
         _ => Ok(false),
     }
@@ -62,9 +64,9 @@ fn columns_come_by_their_kinds(rt: HostRuntime) -> Result<(), Fail> {
     Ok(())
 }
 
-// Whether the import of the text has this fault.
-fn has_fault(alloc: Global, text: &str, wanted: ImportFault) -> bool {
-    match imported(alloc, text) {
+// Whether a program was read, and this is the fault of its import.
+fn is_fault<T: Drop>(answer: Option<Result<T, Stop<ImportFault>>>, wanted: ImportFault) -> bool {
+    match answer {
         Some(Err(Stop::Fault(fault))) => fault == wanted,
         _ => false,
     }
@@ -83,6 +85,6 @@ fn the_first_fault_is_answered(rt: HostRuntime) {
         ),
     ];
     for (text, fault) in cases {
-        assert!(rt; has_fault(rt.alloc(), text, fault), "at {text}");
+        assert!(rt; is_fault(imported(rt.alloc(), text), fault), "at {text}");
     }
 }

@@ -2,7 +2,6 @@
 
 use name_files::{NameFault, NameList, NameReader};
 use std::alloc::Global;
-use std::test::Fail;
 use text_base::Stop;
 
 fn names_in(
@@ -32,12 +31,14 @@ fn are_found(names: &NameList) -> bool {
 }
 
 #[test]
-fn names_come_in_pieces(rt: HostRuntime) -> Result<(), Fail> {
+fn names_come_in_pieces(rt: HostRuntime) {
     for len in [1, 2, 7, 1000] {
         match names_in(rt.alloc(), 2, 1, b"\n Cap \n\nx0\r\nProfit", len) {
-            Ok(names) => assert!(rt; are_found(&names)),
-            Err(_) => return Err(Fail::from("the names are right")),
+            Ok(names) => {
+                assert!(rt; are_found(&names));
+                drop(names);
+            }
+            Err(_) => panic!(rt; "the names are right"),
         }
     }
-    Ok(())
 }

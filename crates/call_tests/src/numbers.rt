@@ -4,12 +4,11 @@ use exact_numbers::{
     Dec, Frac, NumFault, NumText, are_digits, dec_of, plain_dec, plain_index, read_dec, read_whole,
     signed_of, whole_of,
 };
-use std::test::Fail;
 
 const LARGEST: i128 = 170141183460469231731687303715884105727;
 
 #[test]
-fn texts_are_read(rt: HostRuntime) -> Result<(), Fail> {
+fn texts_are_read(rt: HostRuntime) {
     let cases: [(&[u8], i128, i16); 9] = [
         (b"-0", 0, 0),
         (b"+1.50e1", 15, 0),
@@ -22,29 +21,25 @@ fn texts_are_read(rt: HostRuntime) -> Result<(), Fail> {
         (b"1.1102230246251565e-32", 11102230246251565, -48),
     ];
     for (text, m, e) in cases {
-        let number = read_dec(text).ok().ok_or("refused")?;
-        assert_eq!(rt; number.m(), m);
-        assert_eq!(rt; number.e(), e);
+        let number = read_dec(text).expect(&rt, "a number");
+        assert_eq!(rt; (number.m(), number.e()), (m, e));
     }
-    Ok(())
 }
 
 #[test]
-fn a_long_text_is_read(rt: HostRuntime) -> Result<(), Fail> {
+fn a_long_text_is_read(rt: HostRuntime) {
     // 1, then 60,000 zeros, then e-60000
     let mut text = [b'0'; 60008];
     text[0] = b'1';
     text[60001] = b'e';
     text[60002] = b'-';
     text[60003] = b'6';
-    let one = read_dec(&text).ok().ok_or("refused")?;
-    assert_eq!(rt; one.m(), 1);
-    assert_eq!(rt; one.e(), 0);
-    Ok(())
+    let one = read_dec(&text).expect(&rt, "a number");
+    assert_eq!(rt; (one.m(), one.e()), (1, 0));
 }
 
 #[test]
-fn numbers_are_written(rt: HostRuntime) -> Result<(), Fail> {
+fn numbers_are_written(rt: HostRuntime) {
     let cases: [(i128, i32, &[u8]); 7] = [
         (-15, -1, b"-1.5"),
         (5, -2, b"0.05"),
@@ -56,86 +51,109 @@ fn numbers_are_written(rt: HostRuntime) -> Result<(), Fail> {
     ];
     for (m, e, wanted) in cases {
         let mut out = NumText::new();
-        Dec::new(m, e).ok_or("none")?.write_to(&mut out);
+        let number = Dec::new(m, e).expect(&rt, "a number");
+        number.write_to(&mut out);
         assert_eq!(rt; out.bytes(), wanted);
     }
     let mut out = NumText::new();
-    Frac::new(2, -12).ok_or("none")?.write_to(&mut out);
+    let fraction = Frac::new(2, -12).expect(&rt, "a fraction");
+    fraction.write_to(&mut out);
     assert_eq!(rt; out.bytes(), b"-1/6".as_slice());
-    Ok(())
 }
 
 #[test]
 fn texts_that_are_no_numbers(rt: HostRuntime) {
-    assert_eq!(rt; read_dec(b"."), Err(NumFault::NotNumber));
-    assert_eq!(rt; read_dec(b"1e"), Err(NumFault::NotNumber));
-    assert_eq!(rt; read_dec(b"1.2.3"), Err(NumFault::NotNumber));
-    assert_eq!(rt; read_dec(b"Infinity"), Err(NumFault::NotNumber));
-    assert_eq!(rt;
-        read_dec(b"170141183460469231731687303715884105728"),
-        Err(NumFault::TooWide)
-    );
-    assert_eq!(rt; read_dec(b"1e401"), Err(NumFault::TooWide));
-    assert_eq!(rt; read_dec(b"1e-401"), Err(NumFault::TooWide));
-    assert_eq!(rt; read_whole(b"2147483647"), Ok(2147483647));
-    assert_eq!(rt; read_whole(b"2147483648"), Err(NumFault::TooWide));
-    assert_eq!(rt; read_whole(b"+1"), Err(NumFault::NotNumber));
+    let cases: [(&[u8], NumFault); 7] = [
+        (b".", NumFault::NotNumber),
+        (b"1e", NumFault::NotNumber),
+        (b"1.2.3", NumFault::NotNumber),
+        (b"Infinity", NumFault::NotNumber),
+        (
+            b"170141183460469231731687303715884105728",
+            NumFault::TooWide,
+        ),
+        (b"1e401", NumFault::TooWide),
+        (b"1e-401", NumFault::TooWide),
+    ];
+    for (text, fault) in cases {
+        assert_eq!(rt; read_dec(text), Err(fault));
+    }
+    let wholes: [(&[u8], Result<u32, NumFault>); 3] = [
+        (b"2147483647", Ok(2147483647)),
+        (b"2147483648", Err(NumFault::TooWide)),
+        (b"+1", Err(NumFault::NotNumber)),
+    ];
+    for (text, wanted) in wholes {
+        assert_eq!(rt; read_whole(text), wanted);
+    }
 }
 
 #[test]
-fn sums_and_products(rt: HostRuntime) -> Result<(), Fail> {
-    let third = Frac::new(1, 3).ok_or("third")?;
-    let sixth = Frac::new(-1, -6).ok_or("sixth")?;
-    let half = third.add(sixth).ok_or("sum")?;
-    assert_eq!(rt; half.num(), 1);
-    assert_eq!(rt; half.den(), 2);
-    let difference = third.sub(half).ok_or("difference")?;
-    assert_eq!(rt; difference.num(), -1);
-    assert_eq!(rt; difference.den(), 6);
-    let product = half.mul(third.neg()).ok_or("product")?;
-    assert_eq!(rt; product, difference);
-    assert_eq!(rt; third.div(difference).ok_or("quotient")?.num(), -2);
-    assert_eq!(rt; difference.reciprocal().num(), -6);
+fn sums_and_products(rt: HostRuntime) {
+    let third = Frac::new(1, 3).expect(&rt, "third");
+    let sixth = Frac::new(-1, -6).expect(&rt, "sixth");
+    let half = third.add(sixth).expect(&rt, "sum");
+    assert!(rt; half.num() == 1 && half.den() == 2);
+    let difference = third.sub(half).expect(&rt, "difference");
+    assert!(rt; difference.num() == -1);
+    assert!(rt; difference.den() == 6);
+    assert!(rt; half.mul(third.neg()) == Some(difference));
+    let quotient = third.div(difference).expect(&rt, "quotient");
+    assert!(rt; quotient.num() == -2);
+    assert!(rt; difference.reciprocal().num() == -6);
     assert!(rt; difference.is_negative() && !difference.is_zero());
-    Ok(())
 }
 
 #[test]
-fn conversions(rt: HostRuntime) -> Result<(), Fail> {
-    let eighth = Frac::of_dec(Dec::new(125, -3).ok_or("dec")?).ok_or("frac")?;
-    assert_eq!(rt; eighth.num(), 1);
-    assert_eq!(rt; eighth.den(), 8);
-    let back = eighth.to_dec().ok_or("back")?;
-    assert_eq!(rt; back.m(), 125);
-    assert_eq!(rt; back.e(), -3);
-    assert!(rt; Frac::of_dec(Dec::new(2, 38).ok_or("wide")?).is_none());
-    assert!(rt; Frac::new(1, 3).ok_or("third")?.to_dec().is_none());
-    assert_eq!(rt; Frac::new(1, 60).ok_or("sixtieth")?.cofactor(), 3);
-    Ok(())
+fn conversions(rt: HostRuntime) {
+    let number = Dec::new(125, -3).expect(&rt, "a number");
+    let eighth = Frac::of_dec(number).expect(&rt, "eighth");
+    assert!(rt; eighth.num() == 1 && eighth.den() == 8);
+    let back = eighth.to_dec().expect(&rt, "back");
+    assert!(rt; back.m() == 125 && back.e() == -3);
+    let wide = Dec::new(2, 38).expect(&rt, "wide");
+    assert!(rt; Frac::of_dec(wide).is_none());
+    let third = Frac::new(1, 3).expect(&rt, "third");
+    assert!(rt; third.to_dec().is_none());
+    let sixtieth = Frac::new(1, 60).expect(&rt, "sixtieth");
+    assert!(rt; sixtieth.cofactor() == 3);
 }
 
 #[test]
 fn words_that_are_numbers(rt: HostRuntime) {
-    assert_eq!(rt; whole_of(b"007"), Some(7));
-    assert_eq!(rt; whole_of(b"2147483648"), None);
-    assert_eq!(rt; whole_of(b"+7"), None);
+    let wholes: [(&[u8], Option<u32>); 3] = [
+        (b"007", Some(7)),
+        (b"2147483648", None),
+        (b"+7", None),
+    ];
+    for (word, wanted) in wholes {
+        assert_eq!(rt; whole_of(word), wanted);
+    }
     assert!(rt; are_digits(b"99999999999"));
-    assert_eq!(rt; signed_of(b"-2147483648"), Some(-2_147_483_648));
-    assert_eq!(rt; signed_of(b"2147483648"), None);
-    assert_eq!(rt; dec_of(b"-1.5e1"), Dec::new(-15, 0));
-    assert_eq!(rt; dec_of(b"1e401"), None);
-    assert_eq!(rt; dec_of(b"."), None);
+    assert!(rt; signed_of(b"-2147483648") == Some(-2_147_483_648));
+    assert!(rt; signed_of(b"2147483648") == None);
+    let decimals: [(&[u8], Option<Dec>); 3] = [
+        (b"-1.5e1", Dec::new(-15, 0)),
+        (b"1e401", None),
+        (b".", None),
+    ];
+    for (word, wanted) in decimals {
+        assert_eq!(rt; dec_of(word), wanted);
+    }
 }
 
 // Fast ways, whose clauses let them give up.
 #[test]
-fn plain_words_are_taken(rt: HostRuntime) -> Result<(), Fail> {
-    assert_eq!(rt; plain_dec(b"-12.50"), Dec::new(-125, -1));
-    assert_eq!(rt; plain_dec(b"7"), Dec::new(7, 0));
-    assert_eq!(rt; plain_dec(b"1e5"), None);
-    let index = plain_index(b"120 3.5").ok_or("no index")?;
-    assert_eq!(rt; index.number, 120);
-    assert_eq!(rt; index.len, 3);
+fn plain_words_are_taken(rt: HostRuntime) {
+    let decimals: [(&[u8], Option<Dec>); 3] = [
+        (b"-12.50", Dec::new(-125, -1)),
+        (b"7", Dec::new(7, 0)),
+        (b"1e5", None),
+    ];
+    for (word, wanted) in decimals {
+        assert_eq!(rt; plain_dec(word), wanted);
+    }
+    let index = plain_index(b"120 3.5").expect(&rt, "an index");
+    assert!(rt; index.number == 120 && index.len == 3);
     assert!(rt; plain_index(b" 1").is_none());
-    Ok(())
 }

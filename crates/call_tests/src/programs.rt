@@ -24,10 +24,11 @@ fn read_in_pieces(alloc: Global, text: &[u8], len: usize) -> Result<Mps, Stop<Mp
 fn is_written_as(alloc: Global, text: &[u8], len: usize, written: &str) -> bool {
     let (text, _) = text.split_at(text.len().saturating_sub(1));
     match read_in_pieces(alloc, text, len) {
-        Ok(mps) => match write_mps(alloc, &mps) {
-            Ok(out) => out.as_slice() == written.as_bytes(),
-            Err(_) => false,
-        },
+        Ok(mps) => {
+            let out = write_mps(alloc, &mps);
+            drop(mps);
+            out.is_ok_and(|out| out.as_slice() == written.as_bytes())
+        }
         Err(_) => false,
     }
 }

@@ -1,19 +1,34 @@
 // Segments of .nl texts: what a whole text says, and the first fault of others.
 
 use exact_numbers::Dec;
-use example_texts::nl_texts::{header, text_of};
-use nl_model::{NlFile, Terms};
+use example_texts::nl_texts::{Sizes, header, text_of};
+use nl_model::{Def, Interval, NlFile, Suffix, Terms};
 use nl_segments::{NlFault, NlReader, NlReason, read_nl};
-use std::alloc::Global;
+use std::alloc::{AllocError, Global};
 use std::test::Fail;
 use text_base::Stop;
 
-/// The first fault of a text, and its line.
-pub(crate) fn fault_of(alloc: Global, text: &[u8]) -> Option<(NlReason, u32)> {
-    match read_nl(alloc, text) {
+// The fault that was answered, and its line.
+fn fault_in<T: Drop>(answer: Result<T, Stop<NlFault>>) -> Option<(NlReason, u32)> {
+    match answer {
         Err(Stop::Fault(fault)) => Some((fault.reason, fault.line)),
         _ => None,
     }
+}
+
+/// The first fault of a text, and its line.
+pub(crate) fn fault_of(alloc: Global, text: &[u8]) -> Option<(NlReason, u32)> {
+    fault_in(read_nl(alloc, text))
+}
+
+// The same, of a body after its header.
+fn fault_of_body(
+    alloc: Global,
+    sizes: &Sizes,
+    body: &str,
+) -> Result<Option<(NlReason, u32)>, AllocError> {
+    let text = text_of(alloc, sizes, body)?;
+    Ok(fault_of(alloc, text.as_bytes()))
 }
 
 #[test]
@@ -37,9 +52,8 @@ fn faults_of_segments(rt: HostRuntime) -> Result<(), Fail> {
         ("C0\nv2\n", NlReason::IndexOut, 12),
     ];
     for (body, reason, line) in cases {
-        let text = text_of(rt.alloc(), &sizes, body)?;
         assert_eq!(rt;
-            fault_of(rt.alloc(), text.as_bytes()),
+            fault_of_body(rt.alloc(), &sizes, body)?,
             Some((reason, line)),
             "at {body}"
         );
@@ -55,6 +69,33 @@ fn are_terms(terms: &Terms, wanted: &[(u32, Dec)]) -> bool {
     terms.items() == wanted
 }
 
+fn is_definition(definition: &Def) -> bool {
+    definition.index == 2
+        && definition.usage == 7
+        && are_terms(&definition.terms, &[(0, Dec::of_whole(2))])
+}
+
+fn are_guesses(file: &NlFile) -> bool {
+    are_terms(file.dual_guesses(), &[(0, Dec::of_whole(4))])
+        && are_terms(
+            file.primal_guesses(),
+            &[(0, Dec::of_whole(6)), (1, Dec::of_whole(7))],
+        )
+}
+
+fn is_suffix(suffix: &Suffix) -> Option<bool> {
+    let half = Dec::new(5, -1)?;
+    Some(
+        suffix.kind == 4
+            && suffix.name.bytes() == b"a".as_slice()
+            && are_terms(&suffix.values, &[(1, half)]),
+    )
+}
+
+fn is_interval(found: Interval, lo: Option<Dec>, hi: Option<Dec>) -> bool {
+    found.lo == lo && found.hi == hi
+}
+
 // Whether the parts are those of the text.
 fn holds_body(file: &NlFile) -> Option<bool> {
     let counts = *file.header().counts();
@@ -68,25 +109,14 @@ fn holds_body(file: &NlFile) -> Option<bool> {
         return None;
     };
     let tree = file.body(0)?;
-    let side = file.side(0);
-    let bound = file.bound(0);
-    let half = Dec::new(5, -1)?;
     Some(
-        definition.index == 2
-            && definition.usage == 7
-            && are_terms(&definition.terms, &[(0, Dec::of_whole(2))])
+        is_definition(definition)
             && tree.nodes().len() == 3
             && file.objective(0).nodes().len() == 1
             && file.maximise(0)
-            && are_terms(file.dual_guesses(), &[(0, Dec::of_whole(4))])
-            && are_terms(
-                file.primal_guesses(),
-                &[(0, Dec::of_whole(6)), (1, Dec::of_whole(7))],
-            )
-            && side.lo.is_none()
-            && side.hi == Some(Dec::of_whole(10))
-            && bound.lo == Some(Dec::zero())
-            && bound.hi.is_none()
+            && are_guesses(file)
+            && is_interval(file.side(0), None, Some(Dec::of_whole(10)))
+            && is_interval(file.bound(0), Some(Dec::zero()), None)
             && are_terms(
                 file.terms(0),
                 &[(0, Dec::of_whole(1)), (1, Dec::of_whole(2))],
@@ -95,38 +125,39 @@ fn holds_body(file: &NlFile) -> Option<bool> {
                 file.slopes(0),
                 &[(0, Dec::of_whole(3)), (1, Dec::of_whole(4))],
             )
-            && suffix.kind == 4
-            && suffix.name.bytes() == b"a".as_slice()
-            && are_terms(&suffix.values, &[(1, half)]),
+            && is_suffix(suffix)?,
     )
 }
 
 #[test]
 fn each_segment_is_read(rt: HostRuntime) -> Result<(), Fail> {
     let text = text_of(rt.alloc(), &header("2 1 1", "2 2", "1"), BODY)?;
-    let read = read_nl(rt.alloc(), text.as_bytes()).ok().ok_or("refused")?;
+    let Ok(read) = read_nl(rt.alloc(), text.as_bytes()) else {
+        panic!(rt; "refused");
+    };
     assert_eq!(rt; holds_body(&read.file), Some(true));
+    drop(read);
     Ok(())
 }
 
 #[test]
 fn a_text_is_read_in_bytes(rt: HostRuntime) -> Result<(), Fail> {
     let text = text_of(rt.alloc(), &header("2 1 1", "2 2", "1"), BODY)?;
-    let mut reader = NlReader::new(rt.alloc())?;
+    let mut reader = NlReader::new(rt.alloc()).expect(&rt, "memory");
     for byte in text.as_bytes() {
         assert!(rt; reader.feed(&[*byte]).is_ok());
     }
-    let read = reader.finish().ok().ok_or("refused")?;
+    let Ok(read) = reader.finish() else {
+        panic!(rt; "refused");
+    };
     assert_eq!(rt; holds_body(&read.file), Some(true));
+    drop(read);
     Ok(())
 }
 
 // Whether this is the fault of line 1 for this reason.
 fn is_fault<T: Drop>(answer: Result<T, Stop<NlFault>>, reason: NlReason) -> bool {
-    match answer {
-        Err(Stop::Fault(fault)) => fault.reason == reason && fault.line == 1,
-        _ => false,
-    }
+    fault_in(answer) == Some((reason, 1))
 }
 
 #[test]

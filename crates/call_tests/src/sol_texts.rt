@@ -50,21 +50,25 @@ fn is_solved(sol: &Sol) -> bool {
 fn a_solved_file_in_pieces(rt: HostRuntime) {
     for len in [1, 2, 3, 7, 1000] {
         match read_in_pieces(rt.alloc(), SOLVED, len) {
-            Ok(sol) => assert!(rt; is_solved(&sol)),
+            Ok(sol) => {
+                assert!(rt; is_solved(&sol));
+                drop(sol);
+            }
             Err(_) => panic!(rt; "the text is right"),
         }
     }
 }
 
-fn is_written(alloc: Global, sol: &Sol, text: &[u8]) -> Result<bool, AllocError> {
-    let written = write_sol(alloc, sol)?;
-    Ok(written.as_slice() == text)
+fn is_written(alloc: Global, sol: Sol, text: &[u8]) -> Result<bool, AllocError> {
+    let written = write_sol(alloc, &sol);
+    drop(sol);
+    Ok(written?.as_slice() == text)
 }
 
 #[test]
 fn a_solved_file_is_written(rt: HostRuntime) -> Result<(), Fail> {
     match read_in_pieces(rt.alloc(), SOLVED, 1000) {
-        Ok(sol) => assert!(rt; is_written(rt.alloc(), &sol, WRITTEN)?),
+        Ok(sol) => assert!(rt; is_written(rt.alloc(), sol, WRITTEN)?),
         Err(_) => panic!(rt; "the text is right"),
     }
     Ok(())
@@ -105,14 +109,17 @@ fn a_value_is_built(rt: HostRuntime) -> Result<(), Fail> {
     let mut options = Options::new();
     options.push(-1);
     let mut built = SolBuilder::new(alloc, options, 1, 1);
-    built.say(b"done")?;
-    built.dual(half)?;
-    built.primal(half)?;
+    built.say(b"done").expect(&rt, "memory");
+    built.dual(half).expect(&rt, "memory");
+    built.primal(half).expect(&rt, "memory");
     built.set_objno(-1, 7);
-    built.suffix(slack(&rt, alloc, half)?)?;
-    let text = write_sol(alloc, &built.finish())?;
+    let suffix = slack(&rt, alloc, half).expect(&rt, "memory");
+    built.suffix(suffix).expect(&rt, "memory");
+    let sol = built.finish();
+    let text = write_sol(alloc, &sol);
+    drop(sol);
     assert_eq!(rt;
-        text.as_slice(),
+        text?.as_slice(),
         b"done\n\nOptions\n1\n-1\n1\n1\n1\n1\n0.5\n0.5\nobjno -1 7\nsuffix 5 1 6 0 0\nslack\n0 0.5\n".as_slice()
     );
     Ok(())

@@ -9,10 +9,17 @@ use mps_writer::write_mps;
 use nl_model::NlFile;
 use nl_segments::read_nl;
 use row_scaling::scale_rows;
-use std::alloc::Global;
+use std::alloc::{AllocError, Global};
 use std::marker::Brand;
 use std::test::Fail;
 use text_base::{Blank, Ledger, Steps, Stop};
+
+fn constant_of(taken: Result<Form, AllocError>) -> Result<Frac, Stop<Wide>> {
+    let form = taken?;
+    let constant = form.constant();
+    drop(form);
+    Ok(constant)
+}
 
 // Adds twice a constant to the sum 0, and takes it.
 fn doubled<L: Ledger>(alloc: Global, value: Frac, blank: Blank) -> Result<Frac, Stop<Wide>>
@@ -21,12 +28,16 @@ fn doubled<L: Ledger>(alloc: Global, value: Frac, blank: Blank) -> Result<Frac, 
     requires some { 0 < blank.parts }
 {
     let mut steps = Steps::<L>::new(blank);
-    let other = Form::of_constant(alloc, value);
-    let mut sum = Sum::new(alloc, 4)?;
     let two = Frac::one().add(Frac::one()).ok_or(Stop::Memory)?;
-    sum.add_scaled(&other, two, &mut steps)?;
-    let taken = sum.take(alloc)?;
-    Ok(taken.constant())
+    let mut sum = Sum::new(alloc, 4)?;
+    let other = Form::of_constant(alloc, value);
+    let added = sum.add_scaled(&other, two, &mut steps);
+    drop(other);
+    let taken = sum.take(alloc);
+    drop(sum);
+    let constant = constant_of(taken);
+    added?;
+    constant
 }
 
 #[test]
@@ -48,12 +59,17 @@ fn exported<L: Ledger>(alloc: Global, file: &NlFile, blank: Blank) -> Result<Vec
     let Ok(linear) = fold_all(alloc, file, 0, &mut steps) else {
         return Err(Fail::from("fold"));
     };
-    let Ok(scaled) = scale_rows(alloc, &linear) else {
+    let rows = scale_rows(alloc, &linear);
+    drop(linear);
+    let Ok(scaled) = rows else {
         return Err(Fail::from("scaling"));
     };
-    let mps = program(alloc, &scaled)?;
-    let out = write_mps(alloc, &mps)?;
-    Ok(out)
+    let exported = program(alloc, &scaled);
+    drop(scaled);
+    let mps = exported?;
+    let out = write_mps(alloc, &mps);
+    drop(mps);
+    Ok(out?)
 }
 
 #[test]
@@ -61,7 +77,8 @@ fn a_file_goes_through_all_stages(rt: HostRuntime) -> Result<(), Fail> {
     let Ok(read) = read_nl(rt.alloc(), KNAPSACK.as_bytes()) else {
         return Err(Fail::from("refused"));
     };
-    let written = exported::<Brand>(rt.alloc(), &read.file, Blank::new(1))?;
-    assert_eq!(rt; written.as_slice(), KNAPSACK_WRITTEN.as_bytes());
+    let written = exported::<Brand>(rt.alloc(), &read.file, Blank::new(1));
+    drop(read);
+    assert_eq!(rt; written?.as_slice(), KNAPSACK_WRITTEN.as_bytes());
     Ok(())
 }

@@ -1,19 +1,25 @@
 // The desk, lines, words, names and the reader of lines.
 ghost use Rattle.std.specs.Prelude.{◌≡◌, List, ℕ, length, None};
 
+use std::alloc::{AllocError, Global};
 use std::test::Fail;
 use text_base::{
     BadName, Desk, Failed, Grammar, LineFault, Lines, Marks, MemoryDesk, Name, Row, Stop, Taken,
     TextFault, TextLines, is_name, read, read_pieces, strip_comment, words,
 };
 
-#[test]
-fn desk_gives_texts_in_cuts(rt: HostRuntime) -> Result<(), Fail> {
-    let mut desk = MemoryDesk::new(rt.alloc(), 0)?;
+// Puts a text twice under one name, with a read of one byte, and a call that fails.
+fn fill(desk: &mut MemoryDesk) -> Result<(), AllocError> {
     desk.put("a", b"older")?;
     desk.put("a", b"abcd")?;
     desk.cut(1)?;
-    desk.fail(2)?;
+    desk.fail(2)
+}
+
+#[test]
+fn desk_gives_texts_in_cuts(rt: HostRuntime) -> Result<(), Fail> {
+    let mut desk = MemoryDesk::new(rt.alloc(), 0)?;
+    assert!(rt; fill(&mut desk).is_ok());
     let mut buf = [0; 8];
     assert_eq!(rt; desk.start("a"), Ok(()));
     assert_eq!(rt; desk.read(&mut buf), Ok(1));
@@ -22,6 +28,7 @@ fn desk_gives_texts_in_cuts(rt: HostRuntime) -> Result<(), Fail> {
     assert_eq!(rt; buf[0], b'b');
     assert_eq!(rt; desk.read(&mut buf), Ok(0));
     assert_eq!(rt; desk.start("b"), Err(Failed));
+    drop(desk);
     Ok(())
 }
 
@@ -31,20 +38,31 @@ fn lines_lose_their_returns(rt: HostRuntime) -> Result<(), Fail> {
     assert_eq!(rt; lines.take(b"a\rb\r\r\nc\r"), Taken::Line(6));
     assert_eq!(rt; lines.line(), b"a\rb".as_slice());
     assert_eq!(rt; lines.number(), 1);
+    drop(lines);
     Ok(())
+}
+
+// Whether the text is a name, and a copy of it the same name.
+fn is_copied(alloc: Global, text: &[u8]) -> bool {
+    let Ok(name) = Name::of(alloc, text) else {
+        return false;
+    };
+    let made = name.copy(alloc);
+    drop(name);
+    made.is_ok_and(|copy| copy.bytes() == text)
+}
+
+fn is_bad_name<T: Drop>(answer: Result<T, Stop<BadName>>) -> bool {
+    matches!(&answer, Err(Stop::Fault(BadName)))
 }
 
 #[test]
 fn names_have_1_to_255_bytes(rt: HostRuntime) -> Result<(), Fail> {
     let alloc = rt.alloc();
-    let most = vec![in alloc; b'!'; 255]?;
-    let more = vec![in alloc; b'!'; 256]?;
-    let name = Name::of(alloc, &most)?;
-    let copy = name.copy(alloc)?;
-    assert_eq!(rt; copy.bytes(), most.as_slice());
-    for text in [more.as_slice(), b"".as_slice(), b"a b".as_slice()] {
-        let bad = Name::of(alloc, text);
-        assert!(rt; matches!(&bad, Err(Stop::Fault(BadName))));
+    let bytes = vec![in alloc; b'!'; 256]?;
+    assert!(rt; is_copied(alloc, &bytes[..255]));
+    for text in [bytes.as_slice(), b"".as_slice(), b"a b".as_slice()] {
+        assert!(rt; is_bad_name(Name::of(alloc, text)));
     }
     Ok(())
 }
@@ -72,25 +90,27 @@ fn marks_are_taken_away_at_once(rt: HostRuntime) -> Result<(), Fail> {
 }
 
 #[test]
-fn text_lines_keep_each_line(rt: HostRuntime) -> Result<(), Fail> {
+fn text_lines_keep_each_line(rt: HostRuntime) {
     let mut lines = TextLines::new(rt.alloc());
-    lines.push(b"")?;
-    lines.push(b"c d")?;
+    assert!(rt; lines.push(b"").is_ok());
+    assert!(rt; lines.push(b"c d").is_ok());
     assert_eq!(rt; lines.len(), 2);
     assert_eq!(rt; lines.get(1), b"c d".as_slice());
-    Ok(())
+    drop(lines);
 }
 
 #[test]
 fn words_stand_between_blanks(rt: HostRuntime) {
     let mut rest = words(b" a\tbc#  ");
-    assert_eq!(rt; rest.next(), Some(b"a".as_slice()));
-    assert_eq!(rt; rest.next(), Some(b"bc#".as_slice()));
-    assert_eq!(rt; rest.next(), None);
+    for word in [Some(b"a".as_slice()), Some(b"bc#".as_slice()), None] {
+        assert_eq!(rt; rest.next(), word);
+    }
     let row = Row::of(b"1 2 3 4 5 6 7 8 9 10 11 12 13");
-    assert_eq!(rt; row.words().len(), 12);
-    assert_eq!(rt; strip_comment(b"a#b #c"), b"a#b ".as_slice());
-    assert_eq!(rt; strip_comment(b"# a"), b"".as_slice());
+    assert!(rt; row.words().len() == 12);
+    let cases: [(&[u8], &[u8]); 2] = [(b"a#b #c", b"a#b "), (b"# a", b"")];
+    for (line, wanted) in cases {
+        assert_eq!(rt; strip_comment(line), wanted);
+    }
 }
 
 // How many lines a text has.

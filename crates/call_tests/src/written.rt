@@ -4,7 +4,7 @@ ghost use Rattle.std.specs.Prelude.{◌≡◌};
 use exact_numbers::Dec;
 use mps_model::{BoundKind, MpsBuilder, RowKind};
 use mps_writer::write_mps;
-use std::alloc::Global;
+use std::alloc::{AllocError, Global};
 use std::process::Abort;
 use std::test::Fail;
 use text_base::Name;
@@ -26,38 +26,52 @@ fn writes_a_program(rt: HostRuntime) -> Result<(), Fail> {
     let side = Dec::new(-15, -1).expect(&rt, "a side");
     let mut built = MpsBuilder::new(alloc, Some(name(&rt, alloc, b"nl")), false);
     built.set_maximise(true);
-    built.add_row(name(&rt, alloc, b"obj"), RowKind::N)?;
-    built.add_row(name(&rt, alloc, b"c0"), RowKind::G)?;
-    built.add_col(name(&rt, alloc, b"x0"), true)?;
-    built.add_entry(1, side)?;
-    built.add_rhs(1, side)?;
-    built.add_range(1, side)?;
-    built.add_bound(BoundKind::Fr, 0, Dec::zero())?;
+    built
+        .add_row(name(&rt, alloc, b"obj"), RowKind::N)
+        .expect(&rt, "memory");
+    built
+        .add_row(name(&rt, alloc, b"c0"), RowKind::G)
+        .expect(&rt, "memory");
+    built
+        .add_col(name(&rt, alloc, b"x0"), true)
+        .expect(&rt, "memory");
+    built.add_entry(1, side).expect(&rt, "memory");
+    built.add_rhs(1, side).expect(&rt, "memory");
+    built.add_range(1, side).expect(&rt, "memory");
+    built
+        .add_bound(BoundKind::Fr, 0, Dec::zero())
+        .expect(&rt, "memory");
     let mps = built.finish();
-    let text = write_mps(alloc, &mps)?;
+    let text = write_mps(alloc, &mps);
+    drop(mps);
     assert_eq!(rt;
-        text.as_slice(),
+        text?.as_slice(),
         b"NAME nl\nOBJSENSE\n MAX\nROWS\n N obj\n G c0\nCOLUMNS\n M0 'MARKER' 'INTORG'\n x0 c0 -1.5\n M1 'MARKER' 'INTEND'\nRHS\n RHS c0 -1.5\nRANGES\n RNG c0 -1.5\nBOUNDS\n FR BND x0\nENDATA\n".as_slice()
     );
     Ok(())
+}
+
+// Each kind of word once.
+fn put_words(out: &mut Vec<u8>, half: Dec) -> Result<(), AllocError> {
+    put_line(out, b"ROWS")?;
+    put(out, b"g")?;
+    put_number(out, 3)?;
+    put_next(out, b"a")?;
+    put_next_number(out, 18_446_744_073_709_551_615)?;
+    put_next_numbers(out, &[0, 4_294_967_295])?;
+    put_next_signed(out, -2_147_483_648)?;
+    put_next_dec(out, half)?;
+    put_end(out)?;
+    put_signed(out, 7)?;
+    put_end(out)?;
+    put_dec(out, half.neg())
 }
 
 #[test]
 fn words_of_lines_are_written(rt: HostRuntime) -> Result<(), Fail> {
     let half = Dec::new(5, -1).ok_or("half")?;
     let mut out = Vec::new(rt.alloc());
-    put_line(&mut out, b"ROWS")?;
-    put(&mut out, b"g")?;
-    put_number(&mut out, 3)?;
-    put_next(&mut out, b"a")?;
-    put_next_number(&mut out, 18_446_744_073_709_551_615)?;
-    put_next_numbers(&mut out, &[0, 4_294_967_295])?;
-    put_next_signed(&mut out, -2_147_483_648)?;
-    put_next_dec(&mut out, half)?;
-    put_end(&mut out)?;
-    put_signed(&mut out, 7)?;
-    put_end(&mut out)?;
-    put_dec(&mut out, half.neg())?;
+    assert!(rt; put_words(&mut out, half).is_ok());
     assert_eq!(rt;
         out.as_slice(),
         b"ROWS\ng3 a 18446744073709551615 0 4294967295 -2147483648 0.5\n7\n-0.5".as_slice()

@@ -1,11 +1,10 @@
 // The command check over a desk in memory: the verdicts on solutions of one file, and why others
 // are refused.
 
-use crate::commands::command;
+use crate::commands::{comes_to, tell_in_turn};
 use example_texts::nl_texts::{Sizes, header, text_of};
 use std::alloc::{AllocError, Global};
 use std::test::Fail;
-use text_base::MemoryDesk;
 
 fn sizes() -> Sizes {
     header("2 1 1", "2 2", "0")
@@ -45,19 +44,13 @@ fn most(values: &'static str, status: u8, line: &'static str) -> Case {
 }
 
 // Whether the verdict, or the line told, is this.
-fn comes_to(alloc: Global, case: &Case) -> Result<bool, AllocError> {
+fn judges_so(alloc: Global, case: &Case) -> Result<bool, AllocError> {
     let nl = text_of(alloc, &sizes(), case.body)?;
     let mut sol = String::from_str(alloc, "done\n\nOptions\n0\n")?;
     sol.push_str(case.values)?;
-    let mut desk = MemoryDesk::new(alloc, 4000)?;
-    desk.put("a.nl", nl.as_bytes())?;
-    desk.put("a.sol", sol.as_bytes())?;
-    let status = command(alloc, &mut desk, &["check", "a.nl", "a.sol"])?;
-    let line = case.line.as_bytes();
-    if case.status == 2 {
-        return Ok(status == 2 && desk.written().is_empty() && desk.told() == line);
-    }
-    Ok(status == case.status && desk.written() == line && desk.told().is_empty())
+    let texts = [("a.nl", nl.as_bytes()), ("a.sol", sol.as_bytes())];
+    let words = ["check", "a.nl", "a.sol"];
+    comes_to(alloc, &texts, &words, case.status, case.line)
 }
 
 #[test]
@@ -73,7 +66,7 @@ fn judges_solutions(rt: HostRuntime) -> Result<(), Fail> {
         most("1\n1\n2\n2\n2\n1\n3\n", 0, "yes 11\n"),
     ];
     for case in cases {
-        assert!(rt; comes_to(rt.alloc(), &case)?, "at {}", case.line);
+        assert!(rt; judges_so(rt.alloc(), &case)?, "at {}", case.line);
     }
     Ok(())
 }
@@ -97,19 +90,19 @@ fn refuses_solutions_that_do_not_fit(rt: HostRuntime) -> Result<(), Fail> {
         ),
     ];
     for case in cases {
-        assert!(rt; comes_to(rt.alloc(), &case)?, "at {}", case.line);
+        assert!(rt; judges_so(rt.alloc(), &case)?, "at {}", case.line);
     }
     Ok(())
 }
 
 #[test]
 fn the_first_file_comes_first(rt: HostRuntime) -> Result<(), Fail> {
-    let alloc = rt.alloc();
-    let mut desk = MemoryDesk::new(alloc, 4000)?;
-    desk.put("a.nl", b"b3 1 1 0\n")?;
-    assert_eq!(rt; command(alloc, &mut desk, &["check", "a.nl", "none"])?, 2);
-    assert_eq!(rt; command(alloc, &mut desk, &["check", "none", "a.nl"])?, 4);
-    assert_eq!(rt; command(alloc, &mut desk, &["check", "a.nl"])?, 3);
-    assert!(rt; desk.told() == b"refused line 1: binary file\ninput fault\nbad words\n".as_slice());
+    let runs: [(&[&str], u8); 3] = [
+        (&["check", "a.nl", "none"], 2),
+        (&["check", "none", "a.nl"], 4),
+        (&["check", "a.nl"], 3),
+    ];
+    let told = "refused line 1: binary file\ninput fault\nbad words\n";
+    assert!(rt; tell_in_turn(rt.alloc(), ("a.nl", b"b3 1 1 0\n"), &runs, told)?);
     Ok(())
 }

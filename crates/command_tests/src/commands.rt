@@ -41,12 +41,119 @@ pub(crate) fn first_lines(alloc: Global, text: &str, count: usize) -> Result<Str
     Ok(out)
 }
 
+/// Puts these texts under their names, and works the command of these words.
+pub(crate) fn work(
+    alloc: Global,
+    desk: &mut MemoryDesk,
+    texts: &[(&str, &[u8])],
+    words: &[&str],
+) -> Result<u8, AllocError> {
+    for (name, text) in texts {
+        desk.put(*name, *text)?;
+    }
+    command(alloc, desk, words)
+}
+
+// Whether this was written, or, from status 2 on, told, and nothing else.
+fn is_out(desk: &MemoryDesk, status: u8, out: &str) -> bool {
+    let out = out.as_bytes();
+    if status < 2 {
+        return desk.written() == out && desk.told().is_empty();
+    }
+    desk.written().is_empty() && desk.told() == out
+}
+
+/// Whether a command over this desk ended with this status, and this was written, or, from status
+/// 2 on, told, and nothing else.
+pub(crate) fn ended_so(
+    desk: MemoryDesk,
+    ended: Result<u8, AllocError>,
+    status: u8,
+    out: &str,
+) -> Result<bool, AllocError> {
+    let is_right = is_out(&desk, status, out);
+    drop(desk);
+    Ok(ended? == status && is_right)
+}
+
+/// The same of the command of these words over a desk with these texts.
+pub(crate) fn comes_to(
+    alloc: Global,
+    texts: &[(&str, &[u8])],
+    words: &[&str],
+    status: u8,
+    out: &str,
+) -> Result<bool, AllocError> {
+    let mut desk = MemoryDesk::new(alloc, 4000)?;
+    let ended = work(alloc, &mut desk, texts, words);
+    ended_so(desk, ended, status, out)
+}
+
+// Puts a text, of which each read gives at most so many bytes, and works the command.
+fn work_in_pieces(
+    alloc: Global,
+    desk: &mut MemoryDesk,
+    named: (&str, &[u8]),
+    most: usize,
+    words: &[&str],
+) -> Result<u8, AllocError> {
+    let (name, text) = named;
+    desk.put(name, text)?;
+    for _ in 0..text.len() {
+        desk.cut(most.max(1))?;
+    }
+    command(alloc, desk, words)
+}
+
+/// Whether the command of these words writes this, where each read of the text of this name gives
+/// at most so many bytes.
+pub(crate) fn writes_in_pieces(
+    alloc: Global,
+    named: (&str, &[u8]),
+    most: usize,
+    words: &[&str],
+    written: &str,
+) -> Result<bool, AllocError> {
+    let mut desk = MemoryDesk::new(alloc, 4000)?;
+    let ended = work_in_pieces(alloc, &mut desk, named, most, words);
+    ended_so(desk, ended, 0, written)
+}
+
+// Whether commands, one after the other, end with these statuses.
+fn end_so(
+    alloc: Global,
+    desk: &mut MemoryDesk,
+    runs: &[(&[&str], u8)],
+) -> Result<bool, AllocError> {
+    for (words, status) in runs {
+        if command(alloc, desk, *words)? != *status {
+            return Ok(false);
+        }
+    }
+    Ok(true)
+}
+
+/// Whether commands, one after the other over one desk with this text, end with these statuses and
+/// tell these lines.
+pub(crate) fn tell_in_turn(
+    alloc: Global,
+    named: (&str, &[u8]),
+    runs: &[(&[&str], u8)],
+    told: &str,
+) -> Result<bool, AllocError> {
+    let (name, text) = named;
+    let mut desk = MemoryDesk::new(alloc, 4000)?;
+    let put = desk.put(name, text);
+    let ended = end_so(alloc, &mut desk, runs);
+    let is_told = desk.told() == told.as_bytes();
+    drop(desk);
+    put?;
+    Ok(ended? && is_told)
+}
+
 // Whether words are bad, by status and line.
 fn are_bad(alloc: Global, words: &[&str]) -> Result<bool, AllocError> {
-    let mut desk = MemoryDesk::new(alloc, 100)?;
-    desk.put("a.nl", b"g3 1 1 0\n")?;
-    let status = command(alloc, &mut desk, words)?;
-    Ok(status == 3 && desk.told() == b"bad words\n".as_slice())
+    comes_to(alloc, &[("a.nl", b"g3 1 1 0\n")], words, 3, "bad words\n")
 }
 
 #[test]
@@ -83,12 +190,15 @@ fn numbers_are_plain(rt: HostRuntime) {
 #[test]
 fn a_desk_feeds_a_reader(rt: HostRuntime) -> Result<(), Fail> {
     let mut desk = MemoryDesk::new(rt.alloc(), 0)?;
-    desk.put("a.nl", KNAPSACK.as_bytes())?;
-    let mut reader = NlReader::new(rt.alloc())?;
+    assert!(rt; desk.put("a.nl", KNAPSACK.as_bytes()).is_ok());
+    let mut reader = NlReader::new(rt.alloc()).expect(&rt, "memory");
     assert_eq!(rt;
         feed_text(rt.alloc(), &mut desk, "a.nl", &mut reader),
         Ok(())
     );
-    assert!(rt; reader.finish().is_ok());
+    drop(desk);
+    let read = reader.finish();
+    assert!(rt; read.is_ok());
+    drop(read);
     Ok(())
 }

@@ -1,32 +1,22 @@
 // Whole texts, with what is written or told for each.
 ghost use Rattle.std.specs.Prelude.{◌<◌};
 
-use crate::commands::{command, first_lines};
+use crate::commands::{comes_to, first_lines, writes_in_pieces};
 use example_texts::nl_texts::{KNAPSACK, KNAPSACK_WRITTEN, Sizes, header, one_row, text_of};
 use itoa::Buffer;
 use std::alloc::{AllocError, Global};
 use std::test::Fail;
-use text_base::MemoryDesk;
-
-// Whether this was written and this was told.
-fn did(desk: &MemoryDesk, written: &str, told: &str) -> bool {
-    desk.written() == written.as_bytes() && desk.told() == told.as_bytes()
-}
 
 // Whether the text is exported as this.
 fn exports(alloc: Global, text: &str, written: &str) -> Result<bool, AllocError> {
-    let mut desk = MemoryDesk::new(alloc, 4000)?;
-    desk.put("a.nl", text.as_bytes())?;
-    let status = command(alloc, &mut desk, &["export", "a.nl"])?;
-    Ok(status == 0 && did(&desk, written, ""))
+    let words = ["export", "a.nl"];
+    comes_to(alloc, &[("a.nl", text.as_bytes())], &words, 0, written)
 }
 
 // Whether the text is refused with this line.
 fn refuses(alloc: Global, text: &str, told: &str) -> Result<bool, AllocError> {
-    let mut desk = MemoryDesk::new(alloc, 4000)?;
-    desk.put("a.nl", text.as_bytes())?;
-    let status = command(alloc, &mut desk, &["export", "a.nl"])?;
-    Ok(status == 2 && did(&desk, "", told))
+    let words = ["export", "a.nl"];
+    comes_to(alloc, &[("a.nl", text.as_bytes())], &words, 2, told)
 }
 
 fn writes(alloc: Global, sizes: &Sizes, body: &str, written: &str) -> Result<bool, AllocError> {
@@ -58,13 +48,8 @@ fn exports_in_pieces(
     most: usize,
     written: &str,
 ) -> Result<bool, AllocError> {
-    let mut desk = MemoryDesk::new(alloc, 4000)?;
-    desk.put("a.nl", text)?;
-    for _ in 0..text.len() {
-        desk.cut(most.max(1))?;
-    }
-    let status = command(alloc, &mut desk, &["export", "a.nl", "0"])?;
-    Ok(status == 0 && did(&desk, written, ""))
+    let words = ["export", "a.nl", "0"];
+    writes_in_pieces(alloc, ("a.nl", text), most, &words, written)
 }
 
 #[test]
@@ -167,10 +152,13 @@ fn doubled(alloc: Global, count: usize) -> Result<String, AllocError> {
 
 // Whether the objective of this number is refused for a file with one objective.
 fn misses_objective(alloc: Global) -> Result<bool, AllocError> {
-    let mut desk = MemoryDesk::new(alloc, 4000)?;
-    desk.put("a.nl", KNAPSACK.as_bytes())?;
-    let status = command(alloc, &mut desk, &["export", "a.nl", "1"])?;
-    Ok(status == 2 && did(&desk, "", "refused objective 1: no such objective\n"))
+    comes_to(
+        alloc,
+        &[("a.nl", KNAPSACK.as_bytes())],
+        &["export", "a.nl", "1"],
+        2,
+        "refused objective 1: no such objective\n",
+    )
 }
 
 #[test]

@@ -72,9 +72,8 @@ struct Ended {
     desk: ShortDesk,
 }
 
-// The run where each call moves at most so many bytes, and those of these numbers fail.
-fn run(alloc: Global, case: &Case, most: usize, failing: &[u64]) -> Result<Ended, AllocError> {
-    let mut desk = ShortDesk::new(alloc, most, failing)?;
+// Puts the texts of a case.
+fn put_texts(desk: &mut ShortDesk, case: &Case) -> Result<(), AllocError> {
     if let Some(text) = case.first {
         desk.put("a", text.as_bytes())?;
     }
@@ -85,14 +84,31 @@ fn run(alloc: Global, case: &Case, most: usize, failing: &[u64]) -> Result<Ended
         desk.put("c", text.as_bytes())?;
         desk.put("d", text.as_bytes())?;
     }
-    let status = match case.files {
-        0 => command(alloc, &mut desk, &[case.command, "1", "1"])?,
-        1 => command(alloc, &mut desk, &[case.command, "a"])?,
-        3 => command(alloc, &mut desk, &[case.command, "a", "0", "c", "d"])?,
-        4 => command(alloc, &mut desk, &[case.command, "a", "b", "c", "d"])?,
-        _ => command(alloc, &mut desk, &[case.command, "a", "b"])?,
-    };
-    Ok(Ended { status, desk })
+    Ok(())
+}
+
+// Puts the texts of a case, and works its command.
+fn work(alloc: Global, desk: &mut ShortDesk, case: &Case) -> Result<u8, AllocError> {
+    put_texts(desk, case)?;
+    match case.files {
+        0 => command(alloc, desk, &[case.command, "1", "1"]),
+        1 => command(alloc, desk, &[case.command, "a"]),
+        3 => command(alloc, desk, &[case.command, "a", "0", "c", "d"]),
+        4 => command(alloc, desk, &[case.command, "a", "b", "c", "d"]),
+        _ => command(alloc, desk, &[case.command, "a", "b"]),
+    }
+}
+
+// The run where each call moves at most so many bytes, and those of these numbers fail.
+fn run(alloc: Global, case: &Case, most: usize, failing: &[u64]) -> Result<Ended, AllocError> {
+    let mut desk = ShortDesk::new(alloc, most, failing)?;
+    match work(alloc, &mut desk, case) {
+        Ok(status) => Ok(Ended { status, desk }),
+        Err(fault) => {
+            drop(desk);
+            Err(fault)
+        }
+    }
 }
 
 // The calls that give a text: its start, its pieces and its end.
@@ -131,8 +147,8 @@ fn ends_well(run: &Ended, whole: &Ended, input_failed: bool, moved: usize) -> bo
 }
 
 // Whether a run where the next call failed too has the same status, and could not tell its fault.
-fn ends_untold(run: &Ended, other: &Ended) -> bool {
-    other.status == run.status && (run.status < 4 || other.desk.told().is_empty())
+fn ends_untold(status: u8, other: &Ended) -> bool {
+    other.status == status && (status < 4 || other.desk.told().is_empty())
 }
 
 // Whether all is well where call n fails, alone and with the next.
@@ -147,8 +163,13 @@ fn fails_so(
     let moved = n.saturating_sub(inputs).saturating_mul(most);
     let call = n as u64;
     let one = run(alloc, case, most, &[call])?;
+    let status = one.status;
+    let is_well = ends_well(&one, whole, n < inputs, moved);
+    drop(one);
     let two = run(alloc, case, most, &[call, call.saturating_add(1)])?;
-    Ok(ends_well(&one, whole, n < inputs, moved) && ends_untold(&one, &two))
+    let is_untold = ends_untold(status, &two);
+    drop(two);
+    Ok(is_well && is_untold)
 }
 
 // How many calls a run makes.
@@ -161,30 +182,47 @@ fn call_count(case: &Case, whole: &Ended, most: usize) -> usize {
 
 // Whether all is well for each call that fails, and for none: then the run ends as it does in whole
 // pieces.
-fn each_call_may_fail(alloc: Global, case: &Case, most: usize) -> Result<bool, AllocError> {
-    let whole = run(alloc, case, 4000, &[])?;
+fn each_fails_so(
+    alloc: Global,
+    case: &Case,
+    whole: &Ended,
+    most: usize,
+) -> Result<bool, AllocError> {
     if whole.status != case.status {
         return Ok(false);
     }
-    let calls = call_count(case, &whole, most);
+    let calls = call_count(case, whole, most);
     for n in 0..calls.saturating_add(1) {
-        if !fails_so(alloc, case, &whole, most, n)? {
+        if !fails_so(alloc, case, whole, most, n)? {
             return Ok(false);
         }
     }
     Ok(true)
 }
 
-// Whether all is the same where each call moves one byte.
+fn each_call_may_fail(alloc: Global, case: &Case, most: usize) -> Result<bool, AllocError> {
+    let whole = run(alloc, case, 4000, &[])?;
+    let fail_so = each_fails_so(alloc, case, &whole, most);
+    drop(whole);
+    fail_so
+}
+
+// Whether all is as in the whole run where each call moves one byte.
+fn ends_so_in_bytes(alloc: Global, case: &Case, whole: &Ended) -> Result<bool, AllocError> {
+    let bytes = run(alloc, case, 1, &[])?;
+    let is_the_same = bytes.status == case.status
+        && whole.status == case.status
+        && bytes.desk.written() == whole.desk.written()
+        && bytes.desk.told() == whole.desk.told();
+    drop(bytes);
+    Ok(is_the_same)
+}
+
 fn is_the_same_in_bytes(alloc: Global, case: &Case) -> Result<bool, AllocError> {
     let whole = run(alloc, case, 4000, &[])?;
-    let bytes = run(alloc, case, 1, &[])?;
-    Ok(
-        bytes.status == case.status
-            && whole.status == case.status
-            && bytes.desk.written() == whole.desk.written()
-            && bytes.desk.told() == whole.desk.told(),
-    )
+    let is_the_same = ends_so_in_bytes(alloc, case, &whole);
+    drop(whole);
+    is_the_same
 }
 
 #[test]

@@ -1,18 +1,20 @@
 // The command fixed over a desk in memory.
 
-use crate::commands::{command, first_lines};
+use crate::commands::{comes_to, first_lines};
 use example_texts::mps_texts::{FIXED, FIXED_WRITTEN};
 use std::alloc::{AllocError, Global};
 use std::test::Fail;
-use text_base::MemoryDesk;
 
-// Whether the text is written so, or refused with this line.
-fn comes_to(alloc: Global, text: &str, written: &str, told: &str) -> Result<bool, AllocError> {
-    let mut desk = MemoryDesk::new(alloc, 4000)?;
-    desk.put("m.mps", text.as_bytes())?;
-    let status = command(alloc, &mut desk, &["fixed", "m.mps"])?;
-    let wanted = if told.is_empty() { 0 } else { 2 };
-    Ok(status == wanted && desk.written() == written.as_bytes() && desk.told() == told.as_bytes())
+// Whether the text is written so.
+fn writes(alloc: Global, text: &str, written: &str) -> Result<bool, AllocError> {
+    let words = ["fixed", "m.mps"];
+    comes_to(alloc, &[("m.mps", text.as_bytes())], &words, 0, written)
+}
+
+// Whether the text is refused with this line.
+fn refuses(alloc: Global, text: &str, told: &str) -> Result<bool, AllocError> {
+    let words = ["fixed", "m.mps"];
+    comes_to(alloc, &[("m.mps", text.as_bytes())], &words, 2, told)
 }
 
 // The example with another line 7.
@@ -37,10 +39,7 @@ fn keeps_to_the_fields(rt: HostRuntime) -> Result<(), Fail> {
     ];
     for line in cases {
         let text = with_line(alloc, line)?;
-        assert!(rt;
-            comes_to(alloc, text.as_str(), FIXED_WRITTEN, "")?,
-            "at {line}"
-        );
+        assert!(rt; writes(alloc, text.as_str(), FIXED_WRITTEN)?, "at {line}");
     }
     Ok(())
 }
@@ -57,7 +56,7 @@ fn tells_a_line_that_leaves_the_fields(rt: HostRuntime) -> Result<(), Fail> {
     for line in cases {
         let text = with_line(alloc, line)?;
         assert!(rt;
-            comes_to(alloc, text.as_str(), "", "refused line 7: bad line\n")?,
+            refuses(alloc, text.as_str(), "refused line 7: bad line\n")?,
             "at {line}"
         );
     }
@@ -67,6 +66,6 @@ fn tells_a_line_that_leaves_the_fields(rt: HostRuntime) -> Result<(), Fail> {
 #[test]
 fn tells_that_fixed_columns_have_no_end(rt: HostRuntime) -> Result<(), Fail> {
     let text = first_lines(rt.alloc(), FIXED, 13)?;
-    assert!(rt; comes_to(rt.alloc(), text.as_str(), "", "refused line 14: no end\n")?);
+    assert!(rt; refuses(rt.alloc(), text.as_str(), "refused line 14: no end\n")?);
     Ok(())
 }

@@ -1,32 +1,29 @@
 // The command import over a desk in memory: what is written or told for whole texts.
 
-use crate::commands::{command, first_lines};
+use crate::commands::{comes_to, first_lines};
 use example_texts::mps_texts::PAIRS;
 use std::alloc::{AllocError, Global};
 use std::test::Fail;
-use text_base::MemoryDesk;
 
 // What that program is imported as.
 const PAIRS_IMPORTED: &str =
     "g3 1 1 0\n2 2 1 1 0\n0 0\n0 0\n0 0 0\n0 0 0 1\n0 0 0 0 0\n3 2\n0 0\n0 0 0 0 0\nO0 0\nn0\nr\n0 8 10\n1 7\nb\n1 -4\n2 0\nk1\n2\nJ0 1\n0 2\nJ1 2\n0 1\n1 1\nG0 2\n0 1\n1 -3\n";
 
-// Whether the text comes to this status, with this written and this told.
-fn does(
-    alloc: Global,
-    text: &str,
-    status: u8,
-    written: &str,
-    told: &str,
-) -> Result<bool, AllocError> {
-    let mut desk = MemoryDesk::new(alloc, 4000)?;
-    desk.put("m.mps", text.as_bytes())?;
-    let answer = command(alloc, &mut desk, &["import", "m.mps"])?;
-    Ok(answer == status && desk.written() == written.as_bytes() && desk.told() == told.as_bytes())
+// Whether the text is imported as this.
+fn writes(alloc: Global, text: &str, written: &str) -> Result<bool, AllocError> {
+    let words = ["import", "m.mps"];
+    comes_to(alloc, &[("m.mps", text.as_bytes())], &words, 0, written)
+}
+
+// Whether the text is refused with this line.
+fn refuses(alloc: Global, text: &str, told: &str) -> Result<bool, AllocError> {
+    let words = ["import", "m.mps"];
+    comes_to(alloc, &[("m.mps", text.as_bytes())], &words, 2, told)
 }
 
 #[test]
 fn imports_a_program(rt: HostRuntime) -> Result<(), Fail> {
-    assert!(rt; does(rt.alloc(), PAIRS, 0, PAIRS_IMPORTED, "")?);
+    assert!(rt; writes(rt.alloc(), PAIRS, PAIRS_IMPORTED)?);
     Ok(())
 }
 
@@ -52,9 +49,9 @@ fn tells_the_first_fault(rt: HostRuntime) -> Result<(), Fail> {
     ];
     for (end, told) in cases {
         let text = with_end(rt.alloc(), end)?;
-        assert!(rt; does(rt.alloc(), text.as_str(), 2, "", told)?, "at {end}");
+        assert!(rt; refuses(rt.alloc(), text.as_str(), told)?, "at {end}");
     }
     let wide = "ROWS\n N C\n E R\nCOLUMNS\n X C 1\nRHS\n R R 1e30\nRANGES\n G R 1e-30\nENDATA\n";
-    assert!(rt; does(rt.alloc(), wide, 2, "", "refused row 1: too wide\n")?);
+    assert!(rt; refuses(rt.alloc(), wide, "refused row 1: too wide\n")?);
     Ok(())
 }

@@ -1,7 +1,7 @@
 // The command mps over a desk in memory: what is written or told for whole texts, and for their
 // fronts.
 
-use crate::commands::{command, first_lines};
+use crate::commands::{comes_to, first_lines, tell_in_turn, work, writes_in_pieces};
 use example_texts::mps_texts::{PAIRS, PAIRS_WRITTEN};
 use example_texts::nl_texts::KNAPSACK_WRITTEN;
 use itoa::Buffer;
@@ -11,21 +11,14 @@ use text_base::MemoryDesk;
 
 // Whether the text is written so where each read gives at most so many bytes.
 fn writes(alloc: Global, text: &str, most: usize, written: &str) -> Result<bool, AllocError> {
-    let mut desk = MemoryDesk::new(alloc, 4000)?;
-    desk.put("m.mps", text.as_bytes())?;
-    for _ in 0..text.len() {
-        desk.cut(most.max(1))?;
-    }
-    let status = command(alloc, &mut desk, &["mps", "m.mps"])?;
-    Ok(status == 0 && desk.written() == written.as_bytes() && desk.told().is_empty())
+    let named = ("m.mps", text.as_bytes());
+    writes_in_pieces(alloc, named, most, &["mps", "m.mps"], written)
 }
 
 // Whether the text is refused with this line.
 fn refuses(alloc: Global, text: &str, told: &str) -> Result<bool, AllocError> {
-    let mut desk = MemoryDesk::new(alloc, 4000)?;
-    desk.put("m.mps", text.as_bytes())?;
-    let status = command(alloc, &mut desk, &["mps", "m.mps"])?;
-    Ok(status == 2 && desk.written().is_empty() && desk.told() == told.as_bytes())
+    let words = ["mps", "m.mps"];
+    comes_to(alloc, &[("m.mps", text.as_bytes())], &words, 2, told)
 }
 
 #[test]
@@ -72,17 +65,23 @@ fn a_text_cut_after_a_line_has_no_end(rt: HostRuntime) -> Result<(), Fail> {
     Ok(())
 }
 
-// Whether so many bytes of the text are written, or refused with a line and nothing written.
+// Whether the text was written, or refused with a line and nothing written.
+fn is_written_or_refused(desk: &MemoryDesk, status: u8) -> bool {
+    if status == 0 {
+        return desk.written() == PAIRS_WRITTEN.as_bytes() && desk.told().is_empty();
+    }
+    status == 2 && desk.written().is_empty() && desk.told().ends_with(b"\n")
+}
+
+// The same of so many bytes of the text.
 fn is_judged(alloc: Global, bytes: usize) -> Result<bool, AllocError> {
     let text = PAIRS.as_bytes();
     let (front, _) = text.split_at(bytes.min(text.len()));
     let mut desk = MemoryDesk::new(alloc, 4000)?;
-    desk.put("m.mps", front)?;
-    let status = command(alloc, &mut desk, &["mps", "m.mps"])?;
-    if status == 0 {
-        return Ok(desk.written() == PAIRS_WRITTEN.as_bytes() && desk.told().is_empty());
-    }
-    Ok(status == 2 && desk.written().is_empty() && desk.told().ends_with(b"\n"))
+    let ended = work(alloc, &mut desk, &[("m.mps", front)], &["mps", "m.mps"]);
+    let judged = ended.map(|status| is_written_or_refused(&desk, status));
+    drop(desk);
+    judged
 }
 
 #[test]
@@ -150,11 +149,12 @@ fn tells_the_first_fault_after_columns(rt: HostRuntime) -> Result<(), Fail> {
 
 #[test]
 fn tells_bad_words_and_missing_files(rt: HostRuntime) -> Result<(), Fail> {
-    let alloc = rt.alloc();
-    let mut desk = MemoryDesk::new(alloc, 100)?;
-    assert_eq!(rt; command(alloc, &mut desk, &["mps", "m.mps"])?, 4);
-    assert_eq!(rt; command(alloc, &mut desk, &["mps"])?, 3);
-    assert_eq!(rt; command(alloc, &mut desk, &["mps", "m.mps", "0"])?, 3);
-    assert!(rt; desk.told() == b"input fault\nbad words\nbad words\n".as_slice());
+    let runs: [(&[&str], u8); 3] = [
+        (&["mps", "m.mps"], 4),
+        (&["mps"], 3),
+        (&["mps", "m.mps", "0"], 3),
+    ];
+    let told = "input fault\nbad words\nbad words\n";
+    assert!(rt; tell_in_turn(rt.alloc(), ("other", b""), &runs, told)?);
     Ok(())
 }

@@ -1,11 +1,10 @@
 // The commands export and return with names over a desk in memory: what is written with the names
 // of lists, and why lists are refused.
 
-use crate::commands::command;
+use crate::commands::comes_to;
 use example_texts::nl_texts::{KNAPSACK, Sizes, header, text_of};
 use std::alloc::{AllocError, Global};
 use std::test::Fail;
-use text_base::MemoryDesk;
 
 // The knapsack with the names of lists.
 const NAMED: &str =
@@ -44,23 +43,14 @@ fn knapsack(
     }
 }
 
-// Whether a run ended with this status and wrote, or told, this.
-fn is_out(desk: &MemoryDesk, is: u8, status: u8, out: &str) -> bool {
-    let out = out.as_bytes();
-    if status == 0 {
-        return is == 0 && desk.written() == out && desk.told().is_empty();
-    }
-    is == status && desk.written().is_empty() && desk.told() == out
-}
-
 fn exports_so(alloc: Global, case: &Exported) -> Result<bool, AllocError> {
-    let mut desk = MemoryDesk::new(alloc, 4000)?;
-    desk.put("a.nl", KNAPSACK.as_bytes())?;
-    desk.put("a.row", case.rows.as_bytes())?;
-    desk.put("a.col", case.columns.as_bytes())?;
+    let texts = [
+        ("a.nl", KNAPSACK.as_bytes()),
+        ("a.row", case.rows.as_bytes()),
+        ("a.col", case.columns.as_bytes()),
+    ];
     let words = ["export", "a.nl", case.k, "a.row", "a.col"];
-    let status = command(alloc, &mut desk, &words)?;
-    Ok(is_out(&desk, status, case.status, case.out))
+    comes_to(alloc, &texts, &words, case.status, case.out)
 }
 
 #[test]
@@ -171,16 +161,20 @@ fn tied(answer: &'static str, out: &'static str) -> Returned {
     }
 }
 
+fn returns_of(alloc: Global, nl: &str, case: &Returned) -> Result<bool, AllocError> {
+    let texts = [
+        ("a.nl", nl.as_bytes()),
+        ("a.answer", case.answer.as_bytes()),
+        ("a.row", case.rows.as_bytes()),
+        ("a.col", b"v\n"),
+    ];
+    let words = ["return", "a.nl", "a.answer", "a.row", "a.col"];
+    comes_to(alloc, &texts, &words, case.status, case.out)
+}
+
 fn returns_so(alloc: Global, case: &Returned) -> Result<bool, AllocError> {
     let nl = text_of(alloc, &case.sizes(), case.body)?;
-    let mut desk = MemoryDesk::new(alloc, 4000)?;
-    desk.put("a.nl", nl.as_bytes())?;
-    desk.put("a.answer", case.answer.as_bytes())?;
-    desk.put("a.row", case.rows.as_bytes())?;
-    desk.put("a.col", b"v\n")?;
-    let words = ["return", "a.nl", "a.answer", "a.row", "a.col"];
-    let status = command(alloc, &mut desk, &words)?;
-    Ok(is_out(&desk, status, case.status, case.out))
+    returns_of(alloc, nl.as_str(), case)
 }
 
 #[test]
@@ -213,11 +207,8 @@ fn returns_with_names(rt: HostRuntime) -> Result<(), Fail> {
 // Whether these words end with this status and tell this, at a desk with the knapsack and a binary
 // file.
 fn tells(alloc: Global, words: &[&str], status: u8, line: &str) -> Result<bool, AllocError> {
-    let mut desk = MemoryDesk::new(alloc, 4000)?;
-    desk.put("a.nl", KNAPSACK.as_bytes())?;
-    desk.put("b", b"b3 1 1 0\n")?;
-    let is = command(alloc, &mut desk, words)?;
-    Ok(is_out(&desk, is, status, line))
+    let texts = [("a.nl", KNAPSACK.as_bytes()), ("b", b"b3 1 1 0\n")];
+    comes_to(alloc, &texts, words, status, line)
 }
 
 #[test]

@@ -1,12 +1,11 @@
 // The command prove over a desk in memory: verdicts on proofs of small files, and why others are
 // refused.
 
-use crate::commands::command;
+use crate::commands::{comes_to, tell_in_turn};
 use example_texts::nl_texts::KNAPSACK;
 use example_texts::proof_texts::{ONE_WHOLE, TWO_LEAVES};
 use std::alloc::{AllocError, Global};
 use std::test::Fail;
-use text_base::MemoryDesk;
 
 // The optimum of the knapsack is 17: the third is left out; or it is in, and then neither of the
 // others fits.
@@ -46,23 +45,17 @@ fn refused(proof: &'static str, line: &'static str) -> Case {
 }
 
 // Whether the verdict, or the line told, is this.
-fn comes_to(alloc: Global, nl: &str, proof: &str, case: &Case) -> Result<bool, AllocError> {
-    let mut desk = MemoryDesk::new(alloc, 4000)?;
-    desk.put("a.nl", nl.as_bytes())?;
-    desk.put("a.proof", proof.as_bytes())?;
-    let status = command(alloc, &mut desk, &["prove", "a.nl", "a.proof"])?;
-    let line = case.line.as_bytes();
-    if case.status == 2 {
-        return Ok(status == 2 && desk.written().is_empty() && desk.told() == line);
-    }
-    Ok(status == case.status && desk.written() == line && desk.told().is_empty())
+fn judges_so(alloc: Global, nl: &str, proof: &str, case: &Case) -> Result<bool, AllocError> {
+    let texts = [("a.nl", nl.as_bytes()), ("a.proof", proof.as_bytes())];
+    let words = ["prove", "a.nl", "a.proof"];
+    comes_to(alloc, &texts, &words, case.status, case.line)
 }
 
 // The same, of a proof with its first line.
 fn begins_well(alloc: Global, nl: &str, case: &Case) -> Result<bool, AllocError> {
     let mut proof = String::from_str(alloc, "proof 1\n")?;
     proof.push_str(case.proof)?;
-    comes_to(alloc, nl, &proof, case)
+    judges_so(alloc, nl, &proof, case)
 }
 
 #[test]
@@ -125,10 +118,10 @@ fn judges_proofs_of_other_files(rt: HostRuntime) -> Result<(), Fail> {
 fn proves_the_optimum_of_the_knapsack(rt: HostRuntime) -> Result<(), Fail> {
     let alloc = rt.alloc();
     let whole = proves(KNAPSACK_PROOF);
-    assert!(rt; comes_to(alloc, KNAPSACK, KNAPSACK_PROOF, &whole)?);
+    assert!(rt; judges_so(alloc, KNAPSACK, KNAPSACK_PROOF, &whole)?);
     let better = KNAPSACK_PROOF.replace(alloc, "value 0 17", "value 0 16")?;
     let gap = open("", "leaf 0 gap 17\n");
-    assert!(rt; comes_to(alloc, KNAPSACK, &better, &gap)?);
+    assert!(rt; judges_so(alloc, KNAPSACK, &better, &gap)?);
     Ok(())
 }
 
@@ -175,24 +168,24 @@ fn tells_faults_of_other_lines(rt: HostRuntime) -> Result<(), Fail> {
     let alloc = rt.alloc();
     let continuous = ONE_WHOLE.replace(alloc, "0 1 0 0 0", "0 0 0 0 0")?;
     let not_whole = refused("", "refused file 2 line 3: not whole\n");
-    assert!(rt; comes_to(alloc, &continuous, TWO_LEAVES, &not_whole)?);
+    assert!(rt; judges_so(alloc, &continuous, TWO_LEAVES, &not_whole)?);
     let bad_first = refused("", "refused file 2 line 1: bad first line\n");
-    assert!(rt; comes_to(alloc, ONE_WHOLE, "proof 2\n", &bad_first)?);
-    assert!(rt; comes_to(alloc, ONE_WHOLE, "", &bad_first)?);
+    assert!(rt; judges_so(alloc, ONE_WHOLE, "proof 2\n", &bad_first)?);
+    assert!(rt; judges_so(alloc, ONE_WHOLE, "", &bad_first)?);
     let long = "a".repeat(alloc, 65_537)?;
     let too_long = refused("", "refused file 2 line 1: line too long\n");
-    assert!(rt; comes_to(alloc, ONE_WHOLE, &long, &too_long)?);
+    assert!(rt; judges_so(alloc, ONE_WHOLE, &long, &too_long)?);
     Ok(())
 }
 
 #[test]
 fn the_first_file_comes_first(rt: HostRuntime) -> Result<(), Fail> {
-    let alloc = rt.alloc();
-    let mut desk = MemoryDesk::new(alloc, 4000)?;
-    desk.put("a.nl", b"b3 1 1 0\n")?;
-    assert_eq!(rt; command(alloc, &mut desk, &["prove", "a.nl", "none"])?, 2);
-    assert_eq!(rt; command(alloc, &mut desk, &["prove", "none", "a.nl"])?, 4);
-    assert_eq!(rt; command(alloc, &mut desk, &["prove", "a.nl"])?, 3);
-    assert!(rt; desk.told() == b"refused line 1: binary file\ninput fault\nbad words\n".as_slice());
+    let runs: [(&[&str], u8); 3] = [
+        (&["prove", "a.nl", "none"], 2),
+        (&["prove", "none", "a.nl"], 4),
+        (&["prove", "a.nl"], 3),
+    ];
+    let told = "refused line 1: binary file\ninput fault\nbad words\n";
+    assert!(rt; tell_in_turn(rt.alloc(), ("a.nl", b"b3 1 1 0\n"), &runs, told)?);
     Ok(())
 }

@@ -1,11 +1,10 @@
 // The command return over a desk in memory: the .sol texts of answers for small files, and why
 // others are refused.
 
-use crate::commands::command;
+use crate::commands::{comes_to, tell_in_turn};
 use example_texts::nl_texts::{Sizes, header, text_of};
 use std::alloc::{AllocError, Global};
 use std::test::Fail;
-use text_base::MemoryDesk;
 
 // Maximise 3 x, where 2 x is at most 7 and x is at least 0.
 const MOST: &str = "O0 1\nn0\nr\n1 7\nb\n2 0\nJ0 1\n0 2\nG0 1\n0 3\n";
@@ -67,19 +66,13 @@ fn tied(answer: &'static str, out: &'static str) -> Case {
 }
 
 // Whether the text written, or the line told, is this.
-fn comes_to(alloc: Global, case: &Case) -> Result<bool, AllocError> {
+fn returns_so(alloc: Global, case: &Case) -> Result<bool, AllocError> {
     let nl = text_of(alloc, &case.sizes(), case.body)?;
     let mut answer = String::from_str(alloc, "answer 1\n")?;
     answer.push_str(case.answer)?;
-    let mut desk = MemoryDesk::new(alloc, 4000)?;
-    desk.put("a.nl", nl.as_bytes())?;
-    desk.put("a.answer", answer.as_bytes())?;
-    let status = command(alloc, &mut desk, &["return", "a.nl", "a.answer"])?;
-    let out = case.out.as_bytes();
-    if case.status == 2 {
-        return Ok(status == 2 && desk.written().is_empty() && desk.told() == out);
-    }
-    Ok(status == case.status && desk.written() == out && desk.told().is_empty())
+    let texts = [("a.nl", nl.as_bytes()), ("a.answer", answer.as_bytes())];
+    let words = ["return", "a.nl", "a.answer"];
+    comes_to(alloc, &texts, &words, case.status, case.out)
 }
 
 #[test]
@@ -106,7 +99,7 @@ fn returns_answers(rt: HostRuntime) -> Result<(), Fail> {
         ),
     ];
     for case in cases {
-        assert!(rt; comes_to(rt.alloc(), &case)?, "at {}", case.answer);
+        assert!(rt; returns_so(rt.alloc(), &case)?, "at {}", case.answer);
     }
     Ok(())
 }
@@ -131,19 +124,19 @@ fn refuses_answers(rt: HostRuntime) -> Result<(), Fail> {
         most("objno 1\n", 2, "refused objective 1: no such objective\n"),
     ];
     for case in cases {
-        assert!(rt; comes_to(rt.alloc(), &case)?, "at {}", case.answer);
+        assert!(rt; returns_so(rt.alloc(), &case)?, "at {}", case.answer);
     }
     Ok(())
 }
 
 #[test]
 fn the_first_file_comes_first(rt: HostRuntime) -> Result<(), Fail> {
-    let alloc = rt.alloc();
-    let mut desk = MemoryDesk::new(alloc, 4000)?;
-    desk.put("a.nl", b"b3 1 1 0\n")?;
-    assert_eq!(rt; command(alloc, &mut desk, &["return", "a.nl", "none"])?, 2);
-    assert_eq!(rt; command(alloc, &mut desk, &["return", "none", "a.nl"])?, 4);
-    assert_eq!(rt; command(alloc, &mut desk, &["return", "a.nl"])?, 3);
-    assert!(rt; desk.told() == b"refused line 1: binary file\ninput fault\nbad words\n".as_slice());
+    let runs: [(&[&str], u8); 3] = [
+        (&["return", "a.nl", "none"], 2),
+        (&["return", "none", "a.nl"], 4),
+        (&["return", "a.nl"], 3),
+    ];
+    let told = "refused line 1: binary file\ninput fault\nbad words\n";
+    assert!(rt; tell_in_turn(rt.alloc(), ("a.nl", b"b3 1 1 0\n"), &runs, told)?);
     Ok(())
 }

@@ -1,9 +1,8 @@
 // The command sol over a desk in memory: what is written or told for whole texts.
 
-use crate::commands::{command, first_lines};
+use crate::commands::{comes_to, first_lines};
 use std::alloc::{AllocError, Global};
 use std::test::Fail;
-use text_base::MemoryDesk;
 
 // A solution with a value of small size and a suffix with a table.
 const SMALL: &str =
@@ -15,18 +14,14 @@ const SMALL_WRITTEN: &str =
 
 // Whether the text is written so.
 fn writes(alloc: Global, text: &str, written: &str) -> Result<bool, AllocError> {
-    let mut desk = MemoryDesk::new(alloc, 4000)?;
-    desk.put("a.sol", text.as_bytes())?;
-    let status = command(alloc, &mut desk, &["sol", "a.sol"])?;
-    Ok(status == 0 && desk.written() == written.as_bytes() && desk.told().is_empty())
+    let words = ["sol", "a.sol"];
+    comes_to(alloc, &[("a.sol", text.as_bytes())], &words, 0, written)
 }
 
 // Whether the text is refused with this line.
 fn refuses(alloc: Global, text: &str, told: &str) -> Result<bool, AllocError> {
-    let mut desk = MemoryDesk::new(alloc, 4000)?;
-    desk.put("a.sol", text.as_bytes())?;
-    let status = command(alloc, &mut desk, &["sol", "a.sol"])?;
-    Ok(status == 2 && desk.written().is_empty() && desk.told() == told.as_bytes())
+    let words = ["sol", "a.sol"];
+    comes_to(alloc, &[("a.sol", text.as_bytes())], &words, 2, told)
 }
 
 #[test]
