@@ -55,7 +55,7 @@ fn a_proof_comes_in_pieces(rt: HostRuntime) -> Result<(), Fail> {
     let Ok(proof) = reader.finish() else {
         panic!(rt; "no proof");
     };
-    assert_eq!(rt; proof.nodes().len(), 3);
+    assert!(rt; proof.nodes().len() == 3);
     drop(proof);
     drop(file);
     Ok(())
@@ -74,8 +74,8 @@ fn there_are_so_many_nodes(rt: HostRuntime) -> Result<(), Fail> {
         reason: ProofReason::TooLarge,
         line: 65_539,
     };
-    assert_eq!(rt; reader.feed(b"split 0 0\n"), Err(Stop::Fault(fault)));
-    assert_eq!(rt; reader.feed(b""), Err(Stop::Fault(fault)));
+    assert!(rt; reader.feed(b"split 0 0\n") == Err(Stop::Fault(fault)));
+    assert!(rt; reader.feed(b"") == Err(Stop::Fault(fault)));
     drop(reader);
     drop(file);
     Ok(())

@@ -103,10 +103,10 @@ fn add_term(builder: &mut NlBuilder, value: Dec) -> Result<(), AllocError> {
 fn a_builder_takes_sides_and_terms(rt: HostRuntime) -> Result<(), Fail> {
     let mut builder = started(rt.alloc())?;
     assert!(rt; add_sides(&mut builder).is_ok());
-    assert_eq!(rt; builder.sides(), 1);
-    assert_eq!(rt; builder.bounds(), 1);
+    assert!(rt; builder.sides() == 1);
+    assert!(rt; builder.bounds() == 1);
     assert!(rt; add_term(&mut builder, Dec::of_whole(5)).is_ok());
-    assert_eq!(rt; builder.terms(), 1);
+    assert!(rt; builder.terms() == 1);
     drop(builder);
     Ok(())
 }
@@ -199,10 +199,10 @@ fn lists_hold_their_items(rt: HostRuntime) {
     let value = Dec::of_whole(3);
     let mut terms = Terms::new(rt.alloc());
     assert!(rt; terms.push((7, value)).is_ok());
-    assert_eq!(rt; terms.items(), [(7, value)].as_slice());
+    assert!(rt; terms.items() == [(7, value)].as_slice());
     drop(terms);
     let mut values = Decs::new(rt.alloc());
     assert!(rt; values.push(value).is_ok());
-    assert_eq!(rt; values.items(), [value].as_slice());
+    assert!(rt; values.items() == [value].as_slice());
     drop(values);
 }

@@ -7,11 +7,11 @@ use code_tables::{
 #[test]
 fn rows_of_the_header(rt: HostRuntime) {
     let header = header_table();
-    assert_eq!(rt; header.rows.len(), 32);
+    assert!(rt; header.rows.len() == 32);
     let first = header.rows[0];
-    assert_eq!(rt; (first.line, first.place, first.field.row), (1, 1, 1));
+    assert!(rt; (first.line, first.place, first.field.row) == (1, 1, 1));
     let last = header.rows[31];
-    assert_eq!(rt; (last.line, last.place, last.field.row), (10, 5, 32));
+    assert!(rt; (last.line, last.place, last.field.row) == (10, 5, 32));
 }
 
 #[test]
@@ -21,13 +21,13 @@ fn fields_by_place(rt: HostRuntime) {
         required: false,
         zero: true,
     };
-    assert_eq!(rt; field_at(2, 6), Some(n_lcon));
+    assert!(rt; field_at(2, 6) == Some(n_lcon));
     let nbv = Field {
         row: 19,
         required: true,
         zero: false,
     };
-    assert_eq!(rt; field_at(7, 1), Some(nbv));
+    assert!(rt; field_at(7, 1) == Some(nbv));
     assert!(rt; field_at(2, 7).is_none());
     assert!(rt; field_at(0, 1).is_none());
     assert!(rt; field_at(11, 1).is_none());

@@ -21,13 +21,13 @@ fn desk_gives_texts_in_cuts(rt: HostRuntime) -> Result<(), Fail> {
     let mut desk = MemoryDesk::new(rt.alloc(), 0)?;
     assert!(rt; fill(&mut desk).is_ok());
     let mut buf = [0; 8];
-    assert_eq!(rt; desk.start("a"), Ok(()));
-    assert_eq!(rt; desk.read(&mut buf), Ok(1));
-    assert_eq!(rt; desk.read(&mut buf), Err(Failed));
-    assert_eq!(rt; desk.read(&mut buf), Ok(3));
-    assert_eq!(rt; buf[0], b'b');
-    assert_eq!(rt; desk.read(&mut buf), Ok(0));
-    assert_eq!(rt; desk.start("b"), Err(Failed));
+    assert!(rt; desk.start("a") == Ok(()));
+    assert!(rt; desk.read(&mut buf) == Ok(1));
+    assert!(rt; desk.read(&mut buf) == Err(Failed));
+    assert!(rt; desk.read(&mut buf) == Ok(3));
+    assert!(rt; buf[0] == b'b');
+    assert!(rt; desk.read(&mut buf) == Ok(0));
+    assert!(rt; desk.start("b") == Err(Failed));
     drop(desk);
     Ok(())
 }
@@ -35,9 +35,9 @@ fn desk_gives_texts_in_cuts(rt: HostRuntime) -> Result<(), Fail> {
 #[test]
 fn lines_lose_their_returns(rt: HostRuntime) -> Result<(), Fail> {
     let mut lines = Lines::new(rt.alloc())?;
-    assert_eq!(rt; lines.take(b"a\rb\r\r\nc\r"), Taken::Line(6));
-    assert_eq!(rt; lines.line(), b"a\rb".as_slice());
-    assert_eq!(rt; lines.number(), 1);
+    assert!(rt; lines.take(b"a\rb\r\r\nc\r") == Taken::Line(6));
+    assert!(rt; lines.line() == b"a\rb".as_slice());
+    assert!(rt; lines.number() == 1);
     drop(lines);
     Ok(())
 }
@@ -94,8 +94,8 @@ fn text_lines_keep_each_line(rt: HostRuntime) {
     let mut lines = TextLines::new(rt.alloc());
     assert!(rt; lines.push(b"").is_ok());
     assert!(rt; lines.push(b"c d").is_ok());
-    assert_eq!(rt; lines.len(), 2);
-    assert_eq!(rt; lines.get(1), b"c d".as_slice());
+    assert!(rt; lines.len() == 2);
+    assert!(rt; lines.get(1) == b"c d".as_slice());
     drop(lines);
 }
 

@@ -63,9 +63,9 @@ fn is_out(desk: &MemoryDesk, status: u8, out: &str) -> bool {
     desk.written().is_empty() && desk.told() == out
 }
 
-/// Whether a command over this desk ended with this status, and this was written, or, from status
-/// 2 on, told, and nothing else.
-pub(crate) fn ended_so(
+// Whether a command over this desk ended with this status, and this was written, or, from status
+// 2 on, told, and nothing else.
+fn ended_so(
     desk: MemoryDesk,
     ended: Result<u8, AllocError>,
     status: u8,

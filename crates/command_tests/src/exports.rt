@@ -71,11 +71,15 @@ fn front_tells(alloc: Global, count: usize, told: &str) -> Result<bool, AllocErr
 #[test]
 fn refuses_texts(rt: HostRuntime) -> Result<(), Fail> {
     let alloc = rt.alloc();
-    assert!(rt; front_tells(alloc, 23, "refused line 24: nonzero count\n")?);
-    assert!(rt; front_tells(alloc, 30, "refused line 31: short segment\n")?);
-    assert!(rt; front_tells(alloc, 5, "refused line 6: end in header\n")?);
+    let fronts = [
+        (23, "refused line 24: nonzero count\n"),
+        (30, "refused line 31: short segment\n"),
+        (5, "refused line 6: end in header\n"),
+    ];
+    for (count, told) in fronts {
+        assert!(rt; front_tells(alloc, count, told)?, "of {count} lines");
+    }
     assert!(rt; refuses(alloc, "b3 1 1 0\n", "refused line 1: binary file\n")?);
-    let row = one_row();
     let three = header("3 1 0", "3 0", "0");
     let cases = [
         (
@@ -93,27 +97,28 @@ fn refuses_texts(rt: HostRuntime) -> Result<(), Fail> {
             "r\n1 1\nb\n3\n3\n3\nJ0 3\n0 1\n1 1\n2 1\n2 1\nC0\nn0\n",
             "refused line 21: extra line\n",
         ),
-        (
-            row,
-            "r\n1 1\nb\n3\nJ0 1\n0 .\n",
-            "refused line 16: bad number\n",
-        ),
-        (
-            row,
-            "r\n1 1\nb\n3\nJ0 1\n0 1e401\n",
-            "refused line 16: bad number\n",
-        ),
-        (row, "F0 1 -1 f\n", "refused line 11: refused segment\n"),
-        (row, "r\n5 1 1\n", "refused line 12: complementarity\n"),
-        (
-            row,
-            "S0 1 sosno\n",
-            "refused line 11: special ordered sets\n",
-        ),
-        (row, "C0\no43\nv0\n", "refused line 12: refused opcode 43\n"),
     ];
     for (sizes, body, told) in cases {
         assert!(rt; tells(alloc, &sizes, body, told)?, "at {body}");
+    }
+    Ok(())
+}
+
+#[test]
+fn refuses_texts_of_one_row(rt: HostRuntime) -> Result<(), Fail> {
+    let cases = [
+        ("r\n1 1\nb\n3\nJ0 1\n0 .\n", "refused line 16: bad number\n"),
+        (
+            "r\n1 1\nb\n3\nJ0 1\n0 1e401\n",
+            "refused line 16: bad number\n",
+        ),
+        ("F0 1 -1 f\n", "refused line 11: refused segment\n"),
+        ("r\n5 1 1\n", "refused line 12: complementarity\n"),
+        ("S0 1 sosno\n", "refused line 11: special ordered sets\n"),
+        ("C0\no43\nv0\n", "refused line 12: refused opcode 43\n"),
+    ];
+    for (body, told) in cases {
+        assert!(rt; tells(rt.alloc(), &one_row(), body, told)?, "at {body}");
     }
     Ok(())
 }

@@ -27,9 +27,20 @@ fn with_line(alloc: Global, line: &str) -> Result<String, AllocError> {
     Ok(text)
 }
 
+// Whether the example with this line 7 is written.
+fn writes_line(alloc: Global, line: &str) -> Result<bool, AllocError> {
+    let text = with_line(alloc, line)?;
+    writes(alloc, text.as_str(), FIXED_WRITTEN)
+}
+
+// Whether the example with this line 7 is refused at it.
+fn refuses_line(alloc: Global, line: &str) -> Result<bool, AllocError> {
+    let text = with_line(alloc, line)?;
+    refuses(alloc, text.as_str(), "refused line 7: bad line\n")
+}
+
 #[test]
 fn keeps_to_the_fields(rt: HostRuntime) -> Result<(), Fail> {
-    let alloc = rt.alloc();
     let cases = [
         // Nothing counts after column 61, and CRs end no word.
         "    X         COST               1.0   LIM1               2.0",
@@ -38,15 +49,13 @@ fn keeps_to_the_fields(rt: HostRuntime) -> Result<(), Fail> {
         "    X         COST       1.0           LIM1      2.0",
     ];
     for line in cases {
-        let text = with_line(alloc, line)?;
-        assert!(rt; writes(alloc, text.as_str(), FIXED_WRITTEN)?, "at {line}");
+        assert!(rt; writes_line(rt.alloc(), line)?, "at {line}");
     }
     Ok(())
 }
 
 #[test]
 fn tells_a_line_that_leaves_the_fields(rt: HostRuntime) -> Result<(), Fail> {
-    let alloc = rt.alloc();
     let cases = [
         "    X         COST               1.0  LIM1                2.0",
         "    X         COST               1.0   LIM1\t              2.0",
@@ -54,11 +63,7 @@ fn tells_a_line_that_leaves_the_fields(rt: HostRuntime) -> Result<(), Fail> {
         "    X       x COST               1.0   LIM1               2.0",
     ];
     for line in cases {
-        let text = with_line(alloc, line)?;
-        assert!(rt;
-            refuses(alloc, text.as_str(), "refused line 7: bad line\n")?,
-            "at {line}"
-        );
+        assert!(rt; refuses_line(rt.alloc(), line)?, "at {line}");
     }
     Ok(())
 }

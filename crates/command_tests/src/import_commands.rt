@@ -34,6 +34,12 @@ fn with_end(alloc: Global, end: &str) -> Result<String, AllocError> {
     Ok(text)
 }
 
+// Whether that program is refused with this line.
+fn refuses_end(alloc: Global, end: &str, told: &str) -> Result<bool, AllocError> {
+    let text = with_end(alloc, end)?;
+    refuses(alloc, text.as_str(), told)
+}
+
 #[test]
 fn tells_the_first_fault(rt: HostRuntime) -> Result<(), Fail> {
     let cases = [
@@ -48,8 +54,7 @@ fn tells_the_first_fault(rt: HostRuntime) -> Result<(), Fail> {
         (" LO BN X -3\n", "refused line 18: no end\n"),
     ];
     for (end, told) in cases {
-        let text = with_end(rt.alloc(), end)?;
-        assert!(rt; refuses(rt.alloc(), text.as_str(), told)?, "at {end}");
+        assert!(rt; refuses_end(rt.alloc(), end, told)?, "at {end}");
     }
     let wide = "ROWS\n N C\n E R\nCOLUMNS\n X C 1\nRHS\n R R 1e30\nRANGES\n G R 1e-30\nENDATA\n";
     assert!(rt; refuses(rt.alloc(), wide, "refused row 1: too wide\n")?);

@@ -118,6 +118,12 @@ fn with_end(alloc: Global, end: &str) -> Result<String, AllocError> {
     Ok(text)
 }
 
+// Whether that text is refused with this line.
+fn refuses_end(alloc: Global, end: &str, told: &str) -> Result<bool, AllocError> {
+    let text = with_end(alloc, end)?;
+    refuses(alloc, text.as_str(), told)
+}
+
 #[test]
 fn tells_the_first_fault_after_columns(rt: HostRuntime) -> Result<(), Fail> {
     let cases = [
@@ -141,8 +147,7 @@ fn tells_the_first_fault_after_columns(rt: HostRuntime) -> Result<(), Fail> {
         ),
     ];
     for (end, told) in cases {
-        let text = with_end(rt.alloc(), end)?;
-        assert!(rt; refuses(rt.alloc(), text.as_str(), told)?, "at {end}");
+        assert!(rt; refuses_end(rt.alloc(), end, told)?, "at {end}");
     }
     Ok(())
 }

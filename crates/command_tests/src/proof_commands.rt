@@ -90,26 +90,34 @@ fn judges_proofs(rt: HostRuntime) -> Result<(), Fail> {
     Ok(())
 }
 
+// The same, over the file ONE_WHOLE with other text in place of a line of it.
+fn judges_other(alloc: Global, line: &str, other: &str, case: &Case) -> Result<bool, AllocError> {
+    let nl = ONE_WHOLE.replace(alloc, line, other)?;
+    begins_well(alloc, nl.as_str(), case)
+}
+
 #[test]
 fn judges_proofs_of_other_files(rt: HostRuntime) -> Result<(), Fail> {
-    let alloc = rt.alloc();
-    let narrow = ONE_WHOLE.replace(alloc, "0 0 5", "0 0 1")?;
-    let most = ONE_WHOLE.replace(alloc, "O0 0", "O0 1")?;
-    let free = ONE_WHOLE.replace(alloc, "0 0 5", "3")?;
     let cases = [
-        (narrow.as_str(), proves("infeasible\nweights 1\n0 1\n")),
-        (most.as_str(), proves("value 0 5\nduals 0\n")),
+        ("0 0 5", "0 0 1", proves("infeasible\nweights 1\n0 1\n")),
+        ("O0 0", "O0 1", proves("value 0 5\nduals 0\n")),
         (
-            most.as_str(),
+            "O0 0",
+            "O0 1",
             open("value 0 4\nduals 0\n", "leaf 0 gap 5\n"),
         ),
         (
-            free.as_str(),
+            "0 0 5",
+            "3",
             open("value 0 2\nduals 0\n", "leaf 0 bound 0 has no side\n"),
         ),
     ];
-    for (nl, case) in cases {
-        assert!(rt; begins_well(alloc, nl, &case)?, "at {}", case.proof);
+    for (line, other, case) in cases {
+        assert!(rt;
+            judges_other(rt.alloc(), line, other, &case)?,
+            "at {}",
+            case.proof
+        );
     }
     Ok(())
 }
