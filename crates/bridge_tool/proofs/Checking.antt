@@ -154,10 +154,6 @@ module _ (nl : NlValue) (s : Sol) (k : ℕ) where
   stopped_so (Fault line) h = ap Refused h.told ∙ sym (ap (by_fold nl s k) h.first)
   stopped_so Memory h = tt
 
-pub steps_so : (b : Bool) (old new bound : ℕ) → new ≤ old + bound → (b ≡ false → new ≡ old) → new ≤ old + (if b then bound else 0)
-steps_so true old new bound le none = le
-steps_so false old new bound le none = let is = none refl in omega (arith, is)
-
 module _ (nl : NlValue) (s : Sol) where
   pub unfit_so : (fault : FitFault) (line : List ℕ) → unfit nl s ≡ Some fault → line ≡ fit_line fault → Refused line ≡ check_outcome nl s
   unfit_so fault line fits told = ap Refused told ∙ sym (ap (by_fit nl s) fits)

@@ -1,5 +1,5 @@
 -- What a proof text shows of an .nl text: one outcome, and what a yes means.
-use Rattle.std.proofs.Common.{◌≡◌, ◌∙◌, inl, inr, ◌⊎◌, ℕ, ◌+◌, ◌≤◌, Bool, true, false, List, Option, Some, None, is_none, if◌then◌else◌, Result, Ok, Err, refl, sym, ap, ap₂, subst, arith}
+use Rattle.std.proofs.Common.{◌≡◌, ◌∙◌, inl, inr, ◌⊎◌, ℕ, ◌+◌, ◌≤◌, Bool, true, false, List, Option, Some, None, is_none, Result, Ok, Err, refl, sym, ap, ap₂, subst, arith}
 use Rattle.std.specs.Prelude.{option_map, IfOk, IsTrue}
 use Rattle.std.specs.Global.{Vec}
 use Rattle.linear_programs.specs.Linear.{Linear, row_count}
@@ -39,7 +39,7 @@ use Rattle.bridge_tool.specs.declared.answer.Answer.{Answer}
 use Rattle.bridge_tool.proofs.Decisions.{AreRead}
 use Rattle.bridge_tool.proofs.NlRewriting.{nl_read}
 use Rattle.bridge_tool.proofs.OneOutcome.{HasOne, IsPlain}
-use Rattle.bridge_tool.proofs.SeveralFiles.{HasComeDown, IsSound, begun, counted, ended, further, idle, sound_after, sound_end, stopped}
+use Rattle.bridge_tool.proofs.SeveralFiles.{HasComeDown, IsSound, begun, counted, ended, further, idle, sound_after, sound_end, steps_so, stopped}
 
 -- ---- one outcome
 
@@ -115,10 +115,6 @@ module _ (nl : NlValue) (p : ProofValue) (given : IsProofIn nl.file p) where
       let is : v ≡ Yes = yes_of v (sym h ∙ holding) in
       let shown : IsProved f p.claim Yes = subst (λ (w : ProofVerdict). IsProved f p.claim w) is (subst (λ (g : Linear). IsProved g p.claim v) folds.linear proved) in
       claim_true nl.file k file folds.fine p.claim shown
-
-pub steps_so : (b : Bool) (old new bound : ℕ) → new ≤ old + bound → (b ≡ false → new ≡ old) → new ≤ old + (if b then bound else 0)
-steps_so true old new bound le none = le
-steps_so false old new bound le none = let is = none refl in omega (arith, is)
 
 -- the objective of the claim was folded
 pub most_so : (nl : NlValue) (p : ProofValue) (n old new : ℕ) → n ≡ claimed_objective p.claim → new ≤ old + step_bound nl.file → (has_objective nl.file n ≡ false → new ≡ old) → new ≤ old + most_steps nl p

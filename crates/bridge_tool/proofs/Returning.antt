@@ -49,8 +49,7 @@ use Rattle.bridge_tool.proofs.Exporting.{folds_without_fault}
 use Rattle.bridge_tool.proofs.NameLists.{list_read}
 use Rattle.bridge_tool.proofs.NlRewriting.{nl_read}
 use Rattle.bridge_tool.proofs.OneOutcome.{HasOne, IsPlain}
-use Rattle.bridge_tool.proofs.Proving.{steps_so}
-use Rattle.bridge_tool.proofs.SeveralFiles.{HasComeDown, IsSound, begun, counted, ended, further, idle, sound_after, sound_end, stopped}
+use Rattle.bridge_tool.proofs.SeveralFiles.{HasComeDown, IsSound, begun, counted, ended, further, idle, sound_after, sound_end, steps_so, stopped}
 use Rattle.bridge_tool.proofs.Options.{same_some}
 
 -- ---- the second file

@@ -1,5 +1,5 @@
 -- Commands of several files: exactly one outcome, and what each way to end them says.
-use Rattle.std.proofs.Common.{◌≡◌, ◌∙◌, inl, inr, ◌⊎◌, ℕ, ◌≤◌, List, Bool, true, take, drop, Option, Some, None, Result, Ok, Err, refl, sym, ap, subst, arith}
+use Rattle.std.proofs.Common.{◌≡◌, ◌∙◌, inl, inr, ◌⊎◌, ℕ, ◌+◌, ◌≤◌, List, Bool, true, false, if◌then◌else◌, take, drop, Option, Some, None, Result, Ok, Err, refl, sym, ap, subst, arith}
 use Rattle.std.specs.Prelude.{IfOk, IsTrue, MatchResult}
 use Rattle.std.specs.Global.{Vec}
 use Rattle.text_base.specs.Desk.{IsUnknown, Meaning, OnlyInput, Rose, Texts}
@@ -20,6 +20,13 @@ use Rattle.bridge_tool.proofs.Ending.{HasComeTo, IsKnown, fault_status, memory_w
 use Rattle.bridge_tool.proofs.Known.{OnlyInput-same, OnlyInput-then}
 use Rattle.bridge_tool.proofs.OneOutcome.{HasOne, IsPlain}
 use Rattle.bridge_tool.proofs.Options.{same_some}
+
+-- ---- steps
+
+-- steps are counted only where a test says so, as where the objective is there
+pub steps_so : (b : Bool) (old new bound : ℕ) → new ≤ old + bound → (b ≡ false → new ≡ old) → new ≤ old + (if b then bound else 0)
+steps_so true old new bound le none = le
+steps_so false old new bound le none = let is = none refl in omega (arith, is)
 
 -- ---- promises
 

@@ -1,7 +1,6 @@
 -- The file that is made of the parts of a program.
-use Rattle.std.proofs.Common.{◌≡◌, ℕ, zero, suc, ◌+◌, ◌<◌, ◌≤◌, ◌^◌, ◌∙◌, sym, ap, ap₂, refl, subst, arith, Bool, true, false, nat_lt, ◌||◌, List, [], ◌∷◌, ◌++◌, length, get_or, map, Option, Some, None, All, replicate, nat_eq, IsSome, slice_set, Result, Ok, Err, IfErr, IsErrAnd}
-use Rattle.std.proofs.lemmas.List.{length-map, get_or-map, get_or_default}
-use Rattle.std.specs.List.{sum_by}
+use Rattle.std.proofs.Common.{◌≡◌, ℕ, zero, suc, ◌+◌, ◌<◌, ◌≤◌, ◌^◌, ◌∙◌, sym, ap, ap₂, refl, subst, arith, Bool, false, nat_lt, ◌||◌, List, [], ◌∷◌, ◌++◌, length, get_or, map, Some, All, replicate, nat_eq, IsSome, slice_set, Result, Ok, Err, IfErr, IsErrAnd}
+use Rattle.std.proofs.lemmas.List.{length-map, get_or-map}
 use Rattle.std.specs.Ordering.{is_gt}
 use Rattle.std.specs.Option.{option_map}
 use Rattle.text_base.specs.Stopped.{IfFault}

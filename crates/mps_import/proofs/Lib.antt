@@ -11,3 +11,4 @@ pub mod OrderLemmas
 pub mod PartLemmas
 pub mod FileLemmas
 pub mod MinusLemmas
+pub mod EntryLemmas

@@ -1,12 +1,12 @@
 -- No lower side of the file is above its upper side.
-use Rattle.std.proofs.Common.{◌≡◌, ℕ, get_or, ◌∙◌, sym, ap, subst, refl, arith, ⊎_elim, ◌⊎◌, Bool, true, false, cond, ℤ, pos, ◌*ℤ◌, ◌<ℤ◌, ◌≤ℤ◌, Option, Some, None}
+use Rattle.std.proofs.Common.{◌≡◌, ℕ, get_or, sym, subst, refl, arith, ⊎_elim, Bool, false, cond, pos, ◌*ℤ◌, ◌<ℤ◌, Option, Some, None}
 use Rattle.std.proofs.lemmas.Int.{ints}
 use Rattle.std.specs.Cmp.{int_ranks}
 use Rattle.std.specs.Option.{option_map}
-use Rattle.std.specs.Ordering.{MatchOrdering, int_cmp, is_gt}
+use Rattle.std.specs.Ordering.{MatchOrdering, is_gt}
 use Rattle.std.specs.declared.cmp.Ordering.{Ordering}
 use Rattle.std.specs.declared.cmp.Ordering.TheVariants.{Less, Equal, Greater}
-use Rattle.fractions.specs.Rational.{ℚ, zero_ℚ, ◌+ℚ◌, ◌-ℚ◌, neg_ℚ, ◌≤ℚ◌, ◌<ℚ◌}
+use Rattle.fractions.specs.Rational.{ℚ, zero_ℚ, ◌+ℚ◌, neg_ℚ, ◌≤ℚ◌, ◌<ℚ◌}
 use Rattle.fractions.proofs.Arithmetic.{≤ℚ_refl, ≤ℚ_by, ≤ℚ_of_<ℚ, le_or_lt, not_both, +ℚ-≤ℚ, +ℚ_comm, zero-+ℚ}
 use Rattle.linear_programs.specs.Linear.{Interval}
 use Rattle.exact_numbers.specs.declared.dec.Dec.{Dec}

@@ -1,32 +1,31 @@
 -- What the parts of a program are, and which fault it has.
-use Rattle.std.proofs.Common.{◌≡◌, ◌≢◌, ℕ, zero, suc, ◌+◌, ◌<◌, ◌≤◌, ◌^◌, ◌∙◌, sym, ap, ap₂, refl, subst, arith, Bool, true, false, IsTrue, cond, not, nat_eq, nat_lt, nat_le, ◌&&◌, ◌||◌, if◌then◌else◌, pos, List, [], ◌∷◌, ◌++◌, length, get_or, map, drop, replicate, Option, Some, None, MatchOption, ◌↔◌, ⊎_elim, ◌⊎◌, All, append_assoc}
-use Rattle.std.proofs.lemmas.Bool.{cases_lt, ltb-true, lt-ltb, le-ltb}
+use Rattle.std.proofs.Common.{◌≡◌, ◌≢◌, ℕ, suc, ◌+◌, ◌<◌, ◌≤◌, ◌^◌, ◌∙◌, sym, ap, ap₂, refl, subst, arith, Bool, true, false, IsTrue, cond, not, nat_eq, nat_lt, nat_le, ◌&&◌, ◌||◌, if◌then◌else◌, pos, List, [], ◌∷◌, ◌++◌, length, get_or, map, drop, Option, Some, None, MatchOption, ◌↔◌, All}
+use Rattle.std.proofs.lemmas.Bool.{lt-ltb, le-ltb}
 use Rattle.std.proofs.lemmas.Bool.Decides.{nat_tests, Decides-int_eq}
-use Rattle.std.proofs.lemmas.List.{length-append, length-map, get_or-map, map-append, get_or_default}
+use Rattle.std.proofs.lemmas.List.{length-map, get_or-map, map-append, get_or_default}
 use Rattle.std.proofs.lemmas.List.Sums.{count_by-le-length, sum_by-cons}
 use Rattle.std.proofs.Math.ListN.{get_or-map as get_or-map-any}
-use Rattle.std.specs.List.{count_by, sum_by}
+use Rattle.std.specs.List.{count_by}
 use Rattle.std.specs.Option.{option_map, option_or}
-use Rattle.std.specs.Ordering.{is_eq, is_ne, is_gt, int_eq}
+use Rattle.std.specs.Ordering.{is_eq, is_ne}
 use Rattle.std.specs.declared.cmp.Ordering.{Ordering}
 use Rattle.std.specs.declared.cmp.Ordering.TheVariants.{Less, Equal, Greater}
 use Rattle.fractions.specs.Rational.{ℚ, zero_ℚ, neg_ℚ}
 use Rattle.linear_programs.specs.Linear.{Interval}
 use Rattle.exact_numbers.specs.declared.dec.Dec.{Dec}
-use Rattle.exact_numbers.specs.Values.{dec_value, decimal_of, mantissa_of, exponent_of}
+use Rattle.exact_numbers.specs.Values.{dec_value, mantissa_of, exponent_of}
 use Rattle.exact_numbers.proofs.Signs.{dec_zero}
 use Rattle.exact_numbers.proofs.Spelling.{decimal_of-decimal}
-use Rattle.file_meaning.specs.Meaning.{interval_of, no_sides}
-use Rattle.nl_meaning.specs.Trees.{Tree, number}
+use Rattle.file_meaning.specs.Meaning.{interval_of}
+use Rattle.nl_meaning.specs.Trees.{number}
 use Rattle.nl_model.specs.Draft.{Draft}
 use Rattle.nl_model.specs.HeaderRules.{is_header}
-use Rattle.nl_model.specs.Rules.{term_count, most_terms, IsOrdered}
-use Rattle.nl_model.specs.declared.header_counts.Counts.{Counts}
+use Rattle.nl_model.specs.Rules.{term_count}
 use Rattle.nl_model.specs.declared.interval.Interval.{Interval as Sides}
 use Rattle.nl_model.specs.declared.kind.Kind.{Kind}
 use Rattle.nl_model.specs.declared.kind.Kind.TheVariants.{Continuous, Binary, Integer}
 use Rattle.mps_model.specs.Built.{entry_of, bound_of}
-use Rattle.mps_model.specs.Mps.{MpsRow, Entry, Bound, Column, Mps, with_values, entry_with, column_with, no_row, no_column, at_row, rhs_at, or_zero, row_sides, row_interval, column_at, column_interval, is_whole_column, usual_lower, given, objective_row}
+use Rattle.mps_model.specs.Mps.{MpsRow, Entry, Bound, Column, Mps, with_values, entry_with, column_with, no_row, no_column, at_row, rhs_at, or_zero, row_sides, row_interval, column_at, column_interval, usual_lower, given, objective_row}
 use Rattle.mps_model.specs.declared.kinds.BoundKind.{BoundKind}
 use Rattle.mps_model.specs.declared.kinds.RowKind.{RowKind}
 use Rattle.mps_import.specs.declared.build.Parts.{Parts}
@@ -37,16 +36,16 @@ use Rattle.mps_import.specs.declared.rows.RowUse.TheVariants.{Unused, Objective,
 use Rattle.mps_import.specs.Columns.{SetSides, set_value, sets_of, kind_by, column_kind, is_kind, of_kind}
 use Rattle.mps_import.specs.Decimals.{sides_from, number_tree}
 use Rattle.mps_import.specs.Faults.{is_too_large, is_range_wide, is_row_wide, is_column_empty, first_wide, first_empty, import_fault}
-use Rattle.mps_import.specs.Import.{is_bounded_kind, is_constraint, constraints, both_sides, has_sides, is_zero_dec, constraint_terms, objective_terms, counts_with, import_counts, import_options, objective_constant}
+use Rattle.mps_import.specs.Import.{is_constraint, constraints, both_sides, has_sides, is_zero_dec, constraint_terms, objective_terms, counts_with, import_counts, import_options, objective_constant}
 use Rattle.mps_import.specs.Parts.{side_test, ArePartsOf}
-use Rattle.mps_import.specs.Places.{places, first, listed}
+use Rattle.mps_import.specs.Places.{places, listed}
 use Rattle.mps_import.specs.Uses.{rank, use_of, is_hit, one_if, hits, with_term}
 use Rattle.mps_import.specs.Variables.{values_of, columns_that, are_zero_to_one, is_whole, is_zero_to_one, is_continuous, is_binary, is_integer, order_of_columns}
 use Rattle.mps_import.proofs.FirstLemmas.{listed_at, listed_length, before_small, places_same}
 use Rattle.mps_import.proofs.LoopLemmas.{drop_is}
-use Rattle.mps_import.proofs.PlaceLemmas.{one_where, places_more, all_places, none_passes, all_parted, parts_length, first_part, second_part, third_part}
+use Rattle.mps_import.proofs.PlaceLemmas.{one_where, places_more, all_places, none_passes, all_parted, parts_length}
 use Rattle.mps_import.proofs.TermLemmas.{few_terms}
-use Rattle.mps_import.proofs.SideLemmas.{sides_of, sides_back, row_fits, rhs_fits, dec_fits}
+use Rattle.mps_import.proofs.SideLemmas.{sides_of, sides_back, row_fits, rhs_fits}
 
 -- ---- tests
 pub apart : (a b : ℕ) → a ≢ b → nat_eq a b ≡ false

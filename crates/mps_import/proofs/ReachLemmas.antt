@@ -1,7 +1,7 @@
 -- The other side of a row with a range.
 use Rattle.std.proofs.Common.{◌≡◌, ◌↔◌, ◌∙◌, sym, ap, ap₂, refl, subst, arith, Bool, true, false, IsTrue, ◌&&◌, cond, pos, negsuc, Option, Some, None, MatchOption}
 use Rattle.std.proofs.lemmas.Int.{ints}
-use Rattle.fractions.specs.Rational.{ℚ, zero_ℚ, whole, ◌+ℚ◌, ◌-ℚ◌, ◌<ℚ◌}
+use Rattle.fractions.specs.Rational.{ℚ, zero_ℚ, whole, ◌+ℚ◌, ◌<ℚ◌}
 use Rattle.fractions.specs.Fits.{fits, sum_fits}
 use Rattle.mps_import.proofs.MinusLemmas.{minus_is}
 use Rattle.linear_programs.specs.Linear.{Interval}
@@ -10,7 +10,7 @@ use Rattle.exact_numbers.specs.Values.{dec_value, FitsDec, fits_dec}
 use Rattle.exact_numbers.proofs.Bridge.{not_true}
 use Rattle.exact_numbers.proofs.Spelling.{fits_dec_in, fits_dec_out}
 use Rattle.mps_model.specs.declared.kinds.RowKind.{RowKind}
-use Rattle.mps_model.specs.declared.kinds.RowKind.TheVariants.{N, L, G, E}
+use Rattle.mps_model.specs.declared.kinds.RowKind.TheVariants.{L, E}
 use Rattle.mps_model.specs.Mps.{row_sides, is_negative, is_below_zero, size_of, usual_lower}
 use Rattle.mps_import.specs.Faults.{range_step, is_in_reach}
 use Rattle.mps_import.proofs.SideLemmas.{dec_fits}

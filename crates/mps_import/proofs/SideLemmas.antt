@@ -1,17 +1,16 @@
 -- The sides of rows and columns are decimals.
-use Rattle.std.proofs.Common.{◌≡◌, ℕ, ◌<◌, ◌∙◌, sym, ap, ap₂, refl, subst, arith, Bool, true, false, not, ◌&&◌, cond, nat_eq, ◌%◌, ◌^◌, ℤ, pos, neg_ℤ, unsigned_abs, List, [], ◌∷◌, map, Option, Some, None, MatchOption}
+use Rattle.std.proofs.Common.{◌≡◌, ℕ, ◌<◌, ◌∙◌, sym, ap, ap₂, refl, subst, arith, Bool, true, false, ◌&&◌, cond, nat_eq, ◌%◌, ◌^◌, ℤ, pos, neg_ℤ, unsigned_abs, List, [], ◌∷◌, map, Option, Some, None, MatchOption}
 use Rattle.std.proofs.lemmas.Bool.{not-false}
 use Rattle.std.proofs.lemmas.Int.{ints}
 use Rattle.std.specs.Option.{option_map, option_or}
 use Rattle.std.specs.Prelude.{option_and_then}
-use Rattle.fractions.specs.Rational.{ℚ, zero_ℚ, one_ℚ, ◌+ℚ◌, ◌-ℚ◌, neg_ℚ, decimal_value}
+use Rattle.fractions.specs.Rational.{ℚ, zero_ℚ, one_ℚ, ◌+ℚ◌, neg_ℚ, decimal_value}
 use Rattle.fractions.specs.Fits.{fits, sum_fits}
 use Rattle.mps_import.proofs.MinusLemmas.{minus_is}
 use Rattle.linear_programs.specs.Linear.{Interval}
-use Rattle.exact_numbers.specs.Decimal.{IsDec}
 use Rattle.exact_numbers.specs.Values.{dec_value, decimal_of, FitsDec, fits_dec}
 use Rattle.exact_numbers.specs.declared.dec.Dec.{Dec}
-use Rattle.exact_numbers.proofs.Bridge.{and_true, decimal-neg}
+use Rattle.exact_numbers.proofs.Bridge.{decimal-neg}
 use Rattle.exact_numbers.proofs.Signs.{decimal_whole}
 use Rattle.exact_numbers.proofs.Spelling.{decimal_of-decimal, fits_dec_in, fits_dec_out}
 use Rattle.nl_model.specs.declared.interval.Interval.{Interval as Sides}

@@ -1,7 +1,6 @@
 -- The terms of the constraints and of the objective: how many there are, and those that are still to come.
-use Rattle.std.proofs.Common.{◌≡◌, ◌≢◌, ℕ, zero, suc, ◌+◌, ◌<◌, ◌≤◌, ◌^◌, ◌∙◌, sym, ap, ap₂, refl, subst, arith, Bool, true, false, cond, not, nat_eq, nat_lt, ◌&&◌, ◌||◌, if◌then◌else◌, List, [], ◌∷◌, ◌++◌, length, get_or, map, drop, set, replicate, Option, Some, None, ⊎_elim, ◌⊎◌, All, add-one, append_assoc, append-nil}
-use Rattle.std.proofs.lemmas.Bool.{cases_lt, cases_eq, eqb-true, eq-eqb, ltb-true, lt-ltb, le-ltb}
-use Rattle.std.proofs.lemmas.Bool.Decides.{nat_tests}
+use Rattle.std.proofs.Common.{◌≡◌, ℕ, zero, suc, ◌+◌, ◌<◌, ◌≤◌, ◌^◌, ◌∙◌, sym, ap, ap₂, refl, subst, arith, Bool, true, false, cond, not, nat_eq, nat_lt, ◌&&◌, ◌||◌, if◌then◌else◌, List, [], ◌∷◌, ◌++◌, length, get_or, map, drop, set, replicate, Some, None, ⊎_elim, add-one, append_assoc, append-nil}
+use Rattle.std.proofs.lemmas.Bool.{cases_lt, eqb-true, eq-eqb, lt-ltb}
 use Rattle.std.proofs.lemmas.List.{length-append, length-map, length-set, get_or-map, get_or-set_same, get_or-set_other, get_or-replicate, get_or_past, ext_get_or, length-replicate}
 use Rattle.std.proofs.lemmas.List.Sums.{sum_by-append, sum_by-cons}
 use Rattle.std.specs.List.{sum_by, filter_map, cons_option}
@@ -9,7 +8,7 @@ use Rattle.exact_numbers.specs.declared.dec.Dec.{Dec}
 use Rattle.nl_model.specs.Draft.{Draft}
 use Rattle.nl_model.specs.File.{Term}
 use Rattle.nl_model.specs.Rules.{term_count, most_terms}
-use Rattle.mps_model.specs.Mps.{MpsRow, Entry, Mps, no_row, no_column, objective_row}
+use Rattle.mps_model.specs.Mps.{MpsRow, Entry, Mps, no_row, objective_row}
 use Rattle.mps_import.specs.declared.rows.RowUse.{RowUse}
 use Rattle.mps_import.specs.declared.rows.RowUse.TheVariants.{Unused, Objective, Constraint}
 use Rattle.mps_import.specs.Faults.{is_too_large}
@@ -19,7 +18,7 @@ use Rattle.mps_import.specs.Uses.{rank, use_of, is_hit, one_if, hits, hits_in, i
 use Rattle.mps_import.specs.Variables.{order_of_columns}
 use Rattle.mps_import.proofs.FirstLemmas.{listed_at, listed_length, place_at, before_at, before_end}
 use Rattle.mps_import.proofs.LoopLemmas.{drop_is, drop_all, objective_free}
-use Rattle.mps_import.proofs.PlaceLemmas.{one_where, all_places, true_or_false, not_both_ways}
+use Rattle.mps_import.proofs.PlaceLemmas.{one_where, all_places, not_both_ways}
 
 -- ---- sums
 module _ {A : Type 0} where

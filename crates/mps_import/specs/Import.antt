@@ -1,10 +1,10 @@
 -- The .nl file that an MPS program is imported as (Gay 2005, "Writing .nl Files").
-use Rattle.std.specs.Prelude.{ℕ, zero, suc, nat_eq, Bool, true, false, not, ◌&&◌, if◌then◌else◌, pos, ℤ, List, [], ◌∷◌, ◌++◌, length, map, get_or, replicate, Option, Some, None}
+use Rattle.std.specs.Prelude.{ℕ, suc, nat_eq, Bool, true, false, not, ◌&&◌, if◌then◌else◌, pos, ℤ, List, [], ◌∷◌, ◌++◌, length, map, get_or, replicate, Option, Some, None}
 use Rattle.std.specs.List.{filter_map, count_by}
 use Rattle.std.specs.Ordering.{is_eq, is_ne, int_eq}
 use Rattle.std.specs.declared.cmp.Ordering.{Ordering}
 use Rattle.fractions.specs.Rational.{ℚ, neg_ℚ}
-use Rattle.exact_numbers.specs.Values.{dec_value, order_of}
+use Rattle.exact_numbers.specs.Values.{order_of}
 use Rattle.exact_numbers.specs.declared.dec.Dec.{Dec}
 use Rattle.nl_model.specs.declared.header_counts.Counts.{Counts}
 use Rattle.nl_model.specs.File.{Term, Objective, File}

@@ -3,7 +3,8 @@ use Rattle.linear_programs.specs.Linear.{row_count, variable_count}
 use Rattle.file_meaning.specs.FoldFaults.{has_objective}
 use Rattle.linear_fold.specs.FoldedFaults.{step_bound}
 use Rattle.nl_segments.specs.Reader.{value_of}
-use Rattle.bridge_tool.proofs.Checking.{all_duals, all_primals, steps_so}
+use Rattle.bridge_tool.proofs.Checking.{all_duals, all_primals}
+use Rattle.bridge_tool.proofs.SeveralFiles.{steps_so}
 use Rattle.bridge_tool.proofs.check.certified.Goals as goal
 
 pub told_verdict-requires-clause-numbers : goal.told_verdict-requires-clause-numbers

@@ -1,4 +1,4 @@
-use Rattle.std.proofs.Common.{◌≡◌, ℕ, suc, ◌+◌, ◌<◌, ◌≤◌, List, [], ◌∷◌, ◌++◌, map, drop, take, length, get_or, replicate, None, Some}
+use Rattle.std.proofs.Common.{◌≡◌, ◌++◌, map, take, get_or}
 use Rattle.file_meaning.specs.Meaning.{no_sides}
 use Rattle.mps_import.proofs.build.add_bounds.Given as goal
 

@@ -1,4 +1,4 @@
-use Rattle.std.proofs.Common.{◌≡◌, ℕ, suc, ◌+◌, ◌<◌, ◌≤◌, List, [], ◌∷◌, ◌++◌, map, drop, take, length, get_or, replicate, None, Some}
+use Rattle.std.proofs.Common.{◌≡◌, ◌++◌, take}
 use Rattle.mps_import.proofs.build.add_sides.Given as goal
 
 abbrev pub invariant-sides : goal.invariant-sides

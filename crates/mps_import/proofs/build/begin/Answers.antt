@@ -1,4 +1,4 @@
-use Rattle.std.proofs.Common.{◌≡◌, ℕ, suc, ◌+◌, ◌<◌, ◌≤◌, ◌∙◌, sym, ap, ap₂, subst, refl, arith, Bool, true, false, cond, List, [], ◌∷◌, ◌++◌, map, drop, take, length, get_or, None, Some, nat_eq, eq-eqb, OnOk, All, MatchOption}
+use Rattle.std.proofs.Common.{◌∙◌, ap₂}
 use Rattle.nl_model.specs.Draft.{empty_draft}
 use Rattle.mps_import.specs.Import.{objective_constant}
 use Rattle.mps_import.proofs.FileLemmas.{one_objective, none_given, begun_is}

@@ -1,4 +1,3 @@
-use Rattle.std.proofs.Common.{◌≡◌, ℕ, suc, ◌+◌, ◌<◌, ◌≤◌, ◌∙◌, sym, ap, ap₂, subst, refl, arith, Bool, true, false, cond, List, [], ◌∷◌, ◌++◌, map, drop, take, length, get_or, None, Some, nat_eq, eq-eqb, OnOk}
 use Rattle.exact_numbers.specs.Values.{dec_value, order_of}
 use Rattle.mps_import.proofs.PartLemmas.{choose_equal, choose_other}
 use Rattle.mps_import.proofs.build.compares.Goals as goal

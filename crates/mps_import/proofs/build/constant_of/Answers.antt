@@ -1,4 +1,4 @@
-use Rattle.std.proofs.Common.{◌≡◌, ℕ, suc, ◌+◌, ◌<◌, ◌≤◌, ◌∙◌, sym, ap, ap₂, subst, refl, arith, Bool, true, false, cond, List, [], ◌∷◌, ◌++◌, map, drop, take, length, get_or, None, Some, nat_eq, eq-eqb, OnOk, All, MatchOption}
+use Rattle.std.proofs.Common.{◌∙◌, ap₂}
 use Rattle.mps_model.specs.Mps.{at_row}
 use Rattle.mps_import.proofs.PartLemmas.{constant_is}
 use Rattle.mps_import.proofs.build.constant_of.Goals as goal

@@ -1,4 +1,4 @@
-use Rattle.std.proofs.Common.{◌≡◌, ℕ, suc, ◌+◌, ◌<◌, ◌≤◌, ◌∙◌, sym, ap, ap₂, subst, refl, arith, Bool, true, false, cond, List, [], ◌∷◌, ◌++◌, map, drop, take, length, get_or, None, Some, nat_eq, eq-eqb, OnOk, All, MatchOption}
+use Rattle.std.proofs.Common.{ℕ, ◌+◌, ◌<◌, ◌≤◌, ◌∙◌, sym, ap, ap₂, subst, List, ◌++◌, map, length, get_or, All}
 use Rattle.file_meaning.specs.Meaning.{no_sides}
 use Rattle.nl_model.specs.Rules.{IsOrdered}
 use Rattle.nl_model.specs.declared.interval.Interval.{Interval as Sides}

@@ -1,4 +1,4 @@
-use Rattle.std.proofs.Common.{◌≡◌, ℕ, suc, ◌+◌, ◌<◌, ◌≤◌, ◌∙◌, sym, ap, ap₂, subst, refl, arith, Bool, true, false, cond, List, [], ◌∷◌, ◌++◌, map, drop, take, length, get_or, None, Some, nat_eq, eq-eqb, OnOk, All, MatchOption}
+use Rattle.std.proofs.Common.{◌∙◌, sym, ap, ap₂, arith, true, false, length}
 use Rattle.nl_model.specs.HeaderRules.{is_header}
 use Rattle.mps_import.specs.Import.{counts_with, import_options}
 use Rattle.std.specs.List.{count_by}

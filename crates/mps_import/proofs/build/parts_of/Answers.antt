@@ -1,4 +1,4 @@
-use Rattle.std.proofs.Common.{◌≡◌, ℕ, suc, ◌+◌, ◌<◌, ◌≤◌, ◌∙◌, sym, ap, ap₂, subst, refl, arith, Bool, true, false, cond, List, [], ◌∷◌, ◌++◌, map, drop, take, length, get_or, None, Some, nat_eq, eq-eqb, OnOk, All, MatchOption}
+use Rattle.std.proofs.Common.{◌≡◌, ◌<◌, ◌∙◌, sym, ap, subst, arith, false, length, All}
 use Rattle.mps_model.specs.Mps.{column_interval, objective_row}
 use Rattle.mps_import.specs.Decimals.{sides_from}
 use Rattle.mps_import.specs.Faults.{is_too_large}
@@ -7,7 +7,7 @@ use Rattle.mps_import.specs.Places.{listed}
 use Rattle.mps_import.specs.Uses.{rank, use_of}
 use Rattle.mps_import.specs.Variables.{order_of_columns, values_of}
 use Rattle.mps_import.proofs.FirstLemmas.{listed_length}
-use Rattle.mps_import.proofs.PartLemmas.{order_is, binary_places, integer_places, all_columns, large_fault, wide_fault, empty_fault, no_fault, large_places, large_terms, not_large}
+use Rattle.mps_import.proofs.PartLemmas.{order_is, binary_places, integer_places, all_columns, large_fault, empty_fault, no_fault, large_places, large_terms, not_large}
 use Rattle.mps_import.proofs.TermLemmas.{use_count}
 use Rattle.mps_import.proofs.FileLemmas.{large_is, rank_all, terms_counted, slopes_counted, empty_is, wide_stop}
 use Rattle.mps_import.specs.Columns.{column_kind}

@@ -1,4 +1,4 @@
-use Rattle.std.proofs.Common.{◌≡◌, ℕ, suc, ◌+◌, ◌<◌, ◌≤◌, ◌∙◌, sym, ap, ap₂, subst, refl, arith, Bool, true, false, cond, List, [], ◌∷◌, ◌++◌, map, drop, take, length, get_or, None, Some, nat_eq, eq-eqb, OnOk}
+use Rattle.std.proofs.Common.{◌∙◌, arith, eq-eqb}
 use Rattle.mps_import.proofs.LoopLemmas.{at_hit, at_miss, at_end}
 use Rattle.mps_import.proofs.PartLemmas.{apart}
 use Rattle.mps_import.proofs.by_place.at_row.Goals as goal

@@ -1,4 +1,4 @@
-use Rattle.std.proofs.Common.{◌≡◌, ℕ, suc, ◌+◌, ◌<◌, ◌≤◌, List, [], ◌∷◌, ◌++◌, map, drop, take, length, get_or, replicate, None, Some}
+use Rattle.std.proofs.Common.{◌≡◌, map, drop}
 use Rattle.mps_model.specs.Built.{entry_of}
 use Rattle.mps_model.specs.Mps.{at_row}
 use Rattle.mps_import.proofs.by_place.at_row.Given as goal

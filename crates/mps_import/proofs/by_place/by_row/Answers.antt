@@ -1,4 +1,4 @@
-use Rattle.std.proofs.Common.{◌≡◌, ℕ, suc, ◌+◌, ◌<◌, ◌≤◌, ◌∙◌, sym, ap, ap₂, subst, refl, arith, Bool, true, false, cond, List, [], ◌∷◌, ◌++◌, map, drop, take, length, get_or, None, Some, nat_eq, eq-eqb, OnOk}
+use Rattle.std.proofs.Common.{◌∙◌, sym, ap, arith, get_or, None}
 use Rattle.std.specs.Option.{option_or}
 use Rattle.mps_import.proofs.LoopLemmas.{or_none, at_end}
 use Rattle.mps_import.proofs.PartLemmas.{entry_within}

@@ -1,4 +1,4 @@
-use Rattle.std.proofs.Common.{◌≡◌, ℕ, suc, ◌+◌, ◌<◌, ◌≤◌, List, [], ◌∷◌, ◌++◌, map, drop, take, length, get_or, replicate, None, Some}
+use Rattle.std.proofs.Common.{◌≡◌, ℕ, ◌<◌, map, drop, length, get_or}
 use Rattle.mps_model.specs.Built.{bound_of}
 use Rattle.mps_import.specs.Columns.{none_set, sets_of, with_sets}
 use Rattle.mps_import.proofs.columns.by_column.Given as goal

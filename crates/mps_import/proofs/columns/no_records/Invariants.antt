@@ -1,4 +1,4 @@
-use Rattle.std.proofs.Common.{◌≡◌, ℕ, suc, ◌+◌, ◌<◌, ◌≤◌, List, [], ◌∷◌, ◌++◌, map, drop, take, length, get_or, replicate, None, Some}
+use Rattle.std.proofs.Common.{◌≡◌, replicate}
 use Rattle.mps_import.specs.Columns.{none_set}
 use Rattle.mps_import.proofs.columns.no_records.Given as goal
 

@@ -1,6 +1,6 @@
-use Rattle.std.proofs.Common.{◌≡◌, ℕ, suc, ◌+◌, ◌<◌, ◌≤◌, ◌∙◌, sym, ap, ap₂, subst, refl, arith, Bool, true, false, cond, List, [], ◌∷◌, ◌++◌, map, drop, take, length, get_or, None, Some, nat_eq, eq-eqb, OnOk, All, MatchOption}
+use Rattle.std.proofs.Common.{◌≡◌, ◌<◌, ◌∙◌, sym, ap, arith, [], length, get_or}
 use Rattle.std.proofs.lemmas.List.{get_or_default}
-use Rattle.mps_model.specs.Mps.{Column, no_column, column_interval}
+use Rattle.mps_model.specs.Mps.{column_interval}
 use Rattle.mps_import.specs.Columns.{column_kind, kind_by, none_set, sets_of, with_sets, set_value}
 use Rattle.file_meaning.specs.Meaning.{interval_of}
 use Rattle.mps_import.specs.Decimals.{sides_from}

@@ -1,4 +1,4 @@
-use Rattle.std.proofs.Common.{◌≡◌, ℕ, suc, ◌+◌, ◌<◌, ◌≤◌, List, [], ◌∷◌, ◌++◌, map, drop, take, length, get_or, replicate, None, Some}
+use Rattle.std.proofs.Common.{◌≡◌}
 use Rattle.mps_model.specs.Mps.{column_interval}
 use Rattle.mps_import.specs.Columns.{column_kind}
 use Rattle.mps_import.specs.Decimals.{sides_from}

@@ -1,4 +1,4 @@
-use Rattle.std.proofs.Common.{◌≡◌, ℕ, suc, ◌+◌, ◌<◌, ◌≤◌, ◌∙◌, sym, ap, ap₂, subst, refl, arith, Bool, true, false, cond, List, [], ◌∷◌, ◌++◌, map, drop, take, length, get_or, None, Some, nat_eq, eq-eqb, OnOk, All, MatchOption}
+use Rattle.std.proofs.Common.{◌≡◌, ◌∙◌, sym, ap, ap₂, arith, ◌++◌, get_or}
 use Rattle.std.proofs.lemmas.List.{get_or_default}
 use Rattle.nl_model.specs.declared.kind.Kind.TheVariants.{Continuous}
 use Rattle.mps_import.specs.Columns.{is_kind}

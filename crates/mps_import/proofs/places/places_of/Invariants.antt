@@ -1,4 +1,4 @@
-use Rattle.std.proofs.Common.{◌≡◌, ℕ, suc, ◌+◌, ◌<◌, ◌≤◌, List, [], ◌∷◌, ◌++◌, map, drop, take, length, get_or, replicate, None, Some}
+use Rattle.std.proofs.Common.{◌≡◌, get_or}
 use Rattle.nl_model.specs.declared.kind.Kind.TheVariants.{Continuous}
 use Rattle.mps_import.specs.Columns.{is_kind}
 use Rattle.mps_import.specs.Places.{places}

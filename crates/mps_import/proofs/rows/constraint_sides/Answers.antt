@@ -1,4 +1,4 @@
-use Rattle.std.proofs.Common.{◌≡◌, ℕ, suc, ◌+◌, ◌<◌, ◌≤◌, ◌∙◌, sym, ap, ap₂, subst, refl, arith, Bool, true, false, cond, List, [], ◌∷◌, ◌++◌, map, drop, take, length, get_or, None, Some, nat_eq, eq-eqb, OnOk, All, MatchOption}
+use Rattle.std.proofs.Common.{◌≡◌, ◌∙◌, sym, ap, arith, map, length, get_or, None}
 use Rattle.std.proofs.lemmas.List.{get_or_default}
 use Rattle.mps_model.specs.Mps.{MpsRow, no_row, at_row, row_interval}
 use Rattle.mps_import.specs.Decimals.{sides_from}

@@ -1,4 +1,4 @@
-use Rattle.std.proofs.Common.{◌≡◌, ℕ, suc, ◌+◌, ◌<◌, ◌≤◌, List, [], ◌∷◌, ◌++◌, map, drop, take, length, get_or, replicate, None, Some}
+use Rattle.std.proofs.Common.{◌≡◌, [], map}
 use Rattle.mps_model.specs.Mps.{row_interval}
 use Rattle.mps_import.specs.Decimals.{sides_from}
 use Rattle.mps_import.specs.Faults.{is_row_wide}

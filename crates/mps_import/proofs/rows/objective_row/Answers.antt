@@ -1,4 +1,4 @@
-use Rattle.std.proofs.Common.{◌≡◌, ℕ, suc, ◌+◌, ◌<◌, ◌≤◌, ◌∙◌, sym, ap, ap₂, subst, refl, arith, Bool, true, false, cond, List, [], ◌∷◌, ◌++◌, map, drop, take, length, get_or, None, Some, nat_eq, eq-eqb, OnOk}
+use Rattle.std.proofs.Common.{◌∙◌, sym, ap, arith}
 use Rattle.mps_import.specs.Import.{is_bounded_kind}
 use Rattle.mps_model.specs.Mps.{MpsRow}
 use Rattle.mps_import.proofs.LoopLemmas.{row_free, row_bounded, no_row_left}

@@ -1,4 +1,4 @@
-use Rattle.std.proofs.Common.{◌≡◌, ℕ, suc, ◌+◌, ◌<◌, ◌≤◌, List, [], ◌∷◌, ◌++◌, map, drop, take, length, get_or, replicate, None, Some}
+use Rattle.std.proofs.Common.{◌≡◌}
 use Rattle.mps_import.specs.Places.{listed}
 use Rattle.mps_import.specs.Uses.{rank, use_of}
 use Rattle.mps_import.proofs.rows.row_uses.Given as goal

@@ -1,4 +1,3 @@
-use Rattle.std.proofs.Common.{◌≡◌, ℕ, suc, ◌+◌, ◌<◌, ◌≤◌, ◌∙◌, sym, ap, ap₂, subst, refl, arith, Bool, true, false, cond, List, [], ◌∷◌, ◌++◌, map, drop, take, length, get_or, None, Some, nat_eq, eq-eqb, OnOk}
 use Rattle.std.specs.Option.{option_map}
 use Rattle.exact_numbers.specs.Values.{dec_value}
 use Rattle.mps_model.specs.Mps.{or_zero}

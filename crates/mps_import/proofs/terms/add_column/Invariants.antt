@@ -1,4 +1,4 @@
-use Rattle.std.proofs.Common.{◌≡◌, ℕ, suc, ◌+◌, ◌<◌, ◌≤◌, List, [], ◌∷◌, ◌++◌, map, drop, take, length, get_or, replicate, None, Some}
+use Rattle.std.proofs.Common.{◌≡◌, suc, map, drop}
 use Rattle.mps_model.specs.Built.{entry_of}
 use Rattle.mps_import.specs.Uses.{IsOnItsWay, entries_left}
 use Rattle.mps_import.proofs.terms.add_column.Given as goal

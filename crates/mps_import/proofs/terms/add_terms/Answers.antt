@@ -1,5 +1,4 @@
-use Rattle.std.proofs.Common.{◌≡◌, ℕ, suc, ◌+◌, ◌<◌, ◌≤◌, ◌∙◌, sym, ap, ap₂, subst, refl, arith, Bool, true, false, cond, List, [], ◌∷◌, ◌++◌, map, drop, take, length, get_or, None, Some, nat_eq, eq-eqb, OnOk, All, MatchOption}
-use Rattle.nl_model.specs.Draft.{Draft}
+use Rattle.std.proofs.Common.{ℕ, ◌≤◌, ◌∙◌, sym, ap₂, subst, refl, arith, List, length}
 use Rattle.mps_import.specs.Uses.{IsOnItsWay, terms_left}
 use Rattle.mps_import.proofs.TermLemmas.{way_begun, way_ended_terms, way_ended_slopes}
 use Rattle.mps_import.proofs.terms.add_terms.Goals as goal

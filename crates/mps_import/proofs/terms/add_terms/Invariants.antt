@@ -1,4 +1,4 @@
-use Rattle.std.proofs.Common.{◌≡◌, ℕ, suc, ◌+◌, ◌<◌, ◌≤◌, List, [], ◌∷◌, ◌++◌, map, drop, take, length, get_or, replicate, None, Some}
+use Rattle.std.proofs.Common.{◌≡◌, drop}
 use Rattle.mps_import.specs.Uses.{IsOnItsWay, terms_left}
 use Rattle.mps_import.proofs.terms.add_terms.Given as goal
 

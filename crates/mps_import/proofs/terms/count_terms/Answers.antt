@@ -1,4 +1,4 @@
-use Rattle.std.proofs.Common.{◌≡◌, ℕ, suc, ◌+◌, ◌<◌, ◌≤◌, ◌∙◌, sym, ap, ap₂, subst, refl, arith, Bool, true, false, cond, List, [], ◌∷◌, ◌++◌, map, drop, take, length, get_or, None, Some, nat_eq, eq-eqb, OnOk, All, MatchOption}
+use Rattle.std.proofs.Common.{◌<◌, sym, ap, subst, arith, List, length, All}
 use Rattle.mps_model.specs.Mps.{Entry, Column}
 use Rattle.mps_model.specs.Valid.{AreEntries}
 use Rattle.exact_numbers.specs.declared.dec.Dec.{Dec}

@@ -1,4 +1,4 @@
-use Rattle.std.proofs.Common.{◌≡◌, ℕ, suc, ◌+◌, ◌<◌, ◌≤◌, ◌∙◌, sym, ap, ap₂, subst, refl, arith, Bool, true, false, cond, List, [], ◌∷◌, ◌++◌, map, drop, take, length, get_or, None, Some, nat_eq, eq-eqb, OnOk}
+use Rattle.std.proofs.Common.{◌∙◌, arith, length}
 use Rattle.mps_import.specs.Uses.{is_constraint_use, is_objective_use}
 use Rattle.mps_import.proofs.PartLemmas.{count_step, entry_within}
 use Rattle.mps_import.proofs.terms.with_entries.Goals as goal

@@ -1,4 +1,4 @@
-use Rattle.std.proofs.Common.{◌≡◌, ℕ, suc, ◌+◌, ◌<◌, ◌≤◌, List, [], ◌∷◌, ◌++◌, map, drop, take, length, get_or, replicate, None, Some}
+use Rattle.std.proofs.Common.{◌≡◌, [], get_or}
 use Rattle.std.specs.Ordering.{is_gt}
 use Rattle.file_meaning.specs.Meaning.{interval_of, no_sides}
 use Rattle.mps_import.specs.Import.{both_sides}

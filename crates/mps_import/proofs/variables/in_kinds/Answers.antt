@@ -1,4 +1,4 @@
-use Rattle.std.proofs.Common.{◌≡◌, ℕ, suc, ◌+◌, ◌<◌, ◌≤◌, ◌∙◌, sym, ap, ap₂, subst, refl, arith, Bool, true, false, cond, List, [], ◌∷◌, ◌++◌, map, drop, take, length, get_or, None, Some, nat_eq, eq-eqb, OnOk, All, MatchOption}
+use Rattle.std.proofs.Common.{ap, arith, length}
 use Rattle.nl_model.specs.declared.kind.Kind.TheVariants.{Binary, Integer}
 use Rattle.mps_import.proofs.PartLemmas.{kind_few}
 use Rattle.mps_import.proofs.variables.in_kinds.Goals as goal
