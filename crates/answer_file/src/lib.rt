@@ -6,7 +6,7 @@ mod fault;
 mod grammar;
 mod group;
 mod keyword;
-mod law;
+pub mod laws;
 mod named_places;
 mod naming;
 mod parts;
@@ -20,5 +20,4 @@ mod words;
 
 pub use answer::Answer;
 pub use fault::{AnswerFault, AnswerReason};
-pub use law::{names_of_lists, one_line_more, one_reading};
 pub use reader::{AnswerReader, read_answer};

@@ -1,5 +1,5 @@
 // A reader of answers.
-ghost use Rattle.std.specs.Prelude.{◌≡◌, ◌++◌, List, ℕ, [], length, IfOk, IfErr, IfSome, OnOk, Err};
+ghost use Rattle.std.specs.Prelude.{◌≡◌, ◌++◌, List, ℕ, [], length, IfOk, IfErr, IfSome, OnOk, Err, None};
 ghost use Rattle.std.specs.Result.{result_err};
 ghost use Rattle.text_base.specs.Stopped.{IfFault};
 ghost use Rattle.text_base.specs.Reading.{HasFaultSoFar, IsFreeSoFar};
@@ -38,7 +38,9 @@ impl Model for AnswerReader {
 impl AnswerReader {
     /// A reader of a new answer for this file.
     pub fn new(alloc: Global, file: &NlFile) -> Result<AnswerReader, AllocError>
-        ensures { IfOk result (λ reader. IsFed (setting_of file.now) reader []) }
+        ensures fed { IfOk result (λ reader. IsFed (setting_of file.now) reader []) }
+        // Nothing has stopped it.
+        ensures going { IfOk result (λ reader. reader.stopped ≡ None) }
     {
         AnswerReader::of(alloc, Scope::of(alloc, file)?)
     }
@@ -53,14 +55,18 @@ impl AnswerReader {
     ) -> Result<AnswerReader, AllocError>
         requires rows { length rows ≡ file.now.counts.n_con }
         requires columns { length columns ≡ file.now.counts.n_var }
-        ensures { IfOk result (λ reader. IsFed (named_setting file.now rows columns) reader []) }
+        ensures fed { IfOk result
+            (λ reader. IsFed (named_setting file.now rows columns) reader []) }
+        // Nothing has stopped it.
+        ensures going { IfOk result (λ reader. reader.stopped ≡ None) }
     {
         AnswerReader::of(alloc, Scope::named(alloc, file, rows, columns)?)
     }
 
     // A reader of a new answer that is judged so.
     fn of(alloc: Global, scope: Scope) -> Result<AnswerReader, AllocError>
-        ensures { IfOk result (λ reader. IsFed scope reader []) }
+        ensures fed { IfOk result (λ reader. IsFed scope reader []) }
+        ensures going { IfOk result (λ reader. reader.stopped ≡ None) }
     {
         let grammar = AnswerGrammar::new(alloc, scope)?;
         Ok(AnswerReader {

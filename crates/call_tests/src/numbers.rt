@@ -4,6 +4,7 @@ use exact_numbers::{
     Dec, Frac, NumFault, NumText, are_digits, dec_of, plain_dec, plain_index, read_dec, read_whole,
     signed_of, whole_of,
 };
+use nl_lines::{Leaf, leaf_of_line, pair_of_line, whole_of_line};
 
 const LARGEST: i128 = 170141183460469231731687303715884105727;
 
@@ -156,4 +157,24 @@ fn plain_words_are_taken(rt: HostRuntime) {
     let index = plain_index(b"120 3.5").expect(&rt, "an index");
     assert!(rt; index.number == 120 && index.len == 3);
     assert!(rt; plain_index(b" 1").is_none());
+}
+
+// Lines that are read at once, by ways whose clauses let them give up.
+#[test]
+fn plain_lines_are_taken(rt: HostRuntime) {
+    let pair = pair_of_line(b"3 2.5").expect(&rt, "a pair");
+    assert!(rt; pair.0 == 3 && Some(pair.1) == Dec::new(25, -1));
+    assert!(rt; whole_of_line(b"12") == Some(12));
+    let variable = number_of(leaf_of_line(b"v7"));
+    let opcode = number_of(leaf_of_line(b"o2"));
+    assert!(rt; variable == 7 && opcode == 2 && leaf_of_line(b"n4").is_some());
+}
+
+// The whole number of a leaf, or 0.
+fn number_of(leaf: Option<Leaf>) -> u32 {
+    match leaf {
+        Some(Leaf::Variable(number)) => number,
+        Some(Leaf::Opcode(number)) => number,
+        _ => 0,
+    }
 }

@@ -3,10 +3,9 @@
 
 mod duals;
 mod fault;
-mod law;
+pub mod laws;
 mod parts;
 mod returned;
 
 pub use fault::ReturnFault;
-pub use law::{one_return, returned_duals_mean_the_program};
 pub use returned::solution;

@@ -18,3 +18,4 @@ pub mod WholeLemmas
 pub mod Plain
 pub mod Few
 pub mod Zeros
+pub mod PaddedLemmas

@@ -1,6 +1,7 @@
 pub mod Fraction
 pub mod Decimal
 pub mod Written
+pub mod Padded
 pub mod Values
 pub mod Text
 pub mod Spelled

@@ -1,9 +1,10 @@
 // Each law is proved by a function with an empty body.
-ghost use Rattle.std.specs.Prelude.{◌≡◌, ◌↔◌, true};
+ghost use Rattle.std.specs.Prelude.{◌≡◌, ◌↔◌, ◌-◌, ◌^◌, pos, true};
 ghost use Rattle.fractions.specs.Rational.{ℚ};
 ghost use Rattle.exact_numbers.specs.Text.{IsDecText, text_value};
 ghost use Rattle.exact_numbers.specs.Values.{Decimal, dec_value, decimal_of, exponent_of, mantissa_of, text_of, value_text, FitsDec, fits_dec};
 ghost use Rattle.exact_numbers.specs.declared.dec.Dec.{Dec};
+ghost use Rattle.exact_numbers.specs.declared.mantissa.TheConstants.{MAXN};
 
 /// The spelling of the value of a Dec is its two numbers, so equal values have equal Decs, and its
 /// written text is that of its value.
@@ -19,6 +20,11 @@ pub fn one_spelling()
 pub fn spellings_are_read()
     ensures text { (d : Dec) → IsDecText (text_of d) }
     ensures value { (d : Dec) → text_value (text_of d) ≡ dec_value d }
+{}
+
+/// The greatest size of a number.
+pub fn greatest_size()
+    ensures { MAXN ≡ pos (2 ^ 127 - 1) }
 {}
 
 /// The test of a number says whether some Dec has its value.

@@ -5,7 +5,10 @@ ghost use Rattle.exact_numbers.specs.Values.{dec_value, exponent_of, mantissa_of
 
 use crate::dec::Dec;
 
-// The greatest size of a mantissa, a numerator and a denominator.
+/// The greatest size of a mantissa, a numerator and a denominator: 2^127 - 1.
+pub const MAXN: i128 = i128::MAX;
+
+// The same without a sign.
 pub(crate) const MAX_SIZE: u128 = 0x7fff_ffff_ffff_ffff_ffff_ffff_ffff_ffff;
 
 // The greatest number of 64 bits.

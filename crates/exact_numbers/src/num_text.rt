@@ -4,18 +4,28 @@ ghost use Rattle.exact_numbers.specs.Written.{zeros};
 use std::marker::Model;
 
 /// Room for the written text of a number, which needs no memory beyond its own.
-#[derive(Drop)]
+#[derive(Clone, Copy)]
 pub struct NumText {
     bytes: [u8; 96],
     len: usize,
 }
 
 impl Model for NumText {
+    ghost use Rattle.std.specs.Prelude.{ℕ, List, length, take};
+    ghost use Rattle.exact_numbers.specs.Padded.{IsPadded, room_of, room_back, length_back};
+
     ghost Value = { List ℕ };
 
     ghost view = { λ t. take t.len t.bytes };
 
-    ghost invariant = { λ t. t.len ≤ 96 };
+    ghost invariant = { λ t. IsPadded t.bytes t.len };
+
+    ghost inverse = { λ text. record { bytes = room_of text; len = length text } };
+
+    ghost inverse_ok = { λ t h i. record {
+      bytes = room_back t.bytes t.len h i;
+      len = length_back t.bytes t.len h i;
+    } };
 }
 
 impl NumText {
@@ -39,6 +49,7 @@ impl NumText {
     pub(crate) fn clear(&mut self)
         ensures { self.new ≡ [] }
     {
+        self.bytes = [0; 96];
         self.len = 0;
     }
 

@@ -1,5 +1,5 @@
 // A reader of MPS texts of fixed columns.
-ghost use Rattle.std.specs.Prelude.{◌≡◌, ◌++◌, List, ℕ, [], IfOk, IfErr, IfSome, OnOk, Err};
+ghost use Rattle.std.specs.Prelude.{◌≡◌, ◌++◌, List, ℕ, [], IfOk, IfErr, IfSome, OnOk, Err, None};
 ghost use Rattle.std.specs.Result.{result_err};
 ghost use Rattle.text_base.specs.Stopped.{IfFault};
 ghost use Rattle.text_base.specs.Reading.{IsFreeSoFar};
@@ -34,7 +34,9 @@ impl Model for FixedReader {
 impl FixedReader {
     /// A reader of a new text.
     pub fn new(alloc: Global) -> Result<FixedReader, AllocError>
-        ensures { IfOk result (λ reader. IsFed reader []) }
+        ensures fed { IfOk result (λ reader. IsFed reader []) }
+        // Nothing has stopped it.
+        ensures going { IfOk result (λ reader. reader.stopped ≡ None) }
     {
         let grammar = FixedGrammar::new(alloc)?;
         Ok(FixedReader {

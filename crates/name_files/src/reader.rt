@@ -1,5 +1,5 @@
 // A reader of files of names.
-ghost use Rattle.std.specs.Prelude.{◌≡◌, ◌++◌, List, ℕ, [], IfOk, IfErr, IfSome, OnOk, Err};
+ghost use Rattle.std.specs.Prelude.{◌≡◌, ◌++◌, List, ℕ, [], IfOk, IfErr, IfSome, OnOk, Err, None};
 ghost use Rattle.std.specs.Result.{result_err};
 ghost use Rattle.text_base.specs.Stopped.{IfFault};
 ghost use Rattle.text_base.specs.Reading.{IsFreeSoFar, HasFaultSoFar};
@@ -38,6 +38,8 @@ impl NameReader {
         ensures counts { IfOk result
             (λ reader. reader.held.counts ≡ record { used = used; further = further }) }
         ensures fed { IfOk result (λ reader. IsFed reader []) }
+        // Nothing has stopped it.
+        ensures going { IfOk result (λ reader. reader.stopped ≡ None) }
     {
         let grammar = NameGrammar::new(alloc, used, further);
         Ok(NameReader {

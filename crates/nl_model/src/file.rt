@@ -1,8 +1,10 @@
 // Files.
-ghost use Rattle.std.specs.Prelude.{◌≡◌, ◌<◌, length, Some, IsSome, All, slice_get, option_copied, option_map};
+ghost use Rattle.std.specs.Prelude.{◌≡◌, ◌<◌, ◌≤◌, length, None, Some, IsSome, All, slice_get, option_copied, option_map};
 ghost use Rattle.nl_model.specs.Draft.{file_of};
 ghost use Rattle.nl_model.specs.HeaderWords.{header_counts, header_options};
+ghost use Rattle.nl_model.specs.FilePlaces.{tree_at};
 ghost use Rattle.nl_model.specs.Rules.{term_count, IsFile};
+ghost use Rattle.nl_model.specs.declared.at.Owner.TheVariants.{Con};
 
 use crate::builder::NlBuilder;
 use crate::definition::Def;
@@ -55,12 +57,17 @@ impl NlFile {
         &self.header
     }
 
-    /// The body of a constraint, where it was given.
+    /// The body of a constraint, where it was given; none of a number beyond the last constraint.
     pub fn body(&self, con: u32) -> Option<&Expr>
-        requires { con < self.now.counts.n_con }
-        ensures { slice_get self.now.bodies con ≡ Some (option_copied result) }
+        ensures tree { option_copied result ≡ tree_at self.now (Con con) }
+        ensures given { con < self.now.counts.n_con
+            → slice_get self.now.bodies con ≡ Some (option_copied result) }
+        ensures beyond { self.now.counts.n_con ≤ con → option_copied result ≡ None }
     {
-        self.bodies[con as usize].as_ref()
+        match self.bodies.get(con as usize) {
+            Some(body) => body.as_ref(),
+            None => None,
+        }
     }
 
     /// The terms of a constraint.

@@ -13,7 +13,7 @@ mod closing;
 mod current;
 mod ending;
 mod grammar;
-mod law;
+pub mod laws;
 mod line_runs;
 mod nl_read;
 mod nl_reader;
@@ -21,7 +21,6 @@ mod owner_lines;
 mod places;
 mod seen;
 
-pub use law::{one_line_more, one_reading, places_have_lines, trees_are_pieces};
 pub use nl_lines::{NlFault, NlReason};
 pub use nl_read::NlRead;
 pub use nl_reader::{NlReader, read_nl};

@@ -1,5 +1,5 @@
 // A reader of .nl texts.
-ghost use Rattle.std.specs.Prelude.{◌≡◌, ◌++◌, List, ℕ, [], IfOk, IfErr, IfSome, OnOk, Err};
+ghost use Rattle.std.specs.Prelude.{◌≡◌, ◌++◌, List, ℕ, [], IfOk, IfErr, IfSome, OnOk, Err, None};
 ghost use Rattle.std.specs.Result.{result_err};
 ghost use Rattle.text_base.specs.Stopped.{IfFault};
 ghost use Rattle.text_base.specs.Reading.{IsFreeSoFar};
@@ -74,7 +74,9 @@ impl Model for NlReader {
 impl NlReader {
     /// A reader of a new text.
     pub fn new(alloc: Global) -> Result<NlReader, AllocError>
-        ensures { IfOk result (λ reader. IsFed reader []) }
+        ensures fed { IfOk result (λ reader. IsFed reader []) }
+        // Nothing has stopped it.
+        ensures going { IfOk result (λ reader. stop_in reader ≡ None) }
     {
         Ok(NlReader {
             reader: Reader::new(alloc, NlGrammar::new(alloc))?,

@@ -1,5 +1,5 @@
 // The pieces of suffixes, defined variables, bodies, objectives, guesses and terms.
-ghost use Rattle.std.specs.Prelude.{◌≡◌, ◌++◌, ◌∷◌, [], OnOk, codes, length};
+ghost use Rattle.std.specs.Prelude.{◌≡◌, ◌<◌, ◌++◌, ◌∷◌, [], OnOk, Some, codes, length, slice_get};
 ghost use Rattle.std.specs.List.{flat_map};
 ghost use Rattle.std.specs.Option.{option_copied};
 ghost use Rattle.std.specs.Fmt.{decimal};
@@ -70,13 +70,21 @@ fn put_body(out: &mut Vec<u8>, con: u32, body: Option<&Expr>) -> Result<(), Allo
     put_tree(out, tree)
 }
 
+// The body of a constraint, where it was given.
+fn body_at(file: &NlFile, con: u32) -> Option<&Expr>
+    requires { con < file.now.counts.n_con }
+    ensures { slice_get file.now.bodies con ≡ Some (option_copied result) }
+{
+    file.body(con)
+}
+
 pub(crate) fn put_bodies(out: &mut Vec<u8>, file: &NlFile) -> Result<(), AllocError>
     ensures { OnOk result (out.new.items
         ≡ out.old.items ++ lines_text (by_number body_piece 0 file.now.bodies)) }
 {
     let count = file.header().counts().n_con;
     for con in 0..count {
-        put_body(out, con, file.body(con))?;
+        put_body(out, con, body_at(file, con))?;
     }
     Ok(())
 }

@@ -1,5 +1,5 @@
 // A reader of proof texts.
-ghost use Rattle.std.specs.Prelude.{◌≡◌, ◌++◌, List, ℕ, [], IfOk, IfErr, IfSome, OnOk, Err};
+ghost use Rattle.std.specs.Prelude.{◌≡◌, ◌++◌, List, ℕ, [], IfOk, IfErr, IfSome, OnOk, Err, None};
 ghost use Rattle.std.specs.Result.{result_err};
 ghost use Rattle.text_base.specs.Stopped.{IfFault};
 ghost use Rattle.text_base.specs.Reading.{HasFaultSoFar, IsFreeSoFar};
@@ -38,7 +38,9 @@ impl Model for ProofReader {
 impl ProofReader {
     /// A reader of a new proof of this file.
     pub fn new(alloc: Global, file: &NlFile) -> Result<ProofReader, AllocError>
-        ensures { IfOk result (λ reader. IsFed (setting_of file.now) reader []) }
+        ensures fed { IfOk result (λ reader. IsFed (setting_of file.now) reader []) }
+        // Nothing has stopped it.
+        ensures going { IfOk result (λ reader. reader.stopped ≡ None) }
     {
         let grammar = ProofGrammar::new(alloc, file)?;
         Ok(ProofReader {

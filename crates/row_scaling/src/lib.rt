@@ -4,7 +4,7 @@
 mod decimals;
 mod factors;
 mod fraction_sides;
-mod laws;
+pub mod laws;
 mod objectives;
 mod row;
 mod scale;
@@ -13,7 +13,6 @@ mod scaled;
 mod scaled_rows;
 mod scaled_terms;
 
-pub use laws::{plain_program, tied_row_is_scaled};
 pub use row::{FactoredRow, ScaledObjective, ScaledRow, Tie};
 pub use scale::scale_rows;
 pub use scale_fault::ScaleFault;

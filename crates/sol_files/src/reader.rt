@@ -1,5 +1,5 @@
 // A reader of .sol texts.
-ghost use Rattle.std.specs.Prelude.{◌≡◌, ◌++◌, List, ℕ, [], IfOk, IfErr, IfSome, OnOk, MatchResult, Err, option_map};
+ghost use Rattle.std.specs.Prelude.{◌≡◌, ◌++◌, List, ℕ, [], IfOk, IfErr, IfSome, OnOk, MatchResult, Err, option_map, None};
 ghost use Rattle.std.specs.Result.{result_err};
 ghost use Rattle.text_base.specs.declared.stop.Stop.TheVariants.{Memory};
 ghost use Rattle.sol_files.specs.Sol.{Sol as SolValue};
@@ -38,7 +38,9 @@ impl Model for SolReader {
 impl SolReader {
     /// A reader of a new text.
     pub fn new(alloc: Global) -> Result<SolReader, AllocError>
-        ensures { IfOk result (λ reader. IsFed reader []) }
+        ensures fed { IfOk result (λ reader. IsFed reader []) }
+        // Nothing has stopped it.
+        ensures going { IfOk result (λ reader. reader.stopped ≡ None) }
     {
         let grammar = SolGrammar::new(alloc)?;
         Ok(SolReader {

@@ -3,7 +3,6 @@ use Rattle.std.specs.Prelude.{take, ◌==◌, ◌<◌, ℕ, Bool, true, ◌&&◌
 use Rattle.std.specs.Borrow.{Bor}
 use Rattle.std.specs.List.{AllByRecursion}
 use Rattle.std.specs.Str.{bytes_eq}
-use Rattle.text_base.specs.declared.blanks.TheConstants.{LONGEST_ROW}
 use Rattle.text_base.specs.declared.runs.Words.{Words}
 
 -- a space or a tab
@@ -38,9 +37,10 @@ texts words = map (λ w. w.now) words
 abbrev pub words_left : Words → List (List ℕ)
 words_left words = words_of words.rest.now
 
--- the first twelve words, or all where there are fewer
+-- The words of a line by which it is judged where no form has twelve words: all of them, where they
+-- are at most twelve, and else the first twelve, which are too many as well.
 abbrev pub row_of : List ℕ → List (List ℕ)
-row_of line = take LONGEST_ROW (words_of line)
+row_of line = take 12 (words_of line)
 
 -- the word at a place, counted from 0; past the last word, the empty one
 abbrev pub word_at : List (List ℕ) → ℕ → List ℕ

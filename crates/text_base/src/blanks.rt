@@ -5,8 +5,8 @@ ghost use Rattle.text_base.specs.Words.{words_of, words_left, row_of, texts, wor
 use crate::runs::Words;
 use std::marker::Model;
 
-/// A row has at most so many words.
-pub const LONGEST_ROW: usize = 12;
+// A row has at most so many words.
+const LONGEST_ROW: usize = 12;
 
 /// The words of a line, in order.
 pub fn words(line: &[u8]) -> Words<'_>

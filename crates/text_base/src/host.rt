@@ -1,11 +1,16 @@
 // The desk of a process: files, standard output and standard error. It tells no bytes.
-ghost use Rattle.std.specs.Prelude.{◌≡◌, false, is_ok};
+ghost use Rattle.std.specs.Prelude.{◌≡◌, ◌<◌, false, is_ok, length, IfOk};
+ghost use Rattle.std.specs.Io.{ReadsAtMost, WritesAtMost};
 ghost use Rattle.text_base.specs.Desk.{HasStartCause, OnlyInput, Starts};
 ghost use Rattle.text_base.specs.Host.{has_text};
 
 use crate::{Desk, Failed};
 use std::fs::File;
-use std::io::{Read, Write};
+use std::io::{ErrorKind, Read, Write};
+
+// A system call that a signal interrupts is made again; it fails where so many calls in a row were
+// interrupted.
+const MOST_CALLS: usize = 65_536;
 
 /// The desk of a process. It rests on what files and streams do, of which nothing is proved.
 #[derive(Drop)]
@@ -68,7 +73,7 @@ impl Desk for HostDesk {
         let Some(file) = &mut self.file else {
             return Ok(0);
         };
-        match file.read(buf) {
+        match read_some(file, buf) {
             Ok(count) => Ok(count),
             Err(_) => {
                 self.input_faults = self.input_faults.saturating_add(1);
@@ -78,9 +83,9 @@ impl Desk for HostDesk {
     }
 
     fn write(&mut self, piece: &[u8]) -> Result<usize, Failed> {
-        match self.rt.stdout().write(piece) {
-            Ok(count) if count > 0 || piece.is_empty() => Ok(count),
-            _ => {
+        match write_some(self.rt.stdout(), piece) {
+            Ok(count) => Ok(count),
+            Err(_) => {
                 self.output_faults = self.output_faults.saturating_add(1);
                 Err(Failed)
             }
@@ -88,12 +93,41 @@ impl Desk for HostDesk {
     }
 
     fn tell(&mut self, piece: &[u8]) -> Result<usize, Failed> {
-        match self.rt.stderr().write(piece) {
-            Ok(count) if count > 0 || piece.is_empty() => Ok(count),
-            _ => {
+        match write_some(self.rt.stderr(), piece) {
+            Ok(count) => Ok(count),
+            Err(_) => {
                 self.message_faults = self.message_faults.saturating_add(1);
                 Err(Failed)
             }
         }
     }
+}
+
+// Reads what one call reads.
+fn read_some<R: Read>(from: &mut R, buf: &mut [u8]) -> Result<usize, Failed>
+    ensures { ReadsAtMost result buf.new }
+{
+    for _ in 0..MOST_CALLS {
+        match from.read(buf) {
+            Ok(count) => return Ok(count),
+            Err(error) if error.kind() == ErrorKind::Interrupted => {}
+            Err(_) => return Err(Failed),
+        }
+    }
+    Err(Failed)
+}
+
+// Writes what one call writes. That nothing of a piece was written is a failure.
+fn write_some<W: Write + Drop>(mut into: W, piece: &[u8]) -> Result<usize, Failed>
+    ensures bound { WritesAtMost result piece.now }
+    ensures some { IfOk result (λ n. 0 < length piece.now → 0 < n) }
+{
+    for _ in 0..MOST_CALLS {
+        match into.write(piece) {
+            Ok(count) if count > 0 || piece.is_empty() => return Ok(count),
+            Err(error) if error.kind() == ErrorKind::Interrupted => {}
+            _ => return Err(Failed),
+        }
+    }
+    Err(Failed)
 }

@@ -1,5 +1,0 @@
-use Rattle.dual_return.proofs.OneReturn.{one-return}
-use Rattle.dual_return.proofs.law.one_return.Goals as goal
-
-pub returns : goal.returns
-returns c = one-return

@@ -1,5 +1,0 @@
-use Rattle.dual_return.proofs.LawOfReturn.{duals_mean}
-use Rattle.dual_return.proofs.law.returned_duals_mean_the_program.Goals as goal
-
-pub returns : goal.returns
-returns c = duals_mean

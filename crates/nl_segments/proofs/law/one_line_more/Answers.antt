@@ -1,5 +1,0 @@
-use Rattle.nl_segments.proofs.StandingLemmas.{standing-more}
-use Rattle.nl_segments.proofs.law.one_line_more.Goals as goal
-
-pub returns : goal.returns
-returns c = standing-more
