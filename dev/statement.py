@@ -1,0 +1,293 @@
+#!/usr/bin/env python3
+"""Prints the definitions on which a clause rests: what has to be read to believe a theorem.
+
+    dev/statement.py CRATE/FILE:NAME ..   the definitions, by file, from the ground up, with their texts
+    dev/statement.py --sizes              how large the statement of each theorem is
+    dev/statement.py --write              writes docs/verify/reading.md: the statement of each theorem, by file
+    dev/statement.py --check              says whether docs/verify/reading.md is as --write makes it; status 1 where not
+
+A definition of `crates/CRATE/specs/FILE.antt` rests on those that its text names. Names of the toolchain's library and
+types that code declares (`specs.declared`) are not followed: the library is trusted, and a type says its parts itself.
+"""
+from __future__ import annotations
+
+import re
+import sys
+from dataclasses import dataclass, field
+from graphlib import TopologicalSorter
+from pathlib import Path
+
+TOP = Path(__file__).resolve().parent.parent
+READING = TOP / "docs" / "verify" / "reading.md"
+
+Key = tuple[str, str, str]  # crate, file, name
+
+USE = re.compile(r"^(?:unfoldable )?(?:pub )?use ([\w.]+?)\.\{(.*)\}$")
+OUTSIDE = re.compile(r"^(?:unfoldable )?(?:pub )?use |^\s*(?:module|infix|mutual|abbrev mutual)")
+HEAD = re.compile(r"^\s*(?:(?:abbrev|unfoldable)\s+)?(?:pub\s+)?(?:(?:record|data)\s+)?([^\s:({]+)")
+CONSTRUCTOR = re.compile(r"^\s+([\w\-]+)\s*:")
+WORD = re.compile(r"[^\s(){}\[\];,]+")
+
+
+@dataclass
+class Definition:
+    """One definition: where it stands, its comment and its lines."""
+
+    key: Key
+    line: int
+    comment: list[str]
+    lines: list[str] = field(default_factory=list)
+
+    @property
+    def text(self) -> str:
+        return "\n".join(self.lines)
+
+    def constructors(self) -> list[str]:
+        """The names of the cases, where it is a data type."""
+        if not re.match(r"^\s*(?:pub )?data ", self.lines[0]):
+            return []
+        return [found[1] for found in map(CONSTRUCTOR.match, self.lines[1:]) if found]
+
+
+@dataclass
+class SpecFile:
+    """A file of definitions: what it imports, under which name, and what it defines, in order."""
+
+    crate: str
+    name: str
+    imports: dict[str, tuple[list[str], str]] = field(default_factory=dict)
+    definitions: dict[str, Definition] = field(default_factory=dict)
+    owners: dict[str, str] = field(default_factory=dict)
+
+    @classmethod
+    def read(cls, path: Path) -> SpecFile:
+        file = cls(path.parent.parent.name, path.stem)
+        comment: list[str] = []
+        current: Definition | None = None
+        for number, line in enumerate(path.read_text().splitlines(), start=1):
+            if found := USE.match(line):
+                file.add_imports(found[1].split("."), found[2])
+            elif line.strip().startswith("--"):
+                comment.append(line.rstrip())
+            elif not line.strip():
+                current = None
+            elif current is None and OUTSIDE.match(line):
+                comment = []
+            elif current is None:
+                current = file.begin(line, number, comment)
+                comment = []
+            else:
+                current.lines.append(line.rstrip())
+        for definition in file.definitions.values():
+            file.owners.update((case, definition.key[2]) for case in definition.constructors())
+        return file
+
+    def add_imports(self, path: list[str], names: str) -> None:
+        for name in names.split(", "):
+            own, _, other = name.strip().partition(" as ")
+            self.imports[other or own] = (path, own)
+
+    def begin(self, line: str, number: int, comment: list[str]) -> Definition:
+        """The definition that begins at this line; the one of that name, where clauses of it go on."""
+        found = HEAD.match(line)
+        assert found
+        made = Definition((self.crate, self.name, found[1]), number, comment)
+        definition = self.definitions.setdefault(found[1], made)
+        definition.lines.append(line.rstrip())
+        return definition
+
+
+class Statement:
+    """All definitions of the repository."""
+
+    def __init__(self) -> None:
+        self.files: dict[tuple[str, str], SpecFile] = {}
+        for path in sorted(TOP.glob("crates/*/specs/*.antt")):
+            if path.stem != "Lib":
+                file = SpecFile.read(path)
+                self.files[file.crate, file.name] = file
+
+    def __getitem__(self, key: Key) -> Definition:
+        return self.files[key[:2]].definitions[key[2]]
+
+    def resolve(self, file: SpecFile, name: str) -> Key | None:
+        """The definition of ours that a name means in a file."""
+        name = file.owners.get(name, name)
+        if name in file.definitions:
+            return (file.crate, file.name, name)
+        path, own = file.imports.get(name, ([], ""))
+        if len(path) < 4 or path[0] != "Rattle" or path[2] != "specs":
+            return None
+        other = self.files.get((path[1], path[3]))
+        return self.resolve(other, own) if other else None
+
+    def rests_on(self, key: Key) -> set[Key]:
+        """The definitions that one names."""
+        file, text = self.files[key[:2]], self[key].text
+        names = set(WORD.findall(text))
+        names |= {name.split(".")[0] for name in names}
+        operators = [*file.imports, *file.definitions]
+        names |= {name for name in operators if name.startswith("◌") and name.strip("◌") in text}
+        return {found for name in names if (found := self.resolve(file, name))} - {key}
+
+    def closure(self, roots: list[Key]) -> list[Key]:
+        """What these rest on, themselves among them, each after what it rests on, where that can be."""
+        found: dict[Key, None] = {}
+        entered: set[Key] = set()
+        stack = [(key, False) for key in reversed(roots)]
+        while stack:
+            key, is_done = stack.pop()
+            if is_done:
+                found[key] = None
+            elif key not in entered:
+                entered.add(key)
+                stack.append((key, True))
+                below = sorted(self.rests_on(key) - entered, reverse=True)
+                stack += [(it, False) for it in below]
+        return list(found)
+
+    def by_file(self, keys: list[Key]) -> dict[tuple[str, str], list[Definition]]:
+        """Definitions by file: crates, and files in a crate, after those that they rest on, definitions in their order."""
+        files: dict[tuple[str, str], list[Definition]] = {}
+        for key in keys:
+            files.setdefault(key[:2], []).append(self[key])
+        below: dict[tuple[str, str], set[tuple[str, str]]] = {it: set() for it in files}
+        for key in keys:
+            below[key[:2]] |= {other[:2] for other in self.rests_on(key)} - {key[:2]}
+        crates: dict[str, set[str]] = {it[0]: set() for it in files}
+        for it, others in below.items():
+            crates[it[0]] |= {other[0] for other in others} - {it[0]}
+        rank = {crate: number for number, crate in enumerate(TopologicalSorter(crates).static_order())}
+        order = sorted(TopologicalSorter(below).static_order(), key=lambda it: rank[it[0]])
+        return {it: sorted(files[it], key=lambda found: found.line) for it in order}
+
+
+@dataclass(frozen=True)
+class Theorem:
+    """What is promised, in a sentence, and the definitions that say it."""
+
+    name: str
+    sentence: str
+    roots: tuple[str, ...]
+
+
+HEADLINE = "bridge_tool/Promise:Answers"
+
+THEOREMS = (
+    Theorem("export", "What `export` answers, writes and tells, and what its program means.",
+            (HEADLINE, "bridge_tool/Export:export_promise")),
+    Theorem("what an export means", "The program that is written means what the file means.",
+            ("bridge_tool/Export:MeansTheFile",)),
+    Theorem("export with names", "The same with the names of two lists.",
+            (HEADLINE, "bridge_tool/NamedExport:named_promise")),
+    Theorem("return", "What `return` writes is the solver's answer, as AMPL sees it.",
+            (HEADLINE, "bridge_tool/Return:return_promise")),
+    Theorem("check", "What `check` answers on a point and duals.",
+            (HEADLINE, "bridge_tool/Check:check_promise")),
+    Theorem("prove", "What `prove` answers on a proof by branches.",
+            (HEADLINE, "bridge_tool/Prove:prove_promise")),
+    Theorem("what proved means", "What is true of the file where `prove` says yes.",
+            ("bridge_tool/Prove:IsProvedOf",)),
+    Theorem("all commands", "What `bridge` answers to any words.",
+            (HEADLINE, "bridge_tool/Commands:promise_of")),
+)
+
+
+OPENING = (
+    "# What to read to believe each theorem",
+    "",
+    "Written by `dev/statement.py --write`. A proof is checked by the machine; what it says is for people to read. Each",
+    "theorem rests on the definitions below, from the ground up; `dev/statement.py CRATE/FILE:NAME` prints their texts.",
+    "Paths are `crates/CRATE/specs/FILE.antt`, the number before a name is its line. Who finds that they say what the words",
+    "mean, and trusts the toolchain, believes the theorem: no code and no proof need be read.",
+)
+
+CLOSING = (
+    "",
+    "## What no definition says",
+    "",
+    "That the files a desk names are those of the machine (`HostDesk` is trusted), that the compilers and the prover are",
+    "right, how long a run takes and how much memory it needs.",
+)
+
+
+def key_of(name: str) -> Key:
+    """The key of CRATE/FILE:NAME."""
+    place, _, own = name.partition(":")
+    crate, _, file = place.partition("/")
+    return (crate, file, own)
+
+
+def size_of(found: list[Definition]) -> str:
+    """How many definitions and lines these are."""
+    return f"{len(found)} definitions, {sum(len(it.lines) for it in found)} lines"
+
+
+def whole_size(statement: Statement, keys: list[Key]) -> str:
+    """How many definitions, lines, files and crates these are."""
+    crates, files = {key[0] for key in keys}, {key[:2] for key in keys}
+    return f"{size_of([statement[key] for key in keys])}, {len(files)} files, {len(crates)} crates"
+
+
+def printed(statement: Statement, roots: list[Key]) -> str:
+    """The texts of all definitions, by file."""
+    keys = statement.closure(roots)
+    lines = []
+    for (crate, file), found in statement.by_file(keys).items():
+        lines.append(f"==== crates/{crate}/specs/{file}.antt: {size_of(found)}\n")
+        for it in found:
+            lines += [*it.comment, *it.lines, ""]
+    return "\n".join([*lines, whole_size(statement, keys)])
+
+
+def section(statement: Statement, keys: list[Key], known: set[Key]) -> list[str]:
+    """The lines on these definitions: the files of those that are known, and the others by file."""
+    files = statement.by_file(keys)
+    lines = []
+    if shared := [it for it in files if known.issuperset(one.key for one in files[it])]:
+        names = ", ".join(f"`{crate}/{file}`" for crate, file in shared)
+        lines.append(f"- as for `{THEOREMS[0].name}` or in part: {names}")
+    for crate, file in files:
+        if (crate, file) not in shared:
+            found = files[crate, file]
+            names = ", ".join(f"{one.line} `{one.key[2]}`" for one in found)
+            lines.append(f"- **{crate}/{file}** ({size_of(found)}): {names}")
+    return lines
+
+
+def reading(statement: Statement) -> str:
+    """The text of docs/verify/reading.md."""
+    found = {it.name: statement.closure([key_of(root) for root in it.roots]) for it in THEOREMS}
+    lines = [*OPENING, "", "| theorem | definitions that say it | its statement |", "|---|---|---|"]
+    for it in THEOREMS:
+        roots = ", ".join(f"`{root}`" for root in it.roots)
+        lines.append(f"| {it.name} | {roots} | {whole_size(statement, found[it.name])} |")
+    known: set[Key] = set()
+    for it in THEOREMS[:-1]:
+        lines += ["", f"## {it.name}", "", it.sentence, "", *section(statement, found[it.name], known)]
+        known = known or set(found[it.name])
+    return "\n".join([*lines, *CLOSING]) + "\n"
+
+
+def main(words: list[str]) -> int:
+    if not words:
+        sys.exit(__doc__)
+    statement = Statement()
+    if words == ["--sizes"]:
+        for it in THEOREMS:
+            keys = statement.closure([key_of(root) for root in it.roots])
+            print(f"{it.name}: {whole_size(statement, keys)}")
+    elif words == ["--write"]:
+        READING.parent.mkdir(parents=True, exist_ok=True)
+        READING.write_text(reading(statement))
+    elif words == ["--check"]:
+        if not READING.exists() or READING.read_text() != reading(statement):
+            print(f"{READING.relative_to(TOP)} is not as the definitions are: dev/statement.py --write")
+            return 1
+    else:
+        print(printed(statement, [key_of(word) for word in words]))
+    return 0
+
+
+if __name__ == "__main__":
+    sys.exit(main(sys.argv[1:]))
