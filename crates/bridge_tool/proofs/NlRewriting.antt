@@ -43,4 +43,4 @@ nl_decided = record {
 
 -- what was read is writable, so that its written text says the same file
 pub nl_meant : (text : List ℕ) → IsNlMeant text
-nl_meant text = λ value read le. written_again text value read le
+nl_meant text = λ value read. written_again text value read

@@ -1,5 +1,5 @@
 -- The command nl: the one written .nl text of the file that a text says.
-use Rattle.std.specs.Prelude.{◌≡◌, ℕ, ◌≤◌, ◌^◌, List, length}
+use Rattle.std.specs.Prelude.{◌≡◌, ℕ, List}
 use Rattle.std.specs.declared.option.Option.{Option}
 use Rattle.text_base.specs.Desk.{Texts}
 use Rattle.nl_round_trip.specs.Writable.{IsText}
@@ -19,9 +19,7 @@ pub record IsNlRewritten (text bytes : List ℕ) : Type 0 where
 -- what is written says the same file, so that it is written again unchanged and exported as the
 -- same
 abbrev pub IsNlMeant : List ℕ → Type 0
-IsNlMeant text =
-    (value : NlValue) → IsNl text value → length (nl_text value.file) ≤ 2 ^ 31
-    → IsText value.file (nl_text value.file)
+IsNlMeant text = (value : NlValue) → IsNl text value → IsText value.file (nl_text value.file)
 
 -- no steps are counted
 abbrev pub nl_promise : Option Texts → List ℕ → Promise

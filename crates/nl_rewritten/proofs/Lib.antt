@@ -6,4 +6,5 @@ pub mod Said
 pub mod Trees
 pub mod Parts
 pub mod Room
+pub mod TextRoom
 pub mod Rewriting

@@ -25,6 +25,7 @@ use Rattle.nl_round_trip.proofs.WholeLaw.{written_is_read}
 use Rattle.nl_rewritten.proofs.Parts.{AreGuessesKept, AreIntervalsKept, AreSuffixesKept, AreTermsKept, guesses_kept, intervals_kept, options_stay, suffixes_kept, terms_kept}
 use Rattle.nl_rewritten.proofs.Room.{IsModest, lines_short}
 use Rattle.nl_rewritten.proofs.Rows.{AreFew}
+use Rattle.nl_rewritten.proofs.TextRoom.{HasFew, text_fits}
 use Rattle.nl_rewritten.proofs.Texts.{IsWhole, whole_text}
 use Rattle.nl_rewritten.proofs.Trees.{AreTreesKept, objective_size, trees_kept}
 
@@ -103,10 +104,16 @@ is_modest pieces d k =
       few_nodes = omega (arith, nodes, given_sizes d.objectives);
     }
 
-is_writable : (pieces : List Piece) (d : Draft) → IsAllKept d.options d.counts pieces d → length (nl_text (file_of d)) ≤ 2 ^ 31 → IsWritable (file_of d)
-is_writable pieces d k room =
+is_writable : (pieces : List Piece) (d : Draft) → IsAllKept d.options d.counts pieces d → IsWritable (file_of d)
+is_writable pieces d k =
     let file = is_file pieces d k in
     let modest = is_modest pieces d k in
+    let few : HasFew (file_of d) = record {
+      suffixes = omega (arith, k.suffixes.few, k.few.suffixes);
+      values = omega (arith, k.suffixes.few_values, k.few.values);
+      terms = omega (arith, k.terms.few, k.few.linear);
+      nodes = modest.few_nodes;
+    } in
     record {
       file = file;
       options = modest.options;
@@ -115,12 +122,12 @@ is_writable pieces d k room =
       dual_guesses = modest.dual_guesses;
       primal_guesses = modest.primal_guesses;
       suffixes = modest.suffixes;
-      few_suffixes = omega (arith, k.suffixes.few, k.few.suffixes);
-      few_values = omega (arith, k.suffixes.few_values, k.few.values);
-      few_terms = omega (arith, k.terms.few, k.few.linear);
-      few_nodes = modest.few_nodes;
+      few_suffixes = few.suffixes;
+      few_values = few.values;
+      few_terms = few.terms;
+      few_nodes = few.nodes;
       binary = λ j i lt b. k.intervals.units j i (omega (arith, lt, k.bounds)) b;
-      room = record { lines = lines_short (file_of d) file modest; text = room };
+      room = record { lines = lines_short (file_of d) file modest; text = text_fits (file_of d) file modest few };
     }
 
 -- ---- the laws
@@ -142,19 +149,17 @@ whole_kept o c pieces w =
       nonzeros = w.nonzeros;
     }
 
-whole_writable : (o : List ℤ) (c : Counts) (pieces : List Piece) → IsWhole o c pieces → length (nl_text (file_of (draft_of o c pieces))) ≤ 2 ^ 31 → IsWritable (file_of (draft_of o c pieces))
-whole_writable o c pieces w room =
+whole_writable : (o : List ℤ) (c : Counts) (pieces : List Piece) → IsWhole o c pieces → IsWritable (file_of (draft_of o c pieces))
+whole_writable o c pieces w =
     let d = draft_of o c pieces in
     let all = whole_kept o c pieces w in
     let by_options : IsAllKept d.options c pieces d = subst (λ x. IsAllKept x c pieces d) (sym (options_stay o c pieces w.steps_are)) all in
-    is_writable pieces d (subst (λ x. IsAllKept d.options x pieces d) (sym (draft_counts o c pieces)) by_options) room
+    is_writable pieces d (subst (λ x. IsAllKept d.options x pieces d) (sym (draft_counts o c pieces)) by_options)
 
-pub writable : (text : List ℕ) (value : NlValue) → IsNl text value → length (nl_text value.file) ≤ 2 ^ 31 → IsWritable value.file
-writable text value h room =
+pub writable : (text : List ℕ) (value : NlValue) → IsNl text value → IsWritable value.file
+writable text value h =
     let s = standing (lines_of text) in
-    let same = h.said.file in
-    subst IsWritable (sym same)
-    (whole_writable (options_in s.header) (counts_of s) s.pieces (whole_text text h.clean) (subst (λ f. length (nl_text f) ≤ 2 ^ 31) same room))
+    subst IsWritable (sym h.said.file) (whole_writable (options_in s.header) (counts_of s) s.pieces (whole_text text h.clean))
 
-pub written_again : (text : List ℕ) (value : NlValue) → IsNl text value → length (nl_text value.file) ≤ 2 ^ 31 → IsText value.file (nl_text value.file)
-written_again text value h room = written_is_read value.file (writable text value h room)
+pub written_again : (text : List ℕ) (value : NlValue) → IsNl text value → IsText value.file (nl_text value.file)
+written_again text value h = written_is_read value.file (writable text value h)

@@ -47,13 +47,13 @@ IsShort line = length (spaced line) ≤ 65536
 abbrev pub AreShort : List Line → Type 0
 AreShort lines = AllByRecursion IsShort lines
 
-abbrev IsBrief : List ℕ → Type 0
+abbrev pub IsBrief : List ℕ → Type 0
 IsBrief word = length word ≤ 300
 
 brief_line : (words : Line) → length words ≤ 12 → AllByRecursion IsBrief words → IsShort words
 brief_line words few all = let most = spaced-length 300 words all in omega (arith, few, most)
 
-number_brief : (n : ℕ) → n < 2 ^ 32 → length (decimal n) ≤ 10
+pub number_brief : (n : ℕ) → n < 2 ^ 32 → length (decimal n) ≤ 10
 number_brief n small = decimal-length n (lt_trans small (lit< tt))
 
 brief : (n : ℕ) → n < 2 ^ 32 → IsBrief (decimal n)
@@ -114,7 +114,7 @@ numbers_of_header os c h =
     let p1 = and_true (are_numbers c) (has_no_refused c) p2.0 in
     (leb-true (length os) 4 (and_true (nat_le (length os) 4) (not (has_second_three os)) all.0).0, small_counts c p1.0)
 
-header_short : (os : List ℤ) (c : Counts) → IsTrue (is_header os c) → list_all has_31_bits os ≡ true → AreShort (header_lines os c)
+pub header_short : (os : List ℤ) (c : Counts) → IsTrue (is_header os c) → list_all has_31_bits os ≡ true → AreShort (header_lines os c)
 header_short os c h small =
     let ruled = numbers_of_header os c h in
     let m = ruled.1 in (
@@ -161,7 +161,7 @@ opcode_small Sum k h = omega arith
 opcode_small Refused k h = absurd h
 opcode_small c k h = omega arith
 
-known_small : (o k : ℕ) → HasCount (class_of o) k → o ≤ 54
+pub known_small : (o k : ℕ) → HasCount (class_of o) k → o ≤ 54
 known_small o k h = subst (λ p. p ≤ 54) (opcode_of-known o (λ e. subst (λ c. HasCount c k) e h)) (opcode_small (class_of o) k h)
 
 node_short : (c : Counts) (ds : List Definition) (m : Node) → AreCounts c → IsNodeFine c ds m → AreShort (node_lines m)
@@ -184,20 +184,20 @@ tree_short c ds t k range h is few =
     subst AreShort (node_lines-prefix t h.nodes h.prefix) (joined (IsNodeFine c ds) node_lines h.nodes (λ m fine. node_short c ds m k fine) fine)
 
 -- each of some numbers is at most their sum
-each_within : {X : Type 0} (f : X → ℕ) (xs : List X) (most : ℕ) → sum_by f xs ≤ most → AllByRecursion (λ x. f x ≤ most) xs
+pub each_within : {X : Type 0} (f : X → ℕ) (xs : List X) (most : ℕ) → sum_by f xs ≤ most → AllByRecursion (λ x. f x ≤ most) xs
 each_within f [] most le = tt
 each_within f (x ∷ xs) most le = let sum = sum_by-cons f x xs in (omega (arith, sum, le), each_within f xs most (omega (arith, sum, le)))
 
-two : {X : Type 0} (P Q : X → Type 0) (xs : List X) → AllByRecursion P xs → AllByRecursion Q xs → AllByRecursion (λ x. P x × Q x) xs
+pub two : {X : Type 0} (P Q : X → Type 0) (xs : List X) → AllByRecursion P xs → AllByRecursion Q xs → AllByRecursion (λ x. P x × Q x) xs
 two P Q [] p q = tt
 two P Q (x ∷ xs) p q = ((p.0, q.0), two P Q xs p.1 q.1)
 
 -- ---- definitions
 
-record IsPlainDefinition (c : Counts) (d : Definition) : Type 0 where
-  usage : d.usage < 2 ^ 31
-  nodes : HasNodes d.tree
-  size : tree_size d.tree ≤ 2 ^ 22
+pub record IsPlainDefinition (c : Counts) (d : Definition) : Type 0 where
+  pub usage : d.usage < 2 ^ 31
+  pub nodes : HasNodes d.tree
+  pub size : tree_size d.tree ≤ 2 ^ 22
 
 definition_short : (c : Counts) (known : List Definition) (d : Definition) → AreCounts c → AreInRange c.n_var (defined_count c) known → IsPlainDefinition c d → d.index < c.n_var + defined_count c → AreTermsBelow c.n_var d.terms → length d.terms ≤ most_terms
     → IsTreeKnown c.n_var known d.tree → AreShort (definition_piece d)
@@ -207,7 +207,7 @@ definition_short c known d k range h below terms few tree = (
   all_append IsShort (term_lines d.terms) (tree_lines d.tree) (terms_short c.n_var d.terms k.variables terms) (tree_short c known d.tree k range h.nodes tree h.size),
 )
 
-range_more : (n k : ℕ) (known : List Definition) (d : Definition) → AreInRange n k known → n ≤ d.index → d.index < n + k → AreInRange n k (known ++ d ∷ [])
+pub range_more : (n k : ℕ) (known : List Definition) (d : Definition) → AreInRange n k known → n ≤ d.index → d.index < n + k → AreInRange n k (known ++ d ∷ [])
 range_more n k known d range from below = all_append (λ d. (n ≤ d.index) × (d.index < n + k)) known (d ∷ []) range ((from, below), tt)
 
 definitions_short : (c : Counts) (known ds : List Definition) → AreCounts c → AreInRange c.n_var (defined_count c) known → AreDefinitions c.n_var (defined_count c) known ds → AllByRecursion (IsPlainDefinition c) ds → AreShort (flat_map definition_piece ds)
@@ -218,13 +218,13 @@ definitions_short c known (d ∷ ds) k range are plain =
     (definition_short c known d k range plain.0 is.below is.terms is.few is.tree)
     (definitions_short c (known ++ d ∷ []) ds k (range_more c.n_var (defined_count c) known d range is.from is.below) are.1 plain.1)
 
-plain_definitions : (c : Counts) (ds : List Definition) → AllByRecursion (λ d. d.usage < 2 ^ 31) ds → AllByRecursion (λ d. HasNodes d.tree) ds → AllByRecursion (λ d. tree_size d.tree ≤ 2 ^ 22) ds → AllByRecursion (IsPlainDefinition c) ds
+pub plain_definitions : (c : Counts) (ds : List Definition) → AllByRecursion (λ d. d.usage < 2 ^ 31) ds → AllByRecursion (λ d. HasNodes d.tree) ds → AllByRecursion (λ d. tree_size d.tree ≤ 2 ^ 22) ds → AllByRecursion (IsPlainDefinition c) ds
 plain_definitions c [] u n s = tt
 plain_definitions c (d ∷ ds) u n s = (record { usage = u.0; nodes = n.0; size = s.0 }, plain_definitions c ds u.1 n.1 s.1)
 
 -- ---- suffixes
 
-few_objects : (c : Counts) (kind : ℕ) → AreCounts c → object_count c kind ≤ 2 ^ 20
+pub few_objects : (c : Counts) (kind : ℕ) → AreCounts c → object_count c kind ≤ 2 ^ 20
 few_objects c kind k = by (kind % 4 == 0) (kind % 4 == 1) (kind % 4 == 2)
   where
     by : (p q r : Bool) → cond p c.n_var (cond q c.n_con (cond r c.n_obj 1)) ≤ 2 ^ 20
@@ -233,7 +233,7 @@ few_objects c kind k = by (kind % 4 == 0) (kind % 4 == 1) (kind % 4 == 2)
     by false false true = omega (arith, k.objectives)
     by false false false = omega arith
 
-name_brief : (name : List ℕ) → is_name name ≡ true → IsBrief name
+pub name_brief : (name : List ℕ) → is_name name ≡ true → IsBrief name
 name_brief name e =
     let front = and_true (not (length name == 0) && nat_le (length name) 255) (has_name_bytes name) e in
     let most = leb-true (length name) 255 (and_true (not (length name == 0)) (nat_le (length name) 255) front.0).1 in
@@ -290,7 +290,7 @@ kept_most f (t ∷ ts) = by (f t) refl (kept_most f ts)
     by true e more = rw e (omega (arith, more))
     by false e more = rw e (omega (arith, more))
 
-up_to_most : (rows : List (List Term)) (j : ℕ) → terms_up_to rows j ≤ term_count rows
+pub up_to_most : (rows : List (List Term)) (j : ℕ) → terms_up_to rows j ≤ term_count rows
 up_to_most [] j = omega arith
 up_to_most (ts ∷ rows) j =
     let a = kept_most (λ t. nat_le t.0 j) ts in
