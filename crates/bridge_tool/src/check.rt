@@ -22,7 +22,7 @@ use crate::one_file::end_verdict;
 use crate::sol_input::open_sol;
 use crate::stages::fold;
 use crate::verdict_told::{fit_line, is_yes, negative_line, verdict_line};
-use certificate_check::{Columns, FitFault, Given, Verdict, certify, fit_counts};
+use certificate_check::{Columns, Verdict, certify, fit};
 use exact_numbers::Dec;
 use linear_fold::Linear;
 use nl_model::NlFile;
@@ -30,21 +30,6 @@ use nl_segments::NlRead;
 use sol_files::Sol;
 use std::alloc::{AllocError, Global};
 use text_base::{Desk, Ledger, Steps, Stop};
-
-/// Whether a solution fits a file: the same counts, and a value for each variable and for each
-/// constraint; or the first reason why not.
-pub fn fit(file: &NlFile, sol: &Sol) -> Result<(), FitFault>
-    ensures { MatchResult result (λ _. fit_fault file.now.counts (given_by sol.now) ≡ None)
-        (λ fault. fit_fault file.now.counts (given_by sol.now) ≡ Some fault) }
-{
-    let given = Given {
-        n_con: sol.n_con(),
-        n_var: sol.n_var(),
-        duals: sol.duals().len(),
-        primals: sol.primals().len(),
-    };
-    fit_counts(file, given)
-}
 
 // The number of the objective: that of the objno line, or 0 without one.
 fn objective_number(sol: &Sol) -> i32
