@@ -1,5 +1,5 @@
 -- The command check: what a .sol text shows of the best value of an .nl text.
-use Rattle.std.specs.Prelude.{◌≡◌, ℕ, ◌+◌, ◌≤◌, ℤ, pos, negsuc, true, List, if◌then◌else◌, length}
+use Rattle.std.specs.Prelude.{◌≡◌, ℕ, ◌+◌, ◌≤◌, ℤ, pos, negsuc, true, List, if◌then◌else◌}
 use Rattle.std.specs.Option.{option_map_or}
 use Rattle.std.specs.declared.option.Option.{Option}
 use Rattle.std.specs.declared.option.Option.TheVariants.{None, Some}
@@ -17,7 +17,7 @@ use Rattle.sol_files.specs.Sol.{Sol}
 use Rattle.certificate_check.specs.Best.{IsBestRelaxed}
 use Rattle.certificate_check.specs.Fits.{fit_fault, given_by}
 use Rattle.certificate_check.specs.Terms.{values_of}
-use Rattle.certificate_check.specs.declared.fit.FitFault.{FitFault}
+use Rattle.certificate_check.specs.declared.fitting.FitFault.{FitFault}
 use Rattle.bridge_tool.specs.NlTold.{fold_line}
 use Rattle.bridge_tool.specs.Outcome.{Outcome, Refused, Done}
 use Rattle.bridge_tool.specs.Promise.{Promise}

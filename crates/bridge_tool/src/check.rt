@@ -1,6 +1,6 @@
 // The command check: from an .nl text and a .sol text to the line of a verdict, or to the line to
 // tell.
-ghost use Rattle.std.specs.Prelude.{◌≡◌, ◌≢◌, ◌+◌, ◌≤◌, ◌<ℤ◌, pos, IfOk, MatchOption, MatchResult, None, Some, length};
+ghost use Rattle.std.specs.Prelude.{◌≡◌, ◌≢◌, ◌+◌, ◌≤◌, ◌<ℤ◌, pos, IfOk, MatchOption, None, Some, length};
 ghost use Rattle.linear_programs.specs.Linear.{row_count, variable_count};
 ghost use Rattle.duality.specs.Verdict.{verdict};
 ghost use Rattle.exact_numbers.specs.Values.{dec_value};
@@ -9,10 +9,9 @@ ghost use Rattle.linear_fold.specs.Programs.{linear_value};
 ghost use Rattle.nl_model.specs.Rules.{IsFile};
 ghost use Rattle.nl_segments.specs.Reader.{HasLines, value_of};
 ghost use Rattle.certificate_check.specs.Answers.{answer_of};
-ghost use Rattle.certificate_check.specs.Fits.{fit_fault};
 ghost use Rattle.certificate_check.specs.Terms.{values_of};
 ghost use Rattle.bridge_tool.specs.Answer.{IsWorked, status_of};
-ghost use Rattle.bridge_tool.specs.Check.{IsCertified, by_fold, check_outcome, check_promise, given_by, most_steps, objective_number, steps_by_number, unfit};
+ghost use Rattle.bridge_tool.specs.Check.{IsCertified, by_fold, check_outcome, check_promise, most_steps, objective_number, steps_by_number, unfit};
 ghost use Rattle.bridge_tool.specs.SeveralFiles.{Comes};
 ghost use Rattle.bridge_tool.specs.VerdictTold.{is_yes, verdict_line};
 
