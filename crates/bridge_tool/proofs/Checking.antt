@@ -12,8 +12,8 @@ use Rattle.text_base.specs.Desk.{Meaning, Texts}
 use Rattle.text_base.specs.declared.stop.Stop.{Stop}
 use Rattle.text_base.specs.declared.stop.Stop.TheVariants.{Fault, Memory}
 use Rattle.certificate_check.specs.Terms.{values_of}
-use Rattle.certificate_check.specs.declared.fit.FitFault.{FitFault}
-use Rattle.certificate_check.specs.declared.fit.FitFault.TheVariants.{OtherCounts, NoPrimal, NoDual}
+use Rattle.certificate_check.specs.declared.fitting.FitFault.{FitFault}
+use Rattle.certificate_check.specs.declared.fitting.FitFault.TheVariants.{OtherCounts, NoPrimal, NoDual}
 use Rattle.certificate_check.proofs.Files.{certificates}
 use Rattle.file_meaning.specs.FoldFaults.{fold_fault, FoldFault as FileFault}
 use Rattle.file_meaning.specs.LinearFile.{linear_of, row_of}

@@ -1,5 +1,5 @@
 -- The command check: what a .sol text shows of the best value of an .nl text.
-use Rattle.std.specs.Prelude.{◌≡◌, ℕ, ◌+◌, ◌≤◌, ℤ, pos, negsuc, true, List, if◌then◌else◌, length}
+use Rattle.std.specs.Prelude.{◌≡◌, ℕ, ◌+◌, ◌≤◌, ℤ, pos, negsuc, true, List, if◌then◌else◌}
 use Rattle.std.specs.Option.{option_map_or}
 use Rattle.std.specs.declared.option.Option.{Option}
 use Rattle.std.specs.declared.option.Option.TheVariants.{None, Some}
@@ -15,10 +15,9 @@ use Rattle.nl_segments.specs.Reader.{IsNl}
 use Rattle.sol_files.specs.Reader.{IsSol}
 use Rattle.sol_files.specs.Sol.{Sol}
 use Rattle.certificate_check.specs.Best.{IsBestRelaxed}
-use Rattle.certificate_check.specs.Fits.{fit_fault}
+use Rattle.certificate_check.specs.Fits.{fit_fault, given_by}
 use Rattle.certificate_check.specs.Terms.{values_of}
-use Rattle.certificate_check.specs.declared.fit.FitFault.{FitFault}
-use Rattle.certificate_check.specs.declared.fit.Given.{Given}
+use Rattle.certificate_check.specs.declared.fitting.FitFault.{FitFault}
 use Rattle.bridge_tool.specs.NlTold.{fold_line}
 use Rattle.bridge_tool.specs.Outcome.{Outcome, Refused, Done}
 use Rattle.bridge_tool.specs.Promise.{Promise}
@@ -28,11 +27,6 @@ use Rattle.bridge_tool.specs.Sol.{IsSolRefused}
 use Rattle.bridge_tool.specs.VerdictTold.{fit_line, is_yes, negative_line, verdict_line}
 
 -- ---- what the values of both files come to
-
--- the counts of a solution
-abbrev pub given_by : Sol → Given
-given_by s =
-    record { n_con = s.n_con; n_var = s.n_var; duals = length s.duals; primals = length s.primals }
 
 -- why a solution does not fit a file, where it does not
 abbrev pub unfit : NlValue → Sol → Option FitFault

@@ -12,8 +12,8 @@ use Rattle.linear_fold.specs.FoldedFaults.{first_fold_fault, step_bound}
 use Rattle.linear_fold.specs.declared.fold_fault.FoldFault.{FoldFault}
 use Rattle.nl_segments.specs.Grammar.{NlValue}
 use Rattle.nl_segments.specs.Reader.{IsNl}
-use Rattle.branch_proof.specs.declared.proof.Claim.{Claim}
-use Rattle.branch_proof.specs.declared.proof.Claim.TheVariants.{Value, Infeasible}
+use Rattle.proof_text.specs.declared.proof.Claim.{Claim}
+use Rattle.proof_text.specs.declared.proof.Claim.TheVariants.{Value, Infeasible}
 use Rattle.branch_proof.specs.Files.{IsTrueOf}
 use Rattle.branch_proof.specs.Proofs.{ProofValue, claim_value, tree_over}
 use Rattle.branch_proof.specs.Trees.{tree_in}

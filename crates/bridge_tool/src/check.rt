@@ -1,6 +1,6 @@
 // The command check: from an .nl text and a .sol text to the line of a verdict, or to the line to
 // tell.
-ghost use Rattle.std.specs.Prelude.{◌≡◌, ◌≢◌, ◌+◌, ◌≤◌, ◌<ℤ◌, pos, IfOk, MatchOption, MatchResult, None, Some, length};
+ghost use Rattle.std.specs.Prelude.{◌≡◌, ◌≢◌, ◌+◌, ◌≤◌, ◌<ℤ◌, pos, IfOk, MatchOption, None, Some, length};
 ghost use Rattle.linear_programs.specs.Linear.{row_count, variable_count};
 ghost use Rattle.duality.specs.Verdict.{verdict};
 ghost use Rattle.exact_numbers.specs.Values.{dec_value};
@@ -9,10 +9,9 @@ ghost use Rattle.linear_fold.specs.Programs.{linear_value};
 ghost use Rattle.nl_model.specs.Rules.{IsFile};
 ghost use Rattle.nl_segments.specs.Reader.{HasLines, value_of};
 ghost use Rattle.certificate_check.specs.Answers.{answer_of};
-ghost use Rattle.certificate_check.specs.Fits.{fit_fault};
 ghost use Rattle.certificate_check.specs.Terms.{values_of};
 ghost use Rattle.bridge_tool.specs.Answer.{IsWorked, status_of};
-ghost use Rattle.bridge_tool.specs.Check.{IsCertified, by_fold, check_outcome, check_promise, given_by, most_steps, objective_number, steps_by_number, unfit};
+ghost use Rattle.bridge_tool.specs.Check.{IsCertified, by_fold, check_outcome, check_promise, most_steps, objective_number, steps_by_number, unfit};
 ghost use Rattle.bridge_tool.specs.SeveralFiles.{Comes};
 ghost use Rattle.bridge_tool.specs.VerdictTold.{is_yes, verdict_line};
 
@@ -22,7 +21,7 @@ use crate::one_file::end_verdict;
 use crate::sol_input::open_sol;
 use crate::stages::fold;
 use crate::verdict_told::{fit_line, is_yes, negative_line, verdict_line};
-use certificate_check::{Columns, FitFault, Given, Verdict, certify, fit_counts};
+use certificate_check::{Columns, Verdict, certify, fit};
 use exact_numbers::Dec;
 use linear_fold::Linear;
 use nl_model::NlFile;
@@ -30,21 +29,6 @@ use nl_segments::NlRead;
 use sol_files::Sol;
 use std::alloc::{AllocError, Global};
 use text_base::{Desk, Ledger, Steps, Stop};
-
-/// Whether a solution fits a file: the same counts, and a value for each variable and for each
-/// constraint; or the first reason why not.
-pub fn fit(file: &NlFile, sol: &Sol) -> Result<(), FitFault>
-    ensures { MatchResult result (λ _. fit_fault file.now.counts (given_by sol.now) ≡ None)
-        (λ fault. fit_fault file.now.counts (given_by sol.now) ≡ Some fault) }
-{
-    let given = Given {
-        n_con: sol.n_con(),
-        n_var: sol.n_var(),
-        duals: sol.duals().len(),
-        primals: sol.primals().len(),
-    };
-    fit_counts(file, given)
-}
 
 // The number of the objective: that of the objno line, or 0 without one.
 fn objective_number(sol: &Sol) -> i32

@@ -35,7 +35,6 @@ mod top;
 mod transfer;
 mod verdict_told;
 
-pub use check::fit;
 pub use command::{Command, command_of, plain_number};
 pub use laws::{
     names_change_no_verdict, one_outcome, programs_mean_their_files, told_lines_are_lines,

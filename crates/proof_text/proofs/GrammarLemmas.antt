@@ -6,7 +6,7 @@ use Rattle.text_base.specs.declared.stop.Stop.TheVariants.{Fault, Memory}
 use Rattle.text_base.specs.declared.stop.Stop.{Stop}
 use Rattle.text_base.specs.declared.fault.TextFault.{TextFault}
 use Rattle.text_base.specs.Reading.{Stands}
-use Rattle.branch_proof.specs.Proofs.{ProofValue}
+use Rattle.proof_text.specs.Proofs.{ProofValue}
 use Rattle.proof_text.specs.declared.fault.ProofReason.{ProofReason}
 use Rattle.proof_text.specs.Setting.{Setting}
 use Rattle.proof_text.specs.Standing.{Standing, nothing_yet, standing, standing_from, with_line}

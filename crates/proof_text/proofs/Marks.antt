@@ -2,7 +2,7 @@
 use Rattle.std.proofs.Common.{◌≡◌, ℕ, zero, suc, ◌<◌, ◌==◌, ◌∙◌, sym, ap, subst, refl, Bool, true, false, ◌||◌, List, [], ◌∷◌, ◌++◌, length, replicate, get_or, slice_set, ⊎_elim, arith}
 use Rattle.std.proofs.lemmas.Bool.{cases_eq, eq-eqb, ne_eqb}
 use Rattle.std.proofs.lemmas.List.Folds.{list_any-append}
-use Rattle.branch_proof.specs.Proofs.{Pair}
+use Rattle.proof_text.specs.Proofs.{Pair}
 use Rattle.proof_text.specs.Leaves.{AreMarked}
 use Rattle.proof_text.specs.Standing.{has_pair}
 

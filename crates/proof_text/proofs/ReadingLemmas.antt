@@ -8,10 +8,10 @@ use Rattle.text_base.specs.Judged.{IsClean}
 use Rattle.text_base.specs.Reading.{lines_of, last_of}
 use Rattle.text_base.proofs.FirstReasons.{none_each}
 use Rattle.text_base.proofs.JudgedLemmas.{one_outcome}
-use Rattle.branch_proof.specs.declared.proof.Claim.{Claim}
-use Rattle.branch_proof.specs.declared.proof.ProofNode.{ProofNode}
-use Rattle.branch_proof.specs.Files.{IsProofIn}
-use Rattle.branch_proof.specs.Proofs.{Pair, ProofValue}
+use Rattle.proof_text.specs.declared.proof.Claim.{Claim}
+use Rattle.proof_text.specs.declared.proof.ProofNode.{ProofNode}
+use Rattle.proof_text.specs.Files.{IsProofIn}
+use Rattle.proof_text.specs.Proofs.{Pair, ProofValue}
 use Rattle.nl_model.specs.File.{File}
 use Rattle.proof_text.specs.declared.fault.ProofReason.{ProofReason}
 use Rattle.proof_text.specs.Setting.{Setting, setting_of}

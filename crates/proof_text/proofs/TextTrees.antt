@@ -19,13 +19,12 @@ use Rattle.nl_model.specs.declared.kind.Kind.TheVariants.{Continuous}
 use Rattle.file_meaning.specs.LinearFile.{elements_from}
 use Rattle.file_meaning.specs.Meaning.{is_whole_kind, is_whole_variable}
 use Rattle.file_meaning.proofs.Elements.{elements_at, elements_length}
-use Rattle.certificate_check.specs.declared.verdict.Goal.TheVariants.{Objective, Zero}
-use Rattle.branch_proof.specs.declared.proof.Claim.{Claim}
-use Rattle.branch_proof.specs.declared.proof.Claim.TheVariants.{Value, Infeasible}
-use Rattle.branch_proof.specs.declared.proof.ProofNode.{ProofNode}
-use Rattle.branch_proof.specs.declared.proof.ProofNode.TheVariants.{Split, Duals, Weights}
-use Rattle.branch_proof.specs.Files.{IsProofIn, IsTreeIn}
-use Rattle.branch_proof.specs.Proofs.{IsAlone, Pair, ProofTree, ProofValue, split, leaf, claim_value, nodes_of, pairs_of}
+use Rattle.proof_text.specs.declared.proof.Claim.{Claim}
+use Rattle.proof_text.specs.declared.proof.Claim.TheVariants.{Value, Infeasible}
+use Rattle.proof_text.specs.declared.proof.ProofNode.{ProofNode}
+use Rattle.proof_text.specs.declared.proof.ProofNode.TheVariants.{Split, Duals, Weights}
+use Rattle.proof_text.specs.Files.{IsProofIn, IsTreeIn}
+use Rattle.proof_text.specs.Proofs.{IsAlone, Pair, ProofTree, ProofValue, split, duals, weights, claim_value, nodes_of, pairs_of}
 use Rattle.proof_text.specs.declared.fault.ProofReason.TheVariants.{Extra}
 use Rattle.proof_text.specs.Reader.{IsProofText}
 use Rattle.proof_text.specs.Rows.{Row, claim_in, is_node_row, leaf_in, node_in, pair_in, value_claim}
@@ -157,11 +156,11 @@ split_alone : (c : Claim) (j : ℕ) (t : ℤ) (low high : ProofTree) → MayStan
 split_alone (Value k d) j t low high h = tt
 split_alone Infeasible j t low high h = absurd h
 
-duals_alone : (c : Claim) (n : ℕ) (ps : List Pair) → MayStand c (Some (Duals n)) → IsAlone c (leaf Objective ps)
+duals_alone : (c : Claim) (n : ℕ) (ps : List Pair) → MayStand c (Some (Duals n)) → IsAlone c (duals ps)
 duals_alone (Value k d) n ps h = tt
 duals_alone Infeasible n ps h = absurd h
 
-weights_alone : (c : Claim) (ps : List Pair) → IsAlone c (leaf Zero ps)
+weights_alone : (c : Claim) (ps : List Pair) → IsAlone c (weights ps)
 weights_alone (Value k d) ps = tt
 weights_alone Infeasible ps = tt
 
@@ -242,12 +241,12 @@ node_grows f c lines next nodes pairs own subtrees left few some none (Some (Dua
     let g = next (nodes ++ Duals n ∷ []) (pairs ++ own) [] (subtrees - 1) n (longer nodes (Duals n) few) fine in
     let last = standing_from (claimed c (nodes ++ Duals n ∷ []) (pairs ++ own) [] (subtrees - 1) n) lines in
     subst (λ l. Grows f c nodes (pairs ++ own) subtrees l last) (sym none)
-    (leaf_grows f c nodes pairs own subtrees n (Duals n) last some (λ ps. leaf Objective ps) (λ ps e. ap (λ m. Duals m ∷ []) e) (λ ps. refl) (λ ps h. h) (λ ps. duals_alone c n ps may) g)
+    (leaf_grows f c nodes pairs own subtrees n (Duals n) last some (λ ps. duals ps) (λ ps e. ap (λ m. Duals m ∷ []) e) (λ ps. refl) (λ ps h. h) (λ ps. duals_alone c n ps may) g)
 node_grows f c lines next nodes pairs own subtrees left few some none (Some (Weights n)) given out continuous may fine =
     let g = next (nodes ++ Weights n ∷ []) (pairs ++ own) [] (subtrees - 1) n (longer nodes (Weights n) few) fine in
     let last = standing_from (claimed c (nodes ++ Weights n ∷ []) (pairs ++ own) [] (subtrees - 1) n) lines in
     subst (λ l. Grows f c nodes (pairs ++ own) subtrees l last) (sym none)
-    (leaf_grows f c nodes pairs own subtrees n (Weights n) last some (λ ps. leaf Zero ps) (λ ps e. ap (λ m. Weights m ∷ []) e) (λ ps. refl) (λ ps h. h) (λ ps. weights_alone c ps) g)
+    (leaf_grows f c nodes pairs own subtrees n (Weights n) last some (λ ps. weights ps) (λ ps e. ap (λ m. Weights m ∷ []) e) (λ ps. refl) (λ ps h. h) (λ ps. weights_alone c ps) g)
 
 -- ---- a line
 

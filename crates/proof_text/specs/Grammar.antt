@@ -4,7 +4,7 @@ use Rattle.std.specs.Prelude.{ℕ, List}
 use Rattle.text_base.specs.Judged.{Rules, first_reason}
 use Rattle.text_base.specs.declared.lines.LineFault.{LineFault}
 use Rattle.text_base.specs.declared.lines.LineFault.TheVariants.{LineTooLong as LongLine, InputTooLong as LongInput}
-use Rattle.branch_proof.specs.Proofs.{ProofValue}
+use Rattle.proof_text.specs.Proofs.{ProofValue}
 use Rattle.proof_text.specs.declared.fault.ProofReason.{ProofReason}
 use Rattle.proof_text.specs.declared.fault.ProofReason.TheVariants.{LineTooLong, InputTooLong}
 use Rattle.proof_text.specs.Setting.{Setting}

@@ -1,6 +1,6 @@
 -- The pairs of the last leaf, with a mark for each row that has one.
 use Rattle.std.specs.Prelude.{◌≡◌, ℕ, ◌<◌, Bool, false, List, get_or, length}
-use Rattle.branch_proof.specs.Proofs.{Pair}
+use Rattle.proof_text.specs.Proofs.{Pair}
 use Rattle.proof_text.specs.Standing.{has_pair}
 
 -- so many rows, and the pairs

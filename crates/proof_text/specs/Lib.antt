@@ -1,3 +1,5 @@
+pub mod Proofs
+pub mod Files
 pub mod Setting
 pub mod Rows
 pub mod Standing

@@ -4,7 +4,7 @@ use Rattle.text_base.specs.declared.stop.Stop.{Stop}
 use Rattle.text_base.specs.declared.fault.TextFault.{TextFault}
 use Rattle.text_base.specs.Lines.{LinesState}
 use Rattle.text_base.specs.Reading.{Stands, Reads, IsRead, HasFault}
-use Rattle.branch_proof.specs.Proofs.{ProofValue}
+use Rattle.proof_text.specs.Proofs.{ProofValue}
 use Rattle.proof_text.specs.declared.fault.ProofReason.{ProofReason}
 use Rattle.proof_text.specs.Setting.{Setting}
 use Rattle.proof_text.specs.Standing.{standing}

@@ -8,11 +8,11 @@ use Rattle.text_base.specs.Words.{begins, word_at}
 use Rattle.exact_numbers.specs.Numbers.{dec_of, signed_of, whole_of}
 use Rattle.exact_numbers.specs.Values.{dec_value}
 use Rattle.exact_numbers.specs.declared.dec.Dec.{Dec}
-use Rattle.branch_proof.specs.declared.proof.Claim.{Claim}
-use Rattle.branch_proof.specs.declared.proof.Claim.TheVariants.{Value, Infeasible}
-use Rattle.branch_proof.specs.declared.proof.ProofNode.{ProofNode}
-use Rattle.branch_proof.specs.declared.proof.ProofNode.TheVariants.{Split, Duals, Weights}
-use Rattle.branch_proof.specs.Proofs.{Pair}
+use Rattle.proof_text.specs.declared.proof.Claim.{Claim}
+use Rattle.proof_text.specs.declared.proof.Claim.TheVariants.{Value, Infeasible}
+use Rattle.proof_text.specs.declared.proof.ProofNode.{ProofNode}
+use Rattle.proof_text.specs.declared.proof.ProofNode.TheVariants.{Split, Duals, Weights}
+use Rattle.proof_text.specs.Proofs.{Pair}
 
 abbrev pub Row : Type 0
 Row = List (List ℕ)

@@ -2,10 +2,10 @@
 use Rattle.std.specs.Prelude.{◌≡◌, ℕ, suc, ◌-◌, ◌==◌, Bool, true, false, not, ◌&&◌, nat_lt, List, [], ◌∷◌, ◌++◌, length, Option, Some, None, is_none, if◌then◌else◌}
 use Rattle.std.specs.List.{list_any}
 use Rattle.text_base.specs.Words.{row_of}
-use Rattle.branch_proof.specs.declared.proof.Claim.{Claim}
-use Rattle.branch_proof.specs.declared.proof.ProofNode.{ProofNode}
-use Rattle.branch_proof.specs.declared.proof.ProofNode.TheVariants.{Split, Duals, Weights}
-use Rattle.branch_proof.specs.Proofs.{Pair, ProofValue}
+use Rattle.proof_text.specs.declared.proof.Claim.{Claim}
+use Rattle.proof_text.specs.declared.proof.ProofNode.{ProofNode}
+use Rattle.proof_text.specs.declared.proof.ProofNode.TheVariants.{Split, Duals, Weights}
+use Rattle.proof_text.specs.Proofs.{Pair, ProofValue}
 use Rattle.proof_text.specs.Rows.{Row, claim_in, node_in, pair_in}
 
 -- Whether the first row has come, and the claim; the nodes; the pairs of the leaves before the last

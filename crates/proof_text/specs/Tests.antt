@@ -6,9 +6,9 @@ use Rattle.text_base.specs.Words.{row_of, word_at}
 use Rattle.nl_model.specs.declared.kind.Kind.{Kind}
 use Rattle.nl_model.specs.declared.kind.Kind.TheVariants.{Continuous}
 use Rattle.file_meaning.specs.Meaning.{is_whole_kind}
-use Rattle.branch_proof.specs.declared.proof.ProofNode.{ProofNode}
-use Rattle.branch_proof.specs.declared.proof.ProofNode.TheVariants.{Split}
-use Rattle.branch_proof.specs.Proofs.{Pair}
+use Rattle.proof_text.specs.declared.proof.ProofNode.{ProofNode}
+use Rattle.proof_text.specs.declared.proof.ProofNode.TheVariants.{Split}
+use Rattle.proof_text.specs.Proofs.{Pair}
 use Rattle.proof_text.specs.declared.fault.ProofReason.{ProofReason}
 use Rattle.proof_text.specs.declared.fault.ProofReason.TheVariants.{BadFirst, BadLine, BadNumber, IndexOut, NotWhole, RepeatedIndex, Short, Extra, TooLarge}
 use Rattle.proof_text.specs.Setting.{Setting}

@@ -14,9 +14,9 @@ ghost use Rattle.proof_text.specs.Tests.{claim_tests, end_tests, first_tests, is
 
 use crate::fault::ProofReason;
 use crate::leaf_pairs::LeafPairs;
+use crate::proof::{Claim, Proof, ProofNode};
 use crate::rows::{judge_first, read_claim};
 use crate::words::{is_node_row, node_in, pair_in};
-use branch_proof::{Claim, Proof, ProofNode};
 use nl_header::kinds_of;
 use nl_model::{Kind, NlFile, Terms};
 use std::alloc::{AllocError, Global};

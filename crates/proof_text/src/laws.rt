@@ -1,8 +1,8 @@
 // Laws of proof texts. Each is proved by a function with an empty body.
 ghost use Rattle.std.specs.Prelude.{List, ℕ};
 ghost use Rattle.nl_model.specs.File.{File};
-ghost use Rattle.branch_proof.specs.Files.{IsProofIn};
-ghost use Rattle.branch_proof.specs.Proofs.{ProofValue};
+ghost use Rattle.proof_text.specs.Files.{IsProofIn};
+ghost use Rattle.proof_text.specs.Proofs.{ProofValue};
 ghost use Rattle.proof_text.specs.Reader.{HasOneReading, IsProofText};
 ghost use Rattle.proof_text.specs.Setting.{Setting, setting_of};
 

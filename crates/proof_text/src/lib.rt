@@ -1,13 +1,15 @@
-//! The reader of proofs by branches.
+//! Proofs by branches, and their reader.
 #![tactic(auto)]
 
 mod fault;
 mod grammar;
 pub mod laws;
 mod leaf_pairs;
+mod proof;
 mod reader;
 mod rows;
 mod words;
 
 pub use fault::{ProofFault, ProofReason};
+pub use proof::{Claim, Proof, ProofNode};
 pub use reader::{ProofReader, read_proof};

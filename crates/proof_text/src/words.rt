@@ -3,7 +3,7 @@ ghost use Rattle.std.specs.Prelude.{◌≡◌};
 ghost use Rattle.text_base.specs.Words.{texts};
 ghost use Rattle.proof_text.specs.Rows.{claim_in, is_alone, is_claim_row, is_node_row, node_in, pair_in, split_node, value_claim};
 
-use branch_proof::{Claim, ProofNode};
+use crate::proof::{Claim, ProofNode};
 use exact_numbers::{Dec, Frac, dec_of, signed_of, whole_of};
 use text_base::{begins, word_at};
 
