@@ -11,7 +11,7 @@ ghost use Rattle.bridge_tool.specs.Told.{number_text};
 ghost use Rattle.bridge_tool.specs.VerdictTold.{cause_text};
 
 use crate::leaf_told::{put_gap, put_side, put_wide};
-use crate::told::{put, put_frac, put_index, refusal};
+use crate::told::{put, put_decimal, put_frac, put_index, refusal};
 use certificate_text::{CertificateFault, CertificateReason};
 use certificate_walk::{Cause, LeafFault, Outcome, PointFault, RayFault};
 use certificates::{Claim, Number};
@@ -109,8 +109,8 @@ fn put_wide_at(line: &mut Vec<u8>, what: &[u8], index: u32) -> Result<(), AllocE
         ≡ line.old.items ++ (codes "too wide at " ++ (what.now ++ decimal index))) }
 {
     put(line, b"too wide at ")?;
-    put_index(line, what, index, b"")?;
-    Ok(())
+    put(line, what)?;
+    put_decimal(line, index)
 }
 
 // Why a point shows nothing.

@@ -5,9 +5,17 @@ ghost use Rattle.exact_numbers.specs.Values.{frac_value};
 ghost use Rattle.bridge_tool.specs.LeafTold.{leaf_number};
 ghost use Rattle.bridge_tool.specs.Told.{number_text};
 
-use crate::told::{put, put_frac, put_index};
+use crate::told::{put, put_decimal, put_frac};
 use exact_numbers::Frac;
 use std::alloc::AllocError;
+
+// The leaf, by its number.
+fn put_leaf(line: &mut Vec<u8>, leaf: u32) -> Result<(), AllocError>
+    ensures { OnOk result (line.new.items ≡ line.old.items ++ leaf_number leaf) }
+{
+    put(line, b"leaf ")?;
+    put_decimal(line, leaf)
+}
 
 /// A leaf that wants a side: of a row or of a bound.
 pub(crate) fn put_side(
@@ -19,8 +27,10 @@ pub(crate) fn put_side(
     ensures { OnOk result (line.new.items ≡ line.old.items
         ++ (leaf_number leaf ++ what.now ++ decimal number ++ codes " has no side")) }
 {
-    put_index(line, b"leaf ", leaf, what)?;
-    put_index(line, b"", number, b" has no side")?;
+    put_leaf(line, leaf)?;
+    put(line, what)?;
+    put_decimal(line, number)?;
+    put(line, b" has no side")?;
     Ok(())
 }
 
@@ -29,7 +39,8 @@ pub(crate) fn put_wide(line: &mut Vec<u8>, leaf: u32) -> Result<(), AllocError>
     ensures { OnOk result (line.new.items ≡ line.old.items
         ++ (leaf_number leaf ++ codes " too wide")) }
 {
-    put_index(line, b"leaf ", leaf, b" too wide")
+    put_leaf(line, leaf)?;
+    put(line, b" too wide")
 }
 
 /// A leaf whose bound leaves a gap.
@@ -37,6 +48,7 @@ pub(crate) fn put_gap(line: &mut Vec<u8>, leaf: u32, bound: Frac) -> Result<(), 
     ensures { OnOk result (line.new.items ≡ line.old.items
         ++ (leaf_number leaf ++ codes " gap " ++ number_text (frac_value bound))) }
 {
-    put_index(line, b"leaf ", leaf, b" gap ")?;
+    put_leaf(line, leaf)?;
+    put(line, b" gap ")?;
     put_frac(line, bound)
 }
