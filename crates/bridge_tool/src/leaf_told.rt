@@ -5,7 +5,7 @@ ghost use Rattle.exact_numbers.specs.Values.{frac_value};
 ghost use Rattle.bridge_tool.specs.LeafTold.{leaf_number};
 ghost use Rattle.bridge_tool.specs.Told.{number_text};
 
-use crate::told::{put, put_decimal, put_frac};
+use crate::told::{put, put_decimal, put_frac, put_index};
 use exact_numbers::Frac;
 use std::alloc::AllocError;
 
@@ -25,13 +25,10 @@ pub(crate) fn put_side(
     number: u32,
 ) -> Result<(), AllocError>
     ensures { OnOk result (line.new.items ≡ line.old.items
-        ++ (leaf_number leaf ++ what.now ++ decimal number ++ codes " has no side")) }
+        ++ (leaf_number leaf ++ (what.now ++ decimal number ++ codes " has no side"))) }
 {
     put_leaf(line, leaf)?;
-    put(line, what)?;
-    put_decimal(line, number)?;
-    put(line, b" has no side")?;
-    Ok(())
+    put_index(line, what, number, b" has no side")
 }
 
 /// A leaf at which a number is too wide.
