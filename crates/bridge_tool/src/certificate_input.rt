@@ -11,12 +11,12 @@ ghost use Rattle.bridge_tool.specs.SeveralFiles.{ReadsFile, Says, itself};
 ghost use Rattle.bridge_tool.specs.Transfer.{HasRead, HasReadCause};
 
 use crate::answer::Answer;
-use crate::one_file::{answered, missed, read};
 use crate::certificate_told::certificate_line;
+use crate::one_file::{answered, missed, read};
 use crate::transfer::{Feed, LIMIT, Unread};
+use certificate_text::CertificateReader;
 use certificates::Certificate;
 use nl_model::NlFile;
-use certificate_text::CertificateReader;
 use std::alloc::Global;
 use text_base::{Desk, Stop};
 

@@ -73,10 +73,7 @@ fn judges_certificates(rt: HostRuntime) -> Result<(), Fail> {
             "ray does not improve\n",
         ),
         fails("bound 0 2\nduals 1\n0 1/2\n", "leaf 0 gap 3/2\n"),
-        fails(
-            "bound 0 2\nduals 1\n0 -1/2\n",
-            "leaf 0 row 0 has no side\n",
-        ),
+        fails("bound 0 2\nduals 1\n0 -1/2\n", "leaf 0 row 0 has no side\n"),
         refused(
             "bound 1 2\nduals 0\n",
             "refused objective 1: no such objective\n",
