@@ -106,12 +106,16 @@ class Project:
             yield File(name, (json.dumps(configuration, indent=2) + "\n").encode())
 
     def pages(self) -> Iterator[File]:
-        """The man pages, as they are written."""
-        day = time.strftime("%Y-%m-%d", time.gmtime(self.epoch))
+        """The man pages of the commands, with their words filled in."""
+        drivers = [name for name, entry in self.scripts.items() if entry == DRIVER]
+        words = {"@VERSION@": self.version, "@DRIVERS@": ", ".join(drivers).replace("-", "\\-"),
+                 "@DATE@": time.strftime("%Y-%m-%d", time.gmtime(self.epoch))}
         for name in sorted(os.listdir(os.path.join(TOP, "packaging", "man"))):
-            text = read("packaging", "man", name).decode()
-            yield File(name, text.replace("@VERSION@", self.version).replace("@DATE@",
-                                                                              day).encode())
+            if name.removesuffix(".1") in self.scripts:
+                text = read("packaging", "man", name).decode()
+                for word, filled in words.items():
+                    text = text.replace(word, filled)
+                yield File(name, text.encode())
 
     def linked_pages(self) -> Iterator[str]:
         """The commands whose page is that of the drivers."""

@@ -89,11 +89,11 @@ def find(named: str, beside: Sequence[str]) -> list[str]:
             return [place]
     other = ""
     for folder in os.environ.get("PATH", "").split(os.pathsep):
-        there = shutil.which("bridge", path=folder) if folder else None
-        if there and is_ours(there):
-            return [there]
-        if there and not other:
-            other = f" ({there} is another program)"
+        found = shutil.which("bridge", path=folder) if folder else None
+        if found and is_ours(found):
+            return [found]
+        if found and not other:
+            other = f" ({found} is another program)"
     raise Missing(f"bridge was not found{other}: give bridge=PATH or set BRIDGE")
 
 

@@ -13,6 +13,7 @@ from . import VERSION, console, minizinc, solvers, words
 from .bridge import BESIDE, Bridge, Missing, find
 from .codes import Code, Failure, Status
 from .job import Clock
+from .names import Names
 from .options import BadOption, Options
 from .sol import bare, with_message
 from .solving import Result, Solving
@@ -162,12 +163,17 @@ class Driver:
             print(self.clock.summary(), flush=True)
 
     def show(self, result: Result) -> None:
-        """Values of variables and duals of constraints, one a line."""
-        answer = result.answer
-        for wanted, texts, tied in ((2, answer.values, "z"), (4, answer.duals, "zdef")):
+        """Values of variables and duals of constraints, one a line, by their names beside the
+        stub."""
+        answer, names = result.answer, Names(self.nl[:-3])
+        if answer is None:
+            return
+        for wanted, texts, of_list in ((2, answer.values, names.column),
+                                       (4, answer.duals, names.row)):
             if self.options.wantsol & wanted and texts is not None:
-                sys.stdout.write("".join(f"{name} {text}\n" for name, text in texts.items()
-                                         if name != tied))
+                for name, text in texts.items():
+                    if name[1:].isdigit():          # not those of a tied objective
+                        print(of_list(int(name[1:])) or name, text)
 
     def put(self, sol: bytes) -> None:
         part = self.sol + ".part"
