@@ -45,7 +45,7 @@ Copyright: {owner}
 License: MIT
 {licence}
 Comment: The program holds code of the library of the Rattle kit that compiled
- it, and of its crates itoa and indexmap (both MIT or Apache-2.0).
+ it, and of its crates itoa (MIT) and indexmap (MIT or Apache-2.0).
 """
 
 
