@@ -81,7 +81,8 @@ class Project:
         """What `nl-bridge version` tells of the program."""
         facts = {"sha256": hashlib.sha256(self.program).hexdigest(),
                  "toolchain": said_by("rt", "--version"),
-                 "commit": said_by("git", "describe", "--always", "--dirty", "--abbrev=40"),
+                 "commit": said_by("git", "describe", "--always", "--dirty", "--abbrev=40",
+                                   "--exclude=*"),
                  "proved": "yes" if self.proved else "no"}
         return (json.dumps(facts, indent=1, sort_keys=True) + "\n").encode()
 
