@@ -21,7 +21,7 @@ from .sol import duals_of
 
 Exact = Union[int, Fraction]
 MOST_NAMED = 5                  # rows and numbers that are named of a long list
-INFINITE = 10 ** 30   # cbc, clp and lp_solve take it for no bound
+INFINITE = 10 ** 30             # cbc, clp and lp_solve take it for no bound
 OBJECTIVE, TIED_ROW, TIED = "obj", "zdef", "z"
 
 
@@ -51,7 +51,9 @@ class Range:
     high: Exact | None = None
 
     def take(self, value: Exact) -> None:
-        size = abs(value) if value < 0 else value
+        size: Exact = value
+        if value < 0:
+            size = -value
         if self.low is None or size < self.low:
             self.low = size
         if self.high is None or size > self.high:
@@ -127,7 +129,10 @@ def figures_of(text: bytes) -> Figures:
 def known(text: str) -> tuple[Exact, bool]:
     """A number, and whether it is held: most texts stand many times."""
     value = Fraction(text)
-    return value.numerator if value.denominator == 1 else value, is_held(text)
+    exact: Exact = value
+    if value.denominator == 1:
+        exact = value.numerator
+    return exact, is_held(text)
 
 
 def number(f: Figures, where: str, text: str) -> Exact:
@@ -160,14 +165,15 @@ def side(f: Figures, section: str, row: str, text: str) -> None:
         f.constant = text
     elif value:
         f.sides.take(value)
-        f.infinite += abs(value) >= INFINITE
+        f.infinite += not -INFINITE < value < INFINITE
 
 
 def bound(f: Figures, kind: str, _set: str, name: str, text: str = "") -> None:
     column = f.columns[name]
-    value = number(f, name, text) if text else None
-    if value is not None:
-        f.infinite += abs(value) >= INFINITE
+    value: Exact | None = None
+    if text:
+        value = number(f, name, text)
+        f.infinite += not -INFINITE < value < INFINITE
     if kind in ("LO", "FX", "MI", "FR"):
         column.low = value
     if kind in ("UP", "FX", "PL", "FR"):
