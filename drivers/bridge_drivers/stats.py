@@ -36,6 +36,12 @@ def is_held(text: str) -> bool:
         return False
 
 
+def size_of(value: Exact) -> Exact:
+    if value < 0:
+        return -value
+    return value
+
+
 @dataclass
 class Column:
     whole: bool
@@ -51,9 +57,7 @@ class Range:
     high: Exact | None = None
 
     def take(self, value: Exact) -> None:
-        size: Exact = value
-        if value < 0:
-            size = -value
+        size = size_of(value)
         if self.low is None or size < self.low:
             self.low = size
         if self.high is None or size > self.high:
@@ -147,7 +151,7 @@ def entry(f: Figures, whole: bool, name: str, row: str, text: str) -> None:
     column.whole = whole
     value = number(f, f"{row} {name}", text)
     if row == TIED_ROW and name == TIED:
-        f.tied_by = abs(value)
+        f.tied_by = size_of(value)
     elif row in (OBJECTIVE, TIED_ROW):
         if value and name != TIED:
             f.costs += 1
