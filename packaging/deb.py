@@ -14,7 +14,7 @@ from contents import TOP, File, Project, Unfit, read
 ARCHITECTURE = "amd64"
 MODULES = "usr/lib/python3/dist-packages"
 MAINTAINER = "Tiwheruko <tiwheruko@localhost>"
-SOLVERS = "coinor-clp, glpk-utils, lp-solve, minizinc, python3-pulp, qsopt-ex"
+SOLVERS = "coinor-clp, glpk-utils, lp-solve, minizinc, python3-pulp, python3-scipy, qsopt-ex"
 COMMAND = """#!/usr/bin/python3
 from {module} import {function}
 
@@ -22,8 +22,8 @@ from {module} import {function}
 """
 DESCRIPTION = """ Reads text .nl files of AMPL, MiniZinc, Pyomo and JuMP and writes MPS, exactly;
  takes a solver's answer back as .sol, and checks what it claims. The program
- nl-bridge is proved; the drivers for cbc, clp, glpsol, esolver and lp_solve,
- with configurations for MiniZinc and a class for PuLP, are Python around it.
+ nl-bridge is proved; the drivers for cbc and other solvers, with
+ configurations for MiniZinc and a class for PuLP, are Python around it.
 """
 INSTALLED = """#!/bin/sh
 set -e
