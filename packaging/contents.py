@@ -128,10 +128,13 @@ class Project:
                 yield name + ".1"
 
     def documents(self) -> Iterator[File]:
-        """What users read, and examples that they can run."""
+        """What users read."""
         yield File("README.md", read("README.md"))
         yield File("drivers.md", read("drivers", "README.md"))
         for name in DOCUMENTS:
             yield File(name, read("docs", name))
+
+    def examples(self) -> Iterator[File]:
+        """What users can try. Not among the documents, which small systems leave out."""
         for name in sorted(os.listdir(os.path.join(TOP, "packaging", "examples"))):
             yield File("examples/" + name, read("packaging", "examples", name))

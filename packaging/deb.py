@@ -81,6 +81,7 @@ def files(project: Project) -> list[File]:
                for f in project.configurations()]
     inside += [File(f"usr/share/man/man1/{f.path}.gz", zipped(f.data)) for f in project.pages()]
     inside += [File(f"{documents}/{f.path}", f.data) for f in project.documents()]
+    inside += [File(f"usr/share/{project.name}/{f.path}", f.data) for f in project.examples()]
     inside += [File(f"{documents}/copyright", copyright_of()),
                File(f"{documents}/changelog.gz", changelog(project))]
     return sorted(inside)

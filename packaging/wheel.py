@@ -28,6 +28,7 @@ def files(project: Project) -> list[File]:
     pages.update({name: b".so man1/bridge-cbc.1\n" for name in project.linked_pages()})
     inside += [File(f"{data}/man/man1/{name}", page) for name, page in sorted(pages.items())]
     inside += [File(f"{data}/doc/{project.name}/{f.path}", f.data) for f in project.documents()]
+    inside += [File(f"{data}/{project.name}/{f.path}", f.data) for f in project.examples()]
     return sorted(inside) + sorted(facts(project))
 
 

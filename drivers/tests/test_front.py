@@ -98,6 +98,9 @@ class Refusals(Case):
         told = "refused line 17: nonlinear"
         self.assertEqual(explaining.in_words(["export", self.stub + ".nl"], told, {}),
                          f"{self.stub}.nl line 17: constraint 0 (Cap): (a * (b + 3)) is nonlinear")
+        told = "refused objective 0: objective too wide"
+        self.assertIn(".nl: objective 0 (Profit): objective too wide (",
+                      explaining.in_words(["export", self.stub + ".nl"], told, {}))
 
     def test_operators_by_name(self) -> None:
         self.put(PRODUCT.replace(b"o2\nv0", b"o6\nv0"))
