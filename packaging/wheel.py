@@ -39,7 +39,7 @@ def name_of(project: Project) -> str:
 def facts(project: Project) -> list[File]:
     """The folder dist-info."""
     folder = name_of(project) + ".dist-info"
-    metadata = [f"Metadata-Version: 2.1", f"Name: {project.name}", f"Version: {project.version}",
+    metadata = ["Metadata-Version: 2.1", f"Name: {project.name}", f"Version: {project.version}",
                 f"Summary: {project.table['description']}", "License: MIT",
                 f"Requires-Python: {project.table['requires-python']}"]
     for extra, needs in project.table["optional-dependencies"].items():
