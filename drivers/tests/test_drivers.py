@@ -21,7 +21,7 @@ os.environ["PYTHONDONTWRITEBYTECODE"] = "1"         # also where drivers are pro
 HERE = os.path.dirname(os.path.abspath(__file__))
 sys.path[:0] = [HERE]
 MODULES = ("units", "stored_runs", "manners", "processes", "end_to_end", "pulp_class",
-           "branching_offline", "branching_search")
+           "branching_offline", "branching_search", "test_front")
 
 
 def main() -> int:
