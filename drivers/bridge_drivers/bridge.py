@@ -90,11 +90,11 @@ def find(named: str, beside: Sequence[str]) -> list[str]:
             return [place]
     other = ""
     for folder in os.environ.get("PATH", "").split(os.pathsep):
-        place = shutil.which("bridge", path=folder) if folder else None
-        if place and is_ours(place):
-            return [place]
-        if place and not other:
-            other = f" ({place} is another program)"
+        found = shutil.which("bridge", path=folder) if folder else None
+        if found and is_ours(found):
+            return [found]
+        if found and not other:
+            other = f" ({found} is another program)"
     raise Missing(f"bridge was not found{other}: give bridge=PATH or set BRIDGE")
 
 

@@ -38,8 +38,9 @@ class Driver:
 
     def main(self, argv: Sequence[str]) -> int:
         """The exit status."""
-        signal.signal(signal.SIGTERM, self.stop)
-        signal.signal(signal.SIGINT, self.stop)
+        for number in (signal.SIGTERM, signal.SIGINT):
+            if signal.getsignal(number) is not signal.SIG_IGN:      # which stays ignored
+                signal.signal(number, self.stop)
         self.words = words.read(argv)
         if self.words.ask is not None:
             sys.stdout.write(self.told(self.words.ask))
@@ -127,7 +128,8 @@ class Driver:
     def work(self) -> Result:
         if not os.path.exists(self.nl):
             raise Failure(Code.FILE, f"{self.nl}: no such file", Status.NO_FILE)
-        bridge, solver_path = self.find_bridge(), self.find_solver()
+        bridge = self.find_bridge()
+        solver_path = "" if self.options.only else self.find_solver()
         folder = self.options.keep or tempfile.mkdtemp(prefix=self.name + "-")
         try:
             os.makedirs(folder, exist_ok=True)
@@ -158,7 +160,7 @@ class Driver:
                 f.write(sol)
         if (not self.words.ampl or o.failexit) and not o.wantsol & 8:
             print("\n".join(lines), flush=True)
-        if result.answer is not None and not self.words.ampl:
+        if not self.words.ampl:
             self.show(result)
         if self.clock.tells:
             print(self.clock.summary(), flush=True)
@@ -166,6 +168,8 @@ class Driver:
     def show(self, result: Result) -> None:
         """Values of variables and duals of constraints, one a line."""
         answer = result.answer
+        if answer is None:
+            return
         for wanted, texts, tied in ((2, answer.values, "z"), (4, answer.duals, "zdef")):
             if self.options.wantsol & wanted and texts is not None:
                 sys.stdout.write("".join(f"{name} {text}\n" for name, text in texts.items()
