@@ -9,7 +9,7 @@ from fractions import Fraction
 from typing import Callable, Iterator, List, Mapping, NamedTuple, Sequence
 
 from . import points, text
-from .clp import Clp, NoClp, State
+from .clp import Clp, NoClp, State, library
 from .directions import directions
 from .equations import parity
 from .leaves import Closed, Closer
@@ -144,9 +144,11 @@ class Certifying:
             return self.best(self.linear_optimum(given))
         assert given.values is not None
         point = points.whole_point(self.model, given.values)
-        if point is None:
-            return Verdict(WITHOUT + "no exact point has the answer's whole variables")
-        return self.best(self.whole_optimum(point))
+        if point is not None:
+            return self.best(self.whole_optimum(point))
+        if self.proves:         # whatever the search finds
+            return self.best(self.infeasible())
+        return Verdict(WITHOUT + "no exact point has the answer's whole variables")
 
     def of_nothing(self, given: Given = Given()) -> Verdict:
         """A bound, where there is no point."""
@@ -155,7 +157,10 @@ class Certifying:
 
     # linear programs ---------------------------------------------------------------
 
-    def relaxation(self) -> tuple[Clp, State]:
+    def relaxation(self) -> tuple[Clp | None, State]:
+        """None where CLP is not there."""
+        if library() is None:
+            return None, State.OTHER
         clp = self.model.relaxation()
         clp.limit(ONE_LEAF if not self.proves else min(max(self.watch.left(), ONE_LEAF),
                                                       MOST_CLP_SECONDS))
@@ -167,14 +172,17 @@ class Certifying:
     def linear_optimum(self, given: Given) -> Iterator[Verdict]:
         p, (clp, state) = self.model, self.relaxation()
         found: list[Point] = []
-        for point in self.linear_points(given, clp if state is State.OPTIMAL else None):
+        if state is not State.OPTIMAL:
+            clp = None
+        for point in self.linear_points(given, clp):
             if point in found:
                 continue
             found.append(point)
-            leaf = self.linear_leaf(clp, state, given, p.value(point))
+            leaf = self.linear_leaf(clp, given, p.value(point))
             if leaf is not None:
                 yield self.one_leaf(leaf, "optimal", None, point)
-        yield from self.loose_bounds(clp, state, given, found)
+        if clp is not None:
+            yield from self.loose_bounds(clp, found)
         if found:
             yield self.feasible(found[0])
         yield Verdict(WITHOUT + "no exact point was found near the answer")
@@ -194,13 +202,13 @@ class Certifying:
                 yield vertex
             yield from points.near(p, clp.values())
 
-    def linear_leaf(self, clp: Clp, state: State, given: Given, value: Fraction) -> Closed | None:
+    def linear_leaf(self, clp: Clp | None, given: Given, value: Fraction) -> Closed | None:
         p = self.model
         closer, box = Closer(p, value), Box(p.lo, p.hi)
         if not any(p.costs):
             return closer.close({}, False, box)
         closed = None
-        if state is State.OPTIMAL:
+        if clp is not None:
             closed = closer.close(dict(enumerate(clp.duals())), False, box) or \
                 closer.exactly(closer.basis_duals(*clp.basis()), False, box)
         if closed is None and given.duals is not None:
@@ -221,11 +229,8 @@ class Certifying:
             y[i] = Fraction(self.model.sign * v, closed.leaf.den * self.factors.get(i, 1))
         return self.judged(lines(), None, point)._replace(duals=y)
 
-    def loose_bounds(self, clp: Clp, state: State, given: Given,
-                     found: Sequence[Point]) -> Iterator[Verdict]:
+    def loose_bounds(self, clp: Clp, found: Sequence[Point]) -> Iterator[Verdict]:
         """Where no leaf meets the optimum, one that is met."""
-        if state is not State.OPTIMAL:
-            return
         p, box = self.model, Box(self.model.lo, self.model.hi)
         top = clp.objective() + float(p.constant)
         point = min(found, key=p.value, default=None)
@@ -247,6 +252,9 @@ class Certifying:
                 break
             except Better as better:
                 point = better.point
+            except NoClp as fault:
+                plans.told.append(str(fault))
+                break
         else:
             yield self.feasible(point)
         if plans.best is not None:
@@ -284,7 +292,8 @@ class Certifying:
         clp, state = self.relaxation()
         if state is State.INFEASIBLE:
             yield from self.infeasible()
-        yield from self.loose_bounds(clp, state, Given(), [])
+        if clp is not None and state is State.OPTIMAL:
+            yield from self.loose_bounds(clp, [])
         yield Verdict(WITHOUT + "there is no point")
 
     # no point, no end --------------------------------------------------------------
@@ -298,7 +307,7 @@ class Certifying:
             for searched, tree, spool, nodes in self.contradictions():
                 self.figures = f"{nodes} nodes"
                 yield self.judged(text.infeasible_lines(self.model, searched, tree, spool))
-        except Stopped as fault:
+        except (NoClp, Stopped) as fault:
             yield Verdict(f"{WITHOUT}{fault}")
         except Better as better:
             if self.proves and not self.linear:

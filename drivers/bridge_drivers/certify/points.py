@@ -5,7 +5,7 @@ from __future__ import annotations
 from fractions import Fraction
 from typing import Iterator, Mapping, NamedTuple, Sequence
 
-from .clp import Clp, State
+from .clp import Clp, State, library
 from .exact import solved
 from .model import Model, Point
 from .numbers import is_narrow
@@ -89,6 +89,8 @@ def whole_point(model: Model, x: Sequence[float | Fraction]) -> Point | None:
     if len(fixed) == p.n:
         out = [fixed[j] for j in range(p.n)]
         return out if p.fits(out) else None
+    if library() is None:
+        return next(near(p, x), None)
     lo = [int(fixed[j] * p.unit) if j in fixed else v for j, v in enumerate(p.lo)]
     hi = [int(fixed[j] * p.unit) if j in fixed else v for j, v in enumerate(p.hi)]
     clp = p.with_bounds(lo, hi).relaxation()
