@@ -31,7 +31,7 @@ class Bytes:
 
     def take(self, form: str) -> Union[int, float]:
         form = self.order + form
-        value: Union[int, float] = struct.unpack_from(form, self.data, self.at)[0]
+        value: int | float = struct.unpack_from(form, self.data, self.at)[0]
         self.at += struct.calcsize(form)
         return value
 

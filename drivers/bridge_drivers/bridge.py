@@ -1,38 +1,25 @@
-"""Where the program `bridge` is found, how it is called, and what its refusals mean."""
+"""Where the program `bridge` is found, and how it is called."""
 
 from __future__ import annotations
 
+import hashlib
 import os
 import shlex
 import shutil
 import subprocess
-from typing import Callable, NamedTuple, Sequence
+import tempfile
+from typing import Callable, Mapping, NamedTuple, Sequence
 
-MEANING = {
-    "nonlinear": "the model is not linear there",
-    "binary file": "only text .nl files are read: in AMPL, write gNAME",
-    "bad first line": "this is no text .nl file",
-    "refused options": "the first line's options are not taken: write the file anew by AMPL",
-    "refused count": "logical constraints, complementarity, networks or functions",
-    "refused segment": "logical constraints or imported functions",
-    "refused leaf": "an imported function or a string",
-    "special ordered sets": "sets declared by the suffix sosno are not taken",
-    "complementarity": "complementarity conditions are not taken",
-    "no such objective": "the file has fewer objectives; objno counts from 1",
-    "empty interval": "a lower bound is above its upper bound, so nothing satisfies the model",
-    "bad number": "not a decimal number, or beyond 38 digits (MiniZinc: without --hexafloat)",
-    "too large": "more than the file may hold",
-    "too wide": "an exact value does not fit 128 bits",
-    "row too wide": "the row's exact values do not fit 128 bits",
-    "objective too wide": "the objective's exact values do not fit 128 bits",
-    "dual too wide": "a dual value does not fit 128 bits",
-    "fold too large": "the linear forms of the model have too many terms",
-    "division by zero": "a divisor is 0",
-    "refused power": "a power's exponent must be a whole number from 0 to 127",
-    "no dual values": "the answer has none, and bridge checks none without them",
-}
+from . import explaining
+
+PACKAGE = os.path.dirname(os.path.abspath(__file__))
+HERE = os.path.dirname(PACKAGE)
+BESIDE = (os.path.join(PACKAGE, "bin", "bridge"),                               # a wheel
+          os.path.join(HERE, "..", "..", "..", "libexec", "nl-bridge", "bridge"),   # Debian's
+          os.path.join(HERE, "bin", "bridge"),                                  # drivers/install
+          os.path.join(HERE, "..", "crates", "bridge", "out", "bridge"))        # a clone
 ENDED = {4: "a file could not be read", 5: "its output could not be written", 6: "want of memory"}
-BAD_WORDS = 3
+BAD_WORDS, INPUT_FAULT = 3, 4
 
 
 class Missing(Exception):
@@ -48,24 +35,36 @@ class Reply(NamedTuple):
 
 
 class Refused(Exception):
-    """`bridge` ended without the text or verdict that was asked for."""
+    """`bridge` ended without the text or verdict that was asked for. `words` are those of the
+    call, where they are known, `shown` the paths that the user knows its files by."""
 
-    def __init__(self, command: str, reply: Reply) -> None:
+    def __init__(self, command: str, reply: Reply, words: Sequence[str] = (),
+                 shown: Mapping[str, str] | None = None) -> None:
         super().__init__(reply.told)
         self.command, self.status, self.told = command, reply.status, reply.told
+        self.words, self.shown = list(words), shown or {}
 
     def line(self) -> str:
-        """The told line with what it means, for a message."""
+        """What was told, in words, for a message."""
+        if self.status == BAD_WORDS and not all(map(is_plain, self.words)):
+            return "a path that is not UTF-8"
         if self.status == BAD_WORDS:
             return f"this bridge does not know the command `{self.command}` (bad words)"
         if self.status < 0:
             return f"`bridge {self.command}` was stopped by signal {-self.status}"
+        if self.status == INPUT_FAULT and self.words:
+            return explaining.unreadable(explaining.files_of(self.words), self.shown)
         text = self.told or ENDED.get(self.status, f"ended with {self.status}")
-        reason = text.rpartition(": ")[2]
-        if reason.startswith("refused opcode"):
-            return text + " (an operator that is not linear)"
-        meaning = MEANING.get(reason)
-        return f"{text} ({meaning})" if meaning else text
+        return explaining.in_words(self.words, text, self.shown)
+
+
+def is_plain(word: str) -> bool:
+    """Whether a word is UTF-8, which the words of `bridge` must be."""
+    try:
+        word.encode()
+    except UnicodeEncodeError:
+        return False
+    return True
 
 
 def is_ours(place: str) -> bool:
@@ -103,15 +102,18 @@ class Late(Exception):
 
 
 class Bridge:
-    """Calls of `bridge`. `note` is told the words of each; `limit` is for one call, in seconds."""
+    """Calls of `bridge`. `note` is told the words of each; `limit` is for one call, in seconds.
+    `shown` has the paths that the user knows files by, where they are others."""
 
     limit: float | None = None
 
     def __init__(self, words: Sequence[str], note: Callable[[Sequence[str]], None]) -> None:
         self.words, self.note = list(words), note
+        self.shown: dict[str, str] = {}
+        self.links: tempfile.TemporaryDirectory[str] | None = None
 
     def call(self, *words: str) -> Reply:
-        argv = self.words + list(words)
+        argv = self.words + [self.reachable(word) for word in words]
         self.note(argv)
         try:
             ran = subprocess.run(argv, stdin=subprocess.DEVNULL, capture_output=True,
@@ -122,16 +124,31 @@ class Bridge:
             raise Late(words[0]) from None
         return Reply(ran.returncode, ran.stdout, ran.stderr.decode("utf-8", "replace").strip())
 
+    def reachable(self, word: str) -> str:
+        """`bridge` takes words of UTF-8 alone: a path of other bytes is given as a link to it."""
+        if is_plain(word):
+            return word
+        if self.links is None:
+            self.links = tempfile.TemporaryDirectory(prefix="bridge-links-")
+        digest = hashlib.sha256(os.fsencode(word)).hexdigest()
+        link = os.path.join(self.links.name, digest)
+        if not os.path.lexists(link):
+            os.symlink(os.path.abspath(word), link)
+        return link
+
+    def refused(self, words: Sequence[str], reply: Reply) -> Refused:
+        return Refused(words[0], reply, words, self.shown)
+
     def text(self, *words: str) -> bytes:
         """The text that a command writes."""
         reply = self.call(*words)
         if reply.status != 0:
-            raise Refused(words[0], reply)
+            raise self.refused(words, reply)
         return reply.out
 
     def verdict(self, command: str, nl: str, other: str) -> str:
         """The line of `check` or `prove`, whose statuses 0 and 1 are verdicts both."""
         reply = self.call(command, nl, other)
         if reply.status not in (0, 1):
-            raise Refused(command, reply)
+            raise self.refused((command, nl, other), reply)
         return reply.out.decode("utf-8", "replace").strip()

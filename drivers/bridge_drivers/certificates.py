@@ -18,6 +18,7 @@ from .certify.text import answer_lines
 from .certify.watch import Watch
 from .codes import Code
 from .job import Job
+from .names import Names
 from .sol import duals_of, values_of
 from .solvers.base import BASIC, Outcome
 from .values import plain
@@ -137,12 +138,8 @@ class Certifier:
 
     def thing(self, kind: str, number: int) -> str:
         """A constraint or variable, by its name where AMPL wrote stub.row or stub.col."""
-        word, end = ("constraint", ".row") if kind == "row" else ("variable", ".col")
-        try:
-            with open(self.stub + end, encoding="utf-8", errors="replace") as f:
-                return f"{word} {f.read().splitlines()[number]}"
-        except (OSError, IndexError):
-            return f"{word} {number}"
+        names = Names(self.stub)
+        return names.constraint(number) if kind == "row" else names.variable(number)
 
     def named(self, exported: str) -> str:
         """A row or column of the exported text."""

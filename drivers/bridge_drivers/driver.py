@@ -9,17 +9,14 @@ import sys
 import tempfile
 from typing import Sequence
 
-from . import VERSION, solvers, words
-from .bridge import Bridge, Missing, find
+from . import VERSION, console, minizinc, solvers, words
+from .bridge import BESIDE, Bridge, Missing, find
 from .codes import Code, Failure, Status
 from .job import Clock
+from .names import Names
 from .options import BadOption, Options
 from .sol import bare, with_message
 from .solving import Result, Solving
-
-HERE = os.path.dirname(os.path.dirname(os.path.abspath(__file__)))
-BESIDE = (os.path.join(HERE, "bin", "bridge"),
-          os.path.join(HERE, "..", "crates", "bridge", "out", "bridge"))
 
 
 class Driver:
@@ -160,20 +157,25 @@ class Driver:
                 f.write(sol)
         if (not self.words.ampl or o.failexit) and not o.wantsol & 8:
             print("\n".join(lines), flush=True)
+        if o.failexit:
+            minizinc.tell(f"{self.name}: {lines[-1]}")
         if not self.words.ampl:
             self.show(result)
         if self.clock.tells:
             print(self.clock.summary(), flush=True)
 
     def show(self, result: Result) -> None:
-        """Values of variables and duals of constraints, one a line."""
-        answer = result.answer
+        """Values of variables and duals of constraints, one a line, by their names beside the
+        stub."""
+        answer, names = result.answer, Names(self.nl[:-3])
         if answer is None:
             return
-        for wanted, texts, tied in ((2, answer.values, "z"), (4, answer.duals, "zdef")):
+        for wanted, texts, of_list in ((2, answer.values, names.column),
+                                       (4, answer.duals, names.row)):
             if self.options.wantsol & wanted and texts is not None:
-                sys.stdout.write("".join(f"{name} {text}\n" for name, text in texts.items()
-                                         if name != tied))
+                for name, text in texts.items():
+                    if name[1:].isdigit():          # not those of a tied objective
+                        print(of_list(int(name[1:])) or name, text)
 
     def put(self, sol: bytes) -> None:
         part = self.sol + ".part"
@@ -189,6 +191,7 @@ class Driver:
         """Told on standard error; with -AMPL also a .sol with the code, and exit 0 with it."""
         line = f"{self.name}: {fault.text}"
         sys.stderr.write(line + "\n")
+        minizinc.tell(line)
         if self.words.ampl and fault.code != Code.STOPPED and not self.options.failexit:
             try:
                 self.put(bare(self.nl, fault.code, max(self.options.objno, 1) - 1, [line]))
@@ -198,5 +201,7 @@ class Driver:
         return fault.status
 
 
-def main(name: str) -> None:
-    sys.exit(int(Driver(name).main(sys.argv[1:])))
+def main(name: str = "") -> None:
+    """Without a name that of the command: bridge-NAME."""
+    name = name or console.own_name().removeprefix("bridge-")
+    console.run("bridge-" + name, lambda: Driver(name).main(sys.argv[1:]))

@@ -88,15 +88,20 @@ class Options:
             setattr(self, option.name, option.default)
 
     def set(self, name: str, word: str) -> None:
-        name = name.lstrip("-").lower()
-        if name not in self.known:
-            raise BadOption(f"unknown option {name}; -= lists the options")
-        value = self.known[name].read(word)
+        option = self.find(name)
+        name, value = option.name, option.read(word)
         if name in self.own:
             self.own[name] = value
         else:
             setattr(self, name, value)
         self.given.append(f"{name}={word}")
+
+    def find(self, name: str) -> Option:
+        """The option of this name, in capitals or not, with `-` before it or not."""
+        name = name.lstrip("-").lower()
+        if name not in self.known:
+            raise BadOption(f"unknown option {name}; -= lists the options")
+        return self.known[name]
 
     def take(self, words: Iterable[str]) -> None:
         """`a=1`, `a = 1`, `a =1` and `a 1`."""
@@ -106,6 +111,7 @@ class Options:
             if not value and not equal and left and left[-1].startswith("="):
                 value = left.pop()[1:]
             if not value:
+                self.find(name)         # an unknown one is told as that
                 if not left:
                     raise BadOption(f"no value for {name}")
                 value = left.pop()

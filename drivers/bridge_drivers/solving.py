@@ -56,6 +56,7 @@ class Solving:
                                  bool(self.options.shortest))
         except BadFile as fault:
             raise Failure(Code.REFUSED, str(fault), Status.REFUSED) from None
+        self.bridge.shown[text_form.path] = self.nl
         try:
             program = self.exported(text_form.path)
         except Refused as fault:

@@ -93,7 +93,7 @@ class Failures(Case):
 
     def test_each_code(self) -> None:
         self.put(MODELS["nonlinear"].text)
-        self.failure(501, 2, "refused line 12: nonlinear (the model is not linear there)", "cbc",
+        self.failure(501, 2, "stub.nl line 12: constraint 0: (x0 * x1) is nonlinear", "cbc",
                      "nonlinear")
         self.put(MODELS["knap"].text)
         self.failure(505, 2, "CLP takes no integer variables, and the model has 3; relax=1", "clp",
@@ -250,7 +250,7 @@ class Claims(Case):
         with mock.patch.dict(StandIn.says, {"return": refuses}):
             line = self.last("clp", "product")
         sol = self.sol()
-        self.assertIn("duals are left out: refused row 0: dual too wide (", sol.message[1])
+        self.assertIn("stub.nl: constraint 0: dual too wide (", sol.message[1])
         self.assertEqual((line, len(sol.values), sol.duals, sol.suffixes),
                          ("certified feasible", 2, [], {}))
 

@@ -137,10 +137,10 @@ MODELS = {
     # refusals
     "nonlinear": linear(nl([real(0, 9), real(0, 9)], [(None, 7, {0: 0, 1: 0})],
                            [("max", 0, {0: 1})], {0: ["o2", "v0", "v1"]}), 501,
-                        word="nonlinear (the model is not linear there)"),
+                        word="is nonlinear"),
     "square_root": linear(nl([real(0, 9)], [(None, 2, {0: 0})], [("max", 0, {0: 1})],
                              {0: ["o39", "v0"]}), 501,
-                          word="refused opcode 39 (an operator that is not linear)"),
+                          word="sqrt(x0) is not linear (refused opcode 39)"),
     "logical": linear(nl([real(0, 9)]).replace(b" 1 0 0 0 0\n", b" 1 0 0 0 0 1\n"), 501,
                       word="refused count"),
     "third_objective": linear(nl([real(0, 9)], [], [("min", 0, {0: 1})]), 501,

@@ -4,16 +4,14 @@ from __future__ import annotations
 
 import os
 import shutil
-import sys
 import unittest
 
 from support import HERE, Case
 from end_to_end import knows
 
-sys.path[:0] = [os.path.join(HERE, "..", "from_pulp")]
 try:
     import pulp
-    import bridge_pulp
+    from bridge_drivers import pulp_solver
 except ImportError:
     pulp = None
 
@@ -25,19 +23,19 @@ class Texts(unittest.TestCase):
     def test_completed(self) -> None:
         """The sense and the objective's constant are put back."""
         text = "*SENSE:Maximize\nNAME          MODEL\nROWS\n N  OBJ\nCOLUMNS\nRHS\nBOUNDS\nENDATA\n"
-        self.assertEqual(bridge_pulp.completed(text, True, "OBJ", 2.5).split("\n"),
+        self.assertEqual(pulp_solver.completed(text, True, "OBJ", 2.5).split("\n"),
                          ["*SENSE:Maximize", "NAME          MODEL", "OBJSENSE", " MAX", "ROWS",
                           " N  OBJ", "COLUMNS", "RHS", "    RHS       OBJ  -2.5", "BOUNDS",
                           "ENDATA", ""])
-        self.assertEqual(bridge_pulp.completed(text, False, "OBJ", 0), text)
+        self.assertEqual(pulp_solver.completed(text, False, "OBJ", 0), text)
 
 
 @unittest.skipUnless(pulp and SOLVERS and knows("import") and knows("return"),
                      "no PuLP, no solver or no bridge that imports")
 class Solves(Case):
-    def solve(self, solver: str, problem: "pulp.LpProblem", **words) -> "bridge_pulp.BridgeCmd":
+    def solve(self, solver: str, problem: "pulp.LpProblem", **words) -> "pulp_solver.BridgeCmd":
         driver = os.path.join(HERE, "..", "bin", "bridge-" + solver)
-        command = bridge_pulp.BridgeCmd(driver, msg=False, **words)
+        command = pulp_solver.BridgeCmd(driver, msg=False, **words)
         command.tmpDir = self.folder
         problem.solve(command)
         self.assertEqual(os.listdir(self.folder), [])
@@ -82,3 +80,70 @@ class Solves(Case):
             problem += x >= 3
             self.solve(SOLVERS[0], problem)
             self.assertEqual(pulp.LpStatus[problem.status], status)
+
+    def test_reduced_costs_and_names(self) -> None:
+        """Of a linear program; the message speaks of PuLP's names."""
+        problem = pulp.LpProblem("p", pulp.LpMinimize)
+        x, y = pulp.LpVariable("left", 0), pulp.LpVariable("right", 0)
+        problem += 2 * x + 3 * y
+        problem += x + y >= 4, "both"
+        self.solve(SOLVERS[0], problem)
+        self.assertEqual([(v.value(), v.dj) for v in (x, y)], [(4, 0), (0, 1)])
+
+    def test_files_that_are_kept(self) -> None:
+        problem = pulp.LpProblem("kept", pulp.LpMinimize)
+        x = pulp.LpVariable("left", 1)
+        problem += 1 * x
+        problem += 2 * x >= 3, "both"
+        driver = os.path.join(HERE, "..", "bin", "bridge-" + SOLVERS[0])
+        command = pulp_solver.BridgeCmd(driver, msg=False, keepFiles=True)
+        here = os.getcwd()
+        os.chdir(self.folder)
+        try:
+            problem.solve(command)
+        finally:
+            os.chdir(here)
+        with open(os.path.join(self.folder, "kept-pulp.row")) as row, \
+                open(os.path.join(self.folder, "kept-pulp.col")) as col:
+            self.assertEqual((row.read(), col.read()), ("both\n", "left\n"))
+
+
+@unittest.skipIf(pulp is None, "no PuLP")
+class Manners(unittest.TestCase):
+    """What needs neither solver nor bridge."""
+
+    def problem(self, low: float, high: "float | None") -> "pulp.LpProblem":
+        problem = pulp.LpProblem("p", pulp.LpMinimize)
+        problem += 1 * pulp.LpVariable("x", low, high)
+        return problem
+
+    def test_empty_interval(self) -> None:
+        """Also one that PuLP's own MPS would lose."""
+        for low, high in ((3, 2), (0, -1)):
+            command = pulp_solver.BridgeCmd("/nonexistent", msg=False)
+            problem = self.problem(low, high)
+            problem.solve(command)
+            self.assertEqual(pulp.LpStatus[problem.status], "Infeasible")
+            self.assertEqual(command.message, f"infeasible: x has the lower bound {low} and the "
+                                              f"upper bound {high}")
+
+    def test_what_is_not_there(self) -> None:
+        with self.assertRaisesRegex(pulp.PulpSolverError, "/nonexistent was not found"):
+            self.problem(0, 1).solve(pulp_solver.BridgeCmd("/nonexistent", msg=False))
+        self.assertFalse(pulp_solver.BridgeCmd("/nonexistent").available())
+        with self.assertRaisesRegex(pulp.PulpSolverError, "no-bridge could not be run"):
+            self.problem(0, 1).solve(pulp_solver.BridgeCmd("/bin/true", "/no-bridge", msg=False))
+
+    def test_words(self) -> None:
+        command = pulp_solver.BridgeCmd("d", mip=False, timeLimit=2.5, gapRel=0.1, threads=3,
+                                        prove=True, options=["outlev=1"])
+        self.assertEqual(command.words("a.nl"),
+                         ["d", "a.nl", "-AMPL", "-e", "outlev=1", "timelim=2.5", "mipgap=0.1",
+                          "threads=3", "relax=1", "prove=1"])
+
+    def test_statuses(self) -> None:
+        told = {code: pulp.LpStatus[pulp_solver.statuses_of(code)[0]]
+                for code in (0, 100, 200, 290, 300, 400, 450)}
+        self.assertEqual(told, {0: "Optimal", 100: "Not Solved", 200: "Infeasible",
+                                290: "Undefined", 300: "Unbounded", 400: "Not Solved",
+                                450: "Not Solved"})

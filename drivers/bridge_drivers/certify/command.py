@@ -9,7 +9,7 @@ import sys
 import tempfile
 from typing import Sequence, TextIO
 
-from .. import VERSION, solvers
+from .. import VERSION, console, solvers
 from ..certificates import remove_older
 from ..codes import Code, Failure, Status
 from ..driver import Driver
@@ -126,4 +126,4 @@ def run(argv: Sequence[str]) -> int:
 
 
 def main() -> None:
-    sys.exit(int(run(sys.argv[1:])))
+    console.run(NAME, lambda: run(sys.argv[1:]))

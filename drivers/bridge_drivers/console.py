@@ -1,0 +1,75 @@
+"""What all commands share: how a command starts and ends, and a standard output that breaks."""
+
+from __future__ import annotations
+
+import os
+import sys
+from typing import Callable, NoReturn, TextIO, TypeVar, cast
+
+BROKEN = 1                      # the exit status where standard output broke
+Result = TypeVar("Result")
+
+
+class OutputBroken(BaseException):
+    """Standard output takes no more: a closed pipe, a full disk. No `except Exception` stops it."""
+
+
+class Output:
+    """A text stream whose faults are OutputBroken; else the stream that it is made of."""
+
+    def __init__(self, stream: TextIO) -> None:
+        self.stream = stream
+
+    def write(self, text: str) -> int:
+        return guarded(lambda: self.stream.write(text))
+
+    def writelines(self, lines: list[str]) -> None:
+        guarded(lambda: self.stream.writelines(lines))
+
+    def flush(self) -> None:
+        guarded(self.stream.flush)
+
+    def __getattr__(self, name: str) -> object:
+        return getattr(self.stream, name)
+
+
+def guarded(call: Callable[[], Result]) -> Result:
+    try:
+        return call()
+    except OSError as fault:
+        raise OutputBroken(fault.strerror or str(fault)) from None
+
+
+def own_name() -> str:
+    """The name that this command was called by."""
+    return os.path.basename(sys.argv[0]).removesuffix(".exe")
+
+
+def run(name: str, command: Callable[[], int], broken: int = BROKEN) -> NoReturn:
+    """Ends the process with the command's status. Bytes of paths that are not UTF-8 are printed
+    as they are; a standard output that breaks is told in one line."""
+    for stream in (sys.stdout, sys.stderr):
+        if hasattr(stream, "reconfigure"):
+            stream.reconfigure(errors="surrogateescape" if stream.encoding.lower() == "utf-8"
+                               else "backslashreplace")
+    sys.stdout = cast(TextIO, Output(sys.stdout))
+    try:
+        status = int(command())
+        sys.stdout.flush()
+    except OutputBroken as fault:
+        close(f"{name}: standard output: {fault}\n")
+        status = broken
+    sys.exit(status)
+
+
+def close(line: str) -> None:
+    """Tells the line, and lets nothing be written to standard output any more, not even what
+    waits to be."""
+    try:
+        sys.stderr.write(line)
+        sys.stderr.flush()
+    except OSError:
+        pass
+    nowhere = os.open(os.devnull, os.O_WRONLY)
+    os.dup2(nowhere, 1)
+    os.close(nowhere)

@@ -1,0 +1,303 @@
+"""A refusal of `bridge` in words: its file, line and place, the expression, what it means.
+
+`bridge` tells one line, such as `refused line 12: nonlinear`. What is said of it here comes from
+reading the file once more, as far as that line; nothing of it is proved. Variables and constraints
+have their names where AMPL wrote them beside the model (stub.col, stub.row), or in a comment.
+"""
+
+from __future__ import annotations
+
+import re
+from typing import Mapping, NamedTuple, Sequence
+
+from .expressions import Expression
+from .names import Names, comment_of
+
+TOLD = re.compile(r"refused (?:file (\d+) ?)?(?:(line|row|column|objective) (\d+)|program)?: (.*)",
+                  re.S)
+HEADS = b"COVLFSJGKkbrdx"
+BODIES = b"COVL"                        # segments that hold an expression
+HEAD_LINES = 10
+NL_FIRST = ("export", "nl", "return", "check", "prove", "verify")     # commands of an .nl file
+
+
+class Meaning(NamedTuple):
+    """What a reason says of a model, and what helps (empty where that is plain)."""
+
+    text: str
+    help: str = ""
+
+
+MEANING: Mapping[str, Meaning] = {
+    "nonlinear": Meaning("the model is not linear there",
+                         "linearise it: a product with a whole variable by bounds (big M), abs, "
+                         "min and max by rows and one more variable"),
+    "binary file": Meaning("only text .nl files are read: in AMPL, write gNAME",
+                           "the drivers (bridge-cbc and kin) read binary files too"),
+    "bad first line": Meaning("this is no text .nl file"),
+    "refused options": Meaning("the first line's options are not taken",
+                               "write the file anew by AMPL"),
+    "refused count": Meaning("logical constraints, complementarity, networks or functions",
+                             "write them as linear rows"),
+    "refused segment": Meaning("logical constraints or imported functions",
+                               "write them as linear rows"),
+    "refused leaf": Meaning("an imported function or a string"),
+    "special ordered sets": Meaning("sets declared by the suffix sosno are not taken",
+                                    "write the sets as rows with whole variables"),
+    "complementarity": Meaning("complementarity conditions are not taken",
+                               "two rows and a whole variable"),
+    "no such objective": Meaning("the file has fewer objectives; objno counts from 1"),
+    "empty interval": Meaning("a lower bound is above its upper bound, so nothing satisfies the "
+                              "model"),
+    "bad number": Meaning("not a decimal number, or beyond 38 digits (MiniZinc: without "
+                          "--hexafloat)"),
+    "too large": Meaning("more than the file may hold", "split the model"),
+    "too wide": Meaning("an exact value does not fit 128 bits",
+                        "round the data to the digits that are meant"),
+    "row too wide": Meaning("the row's exact values do not fit 128 bits",
+                            "multiply the row out by hand, or round its data"),
+    "objective too wide": Meaning("the objective's exact values do not fit 128 bits",
+                                  "multiply it out by hand, or round its data"),
+    "dual too wide": Meaning("a dual value does not fit 128 bits", "round the dual"),
+    "fold too large": Meaning("the linear forms of the model have too many terms",
+                              "make some defined variables true ones, with an equation"),
+    "division by zero": Meaning("a divisor is 0", "mend the data"),
+    "refused power": Meaning("a power's exponent must be a whole number from 0 to 127",
+                             "compute it in the data"),
+    "undefined": Meaning("a defined variable that is used before its piece"),
+    "no dual values": Meaning("the answer has none, and bridge checks none without them"),
+    "no primal values": Meaning("the answer has none"),
+    "other counts": Meaning("it is of another model"),
+    "unknown name": Meaning("no column, or no row that was exported, has it"),
+    "partial answer": Meaning("values for some columns or duals for some rows, and not for all"),
+    "reserved name": Meaning("it begins with @, or is 'MARKER'"),
+    "repeated name": Meaning("an earlier line has it"),
+    "bad name": Meaning("not one word of 1 to 255 bytes"),
+    "other count": Meaning("names that are not as many as the model has"),
+}
+OPCODE = re.compile(r"refused opcode (\d+)$")
+NO_OPERATOR = "leave it out, or tabulate it as a piecewise-linear function written with linear rows"
+
+
+class Told(NamedTuple):
+    """A told refusal: the place of its file among those of the words, from 1, what the number
+    counts (line, row, column, objective, or nothing), and the reason."""
+
+    file: int
+    kind: str
+    number: int
+    reason: str
+
+
+def parsed(told: str) -> Told | None:
+    """None where the line is no refusal."""
+    found = TOLD.fullmatch(told)
+    if found is None:
+        return None
+    file, kind, number, reason = found.groups()
+    return Told(int(file or 1), kind or "", int(number or 0), reason)
+
+
+def files_of(words: Sequence[str]) -> list[str]:
+    """The files among the words of a command, in order."""
+    if not words or words[0] == "make":
+        return []
+    if words[0] == "export":
+        return [*words[1:2], *words[3:]]
+    return list(words[1:])
+
+
+def meaning(reason: str) -> str:
+    """` (what it means)`, or nothing."""
+    if OPCODE.match(reason):
+        return " (an operator that is not linear)"
+    known = MEANING.get(reason)
+    return f" ({known.text})" if known else ""
+
+
+def without_files(told: str) -> str:
+    """A told line with its meaning, where the words of the call are not known."""
+    return told + meaning(told.rpartition(": ")[2])
+
+
+def unreadable(files: Sequence[str], shown: Mapping[str, str]) -> str:
+    """Which of the files cannot be read, and why."""
+    for file in files:
+        try:
+            with open(file, "rb") as f:
+                f.read(1)
+        except OSError as fault:
+            return f"{shown.get(file, file)}: input fault ({fault.strerror})"
+    return "input fault: " + " or ".join(shown.get(f, f) for f in files) + " could not be read"
+
+
+def variables_of(path: str) -> int | None:
+    """How many variables an .nl file has, by its second line; None where that is not told."""
+    try:
+        with open(path, "rb") as f:
+            f.readline(1000)
+            return int(f.readline(1000).split()[0])
+    except (OSError, ValueError, IndexError):
+        return None
+
+
+# places in an .nl file -------------------------------------------------------------
+
+
+class Segment(NamedTuple):
+    """The piece of an .nl file that a line stands in: the line of its head, which is 0 for the
+    ten lines of the header, and its lines as far as an expression needs them."""
+
+    head_line: int
+    head: bytes
+    body: list[bytes]
+
+
+def segment_at(path: str, line: int) -> Segment:
+    """Only bodies with expressions are kept. OSError where the file cannot be read."""
+    head_line, head = 0, b""
+    body: list[bytes] = []
+    with open(path, "rb") as f:
+        for number, text in enumerate(f, 1):
+            if number > HEAD_LINES and text[:1] in HEADS and text[:1].strip():
+                if number > line:
+                    break
+                head_line, head, body = number, text, []
+            elif head[:1] in BODIES and head:
+                body.append(text)
+            elif number > line:
+                break
+    return Segment(head_line, head, body)
+
+
+def place_of(segment: Segment, line: int, names: Names) -> str:
+    """`constraint 0 (Cap)`, or what else the line stands in."""
+    letter, inside = segment.head[:1], line - segment.head_line - 1
+    found = re.match(rb"[A-Za-z](\d+)", segment.head)
+    number = int(found.group(1)) if found else 0
+    said = comment_of(segment.head) if letter in BODIES else ""
+    if not segment.head_line:
+        return "header"
+    if letter in b"CJ":
+        return names.constraint(number, said)
+    if letter in b"OG":
+        return f"objective {number}" + (f" ({said})" if said else "")
+    if letter == b"V":
+        return f"defined variable {number}" + (f" ({said})" if said else "")
+    if letter in b"br" and inside >= 0:
+        return names.variable(inside) if letter == b"b" else names.constraint(inside)
+    return {b"L": f"logical constraint {number}", b"b": "bounds", b"r": "sides of constraints",
+            b"k": "column counts", b"K": "column counts", b"d": "guesses of duals",
+            b"x": "guesses of values", b"S": "suffix", b"F": "imported function"}[letter]
+
+
+def expression_at(segment: Segment, line: int, names: Names) -> str:
+    """The expression that begins on the line, or nothing."""
+    start = line - segment.head_line - 1
+    if not segment.head or start < 0 or start >= len(segment.body):
+        return ""
+    return Expression(names).text(segment.body[start:])
+
+
+def fault_of(reason: str, expression: str) -> str:
+    """`(x0 * x1) is nonlinear`, or the reason with its meaning."""
+    opcode = OPCODE.match(reason)
+    if opcode:
+        what = expression or "an operator"
+        return f"{what} is not linear ({reason})"
+    if expression and reason == "nonlinear":
+        return f"{expression} is nonlinear"
+    return (f"{expression}: " if expression else "") + reason + meaning(reason)
+
+
+# the whole line ----------------------------------------------------------------------
+
+
+class Refusal:
+    """One refusal: `words` are those of the call, `told` is its line, `shown` the paths that the
+    user knows files by. Names are looked for beside the first file as it is shown."""
+
+    def __init__(self, words: Sequence[str], told: str, shown: Mapping[str, str]) -> None:
+        self.command, self.words, self.told = words[0], words, told
+        self.files = files_of(words)
+        self.shown = [shown.get(file, file) for file in self.files]
+        self.parts = parsed(told)
+        self.is_model = self.command in NL_FIRST and bool(self.files)
+        stub = self.shown[0] if self.shown else ""
+        self.names = Names(stub[:-3] if stub.endswith(".nl") else stub,
+                           variables_of(self.files[0]) if self.is_model else None)
+        self.segment: Segment | None = None
+
+    def line(self) -> str:
+        """All of it in one line."""
+        t = self.parts
+        if t is None or not 1 <= t.file <= len(self.files):
+            return without_files(self.told)
+        file = self.shown[t.file - 1]
+        if t.kind == "line":
+            return f"{file} line {t.number}: {self.at_line(t)}"
+        thing = self.thing(t)
+        return f"{file}: {thing}{t.reason}{meaning(t.reason)}"
+
+    def at_line(self, t: Told) -> str:
+        if t.file != 1 or not self.is_model:
+            return t.reason + meaning(t.reason)
+        try:
+            self.segment = segment = segment_at(self.files[0], t.number)
+        except OSError:
+            return t.reason + meaning(t.reason)
+        expression = ""
+        if not t.reason.startswith(("short", "extra", "bad line")):
+            expression = expression_at(segment, t.number, self.names)
+        return f"{place_of(segment, t.number, self.names)}: {fault_of(t.reason, expression)}"
+
+    def thing(self, t: Told) -> str:
+        """`constraint 3 (Cap): ` for a row of the model; rows of an MPS text have no names here."""
+        if not t.kind:
+            return ""
+        if t.kind == "row" and self.is_model:
+            return self.names.constraint(t.number) + ": "
+        return f"{t.kind} {t.number}: "
+
+    def more(self) -> list[str]:
+        """Further lines: the whole expression with the fault marked, the lines around, what
+        helps."""
+        self.line()
+        t, lines = self.parts, []
+        if t is None or not 1 <= t.file <= len(self.files):
+            return []
+        if self.segment is not None and self.segment.body:
+            whole = Expression(self.names, t.number - self.segment.head_line - 1)
+            text = whole.text(self.segment.body)
+            if text and whole.mark > 0:
+                lines.append("in: " + text)
+        known = MEANING.get(t.reason)
+        helps = NO_OPERATOR if OPCODE.match(t.reason) else known.help if known else ""
+        if helps:
+            lines.append("what helps: " + helps)
+        if t.kind == "line":
+            lines += around(self.files[t.file - 1], t.number)
+        return lines
+
+
+def around(path: str, line: int, before: int = 2, after: int = 3) -> list[str]:
+    """The lines about one line, each with its number, that one marked."""
+    lines = []
+    try:
+        with open(path, "rb") as f:
+            for number, text in enumerate(f, 1):
+                if number > line + after:
+                    break
+                if number >= line - before:
+                    shown = text.rstrip(b"\r\n")[:100].decode("utf-8", "surrogateescape")
+                    lines.append(f"{'>' if number == line else ' '} {number:6} {shown}")
+    except OSError:
+        return []
+    return lines
+
+
+def in_words(words: Sequence[str], told: str, shown: Mapping[str, str]) -> str:
+    """A told line in words. Without words its meaning alone."""
+    if not words:
+        return without_files(told)
+    return Refusal(words, told, shown).line()

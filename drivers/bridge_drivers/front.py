@@ -1,0 +1,163 @@
+"""nl-bridge: what people type. Help, version, explain and stats are here; every other command is
+the proved program's own, which takes this process's place."""
+
+from __future__ import annotations
+
+import hashlib
+import json
+import os
+import signal
+import sys
+from typing import Callable, NamedTuple, Sequence
+
+from . import VERSION, console, explaining
+from .bridge import BESIDE, PACKAGE, Bridge, Missing, Refused, find
+from .stats import stats
+
+NAME = "nl-bridge"
+DONE, REFUSED, BAD_WORDS, OUTPUT_FAULT, NOT_THERE = 0, 2, 3, 5, 127
+
+
+class Command(NamedTuple):
+    """A row of the proved program's table of commands: its word, what follows, what it writes."""
+
+    word: str
+    rest: str
+    text: str
+
+
+COMMANDS = (
+    Command("export", "FILE [K]", "the MPS text of an .nl file, with objective K (from 0)"),
+    Command("export", "FILE K ROWS COLS", "the same with the names of two lists"),
+    Command("return", "NL ANSWER [ROWS COLS]", "the .sol text of a solver's answer"),
+    Command("check", "NL SOL", "one verdict on a point and duals"),
+    Command("prove", "NL PROOF", "one verdict on a proof by branches"),
+    Command("verify", "NL CERTIFICATE", "one verdict on a certificate"),
+    Command("nl", "FILE", "an .nl text in its one written form"),
+    Command("mps", "FILE", "an MPS text in its one written form"),
+    Command("fixed", "FILE", "an MPS text of fixed columns, in free ones"),
+    Command("sol", "FILE", "a .sol text in its one written form"),
+    Command("import", "FILE", "the .nl text of an MPS text"),
+    Command("make", "SEED SIZE", "one line on an instance that is made"),
+)
+OWN = (
+    Command("explain", "FILE [K]", "what a refusal is about: the expression, the lines, names"),
+    Command("explain", "COMMAND FILE ..", "the same for a call of another command"),
+    Command("stats", "FILE [K]", "sizes and kinds, numbers that are no doubles, scaled rows"),
+    Command("version", "", "the program with its sum, the toolchain, the drivers"),
+    Command("help", "", "this text"),
+)
+STATUSES = ("0 done, 1 another verdict, 2 refused, 3 bad words, 4 input fault, 5 output fault, "
+            "6 want of memory")
+
+
+def rows_of(commands: Sequence[Command]) -> str:
+    return "".join(f"  {f'{c.word} {c.rest}'.strip():30} {c.text}\n" for c in commands)
+
+
+def usage() -> str:
+    return (f"usage: {NAME} COMMAND ..\n\nof the proved program:\n{rows_of(COMMANDS)}\n"
+            f"around it:\n{rows_of(OWN)}\nstatus: {STATUSES}\n"
+            f"Solvers are run by bridge-cbc and kin. More: man {NAME}\n")
+
+
+def built() -> dict[str, str]:
+    """What the package says of the program in it; nothing where there is no package."""
+    try:
+        with open(os.path.join(PACKAGE, "built.json"), encoding="utf-8") as f:
+            found = json.load(f)
+    except (OSError, ValueError):
+        return {}
+    return {str(key): str(value) for key, value in found.items()}
+
+
+def version(words: list[str]) -> str:
+    """Program, sum, toolchain and drivers, one a line."""
+    digest = "cannot be read"
+    if len(words) == 1 and os.path.isfile(words[0]):
+        with open(words[0], "rb") as f:
+            digest = hashlib.sha256(f.read()).hexdigest()
+    package = built()
+    is_packaged = package.get("sha256") == digest
+    toolchain = package.get("toolchain", "") if is_packaged else ""
+    if is_packaged and package.get("proved") != "yes":
+        toolchain += " (a build for trials: it is not the one that the gate proved)"
+    return (f"{NAME} {VERSION}\nprogram    {' '.join(map(os.path.normpath, words))}\n"
+            f"sha256     {digest}\n"
+            f"toolchain  {toolchain or 'not told: the program is of no package'}\n"
+            f"drivers    {VERSION} {PACKAGE}\n")
+
+
+def explain(bridge: Bridge, words: Sequence[str]) -> int:
+    """The refusal of a call, of `export` where there is a file alone. The status is the call's."""
+    known = {command.word for command in COMMANDS}
+    call = list(words) if len(words) > 1 and words[0] in known else ["export", *words]
+    reply = bridge.call(*call)
+    if reply.status in (0, 1):
+        said = "is not refused" if reply.status == 0 else reply.out.decode().strip()
+        print(f"{explaining.files_of(call)[0] if len(call) > 1 else ''}: {said}")
+        return reply.status
+    print(Refused(call[0], reply, call).line())
+    if reply.status == REFUSED:
+        print("".join(f"  {line}\n" for line in explaining.Refusal(call, reply.told, {}).more()),
+              end="")
+    return reply.status
+
+
+def show_stats(bridge: Bridge, words: Sequence[str]) -> int:
+    try:
+        print("\n".join(stats(bridge, *words)))
+        return DONE
+    except Refused as fault:
+        sys.stderr.write(f"{NAME}: {fault.line()}\n")
+        return fault.status
+
+
+def passed_on(place: Sequence[str], words: Sequence[str]) -> int:
+    """The proved program in this process's place, with the signals that it would have without
+    Python."""
+    for name in ("SIGPIPE", "SIGXFSZ"):
+        if hasattr(signal, name):
+            signal.signal(getattr(signal, name), signal.SIG_DFL)
+    try:
+        os.execv(place[0], [*place, *words])
+    except OSError as fault:
+        raise Missing(f"{place[0]} could not be run: {fault.strerror}") from None
+
+
+def wrong(text: str) -> int:
+    sys.stderr.write(f"{NAME}: {text}; -h lists the commands\n")
+    return BAD_WORDS
+
+
+def command(words: Sequence[str]) -> int:
+    """One call."""
+    if not words:
+        sys.stderr.write(usage())
+        return BAD_WORDS
+    first, rest = words[0], words[1:]
+    if first in ("-h", "-?", "-=", "--help", "help"):
+        print(usage(), end="")
+        return DONE
+    own: dict[str, Callable[[Bridge, Sequence[str]], int]] = {"explain": explain,
+                                                              "stats": show_stats}
+    asks_version = first in ("-v", "--version", "version")
+    if not asks_version and first not in own and first not in {c.word for c in COMMANDS}:
+        return wrong(f"unknown command {first}")
+    if first in own and not rest or first == "stats" and len(rest) > 2:
+        return wrong(f"{first} takes a FILE")
+    try:
+        place = find("", BESIDE)
+        if asks_version:
+            print(version(place), end="")
+            return DONE
+        if first in own:
+            return own[first](Bridge(place, lambda argv: None), rest)
+        return passed_on(place, words)
+    except Missing as fault:
+        sys.stderr.write(f"{NAME}: {fault}\n")
+        return NOT_THERE
+
+
+def main() -> None:
+    console.run(NAME, lambda: command(sys.argv[1:]), OUTPUT_FAULT)

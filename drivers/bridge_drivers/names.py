@@ -1,0 +1,59 @@
+"""Names of constraints and variables, as AMPL writes them beside a model: stub.row, stub.col."""
+
+from __future__ import annotations
+
+import re
+
+COMMENT = re.compile(rb"(?:^|[ \t])#[ \t]*(\S.*)")
+
+
+def comment_of(line: bytes) -> str:
+    """What stands behind the mark # of an .nl line."""
+    found = COMMENT.search(line.rstrip(b"\r\n"))
+    return found.group(1).decode("utf-8", "surrogateescape").strip() if found else ""
+
+
+def read_names(path: str) -> list[str]:
+    """One name a line, lines without words left out. Empty where there is no such file."""
+    try:
+        with open(path, encoding="utf-8", errors="surrogateescape") as f:
+            return [line.strip() for line in f.read().split("\n") if line.strip()]
+    except OSError:
+        return []
+
+
+class Names:
+    """The names beside a stub; each list is read when it is first asked for. `variables` is how
+    many there are, where that is known: numbers from there on are defined variables."""
+
+    def __init__(self, stub: str, variables: int | None = None) -> None:
+        self.stub, self.variables = stub, variables
+        self.lists: dict[str, list[str]] = {}
+
+    def name(self, end: str, number: int) -> str:
+        """The name of that number, or nothing."""
+        if end not in self.lists:
+            self.lists[end] = read_names(self.stub + end) if self.stub else []
+        names = self.lists[end]
+        return names[number] if 0 <= number < len(names) else ""
+
+    def row(self, number: int) -> str:
+        return self.name(".row", number)
+
+    def column(self, number: int) -> str:
+        return self.name(".col", number)
+
+    def constraint(self, number: int, said: str = "") -> str:
+        """`constraint 0 (Cap)`; `said` is a name from elsewhere, for want of a list."""
+        name = self.row(number) or said
+        return f"constraint {number}" + (f" ({name})" if name else "")
+
+    def operand(self, number: int, said: str) -> str:
+        """A variable or defined variable in an expression: its name, `x2`, or `v7`."""
+        if self.variables is not None and number >= self.variables:
+            return said or f"v{number}"
+        return self.column(number) or said or f"x{number}"
+
+    def variable(self, number: int) -> str:
+        name = self.column(number)
+        return f"variable {number}" + (f" ({name})" if name else "")

@@ -1,0 +1,238 @@
+"""Figures of the program that `bridge export` writes: sense, columns and rows by kind, entries,
+the range of coefficients, what doubles cannot hold, and which rows are scaled, by what.
+
+The text is read once, line by line; nothing but counts is kept of its entries. The factors of
+rows are not in the text: `bridge return` tells them, since the dual of a written row comes back
+times the row's factor.
+"""
+
+from __future__ import annotations
+
+import os
+import tempfile
+from dataclasses import dataclass, field
+from fractions import Fraction
+from typing import Iterator
+
+from .bridge import Bridge
+from .names import Names
+from .sol import duals_of
+
+MOST_NAMED = 5                  # rows and numbers that are named of a long list
+INFINITE = Fraction(10) ** 30   # cbc, clp and lp_solve take it for no bound
+OBJECTIVE, TIED_ROW, TIED = "obj", "zdef", "z"
+
+
+def is_held(text: str) -> bool:
+    """Whether a solver that reads doubles reads this number: it is a double, or the shortest
+    decimal of the one that is read."""
+    value = Fraction(text)
+    try:
+        double = float(text)
+        return Fraction(double) == value or Fraction(repr(double)) == value
+    except (OverflowError, ValueError):
+        return False
+
+
+@dataclass
+class Column:
+    whole: bool
+    low: Fraction | None = Fraction(0)
+    high: Fraction | None = None
+
+
+@dataclass
+class Range:
+    """Least and greatest of absolute values."""
+
+    low: Fraction | None = None
+    high: Fraction | None = None
+
+    def take(self, value: Fraction) -> None:
+        size = abs(value)
+        if self.low is None or size < self.low:
+            self.low = size
+        if self.high is None or size > self.high:
+            self.high = size
+
+    def line(self) -> str:
+        if self.low is None or self.high is None:
+            return "none"
+        return f"{figure(self.low)} to {figure(self.high)}"
+
+
+@dataclass
+class Figures:
+    """What is counted of a text."""
+
+    maximise: bool = False
+    constant: str = "0"
+    kinds: dict[str, str] = field(default_factory=dict)
+    columns: dict[str, Column] = field(default_factory=dict)
+    ranged: int = 0
+    entries: int = 0
+    costs: int = 0
+    tied_by: Fraction | None = None
+    sizes: Range = field(default_factory=Range)
+    cost_sizes: Range = field(default_factory=Range)
+    sides: Range = field(default_factory=Range)
+    infinite: int = 0
+    lost: list[tuple[str, str]] = field(default_factory=list)
+
+    def rows(self, kind: str = "") -> list[str]:
+        return [name for name, letter in self.kinds.items()
+                if name not in (OBJECTIVE, TIED_ROW) and (not kind or letter == kind)]
+
+
+def figure(value: Fraction) -> str:
+    try:
+        return f"{float(value):g}"
+    except OverflowError:
+        return "beyond doubles"
+
+
+def data_lines(text: bytes) -> Iterator[tuple[str, list[str]]]:
+    """The data lines of a text, with the names of their sections."""
+    section = ""
+    for line in text.decode().split("\n"):
+        words = line.split()
+        if line.startswith(" "):
+            yield section, words
+        elif words:
+            section = words[0]
+
+
+def figures_of(text: bytes) -> Figures:
+    """Of a text as `bridge export` writes it."""
+    f, whole = Figures(), False
+    for section, words in data_lines(text):
+        if section == "OBJSENSE":
+            f.maximise = words == ["MAX"]
+        elif section == "ROWS":
+            f.kinds[words[1]] = words[0]
+        elif section == "COLUMNS" and words[1] == "'MARKER'":
+            whole = words[2] == "'INTORG'"
+        elif section == "COLUMNS":
+            entry(f, whole, *words)
+        elif section in ("RHS", "RANGES"):
+            side(f, section, words[1], words[2])
+        elif section == "BOUNDS":
+            bound(f, *words)
+    return f
+
+
+def number(f: Figures, where: str, text: str) -> Fraction:
+    if not is_held(text):
+        f.lost.append((where, text))
+    return Fraction(text)
+
+
+def entry(f: Figures, whole: bool, name: str, row: str, text: str) -> None:
+    column = f.columns.setdefault(name, Column(whole))
+    column.whole = whole
+    value = number(f, f"{row} {name}", text)
+    if row == TIED_ROW and name == TIED:
+        f.tied_by = abs(value)
+    elif row in (OBJECTIVE, TIED_ROW):
+        if value and name != TIED:
+            f.costs += 1
+            f.cost_sizes.take(value)
+    elif value:
+        f.entries += 1
+        f.sizes.take(value)
+
+
+def side(f: Figures, section: str, row: str, text: str) -> None:
+    value = number(f, row, text)
+    if section == "RANGES":
+        f.ranged += 1
+    if row == OBJECTIVE:
+        f.constant = text
+    elif value:
+        f.sides.take(value)
+        f.infinite += abs(value) >= INFINITE
+
+
+def bound(f: Figures, kind: str, _set: str, name: str, text: str = "") -> None:
+    column = f.columns[name]
+    value = number(f, name, text) if text else None
+    if value is not None:
+        f.infinite += abs(value) >= INFINITE
+    if kind in ("LO", "FX", "MI", "FR"):
+        column.low = value
+    if kind in ("UP", "FX", "PL", "FR"):
+        column.high = value
+
+
+# the lines --------------------------------------------------------------------------
+
+
+def columns_line(f: Figures) -> str:
+    columns = [c for name, c in f.columns.items() if name != TIED]
+    whole = [c for c in columns if c.whole]
+    binary = sum(c.low == 0 and c.high == 1 for c in whole)
+    free = sum(c.low is None and c.high is None for c in columns)
+    fixed = sum(c.low is not None and c.low == c.high for c in columns)
+    return (f"{len(columns)}: {len(columns) - len(whole)} continuous, {binary} binary, "
+            f"{len(whole) - binary} integer; {free} free, {fixed} fixed")
+
+
+def sense_line(f: Figures) -> str:
+    line = "maximise" if f.maximise else "minimise"
+    if not f.costs:
+        line += ", no objective but a constant"
+    if f.constant != "0" and f.tied_by is None:
+        line += f", constant {-Fraction(f.constant)}"
+    if f.tied_by is not None:
+        line += f"; tied to column z by row zdef, times {f.tied_by}"
+    return line
+
+
+def named(items: list[str]) -> str:
+    """The first of a list, and how many more."""
+    more = len(items) - MOST_NAMED
+    return ", ".join(items[:MOST_NAMED]) + (f" and {more} more" if more > 0 else "")
+
+
+def row_name(row: str, names: Names) -> str:
+    name = names.row(int(row[1:])) if row[1:].isdigit() else ""
+    return f"{row} ({name})" if name else row
+
+
+def lines_of(f: Figures, factors: dict[str, str], names: Names) -> list[str]:
+    """What is printed, one figure a line."""
+    rows = f"{len(f.rows())}: " + ", ".join(
+        f"{len(f.rows(kind))} {sign}" for kind, sign in (("L", "<="), ("G", ">="), ("E", "=")))
+    lines = [f"sense         {sense_line(f)}", f"columns       {columns_line(f)}",
+             f"rows          {rows}; {f.ranged} with two sides",
+             f"entries       {f.entries} in rows, {f.costs} in the objective",
+             f"coefficients  {f.sizes.line()} in rows, {f.cost_sizes.line()} in the objective",
+             f"sides         {f.sides.line()}"]
+    if f.infinite:
+        lines.append(f"infinite      {f.infinite} sides and bounds from 1e30 on, which cbc, clp "
+                     "and lp_solve take for none")
+    lost = [f"{text[:45]} ({where})" for where, text in f.lost]
+    lines.append("not doubles   " + (f"{len(lost)} numbers: {named(lost)}" if lost else "none"))
+    scaled = [f"{row_name(row, names)} by {factor}" for row, factor in factors.items()
+              if factor != "1"]
+    lines.append("scaled rows   " + (f"{len(scaled)}: {named(scaled)}" if scaled else "none"))
+    return lines
+
+
+def factors_of(bridge: Bridge, nl: str, objective: str, rows: list[str]) -> dict[str, str]:
+    """What `export` multiplied each written row by: duals of 1, as `return` gives them back."""
+    if not rows:
+        return {}
+    with tempfile.TemporaryDirectory(prefix="nl-bridge-") as folder:
+        path = os.path.join(folder, "ones.txt")
+        with open(path, "w", encoding="ascii") as f:
+            f.write(f"answer 1\nobjno {objective}\n" + "".join(f"row {r} 1\n" for r in rows))
+        duals = duals_of(bridge.text("return", nl, path))
+    return {row: duals[int(row[1:])] for row in rows}
+
+
+def stats(bridge: Bridge, nl: str, objective: str = "0") -> list[str]:
+    """The lines on an .nl file. Refused where `bridge` refuses it."""
+    figures = figures_of(bridge.text("export", nl, objective))
+    names = Names(nl[:-3] if nl.endswith(".nl") else nl)
+    return lines_of(figures, factors_of(bridge, nl, objective, figures.rows()), names)

@@ -1,0 +1,136 @@
+"""What the packages hold: each file by its path, its bytes and its mode. Read from a clone."""
+
+from __future__ import annotations
+
+import hashlib
+import json
+import os
+import re
+import subprocess
+import time
+from typing import Iterator, NamedTuple
+
+try:
+    import tomllib
+except ImportError:
+    raise SystemExit("packaging/build: needs Python 3.11 or later") from None
+
+TOP = os.path.dirname(os.path.dirname(os.path.realpath(__file__)))
+PACKAGE = "bridge_drivers"
+BUILT = os.path.join(TOP, "crates", "bridge", "out", "bridge")
+DOCUMENTS = ("FORMATS.md", "REFUSALS.md", "COMMANDS.md", "READING.md")
+DRIVER = "bridge_drivers.driver:main"       # commands of this kind share a man page
+DRIVERS_PAGE = "bridge-cbc.1"
+X86_64 = b"\x3e\x00"                        # the machine in an ELF file's head
+
+
+class File(NamedTuple):
+    path: str
+    data: bytes
+    mode: int = 0o644
+
+
+class Unfit(Exception):
+    """What cannot be packed; the text says why."""
+
+
+def read(*parts: str) -> bytes:
+    with open(os.path.join(TOP, *parts), "rb") as f:
+        return f.read()
+
+
+def said_by(*words: str) -> str:
+    """What a command says, or nothing where it is not there or fails."""
+    try:
+        ran = subprocess.run(words, cwd=TOP, capture_output=True, text=True, check=False)
+    except OSError:
+        return ""
+    return ran.stdout.strip() if ran.returncode == 0 else ""
+
+
+def epoch() -> int:
+    """The time of every file: SOURCE_DATE_EPOCH, else that of the commit, else 1980."""
+    given = os.environ.get("SOURCE_DATE_EPOCH") or said_by("git", "log", "-1", "--format=%ct")
+    return max(int(given or 0), 315532800)
+
+
+class Project:
+    """A clone with a program: `proved` says that it is the one that the clone's gate built."""
+
+    def __init__(self, program: str, proved: bool) -> None:
+        with open(program, "rb") as f:
+            self.program = f.read()
+        if self.program[:4] != b"\x7fELF" or self.program[18:20] != X86_64:
+            raise Unfit(f"{program} is no program for x86-64")
+        self.proved, self.epoch = proved, epoch()
+        self.table = tomllib.loads(read("drivers", "pyproject.toml").decode())["project"]
+        self.name: str = self.table["name"]
+        self.scripts: dict[str, str] = dict(sorted(self.table["scripts"].items()))
+        found = re.search(r'^VERSION = "(.*)"', read("drivers", PACKAGE, "__init__.py").decode(),
+                          re.M)
+        if found is None:
+            raise Unfit("bridge_drivers has no VERSION")
+        self.version = found.group(1)
+
+    def glibc(self) -> tuple[int, int]:
+        """The version of the C library that the program needs."""
+        return max((int(a), int(b))
+                   for a, b in re.findall(rb"GLIBC_(\d+)\.(\d+)", self.program))
+
+    def built(self) -> bytes:
+        """What `nl-bridge version` tells of the program."""
+        facts = {"sha256": hashlib.sha256(self.program).hexdigest(),
+                 "toolchain": said_by("rt", "--version"),
+                 "commit": said_by("git", "describe", "--always", "--dirty", "--abbrev=40"),
+                 "proved": "yes" if self.proved else "no"}
+        return (json.dumps(facts, indent=1, sort_keys=True) + "\n").encode()
+
+    def modules(self) -> Iterator[File]:
+        """The Python package, by path from the folder that holds it."""
+        top = os.path.join(TOP, "drivers", PACKAGE)
+        for folder, inner, names in os.walk(top):
+            inner[:] = sorted(name for name in inner if name != "__pycache__")
+            for name in sorted(names):
+                if name.endswith(".py"):
+                    path = os.path.join(folder, name)
+                    yield File(os.path.relpath(path, os.path.dirname(top)), read(path))
+        yield File(f"{PACKAGE}/built.json", self.built())
+
+    def configurations(self) -> Iterator[File]:
+        """MiniZinc's, which find the commands from PREFIX/share/minizinc/solvers."""
+        for name in sorted(os.listdir(os.path.join(TOP, "drivers", "minizinc"))):
+            configuration = json.loads(read("drivers", "minizinc", name))
+            words = configuration["executable"]
+            words[0] = "../../../bin/" + os.path.basename(words[0])
+            configuration["version"] = self.version
+            yield File(name, (json.dumps(configuration, indent=2) + "\n").encode())
+
+    def pages(self) -> Iterator[File]:
+        """The man pages of the commands, with their words filled in."""
+        drivers = [name for name, entry in self.scripts.items() if entry == DRIVER]
+        words = {"@VERSION@": self.version, "@DRIVERS@": ", ".join(drivers).replace("-", "\\-"),
+                 "@DATE@": time.strftime("%Y-%m-%d", time.gmtime(self.epoch))}
+        for name in sorted(os.listdir(os.path.join(TOP, "packaging", "man"))):
+            if name.removesuffix(".1") in self.scripts:
+                text = read("packaging", "man", name).decode()
+                for word, filled in words.items():
+                    text = text.replace(word, filled)
+                yield File(name, text.encode())
+
+    def linked_pages(self) -> Iterator[str]:
+        """The commands whose page is that of the drivers."""
+        own = os.listdir(os.path.join(TOP, "packaging", "man"))
+        for name, entry in self.scripts.items():
+            if name + ".1" not in own:
+                if entry != DRIVER:
+                    raise Unfit(f"packaging/man has no page of {name}")
+                yield name + ".1"
+
+    def documents(self) -> Iterator[File]:
+        """What users read, and examples that they can run."""
+        yield File("README.md", read("README.md"))
+        yield File("drivers.md", read("drivers", "README.md"))
+        for name in DOCUMENTS:
+            yield File(name, read("docs", name))
+        for name in sorted(os.listdir(os.path.join(TOP, "packaging", "examples"))):
+            yield File("examples/" + name, read("packaging", "examples", name))

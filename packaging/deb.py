@@ -1,0 +1,143 @@
+"""The Debian package, by dpkg-deb: files of one time, in sorted order, owned by root."""
+
+from __future__ import annotations
+
+import gzip
+import hashlib
+import os
+import subprocess
+import tempfile
+import time
+
+from contents import TOP, File, Project, Unfit, read
+
+ARCHITECTURE = "amd64"
+MODULES = "usr/lib/python3/dist-packages"
+MAINTAINER = "Tiwheruko <tiwheruko@localhost>"
+SOLVERS = "coinor-clp, glpk-utils, lp-solve, minizinc, python3-pulp, qsopt-ex"
+COMMAND = """#!/usr/bin/python3
+from {module} import {function}
+
+{function}()
+"""
+DESCRIPTION = """ Reads text .nl files of AMPL, MiniZinc, Pyomo and JuMP and writes MPS, exactly;
+ takes a solver's answer back as .sol, and checks what it claims. The program
+ nl-bridge is proved; the drivers for cbc, clp, glpsol, esolver and lp_solve,
+ with configurations for MiniZinc and a class for PuLP, are Python around it.
+"""
+INSTALLED = """#!/bin/sh
+set -e
+if [ "$1" = configure ] && [ -z "$DPKG_ROOT" ] && command -v py3compile >/dev/null; then
+    py3compile -p {name}
+fi
+"""
+REMOVED = """#!/bin/sh
+set -e
+if [ -z "$DPKG_ROOT" ] && command -v py3clean >/dev/null; then
+    py3clean -p {name}
+fi
+"""
+COPYRIGHT = """Format: https://www.debian.org/doc/packaging-manuals/copyright-format/1.0/
+Upstream-Name: bridge
+
+Files: *
+Copyright: {owner}
+License: MIT
+{licence}
+Comment: The program holds code of the library of the Rattle kit that compiled
+ it, and of its crates itoa and indexmap (both MIT or Apache-2.0).
+"""
+
+
+def zipped(data: bytes) -> bytes:
+    return gzip.compress(data, 9, mtime=0)
+
+
+def copyright_of() -> bytes:
+    """The licence as Debian's format has it."""
+    lines = read("LICENSE").decode().split("\n")
+    owner = next(line for line in lines if line.startswith("Copyright"))
+    rest = "\n".join(lines[lines.index(owner) + 1:]).strip().split("\n")
+    licence = "\n".join(" " + line if line else " ." for line in rest)
+    return COPYRIGHT.format(owner=owner.replace("Copyright (c) ", ""), licence=licence).encode()
+
+
+def changelog(project: Project) -> bytes:
+    when = time.strftime("%a, %d %b %Y %H:%M:%S +0000", time.gmtime(project.epoch))
+    return zipped(f"{project.name} ({project.version}) unstable; urgency=medium\n\n"
+                  f"  * Built from the clone.\n\n -- {MAINTAINER}  {when}\n".encode())
+
+
+def files(project: Project) -> list[File]:
+    """What is installed."""
+    documents = f"usr/share/doc/{project.name}"
+    inside = [File(f"{MODULES}/{f.path}", f.data) for f in project.modules()]
+    inside.append(File(f"usr/libexec/{project.name}/bridge", project.program, 0o755))
+    for name, entry in project.scripts.items():
+        module, _, function = entry.partition(":")
+        text = COMMAND.format(module=module, function=function)
+        inside.append(File(f"usr/bin/{name}", text.encode(), 0o755))
+    inside += [File(f"usr/share/minizinc/solvers/{f.path}", f.data)
+               for f in project.configurations()]
+    inside += [File(f"usr/share/man/man1/{f.path}.gz", zipped(f.data)) for f in project.pages()]
+    inside += [File(f"{documents}/{f.path}", f.data) for f in project.documents()]
+    inside += [File(f"{documents}/copyright", copyright_of()),
+               File(f"{documents}/changelog.gz", changelog(project))]
+    return sorted(inside)
+
+
+def control(project: Project, inside: list[File]) -> list[File]:
+    """The folder DEBIAN."""
+    size = sum(-(-len(f.data) // 1024) for f in inside)
+    major, minor = project.glibc()
+    fields = [f"Package: {project.name}", f"Version: {project.version}",
+              f"Architecture: {ARCHITECTURE}", f"Maintainer: {MAINTAINER}",
+              f"Installed-Size: {size}", f"Depends: libc6 (>= {major}.{minor}), python3 (>= 3.9)",
+              "Recommends: coinor-cbc", f"Suggests: {SOLVERS}", "Section: math",
+              "Priority: optional", f"Description: {project.table['description']}"]
+    sums = [f"{hashlib.md5(f.data).hexdigest()}  {f.path}\n" for f in inside]
+    return [File("DEBIAN/control", ("\n".join(fields) + "\n" + DESCRIPTION).encode()),
+            File("DEBIAN/md5sums", "".join(sums).encode()),
+            File("DEBIAN/postinst", INSTALLED.format(name=project.name).encode(), 0o755),
+            File("DEBIAN/prerm", REMOVED.format(name=project.name).encode(), 0o755)]
+
+
+def put(folder: str, file: File) -> None:
+    path = os.path.join(folder, file.path)
+    os.makedirs(os.path.dirname(path), exist_ok=True)
+    with open(path, "wb") as f:
+        f.write(file.data)
+    os.chmod(path, file.mode)
+
+
+def settle(folder: str, when: int) -> None:
+    """One time and mode for folders, so that nothing of this machine stays."""
+    for place, _, names in os.walk(folder, topdown=False):
+        for name in names:
+            os.utime(os.path.join(place, name), (when, when), follow_symlinks=False)
+        os.chmod(place, 0o755)
+        os.utime(place, (when, when))
+
+
+def build(project: Project, folder: str) -> str:
+    """Writes the package; its name."""
+    name = f"{project.name}_{project.version}_{ARCHITECTURE}.deb"
+    inside = files(project)
+    with tempfile.TemporaryDirectory(prefix="nl-bridge-deb-") as tree:
+        for file in [*inside, *control(project, inside)]:
+            put(tree, file)
+        for page in project.linked_pages():
+            os.symlink("bridge-cbc.1.gz", f"{tree}/usr/share/man/man1/{page}.gz")
+        settle(tree, project.epoch)
+        words = ["dpkg-deb", "--root-owner-group", "-Zxz", "--build", tree,
+                 os.path.join(folder, name)]
+        environment = {**os.environ, "SOURCE_DATE_EPOCH": str(project.epoch),
+                       "DPKG_DEB_THREADS_MAX": "1"}
+        try:
+            ran = subprocess.run(words, cwd=TOP, capture_output=True, text=True, env=environment,
+                                 check=False)
+        except OSError as fault:
+            raise Unfit(f"dpkg-deb could not be run: {fault.strerror}") from None
+        if ran.returncode:
+            raise Unfit(f"dpkg-deb: {ran.stderr.strip()}")
+    return name
