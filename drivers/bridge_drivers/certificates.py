@@ -99,10 +99,10 @@ class Certifier:
                       else outcome.values[c] for c in columns]
             values = [v if isinstance(v, Fraction) else float(v) for v in values]
         if outcome.duals is not None:
-            duals = {i: outcome.duals[row] for i, row in enumerate(rows)}
+            duals = {int(row[1:]): outcome.duals[row] for row in rows}
         if outcome.column_basis is not None and outcome.row_basis is not None:
             basis = Basis([j for j, c in enumerate(columns) if outcome.column_basis[c] == BASIC],
-                          [i for i, r in enumerate(rows) if outcome.row_basis[r] != BASIC])
+                          [int(r[1:]) for r in rows if outcome.row_basis[r] != BASIC])
         return Given(values, duals, basis)
 
     def kept(self, verdict: Verdict) -> str | None:

@@ -67,7 +67,7 @@ class Driver:
             return self.options.listing()
         if ask == "-?":
             return words.usage(self.name, self.solver.title)
-        place = shutil.which(self.solver.program) or "not found"
+        place = self.solver.place() or "not found"
         return f"{self.name} {VERSION} ({self.solver.title} {place})\n"
 
     def stop(self, number: int, frame: object) -> None:
@@ -115,7 +115,7 @@ class Driver:
     def find_solver(self) -> str:
         """The absolute path, since the solver runs in another folder."""
         named = self.options.solver or self.solver.program
-        place = shutil.which(named)
+        place = self.solver.place(self.options.solver)
         if place is None:
             raise Failure(Code.NOT_FOUND, f"{named} was not found: install it or give solver=PATH")
         return os.path.abspath(place)

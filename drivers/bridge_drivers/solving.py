@@ -231,7 +231,8 @@ class Solving:
             code = Code.SOLVED
         elif code in (Code.INFEASIBLE, Code.INFEASIBLE_OR_UNBOUNDED):
             code = Code.UNSURE
-        duals = {f"c{i}": y for i, y in verdict.duals.items()}
+        duals = {f"c{i}": y for i, y in verdict.duals.items()
+                 if f"c{i}" in answer.program.kinds}
         moved = answer.at(values, duals if code == Code.SOLVED else {}, code)
         if answer.values is not None and moved.values is not None \
                 and is_apart(answer.program.figure(answer.values),

@@ -22,6 +22,7 @@ from .text import Naming
 from .tree import Spool, Tree, count
 from .watch import Stopped, Watch
 from ..bridge import Bridge, Late, Refused
+from ..nl import header
 from ..program import Program
 
 WITHOUT = "not proved: "
@@ -81,7 +82,7 @@ class Certifying:
     def load(self) -> None:
         names = [name for name in self.program.constraints if name != "zdef"]
         self.factors = factors(self.bridge, self.nl, self.folder, names)
-        self.model = Model(self.program.text, self.factors)
+        self.model = Model(self.program.text, self.factors, header(self.nl).constraints)
         self.linear = not any(self.model.whole)
 
     # the text and its verdict ------------------------------------------------------
@@ -231,6 +232,8 @@ class Certifying:
 
     def loose_bounds(self, clp: Clp, found: Sequence[Point]) -> Iterator[Verdict]:
         """Where no leaf meets the optimum, one that is met."""
+        if not any(self.model.costs):
+            return
         p, box = self.model, Box(self.model.lo, self.model.hi)
         top = clp.objective() + float(p.constant)
         point = min(found, key=p.value, default=None)

@@ -85,8 +85,6 @@ class Closer:
 
     def attempt(self, leaf: Multipliers, box: Box) -> Closed | None:
         """Where the exact bound reaches the target; columns without a side are mended first."""
-        if leaf.den > MOST_DENOMINATOR:
-            return None
         g = math.gcd(leaf.den, *leaf.numbers.values())
         if g > 1:
             numbers = {i: v // g for i, v in leaf.numbers.items()}
@@ -97,7 +95,7 @@ class Closer:
                 return None
             leaf = self.mended(leaf, box, judged.sideless)
             judged = self.judge(leaf, box)
-            if judged.sideless or leaf.den > MOST_DENOMINATOR:
+            if judged.sideless:
                 return None
         slack = self.slack(leaf.weights, judged)
         return Closed(leaf, judged.reduced, slack) if slack >= 0 else None
@@ -208,7 +206,7 @@ class Closer:
         seen = set()
         for leaf in self.roundings(y, weights):
             key = (tuple(leaf.numbers.values()), leaf.den)
-            if key not in seen:
+            if key not in seen and leaf.den <= MOST_DENOMINATOR:
                 seen.add(key)
                 closed = self.attempt(leaf, box)
                 if closed is not None:

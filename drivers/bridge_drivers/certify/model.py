@@ -50,18 +50,17 @@ class Model:
     `scale`; costs and `start` (the constant) over `cost_scale`; sides and bounds over `unit`.
     Rows from `n_con` on were added."""
 
-    def __init__(self, text: bytes, factors: Mapping[int, int]) -> None:
-        """`factors` are what `export` multiplied rows by, where that is not 1."""
+    def __init__(self, text: bytes, factors: Mapping[int, int], constraints: int) -> None:
+        """`factors` are what `export` multiplied rows by, where that is not 1, `constraints` how
+        many the file has: those without sides are not exported, and have no terms here."""
         s = Sections(text)
         constant = s.untie()
         self.maximise = s.maximise
         self.sign = sign = -1 if s.maximise else 1
-        names = [name for name in s.kinds if name != "obj"]
-        self.n, self.m = len(s.bounds), len(names)
+        self.n, self.m = len(s.bounds), constraints
         self.n_con = self.m
-        if names != [f"c{i}" for i in range(self.m)] or \
-                list(s.bounds) != [f"x{j}" for j in range(self.n)]:
-            raise Unfit("the exported program has other rows or columns than the file")
+        if list(s.bounds) != [f"x{j}" for j in range(self.n)]:
+            raise Unfit("the exported program has other columns than the file")
         self.whole = [name in s.whole for name in s.bounds]
         self.cost = [sign * s.costs.get(name, Fraction(0)) for name in s.bounds]
         self.constant = sign * constant
@@ -69,7 +68,7 @@ class Model:
         self.costs = [int(c * self.cost_scale) for c in self.cost]
         self.start = int(self.constant * self.cost_scale)
         self.set_rows(s, factors)
-        self.set_sides(s, names, factors)
+        self.set_sides(s, factors)
 
     def set_rows(self, s: Sections, factors: Mapping[int, int]) -> None:
         entries = [(int(row[1:]), int(column[1:]), a) for row, column, a in s.entries]
@@ -89,8 +88,9 @@ class Model:
             for j, a in row:
                 self.by_column[j].append((i, a))
 
-    def set_sides(self, s: Sections, names: list[str], factors: Mapping[int, int]) -> None:
-        sides = [s.sides(name) for name in names]
+    def set_sides(self, s: Sections, factors: Mapping[int, int]) -> None:
+        names = [f"c{i}" for i in range(self.m)]
+        sides = [s.sides(name) if name in s.kinds else (None, None) for name in names]
         sides = [(lo and lo / factors.get(i, 1), hi and hi / factors.get(i, 1))
                  for i, (lo, hi) in enumerate(sides)]
         bounds = [(lo, hi) for lo, hi in s.bounds.values()]
@@ -215,13 +215,14 @@ def is_outside(value: Fraction, lo: Side, hi: Side) -> bool:
 
 
 def factors(bridge: Bridge, nl: str, folder: str, constraints: Sequence[str]) -> dict[int, int]:
-    """What `export` multiplied rows by, where that is not 1: what `return` makes of duals 1."""
+    """What `export` multiplied these rows by, where that is not 1: what `return` makes of duals
+    1."""
     if not constraints:
         return {}
     path = os.path.join(folder, "ones.txt")
     with open(path, "w", encoding="utf-8") as f:
         f.write("answer 1\n" + "".join(f"row {row} 1\n" for row in constraints))
     duals = [Fraction(dual) for dual in duals_of(bridge.text("return", nl, path))]
-    if any(dual.denominator != 1 or dual <= 0 for dual in duals):
+    if any(dual.denominator != 1 or dual < 0 for dual in duals):
         raise Unfit("a row's factor is not whole")
-    return {i: int(dual) for i, dual in enumerate(duals) if dual != 1}
+    return {i: int(dual) for i, dual in enumerate(duals) if dual > 1}

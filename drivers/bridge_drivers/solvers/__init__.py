@@ -6,7 +6,7 @@ import importlib
 
 from .base import Solver
 
-NAMES = ("cbc", "clp", "glpsol", "esolver", "lp_solve")
+NAMES = ("cbc", "clp", "glpsol", "highs", "esolver", "lp_solve")
 
 
 def load(name: str) -> Solver:

@@ -3,6 +3,7 @@
 from __future__ import annotations
 
 import re
+import shutil
 from dataclasses import dataclass, field
 from typing import TYPE_CHECKING, Mapping, Sequence
 
@@ -59,6 +60,10 @@ class Solver:
 
     def solve(self, job: Job) -> Outcome:
         raise NotImplementedError
+
+    def place(self, named: str = "") -> str | None:
+        """The executable: the named one, or one on the PATH."""
+        return shutil.which(named or self.program)
 
     def text(self, program: Program) -> bytes:
         """The program as the solver reads it."""
