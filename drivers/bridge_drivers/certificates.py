@@ -21,11 +21,12 @@ from .job import Job
 from .names import Names
 from .sol import duals_of, values_of
 from .solvers.base import BASIC, Outcome
-from .values import plain
+from .values import plain, text_of
 
 SECONDS = 60.0              # of a search, where timelim says nothing
 ONE_LEAF = 1.0              # without prove=1
-LARGE = 100_000             # bytes of an exported program whose one leaf is the .sol itself
+LARGE = 400_000             # bytes of an exported program whose certificate is the .sol itself
+PLACES = 9                  # decimals that doubles are rounded to, where they do not pass
 CLAIMS = {Code.SOLVED: "point", Code.UNSURE: "point", Code.LIMIT_WITH_POINT: "point",
           Code.INFEASIBLE: "infeasible", Code.UNBOUNDED: "unbounded",
           Code.INFEASIBLE_OR_UNBOUNDED: "either", Code.LIMIT: "nothing"}
@@ -74,17 +75,26 @@ class Certifier:
                           Watch(seconds, self.name), bool(options.prove), self.relaxed,
                           bool(options.bound))
         claim = CLAIMS[outcome.code]
-        if claim == "point" and self.linear and not self.relaxed and not options.prove \
-                and len(self.program.text) > LARGE and answer.duals is not None:
+        if claim == "point" and not self.relaxed and not options.prove \
+                and len(self.program.text) > LARGE:
             return self.as_it_stands(work, sol)
         verdict: Verdict = self.job.clock.timed("certify", certified, work, claim,
                                                 self.given(outcome, answer))
         return verdict
 
     def as_it_stands(self, work: Certifying, sol: bytes) -> Verdict:
-        """A large linear program: the .sol's values and duals are the certificate."""
+        """A large program: the .sol's values and duals are the certificate, without duals that of
+        a feasible point; where they do not pass, the same numbers in fewer digits."""
+        values, duals = values_of(sol), duals_of(sol) if self.linear else []
         try:
-            return work.judged(answer_lines(values_of(sol), duals_of(sol), work.objective))
+            verdict = work.judged(answer_lines(values, duals, work.objective))
+            if verdict.is_proved():
+                return verdict
+            values, duals = [[rounded(text) for text in texts] for texts in (values, duals)]
+            second = work.judged(answer_lines(values, duals, work.objective))
+            if second.is_proved():
+                return second._replace(point=[Fraction(text) for text in values])
+            return verdict
         except Refused as fault:
             return Verdict(WITHOUT + fault.line())
 
@@ -146,6 +156,11 @@ class Certifier:
         kind = "row" if exported.startswith("c") else "column"
         digits = exported[1:]
         return self.thing(kind, int(digits)) if digits.isdigit() else "the objective's row"
+
+
+def rounded(text: str) -> str:
+    """The decimal of few places that is near a double's."""
+    return text_of(round(float(text), PLACES))[0]
 
 
 def remove_older(path: str) -> None:

@@ -20,7 +20,7 @@ from .solvers.base import Outcome, Solver, Unclear
 from .values import BadValue
 
 
-ROUNDING = 1e-15            # of the largest term: what doubles do not tell
+ROUNDING = 1e-15            # of the largest term: less is not told by doubles
 FAR = 1e-6                  # between objectives that are not the same
 
 
@@ -244,10 +244,10 @@ class Solving:
 
     @staticmethod
     def broken(answer: Answer) -> str:
-        """By how much the written values miss the model."""
+        """By how much the written values miss the model at most."""
         assert answer.values is not None
-        share = miss(answer.program, answer.values).share
-        return ", by rounding" if share < ROUNDING else f", by {share:.1g} of its largest term"
+        share = max(miss(answer.program, answer.values).share, ROUNDING)
+        return f"; no row or bound is missed by more than {share:.2g} of its largest term"
 
 
 def is_apart(one: float, other: float) -> bool:

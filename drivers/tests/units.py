@@ -41,14 +41,6 @@ class Decimals(Case):
         for bad in (float("inf"), float("nan"), F(10 ** 400, 7)):
             self.assertRaises(values.BadValue, values.text_of, bad)
 
-    def test_snapped(self) -> None:
-        self.assertEqual(values.snapped(1.9999999999999998), 2.0)
-        self.assertEqual(values.snapped(0.30000000000000004), 0.3)
-        self.assertEqual(values.snapped(1 / 3), round(1 / 3, 9))
-        self.assertEqual(values.snapped(F(1, 3)), F(1, 3))
-        self.assertEqual(values.plain("22/5"), "4.4")
-        self.assertEqual(values.plain("1/3"), "1/3")
-
 
 class Texts(Case):
     def test_options(self) -> None:

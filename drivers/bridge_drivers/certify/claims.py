@@ -144,7 +144,7 @@ class Certifying:
         if self.linear:
             return self.best(self.linear_optimum(given))
         assert given.values is not None
-        point = points.whole_point(self.model, given.values)
+        point = self.exact(given.values)
         if point is not None:
             return self.best(self.whole_optimum(point))
         if self.proves:         # whatever the search finds
@@ -283,8 +283,9 @@ class Certifying:
         else:
             plans.run("plain", [], ONE_LEAF, most=1)
 
-    def exact(self, x: Sequence[float]) -> Point | None:
-        return points.whole_point(self.model, x)
+    def exact(self, x: Sequence[float | Fraction]) -> Point | None:
+        seconds = min(max(self.watch.left(), ONE_LEAF), MOST_CLP_SECONDS)
+        return points.whole_point(self.model, x, seconds)
 
     def feasible(self, point: Point) -> Verdict:
         self.figures = "a point"

@@ -151,20 +151,21 @@ class MixedRounding:
                 yield divisor * k
 
     def best(self) -> Rounded | None:
-        """The divisor whose cut is violated most, and its cut."""
+        """The cut of the divisor with which it is deepest."""
         best: tuple[float, Fraction] | None = None
         for divisor in self.divisors():
             side = self.side / divisor
             f = side - math.floor(side)
             if not FRACTIONAL <= f <= 1 - FRACTIONAL:
                 continue
-            at = sum(float(lifted(c.share / divisor, f)) * c.value
-                     for c in self.counted.values())
-            at += sum(float(s.share / divisor / (1 - f)) * s.at.distance
-                      for s in self.slacks if s.share < 0)
-            violation = at - math.floor(side)
-            if violation > LEAST and (best is None or violation > best[0]):
-                best = violation, divisor
+            parts = [(float(lifted(c.share / divisor, f)), c.value)
+                     for c in self.counted.values()]
+            parts += [(float(s.share / divisor / (1 - f)), s.at.distance)
+                      for s in self.slacks if s.share < 0]
+            norm = math.sqrt(sum(a * a for a, _ in parts))
+            violation = sum(a * value for a, value in parts) - math.floor(side)
+            if violation > LEAST and (best is None or violation / norm > best[0]):
+                best = violation / norm, divisor
         return None if best is None else self.cut(best[1])
 
     def cut(self, divisor: Fraction) -> Rounded | None:

@@ -12,9 +12,10 @@ from .numbers import is_narrow
 
 NEAR_WHOLE = 1e-3               # how far from whole numbers a point may be
 NEAR = Fraction(1, 10 ** 9)     # of a bound: the bound itself
+APART = Fraction(1, 10 ** 5)    # how far from x they may be
 NO_GAIN = 1e-9                  # of a ray
 DENOMINATORS = (1, 2, 12, 100, 1000, 10 ** 6)
-ZERO = Fraction(0)
+ZERO, ONE = Fraction(0), Fraction(1)
 
 
 class Basis(NamedTuple):
@@ -66,22 +67,28 @@ def near(model: Model, x: Sequence[float | Fraction]) -> Iterator[Point]:
         if p.fits(exact):
             yield exact
             return
+    given = [Fraction(v) for v in x]
     for most in DENOMINATORS:
-        out = []
-        for j, v in enumerate(x):
-            given = Fraction(v)
-            value = given.limit_denominator(most)
-            for end in p.ends(j):
-                if abs(end - given) <= NEAR * max(Fraction(1), abs(end)):
-                    value = end
-            out.append(Fraction(round(given)) if p.whole[j] else value)
-        if out not in seen and p.fits(out):
+        out = [near_one(p, j, v, most) for j, v in enumerate(given)]
+        is_near = all(abs(value - v) <= APART * max(ONE, abs(v)) for value, v in zip(out, given))
+        if is_near and out not in seen and p.fits(out):
             seen.append(out)
             yield out
 
 
-def whole_point(model: Model, x: Sequence[float | Fraction]) -> Point | None:
-    """The best exact point that has the whole columns of x, where it is found."""
+def near_one(p: Model, column: int, value: Fraction, most: int) -> Fraction:
+    """A bound that is near, else a fraction with a denominator of at most `most`."""
+    if p.whole[column]:
+        return Fraction(round(value))
+    for end in p.ends(column):
+        if abs(end - value) <= NEAR * max(ONE, abs(end)):
+            return end
+    return value.limit_denominator(most)
+
+
+def whole_point(model: Model, x: Sequence[float | Fraction], seconds: float) -> Point | None:
+    """The best exact point that has the whole columns of x, where CLP finds it in that time, else
+    one that is near."""
     p = model
     fixed = {j: Fraction(round(x[j])) for j, w in enumerate(p.whole) if w}
     if any(abs(float(x[j]) - v) > NEAR_WHOLE for j, v in fixed.items()):
@@ -94,6 +101,7 @@ def whole_point(model: Model, x: Sequence[float | Fraction]) -> Point | None:
     lo = [int(fixed[j] * p.unit) if j in fixed else v for j, v in enumerate(p.lo)]
     hi = [int(fixed[j] * p.unit) if j in fixed else v for j, v in enumerate(p.hi)]
     clp = p.with_bounds(lo, hi).relaxation()
+    clp.limit(seconds)
     if clp.solve() is State.OPTIMAL or clp.solve(again=True) is State.OPTIMAL:
         found = vertex(p, Basis(*clp.basis()), clp.values(), fixed)
         if found is not None and all(map(is_narrow, found)):

@@ -26,6 +26,7 @@ FEASIBLE = 1e-9                 # by how much rows may be missed
 MOST_NODES = 2 ** 22            # of `bridge verify`
 MOST_DEPTH = 3000
 STRONG = 16
+LEAST_SECONDS = 0.1             # of a relaxation
 
 Owner = int                     # the number of a split
 
@@ -209,6 +210,7 @@ class Search:
             lo, hi = self.ends(born.column)
             if lo is not None and hi is not None and lo > hi:
                 return self.empty(born.column)
+        self.clp.limit(max(self.until - self.watch.spent(), LEAST_SECONDS))
         state = self.clp.solve()
         done = self.by_contradiction() if state is State.INFEASIBLE else None
         if done is None and state is not State.OPTIMAL:

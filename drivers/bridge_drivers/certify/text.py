@@ -126,10 +126,11 @@ def head(claim: str, objective: int | None, value: Fraction | None = None,
 
 
 def answer_lines(values: Sequence[str], duals: Sequence[str], objective: int) -> Iterator[str]:
-    """The certificate of a .sol as it stands: its values are the point, its duals the leaf."""
+    """The certificate of a .sol as it stands: its values are the point, its duals the leaf;
+    without duals the point is feasible."""
     yield FIRST
-    yield f"optimal {objective}"
-    for word, texts in (("point", values), ("duals", duals)):
+    yield f"{'optimal' if duals else 'feasible'} {objective}"
+    for word, texts in (("point", values), ("duals", duals)) if duals else (("point", values),):
         listed = [(i, text) for i, text in enumerate(texts) if text not in ("0", "-0")]
         yield f"{word} {len(listed)}"
         for i, text in listed:

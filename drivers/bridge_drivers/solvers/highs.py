@@ -28,7 +28,7 @@ class Highs(Solver):
     def place(self, named: str = "") -> str | None:
         for word in (named,) if named else PLACES:
             path = shutil.which(word)
-            if path and subprocess.run([path, "-c", LOOKS], capture_output=True).returncode == 0:
+            if path and has_scipy(path):
                 return path
         return None
 
@@ -47,6 +47,13 @@ class Highs(Solver):
                 return Outcome(*stopped("the time limit", False))
             raise Unclear(first_line(ran.log, "Error"))
         return outcome(job, json.loads(lines[0]))
+
+
+def has_scipy(path: str) -> bool:
+    try:
+        return subprocess.run([path, "-c", LOOKS], capture_output=True).returncode == 0
+    except OSError:
+        return False
 
 
 def outcome(job: Job, answer: dict[str, Any]) -> Outcome:
