@@ -81,7 +81,8 @@ class Project:
         """What `nl-bridge version` tells of the program."""
         facts = {"sha256": hashlib.sha256(self.program).hexdigest(),
                  "toolchain": said_by("rt", "--version"),
-                 "commit": said_by("git", "describe", "--always", "--dirty", "--abbrev=40"),
+                 "commit": said_by("git", "describe", "--always", "--dirty", "--abbrev=40",
+                                   "--exclude=*"),
                  "proved": "yes" if self.proved else "no"}
         return (json.dumps(facts, indent=1, sort_keys=True) + "\n").encode()
 
@@ -127,10 +128,13 @@ class Project:
                 yield name + ".1"
 
     def documents(self) -> Iterator[File]:
-        """What users read, and examples that they can run."""
+        """What users read."""
         yield File("README.md", read("README.md"))
         yield File("drivers.md", read("drivers", "README.md"))
         for name in DOCUMENTS:
             yield File(name, read("docs", name))
+
+    def examples(self) -> Iterator[File]:
+        """What users can try. Not among the documents, which small systems leave out."""
         for name in sorted(os.listdir(os.path.join(TOP, "packaging", "examples"))):
             yield File("examples/" + name, read("packaging", "examples", name))

@@ -14,7 +14,7 @@ from contents import TOP, File, Project, Unfit, read
 ARCHITECTURE = "amd64"
 MODULES = "usr/lib/python3/dist-packages"
 MAINTAINER = "Tiwheruko <tiwheruko@localhost>"
-SOLVERS = "coinor-clp, glpk-utils, lp-solve, minizinc, python3-pulp, qsopt-ex"
+SOLVERS = "coinor-clp, glpk-utils, lp-solve, minizinc, python3-pulp, python3-scipy, qsopt-ex"
 COMMAND = """#!/usr/bin/python3
 from {module} import {function}
 
@@ -22,8 +22,8 @@ from {module} import {function}
 """
 DESCRIPTION = """ Reads text .nl files of AMPL, MiniZinc, Pyomo and JuMP and writes MPS, exactly;
  takes a solver's answer back as .sol, and checks what it claims. The program
- nl-bridge is proved; the drivers for cbc, clp, glpsol, esolver and lp_solve,
- with configurations for MiniZinc and a class for PuLP, are Python around it.
+ nl-bridge is proved; the drivers for cbc and other solvers, with
+ configurations for MiniZinc and a class for PuLP, are Python around it.
 """
 INSTALLED = """#!/bin/sh
 set -e
@@ -45,7 +45,7 @@ Copyright: {owner}
 License: MIT
 {licence}
 Comment: The program holds code of the library of the Rattle kit that compiled
- it, and of its crates itoa and indexmap (both MIT or Apache-2.0).
+ it, and of its crates itoa (MIT) and indexmap (MIT or Apache-2.0).
 """
 
 
@@ -81,6 +81,7 @@ def files(project: Project) -> list[File]:
                for f in project.configurations()]
     inside += [File(f"usr/share/man/man1/{f.path}.gz", zipped(f.data)) for f in project.pages()]
     inside += [File(f"{documents}/{f.path}", f.data) for f in project.documents()]
+    inside += [File(f"usr/share/{project.name}/{f.path}", f.data) for f in project.examples()]
     inside += [File(f"{documents}/copyright", copyright_of()),
                File(f"{documents}/changelog.gz", changelog(project))]
     return sorted(inside)

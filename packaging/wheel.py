@@ -28,6 +28,7 @@ def files(project: Project) -> list[File]:
     pages.update({name: b".so man1/bridge-cbc.1\n" for name in project.linked_pages()})
     inside += [File(f"{data}/man/man1/{name}", page) for name, page in sorted(pages.items())]
     inside += [File(f"{data}/doc/{project.name}/{f.path}", f.data) for f in project.documents()]
+    inside += [File(f"{data}/{project.name}/{f.path}", f.data) for f in project.examples()]
     return sorted(inside) + sorted(facts(project))
 
 
@@ -38,7 +39,7 @@ def name_of(project: Project) -> str:
 def facts(project: Project) -> list[File]:
     """The folder dist-info."""
     folder = name_of(project) + ".dist-info"
-    metadata = [f"Metadata-Version: 2.1", f"Name: {project.name}", f"Version: {project.version}",
+    metadata = ["Metadata-Version: 2.1", f"Name: {project.name}", f"Version: {project.version}",
                 f"Summary: {project.table['description']}", "License: MIT",
                 f"Requires-Python: {project.table['requires-python']}"]
     for extra, needs in project.table["optional-dependencies"].items():

@@ -2,6 +2,7 @@
 
 from __future__ import annotations
 
+import contextlib
 import os
 import shutil
 import signal
@@ -185,6 +186,8 @@ class Driver:
             os.replace(part, self.sol)
             self.is_put = True
         except OSError as fault:
+            with contextlib.suppress(OSError):
+                os.unlink(part)
             raise Failure(Code.FILE, f"{self.sol}: {fault.strerror}") from None
 
     def failed(self, fault: Failure) -> int:

@@ -131,14 +131,16 @@ def unreadable(files: Sequence[str], shown: Mapping[str, str]) -> str:
     return "input fault: " + " or ".join(shown.get(f, f) for f in files) + " could not be read"
 
 
-def variables_of(path: str) -> int | None:
-    """How many variables an .nl file has, by its second line; None where that is not told."""
+def counts_of(path: str) -> tuple[int | None, int | None]:
+    """How many variables and constraints an .nl file has, by its second line; None where that is
+    not told."""
     try:
         with open(path, "rb") as f:
             f.readline(1000)
-            return int(f.readline(1000).split()[0])
+            words = f.readline(1000).split()
+            return int(words[0]), int(words[1])
     except (OSError, ValueError, IndexError):
-        return None
+        return None, None
 
 
 # places in an .nl file -------------------------------------------------------------
@@ -181,7 +183,7 @@ def place_of(segment: Segment, line: int, names: Names) -> str:
     if letter in b"CJ":
         return names.constraint(number, said)
     if letter in b"OG":
-        return f"objective {number}" + (f" ({said})" if said else "")
+        return names.objective(number, said)
     if letter == b"V":
         return f"defined variable {number}" + (f" ({said})" if said else "")
     if letter in b"br" and inside >= 0:
@@ -225,7 +227,7 @@ class Refusal:
         self.is_model = self.command in NL_FIRST and bool(self.files)
         stub = self.shown[0] if self.shown else ""
         self.names = Names(stub[:-3] if stub.endswith(".nl") else stub,
-                           variables_of(self.files[0]) if self.is_model else None)
+                           *(counts_of(self.files[0]) if self.is_model else (None, None)))
         self.segment: Segment | None = None
 
     def line(self) -> str:
@@ -257,6 +259,8 @@ class Refusal:
             return ""
         if t.kind == "row" and self.is_model:
             return self.names.constraint(t.number) + ": "
+        if t.kind == "objective" and self.is_model:
+            return self.names.objective(t.number) + ": "
         return f"{t.kind} {t.number}: "
 
     def more(self) -> list[str]:

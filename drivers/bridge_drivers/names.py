@@ -24,10 +24,12 @@ def read_names(path: str) -> list[str]:
 
 class Names:
     """The names beside a stub; each list is read when it is first asked for. `variables` is how
-    many there are, where that is known: numbers from there on are defined variables."""
+    many there are, where that is known: numbers from there on are defined variables. So is
+    `constraints`: the names of objectives follow theirs."""
 
-    def __init__(self, stub: str, variables: int | None = None) -> None:
-        self.stub, self.variables = stub, variables
+    def __init__(self, stub: str, variables: int | None = None,
+                 constraints: int | None = None) -> None:
+        self.stub, self.variables, self.constraints = stub, variables, constraints
         self.lists: dict[str, list[str]] = {}
 
     def name(self, end: str, number: int) -> str:
@@ -53,6 +55,10 @@ class Names:
         if self.variables is not None and number >= self.variables:
             return said or f"v{number}"
         return self.column(number) or said or f"x{number}"
+
+    def objective(self, number: int, said: str = "") -> str:
+        name = said if self.constraints is None else self.row(self.constraints + number) or said
+        return f"objective {number}" + (f" ({name})" if name else "")
 
     def variable(self, number: int) -> str:
         name = self.column(number)

@@ -11,8 +11,10 @@ digits of each number; what is certified is of those numbers.
 
 from __future__ import annotations
 
+import os
 import shutil
 import subprocess
+import sys
 from typing import Mapping, NamedTuple, Sequence
 
 import pulp
@@ -42,8 +44,10 @@ class BridgeCmd(pulp.LpSolver_CMD):
         return str(self.executableExtension("bridge-cbc"))
 
     def available(self) -> str | bool:
-        """The driver's path, or False."""
-        return shutil.which(self.path) or False
+        """The driver's path, or False. It is looked for on the PATH, and beside this Python, where
+        a virtual environment has it."""
+        beside = os.path.dirname(sys.executable)
+        return shutil.which(self.path) or shutil.which(self.path, path=beside) or False
 
     def actualSolve(self, lp: pulp.LpProblem) -> int:
         """Solves, and assigns values, duals and reduced costs where there are any. Answers PuLP's
@@ -116,7 +120,7 @@ class BridgeCmd(pulp.LpSolver_CMD):
             raise pulp.PulpSolverError(f"{fault.filename or self.path}: {fault.strerror}") from None
 
     def words(self, nl: str) -> list[str]:
-        words = [self.path, nl, "-AMPL", "-e", *self.options]
+        words = [self.available() or self.path, nl, "-AMPL", "-e", *self.options]
         given = (("bridge", self.bridge), ("timelim", self.timeLimit),
                  ("mipgap", self.optionsDict.get("gapRel")),
                  ("threads", self.optionsDict.get("threads")))

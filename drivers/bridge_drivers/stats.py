@@ -12,14 +12,16 @@ import os
 import tempfile
 from dataclasses import dataclass, field
 from fractions import Fraction
-from typing import Iterator
+from functools import lru_cache
+from typing import Iterator, Union
 
 from .bridge import Bridge
 from .names import Names
 from .sol import duals_of
 
+Exact = Union[int, Fraction]
 MOST_NAMED = 5                  # rows and numbers that are named of a long list
-INFINITE = Fraction(10) ** 30   # cbc, clp and lp_solve take it for no bound
+INFINITE = 10 ** 30             # cbc, clp and lp_solve take it for no bound
 OBJECTIVE, TIED_ROW, TIED = "obj", "zdef", "z"
 
 
@@ -34,22 +36,28 @@ def is_held(text: str) -> bool:
         return False
 
 
+def size_of(value: Exact) -> Exact:
+    if value < 0:
+        return -value
+    return value
+
+
 @dataclass
 class Column:
     whole: bool
-    low: Fraction | None = Fraction(0)
-    high: Fraction | None = None
+    low: Exact | None = 0
+    high: Exact | None = None
 
 
 @dataclass
 class Range:
     """Least and greatest of absolute values."""
 
-    low: Fraction | None = None
-    high: Fraction | None = None
+    low: Exact | None = None
+    high: Exact | None = None
 
-    def take(self, value: Fraction) -> None:
-        size = abs(value)
+    def take(self, value: Exact) -> None:
+        size = size_of(value)
         if self.low is None or size < self.low:
             self.low = size
         if self.high is None or size > self.high:
@@ -72,7 +80,7 @@ class Figures:
     ranged: int = 0
     entries: int = 0
     costs: int = 0
-    tied_by: Fraction | None = None
+    tied_by: Exact | None = None
     sizes: Range = field(default_factory=Range)
     cost_sizes: Range = field(default_factory=Range)
     sides: Range = field(default_factory=Range)
@@ -84,7 +92,7 @@ class Figures:
                 if name not in (OBJECTIVE, TIED_ROW) and (not kind or letter == kind)]
 
 
-def figure(value: Fraction) -> str:
+def figure(value: Exact) -> str:
     try:
         return f"{float(value):g}"
     except OverflowError:
@@ -121,10 +129,21 @@ def figures_of(text: bytes) -> Figures:
     return f
 
 
-def number(f: Figures, where: str, text: str) -> Fraction:
-    if not is_held(text):
+@lru_cache(maxsize=1 << 16)
+def known(text: str) -> tuple[Exact, bool]:
+    """A number, and whether it is held: most texts stand many times."""
+    value = Fraction(text)
+    exact: Exact = value
+    if value.denominator == 1:
+        exact = value.numerator
+    return exact, is_held(text)
+
+
+def number(f: Figures, where: str, text: str) -> Exact:
+    value, held = known(text)
+    if not held:
         f.lost.append((where, text))
-    return Fraction(text)
+    return value
 
 
 def entry(f: Figures, whole: bool, name: str, row: str, text: str) -> None:
@@ -132,7 +151,7 @@ def entry(f: Figures, whole: bool, name: str, row: str, text: str) -> None:
     column.whole = whole
     value = number(f, f"{row} {name}", text)
     if row == TIED_ROW and name == TIED:
-        f.tied_by = abs(value)
+        f.tied_by = size_of(value)
     elif row in (OBJECTIVE, TIED_ROW):
         if value and name != TIED:
             f.costs += 1
@@ -150,14 +169,15 @@ def side(f: Figures, section: str, row: str, text: str) -> None:
         f.constant = text
     elif value:
         f.sides.take(value)
-        f.infinite += abs(value) >= INFINITE
+        f.infinite += not -INFINITE < value < INFINITE
 
 
 def bound(f: Figures, kind: str, _set: str, name: str, text: str = "") -> None:
     column = f.columns[name]
-    value = number(f, name, text) if text else None
-    if value is not None:
-        f.infinite += abs(value) >= INFINITE
+    value: Exact | None = None
+    if text:
+        value = number(f, name, text)
+        f.infinite += not -INFINITE < value < INFINITE
     if kind in ("LO", "FX", "MI", "FR"):
         column.low = value
     if kind in ("UP", "FX", "PL", "FR"):
