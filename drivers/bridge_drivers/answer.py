@@ -3,49 +3,57 @@
 from __future__ import annotations
 
 import copy
+from dataclasses import replace
 from fractions import Fraction
 from typing import Mapping, Sequence
 
+from .codes import Code
 from .options import Options
 from .program import Program
 from .solvers.base import Outcome
-from .values import Number, snapped, text_of
+from .values import Number, text_of
 
 NEAR_WHOLE = 1e-5
+NEAR_DUAL = 1e-7
 
 
 class Answer:
-    """Decimal texts by name. `loose` counts the values and duals that are only the nearest
-    decimals of fractions: of such an answer nothing is claimed. `apart` counts the integer
-    variables that are not near a whole number. `snap` tries doubles as decimals of 9 places."""
+    """Decimal texts by name. `loose` and `loose_duals` count the values and duals that are only
+    the nearest decimals of fractions, `apart` the integer variables that are not near a whole
+    number."""
 
-    def __init__(self, program: Program, outcome: Outcome, options: Options,
-                 snap: bool = False) -> None:
-        self.program, self.outcome, self.objno = program, outcome, options.objno
-        self.snap, self.loose, self.apart = snap, 0, 0
-        self.values = self.duals = self.costs = None
+    def __init__(self, program: Program, outcome: Outcome, options: Options) -> None:
+        self.program, self.outcome, self.options = program, outcome, options
+        self.loose = self.apart = self.loose_duals = 0
+        self.most_apart = 0.0
+        self.values: dict[str, str] | None = None
+        self.duals: dict[str, str] | None = None
+        self.costs: dict[str, str] | None = None
         if outcome.values is not None:
             whole = program.whole if options.round and not options.relax else set()
             self.values = {c: self.value(outcome.values[c], c in whole) for c in program.columns}
+        loose = self.loose
         if outcome.duals is not None:
             self.duals = {r: self.number(outcome.duals[r]) for r in program.constraints}
+        self.loose_duals, self.loose = self.loose - loose, loose
         if outcome.costs is not None:
-            loose = self.loose
             self.costs = {c: self.number(outcome.costs[c]) for c in program.columns}
             self.loose = loose          # reduced costs are checked by nothing
         self.lines: list[str] | None = None
 
     def number(self, value: Number) -> str:
-        text, exact = text_of(snapped(value) if self.snap else value)
+        text, exact = text_of(value)
         self.loose += not exact
         return text
 
     def value(self, value: Number, whole: bool) -> str:
-        if whole and isinstance(value, (float, Fraction)) and abs(value) < float("inf"):
+        if whole and abs(float(value)) < float("inf"):
             near = round(value)
-            if abs(near - value) <= NEAR_WHOLE:
+            apart = abs(float(near - value))
+            if apart <= NEAR_WHOLE:
                 return str(near)
             self.apart += 1
+            self.most_apart = max(self.most_apart, apart)
         return self.number(value)
 
     def notes(self) -> list[str]:
@@ -53,18 +61,11 @@ class Answer:
         if self.apart:
             notes.append(f"{self.apart} integer variables are not within {NEAR_WHOLE:g} of a "
                          "whole number")
-        if self.loose:
-            notes.append(f"{self.loose} exact values have no decimal of at most 38 digits; the "
+        loose = self.loose + self.loose_duals
+        if loose:
+            notes.append(f"{loose} exact values have no decimal of at most 38 digits; the "
                          "nearest ones are written")
         return notes
-
-    def is_whole(self) -> bool:
-        """Whether all integer variables are, in their digits."""
-        values = self.values or {}
-        return all(values[c].lstrip("-").isdigit() for c in self.program.whole)
-
-    def is_same(self, other: Answer) -> bool:
-        return (self.values, self.duals, self.costs) == (other.values, other.duals, other.costs)
 
     def without_duals(self) -> Answer:
         return self.with_duals(None)
@@ -72,14 +73,21 @@ class Answer:
     def with_duals(self, duals: Mapping[str, str] | None) -> Answer:
         other = copy.copy(self)
         other.duals = None if duals is None else dict(duals)
-        other.costs, other.lines = None, None
+        other.costs, other.lines, other.loose_duals = None, None, 0
         return other
 
-    def with_values(self, values: Mapping[str, str]) -> Answer:
-        """Other values, and so no duals."""
-        other = self.without_duals()
-        other.values, other.apart = dict(values), 0
-        return other
+    def at(self, values: Mapping[str, Fraction], duals: Mapping[str, Fraction],
+           code: Code) -> Answer:
+        """At other values, under which duals, costs and basis still stand; given duals stand for
+        the solver's where they are near all of them."""
+        outcome = replace(self.outcome, values=values, objective=None, code=code)
+        old = outcome.duals
+        if duals and old is not None and all(
+                abs(float(y) - float(old[row])) <= NEAR_DUAL * max(1.0, abs(float(y)))
+                for row, y in duals.items()):
+            outcome.duals = {**old, **duals}
+        other = Answer(self.program, outcome, self.options)
+        return other if self.duals is not None else other.without_duals()
 
     def objective(self) -> str | None:
         """The objective for the message: the solver's fraction, else a double of 10 digits at
@@ -113,7 +121,7 @@ class Answer:
         return lines
 
     def text(self, message: Sequence[str]) -> bytes:
-        lines = ["answer 1", f"status {int(self.outcome.code)}", f"objno {self.objno - 1}"]
+        lines = ["answer 1", f"status {int(self.outcome.code)}", f"objno {self.options.objno - 1}"]
         lines += [f"message {m}" for m in message]
         return ("\n".join(lines + self.body()) + "\n").encode()
 

@@ -1,195 +1,171 @@
-"""What `bridge` proves of an answer: the last line of a message.
+"""The last line of a message: the verdict of `bridge verify`, word for word, or `not proved: ..`.
 
-The line says `certified ..` where a verdict of `bridge` stands behind it, for exactly the numbers
-that the .sol has, else `not certified: ..` with the reason, and nothing between.
+Nothing in it rests on the driver: the certificate that was judged is a text about the .nl file. What
+the .sol itself holds, `bridge check` says in the line before.
 """
 
 from __future__ import annotations
 
+import os
+import shutil
 from fractions import Fraction
-from typing import Iterator, NamedTuple
 
-from . import weights
 from .answer import Answer
 from .bridge import Bridge, Refused
+from .certify.claims import WITHOUT, Certifying, Given, Verdict, certified
+from .certify.points import Basis
+from .certify.text import answer_lines
+from .certify.watch import Watch
 from .codes import Code
 from .job import Job
-from .values import plain
+from .names import Names
+from .sol import duals_of, values_of
+from .solvers.base import BASIC, Outcome
+from .values import plain, text_of
 
-WITHOUT = "not certified: "
-
-
-NEAR = " (values within 1e-9 of the solver's)"
-VERTEX = " (values of the exact vertex with the same whole variables)"
-
-
-class Settled(NamedTuple):
-    """The line, and the answer that it speaks of with its .sol. `value` is its exact objective,
-    where a verdict tells it."""
-
-    line: str
-    answer: Answer
-    sol: bytes
-    value: Fraction | None = None
-
-
-class Try(NamedTuple):
-    """An answer to be checked, the name of its files, and what is said of it."""
-
-    name: str
-    answer: Answer
-    remark: str = ""
+SECONDS = 60.0              # of a search, where timelim says nothing
+ONE_LEAF = 1.0              # without prove=1
+LARGE = 400_000             # bytes of an exported program whose certificate is the .sol itself
+PLACES = 9                  # decimals that doubles are rounded to, where they do not pass
+CLAIMS = {Code.SOLVED: "point", Code.UNSURE: "point", Code.LIMIT_WITH_POINT: "point",
+          Code.INFEASIBLE: "infeasible", Code.UNBOUNDED: "unbounded",
+          Code.INFEASIBLE_OR_UNBOUNDED: "either", Code.LIMIT: "nothing"}
 
 
 class Certifier:
-    """Asks `bridge check` and `bridge prove`, over the .nl file at `nl`. `stub` is where AMPL
-    writes names beside it."""
+    """Asks `bridge` over the .nl file at `nl`. `stub` is where AMPL writes names beside it."""
 
-    def __init__(self, bridge: Bridge, nl: str, job: Job, exact: bool, stub: str) -> None:
-        self.bridge, self.nl, self.job, self.exact, self.stub = bridge, nl, job, exact, stub
+    def __init__(self, bridge: Bridge, nl: str, job: Job, stub: str, name: str) -> None:
+        self.bridge, self.nl, self.job, self.stub, self.name = bridge, nl, job, stub, name
         self.program = job.program
-        self.linear = not self.program.whole or bool(job.options.relax)
+        self.relaxed = bool(job.program.whole) and bool(job.options.relax)
+        self.linear = not job.program.whole or self.relaxed
 
     # calls -----------------------------------------------------------------------
 
     def returned(self, answer: Answer, message: list[str], name: str = "bridge") -> bytes:
         """The .sol of an answer by `bridge return`, which stays in a file."""
         text = self.job.write(name + ".txt", answer.text(message))
-        sol = self.job.clock.timed("return", self.bridge.text, "return", self.nl, text)
+        sol: bytes = self.job.clock.timed("return", self.bridge.text, "return", self.nl, text)
         self.job.write(name + ".sol", sol)
         return sol
 
-    def verdict(self, name: str) -> str:
-        sol = self.job.path(name + ".sol")
-        return self.job.clock.timed("check", self.bridge.verdict, "check", self.nl, sol)
-
-    # answers with values ---------------------------------------------------------
-
-    def settle(self, answer: Answer, sol: bytes, message: list[str]) -> Settled:
-        """Doubles seldom pass an exact check. Where they do not, they are tried once more, each
-        as the decimal of 9 places that lies within 1e-9 of it."""
-        first = ""
+    def checked(self, answer: Answer) -> str:
+        """What `bridge check` says of the .sol, in words. It wants duals: where there are none,
+        zeros ask for feasibility alone."""
+        name = "bridge"
         try:
-            for name, tried, remark in self.tries(answer):
-                optimal = self.linear and tried.duals is not None
-                if not optimal:         # `check` wants duals: zeros ask for feasibility alone
-                    zeros = dict.fromkeys(self.program.constraints, "0")
-                    self.returned(tried.with_duals(zeros), message, "check")
-                elif tried is not answer:
-                    self.returned(tried, message, name)
-                verdict = self.verdict(name if optimal else "check")
-                first = first or verdict
-                if not self.is_good(verdict, tried, optimal):
-                    continue
-                line = self.proved(verdict) + self.bounded(tried, verdict, message) + remark
-                if tried is not answer:
-                    sol = self.returned(tried, message, name)
-                return Settled(line, tried, sol, self.value(verdict))
-            return Settled(WITHOUT + self.reason(answer, first), answer, sol)
+            if answer.duals is None or not self.linear:
+                zeros = dict.fromkeys(self.program.constraints, "0")
+                self.returned(answer.with_duals(zeros), [], "check")
+                name = "check"
+            sol = self.job.path(name + ".sol")
+            verdict = self.job.clock.timed("check", self.bridge.verdict, "check", self.nl, sol)
         except Refused as fault:
-            return Settled(WITHOUT + fault.line(), answer, sol)
+            return fault.line()
+        return self.reading(verdict, name == "bridge")
 
-    def tries(self, answer: Answer) -> Iterator[Try]:
-        """The answer and then its second form, where it has one and anything can be claimed.
-        Before a proof the exact vertex comes first: its value is what can be proved."""
-        if answer.loose:
-            return
-        if self.job.options.prove and not self.linear:
-            from .branching.after_solve import vertex_answer
-            vertex = vertex_answer(self.job, answer)
-            if vertex is not None and vertex.values != answer.values:
-                yield Try("vertex", vertex, VERTEX)
-        yield Try("bridge", answer)
-        if not self.exact:
-            second = Answer(self.program, answer.outcome, self.job.options, snap=True)
-            second = second if answer.duals is not None else second.without_duals()
-            if not second.is_same(answer):
-                yield Try("second", second, NEAR)
+    # the verdict -----------------------------------------------------------------
 
-    @staticmethod
-    def value(verdict: str) -> Fraction | None:
-        """The exact objective, where a verdict tells it."""
-        words = verdict.split()
-        return Fraction(words[1]) if words[0] in ("yes", "gap") else None
+    def verdict(self, outcome: Outcome, answer: Answer, sol: bytes) -> Verdict:
+        """By the certificate of a search, which has `timelim` with prove=1 and a second without."""
+        options = self.job.options
+        seconds = (options.timelim or SECONDS) if options.prove else ONE_LEAF
+        work = Certifying(self.bridge, self.nl, self.job.folder, self.program, options.objno - 1,
+                          Watch(seconds, self.name), bool(options.prove), self.relaxed,
+                          bool(options.bound))
+        claim = CLAIMS[outcome.code]
+        if claim == "point" and not self.relaxed and not options.prove \
+                and len(self.program.text) > LARGE:
+            return self.as_it_stands(work, sol)
+        verdict: Verdict = self.job.clock.timed("certify", certified, work, claim,
+                                                self.given(outcome, answer))
+        return verdict
 
-    def is_good(self, verdict: str, answer: Answer, optimal: bool) -> bool:
-        """Whether it proves what is asked. Without duals that is feasibility, which each verdict
-        grants that is of a later phase: sides, reduced costs and sums of the bound."""
-        if optimal:
-            return verdict.startswith("yes ")
-        broken = verdict.endswith(" broken") or verdict.startswith("too wide at row ")
-        feasible = verdict.startswith(("yes ", "gap ", "bound ", "too wide at ")) and not broken
-        return feasible and (self.linear or answer.is_whole())
-
-    def proved(self, verdict: str) -> str:
-        """A good verdict in words. `yes` without an objective says that the values are feasible."""
-        words = verdict.split()
-        relaxed = " for the relaxation" if self.linear and self.program.whole else ""
-        if words[0] == "yes" and self.program.has_objective():
-            return f"certified optimal{relaxed}: exactly {plain(words[1])}"
-        if words[0] == "gap":
-            return f"certified feasible{relaxed}: objective exactly {plain(words[1])}"
-        return f"certified feasible{relaxed}"
-
-    def bounded(self, answer: Answer, verdict: str, message: list[str]) -> str:
-        """With bound=1, what exact duals of the relaxation prove of an integer answer."""
-        if not self.job.options.bound or self.linear or verdict.startswith("yes "):
-            return ""
-        duals = weights.relaxation_duals(self.job)
-        if duals is None:
-            return "; no bound: no exact duals of the relaxation"
+    def as_it_stands(self, work: Certifying, sol: bytes) -> Verdict:
+        """A large program: the .sol's values and duals are the certificate, without duals that of
+        a feasible point; where they do not pass, the same numbers in fewer digits."""
+        values, duals = values_of(sol), duals_of(sol) if self.linear else []
         try:
-            self.returned(answer.with_duals(duals), message, "bound")
-            words = self.verdict("bound").split()
+            verdict = work.judged(answer_lines(values, duals, work.objective))
+            if verdict.is_proved():
+                return verdict
+            values, duals = [[rounded(text) for text in texts] for texts in (values, duals)]
+            second = work.judged(answer_lines(values, duals, work.objective))
+            if second.is_proved():
+                return second._replace(point=[Fraction(text) for text in values])
+            return verdict
         except Refused as fault:
-            return "; no bound: " + fault.line()
-        if words[0] == "yes":
-            return "; certified optimal"
-        if words[0] == "gap":
-            return f"; certified bound {plain(words[2])}"
-        return "; no bound: " + self.reading(words)
+            return Verdict(WITHOUT + fault.line())
 
-    def reason(self, answer: Answer, verdict: str) -> str:
-        if answer.loose:
-            return "the exact answer has no such decimals"
-        if not self.linear and not answer.is_whole():
-            return "an integer variable is not whole"
-        return self.reading(verdict.split())
+    def given(self, outcome: Outcome, answer: Answer) -> Given:
+        """The answer by position: the solver's numbers, whole ones as they are written."""
+        p = self.program
+        columns = [name for name in p.columns if name != "z"]
+        rows = [name for name in p.constraints if name != "zdef"]
+        values = duals = basis = None
+        if outcome.values is not None and answer.values is not None:
+            values = [Fraction(answer.values[c]) if c in p.whole and not self.relaxed
+                      else outcome.values[c] for c in columns]
+            values = [v if isinstance(v, Fraction) else float(v) for v in values]
+        if outcome.duals is not None:
+            duals = {int(row[1:]): outcome.duals[row] for row in rows}
+        if outcome.column_basis is not None and outcome.row_basis is not None:
+            basis = Basis([j for j, c in enumerate(columns) if outcome.column_basis[c] == BASIC],
+                          [int(r[1:]) for r in rows if outcome.row_basis[r] != BASIC])
+        return Given(values, duals, basis)
 
-    def reading(self, words: list[str]) -> str:
-        """Any other verdict of `bridge check` in words."""
-        if words[0] == "gap":
-            return (f"the values are feasible with objective exactly {plain(words[1])}, the duals "
-                    f"prove only {plain(words[2])}")
+    def kept(self, verdict: Verdict) -> str | None:
+        """Copies the accepted text to where `certificate` says; a line where that fails."""
+        target = self.job.options.certificate
+        if not target or verdict.path is None:
+            return None
+        try:
+            shutil.copyfile(verdict.path, target)
+        except OSError as fault:
+            return f"the certificate is not kept: {target}: {fault.strerror}"
+        return None
+
+    # words -----------------------------------------------------------------------
+
+    def reading(self, verdict: str, has_duals: bool) -> str:
+        """A verdict of `bridge check`; that of zeros as duals says what they cannot break."""
+        words = verdict.split()
+        is_broken = words[-1] == "broken" or verdict.startswith("too wide at row ")
+        if not has_duals and not is_broken and words[0] in ("yes", "gap", "bound", "too"):
+            told = f", objective exactly {plain(words[1])}" if words[0] in ("yes", "gap") else ""
+            return "feasible" + told
+        if words[0] in ("yes", "gap"):
+            return " ".join([words[0], *map(plain, words[1:])])
         if words[0] not in ("row", "bound"):
-            return f"exact values do not fit 128 bits ({' '.join(words)})"
+            return f"exact values do not fit 128 bits ({verdict})"
         thing = self.thing(words[0], int(words[1]))
         if words[-1] == "broken":
-            what = thing if words[0] == "row" else f"a bound of {thing}"
-            return f"{what} is broken, which rounding may have done"
+            return f"{thing if words[0] == 'row' else f'a bound of {thing}'} is broken"
         if words[0] == "row":
             return f"the dual of {thing} has the wrong sign"
         return f"the reduced cost of {thing} has no bound to rest on"
 
     def thing(self, kind: str, number: int) -> str:
         """A constraint or variable, by its name where AMPL wrote stub.row or stub.col."""
-        word, end = ("constraint", ".row") if kind == "row" else ("variable", ".col")
-        try:
-            with open(self.stub + end, encoding="utf-8", errors="replace") as f:
-                return f"{word} {f.read().splitlines()[number]}"
-        except (OSError, IndexError):
-            return f"{word} {number}"
+        names = Names(self.stub)
+        return names.constraint(number) if kind == "row" else names.variable(number)
 
-    # answers without values ------------------------------------------------------
+    def named(self, exported: str) -> str:
+        """A row or column of the exported text."""
+        kind = "row" if exported.startswith("c") else "column"
+        digits = exported[1:]
+        return self.thing(kind, int(digits)) if digits.isdigit() else "the objective's row"
 
-    def without_values(self, code: Code) -> str:
-        if code == Code.INFEASIBLE:
-            try:
-                return weights.infeasible(self.bridge, self.nl, self.job)
-            except Refused as fault:
-                return WITHOUT + fault.line()
-        if code == Code.UNBOUNDED:
-            return WITHOUT + "bridge has no proof that a program is unbounded"
-        if code == Code.INFEASIBLE_OR_UNBOUNDED:
-            return WITHOUT + "the solver does not say which"
-        return WITHOUT + "there is no answer to check"
+
+def rounded(text: str) -> str:
+    """The decimal of few places that is near a double's."""
+    return text_of(round(float(text), PLACES))[0]
+
+
+def remove_older(path: str) -> None:
+    """A certificate of an earlier run must not pass for this one's."""
+    try:
+        os.unlink(path)
+    except FileNotFoundError:
+        pass

@@ -10,6 +10,7 @@ class Code(enum.IntEnum):
     400-499 limit, 500-599 failure."""
 
     SOLVED = 0
+    UNSURE = 100                # the solver says optimal, and its point misses the model
     INFEASIBLE = 200
     INFEASIBLE_OR_UNBOUNDED = 290
     UNBOUNDED = 300

@@ -36,8 +36,9 @@ class Driver:
 
     def main(self, argv: Sequence[str]) -> int:
         """The exit status."""
-        signal.signal(signal.SIGTERM, self.stop)
-        signal.signal(signal.SIGINT, self.stop)
+        for number in (signal.SIGTERM, signal.SIGINT):
+            if signal.getsignal(number) is not signal.SIG_IGN:      # which stays ignored
+                signal.signal(number, self.stop)
         self.words = words.read(argv)
         if self.words.ask is not None:
             sys.stdout.write(self.told(self.words.ask))
@@ -67,7 +68,7 @@ class Driver:
             return self.options.listing()
         if ask == "-?":
             return words.usage(self.name, self.solver.title)
-        place = shutil.which(self.solver.program) or "not found"
+        place = self.solver.place() or "not found"
         return f"{self.name} {VERSION} ({self.solver.title} {place})\n"
 
     def stop(self, number: int, frame: object) -> None:
@@ -115,7 +116,7 @@ class Driver:
     def find_solver(self) -> str:
         """The absolute path, since the solver runs in another folder."""
         named = self.options.solver or self.solver.program
-        place = shutil.which(named)
+        place = self.solver.place(self.options.solver)
         if place is None:
             raise Failure(Code.NOT_FOUND, f"{named} was not found: install it or give solver=PATH")
         return os.path.abspath(place)
@@ -125,7 +126,8 @@ class Driver:
     def work(self) -> Result:
         if not os.path.exists(self.nl):
             raise Failure(Code.FILE, f"{self.nl}: no such file", Status.NO_FILE)
-        bridge, solver_path = self.find_bridge(), self.find_solver()
+        bridge = self.find_bridge()
+        solver_path = "" if self.options.only else self.find_solver()
         folder = self.options.keep or tempfile.mkdtemp(prefix=self.name + "-")
         try:
             os.makedirs(folder, exist_ok=True)
@@ -158,7 +160,7 @@ class Driver:
             print("\n".join(lines), flush=True)
         if o.failexit:
             minizinc.tell(f"{self.name}: {lines[-1]}")
-        if result.answer is not None and not self.words.ampl:
+        if not self.words.ampl:
             self.show(result)
         if self.clock.tells:
             print(self.clock.summary(), flush=True)

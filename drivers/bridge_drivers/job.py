@@ -9,13 +9,14 @@ import subprocess
 import sys
 import threading
 import time
-from typing import Callable, NamedTuple, Sequence
+from typing import Any, Callable, NamedTuple, Sequence, TypeVar
 
 from .options import Options
 from .program import Program
 
 LOG = "solver.log"
-ANSWERS = ("answer.", "phase1.", "relaxed.")        # what files that solvers write begin with
+T = TypeVar("T")
+ANSWERS = ("answer.",)          # what files that solvers write begin with
 
 
 class Ran(NamedTuple):
@@ -34,7 +35,7 @@ class Clock:
         self.spent: dict[str, float] = {}
         self.tells = False
 
-    def timed(self, part: str, call: Callable, *words):
+    def timed(self, part: str, call: Callable[..., T], *words: Any) -> T:
         start = time.monotonic()
         try:
             return call(*words)
@@ -55,14 +56,19 @@ class Clock:
 
 class Job:
     """What a solver's module works with: `program`, `options`, `solver` (its path), `extra`
-    (further words for it), and files in `folder`."""
+    (further words for it), and files in `folder`. `again`: it is asked once more, in another
+    way."""
 
     def __init__(self, program: Program, options: Options, folder: str, solver: str,
                  extra: Sequence[str], clock: Clock) -> None:
         self.program, self.options, self.folder = program, options, folder
         self.solver, self.extra, self.clock = solver, list(extra), clock
         self.log = ""
-        for name in os.listdir(folder):     # a kept folder may hold another run's answer
+        self.again = False
+        self.remove_answers()               # a kept folder may hold another run's
+
+    def remove_answers(self) -> None:
+        for name in os.listdir(self.folder):
             if name.startswith(ANSWERS):
                 os.unlink(self.path(name))
 
@@ -119,7 +125,7 @@ class Job:
         return Ran(status, "".join(lines), killed.is_set())
 
 
-def kill(child: subprocess.Popen) -> None:
+def kill(child: subprocess.Popen[bytes]) -> None:
     """The solver and what it started, which may hold its output open."""
     try:
         os.killpg(child.pid, signal.SIGKILL)

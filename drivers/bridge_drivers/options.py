@@ -31,19 +31,20 @@ class Option:
 
 
 COMMON = (
-    Option("bound", 0, int, "1: for integer programs also a certified bound, by exact duals of "
-                            "the relaxation"),
+    Option("bound", 0, int, "1: for integer programs also a proved bound, of the relaxation"),
     Option("bridge", "", str, "words that start bridge (also $BRIDGE)"),
-    Option("check", 1, int, "1: ask bridge what it can certify; 0: do not"),
+    Option("certificate", "", str, "the file that an accepted certificate is written to"),
+    Option("check", 1, int, "1: ask bridge what it can prove of the answer; 0: do not"),
     Option("extra", "", str, "further words for the solver, in quotes"),
     Option("failexit", 0, int, "1: where there is no answer, write no .sol and end with another "
                                "status than 0 (MiniZinc)"),
     Option("keep", "", str, "folder that keeps the files in between"),
     Option("objno", 1, int, "which objective, from 1"),
     Option("outlev", 0, int, "0 quiet, 1 the solver's log, 2 also the commands and times"),
-    Option("proof", "", str, "with prove=1, the file that the proof is written to"),
-    Option("prove", 0, int, "1: for integer programs also a branch proof that no point is "
-                            "better (timelim holds for it too; 60 seconds where there is none)"),
+    Option("only", "", str, "mps: write the MPS text that this solver reads beside the model, "
+                            "and stop"),
+    Option("prove", 0, int, "1: search a certificate that the answer is optimal (timelim holds "
+                            "for it too; 60 seconds where there is none)"),
     Option("relax", 0, int, "1: integer variables as continuous ones"),
     Option("round", 1, int, "1: values of integer variables within 1e-5 of a whole number are "
                             "written as that number"),
@@ -62,13 +63,14 @@ class Options:
 
     bound: int
     bridge: str
+    certificate: str
     check: int
     extra: str
     failexit: int
     keep: str
     objno: int
     outlev: int
-    proof: str
+    only: str
     prove: int
     relax: int
     round: int

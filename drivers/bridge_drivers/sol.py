@@ -32,5 +32,14 @@ def duals_of(sol: bytes) -> list[str]:
     return lines[at + 4:at + 4 + count]
 
 
+def values_of(sol: bytes) -> list[str]:
+    """Its values, in the order of the variables."""
+    lines = sol.decode().split("\n")
+    at = lines.index("Options")
+    at += 2 + int(lines[at + 1])
+    duals, count = int(lines[at + 1]), int(lines[at + 3])
+    return lines[at + 4 + duals:at + 4 + duals + count]
+
+
 def encoded(lines: Sequence[str]) -> bytes:
     return ("\n".join(lines) + "\n").encode("utf-8", "surrogateescape")

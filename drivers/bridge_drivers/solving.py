@@ -1,16 +1,18 @@
-"""One solve: the exported program, the solver, the answer by `bridge return`, what is certified."""
+"""One solve: the exported program, the solver, the answer by `bridge return`, what is proved."""
 
 from __future__ import annotations
 
 import os
 import shlex
-from dataclasses import dataclass
+from dataclasses import dataclass, replace
 
 from .answer import Answer
 from .bridge import Bridge, Refused
-from .certificates import WITHOUT, Certifier, Settled
+from .certificates import Certifier, remove_older
+from .certify.claims import WITHOUT, Verdict
 from .codes import Code, Failure, Status
 from .job import Clock, Job
+from .miss import NONE, Miss, miss
 from .nl import BadFile, prepared
 from .options import Options
 from .program import Program
@@ -18,10 +20,14 @@ from .solvers.base import Outcome, Solver, Unclear
 from .values import BadValue
 
 
+ROUNDING = 1e-15            # of the largest term: less is not told by doubles
+FAR = 1e-6                  # between objectives that are not the same
+
+
 @dataclass
 class Result:
     """A message, its .sol (None: one without values is to be made), what wantsol prints, and the
-    figures of a branch proof."""
+    figures of a certificate."""
 
     code: Code
     lines: list[str]
@@ -39,9 +45,12 @@ class Solving:
                  solver_path: str, folder: str) -> None:
         self.solver, self.options, self.bridge, self.clock = solver, options, bridge, clock
         self.nl, self.solver_path, self.folder = nl, solver_path, folder
+        self.name = "bridge-" + solver.name
 
     def result(self) -> Result:
         """The outcome. Failure where there is none."""
+        if self.options.certificate:
+            remove_older(self.options.certificate)
         try:
             text_form = prepared(self.nl, os.path.join(self.folder, "text.nl"),
                                  bool(self.options.shortest))
@@ -56,6 +65,8 @@ class Solving:
                                                 WITHOUT + "bridge refuses the model for this"])
             status = Status.REFUSED if fault.status == 2 else Status.FAILED
             raise Failure(Code.REFUSED, fault.line(), status) from None
+        if self.options.only:
+            return self.only_written(program)
         if program.whole and not self.solver.integers and not self.options.relax:
             raise Failure(Code.TAKES_NO_INTEGERS,
                           f"{self.solver.title} takes no integer variables, and the model has "
@@ -65,14 +76,26 @@ class Solving:
                             self.clock)
         if self.options.keep:
             job.write("model.mps", program.text)
-        outcome, answer = self.answered(job)
-        return self.told(job, text_form.path, outcome, answer, text_form.notes)
+        return self.told(job, text_form.path, *self.answered(job), text_form.notes)
 
     def exported(self, nl: str) -> Program:
         words = ["export", nl]
         if self.options.objno != 1:
             words.append(str(self.options.objno - 1))
         return Program(self.clock.timed("export", self.bridge.text, *words))
+
+    def only_written(self, program: Program) -> Result:
+        """With only=mps: the text that the solver reads, beside the model, and how it is called
+        with it."""
+        if self.options.only != "mps":
+            raise Failure(Code.BAD_OPTION, f"only={self.options.only}: mps is what there is",
+                          Status.BAD_WORDS)
+        path = f"{self.nl[:-3]}.{self.solver.name}.mps"
+        with open(path, "wb") as f:
+            f.write(self.solver.text(program))
+        words = shlex.join([self.solver.program, *self.solver.reading(program, path)])
+        return Result(Code.LIMIT, [f"{path} is written, nothing was solved; read by: {words}",
+                                   WITHOUT + "only=mps"])
 
     def extra(self) -> list[str]:
         try:
@@ -81,21 +104,56 @@ class Solving:
             raise Failure(Code.BAD_OPTION, "extra: a quote does not end",
                           Status.BAD_WORDS) from None
 
-    def answered(self, job: Job) -> tuple[Outcome, Answer]:
-        """What the solver answered, and its answer text."""
+    # the solver --------------------------------------------------------------------
+
+    def answered(self, job: Job) -> tuple[Outcome, Answer, Miss]:
+        """What the solver answered, its answer text, and by how much it misses the model. Where
+        that is much, or the answer says little, the solver is asked once more in another way."""
+        outcome, answer, missed = self.asked(job, False)
+        is_vague = outcome.code == Code.INFEASIBLE_OR_UNBOUNDED
+        if self.solver.again and (is_vague or missed.is_much()):
+            note = f"{self.solver.title} was asked once more {self.solver.again}"
+            if not is_vague:
+                note += (f": its first point missed the model by {missed.share:.2g} of a "
+                         "largest term")
+            try:
+                second, text, new = self.asked(job, True)
+            except Failure:
+                second, text, new = outcome, answer, missed
+            if second.code != Code.INFEASIBLE_OR_UNBOUNDED and not new.is_much():
+                outcome, answer, missed = second, text, new
+            outcome.notes.append(note)
+        if missed.is_much() and outcome.code == Code.SOLVED:
+            outcome = replace(outcome, code=Code.UNSURE,
+                              text="optimal solution that misses the model")
+            answer = Answer(job.program, outcome, self.options)
+        if outcome.code == Code.INFEASIBLE_OR_UNBOUNDED and self.options.failexit:
+            # MiniZinc would say that it is infeasible
+            raise Failure(Code.NO_ANSWER, f"{self.solver.title}: {outcome.text}")
+        return outcome, answer, missed
+
+    def asked(self, job: Job, again: bool) -> tuple[Outcome, Answer, Miss]:
         try:
+            job.again = again
+            job.remove_answers()
             outcome = self.solver.solve(job)
             answer = Answer(job.program, outcome, self.options)
+            missed = NONE if answer.values is None else self.missed(job.program, answer)
         except (Unclear, BadValue, LookupError, ValueError, ArithmeticError) as fault:
             raise Failure(Code.NO_ANSWER,
                           f"{self.solver.title} gave no usable answer: {fault}") from None
         except OSError as fault:
             raise Failure(Code.NOT_FOUND, f"{fault.filename or self.solver_path} could not be "
                           f"run or written: {fault.strerror}") from None
-        if outcome.code == Code.INFEASIBLE_OR_UNBOUNDED and self.options.failexit:
-            # MiniZinc would say that it is infeasible
-            raise Failure(Code.NO_ANSWER, f"{self.solver.title}: {outcome.text}")
-        return outcome, answer
+        return outcome, answer, missed
+
+    def missed(self, program: Program, answer: Answer) -> Miss:
+        assert answer.values is not None
+        if answer.apart:
+            return Miss(answer.most_apart, "a whole number")
+        return miss(program, answer.values)
+
+    # the message -------------------------------------------------------------------
 
     def headline(self, job: Job, outcome: Outcome, answer: Answer) -> str:
         text = f"{self.solver.named(job.log)}: {outcome.text}"
@@ -106,61 +164,91 @@ class Solving:
             text += " (integer variables relaxed)"
         return text
 
-    def told(self, job: Job, nl: str, outcome: Outcome, answer: Answer,
+    def told(self, job: Job, nl: str, outcome: Outcome, answer: Answer, missed: Miss,
              notes: list[str]) -> Result:
-        """The .sol by `bridge return`, with a message whose last line says what is certified."""
-        certifier = Certifier(self.bridge, nl, job, self.solver.exact, self.nl[:-3])
+        """The .sol by `bridge return`, with a message whose last line is the verdict."""
+        certifier = Certifier(self.bridge, nl, job, self.nl[:-3], self.name)
         lines = [self.headline(job, outcome, answer), *notes, *outcome.notes]
+        if missed.is_much():
+            lines.append(f"its point misses {certifier.named(missed.name)} by {missed.share:.2g} "
+                         "of the largest term")
         try:
-            try:
-                sol = certifier.returned(answer, lines)
-            except Refused as fault:
-                if not fault.told.endswith("dual too wide"):
-                    raise
-                lines.append(f"duals are left out: {fault.line()}")
-                answer = answer.without_duals()
-                sol = certifier.returned(answer, lines)
+            answer, sol = self.returned(certifier, answer, lines)
+            verdict = self.verdict(certifier, outcome, answer, sol)
+            code, moved = self.moved(outcome, answer, verdict, lines)
+            if moved is not answer:
+                answer, sol = self.returned(certifier, moved, lines)
+            if self.options.check and answer.values is not None:
+                told = certifier.checked(answer)
+                if told.endswith(" is broken"):
+                    told += self.broken(answer)
+                lines.append("bridge check of the .sol: " + told)
         except Refused as fault:
             raise Failure(Code.NOT_RETURNED, f"return: {fault.line()}") from None
-        settled = None
-        if not self.options.check:
-            last = WITHOUT + "check=0"
-        elif outcome.values is None:
-            last = certifier.without_values(outcome.code)
-        else:
-            settled = certifier.settle(answer, sol, lines)
-            last, answer, sol = settled.line, settled.answer, settled.sol
-        ends, figures = [last], ""
-        if self.options.prove and self.options.check:
-            ends, figures = self.branched(certifier, outcome, settled, last)
-        return Result(outcome.code, lines + answer.notes() + ends, sol, answer, figures)
+        if self.options.outlev and verdict.figures:
+            print(f"certificate: {verdict.figures}", flush=True)
+        fault_line = certifier.kept(verdict)
+        last = [fault_line] if fault_line else []
+        return Result(code, lines + answer.notes() + last + [verdict.line], sol, answer,
+                      verdict.figures)
 
-    def branched(self, certifier: Certifier, outcome: Outcome, settled: Settled | None,
-                 last: str) -> tuple[list[str], str]:
-        """The last lines with that of a branch proof, which is kept where `proof` says, and its
-        figures."""
-        from .branching.after_solve import AfterSolve
-        from .branching.proving import remove_older
-        after = AfterSolve(certifier, "bridge-" + self.solver.program)
+    def returned(self, certifier: Certifier, answer: Answer,
+                 lines: list[str]) -> tuple[Answer, bytes]:
+        """The .sol; without duals, which a line says, where they are too wide for it."""
         try:
-            if self.options.proof:
-                remove_older(self.options.proof)
-            lines = after.lines(outcome.code, settled, last)
+            return answer, certifier.returned(answer, lines)
+        except Refused as fault:
+            if not fault.told.endswith("dual too wide"):
+                raise
+            lines.append(f"duals are left out: {fault.line()}")
+        answer = answer.without_duals()
+        return answer, certifier.returned(answer, lines)
+
+    def verdict(self, certifier: Certifier, outcome: Outcome, answer: Answer,
+                sol: bytes) -> Verdict:
+        """What is proved. A fault of the search leaves the answer as it stands."""
+        if not self.options.check:
+            return Verdict(WITHOUT + "check=0")
+        try:
+            return certifier.verdict(outcome, answer, sol)
         except OSError as fault:
-            return [last, f"not proved: {fault.filename}: {fault.strerror}"], ""
+            return Verdict(f"{WITHOUT}{fault.filename}: {fault.strerror}")
         except (ArithmeticError, AssertionError, LookupError, TypeError, ValueError) as fault:
             if self.options.outlev >= 2:
                 raise
-            return [last, f"not proved: a fault of the driver: {fault!r}"], ""  # the answer stands
-        result = after.result
-        if result is None:
-            return lines, ""
-        if self.options.outlev:
-            print(f"branch proof: {result.figures()}", flush=True)
-        if self.options.proof and result.kept():
-            try:
-                with open(self.options.proof, "w", encoding="utf-8") as f:
-                    f.write(result.kept())
-            except OSError as fault:
-                lines.insert(0, f"the proof is not kept: {self.options.proof}: {fault.strerror}")
-        return lines, result.figures()
+            return Verdict(f"{WITHOUT}a fault of the driver: {fault!r}")
+
+    def moved(self, outcome: Outcome, answer: Answer, verdict: Verdict,
+              lines: list[str]) -> tuple[Code, Answer]:
+        """The answer at the point that was proved, and the code that it has."""
+        if verdict.point is None or not verdict.is_proved() or outcome.code == Code.UNBOUNDED:
+            return outcome.code, answer
+        values = {f"x{j}": value for j, value in enumerate(verdict.point)}
+        if "z" in answer.program.columns and verdict.value is not None:
+            values["z"] = verdict.value
+        code = outcome.code
+        if verdict.line.startswith("optimal"):
+            code = Code.SOLVED
+        elif code in (Code.INFEASIBLE, Code.INFEASIBLE_OR_UNBOUNDED):
+            code = Code.UNSURE
+        duals = {f"c{i}": y for i, y in verdict.duals.items()
+                 if f"c{i}" in answer.program.kinds}
+        moved = answer.at(values, duals if code == Code.SOLVED else {}, code)
+        if answer.values is not None and moved.values is not None \
+                and is_apart(answer.program.figure(answer.values),
+                             answer.program.figure(moved.values)):
+            lines.append(f"a better point was found; objective {moved.objective()}")
+        elif answer.values is None:
+            lines.append(f"a point was found; objective {moved.objective()}")
+        return code, moved
+
+    @staticmethod
+    def broken(answer: Answer) -> str:
+        """By how much the written values miss the model at most."""
+        assert answer.values is not None
+        share = max(miss(answer.program, answer.values).share, ROUNDING)
+        return f"; no row or bound is missed by more than {share:.2g} of its largest term"
+
+
+def is_apart(one: float, other: float) -> bool:
+    return abs(one - other) > FAR * max(1.0, abs(one), abs(other))

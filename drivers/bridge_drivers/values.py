@@ -70,16 +70,9 @@ def text_of(value: Number) -> tuple[str, bool]:
             return "0", True
         text = repr(value)
         return (text[:-2] if text.endswith(".0") else text), True
-    text = exact_decimal(Fraction(value))
-    return (text, True) if text is not None else (near_decimal(value), False)
-
-
-def snapped(value: Number, places: int = 9) -> Number:
-    """A double as the decimal of 9 places that lies within 1e-9 of it (a large one has fewer
-    places and stays); anything else as it is."""
-    if not isinstance(value, float) or not math.isfinite(value):
-        return value
-    return round(value, places)
+    exact = Fraction(value)
+    decimal_text = exact_decimal(exact)
+    return (near_decimal(exact), False) if decimal_text is None else (decimal_text, True)
 
 
 def plain(fraction: str) -> str:

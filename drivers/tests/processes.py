@@ -10,18 +10,18 @@ import subprocess
 import sys
 import time
 
-from support import HERE, Case, Ended
+from support import HERE, NEEDS_PROGRAM, Case, Ended
 from models import MODELS
 
 BIN = os.path.join(HERE, "..", "bin")
-STAND_IN = f"{sys.executable} {os.path.join(HERE, 'stand_in.py')}"
 
 
+@NEEDS_PROGRAM
 class Processes(Case):
     def drive(self, driver: str, *words: str, place: str = BIN, **environment: str) -> Ended:
         ran = subprocess.run([sys.executable, os.path.join(place, "bridge-" + driver), *words],
                              stdin=subprocess.DEVNULL, capture_output=True, text=True,
-                             env={**os.environ, "BRIDGE": STAND_IN, **environment})
+                             env={**os.environ, **environment})
         return Ended(ran.returncode, ran.stdout, ran.stderr)
 
     def script(self, name: str, text: str) -> str:
@@ -75,7 +75,8 @@ class Processes(Case):
             argv = [sys.executable, os.path.join(BIN, "bridge-cbc"), self.stub, "-AMPL", "-e",
                     "solver=" + slow]
             child = subprocess.Popen(argv, stderr=subprocess.PIPE, text=True,
-                                     env={**os.environ, "BRIDGE": STAND_IN})
+                                     preexec_fn=lambda: signal.signal(signal.SIGINT,
+                                                                      signal.SIG_DFL))
             for _ in range(600):
                 if os.path.exists(mark) and os.path.getsize(mark):
                     break
@@ -89,6 +90,19 @@ class Processes(Case):
             self.assertRaises(ProcessLookupError, os.kill, pid, 0)
             os.unlink(mark)
 
+    def test_ignored_signals(self) -> None:
+        """An interrupt that is ignored from the start, as of a run in the background, stays so."""
+        slow = self.script("cbc", "sleep 1; echo Bad image; exit 1")
+        self.put(MODELS["knap"].text)
+        argv = [sys.executable, os.path.join(BIN, "bridge-cbc"), self.stub, "-AMPL", "-e",
+                "solver=" + slow]
+        child = subprocess.Popen(argv, stderr=subprocess.PIPE, text=True, preexec_fn=lambda:
+                                 signal.signal(signal.SIGINT, signal.SIG_IGN))
+        time.sleep(0.7)
+        child.send_signal(signal.SIGINT)
+        child.communicate(timeout=60)
+        self.assertEqual((child.returncode, self.sol().code), (0, 506))
+
     def test_install(self) -> None:
         """Into a folder of its own: programs, configurations that name them, the package."""
         prefix = os.path.join(self.folder, "a prefix")
@@ -99,7 +113,7 @@ class Processes(Case):
         solvers = os.path.join(prefix, "share", "minizinc", "solvers")
         names = sorted(os.listdir(solvers))
         self.assertEqual(names, [f"bridge-{n}.msc" for n in ("cbc", "clp", "esolver", "glpsol",
-                                                            "lp_solve")])
+                                                            "highs", "lp_solve")])
         for name in names:
             with open(os.path.join(solvers, name)) as f:
                 words = json.load(f)["executable"]

@@ -52,8 +52,7 @@ class Solves(Case):
             self.assertEqual(pulp.LpStatus[problem.status], "Optimal")
             self.assertEqual((x.value(), y.value(), pulp.value(problem.objective)), (2, 4, 19))
             self.assertEqual([problem.constraints[n].pi for n in ("first", "second")], [1, 0])
-            self.assertEqual(command.message.split("\n")[-1].split(" (")[0],
-                             "certified optimal: exactly 19")
+            self.assertEqual(command.message.split("\n")[-1], "optimal 19")
 
     def test_order_of_variables(self) -> None:
         """Integer, binary and continuous ones, mixed, each with a value of its own."""

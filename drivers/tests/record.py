@@ -7,7 +7,6 @@
 from __future__ import annotations
 
 import os
-import shutil
 import subprocess
 import sys
 import tempfile
@@ -44,7 +43,7 @@ def run(driver: str, name: str) -> dict:
 def main() -> None:
     for driver in sys.argv[1:] or solvers.NAMES:
         solver = solvers.load(driver)
-        if not shutil.which(solver.program):
+        if solver.place() is None:
             print(f"{driver}: not installed, its stored runs stay")
             continue
         names = [n for n in MODELS if is_solved(n) and (MODELS[n].linear or solver.integers)]

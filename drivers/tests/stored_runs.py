@@ -1,15 +1,16 @@
-"""Each stored run of each solver through the whole driver, with the stand-in for `bridge`."""
+"""Each stored run of each solver through the whole driver."""
 
 from __future__ import annotations
 
 import os
 
-from support import LOOSE, Case, Replay
+from support import NEEDS_PROGRAM, Case, Replay
 from bridge_drivers import solvers
 from models import MODELS, is_solved
 import stored
 
 
+@NEEDS_PROGRAM
 class StoredRuns(Case):
     def test_all(self) -> None:
         for driver in solvers.NAMES:
@@ -20,7 +21,7 @@ class StoredRuns(Case):
                     self.put(MODELS[name].text)
                     ended = self.replay(driver, name, self.stub, "-AMPL", *MODELS[name].options)
                     self.assertEqual(ended.returncode, 0, ended.stderr)
-                    self.judge(driver, name, True, driver not in LOOSE)
+                    self.judge(driver, name)
 
     def test_every_driver_has_runs(self) -> None:
         for driver in solvers.NAMES:

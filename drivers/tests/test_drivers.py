@@ -3,14 +3,15 @@
 
     test_drivers.py [NAME ..]       names of tests, as unittest takes them; all where there are none
 
-They need neither solver nor `bridge` nor network: stored runs and a stand-in take their places.
-Where BRIDGE names the program, each small model also runs through it and each solver that is
-installed. Nothing is written into this folder. Quiet but for the last line; the status is 1 where
-a test fails.
+They need no solver and no network: stored runs take the place of solvers. Where BRIDGE names the
+program, drivers run over it; where solvers, CLP's library or PuLP are installed too, each small
+model runs through them. What is skipped is told. Nothing is written into this folder. The status is
+1 where a test fails.
 """
 
 from __future__ import annotations
 
+import collections
 import io
 import os
 import sys
@@ -21,7 +22,7 @@ os.environ["PYTHONDONTWRITEBYTECODE"] = "1"         # also where drivers are pro
 HERE = os.path.dirname(os.path.abspath(__file__))
 sys.path[:0] = [HERE]
 MODULES = ("units", "stored_runs", "manners", "processes", "end_to_end", "pulp_class",
-           "branching_offline", "branching_search", "test_front")
+           "certify_parts", "certify_search", "test_front")
 
 
 def main() -> int:
@@ -33,10 +34,11 @@ def main() -> int:
     bad = len(result.failures) + len(result.errors)
     if bad:
         sys.stdout.write(stream.getvalue())
-    skipped = len(result.skipped)
-    more = f", {skipped} skipped for want of bridge, a solver or PuLP" if skipped else ""
+    reasons = collections.Counter(reason for _, reason in result.skipped)
+    for reason, count in reasons.items():
+        print(f"drivers: {count} skipped: {reason}")
     ended = f"{bad} failures" if bad else "ok"
-    print(f"drivers: {result.testsRun} tests{more}: {ended}")
+    print(f"drivers: {result.testsRun} tests: {ended}")
     return 1 if bad or not result.testsRun else 0
 
 

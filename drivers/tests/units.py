@@ -13,7 +13,6 @@ from bridge_drivers.bridge import Refused, Reply
 from bridge_drivers.options import BadOption, Options
 from bridge_drivers.program import Program
 from models import MODELS
-import stand_in
 
 BINARY = os.path.join(HERE, "binary")
 
@@ -41,14 +40,6 @@ class Decimals(Case):
                                                                  F(1, 10 ** 380)))
         for bad in (float("inf"), float("nan"), F(10 ** 400, 7)):
             self.assertRaises(values.BadValue, values.text_of, bad)
-
-    def test_snapped(self) -> None:
-        self.assertEqual(values.snapped(1.9999999999999998), 2.0)
-        self.assertEqual(values.snapped(0.30000000000000004), 0.3)
-        self.assertEqual(values.snapped(1 / 3), round(1 / 3, 9))
-        self.assertEqual(values.snapped(F(1, 3)), F(1, 3))
-        self.assertEqual(values.plain("22/5"), "4.4")
-        self.assertEqual(values.plain("1/3"), "1/3")
 
 
 class Texts(Case):
@@ -140,22 +131,6 @@ class Files(Case):
             self.assertEqual(nl.shortest_numbers(old), (new, count))
         same = b"0 0.123456789 1.5\n3 123456789012345678\nx0.90000000000000002\n"
         self.assertEqual(nl.shortest_numbers(same), (same, 0))
-
-    def test_stand_in(self) -> None:
-        """The verdicts of a worked example, one for each phase of the check."""
-        self.put(b"g3 1 1 0\n 2 1 1 0 0\n 0 0\n 0 0\n 0 0 0\n 0 0 0 1\n 0 0 0 0 0\n 2 2\n 0 0\n"
-                 b" 0 0 0 0 0\nC0\nn0\nO0 0\nn0\nr\n2 4\nb\n0 0 3\n2 0\nJ0 2\n0 1\n1 1\nG0 2\n"
-                 b"0 2\n1 3\n")
-        for primals, dual, verdict in (("3 1", "3", "yes 9"), ("3 1", "2.5", "gap 9 17/2"),
-                                       ("0 4", "3", "gap 12 9"), ("3 0", "3", "row 0 broken"),
-                                       ("4 0", "3", "bound 0 broken"),
-                                       ("3 1", "-1", "row 0 has no side"),
-                                       ("3 1", "4", "bound 1 has no side")):
-            lines = ["m", "", "Options", "3", "1", "1", "0", "1", "1", "2", "2", dual,
-                     *primals.split(), "objno 0 0", ""]
-            self.put("\n".join(lines).encode(), ".sol")
-            status, out, _ = stand_in.answer(["check", self.stub + ".nl", self.stub + ".sol"])
-            self.assertEqual((status, out), (int(verdict != "yes 9"), verdict + "\n"))
 
     def test_is_ours(self) -> None:
         """iproute2's `bridge` is passed over on the PATH."""

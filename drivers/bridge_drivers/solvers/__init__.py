@@ -3,22 +3,13 @@
 from __future__ import annotations
 
 import importlib
-import shutil
 
 from .base import Solver
 
-NAMES = ("cbc", "clp", "glpsol", "esolver", "lp_solve")
+NAMES = ("cbc", "clp", "glpsol", "highs", "esolver", "lp_solve")
 
 
 def load(name: str) -> Solver:
     """The solver of the driver bridge-NAME."""
-    return importlib.import_module(f"{__name__}.{name}").SOLVER
-
-
-def exact() -> Solver | None:
-    """An installed solver that answers fractions, or None."""
-    for name in NAMES:
-        solver = load(name)
-        if solver.exact and shutil.which(solver.program):
-            return solver
-    return None
+    solver: Solver = importlib.import_module(f"{__name__}.{name}").SOLVER
+    return solver

@@ -3,9 +3,9 @@
 from __future__ import annotations
 
 import re
+import shutil
 from dataclasses import dataclass, field
-from fractions import Fraction
-from typing import TYPE_CHECKING, Mapping, NamedTuple, Sequence
+from typing import TYPE_CHECKING, Mapping, Sequence
 
 from ..codes import Code
 from ..options import Option
@@ -13,6 +13,7 @@ from ..values import Number
 
 if TYPE_CHECKING:
     from ..job import Job
+    from ..program import Program
 
 # AMPL's statuses of the basis
 BASIC, SUPERBASIC, LOWER, UPPER, EQUAL = 1, 2, 3, 4, 5
@@ -41,20 +42,14 @@ class Outcome:
     notes: list[str] = field(default_factory=list)
 
 
-class Duals(NamedTuple):
-    """The optimal value of a linear program, with a dual of each row, exactly."""
-
-    value: Fraction
-    duals: dict[str, Fraction]
-
-
 class Solver:
     """A solver. `solve` writes the model as it reads it, runs it, and reads its answer."""
 
-    program = ""                        # the executable; also its title where that is not said
+    name = ""                           # of the driver, without bridge-
+    program = ""                        # the executable
     title = ""                          # in messages
     integers = True                     # takes integer columns
-    exact = False                       # answers fractions, and has `exact_duals`
+    again = ""                          # how it is asked where an answer is not good
     options: Sequence[Option] = ()      # its own
     version = ""                        # a pattern whose one group is the version in the log
 
@@ -66,10 +61,17 @@ class Solver:
     def solve(self, job: Job) -> Outcome:
         raise NotImplementedError
 
-    def exact_duals(self, job: Job, name: str, text: bytes) -> Duals | None:
-        """An optimum of another program with the same rows, in files that begin with `name`;
-        None where there is none."""
-        raise NotImplementedError
+    def place(self, named: str = "") -> str | None:
+        """The executable: the named one, or one on the PATH."""
+        return shutil.which(named or self.program)
+
+    def text(self, program: Program) -> bytes:
+        """The program as the solver reads it."""
+        return program.text
+
+    def reading(self, program: Program, path: str) -> list[str]:
+        """The words by which the solver reads that text and solves it."""
+        return [path]
 
 
 def row_side(kind: str, letter: str) -> int:

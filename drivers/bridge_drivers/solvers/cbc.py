@@ -9,7 +9,8 @@ from .coin import Coin
 
 
 class Cbc(Coin):
-    program, title = "cbc", "CBC"
+    name, program, title = "cbc", "cbc", "CBC"
+    again = "without preprocessing"
     version = r"Version: (\S+)"
     options = (Option("mipgap", 0.0, float, "relative gap at which the search stops"),
                Option("threads", 0, int, "threads of the search"))
@@ -23,6 +24,8 @@ class Cbc(Coin):
             words += ["-ratio", f"{options.own['mipgap']:g}"]
         if options.own["threads"]:
             words += ["-threads", str(options.own["threads"])]
+        if job.again:
+            words += ["-preprocess", "off", "-presolve", "off"]
         words += job.extra
         words += ["-initialSolve" if options.relax else "-solve"] + self.answers(job)
         if options.relax or not job.program.whole:

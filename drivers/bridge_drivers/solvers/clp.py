@@ -8,7 +8,8 @@ from .coin import Coin
 
 
 class Clp(Coin):
-    program, title = "clp", "CLP"
+    name, program, title = "clp", "clp", "CLP"
+    again = "without its presolve"
     version = r"Coin LP version ([0-9.]+)"
     integers = False
 
@@ -16,6 +17,8 @@ class Clp(Coin):
         words = [job.solver] + self.model(job)
         if job.options.timelim:
             words += ["-sec", f"{job.options.timelim:g}"]
+        if job.again:
+            words += ["-presolve", "off"]
         words += job.extra + ["-solve"] + self.answers(job) + self.basis_file(job) + ["-quit"]
         ran = job.run(words)
         return self.answer(job, ran.log, ran.killed)

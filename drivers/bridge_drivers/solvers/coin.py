@@ -30,8 +30,14 @@ class Coin(Solver):
     def model(self, job: Job) -> list[str]:
         """The words that name the model. To CoinUtils a `NAME nl` line means fixed columns, and
         OBJSENSE it ignores."""
-        path = job.write("coin.mps", job.program.free_name())
+        path = job.write("coin.mps", self.text(job.program))
         return [path, "-max"] if job.program.maximise else [path]
+
+    def text(self, program: Program) -> bytes:
+        return program.free_name()
+
+    def reading(self, program: Program, path: str) -> list[str]:
+        return [path, *(["-max"] if program.maximise else []), "-solve", "-solution", "stdout"]
 
     def answers(self, job: Job) -> list[str]:
         """The words for the files of an answer, which `answer` reads."""

@@ -3,27 +3,26 @@ without a word, prints only what is not 0, and ignores the RHS of the objective 
 
 from __future__ import annotations
 
-import shutil
 from fractions import Fraction
 
 from ..codes import Code
 from ..job import Job
 from ..program import Program
-from .base import Duals, Outcome, Solver, Unclear, first_line, read_lines, stopped
+from .base import Outcome, Solver, Unclear, first_line, read_lines, stopped
 from .coin import basis
 
 SECTIONS = ("VARS", "REDUCED COST", "PI", "SLACK")
 
 
 class Esolver(Solver):
-    program, title = "esolver", "QSopt_ex"
+    name, program, title = "esolver", "esolver", "QSopt_ex"
     version = r"Using QSopt_ex (\S+)"
-    integers, exact = False, True
+    integers = False
 
     def solve(self, job: Job) -> Outcome:
         p, options = job.program, job.options
         out, basis_file = job.path("answer.sol"), job.path("answer.bas")
-        path = job.write("esolver.mps", filled(p))
+        path = job.write("esolver.mps", self.text(p))
         words = [job.solver]
         if options.timelim:
             words += ["-R", f"{options.timelim:g}"]
@@ -49,32 +48,14 @@ class Esolver(Solver):
                        complete(p.columns, parts["REDUCED COST"]), columns, rows,
                        value - Fraction(p.objective_rhs))
 
-    def exact_duals(self, job: Job, name: str, text: bytes) -> Duals | None:
-        place = shutil.which(self.program)
-        if place is None or not job.program.constraints:
-            return None
-        out = job.path(name + ".sol")
-        seconds = job.options.timelim or 600
-        job.run([place, "-R", f"{seconds:g}", "-O", out, job.write(name + ".mps", text)],
-                name + ".log")
-        lines = read_lines(out)
-        if not lines or status_of(lines) != "OPTIMAL":
-            return None
-        try:
-            value, parts = parsed(lines)
-        except (ValueError, ZeroDivisionError):
-            return None
-        return Duals(value, complete(job.program.constraints, parts["PI"]))
-
-
-def filled(program: Program) -> bytes:
-    """The text, with a row and a column where there are none: without them it is a `Data Error`."""
-    text = program.text
-    if not program.constraints:
-        text = text.replace(b"\nCOLUMNS\n", b"\n L none\nCOLUMNS\n", 1)
-    if not program.columns:
-        text = text.replace(b"\nCOLUMNS\n", b"\nCOLUMNS\n none obj 0\n", 1)
-    return text
+    def text(self, program: Program) -> bytes:
+        """With a row and a column where there are none: without them it is a `Data Error`."""
+        text = program.text
+        if not program.constraints:
+            text = text.replace(b"\nCOLUMNS\n", b"\n L none\nCOLUMNS\n", 1)
+        if not program.columns:
+            text = text.replace(b"\nCOLUMNS\n", b"\nCOLUMNS\n none obj 0\n", 1)
+        return text
 
 
 def status_of(lines: list[str]) -> str:

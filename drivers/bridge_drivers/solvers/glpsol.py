@@ -24,34 +24,39 @@ SENTENCES = (
 
 
 class Glpsol(Solver):
-    program, title = "glpsol", "GLPK"
+    name, program, title = "glpsol", "glpsol", "GLPK"
+    again = "without its presolve, its basis checked exactly"
     version = r"GLPSOL.*?Solver,? v?(\S+)"
     options = (Option("mipgap", 0.0, float, "relative gap at which the search stops"),
                Option("xcheck", 0, int, "1: glpsol checks its final basis in exact arithmetic"))
 
     def solve(self, job: Job) -> Outcome:
         options, program = job.options, job.program
-        words = [job.solver, "--freemps", job.write("glpsol.mps", model(program)),
-                 "--max" if program.maximise else "--min", "-w", job.path("answer.txt")]
+        words = [job.solver, *self.reading(program, job.write("glpsol.mps", self.text(program))),
+                 "-w", job.path("answer.txt")]
         if options.relax:
             words += ["--nomip"]
         if options.timelim:
             words += ["--tmlim", str(math.ceil(options.timelim))]
         if options.own["mipgap"]:
             words += ["--mipgap", f"{options.own['mipgap']:g}"]
-        if options.own["xcheck"]:
+        if options.own["xcheck"] or job.again:
             words += ["--xcheck"]
+        if job.again:
+            words += ["--nopresol"]
         return answer(job, job.run(words + job.extra))
 
+    def text(self, program: Program) -> bytes:
+        """Without OBJSENSE, which is an error to glpsol, and with the other sign at the RHS of
+        the objective row, which glpsol adds."""
+        text, old = program.without_sense(), program.objective_rhs
+        if old == "0":
+            return text
+        new = old[1:] if old.startswith("-") else "-" + old
+        return text.replace(f"\n RHS obj {old}\n".encode(), f"\n RHS obj {new}\n".encode(), 1)
 
-def model(program: Program) -> bytes:
-    """The text without OBJSENSE, which is an error to glpsol, and with the other sign at the RHS
-    of the objective row, which glpsol adds."""
-    text, old = program.without_sense(), program.objective_rhs
-    if old == "0":
-        return text
-    new = old[1:] if old.startswith("-") else "-" + old
-    return text.replace(f"\n RHS obj {old}\n".encode(), f"\n RHS obj {new}\n".encode(), 1)
+    def reading(self, program: Program, path: str) -> list[str]:
+        return ["--freemps", path, "--max" if program.maximise else "--min"]
 
 
 def answer(job: Job, ran: Ran) -> Outcome:

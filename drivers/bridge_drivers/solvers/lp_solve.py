@@ -6,6 +6,7 @@ import math
 
 from ..codes import Code
 from ..job import Job
+from ..program import Program
 from .base import Outcome, Solver, Unclear, first_line, stopped
 
 INFINITE = 1e29
@@ -13,12 +14,12 @@ NOTE = "lp_solve prints six digits"
 
 
 class LpSolve(Solver):
-    program, title = "lp_solve", "lp_solve"
+    name, program, title = "lp_solve", "lp_solve", "lp_solve"
 
     def solve(self, job: Job) -> Outcome:
         options, p = job.options, job.program
         # Without -mps_negobjconst it adds the RHS of the objective row.
-        words = [job.solver, "-fmps", job.write("lp_solve.mps", p.text), "-S4", "-mps_negobjconst"]
+        words = [job.solver, *self.reading(p, job.write("lp_solve.mps", p.text))]
         if options.relax:
             words += ["-noint"]
         if options.timelim:
@@ -46,6 +47,9 @@ class LpSolve(Solver):
                            notes=[NOTE])
         return Outcome(Code.SOLVED, "optimal solution", values, duals, costs, objective=objective,
                        notes=[NOTE])
+
+    def reading(self, program: Program, path: str) -> list[str]:
+        return ["-fmps", path, "-S4", "-mps_negobjconst"]
 
 
 def objective_of(log: str) -> float:

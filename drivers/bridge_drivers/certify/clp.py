@@ -4,27 +4,54 @@ from __future__ import annotations
 
 import ctypes
 import ctypes.util
-from typing import Sequence
-
-from .engines import ITERATIONS, End, Linear, State
+import enum
+from typing import Any, NamedTuple, Optional, Sequence
 
 INFINITE = 1.7976931348623157e308       # COIN's own
 STATUS_BITS, STATUS_BASIC = 7, 1
+ITERATIONS = 100_000                    # of one relaxation
 NAMES = ("libClp.so.1", "libClp.so", "libClp.1.dylib", "libClp.dylib")
+End = Optional[float]
 
 P, I, D = ctypes.c_void_p, ctypes.c_int, ctypes.c_double
-CALLS = {
+CALLS: dict[str, tuple[Any, list[Any]]] = {
     "newModel": (P, []), "deleteModel": (None, [P]), "setLogLevel": (None, [P, I]),
     "loadProblem": (None, [P, I, I, P, P, P, P, P, P, P, P]),
     "setSmallElementValue": (None, [P, D]),
     "chgColumnLower": (None, [P, P]), "chgColumnUpper": (None, [P, P]),
+    "chgRowLower": (None, [P, P]), "chgRowUpper": (None, [P, P]),
     "setNumberIterations": (None, [P, I]), "setMaximumIterations": (None, [P, I]),
+    "setMaximumSeconds": (None, [P, D]),
     "dual": (I, [P, I]), "primal": (I, [P, I]), "status": (I, [P]),
     "objectiveValue": (D, [P]), "primalColumnSolution": (P, [P]), "dualRowSolution": (P, [P]),
     "infeasibilityRay": (P, [P]), "freeRay": (None, [P, P]),
     "statusArray": (P, [P]), "copyinStatus": (None, [P, P]),
 }
 LOADED: list[ctypes.CDLL | None] = []           # once loaded, or once missed
+
+
+class NoClp(Exception):
+    """CLP's library is not there."""
+
+
+class State(enum.Enum):
+    """How a relaxation ended. OTHER: stopped, or it has no optimum that CLP finds."""
+
+    OPTIMAL = 0
+    INFEASIBLE = 1
+    UNBOUNDED = 2
+    OTHER = 3
+
+
+class Linear(NamedTuple):
+    """A linear program in doubles, minimised: bounds of columns, costs, (lower, upper) sides of
+    rows, and each column's (row, coefficient). None is infinite."""
+
+    lo: list[End]
+    hi: list[End]
+    cost: list[float]
+    sides: list[tuple[End, End]]
+    columns: list[list[tuple[int, float]]]
 
 
 def library() -> ctypes.CDLL | None:
@@ -48,59 +75,79 @@ def load() -> ctypes.CDLL | None:
     return None
 
 
-def is_there() -> bool:
-    return library() is not None
-
-
-def doubles(values: Sequence[float]):
+def doubles(values: Sequence[float]) -> Any:
     return (D * max(len(values), 1))(*values)
 
 
-class ClpLibrary:
-    name, is_process = "CLP's library", False
+def low(values: Sequence[End]) -> Any:
+    return doubles([-INFINITE if v is None else v for v in values])
+
+
+def high(values: Sequence[End]) -> Any:
+    return doubles([INFINITE if v is None else v for v in values])
+
+
+def read(place: int, count: int) -> list[float]:
+    return list((D * count).from_address(place)) if count else []
+
+
+class Clp:
+    """A relaxation whose bounds and sides change. What it answers is of the last `solve`."""
 
     def __init__(self, linear: Linear) -> None:
         lib = library()
-        assert lib is not None
+        if lib is None:
+            raise NoClp("CLP's library (coinor-libclp1) is not installed")
         self.lib, self.model = lib, lib.Clp_newModel()
-        self.n, self.m, self.solves = len(linear.columns), len(linear.sides), 0
+        self.n, self.m = len(linear.columns), len(linear.sides)
         starts, index, value = [0], [], []
         for column in linear.columns:
             for i, a in column:
                 index.append(i)
                 value.append(a)
             starts.append(len(index))
-        self.lo = doubles([-INFINITE if v is None else v for v in linear.lo])
-        self.hi = doubles([INFINITE if v is None else v for v in linear.hi])
-        low = doubles([-INFINITE if a is None else a for a, _ in linear.sides])
-        high = doubles([INFINITE if b is None else b for _, b in linear.sides])
+        self.lo, self.hi = low(linear.lo), high(linear.hi)
+        self.side_lo = low([a for a, _ in linear.sides])
+        self.side_hi = high([b for _, b in linear.sides])
         ints = (I * len(starts))(*starts), (I * max(len(index), 1))(*index)
         lib.Clp_setLogLevel(self.model, 0)
         lib.Clp_setSmallElementValue(self.model, 0.0)
         lib.Clp_loadProblem(self.model, self.n, self.m, *ints, doubles(value), self.lo, self.hi,
-                            doubles(linear.cost), low, high)
+                            doubles(linear.cost), self.side_lo, self.side_hi)
 
     def __del__(self) -> None:
         if getattr(self, "model", None):
             self.lib.Clp_deleteModel(self.model)
             self.model = None
 
+    def limit(self, seconds: float) -> None:
+        """Of each solve from here on."""
+        self.lib.Clp_setMaximumSeconds(self.model, seconds)
+
     def bound(self, column: int, lo: End, hi: End) -> None:
         self.lo[column] = -INFINITE if lo is None else lo
         self.hi[column] = INFINITE if hi is None else hi
 
+    def side(self, row: int, lo: End, hi: End) -> None:
+        self.side_lo[row] = -INFINITE if lo is None else lo
+        self.side_hi[row] = INFINITE if hi is None else hi
+
     def solve(self, most: int = ITERATIONS, again: bool = False) -> State:
+        """`most` iterations; `again`: by the other simplex method, where one failed."""
         lib, model = self.lib, self.model
-        self.solves += 1
         lib.Clp_chgColumnLower(model, self.lo)
         lib.Clp_chgColumnUpper(model, self.hi)
+        if self.m:
+            lib.Clp_chgRowLower(model, self.side_lo)
+            lib.Clp_chgRowUpper(model, self.side_hi)
         lib.Clp_setNumberIterations(model, 0)
         lib.Clp_setMaximumIterations(model, most)
         (lib.Clp_primal if again else lib.Clp_dual)(model, 0)
-        return {0: State.OPTIMAL, 1: State.INFEASIBLE}.get(lib.Clp_status(model), State.OTHER)
+        status = lib.Clp_status(model)
+        return State(status) if status in (0, 1, 2) else State.OTHER
 
     def objective(self) -> float:
-        return self.lib.Clp_objectiveValue(self.model)
+        return float(self.lib.Clp_objectiveValue(self.model))
 
     def values(self) -> list[float]:
         return read(self.lib.Clp_primalColumnSolution(self.model), self.n)
@@ -108,25 +155,24 @@ class ClpLibrary:
     def duals(self) -> list[float]:
         return read(self.lib.Clp_dualRowSolution(self.model), self.m)
 
-    def ray(self) -> list[float] | None:
+    def ray(self) -> list[float]:
+        """Weights of rows that contradict each other, in either sign; none where CLP has none."""
         place = self.lib.Clp_infeasibilityRay(self.model)
         if not place:
-            return None
+            return []
         weights = read(place, self.m)
         self.lib.Clp_freeRay(self.model, place)
         return weights
 
     def keep(self) -> bytes:
+        """The basis, for `restore`."""
         return ctypes.string_at(self.lib.Clp_statusArray(self.model), self.n + self.m)
 
     def restore(self, kept: bytes) -> None:
         self.lib.Clp_copyinStatus(self.model, kept)
 
     def basis(self) -> tuple[list[int], list[int]]:
+        """Basic columns, and rows that are not basic."""
         basic = [status & STATUS_BITS == STATUS_BASIC for status in self.keep()]
         return ([j for j in range(self.n) if basic[j]],
                 [i for i in range(self.m) if not basic[self.n + i]])
-
-
-def read(place: int, count: int) -> list[float]:
-    return list((D * count).from_address(place)) if count else []

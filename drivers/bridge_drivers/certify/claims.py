@@ -1,0 +1,402 @@
+"""What is claimed of a model, the certificate of it, and the verdict of `bridge verify`."""
+
+from __future__ import annotations
+
+import math
+import os
+import shutil
+from fractions import Fraction
+from typing import Callable, Iterator, List, Mapping, NamedTuple, Sequence
+
+from . import points, text
+from .clp import Clp, NoClp, State, library
+from .directions import directions
+from .equations import parity
+from .leaves import Closed, Closer
+from .model import Added, Box, Model, Point, Unfit, factors
+from .numbers import is_narrow
+from .plans import MOST_THIN, PLAIN, SHORT, Plans, written
+from .points import Basis
+from .search import Better, Goal, Search
+from .text import Naming
+from .tree import Spool, Tree, count
+from .watch import Stopped, Watch
+from ..bridge import Bridge, Late, Refused
+from ..nl import header
+from ..program import Program
+
+WITHOUT = "not proved: "
+MOST_BETTER = 6                 # points that a search may find
+ONE_LEAF = 1.0                  # seconds for it
+LOOSER = (1e-9, 1e-7, 1e-5, 1e-3)       # of a value: what a bound may lie away
+MOST_CLP_SECONDS = 30.0
+
+
+class Given(NamedTuple):
+    """What a solver answered, by position: values, the duals of the exported rows (rates of
+    change of the objective in its own sense), and the basis. None where it did not tell."""
+
+    values: Sequence[float | Fraction] | None = None
+    duals: Mapping[int, float | Fraction] | None = None
+    basis: Basis | None = None
+
+
+class Verdict(NamedTuple):
+    """The last line of a message, with the point that it speaks of and its objective in the
+    file's own sense, `path` where the accepted text is, a line of figures, and the duals of the
+    exported rows where one leaf has them."""
+
+    line: str
+    point: Point | None = None
+    path: str | None = None
+    figures: str = ""
+    value: Fraction | None = None
+    duals: Mapping[int, Fraction] = {}
+
+    def is_proved(self) -> bool:
+        return self.path is not None
+
+
+class Contradiction(NamedTuple):
+    """A tree of weights: the program with the forms that it splits, and its leaves' file."""
+
+    searched: Model
+    tree: Tree
+    spool: Spool
+    nodes: int
+
+
+class Certifying:
+    """One model: `nl` is its path, `folder` one for files, `objective` counts from 0. `proves`:
+    searches may be long; else one leaf is tried. `relaxed`: the answer is of the relaxation.
+    `bounds`: a bound of the relaxation is wanted too."""
+
+    def __init__(self, bridge: Bridge, nl: str, folder: str, program: Program, objective: int,
+                 watch: Watch, proves: bool = True, relaxed: bool = False,
+                 bounds: bool = False) -> None:
+        self.bridge, self.nl, self.folder, self.objective = bridge, nl, folder, objective
+        self.watch, self.proves, self.relaxed, self.bounded = watch, proves, relaxed, bounds
+        self.program, self.figures = program, ""
+        self.path = os.path.join(folder, "certificate")
+
+    def load(self) -> None:
+        names = [name for name in self.program.constraints if name != "zdef"]
+        self.factors = factors(self.bridge, self.nl, self.folder, names)
+        self.model = Model(self.program.text, self.factors, header(self.nl).constraints)
+        self.linear = not any(self.model.whole)
+
+    # the text and its verdict ------------------------------------------------------
+
+    def judged(self, lines: Iterator[str], tree: str | None = None,
+               point: Point | None = None) -> Verdict:
+        """Writes the lines, and a tree from its file; asks `bridge verify`."""
+        written(self.path, lines)
+        if tree is not None:
+            with open(self.path, "ab") as f, open(tree, "rb") as source:
+                shutil.copyfileobj(source, f)
+        self.bridge.limit = self.watch.for_verdict()
+        try:
+            reply = self.bridge.call("verify", self.nl, self.path)
+        except Late:
+            return Verdict(WITHOUT + "time: bridge verify was ended before its verdict", point)
+        finally:
+            self.bridge.limit = None
+        if reply.status not in (0, 1):
+            raise Refused("verify", reply)
+        line = reply.out.decode("utf-8", "replace").strip()
+        if reply.status == 0:
+            value = None if point is None else self.model.sign * self.model.value(point)
+            return Verdict(line, point, self.path, self.figures, value)
+        return Verdict(f"{WITHOUT}bridge verify says `{line}`", point)
+
+    def best(self, verdicts: Iterator[Verdict]) -> Verdict:
+        """The first that is accepted, else the first."""
+        first = None
+        for verdict in verdicts:
+            if verdict.is_proved():
+                return verdict
+            first = first or verdict
+        return first or Verdict(WITHOUT + "no certificate was found")
+
+    # claims ------------------------------------------------------------------------
+
+    def of_infeasible(self, given: Given = Given()) -> Verdict:
+        """By weights, by an equation without a whole solution, or by a tree."""
+        self.load()
+        return self.best(self.infeasible())
+
+    def of_unbounded(self, given: Given = Given()) -> Verdict:
+        """By a point and a ray."""
+        self.load()
+        return self.unbounded(given)
+
+    def of_either(self, given: Given = Given()) -> Verdict:
+        """Where the solver does not say whether it is infeasible or unbounded."""
+        self.load()
+        verdict = self.unbounded(Given())
+        return verdict if verdict.is_proved() else self.best(self.infeasible())
+
+    def of_point(self, given: Given) -> Verdict:
+        """That a point is optimal, else that it is feasible, with a bound where there is one."""
+        self.load()
+        if self.relaxed and not self.linear:
+            return self.best(self.bounds())
+        if self.linear:
+            return self.best(self.linear_optimum(given))
+        assert given.values is not None
+        point = self.exact(given.values)
+        if point is not None:
+            return self.best(self.whole_optimum(point))
+        if self.proves:         # whatever the search finds
+            return self.best(self.infeasible())
+        return Verdict(WITHOUT + "no exact point has the answer's whole variables")
+
+    def of_nothing(self, given: Given = Given()) -> Verdict:
+        """A bound, where there is no point."""
+        self.load()
+        return self.best(self.bounds())
+
+    # linear programs ---------------------------------------------------------------
+
+    def relaxation(self) -> tuple[Clp | None, State]:
+        """None where CLP is not there."""
+        if library() is None:
+            return None, State.OTHER
+        clp = self.model.relaxation()
+        clp.limit(ONE_LEAF if not self.proves else min(max(self.watch.left(), ONE_LEAF),
+                                                      MOST_CLP_SECONDS))
+        state = clp.solve()
+        if state is not State.OPTIMAL:
+            state = clp.solve(again=True)
+        return clp, state
+
+    def linear_optimum(self, given: Given) -> Iterator[Verdict]:
+        p, (clp, state) = self.model, self.relaxation()
+        found: list[Point] = []
+        if state is not State.OPTIMAL:
+            clp = None
+        for point in self.linear_points(given, clp):
+            if point in found:
+                continue
+            found.append(point)
+            leaf = self.linear_leaf(clp, given, p.value(point))
+            if leaf is not None:
+                yield self.one_leaf(leaf, "optimal", None, point)
+        if clp is not None:
+            yield from self.loose_bounds(clp, found)
+        if found:
+            yield self.feasible(found[0])
+        yield Verdict(WITHOUT + "no exact point was found near the answer")
+
+    def linear_points(self, given: Given, clp: Clp | None) -> Iterator[Point]:
+        """Near the answer, then the vertex of its basis, then of CLP's; narrow ones alone."""
+        p, x = self.model, given.values
+        made: List[Point] = []
+        if x is not None:
+            made += points.near(p, x)
+            if given.basis is not None and not made:
+                made += filter(None, [points.vertex(p, given.basis, [float(v) for v in x])])
+        yield from (point for point in made if all(map(is_narrow, point)))
+        if clp is not None:
+            vertex = points.vertex(p, Basis(*clp.basis()), clp.values())
+            if vertex is not None and all(map(is_narrow, vertex)):
+                yield vertex
+            yield from points.near(p, clp.values())
+
+    def linear_leaf(self, clp: Clp | None, given: Given, value: Fraction) -> Closed | None:
+        p = self.model
+        closer, box = Closer(p, value), Box(p.lo, p.hi)
+        if not any(p.costs):
+            return closer.close({}, False, box)
+        closed = None
+        if clp is not None:
+            closed = closer.close(dict(enumerate(clp.duals())), False, box) or \
+                closer.exactly(closer.basis_duals(*clp.basis()), False, box)
+        if closed is None and given.duals is not None:
+            y = {i: p.sign * self.factors.get(i, 1) * v for i, v in given.duals.items()}
+            closed = closer.close({i: float(v) for i, v in y.items()}, False, box)
+            if closed is None and all(isinstance(v, Fraction) for v in y.values()):
+                closed = closer.exactly({i: Fraction(v) for i, v in y.items()}, False, box)
+        return closed
+
+    def one_leaf(self, closed: Closed, claim: str, value: Fraction | None,
+                 point: Point | None) -> Verdict:
+        def lines() -> Iterator[str]:
+            yield from text.head(claim, self.objective, value, point)
+            yield from text.leaf_lines(closed.leaf, Naming({}, 0, self.model.sign), {})
+        self.figures = f"one leaf, {len(closed.leaf.numbers)} duals"
+        y = dict.fromkeys(range(self.model.m), Fraction(0))
+        for i, v in closed.leaf.numbers.items():
+            y[i] = Fraction(self.model.sign * v, closed.leaf.den * self.factors.get(i, 1))
+        return self.judged(lines(), None, point)._replace(duals=y)
+
+    def loose_bounds(self, clp: Clp, found: Sequence[Point]) -> Iterator[Verdict]:
+        """Where no leaf meets the optimum, one that is met."""
+        if not any(self.model.costs):
+            return
+        p, box = self.model, Box(self.model.lo, self.model.hi)
+        top = clp.objective() + float(p.constant)
+        point = min(found, key=p.value, default=None)
+        for room in LOOSER:
+            target = floored(top, room * max(1.0, abs(top)))
+            closed = Closer(p, target).close(dict(enumerate(clp.duals())), False, box)
+            if closed is not None:
+                value = p.sign * target
+                yield self.one_leaf(closed, "bound" if point is None else "within", value, point)
+
+    # integer programs --------------------------------------------------------------
+
+    def whole_optimum(self, point: Point) -> Iterator[Verdict]:
+        p = self.model
+        for _ in range(MOST_BETTER):
+            plans = Plans(p, p.value(point), self.exact, self.folder, self.watch)
+            try:
+                self.planned(plans)
+                break
+            except Better as better:
+                point = better.point
+            except NoClp as fault:
+                plans.told.append(str(fault))
+                break
+        else:
+            yield self.feasible(point)
+        if plans.best is not None:
+            self.figures = f"{plans.best.name} plan, {plans.best.figures.nodes} nodes, " \
+                           f"{plans.best.figures.rows} rows, {plans.best.size} bytes"
+            yield self.judged(text.head("optimal", self.objective, None, point),
+                              plans.best.path, point)
+        if self.proves or self.bounded:
+            bounded = plans.bounded()
+            if bounded is not None:
+                value, path = bounded
+                self.figures = "; ".join(plans.told)
+                yield self.judged(text.head("within", self.objective, p.sign * value, point),
+                                  path, point)
+        yield self.feasible(point)
+        yield Verdict(WITHOUT + (plans.told[-1] if plans.told else "no plan was tried"), point)
+
+    def planned(self, plans: Plans) -> None:
+        if not any(self.model.costs):
+            plans.run("plain", [], ONE_LEAF)
+        elif self.proves:
+            plans.try_all()
+        else:
+            plans.run("plain", [], ONE_LEAF, most=1)
+
+    def exact(self, x: Sequence[float | Fraction]) -> Point | None:
+        seconds = min(max(self.watch.left(), ONE_LEAF), MOST_CLP_SECONDS)
+        return points.whole_point(self.model, x, seconds)
+
+    def feasible(self, point: Point) -> Verdict:
+        self.figures = "a point"
+        return self.judged(text.head("feasible", self.objective, None, point), None, point)
+
+    def bounds(self) -> Iterator[Verdict]:
+        """Of the relaxation, by one leaf."""
+        clp, state = self.relaxation()
+        if state is State.INFEASIBLE:
+            yield from self.infeasible()
+        if clp is not None and state is State.OPTIMAL:
+            yield from self.loose_bounds(clp, [])
+        yield Verdict(WITHOUT + "there is no point")
+
+    # no point, no end --------------------------------------------------------------
+
+    def infeasible(self) -> Iterator[Verdict]:
+        odd = parity(self.model)
+        if odd is not None:
+            self.figures = "equations without a whole solution"
+            yield self.judged(text.parity_lines(odd, self.model.m))
+        try:
+            for searched, tree, spool, nodes in self.contradictions():
+                self.figures = f"{nodes} nodes"
+                yield self.judged(text.infeasible_lines(self.model, searched, tree, spool))
+        except (NoClp, Stopped) as fault:
+            yield Verdict(f"{WITHOUT}{fault}")
+        except Better as better:
+            if self.proves and not self.linear:
+                yield from self.whole_optimum(better.point)
+            yield self.feasible(better.point)
+
+    def contradictions(self) -> Iterator[Contradiction]:
+        """A tree whose leaves are all weights: one that splits thin forms too where it is the
+        shorter one."""
+        p = self.model
+        left = self.watch.left() if self.proves else ONE_LEAF
+        small = self.proves and all(p.whole) and sum(p.whole) <= MOST_THIN
+        forms = directions(p) if small else []
+        if not forms:
+            yield self.contradiction([], left)
+            return
+        plain, last = None, None
+        try:
+            plain = self.contradiction([], min(PLAIN, left / 2))
+        except Stopped:
+            pass
+        if plain is None or plain.nodes > SHORT:
+            try:
+                last = self.contradiction(forms, self.watch.left() / 2)
+            except Stopped:
+                pass
+        found = [c for c in (plain, last) if c is not None]
+        yield min(found, key=lambda c: c.nodes) if found else \
+            self.contradiction([], self.watch.left())
+
+    def contradiction(self, forms: Sequence[Mapping[int, int]], seconds: float) -> Contradiction:
+        p, spool = self.model, Spool()
+        searched = p.with_rows([Added(form) for form in forms])
+        search = Search(searched, Goal(None, False, self.exact), spool, self.watch,
+                        self.watch.spent() + seconds, forms=range(p.m, searched.m))
+        tree = search.run()
+        return Contradiction(searched, tree, spool, count(tree))
+
+    def unbounded(self, given: Given) -> Verdict:
+        p = self.model
+        if self.relaxed and not self.linear:
+            return Verdict(WITHOUT + "only the relaxation is unbounded")
+        direction = points.ray(p)
+        if direction is None:
+            return Verdict(WITHOUT + "no exact ray was found")
+        point = self.some_point()
+        if point is None:
+            return Verdict(WITHOUT + "no exact point was found")
+        self.figures = "a point and a ray"
+        return self.judged(text.head("unbounded", self.objective, None, point, direction), None,
+                           point)
+
+    def some_point(self) -> Point | None:
+        """A feasible point, whatever its objective."""
+        p = self.model.without_cost()
+        if self.linear:
+            clp = p.relaxation()
+            return points.any_point(p, clp) if clp.solve() is State.OPTIMAL else None
+        seconds = self.watch.left() if self.proves else ONE_LEAF
+        try:
+            Search(p, Goal(None, False, self.exact), Spool(), self.watch,
+                   self.watch.spent() + seconds).run()
+        except Better as better:
+            return better.point
+        except Stopped:
+            pass
+        return None
+
+
+def floored(value: float, room: float) -> Fraction:
+    """A short decimal below a double by about `room`."""
+    ten = Fraction(10) ** (math.floor(math.log10(room)))
+    return (math.floor((value - room) / float(ten))) * ten
+
+
+def certified(work: Certifying, claim: str, given: Given = Given()) -> Verdict:
+    """The verdict on `point`, `infeasible`, `unbounded`, `either` or `nothing`; whatever goes
+    wrong is told as its line."""
+    calls: dict[str, Callable[[Given], Verdict]] = {
+        "point": work.of_point, "infeasible": work.of_infeasible, "nothing": work.of_nothing,
+        "unbounded": work.of_unbounded, "either": work.of_either}
+    try:
+        with work.watch.interruptible():
+            return calls[claim](given)
+    except Refused as fault:
+        return Verdict(WITHOUT + fault.line())
+    except (Unfit, NoClp, Stopped) as fault:
+        return Verdict(WITHOUT + str(fault))

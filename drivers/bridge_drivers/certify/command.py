@@ -1,0 +1,129 @@
+"""`bridge-certify MODEL [option=value ..]`: a certificate of what is true of a model, and the
+verdict of `bridge verify` on it."""
+
+from __future__ import annotations
+
+import os
+import shutil
+import sys
+import tempfile
+from typing import Sequence, TextIO
+
+from .. import VERSION, console, solvers
+from ..certificates import remove_older
+from ..codes import Code, Failure, Status
+from ..driver import Driver
+from ..options import BadOption, Option
+from ..solving import Result
+
+NAME = "bridge-certify"
+OPTIONS = (
+    Option("bridge", "", str, "words that start bridge (also $BRIDGE)"),
+    Option("certificate", "", str, "where the certificate is written (MODEL.certificate; - is "
+                                   "standard output)"),
+    Option("driver", "cbc", str, "the driver that finds a point"),
+    Option("objno", 1, int, "which objective, from 1"),
+    Option("shortest", 0, int, "1: long decimals of the .nl are read as shorter ones with the "
+                               "same double"),
+    Option("stats", 0, int, "1: a line of figures"),
+    Option("timelim", 60.0, float, "seconds for the driver, and again for the certificate; 0: no "
+                                   "limit"),
+)
+PASSED = ("objno", "shortest", "timelim")
+USAGE = f"""usage: {NAME} MODEL [option=value ..]
+
+  finds what is true of MODEL.nl by a solver and a search, writes a certificate of it, and tells
+  the verdict of `bridge verify`. Status 1 where nothing is proved.
+
+"""
+
+
+class Finding(Driver):
+    """The driver whose answer is certified; its message is printed, and no .sol written."""
+
+    stream: TextIO = sys.stdout
+    lines: list[str] = []
+    figures = ""
+
+    def deliver(self, result: Result) -> None:
+        self.lines, self.figures = result.lines, result.figures
+        print("\n".join(result.lines), file=self.stream, flush=True)
+
+
+class Command:
+    """One call: `stub` is the model's path without its end, `stream` where lines are told."""
+
+    def __init__(self, argv: Sequence[str]) -> None:
+        self.options = {o.name: o.default for o in OPTIONS}
+        known = {o.name: o for o in OPTIONS}
+        self.stub = argv[0][:-3] if argv[0].endswith(".nl") else argv[0]
+        for word in argv[1:]:
+            name, equal, value = word.partition("=")
+            if not equal or name not in known:
+                raise BadOption(f"unknown option {word}; -= lists the options")
+            self.options[name] = known[name].read(value)
+        if self.options["driver"] not in solvers.NAMES:
+            raise BadOption("driver is one of " + ", ".join(solvers.NAMES))
+        self.path = str(self.options["certificate"]) or self.stub + ".certificate"
+        self.stream = sys.stderr if self.path == "-" else sys.stdout
+
+    def run(self) -> int:
+        """An older certificate goes first: it must not pass for this run's."""
+        folder = tempfile.mkdtemp(prefix=NAME + "-")
+        place = os.path.join(folder, "kept") if self.path == "-" else self.path
+        try:
+            remove_older(place)
+            status = self.found(place)
+            if self.path == "-" and os.path.exists(place):
+                with open(place, encoding="ascii") as f:
+                    shutil.copyfileobj(f, sys.stdout)
+            return status
+        finally:
+            shutil.rmtree(folder, ignore_errors=True)
+
+    def found(self, place: str) -> int:
+        """By a driver with its option `prove`."""
+        words = [self.stub, "-e", "prove=1", "certificate=" + place]
+        words += [f"{name}={self.options[name]}" for name in PASSED]
+        words += ["bridge=" + str(self.options["bridge"])] if self.options["bridge"] else []
+        driver = Finding(str(self.options["driver"]))
+        driver.stream = self.stream
+        status = driver.main(words)
+        if status != Status.DONE:
+            return status
+        if self.options["stats"] and driver.figures:
+            print(driver.figures, file=self.stream)
+        failed = driver.lines[-1].startswith("not proved")
+        return Status.FAILED if failed else Status.DONE
+
+
+def listing() -> str:
+    return "".join(f"  {o.name:<11} {o.text}{f' ({o.default})' if o.default else ''}\n"
+                   for o in OPTIONS)
+
+
+def run(argv: Sequence[str]) -> int:
+    """The exit status."""
+    if not argv:
+        sys.stderr.write(USAGE + listing())
+        return Status.BAD_WORDS
+    if argv[0] in ("-?", "-h", "--help", "-="):
+        sys.stdout.write(listing() if argv[0] == "-=" else USAGE + listing())
+        return Status.DONE
+    if argv[0] in ("-v", "--version"):
+        print(f"{NAME} {VERSION}")
+        return Status.DONE
+    try:
+        return Command(argv).run()
+    except BadOption as fault:
+        failure = Failure(Code.BAD_OPTION, str(fault), Status.BAD_WORDS)
+    except Failure as fault:
+        failure = fault
+    except OSError as fault:
+        failure = Failure(Code.FILE, f"{fault.filename}: {fault.strerror}")
+    sys.stderr.write(f"{NAME}: {failure.text}\n")
+    return failure.status
+
+
+def main() -> None:
+    console.run(NAME, lambda: run(sys.argv[1:]))

@@ -1,0 +1,203 @@
+"""The plans that are tried for a tree: cuts make some trees longer, so the shortest text is kept.
+
+*plain*: no spine; *thin*: forms of a reduced lattice are split beside columns; *lemma*: mixed-integer
+rounding, where there are continuous columns; *cover*: covers and rounded rows; *tableau*: rows of
+the tableau on top of them.
+"""
+
+from __future__ import annotations
+
+import math
+import os
+from fractions import Fraction
+from typing import Callable, Iterator, NamedTuple, Sequence
+
+from .directions import directions
+from .model import Added, Model, Point
+from .search import MOST_NODES, Pending, Search
+from .spine import Figures, Maker, Row, Spined, Value
+from .tree import Spool
+from .watch import Stopped, Watch
+
+SHORT = 40                      # nodes of a tree that needs no other plan
+WHOLE_TIME = 60.0               # seconds that the shares of plans are of
+PLAIN, THIN, CUTS, FEWER_CUTS, AGAIN = 4.0, 15.0, 12.0, 5.0, 15.0
+LEMMAS = 1 / 3                  # of the time that is left
+RESERVE = 0.93                  # of the time, for plans; the rest is for a bound
+MOST_THIN = 45                  # whole columns
+CLOSED = 0.03                   # of the gap: what tableau rows must add to come first
+DIGITS = 3                      # of the gap, that a bound has
+
+Exact = Callable[[Sequence[float]], "Point | None"]
+
+
+class Shaped(NamedTuple):
+    """A tree's text in a file."""
+
+    path: str
+    size: int
+    figures: Figures
+    name: str
+
+
+class Partial(NamedTuple):
+    """A search that was stopped, and what it has."""
+
+    search: Search
+    pending: Pending
+    searched: Model
+    rows: Sequence[Row]
+
+
+def written(path: str, lines: Iterator[str]) -> int:
+    """Writes lines as they come; how many bytes."""
+    size = 0
+    with open(path, "w", encoding="ascii") as f:
+        for line in lines:
+            size += f.write(line + "\n")
+    return size
+
+
+class Plans:
+    """Trees for one value. Files go to `folder`; `told` says what was tried."""
+
+    def __init__(self, model: Model, value: Fraction, exact: Exact, folder: str,
+                 watch: Watch) -> None:
+        self.model, self.exact, self.folder, self.watch = model, exact, folder, watch
+        self.step = model.step()
+        self.value = Value(model, value, self.step)
+        self.spool = Spool()
+        self.maker = Maker(model, self.value, self.spool, watch)
+        self.best: Shaped | None = None
+        self.partial: Partial | None = None
+        self.told: list[str] = []
+        self.share = min(watch.seconds or WHOLE_TIME, 10 * WHOLE_TIME) / WHOLE_TIME
+
+    def left(self) -> float:
+        return self.watch.left() - (1 - RESERVE) * self.watch.seconds
+
+    def until(self, seconds: float) -> float:
+        return self.watch.spent() + max(0.0, min(seconds, self.left()))
+
+    # one plan ----------------------------------------------------------------------
+
+    def run(self, name: str, rows: Sequence[Row], seconds: float,
+            forms: Sequence[dict[int, int]] = (), most: int = MOST_NODES) -> bool:
+        """Whether it has a tree."""
+        seen = [Added(added.terms) for added in self.value.added()]
+        above = seen + [row.added() for row in rows]
+        searched = self.model.with_rows(above + [Added(form) for form in forms])
+        base = self.model.m + len(above)
+        search = Search(searched, self.value.goal(self.exact), self.spool, self.watch,
+                        self.until(seconds), most, forms=range(base, searched.m))
+        try:
+            tree = search.run()
+        except Stopped as fault:
+            self.told.append(f"{name}: {fault}")
+            self.keep(search, searched, rows)
+            return False
+        spined = Spined(self.model, searched, self.value, rows, tree, self.spool)
+        path = os.path.join(self.folder, name.replace(" ", "-") + ".tree")
+        size, figures = written(path, spined.lines()), spined.figures()
+        cuts = f", {figures.rows} of {figures.made} rows" if figures.made else ""
+        self.told.append(f"{name}: {figures.nodes} nodes, {size} bytes{cuts}")
+        if self.best is None or size < self.best.size:
+            self.best = Shaped(path, size, figures, name)
+        return True
+
+    def keep(self, search: Search, searched: Model, rows: Sequence[Row]) -> None:
+        """The stopped search with the best bound, while there is no tree."""
+        if self.best is not None:
+            return
+        pending = search.best_bound()
+        if pending is not None and (self.partial is None
+                                    or pending.bound > self.partial.pending.bound):
+            self.partial = Partial(search, pending, searched, rows)
+
+    def is_short(self) -> bool:
+        return self.best is not None and self.best.figures.nodes <= SHORT
+
+    # all plans ---------------------------------------------------------------------
+
+    def try_all(self) -> None:
+        p, share = self.model, self.share
+        self.run("plain", [], PLAIN * share)
+        if self.is_short():
+            return
+        if self.step is not None and all(p.whole) and sum(p.whole) <= MOST_THIN:
+            self.thin(min(self.left() / 3, THIN * share))
+        if not all(p.whole) and not self.is_short():
+            self.with_lemmas()
+        if self.is_short() or self.left() <= 0:
+            return
+        if not self.with_cuts() and self.best is None:
+            self.run("plain again", [], self.left())
+
+    def thin(self, seconds: float) -> None:
+        """The objective's form has the width between the relaxation and the value."""
+        if self.step is None or self.maker.relaxed([]) is None:
+            return
+        units = (self.maker.base - float(self.model.constant)) / float(self.step.size)
+        width = Fraction(max(self.value.at - units, 0.5))
+        forms = directions(self.model, self.step.form, width)
+        if forms:
+            self.run("thin", [], seconds, forms)
+
+    def with_lemmas(self) -> None:
+        rows = self.maker.lemmas(self.until(self.left() * LEMMAS))
+        if rows:
+            self.run("lemma", rows, self.left() * (0.7 if self.best is None else 0.5))
+
+    def with_cuts(self) -> bool:
+        """Whether there were any."""
+        if self.maker.relaxed([]) is None:
+            return False
+        root, seconds = self.maker.base, (CUTS if self.best is None else FEWER_CUTS) * self.share
+        few = self.maker.cuts(("cover", "row"), [], self.until(seconds))
+        few_base = self.maker.base
+        more = self.maker.cuts(("tableau", "cover", "row"), few, self.until(seconds))
+        plans = [("tableau", more), ("cover", few)]
+        if (self.maker.base - few_base) < CLOSED * max(self.maker.goal - root, 1e-9):
+            plans.reverse()
+        plans = [plan for plan in plans if plan[1]]
+        if len(more) == len(few):
+            plans = plans[:1]
+        for k, (name, rows) in enumerate(plans):
+            if self.left() < 1 or self.is_short():
+                break
+            last = 1.0 if k + 1 == len(plans) else 0.7
+            seconds = AGAIN * self.share if self.best else self.left() * last
+            self.run(name, rows, seconds)
+        return bool(plans)
+
+    # a bound -----------------------------------------------------------------------
+
+    def bounded(self) -> tuple[Fraction, str] | None:
+        """A value that no point is better than, which the stopped searches have, with the file
+        of its tree."""
+        if self.partial is None:
+            return None
+        search, pending, searched, rows = self.partial
+        value = Value(self.model, self.rounded(pending.bound), self.step)
+        goal = value.goal(self.exact)
+        assert goal.target is not None
+        tree = search.closed_at(pending, goal.target, goal.strict)
+        if tree is None:
+            return None
+        spined = Spined(self.model, searched, value, rows, tree, self.spool)
+        path = os.path.join(self.folder, "bound.tree")
+        written(path, spined.lines())
+        return value.value, path
+
+    def rounded(self, bound: float) -> Fraction:
+        """A bound of the relaxation in few digits: the next value of the objective where it has
+        steps."""
+        value, step = self.value.value, self.step
+        if bound == math.inf:
+            return value
+        if step is not None:
+            units = (bound - float(self.model.constant)) / float(step.size)
+            return min(self.model.constant + step.size * math.ceil(units - 1e-6), value)
+        room = max(float(value) - bound, 1e-9 * max(1.0, abs(bound)))
+        ten = Fraction(10) ** (math.floor(math.log10(room)) - DIGITS)
+        return min(math.floor((bound - room * 1e-3) / float(ten)) * ten, value)

@@ -1,0 +1,146 @@
+"""Points in exact fractions: the vertex of a basis, short fractions near doubles, rays."""
+
+from __future__ import annotations
+
+from fractions import Fraction
+from typing import Iterator, Mapping, NamedTuple, Sequence
+
+from .clp import Clp, State, library
+from .exact import solved
+from .model import Model, Point
+from .numbers import is_narrow
+
+NEAR_WHOLE = 1e-3               # how far from whole numbers a point may be
+NEAR = Fraction(1, 10 ** 9)     # of a bound: the bound itself
+APART = Fraction(1, 10 ** 5)    # how far from x they may be
+NO_GAIN = 1e-9                  # of a ray
+DENOMINATORS = (1, 2, 12, 100, 1000, 10 ** 6)
+ZERO, ONE = Fraction(0), Fraction(1)
+
+
+class Basis(NamedTuple):
+    """Basic columns, and rows that are not basic."""
+
+    columns: Sequence[int]
+    rows: Sequence[int]
+
+
+def vertex(model: Model, basis: Basis, x: Sequence[float],
+           fixed: Mapping[int, Fraction] = {}) -> Point | None:
+    """The exact point of a basis whose values are near x; `fixed` columns have a value."""
+    p, inside = model, set(basis.columns) - set(fixed)
+    out = [ZERO] * p.n
+    for j in range(p.n):
+        if j in fixed:
+            out[j] = fixed[j]
+        elif j not in inside:
+            out[j] = min(p.ends(j), key=lambda end: abs(float(end) - x[j]), default=ZERO)
+    found = solved(equations(p, basis.rows, x, out, inside))
+    if found is None:
+        return None
+    for j in inside:
+        out[j] = found.get(j, ZERO)
+    return out if p.fits(out) else None
+
+
+def equations(model: Model, rows: Sequence[int], x: Sequence[float], out: Point,
+              inside: set[int]) -> Iterator[tuple[dict[int, int], Fraction]]:
+    """Each row at the side that it stands at, over the basic columns."""
+    p = model
+    for i in rows:
+        sides = [Fraction(s, p.unit) for s in (p.side_lo[i], p.side_hi[i]) if s is not None]
+        if not sides:
+            continue
+        at = sum(a * x[j] for j, a in p.rows[i]) / p.scale
+        side = min(sides, key=lambda s: abs(float(s) - at))
+        rest = side * p.scale - sum(a * out[j] for j, a in p.rows[i] if j not in inside)
+        terms = {j: a for j, a in p.rows[i] if j in inside}
+        if terms or not rest:
+            yield terms, rest
+
+
+def near(model: Model, x: Sequence[float | Fraction]) -> Iterator[Point]:
+    """Points of short fractions near x, and bounds where x is near them: those that fit."""
+    p, seen = model, []
+    if all(isinstance(v, Fraction) for v in x):
+        exact = [Fraction(v) for v in x]
+        if p.fits(exact):
+            yield exact
+            return
+    given = [Fraction(v) for v in x]
+    for most in DENOMINATORS:
+        out = [near_one(p, j, v, most) for j, v in enumerate(given)]
+        is_near = all(abs(value - v) <= APART * max(ONE, abs(v)) for value, v in zip(out, given))
+        if is_near and out not in seen and p.fits(out):
+            seen.append(out)
+            yield out
+
+
+def near_one(p: Model, column: int, value: Fraction, most: int) -> Fraction:
+    """A bound that is near, else a fraction with a denominator of at most `most`."""
+    if p.whole[column]:
+        return Fraction(round(value))
+    for end in p.ends(column):
+        if abs(end - value) <= NEAR * max(ONE, abs(end)):
+            return end
+    return value.limit_denominator(most)
+
+
+def whole_point(model: Model, x: Sequence[float | Fraction], seconds: float) -> Point | None:
+    """The best exact point that has the whole columns of x, where CLP finds it in that time, else
+    one that is near."""
+    p = model
+    fixed = {j: Fraction(round(x[j])) for j, w in enumerate(p.whole) if w}
+    if any(abs(float(x[j]) - v) > NEAR_WHOLE for j, v in fixed.items()):
+        return None
+    if len(fixed) == p.n:
+        out = [fixed[j] for j in range(p.n)]
+        return out if p.fits(out) else None
+    if library() is None:
+        return next(near(p, x), None)
+    lo = [int(fixed[j] * p.unit) if j in fixed else v for j, v in enumerate(p.lo)]
+    hi = [int(fixed[j] * p.unit) if j in fixed else v for j, v in enumerate(p.hi)]
+    clp = p.with_bounds(lo, hi).relaxation()
+    clp.limit(seconds)
+    if clp.solve() is State.OPTIMAL or clp.solve(again=True) is State.OPTIMAL:
+        found = vertex(p, Basis(*clp.basis()), clp.values(), fixed)
+        if found is not None and all(map(is_narrow, found)):
+            return found
+        short = next(near(p, clp.values()), None)
+        if short is not None or found is not None:
+            return short or found
+    return next(near(p, x), None)
+
+
+def any_point(model: Model, clp: Clp) -> Point | None:
+    """A point of a linear program whose relaxation without costs was solved."""
+    return next(near(model, clp.values()), None) or vertex(model, Basis(*clp.basis()),
+                                                           clp.values())
+
+
+def is_ray(model: Model, d: Point) -> bool:
+    """Whether the direction has no end, and improves the objective."""
+    p = model
+    for v, lo, hi in zip(d, p.lo, p.hi):
+        if lo is not None and v < 0 or hi is not None and v > 0:
+            return False
+    for row, lo, hi in zip(p.rows, p.side_lo, p.side_hi):
+        v = sum((a * d[j] for j, a in row), ZERO)
+        if lo is not None and v < 0 or hi is not None and v > 0:
+            return False
+    return sum(c * d[j] for j, c in enumerate(p.cost) if c) < 0
+
+
+def ray(model: Model) -> Point | None:
+    """An improving direction without end, in short fractions where they do."""
+    cone = model.cone()
+    clp = cone.relaxation()
+    if clp.solve() is not State.OPTIMAL or clp.objective() > -NO_GAIN:
+        return None
+    x = clp.values()
+    for most in DENOMINATORS:
+        d = [Fraction(v).limit_denominator(most) for v in x]
+        if is_ray(model, d):
+            return d
+    found = vertex(cone.with_whole([False] * model.n), Basis(*clp.basis()), x)
+    return found if found is not None and is_ray(model, found) else None

@@ -1,0 +1,475 @@
+"""Branch and bound, depth first, whose tree is the certificate.
+
+Splits that no leaf below needs are left out, with what stands in their other part. A form is a row
+of the model without sides, which is split as a whole column is: each part gives it a side.
+"""
+
+from __future__ import annotations
+
+import contextlib
+import math
+from dataclasses import dataclass, field
+from fractions import Fraction
+from typing import Callable, Iterator, NamedTuple, Sequence
+
+from . import tree as trees
+from .choice import Choice
+from .clp import Clp, State
+from .leaves import Closed, Closer
+from .model import Box, Model, Point, Side
+from .tree import Cut, Empty, Leaf, Split, Spool, Tree
+from .watch import Stopped, Watch
+
+NEAR = 1e-6                     # of a whole number: not split first
+CLOSE = 1e-7                    # of the goal: a leaf is tried
+FEASIBLE = 1e-9                 # by how much rows may be missed
+MOST_NODES = 2 ** 22            # of `bridge verify`
+MOST_DEPTH = 3000
+STRONG = 16
+LEAST_SECONDS = 0.1             # of a relaxation
+
+Owner = int                     # the number of a split
+
+
+class Better(Exception):
+    """An exact point that is better than the value, or that should not be."""
+
+    def __init__(self, point: Point, value: Fraction) -> None:
+        super().__init__(str(value))
+        self.point, self.value = point, value
+
+
+class Done(NamedTuple):
+    """A part with a tree, and the splits that it needs."""
+
+    tree: Tree
+    needs: set[Owner]
+
+
+@dataclass
+class Branch:
+    """A split whose parts are being worked, `part` the one that is. `lo`, `hi` and `owners` are
+    the column's before it."""
+
+    number: Owner
+    column: int
+    at: int
+    part: int
+    value: float
+    base: float
+    lo: Side
+    hi: Side
+    owners: tuple[Owner | None, Owner | None]
+    basis: bytes
+    parts: list[Tree | None] = field(default_factory=lambda: [None, None])
+    needs: set[Owner] = field(default_factory=set)
+
+
+class Goal(NamedTuple):
+    """`target` is what leaves of duals must reach, minimised, or exceed where it is `strict`;
+    None: that there is no point. `exact` makes an exact point of a relaxation's values, where
+    one is to be seen."""
+
+    target: Fraction | None
+    strict: bool = False
+    exact: Callable[[Sequence[float]], Point | None] = lambda x: None
+
+
+class Search:
+    """`until` is in seconds of the watch. `forms` are rows of the model, whose sides change."""
+
+    def __init__(self, model: Model, goal: Goal, spool: Spool, watch: Watch, until: float,
+                 most: int = MOST_NODES, strong: int = STRONG, forms: Sequence[int] = ()) -> None:
+        self.model, self.aim, self.spool = model, goal, spool
+        self.watch, self.until, self.most = watch, until, most
+        self.forms = list(forms)
+        self.form_terms = [[(j, a // model.scale) for j, a in model.rows[i]] for i in self.forms]
+        self.form_owners: dict[int, tuple[Owner | None, Owner | None]] = {}
+        self.box = Box(list(model.lo), list(model.hi))
+        self.owner_lo: list[Owner | None] = [None] * model.n
+        self.owner_hi: list[Owner | None] = [None] * model.n
+        self.closer = Closer(model, goal.target, goal.strict)
+        has_cost = goal.target is not None
+        self.clp: Clp = model.relaxation(has_cost)
+        self.missing: Clp | None = None
+        self.constant = float(model.constant) if has_cost else 0.0
+        self.goal = math.inf if goal.target is None else float(goal.target)
+        self.choice = Choice(strong)
+        self.open: list[Branch] = []
+        self.splits = self.nodes = 0
+        self.base = -math.inf
+
+    # bounds ------------------------------------------------------------------------
+
+    def size(self, column: int) -> int:
+        p = self.model
+        return len(p.by_column[column] if column < p.n else self.form_terms[column - p.n])
+
+    def ends(self, column: int) -> tuple[Side, Side]:
+        """Bounds of a column, sides of a form."""
+        p = self.model
+        if column < p.n:
+            return self.box.lo[column], self.box.hi[column]
+        row = self.forms[column - p.n]
+        return p.side_lo[row], p.side_hi[row]
+
+    def set_ends(self, column: int, lo: Side, hi: Side) -> None:
+        p = self.model
+        if column < p.n:
+            self.box.lo[column], self.box.hi[column] = lo, hi
+            self.clp.bound(column, p.double(lo), p.double(hi))
+        else:
+            row = self.forms[column - p.n]
+            p.side_lo[row], p.side_hi[row] = lo, hi
+            self.clp.side(row, p.double(lo), p.double(hi))
+
+    def part_ends(self, column: int, at: int, part: int) -> tuple[Side, Side]:
+        (lo, hi), unit = self.ends(column), self.model.unit
+        if part == 0:
+            return lo, at * unit if hi is None else min(hi, at * unit)
+        return (at + 1) * unit if lo is None else max(lo, (at + 1) * unit), hi
+
+    @contextlib.contextmanager
+    def within(self, column: int, at: int, part: int) -> Iterator[None]:
+        """In one part of a split, for a trial."""
+        old = self.ends(column)
+        self.set_ends(column, *self.part_ends(column, at, part))
+        try:
+            yield
+        finally:
+            self.set_ends(column, *old)
+
+    def owners(self, column: int) -> tuple[Owner | None, Owner | None]:
+        if column < self.model.n:
+            return self.owner_lo[column], self.owner_hi[column]
+        return self.form_owners.get(self.forms[column - self.model.n], (None, None))
+
+    def set_owners(self, column: int, owners: tuple[Owner | None, Owner | None]) -> None:
+        if column < self.model.n:
+            self.owner_lo[column], self.owner_hi[column] = owners
+        else:
+            self.form_owners[self.forms[column - self.model.n]] = owners
+
+    def enter(self, b: Branch) -> None:
+        self.set_ends(b.column, *self.part_ends(b.column, b.at, b.part))
+        low, high = b.owners
+        self.set_owners(b.column, (low, b.number) if b.part == 0 else (b.number, high))
+
+    def leave(self, b: Branch) -> None:
+        self.set_ends(b.column, b.lo, b.hi)
+        self.set_owners(b.column, b.owners)
+
+    # the tree ----------------------------------------------------------------------
+
+    def run(self) -> Tree:
+        """The tree. Stopped or Better where there is none."""
+        found = self.visit(None)
+        while True:
+            if isinstance(found, Branch):
+                self.open.append(found)
+                self.enter(found)
+            else:
+                tree = self.folded(found)
+                if tree is not None:
+                    return tree
+            found = self.visit(self.open[-1])
+
+    def folded(self, done: Done) -> Tree | None:
+        """The whole tree; None where a part of a branch is to be worked next."""
+        tree, needs = done
+        while self.open:
+            b = self.open[-1]
+            self.leave(b)
+            other = b.parts[1 - b.part]
+            if b.number not in needs:
+                self.nodes -= 1 + (trees.count(other) if other is not None else 0)
+                self.open.pop()
+                continue
+            b.parts[b.part] = tree
+            b.needs |= needs
+            if other is None:
+                b.part = 1 - b.part
+                self.clp.restore(b.basis)
+                self.enter(b)
+                return None
+            self.open.pop()
+            tree, needs = self.node(b), b.needs - {b.number}
+        return tree
+
+    def node(self, b: Branch) -> Tree:
+        low, high = b.parts
+        assert low is not None and high is not None
+        if b.column < self.model.n:
+            return Split(b.column, b.at, low, high)
+        return Cut(self.forms[b.column - self.model.n], b.at, low, high)
+
+    def visit(self, born: Branch | None) -> Branch | Done:
+        """One node: a leaf, or a split."""
+        self.look()
+        if born is not None and born.column < self.model.n:
+            lo, hi = self.ends(born.column)
+            if lo is not None and hi is not None and lo > hi:
+                return self.empty(born.column)
+        self.clp.limit(max(self.until - self.watch.spent(), LEAST_SECONDS))
+        state = self.clp.solve()
+        done = self.by_contradiction() if state is State.INFEASIBLE else None
+        if done is None and state is not State.OPTIMAL:
+            state = self.clp.solve(again=True)
+            done = self.by_contradiction() if state is State.INFEASIBLE else None
+        if done is not None:
+            return done
+        if state is State.INFEASIBLE:
+            x = [self.nearest_zero(j) for j in range(self.model.n)]
+            return self.branched(x, self.goal, state)
+        if state is not State.OPTIMAL:
+            raise Stopped(f"a relaxation is {state.name.lower()}")
+        self.base = base = self.clp.objective() + self.constant
+        if born is not None:
+            share = born.value - born.at if born.part == 0 else born.at + 1 - born.value
+            self.choice.learn(born.column, born.part, base - born.base, share)
+        if base >= self.goal - CLOSE * max(1.0, abs(self.goal)):
+            done = self.by_duals()
+        return done or self.branched(self.clp.values(), base, state)
+
+    def look(self) -> None:
+        self.watch.look(self.nodes, self.until)
+        if self.nodes >= self.most:
+            raise Stopped(f"more than {self.most} nodes")
+        if len(self.open) > MOST_DEPTH:
+            raise Stopped("the tree is too deep")
+        if self.watch.is_due():
+            bound = ""
+            if self.aim.target is not None:
+                best = min([b.base for b in self.open if None in b.parts] + [self.base])
+                bound = f", best bound {self.model.sign * best:.10g}"
+            self.watch.tell(f"{self.nodes} nodes, {len(self.open) + 1} open{bound}")
+
+    def nearest_zero(self, column: int) -> float:
+        lo, hi = self.ends(column)
+        v = max(lo, 0) if lo is not None else 0
+        return (min(v, hi) if hi is not None else v) / self.model.unit
+
+    # splits ------------------------------------------------------------------------
+
+    def branched(self, x: Sequence[float], base: float, state: State) -> Branch | Done:
+        """A split of what is not whole. Where all is: a better point where it is an exact one,
+        else a split of what is whole only within a tolerance, or of what is not fixed."""
+        p = self.model
+        values = [*x, *(sum(a * x[j] for j, a in terms) for terms in self.form_terms)]
+        apart = [abs(v - round(v)) for v in values]
+        fractional = [j for j, w in enumerate(p.whole) if w and apart[j] > NEAR]
+        if fractional:
+            fractional += [j for j in range(p.n, len(values)) if apart[j] > NEAR]
+            column, first = self.choice.column(self, values, fractional, base)
+            return self.branch(column, values[column], first, base)
+        if self.aim.target is None:
+            done = self.by_missing()
+            if done is not None:
+                return done
+        if state is State.OPTIMAL:
+            self.compare(x)
+        unfixed = self.unfixed(apart)
+        if unfixed is None:
+            raise Stopped("a leaf does not close")
+        return self.branch(unfixed, x[unfixed], 0, base)
+
+    def compare(self, x: Sequence[float]) -> None:
+        """Better where the exact point there should not be."""
+        p, aim = self.model, self.aim
+        point = [Fraction(round(v)) for v in x] if all(p.whole) else aim.exact(x)
+        if point is None or not p.fits(point):
+            return
+        value = p.value(point)
+        if aim.target is None or value < aim.target or aim.strict and value == aim.target:
+            raise Better(point, value)
+
+    def unfixed(self, apart: Sequence[float]) -> int | None:
+        """A whole column that is not fixed: the least whole, else one with a cost and the
+        widest."""
+        p = self.model
+        best: tuple[float, bool, float] | None = None
+        column = None
+        for j, is_whole in enumerate(p.whole):
+            lo, hi = self.ends(j)
+            if not is_whole:
+                continue
+            is_wide = lo is None or hi is None
+            if not is_wide and -(-lo // p.unit) >= hi // p.unit:        # type: ignore
+                continue
+            width = math.inf if is_wide else float(hi - lo)             # type: ignore
+            rank = (apart[j], bool(p.cost[j]), -width)
+            if best is None or rank > best:
+                best, column = rank, j
+        return column
+
+    def branch(self, column: int, value: float, first: int, base: float) -> Branch:
+        """Bounds of whole columns need not be whole: a part may be empty, but never both."""
+        (lo, hi), unit = self.ends(column), self.model.unit
+        at = math.floor(value + 1e-9)
+        if column < self.model.n:
+            if hi is not None:
+                at = min(at, -(-hi // unit) - 1)
+            if lo is not None:
+                at = max(at, lo // unit)
+        self.splits += 1
+        self.nodes += 1
+        return Branch(self.splits, column, at, first, float(value), base, lo, hi,
+                      self.owners(column), self.clp.keep())
+
+    # leaves ------------------------------------------------------------------------
+
+    def empty(self, column: int) -> Done:
+        """Weights do not see an empty box, a plane on the column does."""
+        self.nodes += 3
+        hi = self.box.hi[column]
+        assert hi is not None
+        needs = {o for o in self.owners(column) if o is not None}
+        return Done(Empty(column, hi // self.model.unit), needs)
+
+    def by_duals(self) -> Done | None:
+        closed = self.closer.close(dict(enumerate(self.clp.duals())), False, self.box)
+        if closed is None:
+            exact = self.closer.basis_duals(*self.clp.basis())
+            closed = self.closer.exactly(exact, False, self.box)
+        return self.leaf(closed)
+
+    def by_contradiction(self) -> Done | None:
+        """With weights, from a ray of CLP or from phase one."""
+        ray = self.clp.ray()
+        for sign in (1, -1):
+            weights = {i: sign * v for i, v in enumerate(ray)}
+            closed = self.closer.close(weights, True, self.box)
+            if closed is not None:
+                return self.leaf(closed)
+        return self.by_missing()
+
+    def by_missing(self) -> Done | None:
+        """With the duals of the program that minimises by how much rows are missed."""
+        p = self.model
+        clp = self.missing = self.missing or p.phase_one()
+        for j in range(p.n):
+            clp.bound(j, p.double(self.box.lo[j]), p.double(self.box.hi[j]))
+        for i in self.forms:
+            clp.side(i, p.double(p.side_lo[i]), p.double(p.side_hi[i]))
+        if clp.solve() is not State.OPTIMAL or clp.objective() < FEASIBLE:
+            return None
+        closed = self.closer.close(dict(enumerate(clp.duals())), True, self.box)
+        if closed is None:
+            exact = self.closer.missing_duals(*clp.basis())
+            closed = self.closer.exactly(exact, True, self.box)
+        return self.leaf(closed)
+
+    def leaf(self, closed: Closed | None) -> Done | None:
+        if closed is None:
+            return None
+        closed = self.closer.thinned(closed, self.box)
+        self.nodes += 1
+        return Done(self.spooled(closed), self.needs(closed))
+
+    def spooled(self, closed: Closed) -> Leaf:
+        added = tuple(i for i in closed.leaf.numbers if i >= self.model.n_con)
+        return Leaf(self.spool.put(closed.leaf), added)
+
+    def needs(self, closed: Closed) -> set[Owner]:
+        """The splits whose bounds a leaf uses. What it has over the target is spent on the
+        file's own bounds instead, the deepest split first."""
+        p, used = self.model, []
+        for j, r in enumerate(closed.reduced):
+            if r:
+                owner = self.owner_lo[j] if r > 0 else self.owner_hi[j]
+                if owner is not None:
+                    used.append((owner, j, r))
+        needed, slack = set(), closed.slack
+        for owner, j, r in sorted(used, reverse=True):
+            own = p.lo[j] if r > 0 else p.hi[j]
+            bound = self.box.lo[j] if r > 0 else self.box.hi[j]
+            if own is not None and bound is not None:
+                loss = r * (bound - own)
+                if loss <= slack:
+                    slack -= loss
+                    continue
+            needed.add(owner)
+        for row, owners in self.form_owners.items():
+            y = closed.leaf.numbers.get(row)
+            form_owner = owners[0 if y > 0 else 1] if y else None
+            if form_owner is not None:
+                needed.add(form_owner)
+        return needed
+
+    # a bound, where the time is over -----------------------------------------------
+
+    def best_bound(self) -> Pending | None:
+        """What is not worked yet, with the bounds of its relaxations; None with forms, or where
+        a relaxation has no bound."""
+        if self.forms or self.aim.target is None:
+            return None
+        boxes: list[Unworked] = []
+        top = self.unworked()
+        if top is None:
+            return None
+        boxes.append(top)
+        for b in reversed(self.open):
+            self.leave(b)
+            if b.parts[1 - b.part] is None:
+                self.clp.restore(b.basis)
+                lo, hi = self.part_ends(b.column, b.at, 1 - b.part)
+                self.set_ends(b.column, lo, hi)
+                other = self.unworked()
+                self.set_ends(b.column, b.lo, b.hi)
+                if other is None:
+                    return None
+                boxes.append(other)
+        return Pending(min(box.base for box in boxes), boxes)
+
+    def unworked(self) -> Unworked | None:
+        box = Box(list(self.box.lo), list(self.box.hi))
+        for lo, hi, is_whole, j in zip(box.lo, box.hi, self.model.whole, range(self.model.n)):
+            if is_whole and lo is not None and hi is not None and lo > hi:
+                return Unworked(math.inf, box, {}, Empty(j, hi // self.model.unit))
+        state = self.clp.solve()
+        if state is State.INFEASIBLE:
+            done = self.by_contradiction()
+            return None if done is None else Unworked(math.inf, box, {}, done.tree)
+        if state is not State.OPTIMAL:
+            return None
+        duals = {i: y for i, y in enumerate(self.clp.duals()) if y}
+        return Unworked(self.clp.objective() + self.constant, box, duals, None)
+
+    def closed_at(self, pending: Pending, target: Fraction, strict: bool) -> Tree | None:
+        """The tree for another target, not better than what the worked leaves reach: each part
+        that is not worked becomes a leaf."""
+        closer = Closer(self.model, target, strict)
+        boxes = iter(pending.boxes)
+        tree = self.leaf_at(closer, next(boxes))
+        for b in reversed(self.open):
+            other = b.parts[1 - b.part]
+            if other is None:
+                other = self.leaf_at(closer, next(boxes))
+            if tree is None or other is None:
+                return None
+            b.parts[b.part], b.parts[1 - b.part] = tree, other
+            tree = self.node(b)
+        return tree
+
+    def leaf_at(self, closer: Closer, unworked: Unworked) -> Tree | None:
+        if unworked.tree is not None:
+            return unworked.tree
+        closed = closer.close(unworked.duals, False, unworked.box)
+        return None if closed is None else self.spooled(closer.thinned(closed, unworked.box))
+
+
+class Unworked(NamedTuple):
+    """A part that was not worked: its relaxation's bound and duals, or its tree where it is
+    closed."""
+
+    base: float
+    box: Box
+    duals: dict[int, float]
+    tree: Tree | None
+
+
+class Pending(NamedTuple):
+    """The best bound, and the parts from the deepest."""
+
+    bound: float
+    boxes: list[Unworked]

@@ -1,0 +1,85 @@
+"""Trees of parts, whose leaves lie in a file: it gets each leaf as it is found."""
+
+from __future__ import annotations
+
+import tempfile
+from typing import Iterator, NamedTuple, Tuple, Union
+
+from .leaves import Multipliers
+
+
+class Leaf(NamedTuple):
+    """`place` is where the spool has its numbers, `added` the added rows that it uses."""
+
+    place: int
+    added: Tuple[int, ...]
+
+
+class Empty(NamedTuple):
+    """A box without a whole value of one column, which lies above `at` and below `at + 1`."""
+
+    column: int
+    at: int
+
+
+class Split(NamedTuple):
+    """The parts `at most at` and `at least at + 1` of a whole column."""
+
+    column: int
+    at: int
+    low: Tree
+    high: Tree
+
+
+class Cut(NamedTuple):
+    """The same of a row of the model that stands for a whole form."""
+
+    row: int
+    at: int
+    low: Tree
+    high: Tree
+
+
+Tree = Union[Leaf, Empty, Split, Cut]
+
+
+class Spool:
+    """The leaves of one search, in a file without a name."""
+
+    def __init__(self) -> None:
+        self.file = tempfile.TemporaryFile("w+b", prefix="certify")
+        self.end = 0
+
+    def put(self, leaf: Multipliers) -> int:
+        pairs = "".join(f" {i} {v}" for i, v in leaf.numbers.items())
+        line = f"{int(leaf.weights)} {leaf.den}{pairs}\n".encode()
+        place = self.end
+        self.file.seek(place)
+        self.file.write(line)
+        self.end += len(line)
+        return place
+
+    def get(self, place: int) -> Multipliers:
+        self.file.seek(place)
+        words = [int(word) for word in self.file.readline().split()]
+        return Multipliers(dict(zip(words[2::2], words[3::2])), words[1], bool(words[0]))
+
+
+def parts(tree: Tree) -> Iterator[Tree]:
+    """All of its nodes."""
+    stack = [tree]
+    while stack:
+        node = stack.pop()
+        yield node
+        if isinstance(node, (Split, Cut)):
+            stack += [node.high, node.low]
+
+
+def count(tree: Tree) -> int:
+    """The nodes of its text: a plane closes an empty box, with two leaves."""
+    return sum(3 if isinstance(node, Empty) else 1 for node in parts(tree))
+
+
+def rows_used(tree: Tree) -> set[int]:
+    """The added rows that its leaves use."""
+    return {row for node in parts(tree) if isinstance(node, Leaf) for row in node.added}

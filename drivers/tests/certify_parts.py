@@ -1,0 +1,273 @@
+"""The parts of the search that need neither `bridge` nor CLP: numbers, elimination, leaves, trees,
+texts, lattices, equations, cuts, lemmas, points."""
+
+from __future__ import annotations
+
+import random
+from fractions import Fraction as F
+from unittest import TestCase
+
+from support import Case
+from bridge_drivers import miss
+from bridge_drivers.certify import cuts, directions, equations, exact, lemmas, points, text
+from bridge_drivers.certify.factor import Factor
+from bridge_drivers.certify.leaves import Closer, Multipliers
+from bridge_drivers.certify.model import Box, Model, Unfit
+from bridge_drivers.certify.numbers import is_narrow, written
+from bridge_drivers.certify.text import Naming, Plane
+from bridge_drivers.certify.tree import Cut, Empty, Leaf, Split, Spool, count, rows_used
+from bridge_drivers.program import Program
+
+TEXT = b"""NAME nl
+OBJSENSE
+ MAX
+ROWS
+ N obj
+ L c0
+ G c2
+COLUMNS
+ x0 obj 1
+ x0 c0 3
+ M0 'MARKER' 'INTORG'
+ x1 obj 2
+ x1 c0 4
+ x1 c2 2
+ x2 c0 -2
+ x2 c2 4
+ M1 'MARKER' 'INTEND'
+RHS
+ RHS obj -0.5
+ RHS c0 6
+ RHS c2 1
+RANGES
+ RNG c2 4
+BOUNDS
+ FR BND x0
+ UP BND x1 2.5
+ UP BND x2 3
+ENDATA
+"""
+
+
+def model() -> Model:
+    """max x0 + 2 x1 + 1/2; the row c0 was written times 2, the row c1 has no sides."""
+    return Model(TEXT, {0: 2}, 3)
+
+
+class Numbers(TestCase):
+    def test_written(self) -> None:
+        for value, wanted in ((F(0), "0"), (F(7000), "7000"), (F(70000), "7e4"), (F(-1, 2), "-.5"),
+                              (F(1, 3), "1/3"), (F(13, 4), "3.25"), (F(1, 1024), "1/1024"),
+                              (F(-12, 10), "-1.2"), (3, "3")):
+            self.assertEqual(written(value), wanted)
+            self.assertEqual(F(wanted), value)
+
+    def test_narrow(self) -> None:
+        self.assertTrue(is_narrow(F(2 ** 127 - 1, 2 ** 127 - 2)))
+        self.assertFalse(is_narrow(F(2 ** 127)) or is_narrow(F(1, 2 ** 127)))
+
+
+class Systems(TestCase):
+    def test_random(self) -> None:
+        rng = random.Random(1)
+        for _ in range(30):
+            n = rng.randint(1, 7)
+            x = [F(rng.randint(-9, 9), rng.randint(1, 5)) for _ in range(n)]
+            system = []
+            for _ in range(n + 1):
+                terms = {j: F(rng.randint(-3, 3), rng.randint(1, 3)) for j in range(n)
+                         if rng.random() < 0.6}
+                system.append((terms, sum(a * x[j] for j, a in terms.items())))
+            found = exact.solved(system)
+            for terms, side in system:
+                self.assertEqual(sum(a * found.get(j, 0) for j, a in terms.items()), side)
+
+    def test_none(self) -> None:
+        self.assertIsNone(exact.solved([({0: 1, 1: 1}, 1), ({0: 2, 1: 2}, 3)]))
+        self.assertIsNone(exact.solved([({}, 1)]))
+        self.assertEqual(exact.solved([({}, 0)]), {})
+        wide = [({j: i + j + (i == j) for j in range(9)}, i) for i in range(9)]
+        self.assertIsNone(exact.solved(wide, 10))
+
+    def test_factor(self) -> None:
+        """Rows of the inverse."""
+        rng = random.Random(2)
+        n = 6
+        columns = [[(i + 10, float(rng.randint(1, 9) * (rng.random() < 0.5) + 9 * (i == j)))
+                    for i in range(n)] for j in range(n)]
+        factor = Factor(columns, [10 + i for i in range(n)])
+        for k in range(n):
+            u = factor.row(k)
+            for j, column in enumerate(columns):
+                self.assertAlmostEqual(sum(a * u.get(i, 0.0) for i, a in column), float(j == k))
+
+
+class Models(TestCase):
+    def test_program(self) -> None:
+        p = model()
+        self.assertEqual((p.n, p.m, p.sign, p.whole), (3, 3, -1, [False, True, True]))
+        self.assertEqual([[(j, F(a, p.scale)) for j, a in row] for row in p.rows],
+                         [[(0, F(3, 2)), (1, 2), (2, -1)], [], [(1, 2), (2, 4)]])
+        self.assertEqual([s and F(s, p.unit) for s in p.side_lo], [None, None, 1])
+        self.assertEqual([s and F(s, p.unit) for s in p.side_hi], [3, None, 5])
+        self.assertEqual((p.value([F(1), F(1), F(0)]), p.step()), (F(-7, 2), None))
+        self.assertTrue(p.fits([F(2, 3), F(1), F(0)]))
+        for x in ([F(2, 3), F(1, 2), F(0)], [F(1), F(1), F(0)], [F(0), F(0), F(0)],
+                  [F(-9), F(3), F(0)]):
+            self.assertFalse(p.fits(x), x)
+
+    def test_step(self) -> None:
+        p = model().with_costs([F(0), F(3, 2), F(-9, 4)])
+        self.assertEqual(p.step(), (F(3, 4), {1: 2, 2: -3}))
+
+    def test_unfit(self) -> None:
+        self.assertRaises(Unfit, Model, TEXT.replace(b" x2 ", b" x7 "), {}, 3)
+
+    def test_miss(self) -> None:
+        program = Program(TEXT)
+        for x, share, name in (({"x0": "0", "x1": "1", "x2": "0"}, 0.0, ""),
+                               ({"x0": "4", "x1": "1", "x2": "0"}, 10 / 12, "c0"),
+                               ({"x0": "0", "x1": "0", "x2": "0"}, 1 / 5, "c2"),
+                               ({"x0": "-9", "x1": "0", "x2": "4"}, 11 / 16, "c2")):
+            found = miss.miss(program, x)
+            self.assertEqual((round(found.share, 9), found.name), (round(share, 9), name))
+
+
+class Leaves(TestCase):
+    def setUp(self) -> None:
+        self.model = model()
+        self.box = Box(self.model.lo, self.model.hi)
+
+    def test_closes(self) -> None:
+        """The dual 2/3 of row 0 makes the free column's reduced cost 0."""
+        p = self.model
+        closer = Closer(p, F(-13, 2))
+        found = closer.close({0: -0.66666667, 2: 0.0}, False, self.box)
+        self.assertEqual({i: F(v, found.leaf.den) for i, v in found.leaf.numbers.items()},
+                         {0: F(-2, 3)})
+        bound = closer.judge(found.leaf, self.box)
+        self.assertEqual(F(bound.bound, bound.scale), F(-37, 6))
+        self.assertIsNone(Closer(p, F(-6)).close({0: -0.66666667}, False, self.box))
+        self.assertIsNone(Closer(p, F(-37, 6), True).close({0: -0.66666667}, False, self.box))
+        self.assertIsNotNone(Closer(p, F(-37, 6)).exactly({0: F(-2, 3)}, False, self.box))
+
+    def test_weights(self) -> None:
+        p, lo, hi = self.model, list(self.model.lo), list(self.model.hi)
+        hi[1] = hi[2] = 0
+        closer = Closer(p, None)
+        found = closer.close({2: 0.25}, True, Box(lo, hi))
+        self.assertEqual((found.leaf.numbers, found.leaf.den), ({2: 1}, 1))
+        self.assertIsNone(closer.close({2: 0.25}, True, self.box))
+        self.assertIsNone(closer.close({}, True, self.box))
+
+    def test_basis_duals(self) -> None:
+        closer = Closer(self.model, F(0))
+        self.assertEqual(closer.basis_duals([0], [0]), {0: F(-2, 3)})
+        self.assertIsNone(closer.basis_duals([0, 1], [0]))
+
+
+class Texts(Case):
+    def test_tree(self) -> None:
+        """Splits, an empty box, a form that is split twice, and a leaf under the objective."""
+        p = model().with_rows([])
+        spool = Spool()
+        places = [spool.put(Multipliers({0: -2, 3: 4}, 3, False)),
+                  spool.put(Multipliers({3: -1}, 1, True)), spool.put(Multipliers({}, 1, False))]
+        a, b, c = (Leaf(place, added) for place, added in zip(places, ((3,), (3,), ())))
+        q = p.with_rows([({1: 1, 2: 2}, None, None)])
+        tree = Split(1, 0, Cut(3, 4, b, Cut(3, 6, b, a)), Split(2, -1, Empty(2, 0), c))
+        self.assertEqual((count(tree), rows_used(tree)), (11, {3}))
+        self.assertEqual(list(text.tree_lines(q, tree, spool, Naming({}, 3, -1))), [
+            "split 1 0", "plane 2 4", "1 1", "2 2", "weights 1", "3 -1",
+            "plane 2 6", "1 1", "2 2", "weights 1", "4 -1", "duals 2", "0 2/3", "4 -4/3",
+            "split 2 -1", "plane 1 0", "2 1", "weights 1", "3 -1", "weights 1", "3 1", "duals 0"])
+        self.assertEqual(list(text.leaf_lines(spool.get(places[0]),
+                                              Naming({3: 5}, 6, -1, Plane(4, F(1, 2))), {})),
+                         ["weights 3", "0 -2/3", "4 -.5", "5 4/3"])
+
+    def test_heads(self) -> None:
+        self.assertEqual(list(text.head("within", 1, F(7, 3), [F(0), F(1, 4)])),
+                         ["certificate 1", "within 1 7/3", "point 1", "1 .25"])
+        self.assertEqual(list(text.head("infeasible", None)), ["certificate 1", "infeasible"])
+        self.assertEqual(list(text.answer_lines(["0", "1.5"], ["-2"], 0)),
+                         ["certificate 1", "optimal 0", "point 1", "1 1.5", "duals 1", "0 -2"])
+
+
+class Lattices(TestCase):
+    def test_reduction(self) -> None:
+        rows = [[1, 0, 0, 12223], [0, 1, 0, 12224], [0, 0, 1, 36674]]
+        reduction = directions.Reduction(rows)
+        self.assertTrue(reduction.run())
+        for made, steps in zip(reduction.rows, reduction.steps):
+            self.assertEqual(made, [sum(s * row[c] for s, row in zip(steps, rows))
+                                    for c in range(4)])
+        back = directions.inverse(reduction.steps)
+        product = [[sum(back[i][k] * reduction.steps[k][j] for k in range(3)) for j in range(3)]
+                   for i in range(3)]
+        self.assertEqual(product, [[int(i == j) for j in range(3)] for i in range(3)])
+        self.assertFalse(directions.Reduction([[1, 2], [2, 4]]).run())
+
+    def test_parity(self) -> None:
+        rows = [equations.Equality(0, {0: F(12), 1: F(21), 2: F(33)}, F(500))]
+        self.assertEqual(equations.multipliers(rows), [F(1, 3)])
+        rows = [equations.Equality(0, {0: F(2), 1: F(4)}, F(6)),
+                equations.Equality(1, {0: F(1, 2), 1: F(-1)}, F(1, 2))]
+        u = equations.multipliers(rows)
+        self.assertEqual((sum(v * row.side for v, row in zip(u, rows))).denominator, 2)
+        for j in (0, 1):
+            self.assertEqual(sum(v * row.terms[j] for v, row in zip(u, rows)).denominator, 1)
+        self.assertIsNone(equations.multipliers(rows[:1]))
+
+
+class Rows(TestCase):
+    """Proposed rows hold at all points."""
+
+    def knapsack(self) -> Model:
+        return Model(b"NAME nl\nROWS\n N obj\n L c0\nCOLUMNS\n M0 'MARKER' 'INTORG'\n"
+                     b" x0 obj 1\n x0 c0 5\n x1 obj 1\n x1 c0 6\n x2 obj 1\n x2 c0 -7\n"
+                     b" M1 'MARKER' 'INTEND'\nRHS\n RHS c0 3\nBOUNDS\n UP BND x0 1\n UP BND x1 1\n"
+                     b" UP BND x2 1\nENDATA\n", {}, 1)
+
+    def test_cuts(self) -> None:
+        p, x = self.knapsack(), [1.0, 0.8, 1.0]
+        inside = [(a, b, c) for a in (0, 1) for b in (0, 1) for c in (0, 1)
+                  if 5 * a + 6 * b - 7 * c <= 3]
+        found = [*cuts.covers(p, None, x), *cuts.single_rows(p, None, x)]
+        self.assertTrue(found)
+        for cut in found:
+            for point in inside:
+                self.assertLessEqual(sum(a * point[j] for j, a in cut.terms.items()), cut.at, cut)
+            at = sum(a * x[j] for j, a in cut.terms.items())
+            self.assertAlmostEqual(at - cut.at, cut.depth)
+
+    def test_lemma(self) -> None:
+        """y <= 10 x, y <= 7: y - 7 x <= 0."""
+        p = Model(b"NAME nl\nROWS\n N obj\n L c0\nCOLUMNS\n x0 obj 1\n x0 c0 1\n"
+                  b" M0 'MARKER' 'INTORG'\n x1 c0 -10\n M1 'MARKER' 'INTEND'\nRHS\nBOUNDS\n"
+                  b" UP BND x0 7\n UP BND x1 1\nENDATA\n", {}, 1)
+        self.assertEqual(lemmas.variable_bounds(p), {0: [(F(10), 1)]})
+        rounding = lemmas.MixedRounding(p, [7.0, 0.7], {})
+        self.assertTrue(rounding.take(lemmas.Row({0: F(1), 1: F(-10)}, F(0))))
+        found = rounding.best()
+        self.assertEqual((found.terms, found.at), ({0: 1, 1: -7}, 0))
+        self.assertEqual((found.form, found.low), ({1: -1}, -1))
+
+
+class Points(TestCase):
+    def test_near(self) -> None:
+        p = model()
+        for x, wanted in (([0.66666666, 1.0000001, 0.0], [F(2, 3), F(1), F(0)]),
+                          ([F(1, 7), F(1), F(0)], [F(1, 7), F(1), F(0)])):
+            self.assertEqual(next(points.near(p, x)), wanted)
+        self.assertIsNone(next(points.near(p, [5.0, 1.0, 0.0]), None))
+
+    def test_vertex(self) -> None:
+        p = model()
+        found = points.vertex(p, points.Basis([0], [0]), [0.6666, 1.0, 0.0], {1: F(1), 2: F(0)})
+        self.assertEqual(found, [F(2, 3), F(1), F(0)])
+
+    def test_ray(self) -> None:
+        p = model().with_costs([F(1), F(0), F(0)])
+        self.assertTrue(points.is_ray(p, [F(-1), F(0), F(0)]))
+        for wrong in ([F(1), F(0), F(0)], [F(0), F(0), F(0)], [F(-1), F(1), F(0)]):
+            self.assertFalse(points.is_ray(p, wrong))

@@ -1,0 +1,270 @@
+"""Certificates of small models and of random ones against all their points, judged by
+`bridge verify`; skipped without the program or CLP's library."""
+
+from __future__ import annotations
+
+import contextlib
+import io
+import itertools
+import os
+import random
+import signal
+import subprocess
+import sys
+from fractions import Fraction as F
+from unittest import mock
+
+from support import HERE, NEEDS_CLP, NEEDS_PROGRAM, PROGRAM, Case
+from bridge_drivers.bridge import Bridge, Late
+from bridge_drivers.certify import text
+from bridge_drivers.certify.claims import Certifying, Given, Verdict, certified
+from bridge_drivers.certify.plans import Plans
+from bridge_drivers.certify.search import Better, Search
+from bridge_drivers.certify.watch import Watch
+from bridge_drivers.program import Program
+from claim_models import BINARY, CLAIMED, CYCLE
+from models import MODELS, nl, real, whole
+
+COMMAND = os.path.join(HERE, "..", "bin", "bridge-certify")
+SECONDS = 20.0
+
+
+@NEEDS_PROGRAM
+@NEEDS_CLP
+class Certified(Case):
+    def work(self, text: bytes, proves: bool = True, **words) -> Certifying:
+        self.put(text)
+        bridge, path = Bridge(PROGRAM, lambda argv: None), self.stub + ".nl"
+        return Certifying(bridge, path, self.folder, Program(bridge.text("export", path)), 0,
+                          Watch(SECONDS), proves, **words)
+
+    def found(self, text: bytes) -> Verdict:
+        """Whatever is true: the search for a contradiction finds a point where there is one."""
+        return certified(self.work(text), "infeasible")
+
+    def plans(self, text: bytes, value: F) -> tuple[Certifying, Plans]:
+        work = self.work(text)
+        work.load()
+        return work, Plans(work.model, work.model.sign * value, work.exact, self.folder,
+                           work.watch)
+
+
+class Models(Certified):
+    def test_models(self) -> None:
+        for name, model in CLAIMED.items():
+            with self.subTest(name):
+                verdict = self.found(model.text)
+                self.assertEqual(verdict.line, "infeasible" if model.value is None else
+                                 f"optimal {model.value}")
+                self.assertEqual(verdict.value, model.value)
+
+    def test_random(self) -> None:
+        """Pure ones against all their points."""
+        rng = random.Random(7)
+        for k in range(40):
+            n = rng.randint(2, 4)
+            low = [rng.randint(-2, 0) for _ in range(n)]
+            top = [rng.randint(1, 4) for _ in range(n)]
+            rows = []
+            for _ in range(rng.randint(1, 4)):
+                terms = {j: rng.randint(-6, 6) or 1 for j in range(n)}
+                at = rng.randint(-6, 12)
+                rows.append(rng.choice([(None, at, terms), (at, None, terms),
+                                        (at, at + 3, terms)]))
+            costs = {j: rng.choice([rng.randint(-9, 9) or 1, f"{rng.randint(1, 5)}.5"])
+                     for j in range(n)}
+            sense, constant = rng.choice(["min", "max"]), rng.randint(0, 3)
+            best = self.best(low, top, rows, sense, costs, constant)
+            made = nl([whole(*ends) for ends in zip(low, top)], rows, [(sense, constant, costs)])
+            self.assertEqual(self.found(made).line,
+                             "infeasible" if best is None else f"optimal {best}", k)
+
+    @staticmethod
+    def best(low, top, rows, sense, costs, constant) -> F | None:
+        values = []
+        for x in itertools.product(*(range(a, b + 1) for a, b in zip(low, top))):
+            sums = [sum(a * x[j] for j, a in terms.items()) for _, _, terms in rows]
+            if all((lo is None or s >= lo) and (hi is None or s <= hi)
+                   for s, (lo, hi, _) in zip(sums, rows)):
+                values.append(constant + sum(F(c) * x[j] for j, c in costs.items()))
+        return (max if sense == "max" else min)(values, default=None)
+
+    def test_random_mixed(self) -> None:
+        """Each has a verdict, of whatever claim."""
+        rng = random.Random(8)
+        for k in range(40):
+            n = rng.randint(2, 4)
+            columns = [real(*rng.choice([(0, None), (None, None), ("-1.5", 3), (0, "2.5")]))
+                       if j < n // 2 else whole(*rng.choice([(-2, 3), ("-1.5", "2.5"), (0, None)]))
+                       for j in range(n)]
+            rows = []
+            for _ in range(rng.randint(0, 3)):
+                terms = {j: rng.choice([1, 2, -1, 3, -2, "0.5", 7]) for j in range(n)}
+                at = rng.randint(-4, 8)
+                rows.append(rng.choice([(None, at, terms), (at, None, terms), (at, at, terms),
+                                        (at, at + 2, terms)]))
+            costs = {j: rng.choice([1, -2, 3, "0.25"]) for j in range(n)}
+            work = self.work(nl(columns, rows, [(rng.choice(["min", "max"]), 0, costs)]))
+            verdict = certified(work, "either")
+            self.assertTrue(verdict.is_proved(), f"{k}: {verdict.line}")
+
+    def test_linear(self) -> None:
+        """The exact vertex and its duals, from what no solver told."""
+        for name in ("product", "diet", "scaled", "thirds", "ranges", "rowless", "free_row"):
+            verdict = certified(self.work(MODELS[name].text, False), "point")
+            self.assertEqual(verdict.line, f"optimal {MODELS[name].objective}", name)
+        for name in ("unbounded", "unbounded_rowless", "whole_unbounded"):
+            verdict = certified(self.work(MODELS[name].text, False), "unbounded")
+            self.assertEqual(verdict.line, "unbounded", name)
+
+    def test_one_leaf(self) -> None:
+        """Without a search: what one leaf proves, else that the point is feasible; a bound where
+        it is wanted; the bound of a relaxation."""
+        for name, x, line in (("knap", (1, 1, 0), "feasible 17"), ("at_bound", (1, 1, 2), "optimal 2"),
+                              ("at_bound", (1, 0, 1), "optimal 2"),
+                              ("at_bound", (1, 1, 1), "not proved: no exact point has the answer's "
+                                                      "whole variables")):
+            verdict = certified(self.work(CLAIMED[name].text, False), "point", Given(x))
+            self.assertEqual(verdict.line, line)
+        given = Given([F(1), F(1), F(0)])
+        verdict = certified(self.work(CLAIMED["knap"].text, False, bounds=True), "point", given)
+        self.assertEqual(verdict.line, "within 19 17")
+        verdict = certified(self.work(CLAIMED["knap"].text, relaxed=True), "point", given)
+        self.assertEqual(f"{float(F(verdict.line.split()[1])):.4f}", "19.2308")
+        self.assertTrue(verdict.line.startswith("bound "))
+
+    def test_wrong_values(self) -> None:
+        """Where a point is better than the value, the search finds one."""
+        for name in ("knap", "cover", "mixed", "tied", "odd_cycle"):
+            value = CLAIMED[name].value
+            work, _ = self.plans(CLAIMED[name].text, value)
+            worse = value + work.model.sign
+            _, plans = self.plans(CLAIMED[name].text, worse)
+            with self.assertRaises(Better) as caught:
+                plans.try_all()
+            self.assertLess(caught.exception.value, work.model.sign * worse)
+
+
+class Spines(Certified):
+    """Plans that small models do not come to by themselves."""
+
+    def accepted(self, work: Certifying, plans: Plans, value: F) -> None:
+        """As a bound, which needs no point."""
+        self.assertIsNotNone(plans.best, plans.told)
+        verdict = work.judged(text.head("bound", 0, value), plans.best.path)
+        self.assertEqual(verdict.line, f"bound {value}")
+
+    def test_cuts(self) -> None:
+        cycles = [(1, None, {(i + 5 * k): 1, (i + 1) % 5 + 5 * k: 1})
+                  for k in range(3) for i in range(5)]
+        made = nl([BINARY] * 15, cycles, [("min", 0, dict.fromkeys(range(15), 1))])
+        weights = (35, 27, 23, 19, 15, 15, 12, 8, 6, 3)
+        knapsack = nl([BINARY] * 10, [(None, 39, dict(enumerate(weights))),
+                                      (None, 40, {j: 3 + j for j in range(10)})],
+                      [("max", 0, {j: w + j % 3 for j, w in enumerate(weights)})])
+        for model, value in ((made, F(9)), (knapsack, F(44)), (CLAIMED["cover"].text, F("9.25"))):
+            work, plans = self.plans(model, value)
+            for kinds in (("cover", "row"), ("tableau",), ("tableau", "cover", "row")):
+                rows = plans.maker.cuts(kinds, [], plans.until(SECONDS))
+                self.assertTrue(plans.run("+".join(kinds), rows, SECONDS), plans.told)
+                self.accepted(work, plans, value)
+                plans.best = None
+
+    def test_lemmas(self) -> None:
+        work, plans = self.plans(CLAIMED["lots"].text, F("14.3"))
+        rows = plans.maker.lemmas(plans.until(SECONDS))
+        self.assertTrue(rows)
+        self.assertTrue(plans.run("lemma", rows, SECONDS), plans.told)
+        with open(plans.best.path) as f:
+            self.assertIn("lemma ", f.read())
+        self.accepted(work, plans, F("14.3"))
+
+    def test_thin(self) -> None:
+        """Wide columns under an equation with large numbers."""
+        made = nl([whole(0, 10 ** 5)] * 4,
+                  [(89643481, 89643481, {0: 12223, 1: 12224, 2: 36674, 3: 61119})],
+                  [("min", 0, dict.fromkeys(range(4), 1))])
+        verdict = self.found(made)
+        self.assertEqual(verdict.line, "infeasible")
+        self.assertLess(os.path.getsize(verdict.path), 2000)
+
+    def test_bounds(self) -> None:
+        """What a search has that was stopped, for objectives with steps and without."""
+        for name, value, most in (("odd_cycle", F(3), 0), ("mixed", F("43.25"), 1),
+                                  ("eqknap", F(14), 4), ("lots", F("14.3"), 2)):
+            work, plans = self.plans(CLAIMED[name].text, value)
+            self.assertFalse(plans.run("plain", [], SECONDS, most=most), name)
+            bound, path = plans.bounded()
+            verdict = work.judged(text.head("bound", 0, work.model.sign * bound), path)
+            self.assertEqual(verdict.line, f"bound {work.model.sign * bound}", name)
+            self.assertLessEqual(bound, work.model.sign * value)
+
+
+class Limits(Certified):
+    def test_within(self) -> None:
+        """One text for the point and the bound where the time is over."""
+        made = CLAIMED["eqknap"].text
+        work = self.work(made)
+        look = Search.look
+
+        def looking(search: Search) -> None:
+            if search.nodes > 3 and search.aim.target is not None:
+                work.watch.is_stopped = True
+            look(search)
+        with mock.patch.object(Search, "look", looking):
+            verdict = certified(work, "point", Given([F(1), F(4), F(6.0)]))
+        self.assertRegex(verdict.line, r"^not proved|^within")
+        optimum = self.found(made).point
+        work = self.work(made)
+        with mock.patch.object(Search, "look", looking):
+            verdict = certified(work, "point", Given(optimum))
+        self.assertRegex(verdict.line, r"^within \d+ 14$")
+
+    def test_late_verdict(self) -> None:
+        work = self.work(CLAIMED["knap"].text)
+
+        def late(*words: str):
+            self.assertIsNotNone(work.bridge.limit)
+            raise Late("verify")
+        call = work.bridge.call
+        with mock.patch.object(work.bridge, "call", lambda *words: late(*words)
+                               if words[0] == "verify" else call(*words)):
+            verdict = certified(work, "point", Given([F(1), F(1), F(0)]))
+        self.assertEqual(verdict.line,
+                         "not proved: time: bridge verify was ended before its verdict")
+
+    def test_interrupt_and_progress(self) -> None:
+        """An interrupt ends the search and no more; lines of progress where it takes long."""
+        work, err = self.work(CLAIMED["eqknap"].text), io.StringIO()
+        look = Search.look
+
+        def looking(search: Search) -> None:
+            search.watch.told -= 6
+            if search.nodes >= 5:
+                os.kill(os.getpid(), signal.SIGINT)
+            look(search)
+        old = signal.signal(signal.SIGINT, signal.default_int_handler)
+        try:
+            with mock.patch.object(Search, "look", looking), contextlib.redirect_stderr(err):
+                verdict = certified(work, "infeasible")
+            self.assertEqual(signal.getsignal(signal.SIGINT), signal.default_int_handler)
+        finally:
+            signal.signal(signal.SIGINT, old)
+        self.assertRegex(verdict.line, "^(not proved: interrupted|feasible|within)")
+        self.assertRegex(err.getvalue().split("\n")[0],
+                         r"^bridge-certify: \d+ nodes, \d+ open.*, \d+ s$")
+
+
+class Commands(Certified):
+    def command(self, *words: str) -> subprocess.CompletedProcess:
+        return subprocess.run([sys.executable, COMMAND, *words], stdin=subprocess.DEVNULL,
+                              capture_output=True, text=True)
+
+    def test_words(self) -> None:
+        for words, status, said in (((), 3, "usage"), (("-h",), 0, ""), (("-=",), 0, ""),
+                                    (("m", "speed=9"), 3, "unknown option speed=9"),
+                                    (("m", "driver=none"), 3, "driver is one of"),
+                                    (("m",), 4, "m.nl: no such file")):
+            ended = self.command(*words)
+            self.assertEqual(ended.returncode, status, ended.stderr)
+            self.assertIn(said, ended.stderr)

@@ -1,0 +1,139 @@
+#!/usr/bin/env python3
+"""Certificates of larger models: one line a model, parted by tabs.
+
+    certify_table.py models FOLDER              writes FOLDER/NAME.nl
+    certify_table.py SECONDS FOLDER FILE.nl ..  certificates go to FOLDER
+
+The first makes text .nl files of the models of Debian's glpk-utils (examples) and
+coinor-libcoinutils-dev (samples), as GLPK reads them, by `bridge import`. The second runs
+`bridge-certify` with that limit for the solver, and again for the search. Needs BRIDGE, glpsol, cbc
+and CLP's library.
+"""
+
+from __future__ import annotations
+
+import glob
+import os
+import re
+import subprocess
+import sys
+import tempfile
+import time
+
+HERE = os.path.dirname(os.path.abspath(__file__))
+sys.path[:0] = [os.path.join(HERE, "..")]
+
+from bridge_drivers.bridge import find                  # noqa: E402
+from bridge_drivers.program import Program              # noqa: E402
+
+SOURCES = ("/usr/share/doc/glpk-utils/examples/*.mod", "/usr/share/doc/glpk-utils/examples/*.mps",
+           "/usr/share/coin/Data/Sample/*.mps")
+HEAD = ("model", "columns", "whole", "rows", "plan", "nodes", "pairs", "digits", "bytes",
+        "seconds", "line")
+NODES = ("split", "plane", "lemma", "duals", "weights")
+READ_SECONDS = 60               # of glpsol, for one model
+MARGIN = 120                    # seconds beyond both limits
+
+
+# models ------------------------------------------------------------------------------
+
+
+def mps_of(path: str, folder: str) -> bytes | None:
+    """The free MPS text that glpsol writes of a model, with its sense, which its LP text tells
+    alone."""
+    target, other = os.path.join(folder, "model.mps"), os.path.join(folder, "model.lp")
+    if os.path.exists(target):
+        os.unlink(target)
+    for kind in (["-m"] if path.endswith(".mod") else ["--mps", "--freemps"]):
+        words = ["glpsol", kind, path, "--check", "--wfreemps", target, "--wlp", other]
+        try:
+            subprocess.run(words, cwd=folder, capture_output=True, timeout=READ_SECONDS)
+        except subprocess.TimeoutExpired:
+            return None
+        if os.path.exists(target):
+            with open(target, "rb") as f, open(other, "rb") as lp:
+                text, is_max = f.read(), b"\nMaximize\n" in lp.read()
+            return re.sub(rb"^(NAME.*\n)", rb"\1OBJSENSE\n MAX\n", text, 1, re.M) if is_max \
+                else text
+    return None
+
+
+def models(bridge: list[str], target: str) -> None:
+    os.makedirs(target, exist_ok=True)
+    with tempfile.TemporaryDirectory() as folder:
+        for path in sorted(path for source in SOURCES for path in glob.glob(source)):
+            name = os.path.splitext(os.path.basename(path))[0]
+            text = mps_of(path, folder)
+            if text is None:
+                print(f"{name}: glpsol writes no MPS", file=sys.stderr)
+                continue
+            mps = os.path.join(folder, "import.mps")
+            with open(mps, "wb") as f:
+                f.write(text)
+            ran = subprocess.run([*bridge, "import", mps], capture_output=True)
+            if ran.returncode:
+                print(f"{name}: {ran.stderr.decode().strip()}", file=sys.stderr)
+                continue
+            with open(os.path.join(target, name + ".nl"), "wb") as f:
+                f.write(ran.stdout)
+
+
+# the table ---------------------------------------------------------------------------
+
+
+def shape(bridge: list[str], path: str) -> list[str]:
+    ran = subprocess.run([*bridge, "export", path], capture_output=True)
+    if ran.returncode:
+        return ["", "", ""]
+    p = Program(ran.stdout)
+    return [str(len(p.columns)), str(len(p.whole)), str(len(p.constraints))]
+
+
+def figures(path: str) -> list[str]:
+    """Nodes, pairs, digits of the longest number, bytes of a certificate."""
+    if not os.path.exists(path):
+        return [""] * 4
+    nodes = pairs = digits = 0
+    with open(path, encoding="ascii") as f:
+        for line in f:
+            words = line.split()
+            if words[0] in NODES:
+                nodes += 1
+            elif words[0][0].isdigit():
+                pairs += 1
+                for number in re.split("[/e]", words[1]):
+                    digits = max(digits, sum(c.isdigit() for c in number))
+    return [str(nodes), str(pairs), str(digits), str(os.path.getsize(path))]
+
+
+def line(bridge: list[str], path: str, seconds: str, folder: str) -> list[str]:
+    name = os.path.basename(path)[:-3]
+    certificate = os.path.join(folder, name + ".certificate")
+    program = os.path.join(HERE, "..", "bin", "bridge-certify")
+    began = time.monotonic()
+    try:
+        ran = subprocess.run([sys.executable, program, path, f"timelim={seconds}", "stats=1",
+                              "certificate=" + certificate], stdin=subprocess.DEVNULL,
+                             capture_output=True, text=True, timeout=2 * float(seconds) + MARGIN)
+        told = (ran.stdout or ran.stderr).strip().split("\n")
+    except subprocess.TimeoutExpired:
+        told = ["no end"]
+    spent = time.monotonic() - began
+    plan = told.pop().partition(",")[0] if os.path.exists(certificate) else ""
+    return [name, *shape(bridge, path), plan, *figures(certificate), f"{spent:.1f}", told[-1]]
+
+
+def main() -> None:
+    bridge = find("", [])
+    if sys.argv[1:2] == ["models"]:
+        models(bridge, sys.argv[2])
+        return
+    seconds, folder = sys.argv[1:3]
+    os.makedirs(folder, exist_ok=True)
+    print("\t".join(HEAD), flush=True)
+    for path in sys.argv[3:]:
+        print("\t".join(line(bridge, path, seconds, folder)), flush=True)
+
+
+if __name__ == "__main__":
+    main()
