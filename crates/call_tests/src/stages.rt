@@ -3,7 +3,7 @@ ghost use Rattle.std.specs.Prelude.{◌≡◌, ◌<◌};
 
 use exact_numbers::Frac;
 use example_texts::nl_texts::{KNAPSACK, KNAPSACK_WRITTEN};
-use linear_fold::{Form, Sum, Wide, fold_all};
+use linear_fold::{Form, Pad, Wide, fold_all};
 use mps_export::program;
 use mps_writer::write_mps;
 use nl_model::NlFile;
@@ -14,14 +14,16 @@ use std::marker::Brand;
 use std::test::Fail;
 use text_base::{Blank, Ledger, Steps, Stop};
 
-fn constant_of(taken: Result<Form, AllocError>) -> Result<Frac, Stop<Wide>> {
-    let form = taken?;
+// The constant of a closed form.
+fn constant_of(closed: Result<(Form, Pad), AllocError>) -> Result<Frac, Stop<Wide>> {
+    let (form, pad) = closed?;
     let constant = form.constant();
     drop(form);
+    drop(pad);
     Ok(constant)
 }
 
-// Adds twice a constant to the sum 0, and takes it.
+// Adds twice a constant to the form 0 on a pad, and closes it.
 fn doubled<L: Ledger>(alloc: Global, value: Frac, blank: Blank) -> Result<Frac, Stop<Wide>>
     requires name { blank.name ≡ L.name }
     requires parts { blank.parts ≡ L.parts }
@@ -29,23 +31,43 @@ fn doubled<L: Ledger>(alloc: Global, value: Frac, blank: Blank) -> Result<Frac, 
 {
     let mut steps = Steps::<L>::new(blank);
     let two = Frac::one().add(Frac::one()).ok_or(Stop::Memory)?;
-    let mut sum = Sum::new(alloc, 4)?;
+    let pad = Pad::new(alloc, 4)?;
+    let mut sum = Form::on_pad(pad);
     let other = Form::of_constant(alloc, value);
     let added = sum.add_scaled(&other, two, &mut steps);
     drop(other);
-    let taken = sum.take(alloc);
-    drop(sum);
-    let constant = constant_of(taken);
+    let closed = sum.close();
+    let constant = constant_of(closed);
     added?;
     constant
+}
+
+// Adds twice a constant to the closed form 0.
+fn doubled_closed<L: Ledger>(alloc: Global, value: Frac, blank: Blank) -> Result<Frac, Stop<Wide>>
+    requires name { blank.name ≡ L.name }
+    requires parts { blank.parts ≡ L.parts }
+    requires some { 0 < blank.parts }
+{
+    let mut steps = Steps::<L>::new(blank);
+    let two = Frac::one().add(Frac::one()).ok_or(Stop::Memory)?;
+    let mut sum = Form::new(alloc);
+    let other = Form::of_constant(alloc, value);
+    let added = sum.add_scaled(&other, two, &mut steps);
+    drop(other);
+    let constant = sum.constant();
+    drop(sum);
+    added?;
+    Ok(constant)
 }
 
 #[test]
 fn a_multiple_is_added(rt: HostRuntime) -> Result<(), Fail> {
     let three = Frac::new(3, 1).ok_or("three")?;
-    let sum = doubled::<Brand>(rt.alloc(), three, Blank::new(1));
+    let open = doubled::<Brand>(rt.alloc(), three, Blank::new(1));
+    let closed = doubled_closed::<Brand>(rt.alloc(), three, Blank::new(1));
     let six = Frac::new(6, 1).ok_or("six")?;
-    assert_eq!(rt; sum, Ok(six));
+    assert_eq!(rt; open, Ok(six));
+    assert_eq!(rt; closed, Ok(six));
     Ok(())
 }
 

@@ -8,7 +8,7 @@ use Rattle.nl_meaning.proofs.LineLemmas.{is_zero-true}
 use Rattle.file_meaning.specs.FoldFaults.{coefficient_count}
 use Rattle.linear_fold.specs.declared.form.Form.{Form}
 use Rattle.linear_fold.specs.Coefs.{Term, AreAscending, AreBelow, coef_in, value_or_zero}
-use Rattle.linear_fold.specs.Forms.{IsWithin, form_line, form_terms}
+use Rattle.linear_fold.specs.Forms.{IsWithin, form_line, form_terms, kept_constant}
 use Rattle.linear_fold.specs.Programs.{IsFormOver}
 use Rattle.linear_fold.proofs.CoefLemmas.{found_apart, found_before, found_same}
 use Rattle.linear_fold.proofs.Scaled.{terms_below}
@@ -73,4 +73,4 @@ pub over_of : (n : ℕ) (f : Form) → IsWithin n f → AreAscending 0 (form_ter
 over_of n f w a = terms_below n 0 (form_terms f) a w
 
 pub form_count_is : (n : ℕ) (f : Form) → IsWithin n f → AreAscending 0 (form_terms f) → coefficient_count n (form_line f) ≡ length (form_terms f)
-form_count_is n f w a = list_count n (frac_value f.constant) 0 (form_terms f) a (over_of n f w a)
+form_count_is n f w a = list_count n (frac_value (kept_constant f.kept)) 0 (form_terms f) a (over_of n f w a)

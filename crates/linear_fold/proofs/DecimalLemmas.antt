@@ -1,5 +1,5 @@
 -- Decimals and the fractions that they are.
-use Rattle.std.proofs.Common.{◌≡◌, ◌≢◌, ℕ, zero, suc, ◌+◌, ◌<◌, ◌≤◌, ◌∙◌, sym, ap, refl, subst, arith, Bool, true, false, List, [], ◌∷◌, ◌++◌, Some, None, Option, length, map, drop, take, slice_get, get_or, option_map}
+use Rattle.std.proofs.Common.{◌≡◌, ℕ, zero, suc, ◌+◌, ◌<◌, ◌∙◌, sym, ap, refl, subst, arith, Bool, true, false, List, [], ◌∷◌, ◌++◌, Some, length, drop, take, get_or, option_map}
 use Rattle.std.proofs.lemmas.List.{map_more}
 use Rattle.std.proofs.lemmas.Option.{get_or_from_slice_get, slice_get-map, slice_get_read}
 use mathlib.Core.HLevel.{is_prop→PathP}
@@ -9,7 +9,7 @@ use Rattle.exact_numbers.specs.declared.frac.Frac.{Frac}
 use Rattle.exact_numbers.specs.Fraction.{IsFrac}
 use Rattle.exact_numbers.specs.Values.{dec_value, frac_value}
 use Rattle.fractions.specs.Fits.{fits}
-use Rattle.fractions.specs.Rational.{ℚ, zero_ℚ}
+use Rattle.fractions.specs.Rational.{ℚ}
 use Rattle.file_meaning.specs.Expressions.{linear_terms}
 use Rattle.linear_fold.specs.Coefs.{AreAscending, AreDecimalsOf, AreStrictlyAscending}
 use Rattle.linear_fold.specs.Decimals.{DecimalTerm, AreDecimals, frac_of, frac_where, fraction_term, fraction_terms}

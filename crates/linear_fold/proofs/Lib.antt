@@ -9,10 +9,12 @@ pub mod DefinitionLemmas
 pub mod Expressions
 pub mod Folding
 pub mod FracLemmas
+pub mod Merging
 pub mod Operators
 pub mod OwnerLemmas
 pub mod PartLemmas
 pub mod PlaceLemmas
+pub mod PlaceTerms
 pub mod Products
 pub mod PutLemmas
 pub mod ProgramLemmas

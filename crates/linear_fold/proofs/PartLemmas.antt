@@ -20,7 +20,7 @@ use Rattle.linear_fold.specs.declared.parts.Part.{Part}
 use Rattle.linear_fold.specs.declared.parts.Part.TheVariants.{Number, Variable, Linear, Broken}
 use Rattle.linear_fold.specs.declared.too_wide.Wide.{Wide}
 use Rattle.linear_fold.specs.Coefs.{AddsAt, coef_in, value_or_zero}
-use Rattle.linear_fold.specs.Forms.{form_line, sum_line, AddsScaled, IsWithin, IsZeroFrom, ScaledSumFits}
+use Rattle.linear_fold.specs.Forms.{form_line, sum_line, AddsScaled, IsWithin, IsZeroFrom, ScaledSumFits, kept_constant, form_terms}
 use Rattle.linear_fold.specs.Operates.{AreOperands, AreUnbroken, IsOperand, IsSound, IsUnbroken, multiple_line, part_line}
 use Rattle.linear_fold.proofs.CoefLemmas.{adds_at, found_apart, found_same}
 use Rattle.exact_numbers.proofs.Zeros.{fits_zero, sum_fits_zero}
@@ -32,7 +32,7 @@ pub record FitsLine (l : Line) : Type 0 where
   pub coefs : (j : ℕ) → fits (l.coef j) ≡ true
 
 pub form_fits : (f : Form) → FitsLine (form_line f)
-form_fits f = record { constant = frac_fits_lem f.constant; coefs = coef_fits f.coefficients }
+form_fits f = record { constant = frac_fits_lem (kept_constant f.kept); coefs = coef_fits (form_terms f) }
 
 pub total_fits : (s : Sum) → FitsLine (sum_line s)
 total_fits s = record { constant = frac_fits_lem s.constant; coefs = place_fits s.accumulator }

@@ -1,5 +1,5 @@
 -- Places after a write, and their marks.
-use Rattle.std.proofs.Common.{◌≡◌, ◌≢◌, ℕ, zero, suc, ◌<◌, ◌≤◌, ◌∙◌, sym, ap, refl, subst, arith, ⊎_elim, Bool, true, false, ◌==◌, List, [], ◌∷◌, ◌++◌, length, get_or, slice_set}
+use Rattle.std.proofs.Common.{◌≡◌, ◌≢◌, ℕ, zero, suc, ◌<◌, ◌^◌, ◌≤◌, ◌∙◌, sym, ap, refl, subst, arith, ⊎_elim, Bool, true, false, ◌==◌, List, [], ◌∷◌, ◌++◌, length, get_or, slice_set}
 use Rattle.std.specs.List.{Contains}
 use Rattle.std.proofs.lemmas.Bool.{cases_eq}
 use Rattle.std.proofs.lemmas.List.{length-set}
@@ -43,6 +43,7 @@ module _ (ps : List Frac) (i : ℕ) (x : Frac) (within : i < length ps) where
       record {
         among = λ j n. ⊎_elim (λ (e : j ≡ i). subst (Contains touched) (sym e) (m.among i live)) (λ (apart : j ≢ i). m.among j (λ z. n (place_set_other ps i x j apart ∙ z))) (cases_eq j i);
         there = λ j c. (let h = m.there j c in omega (arith, length-set ps i x));
+        few = (let h = m.few in omega (arith, length-set ps i x));
       }
 
   pub new_mark : (touched : List ℕ) → AreMarked ps touched → AreMarked (slice_set ps i x) (touched ++ i ∷ [])
@@ -52,6 +53,7 @@ module _ (ps : List Frac) (i : ℕ) (x : Frac) (within : i < length ps) where
             ⊎_elim (λ (e : j ≡ i). subst (Contains (touched ++ i ∷ [])) (sym e) (Contains-append_right touched (i ∷ []) i (0, omega arith, refl)))
             (λ (apart : j ≢ i). Contains-append_left touched (i ∷ []) j (m.among j (λ z. n (place_set_other ps i x j apart ∙ z)))) (cases_eq j i);
         there = λ j c. (let h = ⊎_elim (m.there j) (λ (o : Contains (i ∷ []) j). subst (λ q. q < length ps) (sym (one_only i j o)) within) (Contains-append_cases touched (i ∷ []) j c) in omega (arith, length-set ps i x));
+        few = (let h = m.few in omega (arith, length-set ps i x));
       }
 
   -- a touched place is set to 0
@@ -63,6 +65,7 @@ module _ (ps : List Frac) (i : ℕ) (x : Frac) (within : i < length ps) where
             ⊎_elim (λ (c : Contains rest j). c) (λ (o : Contains (i ∷ []) j). absurd (apart (one_only i j o)))
             (Contains-append_cases rest (i ∷ []) j (subst (λ l. Contains l j) e (m.among j (λ w. n (place_set_other ps i x j apart ∙ w)))));
         there = λ j c. (let h = m.there j (subst (λ l. Contains l j) (sym e) (Contains-append_left rest (i ∷ []) j c)) in omega (arith, length-set ps i x));
+        few = (let h = m.few in omega (arith, length-set ps i x));
       }
 
 pub touched_within : (ps : List Frac) (touched rest : List ℕ) (i : ℕ) → touched ≡ rest ++ i ∷ [] → AreMarked ps touched → i < length ps
@@ -79,11 +82,12 @@ zero_or_not x n = by (is_zero x) refl
 pub untouched : (ps : List Frac) (touched : List ℕ) → touched ≡ [] → AreMarked ps touched → AreZeros ps
 untouched ps touched e m j = zero_or_not (place_in ps j) (λ n. let c = subst (λ l. Contains l j) e (m.among j n) in (let within = c.1 in omega arith))
 
-pub no_marks : (ps : List Frac) (touched : List ℕ) → touched ≡ [] → AreZeros ps → AreMarked ps touched
-no_marks ps touched e z =
+pub no_marks : (ps : List Frac) (touched : List ℕ) → length ps < 2 ^ 32 → touched ≡ [] → AreZeros ps → AreMarked ps touched
+no_marks ps touched h e z =
     record {
       among = λ j n. absurd (n (z j));
       there = λ j c. let d = subst (λ l. Contains l j) e c in (let within = d.1 in omega arith);
+      few = h;
     }
 
 pub zero_more : (ps : List Frac) (x : Frac) → AreZeros ps → frac_value x ≡ zero_ℚ → AreZeros (ps ++ x ∷ [])

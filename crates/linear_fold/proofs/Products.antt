@@ -1,5 +1,5 @@
 -- A form times a number.
-use Rattle.std.proofs.Common.{◌≡◌, ◌≢◌, ℕ, suc, zero, ◌+◌, ◌<◌, ◌≤◌, ⊎_elim, inl, inr, ◌∙◌, sym, ap, refl, subst, arith, true, false, Err, List, [], ◌∷◌, ◌++◌, drop, length, get_or, append-nil, append_assoc, ap₂, drop-cons}
+use Rattle.std.proofs.Common.{◌≡◌, ◌≢◌, ℕ, suc, ◌<◌, ◌≤◌, ⊎_elim, inl, inr, ◌∙◌, sym, ap, refl, subst, arith, true, false, Err, List, [], ◌∷◌, ◌++◌, append-nil, append_assoc}
 use Rattle.std.proofs.lemmas.Bool.{and_from, and_parts, cases_eq, cases_lt, false_from_ne_true}
 use Rattle.exact_numbers.specs.declared.frac.Frac.{Frac}
 use Rattle.exact_numbers.specs.Values.{frac_value}
@@ -87,30 +87,17 @@ module _ (a : Line) (k : ℚ) (ts : List Term) (is : (j : ℕ) → a.coef j ≡ 
   stop_multiplies up Memory h = tt
 
 -- ---- the loop
-pub term_drop : (ts : List Term) (i : ℕ) (t : Term) → i < length ts → t ≡ get_or ts i t → drop i ts ≡ t ∷ drop (i + 1) ts
-term_drop ts i t h e =
-    let next : suc i ≡ i + 1 = omega arith in
-    drop-cons ts i t h ∙ ap₂ ◌∷◌ (sym e) (ap (λ k. drop k ts) next)
+module _ (k : ℚ) (all left rest : List Term) (t : Term) (at : left ≡ t ∷ rest) where
+  pub one_product : (out now : List Term) (p : Frac) → now ≡ out ++ (t.0, p) ∷ [] → fits (k *ℚ frac_value t.1) ≡ true → frac_value p ≡ k *ℚ frac_value t.1 → ((ps : List Term) → AreProducts k left ps → AreProducts k all (out ++ ps)) → (ps : List Term) → AreProducts k rest ps → AreProducts k all (now ++ ps)
+  one_product out now p e fine is made ps a =
+      subst (AreProducts k all) (sym (append_assoc out ((t.0, p) ∷ []) ps) ∙ ap (λ xs. xs ++ ps) (sym e))
+      (made ((t.0, p) ∷ ps) (subst (λ xs. AreProducts k xs ((t.0, p) ∷ ps)) (sym at) (refl, fine, is, a)))
 
-module _ (k : ℚ) (ts : List Term) (i : ℕ) (t : Term) (out : List Term) (at : drop i ts ≡ t ∷ drop (i + 1) ts) where
-  pub one_product : (p : Frac) → fits (k *ℚ frac_value t.1) ≡ true → frac_value p ≡ k *ℚ frac_value t.1 → ((rest : List Term) → AreProducts k (drop i ts) rest → AreProducts k ts (out ++ rest)) → (rest : List Term) → AreProducts k (drop (i + 1) ts) rest → AreProducts k ts ((out ++ (t.0, p) ∷ []) ++ rest)
-  one_product p fine is left rest a =
-      subst (AreProducts k ts) (sym (append_assoc out ((t.0, p) ∷ []) rest))
-      (left ((t.0, p) ∷ rest) (subst (λ xs. AreProducts k xs ((t.0, p) ∷ rest)) (sym at) (refl, fine, is, a)))
+  pub one_wide : fits (k *ℚ frac_value t.1) ≡ false → HasWideProduct k left
+  one_wide e = subst (HasWideProduct k) (sym at) (inl e)
 
-  pub one_wide : fits (k *ℚ frac_value t.1) ≡ false → HasWideProduct k ts
-  one_wide e = wide_within k ts i (subst (HasWideProduct k) (sym at) (inl e))
-    where
-      wide_within : (c : ℚ) (xs : List Term) (q : ℕ) → HasWideProduct c (drop q xs) → HasWideProduct c xs
-      wide_within c xs zero w = w
-      wide_within c [] (suc q) w = w
-      wide_within c (x ∷ xs) (suc q) w = inr (wide_within c xs q w)
+  pub later_wide : HasWideProduct k rest → HasWideProduct k left
+  later_wide w = subst (HasWideProduct k) (sym at) (inr w)
 
-pub all_products : (k : ℚ) (ts : List Term) (i : ℕ) (out : List Term) → length ts ≤ i → ((rest : List Term) → AreProducts k (drop i ts) rest → AreProducts k ts (out ++ rest)) → AreProducts k ts out
-all_products k ts i out done left = subst (AreProducts k ts) (append-nil out) (left [] (subst (λ xs. AreProducts k xs []) (sym (none_left ts i done)) tt))
-  where
-    none_left : (xs : List Term) (q : ℕ) → length xs ≤ q → drop q xs ≡ []
-    none_left [] zero h = refl
-    none_left [] (suc q) h = refl
-    none_left (x ∷ xs) zero h = absurd (omega arith)
-    none_left (x ∷ xs) (suc q) h = none_left xs q (omega arith)
+pub all_products : (k : ℚ) (all left out : List Term) → left ≡ [] → ((ps : List Term) → AreProducts k left ps → AreProducts k all (out ++ ps)) → AreProducts k all out
+all_products k all left out none made = subst (AreProducts k all) (append-nil out) (made [] (subst (λ xs. AreProducts k xs []) (sym none) tt))

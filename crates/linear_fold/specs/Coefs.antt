@@ -71,6 +71,12 @@ abbrev pub HasWideProduct : ℚ → List Term → Type 0
 HasWideProduct k [] = ⊥
 HasWideProduct k (t ∷ ts) = (fits (k *ℚ frac_value t.1) ≡ false) ⊎ HasWideProduct k ts
 
+-- k was added to the coefficient of variable j
+abbrev pub IsAdded : List Term → ℕ → ℚ → List Term → Type 0
+IsAdded old j k new =
+    (sum_fits (coef_in old j) k ≡ true)
+    × ((i : ℕ) → coef_in new i ≡ coef_in old i +ℚ k *ℚ one_if (i == j))
+
 -- k is added to the coefficient of variable j; it is too wide exactly where the sum does not fit
 abbrev pub AddsAt : (ℕ → ℚ) → ℕ → ℚ → (ℕ → ℚ) → Result (Unit {0}) (Stop Wide) → Type 0
 AddsAt old j k new (Ok u) =

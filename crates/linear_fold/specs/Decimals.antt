@@ -1,5 +1,5 @@
 -- Terms that are kept as decimals, and the fractions that they are.
-use Rattle.std.specs.Prelude.{◌≡◌, ◌≢◌, refl, ℕ, suc, ◌≤◌, ◌<◌, ◌^◌, pos, unsigned_abs, Bool, true, false, ◌&&◌, List, [], ◌∷◌, map}
+use Rattle.std.specs.Prelude.{◌≡◌, ◌≢◌, refl, ℕ, suc, ◌≤◌, pos, Bool, true, false, List, [], ◌∷◌, map}
 use Rattle.std.proofs.Common.{arith}
 use Rattle.std.proofs.lemmas.Bool.{ltb-true}
 use Rattle.exact_numbers.specs.declared.dec.Dec.{Dec}
@@ -7,7 +7,7 @@ use Rattle.exact_numbers.specs.declared.frac.Frac.{Frac}
 use Rattle.exact_numbers.specs.Fraction.{IsFrac}
 use Rattle.exact_numbers.specs.Spelled.{first_of_both, second_of_both}
 use Rattle.exact_numbers.specs.Values.{dec_value}
-use Rattle.fractions.specs.Fits.{fits, is_small}
+use Rattle.fractions.specs.Fits.{fits}
 use Rattle.fractions.specs.Lowest.{one_above, one_coprime}
 use Rattle.fractions.specs.Rational.{ℚ, zero_ℚ}
 use Rattle.linear_fold.specs.Coefs.{Term}

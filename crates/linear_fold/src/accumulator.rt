@@ -1,10 +1,12 @@
 // A sparse accumulator: the coefficients of a sum, each at the place of its variable.
 ghost use Rattle.std.specs.Prelude.{◌≡◌, ◌≢◌, ◌<◌, ℕ, [], length, IfOk, true};
 ghost use Rattle.exact_numbers.specs.Values.{frac_value};
-ghost use Rattle.linear_fold.specs.Coefs.{AddsAt, AreBelow, coef_in};
-ghost use Rattle.linear_fold.specs.Places.{AreListed, AreZeros, place_in};
+ghost use Rattle.linear_fold.specs.Coefs.{AddsAt, AreAscending, AreBelow, coef_in};
+ghost use Rattle.linear_fold.specs.Forms.{terms_left};
+ghost use Rattle.linear_fold.specs.Places.{AreListed, AreZeros, place_in, terms_from};
 
 use crate::coefficients::Coefficients;
+use crate::form_terms::{FormTerms, TermSource};
 use crate::fraction_terms::FractionTerms;
 use crate::marked_places::MarkedPlaces;
 use crate::too_wide::Wide;
@@ -100,6 +102,24 @@ impl Accumulator {
     {
         self.listed.clear();
         self.places.clear();
+    }
+
+    // The terms one by one.
+    pub(crate) fn terms(&self) -> FormTerms<'_>
+        ensures terms { terms_left result ≡ terms_from 0 self.now }
+        ensures ascending { AreAscending 0 (terms_from 0 self.now) }
+    {
+        let listed = self.listed.items();
+        if listed.is_empty() {
+            return FormTerms {
+                source: TermSource::Places(&self.places),
+                next: 0,
+            };
+        }
+        FormTerms {
+            source: TermSource::Fractions(listed),
+            next: 0,
+        }
     }
 
     // The coefficients in order, and the places, which hold 0 again.

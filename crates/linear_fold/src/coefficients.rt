@@ -4,8 +4,10 @@ ghost use Rattle.exact_numbers.specs.Values.{frac_value};
 ghost use Rattle.fractions.specs.Rational.{zero_ℚ};
 ghost use Rattle.linear_fold.specs.Coefs.{AreAscending, AreDecimalsOf};
 ghost use Rattle.linear_fold.specs.Decimals.{AreDecimals, fraction_terms};
+ghost use Rattle.linear_fold.specs.Forms.{terms_left};
 
 use crate::decimal_terms::DecimalTerms;
+use crate::form_terms::{FormTerms, TermSource};
 use crate::fraction_terms::FractionTerms;
 use exact_numbers::{Dec, Frac};
 use std::alloc::{AllocError, Global};
@@ -98,6 +100,26 @@ impl Coefficients {
         }
     }
 
+    // The terms one by one.
+    pub(crate) fn terms(&self) -> FormTerms<'_>
+        ensures terms { terms_left result ≡ self.now }
+        ensures ascending { AreAscending 0 self.now }
+    {
+        match &self.list {
+            TermList::Fractions(terms) => FormTerms {
+                source: TermSource::Fractions(terms.items()),
+                next: 0,
+            },
+            TermList::Decimals(terms) => {
+                let _items = terms.items();
+                FormTerms {
+                    source: TermSource::Decimals(terms),
+                    next: 0,
+                }
+            }
+        }
+    }
+
     // How many there are.
     pub(crate) fn len(&self) -> usize
         ensures count { result ≡ length self.now }
@@ -133,6 +155,13 @@ impl Coefficients {
         match &self.list {
             TermList::Fractions(_) => None,
             TermList::Decimals(terms) => Some(terms.items()),
+        }
+    }
+
+    pub(crate) fn allocator(&self) -> Global {
+        match &self.list {
+            TermList::Fractions(terms) => terms.allocator(),
+            TermList::Decimals(terms) => terms.allocator(),
         }
     }
 

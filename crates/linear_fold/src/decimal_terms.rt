@@ -35,6 +35,10 @@ impl DecimalTerms {
         Ok(DecimalTerms { items })
     }
 
+    pub(crate) fn allocator(&self) -> Global {
+        *self.items.allocator()
+    }
+
     pub(crate) fn items(&self) -> &[(u32, Dec)]
         ensures items { result.now ≡ self.now }
         ensures decimals { AreDecimals 0 self.now }

@@ -12,6 +12,7 @@ ghost use Rattle.linear_fold.specs.OwnerFolds.{AreOwnersFolded, HasFolded, defin
 use crate::fold_fault::FoldFault;
 use crate::form::Form;
 use crate::owners::{Folder, fold_owner};
+use crate::pad::Pad;
 use crate::sum::Sum;
 use nl_model::{Def, NlFile, Owner, defined_count};
 use std::alloc::{AllocError, Global};
@@ -35,11 +36,11 @@ pub(crate) fn empty_folder(alloc: Global, file: &NlFile) -> Result<Folder, Alloc
 {
     let counts = file.header().counts();
     let slots = empty_slots(alloc, defined_count(counts))?;
-    let total = Sum::new(alloc, counts.n_var)?;
+    let pad = Pad::new(alloc, counts.n_var)?;
     Ok(Folder {
         alloc,
         slots,
-        total,
+        total: Sum::on_pad(pad),
         count: 0,
         variables: counts.n_var,
     })

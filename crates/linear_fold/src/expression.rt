@@ -189,7 +189,7 @@ fn with_terms<L: Ledger>(
     ensures above { steps.old ≤ steps.new }
     ensures below { steps.new ≤ steps.old + (place_count total.old + 1) + length terms.now }
 {
-    if form.listed().is_empty() && are_ascending(terms) {
+    if form.is_constant() && are_ascending(terms) {
         return form_of_ascending(alloc, form, terms, first, steps);
     }
     summed_terms(alloc, form, terms, first, total, steps)

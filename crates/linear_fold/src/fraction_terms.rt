@@ -53,6 +53,10 @@ impl FractionTerms {
         Ok(FractionTerms::of_items(items))
     }
 
+    pub(crate) fn allocator(&self) -> Global {
+        *self.items.allocator()
+    }
+
     pub(crate) fn items(&self) -> &[(u32, Frac)]
         ensures items { result.now ≡ self.now }
         ensures ascending { AreAscending 0 self.now }

@@ -1,8 +1,8 @@
 // Places for coefficients, of which those that may hold anything but 0 are known.
-ghost use Rattle.std.specs.Prelude.{◌≡◌, ◌<◌, ℕ, length, slice_set, IfOk, OnOk, true, false};
+ghost use Rattle.std.specs.Prelude.{◌≡◌, ◌+◌, ◌<◌, ◌∷◌, ℕ, [], drop, length, slice_set, IfOk, IfSome, None, OnOk, true, false};
 ghost use Rattle.exact_numbers.specs.Values.{frac_value};
 ghost use Rattle.linear_fold.specs.Coefs.{AddsAt, AreBelow, coef_in};
-ghost use Rattle.linear_fold.specs.Places.{AreZeros, place_in, put_all};
+ghost use Rattle.linear_fold.specs.Places.{AreZeros, place_in, put_all, terms_from};
 
 use crate::coefficients::Coefficients;
 use crate::too_wide::Wide;
@@ -122,6 +122,22 @@ impl MarkedPlaces {
         self.touched.push(variable)?;
         self.places[variable as usize] = factor;
         Ok(())
+    }
+
+    /// The first term from a place on.
+    pub(crate) fn term_from(&self, first: usize) -> Option<(u32, Frac)>
+        ensures none { result ≡ None → terms_from first (drop first self.now) ≡ [] }
+        ensures term { IfSome result
+            (λ t. terms_from first (drop first self.now)
+            ≡ t ∷ terms_from (t.0 + 1) (drop (t.0 + 1) self.now)) }
+    {
+        for place in first..self.places.len() {
+            let value = self.places[place];
+            if !value.is_zero() {
+                return Some((place as u32, value));
+            }
+        }
+        None
     }
 
     // The coefficients in order, and the places, which hold 0 again.

@@ -87,7 +87,7 @@ fn count_with(count: usize, owner: Owner, form: &Form) -> Result<usize, FoldFaul
         (λ fault. most_coefficients < count + length (form_terms form.now)) }
     ensures ascending { AreAscending 0 (form_terms form.now) }
 {
-    let total = count + form.listed().len();
+    let total = count + form.len();
     if total > MOST_COEFFICIENTS {
         return Err(FoldFault::FoldTooLarge(At::Head(owner)));
     }

@@ -1,14 +1,16 @@
 // Sums of linear forms.
-ghost use Rattle.std.specs.Prelude.{◌≡◌, ◌+◌, ◌<◌, ◌≤◌, IfOk, OnErr, OnOk, length};
+ghost use Rattle.std.specs.Prelude.{◌≡◌, ◌+◌, ◌<◌, ◌≤◌, IfOk, OnErr, OnOk, false, length};
 ghost use Rattle.exact_numbers.specs.Values.{frac_value};
 ghost use Rattle.fractions.specs.Rational.{zero_ℚ};
 ghost use Rattle.nl_meaning.specs.Faults.{constant_line};
 ghost use Rattle.linear_fold.specs.Coefs.{AddsAt, AreAscending, AreBelow};
-ghost use Rattle.linear_fold.specs.Forms.{AddsScaled, IsWithin, SumsUp, form_line, form_terms, place_count, sum_line};
+ghost use Rattle.linear_fold.specs.Forms.{AddsScaled, IsWithin, SumsUp, form_line, form_terms, is_open, place_count, sum_line, terms_left};
+ghost use Rattle.linear_fold.specs.Places.{terms_from};
 
 use crate::accumulator::Accumulator;
-use crate::coefficients::Coefficients;
 use crate::form::Form;
+use crate::form_terms::FormTerms;
+use crate::pad::Pad;
 use crate::too_wide::Wide;
 use exact_numbers::Frac;
 use std::alloc::{AllocError, Global};
@@ -23,16 +25,30 @@ pub struct Sum {
 }
 
 impl Sum {
-    /// The sum 0, with a place for each variable.
-    pub fn new(alloc: Global, n_var: u32) -> Result<Sum, AllocError>
-        ensures line { IfOk result (λ s. sum_line s ≡ constant_line zero_ℚ) }
-        ensures places { IfOk result (λ s. place_count s ≡ n_var) }
+    /// The sum 0, on a pad.
+    pub(crate) fn on_pad(pad: Pad) -> Sum
+        ensures line { sum_line result ≡ constant_line zero_ℚ }
+        ensures places { place_count result ≡ pad }
     {
-        let accumulator = Accumulator::new(alloc, n_var)?;
-        Ok(Sum {
+        Sum {
             constant: Frac::zero(),
-            accumulator,
-        })
+            accumulator: pad.into_accumulator(),
+        }
+    }
+
+    /// The constant.
+    pub(crate) fn constant(&self) -> Frac
+        ensures { result ≡ self.now.constant }
+    {
+        self.constant
+    }
+
+    /// The terms of the variables whose coefficient is not 0, ascending by variable.
+    pub(crate) fn terms(&self) -> FormTerms<'_>
+        ensures terms { terms_left result ≡ terms_from 0 self.now.accumulator }
+        ensures ascending { AreAscending 0 (terms_from 0 self.now.accumulator) }
+    {
+        self.accumulator.terms()
     }
 
     // Adds a factor to the coefficient of a variable.
@@ -49,21 +65,20 @@ impl Sum {
     // Adds k times terms, a step for each.
     fn add_terms<L: Ledger>(
         &mut self,
-        terms: &Coefficients,
+        terms: FormTerms<'_>,
         k: Frac,
         steps: &mut Steps<L>,
     ) -> Result<(), Stop<Wide>>
-        requires { AreBelow (place_count self.old) terms.now }
-        ensures sums { SumsUp (sum_line self.old) (frac_value k) terms.now (sum_line self.new)
-            result }
+        requires { AreBelow (place_count self.old) (terms_left terms) }
+        ensures sums { SumsUp (sum_line self.old) (frac_value k) (terms_left terms.entry)
+            (sum_line self.new) result }
         ensures places { place_count self.new ≡ place_count self.old }
-        ensures counted { OnOk result (steps.new ≡ steps.old + length terms.now) }
+        ensures counted { OnOk result (steps.new ≡ steps.old + length (terms_left terms.entry)) }
         ensures above { steps.old ≤ steps.new }
-        ensures below { steps.new ≤ steps.old + length terms.now }
+        ensures below { steps.new ≤ steps.old + length (terms_left terms.entry) }
     {
-        for index in 0..terms.len() {
+        for term in terms {
             steps.tick();
-            let term = terms.at(index);
             let Some(scaled) = k.mul(term.1) else {
                 return Err(Stop::Fault(Wide));
             };
@@ -91,7 +106,7 @@ impl Sum {
         ensures below { steps.new ≤ steps.old + length (form_terms form.now) + 1 }
         ensures ascending { AreAscending 0 (form_terms form.now) }
     {
-        let terms = form.listed();
+        let terms = form.terms();
         steps.tick();
         let Some(scaled) = k.mul(form.constant()) else {
             return Err(Stop::Fault(Wide));
@@ -115,7 +130,7 @@ impl Sum {
     /// Adds k times a form. Wide exactly where a product or a sum of one coefficient or of the
     /// constants does not fit. A step is counted for the constant and for each term of the form.
     /// After Wide and want of memory the sum is 0.
-    pub fn add_scaled<L: Ledger>(
+    pub(crate) fn add_scaled<L: Ledger>(
         &mut self,
         form: &Form,
         k: Frac,
@@ -141,7 +156,7 @@ impl Sum {
     }
 
     /// The form of the sum, which is 0 again.
-    pub fn take(&mut self, alloc: Global) -> Result<Form, AllocError>
+    pub(crate) fn take(&mut self, alloc: Global) -> Result<Form, AllocError>
         ensures line { IfOk result (λ f. form_line f ≡ sum_line self.old) }
         ensures zero { OnOk result (sum_line self.new ≡ constant_line zero_ℚ) }
         ensures places { OnOk result (place_count self.new ≡ place_count self.old) }
@@ -152,5 +167,22 @@ impl Sum {
         self.constant = Frac::zero();
         self.accumulator = empty;
         Ok(form)
+    }
+
+    /// The closed form of the sum, and the empty pad.
+    pub(crate) fn close(self) -> Result<(Form, Pad), AllocError>
+        ensures line { IfOk result (λ r. form_line r.0 ≡ sum_line self) }
+        ensures terms { IfOk result (λ r. form_terms r.0 ≡ terms_from 0 self.accumulator) }
+        ensures closed { IfOk result (λ r. is_open r.0 ≡ false) }
+        ensures places { IfOk result (λ r. r.1 ≡ place_count self) }
+    {
+        let Sum {
+            constant,
+            accumulator,
+        } = self;
+        let (coefficients, empty) = accumulator.close()?;
+        let _ascending = coefficients.ordered();
+        let form = Form::of_parts(constant, coefficients);
+        Ok((form, Pad::of_accumulator(empty)))
     }
 }

@@ -33,7 +33,7 @@ impl ScaledRow {
 
     /// The row of these coefficients and sides. `range` is the upper side less the lower one, where
     /// both are there and differ.
-    pub fn new(terms: Terms, side: Interval, range: Option<Dec>) -> ScaledRow
+    pub(crate) fn new(terms: Terms, side: Interval, range: Option<Dec>) -> ScaledRow
         requires { IsScaledRow (record { terms = terms; side = side; range = range }) }
         ensures { result ≡ record { terms = terms; side = side; range = range } }
     {

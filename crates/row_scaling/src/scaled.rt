@@ -46,7 +46,7 @@ impl Scaled {
 
     /// The scaled program of these parts: rows by constraint, none where one is not exported;
     /// bounds and kinds by variable.
-    pub fn new(
+    pub(crate) fn new(
         rows: Vec<Option<FactoredRow>>,
         objective: ScaledObjective,
         tie: Option<Tie>,

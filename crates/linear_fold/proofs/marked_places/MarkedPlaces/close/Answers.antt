@@ -57,7 +57,7 @@ loop-variable-preserved c =
     ]
 
 pub invariant_of-marked : goal.invariant_of-marked
-invariant_of-marked c = no_marks c.loop-variable.places.items c.clear.new.self.items c.clear.ensures.items (closed_zeros c.args.self c.loop-variable.places.items c.loop-variable.items.items c.deref-variable-items.result.now c.loop-variable.variable-index c.loop-variable-test.false c.loop-variable.invariant)
+invariant_of-marked c = no_marks c.loop-variable.places.items c.clear.new.self.items (let h = c.self.invariant.few in let same : length c.loop-variable.places.items ≡ length c.self.inside.places.items = c.loop-variable.invariant.count ∙ ap length (sym c.self.view_is) in omega arith) c.clear.ensures.items (closed_zeros c.args.self c.loop-variable.places.items c.loop-variable.items.items c.deref-variable-items.result.now c.loop-variable.variable-index c.loop-variable-test.false c.loop-variable.invariant)
 
 pub of_items-requires : goal.of_items-requires
 of_items-requires c = c.loop-variable.invariant.ascending

@@ -1,10 +1,10 @@
-use Rattle.std.proofs.Common.{◌+◌, ◌∙◌, sym, ap, subst, length, length-append, ◌∷◌, []}
+use Rattle.std.proofs.Common.{◌+◌, ◌∙◌, sym, ap, subst, arith, length, length-append, ◌∷◌, []}
 use Rattle.linear_fold.specs.Places.{AreZeros}
 use Rattle.linear_fold.proofs.PlaceLemmas.{no_marks, zero_more}
 use Rattle.linear_fold.proofs.marked_places.MarkedPlaces.new.Goals as goal
 
 pub invariant_of-result : goal.invariant_of-result
-invariant_of-result c = no_marks c.loop.places.items c.new.result.items c.new.ensures.items c.loop.invariant.zeros
+invariant_of-result c = no_marks c.loop.places.items c.new.result.items (let h = c.loop.invariant.many in omega arith) c.new.ensures.items c.loop.invariant.zeros
 
 pub loop-preserved : goal.loop-preserved
 loop-preserved c =
