@@ -1,5 +1,4 @@
-"""nl-bridge, refusals in words, the ends of commands, what installs and packs. Needs no `bridge`:
-the stand-in takes its place."""
+"""nl-bridge, refusals in words, the ends of commands, what installs and packs."""
 
 from __future__ import annotations
 
@@ -9,12 +8,13 @@ import io
 import json
 import os
 import re
+import shlex
 import subprocess
 import sys
 import unittest
 from unittest import mock
 
-from support import HERE, Case, StandIn
+from support import HERE, NEEDS_PROGRAM, PROGRAM, Case
 from models import MODELS
 
 from bridge_drivers import VERSION, console, explaining, front, minizinc, stats
@@ -26,7 +26,7 @@ from bridge_drivers.options import BadOption, Options
 DRIVERS = os.path.join(HERE, "..")
 BIN = os.path.join(DRIVERS, "bin")
 TOP = os.path.join(DRIVERS, "..")
-STAND_IN = f"{sys.executable} {os.path.join(HERE, 'stand_in.py')}"
+BRIDGE = shlex.join(PROGRAM)
 HEAD = b"g3 1 1 0\n 3 1 1 0 0\n" + b" 0 0\n" * 8
 PRODUCT = HEAD + (b"C0\no54\n3\no2\nn5\nv1\no2\nv0\no0\nv1\nn3\nv2\nO0 0\nn0\nr\n1 4\n"
                   b"b\n0 0 1\n0 0 1\n0 0 1\n")
@@ -212,13 +212,13 @@ class Figures(unittest.TestCase):
         self.assertEqual(factors, {"c0": "6", "c2": "7"})
 
 
+@NEEDS_PROGRAM
 class Front(Case):
     def call(self, *words: str) -> tuple[int, str, str]:
-        """Status, standard output and error of a call in this process, over the stand-in."""
+        """Status, standard output and error of a call in this process, over the program."""
         out, err = io.StringIO(), io.StringIO()
         with contextlib.redirect_stdout(out), contextlib.redirect_stderr(err), \
-                mock.patch.object(front, "Bridge", StandIn), \
-                mock.patch.dict(os.environ, {"BRIDGE": STAND_IN}):
+                mock.patch.dict(os.environ, {"BRIDGE": BRIDGE}):
             status = front.command(words)
         return status, out.getvalue(), err.getvalue()
 
@@ -320,6 +320,7 @@ class Ends(Case):
         self.assertEqual((ran.returncode, ran.stderr), (1, b"bridge-cbc: standard output: Broken "
                                                            b"pipe\n"))
 
+    @NEEDS_PROGRAM
     def test_paths_that_are_not_utf8(self) -> None:
         """`bridge` is given a link of another name; messages show the path's own bytes."""
         folder = os.fsencode(self.folder) + b"/\xff"
@@ -328,7 +329,7 @@ class Ends(Case):
             f.write(MODELS["nonlinear"].text)
         ran = subprocess.run([sys.executable, os.path.join(BIN, "bridge-cbc"), folder + b"/m",
                               b"solver=/bin/true"],
-                             capture_output=True, env={**os.environ, "BRIDGE": STAND_IN},
+                             capture_output=True, env={**os.environ, "BRIDGE": BRIDGE},
                              check=False)
         self.assertEqual(ran.returncode, 2)
         self.assertTrue(ran.stderr.endswith(b"/\xff/m.nl line 12: constraint 0: (x0 * x1) is "
