@@ -1,0 +1,19 @@
+use Rattle.std.proofs.Common.{◌∙◌, ap}
+use Rattle.linear_programs.specs.Linear.{row_count}
+use Rattle.duality.specs.Branch.{proof_fault}
+use Rattle.duality.specs.Certificate.{judged, with_leaves}
+use Rattle.exact_numbers.specs.Values.{frac_value}
+use Rattle.certificates.specs.Certificates.{tree_over}
+use Rattle.certificate_check.specs.Programs.{program_of}
+use Rattle.certificate_check.proofs.SumLemmas.{if_put}
+use Rattle.certificate_walk.specs.Points.{fractions_of}
+use Rattle.certificate_walk.proofs.check.near_outcome.Goals as goal
+
+pub returns-in-Ok : goal.returns-in-Ok
+returns-in-Ok c =
+    if_put c.tree_outcome.result c.tree_outcome.ensures
+    (λ o q h tree e.
+    q h tree e
+    ∙ ap (with_leaves (proof_fault (program_of c.args.columns.now) (frac_value c.args.stated) (tree_over (row_count (program_of c.args.columns.now)) tree)))
+    (c.in-Ok.ensures
+    ∙ ap (judged (program_of c.args.columns.now)) (ap fractions_of c.deref.ensures.value ∙ c.in_ok-x.ensures.numbers h)))
