@@ -4,7 +4,7 @@ ghost use Rattle.fractions.specs.Rational.{ℚ};
 ghost use Rattle.linear_programs.specs.Linear.{IsLinear, IsFeasible as IsFeasibleProgram, IsRelaxed as IsRelaxedProgram, objective_value as program_objective};
 ghost use Rattle.nl_meaning.specs.Lines.{line_value};
 ghost use Rattle.nl_meaning.specs.Parts.{IsLinearTree, IsPart};
-ghost use Rattle.nl_meaning.specs.Trees.{Definition, IsOneOf, Point, Tree, indices_of, known_values};
+ghost use Rattle.nl_meaning.specs.Trees.{Definition, IsOneOf, Point, Tree, indices_of, known_values, val};
 ghost use Rattle.nl_model.specs.File.{File};
 ghost use Rattle.nl_model.specs.Rules.{IsFile};
 ghost use Rattle.file_meaning.specs.Expressions.{body_of, definitions_of, maximises, objective_of};
@@ -63,6 +63,18 @@ pub fn parts_are_linear()
     ensures objective { (f : File) (k : ℕ) → IsFormedFile f k → fold_fault f k ≡ None →
         (u : Tree) → IsPart u (objective_of f k).tree →
         IsLinearTree f.counts.n_var (definitions_of f) u }
+{}
+
+// In each file that a builder makes the definitions before a definition are enough for its tree and
+// for each part of it: with all definitions of the file it has the same values. So in a file without
+// a fold fault it is linear with all of them.
+pub fn definitions_are_linear()
+    ensures values { (f : File) → IsFile f → (i : ℕ) (d : Definition)
+        → slice_get (definitions_of f) i ≡ Some d → (u : Tree) → IsPart u d.expression.tree
+        → (at : Point) → val (take i (definitions_of f)) u at ≡ val (definitions_of f) u at }
+    ensures linear { (f : File) (k : ℕ) → IsFile f → fold_fault f k ≡ None → (i : ℕ)
+        (d : Definition) → slice_get (definitions_of f) i ≡ Some d → (u : Tree)
+        → IsPart u d.expression.tree → IsLinearTree f.counts.n_var (definitions_of f) u }
 {}
 
 // Each file that a builder makes has ordered sides and indices in range, whichever objective is

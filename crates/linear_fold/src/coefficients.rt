@@ -1,5 +1,5 @@
 // The coefficients of a form: fractions, or the decimals of a file.
-ghost use Rattle.std.specs.Prelude.{◌≡◌, ◌≢◌, ◌∷◌, ◌<◌, ◌^◌, ◌==◌, IfOk, IfSome, [], get_or, length};
+ghost use Rattle.std.specs.Prelude.{◌≡◌, ◌≢◌, ◌∷◌, ◌<◌, ◌^◌, IfOk, IfSome, [], get_or, length};
 ghost use Rattle.exact_numbers.specs.Values.{frac_value};
 ghost use Rattle.fractions.specs.Rational.{zero_ℚ};
 ghost use Rattle.linear_fold.specs.Coefs.{AreAscending, AreDecimalsOf};
@@ -129,12 +129,6 @@ impl Coefficients {
             TermList::Fractions(terms) => terms.items().len(),
             TermList::Decimals(terms) => terms.items().len(),
         }
-    }
-
-    pub(crate) fn is_empty(&self) -> bool
-        ensures { result ≡ (length self.now == 0) }
-    {
-        self.len() == 0
     }
 
     // The coefficient at a place, with its variable.

@@ -39,7 +39,8 @@ fn products_of<L: Ledger>(
     k: Frac,
     steps: &mut Steps<L>,
 ) -> Result<Vec<(u32, Frac)>, Stop<Wide>>
-    ensures products { IfOk result (λ v. AreProducts (frac_value k) (terms_left terms.entry) v.items) }
+    ensures products { IfOk result
+        (λ v. AreProducts (frac_value k) (terms_left terms.entry) v.items) }
     ensures wide { IfErr result
         (λ s. IfFault s (λ w. HasWideProduct (frac_value k) (terms_left terms.entry))) }
     ensures above { steps.old ≤ steps.new }
@@ -56,6 +57,7 @@ fn products_of<L: Ledger>(
     Ok(products)
 }
 
+// The variable of a term.
 fn variable_of(term: (u32, Frac)) -> usize
     ensures value { result ≡ term.0 }
     ensures small { result < 2 ^ 32 }

@@ -98,8 +98,8 @@ fn put_term(done: &mut Vec<(u32, Frac)>, variable: u32, value: Frac) -> Result<(
     Ok(())
 }
 
-// Adds a factor to the coefficient of a variable that comes after the terms that are done; the place
-// of the first term that is left.
+// Adds a factor to the coefficient of a variable that comes after the terms that are done; the
+// place of the first term that is left.
 fn add_merged(
     done: &mut Vec<(u32, Frac)>,
     list: &Coefficients,
@@ -198,8 +198,8 @@ fn sum_of_parts<L: Ledger>(
     }
 }
 
-/// Adds k times a form to a constant and a list, which are 0 after an error; a step for the constant
-/// and for each term of the form.
+/// Adds k times a form to a constant and a list, which are 0 after an error; a step for the
+/// constant and for each term of the form.
 pub(crate) fn add_to_closed<L: Ledger>(
     constant: &mut Frac,
     list: &mut Coefficients,

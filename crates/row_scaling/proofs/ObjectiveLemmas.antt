@@ -15,7 +15,7 @@ use Rattle.text_base.specs.declared.stop.Stop.TheVariants.{Fault, Memory}
 use Rattle.linear_fold.specs.Coefs.{Term, AreAscending, AreBelow}
 use Rattle.linear_fold.specs.declared.form.Form.{Form}
 use Rattle.linear_fold.specs.declared.too_wide.Wide.{Wide}
-use Rattle.linear_fold.specs.Forms.{form_line, form_terms}
+use Rattle.linear_fold.specs.Forms.{form_line, form_terms, kept_constant}
 use Rattle.linear_fold.specs.Programs.{LinearValue, IsLinear, form_of, linear_value}
 use Rattle.exact_numbers.proofs.Bridge.{frac_fits_lem}
 use Rattle.row_scaling.specs.declared.objectives.TiedObjective.{TiedObjective}
@@ -63,7 +63,7 @@ module _ (n : ℕ) (b : Form) (up : AreAscending 0 (form_terms b)) (below : AreB
   decimal_to : All FitsDec (objective_numbers n (form_of b)) → All (NumberFits one_ℚ) (numbers_of b)
   decimal_to h =
       let all = to FitsDec h in
-      All-cons (NumberFits one_ℚ) c (coefficients_in (form_terms b)) (as_one b.constant (All-head FitsDec c (coefficients_in (form_terms b)) all)) (all_as_one (form_terms b) (All-tail FitsDec c (coefficients_in (form_terms b)) all))
+      All-cons (NumberFits one_ℚ) c (coefficients_in (form_terms b)) (as_one (kept_constant b.kept) (All-head FitsDec c (coefficients_in (form_terms b)) all)) (all_as_one (form_terms b) (All-tail FitsDec c (coefficients_in (form_terms b)) all))
 
   decimal_from : All (NumberFits one_ℚ) (numbers_of b) → All FitsDec (objective_numbers n (form_of b))
   decimal_from h = from FitsDec (subst FitsDec zero_decimal zero_fits) (all_map (numbers_of b) of_one h)
