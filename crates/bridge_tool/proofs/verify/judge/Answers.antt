@@ -37,5 +37,5 @@ returns-clause-counts g c =
     let same = c.objective_of-objective.ensures ∙ ap objective_of c.claim.ensures in
     most_so (value_of c.args.read.now) c.args.certificate.now c.objective_of-objective.result _ _ same c.in_ok-linear.ensures.below c.in_ok-linear.ensures.none
 
-pub told_outcome-told-requires : goal.told_outcome-told-requires
-told_outcome-told-requires g c = bound_fits c.args.read.now.file c.args.certificate.now c.requires.certificate
+pub told_outcome-requires : goal.told_outcome-requires
+told_outcome-requires g c = bound_fits c.args.read.now.file c.args.certificate.now c.requires.certificate

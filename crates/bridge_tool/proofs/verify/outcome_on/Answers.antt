@@ -1,4 +1,4 @@
-use Rattle.std.proofs.Common.{subst}
+use Rattle.std.proofs.Common.{◌≡◌, subst}
 use Rattle.linear_programs.specs.Linear.{Linear}
 use Rattle.certificates.specs.Certificates.{IsCertificateOf, claim_outcome}
 use Rattle.certificate_walk.specs.Outcomes.{outcome_of}
