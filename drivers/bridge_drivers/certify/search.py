@@ -262,12 +262,11 @@ class Search:
             fractional += [j for j in range(p.n, len(values)) if apart[j] > NEAR]
             column, first = self.choice.column(self, values, fractional, base)
             return self.branch(column, values[column], first, base)
-        if self.aim.target is None:
-            done = self.by_missing()
-            if done is not None:
-                return done
         if state is State.OPTIMAL:
             self.compare(x)
+        done = self.by_missing()        # CLP's tolerances may hide a contradiction
+        if done is not None:
+            return done
         unfixed = self.unfixed(apart)
         if unfixed is None:
             raise Stopped("a leaf does not close")
