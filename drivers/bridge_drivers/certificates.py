@@ -1,7 +1,7 @@
 """The last line of a message: the verdict of `bridge verify`, word for word, or `not proved: ..`.
 
-Nothing in it rests on the driver: the certificate that was judged is a text about the .nl file. What
-the .sol itself holds, `bridge check` says in the line before.
+Nothing in it rests on the driver: the certificate that was judged is a text about the .nl file.
+What the .sol itself holds, `bridge check` says in a line before.
 """
 
 from __future__ import annotations
