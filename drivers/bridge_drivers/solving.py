@@ -45,7 +45,6 @@ class Solving:
                  solver_path: str, folder: str) -> None:
         self.solver, self.options, self.bridge, self.clock = solver, options, bridge, clock
         self.nl, self.solver_path, self.folder = nl, solver_path, folder
-        self.name = "bridge-" + solver.name
 
     def result(self) -> Result:
         """The outcome. Failure where there is none."""
@@ -171,7 +170,7 @@ class Solving:
     def told(self, job: Job, nl: str, outcome: Outcome, answer: Answer, missed: Miss,
              notes: list[str]) -> Result:
         """The .sol by `bridge return`, with a message whose last line is the verdict."""
-        certifier = Certifier(self.bridge, nl, job, self.nl[:-3], self.name)
+        certifier = Certifier(self.bridge, nl, job, self.nl[:-3])
         lines = [self.headline(job, outcome, answer), *notes, *outcome.notes]
         if missed.is_much():
             lines.append(f"its point misses {certifier.named(missed.name)} by {missed.share:.2g} "
