@@ -1,7 +1,7 @@
 """The last line of a message: the verdict of `bridge verify`, word for word, or `not proved: ..`.
 
-Nothing in it rests on the driver: the certificate that was judged is a text about the .nl file. What
-the .sol itself holds, `bridge check` says in the line before.
+Nothing in it rests on the driver: the certificate that was judged is a text about the .nl file.
+What the .sol itself holds, `bridge check` says in a line before.
 """
 
 from __future__ import annotations
@@ -35,8 +35,8 @@ CLAIMS = {Code.SOLVED: "point", Code.UNSURE: "point", Code.LIMIT_WITH_POINT: "po
 class Certifier:
     """Asks `bridge` over the .nl file at `nl`. `stub` is where AMPL writes names beside it."""
 
-    def __init__(self, bridge: Bridge, nl: str, job: Job, stub: str, name: str) -> None:
-        self.bridge, self.nl, self.job, self.stub, self.name = bridge, nl, job, stub, name
+    def __init__(self, bridge: Bridge, nl: str, job: Job, stub: str) -> None:
+        self.bridge, self.nl, self.job, self.stub = bridge, nl, job, stub
         self.program = job.program
         self.relaxed = bool(job.program.whole) and bool(job.options.relax)
         self.linear = not job.program.whole or self.relaxed
@@ -72,7 +72,7 @@ class Certifier:
         options = self.job.options
         seconds = (options.timelim or SECONDS) if options.prove else ONE_LEAF
         work = Certifying(self.bridge, self.nl, self.job.folder, self.program, options.objno - 1,
-                          Watch(seconds, self.name), bool(options.prove), self.relaxed,
+                          Watch(seconds, self.job.clock.name), bool(options.prove), self.relaxed,
                           bool(options.bound))
         claim = CLAIMS[outcome.code]
         if claim == "point" and not self.relaxed and not options.prove \

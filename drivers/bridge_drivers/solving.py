@@ -45,7 +45,6 @@ class Solving:
                  solver_path: str, folder: str) -> None:
         self.solver, self.options, self.bridge, self.clock = solver, options, bridge, clock
         self.nl, self.solver_path, self.folder = nl, solver_path, folder
-        self.name = "bridge-" + solver.name
 
     def result(self) -> Result:
         """The outcome. Failure where there is none."""
@@ -110,19 +109,11 @@ class Solving:
         """What the solver answered, its answer text, and by how much it misses the model. Where
         that is much, or the answer says little, the solver is asked once more in another way."""
         outcome, answer, missed = self.asked(job, False)
-        is_vague = outcome.code == Code.INFEASIBLE_OR_UNBOUNDED
-        if self.solver.again and (is_vague or missed.is_much()):
-            note = f"{self.solver.title} was asked once more {self.solver.again}"
-            if not is_vague:
-                note += (f": its first point missed the model by {missed.share:.2g} of a "
-                         "largest term")
-            try:
-                second, text, new = self.asked(job, True)
-            except Failure:
-                second, text, new = outcome, answer, missed
-            if second.code != Code.INFEASIBLE_OR_UNBOUNDED and not new.is_much():
-                outcome, answer, missed = second, text, new
-            outcome.notes.append(note)
+        if outcome.code == Code.INFEASIBLE_OR_UNBOUNDED or missed.is_much():
+            other = self.in_another_way(job)
+            if other is not None and other[0].code != Code.INFEASIBLE_OR_UNBOUNDED \
+                    and not other[2].is_much():
+                outcome, answer, missed = other
         if missed.is_much() and outcome.code == Code.SOLVED:
             outcome = replace(outcome, code=Code.UNSURE,
                               text="optimal solution that misses the model")
@@ -147,6 +138,18 @@ class Solving:
                           f"run or written: {fault.strerror}") from None
         return outcome, answer, missed
 
+    def in_another_way(self, job: Job) -> tuple[Outcome, Answer, Miss] | None:
+        """None where it was asked so before, or gives no answer."""
+        if job.again or not self.solver.again:
+            return None
+        try:
+            outcome, answer, missed = self.asked(job, True)
+        except Failure:
+            return None
+        outcome.notes.append(f"{self.solver.title} was asked once more {self.solver.again}: its "
+                             "first answer does not satisfy the model")
+        return outcome, answer, missed
+
     def missed(self, program: Program, answer: Answer) -> Miss:
         assert answer.values is not None
         if answer.apart:
@@ -167,7 +170,7 @@ class Solving:
     def told(self, job: Job, nl: str, outcome: Outcome, answer: Answer, missed: Miss,
              notes: list[str]) -> Result:
         """The .sol by `bridge return`, with a message whose last line is the verdict."""
-        certifier = Certifier(self.bridge, nl, job, self.nl[:-3], self.name)
+        certifier = Certifier(self.bridge, nl, job, self.nl[:-3])
         lines = [self.headline(job, outcome, answer), *notes, *outcome.notes]
         if missed.is_much():
             lines.append(f"its point misses {certifier.named(missed.name)} by {missed.share:.2g} "
@@ -175,6 +178,13 @@ class Solving:
         try:
             answer, sol = self.returned(certifier, answer, lines)
             verdict = self.verdict(certifier, outcome, answer, sol)
+            if verdict.contradicted and outcome.code == Code.SOLVED:
+                other = self.in_another_way(job)
+                if other is not None:
+                    return self.told(job, nl, *other, notes)
+                outcome = replace(outcome, code=Code.UNSURE)
+                answer = Answer(job.program, outcome, self.options)
+                answer, sol = self.returned(certifier, answer, lines)
             code, moved = self.moved(outcome, answer, verdict, lines)
             if moved is not answer:
                 answer, sol = self.returned(certifier, moved, lines)

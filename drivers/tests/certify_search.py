@@ -120,7 +120,8 @@ class Models(Certified):
     def test_one_leaf(self) -> None:
         """Without a search: what one leaf proves, else that the point is feasible; a bound where
         it is wanted; the bound of a relaxation."""
-        for name, x, line in (("knap", (1, 1, 0), "feasible 17"), ("at_bound", (1, 1, 2), "optimal 2"),
+        for name, x, line in (("knap", (1, 1, 0), "feasible 17"),
+                              ("at_bound", (1, 1, 2), "optimal 2"),
                               ("at_bound", (1, 0, 1), "optimal 2"),
                               ("at_bound", (1, 1, 1), "not proved: no exact point has the answer's "
                                                       "whole variables")):

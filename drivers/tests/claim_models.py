@@ -89,6 +89,11 @@ CLAIMED = {
     # a column that is whole within tolerances alone
     "large_factor": Claimed(nl([real("0.5", None), BINARY], [(None, 0, {0: 1, 1: -1000000})],
                                [("min", 0, {0: "0.001", 1: 10})]), F("10.0005")),
+    # the same through a column that is equal to it
+    "equal_factor": Claimed(nl([real(0, 11), real(0, 1), real("0.5", 1000), BINARY],
+                               [(0, 0, {0: -1, 1: 10, 2: "0.001"}),
+                                (None, 0, {2: 1, 1: -1000000}), (0, 0, {3: 1, 1: -1})],
+                               [("min", 0, {0: 1})]), F("10.0005")),
     # one lot for each period, its costs, and demands
     "lots": Claimed(nl([real()] * 8 + [BINARY] * 4,
                        [*((d, d, {t: 1, 4 + t: -1, **({3 + t: 1} if t else {})})

@@ -27,6 +27,7 @@ from typing import NamedTuple
 BIN = os.path.join(os.path.dirname(os.path.abspath(__file__)), "..", "bin")
 CLOSE = 1e-6
 WORDS = {0: "optimal", 200: "infeasible", 300: "unbounded", 505: "takes no integers"}
+CLAIMS = ("optimal", "within", "bound", "feasible", "infeasible", "unbounded")
 
 
 class Found(NamedTuple):
@@ -109,10 +110,8 @@ def compare_nl(drivers: list[str], seconds: float, folder: str) -> collections.C
 def count(counts: collections.Counter, driver: str, verdict: str, found: Found) -> None:
     counts[driver, verdict] += 1
     counts[driver, found.word] += 1
-    last = found.message.rpartition("; ")[2] if "; certified bound" not in found.message else \
-        "certified feasible"
-    for claim in ("certified optimal", "certified feasible", "certified infeasible"):
-        counts[driver, claim] += last.startswith(claim)
+    claim = found.message.rpartition("; ")[2].partition(" ")[0]
+    counts[driver, "proved " + claim] += claim in CLAIMS
 
 
 # MiniZinc -------------------------------------------------------------------------------------

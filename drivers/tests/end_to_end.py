@@ -8,8 +8,9 @@ import subprocess
 import sys
 import unittest
 
-from support import HERE, Case, knows
+from support import HAS_CLP, HERE, Case, Sol, knows
 from bridge_drivers import solvers
+from claim_models import CLAIMED
 from models import MODELS
 
 
@@ -24,6 +25,31 @@ class EndToEnd(Case):
         self.judge(driver, name)
 
 
+class LargeFactors(Case):
+    """A binary column that solvers take for 0 where it is 0.0000005: what they then call optimal
+    is not passed on as that."""
+
+    def told(self, driver: str, name: str, *words: str) -> Sol:
+        self.put(CLAIMED[name].text)
+        program = os.path.join(HERE, "..", "bin", "bridge-" + driver)
+        ran = subprocess.run([sys.executable, program, self.stub, "-AMPL", "-e", *words],
+                             stdin=subprocess.DEVNULL, capture_output=True, text=True)
+        self.assertEqual(ran.returncode, 0, ran.stderr)
+        return self.sol()
+
+    def through(self, driver: str) -> None:
+        for name in ("large_factor", "equal_factor"):
+            sol = self.told(driver, name)
+            if sol.code == 0:
+                self.assertRegex(sol.message[-1], "^(feasible|optimal) 20001/2000$")
+            else:
+                self.assertEqual(sol.code, 100, sol.text)
+                self.assertEqual(sol.message[-1], "not proved: no exact point has the answer's "
+                                                  "whole variables")
+            sol = self.told(driver, name, "prove=1")
+            self.assertEqual((sol.code, sol.message[-1]), (0, "optimal 20001/2000"), sol.text)
+
+
 def add_tests() -> None:
     there = knows("verify")
     for driver in solvers.NAMES:
@@ -33,6 +59,11 @@ def add_tests() -> None:
                 self.through(driver, name)
             reason = f"no {driver}" if there else "no bridge that knows `verify`"
             setattr(EndToEnd, f"test_{driver}_{name}", unittest.skipUnless(solver, reason)(test))
+        if solvers.load(driver).integers:
+            def factors(self: LargeFactors, driver: str = driver) -> None:
+                self.through(driver)
+            setattr(LargeFactors, f"test_{driver}", unittest.skipUnless(
+                solver and HAS_CLP, f"no {driver}, or no library of CLP")(factors))
 
 
 add_tests()

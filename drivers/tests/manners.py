@@ -191,7 +191,8 @@ class Claims(Case):
                 (bound, 100, "its point misses variable 1 (beta) by 0.01 of the largest term",
                  "not proved: no exact point was found near the answer"),
                 (bound, 100, CHECKED + "a bound of variable 1 (beta) is broken; no row or bound is "
-                 "missed by more than 0.01 of its largest term", "not proved: no exact point was found near the answer"),
+                 "missed by more than 0.01 of its largest term",
+                 "not proved: no exact point was found near the answer"),
                 (dual, 0, CHECKED + "gap 4.4 4", "feasible 22/5"),
                 (sign, 0, CHECKED + "the dual of constraint 0 (first) has the wrong sign",
                  "feasible 22/5")):
@@ -355,7 +356,8 @@ class Claims(Case):
 
     def test_only_mps(self) -> None:
         self.put(MODELS["product"].text)
-        for driver, start, words in (("cbc", b"NAME nl FREE\n", " -max "), ("lp_solve", b"NAME nl\n", " -fmps "),
+        for driver, start, words in (("cbc", b"NAME nl FREE\n", " -max "),
+                                     ("lp_solve", b"NAME nl\n", " -fmps "),
                                      ("glpsol", b"NAME nl\nROWS\n", "--max")):
             self.last(driver, "product", "only=mps")
             sol = self.sol()

@@ -13,7 +13,7 @@ SPLIT = "split 0 1 / weights 1 / 0 1 / duals 0"
 KNAPSACK_PROOF = "value 0 17 / split 2 0 / duals 0 / split 0 0 / split 1 0 / duals 0 / weights 1 / 0 -1 / weights 1 / 0 -1"
 
 
-# made by drivers/bin/bridge-branch for drivers/tests/nl; the value of each stands in the proof
+# made by a search for drivers/tests/nl; the value of each stands in the proof
 MADE = ["assign", "blend", "jobshop3", "knapsack30", "mix", "setcover", "tsp6"]
 
 

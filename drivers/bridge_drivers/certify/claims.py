@@ -44,7 +44,8 @@ class Given(NamedTuple):
 class Verdict(NamedTuple):
     """The last line of a message, with the point that it speaks of and its objective in the
     file's own sense, `path` where the accepted text is, a line of figures, and the duals of the
-    exported rows where one leaf has them."""
+    exported rows where one leaf has them. `contradicted`: CLP finds no point that has the answer's
+    whole variables."""
 
     line: str
     point: Point | None = None
@@ -52,6 +53,7 @@ class Verdict(NamedTuple):
     figures: str = ""
     value: Fraction | None = None
     duals: Mapping[int, Fraction] = {}
+    contradicted: bool = False
 
     def is_proved(self) -> bool:
         return self.path is not None
@@ -147,9 +149,14 @@ class Certifying:
         point = self.exact(given.values)
         if point is not None:
             return self.best(self.whole_optimum(point))
+        verdict = Verdict(WITHOUT + "no exact point has the answer's whole variables")
         if self.proves:         # whatever the search finds
-            return self.best(self.infeasible())
-        return Verdict(WITHOUT + "no exact point has the answer's whole variables")
+            verdict = self.best(self.infeasible())
+        if verdict.is_proved():
+            return verdict
+        seconds = min(max(self.watch.left(), ONE_LEAF), MOST_CLP_SECONDS)
+        return verdict._replace(contradicted=points.is_contradicted(self.model, given.values,
+                                                                    seconds))
 
     def of_nothing(self, given: Given = Given()) -> Verdict:
         """A bound, where there is no point."""

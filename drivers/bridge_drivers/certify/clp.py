@@ -21,7 +21,7 @@ CALLS: dict[str, tuple[Any, list[Any]]] = {
     "chgColumnLower": (None, [P, P]), "chgColumnUpper": (None, [P, P]),
     "chgRowLower": (None, [P, P]), "chgRowUpper": (None, [P, P]),
     "setNumberIterations": (None, [P, I]), "setMaximumIterations": (None, [P, I]),
-    "setMaximumSeconds": (None, [P, D]),
+    "setMaximumSeconds": (None, [P, D]), "setPrimalTolerance": (None, [P, D]),
     "dual": (I, [P, I]), "primal": (I, [P, I]), "status": (I, [P]),
     "objectiveValue": (D, [P]), "primalColumnSolution": (P, [P]), "dualRowSolution": (P, [P]),
     "infeasibilityRay": (P, [P]), "freeRay": (None, [P, P]),
@@ -123,6 +123,10 @@ class Clp:
     def limit(self, seconds: float) -> None:
         """Of each solve from here on."""
         self.lib.Clp_setMaximumSeconds(self.model, seconds)
+
+    def tighten(self, tolerance: float) -> None:
+        """By how much rows and bounds may be missed."""
+        self.lib.Clp_setPrimalTolerance(self.model, tolerance)
 
     def bound(self, column: int, lo: End, hi: End) -> None:
         self.lo[column] = -INFINITE if lo is None else lo

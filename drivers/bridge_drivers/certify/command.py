@@ -45,6 +45,10 @@ class Finding(Driver):
     lines: list[str] = []
     figures = ""
 
+    def __init__(self, name: str) -> None:
+        super().__init__(name)
+        self.name = self.clock.name = NAME
+
     def deliver(self, result: Result) -> None:
         self.lines, self.figures = result.lines, result.figures
         print("\n".join(result.lines), file=self.stream, flush=True)

@@ -1,5 +1,8 @@
-"""Forms in which a program of few whole columns is thin, by reducing a lattice (LLL): they are
-split beside the columns where columns are free or wide, or rows are equations with large numbers."""
+"""Forms in which a program of few whole columns is thin, by reducing a lattice (LLL).
+
+They are split beside the columns where columns are free or wide, or rows are equations with large
+numbers.
+"""
 
 from __future__ import annotations
 

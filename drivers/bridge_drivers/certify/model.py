@@ -19,6 +19,9 @@ Sides = List[Optional[int]]
 Point = List[Fraction]
 
 
+TIGHT = 1e-9                    # tolerance of a program whose value near 0 counts
+
+
 class Unfit(Exception):
     """A program that the search does not take; the text says why."""
 
@@ -168,9 +171,11 @@ class Model:
         """Minimises by how much rows are missed: two more columns a row take that up."""
         linear, m = self.linear(False), self.m
         missing = [[(i, one)] for one in (1.0, -1.0) for i in range(m)]
-        return Clp(Linear(linear.lo + [0.0] * (2 * m), linear.hi + [None] * (2 * m),
-                          [0.0] * self.n + [1.0] * (2 * m), linear.sides,
-                          linear.columns + missing))
+        clp = Clp(Linear(linear.lo + [0.0] * (2 * m), linear.hi + [None] * (2 * m),
+                         [0.0] * self.n + [1.0] * (2 * m), linear.sides,
+                         linear.columns + missing))
+        clp.tighten(TIGHT)
+        return clp
 
     # points ------------------------------------------------------------------------
 

@@ -1,8 +1,8 @@
 """The plans that are tried for a tree: cuts make some trees longer, so the shortest text is kept.
 
-*plain*: no spine; *thin*: forms of a reduced lattice are split beside columns; *lemma*: mixed-integer
-rounding, where there are continuous columns; *cover*: covers and rounded rows; *tableau*: rows of
-the tableau on top of them.
+*plain*: no spine; *thin*: forms of a reduced lattice are split beside columns; *lemma*:
+mixed-integer rounding, where there are continuous columns; *cover*: covers and rounded rows;
+*tableau*: rows of the tableau on top of them.
 """
 
 from __future__ import annotations

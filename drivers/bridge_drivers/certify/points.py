@@ -90,7 +90,7 @@ def whole_point(model: Model, x: Sequence[float | Fraction], seconds: float) -> 
     """The best exact point that has the whole columns of x, where CLP finds it in that time, else
     one that is near."""
     p = model
-    fixed = {j: Fraction(round(x[j])) for j, w in enumerate(p.whole) if w}
+    fixed = whole_columns(p, x)
     if any(abs(float(x[j]) - v) > NEAR_WHOLE for j, v in fixed.items()):
         return None
     if len(fixed) == p.n:
@@ -98,10 +98,7 @@ def whole_point(model: Model, x: Sequence[float | Fraction], seconds: float) -> 
         return out if p.fits(out) else None
     if library() is None:
         return next(near(p, x), None)
-    lo = [int(fixed[j] * p.unit) if j in fixed else v for j, v in enumerate(p.lo)]
-    hi = [int(fixed[j] * p.unit) if j in fixed else v for j, v in enumerate(p.hi)]
-    clp = p.with_bounds(lo, hi).relaxation()
-    clp.limit(seconds)
+    clp = with_fixed(p, fixed, seconds)
     if clp.solve() is State.OPTIMAL or clp.solve(again=True) is State.OPTIMAL:
         found = vertex(p, Basis(*clp.basis()), clp.values(), fixed)
         if found is not None and all(map(is_narrow, found)):
@@ -110,6 +107,28 @@ def whole_point(model: Model, x: Sequence[float | Fraction], seconds: float) -> 
         if short is not None or found is not None:
             return short or found
     return next(near(p, x), None)
+
+
+def whole_columns(model: Model, x: Sequence[float | Fraction]) -> dict[int, Fraction]:
+    return {j: Fraction(round(x[j])) for j, w in enumerate(model.whole) if w}
+
+
+def with_fixed(model: Model, fixed: Mapping[int, Fraction], seconds: float) -> Clp:
+    """The relaxation under values of columns."""
+    p = model
+    lo = [int(fixed[j] * p.unit) if j in fixed else v for j, v in enumerate(p.lo)]
+    hi = [int(fixed[j] * p.unit) if j in fixed else v for j, v in enumerate(p.hi)]
+    clp = p.with_bounds(lo, hi).relaxation()
+    clp.limit(seconds)
+    return clp
+
+
+def is_contradicted(model: Model, x: Sequence[float | Fraction], seconds: float) -> bool:
+    """Whether CLP finds no values of the other columns for the whole ones of x."""
+    if all(model.whole) or library() is None:
+        return False
+    clp = with_fixed(model, whole_columns(model, x), seconds)
+    return clp.solve() is State.INFEASIBLE and clp.solve(again=True) is State.INFEASIBLE
 
 
 def any_point(model: Model, clp: Clp) -> Point | None:

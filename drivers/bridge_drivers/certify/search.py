@@ -76,7 +76,8 @@ class Goal(NamedTuple):
 
 
 class Search:
-    """`until` is in seconds of the watch. `forms` are rows of the model, whose sides change."""
+    """`until` is in seconds of the watch, `most` how many nodes there may be. `forms` are rows of
+    the model, whose sides change."""
 
     def __init__(self, model: Model, goal: Goal, spool: Spool, watch: Watch, until: float,
                  most: int = MOST_NODES, strong: int = STRONG, forms: Sequence[int] = ()) -> None:
@@ -98,6 +99,7 @@ class Search:
         self.open: list[Branch] = []
         self.splits = self.nodes = 0
         self.base = -math.inf
+        self.tells = most == MOST_NODES         # small searches tell no progress
 
     # bounds ------------------------------------------------------------------------
 
@@ -237,7 +239,7 @@ class Search:
             raise Stopped(f"more than {self.most} nodes")
         if len(self.open) > MOST_DEPTH:
             raise Stopped("the tree is too deep")
-        if self.watch.is_due():
+        if self.tells and self.watch.is_due():
             bound = ""
             if self.aim.target is not None:
                 best = min([b.base for b in self.open if None in b.parts] + [self.base])
@@ -262,12 +264,11 @@ class Search:
             fractional += [j for j in range(p.n, len(values)) if apart[j] > NEAR]
             column, first = self.choice.column(self, values, fractional, base)
             return self.branch(column, values[column], first, base)
-        if self.aim.target is None:
-            done = self.by_missing()
-            if done is not None:
-                return done
         if state is State.OPTIMAL:
             self.compare(x)
+        done = self.by_missing()        # CLP's tolerances may hide a contradiction
+        if done is not None:
+            return done
         unfixed = self.unfixed(apart)
         if unfixed is None:
             raise Stopped("a leaf does not close")

@@ -91,6 +91,8 @@ class Maker:
         if clp.solve() is not State.OPTIMAL:
             return None
         self.base = clp.objective() + float(self.model.constant)
+        if self.watch.is_due():
+            self.watch.tell(f"{len(rows)} cuts, best bound {self.model.sign * self.base:.10g}")
         return Tableau(m, clp, clp.values(), self.base)
 
     def is_over(self, until: float) -> bool:

@@ -11,6 +11,7 @@ from typing import Iterator
 
 EVERY = 5.0                 # seconds between lines of progress
 GRACE = 5.0                 # seconds past the limit after which `bridge verify` is ended
+LEAST = 10.0                # seconds that it has at least
 
 
 class Stopped(Exception):
@@ -33,8 +34,8 @@ class Watch:
         return self.seconds - self.spent() if self.seconds else float("inf")
 
     def for_verdict(self) -> float | None:
-        """Seconds for `bridge verify`: a tenth and 5 s more than the limit, and never below 5."""
-        return max(self.seconds * 1.1 + GRACE - self.spent(), GRACE) if self.seconds else None
+        """Seconds for `bridge verify`: a tenth and 5 s more than the limit, and never below 10."""
+        return max(self.seconds * 1.1 + GRACE - self.spent(), LEAST) if self.seconds else None
 
     def look(self, nodes: int, until: float) -> None:
         """At each node: Stopped after the limit, after `until` (in seconds of this watch) or an
