@@ -18,7 +18,8 @@ except ImportError:
 TOP = os.path.dirname(os.path.dirname(os.path.realpath(__file__)))
 PACKAGE = "bridge_drivers"
 BUILT = os.path.join(TOP, "crates", "bridge", "out", "bridge")
-DOCUMENTS = ("FORMATS.md", "REFUSALS.md", "COMMANDS.md", "READING.md")
+DOCUMENTS = ("user/formats.md", "user/refusals.md", "user/commands.md", "verify/reading.md",
+             "verify/theorems.md")
 DRIVER = "bridge_drivers.driver:main"       # commands of this kind share a man page
 DRIVERS_PAGE = "bridge-cbc.1"
 X86_64 = b"\x3e\x00"                        # the machine in an ELF file's head
@@ -130,9 +131,9 @@ class Project:
     def documents(self) -> Iterator[File]:
         """What users read."""
         yield File("README.md", read("README.md"))
-        yield File("drivers.md", read("drivers", "README.md"))
+        yield File("drivers/README.md", read("drivers", "README.md"))
         for name in DOCUMENTS:
-            yield File(name, read("docs", name))
+            yield File(f"docs/{name}", read("docs", name))
 
     def examples(self) -> Iterator[File]:
         """What users can try. Not among the documents, which small systems leave out."""

@@ -278,12 +278,11 @@ class Front(Case):
         self.assertIn("is nonlinear", err)
 
     def test_commands_are_those_of_the_table(self) -> None:
-        """But for `verify` where the table has no row of it."""
-        path = os.path.join(TOP, "docs", "COMMANDS.md")
+        path = os.path.join(TOP, "docs", "user", "commands.md")
         with open(path, encoding="utf-8") as f:
             words = set(re.findall(r"`([a-z]+) [A-Z]", "".join(
                 line.split("|")[1] for line in f if line.startswith("| `"))))
-        self.assertEqual({c.word for c in front.COMMANDS} - {"verify"}, words - {"verify"})
+        self.assertEqual({c.word for c in front.COMMANDS}, words)
 
 
 class Ends(Case):

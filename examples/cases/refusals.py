@@ -1,4 +1,4 @@
-"""Each refusal that docs/REFUSALS.md names, in its order, with every cause that it gives."""
+"""Each refusal that docs/user/refusals.md names, in its order, with every cause that it gives."""
 from . import texts
 from .check import MINIMISED, sol
 from .mps import FRONT, PAIRS

@@ -9,8 +9,6 @@ mod branch_proofs;
 #[cfg(test)]
 mod certificate_texts;
 #[cfg(test)]
-mod certificates;
-#[cfg(test)]
 mod fixed_texts;
 #[cfg(test)]
 mod headers;
@@ -24,6 +22,8 @@ mod named_texts;
 mod numbers;
 #[cfg(test)]
 mod parts;
+#[cfg(test)]
+mod points;
 #[cfg(test)]
 mod programs;
 #[cfg(test)]

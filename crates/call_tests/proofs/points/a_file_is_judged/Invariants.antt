@@ -1,4 +1,4 @@
-use Rattle.call_tests.proofs.certificates.a_file_is_judged.Given as goal
+use Rattle.call_tests.proofs.points.a_file_is_judged.Given as goal
 
 -- the ledger is the blank's
 abbrev pub ghosts-columns_of : goal.ghosts-columns_of
