@@ -6,3 +6,4 @@ pub mod PartLemmas
 pub mod SolutionLemmas
 pub mod OneReturn
 pub mod LawOfReturn
+pub mod ReturnedRules
