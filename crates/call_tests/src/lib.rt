@@ -7,6 +7,8 @@ mod answers;
 #[cfg(test)]
 mod branch_proofs;
 #[cfg(test)]
+mod certificate_texts;
+#[cfg(test)]
 mod certificates;
 #[cfg(test)]
 mod fixed_texts;
