@@ -19,8 +19,8 @@ import sys
 import tempfile
 
 import limits
-from cases import check, fixed, mps, prove, returned, sol
-from cases.texts import KNAPSACK, text
+from cases import check, fixed, mps, prove, returned, sol, verify
+from cases.texts import KNAPSACK, lines, text
 
 HERE = os.path.dirname(os.path.abspath(__file__))
 # one accepted example of each command: its words after the command are its files
@@ -36,6 +36,7 @@ COMMANDS = {
     "export with names": [text(KNAPSACK), b"Cap\nProfit\n", b"a\nb\nz\n"],
     "return with names": [returned.MAXIMISED, b"answer 1\nstatus 0\ncol v 3.5\nrow r -1.5\n", b"r\n", b"v\n"],
     "prove": [text(KNAPSACK), ("proof 1\n" + prove.KNAPSACK_PROOF.replace(" / ", "\n") + "\n").encode()],
+    "verify": [verify.CHARGE, lines("certificate 1 / within 0 22/3 / point 2 / 0 7 / 1 1 / " + verify.LEMMA.format("1/3") + " / duals 1 / 1 1")],
 }
 # what the knapsack tells, cut after so many lines
 CUT = {

@@ -194,6 +194,22 @@ def proof_limits():
     yield Limit("a pair more of a proof", "prove", (*file, more), f"file 2 line {at}: too large", large=True)
 
 
+def certificate_limits():
+    """The file of proofs; all numbers are 0. A tree has an odd number of nodes."""
+    file = (lambda: chain(head(1, 1024, 1, 0, 1, 1024, 1, 0), ["O0 0", "n0", "r"], repeat("2 3", 1024), ["b", "0 0 5"],
+                          chain.from_iterable((f"J{i} 1", "0 2") for i in range(1024)), ["G0 1", "0 1"]),)
+    first = ["certificate 1", "bound 0 0"]
+    splits = lambda n: (*file, lambda: chain(first, repeat("split 0 1", n), repeat("duals 0", n + 1)))
+    yield Limit("2^22 - 1 nodes of a certificate", "verify", splits(2**21 - 1), out=b"bound 0\n", large=True)
+    yield Limit("2^22 + 1 nodes of a certificate", "verify", splits(2**21), f"file 2 line {2 + 2**22 + 1}: too large", large=True)
+    leaf = lambda: chain(["duals 1024"], (f"{i} 0" for i in range(1024)))
+    leaves = lambda n: chain(first, repeat("split 0 1", n), chain.from_iterable(leaf() for _ in range(2**14)))
+    yield Limit("2^24 pairs of a certificate", "verify", (*file, lambda: leaves(2**14 - 1)), out=b"bound 0\n", large=True)
+    at = 2 + 2**14 + 2**14 * 1025 + 2
+    more = lambda: chain(leaves(2**14), ["duals 1", "0 0"])
+    yield Limit("a pair more of a certificate", "verify", (*file, more), f"file 2 line {at}: too large", large=True)
+
+
 def largest():
     """The largest .nl value: 2^20 variables and constraints, 2^22 terms and nodes, folded, scaled and written."""
 
@@ -215,7 +231,7 @@ def largest():
 def limits():
     for part in (
         header_limits, line_limits, suffix_limits, tree_limits, term_limits, fold_limits, mps_limits, import_limits,
-        sol_limits, answer_limits, proof_limits, input_limits, largest,
+        sol_limits, answer_limits, proof_limits, certificate_limits, input_limits, largest,
     ):
         yield from part()
 

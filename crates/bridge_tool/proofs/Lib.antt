@@ -26,4 +26,5 @@ pub mod Returning
 pub mod SeveralFiles
 pub mod SolRewriting
 pub mod Summing
+pub mod Verifying
 pub mod Working

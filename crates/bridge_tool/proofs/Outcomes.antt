@@ -1,7 +1,7 @@
 -- Words come to exactly one outcome.
 use Rattle.std.proofs.Common.{◌≡◌, ◌∙◌, inl, inr, ◌⊎◌, ℕ, List, take, Option, Some, None, true, false, Bool, refl, sym, ap, subst}
 use Rattle.text_base.specs.Desk.{Texts}
-use Rattle.bridge_tool.specs.Command.{Command, Check, Export, Fixed, Mps, Nl, Sol, command_of, Import, Prove, Make, Return, NamedExport, NamedReturn}
+use Rattle.bridge_tool.specs.Command.{Command, Check, Export, Fixed, Mps, Nl, Sol, command_of, Import, Prove, Verify, Make, Return, NamedExport, NamedReturn}
 use Rattle.bridge_tool.specs.Commands.{promise_of, promise_by, ComesTo}
 use Rattle.bridge_tool.specs.Export.{IsExported}
 use Rattle.bridge_tool.specs.Import.{IsImportRefused, IsImported}
@@ -27,6 +27,7 @@ use Rattle.bridge_tool.proofs.Returning.{named_return_sound, return_sound}
 use Rattle.bridge_tool.proofs.OneOutcome.{HasOne, IsPlain, desk_has_one, text_has_one}
 use Rattle.bridge_tool.proofs.SolRewriting.{sol_decided}
 use Rattle.bridge_tool.proofs.Making.{made_decided}
+use Rattle.bridge_tool.proofs.Verifying.{verify_sound}
 
 -- ---- commands
 
@@ -44,6 +45,7 @@ told_has_one texts (Sol file) = desk_has_one IsSolRewritten (IsSolRefused 1) sol
 told_has_one texts (Check nl sol) = (check_sound nl sol texts).one
 told_has_one texts (Import file) = desk_has_one IsImported IsImportRefused import_decided texts file
 told_has_one texts (Prove nl proof) = (prove_sound nl proof texts).one
+told_has_one texts (Verify nl certificate) = (verify_sound nl certificate texts).one
 told_has_one texts (Fixed file) = desk_has_one IsFixedRewritten IsFixedRefused fixed_decided texts file
 told_has_one texts (Return nl answer) = (return_sound nl answer texts).one
 told_has_one texts (NamedExport file k rows columns) = (named_sound file k rows columns texts).one
@@ -63,6 +65,7 @@ untold_has_one (Sol file) = record { outcome = Untold false; comes_to = refl; is
 untold_has_one (Check nl sol) = record { outcome = Untold true; comes_to = refl; is = tt; one = λ other j. j }
 untold_has_one (Import file) = record { outcome = Untold false; comes_to = refl; is = tt; one = λ other j. j }
 untold_has_one (Prove nl proof) = record { outcome = Untold true; comes_to = refl; is = tt; one = λ other j. j }
+untold_has_one (Verify nl certificate) = record { outcome = Untold true; comes_to = refl; is = tt; one = λ other j. j }
 untold_has_one (Fixed file) = record { outcome = Untold false; comes_to = refl; is = tt; one = λ other j. j }
 untold_has_one (Return nl answer) = record { outcome = Untold false; comes_to = refl; is = tt; one = λ other j. j }
 untold_has_one (NamedExport file k rows columns) = record { outcome = Untold false; comes_to = refl; is = tt; one = λ other j. j }

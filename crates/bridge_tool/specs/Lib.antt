@@ -1,5 +1,6 @@
 pub mod Answer
 pub mod AnswerTold
+pub mod CertificateTold
 pub mod Check
 pub mod Command
 pub mod Commands
@@ -7,6 +8,7 @@ pub mod Export
 pub mod Import
 pub mod ImportTold
 pub mod Fixed
+pub mod LeafTold
 pub mod Make
 pub mod Mps
 pub mod MpsTold
@@ -30,3 +32,4 @@ pub mod Told
 pub mod ToldLines
 pub mod Transfer
 pub mod VerdictTold
+pub mod Verify

@@ -1,6 +1,12 @@
 -- The lines that tell a refusal.
 use Rattle.std.specs.Prelude.{ℕ, nat_lt, List, [], ◌++◌, codes, if◌then◌else◌}
 use Rattle.std.specs.Fmt.{decimal}
+use Rattle.fractions.specs.Rational.{ℚ}
+use Rattle.exact_numbers.specs.Written.{frac_text}
+
+-- a whole number, or the numerator, a slash and the denominator, in lowest terms
+abbrev pub number_text : ℚ → List ℕ
+number_text x = frac_text x.top x.bottom
 
 -- The file of a fault, by its number among the files of the words; the first file is not named.
 abbrev pub file_text : ℕ → List ℕ

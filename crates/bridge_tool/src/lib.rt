@@ -4,6 +4,8 @@
 mod answer;
 mod answer_input;
 mod answer_told;
+mod certificate_input;
+mod certificate_told;
 mod check;
 mod command;
 mod export;
@@ -11,6 +13,7 @@ mod fixed;
 mod import;
 mod import_told;
 mod laws;
+mod leaf_told;
 mod make;
 mod mps;
 mod mps_told;
@@ -34,6 +37,7 @@ mod told;
 mod top;
 mod transfer;
 mod verdict_told;
+mod verify;
 
 pub use command::{Command, command_of, plain_number};
 pub use laws::{

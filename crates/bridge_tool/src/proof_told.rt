@@ -1,15 +1,11 @@
 // The lines that tell faults of proof texts, and the lines of verdicts on proofs.
 ghost use Rattle.std.specs.Prelude.{◌≡◌, ◌++◌, codes, IfOk, OnOk};
-ghost use Rattle.std.specs.Fmt.{decimal};
-ghost use Rattle.exact_numbers.specs.Values.{frac_value};
-ghost use Rattle.exact_numbers.specs.Written.{frac_text};
 ghost use Rattle.branch_proof.specs.Leaves.{fault_of};
-ghost use Rattle.bridge_tool.specs.ProofTold.{leaf_line, leaf_text, proof_line, proof_reason_text};
+ghost use Rattle.bridge_tool.specs.ProofTold.{leaf_line, proof_line, proof_reason_text};
 
+use crate::leaf_told::{put_gap, put_side, put_wide};
 use crate::told::{put, refusal};
 use branch_proof::ProofVerdict;
-use exact_numbers::{Frac, NumText};
-use itoa::Buffer;
 use proof_text::{ProofFault, ProofReason};
 use std::alloc::{AllocError, Global};
 
@@ -45,73 +41,26 @@ pub(crate) fn proof_line(alloc: Global, file: u32, fault: ProofFault) -> Result<
     )
 }
 
-// A number in decimal.
-fn put_number(line: &mut Vec<u8>, number: u32) -> Result<(), AllocError>
-    ensures { OnOk result (line.new.items ≡ line.old.items ++ decimal number) }
+// What is told of a verdict on a proof, but for the end of its line.
+fn put_verdict(line: &mut Vec<u8>, verdict: ProofVerdict) -> Result<(), AllocError>
+    ensures { OnOk result (line.new.items ++ codes "\n"
+        ≡ line.old.items ++ leaf_line (fault_of verdict)) }
 {
-    let mut digits = Buffer::new();
-    put(line, digits.format(number).as_bytes())
-}
-
-// A fraction.
-fn put_frac(line: &mut Vec<u8>, number: Frac) -> Result<(), AllocError>
-    ensures { OnOk result (line.new.items
-        ≡ line.old.items ++ frac_text (frac_value number).top (frac_value number).bottom) }
-{
-    let mut text = NumText::new();
-    number.write_to(&mut text);
-    put(line, text.bytes())
-}
-
-// How the line of a leaf begins.
-fn leaf_text(alloc: Global, leaf: u32) -> Result<Vec<u8>, AllocError>
-    ensures { IfOk result (λ line. line.items ≡ leaf_text leaf) }
-{
-    let mut line = Vec::from_slice(alloc, b"leaf ")?;
-    put_number(&mut line, leaf)?;
-    Ok(line)
-}
-
-// The line of a leaf that wants a side: of a row or of a bound.
-fn side_line(alloc: Global, leaf: u32, what: &[u8], number: u32) -> Result<Vec<u8>, AllocError>
-    ensures { IfOk result (λ line. line.items
-        ≡ leaf_text leaf ++ what.now ++ decimal number ++ codes " has no side\n") }
-{
-    let mut line = leaf_text(alloc, leaf)?;
-    put(&mut line, what)?;
-    put_number(&mut line, number)?;
-    put(&mut line, b" has no side\n")?;
-    Ok(line)
-}
-
-fn wide_line(alloc: Global, leaf: u32) -> Result<Vec<u8>, AllocError>
-    ensures { IfOk result (λ line. line.items ≡ leaf_text leaf ++ codes " too wide\n") }
-{
-    let mut line = leaf_text(alloc, leaf)?;
-    put(&mut line, b" too wide\n")?;
-    Ok(line)
-}
-
-fn gap_line(alloc: Global, leaf: u32, bound: Frac) -> Result<Vec<u8>, AllocError>
-    ensures { IfOk result (λ line. line.items ≡ leaf_text leaf ++ codes " gap "
-        ++ frac_text (frac_value bound).top (frac_value bound).bottom ++ codes "\n") }
-{
-    let mut line = leaf_text(alloc, leaf)?;
-    put(&mut line, b" gap ")?;
-    put_frac(&mut line, bound)?;
-    put(&mut line, b"\n")?;
-    Ok(line)
+    match verdict {
+        ProofVerdict::Yes => put(line, b"proved"),
+        ProofVerdict::RowSide(leaf, row) => put_side(line, leaf, b" row ", row),
+        ProofVerdict::BoundSide(leaf, variable) => put_side(line, leaf, b" bound ", variable),
+        ProofVerdict::TooWide(leaf) => put_wide(line, leaf),
+        ProofVerdict::Gap(leaf, bound) => put_gap(line, leaf, bound),
+    }
 }
 
 /// The line of a verdict on a proof.
 pub(crate) fn leaf_line(alloc: Global, verdict: ProofVerdict) -> Result<Vec<u8>, AllocError>
     ensures { IfOk result (λ line. line.items ≡ leaf_line (fault_of verdict)) }
 {
-    match verdict {
-        ProofVerdict::Yes => Vec::from_slice(alloc, b"proved\n"),
-        ProofVerdict::RowSide(leaf, row) => side_line(alloc, leaf, b" row ", row),
-        ProofVerdict::BoundSide(leaf, variable) => side_line(alloc, leaf, b" bound ", variable),
-        ProofVerdict::TooWide(leaf) => wide_line(alloc, leaf),
-        ProofVerdict::Gap(leaf, bound) => gap_line(alloc, leaf, bound),
-    }
+    let mut line = Vec::new(alloc);
+    put_verdict(&mut line, verdict)?;
+    put(&mut line, b"\n")?;
+    Ok(line)
 }

@@ -1,7 +1,10 @@
 // The lines that tell a refusal.
 ghost use Rattle.std.specs.Prelude.{◌≡◌, ◌++◌, IfOk, OnOk};
-ghost use Rattle.bridge_tool.specs.Told.{file_text, refusal, refused_at};
+ghost use Rattle.std.specs.Fmt.{decimal};
+ghost use Rattle.exact_numbers.specs.Values.{frac_value};
+ghost use Rattle.bridge_tool.specs.Told.{file_text, number_text, refusal, refused_at};
 
+use exact_numbers::{Frac, NumText};
 use itoa::Buffer;
 use std::alloc::{AllocError, Global};
 
@@ -11,6 +14,39 @@ pub(crate) fn put(line: &mut Vec<u8>, text: &[u8]) -> Result<(), AllocError>
 {
     line.extend_from_slice(text)?;
     Ok(())
+}
+
+/// Appends a number in lowest terms.
+pub(crate) fn put_frac(line: &mut Vec<u8>, value: Frac) -> Result<(), AllocError>
+    ensures { OnOk result (line.new.items ≡ line.old.items ++ number_text (frac_value value)) }
+{
+    let mut text = NumText::new();
+    value.write_to(&mut text);
+    put(line, text.bytes())
+}
+
+/// Appends a whole number.
+pub(crate) fn put_decimal(line: &mut Vec<u8>, number: u32) -> Result<(), AllocError>
+    ensures { OnOk result (line.new.items ≡ line.old.items ++ decimal number) }
+{
+    let mut digits = Buffer::new();
+    put(line, digits.format(number).as_bytes())
+}
+
+/// Appends a word, an index and a word after it.
+pub(crate) fn put_index(
+    line: &mut Vec<u8>,
+    front: &[u8],
+    index: u32,
+    back: &[u8],
+) -> Result<(), AllocError>
+    ensures { OnOk result (line.new.items ≡ line.old.items
+        ++ (front.now ++ decimal index ++ back.now)) }
+{
+    let mut digits = Buffer::new();
+    put(line, front)?;
+    put(line, digits.format(index).as_bytes())?;
+    put(line, back)
 }
 
 // The file of a fault; the first file is not named.

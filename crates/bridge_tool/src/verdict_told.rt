@@ -1,36 +1,14 @@
 // The lines of verdicts, and of faults of solutions that do not fit their file.
 ghost use Rattle.std.specs.Prelude.{◌≡◌, ◌++◌, IfOk, OnOk};
-ghost use Rattle.exact_numbers.specs.Values.{frac_value};
 ghost use Rattle.certificate_check.specs.Answers.{answer_of, place_of};
 ghost use Rattle.certificate_check.specs.declared.verdict.Verdict.TheVariants.{Gap, TooWide, Yes};
-ghost use Rattle.bridge_tool.specs.VerdictTold.{fit_line, fit_text, is_yes, negative_line, number_text, place_text, verdict_line, verdict_text};
-ghost use Rattle.std.specs.Fmt.{decimal};
+ghost use Rattle.bridge_tool.specs.VerdictTold.{fit_line, fit_text, is_yes, negative_line, place_text, verdict_line, verdict_text};
 
-use crate::told::put;
+use crate::told::{put, put_frac, put_index};
 use certificate_check::{FitFault, Spot, Verdict};
-use exact_numbers::{Frac, NumText};
+use exact_numbers::Frac;
 use itoa::Buffer;
 use std::alloc::{AllocError, Global};
-
-// A number in lowest terms.
-fn put_number(line: &mut Vec<u8>, value: Frac) -> Result<(), AllocError>
-    ensures { OnOk result (line.new.items ≡ line.old.items ++ number_text (frac_value value)) }
-{
-    let mut text = NumText::new();
-    value.write_to(&mut text);
-    put(line, text.bytes())
-}
-
-// A word before an index and one after it.
-fn put_index(line: &mut Vec<u8>, front: &[u8], index: u32, back: &[u8]) -> Result<(), AllocError>
-    ensures { OnOk result (line.new.items ≡ line.old.items
-        ++ (front.now ++ decimal index ++ back.now)) }
-{
-    let mut digits = Buffer::new();
-    put(line, front)?;
-    put(line, digits.format(index).as_bytes())?;
-    put(line, back)
-}
 
 // Where a number does not fit.
 fn put_place(line: &mut Vec<u8>, place: Spot) -> Result<(), AllocError>
@@ -57,7 +35,7 @@ fn put_yes(line: &mut Vec<u8>, value: Frac) -> Result<(), AllocError>
         ++ verdict_text (answer_of (Yes value))) }
 {
     put(line, b"yes ")?;
-    put_number(line, value)
+    put_frac(line, value)
 }
 
 fn put_gap(line: &mut Vec<u8>, value: Frac, bound: Frac) -> Result<(), AllocError>
@@ -65,9 +43,9 @@ fn put_gap(line: &mut Vec<u8>, value: Frac, bound: Frac) -> Result<(), AllocErro
         ++ verdict_text (answer_of (Gap value bound))) }
 {
     put(line, b"gap ")?;
-    put_number(line, value)?;
+    put_frac(line, value)?;
     put(line, b" ")?;
-    put_number(line, bound)
+    put_frac(line, bound)
 }
 
 fn put_verdict(line: &mut Vec<u8>, verdict: Verdict) -> Result<(), AllocError>

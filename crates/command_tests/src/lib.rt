@@ -2,6 +2,8 @@
 #![tactic(auto)]
 
 #[cfg(test)]
+mod certificate_commands;
+#[cfg(test)]
 mod check_commands;
 #[cfg(test)]
 mod commands;

@@ -1,0 +1,193 @@
+-- What a certificate shows of an .nl text: one outcome, and what a yes means.
+use Rattle.std.proofs.Common.{◌≡◌, ◌∙◌, inl, inr, ◌⊎◌, ℕ, ◌+◌, ◌≤◌, Bool, true, false, List, Option, Some, None, Result, Ok, Err, refl, sym, ap, ap₂, subst, arith}
+use Rattle.std.specs.Prelude.{option_map, IfOk}
+use Rattle.std.specs.Global.{Vec}
+use Rattle.fractions.specs.Fits.{fits}
+use Rattle.fractions.specs.Rational.{ℚ}
+use Rattle.linear_programs.specs.Linear.{Linear}
+use Rattle.duality.specs.Certificate.{Outcome as ClaimOutcome, holds, fails}
+use Rattle.text_base.specs.Desk.{Meaning, Texts}
+use Rattle.text_base.specs.declared.stop.Stop.{Stop}
+use Rattle.text_base.specs.declared.stop.Stop.TheVariants.{Fault, Memory}
+use Rattle.file_meaning.specs.FoldFaults.{fold_fault, has_objective}
+use Rattle.file_meaning.specs.LinearFile.{linear_of}
+use Rattle.linear_fold.specs.FoldedFaults.{first_fold_fault, named_fault, step_bound}
+use Rattle.linear_fold.specs.Programs.{LinearValue, linear_value}
+use Rattle.linear_fold.specs.declared.fold_fault.FoldFault.{FoldFault}
+use Rattle.nl_model.specs.File.{File}
+use Rattle.nl_model.specs.Rules.{IsFile}
+use Rattle.nl_segments.specs.Grammar.{NlValue}
+use Rattle.nl_segments.specs.Reader.{IsNl}
+use Rattle.certificates.specs.Certificates.{CertificateValue, Given, IsAskedFor, IsCertificateIn, IsCertificateOf, claim_outcome, objective_of, spread}
+use Rattle.certificates.specs.Numbers.{number_value}
+use Rattle.certificates.specs.Reading.{given_in}
+use Rattle.certificates.specs.Says.{IsTrueOf}
+use Rattle.certificates.specs.declared.certificate.Claim.{Claim}
+use Rattle.certificates.specs.declared.certificate.Claim.TheVariants.{Optimal, Within, Bound, Feasible, Infeasible, Unbounded}
+use Rattle.certificates.proofs.Given.{certificate_of, claim_true}
+use Rattle.certificates.proofs.Reading.{given_back}
+use Rattle.certificate_text.specs.Reader.{IsCertificateText}
+use Rattle.certificate_text.specs.Setting.{Setting, setting_of}
+use Rattle.certificate_text.proofs.ReadingLemmas.{one_reading}
+use Rattle.bridge_tool.specs.Answer.{EndsVerdict, IsWorked}
+use Rattle.bridge_tool.specs.CertificateTold.{HasFittingBound, certificate_line, is_held, outcome_line}
+use Rattle.bridge_tool.specs.Outcome.{Outcome, Refused, Done}
+use Rattle.bridge_tool.specs.Promise.{Promise}
+use Rattle.bridge_tool.specs.Refusal.{HasTextRefusal}
+use Rattle.bridge_tool.specs.SeveralFiles.{Comes, ReadsFile, after_file, ends, itself}
+use Rattle.bridge_tool.specs.Stages.{Folds, HasFolded}
+use Rattle.bridge_tool.specs.Verify.{IsCertificateRefused, IsVerified, by_claim, by_fold, claim_shown, most_steps, verify_outcome, verify_promise, verify_told}
+use Rattle.bridge_tool.specs.declared.answer.Answer.{Answer}
+use Rattle.bridge_tool.proofs.Decisions.{AreRead}
+use Rattle.bridge_tool.proofs.NlRewriting.{nl_read}
+use Rattle.bridge_tool.proofs.OneOutcome.{HasOne, IsPlain}
+use Rattle.bridge_tool.proofs.Proving.{meant_so}
+use Rattle.bridge_tool.proofs.SeveralFiles.{HasComeDown, IsSound, begun, counted, ended, further, idle, sound_after, sound_end, steps_so, stopped}
+
+-- ---- one outcome
+
+-- each text says one certificate, or is refused with one line
+pub certificate_read : (s : Setting) (file : ℕ) → AreRead (IsCertificateText s) (IsCertificateRefused s file)
+certificate_read s file = record {
+  said = λ text a b h k. (one_reading s text).one_value a b h k;
+  refused = λ text a b h k. h.told ∙ ap (certificate_line file) ((one_reading s text).one_fault h.fault k.fault h.first k.first) ∙ sym k.told;
+  either = λ text. elim (one_reading s text).some [
+    | inl said ↦ inl said
+    | inr found ↦ inr (certificate_line file found.0, record { fault = found.0; first = found.1; told = refl })
+  ];
+  apart = λ text value line h k. (one_reading s text).not_both value k.fault h k.first;
+}
+
+module _ (nl : NlValue) (c : CertificateValue) where
+  plain_fold : (o : Option FoldFault) → IsPlain (by_fold nl c o)
+  plain_fold None = tt
+  plain_fold (Some fault) = tt
+
+  one : HasOne IsPlain (λ outcome. outcome ≡ verify_outcome nl c)
+  one = record { outcome = verify_outcome nl c; comes_to = refl; is = plain_fold (first_fold_fault nl.file (objective_of c.claim)); one = λ other h. h }
+
+pub verify_sound : (nl certificate : List ℕ) (texts : Texts) → IsSound (verify_told nl certificate texts)
+verify_sound nl certificate texts =
+    sound_after IsNl HasTextRefusal nl_read texts nl _ (λ file.
+    sound_after (IsCertificateText (setting_of file.file)) (IsCertificateRefused (setting_of file.file) 2) (certificate_read (setting_of file.file) 2) texts certificate _ (λ c.
+    sound_end texts certificate (λ outcome. outcome ≡ verify_outcome file c) (λ old new. new ≤ old + most_steps file c) (IsVerified file c) (one file c) (λ n. omega arith)))
+
+-- ---- what the code answers
+
+-- a claim that holds has a value, if any
+held_with : (o : ClaimOutcome) → is_held o ≡ true → (value : Option ℚ) × (o ≡ holds value)
+held_with (holds value) e = (value, refl)
+held_with (fails cause) e = absurd cc
+
+asked_fits : (claim : Claim) (g : Given) → IsAskedFor claim g → HasFittingBound claim
+asked_fits (Optimal k) g h = tt
+asked_fits (Within k b) g h = h.2
+asked_fits (Bound k v) g h = tt
+asked_fits (Feasible k) g h = tt
+asked_fits Infeasible g h = tt
+asked_fits (Unbounded k) g h = tt
+
+-- the bound of the claim that was read can be written
+pub bound_fits : (f : File) (c : CertificateValue) → IsCertificateIn f c → HasFittingBound c.claim
+bound_fits f c given = asked_fits c.claim given.given given.asked
+
+module _ (nl : NlValue) (c : CertificateValue) (given : IsCertificateIn nl.file c) where
+  abbrev k : ℕ
+  k = objective_of c.claim
+
+  abbrev f : Linear
+  f = linear_of nl.file k
+
+  -- what is given is read back
+  given_so : given_in c ≡ given.given
+  given_so = given_back c given.given given.point given.ray given.nodes given.pairs
+
+  -- the certificate is one of the folded program
+  pub certificate_so : (l : LinearValue) → HasFolded nl k l → IsCertificateOf (linear_value l) c
+  certificate_so l folds = subst (λ (g : Linear). IsCertificateOf g c) (sym folds.linear) (certificate_of nl.file k c given)
+
+  shown_so : (l : LinearValue) (o : ClaimOutcome) → HasFolded nl k l → ((h : IsCertificateOf (linear_value l) c) → o ≡ claim_outcome (linear_value l) c.claim h.given) → o ≡ claim_shown nl c
+  shown_so l o folds exact =
+      let h = certificate_so l folds in
+      exact h
+      ∙ ap (λ (g : Given). claim_outcome (linear_value l) c.claim g) (sym (given_back c h.given h.point h.ray h.nodes h.pairs))
+      ∙ ap (λ (g : Linear). claim_outcome g c.claim (given_in c)) folds.linear
+
+  -- the file folds, and the verdict is told
+  pub done_so : (l : LinearValue) (o : ClaimOutcome) (held : Bool) (bytes : List ℕ) → HasFolded nl k l → ((h : IsCertificateOf (linear_value l) c) → o ≡ claim_outcome (linear_value l) c.claim h.given)
+      → held ≡ is_held o → bytes ≡ outcome_line c.claim o → Done held bytes ≡ verify_outcome nl c
+  done_so l o held bytes folds exact h b =
+      ap₂ Done h b ∙ ap (by_claim c.claim) (shown_so l o folds exact) ∙ sym (ap (by_fold nl c) (ap (option_map (named_fault nl.file)) folds.fine))
+
+  -- the fold stopped
+  pub stopped_so : (stop : Stop (Vec ℕ)) → Folds nl k (Err stop) → Comes (λ outcome. outcome ≡ verify_outcome nl c) (Err stop)
+  stopped_so (Fault line) h = ap Refused h.told ∙ sym (ap (by_fold nl c) h.first)
+  stopped_so Memory h = tt
+
+  -- a yes means what it should
+  pub verified_so : (l : LinearValue) (o : ClaimOutcome) (held : Bool) (bytes : List ℕ) → IsFile nl.file → HasFolded nl k l → ((h : IsCertificateOf (linear_value l) c) → o ≡ claim_outcome (linear_value l) c.claim h.given)
+      → held ≡ is_held o → bytes ≡ outcome_line c.claim o → held ≡ true → IsVerified nl c
+  verified_so l o held bytes file folds exact h b holding =
+      let found = held_with o (sym h ∙ holding) in
+      let shown : claim_shown nl c ≡ holds found.0 = sym (shown_so l o folds exact) ∙ found.1 in
+      let outcome : claim_outcome f c.claim given.given ≡ holds found.0 = ap (λ (g : Given). claim_outcome f c.claim g) (sym given_so) ∙ shown in
+      let true_so : IsTrueOf nl.file c.claim (spread nl.file.counts.n_var given.given.point) found.0 = claim_true nl.file c file folds.fine given found.0 outcome in
+      record {
+        value = found.0;
+        folds = folds.fine;
+        line = sym (done_so l o held bytes folds exact h b) ∙ ap₂ Done holding (b ∙ ap (outcome_line c.claim) found.1);
+        true_of = subst (λ (g : Given). IsTrueOf nl.file c.claim (spread nl.file.counts.n_var g.point) found.0) (sym given_so) true_so;
+      }
+
+-- the objective of the claim was folded
+pub most_so : (nl : NlValue) (c : CertificateValue) (n old new : ℕ) → n ≡ objective_of c.claim → new ≤ old + step_bound nl.file → (has_objective nl.file n ≡ false → new ≡ old) → new ≤ old + most_steps nl c
+most_so nl c n old new same below none = steps_so (has_objective nl.file (objective_of c.claim)) old new (step_bound nl.file) below (λ e. none (ap (has_objective nl.file) same ∙ e))
+
+pub folded_so : (nl : NlValue) (c : CertificateValue) (n : ℕ) (l : LinearValue) → n ≡ objective_of c.claim → HasFolded nl n l → HasFolded nl (objective_of c.claim) l
+folded_so nl c n l same folds = subst (λ (m : ℕ). HasFolded nl m l) same folds
+
+-- ---- the ends of the command
+
+-- what is left of the command once the first file was read
+abbrev pub after_nl : List ℕ → Texts → NlValue → Promise
+after_nl certificate texts file =
+    after_file (IsCertificateText (setting_of file.file)) (IsCertificateRefused (setting_of file.file) 2) texts certificate (λ c.
+    ends texts certificate (λ outcome. outcome ≡ verify_outcome file c) (λ old new. new ≤ old + most_steps file c) (IsVerified file c))
+
+module _ (nl certificate : List ℕ) where
+  pub not_counted : (texts : Option Texts) (n : ℕ) → (verify_promise texts nl certificate).counts n n
+  not_counted texts n = idle (verify_told nl certificate) true (verify_sound nl certificate) texts n
+
+  module _ {R : Type 0} (seen : R → NlValue) (old mid : Meaning) where
+    -- the first file ends the command
+    pub nl_stopped : (answer : Answer) → ReadsFile {R = R} seen IsNl HasTextRefusal nl old mid (Err answer) → IsWorked (verify_promise old.texts nl certificate) old mid answer
+    nl_stopped answer read = stopped (verify_told nl certificate) true (verify_sound nl certificate) seen IsNl HasTextRefusal nl (after_nl certificate) old old mid (begun (verify_told nl certificate) true old) answer read
+
+    module _ (value : R) (read : ReadsFile {R = R} seen IsNl HasTextRefusal nl old mid (Ok value)) where
+      abbrev s : Setting
+      s = setting_of (seen value).file
+
+      down : HasComeDown (verify_told nl certificate) true (λ texts. after_nl certificate texts (seen value)) old mid
+      down = further (verify_told nl certificate) true seen IsNl HasTextRefusal nl (after_nl certificate) old old mid (begun (verify_told nl certificate) true old) value read
+
+      -- the second file ends it
+      pub certificate_stopped : (new : Meaning) (answer : Answer) → ReadsFile {R = CertificateValue} itself (IsCertificateText s) (IsCertificateRefused s 2) certificate mid new (Err answer) → IsWorked (verify_promise old.texts nl certificate) old new answer
+      certificate_stopped new answer read_so =
+          stopped (verify_told nl certificate) true (verify_sound nl certificate) itself (IsCertificateText s) (IsCertificateRefused s 2) certificate
+          (λ texts c. ends texts certificate (λ outcome. outcome ≡ verify_outcome (seen value) c) (λ m n. n ≤ m + most_steps (seen value) c) (IsVerified (seen value) c))
+          old mid new down answer read_so
+
+      module _ (new : Meaning) (c : CertificateValue) (given : ReadsFile {R = CertificateValue} itself (IsCertificateText s) (IsCertificateRefused s 2) certificate mid new (Ok c)) where
+        -- both were judged
+        pub certificate_ended : (last : Meaning) (judged : Result (Bool × Vec ℕ) (Stop (Vec ℕ))) (answer : Answer) → Comes (λ outcome. outcome ≡ verify_outcome (seen value) c) judged
+            → IfOk judged (λ t. t.0 ≡ true → IsVerified (seen value) c) → EndsVerdict judged new last answer → IsWorked (verify_promise old.texts nl certificate) old last answer
+        certificate_ended last judged answer comes means end =
+            ended (verify_told nl certificate) true (verify_sound nl certificate) itself (IsCertificateText s) (IsCertificateRefused s 2) certificate
+            (λ q outcome. outcome ≡ verify_outcome (seen value) q) (λ q m n. n ≤ m + most_steps (seen value) q) (λ q. IsVerified (seen value) q)
+            old mid new down c given last judged answer comes (meant_so judged (IsVerified (seen value) c) means) end
+
+        pub certificate_counted : (m n : ℕ) → n ≤ m + most_steps (seen value) c → (verify_promise old.texts nl certificate).counts m n
+        certificate_counted m n le =
+            counted (verify_told nl certificate) true (verify_sound nl certificate) itself (IsCertificateText s) (IsCertificateRefused s 2) certificate
+            (λ q outcome. outcome ≡ verify_outcome (seen value) q) (λ q m n. n ≤ m + most_steps (seen value) q) (λ q. IsVerified (seen value) q)
+            old mid new down c given m n le

@@ -1,0 +1,101 @@
+// Reading and judging the text of a certificate.
+ghost use Rattle.std.specs.Prelude.{◌≡◌, ◌≢◌, List, ℕ, IfErr, IfOk};
+ghost use Rattle.text_base.specs.Desk.{IsUnknown, OnlyInput};
+ghost use Rattle.certificates.specs.Certificates.{IsCertificateIn};
+ghost use Rattle.nl_model.specs.File.{File};
+ghost use Rattle.certificate_text.specs.Reader.{IsFed, IsCertificateText};
+ghost use Rattle.certificate_text.specs.Setting.{setting_of};
+ghost use Rattle.bridge_tool.specs.Answer.{status_of};
+ghost use Rattle.bridge_tool.specs.Verify.{IsCertificateRefused};
+ghost use Rattle.bridge_tool.specs.SeveralFiles.{ReadsFile, Says, itself};
+ghost use Rattle.bridge_tool.specs.Transfer.{HasRead, HasReadCause};
+
+use crate::answer::Answer;
+use crate::certificate_told::certificate_line;
+use crate::one_file::{answered, missed, read};
+use crate::transfer::{Feed, LIMIT, Unread};
+use certificate_text::CertificateReader;
+use certificates::Certificate;
+use nl_model::NlFile;
+use std::alloc::Global;
+use text_base::{Desk, Stop};
+
+impl Feed for CertificateReader {
+    ghost use Rattle.certificate_text.specs.Reader.{IsFed};
+    ghost use Rattle.certificate_text.specs.Setting.{Setting};
+
+    ghost Setting = { Setting };
+
+    ghost setting = { λ reader. reader.read.setting };
+
+    ghost fed = { λ reader text. IsFed reader.read.setting reader text };
+
+    fn take(&mut self, piece: &[u8]) {
+        // The reader keeps an error, and answers it at the end.
+        let _ = self.feed(piece);
+    }
+}
+
+/// Feeds a reader of certificates of this file the named text.
+pub(crate) fn read_certificate<D: Desk>(
+    alloc: Global,
+    desk: &mut D,
+    file: &NlFile,
+    name: &str,
+) -> Result<CertificateReader, Unread>
+    ensures text { IfOk result (λ reader. HasRead (D.meaning desk.old).texts name.now LIMIT
+        (D.meaning desk.new).left (IsFed (setting_of file.now) reader)) }
+    ensures cause { HasReadCause (IsUnknown (D.meaning desk.old).texts name.now)
+        (D.meaning desk.old).input_faults (D.meaning desk.new).input_faults result }
+    ensures rest { OnlyInput (D.meaning desk.old) (D.meaning desk.new) }
+{
+    let reader = CertificateReader::new(alloc, file)?;
+    read(alloc, desk, name, reader)
+}
+
+/// What the text says that a reader of certificates of a file was fed, or the line to tell; the text is
+/// this file of its command.
+pub(crate) fn judge_certificate(
+    alloc: Global,
+    reader: CertificateReader,
+    number: u32,
+) -> Result<Certificate, Stop<Vec<u8>>>
+    ensures says { (f : File) (text : List ℕ) → IsFed (setting_of f) reader text
+        → Says itself (IsCertificateText (setting_of f)) (IsCertificateRefused (setting_of f) number) text
+        result }
+    ensures certificate { IfOk result (λ c. (f : File) (text : List ℕ) → IsFed (setting_of f) reader text
+        → IsCertificateIn f c) }
+{
+    match reader.finish() {
+        Ok(certificate) => Ok(certificate),
+        Err(Stop::Memory) => Err(Stop::Memory),
+        Err(Stop::Fault(fault)) => {
+            let line = certificate_line(alloc, number, fault)?;
+            Err(Stop::Fault(line))
+        }
+    }
+}
+
+/// The certificate of this file that a text says, which is this one of its command, or the answer that
+/// ends the command.
+pub(crate) fn open_certificate<D: Desk>(
+    alloc: Global,
+    desk: &mut D,
+    file: &NlFile,
+    name: &str,
+    number: u32,
+) -> Result<Certificate, Answer>
+    ensures reads { ReadsFile itself (IsCertificateText (setting_of file.now))
+        (IsCertificateRefused (setting_of file.now) number) name.now (D.meaning desk.old)
+        (D.meaning desk.new) result }
+    ensures certificate { IfOk result (λ c. IsCertificateIn file.now c) }
+    ensures known { IfErr result (λ answer. status_of answer ≢ 3) }
+{
+    match read_certificate(alloc, desk, file, name) {
+        Ok(reader) => {
+            let judged = judge_certificate(alloc, reader, number);
+            answered(judged)
+        }
+        Err(unread) => Err(missed(unread)),
+    }
+}

@@ -1,0 +1,203 @@
+// The lines that tell faults of certificates' texts, and the lines of verdicts on certificates.
+ghost use Rattle.std.specs.Prelude.{◌≡◌, ◌++◌, codes, IfOk, OnOk, true};
+ghost use Rattle.std.specs.Fmt.{decimal};
+ghost use Rattle.fractions.specs.Fits.{fits};
+ghost use Rattle.certificates.specs.Numbers.{number_value};
+ghost use Rattle.certificate_check.specs.Terms.{value_found};
+ghost use Rattle.certificate_walk.specs.Outcomes.{cause_of, leaf_fault_of, outcome_of, point_fault_of, ray_fault_of};
+ghost use Rattle.bridge_tool.specs.CertificateTold.{certificate_line, certificate_reason_text, claim_text, failed_text, HasFittingBound, is_held, outcome_line, outcome_text, ray_text, value_text};
+ghost use Rattle.bridge_tool.specs.LeafTold.{leaf_text};
+ghost use Rattle.bridge_tool.specs.Told.{number_text};
+ghost use Rattle.bridge_tool.specs.VerdictTold.{cause_text};
+
+use crate::leaf_told::{put_gap, put_side, put_wide};
+use crate::told::{put, put_decimal, put_frac, put_index, refusal};
+use certificate_text::{CertificateFault, CertificateReason};
+use certificate_walk::{Cause, LeafFault, Outcome, PointFault, RayFault};
+use certificates::{Claim, Number};
+use exact_numbers::Frac;
+use std::alloc::{AllocError, Global};
+
+// What is said of a fault of a certificate's text.
+fn certificate_reason_text(reason: CertificateReason) -> &'static [u8]
+    ensures { result.now ≡ certificate_reason_text reason }
+{
+    match reason {
+        CertificateReason::LineTooLong => b"line too long",
+        CertificateReason::InputTooLong => b"input too long",
+        CertificateReason::BadFirst => b"bad first line",
+        CertificateReason::Extra => b"extra line",
+        CertificateReason::BadLine => b"bad line",
+        CertificateReason::BadNumber => b"bad number",
+        CertificateReason::IndexOut => b"index out of range",
+        CertificateReason::NotWhole => b"not whole",
+        CertificateReason::IndexOrder => b"index out of order",
+        CertificateReason::TooLarge => b"too large",
+        CertificateReason::Short => b"short file",
+    }
+}
+
+/// The line of a fault of a certificate's text, which is this file of its command.
+pub(crate) fn certificate_line(
+    alloc: Global,
+    file: u32,
+    fault: CertificateFault,
+) -> Result<Vec<u8>, AllocError>
+    ensures { IfOk result (λ line. line.items ≡ certificate_line file fault) }
+{
+    refusal(
+        alloc,
+        file,
+        b"line",
+        fault.line,
+        certificate_reason_text(fault.reason),
+    )
+}
+
+// A number as it was given, in lowest terms.
+fn put_given(line: &mut Vec<u8>, number: &Number) -> Result<(), AllocError>
+    requires { fits (number_value number.now) ≡ true }
+    ensures { OnOk result (line.new.items
+        ≡ line.old.items ++ number_text (number_value number.now)) }
+{
+    match number.fraction() {
+        Some(value) => put_frac(line, value),
+        None => unreachable!(),
+    }
+}
+
+fn put_within(line: &mut Vec<u8>, bound: &Number) -> Result<(), AllocError>
+    requires { fits (number_value bound.now) ≡ true }
+    ensures { OnOk result (line.new.items
+        ≡ line.old.items ++ (codes "within " ++ number_text (number_value bound.now))) }
+{
+    put(line, b"within ")?;
+    put_given(line, bound)
+}
+
+// What is said where a claim holds, but for the value.
+fn put_claim(line: &mut Vec<u8>, claim: Claim) -> Result<(), AllocError>
+    requires { HasFittingBound claim }
+    ensures { OnOk result (line.new.items ≡ line.old.items ++ claim_text claim) }
+{
+    match claim {
+        Claim::Optimal(_) => put(line, b"optimal"),
+        Claim::Within(_, bound) => put_within(line, &bound),
+        Claim::Bound(_, _) => put(line, b"bound"),
+        Claim::Feasible(_) => put(line, b"feasible"),
+        Claim::Infeasible => put(line, b"infeasible"),
+        Claim::Unbounded(_) => put(line, b"unbounded"),
+    }
+}
+
+// The value of a claim that holds, after a blank.
+fn put_value(line: &mut Vec<u8>, value: Option<Frac>) -> Result<(), AllocError>
+    ensures { OnOk result (line.new.items ≡ line.old.items ++ value_text (value_found value)) }
+{
+    match value {
+        Some(value) => {
+            put(line, b" ")?;
+            put_frac(line, value)
+        }
+        None => Ok(()),
+    }
+}
+
+// Where a number of the point does not fit.
+fn put_wide_at(line: &mut Vec<u8>, what: &[u8], index: u32) -> Result<(), AllocError>
+    ensures { OnOk result (line.new.items
+        ≡ line.old.items ++ (codes "too wide at " ++ (what.now ++ decimal index))) }
+{
+    put(line, b"too wide at ")?;
+    put(line, what)?;
+    put_decimal(line, index)
+}
+
+// Why a point shows nothing.
+fn put_point(line: &mut Vec<u8>, fault: PointFault) -> Result<(), AllocError>
+    ensures { OnOk result (line.new.items
+        ≡ line.old.items ++ cause_text (point_fault_of fault)) }
+{
+    match fault {
+        PointFault::RowWide(row) => put_wide_at(line, b"row ", row),
+        PointFault::RowBroken(row) => put_index(line, b"row ", row, b" broken"),
+        PointFault::BoundWide(variable) => put_wide_at(line, b"bound ", variable),
+        PointFault::BoundBroken(variable) => put_index(line, b"bound ", variable, b" broken"),
+    }
+}
+
+// Why a ray shows nothing.
+fn put_ray(line: &mut Vec<u8>, fault: RayFault) -> Result<(), AllocError>
+    ensures { OnOk result (line.new.items ≡ line.old.items ++ ray_text (ray_fault_of fault)) }
+{
+    match fault {
+        RayFault::RowWide(row) => put_index(line, b"too wide at ray row ", row, b""),
+        RayFault::RowBroken(row) => put_index(line, b"ray row ", row, b" broken"),
+        RayFault::BoundBroken(variable) => put_index(line, b"ray bound ", variable, b" broken"),
+        RayFault::ObjectiveWide => put(line, b"too wide at ray objective"),
+        RayFault::NoBetter => put(line, b"ray does not improve"),
+    }
+}
+
+// Why a leaf does not close.
+fn put_leaf(line: &mut Vec<u8>, leaf: u32, fault: LeafFault) -> Result<(), AllocError>
+    ensures { OnOk result (line.new.items
+        ≡ line.old.items ++ leaf_text (leaf_fault_of leaf fault)) }
+{
+    match fault {
+        LeafFault::RowSide(row) => put_side(line, leaf, b" row ", row),
+        LeafFault::BoundSide(variable) => put_side(line, leaf, b" bound ", variable),
+        LeafFault::TooWide => put_wide(line, leaf),
+        LeafFault::Gap(bound) => put_gap(line, leaf, bound),
+    }
+}
+
+// Why a certificate shows nothing.
+fn put_cause(line: &mut Vec<u8>, cause: Cause) -> Result<(), AllocError>
+    ensures { OnOk result (line.new.items ≡ line.old.items ++ failed_text (cause_of cause)) }
+{
+    match cause {
+        Cause::Point(fault) => put_point(line, fault),
+        Cause::NotWhole(variable) => put_index(line, b"variable ", variable, b" not whole"),
+        Cause::ObjectiveWide => put(line, b"too wide at objective"),
+        Cause::Ray(fault) => put_ray(line, fault),
+        Cause::Leaf(leaf, fault) => put_leaf(line, leaf, fault),
+    }
+}
+
+// What is told of a verdict, but for the end of its line.
+fn put_outcome(line: &mut Vec<u8>, claim: Claim, outcome: Outcome) -> Result<(), AllocError>
+    requires { HasFittingBound claim }
+    ensures { OnOk result (line.new.items
+        ≡ line.old.items ++ outcome_text claim (outcome_of outcome)) }
+{
+    match outcome {
+        Outcome::Holds(value) => {
+            put_claim(line, claim)?;
+            put_value(line, value)
+        }
+        Outcome::Fails(cause) => put_cause(line, cause),
+    }
+}
+
+/// The line of a verdict on a certificate for this claim.
+pub(crate) fn outcome_line(
+    alloc: Global,
+    claim: Claim,
+    outcome: Outcome,
+) -> Result<Vec<u8>, AllocError>
+    requires { HasFittingBound claim }
+    ensures { IfOk result (λ line. line.items ≡ outcome_line claim (outcome_of outcome)) }
+{
+    let mut line = Vec::new(alloc);
+    put_outcome(&mut line, claim, outcome)?;
+    put(&mut line, b"\n")?;
+    Ok(line)
+}
+
+/// Whether a claim holds.
+pub(crate) fn is_held(outcome: Outcome) -> bool
+    ensures { result ≡ is_held (outcome_of outcome) }
+{
+    matches!(outcome, Outcome::Holds(_))
+}

@@ -1,0 +1,127 @@
+// The command verify: from an .nl text and a certificate to the line of a verdict, or to the line
+// to tell.
+ghost use Rattle.std.specs.Prelude.{◌≡◌, ◌≢◌, ◌+◌, ◌≤◌, true, IfOk};
+ghost use Rattle.linear_fold.specs.Programs.{linear_value};
+ghost use Rattle.nl_segments.specs.Reader.{HasLines, value_of};
+ghost use Rattle.certificates.specs.Certificates.{IsCertificateIn, IsCertificateOf, claim_outcome, objective_of};
+ghost use Rattle.certificate_walk.specs.Outcomes.{outcome_of};
+ghost use Rattle.bridge_tool.specs.Answer.{IsWorked, status_of};
+ghost use Rattle.bridge_tool.specs.CertificateTold.{HasFittingBound, is_held, outcome_line};
+ghost use Rattle.bridge_tool.specs.SeveralFiles.{Comes};
+ghost use Rattle.bridge_tool.specs.Verify.{IsVerified, most_steps, verify_outcome, verify_promise};
+
+use crate::answer::Answer;
+use crate::certificate_input::open_certificate;
+use crate::certificate_told::{is_held, outcome_line};
+use crate::nl_input::open_nl;
+use crate::one_file::end_verdict;
+use crate::stages::fold;
+use certificate_check::Columns;
+use certificate_walk::{Outcome, check_certificate};
+use certificates::{Certificate, Claim};
+use linear_fold::Linear;
+use nl_segments::NlRead;
+use std::alloc::{AllocError, Global};
+use text_base::{Desk, Ledger, Steps, Stop};
+
+// The number of the objective of a claim; 0 where it is of none.
+fn objective_of(claim: Claim) -> u32
+    ensures { result ≡ objective_of claim }
+{
+    match claim {
+        Claim::Optimal(objective) => objective,
+        Claim::Within(objective, _) => objective,
+        Claim::Bound(objective, _) => objective,
+        Claim::Feasible(objective) => objective,
+        Claim::Infeasible => 0,
+        Claim::Unbounded(objective) => objective,
+    }
+}
+
+// The verdict on a certificate for a linear program.
+fn outcome_on(
+    alloc: Global,
+    linear: &Linear,
+    certificate: &Certificate,
+) -> Result<Outcome, AllocError>
+    requires { IsCertificateOf (linear_value linear.now) certificate.now }
+    ensures { IfOk result (λ o. (h : IsCertificateOf (linear_value linear.now) certificate.now)
+        → outcome_of o ≡ claim_outcome (linear_value linear.now) certificate.now.claim h.given) }
+{
+    let columns = Columns::of(alloc, linear)?;
+    let outcome = check_certificate(alloc, &columns, certificate)?;
+    Ok(outcome)
+}
+
+// Whether the claim holds, and the line of the verdict.
+fn told_outcome(
+    alloc: Global,
+    certificate: &Certificate,
+    outcome: Outcome,
+) -> Result<(bool, Vec<u8>), AllocError>
+    requires { HasFittingBound certificate.now.claim }
+    ensures holds { IfOk result (λ t. t.0 ≡ is_held (outcome_of outcome)) }
+    ensures line { IfOk result (λ t. t.1.items
+        ≡ outcome_line certificate.now.claim (outcome_of outcome)) }
+{
+    let line = outcome_line(alloc, certificate.claim(), outcome)?;
+    Ok((is_held(outcome), line))
+}
+
+// The verdict on a certificate for a file, or the line of the first fault of the fold.
+fn judge<L: Ledger>(
+    alloc: Global,
+    read: &NlRead,
+    certificate: &Certificate,
+    steps: &mut Steps<L>,
+) -> Result<(bool, Vec<u8>), Stop<Vec<u8>>>
+    requires lines { HasLines read.now }
+    requires certificate { IsCertificateIn read.now.file certificate.now }
+    ensures comes { Comes (λ outcome. outcome ≡ verify_outcome (value_of read.now)
+        certificate.now) result }
+    ensures means { IfOk result (λ t. t.0 ≡ true → IsVerified (value_of read.now)
+        certificate.now) }
+    ensures above { steps.old ≤ steps.new }
+    ensures counts { steps.new ≤ steps.old + most_steps (value_of read.now) certificate.now }
+{
+    let objective = objective_of(certificate.claim());
+    let linear = fold(alloc, read, objective, steps)?;
+    let outcome = outcome_on(alloc, &linear, certificate);
+    drop(linear);
+    let told = told_outcome(alloc, certificate, outcome?)?;
+    Ok(told)
+}
+
+/// Judges a certificate for a claim on a file: reads both texts and writes the verdict that they
+/// come to. Tells nothing.
+pub(crate) fn verify<D: Desk, L: Ledger>(
+    alloc: Global,
+    nl: &str,
+    certificate: &str,
+    desk: &mut D,
+    steps: &mut Steps<L>,
+) -> Answer
+    ensures worked { IsWorked (verify_promise (D.meaning desk.old).texts nl.now certificate.now)
+        (D.meaning desk.old) (D.meaning desk.new) result }
+    ensures known { status_of result ≢ 3 }
+    ensures above { steps.old ≤ steps.new }
+    ensures counts { (verify_promise (D.meaning desk.old).texts nl.now certificate.now).counts
+        steps.old steps.new }
+    ensures idle { status_of result ≡ 4 → steps.new ≡ steps.old }
+{
+    let read = match open_nl(alloc, desk, nl) {
+        Ok(read) => read,
+        Err(ended) => return ended,
+    };
+    let given = match open_certificate(alloc, desk, &read.file, certificate, 2) {
+        Ok(given) => given,
+        Err(answer) => {
+            drop(read);
+            return answer;
+        }
+    };
+    let judged = judge(alloc, &read, &given, steps);
+    drop(read);
+    drop(given);
+    end_verdict(desk, judged)
+}
