@@ -114,12 +114,14 @@ module _ (nl : NlValue) (s : Sol) (file : IsFile nl.file) (bytes : List ℕ) whe
   by_yes : (k : ℕ) → unfit nl s ≡ None → objective_number s ≡ pos k → first_fold_fault nl.file k ≡ None → by_verdict (shown nl s k) ≡ Done true bytes → IsCertified nl s
   by_yes k fits number folds e =
       let found = yes_value (shown nl s k) bytes e in
+      let fine = no_fault nl.file (fold_fault nl.file k) folds in
       record {
         number = k;
         value = found.0;
         objective = number;
+        folds = fine;
         line = ap (by_fit nl s) fits ∙ ap (by_number nl s) number ∙ ap (by_fold nl s k) folds ∙ ap by_verdict found.1;
-        best = certificates nl.file k file (no_fault nl.file (fold_fault nl.file k) folds) (values_of s.primals) (values_of s.duals) found.0 found.1;
+        best = certificates nl.file k file fine (values_of s.primals) (values_of s.duals) found.0 found.1;
       }
 
   by_folding : (k : ℕ) (o : Option FoldFault) → unfit nl s ≡ None → objective_number s ≡ pos k → first_fold_fault nl.file k ≡ o → by_fold nl s k o ≡ Done true bytes → IsCertified nl s

@@ -114,7 +114,7 @@ module _ (nl : NlValue) (p : ProofValue) (given : IsProofIn nl.file p) where
   proved_so l v holds file folds proved h holding =
       let is : v ≡ Yes = yes_of v (sym h ∙ holding) in
       let shown : IsProved f p.claim Yes = subst (λ (w : ProofVerdict). IsProved f p.claim w) is (subst (λ (g : Linear). IsProved g p.claim v) folds.linear proved) in
-      claim_true nl.file k file folds.fine p.claim shown
+      record { folds = folds.fine; true_of = claim_true nl.file k file folds.fine p.claim shown }
 
 -- the objective of the claim was folded
 pub most_so : (nl : NlValue) (p : ProofValue) (n old new : ℕ) → n ≡ claimed_objective p.claim → new ≤ old + step_bound nl.file → (has_objective nl.file n ≡ false → new ≡ old) → new ≤ old + most_steps nl p

@@ -6,7 +6,7 @@ use Rattle.std.specs.declared.option.Option.TheVariants.{None, Some}
 use Rattle.fractions.specs.Rational.{ℚ}
 use Rattle.duality.specs.Verdict.{Verdict, verdict, yes}
 use Rattle.text_base.specs.Desk.{Texts}
-use Rattle.file_meaning.specs.FoldFaults.{has_objective}
+use Rattle.file_meaning.specs.FoldFaults.{fold_fault, has_objective}
 use Rattle.file_meaning.specs.LinearFile.{linear_of}
 use Rattle.linear_fold.specs.FoldedFaults.{first_fold_fault, step_bound}
 use Rattle.linear_fold.specs.declared.fold_fault.FoldFault.{FoldFault}
@@ -76,12 +76,14 @@ most_steps nl s = steps_by_fit nl s (unfit nl s)
 
 -- ---- what a yes means
 
--- The point of the solution is feasible in the relaxed program of the file, its objective has the
--- value that the line shows, and no relaxed feasible point is better.
+-- The file has no fold fault, so that each value exists; the point of the solution is feasible in
+-- the relaxed program of the file, its objective has the value that the line shows, and no relaxed
+-- feasible point is better.
 pub record IsCertified (nl : NlValue) (s : Sol) : Type 0 where
   pub number : ℕ
   pub value : ℚ
   pub objective : objective_number s ≡ pos number
+  pub folds : fold_fault nl.file number ≡ None
   pub line : check_outcome nl s ≡ Done true (verdict_line (yes value))
   pub best : IsBestRelaxed nl.file number (values_of s.primals) value
 

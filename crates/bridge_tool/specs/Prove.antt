@@ -6,7 +6,7 @@ use Rattle.linear_programs.specs.Linear.{row_count}
 use Rattle.duality.specs.Branch.{LeafFault, proof_fault}
 use Rattle.text_base.specs.Desk.{Texts}
 use Rattle.text_base.specs.declared.fault.TextFault.{TextFault}
-use Rattle.file_meaning.specs.FoldFaults.{has_objective}
+use Rattle.file_meaning.specs.FoldFaults.{fold_fault, has_objective}
 use Rattle.file_meaning.specs.LinearFile.{linear_of}
 use Rattle.linear_fold.specs.FoldedFaults.{first_fold_fault, step_bound}
 use Rattle.linear_fold.specs.declared.fold_fault.FoldFault.{FoldFault}
@@ -63,10 +63,12 @@ abbrev pub most_steps : NlValue → ProofValue → ℕ
 most_steps nl p =
     if has_objective nl.file (claimed_objective p.claim) then step_bound nl.file else 0
 
--- What a yes means: no feasible point of the file, whole variables whole, is better than the stated
--- value; or no point is feasible in its relaxed program.
-abbrev pub IsProvedOf : NlValue → ProofValue → Type 0
-IsProvedOf nl p = IsTrueOf nl.file (claimed_objective p.claim) p.claim
+-- What a yes means: the file has no fold fault, so that each value exists; and no feasible point of
+-- the file, whole variables whole, is better than the stated value, or no point is feasible in its
+-- relaxed program.
+pub record IsProvedOf (nl : NlValue) (p : ProofValue) : Type 0 where
+  pub folds : fold_fault nl.file (claimed_objective p.claim) ≡ None
+  pub true_of : IsTrueOf nl.file (claimed_objective p.claim) p.claim
 
 -- ---- the promise
 
