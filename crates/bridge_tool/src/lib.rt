@@ -39,9 +39,8 @@ mod transfer;
 mod verdict_told;
 mod verify;
 
-pub use command::{Command, command_of, plain_number};
+pub use instances::make_instance;
 pub use laws::{
     names_change_no_verdict, one_outcome, programs_mean_their_files, told_lines_are_lines,
 };
 pub use top::bridge;
-pub use transfer::{Feed, Unread, feed_text, tell_line, write_all};
