@@ -30,6 +30,7 @@ use Rattle.bridge_tool.specs.NlTold.{nl_line, fold_line, scale_line}
 use Rattle.bridge_tool.proofs.Decided.{IsDecided, decimal_decided, scaling_decided, scales_without_fault, one_scale_fault}
 use Rattle.bridge_tool.proofs.Decisions.{AreDecided}
 use Rattle.bridge_tool.proofs.Options.{same_some}
+use Rattle.bridge_tool.proofs.RefusalLines.{refused_so}
 
 -- ---- texts
 
@@ -156,6 +157,7 @@ export_decided k = record {
   refused = λ text a b. one_line text k a b;
   either = λ text. judged text k;
   apart = λ text bytes line. exported_or_refused text k bytes line;
+  lines = λ text line. refused_so text k line;
 }
 
 -- ---- steps
