@@ -24,13 +24,13 @@ use Rattle.text_base.specs.declared.stop.Stop.{Stop}
 use Rattle.bridge_tool.specs.Answer.{EndsVerdict, IsWorked}
 use Rattle.bridge_tool.specs.Export.{IsExported}
 use Rattle.bridge_tool.specs.NameLists.{AreListed, IsListRefused, after_lists, column_counts, row_counts}
-use Rattle.bridge_tool.specs.NamedExport.{AreNamedMeant, IsNamedExport, IsNamedTextOf, IsUnscaled, Named, NamedComesTo, most_named_steps, named_end, named_promise, named_told}
+use Rattle.bridge_tool.specs.NamedExport.{AreNamedMeant, IsNamedExport, IsNamedTextOf, Named, NamedComesTo, most_named_steps, named_end, named_promise, named_told}
 use Rattle.bridge_tool.specs.NlTold.{fold_line, scale_line}
 use Rattle.bridge_tool.specs.Outcome.{Outcome, BadWords, Untold, NoText, Refused, Done}
 use Rattle.bridge_tool.specs.Promise.{Promise}
 use Rattle.bridge_tool.specs.Refusal.{HasTextRefusal}
 use Rattle.bridge_tool.specs.SeveralFiles.{Comes, ReadsFile, after_file, itself}
-use Rattle.bridge_tool.specs.Stages.{HasFoldFault, HasFolded, HasScaled}
+use Rattle.bridge_tool.specs.Stages.{HasFoldFault, HasFolded, HasScaled, IsUnscaled}
 use Rattle.bridge_tool.specs.declared.answer.Answer.{Answer}
 use Rattle.bridge_tool.proofs.Decided.{decimal_decided, one_scale_fault, scales_without_fault, scaling_decided}
 use Rattle.bridge_tool.proofs.Exporting.{by_decimal, exported, folds_without_fault, same_file}
@@ -52,7 +52,7 @@ module _ (n : Named) where
   text_of p = mps_text_by value_text (named p n.rows n.columns)
 
   abbrev IsTurnedDown : List ℕ → Type 0
-  IsTurnedDown line = HasFoldFault n.nl n.objective line ⊎ IsUnscaled n line
+  IsTurnedDown line = HasFoldFault n.nl n.objective line ⊎ IsUnscaled n.nl n.objective line
 
   abbrev IsJudged : Type 0
   IsJudged = ((bytes : List ℕ) × IsNamedExport n bytes) ⊎ ((line : List ℕ) × IsTurnedDown line)
@@ -137,7 +137,7 @@ module _ (n : Named) where
   meant_so (Err stop) comes m = tt
 
 -- a line that it comes to tells a refusal
-lines_so : (n : Named) (line : List ℕ) → HasFoldFault n.nl n.objective line ⊎ IsUnscaled n line → IsRefusalLine line
+lines_so : (n : Named) (line : List ℕ) → HasFoldFault n.nl n.objective line ⊎ IsUnscaled n.nl n.objective line → IsRefusalLine line
 lines_so n line (inl h) = same_so line _ h.told (fold_so n.nl.places h.fault)
 lines_so n line (inr h) = same_so line _ h.first.told (scale_so n.objective h.first.fault)
 

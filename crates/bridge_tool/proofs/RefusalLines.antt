@@ -83,5 +83,5 @@ refused_same a b e = cc
 -- of an .nl text, as it is exported
 pub refused_so : (text : List ℕ) (k : ℕ) (line : List ℕ) → IsRefused text k line → IsRefusalLine line
 refused_so text k line (inl h) = same_so line _ h.told (nl_so h.fault)
-refused_so text k line (inr (inl h)) = same_so line _ h.told (fold_so h.value.places h.fault)
-refused_so text k line (inr (inr h)) = same_so line _ h.told (scale_so k h.fault)
+refused_so text k line (inr (inl h)) = same_so line _ h.fold.told (fold_so h.value.places h.fold.fault)
+refused_so text k line (inr (inr h)) = same_so line _ h.scale.first.told (scale_so k h.scale.first.fault)
