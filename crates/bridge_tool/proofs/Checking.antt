@@ -44,6 +44,8 @@ use Rattle.bridge_tool.proofs.OneOutcome.{HasOne, IsPlain}
 use Rattle.bridge_tool.specs.declared.answer.Answer.{Answer}
 use Rattle.bridge_tool.proofs.SeveralFiles.{HasComeDown, IsSound, begun, counted, ended, further, idle, sound_after, sound_end, stopped}
 use Rattle.bridge_tool.proofs.SolRewriting.{sol_read}
+use Rattle.bridge_tool.proofs.RefusalLines.{fit_so, fold_so, negative_told, refused_same, same_so}
+use Rattle.bridge_tool.specs.Told.{IsRefusalLine}
 
 -- ---- one outcome
 
@@ -185,6 +187,25 @@ module _ (nl : NlValue) (s : Sol) where
   meant_so (Ok t) file h = (inr refl, λ e. certified_by nl s file t.1.items (sym h ∙ ap (λ b. Done b t.1.items) e))
   meant_so (Err stop) file h = tt
 
+-- ---- lines
+
+module _ (nl : NlValue) (s : Sol) where
+  folding_lines : (k : ℕ) (o : Option FoldFault) (line : List ℕ) → Refused line ≡ by_fold nl s k o → IsRefusalLine line
+  folding_lines k None line e = absurd cc
+  folding_lines k (Some fault) line e = same_so line _ (refused_same line _ e) (fold_so nl.places fault)
+
+  objective_lines : (z : ℤ) (line : List ℕ) → Refused line ≡ by_number nl s z → IsRefusalLine line
+  objective_lines (pos k) line e = folding_lines k (first_fold_fault nl.file k) line e
+  objective_lines (negsuc n) line e = same_so line _ (refused_same line _ e) (negative_told (negsuc n))
+
+  fit_lines : (o : Option FitFault) (line : List ℕ) → Refused line ≡ by_fit nl s o → IsRefusalLine line
+  fit_lines None line e = objective_lines (objective_number s) line e
+  fit_lines (Some fault) line e = same_so line _ (refused_same line _ e) (fit_so fault)
+
+  -- a line that it comes to tells a refusal
+  pub fitting_lines : (line : List ℕ) → Refused line ≡ check_outcome nl s → IsRefusalLine line
+  fitting_lines line e = fit_lines (unfit nl s) line e
+
 -- ---- the command at work
 
 -- what is left once the file was read
@@ -193,6 +214,11 @@ after_nl sol texts file = after_file IsSol (IsSolRefused 2) texts sol (λ soluti
 
 pub idle_check : (nl sol : List ℕ) (texts : Option Texts) (n : ℕ) → (check_promise texts nl sol).counts n n
 idle_check nl sol texts n = idle (check_told nl sol) true (check_sound nl sol) texts n
+
+-- the file ends the command
+pub nl_stopped : {R : Type 0} (seen : R → NlValue) (nl sol : List ℕ) (old mid : Meaning) (answer : Answer) → ReadsFile {R = R} seen IsNl HasTextRefusal nl old mid (Err answer) → IsWorked (check_promise old.texts nl sol) old mid answer
+nl_stopped seen nl sol old mid answer read =
+    stopped (check_told nl sol) true (check_sound nl sol) seen IsNl HasTextRefusal nl (after_nl sol) old old mid (begun (check_told nl sol) true old) nl_read answer read
 
 module _ (nl sol : List ℕ) (old before : Meaning) (read : NlRead) (first : ReadsFile value_of IsNl HasTextRefusal nl old before (Ok read)) where
   down : HasComeDown (check_told nl sol) true (λ texts. after_nl sol texts (value_of read)) old before
@@ -203,7 +229,7 @@ module _ (nl sol : List ℕ) (old before : Meaning) (read : NlRead) (first : Rea
   stopped_at_sol mid answer second =
       stopped (check_told nl sol) true (check_sound nl sol) itself IsSol (IsSolRefused 2) sol
       (λ texts solution. ends texts sol (λ outcome. outcome ≡ check_outcome (value_of read) solution) (λ old new. new ≤ old + most_steps (value_of read) solution) (IsCertified (value_of read) solution))
-      old before mid down answer second
+      old before mid down (sol_read 2) answer second
 
   module _ (mid : Meaning) (solution : Sol) (second : ReadsFile itself IsSol (IsSolRefused 2) sol before mid (Ok solution)) where
     -- both were judged
@@ -212,7 +238,7 @@ module _ (nl sol : List ℕ) (old before : Meaning) (read : NlRead) (first : Rea
     ended_check new judged answer comes file end =
         ended (check_told nl sol) true (check_sound nl sol) itself IsSol (IsSolRefused 2) sol
         (λ s outcome. outcome ≡ check_outcome (value_of read) s) (λ s old new. new ≤ old + most_steps (value_of read) s) (λ s. IsCertified (value_of read) s)
-        old before mid down solution second new judged answer comes (meant_so (value_of read) solution judged file comes) end
+        old before mid down solution second (fitting_lines (value_of read) solution) new judged answer comes (meant_so (value_of read) solution judged file comes) end
 
     pub counted_check : (m n : ℕ) → n ≤ m + most_steps (value_of read) solution → (check_promise old.texts nl sol).counts m n
     counted_check m n le =

@@ -7,6 +7,7 @@ use Rattle.text_base.specs.Desk.{Meaning, Rose, OnlyInput}
 use Rattle.bridge_tool.specs.Answer.{IsWorked, EndsWriting, HasWritten, HasStopped}
 use Rattle.bridge_tool.specs.Outcome.{Outcome, BadWords, Untold, NoText, Refused, Done, Status, Written, IsQuiet, line_of, verdict_status}
 use Rattle.bridge_tool.specs.Promise.{Promise}
+use Rattle.bridge_tool.specs.Told.{IsRefusalLine}
 use Rattle.bridge_tool.specs.Transfer.{AppendsPart}
 use Rattle.bridge_tool.specs.declared.answer.Answer.{Answer}
 use Rattle.bridge_tool.specs.declared.answer.Answer.TheVariants.{Done as IsDone, Refused as IsRefusal, BadWords as HasBadWords, InputFault, OutputFault, NoMemory}
@@ -89,6 +90,7 @@ module _ (p : Promise) (judges : Bool) (old mid : Meaning) where
         status = status;
         written = λ o h. nothing_written o _ _ 4 (λ le. absurd (omega (arith, le))) (λ e. absurd (omega (arith, e)));
         line = λ o h. refl;
+        refusal = λ e. absurd (omega (arith, e));
         quiet = λ q. rest.written;
         left = λ q. absurd (elim q [ inl le ↦ omega (arith, le) | inr e ↦ omega (arith, e) ]);
         means = λ e. absurd (omega (arith, e));
@@ -107,6 +109,7 @@ module _ (p : Promise) (judges : Bool) (old mid : Meaning) where
         status = λ o h. memory_status o _ _ (known o h);
         written = λ o h. nothing_written o _ _ 6 (λ le. absurd (omega (arith, le))) (λ e. absurd (omega (arith, e)));
         line = λ o h. refl;
+        refusal = λ e. absurd (omega (arith, e));
         quiet = λ q. rest.written;
         left = λ q. absurd (elim q [ inl le ↦ omega (arith, le) | inr e ↦ omega (arith, e) ]);
         means = λ e. absurd (omega (arith, e));
@@ -119,12 +122,13 @@ module _ (p : Promise) (judges : Bool) (old mid : Meaning) where
         messages = rest.message_faults;
       }
 
-  pub refused_worked : (line : Vec ℕ) → HasComeTo p judges old mid (Refused line.items) → IsWorked p old mid (IsRefusal line)
-  refused_worked line j =
+  pub refused_worked : (line : Vec ℕ) → HasComeTo p judges old mid (Refused line.items) → IsRefusalLine line.items → IsWorked p old mid (IsRefusal line)
+  refused_worked line j is_line =
       record {
         status = λ o h. elim (j.knows o h) [ inl e ↦ rw e (inr (inr (inl refl))) | inr e ↦ rw e (inl refl) ];
         written = λ o h. nothing_written o _ _ 2 (λ le. absurd (omega (arith, le))) (λ e. absurd (omega (arith, e)));
         line = λ o h. elim (j.knows o h) [ inl e ↦ rw e tt | inr e ↦ rw e refl ];
+        refusal = λ e. is_line;
         quiet = λ q. j.rest.written;
         left = λ q text is. j.left text is;
         means = λ e. absurd (omega (arith, e));
@@ -145,6 +149,7 @@ module _ (p : Promise) (judges : Bool) (old mid : Meaning) where
         status = λ o c. elim (j.knows o c) [ inl e ↦ rw e (untold_verdict judges verdict _ _ may) | inr e ↦ rw e (inl refl) ];
         written = λ o c. elim (j.knows o c) [ inl e ↦ rw e tt | inr e ↦ rw e (λ one. all, λ five. absurd (not_five _ le five)) ];
         line = λ o c. no_line o (verdict_status verdict) _ le;
+        refusal = λ e. absurd (omega (arith, e, le));
         quiet = λ q. absurd (not_quiet _ le q);
         left = λ q text is. h.rest.left ∙ j.left text is;
         means = meant verdict p.means means;
@@ -165,6 +170,7 @@ module _ (p : Promise) (judges : Bool) (old mid : Meaning) where
         status = λ o c. elim (j.knows o c) [ inl e ↦ rw e (inr (inr (inr (inr (inr (refl, up)))))) | inr e ↦ rw e (inr (inr (inr (refl, up)))) ];
         written = λ o c. elim (j.knows o c) [ inl e ↦ rw e tt | inr e ↦ rw e (λ le. absurd (omega (arith, le)), λ five. front) ];
         line = λ o c. refl;
+        refusal = λ e. absurd (omega (arith, e));
         quiet = λ q. absurd (five_is_loud q);
         left = λ q text is. h.rest.left ∙ j.left text is;
         means = λ e. absurd (omega (arith, e));

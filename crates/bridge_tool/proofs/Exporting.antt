@@ -30,6 +30,7 @@ use Rattle.bridge_tool.specs.NlTold.{nl_line, fold_line, scale_line}
 use Rattle.bridge_tool.proofs.Decided.{IsDecided, decimal_decided, scaling_decided, scales_without_fault, one_scale_fault}
 use Rattle.bridge_tool.proofs.Decisions.{AreDecided}
 use Rattle.bridge_tool.proofs.Options.{same_some}
+use Rattle.bridge_tool.proofs.RefusalLines.{refused_so}
 
 -- ---- texts
 
@@ -66,17 +67,18 @@ same_fold_line : (text : List ℕ) (k : ℕ) (a b : List ℕ) → HasFoldRefusal
 same_fold_line text k a b h j =
     let file = same_file text h.value j.value h.read j.read in
     let places = same_places text h.value j.value h.read j.read in
-    let other : first_fold_fault j.value.file k ≡ Some h.fault = subst (λ (f : File). first_fold_fault f k ≡ Some h.fault) file h.first in
-    let fault : h.fault ≡ j.fault = same_some h.fault j.fault (first_fold_fault j.value.file k) other j.first in
-    h.told ∙ ap (λ p. fold_line p h.fault) places ∙ ap (fold_line j.value.places) fault ∙ sym j.told
+    let other : first_fold_fault j.value.file k ≡ Some h.fold.fault = subst (λ (f : File). first_fold_fault f k ≡ Some h.fold.fault) file h.fold.first in
+    let fault : h.fold.fault ≡ j.fold.fault = same_some h.fold.fault j.fold.fault (first_fold_fault j.value.file k) other j.fold.first in
+    h.fold.told ∙ ap (λ p. fold_line p h.fold.fault) places ∙ ap (fold_line j.value.places) fault ∙ sym j.fold.told
 
 -- ---- scaling
 
 same_scale_line : (text : List ℕ) (k : ℕ) (a b : List ℕ) → HasScaleRefusal text k a → HasScaleRefusal text k b → a ≡ b
 same_scale_line text k a b h j =
     let file = same_file text h.value j.value h.read j.read in
-    let other : HasScaleFault (linear_of j.value.file k) h.fault = subst (λ (f : File). HasScaleFault (linear_of f k) h.fault) file h.first in
-    h.told ∙ ap (scale_line k) (one_scale_fault (linear_of j.value.file k) h.fault j.fault other j.first) ∙ sym j.told
+    let wide = h.scale.first in
+    let other : HasScaleFault (linear_of j.value.file k) wide.fault = subst (λ (f : File). HasScaleFault (linear_of f k) wide.fault) file wide.first in
+    wide.told ∙ ap (scale_line k) (one_scale_fault (linear_of j.value.file k) wide.fault j.scale.first.fault other j.scale.first.first) ∙ sym j.scale.first.told
 
 -- ---- refusals
 
@@ -86,17 +88,17 @@ one_line text k a b (inl h) (inr (inl j)) = absurd (not_both text j.value h.faul
 one_line text k a b (inl h) (inr (inr j)) = absurd (not_both text j.value h.fault j.read h.first)
 one_line text k a b (inr (inl h)) (inl j) = absurd (not_both text h.value j.fault h.read j.first)
 one_line text k a b (inr (inl h)) (inr (inl j)) = same_fold_line text k a b h j
-one_line text k a b (inr (inl h)) (inr (inr j)) = absurd (folds_of_one_text text k j.value h.value h.fault j.read h.read j.folded h.first)
+one_line text k a b (inr (inl h)) (inr (inr j)) = absurd (folds_of_one_text text k j.value h.value h.fold.fault j.read h.read j.scale.folded h.fold.first)
 one_line text k a b (inr (inr h)) (inl j) = absurd (not_both text h.value j.fault h.read j.first)
-one_line text k a b (inr (inr h)) (inr (inl j)) = absurd (folds_of_one_text text k h.value j.value j.fault h.read j.read h.folded j.first)
+one_line text k a b (inr (inr h)) (inr (inl j)) = absurd (folds_of_one_text text k h.value j.value j.fold.fault h.read j.read h.scale.folded j.fold.first)
 one_line text k a b (inr (inr h)) (inr (inr j)) = same_scale_line text k a b h j
 
 pub exported_or_refused : (text : List ℕ) (k : ℕ) (bytes line : List ℕ) → IsExported text k bytes → IsRefused text k line → ⊥
 exported_or_refused text k bytes line e (inl h) = not_both text e.value h.fault e.read h.first
-exported_or_refused text k bytes line e (inr (inl h)) = folds_of_one_text text k e.value h.value h.fault e.read h.read e.folded h.first
+exported_or_refused text k bytes line e (inr (inl h)) = folds_of_one_text text k e.value h.value h.fold.fault e.read h.read e.folded h.fold.first
 exported_or_refused text k bytes line e (inr (inr h)) =
     let file = same_file text h.value e.value h.read e.read in
-    scales_without_fault (linear_of e.value.file k) h.fault e.scaled (subst (λ (f : File). HasScaleFault (linear_of f k) h.fault) file h.first)
+    scales_without_fault (linear_of e.value.file k) h.scale.first.fault e.scaled (subst (λ (f : File). HasScaleFault (linear_of f k) h.scale.first.fault) file h.scale.first.first)
 
 -- ---- programs
 
@@ -125,13 +127,13 @@ by_scaling text k value read folded (inl fine) =
     let m = exported (linear_of value.file k) (decimal_decided (linear_of value.file k)) in
     inl (mps_text_by value_text m.0, record { value = value; program = m.0; read = read; folded = folded; scaled = fine; exports = m.1; written = refl })
 by_scaling text k value read folded (inr wide) =
-    inr (scale_line k wide.0, inr (inr (record { value = value; fault = wide.0; read = read; folded = folded; first = wide.1; told = refl })))
+    inr (scale_line k wide.0, inr (inr (record { value = value; read = read; scale = record { folded = folded; first = record { fault = wide.0; first = wide.1; told = refl } } })))
 
 by_fold : (text : List ℕ) (k : ℕ) (value : NlValue) (o : Option FileFault) → IsNl text value → fold_fault value.file k ≡ o → IsJudged text k
 unfolding IsJudged
 by_fold text k value None read e = by_scaling text k value read e (scaling_decided (linear_of value.file k))
 by_fold text k value (Some fault) read e =
-    inr (fold_line value.places (named_fault value.file fault), inr (inl (record { value = value; fault = named_fault value.file fault; read = read; first = ap (option_map (named_fault value.file)) e; told = refl })))
+    inr (fold_line value.places (named_fault value.file fault), inr (inl (record { value = value; read = read; fold = record { fault = named_fault value.file fault; first = ap (option_map (named_fault value.file)) e; told = refl } })))
 
 pub value_of_text : List ℕ → NlValue
 value_of_text text = record { file = file_of (said (standing (lines_of text))); places = place_lines (counts_of (standing (lines_of text))) (standing (lines_of text)).pieces }
@@ -156,6 +158,7 @@ export_decided k = record {
   refused = λ text a b. one_line text k a b;
   either = λ text. judged text k;
   apart = λ text bytes line. exported_or_refused text k bytes line;
+  lines = λ text line. refused_so text k line;
 }
 
 -- ---- steps

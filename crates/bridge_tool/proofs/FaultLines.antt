@@ -66,5 +66,5 @@ scale_told text told k ObjectiveTooWide e = inr (inr (record { number = k; why =
 
 pub export_told : (text : List ℕ) (k : ℕ) (told : List ℕ) → IsRefused text k told → TellsPlace text told
 export_told text k told (inl r) = inl (text_told text told r)
-export_told text k told (inr (inl r)) = fold_told text told r.value.places r.fault (fault_lines text r.value r.fault r.read (fold_placed r.value.file k r.fault r.first)) r.told
-export_told text k told (inr (inr r)) = scale_told text told k r.fault r.told
+export_told text k told (inr (inl r)) = fold_told text told r.value.places r.fold.fault (fault_lines text r.value r.fold.fault r.read (fold_placed r.value.file k r.fold.fault r.fold.first)) r.fold.told
+export_told text k told (inr (inr r)) = scale_told text told k r.scale.first.fault r.scale.first.told

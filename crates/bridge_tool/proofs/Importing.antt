@@ -1,5 +1,5 @@
 -- An MPS text is imported as one text, or refused with one line.
-use Rattle.std.proofs.Common.{◌≡◌, ◌∙◌, inl, inr, ◌⊎◌, ℕ, List, refl, sym, ap, subst, Option, Some, None, Result, Ok, Err}
+use Rattle.std.proofs.Common.{◌≡◌, ◌∙◌, inl, inr, ◌⊎◌, ℕ, List, refl, sym, ap, subst, Option, Some, None, Result, Ok, Err, codes}
 use Rattle.std.specs.Global.{Vec}
 use Rattle.exact_numbers.specs.declared.dec.Dec.{Dec}
 use Rattle.mps_model.specs.Mps.{Mps}
@@ -20,10 +20,12 @@ use Rattle.text_base.specs.declared.stop.Stop.TheVariants.{Fault, Memory}
 use Rattle.bridge_tool.specs.Import.{IsImported, HasImportRefusal, IsImportRefused, MeansTheProgram, IsImportMeant, Converts}
 use Rattle.bridge_tool.specs.ImportTold.{import_line}
 use Rattle.bridge_tool.specs.Mps.{IsMpsRefused}
-use Rattle.bridge_tool.specs.MpsTold.{mps_line}
+use Rattle.bridge_tool.specs.MpsTold.{mps_line, mps_reason_text}
 use Rattle.bridge_tool.specs.OneFile.{Judges}
 use Rattle.bridge_tool.proofs.Decisions.{AreDecided}
 use Rattle.bridge_tool.proofs.MpsRewriting.{mps_decided}
+use Rattle.bridge_tool.proofs.RefusalLines.{import_so, refusal_so, same_so}
+use Rattle.bridge_tool.specs.Told.{IsRefusalLine}
 
 outcome_of_text : (text : List ℕ) → HasOneOutcome mps_rules (lines_of text) (last_of text)
 outcome_of_text text = one_outcome mps_rules (lines_of text) (last_of text)
@@ -61,6 +63,10 @@ by_fault : (text : List ℕ) (m : Mps Dec) → IsMpsText text m → (o : Option 
 by_fault text m read None e = inl (nl_text (import_of m), record { value = m; read = read; clean = e; written = refl })
 by_fault text m read (Some fault) e = inr (import_line fault, inr (record { value = m; read = read; fault = fault; first = e; told = refl }))
 
+lines_so : (text line : List ℕ) → IsImportRefused text line → IsRefusalLine line
+lines_so text line (inl h) = same_so line _ h.told (refusal_so 1 (codes "line") h.fault.line (mps_reason_text h.fault.reason))
+lines_so text line (inr h) = same_so line _ h.told (import_so h.fault)
+
 pub import_decided : AreDecided IsImported IsImportRefused
 import_decided = record {
   accepted = λ text a b h k. h.written ∙ ap (λ m. nl_text (import_of m)) (same_value text h.value k.value h.read k.read) ∙ sym k.written;
@@ -74,6 +80,7 @@ import_decided = record {
         inr (mps_line 1 fault, inl (record { fault = fault; first = found.2; told = refl }))
   ];
   apart = not_both;
+  lines = lines_so;
 }
 
 -- what the import of a program that a text says answers is what the text comes to

@@ -22,6 +22,7 @@ pub mod OneOutcome
 pub mod Options
 pub mod Proving
 pub mod Outcomes
+pub mod RefusalLines
 pub mod Returning
 pub mod SeveralFiles
 pub mod SolRewriting

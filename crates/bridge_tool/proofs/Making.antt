@@ -57,6 +57,7 @@ made_decided = record {
     | inr r ↦ inr r
   ];
   apart = λ text bytes line h r. (export_decided 0).apart text h.mps line h.exported r;
+  lines = (export_decided 0).lines;
 }
 
 -- the summary of a program of decimals
@@ -128,7 +129,7 @@ pub make_worked : (seed size : ℕ) → size ≤ 20000 → (old new : Meaning) (
 make_worked seed size few old new (Ok out) answer judges ends =
     wrote_worked (make_promise seed size) false old old new true out.items answer (come seed size old (Done true out.items) judges) (inl refl) (λ e. instance_summed_up seed size few) ends
 make_worked seed size few old new (Err (IsFault line)) answer judges ends =
-    rw (ends.0, ends.1) (refused_worked (make_promise seed size) false old old line (come seed size old (Refused line.items) judges))
+    rw (ends.0, ends.1) (refused_worked (make_promise seed size) false old old line (come seed size old (Refused line.items) judges) (made_decided.lines (made_text seed size) line.items judges))
 make_worked seed size few old new (Err IsMemory) answer judges ends =
     rw (ends.0, ends.1) (memory_worked (make_promise seed size) false old old (λ o h. text_known (made_text seed size) o h) refl (OnlyInput-same old))
 

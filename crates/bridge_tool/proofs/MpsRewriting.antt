@@ -1,5 +1,5 @@
 -- An MPS text, in whichever form, is written as one text, or refused with one line.
-use Rattle.std.proofs.Common.{◌≡◌, ◌∙◌, inl, inr, ◌⊎◌, ℕ, List, OnOk, Result, Ok, Err, refl, sym, ap, subst}
+use Rattle.std.proofs.Common.{◌≡◌, ◌∙◌, inl, inr, ◌⊎◌, ℕ, List, OnOk, Result, Ok, Err, refl, sym, ap, subst, codes}
 use Rattle.std.specs.Global.{Vec}
 use Rattle.exact_numbers.specs.Values.{dec_value}
 use Rattle.exact_numbers.specs.declared.dec.Dec.{Dec}
@@ -17,8 +17,9 @@ use Rattle.text_base.specs.declared.stop.Stop.{Stop}
 use Rattle.text_base.proofs.JudgedLemmas.{one_outcome}
 use Rattle.bridge_tool.specs.Mps.{SaysBy, IsMeantBy, IsRewrittenBy, IsRefusedBy, IsRewritten, IsMpsRefused, mps_program}
 use Rattle.bridge_tool.specs.Fixed.{IsFixedRewritten, IsFixedRefused, fixed_program}
-use Rattle.bridge_tool.specs.MpsTold.{mps_line}
+use Rattle.bridge_tool.specs.MpsTold.{mps_line, mps_reason_text}
 use Rattle.bridge_tool.proofs.Decisions.{AreDecided}
+use Rattle.bridge_tool.proofs.RefusalLines.{refusal_so, same_so}
 
 fault_at : ℕ → MpsReason → TextFault MpsReason
 fault_at line reason = record { reason = reason; line = line }
@@ -49,6 +50,7 @@ module _ (rules : Rules MpsReason) (program : List (List ℕ) → Mps Dec) where
           inr (mps_line 1 fault, record { fault = fault; first = found.2; told = refl })
     ];
     apart = λ text bytes line h k. (outcome_of_text text).not_both h.read.clean k.fault.line k.fault.reason k.first;
+    lines = λ text line h. same_so line _ h.told (refusal_so 1 (codes "line") h.fault.line (mps_reason_text h.fault.reason));
   }
 
   -- what was read is a whole program, so that its written text is read as itself

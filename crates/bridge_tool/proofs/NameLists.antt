@@ -19,6 +19,7 @@ use Rattle.bridge_tool.specs.SeveralFiles.{ReadsFile, itself}
 use Rattle.bridge_tool.specs.Told.{refusal}
 use Rattle.bridge_tool.specs.declared.answer.Answer.{Answer}
 use Rattle.bridge_tool.proofs.Decisions.{AreRead}
+use Rattle.bridge_tool.proofs.RefusalLines.{refusal_so, same_so}
 
 outcome_of : (counts : Counts) (text : List ℕ) → HasOneOutcome (name_rules counts) (lines_of text) (last_of text)
 outcome_of counts text = one_outcome (name_rules counts) (lines_of text) (last_of text)
@@ -34,6 +35,7 @@ list_read counts file = record {
     | inr found ↦ inr (name_line file (record { reason = found.1; line = found.0 }), record { fault = record { reason = found.1; line = found.0 }; first = found.2; told = refl })
   ];
   apart = λ text value line h k. (outcome_of counts text).not_both h.clean k.fault.line k.fault.reason k.first;
+  lines = λ text line h. same_so line _ h.told (refusal_so file (codes "line") h.fault.line (name_reason_text h.fault.reason));
 }
 
 -- ---- how many names there are

@@ -24,13 +24,13 @@ use Rattle.text_base.specs.declared.stop.Stop.{Stop}
 use Rattle.bridge_tool.specs.Answer.{EndsVerdict, IsWorked}
 use Rattle.bridge_tool.specs.Export.{IsExported}
 use Rattle.bridge_tool.specs.NameLists.{AreListed, IsListRefused, after_lists, column_counts, row_counts}
-use Rattle.bridge_tool.specs.NamedExport.{AreNamedMeant, IsNamedExport, IsNamedTextOf, IsUnscaled, Named, NamedComesTo, most_named_steps, named_end, named_promise, named_told}
+use Rattle.bridge_tool.specs.NamedExport.{AreNamedMeant, IsNamedExport, IsNamedTextOf, Named, NamedComesTo, most_named_steps, named_end, named_promise, named_told}
 use Rattle.bridge_tool.specs.NlTold.{fold_line, scale_line}
 use Rattle.bridge_tool.specs.Outcome.{Outcome, BadWords, Untold, NoText, Refused, Done}
 use Rattle.bridge_tool.specs.Promise.{Promise}
 use Rattle.bridge_tool.specs.Refusal.{HasTextRefusal}
 use Rattle.bridge_tool.specs.SeveralFiles.{Comes, ReadsFile, after_file, itself}
-use Rattle.bridge_tool.specs.Stages.{HasFoldFault, HasFolded, HasScaled}
+use Rattle.bridge_tool.specs.Stages.{HasFoldFault, HasFolded, HasScaled, IsUnscaled}
 use Rattle.bridge_tool.specs.declared.answer.Answer.{Answer}
 use Rattle.bridge_tool.proofs.Decided.{decimal_decided, one_scale_fault, scales_without_fault, scaling_decided}
 use Rattle.bridge_tool.proofs.Exporting.{by_decimal, exported, folds_without_fault, same_file}
@@ -39,6 +39,8 @@ use Rattle.bridge_tool.proofs.NlRewriting.{nl_read}
 use Rattle.bridge_tool.proofs.OneOutcome.{HasOne, IsPlain}
 use Rattle.bridge_tool.proofs.SeveralFiles.{HasComeDown, IsSound, begun, counted, ended, further, idle, sound_after, sound_end, stopped}
 use Rattle.bridge_tool.proofs.Options.{same_some}
+use Rattle.bridge_tool.proofs.RefusalLines.{fold_so, same_so, scale_so}
+use Rattle.bridge_tool.specs.Told.{IsRefusalLine}
 
 -- ---- one outcome
 
@@ -50,7 +52,7 @@ module _ (n : Named) where
   text_of p = mps_text_by value_text (named p n.rows n.columns)
 
   abbrev IsTurnedDown : List ℕ → Type 0
-  IsTurnedDown line = HasFoldFault n.nl n.objective line ⊎ IsUnscaled n line
+  IsTurnedDown line = HasFoldFault n.nl n.objective line ⊎ IsUnscaled n.nl n.objective line
 
   abbrev IsJudged : Type 0
   IsJudged = ((bytes : List ℕ) × IsNamedExport n bytes) ⊎ ((line : List ℕ) × IsTurnedDown line)
@@ -134,6 +136,11 @@ module _ (n : Named) where
   meant_so (Ok t) comes m = (inl (holds_so t.0 t.1.items comes), λ e. m)
   meant_so (Err stop) comes m = tt
 
+-- a line that it comes to tells a refusal
+lines_so : (n : Named) (line : List ℕ) → HasFoldFault n.nl n.objective line ⊎ IsUnscaled n.nl n.objective line → IsRefusalLine line
+lines_so n line (inl h) = same_so line _ h.told (fold_so n.nl.places h.fault)
+lines_so n line (inr h) = same_so line _ h.first.told (scale_so n.objective h.first.fault)
+
 -- ---- the ends of the command
 
 module _ (file : List ℕ) (objective : ℕ) (rows columns : List ℕ) where
@@ -157,6 +164,10 @@ module _ (file : List ℕ) (objective : ℕ) (rows columns : List ℕ) where
   pub not_counted : (texts : Option Texts) (m : ℕ) → (whole texts).counts m m
   not_counted texts m = idle told false (named_sound file objective rows columns) texts m
 
+  -- the first file ends it
+  pub nl_stopped : {R : Type 0} (seen : R → NlValue) (old mid : Meaning) (answer : Answer) → ReadsFile {R = R} seen IsNl HasTextRefusal file old mid (Err answer) → IsWorked (whole old.texts) old mid answer
+  nl_stopped seen old mid answer read = stopped told false (named_sound file objective rows columns) seen IsNl HasTextRefusal file after_nl old old mid (begun told false old) nl_read answer read
+
   module _ {R : Type 0} (seen : R → NlValue) (old first : Meaning) (value : R) (read : ReadsFile {R = R} seen IsNl HasTextRefusal file old first (Ok value)) where
     abbrev nl : NlValue
     nl = seen value
@@ -167,7 +178,7 @@ module _ (file : List ℕ) (objective : ℕ) (rows columns : List ℕ) where
     -- the list of rows ends it
     pub rows_stopped : (second : Meaning) (answer : Answer) → ReadsFile {R = List (List ℕ)} itself (AreListed (row_counts nl.file)) (IsListRefused (row_counts nl.file) 2) rows first second (Err answer) → IsWorked (whole old.texts) old second answer
     rows_stopped second answer read_so =
-        stopped told false (named_sound file objective rows columns) itself (AreListed (row_counts nl.file)) (IsListRefused (row_counts nl.file) 2) rows (after_rows nl) old first second down answer read_so
+        stopped told false (named_sound file objective rows columns) itself (AreListed (row_counts nl.file)) (IsListRefused (row_counts nl.file) 2) rows (after_rows nl) old first second down (list_read (row_counts nl.file) 2) answer read_so
 
     module _ (second : Meaning) (r : List (List ℕ)) (read_rows : ReadsFile {R = List (List ℕ)} itself (AreListed (row_counts nl.file)) (IsListRefused (row_counts nl.file) 2) rows first second (Ok r)) where
       down_again : HasComeDown told false (λ texts. after_rows nl texts r) old second
@@ -177,7 +188,7 @@ module _ (file : List ℕ) (objective : ℕ) (rows columns : List ℕ) where
       pub columns_stopped : (third : Meaning) (answer : Answer) → ReadsFile {R = List (List ℕ)} itself (AreListed (column_counts nl.file)) (IsListRefused (column_counts nl.file) 3) columns second third (Err answer) → IsWorked (whole old.texts) old third answer
       columns_stopped third answer read_so =
           stopped told false (named_sound file objective rows columns) itself (AreListed (column_counts nl.file)) (IsListRefused (column_counts nl.file) 3) columns
-          (λ texts c. named_end texts columns (of_lists nl r c)) old second third down_again answer read_so
+          (λ texts c. named_end texts columns (of_lists nl r c)) old second third down_again (list_read (column_counts nl.file) 3) answer read_so
 
       module _ (third : Meaning) (c : List (List ℕ)) (read_columns : ReadsFile {R = List (List ℕ)} itself (AreListed (column_counts nl.file)) (IsListRefused (column_counts nl.file) 3) columns second third (Ok c)) where
         abbrev n : Named
@@ -189,7 +200,7 @@ module _ (file : List ℕ) (objective : ℕ) (rows columns : List ℕ) where
         named_ended last judged answer comes means end =
             ended told false (named_sound file objective rows columns) itself (AreListed (column_counts nl.file)) (IsListRefused (column_counts nl.file) 3) columns
             (λ q. NamedComesTo (of_lists nl r q)) (λ q a b. b ≤ a + most_named_steps (of_lists nl r q)) (λ q. AreNamedMeant (of_lists nl r q))
-            old second third down_again c read_columns last judged answer comes (meant_so n judged comes means) end
+            old second third down_again c read_columns (lines_so n) last judged answer comes (meant_so n judged comes means) end
 
         pub named_counted : (a b : ℕ) → b ≤ a + most_named_steps n → (whole old.texts).counts a b
         named_counted a b le =

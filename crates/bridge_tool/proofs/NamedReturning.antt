@@ -16,6 +16,8 @@ use Rattle.bridge_tool.specs.Refusal.{HasTextRefusal}
 use Rattle.bridge_tool.specs.Return.{IsAnswerRefused, ReturnsAs, after_answer, most_return_steps, named_return_promise, named_return_told}
 use Rattle.bridge_tool.specs.SeveralFiles.{Comes, ReadsFile, after_file, itself}
 use Rattle.bridge_tool.specs.declared.answer.Answer.{Answer as Ended}
+use Rattle.bridge_tool.proofs.NameLists.{list_read}
+use Rattle.bridge_tool.proofs.NlRewriting.{nl_read}
 use Rattle.bridge_tool.proofs.Returning.{answer_counted, answer_ended, answer_stopped, named_return_sound}
 use Rattle.bridge_tool.proofs.SeveralFiles.{HasComeDown, IsSound, begun, further, idle, stopped}
 
@@ -37,6 +39,10 @@ module _ (nl answer rows columns : List ℕ) where
   pub not_counted : (texts : Option Texts) (n : ℕ) → (named_return_promise texts nl answer rows columns).counts n n
   not_counted texts n = idle told false sound texts n
 
+  -- the first file ends it
+  pub nl_stopped : {R : Type 0} (seen : R → NlValue) (old mid : Meaning) (end : Ended) → ReadsFile {R = R} seen IsNl HasTextRefusal nl old mid (Err end) → IsWorked (named_return_promise old.texts nl answer rows columns) old mid end
+  nl_stopped seen old mid end read = stopped told false sound seen IsNl HasTextRefusal nl (after_nl answer rows columns) old old mid (begun told false old) nl_read end read
+
   module _ {R : Type 0} (seen : R → NlValue) (old mid : Meaning) (value : R) (read : ReadsFile {R = R} seen IsNl HasTextRefusal nl old mid (Ok value)) where
     abbrev file : NlValue
     file = seen value
@@ -48,7 +54,7 @@ module _ (nl answer rows columns : List ℕ) where
     pub rows_stopped : (new : Meaning) (end : Ended) → ReadsFile {R = List (List ℕ)} itself (AreListed (row_counts file.file)) (IsListRefused (row_counts file.file) 3) rows mid new (Err end)
         → IsWorked (named_return_promise old.texts nl answer rows columns) old new end
     rows_stopped new end rows_read =
-        stopped told false sound itself (AreListed (row_counts file.file)) (IsListRefused (row_counts file.file) 3) rows (after_rows answer columns file) old mid new nl_down end rows_read
+        stopped told false sound itself (AreListed (row_counts file.file)) (IsListRefused (row_counts file.file) 3) rows (after_rows answer columns file) old mid new nl_down (list_read (row_counts file.file) 3) end rows_read
 
     module _ (after : Meaning) (r : List (List ℕ)) (rows_read : ReadsFile {R = List (List ℕ)} itself (AreListed (row_counts file.file)) (IsListRefused (row_counts file.file) 3) rows mid after (Ok r)) where
       rows_down : HasComeDown told false (λ texts. after_rows answer columns file texts r) old after
@@ -59,7 +65,7 @@ module _ (nl answer rows columns : List ℕ) where
           → IsWorked (named_return_promise old.texts nl answer rows columns) old new end
       columns_stopped new end columns_read =
           stopped told false sound itself (AreListed (column_counts file.file)) (IsListRefused (column_counts file.file) 4) columns
-          (λ texts c. after_answer (named_setting file.file r c) file texts answer) old after new rows_down end columns_read
+          (λ texts c. after_answer (named_setting file.file r c) file texts answer) old after new rows_down (list_read (column_counts file.file) 4) end columns_read
 
       module _ (full : Meaning) (c : List (List ℕ)) (columns_read : ReadsFile {R = List (List ℕ)} itself (AreListed (column_counts file.file)) (IsListRefused (column_counts file.file) 4) columns after full (Ok c)) where
         abbrev s : Setting

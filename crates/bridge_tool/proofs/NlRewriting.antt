@@ -11,6 +11,7 @@ use Rattle.bridge_tool.specs.NlTold.{nl_line}
 use Rattle.bridge_tool.specs.Refusal.{HasTextRefusal}
 use Rattle.bridge_tool.proofs.Exporting.{clean_text, not_both, outcome_of_text, same_file, same_nl_line, same_places, value_of_text}
 use Rattle.bridge_tool.proofs.Decisions.{AreDecided, AreRead}
+use Rattle.bridge_tool.proofs.RefusalLines.{nl_so, same_so}
 
 -- the file and the places are the value
 same_value : (text : List ℕ) (a b : NlValue) → IsNl text a → IsNl text b → a ≡ b
@@ -28,6 +29,7 @@ nl_read = record {
         inr (nl_line fault, record { fault = fault; first = record { first = found.2; opcode = refl }; told = refl })
   ];
   apart = λ text value line h k. not_both text value k.fault h k.first;
+  lines = λ text line h. same_so line _ h.told (nl_so h.fault);
 }
 
 pub nl_decided : AreDecided IsNlRewritten HasTextRefusal
@@ -39,6 +41,7 @@ nl_decided = record {
     | inr found ↦ inr found
   ];
   apart = λ text bytes line h k. nl_read.apart text h.value line h.read k;
+  lines = nl_read.lines;
 }
 
 -- what was read is writable, so that its written text says the same file

@@ -1,5 +1,5 @@
 -- What a proof text shows of an .nl text: one outcome, and what a yes means.
-use Rattle.std.proofs.Common.{◌≡◌, ◌∙◌, inl, inr, ◌⊎◌, ℕ, ◌+◌, ◌≤◌, Bool, true, false, List, Option, Some, None, is_none, Result, Ok, Err, refl, sym, ap, ap₂, subst, arith}
+use Rattle.std.proofs.Common.{◌≡◌, ◌∙◌, inl, inr, ◌⊎◌, ℕ, ◌+◌, ◌≤◌, Bool, true, false, List, Option, Some, None, is_none, Result, Ok, Err, refl, sym, ap, ap₂, subst, arith, codes}
 use Rattle.std.specs.Prelude.{option_map, IfOk, IsTrue}
 use Rattle.std.specs.Global.{Vec}
 use Rattle.linear_programs.specs.Linear.{Linear, row_count}
@@ -30,7 +30,7 @@ use Rattle.proof_text.proofs.ReadingLemmas.{one_reading}
 use Rattle.bridge_tool.specs.Answer.{EndsVerdict, IsWorked}
 use Rattle.bridge_tool.specs.Outcome.{Outcome, Refused, Done}
 use Rattle.bridge_tool.specs.Promise.{Promise}
-use Rattle.bridge_tool.specs.ProofTold.{leaf_line, proof_line}
+use Rattle.bridge_tool.specs.ProofTold.{leaf_line, proof_line, proof_reason_text}
 use Rattle.bridge_tool.specs.Prove.{IsProofRefused, IsProvedOf, by_fold, by_leaf, claimed_objective, most_steps, open_leaf, prove_outcome, prove_promise, prove_told}
 use Rattle.bridge_tool.specs.Refusal.{HasTextRefusal}
 use Rattle.bridge_tool.specs.SeveralFiles.{Comes, ReadsFile, after_file, ends, itself}
@@ -40,6 +40,8 @@ use Rattle.bridge_tool.proofs.Decisions.{AreRead}
 use Rattle.bridge_tool.proofs.NlRewriting.{nl_read}
 use Rattle.bridge_tool.proofs.OneOutcome.{HasOne, IsPlain}
 use Rattle.bridge_tool.proofs.SeveralFiles.{HasComeDown, IsSound, begun, counted, ended, further, idle, sound_after, sound_end, steps_so, stopped}
+use Rattle.bridge_tool.proofs.RefusalLines.{fold_so, refusal_so, refused_same, same_so}
+use Rattle.bridge_tool.specs.Told.{IsRefusalLine}
 
 -- ---- one outcome
 
@@ -53,6 +55,7 @@ proof_read s file = record {
     | inr found ↦ inr (proof_line file found.0, record { fault = found.0; first = found.1; told = refl })
   ];
   apart = λ text value line h k. (one_reading s text).not_both value k.fault h k.first;
+  lines = λ text line h. same_so line _ h.told (refusal_so file (codes "line") h.fault.line (proof_reason_text h.fault.reason));
 }
 
 module _ (nl : NlValue) (p : ProofValue) where
@@ -62,6 +65,14 @@ module _ (nl : NlValue) (p : ProofValue) where
 
   one : HasOne IsPlain (λ outcome. outcome ≡ prove_outcome nl p)
   one = record { outcome = prove_outcome nl p; comes_to = refl; is = plain_fold (first_fold_fault nl.file (claimed_objective p.claim)); one = λ other h. h }
+
+  fold_lines : (o : Option FoldFault) (line : List ℕ) → Refused line ≡ by_fold nl p o → IsRefusalLine line
+  fold_lines None line e = absurd cc
+  fold_lines (Some fault) line e = same_so line _ (refused_same line _ e) (fold_so nl.places fault)
+
+  -- a line that it comes to tells a refusal
+  pub outcome_so : (line : List ℕ) → Refused line ≡ prove_outcome nl p → IsRefusalLine line
+  outcome_so line e = fold_lines (first_fold_fault nl.file (claimed_objective p.claim)) line e
 
 pub prove_sound : (nl proof : List ℕ) (texts : Texts) → IsSound (prove_told nl proof texts)
 prove_sound nl proof texts =
@@ -143,7 +154,7 @@ module _ (nl proof : List ℕ) where
   module _ {R : Type 0} (seen : R → NlValue) (old mid : Meaning) where
     -- the first file ends the command
     pub nl_stopped : (answer : Answer) → ReadsFile {R = R} seen IsNl HasTextRefusal nl old mid (Err answer) → IsWorked (prove_promise old.texts nl proof) old mid answer
-    nl_stopped answer read = stopped (prove_told nl proof) true (prove_sound nl proof) seen IsNl HasTextRefusal nl (after_nl proof) old old mid (begun (prove_told nl proof) true old) answer read
+    nl_stopped answer read = stopped (prove_told nl proof) true (prove_sound nl proof) seen IsNl HasTextRefusal nl (after_nl proof) old old mid (begun (prove_told nl proof) true old) nl_read answer read
 
     module _ (value : R) (read : ReadsFile {R = R} seen IsNl HasTextRefusal nl old mid (Ok value)) where
       abbrev s : Setting
@@ -157,7 +168,7 @@ module _ (nl proof : List ℕ) where
       proof_stopped new answer read_so =
           stopped (prove_told nl proof) true (prove_sound nl proof) itself (IsProofText s) (IsProofRefused s 2) proof
           (λ texts p. ends texts proof (λ outcome. outcome ≡ prove_outcome (seen value) p) (λ m n. n ≤ m + most_steps (seen value) p) (IsProvedOf (seen value) p))
-          old mid new down answer read_so
+          old mid new down (proof_read s 2) answer read_so
 
       module _ (new : Meaning) (p : ProofValue) (given : ReadsFile {R = ProofValue} itself (IsProofText s) (IsProofRefused s 2) proof mid new (Ok p)) where
         -- both were judged
@@ -166,7 +177,7 @@ module _ (nl proof : List ℕ) where
         proof_ended last judged answer comes means end =
             ended (prove_told nl proof) true (prove_sound nl proof) itself (IsProofText s) (IsProofRefused s 2) proof
             (λ q outcome. outcome ≡ prove_outcome (seen value) q) (λ q m n. n ≤ m + most_steps (seen value) q) (λ q. IsProvedOf (seen value) q)
-            old mid new down p given last judged answer comes (meant_so judged (IsProvedOf (seen value) p) means) end
+            old mid new down p given (outcome_so (seen value) p) last judged answer comes (meant_so judged (IsProvedOf (seen value) p) means) end
 
         pub proof_counted : (m n : ℕ) → n ≤ m + most_steps (seen value) p → (prove_promise old.texts nl proof).counts m n
         proof_counted m n le =

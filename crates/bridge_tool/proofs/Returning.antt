@@ -1,5 +1,5 @@
 -- What an answer for a file comes to: one outcome, and what the duals mean.
-use Rattle.std.proofs.Common.{◌≡◌, ◌∙◌, inl, inr, ◌⊎◌, ℕ, ◌+◌, ◌≤◌, List, Bool, true, false, [], Option, Some, None, is_some, Result, Ok, Err, refl, sym, ap, ap₂, subst, arith}
+use Rattle.std.proofs.Common.{◌≡◌, ◌∙◌, inl, inr, ◌⊎◌, ℕ, ◌+◌, ◌≤◌, List, Bool, true, false, [], Option, Some, None, is_some, Result, Ok, Err, refl, sym, ap, ap₂, subst, arith, codes}
 use Rattle.std.specs.Prelude.{option_map, codes, IfOk, IsTrue}
 use Rattle.std.specs.Global.{Vec}
 use Rattle.std.specs.List.{list_any}
@@ -29,6 +29,7 @@ use Rattle.answer_file.specs.Names.{Setting, named_setting, setting_of}
 use Rattle.answer_file.specs.Reading.{IsAnswer}
 use Rattle.dual_return.specs.Return.{AreDualsIf, HasReturnFault, IsReturn, MeanTheProgram}
 use Rattle.dual_return.specs.declared.fault.ReturnFault.{ReturnFault}
+use Rattle.dual_return.specs.declared.fault.ReturnFault.TheVariants.{DualTooWide}
 use Rattle.dual_return.proofs.LawOfReturn.{duals_mean}
 use Rattle.dual_return.proofs.OneReturn.{one-return}
 use Rattle.bridge_tool.specs.Answer.{EndsVerdict, IsWorked}
@@ -41,7 +42,7 @@ use Rattle.bridge_tool.specs.Refusal.{HasTextRefusal}
 use Rattle.bridge_tool.specs.Return.{IsAnswerRefused, IsReturnMeant, IsReturned, IsStaged, IsTurnedBack, ReturnsAs, after_answer, most_return_steps, named_return_told, return_promise, return_told}
 use Rattle.bridge_tool.specs.SeveralFiles.{Comes, ReadsFile, desk_promise, ends, itself}
 use Rattle.bridge_tool.specs.Stages.{HasFolded, HasScaled}
-use Rattle.bridge_tool.specs.Told.{refusal}
+use Rattle.bridge_tool.specs.Told.{IsRefusalLine, refusal}
 use Rattle.bridge_tool.specs.declared.answer.Answer.{Answer as Ended}
 use Rattle.bridge_tool.proofs.Decided.{scaling_decided, scales_without_fault, one_scale_fault}
 use Rattle.bridge_tool.proofs.Decisions.{AreRead}
@@ -51,6 +52,7 @@ use Rattle.bridge_tool.proofs.NlRewriting.{nl_read}
 use Rattle.bridge_tool.proofs.OneOutcome.{HasOne, IsPlain}
 use Rattle.bridge_tool.proofs.SeveralFiles.{HasComeDown, IsSound, begun, counted, ended, further, idle, sound_after, sound_end, steps_so, stopped}
 use Rattle.bridge_tool.proofs.Options.{same_some}
+use Rattle.bridge_tool.proofs.RefusalLines.{fold_so, refusal_so, same_so, scale_so}
 
 -- ---- the second file
 
@@ -68,6 +70,7 @@ answer_read s = record {
     | inr found ↦ inr (answer_line 2 (record { reason = found.1; line = found.0 }), record { fault = record { reason = found.1; line = found.0 }; first = found.2; told = refl })
   ];
   apart = λ text value line h k. (outcome_of s text).not_both h.clean k.fault.line k.fault.reason k.first;
+  lines = λ text line h. same_so line _ h.told (refusal_so 2 (codes "line") h.fault.line (answer_reason_text h.fault.reason));
 }
 
 -- ---- what both come to
@@ -182,6 +185,15 @@ meant_so : (nl : NlValue) (a : AnswerValue) (r : Result (Bool × Vec ℕ) (Stop 
 meant_so nl a (Ok t) comes m = (inl (holds_so nl a t.0 t.1.items comes), λ e. m)
 meant_so nl a (Err stop) comes m = tt
 
+return_so : (f : ReturnFault) → IsRefusalLine (return_line f)
+return_so (DualTooWide i) = refusal_so 1 (codes "row") i (codes "dual too wide")
+
+-- a line that it comes to tells a refusal
+lines_so : (nl : NlValue) (a : AnswerValue) (line : List ℕ) → IsTurnedBack nl a line → IsRefusalLine line
+lines_so nl a line (inl h) = same_so line _ h.told (fold_so nl.places h.fault)
+lines_so nl a line (inr (inl h)) = same_so line _ h.first.told (scale_so a.objective h.first.fault)
+lines_so nl a line (inr (inr h)) = same_so line _ h.told (return_so h.fault)
+
 -- ---- the ends of a command that reads the answer last
 
 module _ (told : Texts → Promise) (sound : (texts : Texts) → IsSound (told texts)) (s : Setting) (file : NlValue) (answer : List ℕ) (old mid : Meaning)
@@ -191,7 +203,7 @@ module _ (told : Texts → Promise) (sound : (texts : Texts) → IsSound (told t
   answer_stopped new end read =
       stopped told false sound itself (IsAnswer s) (IsAnswerRefused s) answer
       (λ texts a. ends texts answer (ReturnsAs file a) (λ m n. n ≤ m + most_return_steps file a) (IsReturnMeant file a))
-      old mid new down end read
+      old mid new down (answer_read s) end read
 
   module _ (new : Meaning) (a : AnswerValue) (given : ReadsFile {R = AnswerValue} itself (IsAnswer s) (IsAnswerRefused s) answer mid new (Ok a)) where
     -- all was judged
@@ -200,7 +212,7 @@ module _ (told : Texts → Promise) (sound : (texts : Texts) → IsSound (told t
     answer_ended last judged end comes is_file is =
         ended told false sound itself (IsAnswer s) (IsAnswerRefused s) answer
         (λ q. ReturnsAs file q) (λ q m n. n ≤ m + most_return_steps file q) (λ q. IsReturnMeant file q)
-        old mid new down a given last judged end comes (meant_so file a judged comes (return_meant file a is_file)) is
+        old mid new down a given (lines_so file a) last judged end comes (meant_so file a judged comes (return_meant file a is_file)) is
 
     pub answer_counted : (m n : ℕ) → n ≤ m + most_return_steps file a → (desk_promise false told old.texts).counts m n
     answer_counted m n le =
@@ -213,6 +225,12 @@ module _ (told : Texts → Promise) (sound : (texts : Texts) → IsSound (told t
 module _ (nl answer : List ℕ) where
   pub not_counted : (texts : Option Texts) (n : ℕ) → (return_promise texts nl answer).counts n n
   not_counted texts n = idle (return_told nl answer) false (return_sound nl answer) texts n
+
+  -- the first file ends it
+  pub nl_stopped : {R : Type 0} (seen : R → NlValue) (old mid : Meaning) (end : Ended) → ReadsFile {R = R} seen IsNl HasTextRefusal nl old mid (Err end) → IsWorked (return_promise old.texts nl answer) old mid end
+  nl_stopped seen old mid end read =
+      stopped (return_told nl answer) false (return_sound nl answer) seen IsNl HasTextRefusal nl (λ texts file. after_answer (setting_of file.file) file texts answer)
+      old old mid (begun (return_told nl answer) false old) nl_read end read
 
   -- the first file was read
   pub nl_down : {R : Type 0} (seen : R → NlValue) (old mid : Meaning) (value : R) → ReadsFile {R = R} seen IsNl HasTextRefusal nl old mid (Ok value)

@@ -9,6 +9,7 @@ use Rattle.bridge_tool.specs.Answer.{IsWorked, EndsVerdict, Missed}
 use Rattle.bridge_tool.specs.Outcome.{Outcome, Untold, NoText, BadWords, Refused as IsRefusal, Done as IsDone, Status}
 use Rattle.bridge_tool.specs.Promise.{Promise}
 use Rattle.bridge_tool.specs.SeveralFiles.{Answered, ByText, ByValue, Comes, HasEnded, HasSaid, ReadsFile, Says, after_file, desk_promise, ends}
+use Rattle.bridge_tool.specs.Told.{IsRefusalLine}
 use Rattle.bridge_tool.specs.Transfer.{HasRead, HasReadCause, IsRead, Reads}
 use Rattle.bridge_tool.specs.declared.answer.Answer.{Answer}
 use Rattle.bridge_tool.specs.declared.answer.Answer.TheVariants.{Done, Refused, BadWords as HasBadWords, InputFault, OutputFault, NoMemory}
@@ -250,8 +251,8 @@ module _ (told : Texts → Promise) (judges : Bool) where
     idle (Some texts) n = (s texts).idle n
 
     module _ {R V : Type 0} (seen : R → V) (reads : List ℕ → V → Type 0) (refuses : List ℕ → List ℕ → Type 0) (file : List ℕ) (next : Texts → V → Promise) (old mid new : Meaning) (h : HasComeDown (λ texts. after_file reads refuses texts file (next texts)) old mid) where
-      stopped_so : (answer : Answer) → old.input_faults ≤ new.input_faults → OnlyInput old new → HasEnded refuses file mid new answer → IsWorked (desk_promise judges told old.texts) old new answer
-      stopped_so (Refused line) later rest ended =
+      stopped_so : ((text line : List ℕ) → refuses text line → IsRefusalLine line) → (answer : Answer) → old.input_faults ≤ new.input_faults → OnlyInput old new → HasEnded refuses file mid new answer → IsWorked (desk_promise judges told old.texts) old new answer
+      stopped_so lines (Refused line) later rest ended =
           refused_worked _ judges old new line (record {
             knows = λ o c. knows_by old.texts o (IsRefusal line.items)
                 (λ texts is.
@@ -265,21 +266,21 @@ module _ (told : Texts → Promise) (judges : Bool) where
                 (first.text, last, first.rest)) text c;
             same = ended.same ∙ h.same;
             rest = rest;
-          })
-      stopped_so InputFault later rest ended =
+          }) (lines ended.bytes line.items ended.says)
+      stopped_so lines InputFault later rest ended =
           missed_worked _ judges old new
           (λ o c. missed_by old.texts file _ _ o
           (λ texts is none. (h.of texts is).comes NoText (rw none refl))
           (elim ended [ inl rose ↦ inl (subst (λ (n : ℕ). Rose n new.input_faults) h.same rose) | inr unknown ↦ inr (subst (λ (t : Option Texts). IsUnknown t file) h.rest.texts unknown) ]) c)
           later rest
-      stopped_so NoMemory later rest ended = memory_worked _ judges old new (λ o c. known_by old.texts o c) (ended ∙ h.same) rest
-      stopped_so (Done holds) later rest ended = absurd ended
-      stopped_so HasBadWords later rest ended = absurd ended
-      stopped_so OutputFault later rest ended = absurd ended
+      stopped_so lines NoMemory later rest ended = memory_worked _ judges old new (λ o c. known_by old.texts o c) (ended ∙ h.same) rest
+      stopped_so lines (Done holds) later rest ended = absurd ended
+      stopped_so lines HasBadWords later rest ended = absurd ended
+      stopped_so lines OutputFault later rest ended = absurd ended
 
       -- the file ends the command with this answer
-      pub stopped : (answer : Answer) → ReadsFile {R = R} seen reads refuses file mid new (Err answer) → IsWorked (desk_promise judges told old.texts) old new answer
-      stopped answer read = stopped_so answer (omega (arith, h.same, read.later)) (OnlyInput-then _ _ _ h.rest read.rest) read.judged
+      pub stopped : AreRead reads refuses → (answer : Answer) → ReadsFile {R = R} seen reads refuses file mid new (Err answer) → IsWorked (desk_promise judges told old.texts) old new answer
+      stopped d answer read = stopped_so d.lines answer (omega (arith, h.same, read.later)) (OnlyInput-then _ _ _ h.rest read.rest) read.judged
 
     -- ---- all files were read
 
@@ -304,14 +305,14 @@ module _ (told : Texts → Promise) (judges : Bool) where
       meant (Some texts) part m = (part texts refl).means m
 
       -- the values were judged so, and the command ended with this answer
-      pub ended : (new : Meaning) (judged : Result (Bool × Vec ℕ) (Stop (Vec ℕ))) (answer : Answer)
+      pub ended : ((line : List ℕ) → comes (seen value) (IsRefusal line) → IsRefusalLine line) → (new : Meaning) (judged : Result (Bool × Vec ℕ) (Stop (Vec ℕ))) (answer : Answer)
           → Comes (comes (seen value)) judged
           → IfOk judged (λ t. ((t.0 ≡ true) ⊎ IsTrue judges) × (t.0 ≡ true → means (seen value)))
           → EndsVerdict judged mid new answer
           → IsWorked (desk_promise judges told old.texts) old new answer
-      ended new (Ok t) answer is m e = wrote_worked _ judges old mid new t.0 t.1.items answer (has_come_to (IsDone t.0 t.1.items) is) m.0 (λ yes. meant old.texts down.of (m.1 yes)) e
-      ended new (Err (Fault line)) answer is m e = rw (e.0, e.1) (refused_worked _ judges old mid line (has_come_to (IsRefusal line.items) is))
-      ended new (Err Memory) answer is m e = rw (e.0, e.1) (memory_worked _ judges old mid (λ o c. known_by old.texts o c) down.same down.rest)
+      ended lines new (Ok t) answer is m e = wrote_worked _ judges old mid new t.0 t.1.items answer (has_come_to (IsDone t.0 t.1.items) is) m.0 (λ yes. meant old.texts down.of (m.1 yes)) e
+      ended lines new (Err (Fault line)) answer is m e = rw (e.0, e.1) (refused_worked _ judges old mid line (has_come_to (IsRefusal line.items) is) (lines line.items is))
+      ended lines new (Err Memory) answer is m e = rw (e.0, e.1) (memory_worked _ judges old mid (λ o c. known_by old.texts o c) down.same down.rest)
 
       counted_by : (texts : Option Texts) (m n : ℕ) → ((t : Texts) → texts ≡ Some t → IsPartOf (ends t file (comes (seen value)) (counts (seen value)) (means (seen value))) (told t)) → counts (seen value) m n → (desk_promise judges told texts).counts m n
       counted_by None m n part c = tt

@@ -1,5 +1,5 @@
 -- A .sol text is written as one text, or refused with one line.
-use Rattle.std.proofs.Common.{◌≡◌, ◌∙◌, inl, inr, ◌⊎◌, ℕ, List, refl, sym, ap}
+use Rattle.std.proofs.Common.{◌≡◌, ◌∙◌, inl, inr, ◌⊎◌, ℕ, List, refl, sym, ap, codes}
 use Rattle.sol_files.specs.Reader.{IsSol}
 use Rattle.sol_files.specs.Sol.{Sol}
 use Rattle.sol_files.specs.Written.{sol_text}
@@ -7,8 +7,9 @@ use Rattle.sol_files.proofs.KeptTexts.{read_keeps}
 use Rattle.sol_files.proofs.ReadingLemmas.{one_reading}
 use Rattle.sol_files.proofs.RoundTrip.{is_read_back}
 use Rattle.bridge_tool.specs.Sol.{IsSolMeant, IsSolRefused, IsSolRewritten}
-use Rattle.bridge_tool.specs.SolTold.{sol_line}
+use Rattle.bridge_tool.specs.SolTold.{sol_line, sol_reason_text}
 use Rattle.bridge_tool.proofs.Decisions.{AreDecided, AreRead}
+use Rattle.bridge_tool.proofs.RefusalLines.{refusal_so, same_so}
 
 -- each text says one value, or is refused with one line
 pub sol_read : (file : ℕ) → AreRead IsSol (IsSolRefused file)
@@ -20,6 +21,7 @@ sol_read file = record {
     | inr found ↦ inr (sol_line file found.0, record { fault = found.0; first = found.1; told = refl })
   ];
   apart = λ text value line h k. (one_reading text).not_both value k.fault h k.first;
+  lines = λ text line h. same_so line _ h.told (refusal_so file (codes "line") h.fault.line (sol_reason_text h.fault.reason));
 }
 
 pub sol_decided : AreDecided IsSolRewritten (IsSolRefused 1)
@@ -31,6 +33,7 @@ sol_decided = record {
     | inr found ↦ inr found
   ];
   apart = λ text bytes line h k. (sol_read 1).apart text h.value line h.read k;
+  lines = (sol_read 1).lines;
 }
 
 -- what was read keeps the rules of values, so that its written text is read as itself

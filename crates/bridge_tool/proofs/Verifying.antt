@@ -1,5 +1,5 @@
 -- What a certificate shows of an .nl text: one outcome, and what a yes means.
-use Rattle.std.proofs.Common.{◌≡◌, ◌∙◌, inl, inr, ◌⊎◌, ℕ, ◌+◌, ◌≤◌, Bool, true, false, List, Option, Some, None, Result, Ok, Err, refl, sym, ap, ap₂, subst, arith}
+use Rattle.std.proofs.Common.{◌≡◌, ◌∙◌, inl, inr, ◌⊎◌, ℕ, ◌+◌, ◌≤◌, Bool, true, false, List, Option, Some, None, Result, Ok, Err, refl, sym, ap, ap₂, subst, arith, codes}
 use Rattle.std.specs.Prelude.{option_map, IfOk}
 use Rattle.std.specs.Global.{Vec}
 use Rattle.fractions.specs.Fits.{fits}
@@ -30,7 +30,7 @@ use Rattle.certificate_text.specs.Reader.{IsCertificateText}
 use Rattle.certificate_text.specs.Setting.{Setting, setting_of}
 use Rattle.certificate_text.proofs.ReadingLemmas.{one_reading}
 use Rattle.bridge_tool.specs.Answer.{EndsVerdict, IsWorked}
-use Rattle.bridge_tool.specs.CertificateTold.{HasFittingBound, certificate_line, is_held, outcome_line}
+use Rattle.bridge_tool.specs.CertificateTold.{HasFittingBound, certificate_line, is_held, outcome_line, certificate_reason_text}
 use Rattle.bridge_tool.specs.Outcome.{Outcome, Refused, Done}
 use Rattle.bridge_tool.specs.Promise.{Promise}
 use Rattle.bridge_tool.specs.Refusal.{HasTextRefusal}
@@ -43,6 +43,8 @@ use Rattle.bridge_tool.proofs.NlRewriting.{nl_read}
 use Rattle.bridge_tool.proofs.OneOutcome.{HasOne, IsPlain}
 use Rattle.bridge_tool.proofs.Proving.{meant_so}
 use Rattle.bridge_tool.proofs.SeveralFiles.{HasComeDown, IsSound, begun, counted, ended, further, idle, sound_after, sound_end, steps_so, stopped}
+use Rattle.bridge_tool.proofs.RefusalLines.{fold_so, refusal_so, refused_same, same_so}
+use Rattle.bridge_tool.specs.Told.{IsRefusalLine}
 
 -- ---- one outcome
 
@@ -56,6 +58,7 @@ certificate_read s file = record {
     | inr found ↦ inr (certificate_line file found.0, record { fault = found.0; first = found.1; told = refl })
   ];
   apart = λ text value line h k. (one_reading s text).not_both value k.fault h k.first;
+  lines = λ text line h. same_so line _ h.told (refusal_so file (codes "line") h.fault.line (certificate_reason_text h.fault.reason));
 }
 
 module _ (nl : NlValue) (c : CertificateValue) where
@@ -65,6 +68,14 @@ module _ (nl : NlValue) (c : CertificateValue) where
 
   one : HasOne IsPlain (λ outcome. outcome ≡ verify_outcome nl c)
   one = record { outcome = verify_outcome nl c; comes_to = refl; is = plain_fold (first_fold_fault nl.file (objective_of c.claim)); one = λ other h. h }
+
+  fold_lines : (o : Option FoldFault) (line : List ℕ) → Refused line ≡ by_fold nl c o → IsRefusalLine line
+  fold_lines None line e = absurd cc
+  fold_lines (Some fault) line e = same_so line _ (refused_same line _ e) (fold_so nl.places fault)
+
+  -- a line that it comes to tells a refusal
+  pub outcome_so : (line : List ℕ) → Refused line ≡ verify_outcome nl c → IsRefusalLine line
+  outcome_so line e = fold_lines (first_fold_fault nl.file (objective_of c.claim)) line e
 
 pub verify_sound : (nl certificate : List ℕ) (texts : Texts) → IsSound (verify_told nl certificate texts)
 verify_sound nl certificate texts =
@@ -161,7 +172,7 @@ module _ (nl certificate : List ℕ) where
   module _ {R : Type 0} (seen : R → NlValue) (old mid : Meaning) where
     -- the first file ends the command
     pub nl_stopped : (answer : Answer) → ReadsFile {R = R} seen IsNl HasTextRefusal nl old mid (Err answer) → IsWorked (verify_promise old.texts nl certificate) old mid answer
-    nl_stopped answer read = stopped (verify_told nl certificate) true (verify_sound nl certificate) seen IsNl HasTextRefusal nl (after_nl certificate) old old mid (begun (verify_told nl certificate) true old) answer read
+    nl_stopped answer read = stopped (verify_told nl certificate) true (verify_sound nl certificate) seen IsNl HasTextRefusal nl (after_nl certificate) old old mid (begun (verify_told nl certificate) true old) nl_read answer read
 
     module _ (value : R) (read : ReadsFile {R = R} seen IsNl HasTextRefusal nl old mid (Ok value)) where
       abbrev s : Setting
@@ -175,7 +186,7 @@ module _ (nl certificate : List ℕ) where
       certificate_stopped new answer read_so =
           stopped (verify_told nl certificate) true (verify_sound nl certificate) itself (IsCertificateText s) (IsCertificateRefused s 2) certificate
           (λ texts c. ends texts certificate (λ outcome. outcome ≡ verify_outcome (seen value) c) (λ m n. n ≤ m + most_steps (seen value) c) (IsVerified (seen value) c))
-          old mid new down answer read_so
+          old mid new down (certificate_read s 2) answer read_so
 
       module _ (new : Meaning) (c : CertificateValue) (given : ReadsFile {R = CertificateValue} itself (IsCertificateText s) (IsCertificateRefused s 2) certificate mid new (Ok c)) where
         -- both were judged
@@ -184,7 +195,7 @@ module _ (nl certificate : List ℕ) where
         certificate_ended last judged answer comes means end =
             ended (verify_told nl certificate) true (verify_sound nl certificate) itself (IsCertificateText s) (IsCertificateRefused s 2) certificate
             (λ q outcome. outcome ≡ verify_outcome (seen value) q) (λ q m n. n ≤ m + most_steps (seen value) q) (λ q. IsVerified (seen value) q)
-            old mid new down c given last judged answer comes (meant_so judged (IsVerified (seen value) c) means) end
+            old mid new down c given (outcome_so (seen value) c) last judged answer comes (meant_so judged (IsVerified (seen value) c) means) end
 
         pub certificate_counted : (m n : ℕ) → n ≤ m + most_steps (seen value) c → (verify_promise old.texts nl certificate).counts m n
         certificate_counted m n le =

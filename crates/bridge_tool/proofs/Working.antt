@@ -1,5 +1,5 @@
 -- A command of one file, by the general ends; and what the top call says of any command.
-use Rattle.std.proofs.Common.{◌≡◌, ◌∙◌, inl, inr, ◌⊎◌, ℕ, ◌<◌, ◌≤◌, List, true, false, take, drop, Option, Some, None, IfSome, OnOk, Result, Ok, Err, refl, sym, ap, subst}
+use Rattle.std.proofs.Common.{◌≡◌, ◌∙◌, inl, inr, ◌⊎◌, ℕ, ◌<◌, ◌≤◌, List, true, false, take, drop, Option, Some, None, IfSome, OnOk, Result, Ok, Err, refl, sym, ap, subst, arith}
 use Rattle.std.proofs.lemmas.Bool.{cases_lt}
 use Rattle.std.specs.Global.{Vec}
 use Rattle.text_base.specs.Desk.{Meaning, Texts, Rose, IsUnknown, OnlyInput, OnlyMessages}
@@ -9,6 +9,7 @@ use Rattle.bridge_tool.specs.Answer.{IsWorked, Missed, Ends, status_of, told_by}
 use Rattle.bridge_tool.specs.OneFile.{text_of, IfText, TextComesTo, FileComesTo, DeskComesTo, Judges, file_promise}
 use Rattle.bridge_tool.specs.Outcome.{Outcome, BadWords, Untold, NoText, Refused, Done, Status, Written, IsQuiet, Told, line_of}
 use Rattle.bridge_tool.specs.Promise.{Promise}
+use Rattle.bridge_tool.specs.Told.{IsRefusalLine}
 use Rattle.bridge_tool.specs.Transfer.{HasRead, HasReadCause, TellsLine}
 use Rattle.bridge_tool.specs.declared.answer.Answer.{Answer}
 use Rattle.bridge_tool.specs.declared.transfer.Unread.{Unread}
@@ -108,7 +109,7 @@ module _ (accepts refuses : List ℕ → List ℕ → Type 0) (d : AreDecided ac
       wrote_worked _ false old mid new true out.items answer (has_come_to file counts means old mid fed (Done true out.items) read same rest judges)
       (inl refl) (λ e. holds_of_read old.texts file mid.left fed means read meant) ends
   file_worked file counts means old mid new fed (Err (IsFault line)) answer read same rest judges meant ends =
-      rw (ends.0, ends.1) (refused_worked _ false old mid line (has_come_to file counts means old mid fed (Refused line.items) read same rest judges))
+      rw (ends.0, ends.1) (refused_worked _ false old mid line (has_come_to file counts means old mid fed (Refused line.items) read same rest judges) (d.lines read.bytes line.items (judges read.bytes read.taken)))
   file_worked file counts means old mid new fed (Err IsMemory) answer read same rest judges meant ends =
       rw (ends.0, ends.1) (memory_worked _ false old mid (λ o h. desk_known accepts refuses old.texts file o h) same rest)
 
@@ -126,6 +127,7 @@ told_by_status o status line P is (inr le) tells = rw (line_none o status le) tt
 pub record IsAnswered (p : Promise) (old new : Meaning) (status : ℕ) : Type 0 where
   pub which : (o : Outcome) → p.comes o → Status o (Rose old.input_faults new.input_faults) (Rose old.output_faults new.output_faults) status
   pub written : (o : Outcome) → p.comes o → Written o old.written new.written status
+  pub refusal : status ≡ 2 → (line : List ℕ) × IsRefusalLine line × TellsLine old.told new.told old.message_faults new.message_faults line
   pub quiet : IsQuiet status → new.written ≡ old.written
   pub told : (o : Outcome) → p.comes o → Told o old.told new.told old.message_faults new.message_faults status
   pub silent : status ≤ 1 → new.told ≡ old.told
@@ -141,6 +143,7 @@ answered_so p old mid new answer h tells silent rest =
     record {
       which = λ o c. subst (λ (n : ℕ). Status o (Rose old.input_faults n) (Rose old.output_faults new.output_faults) (status_of answer)) (sym rest.input_faults) (subst (λ (n : ℕ). Status o (Rose old.input_faults mid.input_faults) (Rose old.output_faults n) (status_of answer)) (sym rest.output_faults) (h.status o c));
       written = λ o c. subst (λ (w : Option (List ℕ)). Written o old.written w (status_of answer)) (sym rest.written) (h.written o c);
+      refusal = λ e. (told_by answer, h.refusal e, tells_old (omega (arith, e)));
       quiet = λ q. rest.written ∙ h.quiet q;
       told = λ o c. told_by_status o (status_of answer) (told_by answer) P (h.line o c) (cases_lt 1 (status_of answer)) tells_old;
       silent = λ le. silent le ∙ h.told;

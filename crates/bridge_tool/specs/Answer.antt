@@ -7,6 +7,7 @@ use Rattle.text_base.specs.declared.stop.Stop.{Stop}
 use Rattle.text_base.specs.declared.stop.Stop.TheVariants.{Fault, Memory}
 use Rattle.bridge_tool.specs.Outcome.{Outcome, Status, Written, IsQuiet, line_of, verdict_status}
 use Rattle.bridge_tool.specs.Promise.{Promise}
+use Rattle.bridge_tool.specs.Told.{IsRefusalLine}
 use Rattle.bridge_tool.specs.Transfer.{AppendsPart}
 use Rattle.bridge_tool.specs.declared.answer.Answer.{Answer}
 use Rattle.bridge_tool.specs.declared.answer.Answer.TheVariants.{Done, Refused, BadWords, InputFault, OutputFault, NoMemory}
@@ -40,6 +41,7 @@ pub record IsWorked (p : Promise) (old new : Meaning) (answer : Answer) : Type 0
       → Written outcome old.written new.written (status_of answer)
   pub line : (outcome : Outcome) → p.comes outcome
       → IfSome (line_of outcome (status_of answer)) (λ line. line ≡ told_by answer)
+  pub refusal : status_of answer ≡ 2 → IsRefusalLine (told_by answer)
   pub quiet : IsQuiet (status_of answer) → new.written ≡ old.written
   pub left : (status_of answer ≤ 2) ⊎ (status_of answer ≡ 5) → (text : List ℕ) → p.last text
       → new.left ≡ Some (drop LIMIT text)

@@ -25,7 +25,7 @@ use Rattle.bridge_tool.specs.Outcome.{Outcome, BadWords, Untold, NoText, Refused
 use Rattle.bridge_tool.specs.Promise.{Promise}
 use Rattle.bridge_tool.specs.Refusal.{HasTextRefusal}
 use Rattle.bridge_tool.specs.SeveralFiles.{after_file, desk_promise, ends}
-use Rattle.bridge_tool.specs.Stages.{HasFoldFault, HasUnscaled}
+use Rattle.bridge_tool.specs.Stages.{HasFoldFault, IsUnscaled}
 
 -- a file, the number of its objective, and the names of its rows and columns
 pub record Named : Type 0 where
@@ -51,17 +51,13 @@ pub record IsNamedTextOf (bytes : List ℕ) (program : Mps ℚ)
   pub values : with_values dec_value decimal ≡ program
   pub text : bytes ≡ mps_text_by value_text (named program rows columns)
 
--- it folds, and a row or the objective has no decimal program
-pub record IsUnscaled (n : Named) (line : List ℕ) : Type 0 where
-  pub folded : fold_fault n.nl.file n.objective ≡ None
-  pub first : HasUnscaled (linear_of n.nl.file n.objective) n.objective line
-
 -- what a file with names comes to
 abbrev pub NamedComesTo : Named → Outcome → Type 0
 NamedComesTo n BadWords = ⊥
 NamedComesTo n (Untold judges) = ⊥
 NamedComesTo n NoText = ⊥
-NamedComesTo n (Refused line) = HasFoldFault n.nl n.objective line ⊎ IsUnscaled n line
+NamedComesTo n (Refused line) =
+    HasFoldFault n.nl n.objective line ⊎ IsUnscaled n.nl n.objective line
 NamedComesTo n (Done true bytes) = IsNamedExport n bytes
 NamedComesTo n (Done false bytes) = ⊥
 

@@ -29,7 +29,7 @@ use Rattle.bridge_tool.specs.Outcome.{Outcome, BadWords, Untold, NoText, Refused
 use Rattle.bridge_tool.specs.Promise.{Promise}
 use Rattle.bridge_tool.specs.Refusal.{HasTextRefusal}
 use Rattle.bridge_tool.specs.SeveralFiles.{after_file, desk_promise, ends}
-use Rattle.bridge_tool.specs.Stages.{HasFoldFault, HasUnscaled}
+use Rattle.bridge_tool.specs.Stages.{HasFoldFault, IsUnscaled}
 
 -- ---- the second file
 
@@ -53,11 +53,6 @@ pub record IsReturned (nl : NlValue) (a : AnswerValue) (bytes : List ℕ) : Type
   pub returned : IsReturn nl.file a sol
   pub written : bytes ≡ sol_text sol
 
--- it folds, and a row or the objective has no decimal program
-pub record HasNoDecimals (nl : NlValue) (a : AnswerValue) (line : List ℕ) : Type 0 where
-  pub folded : fold_fault nl.file a.objective ≡ None
-  pub first : HasUnscaled (linear_of nl.file a.objective) a.objective line
-
 -- it scales, and a dual is too wide
 pub record HasWideDual (nl : NlValue) (a : AnswerValue) (line : List ℕ) : Type 0 where
   pub staged : IsStaged nl a
@@ -67,7 +62,7 @@ pub record HasWideDual (nl : NlValue) (a : AnswerValue) (line : List ℕ) : Type
 
 abbrev pub IsTurnedBack : NlValue → AnswerValue → List ℕ → Type 0
 IsTurnedBack nl a line =
-    HasFoldFault nl a.objective line ⊎ HasNoDecimals nl a line ⊎ HasWideDual nl a line
+    HasFoldFault nl a.objective line ⊎ IsUnscaled nl a.objective line ⊎ HasWideDual nl a line
 
 -- what an answer for a file comes to
 abbrev pub ReturnsAs : NlValue → AnswerValue → Outcome → Type 0

@@ -43,6 +43,11 @@ pub record HasUnscaled (f : Linear) (k : ℕ) (line : List ℕ) : Type 0 where
   pub first : HasScaleFault f fault
   pub told : line ≡ scale_line k fault
 
+-- the file folds with objective k, and a row or the objective has no decimal program
+pub record IsUnscaled (value : NlValue) (k : ℕ) (line : List ℕ) : Type 0 where
+  pub folded : fold_fault value.file k ≡ None
+  pub first : HasUnscaled (linear_of value.file k) k line
+
 -- what scaling answers
 abbrev pub Scales : Linear → ℕ → Result ScaledValue (Stop (Vec ℕ)) → Type 0
 Scales f k (Ok s) = HasScaled f s

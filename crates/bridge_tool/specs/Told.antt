@@ -1,5 +1,5 @@
 -- The lines that tell a refusal.
-use Rattle.std.specs.Prelude.{ℕ, nat_lt, List, [], ◌++◌, codes, if◌then◌else◌}
+use Rattle.std.specs.Prelude.{◌≡◌, ℕ, nat_lt, List, [], ◌++◌, codes, if◌then◌else◌}
 use Rattle.std.specs.Fmt.{decimal}
 use Rattle.fractions.specs.Rational.{ℚ}
 use Rattle.exact_numbers.specs.Written.{frac_text}
@@ -7,6 +7,10 @@ use Rattle.exact_numbers.specs.Written.{frac_text}
 -- a whole number, or the numerator, a slash and the denominator, in lowest terms
 abbrev pub number_text : ℚ → List ℕ
 number_text x = frac_text x.top x.bottom
+
+-- a line that tells that the input is refused: one line, which begins so
+abbrev pub IsRefusalLine : List ℕ → Type 0
+IsRefusalLine line = (text : List ℕ) × (line ≡ codes "refused " ++ text ++ codes "\n")
 
 -- The file of a fault, by its number among the files of the words; the first file is not named.
 abbrev pub file_text : ℕ → List ℕ

@@ -17,3 +17,6 @@ returns-in_ok-line-in-Err-Fault-clause-says c = λ f text fed.
       first = subst (λ (stop : Stop (TextFault CertificateReason)). ReadsCertificate (setting_of f) text (Err stop)) is (c.in-Err-Fault.ensures.reads (setting_of f) text fed);
       told = c.in_ok-line-in-Err-Fault.ensures;
     }
+
+pub returns-in-Ok-clause-says : goal.returns-in-Ok-clause-says
+returns-in-Ok-clause-says c = λ f text fed. c.in-Ok.ensures.reads (setting_of f) text fed

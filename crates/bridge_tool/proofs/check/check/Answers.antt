@@ -1,5 +1,9 @@
-use Rattle.bridge_tool.proofs.Checking.{counted_check, ended_check, idle_check, stopped_at_sol}
+use Rattle.nl_segments.specs.Reader.{value_of}
+use Rattle.bridge_tool.proofs.Checking.{nl_stopped, counted_check, ended_check, idle_check, stopped_at_sol}
 use Rattle.bridge_tool.proofs.check.check.Goals as goal
+
+pub returns-in-Err-clause-worked : goal.returns-in-Err-clause-worked
+returns-in-Err-clause-worked g c = nl_stopped value_of c.args.nl.now c.args.sol.now _ _ c.in-Err.ended c.in-Err.ensures.reads
 
 pub returns-in-Err-clause-counts : goal.returns-in-Err-clause-counts
 returns-in-Err-clause-counts g c = idle_check c.args.nl.now c.args.sol.now (g.D.Desk.meaning c.args.desk.now).texts c.args.steps.now

@@ -1,7 +1,11 @@
 use Rattle.std.proofs.Common.{refl}
 use Rattle.nl_segments.specs.Reader.{value_of}
-use Rattle.bridge_tool.proofs.NamedExporting.{columns_stopped, named_counted, named_ended, not_counted, rows_stopped}
+use Rattle.bridge_tool.proofs.NamedExporting.{columns_stopped, nl_stopped, named_counted, named_ended, not_counted, rows_stopped}
 use Rattle.bridge_tool.proofs.named_export.export_named.Goals as goal
+
+pub returns-in-Err-clause-worked : goal.returns-in-Err-clause-worked
+returns-in-Err-clause-worked g c =
+    nl_stopped c.args.file.now c.args.objective c.args.rows.now c.args.columns.now value_of _ _ c.in-Err.ended c.in-Err.ensures.reads
 
 pub returns-in-Err-clause-counts : goal.returns-in-Err-clause-counts
 returns-in-Err-clause-counts g c = not_counted c.args.file.now c.args.objective c.args.rows.now c.args.columns.now (g.D.Desk.meaning c.args.desk.now).texts c.args.steps.now

@@ -1,6 +1,9 @@
 use Rattle.nl_segments.specs.Reader.{value_of}
-use Rattle.bridge_tool.proofs.Proving.{not_counted, proof_counted, proof_ended, proof_stopped}
+use Rattle.bridge_tool.proofs.Proving.{nl_stopped, not_counted, proof_counted, proof_ended, proof_stopped}
 use Rattle.bridge_tool.proofs.prove.prove.Goals as goal
+
+pub returns-in-Err-clause-worked : goal.returns-in-Err-clause-worked
+returns-in-Err-clause-worked g c = nl_stopped c.args.nl.now c.args.proof.now value_of _ _ c.in-Err.ended c.in-Err.ensures.reads
 
 pub returns-in-Err-clause-counts : goal.returns-in-Err-clause-counts
 returns-in-Err-clause-counts g c = not_counted c.args.nl.now c.args.proof.now (g.D.Desk.meaning c.args.desk.now).texts c.args.steps.now

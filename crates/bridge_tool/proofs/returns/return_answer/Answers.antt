@@ -2,8 +2,11 @@ use Rattle.nl_segments.specs.Reader.{value_of}
 use Rattle.answer_file.specs.Names.{setting_of}
 use Rattle.answer_file.specs.declared.naming.Naming.TheVariants.{Numbered}
 use Rattle.bridge_tool.specs.Return.{return_told}
-use Rattle.bridge_tool.proofs.Returning.{answer_counted, answer_ended, answer_stopped, nl_down, not_counted, return_sound}
+use Rattle.bridge_tool.proofs.Returning.{nl_stopped, answer_counted, answer_ended, answer_stopped, nl_down, not_counted, return_sound}
 use Rattle.bridge_tool.proofs.returns.return_answer.Goals as goal
+
+pub returns-in-Err-clause-worked : goal.returns-in-Err-clause-worked
+returns-in-Err-clause-worked g c = nl_stopped c.args.nl.now c.args.answer.now value_of _ _ c.in-Err.ended c.in-Err.ensures.reads
 
 pub returns-in-Err-clause-counts : goal.returns-in-Err-clause-counts
 returns-in-Err-clause-counts g c = not_counted c.args.nl.now c.args.answer.now (g.D.Desk.meaning c.args.desk.now).texts c.args.steps.now

@@ -1,9 +1,13 @@
 use Rattle.nl_segments.specs.Reader.{value_of}
 use Rattle.answer_file.specs.declared.naming.Naming.TheVariants.{Listed}
-use Rattle.bridge_tool.proofs.NamedReturning.{columns_stopped, named_counted, named_ended, named_stopped, not_counted, rows_stopped}
+use Rattle.bridge_tool.proofs.NamedReturning.{columns_stopped, nl_stopped, named_counted, named_ended, named_stopped, not_counted, rows_stopped}
 use Rattle.bridge_tool.proofs.returns.return_named.Goals as goal
 
 -- ---- a file ends it
+
+pub returns-in-Err-clause-worked : goal.returns-in-Err-clause-worked
+returns-in-Err-clause-worked g c =
+    nl_stopped c.args.nl.now c.args.answer.now c.args.rows.now c.args.columns.now value_of _ _ c.in-Err.ended c.in-Err.ensures.reads
 
 pub returns-in-Err-clause-counts : goal.returns-in-Err-clause-counts
 returns-in-Err-clause-counts g c =

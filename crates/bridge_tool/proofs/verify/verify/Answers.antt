@@ -1,6 +1,9 @@
 use Rattle.nl_segments.specs.Reader.{value_of}
-use Rattle.bridge_tool.proofs.Verifying.{not_counted, certificate_counted, certificate_ended, certificate_stopped}
+use Rattle.bridge_tool.proofs.Verifying.{nl_stopped, not_counted, certificate_counted, certificate_ended, certificate_stopped}
 use Rattle.bridge_tool.proofs.verify.verify.Goals as goal
+
+pub returns-in-Err-clause-worked : goal.returns-in-Err-clause-worked
+returns-in-Err-clause-worked g c = nl_stopped c.args.nl.now c.args.certificate.now value_of _ _ c.in-Err.ended c.in-Err.ensures.reads
 
 pub returns-in-Err-clause-counts : goal.returns-in-Err-clause-counts
 returns-in-Err-clause-counts g c = not_counted c.args.nl.now c.args.certificate.now (g.D.Desk.meaning c.args.desk.now).texts c.args.steps.now
