@@ -29,6 +29,7 @@ WITHOUT = "not proved: "
 MOST_BETTER = 6                 # points that a search may find
 ONE_LEAF = 1.0                  # seconds for it
 LOOSER = (1e-9, 1e-7, 1e-5, 1e-3)       # of a value: what a bound may lie away
+SAFER = (1e-9, 1e-7, 1e-5)              # of the greatest cost: room for rounding
 MOST_CLP_SECONDS = 30.0
 
 
@@ -238,18 +239,38 @@ class Certifying:
         return self.judged(lines(), None, point)._replace(duals=y)
 
     def loose_bounds(self, clp: Clp, found: Sequence[Point]) -> Iterator[Verdict]:
-        """Where no leaf meets the optimum, one that is met."""
+        """Where no leaf meets the optimum, one that is met: the closest bound for each duals."""
         if not any(self.model.costs):
             return
         p, box = self.model, Box(self.model.lo, self.model.hi)
         top = clp.objective() + float(p.constant)
         point = min(found, key=p.value, default=None)
-        for room in LOOSER:
-            target = floored(top, room * max(1.0, abs(top)))
-            closed = Closer(p, target).close(dict(enumerate(clp.duals())), False, box)
-            if closed is not None:
+        for duals in self.safe_duals(clp):
+            for room in LOOSER:
+                target = floored(top, room * max(1.0, abs(top)))
+                closed = Closer(p, target).close(dict(enumerate(duals)), False, box)
+                if closed is None:
+                    continue
                 value = p.sign * target
-                yield self.one_leaf(closed, "bound" if point is None else "within", value, point)
+                if point is not None:
+                    yield self.one_leaf(closed, "within", value, point)
+                yield self.one_leaf(closed, "bound", value, None)
+                break
+
+    def safe_duals(self, clp: Clp) -> Iterator[list[float]]:
+        """The duals, then those under costs that leave room for rounding in each column that has
+        one bound."""
+        yield clp.duals()
+        p = self.model
+        size = max(abs(float(c)) for c in p.cost)
+        for share in SAFER:
+            room = Fraction(share * size)
+            cost = [c - room * ((hi is None) - (lo is None))
+                    for c, lo, hi in zip(p.cost, p.lo, p.hi)]
+            other = p.with_costs(cost, p.constant).relaxation()
+            other.limit(ONE_LEAF)
+            if other.solve() is State.OPTIMAL:
+                yield other.duals()
 
     # integer programs --------------------------------------------------------------
 

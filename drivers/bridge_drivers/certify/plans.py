@@ -22,22 +22,33 @@ from .watch import Stopped, Watch
 SHORT = 40                      # nodes of a tree that needs no other plan
 WHOLE_TIME = 60.0               # seconds that the shares of plans are of
 PLAIN, THIN, CUTS, FEWER_CUTS, AGAIN = 4.0, 15.0, 12.0, 5.0, 15.0
-LEMMAS = 1 / 3                  # of the time that is left
+FIRST = 0.6                     # of the time that is left, for a spine that is not the last
+LEAST_GAIN = 0.01               # of the gap, that a spine closes
+LEAST_AGAIN = 2.0
 RESERVE = 0.93                  # of the time, for plans; the rest is for a bound
 MOST_THIN = 45                  # whole columns
-CLOSED = 0.03                   # of the gap: what tableau rows must add to come first
+CLOSED = 0.03                   # of the gap: spines that close it by less than that are near
 DIGITS = 3                      # of the gap, that a bound has
 
 Exact = Callable[[Sequence[float]], "Point | None"]
 
 
 class Shaped(NamedTuple):
-    """A tree's text in a file."""
+    """A tree's text in a file, and the seconds that the plan took."""
 
     path: str
     size: int
     figures: Figures
     name: str
+    seconds: float
+
+
+class Spine(NamedTuple):
+    """Rows of one kind, and the share of the gap that they close."""
+
+    name: str
+    rows: Sequence[Row]
+    gain: float
 
 
 class Partial(NamedTuple):
@@ -87,7 +98,7 @@ class Plans:
         seen = [Added(added.terms) for added in self.value.added()]
         above = seen + [row.added() for row in rows]
         searched = self.model.with_rows(above + [Added(form) for form in forms])
-        base = self.model.m + len(above)
+        base, began = self.model.m + len(above), self.watch.spent()
         search = Search(searched, self.value.goal(self.exact), self.spool, self.watch,
                         self.until(seconds), most, forms=range(base, searched.m))
         try:
@@ -102,7 +113,7 @@ class Plans:
         cuts = f", {figures.rows} of {figures.made} rows" if figures.made else ""
         self.told.append(f"{name}: {figures.nodes} nodes, {size} bytes{cuts}")
         if self.best is None or size < self.best.size:
-            self.best = Shaped(path, size, figures, name)
+            self.best = Shaped(path, size, figures, name, self.watch.spent() - began)
         return True
 
     def keep(self, search: Search, searched: Model, rows: Sequence[Row]) -> None:
@@ -125,13 +136,24 @@ class Plans:
         if self.is_short():
             return
         if self.step is not None and all(p.whole) and sum(p.whole) <= MOST_THIN:
-            self.thin(min(self.left() / 3, THIN * share))
-        if not all(p.whole) and not self.is_short():
-            self.with_lemmas()
+            self.thin(self.more(THIN, min(self.left() / 3, THIN * share)))
         if self.is_short() or self.left() <= 0:
             return
-        if not self.with_cuts() and self.best is None:
+        spines = self.spines()
+        for k, spine in enumerate(spines):
+            if self.left() < 1 or self.is_short():
+                break
+            last = 1.0 if k + 1 == len(spines) else FIRST
+            self.run(spine.name, spine.rows, self.more(AGAIN, self.left() * last))
+        if self.best is None and not spines:
             self.run("plain again", [], self.left())
+
+    def more(self, again: float, first: float) -> float:
+        """Seconds for what might give a shorter text: not more than the one that there is took;
+        `first` where there is none."""
+        if self.best is None:
+            return first
+        return min(again * self.share, max(self.best.seconds, LEAST_AGAIN))
 
     def thin(self, seconds: float) -> None:
         """The objective's form has the width between the relaxation and the value."""
@@ -143,32 +165,27 @@ class Plans:
         if forms:
             self.run("thin", [], seconds, forms)
 
-    def with_lemmas(self) -> None:
-        rows = self.maker.lemmas(self.until(self.left() * LEMMAS))
-        if rows:
-            self.run("lemma", rows, self.left() * (0.7 if self.best is None else 0.5))
-
-    def with_cuts(self) -> bool:
-        """Whether there were any."""
+    def spines(self) -> list[Spine]:
+        """Those with rows, by how much of the gap they close; of two that are near, the one with
+        fewer rows comes first."""
         if self.maker.relaxed([]) is None:
-            return False
-        root, seconds = self.maker.base, (CUTS if self.best is None else FEWER_CUTS) * self.share
+            return []
+        root, seconds = self.maker.base, self.more(FEWER_CUTS, CUTS * self.share)
+        gap = max(self.maker.goal - root, 1e-9)
+        found: list[Spine] = []
+
+        def made(name: str, rows: Sequence[Row]) -> None:
+            gain = (self.maker.base - root) / gap
+            if rows and gain >= LEAST_GAIN and all(len(rows) > len(s.rows) or name == "lemma"
+                                                   for s in found):
+                found.append(Spine(name, rows, gain))
         few = self.maker.cuts(("cover", "row"), [], self.until(seconds))
-        few_base = self.maker.base
+        made("cover", few)
         more = self.maker.cuts(("tableau", "cover", "row"), few, self.until(seconds))
-        plans = [("tableau", more), ("cover", few)]
-        if (self.maker.base - few_base) < CLOSED * max(self.maker.goal - root, 1e-9):
-            plans.reverse()
-        plans = [plan for plan in plans if plan[1]]
-        if len(more) == len(few):
-            plans = plans[:1]
-        for k, (name, rows) in enumerate(plans):
-            if self.left() < 1 or self.is_short():
-                break
-            last = 1.0 if k + 1 == len(plans) else 0.7
-            seconds = AGAIN * self.share if self.best else self.left() * last
-            self.run(name, rows, seconds)
-        return bool(plans)
+        made("tableau", more)
+        if not all(self.model.whole):
+            made("lemma", self.maker.lemmas(self.until(seconds)))
+        return sorted(found, key=lambda s: (-round(s.gain / CLOSED), len(s.rows)))
 
     # a bound -----------------------------------------------------------------------
 
