@@ -16,11 +16,13 @@ import sys
 from dataclasses import dataclass, field
 from graphlib import TopologicalSorter
 from pathlib import Path
+from typing import Any, TypeVar
 
 TOP = Path(__file__).resolve().parent.parent
 READING = TOP / "docs" / "verify" / "reading.md"
 
 Key = tuple[str, str, str]  # crate, file, name
+T = TypeVar("T", bound=Any)
 
 USE = re.compile(r"^(?:unfoldable )?(?:pub )?use ([\w.]+?)\.\{(.*)\}$")
 OUTSIDE = re.compile(r"^(?:unfoldable )?(?:pub )?use |^\s*(?:module|infix|mutual|abbrev mutual)")
@@ -157,41 +159,55 @@ class Statement:
         crates: dict[str, set[str]] = {it[0]: set() for it in files}
         for it, others in below.items():
             crates[it[0]] |= {other[0] for other in others} - {it[0]}
-        rank = {crate: number for number, crate in enumerate(TopologicalSorter(crates).static_order())}
-        order = sorted(TopologicalSorter(below).static_order(), key=lambda it: rank[it[0]])
+        rank = {crate: number for number, crate in enumerate(upwards(crates))}
+        order = sorted(upwards(below), key=lambda it: rank[it[0]])
         return {it: sorted(files[it], key=lambda found: found.line) for it in order}
+
+
+def upwards(below: dict[T, set[T]]) -> list[T]:
+    """Each after those that it rests on."""
+    return list(TopologicalSorter({it: sorted(others) for it, others in sorted(below.items())}).static_order())
 
 
 @dataclass(frozen=True)
 class Theorem:
-    """What is promised, in a sentence, and the definitions that say it."""
+    """What is promised, the definitions that say it, and where to begin."""
 
     name: str
-    sentence: str
     roots: tuple[str, ...]
+    sentence: str
 
 
 HEADLINE = "bridge_tool/Promise:Answers"
 
 THEOREMS = (
-    Theorem("export", "What `export` answers, writes and tells, and what its program means.",
-            (HEADLINE, "bridge_tool/Export:export_promise")),
-    Theorem("what an export means", "The program that is written means what the file means.",
-            ("bridge_tool/Export:MeansTheFile",)),
-    Theorem("export with names", "The same with the names of two lists.",
-            (HEADLINE, "bridge_tool/NamedExport:named_promise")),
-    Theorem("return", "What `return` writes is the solver's answer, as AMPL sees it.",
-            (HEADLINE, "bridge_tool/Return:return_promise")),
-    Theorem("check", "What `check` answers on a point and duals.",
-            (HEADLINE, "bridge_tool/Check:check_promise")),
-    Theorem("prove", "What `prove` answers on a proof by branches.",
-            (HEADLINE, "bridge_tool/Prove:prove_promise")),
-    Theorem("what proved means", "What is true of the file where `prove` says yes.",
-            ("bridge_tool/Prove:IsProvedOf",)),
-    Theorem("all commands", "What `bridge` answers to any words.",
-            (HEADLINE, "bridge_tool/Commands:promise_of")),
+    Theorem("export", (HEADLINE, "bridge_tool/Export:export_promise"),
+            "What `export` answers, writes and tells, and what its program means. `nl_model/File` is the value of an .nl "
+            "text, `nl_segments/Reader` (`IsNl`) says which texts are .nl texts and what they say, `file_meaning/Meaning` "
+            "which assignments satisfy a file, `nl_meaning/Faults` and `file_meaning/FoldFaults` what does not fold, "
+            "`exported_program` which program is written, `mps_model/Mps` what a program means, `mps_model/Text` and "
+            "`mps_reader` its text, `bridge_tool/Export` and `Promise` what is promised of all that."),
+    Theorem("what an export means", ("bridge_tool/Export:MeansTheFile",),
+            "The program that is written means what the file means: this much has to be read to believe only that."),
+    Theorem("export with names", (HEADLINE, "bridge_tool/NamedExport:named_promise"),
+            "The same with two lists: `name_files/Names` says which texts are lists, `Renamed` what names change."),
+    Theorem("return", (HEADLINE, "bridge_tool/Return:return_promise"),
+            "What `return` writes: `answer_file` says which texts are answers, `sol_files/Sol` and `Written` what a .sol "
+            "value and its text are, `dual_return/Return` what the answer is returned as."),
+    Theorem("verify", (HEADLINE, "bridge_tool/Verify:verify_promise"),
+            "What `verify` answers: `certificate_text` says which texts are certificates, `duality/Parts`, `Branch`, `Ray` "
+            "and `Certificate` when one holds, `certificates/Says` what is then true of the file."),
+    Theorem("what a verified claim means", ("certificates/Says:IsTrueOf",),
+            "What is true of the file where `verify` says yes: this much has to be read to believe only that."),
+    Theorem("check", (HEADLINE, "bridge_tool/Check:check_promise"),
+            "What `check` answers on a point and duals: `duality/Verdict` has the phases of a verdict in their order."),
+    Theorem("prove", (HEADLINE, "bridge_tool/Prove:prove_promise"),
+            "What `prove` answers: `proof_text` says which texts are proofs and what tree each is."),
+    Theorem("what proved means", ("bridge_tool/Prove:IsProvedOf",),
+            "What is true of the file where `prove` says yes."),
+    Theorem("all commands", (HEADLINE, "bridge_tool/Commands:promise_of"),
+            "What `bridge` answers to any words."),
 )
-
 
 OPENING = (
     "# What to read to believe each theorem",
