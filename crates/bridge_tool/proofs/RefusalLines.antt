@@ -1,5 +1,5 @@
 -- Each line that tells a refusal begins with `refused `, and ends its line.
-use Rattle.std.proofs.Common.{◌≡◌, ◌∙◌, inl, inr, ◌⊎◌, ℕ, ℤ, List, ◌++◌, codes, refl, sym, ap, subst, append_assoc}
+use Rattle.std.proofs.Common.{◌≡◌, ◌∙◌, inl, inr, ℕ, ℤ, List, ◌++◌, codes, refl, sym, ap, subst, append_assoc}
 use Rattle.std.specs.Fmt.{decimal, signed_decimal}
 use Rattle.certificate_check.specs.declared.fitting.FitFault.{FitFault}
 use Rattle.linear_fold.specs.declared.fold_fault.FoldFault.{FoldFault}
@@ -12,8 +12,8 @@ use Rattle.row_scaling.specs.declared.scale_fault.ScaleFault.{ScaleFault}
 use Rattle.row_scaling.specs.declared.scale_fault.ScaleFault.TheVariants.{RowTooWide, ObjectiveTooWide}
 use Rattle.bridge_tool.specs.ImportTold.{import_line}
 use Rattle.bridge_tool.specs.NlTold.{fold_line, nl_line, opcode_text, or_zero, reason_text, scale_line}
-use Rattle.bridge_tool.specs.Outcome.{Outcome, Refused}
-use Rattle.bridge_tool.specs.Refusal.{IsRefused, HasTextRefusal, HasFoldRefusal, HasScaleRefusal}
+use Rattle.bridge_tool.specs.Outcome.{Refused}
+use Rattle.bridge_tool.specs.Refusal.{IsRefused}
 use Rattle.bridge_tool.specs.Told.{IsRefusalLine, file_text, refusal, refused_at}
 use Rattle.bridge_tool.specs.VerdictTold.{fit_line, fit_text, negative_line}
 

@@ -1,15 +1,14 @@
 -- What a certificate shows of an .nl text: one outcome, and what a yes means.
-use Rattle.std.proofs.Common.{◌≡◌, ◌∙◌, inl, inr, ◌⊎◌, ℕ, ◌+◌, ◌≤◌, Bool, true, false, List, Option, Some, None, Result, Ok, Err, refl, sym, ap, ap₂, subst, arith, codes}
+use Rattle.std.proofs.Common.{◌≡◌, ◌∙◌, inl, inr, ℕ, ◌+◌, ◌≤◌, Bool, true, false, List, Option, Some, None, Result, Ok, Err, refl, sym, ap, ap₂, subst, arith, codes}
 use Rattle.std.specs.Prelude.{option_map, IfOk}
 use Rattle.std.specs.Global.{Vec}
-use Rattle.fractions.specs.Fits.{fits}
 use Rattle.fractions.specs.Rational.{ℚ}
 use Rattle.linear_programs.specs.Linear.{Linear}
 use Rattle.duality.specs.Certificate.{Outcome as ClaimOutcome, holds, fails}
 use Rattle.text_base.specs.Desk.{Meaning, Texts}
 use Rattle.text_base.specs.declared.stop.Stop.{Stop}
 use Rattle.text_base.specs.declared.stop.Stop.TheVariants.{Fault, Memory}
-use Rattle.file_meaning.specs.FoldFaults.{fold_fault, has_objective}
+use Rattle.file_meaning.specs.FoldFaults.{has_objective}
 use Rattle.file_meaning.specs.LinearFile.{linear_of}
 use Rattle.linear_fold.specs.FoldedFaults.{first_fold_fault, named_fault, step_bound}
 use Rattle.linear_fold.specs.Programs.{LinearValue, linear_value}
@@ -19,7 +18,6 @@ use Rattle.nl_model.specs.Rules.{IsFile}
 use Rattle.nl_segments.specs.Grammar.{NlValue}
 use Rattle.nl_segments.specs.Reader.{IsNl}
 use Rattle.certificates.specs.Certificates.{CertificateValue, Given, IsAskedFor, IsCertificateIn, IsCertificateOf, claim_outcome, objective_of, spread}
-use Rattle.certificates.specs.Numbers.{number_value}
 use Rattle.certificates.specs.Reading.{given_in}
 use Rattle.certificates.specs.Says.{IsTrueOf}
 use Rattle.certificates.specs.declared.certificate.Claim.{Claim}
@@ -31,7 +29,7 @@ use Rattle.certificate_text.specs.Setting.{Setting, setting_of}
 use Rattle.certificate_text.proofs.ReadingLemmas.{one_reading}
 use Rattle.bridge_tool.specs.Answer.{EndsVerdict, IsWorked}
 use Rattle.bridge_tool.specs.CertificateTold.{HasFittingBound, certificate_line, is_held, outcome_line, certificate_reason_text}
-use Rattle.bridge_tool.specs.Outcome.{Outcome, Refused, Done}
+use Rattle.bridge_tool.specs.Outcome.{Refused, Done}
 use Rattle.bridge_tool.specs.Promise.{Promise}
 use Rattle.bridge_tool.specs.Refusal.{HasTextRefusal}
 use Rattle.bridge_tool.specs.SeveralFiles.{Comes, ReadsFile, after_file, ends, itself}
