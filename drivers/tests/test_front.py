@@ -1,4 +1,5 @@
-"""nl-bridge, refusals in words, the ends of commands, what installs and packs."""
+"""nl-bridge, refusals in words, the ends of commands, what installs and packs. Needs no `bridge`:
+a script that says two texts takes its place."""
 
 from __future__ import annotations
 
@@ -8,13 +9,12 @@ import io
 import json
 import os
 import re
-import shlex
 import subprocess
 import sys
 import unittest
 from unittest import mock
 
-from support import HERE, NEEDS_PROGRAM, PROGRAM, Case
+from support import HERE, Case
 from models import MODELS
 
 from bridge_drivers import VERSION, console, explaining, front, minizinc, stats
@@ -26,10 +26,34 @@ from bridge_drivers.options import BadOption, Options
 DRIVERS = os.path.join(HERE, "..")
 BIN = os.path.join(DRIVERS, "bin")
 TOP = os.path.join(DRIVERS, "..")
-BRIDGE = shlex.join(PROGRAM)
+SAYING = """#!/bin/sh
+if [ "$1" = export ] && grep -q '^o2' "$2"; then
+    echo 'refused line 12: nonlinear' >&2
+    exit 2
+fi
+exec cat "{folder}/said.$1"
+"""
 HEAD = b"g3 1 1 0\n 3 1 1 0 0\n" + b" 0 0\n" * 8
 PRODUCT = HEAD + (b"C0\no54\n3\no2\nn5\nv1\no2\nv0\no0\nv1\nn3\nv2\nO0 0\nn0\nr\n1 4\n"
                   b"b\n0 0 1\n0 0 1\n0 0 1\n")
+EXPORTED = (b"NAME nl\nOBJSENSE\n MAX\nROWS\n N obj\n L c0\n G c2\n E c3\nCOLUMNS\n x0 obj 2\n"
+             b" x0 c0 0.5\n x0 c2 1e31\n M0 'MARKER' 'INTORG'\n x1 c0 -3\n x1 c3 0\n"
+             b" x2 c2 0.30000000000000004441\n M1 'MARKER' 'INTEND'\n x3 obj 0\nRHS\n"
+             b" RHS obj -7\n RHS c0 1e30\nRANGES\n RNG c2 5\nBOUNDS\n LO BND x0 0\n UP BND x0 1\n"
+             b" LO BND x1 0\n UP BND x1 1\n FX BND x2 4\n FR BND x3\nENDATA\n")
+RETURNED = b"\nOptions\n3\n1\n1\n0\n4\n4\n4\n0\n3\n0\n1\n1\nobjno 0 0\n"
+
+
+def saying(folder: str) -> str:
+    """The words that start a `bridge` of the folder, which refuses products, and says the two
+    texts for all other models."""
+    path = os.path.join(folder, "saying bridge")
+    for name, data in (("said.export", EXPORTED), ("said.return", RETURNED),
+                       ("saying bridge", SAYING.format(folder=folder).encode())):
+        with open(os.path.join(folder, name), "wb") as f:
+            f.write(data)
+    os.chmod(path, 0o755)
+    return f"'{path}'"
 
 
 def in_words(text: str, names: Names | None = None, mark: int = -1) -> str:
@@ -168,14 +192,8 @@ class UnknownWords(unittest.TestCase):
 
 
 class Figures(unittest.TestCase):
-    TEXT = (b"NAME nl\nOBJSENSE\n MAX\nROWS\n N obj\n L c0\n G c2\n E c3\nCOLUMNS\n x0 obj 2\n"
-            b" x0 c0 0.5\n x0 c2 1e31\n M0 'MARKER' 'INTORG'\n x1 c0 -3\n x1 c3 0\n"
-            b" x2 c2 0.30000000000000004441\n M1 'MARKER' 'INTEND'\n x3 obj 0\nRHS\n"
-            b" RHS obj -7\n RHS c0 1e30\nRANGES\n RNG c2 5\nBOUNDS\n LO BND x0 0\n UP BND x0 1\n"
-            b" LO BND x1 0\n UP BND x1 1\n FX BND x2 4\n FR BND x3\nENDATA\n")
-
     def test_lines(self) -> None:
-        lines = stats.lines_of(stats.figures_of(self.TEXT), {"c0": "3", "c2": "1"}, Names(""))
+        lines = stats.lines_of(stats.figures_of(EXPORTED), {"c0": "3", "c2": "1"}, Names(""))
         self.assertEqual(lines, [
             "sense         maximise, constant 7",
             "columns       4: 2 continuous, 1 binary, 1 integer; 1 free, 1 fixed",
@@ -212,13 +230,12 @@ class Figures(unittest.TestCase):
         self.assertEqual(factors, {"c0": "6", "c2": "7"})
 
 
-@NEEDS_PROGRAM
 class Front(Case):
     def call(self, *words: str) -> tuple[int, str, str]:
-        """Status, standard output and error of a call in this process, over the program."""
+        """Status, standard output and error of a call in this process."""
         out, err = io.StringIO(), io.StringIO()
         with contextlib.redirect_stdout(out), contextlib.redirect_stderr(err), \
-                mock.patch.dict(os.environ, {"BRIDGE": BRIDGE}):
+                mock.patch.dict(os.environ, {"BRIDGE": saying(self.folder)}):
             status = front.command(words)
         return status, out.getvalue(), err.getvalue()
 
@@ -253,7 +270,8 @@ class Front(Case):
         self.put(MODELS["knap"].text)
         status, out, err = self.call("stats", self.stub + ".nl")
         self.assertEqual((status, err), (0, ""))
-        self.assertIn("columns       3: 0 continuous, 3 binary, 0 integer; 0 free, 0 fixed\n", out)
+        self.assertIn("columns       4: 2 continuous, 1 binary, 1 integer; 1 free, 1 fixed\n", out)
+        self.assertIn("scaled rows   1: c0 by 3\n", out)
         self.put(MODELS["nonlinear"].text)
         status, out, err = self.call("stats", self.stub + ".nl")
         self.assertEqual((status, out), (2, ""))
@@ -320,7 +338,6 @@ class Ends(Case):
         self.assertEqual((ran.returncode, ran.stderr), (1, b"bridge-cbc: standard output: Broken "
                                                            b"pipe\n"))
 
-    @NEEDS_PROGRAM
     def test_paths_that_are_not_utf8(self) -> None:
         """`bridge` is given a link of another name; messages show the path's own bytes."""
         folder = os.fsencode(self.folder) + b"/\xff"
@@ -329,7 +346,8 @@ class Ends(Case):
             f.write(MODELS["nonlinear"].text)
         ran = subprocess.run([sys.executable, os.path.join(BIN, "bridge-cbc"), folder + b"/m",
                               b"solver=/bin/true"],
-                             capture_output=True, env={**os.environ, "BRIDGE": BRIDGE},
+                             capture_output=True,
+                             env={**os.environ, "BRIDGE": saying(self.folder)},
                              check=False)
         self.assertEqual(ran.returncode, 2)
         self.assertTrue(ran.stderr.endswith(b"/\xff/m.nl line 12: constraint 0: (x0 * x1) is "
