@@ -87,6 +87,8 @@ class Certifying:
         self.factors = factors(self.bridge, self.nl, self.folder, names)
         self.model = Model(self.program.text, self.factors, header(self.nl).constraints)
         self.linear = not any(self.model.whole)
+        if not self.proves:
+            self.watch.restart()
 
     # the text and its verdict ------------------------------------------------------
 

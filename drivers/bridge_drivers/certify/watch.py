@@ -26,6 +26,10 @@ class Watch:
         self.began = self.told = time.monotonic()
         self.is_stopped = False
 
+    def restart(self) -> None:
+        """The seconds count from here."""
+        self.began = time.monotonic()
+
     def spent(self) -> float:
         return time.monotonic() - self.began
 
