@@ -1,6 +1,7 @@
 #!/usr/bin/env bash
 # Times the built program: `export` beside a plain converter on AMPL's own library (asl2mps.c, which is built here where
-# Debian's libamplsolver-dev is there), and `mps`, which reads and writes, beside clp, which reads alone (coinor-clp).
+# Debian's libamplsolver-dev is there), `mps`, which reads and writes, beside clp, which reads alone (coinor-clp), and
+# `verify` of large certificates.
 #
 #     [TERMS="1000000 2000000 4000000"] [RUNS=5] bench/run.sh PROGRAM [BASELINE]
 #
@@ -93,4 +94,14 @@ for size in "${sizes[@]}"; do
     part=-
     [ -z "$clp" ] || part=$(ratio "$seconds" "$beside")
     printf '%9s %8s %8s %6s %14s %8s\n' "$size" "$seconds" "${beside:--}" "$part" "$(bytes_each "$peak" "$size")" "$nl"
+done
+
+echo
+echo "verify: trees of splits with 2^18 and 2^20 leaves of three rows, chains of planes, on 1,000 rows and variables"
+printf '%16s %8s %14s %15s\n' certificate verify "bytes of text" "peak, kilobytes"
+for made in "leaves 18" "leaves 20" "planes 16384" "planes 65535"; do
+    read -r kind size <<<"$made"
+    python3 "$here/certificates.py" "$kind" "$size" "$work"
+    read -r seconds peak <<<"$(measure 0 "$program" verify "$work/$kind.nl" "$work/$kind.certificate")"
+    printf '%16s %8s %14s %15s\n' "$made" "$seconds" "$(stat -c %s "$work/$kind.certificate")" "$peak"
 done
