@@ -25,6 +25,7 @@ pub mod Outcomes
 pub mod RefusalLines
 pub mod Returning
 pub mod SeveralFiles
+pub mod SolLines
 pub mod SolRewriting
 pub mod Summing
 pub mod Verifying

@@ -12,7 +12,7 @@ mod export;
 mod fixed;
 mod import;
 mod import_told;
-mod laws;
+pub mod laws;
 mod leaf_told;
 mod make;
 mod mps;
@@ -40,7 +40,4 @@ mod verdict_told;
 mod verify;
 
 pub use instances::make_instance;
-pub use laws::{
-    names_change_no_verdict, one_outcome, programs_mean_their_files, told_lines_are_lines,
-};
 pub use top::bridge;
