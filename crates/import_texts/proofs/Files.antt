@@ -24,28 +24,28 @@ use Rattle.mps_import.proofs.TermLemmas.{few_terms}
 
 -- ---- terms
 
--- terms of variables below n
-abbrev IsBelow : ℕ → Term → Type 0
-IsBelow n t = t.0 < n
+module _ (P : Term → Type 0) where
+  entry_terms : (p : ℕ) (d : Dec) (tail : List Term) (a z : Bool) → P (p, d) → All P tail → All P (cons_option (if a && not z then Some (p, d) else None) tail)
+  entry_terms p d tail true true is h = h
+  entry_terms p d tail true false is h = All-cons P (p, d) tail is h
+  entry_terms p d tail false z is h = h
 
-entry_below : (n p : ℕ) (d : Dec) (tail : List Term) (a z : Bool) → p < n → All (IsBelow n) tail → All (IsBelow n) (cons_option (if a && not z then Some (p, d) else None) tail)
-entry_below n p d tail true true lt h = h
-entry_below n p d tail true false lt h = All-cons (IsBelow n) (p, d) tail lt h
-entry_below n p d tail false z lt h = h
+  -- what holds of each term of variable p holds of those of a column
+  pub column_terms : (i p : ℕ) (es : List (Entry Dec)) → ((d : Dec) → P (p, d)) → All P (filter_map (term_of i p) es)
+  column_terms i p [] each = All-nil P
+  column_terms i p (e ∷ es) each = entry_terms p e.value (filter_map (term_of i p) es) (nat_eq e.row i) (is_zero_dec e.value) (each e.value) (column_terms i p es each)
 
-column_below : (n i p : ℕ) (es : List (Entry Dec)) → p < n → All (IsBelow n) (filter_map (term_of i p) es)
-column_below n i p [] lt = All-nil (IsBelow n)
-column_below n i p (e ∷ es) lt = entry_below n p e.value (filter_map (term_of i p) es) (nat_eq e.row i) (is_zero_dec e.value) lt (column_below n i p es lt)
-
-columns_below : (m : Mps Dec) (n i p : ℕ) (js : List ℕ) → p + length js ≤ n → All (IsBelow n) (terms_from m i p js)
-unfolding terms_from
-columns_below m n i p [] le = All-nil (IsBelow n)
-columns_below m n i p (j ∷ js) le =
-    All-append (IsBelow n) (filter_map (term_of i p) (entries_at m j)) (terms_from m i (suc p) js) (column_below n i p (entries_at m j) (omega (arith, le))) (columns_below m n i (suc p) js (omega (arith, le)))
+  -- and so for the columns from p on
+  pub all_terms_from : (m : Mps Dec) (i p : ℕ) (js : List ℕ) → ((q : ℕ) (d : Dec) → p ≤ q → q < p + length js → P (q, d)) → All P (terms_from m i p js)
+  unfolding terms_from
+  all_terms_from m i p [] each = All-nil P
+  all_terms_from m i p (j ∷ js) each =
+      All-append P (filter_map (term_of i p) (entries_at m j)) (terms_from m i (suc p) js) (column_terms i p (entries_at m j) (λ d. each p d (omega arith) (omega arith)))
+      (all_terms_from m i (suc p) js (λ q d from below. each q d (omega (arith, from)) (omega (arith, below))))
 
 row_below : (m : Mps Dec) (i : ℕ) → AreTermsBelow (length m.columns) (row_terms m i)
 unfolding row_terms
-row_below m i = columns_below m (length m.columns) i 0 (order_of_columns m) (omega (arith, order_length m))
+row_below m i = all_terms_from (λ t. t.0 < length m.columns) m i 0 (order_of_columns m) (λ q d from below. omega (arith, below, order_length m))
 
 always : (P : ℕ → Type 0) (js : List ℕ) → ((j : ℕ) → P j) → All P js
 always P js h k d lt = h (get_or js k d)
