@@ -1,0 +1,5 @@
+pub mod Binary
+pub mod Files
+pub mod Writing
+pub mod Exporting
+pub mod Decimals

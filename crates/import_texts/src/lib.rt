@@ -1,0 +1,4 @@
+//! What is written of an imported program says its file.
+#![tactic(auto)]
+
+pub mod laws;
