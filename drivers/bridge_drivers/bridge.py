@@ -11,6 +11,7 @@ import tempfile
 from typing import Callable, Mapping, NamedTuple, Sequence
 
 from . import explaining
+from .interrupts import with_child
 
 PACKAGE = os.path.dirname(os.path.abspath(__file__))
 HERE = os.path.dirname(PACKAGE)
@@ -116,13 +117,16 @@ class Bridge:
         argv = self.words + [self.reachable(word) for word in words]
         self.note(argv)
         try:
-            ran = subprocess.run(argv, stdin=subprocess.DEVNULL, capture_output=True,
-                                 timeout=self.limit)
+            return with_child(self.reply, argv, stdin=subprocess.DEVNULL, stdout=subprocess.PIPE,
+                              stderr=subprocess.PIPE)
         except OSError as fault:
             raise Missing(f"{argv[0]} could not be run: {fault.strerror}") from None
         except subprocess.TimeoutExpired:
             raise Late(words[0]) from None
-        return Reply(ran.returncode, ran.stdout, ran.stderr.decode("utf-8", "replace").strip())
+
+    def reply(self, child: subprocess.Popen[bytes]) -> Reply:
+        out, told = child.communicate(timeout=self.limit)
+        return Reply(child.returncode, out, told.decode("utf-8", "replace").strip())
 
     def reachable(self, word: str) -> str:
         """`bridge` takes words of UTF-8 alone: a path of other bytes is given as a link to it."""

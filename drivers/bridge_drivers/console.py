@@ -6,6 +6,8 @@ import os
 import sys
 from typing import Callable, NoReturn, TextIO, TypeVar, cast
 
+from .interrupts import SIGNALS, Interrupted
+
 BROKEN = 1                      # the exit status where standard output broke
 Result = TypeVar("Result")
 
@@ -47,7 +49,8 @@ def own_name() -> str:
 
 def run(name: str, command: Callable[[], int], broken: int = BROKEN) -> NoReturn:
     """Ends the process with the command's status. Bytes of paths that are not UTF-8 are printed
-    as they are; a standard output that breaks is told in one line."""
+    as they are; a standard output that breaks is told in one line, and so is a signal."""
+    SIGNALS.take()
     for stream in (sys.stdout, sys.stderr):
         if hasattr(stream, "reconfigure"):
             stream.reconfigure(errors="surrogateescape" if stream.encoding.lower() == "utf-8"
@@ -59,6 +62,9 @@ def run(name: str, command: Callable[[], int], broken: int = BROKEN) -> NoReturn
     except OutputBroken as fault:
         close(f"{name}: standard output: {fault}\n")
         status = broken
+    except Interrupted as signal:
+        close(f"{name}: interrupted\n")
+        status = signal.status()
     sys.exit(status)
 
 

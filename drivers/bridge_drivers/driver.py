@@ -5,7 +5,6 @@ from __future__ import annotations
 import contextlib
 import os
 import shutil
-import signal
 import sys
 import tempfile
 from typing import Sequence
@@ -13,6 +12,7 @@ from typing import Sequence
 from . import VERSION, console, minizinc, solvers, words
 from .bridge import BESIDE, Bridge, Missing, find
 from .codes import Code, Failure, Status
+from .interrupts import SIGNALS, Interrupted
 from .job import Clock
 from .names import Names
 from .options import BadOption, Options
@@ -36,9 +36,6 @@ class Driver:
 
     def main(self, argv: Sequence[str]) -> int:
         """The exit status."""
-        for number in (signal.SIGTERM, signal.SIGINT):
-            if signal.getsignal(number) is not signal.SIG_IGN:      # which stays ignored
-                signal.signal(number, self.stop)
         self.words = words.read(argv)
         if self.words.ask is not None:
             sys.stdout.write(self.told(self.words.ask))
@@ -54,6 +51,8 @@ class Driver:
             return Status.DONE
         except Failure as fault:
             return self.failed(fault)
+        except Interrupted as signal:
+            return self.failed(Failure(Code.STOPPED, "interrupted", Status(signal.status())))
         except Exception as fault:      # a modelling system is told, whatever it was
             if self.options.outlev >= 2:
                 raise
@@ -70,10 +69,6 @@ class Driver:
             return words.usage(self.name, self.solver.title)
         place = self.solver.place() or "not found"
         return f"{self.name} {VERSION} ({self.solver.title} {place})\n"
-
-    def stop(self, number: int, frame: object) -> None:
-        status = Status.INTERRUPTED if number == signal.SIGINT else Status.TERMINATED
-        raise Failure(Code.STOPPED, "interrupted", status)
 
     # before the run ----------------------------------------------------------------
 
@@ -128,7 +123,16 @@ class Driver:
             raise Failure(Code.FILE, f"{self.nl}: no such file", Status.NO_FILE)
         bridge = self.find_bridge()
         solver_path = "" if self.options.only else self.find_solver()
-        folder = self.options.keep or tempfile.mkdtemp(prefix=self.name + "-")
+        with SIGNALS.kept(True):
+            folder = self.options.keep or tempfile.mkdtemp(prefix=self.name + "-")
+            try:
+                with SIGNALS.kept(False):
+                    return self.work_in(folder, bridge, solver_path)
+            finally:
+                if not self.options.keep:
+                    shutil.rmtree(folder, ignore_errors=True)
+
+    def work_in(self, folder: str, bridge: Bridge, solver_path: str) -> Result:
         try:
             os.makedirs(folder, exist_ok=True)
             return self.make_solving(self.solver, self.options, bridge, self.clock, self.nl,
@@ -137,9 +141,6 @@ class Driver:
             raise Failure(Code.NOT_FOUND, str(fault)) from None
         except OSError as fault:
             raise Failure(Code.FILE, f"{fault.filename or folder}: {fault.strerror}") from None
-        finally:
-            if not self.options.keep:
-                shutil.rmtree(folder, ignore_errors=True)
 
     # after the run -----------------------------------------------------------------
 
@@ -181,10 +182,11 @@ class Driver:
     def put(self, sol: bytes) -> None:
         part = self.sol + ".part"
         try:
-            with open(part, "wb") as f:
-                f.write(sol)
-            os.replace(part, self.sol)
-            self.is_put = True
+            with SIGNALS.kept(True):
+                with open(part, "wb") as f:
+                    f.write(sol)
+                os.replace(part, self.sol)
+                self.is_put = True
         except OSError as fault:
             with contextlib.suppress(OSError):
                 os.unlink(part)

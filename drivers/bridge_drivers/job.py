@@ -4,13 +4,13 @@ from __future__ import annotations
 
 import os
 import shlex
-import signal
 import subprocess
 import sys
 import threading
 import time
 from typing import Any, Callable, NamedTuple, Sequence, TypeVar
 
+from .interrupts import kill, with_child
 from .options import Options
 from .program import Program
 
@@ -94,10 +94,12 @@ class Job:
         return ran
 
     def process(self, argv: Sequence[str]) -> Ran:
+        return with_child(self.followed, argv, stdin=subprocess.DEVNULL, stdout=subprocess.PIPE,
+                          stderr=subprocess.STDOUT, cwd=self.folder, start_new_session=True)
+
+    def followed(self, child: subprocess.Popen[bytes]) -> Ran:
+        """To its end, or that of its time."""
         killed = threading.Event()
-        child = subprocess.Popen(argv, stdin=subprocess.DEVNULL, stdout=subprocess.PIPE,
-                                 stderr=subprocess.STDOUT, cwd=self.folder,
-                                 start_new_session=True)
 
         def late() -> None:
             killed.set()
@@ -117,17 +119,5 @@ class Job:
             status = child.wait()
         finally:                    # also where a signal ends the driver
             timer.cancel()
-            if child.poll() is None:
-                kill(child)
-                child.wait()
-            child.stdout.close()
         sys.stdout.flush()
         return Ran(status, "".join(lines), killed.is_set())
-
-
-def kill(child: subprocess.Popen[bytes]) -> None:
-    """The solver and what it started, which may hold its output open."""
-    try:
-        os.killpg(child.pid, signal.SIGKILL)
-    except (ProcessLookupError, PermissionError):
-        child.kill()

@@ -8,7 +8,6 @@ import io
 import os
 import re
 import shutil
-import signal
 import subprocess
 import sys
 import tempfile
@@ -161,15 +160,10 @@ class Case(unittest.TestCase):
         """A driver in this process, whose solver answers as it did for the named model."""
         Replay.run_of = run or stored.runs(driver).get(name, {"files": {}, "logs": {}})
         out, err = io.StringIO(), io.StringIO()
-        old = [(n, signal.getsignal(n)) for n in (signal.SIGINT, signal.SIGTERM)]
-        try:
-            with mock.patch("shutil.which", lambda name, **_: "/stored/" + name), \
-                    mock.patch.dict(os.environ, environment or {}), \
-                    contextlib.redirect_stdout(out), contextlib.redirect_stderr(err):
-                status = OfflineDriver(driver).main(list(words))
-        finally:
-            for number, handler in old:
-                signal.signal(number, handler)
+        with mock.patch("shutil.which", lambda name, **_: "/stored/" + name), \
+                mock.patch.dict(os.environ, environment or {}), \
+                contextlib.redirect_stdout(out), contextlib.redirect_stderr(err):
+            status = OfflineDriver(driver).main(list(words))
         return Ended(int(status), out.getvalue(), err.getvalue())
 
     def judge(self, driver: str, name: str) -> None:

@@ -13,6 +13,7 @@ from .. import VERSION, console, solvers
 from ..certificates import remove_older
 from ..codes import Code, Failure, Status
 from ..driver import Driver
+from ..interrupts import SIGNALS
 from ..options import BadOption, Option
 from ..solving import Result
 
@@ -73,17 +74,22 @@ class Command:
 
     def run(self) -> int:
         """An older certificate goes first: it must not pass for this run's."""
-        folder = tempfile.mkdtemp(prefix=NAME + "-")
+        with SIGNALS.kept(True):
+            folder = tempfile.mkdtemp(prefix=NAME + "-")
+            try:
+                with SIGNALS.kept(False):
+                    return self.run_in(folder)
+            finally:
+                shutil.rmtree(folder, ignore_errors=True)
+
+    def run_in(self, folder: str) -> int:
         place = os.path.join(folder, "kept") if self.path == "-" else self.path
-        try:
-            remove_older(place)
-            status = self.found(place)
-            if self.path == "-" and os.path.exists(place):
-                with open(place, encoding="ascii") as f:
-                    shutil.copyfileobj(f, sys.stdout)
-            return status
-        finally:
-            shutil.rmtree(folder, ignore_errors=True)
+        remove_older(place)
+        status = self.found(place)
+        if self.path == "-" and os.path.exists(place):
+            with open(place, encoding="ascii") as f:
+                shutil.copyfileobj(f, sys.stdout)
+        return status
 
     def found(self, place: str) -> int:
         """By a driver with its option `prove`."""
