@@ -6,10 +6,11 @@ ghost use Rattle.exact_numbers.specs.Values.{dec_value};
 ghost use Rattle.file_meaning.specs.LinearFile.{linear_of};
 ghost use Rattle.mps_model.specs.Mps.{IsMpsFeasible, Mps, mps_objective};
 ghost use Rattle.mps_model.specs.Valid.{IsMps};
-ghost use Rattle.exported_program.specs.Export.{IsDecimal, IsProgramOf};
+ghost use Rattle.exported_program.specs.Export.{IsDecimal};
 ghost use Rattle.mps_import.specs.Faults.{import_fault};
 ghost use Rattle.mps_import.specs.Import.{import_of};
 ghost use Rattle.mps_import.specs.Variables.{in_order, values_of};
+ghost use Rattle.row_scaling.specs.Scaling.{IsExportOf};
 ghost use Rattle.import_texts.specs.Imports.{ImportsAreSaid, ImportsAreWritable};
 
 /// The file of a program that is imported can be written.
@@ -27,12 +28,12 @@ pub fn imports_are_said()
 /// variables, the same objective and the same sense. Its objective is not tied.
 pub fn imports_are_exported()
     ensures decimal { (m : Mps Dec) → IsMps dec_value m → IsDecimal (linear_of (import_of m) 0) }
-    ensures points { (m p : Mps Dec) (xs : List ℚ) → IsMps dec_value m → import_fault m ≡ None
-        → IsProgramOf (linear_of (import_of m) 0) p
-        → IsMpsFeasible (values_of m) xs ↔ IsMpsFeasible (values_of p) (in_order m xs) }
-    ensures objective { (m p : Mps Dec) (xs : List ℚ) → IsMps dec_value m → import_fault m ≡ None
-        → IsProgramOf (linear_of (import_of m) 0) p
-        → mps_objective (values_of p) (in_order m xs) ≡ mps_objective (values_of m) xs }
-    ensures sense { (m p : Mps Dec) → IsMps dec_value m → import_fault m ≡ None
-        → IsProgramOf (linear_of (import_of m) 0) p → p.maximise ≡ m.maximise }
+    ensures points { (m : Mps Dec) (p : Mps ℚ) (xs : List ℚ) → IsMps dec_value m
+        → import_fault m ≡ None → IsExportOf (linear_of (import_of m) 0) p
+        → IsMpsFeasible (values_of m) xs ↔ IsMpsFeasible p (in_order m xs) }
+    ensures objective { (m : Mps Dec) (p : Mps ℚ) (xs : List ℚ) → IsMps dec_value m
+        → import_fault m ≡ None → IsExportOf (linear_of (import_of m) 0) p
+        → mps_objective p (in_order m xs) ≡ mps_objective (values_of m) xs }
+    ensures sense { (m : Mps Dec) (p : Mps ℚ) → IsMps dec_value m → import_fault m ≡ None
+        → IsExportOf (linear_of (import_of m) 0) p → p.maximise ≡ m.maximise }
 {}
