@@ -11,7 +11,7 @@ ghost use Rattle.mps_import.specs.Faults.{import_fault};
 ghost use Rattle.mps_import.specs.Import.{import_of};
 ghost use Rattle.mps_import.specs.Variables.{in_order, values_of};
 ghost use Rattle.row_scaling.specs.Scaling.{IsExportOf};
-ghost use Rattle.import_texts.specs.Imports.{ImportsAreSaid, ImportsAreWritable};
+ghost use Rattle.import_texts.specs.Imports.{ImportsAreSaid, ImportsAreWritable, NoOtherFileIsSaid};
 
 /// The file of a program that is imported can be written.
 pub fn imports_are_writable()
@@ -19,9 +19,10 @@ pub fn imports_are_writable()
 {}
 
 /// What is written of the file of a program that is imported is a text of the profile, without
-/// faults, that says this file.
+/// faults, that says this file and no other.
 pub fn imports_are_said()
-    ensures { ImportsAreSaid }
+    ensures said { ImportsAreSaid }
+    ensures only { NoOtherFileIsSaid }
 {}
 
 /// The program that the file of a program m is exported as has the points of m, in the order of the
