@@ -1,5 +1,5 @@
 -- The numbers of an imported objective are decimals.
-use Rattle.std.proofs.Common.{◌≡◌, ◌≢◌, ◌∙◌, ℕ, zero, suc, ◌+◌, ◌<◌, ◌≤◌, Bool, true, false, ◌&&◌, not, cond, nat_eq, List, [], ◌∷◌, ◌++◌, length, get_or, All, AllPairs, refl, sym, ap, ap₂, subst, arith, Some, None, if◌then◌else◌}
+use Rattle.std.proofs.Common.{◌≡◌, ◌≢◌, ◌∙◌, ℕ, zero, suc, Bool, true, false, ◌&&◌, not, cond, nat_eq, List, [], ◌∷◌, ◌++◌, get_or, All, AllPairs, refl, sym, ap, ap₂, subst, arith, Some, None, if◌then◌else◌}
 use Rattle.std.specs.List.{cons_option, filter_map}
 use Rattle.std.proofs.lemmas.Bool.{eq-eqb, eqb-true}
 use Rattle.std.proofs.lemmas.List.Elements.{All-append, All-cons, All-nil}
@@ -8,7 +8,7 @@ use Rattle.fractions.specs.Sums.{sum_over}
 use Rattle.fractions.proofs.Adding.{sum_over-append}
 use Rattle.fractions.proofs.Arithmetic.{+ℚ_zero, zero-+ℚ}
 use Rattle.exact_numbers.specs.declared.dec.Dec.{Dec}
-use Rattle.exact_numbers.specs.Values.{FitsDec, dec_value, decimal_of}
+use Rattle.exact_numbers.specs.Values.{FitsDec, dec_value}
 use Rattle.nl_model.specs.File.{Term}
 use Rattle.file_meaning.specs.Expressions.{definitions_of}
 use Rattle.file_meaning.specs.LinearFile.{coefficient_of, linear_of, objective_form}

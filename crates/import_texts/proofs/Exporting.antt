@@ -1,8 +1,8 @@
 -- The program that an imported file is exported as.
-use Rattle.std.proofs.Common.{◌≡◌, ◌∙◌, ◌↔◌, ℕ, ◌<◌, List, length, get_or, sym, ap, refl, subst, arith, Option, Some, None, replicate}
+use Rattle.std.proofs.Common.{◌≡◌, ◌∙◌, ◌↔◌, ℕ, List, length, sym, ap, subst, Option, Some, None}
 use Rattle.std.proofs.lemmas.List.{get_or-replicate}
 use Rattle.fractions.specs.Rational.{ℚ}
-use Rattle.linear_programs.specs.Linear.{Linear, objective_value as program_objective}
+use Rattle.linear_programs.specs.Linear.{IsFeasible, Linear, objective_value as program_objective, row_at, variable_count}
 use Rattle.exact_numbers.specs.declared.dec.Dec.{Dec}
 use Rattle.nl_meaning.specs.Trees.{Tree}
 use Rattle.file_meaning.specs.Expressions.{tree_or_zero}
@@ -10,10 +10,12 @@ use Rattle.file_meaning.specs.LinearFile.{HasLines, IsFormedFile, IsNumber, IsPl
 use Rattle.file_meaning.proofs.Files.{linear_lem, same_feasible, same_objective as same_value, same_sense as sense_of}
 use Rattle.file_meaning.proofs.Formed.{file_formed}
 use Rattle.file_meaning.proofs.Plain.{plain_has_lines}
-use Rattle.mps_model.specs.Mps.{IsMpsFeasible, Mps, mps_objective, with_values}
-use Rattle.exported_program.specs.Export.{IsDecimal, IsProgramOf, factor_of_row}
-use Rattle.exported_program.proofs.Export.{same_sense as program_sense}
-use Rattle.exported_program.proofs.Exported.{plain_objective, plain_points}
+use Rattle.mps_model.specs.Mps.{IsMpsFeasible, Mps, mps_objective}
+use Rattle.exported_program.specs.Export.{IsDecimal, factor_of_row}
+use Rattle.exported_program.specs.Factor.{row_numbers}
+use Rattle.exported_program.proofs.Export.{same_objective as objective_of_program, same_points as points_of, same_sense as sense_of_program}
+use Rattle.exported_program.proofs.Factor.{factor_above}
+use Rattle.row_scaling.specs.Scaling.{IsExportOf}
 use Rattle.mps_import.specs.Faults.{import_fault}
 use Rattle.mps_import.specs.Import.{constraints, import_counts, import_of}
 use Rattle.mps_import.specs.Variables.{in_order, values_of}
@@ -31,28 +33,34 @@ plain_import m = record {
 the_same : (a b : ℚ) → Some a ≡ Some b → b ≡ a
 the_same a b e = cc
 
-module _ (m : Mps Dec) (clean : import_fault m ≡ None) (p : Mps Dec) (exports : IsProgramOf (linear_of (import_of m) 0) p) (d : IsDecimal (linear_of (import_of m) 0)) where
+module _ (m : Mps Dec) (clean : import_fault m ≡ None) (p : Mps ℚ) (exports : IsExportOf (linear_of (import_of m) 0) p) (d : IsDecimal (linear_of (import_of m) 0)) where
+  abbrev folded : Linear
+  folded = linear_of (import_of m) 0
+
+  abbrev factors : ℕ → ℕ
+  factors = factor_of_row folded
+
   formed : IsFormedFile (import_of m) 0
   formed = file_formed (import_of m) (is_file m clean) 0
 
   lines : HasLines (import_of m) 0
   lines = plain_has_lines (import_of m) 0 formed (plain_import m)
 
-  pub same_points : (xs : List ℚ) → IsMpsFeasible (values_of m) xs ↔ IsMpsFeasible (values_of p) (in_order m xs)
+  pub same_points : (xs : List ℚ) → IsMpsFeasible (values_of m) xs ↔ IsMpsFeasible p (in_order m xs)
   same_points xs =
+      let ys = in_order m xs in
       let imported = feasible_lem m clean xs in
-      let folded = same_feasible (import_of m) 0 lines (in_order m xs) in
-      let exported = plain_points (linear_of (import_of m) 0) p (in_order m xs) (linear_lem (import_of m) 0 formed) exports d in
-      (λ h. exported.1 (folded.0 (imported.0 h)), λ h. imported.1 (folded.1 (exported.0 h)))
+      let meant = same_feasible (import_of m) 0 lines ys in
+      let program_points = points_of folded factors ys (linear_lem (import_of m) 0 formed) (λ i. factor_above (row_numbers (variable_count folded) (row_at folded i))) in
+      let exported : IsMpsFeasible p ys ↔ IsFeasible folded ys = subst (λ t. IsMpsFeasible t ys ↔ IsFeasible folded ys) (sym (exports.plain d)) program_points in
+      (λ h. exported.1 (meant.0 (imported.0 h)), λ h. imported.1 (meant.1 (exported.0 h)))
 
-  pub same_objective : (xs : List ℚ) → mps_objective (values_of p) (in_order m xs) ≡ mps_objective (values_of m) xs
+  pub same_objective : (xs : List ℚ) → mps_objective p (in_order m xs) ≡ mps_objective (values_of m) xs
   same_objective xs =
-      let value = same_value (import_of m) 0 lines (in_order m xs) in
-      plain_objective (linear_of (import_of m) 0) p (in_order m xs) exports d
-      ∙ the_same (mps_objective (values_of m) xs) (program_objective (linear_of (import_of m) 0) (in_order m xs)) (sym (objective_lem m xs) ∙ value)
+      let ys = in_order m xs in
+      ap (λ t. mps_objective t ys) (exports.plain d)
+      ∙ objective_of_program folded factors ys
+      ∙ the_same (mps_objective (values_of m) xs) (program_objective folded ys) (sym (objective_lem m xs) ∙ same_value (import_of m) 0 lines ys)
 
   pub same_sense : p.maximise ≡ m.maximise
-  unfolding with_values
-  same_sense =
-      let f = linear_of (import_of m) 0 in
-      ap (λ (t : Mps ℚ). t.maximise) (exports.plain d) ∙ program_sense f (factor_of_row f) ∙ sense_of (import_of m) 0 ∙ sense_lem m
+  same_sense = ap (λ (t : Mps ℚ). t.maximise) (exports.plain d) ∙ sense_of_program folded factors ∙ sense_of (import_of m) 0 ∙ sense_lem m

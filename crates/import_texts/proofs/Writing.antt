@@ -1,5 +1,5 @@
 -- The laws of written imports.
-use Rattle.std.proofs.Common.{◌≡◌, ℕ, zero, suc, ◌<◌, ◌≤◌, true, false, ◌^◌, [], ◌∷◌, length, refl, subst, arith, Option, Some, None, MatchOption, replicate}
+use Rattle.std.proofs.Common.{◌≡◌, ◌∙◌, ℕ, zero, suc, ◌<◌, ◌≤◌, sym, true, false, ◌^◌, [], ◌∷◌, length, refl, subst, arith, Option, Some, None, MatchOption, replicate}
 use Rattle.std.specs.Prelude.{IfSome, sum_by}
 use Rattle.std.specs.Option.{option_map_or}
 use Rattle.std.proofs.lemmas.List.Elements.{All-nil, All-replicate}
@@ -14,6 +14,8 @@ use Rattle.nl_meaning.specs.Trees.{Tree, tree_size}
 use Rattle.nl_model.specs.declared.node.Node.TheVariants.{Num}
 use Rattle.nl_model.specs.File.{Definition, Objective, Term}
 use Rattle.nl_model.specs.Nodes.{a_number}
+use Rattle.nl_segments.specs.Grammar.{NlValue}
+use Rattle.nl_segments.specs.Reader.{IsNl}
 use Rattle.nl_writer.specs.Written.{nl_text}
 use Rattle.nl_round_trip.specs.Writable.{AreTreesWritable, HasNodes, IsText, IsWritable, IsWritableSuffix, linear_count, node_count}
 use Rattle.nl_round_trip.proofs.WholeLaw.{written_is_read}
@@ -107,3 +109,6 @@ writable m clean =
 
 pub said : (m : Mps Dec) → import_fault m ≡ None → IsText (import_of m) (nl_text (import_of m))
 said m clean = written_is_read (import_of m) (writable m clean)
+
+pub no_other : (m : Mps Dec) (value : NlValue) → import_fault m ≡ None → IsNl (nl_text (import_of m)) value → value.file ≡ import_of m
+no_other m value clean h = let text = said m clean in h.said.file ∙ sym text.read.said.file

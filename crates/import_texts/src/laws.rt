@@ -6,11 +6,12 @@ ghost use Rattle.exact_numbers.specs.Values.{dec_value};
 ghost use Rattle.file_meaning.specs.LinearFile.{linear_of};
 ghost use Rattle.mps_model.specs.Mps.{IsMpsFeasible, Mps, mps_objective};
 ghost use Rattle.mps_model.specs.Valid.{IsMps};
-ghost use Rattle.exported_program.specs.Export.{IsDecimal, IsProgramOf};
+ghost use Rattle.exported_program.specs.Export.{IsDecimal};
 ghost use Rattle.mps_import.specs.Faults.{import_fault};
 ghost use Rattle.mps_import.specs.Import.{import_of};
 ghost use Rattle.mps_import.specs.Variables.{in_order, values_of};
-ghost use Rattle.import_texts.specs.Imports.{ImportsAreSaid, ImportsAreWritable};
+ghost use Rattle.row_scaling.specs.Scaling.{IsExportOf};
+ghost use Rattle.import_texts.specs.Imports.{ImportsAreSaid, ImportsAreWritable, NoOtherFileIsSaid};
 
 /// The file of a program that is imported can be written.
 pub fn imports_are_writable()
@@ -18,21 +19,22 @@ pub fn imports_are_writable()
 {}
 
 /// What is written of the file of a program that is imported is a text of the profile, without
-/// faults, that says this file.
+/// faults, that says this file and no other.
 pub fn imports_are_said()
-    ensures { ImportsAreSaid }
+    ensures said { ImportsAreSaid }
+    ensures only { NoOtherFileIsSaid }
 {}
 
 /// The program that the file of a program m is exported as has the points of m, in the order of the
 /// variables, the same objective and the same sense. Its objective is not tied.
 pub fn imports_are_exported()
     ensures decimal { (m : Mps Dec) → IsMps dec_value m → IsDecimal (linear_of (import_of m) 0) }
-    ensures points { (m p : Mps Dec) (xs : List ℚ) → IsMps dec_value m → import_fault m ≡ None
-        → IsProgramOf (linear_of (import_of m) 0) p
-        → IsMpsFeasible (values_of m) xs ↔ IsMpsFeasible (values_of p) (in_order m xs) }
-    ensures objective { (m p : Mps Dec) (xs : List ℚ) → IsMps dec_value m → import_fault m ≡ None
-        → IsProgramOf (linear_of (import_of m) 0) p
-        → mps_objective (values_of p) (in_order m xs) ≡ mps_objective (values_of m) xs }
-    ensures sense { (m p : Mps Dec) → IsMps dec_value m → import_fault m ≡ None
-        → IsProgramOf (linear_of (import_of m) 0) p → p.maximise ≡ m.maximise }
+    ensures points { (m : Mps Dec) (p : Mps ℚ) (xs : List ℚ) → IsMps dec_value m
+        → import_fault m ≡ None → IsExportOf (linear_of (import_of m) 0) p
+        → IsMpsFeasible (values_of m) xs ↔ IsMpsFeasible p (in_order m xs) }
+    ensures objective { (m : Mps Dec) (p : Mps ℚ) (xs : List ℚ) → IsMps dec_value m
+        → import_fault m ≡ None → IsExportOf (linear_of (import_of m) 0) p
+        → mps_objective p (in_order m xs) ≡ mps_objective (values_of m) xs }
+    ensures sense { (m : Mps Dec) (p : Mps ℚ) → IsMps dec_value m → import_fault m ≡ None
+        → IsExportOf (linear_of (import_of m) 0) p → p.maximise ≡ m.maximise }
 {}

@@ -1,5 +1,8 @@
-use Rattle.import_texts.proofs.Writing.{said}
+use Rattle.import_texts.proofs.Writing.{no_other, said}
 use Rattle.import_texts.proofs.laws.imports_are_said.Goals as goal
 
-pub returns : goal.returns
-returns c = said
+pub returns-clause-said : goal.returns-clause-said
+returns-clause-said c = said
+
+pub returns-clause-only : goal.returns-clause-only
+returns-clause-only c = no_other
