@@ -1,8 +1,8 @@
 // Numbers as texts, and worked sums and products.
 
 use exact_numbers::{
-    Dec, Frac, NumFault, NumText, are_digits, dec_of, plain_dec, plain_index, read_dec, read_whole,
-    signed_of, whole_of,
+    Dec, Frac, MAXN, NumFault, NumText, are_digits, dec_of, lcm, plain_dec, plain_index, read_dec,
+    read_whole, signed_of, whole_of,
 };
 use nl_lines::{Leaf, leaf_of_line, pair_of_line, whole_of_line};
 
@@ -103,6 +103,28 @@ fn sums_and_products(rt: HostRuntime) {
     assert!(rt; quotient.num() == -2);
     assert!(rt; difference.reciprocal().num() == -6);
     assert!(rt; difference.is_negative() && !difference.is_zero());
+}
+
+// The greatest size, and what is one above it.
+#[test]
+fn the_greatest_size(rt: HostRuntime) {
+    assert!(rt; MAXN == LARGEST);
+    let multiples = [
+        (MAXN, 1, Some(LARGEST)),
+        (MAXN, 2, None),
+        (MAXN, MAXN, Some(LARGEST)),
+        (4, 6, Some(12)),
+    ];
+    for (a, b, wanted) in multiples {
+        assert!(rt; lcm(a, b) == wanted);
+    }
+    let above = -MAXN - 1;
+    assert!(rt; Dec::new(above, 0).is_none());
+    assert!(rt; Frac::new(above, 1).is_none());
+    assert!(rt; Frac::new(1, above).is_none());
+    let greatest = Frac::new(MAXN, 1).expect(&rt, "a fraction");
+    assert!(rt; greatest.add(Frac::one()).is_none());
+    assert!(rt; greatest.neg().sub(Frac::one()).is_none());
 }
 
 #[test]

@@ -169,3 +169,26 @@ fn a_reader_keeps_its_fault(rt: HostRuntime) -> Result<(), Fail> {
     assert!(rt; is_fault(reader.finish(), NlReason::BinaryFile));
     Ok(())
 }
+
+// The fault of a piece that comes after a text without faults.
+fn fault_after(
+    alloc: Global,
+    text: &[u8],
+    piece: &[u8],
+) -> Result<Option<(NlReason, u32)>, AllocError> {
+    let mut reader = NlReader::new(alloc)?;
+    let begun = reader.feed(text);
+    let fault = fault_in(reader.feed(piece));
+    drop(reader);
+    Ok(if begun.is_ok() { fault } else { None })
+}
+
+#[test]
+fn a_line_has_65536_bytes(rt: HostRuntime) -> Result<(), Fail> {
+    let long = vec![in rt.alloc(); b'x'; 65_537]?;
+    let fronts: [(&[u8], u32); 2] = [(b"", 1), (b"g3 1 1 0\n1 1 1 0 0\n", 3)];
+    for (front, line) in fronts {
+        assert!(rt; fault_after(rt.alloc(), front, &long)? == Some((NlReason::LineTooLong, line)));
+    }
+    Ok(())
+}

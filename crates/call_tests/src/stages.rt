@@ -1,9 +1,9 @@
 // The stages of an export, one after the other.
 ghost use Rattle.std.specs.Prelude.{◌≡◌, ◌<◌};
 
-use exact_numbers::Frac;
+use exact_numbers::{Dec, Frac};
 use example_texts::nl_texts::{KNAPSACK, KNAPSACK_WRITTEN};
-use linear_fold::{Form, Pad, Wide, fold_all};
+use linear_fold::{Form, Linear, Pad, Wide, fold_all};
 use mps_export::program;
 use mps_writer::write_mps;
 use nl_model::NlFile;
@@ -102,5 +102,44 @@ fn a_file_goes_through_all_stages(rt: HostRuntime) -> Result<(), Fail> {
     let written = exported::<Brand>(rt.alloc(), &read.file, Blank::new(1));
     drop(read);
     assert_eq!(rt; written?.as_slice(), KNAPSACK_WRITTEN.as_bytes());
+    Ok(())
+}
+
+// The decimals of the first body, where they are kept.
+fn first_decimals(linear: &Linear) -> Option<&[(u32, Dec)]> {
+    linear.bodies().first()?.decimals()
+}
+
+// Whether the terms of the first body are kept as these decimals.
+fn keeps_decimals<L: Ledger>(
+    alloc: Global,
+    file: &NlFile,
+    wanted: &[(u32, Dec)],
+    blank: Blank,
+) -> bool
+    requires name { blank.name ≡ L.name }
+    requires parts { blank.parts ≡ L.parts }
+    requires some { 0 < blank.parts }
+{
+    let mut steps = Steps::<L>::new(blank);
+    let Ok(linear) = fold_all(alloc, file, 0, &mut steps) else {
+        return false;
+    };
+    let is_kept = first_decimals(&linear) == Some(wanted);
+    drop(linear);
+    is_kept
+}
+
+// A body whose terms are ascending decimals. The clause lets the call answer none.
+#[test]
+fn decimals_are_kept(rt: HostRuntime) -> Result<(), Fail> {
+    let Ok(read) = read_nl(rt.alloc(), KNAPSACK.as_bytes()) else {
+        return Err(Fail::from("refused"));
+    };
+    let last = Dec::new(65, -1).expect(&rt, "a number");
+    let terms = [(0, Dec::of_whole(5)), (1, Dec::of_whole(4)), (2, last)];
+    let is_kept = keeps_decimals::<Brand>(rt.alloc(), &read.file, &terms, Blank::new(1));
+    drop(read);
+    assert!(rt; is_kept);
     Ok(())
 }

@@ -42,6 +42,29 @@ fn lines_lose_their_returns(rt: HostRuntime) -> Result<(), Fail> {
     Ok(())
 }
 
+// Whether so many pieces are a line each.
+fn are_lines(lines: &mut Lines, piece: &[u8], count: u32) -> bool {
+    for _ in 0..count {
+        if lines.take(piece) != Taken::Line(piece.len()) {
+            return false;
+        }
+    }
+    true
+}
+
+// 32,768 lines of 65,536 bytes with their LF, and then one byte.
+#[test]
+fn an_input_has_2_to_the_31_bytes(rt: HostRuntime) -> Result<(), Fail> {
+    let mut piece = vec![in rt.alloc(); b'x'; 65_535]?;
+    piece.push(b'\n')?;
+    let mut lines = Lines::new(rt.alloc())?;
+    assert!(rt; are_lines(&mut lines, &piece, 32_768));
+    assert!(rt; lines.take(b"x") == Taken::Fault(LineFault::InputTooLong));
+    assert!(rt; lines.number() == 32_769);
+    drop(lines);
+    Ok(())
+}
+
 // Whether the text is a name, and a copy of it the same name.
 fn is_copied(alloc: Global, text: &[u8]) -> bool {
     let Ok(name) = Name::of(alloc, text) else {

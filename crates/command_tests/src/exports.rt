@@ -1,11 +1,12 @@
 // Whole texts, with what is written or told for each.
 ghost use Rattle.std.specs.Prelude.{◌<◌};
 
-use crate::commands::{comes_to, first_lines, writes_in_pieces};
+use crate::commands::{comes_to, first_lines, work, writes_in_pieces};
 use example_texts::nl_texts::{KNAPSACK, KNAPSACK_WRITTEN, Sizes, header, one_row, text_of};
 use itoa::Buffer;
 use std::alloc::{AllocError, Global};
 use std::test::Fail;
+use text_base::MemoryDesk;
 
 // Whether the text is exported as this.
 fn exports(alloc: Global, text: &str, written: &str) -> Result<bool, AllocError> {
@@ -277,5 +278,63 @@ fn exports_expressions(rt: HostRuntime) -> Result<(), Fail> {
     for (sizes, body, written) in cases {
         assert!(rt; writes(rt.alloc(), &sizes, body, written)?, "at {body}");
     }
+    Ok(())
+}
+
+// A line so many times.
+fn put_times(text: &mut String, line: &str, count: usize) -> Result<(), AllocError> {
+    for _ in 0..count {
+        text.push_str(line)?;
+    }
+    Ok(())
+}
+
+// A row with a term of each of 1,000 variables.
+fn put_full_row(text: &mut String, row: usize) -> Result<(), AllocError> {
+    text.push_str("J")?;
+    put_number(text, row)?;
+    text.push_str(" 1000\n")?;
+    for variable in 0..1000 {
+        put_number(text, variable)?;
+        text.push_str(" 1\n")?;
+    }
+    Ok(())
+}
+
+// 1,000 rows with a term of each of 1,000 variables.
+fn full_rows(alloc: Global) -> Result<String, AllocError> {
+    let mut text = String::from_str(alloc, "r\n")?;
+    put_times(&mut text, "1 1\n", 1000)?;
+    text.push_str("b\n")?;
+    put_times(&mut text, "3\n", 1000)?;
+    for row in 0..1000 {
+        put_full_row(&mut text, row)?;
+    }
+    Ok(text)
+}
+
+// Whether the text is exported as so many bytes, of which these are the last.
+fn exports_bytes(alloc: Global, text: &str, count: usize, end: &[u8]) -> Result<bool, AllocError> {
+    let mut desk = MemoryDesk::new(alloc, count)?;
+    let texts = [("a.nl", text.as_bytes())];
+    let ended = work(alloc, &mut desk, &texts, &["export", "a.nl"]);
+    let is_end = desk.written().len() == count && desk.written().ends_with(end);
+    drop(desk);
+    Ok(ended? == 0 && is_end)
+}
+
+// The numbers from 0 to 999 have 2,890 digits, and each line of a term has 7 bytes beside those of
+// its two numbers.
+#[test]
+fn exports_a_million_terms(rt: HostRuntime) -> Result<(), Fail> {
+    let alloc = rt.alloc();
+    let rows = full_rows(alloc)?;
+    let text = text_of(
+        alloc,
+        &header("1000 1000 0", "1000000 0", "0"),
+        rows.as_str(),
+    )?;
+    let end = b" FR BND x999\nENDATA\n";
+    assert!(rt; exports_bytes(alloc, text.as_str(), 12_812_716, end)?);
     Ok(())
 }

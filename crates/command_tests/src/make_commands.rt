@@ -26,6 +26,13 @@ fn sums_up_instances(rt: HostRuntime) -> Result<(), Fail> {
 }
 
 #[test]
+fn sums_up_the_largest_size(rt: HostRuntime) -> Result<(), Fail> {
+    let line = b"variables 20000 rows 20000 terms 90000 bytes ";
+    assert!(rt; sums_up(rt.alloc(), "7", "20000", line)?);
+    Ok(())
+}
+
+#[test]
 fn tells_bad_sizes(rt: HostRuntime) -> Result<(), Fail> {
     let cases = [("1", "0"), ("1", "20001"), ("01", "1"), ("4294967296", "1")];
     for (seed, size) in cases {
