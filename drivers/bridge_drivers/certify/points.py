@@ -111,7 +111,8 @@ def whole_point(model: Model, x: Sequence[float | Fraction], seconds: float) -> 
 
 def nearest(model: Model, x: Sequence[float | Fraction]) -> Point | None:
     """The best of the points near x."""
-    return min(near(model, x), key=model.value, default=None)
+    found = list(near(model, x))
+    return min(found, key=model.value) if found else None
 
 
 def whole_columns(model: Model, x: Sequence[float | Fraction]) -> dict[int, Fraction]:
