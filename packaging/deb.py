@@ -16,6 +16,10 @@ MODULES = "usr/lib/python3/dist-packages"
 MAINTAINER = "Tiwheruko <tiwheruko@localhost>"
 SOLVERS = "coinor-clp, glpk-utils, lp-solve, minizinc, python3-pulp, python3-scipy, qsopt-ex"
 COMMAND = """#!/usr/bin/python3
+import signal
+if signal.getsignal(signal.SIGINT) is signal.default_int_handler:
+    signal.signal(signal.SIGINT, signal.SIG_DFL)        # an interrupt while modules are read
+
 from {module} import {function}
 
 {function}()

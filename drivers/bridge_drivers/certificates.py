@@ -164,8 +164,7 @@ def rounded(text: str) -> str:
 
 
 def remove_older(path: str) -> None:
-    """A certificate of an earlier run must not pass for this one's."""
-    try:
+    """A certificate of an earlier run must not pass for this one's. What is no plain file, such as
+    a device, is left where it is."""
+    if os.path.isfile(path) or os.path.islink(path) and not os.path.exists(path):
         os.unlink(path)
-    except FileNotFoundError:
-        pass

@@ -49,8 +49,10 @@ def own_name() -> str:
 
 def run(name: str, command: Callable[[], int], broken: int = BROKEN) -> NoReturn:
     """Ends the process with the command's status. Bytes of paths that are not UTF-8 are printed
-    as they are; a standard output that breaks is told in one line, and so is a signal."""
+    as they are; a standard output that breaks or is closed is told in one line, and so is a
+    signal."""
     SIGNALS.take()
+    fill()
     for stream in (sys.stdout, sys.stderr):
         if hasattr(stream, "reconfigure"):
             stream.reconfigure(errors="surrogateescape" if stream.encoding.lower() == "utf-8"
@@ -66,6 +68,19 @@ def run(name: str, command: Callable[[], int], broken: int = BROKEN) -> NoReturn
         close(f"{name}: interrupted\n")
         status = signal.status()
     sys.exit(status)
+
+
+def fill() -> None:
+    """Standard streams that the caller closed lead nowhere, so that no other file takes their
+    place: nothing can be written to such an output, and what is told on the other is lost."""
+    for number, stream in enumerate((sys.stdin, sys.stdout, sys.stderr)):
+        if stream is None:
+            nowhere = os.open(os.devnull, os.O_WRONLY if number == 2 else os.O_RDONLY)
+            os.dup2(nowhere, number)        # children have it too
+    if sys.stdout is None:
+        sys.stdout = open(1, "w", encoding="utf-8", closefd=False)
+    if sys.stderr is None:
+        sys.stderr = open(2, "w", encoding="utf-8", closefd=False)
 
 
 def close(line: str) -> None:

@@ -160,7 +160,8 @@ class Driver:
         if (not self.words.ampl or o.failexit) and not o.wantsol & 8:
             print("\n".join(lines), flush=True)
         if o.failexit:
-            minizinc.tell(f"{self.name}: {lines[-1]}")
+            unsure = f"{lines[0]}; " if result.code == Code.UNSURE else ""
+            minizinc.tell(f"{self.name}: {unsure}{lines[-1]}")
         if not self.words.ampl:
             self.show(result)
         if self.clock.tells:

@@ -28,6 +28,7 @@ class Meaning(NamedTuple):
     help: str = ""
 
 
+AT_END = ("end in header", "missing segment", "nonzero count", "column count")    # of the file
 MEANING: Mapping[str, Meaning] = {
     "nonlinear": Meaning("the model is not linear there",
                          "linearise it: a product with a whole variable by bounds (big M), abs, "
@@ -64,6 +65,10 @@ MEANING: Mapping[str, Meaning] = {
     "division by zero": Meaning("a divisor is 0", "mend the data"),
     "refused power": Meaning("a power's exponent must be a whole number from 0 to 127",
                              "compute it in the data"),
+    "end in header": Meaning("an .nl file begins with ten lines"),
+    "missing segment": Meaning("no O of an objective, no r of constraints or no b of variables",
+                               "MiniZinc 2.6.4 writes no b where nothing is left to constrain: add "
+                               "a constraint on two variables"),
     "undefined": Meaning("a defined variable that is used before its piece"),
     "no dual values": Meaning("the answer has none, and bridge checks none without them"),
     "no primal values": Meaning("the answer has none"),
@@ -242,7 +247,7 @@ class Refusal:
         return f"{file}: {thing}{t.reason}{meaning(t.reason)}"
 
     def at_line(self, t: Told) -> str:
-        if t.file != 1 or not self.is_model:
+        if t.file != 1 or not self.is_model or t.reason in AT_END:
             return t.reason + meaning(t.reason)
         try:
             self.segment = segment = segment_at(self.files[0], t.number)

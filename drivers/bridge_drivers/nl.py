@@ -62,7 +62,7 @@ def prepared(path: str, target: str, shorter: bool) -> Prepared:
         try:
             text = text_of_binary(data)
         except (struct.error, IndexError, ValueError) as fault:
-            raise BadFile("the binary .nl file ends too soon or is damaged "
+            raise BadFile(f"{path}: the binary .nl file ends too soon or is damaged "
                           f"({fault})") from None
         note = "the binary .nl file was turned into text, which is not proved"
     else:

@@ -110,7 +110,7 @@ class Solving:
         that is much, or the answer says little, the solver is asked once more in another way."""
         outcome, answer, missed = self.asked(job, False)
         if outcome.code == Code.INFEASIBLE_OR_UNBOUNDED or missed.is_much():
-            other = self.in_another_way(job)
+            other = self.in_another_way(job, outcome)
             if other is not None and other[0].code != Code.INFEASIBLE_OR_UNBOUNDED \
                     and not other[2].is_much():
                 outcome, answer, missed = other
@@ -138,7 +138,7 @@ class Solving:
                           f"run or written: {fault.strerror}") from None
         return outcome, answer, missed
 
-    def in_another_way(self, job: Job) -> tuple[Outcome, Answer, Miss] | None:
+    def in_another_way(self, job: Job, first: Outcome) -> tuple[Outcome, Answer, Miss] | None:
         """None where it was asked so before, or gives no answer."""
         if job.again or not self.solver.again:
             return None
@@ -146,8 +146,10 @@ class Solving:
             outcome, answer, missed = self.asked(job, True)
         except Failure:
             return None
+        was = f"was `{first.text}`" if first.code == Code.INFEASIBLE_OR_UNBOUNDED \
+            else "does not satisfy the model"
         outcome.notes.append(f"{self.solver.title} was asked once more {self.solver.again}: its "
-                             "first answer does not satisfy the model")
+                             f"first answer {was}")
         return outcome, answer, missed
 
     def missed(self, program: Program, answer: Answer) -> Miss:
@@ -179,7 +181,7 @@ class Solving:
             answer, sol = self.returned(certifier, answer, lines)
             verdict = self.verdict(certifier, outcome, answer, sol)
             if verdict.contradicted and outcome.code == Code.SOLVED:
-                other = self.in_another_way(job)
+                other = self.in_another_way(job, outcome)
                 if other is not None:
                     return self.told(job, nl, *other, notes)
                 outcome = replace(outcome, code=Code.UNSURE)
@@ -244,13 +246,24 @@ class Solving:
         duals = {f"c{i}": y for i, y in verdict.duals.items()
                  if f"c{i}" in answer.program.kinds}
         moved = answer.at(values, duals if code == Code.SOLVED else {}, code)
-        if answer.values is not None and moved.values is not None \
-                and is_apart(answer.program.figure(answer.values),
-                             answer.program.figure(moved.values)):
-            lines.append(f"a better point was found; objective {moved.objective()}")
-        elif answer.values is None:
-            lines.append(f"a point was found; objective {moved.objective()}")
+        kind = self.another(answer, moved)
+        if kind:
+            lines.append(f"{kind} point was found; objective {moved.objective()}")
+            if code == Code.SOLVED and not verdict.line.startswith("optimal"):
+                return Code.UNSURE, answer.at(values, {}, Code.UNSURE)
         return code, moved
+
+    @staticmethod
+    def another(answer: Answer, moved: Answer) -> str:
+        """What the point that was proved is beside the answer; nothing where the objective is the
+        same."""
+        assert moved.values is not None
+        if answer.values is None:
+            return "a"
+        old, new = (answer.program.figure(values) for values in (answer.values, moved.values))
+        if not is_apart(old, new):
+            return ""
+        return "a better" if (new > old) == answer.program.maximise else "another"
 
     @staticmethod
     def broken(answer: Answer) -> str:

@@ -48,6 +48,22 @@ BOUNDS
 ENDATA
 """
 
+LARGE_BOUND = b"""NAME nl
+OBJSENSE
+ MAX
+ROWS
+ N obj
+ L c0
+COLUMNS
+ x0 obj 1
+ x0 c0 2
+RHS
+ RHS c0 1999999999999
+BOUNDS
+ UP BND x0 1e12
+ENDATA
+"""
+
 
 def model() -> Model:
     """max x0 + 2 x1 + 1/2; the row c0 was written times 2, the row c1 has no sides."""
@@ -271,3 +287,8 @@ class Points(TestCase):
         self.assertTrue(points.is_ray(p, [F(-1), F(0), F(0)]))
         for wrong in ([F(1), F(0), F(0)], [F(0), F(0), F(0)], [F(-1), F(1), F(0)]):
             self.assertFalse(points.is_ray(p, wrong))
+
+    def test_near_a_bound_that_does_not_fit(self) -> None:
+        """A large value that is near its bound in doubles, and not at it."""
+        p = Model(LARGE_BOUND, {}, 1)
+        self.assertEqual(points.nearest(p, [999999999999.5]), [F(1999999999999, 2)])

@@ -2,12 +2,20 @@
 """Certificates of larger models: one line a model, parted by tabs.
 
     certify_table.py models FOLDER              writes FOLDER/NAME.nl
-    certify_table.py SECONDS FOLDER FILE.nl ..  certificates go to FOLDER
+    certify_table.py [-jN] SECONDS FOLDER FILE.nl ..
+                                                certificates go to FOLDER, N models at once (1)
+    certify_table.py readme TABLE ..            the tables of drivers/README.md of such lines
 
-The first makes text .nl files of the models of Debian's glpk-utils (examples) and
-coinor-libcoinutils-dev (samples), as GLPK reads them, by `bridge import`. The second runs
-`bridge-certify` with that limit for the solver, and again for the search. Needs BRIDGE, glpsol, cbc
-and CLP's library.
+The models, from two packages of Debian (examples of the one, samples of the other):
+
+    apt-get install glpk-utils coinor-libcoinutils-dev coinor-cbc
+    BRIDGE=crates/bridge/out/bridge drivers/tests/certify_table.py models /tmp/collections
+    drivers/tests/certify_table.py -j2 60 /tmp/certificates /tmp/collections/*.nl >/tmp/table.tsv
+    drivers/tests/certify_table.py readme /tmp/table.tsv
+
+The first makes text .nl files of them, as GLPK reads them, by `bridge import`. The second runs
+`bridge-certify` with that limit for the solver, and again for the search: lines come in the order
+of the files. Needs BRIDGE (or the program of the gate), glpsol, cbc and CLP's library.
 """
 
 from __future__ import annotations
@@ -19,11 +27,12 @@ import subprocess
 import sys
 import tempfile
 import time
+from concurrent.futures import ThreadPoolExecutor
 
 HERE = os.path.dirname(os.path.abspath(__file__))
 sys.path[:0] = [os.path.join(HERE, "..")]
 
-from bridge_drivers.bridge import find                  # noqa: E402
+from bridge_drivers.bridge import BESIDE, find                  # noqa: E402
 from bridge_drivers.program import Program              # noqa: E402
 
 SOURCES = ("/usr/share/doc/glpk-utils/examples/*.mod", "/usr/share/doc/glpk-utils/examples/*.mps",
@@ -123,16 +132,66 @@ def line(bridge: list[str], path: str, seconds: str, folder: str) -> list[str]:
     return [name, *shape(bridge, path), plan, *figures(certificate), f"{spent:.1f}", told[-1]]
 
 
+# for the README ----------------------------------------------------------------------
+
+
+def summary(rows: list[dict[str, str]]) -> list[str]:
+    """Models by the kind of their last line; those by name that are not proved exactly."""
+    kinds: dict[str, list[dict[str, str]]] = {}
+    for row in rows:
+        words = row["line"].split()
+        kinds.setdefault("not proved" if words[0] == "not" else words[0], []).append(row)
+    out = ["| last line | models |", "|---|---|"]
+    out += [f"| `{kind}` | {len(found)} |" for kind, found in sorted(kinds.items())]
+    rest = [row for kind in ("within", "bound", "feasible", "not proved")
+            for row in kinds.get(kind, [])]
+    others = [row for kind in kinds for row in kinds[kind]
+              if kind not in ("optimal", "infeasible", "unbounded") and row not in rest]
+    if rest + others:
+        out += ["", "| left | columns (whole) | rows | what is known |", "|---|---|---|---|"]
+        out += [f"| {row['model']} | {row['columns']} ({row['whole']}) | {row['rows']} "
+                f"| {row['line']} |" for row in rest + others]
+    return out
+
+
+def largest(rows: list[dict[str, str]], count: int = 8) -> list[str]:
+    """Of the exact ones the texts with the most nodes."""
+    exact = [row for row in rows if row["line"].split()[0] in ("optimal", "infeasible")
+             and row["nodes"]]
+    exact.sort(key=lambda row: -int(row["nodes"]))
+    out = ["| model | columns (whole) | rows | nodes | bytes | seconds | last line |",
+           "|---|---|---|---|---|---|---|"]
+    return out + [f"| {row['model']} | {row['columns']} ({row['whole']}) | {row['rows']} "
+                  f"| {row['nodes']} | {row['bytes']} | {row['seconds']} | `{row['line']}` |"
+                  for row in exact[:count]]
+
+
+def readme(tables: list[str]) -> None:
+    rows = []
+    for path in tables:
+        with open(path, encoding="utf-8") as f:
+            words = [text.rstrip("\n").split("\t") for text in f]
+        rows += [dict(zip(HEAD, row)) for row in words if len(row) == len(HEAD)
+                 and row[0] != HEAD[0]]
+    print("\n".join([f"{len(rows)} models.", "", *summary(rows), "", *largest(rows)]))
+
+
 def main() -> None:
-    bridge = find("", [])
-    if sys.argv[1:2] == ["models"]:
-        models(bridge, sys.argv[2])
+    arguments = sys.argv[1:]
+    if arguments[:1] == ["readme"]:
+        readme(arguments[1:])
         return
-    seconds, folder = sys.argv[1:3]
+    bridge = find("", BESIDE)
+    if arguments[:1] == ["models"]:
+        models(bridge, arguments[1])
+        return
+    at_once = int(arguments.pop(0)[2:]) if arguments[0].startswith("-j") else 1
+    seconds, folder, *paths = arguments
     os.makedirs(folder, exist_ok=True)
     print("\t".join(HEAD), flush=True)
-    for path in sys.argv[3:]:
-        print("\t".join(line(bridge, path, seconds, folder)), flush=True)
+    with ThreadPoolExecutor(at_once) as pool:
+        for cells in pool.map(lambda path: line(bridge, path, seconds, folder), paths):
+            print("\t".join(cells), flush=True)
 
 
 if __name__ == "__main__":

@@ -6,12 +6,15 @@ import copy
 import os
 import shutil
 import subprocess
+from fractions import Fraction as F
 from unittest import mock
 
 from support import (CHECKED, HAS_CLP, HERE, NEEDS_CLP, NEEDS_PROGRAM, PROGRAM, Case, Injected,
                      Reply)
 from bridge_drivers import VERSION, solvers
+from bridge_drivers.certificates import Certifier
 from bridge_drivers.certify import clp
+from bridge_drivers.certify.claims import Verdict
 from models import MODELS
 import stored
 
@@ -207,11 +210,11 @@ class Claims(Case):
     @NEEDS_CLP
     def test_wrong_answers_are_mended(self) -> None:
         """A search finds the point; what the solver said stays in the message."""
-        for name, change, words, line in (
+        for name, change, words, line, kind in (
                 ("diet", ("x0                              4", "x0                              3"),
-                 [], "optimal 22/5"),
+                 [], "optimal 22/5", "another"),
                 ("knap", ("x1                              1", "x1                              0"),
-                 ["prove=1"], "optimal 17")):
+                 ["prove=1"], "optimal 17", "a better")):
             self.put(MODELS[name].text)
             run = copy.deepcopy(stored.runs("lp_solve")[name])
             text = "\n".join(run["logs"]["solver.log"])
@@ -219,8 +222,20 @@ class Claims(Case):
             run["logs"]["solver.log"] = text.replace(*change, 1).split("\n")
             self.assertEqual(self.last("lp_solve", name, *words, run=run), line)
             self.assertEqual(self.sol().code, 0)
-            self.assertIn("a better point was found; objective ", self.sol().text)
+            self.assertIn(f"{kind} point was found; objective ", self.sol().text)
             self.judge_claim(name, self.sol())
+
+    def test_another_point_is_not_passed_on_as_solved(self) -> None:
+        """Neither a better nor a worse one, where it is not proved optimal."""
+        self.put(MODELS["knap"].text)
+        for point, kind, code in (([1, 0, 0], "another", 100), ([0, 1, 0], "another", 100),
+                                  ([1, 1, 0], "", 0)):
+            verdict = Verdict("feasible 1", list(map(F, point)), "kept", value=F(1))
+            with mock.patch.object(Certifier, "verdict", lambda *_: verdict):
+                self.assertEqual(self.last("lp_solve", "knap"), "feasible 1")
+            self.assertEqual(self.sol().code, code, self.sol().text)
+            self.assertEqual(self.sol().values, point)
+            self.assertEqual(f"{kind} point was found" in self.sol().text, bool(kind))
 
     def test_fractions_are_written_as_nearest(self) -> None:
         self.put(MODELS["thirds"].text)

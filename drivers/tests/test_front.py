@@ -337,6 +337,21 @@ class Ends(Case):
         self.assertEqual((ran.returncode, ran.stderr), (1, b"bridge-cbc: standard output: Broken "
                                                            b"pipe\n"))
 
+    def test_closed_streams(self) -> None:
+        """Of the caller: an output that is wanted is told of, no other file takes its place, and
+        what is told on the other one is lost."""
+        for closed, words, status, told in ((1, ["-="], 1, b"bridge-cbc: standard output: Bad file "
+                                                           b"descriptor\n"),
+                                            (1, ["/nonexistent/m"], 4, None), (0, ["-="], 0, b""),
+                                            (2, ["/nonexistent/m"], 4, b"")):
+            ran = subprocess.run([os.path.realpath(sys.executable),
+                                  os.path.join(BIN, "bridge-cbc"), *words], stdout=subprocess.PIPE,
+                                 stderr=subprocess.PIPE, check=False,
+                                 preexec_fn=lambda: os.close(closed))
+            self.assertEqual(ran.returncode, status, ran.stderr)
+            if told is not None:
+                self.assertEqual(ran.stderr, told)
+
     def test_paths_that_are_not_utf8(self) -> None:
         """`bridge` is given a link of another name; messages show the path's own bytes."""
         folder = os.fsencode(self.folder) + b"/\xff"

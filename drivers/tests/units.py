@@ -3,13 +3,17 @@
 from __future__ import annotations
 
 import os
+import signal
 import struct
+import subprocess
+import sys
 from fractions import Fraction as F
 from unittest import mock
 
 from support import HERE, Case
-from bridge_drivers import binary_nl, bridge, nl, sol, values, words
+from bridge_drivers import binary_nl, bridge, certificates, nl, sol, values, words
 from bridge_drivers.bridge import Refused, Reply
+from bridge_drivers.interrupts import SIGNALS, Interrupted, Signals, with_child
 from bridge_drivers.options import BadOption, Options
 from bridge_drivers.program import Program
 from models import MODELS
@@ -152,3 +156,56 @@ class Files(Case):
             self.assertRaisesRegex(bridge.Missing, "is another program", bridge.find, "", [])
         missing = bridge.Bridge(["/nonexistent/bridge"], lambda argv: None)
         self.assertRaises(bridge.Missing, missing.call, "export", "x")
+
+    def test_only_plain_files_are_removed(self) -> None:
+        """A certificate's place may be a device, a pipe or a link to one."""
+        plain, link, pipe = (os.path.join(self.folder, n) for n in ("plain", "link", "pipe"))
+        with open(plain, "w"):
+            os.symlink(pipe, link)
+        os.mkfifo(pipe)
+        for path, stays in ((plain, False), (pipe, True), (link, True), ("/dev/null", True)):
+            certificates.remove_older(path)
+            self.assertEqual(os.path.lexists(path), stays, path)
+        os.unlink(pipe)
+        certificates.remove_older(link)
+        self.assertFalse(os.path.lexists(link))
+
+
+class Interrupts(Case):
+    def setUp(self) -> None:
+        super().setUp()
+        signals, old = Signals(), signal.getsignal(signal.SIGTERM)
+        patch = mock.patch.dict(vars(SIGNALS), vars(signals))
+        patch.start()
+        self.addCleanup(patch.stop)
+        self.addCleanup(signal.signal, signal.SIGTERM, old)
+        signal.signal(signal.SIGTERM, SIGNALS.came)
+
+    def test_while_a_process_is_started(self) -> None:
+        """The process that nobody knew of yet has ended."""
+        started, start = [], subprocess.Popen
+
+        def interrupted(*words, **others):
+            started.append(start(*words, **others))
+            signal.raise_signal(signal.SIGTERM)
+            return started[0]
+        with mock.patch.object(subprocess, "Popen", interrupted), \
+                self.assertRaises(Interrupted) as caught:
+            with_child(lambda child: self.fail("it is not used"), ["sleep", "60"],
+                       start_new_session=True)
+        self.assertEqual((caught.exception.status(), started[0].returncode), (143, -9))
+
+    def test_while_a_process_runs_and_ends(self) -> None:
+        """A second signal does not break off what the first one ends."""
+        def used(child: subprocess.Popen) -> None:
+            with SIGNALS.kept(True):
+                signal.raise_signal(signal.SIGTERM)
+                seen.append(child)
+            self.fail("what waited was lost")
+        seen: list[subprocess.Popen] = []
+        with self.assertRaises(Interrupted):
+            try:
+                with_child(used, [sys.executable, "-c", "input()"], stdin=subprocess.PIPE)
+            finally:
+                signal.raise_signal(signal.SIGTERM)
+        self.assertEqual(seen[0].returncode, -9)

@@ -68,20 +68,20 @@ def near(model: Model, x: Sequence[float | Fraction]) -> Iterator[Point]:
             yield exact
             return
     given = [Fraction(v) for v in x]
-    for most in DENOMINATORS:
-        out = [near_one(p, j, v, most) for j, v in enumerate(given)]
+    for most, snap in [(most, snap) for snap in (NEAR, ZERO) for most in DENOMINATORS]:
+        out = [near_one(p, j, v, most, snap) for j, v in enumerate(given)]
         is_near = all(abs(value - v) <= APART * max(ONE, abs(v)) for value, v in zip(out, given))
         if is_near and out not in seen and p.fits(out):
             seen.append(out)
             yield out
 
 
-def near_one(p: Model, column: int, value: Fraction, most: int) -> Fraction:
-    """A bound that is near, else a fraction with a denominator of at most `most`."""
+def near_one(p: Model, column: int, value: Fraction, most: int, snap: Fraction) -> Fraction:
+    """A bound within that share, else a fraction with a denominator of at most `most`."""
     if p.whole[column]:
         return Fraction(round(value))
     for end in p.ends(column):
-        if abs(end - value) <= NEAR * max(ONE, abs(end)):
+        if abs(end - value) <= snap * max(ONE, abs(end)):
             return end
     return value.limit_denominator(most)
 
@@ -97,16 +97,22 @@ def whole_point(model: Model, x: Sequence[float | Fraction], seconds: float) -> 
         out = [fixed[j] for j in range(p.n)]
         return out if p.fits(out) else None
     if library() is None:
-        return next(near(p, x), None)
+        return nearest(p, x)
     clp = with_fixed(p, fixed, seconds)
     if clp.solve() is State.OPTIMAL or clp.solve(again=True) is State.OPTIMAL:
         found = vertex(p, Basis(*clp.basis()), clp.values(), fixed)
         if found is not None and all(map(is_narrow, found)):
             return found
-        short = next(near(p, clp.values()), None)
+        short = nearest(p, clp.values())
         if short is not None or found is not None:
             return short or found
-    return next(near(p, x), None)
+    return nearest(p, x)
+
+
+def nearest(model: Model, x: Sequence[float | Fraction]) -> Point | None:
+    """The best of the points near x."""
+    found = list(near(model, x))
+    return min(found, key=model.value) if found else None
 
 
 def whole_columns(model: Model, x: Sequence[float | Fraction]) -> dict[int, Fraction]:
