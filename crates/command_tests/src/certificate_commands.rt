@@ -39,12 +39,17 @@ fn refused(certificate: &'static str, line: &'static str) -> Case {
 }
 
 // Whether the verdict, or the line told, is this.
-fn begins_well(alloc: Global, nl: &str, case: &Case) -> Result<bool, AllocError> {
-    let mut certificate = String::from_str(alloc, "certificate 1\n")?;
-    certificate.push_str(case.certificate)?;
+fn judges_so(alloc: Global, nl: &str, certificate: &str, case: &Case) -> Result<bool, AllocError> {
     let texts = [("a.nl", nl.as_bytes()), ("a.txt", certificate.as_bytes())];
     let words = ["verify", "a.nl", "a.txt"];
     comes_to(alloc, &texts, &words, case.status, case.line)
+}
+
+// The same, of a certificate with its first line.
+fn begins_well(alloc: Global, nl: &str, case: &Case) -> Result<bool, AllocError> {
+    let mut certificate = String::from_str(alloc, "certificate 1\n")?;
+    certificate.push_str(case.certificate)?;
+    judges_so(alloc, nl, &certificate, case)
 }
 
 // The least whole x from 0 to 5 with 2 x at least 3 is 2.
