@@ -6,7 +6,7 @@ use Rattle.std.proofs.lemmas.List.{length-map}
 use Rattle.nl_model.specs.File.{File}
 use Rattle.name_files.specs.Names.{AreNames, is_reserved}
 use Rattle.name_files.specs.Renamed.{index_named}
-use Rattle.text_base.proofs.NamePlaces.{bytes_other, bytes_self}
+use Rattle.texts.proofs.NamePlaces.{bytes_other, bytes_self}
 use Rattle.name_files.proofs.NumeralLemmas.{place_first}
 use Rattle.answer_file.specs.declared.target.Target.{Target}
 use Rattle.answer_file.specs.declared.target.Target.TheVariants.{Tied, Place}

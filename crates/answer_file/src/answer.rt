@@ -6,7 +6,7 @@ use crate::values::Values;
 use exact_numbers::Dec;
 use nl_model::Suffix;
 use std::marker::Model;
-use text_base::TextLines;
+use texts::TextLines;
 
 /// A solver's answer for a file.
 #[derive(Drop)]

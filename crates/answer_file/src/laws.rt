@@ -1,7 +1,7 @@
 // Laws of answers.
 ghost use Rattle.std.specs.Prelude.{◌≡◌, ◌<◌, List, ℕ, ◌++◌, ◌∷◌, [], length, map, get_or, Some};
-ghost use Rattle.text_base.specs.Judged.{HasOneOutcome};
-ghost use Rattle.text_base.specs.Reading.{lines_of, last_of};
+ghost use Rattle.texts.specs.Judged.{HasOneOutcome};
+ghost use Rattle.texts.specs.Reading.{lines_of, last_of};
 ghost use Rattle.nl_model.specs.File.{File};
 ghost use Rattle.name_files.specs.Names.{AreNames};
 ghost use Rattle.answer_file.specs.declared.target.Target.TheVariants.{Place};

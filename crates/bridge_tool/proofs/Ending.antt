@@ -3,7 +3,7 @@ use Rattle.std.proofs.Common.{◌≡◌, ◌≢◌, ◌∙◌, inl, inr, ◌⊎�
 use Rattle.std.specs.Prelude.{IsTrue}
 use Rattle.std.specs.Global.{Vec}
 use Rattle.std.specs.Io.KnownBytes.{Appends}
-use Rattle.text_base.specs.Desk.{Meaning, Rose, OnlyInput}
+use Rattle.desk.specs.Desk.{Meaning, Rose, OnlyInput}
 use Rattle.bridge_tool.specs.Answer.{IsWorked, EndsWriting, HasWritten, HasStopped}
 use Rattle.bridge_tool.specs.Outcome.{Outcome, BadWords, Untold, NoText, Refused, Done, Status, Written, IsQuiet, line_of, verdict_status}
 use Rattle.bridge_tool.specs.Promise.{Promise}

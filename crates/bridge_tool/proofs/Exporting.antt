@@ -8,10 +8,10 @@ use Rattle.exported_program.specs.Export.{IsDecimal, factor_of_row, factor_of_ob
 use Rattle.exported_program.specs.Program.{program, tied_program}
 use Rattle.mps_model.specs.Mps.{Mps}
 use Rattle.mps_model.specs.Text.{mps_text_by}
-use Rattle.text_base.specs.Judged.{HasOneOutcome, HasFaultAt, IsClean}
-use Rattle.text_base.specs.Reading.{lines_of, last_of}
-use Rattle.text_base.specs.declared.fault.TextFault.{TextFault}
-use Rattle.text_base.proofs.JudgedLemmas.{one_outcome}
+use Rattle.texts.specs.Judged.{HasOneOutcome, HasFaultAt, IsClean}
+use Rattle.texts.specs.Reading.{lines_of, last_of}
+use Rattle.texts.specs.declared.fault.TextFault.{TextFault}
+use Rattle.texts.proofs.JudgedLemmas.{one_outcome}
 use Rattle.file_meaning.specs.FoldFaults.{fold_fault, has_objective, FoldFault as FileFault}
 use Rattle.file_meaning.specs.LinearFile.{linear_of}
 use Rattle.linear_fold.specs.FoldedFaults.{first_fold_fault, named_fault, step_bound}

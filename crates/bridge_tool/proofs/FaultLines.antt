@@ -1,10 +1,10 @@
 -- What is told of a text that is refused names one of its lines.
 use Rattle.std.proofs.Common.{◌≡◌, ◌∙◌, ℕ, ◌+◌, ◌<◌, ◌≤◌, List, ◌++◌, length, refl, ap, arith, inl, inr, append_assoc}
 use Rattle.std.specs.Prelude.{IsSomeAnd, Some, None, Option, codes}
-use Rattle.text_base.specs.Judged.{Rules}
-use Rattle.text_base.specs.Reading.{HasFault, last_of, lines_of}
-use Rattle.text_base.specs.declared.fault.TextFault.{TextFault}
-use Rattle.text_base.proofs.JudgedLemmas.{fault_line}
+use Rattle.texts.specs.Judged.{Rules}
+use Rattle.texts.specs.Reading.{HasFault, last_of, lines_of}
+use Rattle.texts.specs.declared.fault.TextFault.{TextFault}
+use Rattle.texts.proofs.JudgedLemmas.{fault_line}
 use Rattle.answer_file.specs.Grammar.{answer_rules}
 use Rattle.answer_file.specs.Names.{Setting as AnswerSetting}
 use Rattle.certificate_text.specs.Grammar.{certificate_rules}

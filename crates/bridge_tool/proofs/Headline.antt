@@ -1,7 +1,7 @@
 -- The headline, from the clauses of the top call.
 use Rattle.std.proofs.Common.{◌≡◌, ◌≢◌, ◌∙◌, inl, inr, ◌⊎◌, ℕ, ◌≤◌, Bool, true, false, List, Option, Some, None, refl, sym, ap, subst, arith}
 use Rattle.std.specs.Io.KnownBytes.{Appends}
-use Rattle.text_base.specs.Desk.{Meaning, Rose, Texts}
+use Rattle.desk.specs.Desk.{Meaning, Rose, Texts}
 use Rattle.bridge_tool.specs.Command.{Command}
 use Rattle.bridge_tool.specs.Commands.{promise_of, promise_by}
 use Rattle.bridge_tool.specs.Outcome.{Outcome, BadWords, Untold, NoText, Refused, Done, verdict_status}

@@ -11,12 +11,12 @@ use Rattle.mps_reader.specs.Grammar.{mps_rules, standing}
 use Rattle.mps_reader.specs.Reader.{IsMpsText, HasMpsFault}
 use Rattle.mps_reader.specs.declared.fault.MpsReason.{MpsReason}
 use Rattle.nl_writer.specs.Written.{nl_text}
-use Rattle.text_base.specs.Judged.{HasOneOutcome}
-use Rattle.text_base.specs.Reading.{lines_of, last_of}
-use Rattle.text_base.proofs.JudgedLemmas.{one_outcome}
-use Rattle.text_base.specs.declared.fault.TextFault.{TextFault}
-use Rattle.text_base.specs.declared.stop.Stop.{Stop}
-use Rattle.text_base.specs.declared.stop.Stop.TheVariants.{Fault, Memory}
+use Rattle.texts.specs.Judged.{HasOneOutcome}
+use Rattle.texts.specs.Reading.{lines_of, last_of}
+use Rattle.texts.proofs.JudgedLemmas.{one_outcome}
+use Rattle.texts.specs.declared.fault.TextFault.{TextFault}
+use Rattle.texts.specs.declared.stop.Stop.{Stop}
+use Rattle.texts.specs.declared.stop.Stop.TheVariants.{Fault, Memory}
 use Rattle.bridge_tool.specs.Import.{IsImported, HasImportRefusal, IsImportRefused, MeansTheProgram, IsImportMeant, Converts}
 use Rattle.bridge_tool.specs.ImportTold.{import_line}
 use Rattle.bridge_tool.specs.Mps.{IsMpsRefused}

@@ -18,9 +18,9 @@ use Rattle.nl_segments.specs.Reader.{IsNl}
 use Rattle.row_scaling.specs.Exported.{exported_as}
 use Rattle.row_scaling.specs.Scaled.{ScaledValue}
 use Rattle.row_scaling.specs.Scaling.{HasNoScaleFault, IsExportOf}
-use Rattle.text_base.specs.Desk.{Meaning, OnlyMessages}
-use Rattle.text_base.specs.declared.stop.Stop.{Stop}
-use Rattle.text_base.specs.declared.stop.Stop.TheVariants.{Fault as IsFault, Memory as IsMemory}
+use Rattle.desk.specs.Desk.{Meaning, OnlyMessages}
+use Rattle.texts.specs.declared.stop.Stop.{Stop}
+use Rattle.texts.specs.declared.stop.Stop.TheVariants.{Fault as IsFault, Memory as IsMemory}
 use Rattle.bridge_tool.specs.Answer.{Ends, EndsWriting, IsWorked, status_of}
 use Rattle.bridge_tool.specs.Command.{Command, Make}
 use Rattle.bridge_tool.specs.Commands.{Leaves}

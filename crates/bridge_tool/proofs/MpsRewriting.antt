@@ -10,11 +10,11 @@ use Rattle.mps_reader.specs.Written.{mps_text}
 use Rattle.mps_reader.proofs.RoundTrip.{written_again}
 use Rattle.mps_reader.specs.declared.fault.MpsReason.{MpsReason}
 use Rattle.fixed_mps.specs.Grammar.{fixed_rules}
-use Rattle.text_base.specs.Judged.{Rules, HasOneOutcome}
-use Rattle.text_base.specs.Reading.{IsRead, HasFault, lines_of, last_of}
-use Rattle.text_base.specs.declared.fault.TextFault.{TextFault}
-use Rattle.text_base.specs.declared.stop.Stop.{Stop}
-use Rattle.text_base.proofs.JudgedLemmas.{one_outcome}
+use Rattle.texts.specs.Judged.{Rules, HasOneOutcome}
+use Rattle.texts.specs.Reading.{IsRead, HasFault, lines_of, last_of}
+use Rattle.texts.specs.declared.fault.TextFault.{TextFault}
+use Rattle.texts.specs.declared.stop.Stop.{Stop}
+use Rattle.texts.proofs.JudgedLemmas.{one_outcome}
 use Rattle.bridge_tool.specs.Mps.{SaysBy, IsMeantBy, IsRewrittenBy, IsRefusedBy, IsRewritten, IsMpsRefused, mps_program}
 use Rattle.bridge_tool.specs.Fixed.{IsFixedRewritten, IsFixedRefused, fixed_program}
 use Rattle.bridge_tool.specs.MpsTold.{mps_line, mps_reason_text}

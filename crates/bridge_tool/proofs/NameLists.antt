@@ -2,12 +2,12 @@
 use Rattle.std.proofs.Common.{◌≡◌, ◌∙◌, inl, inr, ◌⊎◌, ℕ, ◌+◌, ◌==◌, ◌≤◌, Bool, true, false, ◌||◌, List, codes, length, Option, Some, None, Result, Ok, Err, refl, sym, ap, ap₂, arith, eqb-true, length-take-le, take_all}
 use Rattle.std.specs.Prelude.{IfOk, if◌then◌else◌}
 use Rattle.std.proofs.lemmas.List.{drop_all}
-use Rattle.text_base.specs.Desk.{Meaning}
-use Rattle.text_base.specs.Judged.{End, HasOneOutcome, IsClean, Last, Rules, last_reason, reason_at}
-use Rattle.text_base.specs.Reading.{last_by, last_of, lines_of}
-use Rattle.text_base.specs.Lines.{scan}
-use Rattle.text_base.specs.declared.lines.LineFault.{LineFault}
-use Rattle.text_base.proofs.JudgedLemmas.{one_outcome}
+use Rattle.desk.specs.Desk.{Meaning}
+use Rattle.texts.specs.Judged.{End, HasOneOutcome, IsClean, Last, Rules, last_reason, reason_at}
+use Rattle.texts.specs.Reading.{last_by, last_of, lines_of}
+use Rattle.texts.specs.Lines.{scan}
+use Rattle.texts.specs.declared.lines.LineFault.{LineFault}
+use Rattle.texts.proofs.JudgedLemmas.{one_outcome}
 use Rattle.name_files.specs.Names.{Counts, end_reason, is_full, name_rules, names_of, used_names}
 use Rattle.name_files.specs.declared.fault.NameReason.{NameReason}
 use Rattle.name_files.specs.declared.fault.NameReason.TheVariants.{OtherCount}

@@ -19,8 +19,8 @@ use Rattle.row_scaling.specs.Exported.{exported_as}
 use Rattle.row_scaling.specs.Scaled.{ScaledValue}
 use Rattle.row_scaling.specs.Scaling.{HasNoScaleFault, HasScaleFault, IsExportOf}
 use Rattle.row_scaling.specs.declared.scale_fault.ScaleFault.{ScaleFault}
-use Rattle.text_base.specs.Desk.{Meaning, Texts}
-use Rattle.text_base.specs.declared.stop.Stop.{Stop}
+use Rattle.desk.specs.Desk.{Meaning, Texts}
+use Rattle.texts.specs.declared.stop.Stop.{Stop}
 use Rattle.bridge_tool.specs.Answer.{EndsVerdict, IsWorked}
 use Rattle.bridge_tool.specs.Export.{IsExported}
 use Rattle.bridge_tool.specs.NameLists.{AreListed, IsListRefused, after_lists, column_counts, row_counts}

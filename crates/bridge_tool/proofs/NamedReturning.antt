@@ -1,8 +1,8 @@
 -- The ends of the command return with names.
 use Rattle.std.proofs.Common.{◌+◌, ◌≤◌, ℕ, Bool, false, List, Option, Result, Ok, Err}
 use Rattle.std.specs.Global.{Vec}
-use Rattle.text_base.specs.Desk.{Meaning, Texts}
-use Rattle.text_base.specs.declared.stop.Stop.{Stop}
+use Rattle.desk.specs.Desk.{Meaning, Texts}
+use Rattle.texts.specs.declared.stop.Stop.{Stop}
 use Rattle.nl_model.specs.Rules.{IsFile}
 use Rattle.nl_segments.specs.Grammar.{NlValue}
 use Rattle.nl_segments.specs.Reader.{IsNl}

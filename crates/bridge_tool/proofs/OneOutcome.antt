@@ -1,6 +1,6 @@
 -- Exactly one outcome.
 use Rattle.std.proofs.Common.{◌≡◌, inl, inr, ℕ, List, take, Option, Some, None, true, false, refl, ap}
-use Rattle.text_base.specs.Desk.{Texts}
+use Rattle.desk.specs.Desk.{Texts}
 use Rattle.bridge_tool.specs.OneFile.{TextComesTo, FileComesTo, DeskComesTo}
 use Rattle.bridge_tool.specs.Outcome.{Outcome, BadWords, Untold, NoText, Refused, Done}
 use Rattle.bridge_tool.specs.declared.transfer.TheConstants.{LIMIT}

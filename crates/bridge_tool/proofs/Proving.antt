@@ -4,9 +4,9 @@ use Rattle.std.specs.Prelude.{option_map, IfOk, IsTrue}
 use Rattle.std.specs.Global.{Vec}
 use Rattle.linear_programs.specs.Linear.{Linear, row_count}
 use Rattle.duality.specs.Branch.{LeafFault, proof_fault}
-use Rattle.text_base.specs.Desk.{Meaning, Texts}
-use Rattle.text_base.specs.declared.stop.Stop.{Stop}
-use Rattle.text_base.specs.declared.stop.Stop.TheVariants.{Fault, Memory}
+use Rattle.desk.specs.Desk.{Meaning, Texts}
+use Rattle.texts.specs.declared.stop.Stop.{Stop}
+use Rattle.texts.specs.declared.stop.Stop.TheVariants.{Fault, Memory}
 use Rattle.file_meaning.specs.FoldFaults.{fold_fault, has_objective}
 use Rattle.file_meaning.specs.LinearFile.{linear_of}
 use Rattle.linear_fold.specs.FoldedFaults.{first_fold_fault, named_fault, step_bound}

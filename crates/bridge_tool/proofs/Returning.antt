@@ -4,13 +4,13 @@ use Rattle.std.specs.Prelude.{option_map, codes, IfOk, IsTrue}
 use Rattle.std.specs.Global.{Vec}
 use Rattle.std.specs.List.{list_any}
 use Rattle.linear_programs.specs.Linear.{Linear}
-use Rattle.text_base.specs.Desk.{Meaning, Texts}
-use Rattle.text_base.specs.Stopped.{IfFault}
-use Rattle.text_base.specs.declared.stop.Stop.{Stop}
-use Rattle.text_base.specs.declared.stop.Stop.TheVariants.{Fault}
-use Rattle.text_base.specs.Judged.{HasOneOutcome}
-use Rattle.text_base.specs.Reading.{lines_of, last_of}
-use Rattle.text_base.proofs.JudgedLemmas.{one_outcome}
+use Rattle.desk.specs.Desk.{Meaning, Texts}
+use Rattle.texts.specs.Stopped.{IfFault}
+use Rattle.texts.specs.declared.stop.Stop.{Stop}
+use Rattle.texts.specs.declared.stop.Stop.TheVariants.{Fault}
+use Rattle.texts.specs.Judged.{HasOneOutcome}
+use Rattle.texts.specs.Reading.{lines_of, last_of}
+use Rattle.texts.proofs.JudgedLemmas.{one_outcome}
 use Rattle.exact_numbers.specs.declared.dec.Dec.{Dec}
 use Rattle.file_meaning.specs.FoldFaults.{fold_fault, has_objective, FoldFault as FileFault}
 use Rattle.file_meaning.specs.LinearFile.{linear_of}

@@ -2,9 +2,9 @@
 -- for the line before is not found at the first.
 use Rattle.std.proofs.Common.{◌≡◌, ℕ, zero, suc, ◌-◌, ◌<◌, Bool, false, List, [], ◌∷◌, Some, refl, arith}
 use Rattle.std.specs.Prelude.{if◌then◌else◌}
-use Rattle.text_base.specs.Judged.{Last, Open, Bad, End, HasFaultAt, reason_after}
-use Rattle.text_base.specs.Reading.{IsLineOf, last_of, lines_of}
-use Rattle.text_base.proofs.JudgedLemmas.{fault_line}
+use Rattle.texts.specs.Judged.{Last, Open, Bad, End, HasFaultAt, reason_after}
+use Rattle.texts.specs.Reading.{IsLineOf, last_of, lines_of}
+use Rattle.texts.proofs.JudgedLemmas.{fault_line}
 use Rattle.sol_files.specs.Grammar.{sol_rules}
 use Rattle.sol_files.specs.Reader.{HasSolFault}
 use Rattle.sol_files.specs.Standing.{standing}

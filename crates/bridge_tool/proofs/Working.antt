@@ -2,9 +2,9 @@
 use Rattle.std.proofs.Common.{◌≡◌, ◌∙◌, inl, inr, ◌⊎◌, ℕ, ◌<◌, ◌≤◌, List, true, false, take, drop, Option, Some, None, IfSome, OnOk, Result, Ok, Err, refl, sym, ap, subst, arith}
 use Rattle.std.proofs.lemmas.Bool.{cases_lt}
 use Rattle.std.specs.Global.{Vec}
-use Rattle.text_base.specs.Desk.{Meaning, Texts, Rose, IsUnknown, OnlyInput, OnlyMessages}
-use Rattle.text_base.specs.declared.stop.Stop.{Stop}
-use Rattle.text_base.specs.declared.stop.Stop.TheVariants.{Fault as IsFault, Memory as IsMemory}
+use Rattle.desk.specs.Desk.{Meaning, Texts, Rose, IsUnknown, OnlyInput, OnlyMessages}
+use Rattle.texts.specs.declared.stop.Stop.{Stop}
+use Rattle.texts.specs.declared.stop.Stop.TheVariants.{Fault as IsFault, Memory as IsMemory}
 use Rattle.bridge_tool.specs.Answer.{IsWorked, Missed, Ends, status_of, told_by}
 use Rattle.bridge_tool.specs.OneFile.{text_of, IfText, TextComesTo, FileComesTo, DeskComesTo, Judges, file_promise}
 use Rattle.bridge_tool.specs.Outcome.{Outcome, BadWords, Untold, NoText, Refused, Done, Status, Written, IsQuiet, Told, line_of}

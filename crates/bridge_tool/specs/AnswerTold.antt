@@ -1,6 +1,6 @@
 -- The lines that tell faults of answers, and of what they are returned as.
 use Rattle.std.specs.Prelude.{ℕ, List, codes}
-use Rattle.text_base.specs.declared.fault.TextFault.{TextFault}
+use Rattle.texts.specs.declared.fault.TextFault.{TextFault}
 use Rattle.answer_file.specs.declared.fault.AnswerReason.{AnswerReason}
 use Rattle.answer_file.specs.declared.fault.AnswerReason.TheVariants.{BadFirst, BadLine, BadNumber, UnknownName, Repeated, Partial, TooLarge, LineTooLong, InputTooLong}
 use Rattle.dual_return.specs.declared.fault.ReturnFault.{ReturnFault}

@@ -1,7 +1,7 @@
 -- The command fixed: an MPS text of fixed columns in the one written form of what it says.
 use Rattle.std.specs.Prelude.{◌≡◌, ℕ, List, map}
 use Rattle.std.specs.declared.option.Option.{Option}
-use Rattle.text_base.specs.Desk.{Texts}
+use Rattle.desk.specs.Desk.{Texts}
 use Rattle.exact_numbers.specs.declared.dec.Dec.{Dec}
 use Rattle.mps_model.specs.Mps.{Mps}
 use Rattle.fixed_mps.specs.Fields.{free}

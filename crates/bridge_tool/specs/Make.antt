@@ -15,7 +15,7 @@ use Rattle.mps_model.specs.Text.{mps_text_by}
 use Rattle.nl_model.specs.declared.interval.Interval.{Interval}
 use Rattle.nl_model.specs.File.{File}
 use Rattle.nl_writer.specs.Written.{nl_text}
-use Rattle.text_base.specs.Desk.{Meaning}
+use Rattle.desk.specs.Desk.{Meaning}
 use Rattle.bridge_tool.specs.Export.{IsExported}
 use Rattle.bridge_tool.specs.OneFile.{TextComesTo}
 use Rattle.bridge_tool.specs.Promise.{Promise}

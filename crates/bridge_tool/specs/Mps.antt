@@ -2,11 +2,11 @@
 use Rattle.std.specs.Prelude.{◌≡◌, ℕ, ◌≤◌, ◌^◌, List, length, Result}
 use Rattle.std.specs.Global.{Vec}
 use Rattle.std.specs.declared.option.Option.{Option}
-use Rattle.text_base.specs.Desk.{Texts}
-use Rattle.text_base.specs.Judged.{Rules}
-use Rattle.text_base.specs.Reading.{IsRead, Reads, HasFault}
-use Rattle.text_base.specs.declared.fault.TextFault.{TextFault}
-use Rattle.text_base.specs.declared.stop.Stop.{Stop}
+use Rattle.desk.specs.Desk.{Texts}
+use Rattle.texts.specs.Judged.{Rules}
+use Rattle.texts.specs.Reading.{IsRead, Reads, HasFault}
+use Rattle.texts.specs.declared.fault.TextFault.{TextFault}
+use Rattle.texts.specs.declared.stop.Stop.{Stop}
 use Rattle.exact_numbers.specs.declared.dec.Dec.{Dec}
 use Rattle.mps_model.specs.Mps.{Mps}
 use Rattle.mps_reader.specs.Grammar.{mps_rules, standing}

@@ -1,6 +1,6 @@
 -- The lines that tell faults of MPS texts.
 use Rattle.std.specs.Prelude.{ℕ, List, codes}
-use Rattle.text_base.specs.declared.fault.TextFault.{TextFault}
+use Rattle.texts.specs.declared.fault.TextFault.{TextFault}
 use Rattle.mps_reader.specs.declared.fault.MpsReason.{MpsReason}
 use Rattle.mps_reader.specs.declared.fault.MpsReason.TheVariants.{Section, BadLine, BadNumber, UnknownRow, UnknownColumn, RepeatedRow, ColumnAgain, RepeatedEntry, SecondSet, Marker, BoundKind, RepeatedBound, RangeOnFree, NoObjective, NoEnd, TooLarge, LineTooLong, InputTooLong}
 use Rattle.bridge_tool.specs.Told.{refusal}

@@ -18,7 +18,7 @@ use Rattle.name_files.specs.Renamed.{HaveOneMeaning, named}
 use Rattle.nl_segments.specs.Grammar.{NlValue}
 use Rattle.nl_segments.specs.Reader.{IsNl}
 use Rattle.row_scaling.specs.Scaling.{HasNoScaleFault, IsExportOf}
-use Rattle.text_base.specs.Desk.{Texts}
+use Rattle.desk.specs.Desk.{Texts}
 use Rattle.bridge_tool.specs.Export.{MeansTheFile}
 use Rattle.bridge_tool.specs.NameLists.{after_lists}
 use Rattle.bridge_tool.specs.Outcome.{Outcome, BadWords, Untold, NoText, Refused, Done}

@@ -1,6 +1,6 @@
 -- The line that tells a fault of a list of names.
 use Rattle.std.specs.Prelude.{ℕ, List, codes}
-use Rattle.text_base.specs.declared.fault.TextFault.{TextFault}
+use Rattle.texts.specs.declared.fault.TextFault.{TextFault}
 use Rattle.name_files.specs.declared.fault.NameReason.{NameReason}
 use Rattle.name_files.specs.declared.fault.NameReason.TheVariants.{BadName, Repeated, Reserved, OtherCount, LineTooLong, InputTooLong}
 use Rattle.bridge_tool.specs.Told.{refusal}

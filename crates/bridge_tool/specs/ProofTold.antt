@@ -1,7 +1,7 @@
 -- The lines that tell faults of proof texts, and the lines of verdicts on proofs.
 use Rattle.std.specs.Prelude.{ℕ, List, ◌++◌, codes, Option, Some, None}
 use Rattle.duality.specs.Branch.{LeafFault}
-use Rattle.text_base.specs.declared.fault.TextFault.{TextFault}
+use Rattle.texts.specs.declared.fault.TextFault.{TextFault}
 use Rattle.proof_text.specs.declared.fault.ProofReason.{ProofReason}
 use Rattle.proof_text.specs.declared.fault.ProofReason.TheVariants.{LineTooLong, InputTooLong, BadFirst, Extra, BadLine, BadNumber, IndexOut, NotWhole, RepeatedIndex, TooLarge, Short}
 use Rattle.bridge_tool.specs.LeafTold.{leaf_text}

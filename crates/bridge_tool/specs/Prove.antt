@@ -4,8 +4,8 @@ use Rattle.std.specs.declared.option.Option.{Option}
 use Rattle.std.specs.declared.option.Option.TheVariants.{None, Some}
 use Rattle.linear_programs.specs.Linear.{row_count}
 use Rattle.duality.specs.Branch.{LeafFault, proof_fault}
-use Rattle.text_base.specs.Desk.{Texts}
-use Rattle.text_base.specs.declared.fault.TextFault.{TextFault}
+use Rattle.desk.specs.Desk.{Texts}
+use Rattle.texts.specs.declared.fault.TextFault.{TextFault}
 use Rattle.file_meaning.specs.FoldFaults.{fold_fault, has_objective}
 use Rattle.file_meaning.specs.LinearFile.{linear_of}
 use Rattle.linear_fold.specs.FoldedFaults.{first_fold_fault, step_bound}

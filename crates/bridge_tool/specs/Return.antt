@@ -2,13 +2,13 @@
 -- answer says. The answer is the second file; all other faults are told as of the first.
 use Rattle.std.specs.Prelude.{◌≡◌, ◌⊎◌, ℕ, ◌+◌, ◌≤◌, true, false, List, if◌then◌else◌, Result, Ok, Err}
 use Rattle.std.specs.Global.{Vec}
-use Rattle.text_base.specs.declared.stop.Stop.{Stop}
-use Rattle.text_base.specs.declared.stop.Stop.TheVariants.{Fault, Memory}
+use Rattle.texts.specs.declared.stop.Stop.{Stop}
+use Rattle.texts.specs.declared.stop.Stop.TheVariants.{Fault, Memory}
 use Rattle.std.specs.declared.option.Option.{Option}
 use Rattle.std.specs.declared.option.Option.TheVariants.{None}
-use Rattle.text_base.specs.Desk.{Texts}
-use Rattle.text_base.specs.Reading.{HasFault}
-use Rattle.text_base.specs.declared.fault.TextFault.{TextFault}
+use Rattle.desk.specs.Desk.{Texts}
+use Rattle.texts.specs.Reading.{HasFault}
+use Rattle.texts.specs.declared.fault.TextFault.{TextFault}
 use Rattle.file_meaning.specs.FoldFaults.{fold_fault, has_objective}
 use Rattle.file_meaning.specs.LinearFile.{linear_of}
 use Rattle.linear_fold.specs.FoldedFaults.{step_bound}

@@ -1,7 +1,7 @@
 -- The command sol: a .sol text in the one written form of what it says.
 use Rattle.std.specs.Prelude.{◌≡◌, ℕ, ◌≤◌, ◌^◌, List, length}
 use Rattle.std.specs.declared.option.Option.{Option}
-use Rattle.text_base.specs.Desk.{Texts}
+use Rattle.desk.specs.Desk.{Texts}
 use Rattle.sol_files.specs.Reader.{IsSol, HasSolFault}
 use Rattle.sol_files.specs.Sol.{Sol}
 use Rattle.sol_files.specs.Written.{sol_text}

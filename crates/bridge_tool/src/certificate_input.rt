@@ -1,6 +1,6 @@
 // Reading and judging the text of a certificate.
 ghost use Rattle.std.specs.Prelude.{◌≡◌, ◌≢◌, List, ℕ, IfErr, IfOk};
-ghost use Rattle.text_base.specs.Desk.{IsUnknown, OnlyInput};
+ghost use Rattle.desk.specs.Desk.{IsUnknown, OnlyInput};
 ghost use Rattle.certificates.specs.Certificates.{IsCertificateIn};
 ghost use Rattle.nl_model.specs.File.{File};
 ghost use Rattle.certificate_text.specs.Reader.{IsFed, IsCertificateText};

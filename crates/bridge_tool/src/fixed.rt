@@ -1,7 +1,7 @@
 // The command fixed: from an MPS text of fixed columns to the one written form of what it says, or
 // to the line to tell.
 ghost use Rattle.std.specs.Prelude.{◌≡◌, ◌≢◌, List, ℕ, IfOk, OnOk};
-ghost use Rattle.text_base.specs.Desk.{IsUnknown, OnlyInput};
+ghost use Rattle.desk.specs.Desk.{IsUnknown, OnlyInput};
 ghost use Rattle.fixed_mps.specs.Reader.{IsFed};
 ghost use Rattle.bridge_tool.specs.Answer.{IsWorked, status_of};
 ghost use Rattle.bridge_tool.specs.Fixed.{IsFixedMeant, IsFixedRefused, IsFixedRewritten, fixed_promise};

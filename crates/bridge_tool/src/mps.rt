@@ -1,7 +1,7 @@
 // The command mps: from an MPS text to the one written form of what it says, or to the line to
 // tell.
 ghost use Rattle.std.specs.Prelude.{◌≡◌, ◌≢◌, List, ℕ, IfOk, OnOk};
-ghost use Rattle.text_base.specs.Desk.{IsUnknown, OnlyInput};
+ghost use Rattle.desk.specs.Desk.{IsUnknown, OnlyInput};
 ghost use Rattle.mps_reader.specs.Reader.{IsFed};
 ghost use Rattle.bridge_tool.specs.Answer.{IsWorked, status_of};
 ghost use Rattle.bridge_tool.specs.Mps.{IsMeantRead, IsMpsMeant, IsMpsRefused, IsRewritten, JudgesRead, mps_promise};

@@ -1,6 +1,6 @@
 // Reading and judging lists of names.
 ghost use Rattle.std.specs.Prelude.{◌≡◌, ◌≢◌, List, ℕ, IfErr, IfOk, length};
-ghost use Rattle.text_base.specs.Desk.{IsUnknown, OnlyInput};
+ghost use Rattle.desk.specs.Desk.{IsUnknown, OnlyInput};
 ghost use Rattle.name_files.specs.Names.{Counts};
 ghost use Rattle.name_files.specs.Reader.{IsFed};
 ghost use Rattle.bridge_tool.specs.Answer.{status_of};

@@ -1,6 +1,6 @@
 // Reading and judging an .nl file.
 ghost use Rattle.std.specs.Prelude.{◌≢◌, List, ℕ, IfErr, IfOk};
-ghost use Rattle.text_base.specs.Desk.{IsUnknown, OnlyInput};
+ghost use Rattle.desk.specs.Desk.{IsUnknown, OnlyInput};
 ghost use Rattle.nl_segments.specs.Reader.{HasLines, IsFed, IsNl, value_of};
 ghost use Rattle.bridge_tool.specs.Answer.{status_of};
 ghost use Rattle.bridge_tool.specs.Refusal.{HasTextRefusal};

@@ -1,6 +1,6 @@
 // What all commands share that read files: feeding a reader, and ending with what was judged.
 ghost use Rattle.std.specs.Prelude.{◌≡◌, [], IfOk};
-ghost use Rattle.text_base.specs.Desk.{IsUnknown, OnlyInput};
+ghost use Rattle.desk.specs.Desk.{IsUnknown, OnlyInput};
 ghost use Rattle.bridge_tool.specs.Answer.{Ends, EndsVerdict, EndsWriting, Missed};
 ghost use Rattle.bridge_tool.specs.SeveralFiles.{Answered};
 ghost use Rattle.bridge_tool.specs.Transfer.{HasRead, HasReadCause};

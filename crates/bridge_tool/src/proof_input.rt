@@ -1,6 +1,6 @@
 // Reading and judging a proof text.
 ghost use Rattle.std.specs.Prelude.{◌≡◌, ◌≢◌, List, ℕ, IfErr, IfOk};
-ghost use Rattle.text_base.specs.Desk.{IsUnknown, OnlyInput};
+ghost use Rattle.desk.specs.Desk.{IsUnknown, OnlyInput};
 ghost use Rattle.branch_proof.specs.Files.{IsProofIn};
 ghost use Rattle.nl_model.specs.File.{File};
 ghost use Rattle.proof_text.specs.Reader.{IsFed, IsProofText};

@@ -1,6 +1,6 @@
 // Reading and judging a .sol file.
 ghost use Rattle.std.specs.Prelude.{◌≢◌, List, ℕ, IfErr, IfOk};
-ghost use Rattle.text_base.specs.Desk.{IsUnknown, OnlyInput};
+ghost use Rattle.desk.specs.Desk.{IsUnknown, OnlyInput};
 ghost use Rattle.sol_files.specs.Reader.{IsFed, IsSol};
 ghost use Rattle.bridge_tool.specs.Answer.{status_of};
 ghost use Rattle.bridge_tool.specs.Sol.{IsSolRefused};

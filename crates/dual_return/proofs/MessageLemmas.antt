@@ -4,9 +4,9 @@ use Rattle.std.specs.Prelude.{option_map, codes}
 use Rattle.std.specs.List.{AllByRecursion}
 use Rattle.std.specs.Str.{bytes_eq}
 use Rattle.std.proofs.lemmas.List.{take_more, take_all}
-use Rattle.text_base.specs.Judged.{Last, IsClean, first_reason, reason_after}
-use Rattle.text_base.specs.Reading.{lines_of, last_of}
-use Rattle.text_base.specs.Words.{row_of, without_blanks, word_at}
+use Rattle.texts.specs.Judged.{Last, IsClean, first_reason, reason_after}
+use Rattle.texts.specs.Reading.{lines_of, last_of}
+use Rattle.texts.specs.Words.{row_of, without_blanks, word_at}
 use Rattle.exact_numbers.specs.declared.dec.Dec.{Dec}
 use Rattle.exact_numbers.specs.Numbers.{dec_of}
 use Rattle.answer_file.specs.declared.fault.AnswerReason.TheVariants.{BadLine, TooLarge}
@@ -21,8 +21,8 @@ use Rattle.answer_file.specs.Steps.{with_entry, with_said, after}
 use Rattle.answer_file.specs.Reading.{IsAnswer}
 use Rattle.answer_file.proofs.StandingLemmas.{standing-more, standing-none}
 use Rattle.sol_files.specs.Built.{IsMessageLine}
-use Rattle.text_base.specs.Cut.{IsTextLine}
-use Rattle.text_base.proofs.LineLemmas.{lines_of-lines, one_line-blanks, one_line-drop}
+use Rattle.texts.specs.Cut.{IsTextLine}
+use Rattle.texts.proofs.LineLemmas.{lines_of-lines, one_line-blanks, one_line-drop}
 
 AreLines : List (List ℕ) → Type 0
 AreLines message = AllByRecursion IsMessageLine message

@@ -4,8 +4,8 @@ use Rattle.std.specs.Prelude.{IfSome, option_map, unwrap_or}
 use Rattle.std.specs.Option.{option_or}
 use Rattle.std.specs.Str.Parse.{digits_value}
 use Rattle.std.proofs.lemmas.Bool.{ltb-true}
-use Rattle.text_base.specs.Reading.{lines_of}
-use Rattle.text_base.specs.Words.{row_of, word_at}
+use Rattle.texts.specs.Reading.{lines_of}
+use Rattle.texts.specs.Words.{row_of, word_at}
 use Rattle.exact_numbers.specs.declared.dec.Dec.{Dec}
 use Rattle.exact_numbers.specs.Numbers.{are_digits, whole_of, dec_of}
 use Rattle.exact_numbers.proofs.NumberLemmas.{second_of_both}

@@ -7,11 +7,11 @@ use Rattle.std.proofs.lemmas.Bool.Decides.{nat_tests}
 use Rattle.std.proofs.lemmas.Bool.{eq-eqb, eqb-true, leb-true, leb-false, ltb-true}
 use Rattle.std.proofs.lemmas.List.{length-map}
 use Rattle.std.proofs.lemmas.List.Sums.{sum_by-cons}
-use Rattle.text_base.specs.Judged.{first_reason}
-use Rattle.text_base.specs.Names.{is_name, has_name_bytes}
-use Rattle.text_base.specs.Cut.{IsTextLine}
-use Rattle.text_base.specs.Reading.{lines_of}
-use Rattle.text_base.specs.Words.{is_blank, row_of, without_blanks, word_at}
+use Rattle.texts.specs.Judged.{first_reason}
+use Rattle.texts.specs.Names.{is_name, has_name_bytes}
+use Rattle.texts.specs.Cut.{IsTextLine}
+use Rattle.texts.specs.Reading.{lines_of}
+use Rattle.texts.specs.Words.{is_blank, row_of, without_blanks, word_at}
 use Rattle.exact_numbers.specs.declared.dec.Dec.{Dec}
 use Rattle.exact_numbers.specs.Numbers.{dec_of, has_31_bits, is_whole, whole_of}
 use Rattle.exact_numbers.proofs.Bridge.{and_true}

@@ -5,7 +5,7 @@ ghost use Rattle.fractions.specs.Rational.{whole, zero_ℚ, ◌*ℚ◌};
 ghost use Rattle.exact_numbers.specs.Values.{dec_value, IsInReach};
 ghost use Rattle.nl_model.specs.File.{File};
 ghost use Rattle.row_scaling.specs.Scaling.{IsScaledOf, factor_at};
-ghost use Rattle.text_base.specs.Stopped.{IfFault};
+ghost use Rattle.texts.specs.Stopped.{IfFault};
 ghost use Rattle.dual_return.specs.Return.{IsDualAt, AreDuals, AreDualsIf, HasReturnFault, DualBy, AreFactors, sign_by, linear_for};
 
 use crate::fault::ReturnFault;
@@ -16,7 +16,7 @@ use nl_model::Decs;
 use row_scaling::Scaled;
 use sol_files::SolBuilder;
 use std::alloc::Global;
-use text_base::Stop;
+use texts::Stop;
 
 // The factor with the answer's sign.
 fn multiplier(turned: bool, factor: i128) -> i128

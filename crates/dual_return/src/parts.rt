@@ -10,7 +10,7 @@ use exact_numbers::Dec;
 use nl_model::{Decs, Options, Suffix, Terms};
 use sol_files::{SolBuilder, SolSuffix};
 use std::alloc::{AllocError, Global};
-use text_base::TextLines;
+use texts::TextLines;
 
 /// The same options.
 pub(crate) fn same_options(options: &Options) -> Options

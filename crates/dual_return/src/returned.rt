@@ -1,6 +1,6 @@
 // A .sol file from an answer.
 ghost use Rattle.std.specs.Prelude.{◌≡◌, IfOk, IfErr};
-ghost use Rattle.text_base.specs.Stopped.{IfFault};
+ghost use Rattle.texts.specs.Stopped.{IfFault};
 ghost use Rattle.row_scaling.specs.Scaling.{IsScaledOf};
 ghost use Rattle.dual_return.specs.Return.{IsAnswerFor, IsReturn, HasReturnFault, linear_for};
 
@@ -12,7 +12,7 @@ use nl_model::NlFile;
 use row_scaling::Scaled;
 use sol_files::{Sol, SolBuilder};
 use std::alloc::Global;
-use text_base::Stop;
+use texts::Stop;
 
 /// The .sol file of an answer: duals of the file's rows, unscaled and in AMPL's sign, under the
 /// original numbers.

@@ -4,7 +4,7 @@ use Rattle.std.specs.Fmt.{decimal}
 use Rattle.std.proofs.lemmas.Fmt.{decimal_injective, decimal_by_steps, length-decimal-le}
 use Rattle.std.proofs.lemmas.Bool.{le-leb}
 use Rattle.std.proofs.lemmas.List.Folds.{list_all-append}
-use Rattle.text_base.specs.Names.{IsName, has_name_bytes}
+use Rattle.texts.specs.Names.{IsName, has_name_bytes}
 use Rattle.mps_model.specs.Valid.{marker_word}
 use Rattle.linear_programs.specs.Names.{row_name, variable_name}
 use Rattle.exported_program.specs.Program.{nl_name, obj_name, z_name, zdef_name}

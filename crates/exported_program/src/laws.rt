@@ -1,6 +1,6 @@
 // Each law is proved by a function with an empty body.
 ghost use Rattle.std.specs.Prelude.{◌≢◌, ◌^◌};
-ghost use Rattle.text_base.specs.Names.{IsName};
+ghost use Rattle.texts.specs.Names.{IsName};
 ghost use Rattle.mps_model.specs.Valid.{marker_word};
 ghost use Rattle.linear_programs.specs.Names.{row_name, variable_name};
 ghost use Rattle.exported_program.specs.Program.{nl_name, obj_name, z_name, zdef_name};

@@ -2,9 +2,9 @@
 use Rattle.std.proofs.Common.{◌≡◌, ℕ, zero, suc, ◌+◌, ◌*◌, ◌<◌, ◌≤◌, ◌∙◌, sym, ap, ap₂, refl, subst, subst₂, arith, Option, Some, None, option_map, option_and_then, List, [], ◌∷◌, ◌++◌, map, length, take, drop, get_or, slice_get, sum_by}
 use Rattle.std.specs.Option.{option_map_or}
 use Rattle.std.proofs.lemmas.List.Sums.{sum_by-append, sum_by-cons, sum_by-take-le, sum_by_more}
-use Rattle.text_base.specs.declared.stop.Stop.{Stop}
-use Rattle.text_base.specs.declared.stop.Stop.TheVariants.{Fault, Memory}
-use Rattle.text_base.specs.Stopped.{IfFault}
+use Rattle.texts.specs.declared.stop.Stop.{Stop}
+use Rattle.texts.specs.declared.stop.Stop.TheVariants.{Fault, Memory}
+use Rattle.texts.specs.Stopped.{IfFault}
 use Rattle.nl_meaning.specs.Trees.{Point, Tree, with_value, expression_value, tree_size}
 use Rattle.nl_model.specs.declared.at.Owner.TheVariants.{Def, Con, Obj}
 use Rattle.nl_model.specs.File.{Term, Objective, Definition, File}

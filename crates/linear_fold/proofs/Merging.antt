@@ -6,9 +6,9 @@ use Rattle.fractions.specs.Rational.{ℚ, zero_ℚ, ◌+ℚ◌, ◌*ℚ◌}
 use Rattle.fractions.proofs.Arithmetic.{+ℚ_zero, zero-+ℚ}
 use Rattle.fractions.specs.Fits.{fits, sum_fits}
 use Rattle.nl_meaning.specs.Lines.{Line}
-use Rattle.text_base.specs.declared.stop.Stop.{Stop}
-use Rattle.text_base.specs.declared.stop.Stop.TheVariants.{Fault, Memory}
-use Rattle.text_base.specs.Stopped.{IfFault}
+use Rattle.texts.specs.declared.stop.Stop.{Stop}
+use Rattle.texts.specs.declared.stop.Stop.TheVariants.{Fault, Memory}
+use Rattle.texts.specs.Stopped.{IfFault}
 use Rattle.linear_fold.specs.declared.too_wide.Wide.{Wide}
 use Rattle.linear_fold.specs.Forms.{AreSummedUp, IsScaledSum, ScaledSumFits, adds_fit, parts_line}
 use Rattle.linear_fold.proofs.FracLemmas.{coef_fits}

@@ -9,9 +9,9 @@ use Rattle.fractions.proofs.Arithmetic.{*ℚ_cancel, *ℚ_zero, zero-*ℚ}
 use Rattle.nl_meaning.specs.Faults.{line_scaled, products_fit}
 use Rattle.nl_meaning.specs.Lines.{Line}
 use Rattle.linear_fold.specs.Coefs.{Term, value_or_zero, coef_in, AreAscending, AreProducts, HasWideProduct}
-use Rattle.text_base.specs.declared.stop.Stop.{Stop}
-use Rattle.text_base.specs.declared.stop.Stop.TheVariants.{Fault, Memory}
-use Rattle.text_base.specs.Stopped.{IfFault}
+use Rattle.texts.specs.declared.stop.Stop.{Stop}
+use Rattle.texts.specs.declared.stop.Stop.TheVariants.{Fault, Memory}
+use Rattle.texts.specs.Stopped.{IfFault}
 use Rattle.linear_fold.specs.declared.too_wide.Wide.{Wide}
 use Rattle.linear_fold.specs.Forms.{IsZeroFrom, Multiplies}
 use Rattle.linear_fold.proofs.CoefLemmas.{found_same, found_apart}

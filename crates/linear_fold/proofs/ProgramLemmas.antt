@@ -4,9 +4,9 @@ use Rattle.std.proofs.Math.Seq.{take-suc}
 use Rattle.std.proofs.lemmas.List.{get_or_past}
 use Rattle.std.specs.Option.{option_map_or}
 use Rattle.linear_programs.specs.Linear.{Row}
-use Rattle.text_base.specs.declared.stop.Stop.{Stop}
-use Rattle.text_base.specs.declared.stop.Stop.TheVariants.{Fault, Memory}
-use Rattle.text_base.specs.Stopped.{IfFault}
+use Rattle.texts.specs.declared.stop.Stop.{Stop}
+use Rattle.texts.specs.declared.stop.Stop.TheVariants.{Fault, Memory}
+use Rattle.texts.specs.Stopped.{IfFault}
 use Rattle.linear_fold.specs.declared.fold_fault.FoldFault.{FoldFault}
 use Rattle.linear_fold.specs.FoldedFaults.{first_fold_fault, named_fault}
 use Rattle.nl_model.specs.declared.at.Owner.TheVariants.{Con, Obj}

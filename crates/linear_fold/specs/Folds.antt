@@ -1,7 +1,7 @@
 -- What folding a tree comes to.
 use Rattle.std.specs.Prelude.{◌≡◌, ◌≢◌, ℕ, ◌+◌, ◌-◌, ◌<◌, ◌≤◌, List, [], ◌∷◌, length, get_or, Option, Some, None, Result, Ok, Err}
-use Rattle.text_base.specs.declared.stop.Stop.{Stop}
-use Rattle.text_base.specs.declared.stop.Stop.TheVariants.{Fault as Stopped, Memory}
+use Rattle.texts.specs.declared.stop.Stop.{Stop}
+use Rattle.texts.specs.declared.stop.Stop.TheVariants.{Fault as Stopped, Memory}
 use Rattle.code_tables.specs.Opcodes.{class_of}
 use Rattle.fractions.specs.Rational.{ℚ}
 use Rattle.nl_meaning.specs.declared.Fault.{Fault}

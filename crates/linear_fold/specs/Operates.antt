@@ -1,7 +1,7 @@
 -- The parts of a tree, and what an operator makes of them.
 use Rattle.std.specs.Prelude.{◌≡◌, ℕ, ◌<◌, Bool, true, false, List, [], ◌∷◌, map, Option, Some, None, Result, Ok, Err}
-use Rattle.text_base.specs.declared.stop.Stop.{Stop}
-use Rattle.text_base.specs.declared.stop.Stop.TheVariants.{Fault, Memory}
+use Rattle.texts.specs.declared.stop.Stop.{Stop}
+use Rattle.texts.specs.declared.stop.Stop.TheVariants.{Fault, Memory}
 use Rattle.code_tables.specs.declared.class.OpClass.{OpClass}
 use Rattle.fractions.specs.Rational.{ℚ, zero_ℚ}
 use Rattle.nl_meaning.specs.declared.Reason.TheVariants.{TooWide}

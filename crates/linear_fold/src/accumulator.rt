@@ -13,7 +13,7 @@ use crate::too_wide::Wide;
 use exact_numbers::Frac;
 use std::alloc::{AllocError, Global};
 use std::marker::Model;
-use text_base::Stop;
+use texts::Stop;
 
 /// A place for each variable, and terms that are not yet put at theirs: while the variables that
 /// are added ascend, their terms are only listed.

@@ -11,7 +11,7 @@ use crate::form::Form;
 use exact_numbers::Dec;
 use nl_meaning::{Fault, Reason};
 use std::alloc::{AllocError, Global};
-use text_base::{Ledger, Steps};
+use texts::{Ledger, Steps};
 
 /// Whether the variables of terms strictly ascend and no factor is 0.
 pub(crate) fn are_ascending(terms: &[(u32, Dec)]) -> bool

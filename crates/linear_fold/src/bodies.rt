@@ -1,6 +1,6 @@
 // The bodies of a file and one of its objectives, folded after the defined variables.
 ghost use Rattle.std.specs.Prelude.{◌≡◌, ◌+◌, ◌*◌, ◌≤◌, [], ◌∷◌, IfOk, IfErr, None, OnOk, Some, length, option_map, true};
-ghost use Rattle.text_base.specs.Stopped.{IfFault};
+ghost use Rattle.texts.specs.Stopped.{IfFault};
 ghost use Rattle.nl_model.specs.HeaderRules.{AreCounts};
 ghost use Rattle.nl_model.specs.Rules.{IsFile};
 ghost use Rattle.nl_model.specs.declared.at.Owner.TheVariants.{Con as OfConstraint, Obj as OfObjective};
@@ -16,7 +16,7 @@ use crate::form::Form;
 use crate::owners::{Folder, fold_owner};
 use nl_model::{NlFile, Owner};
 use std::alloc::Global;
-use text_base::{Ledger, Steps, Stop};
+use texts::{Ledger, Steps, Stop};
 
 // Folds the bodies of all constraints.
 fn fold_bodies<L: Ledger>(

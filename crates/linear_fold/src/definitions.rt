@@ -1,6 +1,6 @@
 // The defined variables of a file, folded in file order.
 ghost use Rattle.std.specs.Prelude.{◌≡◌, ◌+◌, ◌*◌, ◌≤◌, [], ◌∷◌, IfOk, IfErr, None, OnOk, Some, length, replicate, slice_get, take};
-ghost use Rattle.text_base.specs.Stopped.{IfFault};
+ghost use Rattle.texts.specs.Stopped.{IfFault};
 ghost use Rattle.nl_meaning.specs.Trees.{tree_size};
 ghost use Rattle.nl_model.specs.HeaderRules.{AreCounts};
 ghost use Rattle.nl_model.specs.Rules.{IsFile};
@@ -16,7 +16,7 @@ use crate::pad::Pad;
 use crate::sum::Sum;
 use nl_model::{Def, NlFile, Owner, defined_count};
 use std::alloc::{AllocError, Global};
-use text_base::{Ledger, Steps, Stop};
+use texts::{Ledger, Steps, Stop};
 
 // So many places without forms.
 fn empty_slots(alloc: Global, count: u64) -> Result<Vec<Option<Form>>, AllocError>

@@ -1,7 +1,7 @@
 // Expressions folded to forms: a tree, which may be missing, and its linear terms.
 ghost use Rattle.std.specs.Prelude.{◌≡◌, ℕ, ◌+◌, ◌*◌, ◌^◌, ◌<◌, ◌≤◌, List, [], ◌∷◌, IfOk, IfSome, OnOk, OnErr, length, option_copied};
 ghost use Rattle.std.specs.Option.{option_map_or};
-ghost use Rattle.text_base.specs.Stopped.{IfFault};
+ghost use Rattle.texts.specs.Stopped.{IfFault};
 ghost use Rattle.nl_meaning.specs.Lines.{Line};
 ghost use Rattle.nl_meaning.specs.Trees.{Known, LinearTerm, Point, Tree, tree_size};
 ghost use Rattle.nl_model.specs.Nodes.{IsTreeFormed};
@@ -20,7 +20,7 @@ use exact_numbers::{Dec, Frac};
 use nl_meaning::{Fault, Reason};
 use nl_model::{Expr, Terms};
 use std::alloc::{AllocError, Global};
-use text_base::{Ledger, Steps, Stop};
+use texts::{Ledger, Steps, Stop};
 
 /// How many nodes an expression has; a missing one is the number 0.
 pub(crate) fn node_count(tree: Option<&Expr>) -> usize

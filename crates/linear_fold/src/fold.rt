@@ -16,7 +16,7 @@ use exact_numbers::{Dec, Frac};
 use nl_meaning::{Fault, Reason};
 use nl_model::Node;
 use std::alloc::{AllocError, Global};
-use text_base::{Ledger, Steps};
+use texts::{Ledger, Steps};
 
 // A stack has room for so many parts at first.
 const MOST_AT_FIRST: usize = 16;

@@ -1,6 +1,6 @@
 // Linear forms.
 ghost use Rattle.std.specs.Prelude.{◌≡◌, ◌+◌, ◌<◌, ◌≤◌, ◌^◌, ℕ, [], length, IfOk, IfErr, IfSome, OnErr, OnOk, ◌≢◌, false, true};
-ghost use Rattle.text_base.specs.Stopped.{IfFault};
+ghost use Rattle.texts.specs.Stopped.{IfFault};
 ghost use Rattle.exact_numbers.specs.Values.{frac_value};
 ghost use Rattle.fractions.specs.Rational.{zero_ℚ};
 ghost use Rattle.nl_meaning.specs.Faults.{constant_line};
@@ -16,7 +16,7 @@ use crate::sum::Sum;
 use crate::too_wide::Wide;
 use exact_numbers::{Dec, Frac};
 use std::alloc::{AllocError, Global};
-use text_base::{Ledger, Steps, Stop};
+use texts::{Ledger, Steps, Stop};
 
 /// Where a form is kept: a closed one as a constant and a list, an open one as a sum on a pad.
 #[derive(Drop)]

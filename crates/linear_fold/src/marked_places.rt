@@ -9,7 +9,7 @@ use crate::too_wide::Wide;
 use exact_numbers::Frac;
 use std::alloc::{AllocError, Global};
 use std::marker::Model;
-use text_base::Stop;
+use texts::Stop;
 
 /// A place for each variable, and the touched places: those that may hold anything but 0.
 #[derive(Drop)]

@@ -17,7 +17,7 @@ use code_tables::OpClass;
 use exact_numbers::Frac;
 use nl_meaning::Reason;
 use std::alloc::{AllocError, Global};
-use text_base::{Ledger, Steps, Stop};
+use texts::{Ledger, Steps, Stop};
 
 /// The form of an operator, or why it has none.
 #[derive(Drop)]

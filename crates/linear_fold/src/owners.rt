@@ -1,6 +1,6 @@
 // Owners folded one by one: what has a tree and terms.
 ghost use Rattle.std.specs.Prelude.{◌≡◌, ◌+◌, ◌*◌, ◌^◌, ◌<◌, ◌≤◌, [], ◌∷◌, false, IfOk, IfErr, OnOk, length, option_copied};
-ghost use Rattle.text_base.specs.Stopped.{IfFault};
+ghost use Rattle.texts.specs.Stopped.{IfFault};
 ghost use Rattle.nl_model.specs.FilePlaces.{terms_at, tree_at};
 ghost use Rattle.nl_model.specs.Rules.{IsFile};
 ghost use Rattle.nl_model.specs.declared.at.At.TheVariants.{Head};
@@ -19,7 +19,7 @@ use crate::sum::Sum;
 use nl_meaning::{Fault, Reason};
 use nl_model::{At, Expr, NlFile, Owner, Terms};
 use std::alloc::Global;
-use text_base::{Ledger, Steps, Stop};
+use texts::{Ledger, Steps, Stop};
 
 // The most coefficients of a folded file.
 const MOST_COEFFICIENTS: usize = 0x80_0000;

@@ -1,6 +1,6 @@
 // The fold of a whole file.
 ghost use Rattle.std.specs.Prelude.{◌≡◌, ◌+◌, ◌<◌, ◌≤◌, ◌==◌, ◌&&◌, ◌||◌, IfOk, IfErr, OnOk, None, Some, nat_lt, false, true};
-ghost use Rattle.text_base.specs.Stopped.{IfFault};
+ghost use Rattle.texts.specs.Stopped.{IfFault};
 ghost use Rattle.nl_model.specs.HeaderRules.{AreCounts};
 ghost use Rattle.nl_model.specs.Rules.{IsFile};
 ghost use Rattle.file_meaning.specs.Expressions.{maximises};
@@ -18,7 +18,7 @@ use crate::linear::Linear;
 use nl_header::kinds_of;
 use nl_model::{Counts, Interval, Kind, NlFile};
 use std::alloc::{AllocError, Global};
-use text_base::{Ledger, Steps, Stop};
+use texts::{Ledger, Steps, Stop};
 
 // Whether there is such an objective; a file without objectives has the objective 0.
 fn has_objective(counts: &Counts, objective: u32) -> bool

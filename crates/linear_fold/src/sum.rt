@@ -15,7 +15,7 @@ use crate::too_wide::Wide;
 use exact_numbers::Frac;
 use std::alloc::{AllocError, Global};
 use std::mem;
-use text_base::{Ledger, Steps, Stop};
+use texts::{Ledger, Steps, Stop};
 
 /// What is added to: a constant, and a sparse accumulator of coefficients.
 #[derive(Drop)]

@@ -1,11 +1,11 @@
 // The names of rows and columns.
 ghost use Rattle.std.specs.Prelude.{◌≡◌, ◌≤◌, ◌∷◌, IfOk};
 ghost use Rattle.std.specs.Fmt.{decimal};
-ghost use Rattle.text_base.specs.Names.{IsName};
+ghost use Rattle.texts.specs.Names.{IsName};
 
 use itoa::write_digits;
 use std::alloc::{AllocError, Global};
-use text_base::Name;
+use texts::Name;
 
 // A letter and the digits of 32 bits have no more bytes.
 const LONGEST: usize = 11;

@@ -16,7 +16,7 @@ use mps_model::MpsBuilder;
 use nl_model::Kind;
 use row_scaling::Scaled;
 use std::alloc::{AllocError, Global};
-use text_base::Name;
+use texts::Name;
 
 // Whether a variable of this kind is whole.
 fn is_whole(kind: Kind) -> bool

@@ -1,7 +1,7 @@
 // The import of a program.
 ghost use Rattle.std.specs.Prelude.{◌≡◌, ◌++◌, ◌+◌, ◌≤◌, ◌<◌, ◌^◌, false, true, All, cond, None, Some, IfOk, IfErr, OnOk, get_or, length, map, nat_lt, ◌||◌};
 ghost use Rattle.std.specs.List.{count_by};
-ghost use Rattle.text_base.specs.Stopped.{IfFault};
+ghost use Rattle.texts.specs.Stopped.{IfFault};
 ghost use Rattle.std.specs.Ordering.{is_eq, is_ne};
 ghost use Rattle.exact_numbers.specs.Values.{dec_value, exponent_of, mantissa_of, order_of};
 ghost use Rattle.file_meaning.specs.Meaning.{no_sides};
@@ -26,7 +26,7 @@ use mps_model::Mps;
 use nl_model::{Counts, Expr, ExprBuilder, Header, Interval, NlBuilder, NlFile, Node, Options};
 use std::alloc::{AllocError, Global};
 use std::cmp::Ordering;
-use text_base::Stop;
+use texts::Stop;
 
 // The most constraints, and the most columns.
 const MOST_PLACES: u32 = 0x10_0000;

@@ -5,7 +5,7 @@ ghost use Rattle.exact_numbers.specs.Values.{dec_value};
 ghost use Rattle.file_meaning.specs.Meaning.{interval_of};
 ghost use Rattle.mps_model.specs.Built.{entry_of};
 ghost use Rattle.mps_model.specs.Mps.{at_row, objective_row, or_zero, row_interval, row_sides};
-ghost use Rattle.text_base.specs.Stopped.{IfFault};
+ghost use Rattle.texts.specs.Stopped.{IfFault};
 ghost use Rattle.mps_import.specs.Decimals.{sides_from};
 ghost use Rattle.mps_import.specs.Faults.{first_wide, is_range_wide};
 ghost use Rattle.mps_import.specs.Import.{constraints, is_bounded_kind};
@@ -22,7 +22,7 @@ use exact_numbers::Dec;
 use mps_model::{Mps, MpsRow, RowKind};
 use nl_model::Interval;
 use std::alloc::{AllocError, Global};
-use text_base::Stop;
+use texts::Stop;
 
 // What a row of a program is in the file.
 #[derive(Clone, Copy)]

@@ -2,7 +2,7 @@
 use Rattle.std.specs.Prelude.{◌≡◌, ◌≢◌, ℕ, ◌<◌, ◌≤◌, ◌^◌, List, [], ◌∷◌, length, get_or, Option, Some, None, All, codes}
 use Rattle.std.specs.List.{sum_by, AllPairs}
 use Rattle.fractions.specs.Rational.{ℚ, zero_ℚ}
-use Rattle.text_base.specs.Names.{IsName}
+use Rattle.texts.specs.Names.{IsName}
 use Rattle.mps_model.specs.Mps.{BoundKind, MpsRow, Entry, Column, Bound, Mps, no_row, lower_set, upper_set, objective_row}
 use Rattle.mps_model.specs.declared.kinds.RowKind.TheVariants.{N}
 use Rattle.mps_model.specs.declared.kinds.BoundKind.TheVariants.{Lo, Up, Fx, Fr, Mi, Pl, Bv, Li, Ui}

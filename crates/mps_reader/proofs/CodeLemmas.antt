@@ -9,10 +9,10 @@ use Rattle.std.proofs.lemmas.Bool.Decides.{nat_tests}
 use Rattle.std.proofs.lemmas.Grind.{pow_more, get_or_default_zero}
 use Rattle.std.proofs.lemmas.List.{length-map, map-append, get_or-map, length-append}
 use Rattle.std.proofs.lemmas.List.Elements.{All-head, All-tail, All-push}
-use Rattle.text_base.specs.Names.{IsName, is_name}
+use Rattle.texts.specs.Names.{IsName, is_name}
 use Rattle.mps_reader.specs.Codes.{bytes_code, code_of, AreBytes, HaveCodes}
 use Rattle.mps_reader.specs.Saying.{place_of, last_name}
-use Rattle.text_base.proofs.NamePlaces.{place_at, place_none, bytes_differ, bytes_same}
+use Rattle.texts.proofs.NamePlaces.{place_at, place_none, bytes_differ, bytes_same}
 
 -- ---- sizes
 

@@ -1,6 +1,6 @@
 -- Short names as numbers.
 use Rattle.std.specs.Prelude.{◌≡◌, ◌≢◌, true, ℕ, ◌+◌, ◌*◌, ◌<◌, ◌≤◌, ◌^◌, nat_le, List, [], ◌∷◌, length, map, All, AllPairs, if◌then◌else◌}
-use Rattle.text_base.specs.Names.{is_name}
+use Rattle.texts.specs.Names.{is_name}
 
 -- the bytes as digits of base 256, the first the lowest, with a 1 above the last: other bytes have
 -- another number

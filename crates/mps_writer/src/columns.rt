@@ -10,7 +10,7 @@ use crate::lines::put_entry;
 use exact_numbers::Dec;
 use mps_model::{MpsColumn, MpsRow};
 use std::alloc::{AllocError, Global};
-use text_base::TextLines;
+use texts::TextLines;
 use written_texts::{put, put_end, put_line, put_next, put_number};
 
 fn put_marker(out: &mut Vec<u8>, i: u32, word: &[u8]) -> Result<(), AllocError>

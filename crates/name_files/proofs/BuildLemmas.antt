@@ -5,7 +5,7 @@ use Rattle.std.proofs.lemmas.List.{length-map, get_or-map, get_or-take, get_or_d
 use Rattle.std.proofs.lemmas.List.Elements.{All-take}
 use Rattle.std.proofs.lemmas.List.Sums.{sum_by-cons, sum_by-append, sum_by-take-le}
 use Rattle.fractions.specs.Rational.{zero_ℚ}
-use Rattle.text_base.specs.Names.{IsName}
+use Rattle.texts.specs.Names.{IsName}
 use Rattle.exact_numbers.specs.declared.dec.Dec.{Dec}
 use Rattle.exact_numbers.specs.Values.{dec_value}
 use Rattle.mps_model.specs.declared.kinds.BoundKind.{BoundKind}

@@ -3,12 +3,12 @@
 use Rattle.std.specs.Prelude.{◌≡◌, ◌≢◌, ℕ, ◌+◌, ◌^◌, ◌<◌, ◌==◌, Bool, false, not, ◌&&◌, ◌||◌, nat_le, nat_lt, List, [], ◌∷◌, ◌++◌, length, take, slice_index, Option, Some, None, is_some, if◌then◌else◌, All, AllPairs}
 use Rattle.std.specs.List.{flat_map}
 use Rattle.std.specs.Str.{bytes_eq}
-use Rattle.text_base.specs.Judged.{Rules, first_reason}
-use Rattle.text_base.specs.Names.{IsName, is_name}
-pub use Rattle.text_base.specs.Names.{place_of}
-use Rattle.text_base.specs.Words.{words_of, word_at}
-use Rattle.text_base.specs.declared.lines.LineFault.{LineFault}
-use Rattle.text_base.specs.declared.lines.LineFault.TheVariants.{LineTooLong as LongLine, InputTooLong as LongInput}
+use Rattle.texts.specs.Judged.{Rules, first_reason}
+use Rattle.texts.specs.Names.{IsName, is_name}
+pub use Rattle.texts.specs.Names.{place_of}
+use Rattle.texts.specs.Words.{words_of, word_at}
+use Rattle.texts.specs.declared.lines.LineFault.{LineFault}
+use Rattle.texts.specs.declared.lines.LineFault.TheVariants.{LineTooLong as LongLine, InputTooLong as LongInput}
 use Rattle.name_files.specs.declared.fault.NameReason.{NameReason}
 use Rattle.name_files.specs.declared.fault.NameReason.TheVariants.{BadName, Repeated, Reserved, OtherCount, LineTooLong, InputTooLong}
 use Rattle.mps_model.specs.Valid.{marker_word}

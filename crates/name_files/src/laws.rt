@@ -1,7 +1,7 @@
 // Laws of names. Each is proved by a function with an empty body.
 ghost use Rattle.std.specs.Prelude.{◌≡◌, List, ℕ, length};
-ghost use Rattle.text_base.specs.Judged.{HasOneOutcome};
-ghost use Rattle.text_base.specs.Reading.{lines_of, last_of};
+ghost use Rattle.texts.specs.Judged.{HasOneOutcome};
+ghost use Rattle.texts.specs.Reading.{lines_of, last_of};
 ghost use Rattle.exact_numbers.specs.declared.dec.Dec.{Dec};
 ghost use Rattle.exact_numbers.specs.Values.{dec_value};
 ghost use Rattle.mps_model.specs.Mps.{Mps, with_values};

@@ -1,13 +1,13 @@
 // What a name becomes.
 ghost use Rattle.std.specs.Prelude.{◌≡◌, ◌≤◌, ◌^◌, ◌∷◌, length, IfOk};
 ghost use Rattle.std.specs.Fmt.{decimal};
-ghost use Rattle.text_base.specs.Names.{IsName};
+ghost use Rattle.texts.specs.Names.{IsName};
 ghost use Rattle.name_files.specs.Renamed.{marked, new_name};
 
 use crate::list::NameList;
 use crate::numerals::numbered;
 use std::alloc::{AllocError, Global};
-use text_base::Name;
+use texts::Name;
 
 // The name with an `@` before it.
 fn marked(alloc: Global, old: &[u8]) -> Result<Name, AllocError>

@@ -1,8 +1,8 @@
 // A reader of files of names.
 ghost use Rattle.std.specs.Prelude.{◌≡◌, ◌++◌, List, ℕ, [], IfOk, IfErr, IfSome, OnOk, Err, None};
 ghost use Rattle.std.specs.Result.{result_err};
-ghost use Rattle.text_base.specs.Stopped.{IfFault};
-ghost use Rattle.text_base.specs.Reading.{IsFreeSoFar, HasFaultSoFar};
+ghost use Rattle.texts.specs.Stopped.{IfFault};
+ghost use Rattle.texts.specs.Reading.{IsFreeSoFar, HasFaultSoFar};
 ghost use Rattle.name_files.specs.Names.{name_rules};
 ghost use Rattle.name_files.specs.Reader.{IsFed, ReadsNames};
 
@@ -11,7 +11,7 @@ use crate::grammar::NameGrammar;
 use crate::list::NameList;
 use std::alloc::{AllocError, Global};
 use std::marker::Model;
-use text_base::{Reader, Stop};
+use texts::{Reader, Stop};
 
 /// Reads a file of names that comes in pieces.
 #[derive(Drop)]

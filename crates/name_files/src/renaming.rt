@@ -10,7 +10,7 @@ use crate::new_names::new_name;
 use exact_numbers::Dec;
 use mps_model::{BoundKind, Mps, MpsBuilder, MpsColumn, MpsRow};
 use std::alloc::{AllocError, Global};
-use text_base::Name;
+use texts::Name;
 
 // The program's own name.
 fn own_name(alloc: Global, mps: &Mps) -> Result<Option<Name>, AllocError>

@@ -6,9 +6,9 @@ use Rattle.std.specs.Option.{option_or}
 use Rattle.std.proofs.lemmas.List.{get_or-take, get_or_append_left, take-append-le, take_more, length-append, length-take}
 use Rattle.std.proofs.lemmas.Bool.{eqb-true, lt-ltb, ltb-true, ltb-false, le-ltb, le-leb, leb-true}
 use Rattle.std.proofs.lemmas.Option.{none-some}
-use Rattle.text_base.specs.Judged.{first_reason}
-use Rattle.text_base.specs.Words.{word_at}
-use Rattle.text_base.proofs.FirstReasons.{none_head}
+use Rattle.texts.specs.Judged.{first_reason}
+use Rattle.texts.specs.Words.{word_at}
+use Rattle.texts.proofs.FirstReasons.{none_head}
 use Rattle.code_tables.specs.declared.field.Field.{Field}
 use Rattle.code_tables.specs.declared.field.FieldRow.{FieldRow}
 use Rattle.code_tables.specs.Header.{header_rows, field_at}

@@ -6,8 +6,8 @@ use Rattle.std.specs.Prelude.{◌≡◌, ℕ, ◌+◌, ◌-◌, ◌^◌, ◌==�
 use Rattle.std.specs.List.{list_any, filter_map}
 use Rattle.std.specs.Str.{bytes_eq}
 use Rattle.std.specs.Option.{option_map_or, option_or}
-use Rattle.text_base.specs.Judged.{first_reason}
-use Rattle.text_base.specs.Words.{word_at}
+use Rattle.texts.specs.Judged.{first_reason}
+use Rattle.texts.specs.Words.{word_at}
 use Rattle.code_tables.specs.declared.field.Field.{Field}
 use Rattle.code_tables.specs.declared.field.FieldRow.{FieldRow}
 use Rattle.code_tables.specs.Header.{header, header_rows, field_at}

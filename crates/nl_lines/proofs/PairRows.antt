@@ -4,10 +4,10 @@ use Rattle.std.specs.Prelude.{unwrap_or, slice_index}
 use Rattle.std.specs.Char.{digit_value}
 use Rattle.std.proofs.lemmas.Bool.{ltb-true, not-false}
 use Rattle.std.proofs.lemmas.Bool.Decides.{nat_tests}
-use Rattle.text_base.specs.Judged.{first_reason}
-use Rattle.text_base.specs.Words.{IsUnmarked, row_of, without_comment, word_at}
-use Rattle.text_base.proofs.PairLemmas.{pair_line}
-use Rattle.text_base.proofs.FirstReasons.{none_each}
+use Rattle.texts.specs.Judged.{first_reason}
+use Rattle.texts.specs.Words.{IsUnmarked, row_of, without_comment, word_at}
+use Rattle.texts.proofs.PairLemmas.{pair_line}
+use Rattle.texts.proofs.FirstReasons.{none_each}
 use Rattle.exact_numbers.specs.declared.dec.Dec.{Dec}
 use Rattle.exact_numbers.specs.Numbers.{are_any_digits, are_digits, dec_of, whole_of}
 use Rattle.exact_numbers.specs.Spelled.{first_of_both, second_of_both}

@@ -1,10 +1,10 @@
 -- A row that is a whole number alone.
 use Rattle.std.proofs.Common.{◌≡◌, ◌∙◌, ℕ, ◌<◌, take, false, List, [], ◌∷◌, length, refl, sym, ap, subst, Some, None}
 use Rattle.std.proofs.lemmas.Bool.{eqb-true, ltb-true, not-false}
-use Rattle.text_base.specs.Judged.{first_reason}
-use Rattle.text_base.specs.Words.{IsUnmarked, row_of, without_comment, word_at}
-use Rattle.text_base.proofs.FirstReasons.{none_each}
-use Rattle.text_base.proofs.PairLemmas.{without_comment-unmarked, words_of-one}
+use Rattle.texts.specs.Judged.{first_reason}
+use Rattle.texts.specs.Words.{IsUnmarked, row_of, without_comment, word_at}
+use Rattle.texts.proofs.FirstReasons.{none_each}
+use Rattle.texts.proofs.PairLemmas.{without_comment-unmarked, words_of-one}
 use Rattle.exact_numbers.specs.Numbers.{whole_of}
 use Rattle.exact_numbers.specs.Spelled.{first_of_both}
 use Rattle.nl_lines.specs.Heads.{is_head}

@@ -11,7 +11,7 @@ use Rattle.fractions.specs.Rational.{whole}
 use Rattle.exact_numbers.specs.declared.dec.Dec.{Dec}
 use Rattle.exact_numbers.specs.Numbers.{whole_of, signed_of, dec_from, dec_of}
 use Rattle.nl_lines.specs.Rows.{Row, row_words}
-use Rattle.text_base.specs.Words.{word_at}
+use Rattle.texts.specs.Words.{word_at}
 use Rattle.nl_lines.specs.Heads.{letter_of, own_number}
 
 -- a node, and the line where it stands

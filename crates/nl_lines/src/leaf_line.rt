@@ -1,7 +1,7 @@
 // A line of an expression that is a letter and a number alone, read at once.
 ghost use Rattle.std.specs.Prelude.{◌≡◌, ◌∷◌, [], Some, IfSome};
 ghost use Rattle.exact_numbers.specs.Numbers.{IsUnmarked, whole_of};
-ghost use Rattle.text_base.specs.Words.{row_of, without_comment};
+ghost use Rattle.texts.specs.Words.{row_of, without_comment};
 ghost use Rattle.nl_lines.specs.Leaves.{IsLeafRow};
 
 use crate::leaf::Leaf;

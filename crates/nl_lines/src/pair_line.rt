@@ -1,6 +1,6 @@
 // A line of an index and a value, read at once.
 ghost use Rattle.std.specs.Prelude.{IfSome};
-ghost use Rattle.text_base.specs.Words.{row_of, without_comment};
+ghost use Rattle.texts.specs.Words.{row_of, without_comment};
 ghost use Rattle.nl_lines.specs.PairTests.{IsPairRow};
 
 use exact_numbers::{Dec, plain_dec, plain_index};

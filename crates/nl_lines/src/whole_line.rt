@@ -1,6 +1,6 @@
 // A line that is a whole number alone, read at once.
 ghost use Rattle.std.specs.Prelude.{IfSome};
-ghost use Rattle.text_base.specs.Words.{row_of, without_comment};
+ghost use Rattle.texts.specs.Words.{row_of, without_comment};
 ghost use Rattle.nl_lines.specs.WholeRows.{IsWholeRow};
 
 use crate::leaf_line::plain_whole;

@@ -1,6 +1,6 @@
 // Suffixes.
 use crate::terms::Terms;
-use text_base::Name;
+use texts::Name;
 
 /// Values of a name for variables, constraints, objectives or the problem, by the low two bits of
 /// the kind (0 to 3).

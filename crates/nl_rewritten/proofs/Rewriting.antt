@@ -5,7 +5,7 @@ use Rattle.std.specs.List.{list_all}
 use Rattle.std.specs.Option.{option_map_or}
 use Rattle.std.proofs.lemmas.List.Elements.{All-cons, All-head, All-nil, All-tail}
 use Rattle.std.proofs.lemmas.List.Sums.{get_or-le-sum_by, sum_by-cons}
-use Rattle.text_base.specs.Reading.{lines_of}
+use Rattle.texts.specs.Reading.{lines_of}
 use Rattle.exact_numbers.specs.Numbers.{has_31_bits}
 use Rattle.nl_header.specs.Head.{options_in}
 use Rattle.nl_meaning.specs.Trees.{tree_size}

@@ -6,9 +6,9 @@ use Rattle.std.specs.Option.{option_map_or}
 use Rattle.std.proofs.lemmas.Bool.{leb-false, ltb-true, ltb-false, not-false, and_from, or_parts}
 use Rattle.std.proofs.lemmas.List.{map-append, get_or_append_left, get_or_push}
 use Rattle.std.proofs.lemmas.List.Elements.{All-push, All-append, filter_map-append}
-use Rattle.text_base.specs.Judged.{first_reason}
-use Rattle.text_base.specs.Words.{word_at}
-use Rattle.text_base.proofs.FirstReasons.{none_head, none_each, none_first, none_second}
+use Rattle.texts.specs.Judged.{first_reason}
+use Rattle.texts.specs.Words.{word_at}
+use Rattle.texts.proofs.FirstReasons.{none_head, none_each, none_first, none_second}
 use Rattle.exact_numbers.specs.declared.dec.Dec.{Dec}
 use Rattle.exact_numbers.specs.Numbers.{dec_of, is_whole, whole_of}
 use Rattle.nl_model.specs.declared.header_counts.Counts.{Counts}

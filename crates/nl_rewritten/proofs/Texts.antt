@@ -8,12 +8,12 @@ use Rattle.std.proofs.lemmas.List.{drop_all, drop_at, take_all, take_at, take_mo
 use Rattle.std.proofs.Math.Seq.{get_or-append_seam}
 use Rattle.std.proofs.lemmas.List.Elements.{filter-append}
 use Rattle.std.proofs.lemmas.List.Sums.{sum_by-append}
-use Rattle.text_base.specs.declared.lines.LineFault.{LineFault}
-use Rattle.text_base.specs.Judged.{Last, IsClean, first_reason, last_reason, reason_at}
-use Rattle.text_base.specs.Lines.{scan}
-use Rattle.text_base.specs.Reading.{last_of as last_line, lines_of}
-use Rattle.text_base.specs.Words.{without_comment, words_of}
-use Rattle.text_base.proofs.FirstReasons.{none_each}
+use Rattle.texts.specs.declared.lines.LineFault.{LineFault}
+use Rattle.texts.specs.Judged.{Last, IsClean, first_reason, last_reason, reason_at}
+use Rattle.texts.specs.Lines.{scan}
+use Rattle.texts.specs.Reading.{last_of as last_line, lines_of}
+use Rattle.texts.specs.Words.{without_comment, words_of}
+use Rattle.texts.proofs.FirstReasons.{none_each}
 use Rattle.exact_numbers.specs.Numbers.{has_31_bits}
 use Rattle.nl_header.specs.Head.{counts_in, line_at, line_fault, number_line_fault, options_in, is_short, rule_tests, words_fault}
 use Rattle.code_tables.specs.Header.{header_rows}

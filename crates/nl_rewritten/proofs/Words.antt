@@ -4,7 +4,7 @@ use Rattle.std.specs.Prelude.{slice_index}
 use Rattle.std.specs.List.{AllByRecursion, list_all, filter_map, cons_option}
 use Rattle.std.specs.Str.Parse.{digits_value, signed_digits_value, without_leading_sign}
 use Rattle.std.proofs.lemmas.Bool.{ltb-true}
-use Rattle.text_base.specs.Words.{is_blank, ends_word, words_of, row_of, word_at, up_to_comment, without_comment}
+use Rattle.texts.specs.Words.{is_blank, ends_word, words_of, row_of, word_at, up_to_comment, without_comment}
 use Rattle.exact_numbers.specs.Numbers.{are_digits, has_31_bits, whole_of, signed_of}
 use Rattle.exact_numbers.proofs.Bridge.{and_true}
 

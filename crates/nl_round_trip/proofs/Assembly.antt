@@ -2,8 +2,8 @@
 use Rattle.std.proofs.Common.{◌≡◌, ◌∙◌, ℕ, ◌+◌, ◌≤◌, ◌^◌, false, List, [], ◌∷◌, ◌++◌, length, map, sym, ap, ap₂, subst, arith, None, All, suc}
 use Rattle.std.proofs.lemmas.List.{length-map, map-append}
 use Rattle.std.specs.List.{AllByRecursion}
-use Rattle.text_base.specs.Judged.{End, IsClean}
-use Rattle.text_base.specs.Reading.{lines_of, last_of}
+use Rattle.texts.specs.Judged.{End, IsClean}
+use Rattle.texts.specs.Reading.{lines_of, last_of}
 use Rattle.nl_header.specs.Head.{options_in, counts_in}
 use Rattle.nl_model.specs.File.{File}
 use Rattle.nl_model.specs.Draft.{file_of}

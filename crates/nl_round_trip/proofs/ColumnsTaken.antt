@@ -6,7 +6,7 @@ use Rattle.std.proofs.lemmas.Bool.Decides.{nat_tests}
 use Rattle.std.proofs.lemmas.List.Sums.{sum_by-cons}
 use Rattle.std.specs.Fmt.{decimal}
 use Rattle.std.specs.List.{AllByRecursion, filter_map}
-use Rattle.text_base.specs.Judged.{first_reason}
+use Rattle.texts.specs.Judged.{first_reason}
 use Rattle.nl_model.specs.declared.header_counts.Counts.{Counts}
 use Rattle.nl_model.specs.Draft.{Draft}
 use Rattle.nl_model.specs.File.{Term}
@@ -17,7 +17,7 @@ use Rattle.nl_lines.specs.Heads.{head_of, is_in_range}
 use Rattle.nl_lines.specs.Nodes.{nodes_from}
 use Rattle.exact_numbers.specs.Numbers.{whole_of}
 use Rattle.nl_lines.specs.Pieces.{Piece, awaited_in, awaited_of, piece_nodes}
-use Rattle.text_base.specs.Words.{word_at}
+use Rattle.texts.specs.Words.{word_at}
 use Rattle.nl_lines.specs.Rows.{row_words}
 use Rattle.nl_lines.specs.Tests.{column_tests, column_counts, all_column_counts, are_column_counts}
 use Rattle.written_texts.specs.Lines.{Line}

@@ -4,7 +4,7 @@ use Rattle.std.specs.Prelude.{codes}
 use Rattle.std.specs.Ordering.{int_eq}
 use Rattle.std.proofs.lemmas.Bool.Decides.{Decides-int_eq}
 use Rattle.std.specs.Str.{bytes_eq}
-use Rattle.text_base.specs.Judged.{first_reason}
+use Rattle.texts.specs.Judged.{first_reason}
 use Rattle.exact_numbers.proofs.Bridge.{and_true}
 use Rattle.exact_numbers.specs.declared.dec.Dec.{Dec}
 use Rattle.fractions.specs.Rational.{decimal_value}
@@ -25,7 +25,7 @@ use Rattle.nl_lines.proofs.PieceLemmas.{longer}
 use Rattle.written_texts.proofs.WordLemmas.{row-written}
 use Rattle.exact_numbers.specs.Numbers.{dec_from}
 use Rattle.nl_lines.specs.Pieces.{Piece, awaited_in, awaited_of, line_kind, line_count, has_tree, piece_nodes, interval_in}
-use Rattle.text_base.specs.Words.{word_at}
+use Rattle.texts.specs.Words.{word_at}
 use Rattle.nl_lines.specs.Tests.{has_sides, is_empty, is_binary, is_within_unit, is_sides, wants_unit, interval_form_tests, interval_tests}
 use Rattle.exact_numbers.proofs.NumberLemmas.{dec_from-some}
 use Rattle.exact_numbers.specs.Values.{text_of}

@@ -6,7 +6,7 @@ use Rattle.std.proofs.lemmas.Bool.Decides.{nat_tests}
 use Rattle.std.proofs.lemmas.List.{length-map, map-append}
 use Rattle.std.specs.Fmt.{decimal}
 use Rattle.std.specs.List.{AllByRecursion, flat_map}
-use Rattle.text_base.specs.Judged.{first_reason}
+use Rattle.texts.specs.Judged.{first_reason}
 use Rattle.code_tables.specs.Opcodes.{class_of, operands_of}
 use Rattle.code_tables.specs.declared.class.OpClass.{OpClass}
 use Rattle.code_tables.specs.declared.class.OpClass.TheVariants.{Sum, Difference, Product, Quotient, Negation, List as ListOf, Power, Least, Greatest, Floor, Ceiling, Absolute, Refused}
@@ -36,7 +36,7 @@ use Rattle.nl_lines.specs.Saying.{draft_of, with_piece, said_by, if_complete}
 use Rattle.nl_lines.specs.Tests.{node_form_tests, node_tests, operand_tests, node_total}
 use Rattle.nl_lines.specs.declared.fault.NlReason.TheVariants.{TooLarge}
 use Rattle.nl_lines.proofs.RowLemmas.{tree_count, late_tree, last_nodes, last_pending, nodes-more, pending-more}
-use Rattle.text_base.proofs.FirstReasons.{reason_after}
+use Rattle.texts.proofs.FirstReasons.{reason_after}
 use Rattle.nl_lines.proofs.NodeLemmas.{not_large}
 use Rattle.nl_lines.proofs.PieceLemmas.{longer, draft-append}
 use Rattle.exact_numbers.specs.Values.{text_of}

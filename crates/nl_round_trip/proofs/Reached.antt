@@ -1,8 +1,8 @@
 -- Lines without faults, and what they mean for the next one.
 use Rattle.std.proofs.Common.{◌≡◌, ◌∙◌, ℕ, ◌+◌, false, List, [], ◌∷◌, ◌++◌, length, map, refl, sym, ap, subst, arith, None, length-append, append_assoc, append-nil}
 use Rattle.std.specs.List.{AllByRecursion}
-use Rattle.text_base.specs.Judged.{Open, End, IsClean, first_reason}
-use Rattle.text_base.proofs.JudgedLemmas.{clean_none, clean_last, clean_more}
+use Rattle.texts.specs.Judged.{Open, End, IsClean, first_reason}
+use Rattle.texts.proofs.JudgedLemmas.{clean_none, clean_last, clean_more}
 use Rattle.nl_header.specs.Head.{options_in, counts_in}
 use Rattle.nl_lines.specs.Pieces.{Piece, with_row}
 use Rattle.nl_lines.specs.Saying.{draft_of}

@@ -1,7 +1,7 @@
 -- Heads and lines that are taken.
 use Rattle.std.proofs.Common.{◌≡◌, ◌∙◌, ℕ, ◌+◌, true, false, ℤ, List, [], ◌∷◌, ◌++◌, length, refl, sym, ap, ap₂, subst, arith, Some, None}
 use Rattle.std.specs.List.{AllByRecursion}
-use Rattle.text_base.specs.Judged.{first_reason}
+use Rattle.texts.specs.Judged.{first_reason}
 use Rattle.nl_model.specs.declared.header_counts.Counts.{Counts}
 use Rattle.nl_lines.specs.declared.awaited.Awaited.{Awaited}
 use Rattle.nl_lines.specs.declared.awaited.Awaited.TheVariants.{Nothing}

@@ -1,7 +1,7 @@
 -- What a reader answers to the written text of a file.
 use Rattle.std.specs.Prelude.{◌≡◌, Result, Ok, Err}
-use Rattle.text_base.specs.declared.stop.Stop.{Stop}
-use Rattle.text_base.specs.declared.stop.Stop.TheVariants.{Fault, Memory}
+use Rattle.texts.specs.declared.stop.Stop.{Stop}
+use Rattle.texts.specs.declared.stop.Stop.TheVariants.{Fault, Memory}
 use Rattle.nl_model.specs.File.{File}
 use Rattle.nl_lines.specs.declared.fault.NlFault.{NlFault}
 use Rattle.nl_segments.specs.declared.nl_read.NlRead.{NlRead}

@@ -1,6 +1,6 @@
 -- Lines of the body that are taken one after the other, each by the pieces before it.
 use Rattle.std.specs.Prelude.{◌≡◌, ℕ, ◌+◌, ℤ, List, [], ◌∷◌, None}
-use Rattle.text_base.specs.Judged.{first_reason}
+use Rattle.texts.specs.Judged.{first_reason}
 use Rattle.nl_model.specs.declared.header_counts.Counts.{Counts}
 use Rattle.nl_lines.specs.Rows.{Row}
 use Rattle.nl_lines.specs.Pieces.{Piece, with_row}

@@ -4,7 +4,7 @@ use Rattle.std.specs.Prelude.{◌≡◌, ℕ, ◌+◌, ◌/◌, ◌%◌, ◌^◌
 use Rattle.std.specs.List.{list_all}
 use Rattle.std.specs.Option.{option_map_or}
 use Rattle.std.specs.Str.{bytes_eq}
-use Rattle.text_base.specs.Names.{is_name}
+use Rattle.texts.specs.Names.{is_name}
 use Rattle.exact_numbers.specs.Numbers.{has_31_bits, is_whole}
 use Rattle.nl_meaning.specs.Trees.{Tree, tree_size}
 use Rattle.nl_model.specs.declared.interval.Interval.{Interval}

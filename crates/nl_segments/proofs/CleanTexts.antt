@@ -4,12 +4,12 @@ use Rattle.std.specs.Prelude.{IsSome, IsSomeAnd, Ok}
 use Rattle.std.proofs.lemmas.Bool.{not-false}
 use Rattle.std.proofs.lemmas.List.{drop_all, drop_at, length-append, take_all, take_at}
 use Rattle.std.proofs.lemmas.List.Elements.{All-push}
-use Rattle.text_base.specs.declared.lines.LineFault.{LineFault}
-use Rattle.text_base.specs.Judged.{Last, IsClean, last_reason, reason_at}
-use Rattle.text_base.specs.Lines.{scan}
-use Rattle.text_base.specs.Reading.{last_of as last_line, lines_of, Reads}
-use Rattle.text_base.specs.Words.{without_comment}
-use Rattle.text_base.proofs.FirstReasons.{none_each}
+use Rattle.texts.specs.declared.lines.LineFault.{LineFault}
+use Rattle.texts.specs.Judged.{Last, IsClean, last_reason, reason_at}
+use Rattle.texts.specs.Lines.{scan}
+use Rattle.texts.specs.Reading.{last_of as last_line, lines_of, Reads}
+use Rattle.texts.specs.Words.{without_comment}
+use Rattle.texts.proofs.FirstReasons.{none_each}
 use Rattle.nl_header.specs.Head.{options_in}
 use Rattle.nl_model.specs.declared.header_counts.Counts.{Counts}
 use Rattle.nl_model.specs.FilePlaces.{HasPlace}

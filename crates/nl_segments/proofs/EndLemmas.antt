@@ -6,10 +6,10 @@ use Rattle.std.proofs.lemmas.List.{get_or_past}
 use Rattle.std.proofs.lemmas.List.Sums.{sum_by-cons}
 use Rattle.std.specs.Prelude.{IsSome, is_some, drop, ◌||◌}
 use Rattle.std.specs.List.{list_all}
-use Rattle.text_base.specs.Judged.{first_reason}
-use Rattle.text_base.specs.Stopped.{IfFault}
-use Rattle.text_base.specs.declared.stop.Stop.{Stop}
-use Rattle.text_base.specs.declared.stop.Stop.TheVariants.{Fault, Memory}
+use Rattle.texts.specs.Judged.{first_reason}
+use Rattle.texts.specs.Stopped.{IfFault}
+use Rattle.texts.specs.declared.stop.Stop.{Stop}
+use Rattle.texts.specs.declared.stop.Stop.TheVariants.{Fault, Memory}
 use Rattle.nl_model.specs.declared.header_counts.Counts.{Counts}
 use Rattle.nl_model.specs.Draft.{Draft, IsDraft, is_given, file_of}
 use Rattle.nl_model.specs.File.{Term, Objective, File}

@@ -2,10 +2,10 @@
 use Rattle.std.proofs.Common.{◌≡◌, ◌∙◌, ℕ, ◌+◌, true, false, List, [], ◌∷◌, ◌++◌, length, take, not, ◌==◌, Bor, refl, sym, ap, subst, IfOk, IfErr, OnOk}
 use Rattle.std.specs.Prelude.{Some, None, Option, Result, Ok, Err, IsSomeAnd}
 use Rattle.std.proofs.lemmas.List.{length-map}
-use Rattle.text_base.specs.Stopped.{IfFault}
-use Rattle.text_base.specs.declared.stop.Stop.{Stop}
-use Rattle.text_base.specs.declared.stop.Stop.TheVariants.{Fault, Memory}
-use Rattle.text_base.specs.Words.{words_of, row_of, texts, without_comment}
+use Rattle.texts.specs.Stopped.{IfFault}
+use Rattle.texts.specs.declared.stop.Stop.{Stop}
+use Rattle.texts.specs.declared.stop.Stop.TheVariants.{Fault, Memory}
+use Rattle.texts.specs.Words.{words_of, row_of, texts, without_comment}
 use Rattle.nl_header.specs.Reading.{Taken, IsReading, Takes}
 use Rattle.nl_model.specs.declared.header.Header.{Header}
 use Rattle.nl_lines.specs.declared.fault.NlReason.{NlReason}

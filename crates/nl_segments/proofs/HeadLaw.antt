@@ -5,8 +5,8 @@ use Rattle.std.specs.List.{list_any}
 use Rattle.std.proofs.lemmas.List.{length-replicate}
 use Rattle.std.proofs.lemmas.List.Elements.{All-push}
 use Rattle.std.proofs.lemmas.List.Quantifiers.{all_pairs_push}
-use Rattle.text_base.specs.Judged.{first_reason}
-use Rattle.text_base.proofs.FirstReasons.{same_reasons}
+use Rattle.texts.specs.Judged.{first_reason}
+use Rattle.texts.proofs.FirstReasons.{same_reasons}
 use Rattle.nl_header.specs.Head.{options_in}
 use Rattle.nl_model.specs.declared.header_counts.Counts.{Counts}
 use Rattle.nl_model.specs.Draft.{Draft}

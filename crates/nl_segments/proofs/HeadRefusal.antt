@@ -3,8 +3,8 @@ use Rattle.std.proofs.Common.{◌≡◌, ◌∙◌, ℕ, ◌<◌, Bool, true, fa
 use Rattle.std.specs.Prelude.{not, nat_le, codes}
 use Rattle.std.specs.Str.{bytes_eq}
 use Rattle.std.proofs.lemmas.Bool.{not-false}
-use Rattle.text_base.specs.Judged.{first_reason}
-use Rattle.text_base.proofs.FirstReasons.{none_head, none_first, reason_before, reason_after}
+use Rattle.texts.specs.Judged.{first_reason}
+use Rattle.texts.proofs.FirstReasons.{none_head, none_first, reason_before, reason_after}
 use Rattle.nl_model.specs.declared.header_counts.Counts.{Counts}
 use Rattle.nl_model.specs.File.{Suffix}
 use Rattle.nl_lines.specs.declared.fault.NlReason.TheVariants.{TooLarge, RepeatedSegment, IndexOut, ShortSegment, SosSuffix}

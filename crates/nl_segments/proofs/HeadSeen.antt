@@ -4,12 +4,12 @@ use Rattle.std.specs.Prelude.{not, if◌then◌else◌, ◌+◌, nat_le, option_
 use Rattle.std.specs.List.{list_any}
 use Rattle.std.proofs.lemmas.List.{length-set}
 use Rattle.std.proofs.lemmas.List.Folds.{list_any-append}
-use Rattle.text_base.specs.Names.{IsName, is_name, has_name_bytes}
+use Rattle.texts.specs.Names.{IsName, is_name, has_name_bytes}
 use Rattle.nl_model.specs.declared.header_counts.Counts.{Counts}
 use Rattle.nl_lines.specs.declared.head.Head.{Head}
 use Rattle.nl_lines.specs.declared.head.Head.TheVariants.{Body, Objective, Definition, DualGuesses, PrimalGuesses, Sides, Bounds, ColumnCounts, Terms, Slopes}
 use Rattle.nl_lines.specs.Heads.{head_of, name_in, numbered_head, counted_head, bare_head, objective_head, definition_head, column_head, suffix_head, with_sense, letter_of, own_number, number_at}
-use Rattle.text_base.specs.Words.{word_at}
+use Rattle.texts.specs.Words.{word_at}
 use Rattle.nl_lines.specs.Pieces.{Piece}
 use Rattle.nl_lines.specs.SeenSegments.{Segments, mark_of, with_segment}
 use Rattle.nl_lines.specs.Tests.{is_suffix, is_same_head, is_same_piece}

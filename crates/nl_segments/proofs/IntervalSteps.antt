@@ -16,11 +16,11 @@ use Rattle.nl_lines.specs.declared.head.Head.TheVariants.{Sides, Bounds, ColumnC
 use Rattle.nl_lines.specs.declared.fault.NlReason.{NlReason}
 use Rattle.exact_numbers.specs.Numbers.{whole_of}
 use Rattle.nl_lines.specs.Rows.{Row, row_words}
-use Rattle.text_base.specs.Words.{word_at}
+use Rattle.texts.specs.Words.{word_at}
 use Rattle.nl_lines.specs.Heads.{is_head}
 use Rattle.nl_lines.specs.Pieces.{Piece, pair_count, line_count, line_kind, interval_in, piece_counts, piece_intervals}
 use Rattle.nl_lines.specs.Tests.{all_column_counts, column_counts, column_tests, holds_once, interval_form_tests, interval_tests, is_binary, is_sides}
-use Rattle.text_base.specs.Judged.{first_reason}
+use Rattle.texts.specs.Judged.{first_reason}
 use Rattle.nl_segments.specs.Steps.{after_body_row}
 use Rattle.nl_segments.specs.Grammar.{Standing, counts_of, said}
 use Rattle.nl_segments.specs.Current.{Current, IsCurrent, current_awaits, less_line}

@@ -1,7 +1,7 @@
 -- The pair of a row that is an index and a value alone is kept as that of any row.
 use Rattle.std.proofs.Common.{◌≡◌, ◌∙◌, ℕ, ◌-◌, ◌≤◌, Bool, false, List, length, refl, sym, ap, ap₂, subst, Some, None}
 use Rattle.std.specs.Prelude.{IsSomeAnd}
-use Rattle.text_base.specs.Judged.{first_reason}
+use Rattle.texts.specs.Judged.{first_reason}
 use Rattle.nl_model.specs.declared.header_counts.Counts.{Counts}
 use Rattle.nl_model.specs.File.{Term}
 use Rattle.nl_lines.specs.declared.awaited.Awaited.TheVariants.{Pair}

@@ -1,7 +1,7 @@
 -- Keeping a row of an expression with which nothing is wrong.
 use Rattle.std.proofs.Common.{◌≡◌, ◌∙◌, ℕ, ◌+◌, false, List, refl, sym, subst, Option, Some, None}
 use Rattle.std.specs.Prelude.{IfSome, IsSomeAnd}
-use Rattle.text_base.specs.Judged.{first_reason}
+use Rattle.texts.specs.Judged.{first_reason}
 use Rattle.nl_model.specs.Draft.{Draft}
 use Rattle.nl_lines.specs.declared.awaited.Awaited.TheVariants.{Node as NodeLine}
 use Rattle.nl_lines.specs.declared.fault.NlReason.{NlReason}

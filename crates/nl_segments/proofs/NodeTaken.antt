@@ -5,8 +5,8 @@ use Rattle.std.specs.Prelude.{IfSome, if◌then◌else◌}
 use Rattle.std.proofs.lemmas.Bool.Decides.{nat_tests}
 use Rattle.std.proofs.lemmas.List.{append-nil, length-map, length_push, map-append, take-append-le}
 use Rattle.std.proofs.lemmas.List.Elements.{All-push}
-use Rattle.text_base.specs.Judged.{first_reason}
-use Rattle.text_base.proofs.FirstReasons.{none_first}
+use Rattle.texts.specs.Judged.{first_reason}
+use Rattle.texts.proofs.FirstReasons.{none_first}
 use Rattle.nl_header.specs.Head.{counts_in}
 use Rattle.nl_model.specs.declared.header_counts.Counts.{Counts}
 use Rattle.nl_model.specs.declared.node.Node.{Node}
@@ -18,7 +18,7 @@ use Rattle.nl_lines.specs.declared.head.Head.TheVariants.{Definition}
 use Rattle.nl_lines.specs.declared.node_row.NodeRow.{NodeRow}
 use Rattle.nl_lines.specs.declared.node_row.NodeRow.TheVariants.{Whole, Counted}
 use Rattle.nl_lines.specs.Rows.{Row}
-use Rattle.text_base.specs.Words.{word_at}
+use Rattle.texts.specs.Words.{word_at}
 use Rattle.nl_lines.specs.Heads.{is_head, is_in_range}
 use Rattle.exact_numbers.specs.Numbers.{whole_of}
 use Rattle.nl_lines.specs.declared.pending.Pending.{Pending}

@@ -3,7 +3,7 @@ use Rattle.std.proofs.Common.{◌≡◌, ◌∙◌, ℕ, ◌+◌, ◌<◌, ◌�
 use Rattle.std.proofs.lemmas.Bool.{ltb-true, ltb-false, lt-ltb}
 use Rattle.std.proofs.lemmas.List.{append-nil, length-append, length-map, length-take-le, map-append, take-append-le, take_all, drop_all, drop-append-le}
 use Rattle.std.proofs.lemmas.List.Sums.{fold-append}
-use Rattle.text_base.specs.Words.{words_of, without_comment}
+use Rattle.texts.specs.Words.{words_of, without_comment}
 use Rattle.nl_header.specs.Head.{counts_in}
 use Rattle.nl_model.specs.declared.header_counts.Counts.{Counts}
 use Rattle.nl_lines.specs.Rows.{Row, holds_words, rows_from, rows_of, header_words, body_rows}

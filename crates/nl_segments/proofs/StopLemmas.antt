@@ -1,11 +1,11 @@
 -- Faults of a text, as the reader answers them.
 use Rattle.std.proofs.Common.{◌≡◌, ℕ, List, refl}
 use Rattle.std.specs.Prelude.{Err}
-use Rattle.text_base.specs.Stopped.{IfFault}
-use Rattle.text_base.specs.declared.stop.Stop.{Stop}
-use Rattle.text_base.specs.declared.stop.Stop.TheVariants.{Fault, Memory}
-use Rattle.text_base.specs.declared.fault.TextFault.{TextFault}
-use Rattle.text_base.specs.Reading.{HasFaultSoFar, Reads}
+use Rattle.texts.specs.Stopped.{IfFault}
+use Rattle.texts.specs.declared.stop.Stop.{Stop}
+use Rattle.texts.specs.declared.stop.Stop.TheVariants.{Fault, Memory}
+use Rattle.texts.specs.declared.fault.TextFault.{TextFault}
+use Rattle.texts.specs.Reading.{HasFaultSoFar, Reads}
 use Rattle.nl_lines.specs.declared.fault.NlFault.{NlFault}
 use Rattle.nl_lines.specs.declared.fault.NlReason.{NlReason}
 use Rattle.nl_segments.specs.Grammar.{nl_rules, SaysFile}

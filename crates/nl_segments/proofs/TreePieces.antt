@@ -4,7 +4,7 @@ use Rattle.std.specs.Prelude.{ℤ, slice_get, option_map, unwrap_or, if◌then�
 use Rattle.std.specs.List.{Contains}
 use Rattle.std.proofs.lemmas.Bool.{eqb-true}
 use Rattle.std.proofs.lemmas.List.Elements.{All-contains, Contains-append_left, Contains-push}
-use Rattle.text_base.specs.Reading.{lines_of}
+use Rattle.texts.specs.Reading.{lines_of}
 use Rattle.nl_header.specs.Head.{options_in}
 use Rattle.nl_meaning.specs.Trees.{Tree}
 use Rattle.nl_model.specs.declared.header_counts.Counts.{Counts}

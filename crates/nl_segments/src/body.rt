@@ -1,6 +1,6 @@
 // A reader of the rows after the header.
 ghost use Rattle.std.specs.Prelude.{◌≡◌, ◌≤◌, ℕ, List, IfOk, IfErr, OnOk, Some, None, replicate, false};
-ghost use Rattle.text_base.specs.Words.{texts};
+ghost use Rattle.texts.specs.Words.{texts};
 ghost use Rattle.nl_model.specs.Draft.{IsDraft};
 ghost use Rattle.nl_lines.specs.declared.head.Head.{Head};
 ghost use Rattle.nl_lines.specs.Heads.{is_head};
@@ -8,8 +8,8 @@ ghost use Rattle.nl_segments.specs.Held.{IsHeld, IsHeaderOf, only_header, TakesR
 ghost use Rattle.nl_segments.specs.Taking.{body_awaits};
 ghost use Rattle.nl_lines.specs.Tests.{index_limit};
 ghost use Rattle.nl_segments.specs.Ending.{body_end_tests};
-ghost use Rattle.text_base.specs.Judged.{Decides, first_reason};
-ghost use Rattle.text_base.specs.Stopped.{IfFault};
+ghost use Rattle.texts.specs.Judged.{Decides, first_reason};
+ghost use Rattle.texts.specs.Stopped.{IfFault};
 
 use crate::current::Current;
 use crate::ending::{are_sums, is_short};
@@ -20,7 +20,7 @@ use nl_lines::{Awaited, NlReason, is_head};
 use nl_model::{Counts, Header, NlBuilder};
 use std::alloc::{AllocError, Global};
 use std::marker::Model;
-use text_base::{Marks, Name, Stop};
+use texts::{Marks, Name, Stop};
 
 /// The rows of the body so far: the file, the last piece where it is not complete, and what judging
 /// the next row needs.

@@ -1,6 +1,6 @@
 // A line with the number of a column.
 ghost use Rattle.std.specs.Prelude.{◌≡◌, ℕ, List, false};
-ghost use Rattle.text_base.specs.Words.{texts};
+ghost use Rattle.texts.specs.Words.{texts};
 ghost use Rattle.nl_lines.specs.declared.awaited.Awaited.TheVariants.{ColumnCount};
 ghost use Rattle.nl_lines.specs.Heads.{is_head};
 ghost use Rattle.nl_segments.specs.Held.{HasRow, TakesRow, IsAwaiting};
@@ -10,7 +10,7 @@ ghost use Rattle.nl_segments.specs.KnownColumns.{HasWholeRow};
 use crate::body::BodyReader;
 use crate::closing::count_line;
 use nl_lines::{NlReason, read_column};
-use text_base::Stop;
+use texts::Stop;
 
 impl BodyReader {
     /// A line with the number of a column.

@@ -1,7 +1,7 @@
 // A line with the sides of a constraint or a variable.
 ghost use Rattle.std.specs.Prelude.{◌≡◌, ◌-◌, ◌<◌, ◌≤◌, ◌&&◌, not, false, Some, None, IfOk, IfErr, OnOk};
-ghost use Rattle.text_base.specs.Judged.{Decides};
-ghost use Rattle.text_base.specs.Words.{texts};
+ghost use Rattle.texts.specs.Judged.{Decides};
+ghost use Rattle.texts.specs.Words.{texts};
 ghost use Rattle.nl_model.specs.Kinds.{kind_of};
 ghost use Rattle.nl_model.specs.Rules.{IsOrdered};
 ghost use Rattle.nl_lines.specs.declared.awaited.Awaited.TheVariants.{Interval as IntervalLine};
@@ -17,7 +17,7 @@ use nl_header::kinds_of;
 use nl_lines::{NlReason, is_sides, read_interval};
 use nl_model::{Header, Interval, Kind, NlBuilder};
 use std::alloc::AllocError;
-use text_base::Stop;
+use texts::Stop;
 
 fn is_binary(kind: Kind) -> bool
     ensures { result ≡ is_binary kind }

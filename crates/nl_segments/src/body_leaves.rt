@@ -1,6 +1,6 @@
 // A line with a node that is a letter and a number alone.
 ghost use Rattle.std.specs.Prelude.{List, ℕ};
-ghost use Rattle.text_base.specs.Judged.{Decides};
+ghost use Rattle.texts.specs.Judged.{Decides};
 ghost use Rattle.nl_lines.specs.declared.awaited.Awaited.TheVariants.{Node};
 ghost use Rattle.nl_segments.specs.Held.{IsAwaiting, TakesRow};
 ghost use Rattle.nl_segments.specs.KnownNodes.{HasLeafRow};
@@ -11,7 +11,7 @@ use crate::body::BodyReader;
 use crate::body_nodes::MOST_NODES;
 use nl_lines::{Leaf, NlReason, NodeRow, read_leaf_row};
 use nl_model::NlBuilder;
-use text_base::Stop;
+use texts::Stop;
 
 // A row of an expression, after so many nodes.
 fn read_next(leaf: Leaf, builder: &NlBuilder, nodes: u32) -> Result<NodeRow, NlReason>

@@ -1,7 +1,7 @@
 // A line with a node.
 ghost use Rattle.std.specs.Prelude.{◌≡◌, ℕ, List, true, false, IfSome, IsSomeAnd, OnOk, All};
-ghost use Rattle.text_base.specs.Judged.{Decides};
-ghost use Rattle.text_base.specs.Words.{texts};
+ghost use Rattle.texts.specs.Judged.{Decides};
+ghost use Rattle.texts.specs.Words.{texts};
 ghost use Rattle.nl_model.specs.Nodes.{tree_of};
 ghost use Rattle.nl_lines.specs.declared.awaited.Awaited.TheVariants.{Node, Nothing};
 ghost use Rattle.nl_segments.specs.Current.{current_awaits, with_node_row};
@@ -19,7 +19,7 @@ use crate::places::Places;
 use nl_lines::{Awaited, Head, NlReason, NodeRow, read_node};
 use nl_model::{Def, Expr, NlBuilder, Terms};
 use std::alloc::AllocError;
-use text_base::Stop;
+use texts::Stop;
 
 /// A file has at most so many nodes.
 pub(crate) const MOST_NODES: u32 = 4_194_304;

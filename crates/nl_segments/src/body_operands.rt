@@ -1,6 +1,6 @@
 // A line with the number of operands of an opcode.
 ghost use Rattle.std.specs.Prelude.{◌≡◌, false};
-ghost use Rattle.text_base.specs.Words.{texts};
+ghost use Rattle.texts.specs.Words.{texts};
 ghost use Rattle.nl_lines.specs.declared.awaited.Awaited.TheVariants.{OperandCount};
 ghost use Rattle.nl_lines.specs.Heads.{is_head};
 ghost use Rattle.nl_segments.specs.Held.{TakesRow, IsAwaiting, HasRow};
@@ -9,7 +9,7 @@ use crate::body::BodyReader;
 use crate::body_nodes::take_row;
 use nl_lines::{NlReason, NodeRow, read_operand_count};
 use nl_model::Node;
-use text_base::Stop;
+use texts::Stop;
 
 impl BodyReader {
     /// A line with the number of operands of an opcode.

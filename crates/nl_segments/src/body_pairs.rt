@@ -1,6 +1,6 @@
 // A line of an index and a value.
 ghost use Rattle.std.specs.Prelude.{ℕ, List, ◌≡◌, ◌<◌, ◌≤◌, ◌&&◌, length, get_or, true, false, Some, None, IsSome, IsTrue, IsSomeAnd, IfSome, IfOk, IfErr, OnOk, if◌then◌else◌};
-ghost use Rattle.text_base.specs.Words.{texts};
+ghost use Rattle.texts.specs.Words.{texts};
 ghost use Rattle.nl_model.specs.Rules.{most_terms};
 ghost use Rattle.nl_lines.specs.declared.awaited.Awaited.TheVariants.{Pair};
 ghost use Rattle.nl_segments.specs.Current.{current_awaits};
@@ -21,7 +21,7 @@ use nl_lines::{
 };
 use nl_model::{NlBuilder, Suffix};
 use std::alloc::AllocError;
-use text_base::{Marks, Name, Stop};
+use texts::{Marks, Name, Stop};
 
 // Gives the file a pair that is not kept.
 fn give_pair(builder: &mut NlBuilder, head: Head, pair: (u32, Dec)) -> Result<(), AllocError>

@@ -1,6 +1,6 @@
 // The grammar of .nl texts, a line at a time.
 ghost use Rattle.std.specs.Prelude.{◌≡◌, ◌<◌, ℕ, List, [], length, None, IsSomeAnd};
-ghost use Rattle.text_base.specs.Words.{words_of, row_of};
+ghost use Rattle.texts.specs.Words.{words_of, row_of};
 ghost use Rattle.nl_lines.specs.declared.awaited.Awaited.TheVariants.{ColumnCount, Node, Pair};
 ghost use Rattle.nl_segments.specs.Grammar.{standing, nl_rules, SaysFile, fault_refusal, reason_of};
 ghost use Rattle.nl_segments.specs.Held.{HoldsStanding, IsAwaiting};
@@ -21,7 +21,7 @@ use nl_lines::{Awaited, Leaf, NlReason, leaf_of_line, pair_of_line, whole_of_lin
 use std::alloc::Global;
 use std::marker::Model;
 use std::mem;
-use text_base::{Grammar, LineFault, Row, Stop, strip_comment};
+use texts::{Grammar, LineFault, Row, Stop, strip_comment};
 
 // What a fault of the header is called here.
 fn reason_of(fault: HeadFault) -> NlReason

@@ -1,10 +1,10 @@
 -- Lines without faults, from a standing on.
 use Rattle.std.proofs.Common.{◌≡◌, ◌∙◌, ℕ, List, [], ◌∷◌, ◌++◌, length, Option, Some, None, refl, sym, subst, arith, append_assoc, length-append}
 use Rattle.std.proofs.lemmas.List.{take_at, drop_at}
-use Rattle.text_base.specs.declared.lines.LineFault.{LineFault}
-use Rattle.text_base.specs.Judged.{Last, End, IsClean, first_reason, last_reason, reason_after, reason_at}
-use Rattle.text_base.specs.Lines.{scan}
-use Rattle.text_base.specs.Reading.{lines_of, last_of, last_by}
+use Rattle.texts.specs.declared.lines.LineFault.{LineFault}
+use Rattle.texts.specs.Judged.{Last, End, IsClean, first_reason, last_reason, reason_after, reason_at}
+use Rattle.texts.specs.Lines.{scan}
+use Rattle.texts.specs.Reading.{lines_of, last_of, last_by}
 use Rattle.proof_text.specs.Grammar.{proof_rules}
 use Rattle.proof_text.specs.Setting.{Setting}
 use Rattle.proof_text.specs.Standing.{Standing, nothing_yet, standing, standing_from, with_line}

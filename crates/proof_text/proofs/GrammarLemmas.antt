@@ -1,11 +1,11 @@
 -- A line more, and what is read for a reader's setting.
 use Rattle.std.proofs.Common.{◌≡◌, ◌∙◌, ℕ, ◌+◌, List, [], ◌∷◌, ◌++◌, length, Result, Ok, Err, sym, ap, refl, subst}
 use Rattle.std.specs.Prelude.{OnOk}
-use Rattle.text_base.specs.Judged.{Takes}
-use Rattle.text_base.specs.declared.stop.Stop.TheVariants.{Fault, Memory}
-use Rattle.text_base.specs.declared.stop.Stop.{Stop}
-use Rattle.text_base.specs.declared.fault.TextFault.{TextFault}
-use Rattle.text_base.specs.Reading.{Stands}
+use Rattle.texts.specs.Judged.{Takes}
+use Rattle.texts.specs.declared.stop.Stop.TheVariants.{Fault, Memory}
+use Rattle.texts.specs.declared.stop.Stop.{Stop}
+use Rattle.texts.specs.declared.fault.TextFault.{TextFault}
+use Rattle.texts.specs.Reading.{Stands}
 use Rattle.proof_text.specs.Proofs.{ProofValue}
 use Rattle.proof_text.specs.declared.fault.ProofReason.{ProofReason}
 use Rattle.proof_text.specs.Setting.{Setting}

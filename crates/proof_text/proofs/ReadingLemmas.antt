@@ -1,13 +1,13 @@
 -- Each text has one reading, and what a reader answers is a proof of its file.
 use Rattle.std.proofs.Common.{◌≡◌, ◌∙◌, ℕ, Bool, false, ◌||◌, not, List, ◌++◌, Option, Some, None, Result, Ok, Err, is_none, inl, inr, refl, sym, ap₂, subst}
 use Rattle.std.specs.Prelude.{IfOk}
-use Rattle.text_base.specs.declared.stop.Stop.{Stop}
-use Rattle.text_base.specs.Reading.{Stands}
-use Rattle.text_base.specs.declared.fault.TextFault.{TextFault}
-use Rattle.text_base.specs.Judged.{IsClean}
-use Rattle.text_base.specs.Reading.{lines_of, last_of}
-use Rattle.text_base.proofs.FirstReasons.{none_each}
-use Rattle.text_base.proofs.JudgedLemmas.{one_outcome}
+use Rattle.texts.specs.declared.stop.Stop.{Stop}
+use Rattle.texts.specs.Reading.{Stands}
+use Rattle.texts.specs.declared.fault.TextFault.{TextFault}
+use Rattle.texts.specs.Judged.{IsClean}
+use Rattle.texts.specs.Reading.{lines_of, last_of}
+use Rattle.texts.proofs.FirstReasons.{none_each}
+use Rattle.texts.proofs.JudgedLemmas.{one_outcome}
 use Rattle.proof_text.specs.declared.proof.Claim.{Claim}
 use Rattle.proof_text.specs.declared.proof.ProofNode.{ProofNode}
 use Rattle.proof_text.specs.Files.{IsProofIn}

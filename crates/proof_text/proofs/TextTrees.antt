@@ -3,13 +3,13 @@
 use Rattle.std.proofs.Common.{◌≡◌, ◌∙◌, ℕ, zero, suc, ◌+◌, ◌-◌, ◌<◌, ◌≤◌, ◌^◌, ◌==◌, ℤ, Bool, true, false, cond, not, ◌&&◌, ◌||◌, nat_le, nat_lt, List, [], ◌∷◌, ◌++◌, length, get_or, Option, Some, None, is_none, IsTrue, All, codes, refl, sym, ap, ap₂, subst, arith, append-nil, append_assoc, length-append}
 use Rattle.std.proofs.lemmas.Bool.{lt-ltb, eqb-true, and_parts, not-false}
 use Rattle.std.specs.Str.{bytes_eq}
-use Rattle.text_base.proofs.NamePlaces.{bytes_same}
+use Rattle.texts.proofs.NamePlaces.{bytes_same}
 use Rattle.fractions.specs.Fits.{fits}
 use Rattle.fractions.specs.Rational.{whole, zero_ℚ}
-use Rattle.text_base.specs.Judged.{first_reason}
-use Rattle.text_base.specs.Reading.{lines_of}
-use Rattle.text_base.specs.Words.{row_of, begins, word_at}
-use Rattle.text_base.proofs.FirstReasons.{none_each}
+use Rattle.texts.specs.Judged.{first_reason}
+use Rattle.texts.specs.Reading.{lines_of}
+use Rattle.texts.specs.Words.{row_of, begins, word_at}
+use Rattle.texts.proofs.FirstReasons.{none_each}
 use Rattle.exact_numbers.specs.declared.dec.Dec.{Dec}
 use Rattle.exact_numbers.specs.Numbers.{dec_of, whole_of}
 use Rattle.exact_numbers.specs.Values.{dec_value}

@@ -1,9 +1,9 @@
 -- The grammar of proof texts: which have no fault, what they say, and what is the first fault of
 -- the others.
 use Rattle.std.specs.Prelude.{ℕ, List}
-use Rattle.text_base.specs.Judged.{Rules, first_reason}
-use Rattle.text_base.specs.declared.lines.LineFault.{LineFault}
-use Rattle.text_base.specs.declared.lines.LineFault.TheVariants.{LineTooLong as LongLine, InputTooLong as LongInput}
+use Rattle.texts.specs.Judged.{Rules, first_reason}
+use Rattle.texts.specs.declared.lines.LineFault.{LineFault}
+use Rattle.texts.specs.declared.lines.LineFault.TheVariants.{LineTooLong as LongLine, InputTooLong as LongInput}
 use Rattle.proof_text.specs.Proofs.{ProofValue}
 use Rattle.proof_text.specs.declared.fault.ProofReason.{ProofReason}
 use Rattle.proof_text.specs.declared.fault.ProofReason.TheVariants.{LineTooLong, InputTooLong}

@@ -1,9 +1,9 @@
 -- What reading a proof of a file answers, and what a reader of one stands for.
 use Rattle.std.specs.Prelude.{◌≡◌, ◌⊎◌, ℕ, List, Option, Result}
-use Rattle.text_base.specs.declared.stop.Stop.{Stop}
-use Rattle.text_base.specs.declared.fault.TextFault.{TextFault}
-use Rattle.text_base.specs.Lines.{LinesState}
-use Rattle.text_base.specs.Reading.{Stands, Reads, IsRead, HasFault}
+use Rattle.texts.specs.declared.stop.Stop.{Stop}
+use Rattle.texts.specs.declared.fault.TextFault.{TextFault}
+use Rattle.texts.specs.Lines.{LinesState}
+use Rattle.texts.specs.Reading.{Stands, Reads, IsRead, HasFault}
 use Rattle.proof_text.specs.Proofs.{ProofValue}
 use Rattle.proof_text.specs.declared.fault.ProofReason.{ProofReason}
 use Rattle.proof_text.specs.Setting.{Setting}

@@ -4,7 +4,7 @@
 -- followed by N rows `I VALUE`, the number of constraint I.
 use Rattle.std.specs.Prelude.{ℕ, ℤ, Bool, true, false, not, ◌&&◌, ◌||◌, ◌==◌, List, length, Option, Some, None, codes, if◌then◌else◌}
 use Rattle.fractions.specs.Fits.{fits}
-use Rattle.text_base.specs.Words.{begins, word_at}
+use Rattle.texts.specs.Words.{begins, word_at}
 use Rattle.exact_numbers.specs.Numbers.{dec_of, signed_of, whole_of}
 use Rattle.exact_numbers.specs.Values.{dec_value}
 use Rattle.exact_numbers.specs.declared.dec.Dec.{Dec}

@@ -1,7 +1,7 @@
 -- What the rows of a proof text mean, for the next row and for the proof.
 use Rattle.std.specs.Prelude.{◌≡◌, ℕ, suc, ◌-◌, ◌==◌, Bool, true, false, not, ◌&&◌, nat_lt, List, [], ◌∷◌, ◌++◌, length, Option, Some, None, is_none, if◌then◌else◌}
 use Rattle.std.specs.List.{list_any}
-use Rattle.text_base.specs.Words.{row_of}
+use Rattle.texts.specs.Words.{row_of}
 use Rattle.proof_text.specs.declared.proof.Claim.{Claim}
 use Rattle.proof_text.specs.declared.proof.ProofNode.{ProofNode}
 use Rattle.proof_text.specs.declared.proof.ProofNode.TheVariants.{Split, Duals, Weights}

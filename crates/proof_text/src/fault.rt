@@ -1,5 +1,5 @@
 // What is wrong with a proof text.
-use text_base::TextFault;
+use texts::TextFault;
 
 /// Why a line is refused, in the order of the tests: a line fault first, then the others of the
 /// line. `BadFirst` and `Short` may stand at the line after the last.

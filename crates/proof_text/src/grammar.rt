@@ -1,7 +1,7 @@
 // The grammar of proof texts, a line at a time.
 ghost use Rattle.std.specs.Prelude.{◌≡◌, List, ℕ, [], None, Some, IfOk, OnOk, true};
-ghost use Rattle.text_base.specs.Judged.{DecidesOrStops, Takes};
-ghost use Rattle.text_base.specs.Words.{texts};
+ghost use Rattle.texts.specs.Judged.{DecidesOrStops, Takes};
+ghost use Rattle.texts.specs.Words.{texts};
 ghost use Rattle.nl_model.specs.File.{File};
 ghost use Rattle.nl_model.specs.Kinds.{kind_of};
 ghost use Rattle.file_meaning.specs.LinearFile.{elements_from};
@@ -21,7 +21,7 @@ use nl_header::kinds_of;
 use nl_model::{Kind, NlFile, Terms};
 use std::alloc::{AllocError, Global};
 use std::marker::Model;
-use text_base::{Grammar, LineFault, Row, Stop};
+use texts::{Grammar, LineFault, Row, Stop};
 
 /// A proof has at most so many nodes.
 const MOST_NODES: usize = 1 << 16;

@@ -6,7 +6,7 @@ use exact_numbers::Dec;
 use nl_model::Terms;
 use std::alloc::{AllocError, Global};
 use std::marker::Model;
-use text_base::Marks;
+use texts::Marks;
 
 /// Pairs of rows, with a mark for each row that has one.
 #[derive(Drop)]

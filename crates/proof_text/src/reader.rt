@@ -1,8 +1,8 @@
 // A reader of proof texts.
 ghost use Rattle.std.specs.Prelude.{◌≡◌, ◌++◌, List, ℕ, [], IfOk, IfErr, IfSome, OnOk, Err, None};
 ghost use Rattle.std.specs.Result.{result_err};
-ghost use Rattle.text_base.specs.Stopped.{IfFault};
-ghost use Rattle.text_base.specs.Reading.{HasFaultSoFar, IsFreeSoFar};
+ghost use Rattle.texts.specs.Stopped.{IfFault};
+ghost use Rattle.texts.specs.Reading.{HasFaultSoFar, IsFreeSoFar};
 ghost use Rattle.nl_model.specs.File.{File};
 ghost use Rattle.proof_text.specs.Files.{IsProofIn};
 ghost use Rattle.proof_text.specs.Grammar.{proof_rules};
@@ -15,7 +15,7 @@ use crate::proof::Proof;
 use nl_model::NlFile;
 use std::alloc::{AllocError, Global};
 use std::marker::Model;
-use text_base::{Reader, Stop, read};
+use texts::{Reader, Stop, read};
 
 /// Reads a proof of a file that comes in pieces.
 #[derive(Drop)]

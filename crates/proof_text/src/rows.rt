@@ -1,7 +1,7 @@
 // Rows that are judged by themselves.
 ghost use Rattle.std.specs.Prelude.{◌≡◌, Some};
-ghost use Rattle.text_base.specs.Judged.{Decides};
-ghost use Rattle.text_base.specs.Words.{texts};
+ghost use Rattle.texts.specs.Judged.{Decides};
+ghost use Rattle.texts.specs.Words.{texts};
 ghost use Rattle.proof_text.specs.Rows.{claim_in};
 ghost use Rattle.proof_text.specs.Tests.{claim_tests, first_tests};
 

@@ -1,11 +1,11 @@
 // The words of rows, and what they say.
 ghost use Rattle.std.specs.Prelude.{◌≡◌};
-ghost use Rattle.text_base.specs.Words.{texts};
+ghost use Rattle.texts.specs.Words.{texts};
 ghost use Rattle.proof_text.specs.Rows.{claim_in, is_alone, is_claim_row, is_node_row, node_in, pair_in, split_node, value_claim};
 
 use crate::proof::{Claim, ProofNode};
 use exact_numbers::{Dec, Frac, dec_of, signed_of, whole_of};
-use text_base::{begins, word_at};
+use texts::{begins, word_at};
 
 /// Whether a row has the first word and the number of words of a claim.
 pub(crate) fn is_claim_row(words: &[&[u8]]) -> bool

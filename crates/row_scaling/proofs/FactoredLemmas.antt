@@ -17,9 +17,9 @@ use Rattle.linear_fold.specs.Coefs.{AreAscending, AreBelow}
 use Rattle.linear_fold.specs.declared.form.Form.{Form}
 use Rattle.linear_fold.specs.Forms.{form_line, form_terms}
 use Rattle.linear_fold.specs.declared.too_wide.Wide.{Wide}
-use Rattle.text_base.specs.Stopped.{IfFault}
-use Rattle.text_base.specs.declared.stop.Stop.{Stop}
-use Rattle.text_base.specs.declared.stop.Stop.TheVariants.{Fault, Memory}
+use Rattle.texts.specs.Stopped.{IfFault}
+use Rattle.texts.specs.declared.stop.Stop.{Stop}
+use Rattle.texts.specs.declared.stop.Stop.TheVariants.{Fault, Memory}
 use Rattle.row_scaling.specs.Exported.{scaled_row_of}
 use Rattle.row_scaling.specs.Factored.{IsFactored, row_for, factor_for}
 use Rattle.row_scaling.specs.Fitting.{coefficients_in, listed, less_side, times_side, LessFits, AreSidesFit, AreTermsTimes}

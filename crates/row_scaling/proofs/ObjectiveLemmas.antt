@@ -9,9 +9,9 @@ use Rattle.exported_program.specs.Export.{IsDecimal, ObjectiveFits, ScaledFits, 
 use Rattle.exported_program.specs.Factor.{least_factor, objective_numbers, coefficients_below}
 use Rattle.exact_numbers.specs.declared.frac.Frac.{Frac}
 use Rattle.exact_numbers.specs.Values.{FitsDec, frac_value}
-use Rattle.text_base.specs.Stopped.{IfFault}
-use Rattle.text_base.specs.declared.stop.Stop.{Stop}
-use Rattle.text_base.specs.declared.stop.Stop.TheVariants.{Fault, Memory}
+use Rattle.texts.specs.Stopped.{IfFault}
+use Rattle.texts.specs.declared.stop.Stop.{Stop}
+use Rattle.texts.specs.declared.stop.Stop.TheVariants.{Fault, Memory}
 use Rattle.linear_fold.specs.Coefs.{Term, AreAscending, AreBelow}
 use Rattle.linear_fold.specs.declared.form.Form.{Form}
 use Rattle.linear_fold.specs.declared.too_wide.Wide.{Wide}

@@ -1,6 +1,6 @@
 // The objective of a folded file, times its least factor where it is not decimal.
 ghost use Rattle.std.specs.Prelude.{◌≡◌, ◌≢◌, ◌<ℤ◌, pos, IfOk, IfErr, IfSome, All, None};
-ghost use Rattle.text_base.specs.Stopped.{IfFault};
+ghost use Rattle.texts.specs.Stopped.{IfFault};
 ghost use Rattle.fractions.specs.Rational.{one_ℚ};
 ghost use Rattle.exact_numbers.specs.Values.{frac_value};
 ghost use Rattle.linear_fold.specs.Coefs.{AreAscending};
@@ -16,7 +16,7 @@ use crate::scaled_terms::{scaled_number, scaled_terms};
 use exact_numbers::Frac;
 use linear_fold::{Form, Wide};
 use std::alloc::Global;
-use text_base::Stop;
+use texts::Stop;
 
 // An objective times the factor. Wide exactly where a number does not fit.
 fn objective_times(

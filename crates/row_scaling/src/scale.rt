@@ -1,6 +1,6 @@
 // The scaled program of a folded file.
 ghost use Rattle.std.specs.Prelude.{◌≡◌, IfOk, IfErr, OnOk};
-ghost use Rattle.text_base.specs.Stopped.{IfFault};
+ghost use Rattle.texts.specs.Stopped.{IfFault};
 ghost use Rattle.linear_fold.specs.Programs.{linear_value};
 ghost use Rattle.row_scaling.specs.Factored.{AreScaledRows, IsTiedOrPlain};
 ghost use Rattle.row_scaling.specs.Scaling.{HasNoScaleFault, HasScaleFault, IsScaledOf};
@@ -11,7 +11,7 @@ use crate::scaled::Scaled;
 use crate::scaled_rows::scaled_rows;
 use linear_fold::Linear;
 use std::alloc::Global;
-use text_base::Stop;
+use texts::Stop;
 
 /// Multiplies each row that has a side by its least factor, and the objective where it is not
 /// decimal.

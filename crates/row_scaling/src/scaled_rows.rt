@@ -1,6 +1,6 @@
 // The rows of a folded file, each times its least factor.
 ghost use Rattle.std.specs.Prelude.{◌≡◌, ℕ, ◌<◌, ◌≤◌, ◌<ℤ◌, pos, IsTrue, IfOk, IfErr, false, length, get_or, None};
-ghost use Rattle.text_base.specs.Stopped.{IfFault};
+ghost use Rattle.texts.specs.Stopped.{IfFault};
 ghost use Rattle.fractions.specs.Rational.{whole};
 ghost use Rattle.exact_numbers.specs.Values.{frac_value};
 ghost use Rattle.exported_program.specs.Export.{ExportFits, RowFits};
@@ -24,7 +24,7 @@ use exact_numbers::Frac;
 use linear_fold::{Form, Linear, Wide};
 use nl_model::Interval;
 use std::alloc::Global;
-use text_base::Stop;
+use texts::Stop;
 
 // A whole number above 0 as a fraction.
 pub(crate) fn whole(number: i128) -> Frac

@@ -1,6 +1,6 @@
 // The terms of a form times a factor, as decimals.
 ghost use Rattle.std.specs.Prelude.{◌≡◌, MatchOption, All, IfOk, IfErr, IfSome};
-ghost use Rattle.text_base.specs.Stopped.{IfFault};
+ghost use Rattle.texts.specs.Stopped.{IfFault};
 ghost use Rattle.fractions.specs.Rational.{◌*ℚ◌};
 ghost use Rattle.exact_numbers.specs.Values.{dec_value, frac_value};
 ghost use Rattle.linear_fold.specs.Coefs.{AreAscending};
@@ -12,7 +12,7 @@ use exact_numbers::{Dec, Frac};
 use linear_fold::{Form, Wide};
 use nl_model::Terms;
 use std::alloc::{AllocError, Global};
-use text_base::Stop;
+use texts::Stop;
 
 // A number times the factor, as a decimal; none exactly where it does not fit.
 #[inline]

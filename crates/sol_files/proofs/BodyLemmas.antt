@@ -8,7 +8,7 @@ use Rattle.exact_numbers.specs.Numbers.{whole_of}
 use Rattle.sol_files.specs.declared.awaited.Awaited.{Awaited}
 use Rattle.sol_files.specs.declared.awaited.Awaited.TheVariants.{Message, OptionCount, Options, Constraints, DualCount, Variables, PrimalCount, Duals, Primals, Tail, Name, Table, Values}
 use Rattle.sol_files.specs.Rows.{Row, number_in, option_in, value_in, objno_in}
-use Rattle.text_base.specs.Words.{begins}
+use Rattle.texts.specs.Words.{begins}
 use Rattle.sol_files.specs.Parts.{Body, row_number, option_count, constraint_count, dual_count, variable_count, primal_count, row_at, rows_await, body_awaits}
 use Rattle.sol_files.specs.Saying.{option_rows, dual_rows, primal_rows, rows_past, sol_of, table_total, value_total}
 use Rattle.sol_files.specs.Standing.{Standing}

@@ -10,7 +10,7 @@ use Rattle.std.specs.Str.Parse.{signed_digits_value, without_leading_sign}
 use Rattle.nl_model.specs.HeaderRules.{has_second_three}
 use Rattle.sol_files.specs.declared.fault.Refusal.{Refusal}
 use Rattle.sol_files.specs.declared.awaited.Awaited.TheVariants.{OptionCount, Options, Constraints, DualCount, Variables, PrimalCount, Duals, Primals}
-use Rattle.text_base.specs.Words.{word_at}
+use Rattle.texts.specs.Words.{word_at}
 use Rattle.sol_files.specs.Rows.{Row, number_in}
 use Rattle.sol_files.specs.Standing.{Standing}
 use Rattle.sol_files.specs.declared.suffix.SolSuffix.{SolSuffix}
@@ -19,7 +19,7 @@ use Rattle.sol_files.specs.declared.fault.SolReason.TheVariants.{BadLine, BadNum
 use Rattle.sol_files.specs.Built.{IsEmptyOrFull, AreGiven, with_dual, with_primal}
 use Rattle.sol_files.specs.Written.{IsSignedPair}
 use Rattle.sol_files.specs.Tests.{row_tests, is_below, is_given_count, is_three}
-use Rattle.text_base.specs.Judged.{first_reason}
+use Rattle.texts.specs.Judged.{first_reason}
 use Rattle.sol_files.specs.Steps.{after_row, options_await, values_await}
 use Rattle.sol_files.specs.Held.{HasNoValues, IsReadyAt}
 use Rattle.sol_files.proofs.ReadyLemmas.{ready_counts, ready_dual, ready_primal}

@@ -11,11 +11,11 @@ use Rattle.std.proofs.lemmas.List.Sums.{sum_by-cons}
 use Rattle.exact_numbers.specs.declared.dec.Dec.{Dec}
 use Rattle.exact_numbers.specs.Numbers.{are_digits, dec_of, is_whole, signed_of, whole_of}
 use Rattle.nl_model.specs.SuffixKinds.{object_limit, wants_whole}
-use Rattle.text_base.specs.Cut.{IsTextLine}
-use Rattle.text_base.specs.Judged.{first_reason}
-use Rattle.text_base.proofs.FirstReasons.{none_each}
-use Rattle.text_base.specs.Names.{is_name}
-use Rattle.text_base.specs.Words.{word_at, begins}
+use Rattle.texts.specs.Cut.{IsTextLine}
+use Rattle.texts.specs.Judged.{first_reason}
+use Rattle.texts.proofs.FirstReasons.{none_each}
+use Rattle.texts.specs.Names.{is_name}
+use Rattle.texts.specs.Words.{word_at, begins}
 use Rattle.sol_files.specs.declared.fault.Refusal.TheVariants.{Here, Late as IsLate}
 use Rattle.sol_files.specs.declared.fault.SolReason.TheVariants.{Extra, TooLarge}
 use Rattle.sol_files.specs.declared.awaited.Awaited.TheVariants.{Message, Tail, Name, Table, Values}

@@ -3,14 +3,14 @@ use Rattle.std.proofs.Common.{◌≡◌, ◌∙◌, ℕ, zero, suc, ◌<◌, ◌
 use Rattle.std.proofs.lemmas.Bool.{not-false}
 use Rattle.std.specs.List.{AllByRecursion}
 use Rattle.std.proofs.lemmas.List.{take_all, drop_all}
-use Rattle.text_base.specs.Cut.{IsTextLine}
-use Rattle.text_base.specs.Judged.{Last, End, IsClean, first_reason, last_reason, reason_after}
-use Rattle.text_base.specs.Lines.{scan}
-use Rattle.text_base.specs.Reading.{lines_of, last_of, last_by}
-use Rattle.text_base.specs.Words.{row_of}
-use Rattle.text_base.specs.declared.lines.LineFault.{LineFault}
-use Rattle.text_base.proofs.FirstReasons.{none_each}
-use Rattle.text_base.proofs.LineLemmas.{lines_of-lines}
+use Rattle.texts.specs.Cut.{IsTextLine}
+use Rattle.texts.specs.Judged.{Last, End, IsClean, first_reason, last_reason, reason_after}
+use Rattle.texts.specs.Lines.{scan}
+use Rattle.texts.specs.Reading.{lines_of, last_of, last_by}
+use Rattle.texts.specs.Words.{row_of}
+use Rattle.texts.specs.declared.lines.LineFault.{LineFault}
+use Rattle.texts.proofs.FirstReasons.{none_each}
+use Rattle.texts.proofs.LineLemmas.{lines_of-lines}
 use Rattle.sol_files.specs.declared.awaited.Awaited.{Awaited}
 use Rattle.sol_files.specs.declared.awaited.Awaited.TheVariants.{Message, OptionCount, Options, Constraints, DualCount, Variables, PrimalCount, Duals, Primals, Tail, Name, Table, Values}
 use Rattle.sol_files.specs.Sol.{Sol}

@@ -3,10 +3,10 @@ use Rattle.std.proofs.Common.{◌≡◌, ◌∙◌, ℕ, ◌+◌, ◌<◌, ◌�
 use Rattle.std.specs.List.{AllByRecursion}
 use Rattle.std.proofs.lemmas.Bool.{ne_eqb, and_right}
 use Rattle.std.proofs.lemmas.List.{append-nil, append_assoc, length-append, length_push}
-use Rattle.text_base.specs.Judged.{Open, End, IsClean, first_reason}
-use Rattle.text_base.specs.Words.{row_of}
-use Rattle.text_base.specs.Cut.{IsTextLine}
-use Rattle.text_base.proofs.JudgedLemmas.{clean_none, clean_last, clean_more}
+use Rattle.texts.specs.Judged.{Open, End, IsClean, first_reason}
+use Rattle.texts.specs.Words.{row_of}
+use Rattle.texts.specs.Cut.{IsTextLine}
+use Rattle.texts.proofs.JudgedLemmas.{clean_none, clean_last, clean_more}
 use Rattle.sol_files.specs.declared.awaited.Awaited.{Awaited}
 use Rattle.sol_files.specs.declared.awaited.Awaited.TheVariants.{Message, OptionCount, Options, Constraints, DualCount, Variables, PrimalCount, Duals, Primals, Tail, Name, Table, Values}
 use Rattle.std.specs.Prelude.{codes}

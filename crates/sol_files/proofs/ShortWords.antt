@@ -2,7 +2,7 @@
 use Rattle.std.proofs.Common.{◌≡◌, ℕ, ◌^◌, ◌<◌, ◌≤◌, true, List, [], ◌∷◌, length, ℤ, arith, lit<, lt_trans}
 use Rattle.std.specs.List.{AllByRecursion}
 use Rattle.std.specs.Fmt.{decimal, signed_decimal}
-use Rattle.text_base.specs.Cut.{IsTextLine}
+use Rattle.texts.specs.Cut.{IsTextLine}
 use Rattle.exact_numbers.specs.Numbers.{has_31_bits}
 use Rattle.exact_numbers.specs.declared.dec.Dec.{Dec}
 use Rattle.written_texts.specs.Lines.{Line, spaced, text_of}

@@ -7,8 +7,8 @@ use Rattle.std.proofs.lemmas.Bool.{lt-ltb, le-leb, leb-true, ltb-true, and_parts
 use Rattle.std.proofs.lemmas.Bool.Decides.{nat_tests}
 use Rattle.std.proofs.lemmas.List.{append-nil, append_assoc}
 use Rattle.std.proofs.lemmas.List.Sums.{sum_by-cons}
-use Rattle.text_base.specs.Names.{is_name}
-use Rattle.text_base.specs.Words.{row_of}
+use Rattle.texts.specs.Names.{is_name}
+use Rattle.texts.specs.Words.{row_of}
 use Rattle.exact_numbers.specs.declared.dec.Dec.{Dec}
 use Rattle.sol_files.specs.declared.awaited.Awaited.{Awaited}
 use Rattle.sol_files.specs.declared.awaited.Awaited.TheVariants.{Tail, Name, Table, Values}
@@ -18,7 +18,7 @@ use Rattle.sol_files.specs.Sol.{Sol}
 use Rattle.sol_files.specs.Parts.{rest_awaits}
 use Rattle.sol_files.specs.Standing.{Standing}
 use Rattle.sol_files.specs.Built.{with_suffix}
-use Rattle.text_base.specs.Cut.{IsTextLine}
+use Rattle.texts.specs.Cut.{IsTextLine}
 use Rattle.sol_files.specs.Rows.{pair_in}
 use Rattle.sol_files.specs.Tests.{row_tests, tail_tests, line_tests_at, has_index}
 use Rattle.nl_model.specs.SuffixKinds.{object_limit, wants_whole}

@@ -3,7 +3,7 @@ use Rattle.std.specs.Prelude.{ℕ, ◌+◌, List, [], ◌∷◌, length, take, d
 use Rattle.std.specs.List.{filter_map, sum_by}
 use Rattle.std.specs.Option.{option_map_or}
 use Rattle.exact_numbers.specs.declared.dec.Dec.{Dec}
-use Rattle.text_base.specs.Words.{row_of, word_at}
+use Rattle.texts.specs.Words.{row_of, word_at}
 use Rattle.sol_files.specs.declared.suffix.SolSuffix.{SolSuffix}
 use Rattle.sol_files.specs.declared.awaited.SuffixHead.{SuffixHead}
 use Rattle.sol_files.specs.Sol.{Sol}

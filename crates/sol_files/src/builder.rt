@@ -3,7 +3,7 @@ ghost use Rattle.std.specs.Prelude.{◌≡◌, ◌<◌, ◌++◌, ◌∷◌, [],
 ghost use Rattle.std.specs.List.{AllByRecursion};
 ghost use Rattle.sol_files.specs.Parts.{change_last};
 ghost use Rattle.sol_files.specs.Built.{AreGiven, IsMessageLine, empty_sol, with_message, with_dual, with_primal, with_suffix, with_table_line, with_value};
-ghost use Rattle.text_base.specs.Cut.{IsOneLine};
+ghost use Rattle.texts.specs.Cut.{IsOneLine};
 ghost use Rattle.sol_files.specs.Steps.{held_lines, lines_with};
 
 use crate::sol::Sol;
@@ -12,7 +12,7 @@ use exact_numbers::Dec;
 use nl_model::{Decs, Options};
 use std::alloc::{AllocError, Global};
 use std::marker::Model;
-use text_base::TextLines;
+use texts::TextLines;
 
 /// A value of a .sol file that is being built.
 #[derive(Drop)]

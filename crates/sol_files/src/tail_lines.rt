@@ -1,8 +1,8 @@
 // The lines after the values: `objno`, and the suffixes.
 ghost use Rattle.std.specs.Prelude.{◌≡◌, ◌<◌, ◌≤◌, ◌||◌, length, true, is_some, nat_lt, None, Some, IfOk, IfErr, OnOk, codes};
-ghost use Rattle.text_base.specs.Judged.{Takes, first_reason};
-ghost use Rattle.text_base.specs.Names.{IsName};
-ghost use Rattle.text_base.specs.Words.{texts, begins, word_at};
+ghost use Rattle.texts.specs.Judged.{Takes, first_reason};
+ghost use Rattle.texts.specs.Names.{IsName};
+ghost use Rattle.texts.specs.Words.{texts, begins, word_at};
 ghost use Rattle.sol_files.specs.declared.fault.Refusal.TheVariants.{Here};
 ghost use Rattle.sol_files.specs.Rows.{pair_in};
 ghost use Rattle.sol_files.specs.Parts.{rest_awaits};
@@ -19,7 +19,7 @@ use crate::suffix::SolSuffix;
 use crate::suffix_rows::{MOST_OBJECTIVES, read_head, read_pair};
 use exact_numbers::Dec;
 use nl_model::{Terms, object_limit, wants_whole};
-use text_base::{Marks, Name, Stop, TextLines, begins, is_name, word_at};
+use texts::{Marks, Name, Stop, TextLines, begins, is_name, word_at};
 
 // All suffixes have at most so many values.
 const MOST_VALUES: u32 = 4_194_304;

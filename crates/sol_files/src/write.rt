@@ -3,7 +3,7 @@ ghost use Rattle.std.specs.Prelude.{◌≡◌, ◌++◌, ◌∷◌, ℤ, pos, []
 ghost use Rattle.std.specs.List.{flat_map};
 ghost use Rattle.std.specs.Fmt.{decimal, signed_decimal};
 ghost use Rattle.sol_files.specs.Written.{head_line, objno_lines, size_lines, sol_text, suffix_lines, value_line};
-ghost use Rattle.text_base.specs.Cut.{lines_text};
+ghost use Rattle.texts.specs.Cut.{lines_text};
 ghost use Rattle.written_texts.specs.Lines.{spaced, text_of};
 
 use crate::sol::Sol;
@@ -11,7 +11,7 @@ use crate::suffix::SolSuffix;
 use exact_numbers::Dec;
 use nl_model::{Options, Terms};
 use std::alloc::{AllocError, Global};
-use text_base::TextLines;
+use texts::TextLines;
 use written_texts::{
     put, put_dec, put_end, put_line, put_next_dec, put_next_number, put_next_signed, put_number,
     put_signed,

@@ -4,8 +4,8 @@ use Rattle.std.proofs.lemmas.Bool.{and_parts}
 use Rattle.std.proofs.lemmas.Bool.Decides.{nat_tests}
 use Rattle.std.proofs.lemmas.List.{take_all, append-nil}
 use Rattle.std.specs.List.{AllByRecursion}
-use Rattle.text_base.specs.Names.{has_name_bytes}
-use Rattle.text_base.specs.Words.{is_blank, onto_word, ends_word, words_of, row_of, up_to_comment, without_comment}
+use Rattle.texts.specs.Names.{has_name_bytes}
+use Rattle.texts.specs.Words.{is_blank, onto_word, ends_word, words_of, row_of, up_to_comment, without_comment}
 use Rattle.written_texts.specs.Lines.{Line, indented, spaced}
 use Rattle.written_texts.specs.Words.{IsWord, IsKeptWord, IsWritten}
 

@@ -1,7 +1,7 @@
 -- Words and lines that are read as themselves.
 use Rattle.std.specs.Prelude.{◌≡◌, ℕ, ◌<◌, ◌≤◌, ◌==◌, false, true, List, length, slice_index}
 use Rattle.std.specs.List.{AllByRecursion}
-use Rattle.text_base.specs.Names.{has_name_bytes}
+use Rattle.texts.specs.Names.{has_name_bytes}
 use Rattle.written_texts.specs.Lines.{Line, spaced}
 
 -- some bytes, none of which is a blank or ends a line

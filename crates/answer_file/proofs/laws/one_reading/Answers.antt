@@ -1,5 +1,5 @@
-use Rattle.text_base.specs.Reading.{lines_of, last_of}
-use Rattle.text_base.proofs.JudgedLemmas.{one_outcome}
+use Rattle.texts.specs.Reading.{lines_of, last_of}
+use Rattle.texts.proofs.JudgedLemmas.{one_outcome}
 use Rattle.answer_file.specs.Grammar.{answer_rules}
 use Rattle.answer_file.proofs.laws.one_reading.Goals as goal
 

@@ -1,7 +1,7 @@
 use Rattle.std.proofs.Common.{◌≡◌, Err, subst}
-use Rattle.text_base.specs.declared.stop.Stop.{Stop}
-use Rattle.text_base.specs.declared.stop.Stop.TheVariants.{Fault}
-use Rattle.text_base.specs.declared.fault.TextFault.{TextFault}
+use Rattle.texts.specs.declared.stop.Stop.{Stop}
+use Rattle.texts.specs.declared.stop.Stop.TheVariants.{Fault}
+use Rattle.texts.specs.declared.fault.TextFault.{TextFault}
 use Rattle.answer_file.specs.Reading.{ReadsAnswer}
 use Rattle.answer_file.specs.declared.fault.AnswerReason.{AnswerReason}
 use Rattle.bridge_tool.proofs.answer_input.judge_answer.Goals as goal

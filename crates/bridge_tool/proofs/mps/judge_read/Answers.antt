@@ -1,5 +1,5 @@
 use Rattle.std.proofs.Common.{subst}
-use Rattle.text_base.specs.Reading.{Reads}
+use Rattle.texts.specs.Reading.{Reads}
 use Rattle.bridge_tool.specs.Mps.{SaysBy}
 use Rattle.bridge_tool.proofs.MpsRewriting.{meant}
 use Rattle.bridge_tool.proofs.mps.judge_read.Goals as goal

@@ -1,7 +1,7 @@
 use Rattle.std.proofs.Common.{◌≡◌, Err, subst}
-use Rattle.text_base.specs.declared.stop.Stop.{Stop}
-use Rattle.text_base.specs.declared.stop.Stop.TheVariants.{Fault}
-use Rattle.text_base.specs.declared.fault.TextFault.{TextFault}
+use Rattle.texts.specs.declared.stop.Stop.{Stop}
+use Rattle.texts.specs.declared.stop.Stop.TheVariants.{Fault}
+use Rattle.texts.specs.declared.fault.TextFault.{TextFault}
 use Rattle.proof_text.specs.Reader.{ReadsProof}
 use Rattle.proof_text.specs.Setting.{setting_of}
 use Rattle.proof_text.specs.declared.fault.ProofReason.{ProofReason}

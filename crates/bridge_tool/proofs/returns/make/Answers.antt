@@ -1,6 +1,6 @@
 use Rattle.std.proofs.Common.{◌≡◌}
 use Rattle.nl_segments.specs.Reader.{value_of}
-use Rattle.text_base.specs.declared.stop.Stop.TheVariants.{Fault}
+use Rattle.texts.specs.declared.stop.Stop.TheVariants.{Fault}
 use Rattle.bridge_tool.proofs.Returning.{most_so, wide_so}
 use Rattle.bridge_tool.proofs.returns.make.Goals as goal
 

@@ -1,5 +1,5 @@
 use Rattle.std.proofs.Common.{map, string_bytes, ◌≡◌, sym, subst, Option, Some}
-use Rattle.text_base.specs.Desk.{Texts}
+use Rattle.desk.specs.Desk.{Texts}
 use Rattle.bridge_tool.specs.Command.{Command}
 use Rattle.bridge_tool.proofs.Headline.{at_command}
 use Rattle.bridge_tool.proofs.Making.{leaves_told}

@@ -1,5 +1,5 @@
 use Rattle.std.proofs.Common.{◌-◌, ◌≡◌, ◌≤◌}
-use Rattle.text_base.specs.Desk.{OnlyInput}
+use Rattle.desk.specs.Desk.{OnlyInput}
 use Rattle.bridge_tool.specs.declared.transfer.TheConstants.{LIMIT}
 use Rattle.bridge_tool.proofs.Known.{IsFedSo}
 use Rattle.bridge_tool.proofs.transfer.feed_rest.Given as goal

@@ -1,5 +1,5 @@
 use Rattle.std.proofs.Common.{◌≡◌, ◌∙◌, List, false, ap, refl, subst, subst₂, sym}
-use Rattle.text_base.specs.Stopped.{IfFault}
+use Rattle.texts.specs.Stopped.{IfFault}
 use Rattle.exact_numbers.specs.Values.{frac_value}
 use Rattle.fractions.specs.Fits.{fits, sum_fits}
 use Rattle.fractions.specs.Rational.{ℚ, ◌+ℚ◌, ◌*ℚ◌}

@@ -3,7 +3,7 @@ use Rattle.std.specs.Fmt.{decimal}
 use Rattle.std.proofs.lemmas.Bool.{le-leb}
 use Rattle.std.proofs.lemmas.Fmt.{length-decimal-le}
 use Rattle.std.proofs.lemmas.List.{drop-set, take_all}
-use Rattle.text_base.specs.Names.{IsName}
+use Rattle.texts.specs.Names.{IsName}
 use Rattle.exported_program.proofs.Names.{numbered_is_name}
 use Rattle.mps_export.proofs.names.numbered_name.Goals as goal
 

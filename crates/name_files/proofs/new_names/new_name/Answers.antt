@@ -1,6 +1,6 @@
 use Rattle.std.proofs.Common.{◌≡◌, ◌∙◌, ◌∷◌, ap, sym, subst, length, Option, List, ℕ, Some, None}
 use Rattle.std.specs.Fmt.{decimal}
-use Rattle.text_base.specs.Names.{IsName}
+use Rattle.texts.specs.Names.{IsName}
 use Rattle.name_files.specs.Renamed.{index_named, named_at}
 use Rattle.name_files.proofs.NumeralLemmas.{named_so}
 use Rattle.name_files.proofs.new_names.new_name.Goals as goal

@@ -1,9 +1,9 @@
 use Rattle.std.proofs.Common.{◌∙◌, ◌^◌, [], ◌∷◌, nat_le}
-use Rattle.text_base.specs.Words.{texts}
+use Rattle.texts.specs.Words.{texts}
 use Rattle.nl_lines.specs.declared.fault.NlReason.TheVariants.{TooLarge}
 use Rattle.nl_lines.specs.Tests.{node_form_tests}
 use Rattle.nl_lines.proofs.NodeLemmas.{too_large, not_large}
-use Rattle.text_base.proofs.FirstReasons.{reason_before, reason_after}
+use Rattle.texts.proofs.FirstReasons.{reason_before, reason_after}
 use Rattle.nl_segments.proofs.body_nodes.read_row.Goals as goal
 
 pub returns-in-Err : goal.returns-in-Err

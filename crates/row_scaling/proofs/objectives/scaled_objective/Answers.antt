@@ -1,6 +1,6 @@
 use Rattle.std.proofs.Common.{subst, All}
 use Rattle.exact_numbers.specs.Values.{frac_value}
-use Rattle.text_base.specs.Stopped.{IfFault}
+use Rattle.texts.specs.Stopped.{IfFault}
 use Rattle.row_scaling.specs.Factored.{numbers_of}
 use Rattle.row_scaling.specs.Fitting.{NumberFits}
 use Rattle.row_scaling.proofs.ObjectiveLemmas.{both_wide}

@@ -1,5 +1,5 @@
 use Rattle.std.proofs.Common.{◌++◌, ◌∙◌, sym, ap, subst}
-use Rattle.text_base.specs.Stopped.{IfFault}
+use Rattle.texts.specs.Stopped.{IfFault}
 use Rattle.linear_fold.specs.Coefs.{AreAscending}
 use Rattle.linear_fold.specs.Forms.{form_terms}
 use Rattle.linear_fold.specs.Programs.{linear_value}

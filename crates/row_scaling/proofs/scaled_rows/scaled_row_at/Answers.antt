@@ -1,6 +1,6 @@
 use Rattle.std.proofs.Common.{◌∙◌, sym, ap, refl, subst, get_or}
 use Rattle.exported_program.specs.Export.{RowFits}
-use Rattle.text_base.specs.Stopped.{IfFault}
+use Rattle.texts.specs.Stopped.{IfFault}
 use Rattle.row_scaling.specs.Factored.{factor_for, row_for}
 use Rattle.row_scaling.proofs.LinearLemmas.{not_exported, exported_row, too_wide}
 use Rattle.row_scaling.proofs.scaled_rows.scaled_row_at.Goals as goal

@@ -1,5 +1,5 @@
 use Rattle.std.proofs.Common.{◌≡◌, ◌++◌, map, take}
-use Rattle.text_base.specs.Cut.{lines_text}
+use Rattle.texts.specs.Cut.{lines_text}
 use Rattle.written_texts.specs.Lines.{text_of}
 use Rattle.sol_files.proofs.write.put_decs.Given as goal
 

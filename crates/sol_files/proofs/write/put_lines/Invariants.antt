@@ -1,5 +1,5 @@
 use Rattle.std.proofs.Common.{◌≡◌, ◌++◌, take}
-use Rattle.text_base.specs.Cut.{lines_text}
+use Rattle.texts.specs.Cut.{lines_text}
 use Rattle.sol_files.proofs.write.put_lines.Given as goal
 
 abbrev pub invariant-loop-i : goal.invariant-loop-i

@@ -1,6 +1,6 @@
 use Rattle.std.proofs.Common.{◌≡◌, ◌++◌, map, take}
 use Rattle.std.specs.Fmt.{signed_decimal}
-use Rattle.text_base.specs.Cut.{lines_text}
+use Rattle.texts.specs.Cut.{lines_text}
 use Rattle.sol_files.proofs.write.put_options.Given as goal
 
 abbrev pub invariant-loop-option : goal.invariant-loop-option

@@ -1,5 +1,5 @@
 use Rattle.std.proofs.Common.{◌∙◌, ap, refl, subst, sym}
-use Rattle.text_base.specs.Stopped.{IfFault}
+use Rattle.texts.specs.Stopped.{IfFault}
 use Rattle.exact_numbers.specs.Values.{frac_value}
 use Rattle.fractions.specs.Fits.{fits}
 use Rattle.fractions.specs.Rational.{◌*ℚ◌}

@@ -1,6 +1,6 @@
 use Rattle.std.proofs.Common.{List, ℕ, ap, sym, ◌∙◌}
 use Rattle.mps_reader.specs.Saying.{place_of}
-use Rattle.text_base.proofs.NamePlaces.{place_of-texts}
+use Rattle.texts.proofs.NamePlaces.{place_of-texts}
 use Rattle.mps_reader.proofs.names.Names.look_up.Goals as goal
 
 pub returns-in-Some : goal.returns-in-Some

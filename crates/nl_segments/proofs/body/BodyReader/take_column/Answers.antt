@@ -1,4 +1,4 @@
-use Rattle.text_base.specs.Words.{texts}
+use Rattle.texts.specs.Words.{texts}
 use Rattle.nl_segments.proofs.IntervalSteps.{column_refused}
 use Rattle.nl_lines.proofs.WholeRows.{column_row}
 use Rattle.nl_segments.proofs.body.BodyReader.take_column.Goals as goal

@@ -1,7 +1,7 @@
 use Rattle.std.proofs.Common.{◌∙◌, refl, sym, ap, subst}
-use Rattle.text_base.specs.Judged.{first_reason}
-use Rattle.text_base.specs.Names.{IsName}
-use Rattle.text_base.specs.Words.{texts}
+use Rattle.texts.specs.Judged.{first_reason}
+use Rattle.texts.specs.Names.{IsName}
+use Rattle.texts.specs.Words.{texts}
 use Rattle.nl_model.specs.Draft.{Draft}
 use Rattle.nl_segments.specs.contracts.body.BodyReader.{the_view}
 use Rattle.nl_lines.specs.Heads.{name_in}

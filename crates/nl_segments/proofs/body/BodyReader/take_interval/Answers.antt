@@ -1,6 +1,6 @@
 use Rattle.std.proofs.Common.{◌∙◌, sym, ap, subst}
-use Rattle.text_base.specs.Judged.{first_reason}
-use Rattle.text_base.specs.Words.{texts}
+use Rattle.texts.specs.Judged.{first_reason}
+use Rattle.texts.specs.Words.{texts}
 use Rattle.nl_segments.specs.LineSteps.{next_interval_tests, with_interval, HasRoom}
 use Rattle.nl_lines.specs.Tests.{is_sides}
 use Rattle.nl_segments.proofs.IntervalSteps.{interval_refused, interval_step, next_interval}

@@ -1,5 +1,5 @@
 use Rattle.std.proofs.Common.{◌∙◌, sym}
-use Rattle.text_base.specs.Words.{texts}
+use Rattle.texts.specs.Words.{texts}
 use Rattle.nl_segments.proofs.BodyStart.{extra_line}
 use Rattle.nl_segments.proofs.body.BodyReader.take_line.Goals as goal
 

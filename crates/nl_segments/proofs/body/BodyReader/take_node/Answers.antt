@@ -1,4 +1,4 @@
-use Rattle.text_base.specs.Words.{texts}
+use Rattle.texts.specs.Words.{texts}
 use Rattle.nl_segments.specs.contracts.body.BodyReader.{the_view}
 use Rattle.nl_segments.proofs.NodeKept.{node_good, node_refused}
 use Rattle.nl_segments.proofs.body.BodyReader.take_node.Goals as goal

@@ -1,5 +1,5 @@
 use Rattle.std.proofs.Common.{◌≡◌, ◌∙◌, Some, sym, subst, ap}
-use Rattle.text_base.specs.Words.{row_of}
+use Rattle.texts.specs.Words.{row_of}
 use Rattle.nl_lines.specs.Rows.{Row}
 use Rattle.nl_segments.specs.Held.{Progress}
 use Rattle.nl_segments.specs.Taking.{TakesAnyRow}

@@ -1,5 +1,5 @@
 use Rattle.std.proofs.Common.{refl}
-use Rattle.text_base.specs.Words.{row_of, without_comment}
+use Rattle.texts.specs.Words.{row_of, without_comment}
 use Rattle.nl_lines.specs.Rows.{Row}
 use Rattle.nl_segments.proofs.GrammarLemmas.{pair_awaited, pair_holds_words, some_row}
 use Rattle.nl_segments.proofs.grammar.NlGrammar.take_pair_line.Goals as goal

@@ -1,5 +1,5 @@
 use Rattle.std.proofs.Common.{◌≡◌, ◌∙◌, Some, None, refl, sym, subst, ap}
-use Rattle.text_base.specs.Words.{texts, row_of}
+use Rattle.texts.specs.Words.{texts, row_of}
 use Rattle.nl_lines.specs.Rows.{Row}
 use Rattle.nl_segments.specs.Held.{Progress, TakesRow}
 use Rattle.nl_segments.specs.Taking.{TakesAnyRow, TakesHeaderRow}

@@ -1,5 +1,5 @@
 use Rattle.std.proofs.Common.{ap, arith}
-use Rattle.text_base.specs.Words.{texts}
+use Rattle.texts.specs.Words.{texts}
 use Rattle.sol_files.specs.Standing.{Standing}
 use Rattle.sol_files.specs.Tests.{value_tests}
 use Rattle.sol_files.specs.Judging.{marked_value_tests}

@@ -1,0 +1,5 @@
+pub mod Desk
+pub mod Memory
+pub mod Entries
+pub mod MemoryFields
+pub mod Host

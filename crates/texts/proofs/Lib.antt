@@ -1,0 +1,12 @@
+pub mod NamePlaces
+pub mod ScanLemmas
+pub mod WordLemmas
+pub mod FirstReasons
+pub mod JudgedLemmas
+pub mod ReadingLemmas
+pub mod CutLemmas
+pub mod LineLemmas
+pub mod CutLines
+pub mod MarkLemmas
+pub mod CommentLemmas
+pub mod PairLemmas

@@ -1,0 +1,61 @@
+-- A line of one word, or of two with a space between them, whose bytes stand above `#`.
+use Rattle.std.proofs.Common.{◌≡◌, ◌∙◌, ℕ, ◌+◌, ◌-◌, ◌<◌, ◌==◌, ◌&&◌, Bool, true, false, List, [], ◌∷◌, ◌++◌, length, take, drop, get_or, refl, sym, ap, ap₂, arith, append-nil, length-drop, length-take, take-append-drop, take_all}
+use Rattle.std.proofs.lemmas.List.{drop_more}
+use Rattle.std.proofs.lemmas.Bool.Decides.{nat_tests}
+use Rattle.texts.proofs.CommentLemmas.{no_mark}
+use Rattle.texts.proofs.WordLemmas.{begins}
+use Rattle.texts.specs.Words.{is_blank, onto_word, ends_word, words_of, up_to_comment, without_comment, IsUnmarked}
+
+no_blank : (b : ℕ) → 35 < b → is_blank b ≡ false
+no_blank b h = grind (arith, nat_tests)
+
+unmarked : (m : Bool) (b : ℕ) → 35 < b → (m && (b == 35)) ≡ false
+unmarked m b h = no_mark m b (λ e. omega (arith, h, e))
+
+-- ---- comments
+
+-- a word in front is kept, and after it no comment begins without a blank
+after_word : (m : Bool) (b : ℕ) (word rest : List ℕ) → 35 < b → IsUnmarked word → up_to_comment m ((b ∷ word) ++ rest) ≡ (b ∷ word) ++ up_to_comment false rest
+after_word m b [] rest h all = rw (unmarked m b h, no_blank b h) refl
+after_word m b (c ∷ word) rest h all = rw (unmarked m b h, no_blank b h) (ap (λ bs. b ∷ bs) (after_word false c word rest all.0 all.1))
+
+pub without_comment-unmarked : (word : List ℕ) → IsUnmarked word → without_comment word ≡ word
+without_comment-unmarked [] all = refl
+without_comment-unmarked (b ∷ word) all =
+    ap without_comment (sym (append-nil (b ∷ word))) ∙ after_word true b word [] all.0 all.1 ∙ append-nil (b ∷ word)
+
+pub without_comment-pair : (index word : List ℕ) → IsUnmarked index → IsUnmarked word → without_comment (index ++ 32 ∷ word) ≡ index ++ 32 ∷ word
+without_comment-pair [] word i w = ap (λ bs. 32 ∷ bs) (without_comment-unmarked word w)
+without_comment-pair (b ∷ index) word i w =
+    after_word true b index (32 ∷ word) i.0 i.1 ∙ ap (λ bs. (b ∷ index) ++ 32 ∷ bs) (without_comment-unmarked word w)
+
+-- ---- words
+
+-- a word in front of a blank, or of nothing
+first_word : (b : ℕ) (word rest : List ℕ) → 35 < b → IsUnmarked word → ends_word rest ≡ true → words_of ((b ∷ word) ++ rest) ≡ (b ∷ word) ∷ words_of rest
+first_word b [] rest h all ends = rw (no_blank b h, ends) (begins b (words_of rest))
+first_word b (c ∷ word) rest h all ends =
+    let more : words_of ((c ∷ word) ++ rest) ≡ (c ∷ word) ∷ words_of rest = first_word c word rest all.0 all.1 ends in
+    rw (no_blank b h) (ap₂ (λ e ws. onto_word b e ws) (no_blank c all.0) more)
+
+pub words_of-one : (word : List ℕ) → 0 < length word → IsUnmarked word → words_of word ≡ word ∷ []
+words_of-one [] some all = absurd (omega arith)
+words_of-one (b ∷ word) some all = ap words_of (sym (append-nil (b ∷ word))) ∙ first_word b word [] all.0 all.1 refl
+
+pub words_of-pair : (index word : List ℕ) → 0 < length index → IsUnmarked index → 0 < length word → IsUnmarked word → words_of (index ++ 32 ∷ word) ≡ index ∷ word ∷ []
+words_of-pair [] word first i some w = absurd (omega arith)
+words_of-pair (b ∷ index) word first i some w =
+    first_word b index (32 ∷ word) i.0 i.1 refl ∙ ap (λ ws. (b ∷ index) ∷ ws) (words_of-one word some w)
+
+-- ---- lines
+
+-- a line whose byte n is a space, with the words on both sides of it
+pub pair_line : (line word : List ℕ) (n : ℕ) → n < length line → get_or line n 0 ≡ 32 → word ≡ take (length line - (n + 1)) (drop (n + 1) line)
+    → 0 < n → IsUnmarked (take n line) → 0 < length word → IsUnmarked word → words_of (without_comment line) ≡ take n line ∷ word ∷ []
+pair_line line word n within space behind first i some w =
+    let index = take n line in
+    let rest : word ≡ drop (n + 1) line = behind ∙ take_all (length line - (n + 1)) (drop (n + 1) line) (omega (arith, length-drop (n + 1) line)) in
+    let parts : line ≡ index ++ 32 ∷ word =
+    sym (take-append-drop n line) ∙ ap (λ bs. index ++ bs) (drop_more line n 0 within) ∙ ap₂ (λ b bs. index ++ b ∷ bs) space (sym rest) in
+    let front : 0 < length index = omega (arith, length-take n line) in
+    ap (λ bs. words_of (without_comment bs)) parts ∙ ap words_of (without_comment-pair index word i w) ∙ words_of-pair index word front i some w

@@ -1,0 +1,11 @@
+pub mod Lines
+pub mod LinesFields
+pub mod Words
+pub mod Judged
+pub mod Stopped
+pub mod Reading
+pub mod Cut
+pub mod Names
+pub mod TextLines
+pub mod Stamps
+pub mod Readers
