@@ -13,9 +13,9 @@ use Rattle.exported_program.specs.Export.{ScaledFits, SideFits, RangeFits, IfSid
 use Rattle.exported_program.specs.Factor.{coefficients_below, objective_numbers}
 use Rattle.exported_program.specs.Program.{nonzero, scaled_side}
 use Rattle.exported_program.specs.Return.{is_exported}
-use Rattle.row_scaling.specs.Scaling.{HasNoScaleFault, HasScaleFault}
-use Rattle.row_scaling.specs.declared.scale_fault.ScaleFault.{ScaleFault}
-use Rattle.row_scaling.specs.declared.scale_fault.ScaleFault.TheVariants.{RowTooWide, ObjectiveTooWide}
+use Rattle.scaling.specs.Scaling.{HasNoScaleFault, HasScaleFault}
+use Rattle.scaling.specs.declared.scale_fault.ScaleFault.{ScaleFault}
+use Rattle.scaling.specs.declared.scale_fault.ScaleFault.TheVariants.{RowTooWide, ObjectiveTooWide}
 
 -- P holds, or not
 abbrev pub IsDecided : Type 0 → Type 0

@@ -22,8 +22,8 @@ use Rattle.nl_lines.specs.Saying.{place_lines}
 use Rattle.nl_model.specs.Draft.{file_of}
 use Rattle.nl_segments.specs.Reader.{IsNl, HasNlFault, fault_of}
 use Rattle.nl_lines.specs.declared.fault.NlFault.{NlFault}
-use Rattle.row_scaling.specs.Scaling.{HasNoScaleFault, HasScaleFault, IsExportOf}
-use Rattle.row_scaling.specs.declared.scale_fault.ScaleFault.{ScaleFault}
+use Rattle.scaling.specs.Scaling.{HasNoScaleFault, HasScaleFault, IsExportOf}
+use Rattle.scaling.specs.declared.scale_fault.ScaleFault.{ScaleFault}
 use Rattle.bridge_tool.specs.Export.{Counts, IsExported}
 use Rattle.bridge_tool.specs.Refusal.{HasTextRefusal, HasFoldRefusal, HasScaleRefusal, IsRefused}
 use Rattle.bridge_tool.specs.NlTold.{nl_line, fold_line, scale_line}

@@ -23,7 +23,7 @@ use Rattle.nl_model.specs.File.{File}
 use Rattle.nl_model.specs.Rules.{IsFile}
 use Rattle.nl_segments.specs.Grammar.{NlValue}
 use Rattle.nl_segments.specs.Reader.{IsNl}
-use Rattle.row_scaling.specs.Scaling.{IsExportOf}
+use Rattle.scaling.specs.Scaling.{IsExportOf}
 use Rattle.bridge_tool.specs.Export.{IsExported, IsExportMeant, IsSameProgram, IsTextOf, IsTiedProgram, MeansTheFile}
 use Rattle.bridge_tool.proofs.Decided.{decimal_decided}
 use Rattle.bridge_tool.proofs.Exporting.{by_decimal, same_file}

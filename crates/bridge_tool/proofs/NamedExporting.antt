@@ -15,10 +15,10 @@ use Rattle.name_files.specs.Renamed.{named}
 use Rattle.nl_model.specs.File.{File}
 use Rattle.nl_segments.specs.Grammar.{NlValue}
 use Rattle.nl_segments.specs.Reader.{IsNl}
-use Rattle.row_scaling.specs.Exported.{exported_as}
-use Rattle.row_scaling.specs.Scaled.{ScaledValue}
-use Rattle.row_scaling.specs.Scaling.{HasNoScaleFault, HasScaleFault, IsExportOf}
-use Rattle.row_scaling.specs.declared.scale_fault.ScaleFault.{ScaleFault}
+use Rattle.scaling.specs.Exported.{exported_as}
+use Rattle.scaling.specs.Scaled.{ScaledValue}
+use Rattle.scaling.specs.Scaling.{HasNoScaleFault, HasScaleFault, IsExportOf}
+use Rattle.scaling.specs.declared.scale_fault.ScaleFault.{ScaleFault}
 use Rattle.desk.specs.Desk.{Meaning, Texts}
 use Rattle.texts.specs.declared.stop.Stop.{Stop}
 use Rattle.bridge_tool.specs.Answer.{EndsVerdict, IsWorked}

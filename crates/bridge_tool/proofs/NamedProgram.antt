@@ -21,7 +21,7 @@ use Rattle.name_files.proofs.MeaningLemmas.{same_meaning, valued}
 use Rattle.nl_model.specs.File.{File}
 use Rattle.nl_model.specs.Rules.{IsFile}
 use Rattle.nl_model.proofs.Headers.{counts_of_header}
-use Rattle.row_scaling.specs.Scaling.{IsExportOf}
+use Rattle.scaling.specs.Scaling.{IsExportOf}
 use Rattle.bridge_tool.specs.Export.{IsSameProgram, IsTiedProgram, MeansTheFile}
 use Rattle.bridge_tool.specs.NamedExport.{AreNamedMeant, IsNamedTextOf, Named}
 use Rattle.bridge_tool.proofs.Decided.{decimal_decided}

@@ -8,8 +8,8 @@ use Rattle.mps_import.specs.declared.import_fault.ImportFault.{ImportFault}
 use Rattle.mps_import.specs.declared.import_fault.ImportFault.TheVariants.{EmptyInterval, TooWide as RowWide, TooLarge}
 use Rattle.nl_lines.specs.Saying.{PlaceLines, line_of}
 use Rattle.nl_lines.specs.declared.fault.NlFault.{NlFault}
-use Rattle.row_scaling.specs.declared.scale_fault.ScaleFault.{ScaleFault}
-use Rattle.row_scaling.specs.declared.scale_fault.ScaleFault.TheVariants.{RowTooWide, ObjectiveTooWide}
+use Rattle.scaling.specs.declared.scale_fault.ScaleFault.{ScaleFault}
+use Rattle.scaling.specs.declared.scale_fault.ScaleFault.TheVariants.{RowTooWide, ObjectiveTooWide}
 use Rattle.bridge_tool.specs.ImportTold.{import_line}
 use Rattle.bridge_tool.specs.NlTold.{fold_line, nl_line, opcode_text, or_zero, reason_text, scale_line}
 use Rattle.bridge_tool.specs.Outcome.{Refused}

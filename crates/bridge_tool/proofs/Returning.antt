@@ -19,9 +19,9 @@ use Rattle.linear_fold.specs.Programs.{LinearValue, linear_value}
 use Rattle.nl_model.specs.Rules.{IsFile}
 use Rattle.nl_segments.specs.Grammar.{NlValue}
 use Rattle.nl_segments.specs.Reader.{IsNl}
-use Rattle.row_scaling.specs.Scaled.{ScaledValue}
-use Rattle.row_scaling.specs.Scaling.{HasNoScaleFault, HasScaleFault}
-use Rattle.row_scaling.specs.declared.scale_fault.ScaleFault.{ScaleFault}
+use Rattle.scaling.specs.Scaled.{ScaledValue}
+use Rattle.scaling.specs.Scaling.{HasNoScaleFault, HasScaleFault}
+use Rattle.scaling.specs.declared.scale_fault.ScaleFault.{ScaleFault}
 use Rattle.sol_files.specs.Sol.{Sol}
 use Rattle.sol_files.specs.Written.{sol_text}
 use Rattle.answer_file.specs.Grammar.{AnswerValue, answer_of, answer_rules, standing}

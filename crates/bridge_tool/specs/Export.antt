@@ -17,7 +17,7 @@ use Rattle.nl_model.specs.File.{File}
 use Rattle.nl_segments.specs.Grammar.{NlValue}
 use Rattle.nl_segments.specs.Reader.{IsNl, HasNlFault}
 use Rattle.nl_lines.specs.declared.fault.NlFault.{NlFault}
-use Rattle.row_scaling.specs.Scaling.{HasNoScaleFault, IsExportOf}
+use Rattle.scaling.specs.Scaling.{HasNoScaleFault, IsExportOf}
 use Rattle.desk.specs.Desk.{Texts}
 use Rattle.bridge_tool.specs.OneFile.{IfText, file_promise}
 use Rattle.bridge_tool.specs.Promise.{Promise}

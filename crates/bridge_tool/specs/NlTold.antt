@@ -9,8 +9,8 @@ use Rattle.nl_lines.specs.declared.fault.NlReason.TheVariants.{BinaryFile, BadFi
 use Rattle.nl_lines.specs.Saying.{PlaceLines, line_of}
 use Rattle.linear_fold.specs.declared.fold_fault.FoldFault.{FoldFault}
 use Rattle.linear_fold.specs.declared.fold_fault.FoldFault.TheVariants.{Nonlinear, DivideByZero, TooWide, RefusedPower, FoldTooLarge, NoSuchObjective}
-use Rattle.row_scaling.specs.declared.scale_fault.ScaleFault.{ScaleFault}
-use Rattle.row_scaling.specs.declared.scale_fault.ScaleFault.TheVariants.{RowTooWide, ObjectiveTooWide}
+use Rattle.scaling.specs.declared.scale_fault.ScaleFault.{ScaleFault}
+use Rattle.scaling.specs.declared.scale_fault.ScaleFault.TheVariants.{RowTooWide, ObjectiveTooWide}
 use Rattle.bridge_tool.specs.Told.{refused_at, refusal}
 
 -- what is said of a fault of an .nl text

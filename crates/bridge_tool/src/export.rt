@@ -4,7 +4,7 @@ ghost use Rattle.file_meaning.specs.FoldFaults.{has_objective};
 ghost use Rattle.linear_fold.specs.FoldedFaults.{step_bound};
 ghost use Rattle.nl_model.specs.Rules.{IsFile};
 ghost use Rattle.nl_segments.specs.Reader.{HasLines, IsFed, IsNl, value_of};
-ghost use Rattle.row_scaling.specs.Exported.{exported_as};
+ghost use Rattle.scaling.specs.Exported.{exported_as};
 ghost use Rattle.bridge_tool.specs.Answer.{IsWorked, status_of};
 ghost use Rattle.bridge_tool.specs.Export.{Counts, IsExported, IsExportMeant, IsTextOf, export_promise};
 ghost use Rattle.bridge_tool.specs.OneFile.{Judges};

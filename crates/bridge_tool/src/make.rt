@@ -4,7 +4,7 @@ ghost use Rattle.std.specs.Prelude.{◌≡◌, ◌≢◌, ◌+◌, ◌≤◌, Li
 ghost use Rattle.instances.specs.Instance.{instance};
 ghost use Rattle.linear_fold.specs.FoldedFaults.{step_bound};
 ghost use Rattle.nl_segments.specs.Reader.{HasLines, IsNl, value_of};
-ghost use Rattle.row_scaling.specs.Exported.{exported_as};
+ghost use Rattle.scaling.specs.Exported.{exported_as};
 ghost use Rattle.bridge_tool.specs.Answer.{IsWorked, status_of};
 ghost use Rattle.bridge_tool.specs.Make.{IsMade, IsSummedUp, LeavesInput, make_promise, made_text};
 ghost use Rattle.bridge_tool.specs.OneFile.{Judges};

@@ -3,7 +3,7 @@
 ghost use Rattle.std.specs.Prelude.{◌≡◌, ◌≢◌, ◌+◌, ◌≤◌, length, IfOk};
 ghost use Rattle.name_files.specs.Renamed.{HasExportedNames, named};
 ghost use Rattle.nl_segments.specs.Reader.{HasLines, value_of};
-ghost use Rattle.row_scaling.specs.Exported.{exported_as};
+ghost use Rattle.scaling.specs.Exported.{exported_as};
 ghost use Rattle.bridge_tool.specs.Answer.{IsWorked, status_of};
 ghost use Rattle.bridge_tool.specs.NamedExport.{AreNamedMeant, IsNamedTextOf, Named, NamedComesTo, most_named_steps, named_promise};
 ghost use Rattle.bridge_tool.specs.SeveralFiles.{Comes};

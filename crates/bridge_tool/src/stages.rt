@@ -8,12 +8,12 @@ ghost use Rattle.linear_fold.specs.Programs.{linear_value};
 ghost use Rattle.mps_model.specs.Mps.{with_values};
 ghost use Rattle.nl_model.specs.Rules.{IsFile};
 ghost use Rattle.nl_segments.specs.Reader.{HasLines, value_of};
-ghost use Rattle.row_scaling.specs.Exported.{exported_as};
+ghost use Rattle.scaling.specs.Exported.{exported_as};
 ghost use Rattle.bridge_tool.specs.Stages.{Folds, Scales};
 
 use crate::nl_told::{fold_line, scale_line};
 use linear_fold::{Linear, fold_all};
-use mps_export::program;
+use row_scaling::program;
 use mps_model::Mps;
 use nl_segments::NlRead;
 use row_scaling::{Scaled, scale_rows};

@@ -4,7 +4,7 @@ ghost use Rattle.std.specs.Prelude.{◌≡◌, ◌<◌};
 use exact_numbers::{Dec, Frac};
 use example_texts::nl_texts::{KNAPSACK, KNAPSACK_WRITTEN};
 use linear_fold::{Form, Linear, Pad, Wide, fold_all};
-use mps_export::program;
+use row_scaling::program;
 use mps_writer::write_mps;
 use nl_model::NlFile;
 use nl_segments::read_nl;

@@ -14,9 +14,9 @@ use Rattle.file_meaning.specs.LinearFile.{linear_of}
 use Rattle.exported_program.specs.Export.{factor_of_row, factor_of_objective}
 use Rattle.exported_program.specs.Program.{program_of, program, tied_program}
 use Rattle.exported_program.specs.Return.{is_exported, row_at}
-use Rattle.row_scaling.specs.Exported.{exported_as}
-use Rattle.row_scaling.specs.Scaled.{ScaledValue}
-use Rattle.row_scaling.specs.Scaling.{IsScaledOf, factor_at}
+use Rattle.scaling.specs.Exported.{exported_as}
+use Rattle.scaling.specs.Scaled.{ScaledValue}
+use Rattle.scaling.specs.Scaling.{IsScaledOf, factor_at}
 use Rattle.answer_file.specs.Grammar.{AnswerValue}
 use Rattle.dual_return.specs.Return.{sign_by, sign_of, multiplier_of, linear_for, IsDualAt, Reaches, IsTooWideAt, AreDuals, DualBy, AreFactors}
 

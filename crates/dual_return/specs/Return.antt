@@ -14,8 +14,8 @@ use Rattle.exported_program.specs.Program.{program, tied_program}
 use Rattle.exported_program.specs.Return.{is_exported, row_at, dual_of, program_row}
 use Rattle.file_meaning.specs.Meaning.{body_value}
 use Rattle.mps_model.specs.Mps.{Mps, row_value}
-use Rattle.row_scaling.specs.Scaled.{ScaledValue}
-use Rattle.row_scaling.specs.Scaling.{factor_at}
+use Rattle.scaling.specs.Scaled.{ScaledValue}
+use Rattle.scaling.specs.Scaling.{factor_at}
 use Rattle.answer_file.specs.Grammar.{AnswerValue}
 use Rattle.answer_file.specs.Names.{setting_by}
 use Rattle.answer_file.specs.Reading.{IsAnswer}

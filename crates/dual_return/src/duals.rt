@@ -4,7 +4,7 @@ ghost use Rattle.std.specs.List.{list_any};
 ghost use Rattle.fractions.specs.Rational.{whole, zero_ℚ, ◌*ℚ◌};
 ghost use Rattle.exact_numbers.specs.Values.{dec_value, IsInReach};
 ghost use Rattle.nl_model.specs.File.{File};
-ghost use Rattle.row_scaling.specs.Scaling.{IsScaledOf, factor_at};
+ghost use Rattle.scaling.specs.Scaling.{IsScaledOf, factor_at};
 ghost use Rattle.texts.specs.Stopped.{IfFault};
 ghost use Rattle.dual_return.specs.Return.{IsDualAt, AreDuals, AreDualsIf, HasReturnFault, DualBy, AreFactors, sign_by, linear_for};
 
@@ -13,7 +13,7 @@ use crate::parts::add_duals;
 use answer_file::Answer;
 use exact_numbers::Dec;
 use nl_model::Decs;
-use row_scaling::Scaled;
+use scaling::Scaled;
 use sol_files::SolBuilder;
 use std::alloc::Global;
 use texts::Stop;

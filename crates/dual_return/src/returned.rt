@@ -1,7 +1,7 @@
 // A .sol file from an answer.
 ghost use Rattle.std.specs.Prelude.{◌≡◌, IfOk, IfErr};
 ghost use Rattle.texts.specs.Stopped.{IfFault};
-ghost use Rattle.row_scaling.specs.Scaling.{IsScaledOf};
+ghost use Rattle.scaling.specs.Scaling.{IsScaledOf};
 ghost use Rattle.dual_return.specs.Return.{IsAnswerFor, IsReturn, HasReturnFault, linear_for};
 
 use crate::duals::add_given_duals;
@@ -9,7 +9,7 @@ use crate::fault::ReturnFault;
 use crate::parts::{add_message, add_primals, add_suffixes, same_options, set_objno};
 use answer_file::Answer;
 use nl_model::NlFile;
-use row_scaling::Scaled;
+use scaling::Scaled;
 use sol_files::{Sol, SolBuilder};
 use std::alloc::Global;
 use texts::Stop;

@@ -15,7 +15,7 @@ use Rattle.exported_program.specs.Export.{IsDecimal, factor_of_row}
 use Rattle.exported_program.specs.Factor.{row_numbers}
 use Rattle.exported_program.proofs.Export.{same_objective as objective_of_program, same_points as points_of, same_sense as sense_of_program}
 use Rattle.exported_program.proofs.Factor.{factor_above}
-use Rattle.row_scaling.specs.Scaling.{IsExportOf}
+use Rattle.scaling.specs.Scaling.{IsExportOf}
 use Rattle.mps_import.specs.Faults.{import_fault}
 use Rattle.mps_import.specs.Import.{constraints, import_counts, import_of}
 use Rattle.mps_import.specs.Variables.{in_order, values_of}

@@ -10,7 +10,7 @@ ghost use Rattle.exported_program.specs.Export.{IsDecimal};
 ghost use Rattle.mps_import.specs.Faults.{import_fault};
 ghost use Rattle.mps_import.specs.Import.{import_of};
 ghost use Rattle.mps_import.specs.Variables.{in_order, values_of};
-ghost use Rattle.row_scaling.specs.Scaling.{IsExportOf};
+ghost use Rattle.scaling.specs.Scaling.{IsExportOf};
 ghost use Rattle.import_texts.specs.Imports.{ImportsAreSaid, ImportsAreWritable, NoOtherFileIsSaid};
 
 /// The file of a program that is imported can be written.

@@ -1,22 +1,40 @@
-use Rattle.std.proofs.Common.{◌≡◌, ◌<◌, ◌⊎◌, unsigned_abs, ◌^◌, ◌∙◌, sym, ap, refl, arith, ⊎_elim, ℤ, pos, true, false}
+use Rattle.std.proofs.Common.{◌≡◌, ◌^◌, ◌∙◌, sym, ap, refl, arith, subst, ⊎_elim, ℤ, pos, ◌*ℤ◌, Some, None, mul-one}
 use Rattle.std.proofs.lemmas.Int.{ints}
-use Rattle.fractions.specs.Fits.{fits, is_small}
-use Rattle.fractions.specs.Rational.{ℚ, whole, over}
-use Rattle.fractions.proofs.Arithmetic.{over_parts}
-use Rattle.std.proofs.lemmas.Bool.{ltb-true, and_from}
+use Rattle.fractions.specs.Rational.{zero_ℚ, one_ℚ, decimal_value, above_zero, below_zero}
+use Rattle.fractions.proofs.Signed.{times_cancel, times_twice}
+use Rattle.fractions.proofs.Values.{HasValue, equal_tops, same_value, whole_value}
+use Rattle.fractions.proofs.Arithmetic.{decimal_value_lem}
+use Rattle.exported_program.specs.Program.{nonzero}
+use Rattle.exported_program.proofs.Sides.{nonzero_cases}
+use Rattle.exact_numbers.specs.declared.dec.Dec.{Dec}
+use Rattle.exact_numbers.specs.Values.{dec_value, FitsDec}
+use Rattle.exact_numbers.proofs.Tens.{ten-pos}
+use Rattle.exact_numbers.proofs.Bridge.{decimal_zero}
+use Rattle.scaling.proofs.SharedLemmas.{zero_left_out}
+use Rattle.scaling.proofs.SharedLemmas.{zero_left_out, zero_decimal}
 
--- ---- whole numbers
-over_one : (z : ℤ) → over z 1 ≡ whole z
-unfolding whole
-over_one z = over_parts (whole z)
+zero_times : (k : ℤ) → pos 0 *ℤ k ≡ pos 0
+zero_times k = omega (arith, ints)
 
-pub whole_fits : (z : ℤ) → unsigned_abs z < 2 ^ 127 → fits (over z 1) ≡ true
-unfolding whole
-whole_fits z h = ap fits (over_one z) ∙ and_from (is_small (unsigned_abs z)) (is_small 1) (grind (arith, ltb-true)) refl
+pub one_decimal : decimal_value (pos 1) (pos 0) ≡ one_ℚ
+one_decimal = same_value (decimal_value_lem (pos 1) (pos 0)) (whole_value (pos 1)) refl
 
-pub over_one_is : (x : ℚ) (z : ℤ) → x ≡ over z 1 → x ≡ whole z
-over_one_is x z e = e ∙ over_one z
+pub one_fits : FitsDec (decimal_value (pos 1) (pos 0))
+one_fits = record { m = pos 1; e = pos 0; dec = record { mantissa = omega arith; exponent = omega arith; shortest = λ h. absurd (omega (arith, h)) }; same = refl }
 
-pub one_not_none : (z : ℤ) → (pos 1 ≡ pos 0) ⊎ (fits (over z 1) ≡ false) → unsigned_abs z < 2 ^ 127 → ⊥
-one_not_none z h small =
-    ⊎_elim (λ (e : pos 1 ≡ pos 0). omega (arith, ints, e)) (λ (e : fits (over z 1) ≡ false). (let clash : true ≡ false = sym (whole_fits z small) ∙ e in cc)) h
+pub value_of_zero : (m e : ℤ) → m ≡ pos 0 → decimal_value m e ≡ zero_ℚ
+value_of_zero m e h = sym (decimal_zero m e (pos 0) h) ∙ zero_decimal
+
+pub zero_of_value : (m e : ℤ) → decimal_value m e ≡ zero_ℚ → m ≡ pos 0
+zero_of_value m e h =
+    let tops : m *ℤ pos (10 ^ above_zero e) *ℤ pos 1 ≡ pos 0 *ℤ pos (10 ^ below_zero e) =
+    equal_tops (subst (λ z. HasValue z (m *ℤ pos (10 ^ above_zero e)) (10 ^ below_zero e)) h (decimal_value_lem m e)) (whole_value (pos 0)) in
+    times_cancel m (pos 0) (10 ^ above_zero e) (ten-pos (above_zero e)) (ap (λ k. m *ℤ pos k) (sym (mul-one (10 ^ above_zero e))) ∙ sym (times_twice m (10 ^ above_zero e) 1) ∙ tops ∙ zero_times (pos (10 ^ below_zero e)) ∙ sym (zero_times (pos (10 ^ above_zero e))))
+
+-- the number itself, where it is not 0
+pub none_at_zero : (d : Dec) → d.m ≡ pos 0 → None ≡ nonzero (dec_value d)
+none_at_zero d h = sym (ap nonzero (value_of_zero d.m d.e h) ∙ zero_left_out)
+
+pub some_at_other : (d : Dec) → (d.m ≡ pos 0 → ⊥) → Some (dec_value d) ≡ nonzero (dec_value d)
+some_at_other d h =
+    ⊎_elim (λ (z : (nonzero (dec_value d) ≡ None) × (dec_value d ≡ zero_ℚ)). absurd (h (zero_of_value d.m d.e z.1))) (λ s. sym s) (nonzero_cases (dec_value d))

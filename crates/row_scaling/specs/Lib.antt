@@ -1,6 +1,5 @@
-pub mod Exported
-pub mod Factored
-pub mod Fitting
-pub mod Rows
-pub mod Scaled
-pub mod Scaling
+pub mod Batches
+pub mod Columns
+pub mod Filled
+pub mod Filling
+pub mod Sides

@@ -1,19 +1,15 @@
-// Rows and an objective times their factors, as decimals.
+// Rows and an objective times their factors, and the program that they are exported as.
 #![tactic(auto)]
 
-mod decimals;
-mod factors;
-mod fraction_sides;
-pub mod laws;
-mod objectives;
-mod row;
-mod scale;
-mod scale_fault;
-mod scaled;
-mod scaled_rows;
-mod scaled_terms;
+mod batches;
+mod bounds;
+mod columns;
+mod export;
+mod names;
+mod numbers;
+mod program_columns;
+mod rows;
+mod sides;
 
-pub use row::{FactoredRow, ScaledObjective, ScaledRow, Tie};
-pub use scale::scale_rows;
-pub use scale_fault::ScaleFault;
-pub use scaled::Scaled;
+pub use export::program;
+pub use scaling::{FactoredRow, ScaleFault, Scaled, ScaledObjective, ScaledRow, Tie, scale_rows};

@@ -1,8 +1,8 @@
 use Rattle.std.proofs.Common.{subst}
 use Rattle.linear_programs.specs.Linear.{Linear}
 use Rattle.nl_segments.specs.Reader.{value_of}
-use Rattle.row_scaling.specs.Exported.{exported_as}
-use Rattle.row_scaling.specs.Scaling.{IsExportOf}
+use Rattle.scaling.specs.Exported.{exported_as}
+use Rattle.scaling.specs.Scaling.{IsExportOf}
 use Rattle.bridge_tool.proofs.Meaning.{export_meant}
 use Rattle.bridge_tool.proofs.export.export_read.Goals as goal
 

@@ -2,7 +2,7 @@ use Rattle.std.proofs.Common.{◌+◌, ◌≤◌, sym, subst}
 use Rattle.file_meaning.specs.FoldFaults.{has_objective}
 use Rattle.linear_fold.specs.FoldedFaults.{step_bound}
 use Rattle.nl_segments.specs.Reader.{value_of}
-use Rattle.row_scaling.specs.Exported.{exported_as}
+use Rattle.scaling.specs.Exported.{exported_as}
 use Rattle.bridge_tool.specs.NamedExport.{AreNamedMeant, IsNamedExport, Named, most_named_steps}
 use Rattle.bridge_tool.proofs.NamedExporting.{exports_so, written_so}
 use Rattle.bridge_tool.proofs.NamedProgram.{export_named, named_meant}

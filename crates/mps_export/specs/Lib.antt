@@ -1,5 +1,0 @@
-pub mod Batches
-pub mod Columns
-pub mod Filled
-pub mod Filling
-pub mod Sides

@@ -1,0 +1,17 @@
+use Rattle.std.proofs.Common.{◌∙◌, sym, ap, ap₂, refl}
+use Rattle.scaling.specs.Rows.{side_value}
+use Rattle.exported_program.specs.Program.{column_bounds}
+use Rattle.row_scaling.proofs.VariableLemmas.{one_put, two_put, fixed_bounds, both_bounds}
+use Rattle.row_scaling.proofs.bounds.add_column_bounds.Goals as goal
+
+pub returns-then-same_value-clause-added : goal.returns-then-same_value-clause-added
+returns-then-same_value-clause-added c =
+    let sides = ap₂ (λ l u. column_bounds c.args.j (side_value l) (side_value u)) c.in-Some-Some.is-0 c.in-Some-Some.is-1 in
+    one_put c.args.j c.args.builder.now.bounds c.add_one-then-same_value.new.builder.bounds _ _ (ap (λ m. m.bounds) c.in_ok-add_one-in-Some-Some.ensures) refl
+    (sym (sides ∙ fixed_bounds c.args.j _ _ (c.same_value.ensures.0 c.if-same_value.true))) c.requires.before
+
+pub returns-in_ok-add_both-in-Some-Some-clause-added : goal.returns-in_ok-add_both-in-Some-Some-clause-added
+returns-in_ok-add_both-in-Some-Some-clause-added c =
+    let sides = ap₂ (λ l u. column_bounds c.args.j (side_value l) (side_value u)) c.in-Some-Some.is-0 c.in-Some-Some.is-1 in
+    two_put c.args.j c.args.builder.now.bounds c.add_both-in-Some-Some.new.builder.bounds _ _ _ (ap (λ m. m.bounds) c.in_ok-add_both-in-Some-Some.ensures) refl refl
+    (sym (sides ∙ both_bounds c.args.j _ _ (λ e. let t = c.same_value.ensures.1 e in let f = c.if-same_value.false in cc))) c.requires.before

@@ -1,5 +1,0 @@
-use Rattle.row_scaling.proofs.LawLemmas.{plain_as}
-use Rattle.row_scaling.proofs.laws.plain_program.Goals as goal
-
-pub returns : goal.returns
-returns c = plain_as

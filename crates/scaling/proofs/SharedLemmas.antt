@@ -1,0 +1,62 @@
+-- What the export of a scaled program needs, too: lists, coefficients, 0 and 1, comparison.
+use Rattle.std.proofs.Common.{◌≡◌, ◌<◌, ◌∙◌, sym, ap, refl, arith, ℤ, pos, ◌*ℤ◌, Bool, true, false, ◌↔◌, IsTrue, None, ◌<ℤ◌, int_lt, nat_eq, ℕ, suc, ◌+◌, cond, List, [], ◌∷◌, length, get_or, add-one, drop, drop-cons, ◌≢◌}
+use Rattle.std.proofs.lemmas.Int.{ints}
+use Rattle.std.specs.Ordering.{int_cmp, ordering_index}
+use Rattle.std.specs.declared.cmp.Ordering.{Ordering}
+use Rattle.fractions.specs.Rational.{ℚ, zero_ℚ, one_ℚ, whole, decimal_value, ◌+ℚ◌}
+use Rattle.fractions.proofs.Values.{same_crosswise, same_value, whole_value}
+use Rattle.fractions.proofs.Arithmetic.{decimal_value_lem, zero-+ℚ, same_whole}
+use Rattle.std.proofs.lemmas.Bool.{eq-eqb, ne_eqb}
+use Rattle.exported_program.specs.Program.{nonzero}
+use Rattle.exact_numbers.specs.Values.{dec_value, FitsDec, order_of}
+use Rattle.exact_numbers.proofs.Orders.{less_z, greater_z, equal_z}
+use Rattle.fractions.specs.Sums.{sum_over}
+use Rattle.file_meaning.specs.LinearFile.{coefficient_of}
+use Rattle.scaling.specs.Rows.{TermOf}
+
+-- the elements from i on
+pub rest_of : {A : Type 0} (xs : List A) (i : ℕ) (x : A) → i < length xs → x ≡ get_or xs i x → drop i xs ≡ x ∷ drop (i + 1) xs
+rest_of xs i x h is = drop-cons xs i x h ∙ ap (λ y. y ∷ drop (suc i) xs) (sym is) ∙ ap (λ n. x ∷ drop n xs) (sym (add-one i))
+
+-- ---- a coefficient of terms
+pub nothing_in : (j : ℕ) → coefficient_of [] j ≡ zero_ℚ
+unfolding coefficient_of sum_over
+nothing_in j = refl
+
+pub first_in : (t : TermOf) (ts : List TermOf) (j : ℕ) → t.0 ≡ j → coefficient_of (t ∷ ts) j ≡ dec_value t.1 +ℚ coefficient_of ts j
+unfolding coefficient_of sum_over
+first_in t ts j e = ap (λ b. cond b (dec_value t.1) zero_ℚ +ℚ coefficient_of ts j) (eq-eqb t.0 j e)
+
+pub later_in : (t : TermOf) (ts : List TermOf) (j : ℕ) → (t.0 ≡ j → ⊥) → coefficient_of (t ∷ ts) j ≡ coefficient_of ts j
+unfolding coefficient_of sum_over
+later_in t ts j e = ap (λ b. cond b (dec_value t.1) zero_ℚ +ℚ coefficient_of ts j) (ne_eqb t.0 j e) ∙ zero-+ℚ (coefficient_of ts j)
+
+-- ---- 0 and 1
+pub zero_left_out : nonzero zero_ℚ ≡ None
+unfolding whole
+zero_left_out = refl
+
+pub one_not_zero : one_ℚ ≢ zero_ℚ
+one_not_zero e = let f : pos 1 ≡ pos 0 = same_whole (pos 1) (pos 0) e in cc
+
+pub zero_decimal : decimal_value (pos 0) (pos 0) ≡ zero_ℚ
+zero_decimal = same_value (decimal_value_lem (pos 0) (pos 0)) (whole_value (pos 0)) refl
+
+pub zero_fits : FitsDec (decimal_value (pos 0) (pos 0))
+zero_fits = record { m = pos 0; e = pos 0; dec = record { mantissa = omega arith; exponent = omega arith; shortest = λ h. (refl, refl) }; same = refl }
+
+-- ---- comparison
+equal_out : (z w : ℤ) → nat_eq (ordering_index (int_cmp z w)) 1 ≡ true → z ≡ w
+equal_out z w h =
+    elim (int_lt z w) as (λ b. int_lt z w ≡ b → z ≡ w) [
+      | true ↦ λ e. (let l : z <ℤ w = omega (arith, ints, e) in let f = sym (ap (λ o. nat_eq (ordering_index o) 1) (less_z z w l)) ∙ h in cc)
+      | false ↦ λ e. elim (int_lt w z) as (λ b. int_lt w z ≡ b → z ≡ w) [
+        | true ↦ λ f. (let l : w <ℤ z = omega (arith, ints, f) in let g = sym (ap (λ o. nat_eq (ordering_index o) 1) (greater_z z w l)) ∙ h in cc)
+        | false ↦ λ f. omega (arith, ints, e, f)
+      ] refl
+    ] refl
+
+pub by_order : (b : Bool) (o : Ordering) (x y : ℚ) → b ≡ nat_eq (ordering_index o) 1 → o ≡ order_of x y → IsTrue b ↔ (x ≡ y)
+by_order b o x y test order =
+    let is = test ∙ ap (λ o. nat_eq (ordering_index o) 1) order in
+    (λ t. same_crosswise x y (equal_out _ _ (sym is ∙ t)), λ e. is ∙ ap (λ o. nat_eq (ordering_index o) 1) (equal_z _ _ (ap (λ z. z.top *ℤ pos y.bottom) e ∙ ap (λ z. y.top *ℤ pos z.bottom) (sym e))))

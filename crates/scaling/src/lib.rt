@@ -1,0 +1,19 @@
+// Rows and an objective times their factors, as decimals.
+#![tactic(auto)]
+
+mod decimals;
+mod factors;
+mod fraction_sides;
+pub mod laws;
+mod objectives;
+mod row;
+mod scale;
+mod scale_fault;
+mod scaled;
+mod scaled_rows;
+mod scaled_terms;
+
+pub use row::{FactoredRow, ScaledObjective, ScaledRow, Tie};
+pub use scale::scale_rows;
+pub use scale_fault::ScaleFault;
+pub use scaled::Scaled;

@@ -1,0 +1,131 @@
+// The rows of a folded file, each times its least factor.
+ghost use Rattle.std.specs.Prelude.{◌≡◌, ℕ, ◌<◌, ◌≤◌, ◌<ℤ◌, pos, IsTrue, IfOk, IfErr, false, length, get_or, None};
+ghost use Rattle.texts.specs.Stopped.{IfFault};
+ghost use Rattle.fractions.specs.Rational.{whole};
+ghost use Rattle.exact_numbers.specs.Values.{frac_value};
+ghost use Rattle.exported_program.specs.Export.{ExportFits, RowFits};
+ghost use Rattle.exported_program.specs.Program.{has_side};
+ghost use Rattle.linear_fold.specs.Coefs.{AreBelow};
+ghost use Rattle.linear_fold.specs.declared.form.Form.{Form};
+ghost use Rattle.linear_fold.specs.Forms.{form_terms};
+ghost use Rattle.linear_fold.specs.Programs.{linear_value};
+ghost use Rattle.scaling.specs.Factored.{AreScaledRows, IsFactored, IsScaledAt, body_term_count, factor_for, row_for, term_count_of};
+ghost use Rattle.scaling.specs.Scaled.{row_term_count};
+ghost use Rattle.scaling.specs.Scaling.{HasScaleFault};
+ghost use Rattle.scaling.specs.declared.scale_fault.ScaleFault.TheVariants.{RowTooWide};
+ghost use Rattle.scaling.specs.Rows.{side_value};
+
+use crate::factors::factor_of_row;
+use crate::fraction_sides::{scaled_sides, sides_less};
+use crate::row::{FactoredRow, ScaledRow};
+use crate::scale_fault::ScaleFault;
+use crate::scaled_terms::scaled_terms;
+use exact_numbers::Frac;
+use linear_fold::{Form, Linear, Wide};
+use nl_model::Interval;
+use std::alloc::Global;
+use texts::Stop;
+
+// A whole number above 0 as a fraction.
+pub(crate) fn whole(number: i128) -> Frac
+    requires { pos 0 <ℤ number }
+    ensures { frac_value result ≡ whole number }
+{
+    match Frac::new(number, 1) {
+        Some(fraction) => fraction,
+        None => unreachable!(),
+    }
+}
+
+// A row times its least factor. Wide exactly where a number does not fit.
+fn scale_row(alloc: Global, body: &Form, side: Interval) -> Result<FactoredRow, Stop<Wide>>
+    requires { IsTrue (has_side (side_value side.lo) (side_value side.hi)) }
+    ensures scaled { (n i : ℕ) → AreBelow n (form_terms body.now)
+        → IfOk result (λ r. IsFactored n i (row_for i body.now side) r) }
+    ensures few { IfOk result (λ r. length r.row.terms ≡ length (form_terms body.now)) }
+    ensures wide { (n i : ℕ) → AreBelow n (form_terms body.now)
+        → IfErr result
+        (λ stop. IfFault stop
+        (λ _. ¬ RowFits n (row_for i body.now side) (factor_for n (row_for i body.now side)))) }
+{
+    let Ok(less) = sides_less(side, body.constant()) else {
+        return Err(Stop::Fault(Wide));
+    };
+    let Some(factor) = factor_of_row(body, &less) else {
+        return Err(Stop::Fault(Wide));
+    };
+    let multiplier = whole(factor);
+    let Ok(sides) = scaled_sides(&less, multiplier) else {
+        return Err(Stop::Fault(Wide));
+    };
+    let terms = match scaled_terms(alloc, body, multiplier) {
+        Ok(terms) => terms,
+        Err(stop) => return Err(stop),
+    };
+    let row = ScaledRow::new(terms, sides.side, sides.range);
+    Ok(FactoredRow { factor, row })
+}
+
+// Whether one of the sides is there.
+fn has_side(side: Interval) -> bool
+    ensures { result ≡ has_side (side_value side.lo) (side_value side.hi) }
+{
+    match (side.lo, side.hi) {
+        (None, None) => false,
+        _ => true,
+    }
+}
+
+// The row of a constraint times its least factor, none where it has no side. Its fault is that a
+// number does not fit.
+fn scaled_row_at(
+    alloc: Global,
+    linear: &Linear,
+    con: u32,
+) -> Result<Option<FactoredRow>, Stop<ScaleFault>>
+    requires { con < length linear.now.bodies }
+    ensures scaled { IfOk result (λ o. IsScaledAt (linear_value linear.now) con o) }
+    ensures few { (d : Form)
+        → IfOk result
+        (λ o. term_count_of o ≤ length (form_terms (get_or linear.now.bodies con d))) }
+    ensures wide { IfErr result
+        (λ stop. IfFault stop
+        (λ fault. (fault ≡ RowTooWide con) × ¬ ExportFits (linear_value linear.now) con)) }
+{
+    let bodies = linear.bodies();
+    let sides = linear.sides();
+    let body = &bodies[con as usize];
+    let side = sides[con as usize];
+    let asked = side;
+    if !has_side(asked) {
+        return Ok(None);
+    }
+    match scale_row(alloc, body, side) {
+        Ok(row) => Ok(Some(row)),
+        Err(Stop::Memory) => Err(Stop::Memory),
+        Err(Stop::Fault(_)) => Err(Stop::Fault(ScaleFault::RowTooWide(con))),
+    }
+}
+
+// The rows by constraint, none where one has no side, or the first that is too wide.
+pub(crate) fn scaled_rows(
+    alloc: Global,
+    linear: &Linear,
+) -> Result<Vec<Option<FactoredRow>>, Stop<ScaleFault>>
+    ensures scaled { IfOk result (λ rows. AreScaledRows (linear_value linear.now) rows.items) }
+    ensures few { IfOk result
+        (λ rows. row_term_count rows.items ≤ body_term_count linear.now.bodies) }
+    ensures wide { IfErr result
+        (λ stop. IfFault stop (λ fault. HasScaleFault (linear_value linear.now) fault)) }
+{
+    let bodies = linear.bodies();
+    let mut rows = Vec::with_capacity(alloc, bodies.len())?;
+    for con in 0..bodies.len() as u32 {
+        let row = match scaled_row_at(alloc, linear, con) {
+            Ok(row) => row,
+            Err(stop) => return Err(stop),
+        };
+        rows.push(row)?;
+    }
+    Ok(rows)
+}

@@ -1,0 +1,96 @@
+// The terms of a form times a factor, as decimals.
+ghost use Rattle.std.specs.Prelude.{◌≡◌, MatchOption, All, IfOk, IfErr, IfSome};
+ghost use Rattle.texts.specs.Stopped.{IfFault};
+ghost use Rattle.fractions.specs.Rational.{◌*ℚ◌};
+ghost use Rattle.exact_numbers.specs.Values.{dec_value, frac_value};
+ghost use Rattle.linear_fold.specs.Coefs.{AreAscending};
+ghost use Rattle.linear_fold.specs.Forms.{form_terms};
+ghost use Rattle.scaling.specs.Fitting.{coefficients_in, NumberFits, AreTermsTimes};
+
+use crate::decimals::{decimal_of, is_one};
+use exact_numbers::{Dec, Frac};
+use linear_fold::{Form, Wide};
+use nl_model::Terms;
+use std::alloc::{AllocError, Global};
+use texts::Stop;
+
+// A number times the factor, as a decimal; none exactly where it does not fit.
+#[inline]
+pub(crate) fn scaled_number(number: Frac, factor: Frac) -> Option<Dec>
+    ensures { MatchOption result (¬ NumberFits (frac_value factor) (frac_value number))
+        (λ d. NumberFits (frac_value factor) (frac_value number)
+        × (dec_value d ≡ frac_value factor *ℚ frac_value number)) }
+{
+    if is_one(factor) {
+        return decimal_of(number);
+    }
+    let Some(product) = factor.mul(number) else {
+        return None;
+    };
+    decimal_of(product)
+}
+
+// How many terms a form has: room alone, of which no clause speaks.
+fn term_count(form: &Form) -> usize
+    ensures { AreAscending 0 (form_terms form.now) }
+{
+    let mut count = 0usize;
+    for _ in form.terms() {
+        count = count.saturating_add(1);
+    }
+    count
+}
+
+// The terms of a form times the factor, one by one. Wide exactly where a number does not fit.
+fn terms_times(alloc: Global, form: &Form, factor: Frac) -> Result<Terms, Stop<Wide>>
+    ensures scaled { IfOk result
+        (λ terms. AreTermsTimes (frac_value factor) (form_terms form.now) terms) }
+    ensures ascending { AreAscending 0 (form_terms form.now) }
+    ensures wide { IfErr result
+        (λ stop. IfFault stop
+        (λ _. ¬ All (NumberFits (frac_value factor)) (coefficients_in (form_terms form.now)))) }
+{
+    let mut terms = Terms::new(alloc);
+    terms.make_room(term_count(form))?;
+    for term in form.terms() {
+        let Some(value) = scaled_number(term.1, factor) else {
+            return Err(Stop::Fault(Wide));
+        };
+        terms.push((term.0, value))?;
+    }
+    Ok(terms)
+}
+
+// The same terms.
+fn copied_terms(alloc: Global, decimals: &[(u32, Dec)]) -> Result<Terms, AllocError>
+    ensures { IfOk result (λ terms. terms ≡ decimals.now) }
+{
+    Terms::of_slice(alloc, decimals)
+}
+
+// The decimals of a form that is kept as decimals, where the factor is 1.
+fn decimals_at_one(form: &Form, factor: Frac) -> Option<&[(u32, Dec)]>
+    ensures { IfSome result
+        (λ ds. AreTermsTimes (frac_value factor) (form_terms form.now) ds.now) }
+{
+    if !is_one(factor) {
+        return None;
+    }
+    form.decimals()
+}
+
+// The terms of a form times the factor. Wide exactly where a number does not fit.
+pub(crate) fn scaled_terms(alloc: Global, form: &Form, factor: Frac) -> Result<Terms, Stop<Wide>>
+    ensures scaled { IfOk result
+        (λ terms. AreTermsTimes (frac_value factor) (form_terms form.now) terms) }
+    ensures ascending { AreAscending 0 (form_terms form.now) }
+    ensures wide { IfErr result
+        (λ stop. IfFault stop
+        (λ _. ¬ All (NumberFits (frac_value factor)) (coefficients_in (form_terms form.now)))) }
+{
+    let _terms = form.terms();
+    match decimals_at_one(form, factor) {
+        Some(decimals) => Ok(copied_terms(alloc, decimals)?),
+        None => terms_times(alloc, form, factor),
+    }
+}
