@@ -1,5 +1,5 @@
 use Rattle.desk.proofs.Entries.{text_named-with, text_named-others}
-use Rattle.texts.proofs.laws.stored_text_is_found.Goals as goal
+use Rattle.desk.proofs.laws.stored_text_is_found.Goals as goal
 
 pub returns-clause-named : goal.returns-clause-named
 returns-clause-named c texts name text = text_named-with texts name text
