@@ -1,6 +1,6 @@
 -- What a .sol text shows of an .nl text: one outcome, and what a yes means.
-use Rattle.std.proofs.Common.{◌≡◌, ◌∙◌, inl, inr, ◌⊎◌, ℕ, ◌+◌, ◌<◌, ◌≤◌, ◌==◌, ℤ, pos, negsuc, Bool, true, false, List, length, if◌then◌else◌, Option, Some, None, Result, Ok, Err, refl, sym, ap, ap₂, subst, arith}
-use Rattle.std.specs.Prelude.{◌&&◌, ◌<ℤ◌, nat_lt, option_map, IfOk, IsTrue}
+use Rattle.std.proofs.Common.{◌≡◌, ◌∙◌, inl, inr, ℕ, ◌+◌, ◌≤◌, ◌==◌, ℤ, pos, negsuc, Bool, true, false, List, length, if◌then◌else◌, Option, Some, None, Result, Ok, Err, refl, sym, ap, ap₂, subst, arith}
+use Rattle.std.specs.Prelude.{◌&&◌, ◌<ℤ◌, nat_lt, option_map, IfOk}
 use Rattle.std.specs.Global.{Vec}
 use Rattle.std.proofs.lemmas.Bool.{eqb-true, ltb-false, and_parts}
 use Rattle.std.proofs.lemmas.Int.{ints}
@@ -8,7 +8,6 @@ use Rattle.fractions.specs.Rational.{ℚ}
 use Rattle.duality.specs.Verdict.{Verdict, verdict, yes, gap, refused}
 use Rattle.linear_programs.specs.Linear.{row_count, variable_count}
 use Rattle.exact_numbers.specs.declared.dec.Dec.{Dec}
-use Rattle.desk.specs.Desk.{Meaning, Texts}
 use Rattle.texts.specs.declared.stop.Stop.{Stop}
 use Rattle.texts.specs.declared.stop.Stop.TheVariants.{Fault, Memory}
 use Rattle.certificate_check.specs.Terms.{values_of}
@@ -17,32 +16,25 @@ use Rattle.certificate_check.specs.declared.fitting.FitFault.TheVariants.{OtherC
 use Rattle.certificate_check.proofs.Files.{certificates}
 use Rattle.file_meaning.specs.FoldFaults.{fold_fault, FoldFault as FileFault}
 use Rattle.file_meaning.specs.LinearFile.{linear_of, row_of}
-use Rattle.file_meaning.proofs.Elements.{elements_length}
+use Rattle.linear_programs.proofs.Elements.{elements_length}
 use Rattle.file_meaning.proofs.Files.{count_lem}
 use Rattle.linear_fold.specs.FoldedFaults.{first_fold_fault, named_fault}
-use Rattle.linear_fold.specs.Programs.{LinearValue, linear_value}
+use Rattle.linear_program.specs.Programs.{LinearValue, linear_value}
 use Rattle.linear_fold.specs.declared.fold_fault.FoldFault.{FoldFault}
 use Rattle.nl_model.specs.File.{File}
 use Rattle.nl_model.specs.Rules.{IsFile}
 use Rattle.nl_segments.specs.Grammar.{NlValue}
-use Rattle.nl_segments.specs.Reader.{IsNl, value_of}
-use Rattle.nl_segments.specs.declared.nl_read.NlRead.{NlRead}
-use Rattle.sol_files.specs.Built.{AreGiven, IsEmptyOrFull}
+use Rattle.sol_files.specs.Built.{IsEmptyOrFull}
 use Rattle.sol_files.specs.Reader.{IsSol}
 use Rattle.sol_files.specs.Sol.{Sol}
-use Rattle.bridge_tool.specs.Answer.{IsWorked, EndsVerdict}
-use Rattle.bridge_tool.specs.Check.{IsCertified, by_fit, by_fold, by_number, by_verdict, check_outcome, check_promise, check_told, most_steps, objective_number, shown, steps_by_fit, steps_by_number, unfit}
-use Rattle.bridge_tool.specs.Outcome.{Outcome, Refused, Done}
-use Rattle.bridge_tool.specs.Promise.{Promise}
-use Rattle.bridge_tool.specs.Refusal.{HasTextRefusal}
+use Rattle.bridge_tool.specs.Check.{IsCertified, by_fit, by_fold, by_number, by_verdict, check_outcome, most_steps, objective_number, shown, steps_by_fit, steps_by_number, unfit}
+use Rattle.bridge_tool.specs.Outcome.{Refused, Done}
 use Rattle.bridge_tool.specs.Sol.{IsSolRefused}
-use Rattle.bridge_tool.specs.SeveralFiles.{Comes, ReadsFile, after_file, ends, itself}
+use Rattle.bridge_tool.specs.SeveralFiles.{Comes}
 use Rattle.bridge_tool.specs.Stages.{Folds, HasFolded}
 use Rattle.bridge_tool.specs.VerdictTold.{fit_line, is_yes, negative_line, verdict_line}
-use Rattle.bridge_tool.proofs.NlRewriting.{nl_read}
 use Rattle.bridge_tool.proofs.OneOutcome.{HasOne, IsPlain}
-use Rattle.bridge_tool.specs.declared.answer.Answer.{Answer}
-use Rattle.bridge_tool.proofs.SeveralFiles.{HasComeDown, IsSound, begun, counted, ended, further, idle, sound_after, sound_end, stopped}
+use Rattle.bridge_tool.proofs.SeveralFiles.{idle, IsLast}
 use Rattle.bridge_tool.proofs.SolRewriting.{sol_read}
 use Rattle.bridge_tool.proofs.RefusalLines.{fit_so, fold_so, negative_told, refused_same, same_so}
 use Rattle.bridge_tool.specs.Told.{IsRefusalLine}
@@ -64,12 +56,6 @@ module _ (nl : NlValue) (s : Sol) where
 
   one : HasOne IsPlain (λ outcome. outcome ≡ check_outcome nl s)
   one = record { outcome = check_outcome nl s; comes_to = refl; is = plain_fit (unfit nl s); one = λ other h. h }
-
-pub check_sound : (nl sol : List ℕ) (texts : Texts) → IsSound (check_told nl sol texts)
-check_sound nl sol texts =
-    sound_after IsNl HasTextRefusal nl_read texts nl _ (λ file.
-    sound_after IsSol (IsSolRefused 2) (sol_read 2) texts sol _ (λ solution.
-    sound_end texts sol (λ outcome. outcome ≡ check_outcome file solution) (λ old new. new ≤ old + most_steps file solution) (IsCertified file solution) (one file solution) (λ n. omega arith)))
 
 -- ---- a solution that fits
 
@@ -181,10 +167,9 @@ module _ (nl : NlValue) (s : Sol) where
   pub most_so : (z : ℤ) (k : ℕ) → unfit nl s ≡ None → z ≡ objective_number s → z ≡ pos k → steps_by_number nl (pos k) ≡ most_steps nl s
   most_so z k fits number is = ap (steps_by_number nl) (sym is ∙ number) ∙ sym (ap (steps_by_fit nl s) fits)
 
-  -- a verdict that is yes means what it should; this command gives verdicts
-  pub meant_so : (r : Result (Bool × Vec ℕ) (Stop (Vec ℕ))) → IsFile nl.file → Comes (λ outcome. outcome ≡ check_outcome nl s) r
-      → IfOk r (λ t. ((t.0 ≡ true) ⊎ IsTrue true) × (t.0 ≡ true → IsCertified nl s))
-  meant_so (Ok t) file h = (inr refl, λ e. certified_by nl s file t.1.items (sym h ∙ ap (λ b. Done b t.1.items) e))
+  -- a verdict that is yes means what it should
+  pub meant_so : (r : Result (Bool × Vec ℕ) (Stop (Vec ℕ))) → IsFile nl.file → Comes (λ outcome. outcome ≡ check_outcome nl s) r → IfOk r (λ t. t.0 ≡ true → IsCertified nl s)
+  meant_so (Ok t) file h = λ e. certified_by nl s file t.1.items (sym h ∙ ap (λ b. Done b t.1.items) e)
   meant_so (Err stop) file h = tt
 
 -- ---- lines
@@ -206,42 +191,13 @@ module _ (nl : NlValue) (s : Sol) where
   pub fitting_lines : (line : List ℕ) → Refused line ≡ check_outcome nl s → IsRefusalLine line
   fitting_lines line e = fit_lines (unfit nl s) line e
 
--- ---- the command at work
+-- ---- the command
 
--- what is left once the file was read
-abbrev after_nl : List ℕ → Texts → NlValue → Promise
-after_nl sol texts file = after_file IsSol (IsSolRefused 2) texts sol (λ solution. ends texts sol (λ outcome. outcome ≡ check_outcome file solution) (λ old new. new ≤ old + most_steps file solution) (IsCertified file solution))
-
-pub idle_check : (nl sol : List ℕ) (texts : Option Texts) (n : ℕ) → (check_promise texts nl sol).counts n n
-idle_check nl sol texts n = idle (check_told nl sol) true (check_sound nl sol) texts n
-
--- the file ends the command
-pub nl_stopped : {R : Type 0} (seen : R → NlValue) (nl sol : List ℕ) (old mid : Meaning) (answer : Answer) → ReadsFile {R = R} seen IsNl HasTextRefusal nl old mid (Err answer) → IsWorked (check_promise old.texts nl sol) old mid answer
-nl_stopped seen nl sol old mid answer read =
-    stopped (check_told nl sol) true (check_sound nl sol) seen IsNl HasTextRefusal nl (after_nl sol) old old mid (begun (check_told nl sol) true old) nl_read answer read
-
-module _ (nl sol : List ℕ) (old before : Meaning) (read : NlRead) (first : ReadsFile value_of IsNl HasTextRefusal nl old before (Ok read)) where
-  down : HasComeDown (check_told nl sol) true (λ texts. after_nl sol texts (value_of read)) old before
-  down = further (check_told nl sol) true value_of IsNl HasTextRefusal nl (after_nl sol) old old before (begun (check_told nl sol) true old) read first
-
-  -- the solution ends the command
-  pub stopped_at_sol : (mid : Meaning) (answer : Answer) → ReadsFile {R = Sol} itself IsSol (IsSolRefused 2) sol before mid (Err answer) → IsWorked (check_promise old.texts nl sol) old mid answer
-  stopped_at_sol mid answer second =
-      stopped (check_told nl sol) true (check_sound nl sol) itself IsSol (IsSolRefused 2) sol
-      (λ texts solution. ends texts sol (λ outcome. outcome ≡ check_outcome (value_of read) solution) (λ old new. new ≤ old + most_steps (value_of read) solution) (IsCertified (value_of read) solution))
-      old before mid down (sol_read 2) answer second
-
-  module _ (mid : Meaning) (solution : Sol) (second : ReadsFile itself IsSol (IsSolRefused 2) sol before mid (Ok solution)) where
-    -- both were judged
-    pub ended_check : (new : Meaning) (judged : Result (Bool × Vec ℕ) (Stop (Vec ℕ))) (answer : Answer) → Comes (λ outcome. outcome ≡ check_outcome (value_of read) solution) judged → IsFile read.file → EndsVerdict judged mid new answer
-        → IsWorked (check_promise old.texts nl sol) old new answer
-    ended_check new judged answer comes file end =
-        ended (check_told nl sol) true (check_sound nl sol) itself IsSol (IsSolRefused 2) sol
-        (λ s outcome. outcome ≡ check_outcome (value_of read) s) (λ s old new. new ≤ old + most_steps (value_of read) s) (λ s. IsCertified (value_of read) s)
-        old before mid down solution second (fitting_lines (value_of read) solution) new judged answer comes (meant_so (value_of read) solution judged file comes) end
-
-    pub counted_check : (m n : ℕ) → n ≤ m + most_steps (value_of read) solution → (check_promise old.texts nl sol).counts m n
-    counted_check m n le =
-        counted (check_told nl sol) true (check_sound nl sol) itself IsSol (IsSolRefused 2) sol
-        (λ s outcome. outcome ≡ check_outcome (value_of read) s) (λ s old new. new ≤ old + most_steps (value_of read) s) (λ s. IsCertified (value_of read) s)
-        old before mid down solution second m n le
+pub check_last : (nl : NlValue) → IsLast true IsSol (IsSolRefused 2) (λ s outcome. outcome ≡ check_outcome nl s) (λ s old new. new ≤ old + most_steps nl s)
+check_last nl = record {
+  read = sol_read 2;
+  one = one nl;
+  idle = λ s n. omega arith;
+  lines = fitting_lines nl;
+  verdict = λ s holds bytes e. inr refl;
+}

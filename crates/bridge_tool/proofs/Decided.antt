@@ -1,5 +1,5 @@
 -- Whether a linear program scales can be decided.
-use Rattle.std.proofs.Common.{◌≡◌, ◌∙◌, inl, inr, ◌⊎◌, ℕ, zero, suc, ◌<◌, ◌≤◌, ◌^◌, pos, Bool, true, false, List, [], ◌∷◌, length, get_or, Option, Some, None, refl, sym, ap, subst, arith}
+use Rattle.std.proofs.Common.{◌≡◌, inl, inr, ◌⊎◌, ℕ, zero, suc, ◌<◌, ◌≤◌, ◌^◌, pos, Bool, true, false, List, [], ◌∷◌, length, Option, Some, None, refl, sym, ap, subst, arith}
 use Rattle.std.specs.Prelude.{All, IsTrue}
 use Rattle.std.proofs.lemmas.Bool.{cases_lt, cases_order}
 use Rattle.std.proofs.lemmas.List.{get_or_past}
@@ -9,7 +9,7 @@ use Rattle.fractions.specs.Rational.{ℚ, neg_ℚ, whole, ◌-ℚ◌, ◌*ℚ◌
 use Rattle.linear_programs.specs.Linear.{Row, Linear, variable_count, no_row, row_at}
 use Rattle.exact_numbers.specs.Values.{FitsDec, fits_dec}
 use Rattle.exact_numbers.proofs.Spelling.{fits_dec_in, fits_dec_out}
-use Rattle.exported_program.specs.Export.{ScaledFits, SideFits, RangeFits, IfSide, IfBoth, RowFits, ExportFits, IsRowTooWide, IsDecimal, ObjectiveFits, IsObjectiveTooWide, factor_of_row, factor_of_objective}
+use Rattle.exported_program.specs.Export.{ScaledFits, SideFits, RangeFits, IfSide, IfBoth, RowFits, ExportFits, IsRowTooWide, IsDecimal, ObjectiveFits, factor_of_row, factor_of_objective}
 use Rattle.exported_program.specs.Factor.{coefficients_below, objective_numbers}
 use Rattle.exported_program.specs.Program.{nonzero, scaled_side}
 use Rattle.exported_program.specs.Return.{is_exported}

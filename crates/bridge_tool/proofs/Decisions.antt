@@ -1,14 +1,6 @@
--- What has to be shown of the texts of a command.
+-- What has to be shown of the texts of a file.
 use Rattle.std.proofs.Common.{◌≡◌, ◌⊎◌, ℕ, List}
 use Rattle.bridge_tool.specs.Told.{IsRefusalLine}
-
--- each text is accepted with one list of bytes, or refused with one line
-pub record AreDecided (accepts refuses : List ℕ → List ℕ → Type 0) : Type 0 where
-  pub accepted : (text a b : List ℕ) → accepts text a → accepts text b → a ≡ b
-  pub refused : (text a b : List ℕ) → refuses text a → refuses text b → a ≡ b
-  pub either : (text : List ℕ) → ((bytes : List ℕ) × accepts text bytes) ⊎ ((line : List ℕ) × refuses text line)
-  pub apart : (text bytes line : List ℕ) → accepts text bytes → refuses text line → ⊥
-  pub lines : (text line : List ℕ) → refuses text line → IsRefusalLine line
 
 -- each text says one value, or is refused with one line
 pub record AreRead {V : Type 0} (reads : List ℕ → V → Type 0) (refuses : List ℕ → List ℕ → Type 0) : Type 0 where

@@ -1,5 +1,5 @@
 -- What is told of a text that is refused names one of its lines.
-use Rattle.std.proofs.Common.{◌≡◌, ◌∙◌, ℕ, ◌+◌, ◌<◌, ◌≤◌, List, ◌++◌, length, refl, ap, arith, inl, inr, append_assoc}
+use Rattle.std.proofs.Common.{◌≡◌, ◌∙◌, ℕ, ◌<◌, ◌≤◌, List, ◌++◌, length, refl, ap, arith, inl, inr, append_assoc}
 use Rattle.std.specs.Prelude.{IsSomeAnd, Some, None, Option, codes}
 use Rattle.texts.specs.Judged.{Rules}
 use Rattle.texts.specs.Reading.{HasFault, last_of, lines_of}
@@ -34,16 +34,16 @@ use Rattle.bridge_tool.specs.NamesTold.{name_reason_text}
 use Rattle.bridge_tool.specs.NlTold.{HasFaultLine, HasLineUpTo, fold_line, opcode_text, placed_line, reason_text, scale_line}
 use Rattle.bridge_tool.specs.ProofTold.{proof_reason_text}
 use Rattle.bridge_tool.specs.Prove.{IsProofRefused}
-use Rattle.bridge_tool.specs.Refusal.{HasTextRefusal, IsRefused}
+use Rattle.bridge_tool.specs.Refusal.{HasTextRefusal}
 use Rattle.bridge_tool.specs.Return.{IsAnswerRefused}
 use Rattle.bridge_tool.specs.Sol.{IsSolRefused}
 use Rattle.bridge_tool.specs.SolTold.{sol_reason_text}
-use Rattle.bridge_tool.specs.Stages.{HasFoldFault}
 use Rattle.bridge_tool.specs.Told.{refusal, refused_at}
 use Rattle.bridge_tool.specs.ToldLines.{TellsLine, TellsPlace}
 use Rattle.bridge_tool.specs.Verify.{IsCertificateRefused}
 use Rattle.bridge_tool.proofs.FoldPlaces.{fold_placed}
 use Rattle.bridge_tool.proofs.SolLines.{sol_fault_line}
+use Rattle.bridge_tool.specs.Stages.{IsUnstaged}
 
 pub fault_lines : (text : List ℕ) (value : NlValue) (fault : FoldFault) → IsNl text value → HasFaultPlace value.file fault → HasFaultLine (length (lines_of text)) value.places fault
 fault_lines text value (NoSuchObjective k) read place = tt
@@ -109,10 +109,6 @@ scale_told : (text told : List ℕ) (k : ℕ) (fault : ScaleFault) → told ≡ 
 scale_told text told k (RowTooWide i) e = inr (inl (record { number = i; why = codes "row too wide"; same = e }))
 scale_told text told k ObjectiveTooWide e = inr (inr (record { number = k; why = codes "objective too wide"; same = e }))
 
-pub fold_told : (text : List ℕ) (value : NlValue) (k : ℕ) (told : List ℕ) → IsNl text value → HasFoldFault value k told → TellsPlace text told
-fold_told text value k told read f = placed_fold text told value.places f.fault (fault_lines text value f.fault read (fold_placed value.file k f.fault f.first)) f.told
-
-pub export_told : (text : List ℕ) (k : ℕ) (told : List ℕ) → IsRefused text k told → TellsPlace text told
-export_told text k told (inl r) = inl (text_told text told r)
-export_told text k told (inr (inl r)) = fold_told text r.value k told r.read r.fold
-export_told text k told (inr (inr r)) = scale_told text told k r.scale.first.fault r.scale.first.told
+pub export_told : (text : List ℕ) (nl : NlValue) (k : ℕ) (told : List ℕ) → IsNl text nl → IsUnstaged nl k told → TellsPlace text told
+export_told text nl k told read (inl f) = placed_fold text told nl.places f.fault (fault_lines text nl f.fault read (fold_placed nl.file k f.fault f.first)) f.told
+export_told text nl k told read (inr h) = scale_told text told k h.first.fault h.first.told

@@ -1,21 +1,21 @@
 -- The first fault of folding a file stands at a place of the file.
-use Rattle.std.proofs.Common.{◌≡◌, ◌∙◌, ℕ, zero, suc, ◌+◌, ◌≤◌, Bool, true, false, not, ◌||◌, ◌==◌, IsTrue, List, [], ◌∷◌, ◌++◌, length, refl, sym, ap, subst, subst₂, arith, Option, Some, None, is_some, nat_lt, pos, option_map, if◌then◌else◌}
+use Rattle.std.proofs.Common.{◌≡◌, ℕ, zero, suc, ◌+◌, ◌≤◌, Bool, true, false, not, ◌||◌, ◌==◌, IsTrue, List, [], ◌∷◌, ◌++◌, length, refl, sym, subst, subst₂, arith, Option, Some, None, is_some, nat_lt, pos, option_map, if◌then◌else◌}
 use Rattle.std.specs.Option.{option_or}
 use Rattle.std.proofs.lemmas.Bool.{ltb-false, ltb-true}
 use Rattle.fractions.specs.Rational.{decimal_value}
 use Rattle.nl_meaning.specs.declared.Fault.{Fault}
-use Rattle.nl_meaning.specs.Faults.{constant_line, expression_fault}
-use Rattle.nl_meaning.specs.Lines.{line_by}
+use Rattle.linear_programs.specs.Lines.{constant_line, line_by}
+use Rattle.nl_meaning.specs.Faults.{expression_fault}
 use Rattle.nl_meaning.specs.Trees.{Expression, Tree, expression_value}
 use Rattle.nl_meaning.proofs.Linear.{terms_added}
-use Rattle.nl_meaning.proofs.LineLemmas.{same_coef}
+use Rattle.linear_programs.proofs.LineLemmas.{same_coef}
 use Rattle.nl_model.specs.declared.at.Owner.{Owner}
 use Rattle.nl_model.specs.declared.at.Owner.TheVariants.{Con, Def, Obj}
 use Rattle.nl_model.specs.File.{File, Term}
 use Rattle.nl_model.specs.FilePlaces.{terms_at, tree_at}
 use Rattle.file_meaning.specs.Expressions.{linear_terms, tree_or_zero, zero_tree}
 use Rattle.file_meaning.specs.FoldFaults.{FoldFault as FileFault, Owner as FoldOwner, Owned, at_owner, at_place, coefficient_count, fold_fault, fold_too_large, has_objective, head_fault, most_coefficients, no_such_objective, owned_line, owner_fault, owners_fault, owners_of}
-use Rattle.file_meaning.specs.LinearFile.{elements_from}
+use Rattle.linear_programs.specs.Elements.{elements_from}
 use Rattle.linear_fold.specs.declared.fold_fault.FoldFault.{FoldFault}
 use Rattle.linear_fold.specs.FoldedFaults.{HasFaultPlace, fault_for, first_fold_fault, named_fault, place_at}
 use Rattle.linear_fold.specs.OwnerFolds.{definitions_before, expression_at, fold_owner_of, known_by, owned_at}

@@ -15,7 +15,6 @@ pub mod MpsRewriting
 pub mod NameLists
 pub mod NamedExporting
 pub mod NamedProgram
-pub mod NamedReturning
 pub mod NlRewriting
 pub mod Numbers
 pub mod OneOutcome
@@ -27,6 +26,7 @@ pub mod Returning
 pub mod SeveralFiles
 pub mod SolLines
 pub mod SolRewriting
+pub mod Staging
 pub mod Summing
 pub mod Verifying
 pub mod Working

@@ -1,11 +1,10 @@
 -- The program of a file means what the file means.
-use Rattle.std.proofs.Common.{◌≡◌, ◌∙◌, ℕ, ◌<◌, List, [], ◌∷◌, ◌++◌, length, Some, None, sym, ap, subst}
+use Rattle.std.proofs.Common.{◌≡◌, ◌∙◌, ℕ, ◌<◌, List, Some, None, sym, ap, subst}
 use Rattle.fractions.specs.Rational.{ℚ}
 use Rattle.linear_programs.specs.Linear.{variable_count, objective_value as program_objective}
-use Rattle.exact_numbers.specs.Values.{value_text}
 use Rattle.export_round_trip.specs.ReadAs.{IsReadAs}
-use Rattle.export_round_trip.proofs.Reading.{read_back}
-use Rattle.exported_program.specs.Export.{IsProgramOf, factor_of_row, factor_of_objective}
+use Rattle.export_round_trip.proofs.ReadBack.{exported_back}
+use Rattle.exported_program.specs.Export.{factor_of_row, factor_of_objective}
 use Rattle.exported_program.specs.Factor.{row_numbers, objective_numbers}
 use Rattle.exported_program.specs.Program.{program, tied_program}
 use Rattle.exported_program.specs.Return.{row_at}
@@ -13,20 +12,17 @@ use Rattle.exported_program.proofs.Export.{same_points, same_objective, same_sen
 use Rattle.exported_program.proofs.Factor.{factor_above}
 use Rattle.file_meaning.specs.FoldFaults.{fold_fault}
 use Rattle.file_meaning.specs.LinearFile.{linear_of, HasLines, IsFormedFile}
-use Rattle.file_meaning.specs.Meaning.{objective_value}
 use Rattle.file_meaning.proofs.Files.{count_lem, same_feasible, same_objective as same_value, same_sense as sense_of, linear_lem}
 use Rattle.file_meaning.proofs.Folding.{clean_has_lines}
 use Rattle.file_meaning.proofs.Formed.{file_formed}
 use Rattle.mps_model.specs.Mps.{Mps}
-use Rattle.mps_model.specs.Text.{mps_text_by}
 use Rattle.nl_model.specs.File.{File}
 use Rattle.nl_model.specs.Rules.{IsFile}
 use Rattle.nl_segments.specs.Grammar.{NlValue}
-use Rattle.nl_segments.specs.Reader.{IsNl}
 use Rattle.scaling.specs.Scaling.{IsExportOf}
-use Rattle.bridge_tool.specs.Export.{IsExported, IsExportMeant, IsSameProgram, IsTextOf, IsTiedProgram, MeansTheFile}
-use Rattle.bridge_tool.proofs.Decided.{decimal_decided}
-use Rattle.bridge_tool.proofs.Exporting.{by_decimal, same_file}
+use Rattle.nl_segments.specs.Reader.{IsNl}
+use Rattle.nl_rewritten.proofs.Rewriting.{writable}
+use Rattle.bridge_tool.specs.Export.{IsExported, IsExportMeant, IsSameProgram, IsTiedProgram, MeansTheFile}
 
 row_factors : (f : File) (k i : ℕ) → 0 < factor_of_row (linear_of f k) i
 row_factors f k i = factor_above (row_numbers (variable_count (linear_of f k)) (row_at (linear_of f k) i))
@@ -75,25 +71,19 @@ file_program f k m file folded exports =
     let formed = file_formed f file k in
     means f k m formed (clean_has_lines f k formed folded) exports
 
+-- a text says a file
+pub text_file : (text : List ℕ) (value : NlValue) → IsNl text value → IsFile value.file
+text_file text value read = (writable text value read).file
+
 -- what is exported means the same as its file
-pub exports_mean : (text : List ℕ) (k : ℕ) (bytes : List ℕ) (e : IsExported text k bytes) → IsFile e.value.file → MeansTheFile e.value.file k e.program
-exports_mean text k bytes e file = file_program e.value.file k e.program file e.folded e.exports
+pub exports_mean : (nl : NlValue) (k : ℕ) (bytes : List ℕ) (e : IsExported nl k bytes) → IsFile nl.file → MeansTheFile nl.file k e.program
+exports_mean nl k bytes e file = file_program nl.file k e.program file e.staged.folded e.exports
 
--- ---- reading back
+pub export_meant : (nl : NlValue) (k : ℕ) → IsFile nl.file → IsExportMeant nl k
+export_meant nl k file = λ bytes e. exports_mean nl k bytes e file
 
-back : (f : File) (k : ℕ) (bytes : List ℕ) (m : Mps ℚ) → IsFile f → IsExportOf (linear_of f k) m → IsTextOf bytes m → IsReadAs bytes m
-back f k bytes m file exports t =
-    let is : IsProgramOf (linear_of f k) t.decimal = record { plain = λ d. t.values ∙ exports.plain d; tied = λ n. t.values ∙ exports.tied n } in
-    let read : IsReadAs (mps_text_by value_text m) m = subst (λ (p : Mps ℚ). IsReadAs (mps_text_by value_text p) p) t.values (read_back f k t.decimal file is t.valid) in
-    subst (λ (b : List ℕ). IsReadAs b m) (sym t.text) read
-
--- what was read, folded, scaled and written means what it should
-pub export_meant : (text : List ℕ) (k : ℕ) (value : NlValue) (m : Mps ℚ) (out : List ℕ) → IsFile value.file → IsExportOf (linear_of value.file k) m → IsTextOf out m → IsNl text value → IsExportMeant text k
-export_meant text k value m out file exports written read = record {
-  file = λ bytes e. exports_mean text k bytes e (subst IsFile (same_file text value e.value read e.read) file);
-  back = λ bytes e.
-      let other : IsExportOf (linear_of e.value.file k) m = subst (λ (f : File). IsExportOf (linear_of f k) m) (same_file text value e.value read e.read) exports in
-      let same : m ≡ e.program = by_decimal (linear_of e.value.file k) m e.program other e.exports (decimal_decided (linear_of e.value.file k)) in
-      let is : out ≡ bytes = written.text ∙ ap (mps_text_by value_text) same ∙ sym e.written in
-      subst (λ (p : Mps ℚ). IsReadAs bytes p) same (subst (λ (b : List ℕ). IsReadAs b m) is (back value.file k out m file exports written));
-}
+-- and is read as the program
+pub exports_back : (text : List ℕ) (nl : NlValue) → IsNl text nl → (k : ℕ) (bytes : List ℕ) (e : IsExported nl k bytes) → IsReadAs bytes e.program
+exports_back text nl said k bytes e =
+    let read = exported_back nl.file k (text_file text nl said) e.staged.folded e.staged.scaled.rows e.program e.staged.scaled.objective e.exports.plain e.exports.tied in
+    subst (λ (b : List ℕ). IsReadAs b e.program) (sym e.written) read

@@ -2,7 +2,7 @@
 use Rattle.std.proofs.Common.{◌≡◌, ◌∙◌, inl, inr, ◌⊎◌, ℕ, ◌+◌, ◌==◌, ◌≤◌, Bool, true, false, ◌||◌, List, codes, length, Option, Some, None, Result, Ok, Err, refl, sym, ap, ap₂, arith, eqb-true, length-take-le, take_all}
 use Rattle.std.specs.Prelude.{IfOk, if◌then◌else◌}
 use Rattle.std.proofs.lemmas.List.{drop_all}
-use Rattle.desk.specs.Desk.{Meaning}
+use Rattle.desk.specs.Desk.{Meaning, Texts}
 use Rattle.texts.specs.Judged.{End, HasOneOutcome, IsClean, Last, Rules, last_reason, reason_at}
 use Rattle.texts.specs.Reading.{last_by, last_of, lines_of}
 use Rattle.texts.specs.Lines.{scan}
@@ -13,13 +13,16 @@ use Rattle.name_files.specs.declared.fault.NameReason.{NameReason}
 use Rattle.name_files.specs.declared.fault.NameReason.TheVariants.{OtherCount}
 use Rattle.nl_model.specs.File.{File}
 use Rattle.nl_model.specs.declared.header_counts.Counts.{Counts as FileCounts}
-use Rattle.bridge_tool.specs.NameLists.{AreListed, IsListRefused, column_counts, row_counts}
+use Rattle.bridge_tool.specs.NameLists.{AreListed, IsListRefused, column_counts, row_counts, after_lists}
 use Rattle.bridge_tool.specs.NamesTold.{name_line, name_reason_text}
-use Rattle.bridge_tool.specs.SeveralFiles.{ReadsFile, itself}
+use Rattle.bridge_tool.specs.SeveralFiles.{ReadsFile, itself, after_file, desk_promise}
 use Rattle.bridge_tool.specs.Told.{refusal}
 use Rattle.bridge_tool.specs.declared.answer.Answer.{Answer}
 use Rattle.bridge_tool.proofs.Decisions.{AreRead}
 use Rattle.bridge_tool.proofs.RefusalLines.{refusal_so, same_so}
+use Rattle.bridge_tool.proofs.SeveralFiles.{HasComeDown, IsSound, further, sound_after, stopped}
+use Rattle.bridge_tool.specs.Answer.{IsWorked}
+use Rattle.bridge_tool.specs.Promise.{Promise}
 
 outcome_of : (counts : Counts) (text : List ℕ) → HasOneOutcome (name_rules counts) (lines_of text) (last_of text)
 outcome_of counts text = one_outcome (name_rules counts) (lines_of text) (last_of text)
@@ -84,3 +87,31 @@ rows_of f counts same = ap (λ (c : FileCounts). record { used = c.n_con; furthe
 
 pub columns_of : (f : File) (counts : FileCounts) → counts ≡ f.counts → column_counts f ≡ record { used = counts.n_var; further = 0 }
 columns_of f counts same = ap (λ (c : FileCounts). record { used = c.n_var; further = 0 }) (sym same)
+
+-- ---- a command that reads both lists
+
+module _ (judges : Bool) (told : Texts → Promise) (s : (texts : Texts) → IsSound (told texts)) (f : File) (number : ℕ) (rows columns : List ℕ) (next : Texts → List (List ℕ) → List (List ℕ) → Promise) (old mid : Meaning)
+    (down : HasComeDown told judges (λ texts. after_lists f number texts rows columns (next texts)) old mid) where
+  abbrev after_rows : Texts → List (List ℕ) → Promise
+  after_rows texts r = after_file (AreListed (column_counts f)) (IsListRefused (column_counts f) (number + 1)) texts columns (next texts r)
+
+  -- the list of rows ends it
+  pub rows_stopped : (new : Meaning) (answer : Answer) → ReadsFile {R = List (List ℕ)} itself (AreListed (row_counts f)) (IsListRefused (row_counts f) number) rows mid new (Err answer) → IsWorked (desk_promise judges told old.texts) old new answer
+  rows_stopped new answer read = stopped told judges s itself (AreListed (row_counts f)) (IsListRefused (row_counts f) number) rows after_rows old mid new down (list_read (row_counts f) number) answer read
+
+  module _ (after : Meaning) (r : List (List ℕ)) (read : ReadsFile {R = List (List ℕ)} itself (AreListed (row_counts f)) (IsListRefused (row_counts f) number) rows mid after (Ok r)) where
+    pub rows_down : HasComeDown told judges (λ texts. after_rows texts r) old after
+    rows_down = further told judges itself (AreListed (row_counts f)) (IsListRefused (row_counts f) number) rows after_rows old mid after down r read
+
+    -- the list of columns ends it
+    pub columns_stopped : (new : Meaning) (answer : Answer) → ReadsFile {R = List (List ℕ)} itself (AreListed (column_counts f)) (IsListRefused (column_counts f) (number + 1)) columns after new (Err answer) → IsWorked (desk_promise judges told old.texts) old new answer
+    columns_stopped new answer other =
+        stopped told judges s itself (AreListed (column_counts f)) (IsListRefused (column_counts f) (number + 1)) columns (λ texts c. next texts r c) old after new rows_down (list_read (column_counts f) (number + 1)) answer other
+
+    pub columns_down : (new : Meaning) (c : List (List ℕ)) → ReadsFile {R = List (List ℕ)} itself (AreListed (column_counts f)) (IsListRefused (column_counts f) (number + 1)) columns after new (Ok c) → HasComeDown told judges (λ texts. next texts r c) old new
+    columns_down new c other = further told judges itself (AreListed (column_counts f)) (IsListRefused (column_counts f) (number + 1)) columns (λ texts c. next texts r c) old after new rows_down c other
+
+pub lists_sound : (f : File) (number : ℕ) (texts : Texts) (rows columns : List ℕ) (next : List (List ℕ) → List (List ℕ) → Promise) → ((r c : List (List ℕ)) → IsSound (next r c)) → IsSound (after_lists f number texts rows columns next)
+lists_sound f number texts rows columns next each =
+    sound_after (AreListed (row_counts f)) (IsListRefused (row_counts f) number) (list_read (row_counts f) number) texts rows _ (λ r.
+    sound_after (AreListed (column_counts f)) (IsListRefused (column_counts f) (number + 1)) (list_read (column_counts f) (number + 1)) texts columns (next r) (each r))

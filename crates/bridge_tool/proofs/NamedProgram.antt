@@ -3,31 +3,43 @@ use Rattle.std.proofs.Common.{◌≡◌, ◌∙◌, inl, inr, ◌⊎◌, ℕ, �
 use Rattle.fractions.specs.Rational.{ℚ}
 use Rattle.linear_programs.specs.Linear.{Linear, Row, Variable}
 use Rattle.linear_programs.specs.Names.{row_name, variable_name}
+use Rattle.texts.specs.Reading.{last_of, lines_of}
 use Rattle.exact_numbers.specs.declared.dec.Dec.{Dec}
 use Rattle.exact_numbers.specs.Values.{dec_value, value_text}
 use Rattle.export_round_trip.specs.ReadAs.{IsReadAs}
 use Rattle.exported_program.specs.Export.{IsDecimal, factor_of_row, factor_of_objective}
-use Rattle.file_meaning.specs.LinearFile.{elements_from, linear_of, row_of, variable_of}
-use Rattle.file_meaning.proofs.Elements.{all_elements, elements_length}
+use Rattle.linear_programs.specs.Elements.{elements_from}
+use Rattle.file_meaning.specs.LinearFile.{linear_of, row_of, variable_of}
+use Rattle.linear_programs.proofs.Elements.{all_elements, elements_length}
 use Rattle.mps_model.specs.Mps.{Column, Mps, column_with, with_values}
 use Rattle.mps_model.specs.Text.{mps_text_by}
 use Rattle.mps_model.specs.Valid.{IsMps}
 use Rattle.mps_reader.specs.Reader.{IsMpsText}
 use Rattle.mps_reader.specs.Written.{mps_text}
 use Rattle.mps_reader.proofs.RoundTrip.{written_again}
+use Rattle.name_files.specs.Names.{AreNames}
 use Rattle.name_files.specs.Renamed.{HasExportedNames, HaveOneMeaning, IsExportedName, IsNamedLinear, IsNumbered, named, new_name}
 use Rattle.name_files.proofs.ExportedNames.{plain_names, tied_names}
+use Rattle.name_files.proofs.ListedNames.{listed_names}
 use Rattle.name_files.proofs.MeaningLemmas.{same_meaning, valued}
+use Rattle.name_files.proofs.ValidLemmas.{program_named}
 use Rattle.nl_model.specs.File.{File}
 use Rattle.nl_model.specs.Rules.{IsFile}
 use Rattle.nl_model.proofs.Headers.{counts_of_header}
+use Rattle.nl_segments.specs.Reader.{IsNl}
 use Rattle.scaling.specs.Scaling.{IsExportOf}
 use Rattle.bridge_tool.specs.Export.{IsSameProgram, IsTiedProgram, MeansTheFile}
-use Rattle.bridge_tool.specs.NamedExport.{AreNamedMeant, IsNamedTextOf, Named}
+use Rattle.bridge_tool.specs.InsideExport.{IsNamedTextOf}
+use Rattle.bridge_tool.specs.NameLists.{AreListed, column_counts, row_counts}
+use Rattle.bridge_tool.specs.NamedExport.{AreNamedMeant, IsNamedExport, Named}
 use Rattle.bridge_tool.proofs.Decided.{decimal_decided}
-use Rattle.bridge_tool.proofs.Exporting.{by_decimal}
-use Rattle.bridge_tool.proofs.Meaning.{file_program}
+use Rattle.bridge_tool.proofs.Meaning.{file_program, text_file}
+use Rattle.bridge_tool.proofs.NameLists.{listed_count}
+use Rattle.export_round_trip.proofs.Fitting.{picked}
+use Rattle.export_round_trip.proofs.Picked.{values_back, whole_picked}
+use Rattle.export_round_trip.proofs.ReadBack.{program_whole}
 use Rattle.export_round_trip.proofs.Reading.{text_of_values}
+use Rattle.bridge_tool.proofs.Staging.{one_program}
 
 -- ---- names of a file's program
 
@@ -145,13 +157,29 @@ pub named_meant : (n : Named) (p : Mps ℚ) (out : List ℕ) → IsFile n.nl.fil
 named_meant n p out file exports t = λ bytes e.
     let f = n.nl.file in
     let k = n.objective in
-    let same : p ≡ e.program = by_decimal (linear_of f k) p e.program exports e.exports (decimal_decided (linear_of f k)) in
+    let same : p ≡ e.program = one_program (linear_of f k) p e.program exports e.exports in
     let own : IsNamedTextOf out e.program n.rows n.columns = subst (λ (q : Mps ℚ). IsNamedTextOf out q n.rows n.columns) same t in
-    let read : length bytes ≤ 2 ^ 31 → IsReadAs bytes (named e.program n.rows n.columns) =
-    subst (λ (b : List ℕ). length b ≤ 2 ^ 31 → IsReadAs b (named e.program n.rows n.columns)) (own.text ∙ sym e.written) (named_back out e.program n.rows n.columns own) in
     let meaning = one_meaning out e.program n.rows n.columns own in
     record {
-      file = carried f k (named e.program n.rows n.columns) e.program meaning (file_program f k e.program file e.folded e.exports);
+      file = carried f k (named e.program n.rows n.columns) e.program meaning (file_program f k e.program file e.staged.folded e.exports);
       same = meaning;
-      back = read;
     }
+
+-- what is exported with listed names is read as the program with these names
+pub named_export_back : (text rows columns : List ℕ) (n : Named) → IsNl text n.nl → AreListed (row_counts n.nl.file) rows n.rows → AreListed (column_counts n.nl.file) columns n.columns
+    → (bytes : List ℕ) (e : IsNamedExport n bytes) → length bytes ≤ 2 ^ 31 → IsReadAs bytes (named e.program n.rows n.columns)
+named_export_back text rows columns n read of_rows of_columns bytes e fits =
+    let f = n.nl.file in
+    let k = n.objective in
+    let p = e.program in
+    let file = text_file text n.nl read in
+    let counts = counts_of_header f.options f.counts file.ruled in
+    let whole = program_whole f k file e.staged.folded e.staged.scaled.rows p e.staged.scaled.objective e.exports.plain e.exports.tied in
+    let m : Mps Dec = with_values picked p in
+    let values : with_values dec_value m ≡ p = values_back p whole.decimal in
+    let row_names : AreNames n.rows = subst AreNames (sym of_rows.said) (listed_names (row_counts f) (lines_of rows) (last_of rows) (omega (arith, counts.constraints)) of_rows.clean) in
+    let column_names : AreNames n.columns = subst AreNames (sym of_columns.said) (listed_names (column_counts f) (lines_of columns) (last_of columns) (omega (arith, counts.variables)) of_columns.clean) in
+    let exported = export_named f k p (length n.rows) (length n.columns) file e.exports (listed_count (row_counts f) rows n.rows of_rows) (listed_count (column_counts f) columns n.columns of_columns) in
+    let own = decimal_names (length n.rows) (length n.columns) m (subst (HasExportedNames (length n.rows) (length n.columns)) (sym values) exported) in
+    let valid = program_named m n.rows n.columns row_names column_names own (whole_picked p whole.valid whole.decimal) in
+    named_back bytes p n.rows n.columns (record { decimal = m; valid = valid; values = values; text = e.written }) fits

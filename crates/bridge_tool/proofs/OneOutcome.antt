@@ -1,10 +1,6 @@
 -- Exactly one outcome.
-use Rattle.std.proofs.Common.{◌≡◌, inl, inr, ℕ, List, take, Option, Some, None, true, false, refl, ap}
-use Rattle.desk.specs.Desk.{Texts}
-use Rattle.bridge_tool.specs.OneFile.{TextComesTo, FileComesTo, DeskComesTo}
-use Rattle.bridge_tool.specs.Outcome.{Outcome, BadWords, Untold, NoText, Refused, Done}
-use Rattle.bridge_tool.specs.declared.transfer.TheConstants.{LIMIT}
-use Rattle.bridge_tool.proofs.Decisions.{AreDecided}
+use Rattle.std.proofs.Common.{◌≡◌, inl, inr, ◌⊎◌, List, ℕ, Bool, true, false, refl, ap}
+use Rattle.bridge_tool.specs.Outcome.{Outcome, BadWords, DoneOrRefused, Untold, NoText, Refused, Done}
 
 -- an outcome of a command whose texts are told
 abbrev pub IsPlain : Outcome → Type 0
@@ -21,32 +17,44 @@ pub record HasOne (kind comes : Outcome → Type 0) : Type 0 where
   pub is : kind outcome
   pub one : (other : Outcome) → comes other → other ≡ outcome
 
-module _ (accepts refuses : List ℕ → List ℕ → Type 0) (d : AreDecided accepts refuses) where
-  one_accepted : (text bytes : List ℕ) → accepts text bytes → (other : Outcome) → TextComesTo accepts refuses text other → other ≡ Done true bytes
-  one_accepted text bytes h BadWords j = absurd j
-  one_accepted text bytes h (Untold judges) j = absurd j
-  one_accepted text bytes h NoText j = absurd j
-  one_accepted text bytes h (Refused line) j = absurd (d.apart text bytes line h j)
-  one_accepted text bytes h (Done true other) j = ap (Done true) (d.accepted text other bytes j h)
-  one_accepted text bytes h (Done false other) j = absurd j
+-- that of an equation
+pub same_one : (x : Outcome) → IsPlain x → HasOne IsPlain (λ outcome. outcome ≡ x)
+same_one x is = record { outcome = x; comes_to = refl; is = is; one = λ other h. h }
 
-  one_refused : (text line : List ℕ) → refuses text line → (other : Outcome) → TextComesTo accepts refuses text other → other ≡ Refused line
-  one_refused text line h BadWords j = absurd j
-  one_refused text line h (Untold judges) j = absurd j
-  one_refused text line h NoText j = absurd j
-  one_refused text line h (Refused other) j = ap Refused (d.refused text other line j h)
-  one_refused text line h (Done true other) j = absurd (d.apart text other line j h)
-  one_refused text line h (Done false other) j = absurd j
+-- bytes are accepted, or a line is refused: one of them, and not both
+pub record IsEither (accepts refuses : List ℕ → Type 0) : Type 0 where
+  pub accepted : (a b : List ℕ) → accepts a → accepts b → a ≡ b
+  pub refused : (a b : List ℕ) → refuses a → refuses b → a ≡ b
+  pub either : ((bytes : List ℕ) × accepts bytes) ⊎ ((line : List ℕ) × refuses line)
+  pub apart : (bytes line : List ℕ) → accepts bytes → refuses line → ⊥
 
-  pub text_has_one : (text : List ℕ) → HasOne IsPlain (TextComesTo accepts refuses text)
-  text_has_one text = elim (d.either text) [
-    | inl h ↦ record { outcome = Done true h.0; comes_to = h.1; is = tt; one = one_accepted text h.0 h.1 }
-    | inr h ↦ record { outcome = Refused h.0; comes_to = h.1; is = tt; one = one_refused text h.0 h.1 }
+module _ (accepts refuses : List ℕ → Type 0) (d : IsEither accepts refuses) where
+  one_accepted : (bytes : List ℕ) → accepts bytes → (other : Outcome) → DoneOrRefused accepts refuses other → other ≡ Done true bytes
+  one_accepted bytes h BadWords j = absurd j
+  one_accepted bytes h (Untold judges) j = absurd j
+  one_accepted bytes h NoText j = absurd j
+  one_accepted bytes h (Refused line) j = absurd (d.apart bytes line h j)
+  one_accepted bytes h (Done true other) j = ap (Done true) (d.accepted other bytes j h)
+  one_accepted bytes h (Done false other) j = absurd j
+
+  one_refused : (line : List ℕ) → refuses line → (other : Outcome) → DoneOrRefused accepts refuses other → other ≡ Refused line
+  one_refused line h BadWords j = absurd j
+  one_refused line h (Untold judges) j = absurd j
+  one_refused line h NoText j = absurd j
+  one_refused line h (Refused other) j = ap Refused (d.refused other line j h)
+  one_refused line h (Done true other) j = absurd (d.apart other line j h)
+  one_refused line h (Done false other) j = absurd j
+
+  pub one_of_both : HasOne IsPlain (DoneOrRefused accepts refuses)
+  one_of_both = elim d.either [
+    | inl h ↦ record { outcome = Done true h.0; comes_to = h.1; is = tt; one = one_accepted h.0 h.1 }
+    | inr h ↦ record { outcome = Refused h.0; comes_to = h.1; is = tt; one = one_refused h.0 h.1 }
   ]
 
-  file_has_one : (text : Option (List ℕ)) → HasOne IsPlain (FileComesTo (TextComesTo accepts refuses) text)
-  file_has_one None = record { outcome = NoText; comes_to = refl; is = tt; one = λ other j. j }
-  file_has_one (Some text) = text_has_one (take LIMIT text)
+-- what is done is a yes
+pub done_so : (accepts refuses : List ℕ → Type 0) (holds : Bool) (bytes : List ℕ) → DoneOrRefused accepts refuses (Done holds bytes) → holds ≡ true
+done_so accepts refuses true bytes h = refl
+done_so accepts refuses false bytes h = absurd h
 
-  pub desk_has_one : (texts : Texts) (file : List ℕ) → HasOne IsPlain (DeskComesTo (TextComesTo accepts refuses) (Some texts) file)
-  desk_has_one texts file = file_has_one (texts file)
+pub written_so : (holds : Bool) (a b : List ℕ) → Done holds a ≡ Done true b → holds ≡ true
+written_so holds a b e = cc

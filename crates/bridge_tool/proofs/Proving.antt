@@ -1,21 +1,17 @@
 -- What a proof text shows of an .nl text: one outcome, and what a yes means.
-use Rattle.std.proofs.Common.{◌≡◌, ◌∙◌, inl, inr, ◌⊎◌, ℕ, ◌+◌, ◌≤◌, Bool, true, false, List, Option, Some, None, is_none, Result, Ok, Err, refl, sym, ap, ap₂, subst, arith, codes}
-use Rattle.std.specs.Prelude.{option_map, IfOk, IsTrue}
+use Rattle.std.proofs.Common.{◌≡◌, ◌∙◌, inl, inr, ℕ, ◌+◌, ◌≤◌, Bool, true, List, Option, Some, None, is_none, Err, refl, sym, ap, ap₂, subst, arith, codes}
+use Rattle.std.specs.Prelude.{option_map}
 use Rattle.std.specs.Global.{Vec}
 use Rattle.linear_programs.specs.Linear.{Linear, row_count}
-use Rattle.duality.specs.Branch.{LeafFault, proof_fault}
-use Rattle.desk.specs.Desk.{Meaning, Texts}
+use Rattle.duality.specs.Branch.{proof_fault}
 use Rattle.texts.specs.declared.stop.Stop.{Stop}
 use Rattle.texts.specs.declared.stop.Stop.TheVariants.{Fault, Memory}
-use Rattle.file_meaning.specs.FoldFaults.{fold_fault, has_objective}
 use Rattle.file_meaning.specs.LinearFile.{linear_of}
-use Rattle.linear_fold.specs.FoldedFaults.{first_fold_fault, named_fault, step_bound}
-use Rattle.linear_fold.specs.Programs.{LinearValue, linear_value}
+use Rattle.linear_fold.specs.FoldedFaults.{first_fold_fault, named_fault}
+use Rattle.linear_program.specs.Programs.{LinearValue, linear_value}
 use Rattle.linear_fold.specs.declared.fold_fault.FoldFault.{FoldFault}
-use Rattle.nl_model.specs.File.{File}
 use Rattle.nl_model.specs.Rules.{IsFile}
 use Rattle.nl_segments.specs.Grammar.{NlValue}
-use Rattle.nl_segments.specs.Reader.{IsNl}
 use Rattle.branch_proof.specs.declared.leaf.ProofVerdict.{ProofVerdict}
 use Rattle.branch_proof.specs.declared.leaf.ProofVerdict.TheVariants.{Yes, RowSide, BoundSide, TooWide, Gap}
 use Rattle.branch_proof.specs.Files.{IsProofIn}
@@ -27,19 +23,14 @@ use Rattle.branch_proof.proofs.TreeReading.{tree_back}
 use Rattle.proof_text.specs.Reader.{IsProofText}
 use Rattle.proof_text.specs.Setting.{Setting, setting_of}
 use Rattle.proof_text.proofs.ReadingLemmas.{one_reading}
-use Rattle.bridge_tool.specs.Answer.{EndsVerdict, IsWorked}
-use Rattle.bridge_tool.specs.Outcome.{Outcome, Refused, Done}
-use Rattle.bridge_tool.specs.Promise.{Promise}
+use Rattle.bridge_tool.specs.Outcome.{Refused, Done}
 use Rattle.bridge_tool.specs.ProofTold.{leaf_line, proof_line, proof_reason_text}
-use Rattle.bridge_tool.specs.Prove.{IsProofRefused, IsProvedOf, by_fold, by_leaf, claimed_objective, most_steps, open_leaf, prove_outcome, prove_promise, prove_told}
-use Rattle.bridge_tool.specs.Refusal.{HasTextRefusal}
-use Rattle.bridge_tool.specs.SeveralFiles.{Comes, ReadsFile, after_file, ends, itself}
-use Rattle.bridge_tool.specs.Stages.{Folds, HasFolded}
-use Rattle.bridge_tool.specs.declared.answer.Answer.{Answer}
+use Rattle.bridge_tool.specs.Prove.{IsProofRefused, IsProvedOf, by_fold, by_leaf, claimed_objective, open_leaf, prove_outcome}
+use Rattle.bridge_tool.specs.SeveralFiles.{Comes}
+use Rattle.bridge_tool.specs.Stages.{Folds, HasFolded, fold_steps}
 use Rattle.bridge_tool.proofs.Decisions.{AreRead}
-use Rattle.bridge_tool.proofs.NlRewriting.{nl_read}
 use Rattle.bridge_tool.proofs.OneOutcome.{HasOne, IsPlain}
-use Rattle.bridge_tool.proofs.SeveralFiles.{HasComeDown, IsSound, begun, counted, ended, further, idle, sound_after, sound_end, steps_so, stopped}
+use Rattle.bridge_tool.proofs.SeveralFiles.{idle, IsLast}
 use Rattle.bridge_tool.proofs.RefusalLines.{fold_so, refusal_so, refused_same, same_so}
 use Rattle.bridge_tool.specs.Told.{IsRefusalLine}
 
@@ -74,11 +65,14 @@ module _ (nl : NlValue) (p : ProofValue) where
   pub outcome_so : (line : List ℕ) → Refused line ≡ prove_outcome nl p → IsRefusalLine line
   outcome_so line e = fold_lines (first_fold_fault nl.file (claimed_objective p.claim)) line e
 
-pub prove_sound : (nl proof : List ℕ) (texts : Texts) → IsSound (prove_told nl proof texts)
-prove_sound nl proof texts =
-    sound_after IsNl HasTextRefusal nl_read texts nl _ (λ file.
-    sound_after (IsProofText (setting_of file.file)) (IsProofRefused (setting_of file.file) 2) (proof_read (setting_of file.file) 2) texts proof _ (λ p.
-    sound_end texts proof (λ outcome. outcome ≡ prove_outcome file p) (λ old new. new ≤ old + most_steps file p) (IsProvedOf file p) (one file p) (λ n. omega arith)))
+pub prove_last : (nl : NlValue) → IsLast true (IsProofText (setting_of nl.file)) (IsProofRefused (setting_of nl.file) 2) (λ p outcome. outcome ≡ prove_outcome nl p) (λ p old new. new ≤ old + fold_steps nl (claimed_objective p.claim))
+prove_last nl = record {
+  read = proof_read (setting_of nl.file) 2;
+  one = one nl;
+  idle = λ p n. omega arith;
+  lines = outcome_so nl;
+  verdict = λ p holds bytes e. inr refl;
+}
 
 -- ---- what the code answers
 
@@ -127,60 +121,5 @@ module _ (nl : NlValue) (p : ProofValue) (given : IsProofIn nl.file p) where
       let shown : IsProved f p.claim Yes = subst (λ (w : ProofVerdict). IsProved f p.claim w) is (subst (λ (g : Linear). IsProved g p.claim v) folds.linear proved) in
       record { folds = folds.fine; true_of = claim_true nl.file k file folds.fine p.claim shown }
 
--- the objective of the claim was folded
-pub most_so : (nl : NlValue) (p : ProofValue) (n old new : ℕ) → n ≡ claimed_objective p.claim → new ≤ old + step_bound nl.file → (has_objective nl.file n ≡ false → new ≡ old) → new ≤ old + most_steps nl p
-most_so nl p n old new same below none = steps_so (has_objective nl.file (claimed_objective p.claim)) old new (step_bound nl.file) below (λ e. none (ap (has_objective nl.file) same ∙ e))
-
 pub folded_so : (nl : NlValue) (p : ProofValue) (n : ℕ) (l : LinearValue) → n ≡ claimed_objective p.claim → HasFolded nl n l → HasFolded nl (claimed_objective p.claim) l
 folded_so nl p n l same folds = subst (λ (m : ℕ). HasFolded nl m l) same folds
-
--- this command gives verdicts
-pub meant_so : (r : Result (Bool × Vec ℕ) (Stop (Vec ℕ))) (P : Type 0) → IfOk r (λ t. t.0 ≡ true → P) → IfOk r (λ t. ((t.0 ≡ true) ⊎ IsTrue true) × (t.0 ≡ true → P))
-meant_so (Ok t) P h = (inr refl, h)
-meant_so (Err stop) P h = tt
-
--- ---- the ends of the command
-
--- what is left of the command once the first file was read
-abbrev pub after_nl : List ℕ → Texts → NlValue → Promise
-after_nl proof texts file =
-    after_file (IsProofText (setting_of file.file)) (IsProofRefused (setting_of file.file) 2) texts proof (λ p.
-    ends texts proof (λ outcome. outcome ≡ prove_outcome file p) (λ old new. new ≤ old + most_steps file p) (IsProvedOf file p))
-
-module _ (nl proof : List ℕ) where
-  pub not_counted : (texts : Option Texts) (n : ℕ) → (prove_promise texts nl proof).counts n n
-  not_counted texts n = idle (prove_told nl proof) true (prove_sound nl proof) texts n
-
-  module _ {R : Type 0} (seen : R → NlValue) (old mid : Meaning) where
-    -- the first file ends the command
-    pub nl_stopped : (answer : Answer) → ReadsFile {R = R} seen IsNl HasTextRefusal nl old mid (Err answer) → IsWorked (prove_promise old.texts nl proof) old mid answer
-    nl_stopped answer read = stopped (prove_told nl proof) true (prove_sound nl proof) seen IsNl HasTextRefusal nl (after_nl proof) old old mid (begun (prove_told nl proof) true old) nl_read answer read
-
-    module _ (value : R) (read : ReadsFile {R = R} seen IsNl HasTextRefusal nl old mid (Ok value)) where
-      abbrev s : Setting
-      s = setting_of (seen value).file
-
-      down : HasComeDown (prove_told nl proof) true (λ texts. after_nl proof texts (seen value)) old mid
-      down = further (prove_told nl proof) true seen IsNl HasTextRefusal nl (after_nl proof) old old mid (begun (prove_told nl proof) true old) value read
-
-      -- the second file ends it
-      pub proof_stopped : (new : Meaning) (answer : Answer) → ReadsFile {R = ProofValue} itself (IsProofText s) (IsProofRefused s 2) proof mid new (Err answer) → IsWorked (prove_promise old.texts nl proof) old new answer
-      proof_stopped new answer read_so =
-          stopped (prove_told nl proof) true (prove_sound nl proof) itself (IsProofText s) (IsProofRefused s 2) proof
-          (λ texts p. ends texts proof (λ outcome. outcome ≡ prove_outcome (seen value) p) (λ m n. n ≤ m + most_steps (seen value) p) (IsProvedOf (seen value) p))
-          old mid new down (proof_read s 2) answer read_so
-
-      module _ (new : Meaning) (p : ProofValue) (given : ReadsFile {R = ProofValue} itself (IsProofText s) (IsProofRefused s 2) proof mid new (Ok p)) where
-        -- both were judged
-        pub proof_ended : (last : Meaning) (judged : Result (Bool × Vec ℕ) (Stop (Vec ℕ))) (answer : Answer) → Comes (λ outcome. outcome ≡ prove_outcome (seen value) p) judged
-            → IfOk judged (λ t. t.0 ≡ true → IsProvedOf (seen value) p) → EndsVerdict judged new last answer → IsWorked (prove_promise old.texts nl proof) old last answer
-        proof_ended last judged answer comes means end =
-            ended (prove_told nl proof) true (prove_sound nl proof) itself (IsProofText s) (IsProofRefused s 2) proof
-            (λ q outcome. outcome ≡ prove_outcome (seen value) q) (λ q m n. n ≤ m + most_steps (seen value) q) (λ q. IsProvedOf (seen value) q)
-            old mid new down p given (outcome_so (seen value) p) last judged answer comes (meant_so judged (IsProvedOf (seen value) p) means) end
-
-        pub proof_counted : (m n : ℕ) → n ≤ m + most_steps (seen value) p → (prove_promise old.texts nl proof).counts m n
-        proof_counted m n le =
-            counted (prove_told nl proof) true (prove_sound nl proof) itself (IsProofText s) (IsProofRefused s 2) proof
-            (λ q outcome. outcome ≡ prove_outcome (seen value) q) (λ q m n. n ≤ m + most_steps (seen value) q) (λ q. IsProvedOf (seen value) q)
-            old mid new down p given m n le

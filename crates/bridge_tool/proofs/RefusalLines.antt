@@ -1,5 +1,5 @@
 -- Each line that tells a refusal begins with `refused `, and ends its line.
-use Rattle.std.proofs.Common.{◌≡◌, ◌∙◌, inl, inr, ℕ, ℤ, List, ◌++◌, codes, refl, sym, ap, subst, append_assoc}
+use Rattle.std.proofs.Common.{◌≡◌, ◌∙◌, ℕ, ℤ, List, ◌++◌, codes, refl, sym, ap, subst, append_assoc}
 use Rattle.std.specs.Fmt.{decimal, signed_decimal}
 use Rattle.certificate_check.specs.declared.fitting.FitFault.{FitFault}
 use Rattle.linear_fold.specs.declared.fold_fault.FoldFault.{FoldFault}
@@ -13,7 +13,6 @@ use Rattle.scaling.specs.declared.scale_fault.ScaleFault.TheVariants.{RowTooWide
 use Rattle.bridge_tool.specs.ImportTold.{import_line}
 use Rattle.bridge_tool.specs.NlTold.{fold_line, nl_line, opcode_text, or_zero, reason_text, scale_line}
 use Rattle.bridge_tool.specs.Outcome.{Refused}
-use Rattle.bridge_tool.specs.Refusal.{IsRefused}
 use Rattle.bridge_tool.specs.Told.{IsRefusalLine, file_text, refusal, refused_at}
 use Rattle.bridge_tool.specs.VerdictTold.{fit_line, fit_text, negative_line}
 
@@ -79,9 +78,3 @@ same_so a b e h = subst IsRefusalLine (sym e) h
 -- two refusals that are one have one line
 pub refused_same : (a b : List ℕ) → Refused a ≡ Refused b → a ≡ b
 refused_same a b e = cc
-
--- of an .nl text, as it is exported
-pub refused_so : (text : List ℕ) (k : ℕ) (line : List ℕ) → IsRefused text k line → IsRefusalLine line
-refused_so text k line (inl h) = same_so line _ h.told (nl_so h.fault)
-refused_so text k line (inr (inl h)) = same_so line _ h.fold.told (fold_so h.value.places h.fold.fault)
-refused_so text k line (inr (inr h)) = same_so line _ h.scale.first.told (scale_so k h.scale.first.fault)

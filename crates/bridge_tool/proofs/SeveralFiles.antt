@@ -1,14 +1,14 @@
--- Commands of several files: exactly one outcome, and what each way to end them says.
+-- Commands of files: exactly one outcome, and what each way to end them says.
 use Rattle.std.proofs.Common.{◌≡◌, ◌∙◌, inl, inr, ◌⊎◌, ℕ, ◌+◌, ◌≤◌, List, Bool, true, false, if◌then◌else◌, take, drop, Option, Some, None, Result, Ok, Err, refl, sym, ap, subst, arith}
-use Rattle.std.specs.Prelude.{IfOk, IsTrue, MatchResult}
+use Rattle.std.specs.Prelude.{IfOk, IsTrue, MatchOption, MatchResult}
 use Rattle.std.specs.Global.{Vec}
 use Rattle.desk.specs.Desk.{IsUnknown, Meaning, OnlyInput, Rose, Texts}
 use Rattle.texts.specs.declared.stop.Stop.{Stop}
 use Rattle.texts.specs.declared.stop.Stop.TheVariants.{Fault, Memory}
-use Rattle.bridge_tool.specs.Answer.{IsWorked, EndsVerdict, Missed}
+use Rattle.bridge_tool.specs.Answer.{IsWorked, Ends, Missed}
 use Rattle.bridge_tool.specs.Outcome.{Outcome, Untold, NoText, BadWords, Refused as IsRefusal, Done as IsDone, Status}
 use Rattle.bridge_tool.specs.Promise.{Promise}
-use Rattle.bridge_tool.specs.SeveralFiles.{Answered, ByText, ByValue, Comes, HasEnded, HasSaid, ReadsFile, Says, after_file, desk_promise, ends}
+use Rattle.bridge_tool.specs.SeveralFiles.{Answered, ByValue, Comes, HasEnded, HasSaid, ReadsFile, Says, after_file, desk_promise, ends}
 use Rattle.bridge_tool.specs.Told.{IsRefusalLine}
 use Rattle.bridge_tool.specs.Transfer.{HasRead, HasReadCause, IsRead, Reads}
 use Rattle.bridge_tool.specs.declared.answer.Answer.{Answer}
@@ -47,55 +47,60 @@ sound_end texts file comes counts means one idle = record {
 module _ {V : Type 0} (reads : List ℕ → V → Type 0) (refuses : List ℕ → List ℕ → Type 0) where
   -- a text that is refused with a line, or says a value, and no other
   module _ (d : AreRead reads refuses) (text : List ℕ) where
-    one_refused : (line : List ℕ) → refuses text line → (P : List ℕ → Type 0) (Q : V → Type 0) → ByValue reads refuses text P Q → P line
+    pub one_refused : (line : List ℕ) → refuses text line → (P : List ℕ → Type 0) (Q : V → Type 0) → ByValue reads refuses text P Q → P line
     one_refused line r P Q (inl h) = subst P (d.refused text h.0 line h.1.0 r) h.1.1
     one_refused line r P Q (inr h) = absurd (d.apart text h.0 line h.1.0 r)
 
-    one_said : (value : V) → reads text value → (P : List ℕ → Type 0) (Q : V → Type 0) → ByValue reads refuses text P Q → Q value
+    pub one_said : (value : V) → reads text value → (P : List ℕ → Type 0) (Q : V → Type 0) → ByValue reads refuses text P Q → Q value
     one_said value r P Q (inl h) = absurd (d.apart text value h.0 r h.1.0)
     one_said value r P Q (inr h) = subst Q (d.said text h.0 value h.1.0 r) h.1.1
 
+  -- the text comes to one outcome, where each value does
+  pub one_by_value : AreRead reads refuses → (comes : V → Outcome → Type 0) → ((value : V) → HasOne IsPlain (comes value)) → (text : List ℕ)
+      → HasOne IsPlain (λ outcome. ByValue reads refuses text (λ line. outcome ≡ IsRefusal line) (λ value. comes value outcome))
+  one_by_value d comes one text = elim (d.either text) [
+    | inl said ↦
+        let v = said.0 in
+        record {
+          outcome = (one v).outcome;
+          comes_to = inr (v, (said.1, (one v).comes_to));
+          is = (one v).is;
+          one = λ other h. (one v).one other (one_said d text v said.1 (λ line. other ≡ IsRefusal line) (λ value. comes value other) h);
+        }
+    | inr found ↦ record {
+      outcome = IsRefusal found.0;
+      comes_to = inl (found.0, (found.1, refl));
+      is = tt;
+      one = λ other h. one_refused d text found.0 found.1 (λ line. other ≡ IsRefusal line) (λ value. comes value other) h;
+    }
+  ]
+
   module _ (d : AreRead reads refuses) (next : V → Promise) (s : (value : V) → IsSound (next value)) (whole text : List ℕ) where
+    one_last : (a b : List ℕ) → ByValue reads refuses text (λ line. a ≡ whole) (λ value. (next value).last a) → ByValue reads refuses text (λ line. b ≡ whole) (λ value. (next value).last b) → a ≡ b
+    one_last a b h k = elim (d.either text) [
+      | inl said ↦
+          let v = said.0 in
+          (s v).last a b (one_said d text v said.1 (λ line. a ≡ whole) (λ value. (next value).last a) h) (one_said d text v said.1 (λ line. b ≡ whole) (λ value. (next value).last b) k)
+      | inr found ↦
+          one_refused d text found.0 found.1 (λ line. a ≡ whole) (λ value. (next value).last a) h ∙ sym (one_refused d text found.0 found.1 (λ line. b ≡ whole) (λ value. (next value).last b) k)
+    ]
+
+    idle_text : (n : ℕ) → ByValue reads refuses text (λ line. n ≡ n) (λ value. (next value).counts n n)
+    idle_text n = elim (d.either text) [ inl said ↦ inr (said.0, (said.1, (s said.0).idle n)) | inr found ↦ inl (found.0, (found.1, refl)) ]
+
     sound_text : IsSound (record {
       comes = λ outcome. ByValue reads refuses text (λ line. outcome ≡ IsRefusal line) (λ value. (next value).comes outcome);
       last = λ last. ByValue reads refuses text (λ line. last ≡ whole) (λ value. (next value).last last);
       counts = λ old new. ByValue reads refuses text (λ line. new ≡ old) (λ value. (next value).counts old new);
       means = ByValue reads refuses text (λ line. ⊥) (λ value. (next value).means);
     })
-    sound_text = elim (d.either text) [
-      | inl said ↦
-          let v = said.0 in
-          let r = said.1 in
-          record {
-            one = record {
-              outcome = (s v).one.outcome;
-              comes_to = inr (v, (r, (s v).one.comes_to));
-              is = (s v).one.is;
-              one = λ other h. (s v).one.one other (one_said d text v r (λ line. other ≡ IsRefusal line) (λ value. (next value).comes other) h);
-            };
-            last = λ a b h k. (s v).last a b (one_said d text v r (λ line. a ≡ whole) (λ value. (next value).last a) h) (one_said d text v r (λ line. b ≡ whole) (λ value. (next value).last b) k);
-            idle = λ n. inr (v, (r, (s v).idle n));
-          }
-      | inr found ↦
-          let line = found.0 in
-          let r = found.1 in
-          record {
-            one = record {
-              outcome = IsRefusal line;
-              comes_to = inl (line, (r, refl));
-              is = tt;
-              one = λ other h. one_refused d text line r (λ line. other ≡ IsRefusal line) (λ value. (next value).comes other) h;
-            };
-            last = λ a b h k. one_refused d text line r (λ line. a ≡ whole) (λ value. (next value).last a) h ∙ sym (one_refused d text line r (λ line. b ≡ whole) (λ value. (next value).last b) k);
-            idle = λ n. inl (line, (r, refl));
-          }
-    ]
+    sound_text = record { one = one_by_value d (λ value. (next value).comes) (λ value. (s value).one) text; last = one_last; idle = idle_text }
 
   sound_by : AreRead reads refuses → (next : V → Promise) → ((value : V) → IsSound (next value)) → (text : Option (List ℕ)) → IsSound (record {
-    comes = λ outcome. ByText text (outcome ≡ NoText) (λ text. ByValue reads refuses (take LIMIT text) (λ line. outcome ≡ IsRefusal line) (λ value. (next value).comes outcome));
-    last = λ last. ByText text ⊥ (λ text. ByValue reads refuses (take LIMIT text) (λ line. last ≡ text) (λ value. (next value).last last));
-    counts = λ old new. ByText text (new ≡ old) (λ text. ByValue reads refuses (take LIMIT text) (λ line. new ≡ old) (λ value. (next value).counts old new));
-    means = ByText text ⊥ (λ text. ByValue reads refuses (take LIMIT text) (λ line. ⊥) (λ value. (next value).means));
+    comes = λ outcome. MatchOption text (outcome ≡ NoText) (λ text. ByValue reads refuses (take LIMIT text) (λ line. outcome ≡ IsRefusal line) (λ value. (next value).comes outcome));
+    last = λ last. MatchOption text ⊥ (λ text. ByValue reads refuses (take LIMIT text) (λ line. last ≡ text) (λ value. (next value).last last));
+    counts = λ old new. MatchOption text (new ≡ old) (λ text. ByValue reads refuses (take LIMIT text) (λ line. new ≡ old) (λ value. (next value).counts old new));
+    means = MatchOption text ⊥ (λ text. ByValue reads refuses (take LIMIT text) (λ line. ⊥) (λ value. (next value).means));
   })
   sound_by d next s None = record {
     one = record { outcome = NoText; comes_to = refl; is = tt; one = λ other j. j };
@@ -152,11 +157,11 @@ whole p = record { comes = λ o h. h; last = λ t h. h; counts = λ m n h. h; me
 
 module _ {V : Type 0} (reads : List ℕ → V → Type 0) (refuses : List ℕ → List ℕ → Type 0) where
   leads : (o : Option (List ℕ)) (text : List ℕ) (value : V) (none : Type 0) (P : List ℕ → List ℕ → Type 0) (Q : V → Type 0) → o ≡ Some text → reads (take LIMIT text) value → Q value
-      → ByText o none (λ t. ByValue reads refuses (take LIMIT t) (P t) Q)
+      → MatchOption o none (λ t. ByValue reads refuses (take LIMIT t) (P t) Q)
   leads o text value none P Q is r q = rw is (inr (value, (r, q)))
 
   ends_there : (o : Option (List ℕ)) (text line : List ℕ) (none : Type 0) (P : List ℕ → List ℕ → Type 0) (Q : V → Type 0) → o ≡ Some text → refuses (take LIMIT text) line → P text line
-      → ByText o none (λ t. ByValue reads refuses (take LIMIT t) (P t) Q)
+      → MatchOption o none (λ t. ByValue reads refuses (take LIMIT t) (P t) Q)
   ends_there o text line none P Q is r p = rw is (inl (line, (r, p)))
 
   -- what is next is left where the file says its value
@@ -191,7 +196,7 @@ first_by reads told texts file bytes left value is read says =
 first_of : {V : Type 0} (reads : List ℕ → V → Type 0) (texts : Texts) (file : List ℕ) (old new : Meaning) (value : V) → old.texts ≡ Some texts → HasSaid reads file old new value → HasFirst reads texts file new.left value
 first_of reads texts file old new value is h = first_by reads old.texts texts file h.bytes new.left value is h.read h.says
 
-plain_known : (o : Outcome) → IsPlain o → IsKnown o
+pub plain_known : (o : Outcome) → IsPlain o → IsKnown o
 unfolding IsKnown
 plain_known BadWords p = absurd p
 plain_known (Untold j) p = absurd p
@@ -308,7 +313,7 @@ module _ (told : Texts → Promise) (judges : Bool) where
       pub ended : ((line : List ℕ) → comes (seen value) (IsRefusal line) → IsRefusalLine line) → (new : Meaning) (judged : Result (Bool × Vec ℕ) (Stop (Vec ℕ))) (answer : Answer)
           → Comes (comes (seen value)) judged
           → IfOk judged (λ t. ((t.0 ≡ true) ⊎ IsTrue judges) × (t.0 ≡ true → means (seen value)))
-          → EndsVerdict judged mid new answer
+          → Ends judged mid new answer
           → IsWorked (desk_promise judges told old.texts) old new answer
       ended lines new (Ok t) answer is m e = wrote_worked _ judges old mid new t.0 t.1.items answer (has_come_to (IsDone t.0 t.1.items) is) m.0 (λ yes. meant old.texts down.of (m.1 yes)) e
       ended lines new (Err (Fault line)) answer is m e = rw (e.0, e.1) (refused_worked _ judges old mid line (has_come_to (IsRefusal line.items) is) (lines line.items is))
@@ -321,3 +326,131 @@ module _ (told : Texts → Promise) (judges : Bool) where
       -- steps were counted so
       pub counted : (m n : ℕ) → counts (seen value) m n → (desk_promise judges told old.texts).counts m n
       counted m n c = counted_by old.texts m n down.of c
+
+-- ---- the first file of a command
+
+module _ {V : Type 0} {reads : List ℕ → V → Type 0} {refuses : List ℕ → List ℕ → Type 0} (d : AreRead reads refuses) (judges : Bool) (next : Texts → V → Promise) (s : (texts : Texts) (value : V) → IsSound (next texts value)) (file : List ℕ) where
+  abbrev from_first : Texts → Promise
+  from_first texts = after_file reads refuses texts file (next texts)
+
+  pub first_sound : (texts : Texts) → IsSound (from_first texts)
+  first_sound texts = sound_after reads refuses d texts file (next texts) (s texts)
+
+  pub first_idle : (texts : Option Texts) (n : ℕ) → (desk_promise judges from_first texts).counts n n
+  first_idle texts n = idle from_first judges first_sound texts n
+
+  -- it ends the command
+  pub first_stopped : {R : Type 0} (seen : R → V) (old new : Meaning) (answer : Answer) → ReadsFile {R = R} seen reads refuses file old new (Err answer) → IsWorked (desk_promise judges from_first old.texts) old new answer
+  first_stopped seen old new answer read = stopped from_first judges first_sound seen reads refuses file next old old new (begun from_first judges old) d answer read
+
+  -- it was read
+  pub first_down : {R : Type 0} (seen : R → V) (old new : Meaning) (value : R) → ReadsFile {R = R} seen reads refuses file old new (Ok value) → HasComeDown from_first judges (λ texts. next texts (seen value)) old new
+  first_down seen old new value read = further from_first judges seen reads refuses file next old old new (begun from_first judges old) value read
+
+-- ---- the last file of a command
+
+-- what has to be shown of it, and of what its value comes to
+pub record IsLast (judges : Bool) {V : Type 0} (reads : List ℕ → V → Type 0) (refuses : List ℕ → List ℕ → Type 0) (comes : V → Outcome → Type 0) (counts : V → ℕ → ℕ → Type 0) : Type 0 where
+  pub read : AreRead reads refuses
+  pub one : (value : V) → HasOne IsPlain (comes value)
+  pub idle : (value : V) (n : ℕ) → counts value n n
+  pub lines : (value : V) (line : List ℕ) → comes value (IsRefusal line) → IsRefusalLine line
+  pub verdict : (value : V) (holds : Bool) (bytes : List ℕ) → comes value (IsDone holds bytes) → (holds ≡ true) ⊎ IsTrue judges
+
+judged_so : (judges : Bool) (comes : Outcome → Type 0) (means : Type 0) (judged : Result (Bool × Vec ℕ) (Stop (Vec ℕ))) → ((holds : Bool) (bytes : List ℕ) → comes (IsDone holds bytes) → (holds ≡ true) ⊎ IsTrue judges)
+    → Comes comes judged → IfOk judged (λ t. t.0 ≡ true → means) → IfOk judged (λ t. ((t.0 ≡ true) ⊎ IsTrue judges) × (t.0 ≡ true → means))
+judged_so judges comes means (Ok t) may is m = (may t.0 t.1.items is, m)
+judged_so judges comes means (Err stop) may is m = tt
+
+module _ {judges : Bool} {V : Type 0} {reads : List ℕ → V → Type 0} {refuses : List ℕ → List ℕ → Type 0} {comes : V → Outcome → Type 0} {counts : V → ℕ → ℕ → Type 0} (l : IsLast judges reads refuses comes counts) (means : V → Type 0) (file : List ℕ) where
+  abbrev the_end : Texts → V → Promise
+  the_end texts value = ends texts file (comes value) (counts value) (means value)
+
+  abbrev from_last : Texts → Promise
+  from_last texts = after_file reads refuses texts file (the_end texts)
+
+  end_sound : (texts : Texts) (value : V) → IsSound (the_end texts value)
+  end_sound texts value = sound_end texts file (comes value) (counts value) (means value) (l.one value) (l.idle value)
+
+  pub last_sound : (texts : Texts) → IsSound (from_last texts)
+  last_sound texts = sound_after reads refuses l.read texts file (the_end texts) (end_sound texts)
+
+  -- of a command that has come down to it
+  module _ (told : Texts → Promise) (s : (texts : Texts) → IsSound (told texts)) (old mid : Meaning) (down : HasComeDown told judges from_last old mid) where
+    -- it ends the command
+    pub last_stopped : {R : Type 0} (seen : R → V) (new : Meaning) (answer : Answer) → ReadsFile {R = R} seen reads refuses file mid new (Err answer) → IsWorked (desk_promise judges told old.texts) old new answer
+    last_stopped seen new answer read = stopped told judges s seen reads refuses file the_end old mid new down l.read answer read
+
+    module _ {R : Type 0} (seen : R → V) (new : Meaning) (value : R) (read : ReadsFile {R = R} seen reads refuses file mid new (Ok value)) where
+      -- all was judged
+      pub last_ended : (last : Meaning) (judged : Result (Bool × Vec ℕ) (Stop (Vec ℕ))) (answer : Answer) → Comes (comes (seen value)) judged → IfOk judged (λ t. t.0 ≡ true → means (seen value)) → Ends judged new last answer
+          → IsWorked (desk_promise judges told old.texts) old last answer
+      last_ended last judged answer is m end =
+          ended told judges s seen reads refuses file comes counts means old mid new down value read (l.lines (seen value)) last judged answer is (judged_so judges (comes (seen value)) (means (seen value)) judged (l.verdict (seen value)) is m) end
+
+      pub last_counted : (m n : ℕ) → counts (seen value) m n → (desk_promise judges told old.texts).counts m n
+      last_counted m n c = counted told judges s seen reads refuses file comes counts means old mid new down value read m n c
+
+  -- of a command of this file alone
+  pub only_idle : (texts : Option Texts) (n : ℕ) → (desk_promise judges from_last texts).counts n n
+  only_idle texts n = idle from_last judges last_sound texts n
+
+  pub only_stopped : {R : Type 0} (seen : R → V) (old new : Meaning) (answer : Answer) → ReadsFile {R = R} seen reads refuses file old new (Err answer) → IsWorked (desk_promise judges from_last old.texts) old new answer
+  only_stopped seen old new answer read = last_stopped from_last last_sound old old (begun from_last judges old) seen new answer read
+
+  pub only_ended : {R : Type 0} (seen : R → V) (old new : Meaning) (value : R) → ReadsFile {R = R} seen reads refuses file old new (Ok value) → (last : Meaning) (judged : Result (Bool × Vec ℕ) (Stop (Vec ℕ))) (answer : Answer)
+      → Comes (comes (seen value)) judged → IfOk judged (λ t. t.0 ≡ true → means (seen value)) → Ends judged new last answer → IsWorked (desk_promise judges from_last old.texts) old last answer
+  only_ended seen old new value read last judged answer is m end = last_ended from_last last_sound old old (begun from_last judges old) seen new value read last judged answer is m end
+
+  pub only_counted : {R : Type 0} (seen : R → V) (old new : Meaning) (value : R) → ReadsFile {R = R} seen reads refuses file old new (Ok value) → (m n : ℕ) → counts (seen value) m n → (desk_promise judges from_last old.texts).counts m n
+  only_counted seen old new value read m n c = last_counted from_last last_sound old old (begun from_last judges old) seen new value read m n c
+
+-- ---- a command of two files
+
+module _ {judges : Bool} {V W : Type 0} {reads : List ℕ → V → Type 0} {refuses : List ℕ → List ℕ → Type 0} {reads_second : V → List ℕ → W → Type 0} {refuses_second : V → List ℕ → List ℕ → Type 0} {comes : V → W → Outcome → Type 0} {counts : V → W → ℕ → ℕ → Type 0}
+    (d : AreRead reads refuses) (l : (value : V) → IsLast judges (reads_second value) (refuses_second value) (comes value) (counts value)) (means : V → W → Type 0) (file second : List ℕ) where
+  abbrev from_second : Texts → V → Promise
+  from_second texts value = from_last (l value) (means value) second texts
+
+  second_sound : (texts : Texts) (value : V) → IsSound (from_second texts value)
+  second_sound texts value = last_sound (l value) (means value) second texts
+
+  abbrev from_both : Texts → Promise
+  from_both texts = after_file reads refuses texts file (from_second texts)
+
+  pub both_sound : (texts : Texts) → IsSound (from_both texts)
+  both_sound = first_sound d judges from_second second_sound file
+
+  pub both_idle : (texts : Option Texts) (n : ℕ) → (desk_promise judges from_both texts).counts n n
+  both_idle = first_idle d judges from_second second_sound file
+
+  -- the first file ends it
+  pub both_stopped : {R : Type 0} (seen : R → V) (old new : Meaning) (answer : Answer) → ReadsFile {R = R} seen reads refuses file old new (Err answer) → IsWorked (desk_promise judges from_both old.texts) old new answer
+  both_stopped seen old new answer read = first_stopped d judges from_second second_sound file seen old new answer read
+
+  module _ {R : Type 0} (seen : R → V) (old mid : Meaning) (value : R) (read : ReadsFile {R = R} seen reads refuses file old mid (Ok value)) where
+    second_down : HasComeDown from_both judges (λ texts. from_second texts (seen value)) old mid
+    second_down = first_down d judges from_second second_sound file seen old mid value read
+
+    module _ {S : Type 0} (seen_second : S → W) (new : Meaning) where
+      -- the second file ends it
+      pub second_stopped : (answer : Answer) → ReadsFile {R = S} seen_second (reads_second (seen value)) (refuses_second (seen value)) second mid new (Err answer) → IsWorked (desk_promise judges from_both old.texts) old new answer
+      second_stopped answer other = last_stopped (l (seen value)) (means (seen value)) second from_both both_sound old mid second_down seen_second new answer other
+
+      module _ (given : S) (other : ReadsFile {R = S} seen_second (reads_second (seen value)) (refuses_second (seen value)) second mid new (Ok given)) where
+        -- both were judged
+        pub both_ended : (last : Meaning) (judged : Result (Bool × Vec ℕ) (Stop (Vec ℕ))) (answer : Answer) → Comes (comes (seen value) (seen_second given)) judged → IfOk judged (λ t. t.0 ≡ true → means (seen value) (seen_second given)) → Ends judged new last answer
+            → IsWorked (desk_promise judges from_both old.texts) old last answer
+        both_ended last judged answer is m end = last_ended (l (seen value)) (means (seen value)) second from_both both_sound old mid second_down seen_second new given other last judged answer is m end
+
+        pub both_counted : (m n : ℕ) → counts (seen value) (seen_second given) m n → (desk_promise judges from_both old.texts).counts m n
+        both_counted m n c = last_counted (l (seen value)) (means (seen value)) second from_both both_sound old mid second_down seen_second new given other m n c
+
+-- what holds of each verdict
+pub meant_always : (judged : Result (Bool × Vec ℕ) (Stop (Vec ℕ))) (M : Type 0) → IfOk judged (λ t. M) → IfOk judged (λ t. t.0 ≡ true → M)
+meant_always (Ok t) M m = λ e. m
+meant_always (Err stop) M m = tt
+
+pub meant_anyway : (judged : Result (Bool × Vec ℕ) (Stop (Vec ℕ))) (M : Type 0) → M → IfOk judged (λ t. t.0 ≡ true → M)
+meant_anyway (Ok t) M m = λ e. m
+meant_anyway (Err stop) M m = tt

@@ -1,6 +1,6 @@
 -- A first fault of a .sol text, as it is told, stands at one of the text's lines: one that is told
 -- for the line before is not found at the first.
-use Rattle.std.proofs.Common.{◌≡◌, ℕ, zero, suc, ◌-◌, ◌<◌, Bool, false, List, [], ◌∷◌, Some, refl, arith}
+use Rattle.std.proofs.Common.{◌≡◌, ℕ, zero, suc, ◌<◌, Bool, false, List, [], ◌∷◌, Some, refl, arith}
 use Rattle.std.specs.Prelude.{if◌then◌else◌}
 use Rattle.texts.specs.Judged.{Last, Open, Bad, End, HasFaultAt, reason_after}
 use Rattle.texts.specs.Reading.{IsLineOf, last_of, lines_of}

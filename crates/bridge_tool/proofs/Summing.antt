@@ -5,17 +5,16 @@ use Rattle.std.proofs.lemmas.List.Sums.{count_by-le-length, sum_by-cons, sum_by-
 use Rattle.exact_numbers.specs.declared.dec.Dec.{Dec}
 use Rattle.exact_numbers.specs.Values.{dec_value}
 use Rattle.exported_program.specs.Return.{is_exported}
-use Rattle.linear_fold.specs.declared.form.Form.{Form}
-use Rattle.linear_fold.specs.Programs.{LinearValue, form_of, linear_value, rows_from}
+use Rattle.linear_program.specs.declared.form.Form.{Form}
+use Rattle.linear_program.specs.Programs.{LinearValue, form_of, linear_value, rows_from}
 use Rattle.linear_programs.specs.Names.{row_name}
 use Rattle.exported_program.specs.Program.{has_side}
-use Rattle.file_meaning.specs.Meaning.{interval_of}
+use Rattle.linear_program.specs.Intervals.{interval_of}
 use Rattle.std.specs.Prelude.{option_map}
-use Rattle.linear_programs.specs.Linear.{Row}
 use Rattle.mps_model.specs.Built.{entry_of}
-use Rattle.mps_model.specs.Mps.{Column, Entry, Mps, column_with, with_values}
+use Rattle.mps_model.specs.Mps.{Column, Mps, column_with, with_values}
 use Rattle.mps_model.specs.Valid.{entry_count}
-use Rattle.nl_model.specs.declared.interval.Interval.{Interval}
+use Rattle.linear_program.specs.declared.interval.Interval.{Interval}
 use Rattle.fractions.specs.Rational.{ℚ}
 use Rattle.bridge_tool.specs.Make.{coefficient_count, exported_count, has_finite_side, is_coefficient, of_column}
 

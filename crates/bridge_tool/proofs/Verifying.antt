@@ -1,22 +1,19 @@
 -- What a certificate shows of an .nl text: one outcome, and what a yes means.
-use Rattle.std.proofs.Common.{◌≡◌, ◌∙◌, inl, inr, ℕ, ◌+◌, ◌≤◌, Bool, true, false, List, Option, Some, None, Result, Ok, Err, refl, sym, ap, ap₂, subst, arith, codes}
-use Rattle.std.specs.Prelude.{option_map, IfOk}
+use Rattle.std.proofs.Common.{◌≡◌, ◌∙◌, inl, inr, ℕ, ◌+◌, ◌≤◌, Bool, true, List, Option, Some, None, Err, refl, sym, ap, ap₂, subst, arith, codes}
+use Rattle.std.specs.Prelude.{option_map}
 use Rattle.std.specs.Global.{Vec}
 use Rattle.fractions.specs.Rational.{ℚ}
 use Rattle.linear_programs.specs.Linear.{Linear}
 use Rattle.duality.specs.Certificate.{Outcome as ClaimOutcome, holds, fails}
-use Rattle.desk.specs.Desk.{Meaning, Texts}
 use Rattle.texts.specs.declared.stop.Stop.{Stop}
 use Rattle.texts.specs.declared.stop.Stop.TheVariants.{Fault, Memory}
-use Rattle.file_meaning.specs.FoldFaults.{has_objective}
 use Rattle.file_meaning.specs.LinearFile.{linear_of}
-use Rattle.linear_fold.specs.FoldedFaults.{first_fold_fault, named_fault, step_bound}
-use Rattle.linear_fold.specs.Programs.{LinearValue, linear_value}
+use Rattle.linear_fold.specs.FoldedFaults.{first_fold_fault, named_fault}
+use Rattle.linear_program.specs.Programs.{LinearValue, linear_value}
 use Rattle.linear_fold.specs.declared.fold_fault.FoldFault.{FoldFault}
 use Rattle.nl_model.specs.File.{File}
 use Rattle.nl_model.specs.Rules.{IsFile}
 use Rattle.nl_segments.specs.Grammar.{NlValue}
-use Rattle.nl_segments.specs.Reader.{IsNl}
 use Rattle.certificates.specs.Certificates.{CertificateValue, Given, IsAskedFor, IsCertificateIn, IsCertificateOf, claim_outcome, objective_of, spread}
 use Rattle.certificates.specs.Reading.{given_in}
 use Rattle.certificates.specs.Says.{IsTrueOf}
@@ -27,20 +24,14 @@ use Rattle.certificates.proofs.Reading.{given_back}
 use Rattle.certificate_text.specs.Reader.{IsCertificateText}
 use Rattle.certificate_text.specs.Setting.{Setting, setting_of}
 use Rattle.certificate_text.proofs.ReadingLemmas.{one_reading}
-use Rattle.bridge_tool.specs.Answer.{EndsVerdict, IsWorked}
 use Rattle.bridge_tool.specs.CertificateTold.{HasFittingBound, certificate_line, is_held, outcome_line, certificate_reason_text}
 use Rattle.bridge_tool.specs.Outcome.{Refused, Done}
-use Rattle.bridge_tool.specs.Promise.{Promise}
-use Rattle.bridge_tool.specs.Refusal.{HasTextRefusal}
-use Rattle.bridge_tool.specs.SeveralFiles.{Comes, ReadsFile, after_file, ends, itself}
-use Rattle.bridge_tool.specs.Stages.{Folds, HasFolded}
-use Rattle.bridge_tool.specs.Verify.{IsCertificateRefused, IsVerified, by_claim, by_fold, claim_shown, most_steps, verify_outcome, verify_promise, verify_told}
-use Rattle.bridge_tool.specs.declared.answer.Answer.{Answer}
+use Rattle.bridge_tool.specs.SeveralFiles.{Comes}
+use Rattle.bridge_tool.specs.Stages.{Folds, HasFolded, fold_steps}
+use Rattle.bridge_tool.specs.Verify.{IsCertificateRefused, IsVerified, by_claim, by_fold, claim_shown, verify_outcome}
 use Rattle.bridge_tool.proofs.Decisions.{AreRead}
-use Rattle.bridge_tool.proofs.NlRewriting.{nl_read}
 use Rattle.bridge_tool.proofs.OneOutcome.{HasOne, IsPlain}
-use Rattle.bridge_tool.proofs.Proving.{meant_so}
-use Rattle.bridge_tool.proofs.SeveralFiles.{HasComeDown, IsSound, begun, counted, ended, further, idle, sound_after, sound_end, steps_so, stopped}
+use Rattle.bridge_tool.proofs.SeveralFiles.{idle, IsLast}
 use Rattle.bridge_tool.proofs.RefusalLines.{fold_so, refusal_so, refused_same, same_so}
 use Rattle.bridge_tool.specs.Told.{IsRefusalLine}
 
@@ -75,11 +66,14 @@ module _ (nl : NlValue) (c : CertificateValue) where
   pub outcome_so : (line : List ℕ) → Refused line ≡ verify_outcome nl c → IsRefusalLine line
   outcome_so line e = fold_lines (first_fold_fault nl.file (objective_of c.claim)) line e
 
-pub verify_sound : (nl certificate : List ℕ) (texts : Texts) → IsSound (verify_told nl certificate texts)
-verify_sound nl certificate texts =
-    sound_after IsNl HasTextRefusal nl_read texts nl _ (λ file.
-    sound_after (IsCertificateText (setting_of file.file)) (IsCertificateRefused (setting_of file.file) 2) (certificate_read (setting_of file.file) 2) texts certificate _ (λ c.
-    sound_end texts certificate (λ outcome. outcome ≡ verify_outcome file c) (λ old new. new ≤ old + most_steps file c) (IsVerified file c) (one file c) (λ n. omega arith)))
+pub verify_last : (nl : NlValue) → IsLast true (IsCertificateText (setting_of nl.file)) (IsCertificateRefused (setting_of nl.file) 2) (λ c outcome. outcome ≡ verify_outcome nl c) (λ c old new. new ≤ old + fold_steps nl (objective_of c.claim))
+verify_last nl = record {
+  read = certificate_read (setting_of nl.file) 2;
+  one = one nl;
+  idle = λ c n. omega arith;
+  lines = outcome_so nl;
+  verdict = λ c holds bytes e. inr refl;
+}
 
 -- ---- what the code answers
 
@@ -148,55 +142,5 @@ module _ (nl : NlValue) (c : CertificateValue) (given : IsCertificateIn nl.file 
         true_of = subst (λ (g : Given). IsTrueOf nl.file c.claim (spread nl.file.counts.n_var g.point) found.0) (sym given_so) true_so;
       }
 
--- the objective of the claim was folded
-pub most_so : (nl : NlValue) (c : CertificateValue) (n old new : ℕ) → n ≡ objective_of c.claim → new ≤ old + step_bound nl.file → (has_objective nl.file n ≡ false → new ≡ old) → new ≤ old + most_steps nl c
-most_so nl c n old new same below none = steps_so (has_objective nl.file (objective_of c.claim)) old new (step_bound nl.file) below (λ e. none (ap (has_objective nl.file) same ∙ e))
-
 pub folded_so : (nl : NlValue) (c : CertificateValue) (n : ℕ) (l : LinearValue) → n ≡ objective_of c.claim → HasFolded nl n l → HasFolded nl (objective_of c.claim) l
 folded_so nl c n l same folds = subst (λ (m : ℕ). HasFolded nl m l) same folds
-
--- ---- the ends of the command
-
--- what is left of the command once the first file was read
-abbrev pub after_nl : List ℕ → Texts → NlValue → Promise
-after_nl certificate texts file =
-    after_file (IsCertificateText (setting_of file.file)) (IsCertificateRefused (setting_of file.file) 2) texts certificate (λ c.
-    ends texts certificate (λ outcome. outcome ≡ verify_outcome file c) (λ old new. new ≤ old + most_steps file c) (IsVerified file c))
-
-module _ (nl certificate : List ℕ) where
-  pub not_counted : (texts : Option Texts) (n : ℕ) → (verify_promise texts nl certificate).counts n n
-  not_counted texts n = idle (verify_told nl certificate) true (verify_sound nl certificate) texts n
-
-  module _ {R : Type 0} (seen : R → NlValue) (old mid : Meaning) where
-    -- the first file ends the command
-    pub nl_stopped : (answer : Answer) → ReadsFile {R = R} seen IsNl HasTextRefusal nl old mid (Err answer) → IsWorked (verify_promise old.texts nl certificate) old mid answer
-    nl_stopped answer read = stopped (verify_told nl certificate) true (verify_sound nl certificate) seen IsNl HasTextRefusal nl (after_nl certificate) old old mid (begun (verify_told nl certificate) true old) nl_read answer read
-
-    module _ (value : R) (read : ReadsFile {R = R} seen IsNl HasTextRefusal nl old mid (Ok value)) where
-      abbrev s : Setting
-      s = setting_of (seen value).file
-
-      down : HasComeDown (verify_told nl certificate) true (λ texts. after_nl certificate texts (seen value)) old mid
-      down = further (verify_told nl certificate) true seen IsNl HasTextRefusal nl (after_nl certificate) old old mid (begun (verify_told nl certificate) true old) value read
-
-      -- the second file ends it
-      pub certificate_stopped : (new : Meaning) (answer : Answer) → ReadsFile {R = CertificateValue} itself (IsCertificateText s) (IsCertificateRefused s 2) certificate mid new (Err answer) → IsWorked (verify_promise old.texts nl certificate) old new answer
-      certificate_stopped new answer read_so =
-          stopped (verify_told nl certificate) true (verify_sound nl certificate) itself (IsCertificateText s) (IsCertificateRefused s 2) certificate
-          (λ texts c. ends texts certificate (λ outcome. outcome ≡ verify_outcome (seen value) c) (λ m n. n ≤ m + most_steps (seen value) c) (IsVerified (seen value) c))
-          old mid new down (certificate_read s 2) answer read_so
-
-      module _ (new : Meaning) (c : CertificateValue) (given : ReadsFile {R = CertificateValue} itself (IsCertificateText s) (IsCertificateRefused s 2) certificate mid new (Ok c)) where
-        -- both were judged
-        pub certificate_ended : (last : Meaning) (judged : Result (Bool × Vec ℕ) (Stop (Vec ℕ))) (answer : Answer) → Comes (λ outcome. outcome ≡ verify_outcome (seen value) c) judged
-            → IfOk judged (λ t. t.0 ≡ true → IsVerified (seen value) c) → EndsVerdict judged new last answer → IsWorked (verify_promise old.texts nl certificate) old last answer
-        certificate_ended last judged answer comes means end =
-            ended (verify_told nl certificate) true (verify_sound nl certificate) itself (IsCertificateText s) (IsCertificateRefused s 2) certificate
-            (λ q outcome. outcome ≡ verify_outcome (seen value) q) (λ q m n. n ≤ m + most_steps (seen value) q) (λ q. IsVerified (seen value) q)
-            old mid new down c given (outcome_so (seen value) c) last judged answer comes (meant_so judged (IsVerified (seen value) c) means) end
-
-        pub certificate_counted : (m n : ℕ) → n ≤ m + most_steps (seen value) c → (verify_promise old.texts nl certificate).counts m n
-        certificate_counted m n le =
-            counted (verify_told nl certificate) true (verify_sound nl certificate) itself (IsCertificateText s) (IsCertificateRefused s 2) certificate
-            (λ q outcome. outcome ≡ verify_outcome (seen value) q) (λ q m n. n ≤ m + most_steps (seen value) q) (λ q. IsVerified (seen value) q)
-            old mid new down c given m n le

@@ -1,5 +1,5 @@
 -- How a command ends: its status, its line, and what it did.
-use Rattle.std.specs.Prelude.{◌≡◌, ◌⊎◌, ◌<◌, ◌≤◌, ℕ, Bool, true, List, [], codes, drop, IfSome, Some, Result, Ok, Err}
+use Rattle.std.specs.Prelude.{◌≡◌, ◌⊎◌, ◌<◌, ◌≤◌, ℕ, Bool, List, [], codes, drop, IfSome, Some, Result, Ok, Err}
 use Rattle.std.specs.Global.{Vec}
 use Rattle.std.specs.Io.KnownBytes.{Appends}
 use Rattle.desk.specs.Desk.{Meaning, OnlyOutput, Rose}
@@ -83,14 +83,8 @@ EndsWriting verdict bytes old new BadWords = ⊥
 EndsWriting verdict bytes old new InputFault = ⊥
 EndsWriting verdict bytes old new NoMemory = ⊥
 
--- the end of a command that was judged so
-abbrev pub Ends : Result (Vec ℕ) (Stop (Vec ℕ)) → Meaning → Meaning → Answer → Type 0
-Ends (Ok bytes) old new answer = EndsWriting true bytes.items old new answer
+-- the end of a command that was judged so: this verdict with these bytes, or a line
+abbrev pub Ends : Result (Bool × Vec ℕ) (Stop (Vec ℕ)) → Meaning → Meaning → Answer → Type 0
+Ends (Ok t) old new answer = EndsWriting t.0 t.1.items old new answer
 Ends (Err (Fault line)) old new answer = (answer ≡ Refused line) × (new ≡ old)
 Ends (Err Memory) old new answer = (answer ≡ NoMemory) × (new ≡ old)
-
--- the end of a command that came to this verdict with these bytes, or to a line
-abbrev pub EndsVerdict : Result (Bool × Vec ℕ) (Stop (Vec ℕ)) → Meaning → Meaning → Answer → Type 0
-EndsVerdict (Ok t) old new answer = EndsWriting t.0 t.1.items old new answer
-EndsVerdict (Err (Fault line)) old new answer = (answer ≡ Refused line) × (new ≡ old)
-EndsVerdict (Err Memory) old new answer = (answer ≡ NoMemory) × (new ≡ old)

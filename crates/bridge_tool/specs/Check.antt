@@ -1,14 +1,14 @@
 -- The command check: what a .sol text shows of the best value of an .nl text.
-use Rattle.std.specs.Prelude.{◌≡◌, ℕ, ◌+◌, ◌≤◌, ℤ, pos, negsuc, true, List, if◌then◌else◌}
+use Rattle.std.specs.Prelude.{◌≡◌, ℕ, ◌+◌, ◌≤◌, ℤ, pos, negsuc, true, List}
 use Rattle.std.specs.Option.{option_map_or}
 use Rattle.std.specs.declared.option.Option.{Option}
 use Rattle.std.specs.declared.option.Option.TheVariants.{None, Some}
 use Rattle.fractions.specs.Rational.{ℚ}
 use Rattle.duality.specs.Verdict.{Verdict, verdict, yes}
 use Rattle.desk.specs.Desk.{Texts}
-use Rattle.file_meaning.specs.FoldFaults.{fold_fault, has_objective}
+use Rattle.file_meaning.specs.FoldFaults.{fold_fault}
 use Rattle.file_meaning.specs.LinearFile.{linear_of}
-use Rattle.linear_fold.specs.FoldedFaults.{first_fold_fault, step_bound}
+use Rattle.linear_fold.specs.FoldedFaults.{first_fold_fault}
 use Rattle.linear_fold.specs.declared.fold_fault.FoldFault.{FoldFault}
 use Rattle.nl_segments.specs.Grammar.{NlValue}
 use Rattle.nl_segments.specs.Reader.{IsNl}
@@ -24,6 +24,7 @@ use Rattle.bridge_tool.specs.Promise.{Promise}
 use Rattle.bridge_tool.specs.Refusal.{HasTextRefusal}
 use Rattle.bridge_tool.specs.SeveralFiles.{after_file, desk_promise, ends}
 use Rattle.bridge_tool.specs.Sol.{IsSolRefused}
+use Rattle.bridge_tool.specs.Stages.{fold_steps}
 use Rattle.bridge_tool.specs.VerdictTold.{fit_line, is_yes, negative_line, verdict_line}
 
 -- ---- what the values of both files come to
@@ -63,7 +64,7 @@ check_outcome nl s = by_fit nl s (unfit nl s)
 -- ---- steps
 
 abbrev pub steps_by_number : NlValue → ℤ → ℕ
-steps_by_number nl (pos k) = if has_objective nl.file k then step_bound nl.file else 0
+steps_by_number nl (pos k) = fold_steps nl k
 steps_by_number nl (negsuc n) = 0
 
 abbrev pub steps_by_fit : NlValue → Sol → Option FitFault → ℕ

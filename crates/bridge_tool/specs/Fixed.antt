@@ -1,32 +1,23 @@
 -- The command fixed: an MPS text of fixed columns in the one written form of what it says.
-use Rattle.std.specs.Prelude.{◌≡◌, ℕ, List, map}
+use Rattle.std.specs.Prelude.{ℕ, false, List}
 use Rattle.std.specs.declared.option.Option.{Option}
 use Rattle.desk.specs.Desk.{Texts}
-use Rattle.exact_numbers.specs.declared.dec.Dec.{Dec}
-use Rattle.mps_model.specs.Mps.{Mps}
-use Rattle.fixed_mps.specs.Fields.{free}
-use Rattle.fixed_mps.specs.Grammar.{fixed_rules}
-use Rattle.bridge_tool.specs.Mps.{IsRewrittenBy, IsRefusedBy, IsMeantBy, mps_program}
-use Rattle.bridge_tool.specs.OneFile.{file_promise}
+use Rattle.fixed_mps.specs.Reader.{HasFixedFault, IsFixedText}
+use Rattle.mps_reader.specs.Written.{mps_text}
+use Rattle.bridge_tool.specs.Mps.{IsMpsMeant}
+use Rattle.bridge_tool.specs.MpsTold.{mps_line}
 use Rattle.bridge_tool.specs.Promise.{Promise}
-
--- the program that lines of fixed columns say: that of their free forms
-abbrev pub fixed_program : List (List ℕ) → Mps Dec
-fixed_program lines = mps_program (map free lines)
-
--- the text is an MPS text of fixed columns, and these bytes are the written text of what it says
-abbrev pub IsFixedRewritten : List ℕ → List ℕ → Type 0
-IsFixedRewritten text bytes = IsRewrittenBy fixed_rules fixed_program text bytes
+use Rattle.bridge_tool.specs.SeveralFiles.{after_file, desk_promise, writes}
+use Rattle.bridge_tool.specs.Told.{TellsFault}
 
 -- the text has a first fault, which this line tells
 abbrev pub IsFixedRefused : List ℕ → List ℕ → Type 0
-IsFixedRefused text line = IsRefusedBy fixed_rules fixed_program text line
+IsFixedRefused text = TellsFault (HasFixedFault text) (mps_line 1)
 
--- what is written is an MPS text that says the same program
-abbrev pub IsFixedMeant : List ℕ → Type 0
-IsFixedMeant text = IsMeantBy fixed_rules fixed_program text
+abbrev pub fixed_told : List ℕ → Texts → Promise
+fixed_told file texts =
+    after_file IsFixedText IsFixedRefused texts file (λ m.
+    writes texts file (mps_text m) (IsMpsMeant m))
 
--- no steps are counted
 abbrev pub fixed_promise : Option Texts → List ℕ → Promise
-fixed_promise texts file =
-    file_promise IsFixedRewritten IsFixedRefused texts file (λ old new. new ≡ old) IsFixedMeant
+fixed_promise texts file = desk_promise false (fixed_told file) texts

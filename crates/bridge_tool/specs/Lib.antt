@@ -5,6 +5,7 @@ pub mod Check
 pub mod Command
 pub mod Commands
 pub mod Export
+pub mod InsideExport
 pub mod Import
 pub mod ImportTold
 pub mod Fixed
@@ -17,7 +18,6 @@ pub mod NamedExport
 pub mod NamesTold
 pub mod Nl
 pub mod NlTold
-pub mod OneFile
 pub mod Outcome
 pub mod Promise
 pub mod ProofTold

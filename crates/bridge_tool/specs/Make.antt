@@ -12,14 +12,18 @@ use Rattle.nl_round_trip.specs.Writable.{IsText}
 use Rattle.exact_numbers.specs.Values.{value_text}
 use Rattle.mps_model.specs.Mps.{Mps, Entry, Column}
 use Rattle.mps_model.specs.Text.{mps_text_by}
-use Rattle.nl_model.specs.declared.interval.Interval.{Interval}
+use Rattle.linear_program.specs.declared.interval.Interval.{Interval}
 use Rattle.nl_model.specs.File.{File}
+use Rattle.nl_segments.specs.Grammar.{NlValue}
+use Rattle.nl_segments.specs.Reader.{IsNl}
 use Rattle.nl_writer.specs.Written.{nl_text}
 use Rattle.desk.specs.Desk.{Meaning}
 use Rattle.bridge_tool.specs.Export.{IsExported}
-use Rattle.bridge_tool.specs.OneFile.{TextComesTo}
+use Rattle.bridge_tool.specs.Outcome.{DoneOrRefused, Outcome, Refused}
 use Rattle.bridge_tool.specs.Promise.{Promise}
-use Rattle.bridge_tool.specs.Refusal.{IsRefused}
+use Rattle.bridge_tool.specs.Refusal.{HasTextRefusal}
+use Rattle.bridge_tool.specs.SeveralFiles.{ByValue}
+use Rattle.bridge_tool.specs.Stages.{IsUnstaged}
 
 -- the written text of the instance
 abbrev pub made_text : ℕ → ℕ → List ℕ
@@ -60,11 +64,15 @@ summary_of f m text =
     summary_line f.counts.n_var (exported_count (linear_of f 0))
     (coefficient_count (exported_count (linear_of f 0)) m) (length text)
 
--- the text is exported with objective 0, and these bytes are the summary of that
-pub record IsMade (text bytes : List ℕ) : Type 0 where
+-- the file is exported with objective 0, and these bytes are the summary of that
+pub record IsMade (nl : NlValue) (bytes : List ℕ) : Type 0 where
   pub mps : List ℕ
-  pub exported : IsExported text 0 mps
-  pub summary : bytes ≡ summary_of exported.value.file exported.program mps
+  pub exported : IsExported nl 0 mps
+  pub summary : bytes ≡ summary_of nl.file exported.program mps
+
+-- what a file comes to
+abbrev pub MakesAs : NlValue → Outcome → Type 0
+MakesAs nl = DoneOrRefused (IsMade nl) (IsUnstaged nl 0)
 
 -- the same of a program with so many variables and exported rows
 abbrev pub IsSummedUp : ℕ → ℕ → Mps ℚ → List ℕ → Type 0
@@ -76,13 +84,14 @@ IsSummedUp variables rows m bytes = bytes
 -- the written text says the instance, and what is summed up is the instance
 pub record IsInstanceSummedUp (seed size : ℕ) : Type 0 where
   pub said : IsText (instance seed size) (made_text seed size)
-  pub summed : (bytes : List ℕ) (m : IsMade (made_text seed size) bytes) →
-      m.exported.value.file ≡ instance seed size
+  pub summed : (nl : NlValue) → IsNl (made_text seed size) nl → nl.file ≡ instance seed size
 
--- No text is started. Steps are counted for the fold of the instance, up to its bound.
+-- No text is started: the written text of the instance is read. Steps are counted for its fold, up
+-- to its bound.
 abbrev pub make_promise : ℕ → ℕ → Promise
 make_promise seed size = record {
-  comes = TextComesTo IsMade (λ text. IsRefused text 0) (made_text seed size);
+  comes = λ outcome. ByValue IsNl HasTextRefusal (made_text seed size)
+      (λ line. outcome ≡ Refused line) (λ nl. MakesAs nl outcome);
   last = λ text. ⊥;
   counts = λ old new. new ≤ old + step_bound (instance seed size);
   means = IsInstanceSummedUp seed size;

@@ -1,15 +1,14 @@
 -- Lists of names as files of a command: which of them a file's rows and columns take, and why a
 -- list is refused.
-use Rattle.std.specs.Prelude.{◌≡◌, ℕ, ◌+◌, List}
+use Rattle.std.specs.Prelude.{ℕ, ◌+◌, List}
 use Rattle.desk.specs.Desk.{Texts}
 use Rattle.texts.specs.Reading.{HasFault, IsRead}
-use Rattle.texts.specs.declared.fault.TextFault.{TextFault}
 use Rattle.name_files.specs.Names.{Counts, SaysNames, name_rules}
-use Rattle.name_files.specs.declared.fault.NameReason.{NameReason}
 use Rattle.nl_model.specs.File.{File}
 use Rattle.bridge_tool.specs.NamesTold.{name_line}
 use Rattle.bridge_tool.specs.Promise.{Promise}
 use Rattle.bridge_tool.specs.SeveralFiles.{after_file}
+use Rattle.bridge_tool.specs.Told.{TellsFault}
 
 -- a name for each constraint, and then none or one for each objective
 abbrev pub row_counts : File → Counts
@@ -24,10 +23,8 @@ abbrev pub AreListed : Counts → List ℕ → List (List ℕ) → Type 0
 AreListed counts text names = IsRead (name_rules counts) (SaysNames counts) text names
 
 -- the text has a first fault as a list of so many names, which this line tells of this file
-pub record IsListRefused (counts : Counts) (file : ℕ) (text line : List ℕ) : Type 0 where
-  pub fault : TextFault NameReason
-  pub first : HasFault (name_rules counts) text fault
-  pub told : line ≡ name_line file fault
+abbrev pub IsListRefused : Counts → (file : ℕ) → List ℕ → List ℕ → Type 0
+IsListRefused counts file text = TellsFault (HasFault (name_rules counts) text) (name_line file)
 
 -- Both lists of names of a file are read, that of rows first, and lead to what is next. They are
 -- this file of the command and the one after it.

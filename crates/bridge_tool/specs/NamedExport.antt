@@ -1,31 +1,25 @@
 -- The command export with names: the program of a file, whose rows and columns have the names of
 -- two lists, which are the second and the third file; and that names change nothing of what it
 -- means.
-use Rattle.std.specs.Prelude.{◌≡◌, ◌⊎◌, ℕ, ◌+◌, ◌≤◌, ◌^◌, true, false, List, length, if◌then◌else◌}
+use Rattle.std.specs.Prelude.{◌≡◌, ℕ, ◌+◌, ◌≤◌, false, List}
 use Rattle.std.specs.declared.option.Option.{Option}
-use Rattle.std.specs.declared.option.Option.TheVariants.{None}
 use Rattle.fractions.specs.Rational.{ℚ}
-use Rattle.exact_numbers.specs.Values.{dec_value, value_text}
-use Rattle.exact_numbers.specs.declared.dec.Dec.{Dec}
-use Rattle.export_round_trip.specs.ReadAs.{IsReadAs}
-use Rattle.file_meaning.specs.FoldFaults.{fold_fault, has_objective}
+use Rattle.exact_numbers.specs.Values.{value_text}
 use Rattle.file_meaning.specs.LinearFile.{linear_of}
-use Rattle.linear_fold.specs.FoldedFaults.{step_bound}
-use Rattle.mps_model.specs.Mps.{Mps, with_values}
+use Rattle.mps_model.specs.Mps.{Mps}
 use Rattle.mps_model.specs.Text.{mps_text_by}
-use Rattle.mps_model.specs.Valid.{IsMps}
 use Rattle.name_files.specs.Renamed.{HaveOneMeaning, named}
 use Rattle.nl_segments.specs.Grammar.{NlValue}
 use Rattle.nl_segments.specs.Reader.{IsNl}
-use Rattle.scaling.specs.Scaling.{HasNoScaleFault, IsExportOf}
+use Rattle.scaling.specs.Scaling.{IsExportOf}
 use Rattle.desk.specs.Desk.{Texts}
 use Rattle.bridge_tool.specs.Export.{MeansTheFile}
 use Rattle.bridge_tool.specs.NameLists.{after_lists}
-use Rattle.bridge_tool.specs.Outcome.{Outcome, BadWords, Untold, NoText, Refused, Done}
+use Rattle.bridge_tool.specs.Outcome.{DoneOrRefused, Outcome}
 use Rattle.bridge_tool.specs.Promise.{Promise}
 use Rattle.bridge_tool.specs.Refusal.{HasTextRefusal}
 use Rattle.bridge_tool.specs.SeveralFiles.{after_file, desk_promise, ends}
-use Rattle.bridge_tool.specs.Stages.{HasFoldFault, IsUnscaled}
+use Rattle.bridge_tool.specs.Stages.{IsStaged, IsUnstaged, fold_steps}
 
 -- a file, the number of its objective, and the names of its rows and columns
 pub record Named : Type 0 where
@@ -37,51 +31,28 @@ pub record Named : Type 0 where
 -- the file folds and scales, and these bytes are the text of its program with these names
 pub record IsNamedExport (n : Named) (bytes : List ℕ) : Type 0 where
   pub program : Mps ℚ
-  pub folded : fold_fault n.nl.file n.objective ≡ None
-  pub scaled : HasNoScaleFault (linear_of n.nl.file n.objective)
+  pub staged : IsStaged n.nl n.objective
   pub exports : IsExportOf (linear_of n.nl.file n.objective) program
   pub written : bytes ≡ mps_text_by value_text (named program n.rows n.columns)
 
--- The bytes are the written text of a program with these names. Its values are those of a decimal
--- program, which is whole with these names too.
-pub record IsNamedTextOf (bytes : List ℕ) (program : Mps ℚ)
-    (rows columns : List (List ℕ)) : Type 0 where
-  pub decimal : Mps Dec
-  pub valid : IsMps dec_value (named decimal rows columns)
-  pub values : with_values dec_value decimal ≡ program
-  pub text : bytes ≡ mps_text_by value_text (named program rows columns)
-
 -- what a file with names comes to
 abbrev pub NamedComesTo : Named → Outcome → Type 0
-NamedComesTo n BadWords = ⊥
-NamedComesTo n (Untold judges) = ⊥
-NamedComesTo n NoText = ⊥
-NamedComesTo n (Refused line) =
-    HasFoldFault n.nl n.objective line ⊎ IsUnscaled n.nl n.objective line
-NamedComesTo n (Done true bytes) = IsNamedExport n bytes
-NamedComesTo n (Done false bytes) = ⊥
+NamedComesTo n = DoneOrRefused (IsNamedExport n) (IsUnstaged n.nl n.objective)
 
--- The program with names means what the file means, as the program without them does. Where the
--- text is within the limit of a text, it is read as this program.
+-- the program with names means what the file means, as the program without them does
 pub record IsNamedMeant (n : Named) (bytes : List ℕ) (e : IsNamedExport n bytes) : Type 0 where
   pub file : MeansTheFile n.nl.file n.objective (named e.program n.rows n.columns)
   pub same : HaveOneMeaning (named e.program n.rows n.columns) e.program
-  pub back : length bytes ≤ 2 ^ 31 → IsReadAs bytes (named e.program n.rows n.columns)
 
 abbrev pub AreNamedMeant : Named → Type 0
 AreNamedMeant n = (bytes : List ℕ) (e : IsNamedExport n bytes) → IsNamedMeant n bytes e
-
--- at most so many steps are counted: none without the objective
-abbrev pub most_named_steps : Named → ℕ
-most_named_steps n =
-    if has_objective n.nl.file n.objective then step_bound n.nl.file else 0
 
 -- ---- the promise
 
 -- what is left once the file and the list of rows were read
 abbrev pub named_end : Texts → (columns : List ℕ) → Named → Promise
 named_end texts columns n =
-    ends texts columns (NamedComesTo n) (λ old new. new ≤ old + most_named_steps n)
+    ends texts columns (NamedComesTo n) (λ old new. new ≤ old + fold_steps n.nl n.objective)
     (AreNamedMeant n)
 
 abbrev pub named_told : (file : List ℕ) (objective : ℕ) (rows columns : List ℕ) → Texts → Promise

@@ -1,14 +1,13 @@
 -- The command prove: what a proof by branches shows of an .nl text.
-use Rattle.std.specs.Prelude.{◌≡◌, ℕ, ◌+◌, ◌≤◌, true, List, is_none, if◌then◌else◌}
+use Rattle.std.specs.Prelude.{◌≡◌, ℕ, ◌+◌, ◌≤◌, true, List, is_none}
 use Rattle.std.specs.declared.option.Option.{Option}
 use Rattle.std.specs.declared.option.Option.TheVariants.{None, Some}
 use Rattle.linear_programs.specs.Linear.{row_count}
 use Rattle.duality.specs.Branch.{LeafFault, proof_fault}
 use Rattle.desk.specs.Desk.{Texts}
-use Rattle.texts.specs.declared.fault.TextFault.{TextFault}
-use Rattle.file_meaning.specs.FoldFaults.{fold_fault, has_objective}
+use Rattle.file_meaning.specs.FoldFaults.{fold_fault}
 use Rattle.file_meaning.specs.LinearFile.{linear_of}
-use Rattle.linear_fold.specs.FoldedFaults.{first_fold_fault, step_bound}
+use Rattle.linear_fold.specs.FoldedFaults.{first_fold_fault}
 use Rattle.linear_fold.specs.declared.fold_fault.FoldFault.{FoldFault}
 use Rattle.nl_segments.specs.Grammar.{NlValue}
 use Rattle.nl_segments.specs.Reader.{IsNl}
@@ -19,19 +18,18 @@ use Rattle.branch_proof.specs.Proofs.{ProofValue, claim_value, tree_over}
 use Rattle.branch_proof.specs.Trees.{tree_in}
 use Rattle.proof_text.specs.Reader.{HasProofFault, IsProofText}
 use Rattle.proof_text.specs.Setting.{Setting, setting_of}
-use Rattle.proof_text.specs.declared.fault.ProofReason.{ProofReason}
 use Rattle.bridge_tool.specs.NlTold.{fold_line}
 use Rattle.bridge_tool.specs.Outcome.{Outcome, Refused, Done}
 use Rattle.bridge_tool.specs.Promise.{Promise}
 use Rattle.bridge_tool.specs.ProofTold.{leaf_line, proof_line}
 use Rattle.bridge_tool.specs.Refusal.{HasTextRefusal}
 use Rattle.bridge_tool.specs.SeveralFiles.{after_file, desk_promise, ends}
+use Rattle.bridge_tool.specs.Stages.{fold_steps}
+use Rattle.bridge_tool.specs.Told.{TellsFault}
 
 -- the text has a first fault as a proof, which this line tells of this file of the command
-pub record IsProofRefused (s : Setting) (file : ℕ) (text line : List ℕ) : Type 0 where
-  pub fault : TextFault ProofReason
-  pub first : HasProofFault s text fault
-  pub told : line ≡ proof_line file fault
+abbrev pub IsProofRefused : Setting → (file : ℕ) → List ℕ → List ℕ → Type 0
+IsProofRefused s file text = TellsFault (HasProofFault s text) (proof_line file)
 
 -- ---- what the values of both files come to
 
@@ -58,11 +56,6 @@ by_fold nl p None = by_leaf (open_leaf nl p)
 abbrev pub prove_outcome : NlValue → ProofValue → Outcome
 prove_outcome nl p = by_fold nl p (first_fold_fault nl.file (claimed_objective p.claim))
 
--- at most so many steps are counted: none where nothing is folded
-abbrev pub most_steps : NlValue → ProofValue → ℕ
-most_steps nl p =
-    if has_objective nl.file (claimed_objective p.claim) then step_bound nl.file else 0
-
 -- What a yes means: the file has no fold fault, so that each value exists; and no feasible point of
 -- the file, whole variables whole, is better than the stated value, or no point is feasible in its
 -- relaxed program.
@@ -78,7 +71,7 @@ prove_told nl proof texts =
     after_file (IsProofText (setting_of file.file)) (IsProofRefused (setting_of file.file) 2) texts
     proof (λ p.
     ends texts proof (λ outcome. outcome ≡ prove_outcome file p)
-    (λ old new. new ≤ old + most_steps file p) (IsProvedOf file p)))
+    (λ old new. new ≤ old + fold_steps file (claimed_objective p.claim)) (IsProvedOf file p)))
 
 abbrev pub prove_promise : Option Texts → List ℕ → List ℕ → Promise
 prove_promise texts nl proof = desk_promise true (prove_told nl proof) texts

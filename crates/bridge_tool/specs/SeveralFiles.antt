@@ -1,8 +1,8 @@
--- Commands of several files.
+-- Commands that read files, one or several.
 --
 -- A command that reads files one after another is a promise that is built from its end:
 --   `ends texts file comes counts means`: the files were read, `file` last, and the command comes
---     to this;
+--     to this; `writes texts file bytes means` where it always writes these bytes;
 --   `after_file reads refuses texts file next`: this file is read. A text that it refuses ends the
 --     command with its line; else the text says one value, and the rest of the command is
 --     `next value`, which may read a further file;
@@ -11,18 +11,20 @@
 -- before it.
 --
 -- A further command of files f, g (see `Check`):
---   x_told texts f g =
+--   x_told f g texts =
 --     after_file IsF RefusesF texts f (λ a.
 --     after_file (IsG a) (RefusesG a) texts g (λ b. ends texts g (X a b) ..))
---   x_promise texts f g = desk_promise judges (λ told. x_told told f g) texts
--- where `judges` says whether it gives a verdict, with status 1 for one that is not yes.
+--   x_promise texts f g = desk_promise judges (x_told f g) texts
+-- where `judges` says whether it gives a verdict, with status 1 for one that is not yes, and `X` is
+-- an outcome (`λ outcome. outcome ≡ x a b`) or `DoneOrRefused` of what is written and which lines
+-- tell why it is not.
 -- In code: open each file (`open_nl`, `open_sol`; a new one is like them, with `open` and the
 -- clause `ReadsFile`), return the answer of one that ends the command, judge the values, and end
--- with `end` or `end_verdict`.
--- In proofs (`proofs/SeveralFiles`): `AreRead` for each file, `sound_after` and `sound_end` for the
--- promise; then `begun`, `further`, `stopped` and `ended` give the clause `worked` at each exit,
--- and `idle`, `counted` the clause `counts`.
-use Rattle.std.specs.Prelude.{◌≡◌, ◌⊎◌, ◌≤◌, ℕ, Bool, List, take, Result, Ok, Err, MatchResult}
+-- with `end`.
+-- In proofs (`proofs/SeveralFiles`): `AreRead` for each file, and `IsLast` for the last with what
+-- its value comes to. From these `only_..` gives each clause of a command of one file, `both_..` of
+-- one of two; else `first_..` begins, `further` goes on, and `last_..` ends.
+use Rattle.std.specs.Prelude.{◌≡◌, ◌⊎◌, ◌≤◌, ℕ, Bool, true, List, take, Result, Ok, Err, MatchOption, MatchResult}
 use Rattle.std.specs.Global.{Vec}
 use Rattle.std.specs.declared.option.Option.{Option}
 use Rattle.std.specs.declared.option.Option.TheVariants.{None, Some}
@@ -38,11 +40,6 @@ use Rattle.bridge_tool.specs.declared.transfer.TheConstants.{LIMIT}
 
 -- ---- promises
 
--- by whether a file has a text
-abbrev pub ByText : Option (List ℕ) → (none : Type 0) → (some : List ℕ → Type 0) → Type 0
-ByText None none some = none
-ByText (Some text) none some = some text
-
 module _ {V : Type 0} (reads : List ℕ → V → Type 0) (refuses : List ℕ → List ℕ → Type 0) where
   -- the text is refused with a line, of which P holds, or says a value, of which Q holds
   abbrev pub ByValue : List ℕ → (P : List ℕ → Type 0) → (Q : V → Type 0) → Type 0
@@ -53,15 +50,15 @@ module _ {V : Type 0} (reads : List ℕ → V → Type 0) (refuses : List ℕ �
   -- Where they are refused, no further file is started.
   abbrev pub after_file : Texts → List ℕ → (next : V → Promise) → Promise
   after_file texts file next = record {
-    comes = λ outcome. ByText (texts file) (outcome ≡ NoText)
+    comes = λ outcome. MatchOption (texts file) (outcome ≡ NoText)
         (λ text. ByValue (take LIMIT text) (λ line. outcome ≡ IsRefusal line)
         (λ value. (next value).comes outcome));
-    last = λ last. ByText (texts file) ⊥ (λ text.
+    last = λ last. MatchOption (texts file) ⊥ (λ text.
         ByValue (take LIMIT text) (λ line. last ≡ text) (λ value. (next value).last last));
-    counts = λ old new. ByText (texts file) (new ≡ old)
+    counts = λ old new. MatchOption (texts file) (new ≡ old)
         (λ text. ByValue (take LIMIT text) (λ line. new ≡ old)
         (λ value. (next value).counts old new));
-    means = ByText (texts file) ⊥ (λ text. ByValue (take LIMIT text) (λ line. ⊥)
+    means = MatchOption (texts file) ⊥ (λ text. ByValue (take LIMIT text) (λ line. ⊥)
         (λ value. (next value).means));
   }
 
@@ -74,6 +71,11 @@ ends texts file comes counts means = record {
   counts = counts;
   means = means;
 }
+
+-- the same, and these bytes are written; no steps are counted
+abbrev pub writes : Texts → List ℕ → (bytes : List ℕ) → (means : Type 0) → Promise
+writes texts file bytes means =
+    ends texts file (λ outcome. outcome ≡ IsDone true bytes) (λ old new. new ≡ old) means
 
 -- a desk does not tell its texts
 abbrev pub untold : Bool → Promise

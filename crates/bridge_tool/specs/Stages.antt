@@ -1,19 +1,18 @@
 -- What the stages of an export answer.
-use Rattle.std.specs.Prelude.{◌≡◌, ℕ, List, Result, Ok, Err, Some, None}
+use Rattle.std.specs.Prelude.{◌≡◌, ◌⊎◌, ℕ, List, if◌then◌else◌, Result, Ok, Err, Some, None}
 use Rattle.std.specs.Global.{Vec}
 use Rattle.linear_programs.specs.Linear.{Linear}
 use Rattle.texts.specs.declared.stop.Stop.{Stop}
 use Rattle.texts.specs.declared.stop.Stop.TheVariants.{Fault, Memory}
-use Rattle.file_meaning.specs.FoldFaults.{fold_fault}
+use Rattle.file_meaning.specs.FoldFaults.{fold_fault, has_objective}
 use Rattle.file_meaning.specs.LinearFile.{linear_of}
-use Rattle.linear_fold.specs.FoldedFaults.{first_fold_fault}
-use Rattle.linear_fold.specs.Programs.{LinearValue, linear_value}
-use Rattle.linear_fold.specs.declared.fold_fault.FoldFault.{FoldFault}
+use Rattle.linear_fold.specs.FoldedFaults.{first_fold_fault, step_bound}
+use Rattle.linear_program.specs.Programs.{LinearValue, linear_value}
 use Rattle.nl_segments.specs.Grammar.{NlValue}
 use Rattle.scaling.specs.Scaled.{ScaledValue}
 use Rattle.scaling.specs.Scaling.{HasNoScaleFault, HasScaleFault, IsScaledOf}
-use Rattle.scaling.specs.declared.scale_fault.ScaleFault.{ScaleFault}
 use Rattle.bridge_tool.specs.NlTold.{fold_line, scale_line}
+use Rattle.bridge_tool.specs.Told.{TellsFault}
 
 -- the file folds, to this linear program
 pub record HasFolded (value : NlValue) (k : ℕ) (l : LinearValue) : Type 0 where
@@ -21,10 +20,9 @@ pub record HasFolded (value : NlValue) (k : ℕ) (l : LinearValue) : Type 0 wher
   pub linear : linear_value l ≡ linear_of value.file k
 
 -- the first fault of the fold, and its line
-pub record HasFoldFault (value : NlValue) (k : ℕ) (line : List ℕ) : Type 0 where
-  pub fault : FoldFault
-  pub first : first_fold_fault value.file k ≡ Some fault
-  pub told : line ≡ fold_line value.places fault
+abbrev pub HasFoldFault : NlValue → ℕ → List ℕ → Type 0
+HasFoldFault value k =
+    TellsFault (λ fault. first_fold_fault value.file k ≡ Some fault) (fold_line value.places)
 
 -- what folding answers
 abbrev pub Folds : NlValue → ℕ → Result LinearValue (Stop (Vec ℕ)) → Type 0
@@ -38,15 +36,26 @@ pub record HasScaled (f : Linear) (s : ScaledValue) : Type 0 where
   pub scaled : IsScaledOf f s
 
 -- the first fault of scaling, and its line
-pub record HasUnscaled (f : Linear) (k : ℕ) (line : List ℕ) : Type 0 where
-  pub fault : ScaleFault
-  pub first : HasScaleFault f fault
-  pub told : line ≡ scale_line k fault
+abbrev pub HasUnscaled : Linear → ℕ → List ℕ → Type 0
+HasUnscaled f k = TellsFault (HasScaleFault f) (scale_line k)
 
 -- the file folds with objective k, and a row or the objective has no decimal program
 pub record IsUnscaled (value : NlValue) (k : ℕ) (line : List ℕ) : Type 0 where
   pub folded : fold_fault value.file k ≡ None
   pub first : HasUnscaled (linear_of value.file k) k line
+
+-- the file folds and scales with objective k
+pub record IsStaged (value : NlValue) (k : ℕ) : Type 0 where
+  pub folded : fold_fault value.file k ≡ None
+  pub scaled : HasNoScaleFault (linear_of value.file k)
+
+-- it does not, and this line tells why
+abbrev pub IsUnstaged : NlValue → ℕ → List ℕ → Type 0
+IsUnstaged value k line = HasFoldFault value k line ⊎ IsUnscaled value k line
+
+-- at most so many steps are counted for the fold: none without objective k
+abbrev pub fold_steps : NlValue → ℕ → ℕ
+fold_steps value k = if has_objective value.file k then step_bound value.file else 0
 
 -- what scaling answers
 abbrev pub Scales : Linear → ℕ → Result ScaledValue (Stop (Vec ℕ)) → Type 0

@@ -23,3 +23,10 @@ refused_at file what number =
 
 abbrev pub refusal : ℕ → List ℕ → ℕ → List ℕ → List ℕ
 refusal file what number text = refused_at file what number ++ text ++ codes "\n"
+
+-- a fault of this kind, and the line that tells it
+pub record TellsFault {F : Type 0} (has : F → Type 0) (line_of : F → List ℕ)
+    (line : List ℕ) : Type 0 where
+  pub fault : F
+  pub first : has fault
+  pub told : line ≡ line_of fault

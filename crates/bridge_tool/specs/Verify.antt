@@ -1,14 +1,13 @@
 -- The command verify: what a certificate shows of an .nl text.
-use Rattle.std.specs.Prelude.{◌≡◌, ℕ, ◌+◌, ◌≤◌, true, List, if◌then◌else◌}
+use Rattle.std.specs.Prelude.{◌≡◌, ℕ, ◌+◌, ◌≤◌, true, List}
 use Rattle.std.specs.declared.option.Option.{Option}
 use Rattle.std.specs.declared.option.Option.TheVariants.{None, Some}
 use Rattle.fractions.specs.Rational.{ℚ}
 use Rattle.duality.specs.Certificate.{Outcome as ClaimOutcome, holds}
 use Rattle.desk.specs.Desk.{Texts}
-use Rattle.texts.specs.declared.fault.TextFault.{TextFault}
-use Rattle.file_meaning.specs.FoldFaults.{fold_fault, has_objective}
+use Rattle.file_meaning.specs.FoldFaults.{fold_fault}
 use Rattle.file_meaning.specs.LinearFile.{linear_of}
-use Rattle.linear_fold.specs.FoldedFaults.{first_fold_fault, step_bound}
+use Rattle.linear_fold.specs.FoldedFaults.{first_fold_fault}
 use Rattle.linear_fold.specs.declared.fold_fault.FoldFault.{FoldFault}
 use Rattle.nl_segments.specs.Grammar.{NlValue}
 use Rattle.nl_segments.specs.Reader.{IsNl}
@@ -18,19 +17,18 @@ use Rattle.certificates.specs.Says.{IsTrueOf}
 use Rattle.certificates.specs.declared.certificate.Claim.{Claim}
 use Rattle.certificate_text.specs.Reader.{HasCertificateFault, IsCertificateText}
 use Rattle.certificate_text.specs.Setting.{Setting, setting_of}
-use Rattle.certificate_text.specs.declared.fault.CertificateReason.{CertificateReason}
 use Rattle.bridge_tool.specs.CertificateTold.{certificate_line, is_held, outcome_line}
 use Rattle.bridge_tool.specs.NlTold.{fold_line}
 use Rattle.bridge_tool.specs.Outcome.{Outcome, Refused, Done}
 use Rattle.bridge_tool.specs.Promise.{Promise}
 use Rattle.bridge_tool.specs.Refusal.{HasTextRefusal}
 use Rattle.bridge_tool.specs.SeveralFiles.{after_file, desk_promise, ends}
+use Rattle.bridge_tool.specs.Stages.{fold_steps}
+use Rattle.bridge_tool.specs.Told.{TellsFault}
 
 -- the text has a first fault as a certificate, which this line tells of this file of the command
-pub record IsCertificateRefused (s : Setting) (file : ℕ) (text line : List ℕ) : Type 0 where
-  pub fault : TextFault CertificateReason
-  pub first : HasCertificateFault s text fault
-  pub told : line ≡ certificate_line file fault
+abbrev pub IsCertificateRefused : Setting → (file : ℕ) → List ℕ → List ℕ → Type 0
+IsCertificateRefused s file text = TellsFault (HasCertificateFault s text) (certificate_line file)
 
 -- ---- what the values of both files come to
 
@@ -51,11 +49,6 @@ by_fold nl c None = by_claim c.claim (claim_shown nl c)
 abbrev pub verify_outcome : NlValue → CertificateValue → Outcome
 verify_outcome nl c = by_fold nl c (first_fold_fault nl.file (objective_of c.claim))
 
--- at most so many steps are counted: none where nothing is folded
-abbrev pub most_steps : NlValue → CertificateValue → ℕ
-most_steps nl c =
-    if has_objective nl.file (objective_of c.claim) then step_bound nl.file else 0
-
 -- What a yes means: the file has no fold fault, so that each value exists, and the claim is true of
 -- the file, whole variables whole, for the point that is given and the value that is written.
 pub record IsVerified (nl : NlValue) (c : CertificateValue) : Type 0 where
@@ -73,7 +66,7 @@ verify_told nl certificate texts =
     after_file (IsCertificateText (setting_of file.file))
     (IsCertificateRefused (setting_of file.file) 2) texts certificate (λ c.
     ends texts certificate (λ outcome. outcome ≡ verify_outcome file c)
-    (λ old new. new ≤ old + most_steps file c) (IsVerified file c)))
+    (λ old new. new ≤ old + fold_steps file (objective_of c.claim)) (IsVerified file c)))
 
 abbrev pub verify_promise : Option Texts → List ℕ → List ℕ → Promise
 verify_promise texts nl certificate = desk_promise true (verify_told nl certificate) texts

@@ -5,7 +5,7 @@ ghost use Rattle.linear_programs.specs.Linear.{row_count, variable_count};
 ghost use Rattle.duality.specs.Verdict.{verdict};
 ghost use Rattle.exact_numbers.specs.Values.{dec_value};
 ghost use Rattle.linear_fold.specs.FoldedFaults.{first_fold_fault};
-ghost use Rattle.linear_fold.specs.Programs.{linear_value};
+ghost use Rattle.linear_program.specs.Programs.{linear_value};
 ghost use Rattle.nl_model.specs.Rules.{IsFile};
 ghost use Rattle.nl_segments.specs.Reader.{HasLines, value_of};
 ghost use Rattle.certificate_check.specs.Answers.{answer_of};
@@ -17,7 +17,7 @@ ghost use Rattle.bridge_tool.specs.VerdictTold.{is_yes, verdict_line};
 
 use crate::answer::Answer;
 use crate::nl_input::open_nl;
-use crate::one_file::end_verdict;
+use crate::one_file::end;
 use crate::sol_input::open_sol;
 use crate::stages::fold;
 use crate::verdict_told::{fit_line, is_yes, negative_line, verdict_line};
@@ -161,5 +161,5 @@ pub(crate) fn check<D: Desk, L: Ledger>(
     let judged = judge(alloc, &read, &solution, steps);
     drop(read);
     drop(solution);
-    end_verdict(desk, judged)
+    end(desk, judged)
 }

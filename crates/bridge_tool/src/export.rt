@@ -1,22 +1,19 @@
 // The command export: from the text of a file to the text of its program, or to the line to tell.
-ghost use Rattle.std.specs.Prelude.{◌≡◌, ◌≢◌, ◌+◌, ◌≤◌, List, ℕ, false, IfOk, OnOk};
-ghost use Rattle.file_meaning.specs.FoldFaults.{has_objective};
-ghost use Rattle.linear_fold.specs.FoldedFaults.{step_bound};
-ghost use Rattle.nl_model.specs.Rules.{IsFile};
-ghost use Rattle.nl_segments.specs.Reader.{HasLines, IsFed, IsNl, value_of};
+ghost use Rattle.std.specs.Prelude.{◌≡◌, ◌≢◌, ◌+◌, ◌≤◌, IfOk};
+ghost use Rattle.nl_segments.specs.Reader.{HasLines, value_of};
 ghost use Rattle.scaling.specs.Exported.{exported_as};
 ghost use Rattle.bridge_tool.specs.Answer.{IsWorked, status_of};
-ghost use Rattle.bridge_tool.specs.Export.{Counts, IsExported, IsExportMeant, IsTextOf, export_promise};
-ghost use Rattle.bridge_tool.specs.OneFile.{Judges};
-ghost use Rattle.bridge_tool.specs.Refusal.{IsRefused};
+ghost use Rattle.bridge_tool.specs.Export.{ExportsAs, IsExportMeant, export_promise};
+ghost use Rattle.bridge_tool.specs.InsideExport.{IsTextOf};
+ghost use Rattle.bridge_tool.specs.SeveralFiles.{Comes};
+ghost use Rattle.bridge_tool.specs.Stages.{fold_steps};
 
 use crate::answer::Answer;
-use crate::nl_input::read_nl;
-use crate::nl_told::nl_line;
-use crate::one_file::{end, missed};
+use crate::nl_input::open_nl;
+use crate::one_file::end;
 use crate::stages::{exported, fold_read, scale};
 use mps_writer::write_mps;
-use nl_segments::{NlRead, NlReader};
+use nl_segments::NlRead;
 use row_scaling::Scaled;
 use std::alloc::{AllocError, Global};
 use text_base::{Desk, Ledger, Steps, Stop};
@@ -31,52 +28,23 @@ fn write_program(alloc: Global, scaled: Scaled) -> Result<Vec<u8>, AllocError>
     Ok(out)
 }
 
-// The bytes to write for what was read, or the line to tell.
-fn export_read<L: Ledger>(
+// The bytes to write for a file, or the line to tell.
+fn judge<L: Ledger>(
     alloc: Global,
     read: NlRead,
     objective: u32,
     steps: &mut Steps<L>,
-) -> Result<Vec<u8>, Stop<Vec<u8>>>
+) -> Result<(bool, Vec<u8>), Stop<Vec<u8>>>
     requires { HasLines read }
-    ensures judges { (text : List ℕ) → IsNl text (value_of read)
-        → Judges (λ t. IsExported t objective) (λ t. IsRefused t objective) text result }
-    ensures means { OnOk result ((text : List ℕ) → IsNl text (value_of read)
-        → IsExportMeant text objective) }
+    ensures comes { Comes (ExportsAs (value_of read) objective) result }
+    ensures means { IfOk result (λ t. IsExportMeant (value_of read) objective) }
     ensures above { steps.old ≤ steps.new }
-    ensures file { IsFile read.file }
-    ensures below { steps.new ≤ steps.old + step_bound read.file }
-    ensures none { has_objective read.file objective ≡ false → steps.new ≡ steps.old }
+    ensures counts { steps.new ≤ steps.old + fold_steps (value_of read) objective }
 {
     let linear = fold_read(alloc, read, objective, steps)?;
     let scaled = scale(alloc, linear, objective)?;
     let out = write_program(alloc, scaled)?;
-    Ok(out)
-}
-
-// The bytes to write for the text that a reader was fed, or the line to tell.
-fn judge<L: Ledger>(
-    alloc: Global,
-    reader: NlReader,
-    objective: u32,
-    steps: &mut Steps<L>,
-) -> Result<Vec<u8>, Stop<Vec<u8>>>
-    ensures judges { (text : List ℕ) → IsFed reader text
-        → Judges (λ t. IsExported t objective) (λ t. IsRefused t objective) text result }
-    ensures means { OnOk result ((text : List ℕ) → IsFed reader text
-        → IsExportMeant text objective) }
-    ensures above { steps.old ≤ steps.new }
-    ensures counts { (text : List ℕ) → IsFed reader text
-        → Counts text objective steps.old steps.new }
-{
-    match reader.finish() {
-        Ok(read) => export_read(alloc, read, objective, steps),
-        Err(Stop::Memory) => Err(Stop::Memory),
-        Err(Stop::Fault(fault)) => {
-            let line = nl_line(alloc, fault)?;
-            Err(Stop::Fault(line))
-        }
-    }
+    Ok((true, out))
 }
 
 /// Exports a file: reads its text, judges it, and writes what it comes to. Tells nothing.
@@ -95,11 +63,10 @@ pub(crate) fn export<D: Desk, L: Ledger>(
         steps.new }
     ensures idle { status_of result ≡ 4 → steps.new ≡ steps.old }
 {
-    match read_nl(alloc, desk, file) {
-        Ok(reader) => {
-            let judged = judge(alloc, reader, objective, steps);
-            end(desk, judged)
-        }
-        Err(unread) => missed(unread),
-    }
+    let read = match open_nl(alloc, desk, file) {
+        Ok(read) => read,
+        Err(ended) => return ended,
+    };
+    let judged = judge(alloc, read, objective, steps);
+    end(desk, judged)
 }

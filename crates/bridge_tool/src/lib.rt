@@ -16,6 +16,7 @@ pub mod laws;
 mod leaf_told;
 mod make;
 mod mps;
+mod mps_input;
 mod mps_told;
 mod name_input;
 mod named_export;

@@ -1,14 +1,14 @@
 // The command make: the instance of a seed and a size is written, read, folded and exported, and
 // summed up.
-ghost use Rattle.std.specs.Prelude.{◌≡◌, ◌≢◌, ◌+◌, ◌≤◌, List, ℕ, IfOk};
+ghost use Rattle.std.specs.Prelude.{◌≡◌, ◌≢◌, ◌+◌, ◌≤◌, IfOk};
 ghost use Rattle.instances.specs.Instance.{instance};
 ghost use Rattle.linear_fold.specs.FoldedFaults.{step_bound};
-ghost use Rattle.nl_segments.specs.Reader.{HasLines, IsNl, value_of};
+ghost use Rattle.nl_segments.specs.Reader.{HasLines, value_of};
 ghost use Rattle.scaling.specs.Exported.{exported_as};
 ghost use Rattle.bridge_tool.specs.Answer.{IsWorked, status_of};
-ghost use Rattle.bridge_tool.specs.Make.{IsMade, IsSummedUp, LeavesInput, make_promise, made_text};
-ghost use Rattle.bridge_tool.specs.OneFile.{Judges};
-ghost use Rattle.bridge_tool.specs.Refusal.{IsRefused};
+ghost use Rattle.bridge_tool.specs.Make.{IsSummedUp, LeavesInput, MakesAs, make_promise, made_text};
+ghost use Rattle.bridge_tool.specs.SeveralFiles.{Comes};
+ghost use Rattle.bridge_tool.specs.Stages.{fold_steps};
 
 use crate::answer::Answer;
 use crate::nl_told::nl_line;
@@ -35,24 +35,23 @@ fn sum_up(alloc: Global, scaled: Scaled, variables: u32, rows: usize) -> Result<
     Ok(line)
 }
 
-// The summary of what was read, or the line to tell.
-fn export_read<L: Ledger>(
+// The summary of a file, or the line to tell.
+fn judge_read<L: Ledger>(
     alloc: Global,
     read: NlRead,
     steps: &mut Steps<L>,
-) -> Result<Vec<u8>, Stop<Vec<u8>>>
+) -> Result<(bool, Vec<u8>), Stop<Vec<u8>>>
     requires { HasLines read }
-    ensures judges { (text : List ℕ) → IsNl text (value_of read)
-        → Judges IsMade (λ t. IsRefused t 0) text result }
+    ensures comes { Comes (MakesAs (value_of read)) result }
     ensures above { steps.old ≤ steps.new }
-    ensures below { steps.new ≤ steps.old + step_bound read.file }
+    ensures counts { steps.new ≤ steps.old + fold_steps (value_of read) 0 }
 {
     let variables = read.file.header().counts().n_var;
     let linear = fold_read(alloc, read, 0, steps)?;
     let rows = exported_count(&linear);
     let scaled = scale(alloc, linear, 0)?;
     let out = sum_up(alloc, scaled, variables, rows)?;
-    Ok(out)
+    Ok((true, out))
 }
 
 // The written text of an instance.
@@ -72,15 +71,15 @@ fn judge<L: Ledger>(
     seed: u32,
     size: u32,
     steps: &mut Steps<L>,
-) -> Result<Vec<u8>, Stop<Vec<u8>>>
+) -> Result<(bool, Vec<u8>), Stop<Vec<u8>>>
     requires { size ≤ 20000 }
-    ensures judges { Judges IsMade (λ t. IsRefused t 0) (made_text seed size) result }
+    ensures comes { Comes (make_promise seed size).comes result }
     ensures above { steps.old ≤ steps.new }
     ensures counts { steps.new ≤ steps.old + step_bound (instance seed size) }
 {
     let text = instance_text(alloc, seed, size)?;
     match read_nl(alloc, &text) {
-        Ok(read) => export_read(alloc, read, steps),
+        Ok(read) => judge_read(alloc, read, steps),
         Err(Stop::Memory) => Err(Stop::Memory),
         Err(Stop::Fault(fault)) => {
             let line = nl_line(alloc, fault)?;

@@ -1,84 +1,28 @@
 // The command mps: from an MPS text to the one written form of what it says, or to the line to
 // tell.
-ghost use Rattle.std.specs.Prelude.{◌≡◌, ◌≢◌, List, ℕ, IfOk, OnOk};
-ghost use Rattle.desk.specs.Desk.{IsUnknown, OnlyInput};
-ghost use Rattle.mps_reader.specs.Reader.{IsFed};
+ghost use Rattle.std.specs.Prelude.{◌≡◌, ◌≢◌, true};
+ghost use Rattle.mps_reader.specs.Written.{mps_text};
 ghost use Rattle.bridge_tool.specs.Answer.{IsWorked, status_of};
-ghost use Rattle.bridge_tool.specs.Mps.{IsMeantRead, IsMpsMeant, IsMpsRefused, IsRewritten, JudgesRead, mps_promise};
-ghost use Rattle.bridge_tool.specs.OneFile.{Judges};
-ghost use Rattle.bridge_tool.specs.Transfer.{HasRead, HasReadCause};
+ghost use Rattle.bridge_tool.specs.Mps.{IsMpsMeant, mps_promise};
+ghost use Rattle.bridge_tool.specs.Outcome.{Done};
+ghost use Rattle.bridge_tool.specs.SeveralFiles.{Comes};
 
 use crate::answer::Answer;
-use crate::mps_told::mps_line;
-use crate::one_file::{end, missed, read};
-use crate::transfer::{Feed, LIMIT, Unread};
+use crate::mps_input::open_mps;
+use crate::one_file::end;
 use mps_model::Mps;
-use mps_reader::{MpsFault, MpsReader};
 use mps_writer::write_mps;
 use std::alloc::Global;
 use text_base::{Desk, Stop};
 
-impl Feed for MpsReader {
-    ghost use Rattle.mps_reader.specs.Reader.{IsFed};
-
-    ghost Setting = { Unit {0} };
-
-    ghost setting = { λ _. tt };
-
-    ghost fed = { IsFed };
-
-    fn take(&mut self, piece: &[u8]) {
-        // The reader keeps an error, and answers it at the end.
-        let _ = self.feed(piece);
-    }
-}
-
-/// Feeds a reader the named text.
-pub(crate) fn read_mps<D: Desk>(
-    alloc: Global,
-    desk: &mut D,
-    file: &str,
-) -> Result<MpsReader, Unread>
-    ensures text { IfOk result (λ reader. HasRead (D.meaning desk.old).texts file.now LIMIT
-        (D.meaning desk.new).left (IsFed reader)) }
-    ensures cause { HasReadCause (IsUnknown (D.meaning desk.old).texts file.now)
-        (D.meaning desk.old).input_faults (D.meaning desk.new).input_faults result }
-    ensures rest { OnlyInput (D.meaning desk.old) (D.meaning desk.new) }
+/// The bytes to write for a program.
+pub(crate) fn judge(alloc: Global, mps: &Mps) -> Result<(bool, Vec<u8>), Stop<Vec<u8>>>
+    ensures comes { Comes (λ outcome. outcome ≡ Done true (mps_text mps.now)) result }
+    ensures means { IsMpsMeant mps.now }
 {
-    let reader = MpsReader::new(alloc)?;
-    read(alloc, desk, file, reader)
-}
-
-/// The bytes to write for what was read, or the line to tell.
-pub(crate) fn judge_read(
-    alloc: Global,
-    read: Result<Mps, Stop<MpsFault>>,
-) -> Result<Vec<u8>, Stop<Vec<u8>>>
-    ensures judges { JudgesRead read result }
-    ensures means { OnOk result (IsMeantRead read) }
-{
-    match read {
-        Ok(mps) => {
-            let _ = mps.rows();
-            let out = write_mps(alloc, &mps)?;
-            Ok(out)
-        }
-        Err(Stop::Memory) => Err(Stop::Memory),
-        Err(Stop::Fault(fault)) => {
-            let line = mps_line(alloc, 1, fault)?;
-            Err(Stop::Fault(line))
-        }
-    }
-}
-
-// The bytes to write for the text that a reader was fed, or the line to tell.
-fn judge(alloc: Global, reader: MpsReader) -> Result<Vec<u8>, Stop<Vec<u8>>>
-    ensures judges { (text : List ℕ) → IsFed reader text
-        → Judges IsRewritten IsMpsRefused text result }
-    ensures means { OnOk result ((text : List ℕ) → IsFed reader text → IsMpsMeant text) }
-{
-    let read = reader.finish();
-    judge_read(alloc, read)
+    let _ = mps.rows();
+    let out = write_mps(alloc, mps)?;
+    Ok((true, out))
 }
 
 /// Writes an MPS file again: reads its text, judges it, and writes what it comes to. Tells nothing.
@@ -87,11 +31,11 @@ pub(crate) fn rewrite<D: Desk>(alloc: Global, file: &str, desk: &mut D) -> Answe
         (D.meaning desk.old) (D.meaning desk.new) result }
     ensures known { status_of result ≢ 3 }
 {
-    match read_mps(alloc, desk, file) {
-        Ok(reader) => {
-            let judged = judge(alloc, reader);
-            end(desk, judged)
-        }
-        Err(unread) => missed(unread),
-    }
+    let mps = match open_mps(alloc, desk, file) {
+        Ok(mps) => mps,
+        Err(ended) => return ended,
+    };
+    let judged = judge(alloc, &mps);
+    drop(mps);
+    end(desk, judged)
 }

@@ -5,13 +5,15 @@ ghost use Rattle.name_files.specs.Renamed.{HasExportedNames, named};
 ghost use Rattle.nl_segments.specs.Reader.{HasLines, value_of};
 ghost use Rattle.scaling.specs.Exported.{exported_as};
 ghost use Rattle.bridge_tool.specs.Answer.{IsWorked, status_of};
-ghost use Rattle.bridge_tool.specs.NamedExport.{AreNamedMeant, IsNamedTextOf, Named, NamedComesTo, most_named_steps, named_promise};
+ghost use Rattle.bridge_tool.specs.NamedExport.{AreNamedMeant, Named, NamedComesTo, named_promise};
+ghost use Rattle.bridge_tool.specs.InsideExport.{IsNamedTextOf};
 ghost use Rattle.bridge_tool.specs.SeveralFiles.{Comes};
+ghost use Rattle.bridge_tool.specs.Stages.{fold_steps};
 
 use crate::answer::Answer;
 use crate::name_input::{open_columns, open_rows};
 use crate::nl_input::open_nl;
-use crate::one_file::end_verdict;
+use crate::one_file::end;
 use crate::stages::{exported, fold_read, scale};
 use mps_model::Mps;
 use mps_writer::write_mps;
@@ -82,7 +84,7 @@ fn judge<L: Ledger>(
       objective = objective;
       rows = rows.now;
       columns = columns.now;
-    } → steps.new ≤ steps.old + most_named_steps n }
+    } → steps.new ≤ steps.old + fold_steps n.nl n.objective }
 {
     let linear = fold_read(alloc, read, objective, steps)?;
     let scaled = scale(alloc, linear, objective)?;
@@ -132,5 +134,5 @@ pub(crate) fn export_named<D: Desk, L: Ledger>(
     let judged = judge(alloc, read, objective, &row_names, &column_names, steps);
     drop(row_names);
     drop(column_names);
-    end_verdict(desk, judged)
+    end(desk, judged)
 }

@@ -1,29 +1,26 @@
 // The command nl: from an .nl text to the one written text of its file, or to the line to tell.
-ghost use Rattle.std.specs.Prelude.{◌≢◌, List, ℕ};
-ghost use Rattle.nl_segments.specs.Reader.{IsFed};
+ghost use Rattle.std.specs.Prelude.{◌≡◌, ◌≢◌, true};
+ghost use Rattle.nl_writer.specs.Written.{nl_text};
 ghost use Rattle.bridge_tool.specs.Answer.{IsWorked, status_of};
-ghost use Rattle.bridge_tool.specs.Nl.{IsNlRewritten, nl_promise};
-ghost use Rattle.bridge_tool.specs.OneFile.{Judges};
-ghost use Rattle.bridge_tool.specs.Refusal.{HasTextRefusal};
+ghost use Rattle.bridge_tool.specs.Nl.{nl_promise};
+ghost use Rattle.bridge_tool.specs.Outcome.{Done};
+ghost use Rattle.bridge_tool.specs.SeveralFiles.{Comes};
 
 use crate::answer::Answer;
-use crate::nl_input::{judge_nl, read_nl};
-use crate::one_file::{end, missed};
-use nl_segments::NlReader;
+use crate::nl_input::open_nl;
+use crate::one_file::end;
+use nl_segments::NlRead;
 use nl_writer::write_nl;
 use std::alloc::Global;
 use text_base::{Desk, Stop};
 
-// The bytes to write for the text that a reader was fed, or the line to tell.
-fn judge(alloc: Global, reader: NlReader) -> Result<Vec<u8>, Stop<Vec<u8>>>
-    ensures { (text : List ℕ) → IsFed reader text
-        → Judges IsNlRewritten HasTextRefusal text result }
+// The bytes to write for a file.
+fn judge(alloc: Global, read: NlRead) -> Result<(bool, Vec<u8>), Stop<Vec<u8>>>
+    ensures { Comes (λ outcome. outcome ≡ Done true (nl_text read.file)) result }
 {
-    let read = judge_nl(alloc, reader)?;
     let out = write_nl(alloc, &read.file);
     drop(read);
-    let out = out?;
-    Ok(out)
+    Ok((true, out?))
 }
 
 /// Writes an .nl file again: reads its text, judges it, and writes what it comes to. Tells nothing.
@@ -32,11 +29,10 @@ pub(crate) fn rewrite<D: Desk>(alloc: Global, file: &str, desk: &mut D) -> Answe
         (D.meaning desk.old) (D.meaning desk.new) result }
     ensures known { status_of result ≢ 3 }
 {
-    match read_nl(alloc, desk, file) {
-        Ok(reader) => {
-            let judged = judge(alloc, reader);
-            end(desk, judged)
-        }
-        Err(unread) => missed(unread),
-    }
+    let read = match open_nl(alloc, desk, file) {
+        Ok(read) => read,
+        Err(ended) => return ended,
+    };
+    let judged = judge(alloc, read);
+    end(desk, judged)
 }

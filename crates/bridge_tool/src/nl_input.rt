@@ -30,8 +30,8 @@ impl Feed for NlReader {
     }
 }
 
-/// Feeds a reader the named text.
-pub(crate) fn read_nl<D: Desk>(alloc: Global, desk: &mut D, file: &str) -> Result<NlReader, Unread>
+// Feeds a reader the named text.
+fn read_nl<D: Desk>(alloc: Global, desk: &mut D, file: &str) -> Result<NlReader, Unread>
     ensures text { IfOk result (λ reader. HasRead (D.meaning desk.old).texts file.now LIMIT
         (D.meaning desk.new).left (IsFed reader)) }
     ensures cause { HasReadCause (IsUnknown (D.meaning desk.old).texts file.now)
@@ -42,8 +42,8 @@ pub(crate) fn read_nl<D: Desk>(alloc: Global, desk: &mut D, file: &str) -> Resul
     read(alloc, desk, file, reader)
 }
 
-/// What the text says that a reader was fed, or the line to tell.
-pub(crate) fn judge_nl(alloc: Global, reader: NlReader) -> Result<NlRead, Stop<Vec<u8>>>
+// What the text says that a reader was fed, or the line to tell.
+fn judge_nl(alloc: Global, reader: NlReader) -> Result<NlRead, Stop<Vec<u8>>>
     ensures says { (text : List ℕ) → IsFed reader text
         → Says value_of IsNl HasTextRefusal text result }
     ensures lines { IfOk result HasLines }

@@ -1,7 +1,7 @@
 // What all commands share that read files: feeding a reader, and ending with what was judged.
 ghost use Rattle.std.specs.Prelude.{◌≡◌, [], IfOk};
 ghost use Rattle.desk.specs.Desk.{IsUnknown, OnlyInput};
-ghost use Rattle.bridge_tool.specs.Answer.{Ends, EndsVerdict, EndsWriting, Missed};
+ghost use Rattle.bridge_tool.specs.Answer.{Ends, EndsWriting, Missed};
 ghost use Rattle.bridge_tool.specs.SeveralFiles.{Answered};
 ghost use Rattle.bridge_tool.specs.Transfer.{HasRead, HasReadCause};
 
@@ -49,23 +49,9 @@ pub(crate) fn write_out<D: Desk>(desk: &mut D, holds: bool, bytes: &[u8]) -> Ans
     }
 }
 
-/// Ends with the bytes to write, or with the line to tell.
-pub(crate) fn end<D: Desk>(desk: &mut D, judged: Result<Vec<u8>, Stop<Vec<u8>>>) -> Answer
-    ensures { Ends judged (D.meaning desk.old) (D.meaning desk.new) result }
-{
-    match judged {
-        Ok(out) => write_out(desk, true, &out),
-        Err(Stop::Fault(line)) => Answer::Refused(line),
-        Err(Stop::Memory) => Answer::NoMemory,
-    }
-}
-
 /// Ends with a verdict and the bytes to write, or with the line to tell.
-pub(crate) fn end_verdict<D: Desk>(
-    desk: &mut D,
-    judged: Result<(bool, Vec<u8>), Stop<Vec<u8>>>,
-) -> Answer
-    ensures { EndsVerdict judged (D.meaning desk.old) (D.meaning desk.new) result }
+pub(crate) fn end<D: Desk>(desk: &mut D, judged: Result<(bool, Vec<u8>), Stop<Vec<u8>>>) -> Answer
+    ensures { Ends judged (D.meaning desk.old) (D.meaning desk.new) result }
 {
     match judged {
         Ok((holds, out)) => write_out(desk, holds, &out),

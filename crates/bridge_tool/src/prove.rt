@@ -1,19 +1,20 @@
 // The command prove: from an .nl text and a proof text to the line of a verdict, or to the line to
 // tell.
 ghost use Rattle.std.specs.Prelude.{◌≡◌, ◌≢◌, ◌+◌, ◌≤◌, true, is_none, IfOk};
-ghost use Rattle.linear_fold.specs.Programs.{linear_value};
+ghost use Rattle.linear_program.specs.Programs.{linear_value};
 ghost use Rattle.nl_segments.specs.Reader.{HasLines, value_of};
 ghost use Rattle.branch_proof.specs.Files.{IsProofIn};
 ghost use Rattle.branch_proof.specs.Leaves.{IsProved, IsVerdictOn, fault_of};
 ghost use Rattle.branch_proof.specs.Proofs.{IsProofOf};
 ghost use Rattle.bridge_tool.specs.Answer.{IsWorked, status_of};
-ghost use Rattle.bridge_tool.specs.Prove.{IsProvedOf, claimed_objective, most_steps, prove_outcome, prove_promise};
+ghost use Rattle.bridge_tool.specs.Prove.{IsProvedOf, claimed_objective, prove_outcome, prove_promise};
 ghost use Rattle.bridge_tool.specs.ProofTold.{leaf_line};
 ghost use Rattle.bridge_tool.specs.SeveralFiles.{Comes};
+ghost use Rattle.bridge_tool.specs.Stages.{fold_steps};
 
 use crate::answer::Answer;
 use crate::nl_input::open_nl;
-use crate::one_file::end_verdict;
+use crate::one_file::end;
 use crate::proof_input::open_proof;
 use crate::proof_told::leaf_line;
 use crate::stages::fold;
@@ -73,7 +74,8 @@ fn judge<L: Ledger>(
         result }
     ensures means { IfOk result (λ t. t.0 ≡ true → IsProvedOf (value_of read.now) proof.now) }
     ensures above { steps.old ≤ steps.new }
-    ensures counts { steps.new ≤ steps.old + most_steps (value_of read.now) proof.now }
+    ensures counts { steps.new ≤ steps.old + fold_steps (value_of read.now)
+        (claimed_objective proof.now.claim) }
 {
     let objective = claimed_objective(proof.claim());
     let linear = fold(alloc, read, objective, steps)?;
@@ -114,5 +116,5 @@ pub(crate) fn prove<D: Desk, L: Ledger>(
     let judged = judge(alloc, &read, &given, steps);
     drop(read);
     drop(given);
-    end_verdict(desk, judged)
+    end(desk, judged)
 }

@@ -5,15 +5,16 @@ ghost use Rattle.nl_model.specs.Rules.{IsFile};
 ghost use Rattle.nl_segments.specs.Reader.{HasLines, value_of};
 ghost use Rattle.dual_return.specs.Return.{IsAnswerFor};
 ghost use Rattle.bridge_tool.specs.Answer.{IsWorked, status_of};
-ghost use Rattle.bridge_tool.specs.Return.{Makes, ReturnsAs, most_return_steps, named_return_promise, return_promise};
+ghost use Rattle.bridge_tool.specs.Return.{Makes, ReturnsAs, named_return_promise, return_promise};
 ghost use Rattle.bridge_tool.specs.SeveralFiles.{Comes};
+ghost use Rattle.bridge_tool.specs.Stages.{fold_steps};
 
 use crate::answer::Answer;
 use crate::answer_input::{open_answer, open_named};
 use crate::answer_told::return_line;
 use crate::name_input::{open_columns, open_rows};
 use crate::nl_input::open_nl;
-use crate::one_file::end_verdict;
+use crate::one_file::end;
 use crate::stages::{fold, scale};
 use answer_file::Answer as Given;
 use dual_return::solution;
@@ -35,7 +36,8 @@ fn make<L: Ledger>(
     ensures makes { Makes (value_of read.now) given.now result }
     ensures file { IsFile read.now.file }
     ensures above { steps.old ≤ steps.new }
-    ensures counts { steps.new ≤ steps.old + most_return_steps (value_of read.now) given.now }
+    ensures counts { steps.new ≤ steps.old + fold_steps (value_of read.now)
+        given.now.objective }
 {
     let objective = given.objective();
     let linear = fold(alloc, read, objective, steps)?;
@@ -62,7 +64,8 @@ fn judge<L: Ledger>(
     ensures comes { Comes (ReturnsAs (value_of read.now) given.now) result }
     ensures file { IsFile read.now.file }
     ensures above { steps.old ≤ steps.new }
-    ensures counts { steps.new ≤ steps.old + most_return_steps (value_of read.now) given.now }
+    ensures counts { steps.new ≤ steps.old + fold_steps (value_of read.now)
+        given.now.objective }
 {
     let sol = make(alloc, read, given, steps)?;
     let out = write_sol(alloc, &sol)?;
@@ -100,7 +103,7 @@ pub(crate) fn return_answer<D: Desk, L: Ledger>(
     let judged = judge(alloc, &read, &given, steps);
     drop(read);
     drop(given);
-    end_verdict(desk, judged)
+    end(desk, judged)
 }
 
 /// Returns an answer for a file with names: reads its text, both lists and the answer, judges them,
@@ -152,5 +155,5 @@ pub(crate) fn return_named<D: Desk, L: Ledger>(
     let judged = judge(alloc, &read, &given, steps);
     drop(read);
     drop(given);
-    end_verdict(desk, judged)
+    end(desk, judged)
 }

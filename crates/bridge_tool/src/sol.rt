@@ -1,26 +1,25 @@
 // The command sol: from a .sol text to the one written form of what it says, or to the line to
 // tell.
-ghost use Rattle.std.specs.Prelude.{◌≢◌, List, ℕ};
-ghost use Rattle.sol_files.specs.Reader.{IsFed};
+ghost use Rattle.std.specs.Prelude.{◌≡◌, ◌≢◌, true};
+ghost use Rattle.sol_files.specs.Written.{sol_text};
 ghost use Rattle.bridge_tool.specs.Answer.{IsWorked, status_of};
-ghost use Rattle.bridge_tool.specs.OneFile.{Judges};
-ghost use Rattle.bridge_tool.specs.Sol.{IsSolRefused, IsSolRewritten, sol_promise};
+ghost use Rattle.bridge_tool.specs.Outcome.{Done};
+ghost use Rattle.bridge_tool.specs.SeveralFiles.{Comes};
+ghost use Rattle.bridge_tool.specs.Sol.{sol_promise};
 
 use crate::answer::Answer;
-use crate::one_file::{end, missed};
-use crate::sol_input::{judge_sol, read_sol};
-use sol_files::{SolReader, write_sol};
+use crate::one_file::end;
+use crate::sol_input::open_sol;
+use sol_files::{Sol, write_sol};
 use std::alloc::Global;
 use text_base::{Desk, Stop};
 
-// The bytes to write for the text that a reader was fed, or the line to tell.
-fn judge(alloc: Global, reader: SolReader) -> Result<Vec<u8>, Stop<Vec<u8>>>
-    ensures { (text : List ℕ) → IsFed reader text
-        → Judges IsSolRewritten (IsSolRefused 1) text result }
+// The bytes to write for a value.
+fn judge(alloc: Global, sol: &Sol) -> Result<(bool, Vec<u8>), Stop<Vec<u8>>>
+    ensures { Comes (λ outcome. outcome ≡ Done true (sol_text sol.now)) result }
 {
-    let sol = judge_sol(alloc, reader, 1)?;
-    let out = write_sol(alloc, &sol)?;
-    Ok(out)
+    let out = write_sol(alloc, sol)?;
+    Ok((true, out))
 }
 
 /// Writes a .sol file again: reads its text, judges it, and writes what it comes to. Tells nothing.
@@ -29,11 +28,11 @@ pub(crate) fn rewrite<D: Desk>(alloc: Global, file: &str, desk: &mut D) -> Answe
         (D.meaning desk.old) (D.meaning desk.new) result }
     ensures known { status_of result ≢ 3 }
 {
-    match read_sol(alloc, desk, file) {
-        Ok(reader) => {
-            let judged = judge(alloc, reader);
-            end(desk, judged)
-        }
-        Err(unread) => missed(unread),
-    }
+    let sol = match open_sol(alloc, desk, file, 1) {
+        Ok(sol) => sol,
+        Err(ended) => return ended,
+    };
+    let judged = judge(alloc, &sol);
+    drop(sol);
+    end(desk, judged)
 }

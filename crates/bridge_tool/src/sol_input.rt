@@ -30,12 +30,8 @@ impl Feed for SolReader {
     }
 }
 
-/// Feeds a reader the named text.
-pub(crate) fn read_sol<D: Desk>(
-    alloc: Global,
-    desk: &mut D,
-    file: &str,
-) -> Result<SolReader, Unread>
+// Feeds a reader the named text.
+fn read_sol<D: Desk>(alloc: Global, desk: &mut D, file: &str) -> Result<SolReader, Unread>
     ensures text { IfOk result (λ reader. HasRead (D.meaning desk.old).texts file.now LIMIT
         (D.meaning desk.new).left (IsFed reader)) }
     ensures cause { HasReadCause (IsUnknown (D.meaning desk.old).texts file.now)
@@ -46,9 +42,9 @@ pub(crate) fn read_sol<D: Desk>(
     read(alloc, desk, file, reader)
 }
 
-/// What the text says that a reader was fed, or the line to tell; the text is this file of its
-/// command.
-pub(crate) fn judge_sol(alloc: Global, reader: SolReader, file: u32) -> Result<Sol, Stop<Vec<u8>>>
+// What the text says that a reader was fed, or the line to tell; the text is this file of its
+// command.
+fn judge_sol(alloc: Global, reader: SolReader, file: u32) -> Result<Sol, Stop<Vec<u8>>>
     ensures { (text : List ℕ) → IsFed reader text
         → Says itself IsSol (IsSolRefused file) text result }
 {

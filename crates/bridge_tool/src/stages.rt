@@ -1,22 +1,19 @@
 // The stages that commands share: folding, scaling and exporting. Where a stage takes what it works
 // on by value, that is let go before the next stage.
-ghost use Rattle.std.specs.Prelude.{◌≡◌, ◌+◌, ◌≤◌, false, IfOk};
+ghost use Rattle.std.specs.Prelude.{◌≡◌, ◌+◌, ◌≤◌, IfOk};
 ghost use Rattle.exact_numbers.specs.Values.{dec_value};
-ghost use Rattle.file_meaning.specs.FoldFaults.{has_objective};
-ghost use Rattle.linear_fold.specs.FoldedFaults.{step_bound};
-ghost use Rattle.linear_fold.specs.Programs.{linear_value};
+ghost use Rattle.linear_program.specs.Programs.{linear_value};
 ghost use Rattle.mps_model.specs.Mps.{with_values};
 ghost use Rattle.nl_model.specs.Rules.{IsFile};
 ghost use Rattle.nl_segments.specs.Reader.{HasLines, value_of};
 ghost use Rattle.scaling.specs.Exported.{exported_as};
-ghost use Rattle.bridge_tool.specs.Stages.{Folds, Scales};
+ghost use Rattle.bridge_tool.specs.Stages.{Folds, Scales, fold_steps};
 
 use crate::nl_told::{fold_line, scale_line};
 use linear_fold::{Linear, fold_all};
-use row_scaling::program;
 use mps_model::Mps;
 use nl_segments::NlRead;
-use row_scaling::{Scaled, scale_rows};
+use row_scaling::{Scaled, program, scale_rows};
 use std::alloc::{AllocError, Global};
 use text_base::{Ledger, Steps, Stop};
 
@@ -31,8 +28,7 @@ pub(crate) fn fold<L: Ledger>(
     ensures folds { Folds (value_of read.now) objective result }
     ensures file { IsFile read.now.file }
     ensures above { steps.old ≤ steps.new }
-    ensures below { steps.new ≤ steps.old + step_bound read.now.file }
-    ensures none { has_objective read.now.file objective ≡ false → steps.new ≡ steps.old }
+    ensures counts { steps.new ≤ steps.old + fold_steps (value_of read.now) objective }
 {
     let _ = read.file.header();
     match fold_all(alloc, &read.file, objective, steps) {
@@ -56,8 +52,7 @@ pub(crate) fn fold_read<L: Ledger>(
     ensures folds { Folds (value_of read) objective result }
     ensures file { IsFile read.file }
     ensures above { steps.old ≤ steps.new }
-    ensures below { steps.new ≤ steps.old + step_bound read.file }
-    ensures none { has_objective read.file objective ≡ false → steps.new ≡ steps.old }
+    ensures counts { steps.new ≤ steps.old + fold_steps (value_of read) objective }
 {
     fold(alloc, &read, objective, steps)
 }

@@ -2,7 +2,7 @@
 ghost use Rattle.std.specs.Prelude.{◌≡◌, ◌++◌, ◌+◌, ◌≤◌, ◌^◌, IfOk, OnOk, codes, length};
 ghost use Rattle.std.specs.Fmt.{decimal};
 ghost use Rattle.std.specs.List.{count_by, sum_by};
-ghost use Rattle.linear_fold.specs.Programs.{linear_value};
+ghost use Rattle.linear_program.specs.Programs.{linear_value};
 ghost use Rattle.mps_model.specs.Built.{entry_of};
 ghost use Rattle.mps_model.specs.Valid.{entry_count};
 ghost use Rattle.bridge_tool.specs.Make.{coefficient_count, exported_count, has_finite_side, is_coefficient, of_column, summary_line};

@@ -1,20 +1,21 @@
 // The command verify: from an .nl text and a certificate to the line of a verdict, or to the line
 // to tell.
 ghost use Rattle.std.specs.Prelude.{◌≡◌, ◌≢◌, ◌+◌, ◌≤◌, true, IfOk};
-ghost use Rattle.linear_fold.specs.Programs.{linear_value};
+ghost use Rattle.linear_program.specs.Programs.{linear_value};
 ghost use Rattle.nl_segments.specs.Reader.{HasLines, value_of};
 ghost use Rattle.certificates.specs.Certificates.{IsCertificateIn, IsCertificateOf, claim_outcome, objective_of};
 ghost use Rattle.certificate_walk.specs.Outcomes.{outcome_of};
 ghost use Rattle.bridge_tool.specs.Answer.{IsWorked, status_of};
 ghost use Rattle.bridge_tool.specs.CertificateTold.{HasFittingBound, is_held, outcome_line};
 ghost use Rattle.bridge_tool.specs.SeveralFiles.{Comes};
-ghost use Rattle.bridge_tool.specs.Verify.{IsVerified, most_steps, verify_outcome, verify_promise};
+ghost use Rattle.bridge_tool.specs.Stages.{fold_steps};
+ghost use Rattle.bridge_tool.specs.Verify.{IsVerified, verify_outcome, verify_promise};
 
 use crate::answer::Answer;
 use crate::certificate_input::open_certificate;
 use crate::certificate_told::{is_held, outcome_line};
 use crate::nl_input::open_nl;
-use crate::one_file::end_verdict;
+use crate::one_file::end;
 use crate::stages::fold;
 use certificate_check::Columns;
 use certificate_walk::{Outcome, check_certificate};
@@ -82,7 +83,8 @@ fn judge<L: Ledger>(
     ensures means { IfOk result (λ t. t.0 ≡ true → IsVerified (value_of read.now)
         certificate.now) }
     ensures above { steps.old ≤ steps.new }
-    ensures counts { steps.new ≤ steps.old + most_steps (value_of read.now) certificate.now }
+    ensures counts { steps.new ≤ steps.old + fold_steps (value_of read.now)
+        (objective_of certificate.now.claim) }
 {
     let objective = objective_of(certificate.claim());
     let linear = fold(alloc, read, objective, steps)?;
@@ -123,5 +125,5 @@ pub(crate) fn verify<D: Desk, L: Ledger>(
     let judged = judge(alloc, &read, &given, steps);
     drop(read);
     drop(given);
-    end_verdict(desk, judged)
+    end(desk, judged)
 }

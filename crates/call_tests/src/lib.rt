@@ -37,6 +37,6 @@ mod stages;
 #[cfg(test)]
 mod tables;
 #[cfg(test)]
-mod texts;
+mod words_and_lines;
 #[cfg(test)]
 mod written;

@@ -19,7 +19,7 @@ use Rattle.duality.specs.Points.{Box, Numbers}
 use Rattle.duality.specs.Verdict.{bound_or_fault, bound_total, cost_check, cost_fault, cost_part, cost_part_of, cost_step, dual_bound, dual_fault, first_fault, has_needed, needed, reduced_cost, row_part, row_part_of, row_side_missing, side_fault}
 use Rattle.exact_numbers.proofs.Bridge.{frac_fits_lem}
 use Rattle.exact_numbers.proofs.Zeros.{fits_zero, sum_fits_zero, zero_sum_fits}
-use Rattle.file_meaning.specs.Meaning.{interval_of}
+use Rattle.linear_program.specs.Intervals.{interval_of}
 use Rattle.certificate_check.specs.Lists.{form_of}
 use Rattle.certificate_check.specs.declared.form.Row.{Row}
 use Rattle.certificate_walk.specs.Paths.{IsLemmaRow}

@@ -6,7 +6,7 @@ use Rattle.duality.specs.Parts.{Part, maximising, whole_part}
 use Rattle.duality.specs.Verdict.{BoundVerdict, dual_bound}
 use Rattle.exact_numbers.specs.declared.dec.Dec.{Dec}
 use Rattle.exact_numbers.specs.Values.{frac_value}
-use Rattle.linear_fold.specs.Coefs.{Term, coef_in}
+use Rattle.linear_program.specs.Coefs.{Term, coef_in}
 use Rattle.certificates.specs.Certificates.{Pair, spread}
 use Rattle.certificate_check.specs.Leaves.{HasRows, IsOver}
 use Rattle.certificate_check.specs.Lists.{bounds_in, form_of}

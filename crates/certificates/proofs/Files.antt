@@ -15,7 +15,7 @@ use Rattle.file_meaning.specs.Expressions.{maximises}
 use Rattle.file_meaning.specs.FoldFaults.{fold_fault}
 use Rattle.file_meaning.specs.LinearFile.{HasLines, linear_of, row_of, body_form}
 use Rattle.file_meaning.specs.Meaning.{HasValueInside, IsBetterValue, objective_value, side_of}
-use Rattle.file_meaning.proofs.Elements.{elements_at, elements_length}
+use Rattle.linear_programs.proofs.Elements.{elements_at, elements_length}
 use Rattle.file_meaning.proofs.Files.{count_lem, variable_lem, same_feasible, same_objective, same_relaxed, same_sense}
 use Rattle.file_meaning.proofs.Folding.{clean_has_lines}
 use Rattle.file_meaning.proofs.Formed.{file_formed}

@@ -1,68 +1,44 @@
 -- The fields of the ten header lines of an .nl file (Gay 2005, "Writing .nl Files").
-use Rattle.std.specs.Prelude.{ℕ, ◌==◌, ◌&&◌, Bool, true, false, List, [], ◌∷◌, Option, find, map, option_map, codes}
+use Rattle.std.specs.Prelude.{ℕ, ◌+◌, ◌==◌, ◌&&◌, Bool, true, false, List, [], ◌∷◌, ◌++◌, Option, find, option_map}
 use Rattle.code_tables.specs.declared.field.Field.{Field}
 use Rattle.code_tables.specs.declared.field.FieldRow.{FieldRow}
 
--- row number, header line and place in it (from 1), name, whether the line must have it, whether it
--- must be 0
-pub record HeaderRow : Type 0 where
-  pub row : ℕ
-  pub line : ℕ
-  pub place : ℕ
-  pub name : List ℕ
-  pub required : Bool
-  pub zero : Bool
+-- whether the line must have a field, and whether it must be 0
+abbrev pub Demand : Type 0
+Demand = Bool × Bool
 
-abbrev pub header_row : ℕ → ℕ → ℕ → List ℕ → Bool → Bool → HeaderRow
-header_row row line place name required zero =
-    record { row = row; line = line; place = place; name = name; required = required; zero = zero }
+abbrev pub needed : Demand
+needed = (true, false)
 
--- row, line, place, name, required, must be 0
-abbrev pub header : List HeaderRow
-header =
-    header_row 1 1 1 (codes "n_opt") true false
-    ∷ header_row 2 2 1 (codes "n_var") true false
-    ∷ header_row 3 2 2 (codes "n_con") true false
-    ∷ header_row 4 2 3 (codes "n_obj") true false
-    ∷ header_row 5 2 4 (codes "n_ranges") true false
-    ∷ header_row 6 2 5 (codes "n_eqns") true false
-    ∷ header_row 7 2 6 (codes "n_lcon") false true
-    ∷ header_row 8 3 1 (codes "nlc") true false
-    ∷ header_row 9 3 2 (codes "nlo") true false
-    ∷ header_row 10 4 1 (codes "nlnc") true true
-    ∷ header_row 11 4 2 (codes "lnc") true true
-    ∷ header_row 12 5 1 (codes "nlvc") true false
-    ∷ header_row 13 5 2 (codes "nlvo") true false
-    ∷ header_row 14 5 3 (codes "nlvb") true false
-    ∷ header_row 15 6 1 (codes "nwv") true true
-    ∷ header_row 16 6 2 (codes "nfunc") true true
-    ∷ header_row 17 6 3 (codes "arith") false false
-    ∷ header_row 18 6 4 (codes "flags") false false
-    ∷ header_row 19 7 1 (codes "nbv") true false
-    ∷ header_row 20 7 2 (codes "niv") true false
-    ∷ header_row 21 7 3 (codes "nlvbi") false false
-    ∷ header_row 22 7 4 (codes "nlvci") false false
-    ∷ header_row 23 7 5 (codes "nlvoi") false false
-    ∷ header_row 24 8 1 (codes "nzc") true false
-    ∷ header_row 25 8 2 (codes "nzo") true false
-    ∷ header_row 26 9 1 (codes "row_name_len") true false
-    ∷ header_row 27 9 2 (codes "col_name_len") true false
-    ∷ header_row 28 10 1 (codes "comb") true false
-    ∷ header_row 29 10 2 (codes "comc") true false
-    ∷ header_row 30 10 3 (codes "como") true false
-    ∷ header_row 31 10 4 (codes "comc1") true false
-    ∷ header_row 32 10 5 (codes "como1") true false
-    ∷ []
+abbrev pub needed_zero : Demand
+needed_zero = (true, true)
 
-abbrev pub field_of : HeaderRow → Field
-field_of r = record { row = r.row; required = r.required; zero = r.zero }
+abbrev pub free : Demand
+free = (false, false)
 
-abbrev pub row_of : HeaderRow → FieldRow
-row_of r = record { line = r.line; place = r.place; field = field_of r }
+abbrev pub free_zero : Demand
+free_zero = (false, true)
 
--- the table as the code holds it, where the row number stands for the name
+-- the fields of a line from a place on, of which the first has this row number; all from 1
+abbrev pub fields_from : ℕ → ℕ → ℕ → List Demand → List FieldRow
+fields_from line place row [] = []
+fields_from line place row (d ∷ ds) =
+    record { line = line; place = place; field = record { row = row; required = d.0; zero = d.1 } }
+    ∷ fields_from line (place + 1) (row + 1) ds
+
+-- the fields of each line, by its number and that of its first row
 unfoldable pub header_rows : List FieldRow
-header_rows = map row_of header
+header_rows =
+    fields_from 1 1 1 (needed ∷ [])
+    ++ fields_from 2 1 2 (needed ∷ needed ∷ needed ∷ needed ∷ needed ∷ free_zero ∷ [])
+    ++ fields_from 3 1 8 (needed ∷ needed ∷ [])
+    ++ fields_from 4 1 10 (needed_zero ∷ needed_zero ∷ [])
+    ++ fields_from 5 1 12 (needed ∷ needed ∷ needed ∷ [])
+    ++ fields_from 6 1 15 (needed_zero ∷ needed_zero ∷ free ∷ free ∷ [])
+    ++ fields_from 7 1 19 (needed ∷ needed ∷ free ∷ free ∷ free ∷ [])
+    ++ fields_from 8 1 24 (needed ∷ needed ∷ [])
+    ++ fields_from 9 1 26 (needed ∷ needed ∷ [])
+    ++ fields_from 10 1 28 (needed ∷ needed ∷ needed ∷ needed ∷ needed ∷ [])
 
 -- the field of the row at a line and a place
 abbrev pub field_in : List FieldRow → ℕ → ℕ → Option Field

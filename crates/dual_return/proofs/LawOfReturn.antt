@@ -13,7 +13,7 @@ use Rattle.nl_model.specs.Rules.{IsFile}
 use Rattle.file_meaning.specs.FoldFaults.{fold_fault}
 use Rattle.file_meaning.specs.LinearFile.{HasLines, body_form, linear_of, row_of}
 use Rattle.file_meaning.specs.Meaning.{body_value}
-use Rattle.file_meaning.proofs.Elements.{elements_at, elements_length}
+use Rattle.linear_programs.proofs.Elements.{elements_at, elements_length}
 use Rattle.file_meaning.proofs.Files.{count_lem, linear_lem}
 use Rattle.file_meaning.proofs.Folding.{clean_has_lines}
 use Rattle.file_meaning.proofs.Formed.{file_formed}

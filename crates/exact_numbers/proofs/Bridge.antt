@@ -11,7 +11,7 @@ use Rattle.std.proofs.lemmas.Bool.{ltb-true, lt-ltb}
 use lib.IntN.{*ℤ_comm, zero-*ℤ}
 use borrow.Author.Differences.{up, down}
 use Rattle.fractions.specs.Divisors.{AreCoprime, gcd_of}
-use Rattle.fractions.specs.Lowest.{is_gcd, reduced_by}
+use Rattle.fractions.specs.LowestLemmas.{is_gcd, reduced_by}
 use Rattle.fractions.specs.Rational.{ℚ, over, whole, zero_ℚ, one_ℚ, ◌+ℚ◌, ◌*ℚ◌, ◌-ℚ◌, neg_ℚ, decimal_value, inverse_of, turned_over, IsWhole}
 use Rattle.fractions.proofs.Signed.{neg-*ℤ, times_cancel, *ℤ_assoc}
 use Rattle.fractions.proofs.Values.{HasValue, own_value, over_value, whole_value, same_value, same_over, same_crosswise, equal_tops, scaled_value, product_value, neg_value, lt_value}

@@ -7,7 +7,7 @@ use Rattle.std.specs.Int.{IsGcd}
 use Rattle.fractions.specs.Divisors.{AreCoprime}
 use Rattle.exact_numbers.specs.Fraction.{IsLcm}
 pub use Rattle.fractions.proofs.Coprimes.{coprime-mul, coprime-pow}
-pub use Rattle.fractions.specs.Lowest.{dvd_other, coprime-swap, same_reduced, Reduced, reduced_by}
+pub use Rattle.fractions.specs.LowestLemmas.{dvd_other, coprime-swap, same_reduced, Reduced, reduced_by}
 
 -- divisors of coprime numbers
 pub coprime_parts : (a b c d : ℕ) → c ∣ a → d ∣ b → AreCoprime a b → AreCoprime c d

@@ -15,7 +15,7 @@ use Rattle.exact_numbers.specs.Fraction.{IsFrac, IsLcm}
 use Rattle.exact_numbers.specs.Values.{quotient}
 use Rattle.fractions.specs.Rational.{over}
 use Rattle.fractions.specs.Divisors.{gcd_of}
-use Rattle.fractions.specs.Lowest.{is_gcd}
+use Rattle.fractions.specs.LowestLemmas.{is_gcd}
 use Rattle.exact_numbers.specs.Decimal.{signed}
 use Rattle.exact_numbers.proofs.Coprime.{Reduced, same_reduced, Crosswise, crosswise, reduced_by, lcm_by, same_lcm, lcm_over, coprime-swap}
 use Rattle.exact_numbers.proofs.Signed.{sizes_of, parts_of, same_halves, SameValue-trans, SameValue-sym, sum_times, times_twice}

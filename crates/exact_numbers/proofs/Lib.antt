@@ -11,6 +11,7 @@ pub mod ToDec
 pub mod Bridge
 pub mod Signs
 pub mod Spelling
+mod ShortSums
 pub mod Reading
 pub mod Wholes
 pub mod NumberLemmas

@@ -8,7 +8,7 @@ use borrow.Author.Differences.{up, down, same_in}
 use Rattle.fractions.specs.Rational.{ℚ, decimal_value}
 use Rattle.exact_numbers.specs.Decimal.{IsDec}
 use Rattle.exact_numbers.specs.Values.{Decimal, is_multiple, mantissa_at, exponent_below, decimal_of, value_text, is_spelled, fits_dec, FitsDec}
-use Rattle.exact_numbers.specs.Spelled.{second_of_both, spelled_of}
+use Rattle.exact_numbers.specs.SpelledLemmas.{second_of_both, spelled_of}
 use Rattle.exact_numbers.specs.Written.{dec_text}
 use Rattle.exact_numbers.proofs.Pairs.{scaled}
 use Rattle.exact_numbers.proofs.Tens.{ten-pos, zeros-le}

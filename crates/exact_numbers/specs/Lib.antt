@@ -4,7 +4,7 @@ pub mod Written
 pub mod Padded
 pub mod Values
 pub mod Text
-pub mod Spelled
+pub mod SpelledLemmas
 pub mod Numbers
 pub mod Packed
 pub mod Held

@@ -7,7 +7,7 @@ use Rattle.fractions.specs.Rational.{ℚ}
 use Rattle.exact_numbers.specs.Text.{after_sign, whole_digits, fraction_digits, exponent_part, text_value}
 use Rattle.exact_numbers.specs.Values.{dec_value, decimal_of, fits_dec}
 use Rattle.exact_numbers.specs.declared.dec.Dec.{Dec}
-pub use Rattle.exact_numbers.specs.Spelled.{spelled_of}
+pub use Rattle.exact_numbers.specs.SpelledLemmas.{spelled_of}
 
 -- each byte stands above `#`, and so is neither that nor a blank
 abbrev pub IsUnmarked : List ℕ → Type 0

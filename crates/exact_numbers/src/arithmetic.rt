@@ -38,7 +38,8 @@ pub(crate) fn paired(negative: bool, num: u128, den: u128) -> Frac
 }
 
 // a * b, by one multiplication of 64 bits.
-fn small_product(a: u64, b: u64) -> u128
+#[inline]
+pub(crate) fn small_product(a: u64, b: u64) -> u128
     ensures { result ≡ a * b }
 {
     a as u128 * b as u128
@@ -181,6 +182,9 @@ impl Frac {
     pub fn mul(self, other: Frac) -> Option<Frac>
         ensures { IsFracOf result (frac_value self *ℚ frac_value other) }
     {
+        if let Some(product) = self.mul_short(other) {
+            return Some(product);
+        }
         if self.den == 1 && other.den == 1 {
             return self.mul_whole(other);
         }
@@ -190,6 +194,13 @@ impl Frac {
         if self.is_one() {
             return Some(other);
         }
+        self.mul_parts(other)
+    }
+
+    // The product of parts that are cancelled crosswise.
+    fn mul_parts(self, other: Frac) -> Option<Frac>
+        ensures { IsFracOf result (frac_value self *ℚ frac_value other) }
+    {
         let size = self.num.unsigned_abs();
         let other_size = other.num.unsigned_abs();
         let first = gcd(size, other.den);
@@ -208,14 +219,17 @@ impl Frac {
         ensures { IsFracWhere (sum_fits (frac_value self) (frac_value other)) result
             (frac_value self +ℚ frac_value other) }
     {
-        if self.den == 1 && other.den == 1 {
-            return self.add_whole(other);
-        }
         if self.is_zero() {
             return Some(other);
         }
         if other.is_zero() {
             return Some(self);
+        }
+        if let Some(sum) = self.add_short(other) {
+            return Some(sum);
+        }
+        if self.den == 1 && other.den == 1 {
+            return self.add_whole(other);
         }
         self.add_parts(other)
     }

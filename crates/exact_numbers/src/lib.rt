@@ -12,6 +12,7 @@ mod numbers;
 mod of_dec;
 mod order;
 mod read;
+mod short;
 mod words;
 mod write;
 

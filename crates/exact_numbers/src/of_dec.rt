@@ -151,9 +151,12 @@ impl Frac {
         ensures { IsFracOf result (dec_value d) }
     {
         let m = d.m();
+        let e = d.e();
+        if e == 0 {
+            return Some(Frac { num: m, den: 1 });
+        }
         let size = m.unsigned_abs();
         let negative = m < 0;
-        let e = d.e();
         if e >= 0 {
             let Some(num) = grown(size, 10, e as u32) else {
                 return None;

@@ -1,2 +1,10 @@
 mod Names
+pub mod Fitting
+mod ProgramNames
+mod ProgramParts
+mod Counting
+pub mod Picked
+mod Whole
+mod Exports
 pub mod Reading
+pub mod ReadBack

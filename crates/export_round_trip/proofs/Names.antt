@@ -1,5 +1,5 @@
 -- The names of an exported program have at most eight bytes.
-use Rattle.std.proofs.Common.{◌≡◌, ℕ, suc, ◌<◌, ◌≤◌, ◌^◌, Bool, true, false, cond, List, [], ◌∷◌, ◌++◌, length, map, arith}
+use Rattle.std.proofs.Common.{ℕ, suc, ◌<◌, ◌≤◌, ◌^◌, Bool, true, false, cond, List, [], ◌∷◌, length, map, arith}
 use Rattle.std.specs.Prelude.{All}
 use Rattle.std.specs.Fmt.{decimal}
 use Rattle.std.proofs.lemmas.Fmt.{length-decimal-le}
@@ -8,7 +8,7 @@ use Rattle.fractions.specs.Rational.{ℚ}
 use Rattle.linear_programs.specs.Linear.{Form, Row, Variable}
 use Rattle.exported_program.specs.Program.{ScaledRow, scaled_row, has_side, exported_rows, mps_row, obj_name, column_entries, columns_of, program_of}
 use Rattle.file_meaning.specs.LinearFile.{row_of, variable_of, linear_of}
-use Rattle.file_meaning.proofs.Elements.{all_elements}
+use Rattle.linear_programs.proofs.Elements.{all_elements}
 use Rattle.mps_model.specs.Mps.{MpsRow, Column}
 use Rattle.mps_model.specs.declared.kinds.RowKind.TheVariants.{N}
 use Rattle.nl_model.specs.File.{File}

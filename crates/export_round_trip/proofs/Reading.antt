@@ -1,5 +1,5 @@
 -- What is exported is read as what was exported.
-use Rattle.std.proofs.Common.{◌≡◌, ◌∙◌, inl, inr, ◌⊎◌, ℕ, ◌≤◌, Bool, true, false, List, [], ◌∷◌, ◌++◌, length, map, refl, sym, ap, subst, arith}
+use Rattle.std.proofs.Common.{◌≡◌, ◌∙◌, inl, inr, ◌⊎◌, ℕ, Bool, true, false, List, [], ◌∷◌, ◌++◌, map, refl, sym, ap, subst, arith}
 use Rattle.std.specs.Prelude.{All}
 use Rattle.std.proofs.lemmas.List.Elements.{All-nil, All-cons, All-head, All-tail, All-append}
 use Rattle.fractions.specs.Rational.{ℚ}
@@ -11,7 +11,7 @@ use Rattle.exported_program.specs.Export.{IsDecimal, IsProgramOf, factor_of_row,
 use Rattle.exported_program.specs.Factor.{objective_numbers}
 use Rattle.exported_program.specs.Program.{ScaledRow, program, tied_program, exported_rows, scaled_row, tie, z_form, z_variable}
 use Rattle.file_meaning.specs.LinearFile.{linear_of}
-use Rattle.mps_model.specs.Mps.{MpsRow, Column, Mps, column_with, with_values}
+use Rattle.mps_model.specs.Mps.{Column, Mps, column_with, with_values}
 use Rattle.mps_model.specs.Text.{mps_text_by}
 use Rattle.mps_model.specs.Valid.{IsMps}
 use Rattle.mps_model.proofs.Texts.{text_by_values}
@@ -42,6 +42,9 @@ all_fit (x ∷ xs) = by (fits x) (all_fit xs)
     by (inl h) (inl rest) = inl (All-cons FitsDec x xs h rest)
     by (inl h) (inr rest) = inr (λ all. rest (All-tail FitsDec x xs all))
     by (inr h) rest = inr (λ all. h (All-head FitsDec x xs all))
+
+pub is_decimal : (l : Linear) → IsDecimal l ⊎ (IsDecimal l → ⊥)
+is_decimal l = all_fit (objective_numbers (variable_count l) l.objective)
 
 -- ---- names
 

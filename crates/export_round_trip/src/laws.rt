@@ -1,8 +1,11 @@
 // Each law is proved by a function with an empty body.
-ghost use Rattle.std.specs.Prelude.{ℕ};
+ghost use Rattle.std.specs.Prelude.{◌≡◌, ◌⊎◌, ℕ, None};
+ghost use Rattle.fractions.specs.Rational.{ℚ};
 ghost use Rattle.exact_numbers.specs.declared.dec.Dec.{Dec};
 ghost use Rattle.exact_numbers.specs.Values.{dec_value, value_text};
-ghost use Rattle.exported_program.specs.Export.{IsProgramOf};
+ghost use Rattle.exported_program.specs.Export.{ExportFits, IsDecimal, IsProgramOf, ObjectiveFits, factor_of_objective, factor_of_row};
+ghost use Rattle.exported_program.specs.Program.{program, tied_program};
+ghost use Rattle.file_meaning.specs.FoldFaults.{fold_fault};
 ghost use Rattle.file_meaning.specs.LinearFile.{linear_of};
 ghost use Rattle.mps_model.specs.Mps.{Mps, with_values};
 ghost use Rattle.mps_model.specs.Text.{mps_text_by};
@@ -18,9 +21,19 @@ pub fn exported_names_are_short()
         → HasShortNames m }
 {}
 
-/// The written text of an exported program is read as the program.
+/// The written text of an exported program is read as the program: of a whole decimal program that
+/// has its values, and of the program of each file that folds and scales without a fault.
 pub fn exported_is_read()
-    ensures { (f : File) (k : ℕ) (m : Mps Dec) → IsFile f → IsProgramOf (linear_of f k) m
+    ensures decimal { (f : File) (k : ℕ) (m : Mps Dec) → IsFile f → IsProgramOf (linear_of f k) m
         → IsMps dec_value m → IsReadAs (mps_text_by value_text (with_values dec_value m))
         (with_values dec_value m) }
+    ensures program { (f : File) (k : ℕ) → IsFile f → fold_fault f k ≡ None
+        → ((i : ℕ) → ExportFits (linear_of f k) i) → (m : Mps ℚ)
+        → IsDecimal (linear_of f k) ⊎ ObjectiveFits (linear_of f k)
+        → (IsDecimal (linear_of f k)
+        → m ≡ program (linear_of f k) (factor_of_row (linear_of f k)))
+        → ((IsDecimal (linear_of f k) → ⊥)
+        → m ≡ tied_program (linear_of f k) (factor_of_row (linear_of f k))
+        (factor_of_objective (linear_of f k)))
+        → IsReadAs (mps_text_by value_text m) m }
 {}

@@ -41,9 +41,8 @@ IfSide P (Some s) = P s
 
 -- P holds of both sides, where both are there and differ
 abbrev pub IfBoth : (ℚ → ℚ → Type 0) → Option ℚ → Option ℚ → Type 0
-IfBoth P None u = Unit {0}
-IfBoth P (Some l) None = Unit {0}
 IfBoth P (Some l) (Some u) = IfSide (λ r. P l u) (nonzero (u -ℚ l))
+IfBoth P _ _ = Unit {0}
 
 -- all numbers of a row with factor k fit
 pub record RowFits (n : ℕ) (r : Row) (k : ℕ) : Type 0 where

@@ -1,25 +1,10 @@
--- Whole numbers that make fractions finite decimals.
-use Rattle.std.specs.Prelude.{◌≡◌, ℕ, zero, suc, ◌/◌, ◌<◌, ◌≤◌, nat_eq, cond, ℤ, pos, List, [], ◌∷◌, ◌++◌, Option, Some, None, All}
-use Rattle.fractions.specs.Divisors.{gcd_of}
-use Rattle.fractions.specs.Fits.{least_multiple}
-use Rattle.fractions.specs.Rational.{ℚ, whole, ◌-ℚ◌, ◌*ℚ◌, decimal_value}
+-- The numbers of a row and of an objective, and their least factors.
+use Rattle.std.specs.Prelude.{ℕ, zero, suc, List, [], ◌∷◌, ◌++◌, Option, Some, None}
+use Rattle.fractions.specs.Rational.{ℚ, ◌-ℚ◌}
 use Rattle.linear_programs.specs.Linear.{Form, Row}
-
--- x = m * 10 ^ e
-pub record IsFinite (x : ℚ) : Type 0 where
-  pub m : ℤ
-  pub e : ℤ
-  pub same : x ≡ decimal_value m e
-
--- k times each number is a finite decimal
-pub record IsFactor (xs : List ℚ) (k : ℕ) : Type 0 where
-  pub above : 0 < k
-  pub finite : All (λ x. IsFinite (whole (pos k) *ℚ x)) xs
-
--- no lesser number is a factor
-pub record IsLeastFactor (xs : List ℚ) (k : ℕ) : Type 0 where
-  pub factor : IsFactor xs k
-  pub least : (l : ℕ) → IsFactor xs l → k ≤ l
+pub use Rattle.exported_program.specs.Finite.{IsFinite, IsFactor, IsLeastFactor}
+use Rattle.exported_program.specs.FactorLemmas.{a_least_factor}
+pub use Rattle.exported_program.specs.FactorLemmas.{steps_to_cofactor, cofactor_of}
 
 -- the coefficients of the first n variables
 abbrev pub coefficients_below : (ℕ → ℚ) → ℕ → List ℚ
@@ -41,18 +26,6 @@ row_numbers n r =
 abbrev pub objective_numbers : ℕ → Form → List ℚ
 objective_numbers n o = o.constant ∷ coefficients_below o.coefficient n
 
--- ---- by divisors
--- n without what it shares with 10, in at most as many steps as the first number
-unfoldable pub steps_to_cofactor : ℕ → ℕ → ℕ
-steps_to_cofactor zero n = n
-steps_to_cofactor (suc k) n =
-    cond (nat_eq (gcd_of n 10) 1) n (steps_to_cofactor k (n / gcd_of n 10))
-
--- the part of n that is prime to 10
-unfoldable pub cofactor_of : ℕ → ℕ
-cofactor_of n = steps_to_cofactor n n
-
--- the least common multiple of the cofactors of the denominators
+-- the least factor of numbers
 unfoldable pub least_factor : List ℚ → ℕ
-least_factor [] = 1
-least_factor (x ∷ xs) = least_multiple (cofactor_of x.bottom) (least_factor xs)
+least_factor xs = (a_least_factor xs).0

@@ -34,8 +34,7 @@ scaled_row k r =
 -- one of the sides is there
 abbrev pub has_side : Option ℚ → Option ℚ → Bool
 has_side None None = false
-has_side (Some l) u = true
-has_side None (Some u) = true
+has_side _ _ = true
 
 -- the rows with a finite side, in order, each times its factor; the first is row i of the file
 unfoldable pub exported_rows : (ℕ → ℕ) → ℕ → List Row → List ScaledRow
@@ -51,9 +50,8 @@ nonzero x = unless_zero x.top x
 
 -- the upper side less the lower, where both are there and differ
 abbrev pub range_of : Option ℚ → Option ℚ → Option ℚ
-range_of None u = None
-range_of (Some l) None = None
 range_of (Some l) (Some u) = nonzero (u -ℚ l)
+range_of _ _ = None
 
 -- the lower side, or else the upper
 abbrev pub rhs_of : Option ℚ → Option ℚ → ℚ

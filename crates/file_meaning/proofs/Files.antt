@@ -7,7 +7,7 @@ use Rattle.nl_meaning.proofs.Local.{no_coefficient_beyond}
 use Rattle.file_meaning.specs.Expressions.{definitions_of, body_of, maximises}
 use Rattle.file_meaning.specs.Meaning.{objective_value, side_of, HasValueInside, IsRelaxed, IsFeasible}
 use Rattle.file_meaning.specs.LinearFile.{body_form, objective_form, row_of, variable_of, linear_of, HasLines, IsFormedFile}
-use Rattle.file_meaning.proofs.Elements.{elements_length, elements_at, all_elements, elements_all}
+use Rattle.linear_programs.proofs.Elements.{elements_length, elements_at, all_elements, elements_all}
 
 module _ (f : File) (k : ℕ) where
   pub count_lem : variable_count (linear_of f k) ≡ f.counts.n_var

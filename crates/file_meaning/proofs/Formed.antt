@@ -10,10 +10,10 @@ use Rattle.nl_meaning.specs.Trees.{Tree, number, variable, defined, operator, Tr
 use Rattle.nl_model.specs.File.{Term, Objective, Definition, File}
 use Rattle.nl_model.specs.HeaderRules.{defined_count}
 use Rattle.nl_model.specs.Nodes.{IsTreeFormed, AreTreesFormed}
-use Rattle.nl_model.specs.Rules.{is_defined, IsTreeWithin, AreTreesWithin, IsTreeKnown, AreTermsBelow as AreBelow, AreOrdered as AreSidesOrdered, AreDefinitions, IsFile}
+use Rattle.nl_model.specs.Rules.{is_defined, IsTreeWithin, AreTreesWithin, IsTreeKnown, AreTermsBelow as AreBelow, AreDefinitions, IsFile}
+use Rattle.linear_program.specs.Intervals.{AreOrdered as AreSidesOrdered, interval_of, no_sides}
 use Rattle.file_meaning.specs.Expressions.{linear_terms, definition_of, definitions_of, tree_or_zero, no_objective}
 use Rattle.file_meaning.specs.LinearFile.{IsFormedFile}
-use Rattle.file_meaning.specs.Meaning.{interval_of, no_sides}
 
 -- each of the definitions has one of the indices
 abbrev AreAmong : List Definition → List ℕ → Type 0

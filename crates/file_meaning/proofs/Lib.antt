@@ -1,5 +1,4 @@
 pub mod AllDefinitions
-pub mod Elements
 pub mod Files
 pub mod Folding
 pub mod Formed

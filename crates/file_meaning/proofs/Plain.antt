@@ -8,14 +8,15 @@ use Rattle.fractions.proofs.Arithmetic.{*ℚ_zero, *ℚ_one, +ℚ_zero}
 use Rattle.fractions.proofs.Adding.{sum_over-map, sum_over_same, sum_over-zero}
 use Rattle.fractions.proofs.Ring.{ring, v, ◌⊕◌, ◌⊖◌}
 use Rattle.linear_programs.specs.Linear.{value_at, linear_part, form_value}
-use Rattle.nl_meaning.specs.Faults.{expression_line, constant_line, line_with_terms}
-use Rattle.nl_meaning.specs.Lines.{Line, line_value, origin, unit_point, one_if}
-use Rattle.nl_meaning.specs.Trees.{Point, Tree, number, variable, defined, operator, Expression, Definition, known_values, val, expression_val, AreTermsBelow}
-use Rattle.nl_meaning.proofs.LineLemmas.{line_by_lem}
+use Rattle.nl_meaning.specs.Faults.{expression_line, line_with_terms}
+use Rattle.linear_programs.specs.Lines.{constant_line, Line, line_value, origin, unit_point, one_if, Point, form_of_line}
+use Rattle.nl_meaning.specs.Trees.{Tree, number, variable, defined, operator, Expression, Definition, known_values, val, expression_val, AreTermsBelow}
+use Rattle.linear_programs.proofs.LineLemmas.{line_by_lem}
 use Rattle.nl_meaning.proofs.Linear.{HasValues, constant_value, terms_added}
 use Rattle.nl_model.specs.File.{Term, File}
 use Rattle.file_meaning.specs.Expressions.{linear_term, linear_terms, definitions_of, body_of, objective_of}
-use Rattle.file_meaning.specs.LinearFile.{form_of_line, HasLines, IsFormedFile, IsNumber, number_value, IsPlain, coefficient_of}
+use Rattle.file_meaning.specs.LinearFile.{HasLines, IsFormedFile, IsNumber, number_value, IsPlain}
+use Rattle.linear_program.specs.Decimals.{coefficient_of}
 
 -- a tree that is one number has its value everywhere
 number_val : (ds : List Definition) (t : Tree) → IsNumber t → (at : Point) → val ds t at ≡ Some (number_value t)

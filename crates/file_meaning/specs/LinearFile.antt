@@ -1,19 +1,15 @@
 -- The linear program of an .nl file, by the values of its bodies and of an objective.
-use Rattle.std.specs.Prelude.{◌≡◌, ℕ, zero, suc, ◌<◌, nat_eq, cond, List, [], ◌∷◌, Some}
+use Rattle.std.specs.Prelude.{◌≡◌, ℕ, ◌<◌, List, [], Some}
 use Rattle.fractions.specs.Rational.{ℚ, zero_ℚ, decimal_value}
-use Rattle.fractions.specs.Sums.{sum_over}
 use Rattle.linear_programs.specs.Linear.{Form, Row, Variable, Linear, form_value, AreOrdered}
 pub use Rattle.linear_programs.specs.Names.{row_name, variable_name}
-use Rattle.exact_numbers.specs.Values.{dec_value}
 use Rattle.nl_meaning.specs.Faults.{expression_line}
-use Rattle.nl_meaning.specs.Lines.{Line}
+use Rattle.linear_programs.specs.Lines.{form_of_line}
 use Rattle.nl_meaning.specs.Trees.{Tree, number, Expression, indices_of, IsExpressionFormed, AreDefined}
-use Rattle.nl_model.specs.File.{Term, File}
+use Rattle.nl_model.specs.File.{File}
 use Rattle.file_meaning.specs.Expressions.{definitions_of, body_of, objective_of, maximises}
 use Rattle.file_meaning.specs.Meaning.{body_value, objective_value, side_of, bound_of, is_whole_variable}
-
-abbrev pub form_of_line : Line → Form
-form_of_line l = record { constant = l.constant; coefficient = l.coef }
+use Rattle.linear_programs.specs.Elements.{elements_from}
 
 -- the constant is the value at 0; the coefficient of variable j is the value with 1 at j and 0
 -- elsewhere, less the constant
@@ -29,11 +25,6 @@ row_of f i = record { name = row_name i; body = body_form f i; side = side_of f 
 abbrev pub variable_of : File → ℕ → Variable
 variable_of f j =
     record { name = variable_name j; bound = bound_of f j; whole = is_whole_variable f j }
-
--- n elements of a sequence, from element i on
-unfoldable pub elements_from : {A : Type 0} → (ℕ → A) → ℕ → ℕ → List A
-elements_from g i zero = []
-elements_from g i (suc n) = g i ∷ elements_from g (suc i) n
 
 -- the linear program of a file with objective k
 unfoldable pub linear_of : File → ℕ → Linear
@@ -78,7 +69,3 @@ number_value t = zero_ℚ
 pub record IsPlain (f : File) (k : ℕ) : Type 0 where
   pub bodies : (i : ℕ) → i < f.counts.n_con → IsNumber (body_of f i).tree
   pub objective : IsNumber (objective_of f k).tree
-
--- the sum of the values that terms give to variable j
-unfoldable pub coefficient_of : List Term → ℕ → ℚ
-coefficient_of ts j = sum_over (λ t. cond (nat_eq t.0 j) (dec_value t.1) zero_ℚ) ts

@@ -1,17 +1,13 @@
 -- What an .nl file means (Gay 2005, "Writing .nl Files"): values at assignments, and which
 -- assignments are feasible.
 use Rattle.std.specs.Prelude.{ℕ, ◌<◌, Bool, true, false, IsTrue, List, get_or, Option, Some, None}
-use Rattle.std.specs.Option.{option_map}
 use Rattle.fractions.specs.Rational.{ℚ, ◌<ℚ◌, IsWhole}
 use Rattle.linear_programs.specs.Linear.{Interval, IsInside, value_at}
-use Rattle.exact_numbers.specs.Values.{dec_value}
 use Rattle.nl_meaning.specs.Trees.{expression_val}
-use Rattle.nl_model.specs.declared.interval.Interval.{Interval as Sides}
-use Rattle.nl_model.specs.declared.kind.Kind.{Kind}
-use Rattle.nl_model.specs.declared.kind.Kind.TheVariants.{Continuous, Binary, Integer}
 use Rattle.nl_model.specs.File.{File}
 use Rattle.nl_model.specs.Kinds.{kind_of}
 use Rattle.file_meaning.specs.Expressions.{definitions_of, body_of, objective_of, maximises}
+use Rattle.linear_program.specs.Intervals.{interval_of, no_sides, is_whole_kind}
 
 -- ---- values
 -- the value of body i at an assignment, which lists a number for each variable
@@ -23,23 +19,12 @@ abbrev pub objective_value : File → ℕ → List ℚ → Option ℚ
 objective_value f k xs = expression_val (definitions_of f) (objective_of f k) (value_at xs)
 
 -- ---- sides and kinds
-abbrev pub interval_of : Sides → Interval
-interval_of s = record { lower = option_map dec_value s.lo; upper = option_map dec_value s.hi }
-
-abbrev pub no_sides : Sides
-no_sides = record { lo = None; hi = None }
-
 -- the sides of constraint i, and of variable j
 abbrev pub side_of : File → ℕ → Interval
 side_of f i = interval_of (get_or f.sides i no_sides)
 
 abbrev pub bound_of : File → ℕ → Interval
 bound_of f j = interval_of (get_or f.bounds j no_sides)
-
-abbrev pub is_whole_kind : Kind → Bool
-is_whole_kind Continuous = false
-is_whole_kind Binary = true
-is_whole_kind Integer = true
 
 -- variable j is binary or integer
 abbrev pub is_whole_variable : File → ℕ → Bool

@@ -2,14 +2,15 @@
 ghost use Rattle.std.specs.Prelude.{◌≡◌, ◌<◌, ◌↔◌, ℕ, List, [], None, Some, get_or, slice_get, take};
 ghost use Rattle.fractions.specs.Rational.{ℚ};
 ghost use Rattle.linear_programs.specs.Linear.{IsLinear, IsFeasible as IsFeasibleProgram, IsRelaxed as IsRelaxedProgram, objective_value as program_objective};
-ghost use Rattle.nl_meaning.specs.Lines.{line_value};
+ghost use Rattle.linear_programs.specs.Lines.{line_value, Point};
 ghost use Rattle.nl_meaning.specs.Parts.{IsLinearTree, IsPart};
-ghost use Rattle.nl_meaning.specs.Trees.{Definition, IsOneOf, Point, Tree, indices_of, known_values, val};
+ghost use Rattle.nl_meaning.specs.Trees.{Definition, IsOneOf, Tree, indices_of, known_values, val};
 ghost use Rattle.nl_model.specs.File.{File};
 ghost use Rattle.nl_model.specs.Rules.{IsFile};
 ghost use Rattle.file_meaning.specs.Expressions.{body_of, definitions_of, maximises, objective_of};
 ghost use Rattle.file_meaning.specs.FoldFaults.{defined_line, fold_fault};
-ghost use Rattle.file_meaning.specs.LinearFile.{HasLines, IsFormedFile, IsPlain, body_form, coefficient_of, linear_of, number_value, objective_form};
+ghost use Rattle.file_meaning.specs.LinearFile.{HasLines, IsFormedFile, IsPlain, body_form, linear_of, number_value, objective_form};
+ghost use Rattle.linear_program.specs.Decimals.{coefficient_of};
 ghost use Rattle.file_meaning.specs.Meaning.{IsFeasible, IsRelaxed, objective_value};
 
 // Where each body and the objective have the values of their forms, the linear program means what

@@ -4,7 +4,7 @@ use Rattle.std.proofs.Common.{◌≡◌, ◌∙◌, ◌⊎◌, inl, inr, ℕ, ze
 use Rattle.std.specs.Prelude.{codes}
 use Rattle.std.specs.List.{AllByRecursion, slice_range, prefix_len, suffix_len}
 use Rattle.std.proofs.lemmas.List.{length-take, take_all, reverse-append}
-use Rattle.texts.proofs.ScanLemmas.{no_end-take}
+use Rattle.texts.proofs.WalkSteps.{no_end-take}
 use Rattle.texts.specs.Cut.{HasNoEnd, IsTextLine}
 use Rattle.texts.specs.Lines.{trimmed}
 use Rattle.texts.specs.Words.{is_blank, ends_word, onto_word, words_of}

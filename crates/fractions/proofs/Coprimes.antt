@@ -3,7 +3,7 @@ use Rattle.std.proofs.Common.{ℕ, zero, suc, ◌*◌, ◌^◌, sym, subst, pow-
 use Rattle.std.proofs.Math.Nat.{pow-zero, eq-one_of_dvd-one}
 use Rattle.std.proofs.lemmas.Nat.Gcd.{dvd_trans}
 use Rattle.fractions.specs.Divisors.{AreCoprime}
-use Rattle.fractions.specs.Lowest.{dvd_other}
+use Rattle.fractions.specs.LowestLemmas.{dvd_other}
 
 pub coprime-mul : (a b c : ℕ) → AreCoprime a b → AreCoprime a c → AreCoprime a (b * c)
 coprime-mul a b c h k d p q = k d p (dvd_other d b c (λ e r s. h e (dvd_trans e r p) s) q)

@@ -16,10 +16,10 @@ use Rattle.exact_numbers.specs.Values.{dec_value, order_of}
 use Rattle.exact_numbers.proofs.Bridge.{and_true}
 use Rattle.fractions.specs.Rational.{ℚ, zero_ℚ, one_ℚ, whole}
 use Rattle.linear_programs.specs.Linear.{Interval}
-use Rattle.file_meaning.specs.Meaning.{interval_of}
-use Rattle.nl_model.specs.declared.interval.Interval.{Interval as Sides}
-use Rattle.nl_model.specs.declared.kind.Kind.{Kind}
-use Rattle.nl_model.specs.declared.kind.Kind.TheVariants.{Continuous, Binary, Integer}
+use Rattle.linear_program.specs.Intervals.{interval_of}
+use Rattle.linear_program.specs.declared.interval.Interval.{Interval as Sides}
+use Rattle.linear_program.specs.declared.kind.Kind.{Kind}
+use Rattle.linear_program.specs.declared.kind.Kind.TheVariants.{Continuous, Binary, Integer}
 use Rattle.nl_model.specs.Kinds.{Group, group_of, kind_among, kind_of}
 use Rattle.nl_lines.specs.Tests.{is_binary, is_within_unit}
 use Rattle.mps_model.specs.Mps.{Mps, column_interval, with_values}

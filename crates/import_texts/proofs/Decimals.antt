@@ -11,7 +11,8 @@ use Rattle.exact_numbers.specs.declared.dec.Dec.{Dec}
 use Rattle.exact_numbers.specs.Values.{FitsDec, dec_value}
 use Rattle.nl_model.specs.File.{Term}
 use Rattle.file_meaning.specs.Expressions.{definitions_of}
-use Rattle.file_meaning.specs.LinearFile.{coefficient_of, linear_of, objective_form}
+use Rattle.linear_program.specs.Decimals.{coefficient_of}
+use Rattle.file_meaning.specs.LinearFile.{linear_of, objective_form}
 use Rattle.file_meaning.proofs.Plain.{plain_coefficient, plain_constant}
 use Rattle.linear_programs.specs.Linear.{variable_count}
 use Rattle.mps_model.specs.Mps.{Entry, Mps, no_column, objective_row, rhs_at, with_values}

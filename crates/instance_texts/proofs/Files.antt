@@ -7,7 +7,8 @@ use Rattle.std.proofs.lemmas.List.FromFn.{length-map-range_with_len, map-range_w
 use Rattle.nl_meaning.specs.Trees.{number, defined}
 use Rattle.nl_model.specs.File.{Objective}
 use Rattle.nl_model.specs.Nodes.{IsTreeFormed}
-use Rattle.nl_model.specs.Rules.{AreBodies, AreDefinitions, AreGuesses, AreObjectives, AreTerms, AreTermsBelow, IsDefinition, IsFile, IsOrdered, IsSuffix, IsTreeKnown, IsTreeWithin, most_terms, term_count}
+use Rattle.nl_model.specs.Rules.{AreBodies, AreDefinitions, AreGuesses, AreObjectives, AreTerms, AreTermsBelow, IsDefinition, IsFile, IsSuffix, IsTreeKnown, IsTreeWithin, most_terms, term_count}
+use Rattle.linear_program.specs.Intervals.{IsOrdered}
 use Rattle.instances.specs.Draws.{row_of}
 use Rattle.instances.specs.Instance.{each, whole_dec, counts_of, chained, definition_of, body_of, terms_of, side_of, bound_of, slope_of, goal_of, instance}
 use Rattle.instances.specs.Making.{drafted}

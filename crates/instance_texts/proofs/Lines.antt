@@ -5,7 +5,7 @@ use Rattle.std.specs.Fmt.{decimal}
 use Rattle.std.specs.List.{AllByRecursion, flat_map, range_with_len}
 use Rattle.std.proofs.lemmas.List.Elements.{All-from_recursion}
 use Rattle.exact_numbers.specs.declared.dec.Dec.{Dec}
-use Rattle.nl_model.specs.declared.interval.Interval.{Interval}
+use Rattle.linear_program.specs.declared.interval.Interval.{Interval}
 use Rattle.written_texts.specs.Lines.{Line, line_text, lines_text, spaced, text_of, unless_empty}
 use Rattle.written_texts.proofs.Lengths.{decimal-length, text-length}
 use Rattle.written_texts.proofs.LineLemmas.{spaced-length}

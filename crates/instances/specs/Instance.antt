@@ -5,10 +5,10 @@ use Rattle.std.specs.List.{range_with_len}
 use Rattle.fractions.specs.Rational.{whole}
 use Rattle.exact_numbers.specs.declared.dec.Dec.{Dec}
 use Rattle.exact_numbers.specs.Numbers.{dec_from}
-use Rattle.exact_numbers.specs.Spelled.{spelled_dec}
+use Rattle.exact_numbers.specs.SpelledLemmas.{spelled_dec}
 use Rattle.nl_meaning.specs.Trees.{Tree, number, defined}
 use Rattle.nl_model.specs.declared.header_counts.Counts.{Counts}
-use Rattle.nl_model.specs.declared.interval.Interval.{Interval}
+use Rattle.linear_program.specs.declared.interval.Interval.{Interval}
 use Rattle.nl_model.specs.File.{Term, Objective, Definition, File}
 use Rattle.instances.specs.Draws.{row_of}
 

@@ -5,22 +5,22 @@ use Rattle.std.proofs.lemmas.List.Sums.{sum_by-append, sum_by-cons, sum_by-take-
 use Rattle.texts.specs.declared.stop.Stop.{Stop}
 use Rattle.texts.specs.declared.stop.Stop.TheVariants.{Fault, Memory}
 use Rattle.texts.specs.Stopped.{IfFault}
-use Rattle.nl_meaning.specs.Trees.{Point, Tree, with_value, expression_value, tree_size}
+use Rattle.linear_programs.specs.Lines.{Point, constant_line}
+use Rattle.nl_meaning.specs.Trees.{Tree, with_value, expression_value, tree_size}
 use Rattle.nl_model.specs.declared.at.Owner.TheVariants.{Def, Con, Obj}
 use Rattle.nl_model.specs.File.{Term, Objective, Definition, File}
 use Rattle.nl_model.specs.Rules.{IsFile}
 use Rattle.file_meaning.specs.Expressions.{definition_of, linear_terms, no_objective, tree_or_zero, zero_tree}
 use Rattle.file_meaning.specs.FoldFaults.{definition, constraint, objective, Owned, owned_body, owned_definitions, owned_objective, most_coefficients, owners_fault, owners_of}
-use Rattle.file_meaning.specs.LinearFile.{elements_from}
+use Rattle.linear_programs.specs.Elements.{elements_from}
 use Rattle.linear_fold.specs.declared.fold_fault.FoldFault.{FoldFault}
-use Rattle.linear_fold.specs.declared.form.Form.{Form}
+use Rattle.linear_program.specs.declared.form.Form.{Form}
 use Rattle.linear_fold.specs.FoldedFaults.{named_fault, node_total, step_bound, term_total}
 use Rattle.linear_fold.specs.declared.entries.Entry.TheVariants.{Linear}
-use Rattle.linear_fold.specs.Coefs.{AreAscending, AreBelow}
+use Rattle.linear_program.specs.Coefs.{AreAscending, AreBelow}
 use Rattle.linear_fold.specs.Folds.{IsExpressionFolded}
-use Rattle.linear_fold.specs.Forms.{IsWithin, form_line, form_terms}
+use Rattle.linear_program.specs.Forms.{IsWithin, form_line, form_terms}
 use Rattle.fractions.specs.Rational.{zero_ℚ}
-use Rattle.nl_meaning.specs.Faults.{constant_line}
 use Rattle.nl_model.specs.FilePlaces.{terms_at, tree_at}
 use Rattle.std.proofs.lemmas.List.{get_or_past}
 use Rattle.std.proofs.lemmas.Option.{slice_get_past}

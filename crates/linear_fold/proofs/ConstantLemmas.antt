@@ -10,7 +10,7 @@ use Rattle.std.proofs.lemmas.Int.{ints, unsigned_abs-mul}
 use Rattle.exact_numbers.specs.declared.frac.Frac.{Frac}
 use Rattle.exact_numbers.specs.Values.{frac_value, order_of}
 use Rattle.fractions.specs.Divisors.{AreCoprime}
-use Rattle.fractions.specs.Lowest.{coprime-swap}
+use Rattle.fractions.specs.LowestLemmas.{coprime-swap}
 use Rattle.fractions.specs.Fits.{fits}
 use Rattle.fractions.specs.Functions.{exponent_of, or_zero, power_of, is_below, lesser_of, greater_of, least_of, greatest_of, floor_of, ceiling_of, absolute_of, without_sign}
 use lib.IntN.{*ℤ-one, zero-*ℤ}
@@ -18,9 +18,9 @@ use Rattle.fractions.specs.Rational.{ℚ, whole, ◌<ℚ◌, over, zero_ℚ, one
 use Rattle.fractions.proofs.Coprimes.{coprime-mul, coprime-pow}
 use Rattle.fractions.proofs.Extremes.{power_of-zero, power_of-suc}
 use Rattle.fractions.proofs.Arithmetic.{over_lowest, over_parts}
-use Rattle.nl_meaning.specs.Faults.{constant_line, constants_line, nonlinear_unless, operator_fault, operator_line, power_fault, too_wide_unless}
+use Rattle.linear_programs.specs.Lines.{constant_line, Line, is_constant, are_constant, constants_of}
+use Rattle.nl_meaning.specs.Faults.{constants_line, nonlinear_unless, operator_fault, operator_line, power_fault, too_wide_unless}
 use Rattle.nl_meaning.specs.declared.Reason.TheVariants.{RefusedPower, TooWide}
-use Rattle.nl_meaning.specs.Lines.{Line, is_constant, are_constant, constants_of}
 use Rattle.nl_meaning.specs.Trees.{on_values}
 use Rattle.code_tables.specs.declared.class.OpClass.{OpClass}
 use Rattle.code_tables.specs.declared.class.OpClass.TheVariants.{Least, Greatest, Power}

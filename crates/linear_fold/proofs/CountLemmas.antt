@@ -3,15 +3,15 @@ use Rattle.std.proofs.Common.{◌≡◌, ◌≢◌, ℕ, zero, suc, ◌+◌, ◌
 use Rattle.std.proofs.lemmas.Bool.{cases_eq, false_from_ne_true}
 use Rattle.exact_numbers.specs.Values.{frac_value}
 use Rattle.fractions.specs.Rational.{ℚ, whole, zero_ℚ}
-use Rattle.nl_meaning.specs.Lines.{Line, is_zero}
-use Rattle.nl_meaning.proofs.LineLemmas.{is_zero-true}
+use Rattle.linear_programs.specs.Lines.{Line, is_zero}
+use Rattle.linear_programs.proofs.LineLemmas.{is_zero-true}
 use Rattle.file_meaning.specs.FoldFaults.{coefficient_count}
-use Rattle.linear_fold.specs.declared.form.Form.{Form}
-use Rattle.linear_fold.specs.Coefs.{Term, AreAscending, AreBelow, coef_in, value_or_zero}
-use Rattle.linear_fold.specs.Forms.{IsWithin, form_line, form_terms, kept_constant}
-use Rattle.linear_fold.specs.Programs.{IsFormOver}
-use Rattle.linear_fold.proofs.CoefLemmas.{found_apart, found_before, found_same}
-use Rattle.linear_fold.proofs.Scaled.{terms_below}
+use Rattle.linear_program.specs.declared.form.Form.{Form}
+use Rattle.linear_program.specs.Coefs.{Term, AreAscending, AreBelow, coef_in, value_or_zero}
+use Rattle.linear_program.specs.Forms.{IsWithin, form_line, form_terms, kept_constant}
+use Rattle.linear_program.specs.Programs.{IsFormOver}
+use Rattle.linear_program.proofs.CoefLemmas.{found_apart, found_before, found_same}
+use Rattle.linear_program.proofs.Scaled.{terms_below}
 
 abbrev one_where : ℚ → ℕ
 one_where x = if is_zero x then 0 else 1

@@ -11,8 +11,8 @@ use Rattle.std.proofs.lemmas.List.Sums.{sum_by-append, sum_by-set, sum_by-take-l
 use Rattle.std.proofs.lemmas.List.Folds.{list_any-append, sum_by-replicate}
 use Rattle.texts.specs.declared.stop.Stop.{Stop}
 use Rattle.texts.specs.declared.stop.Stop.TheVariants.{Fault, Memory}
-use Rattle.nl_meaning.specs.Lines.{line_value}
-use Rattle.nl_meaning.specs.Trees.{Point, Known, nothing_known, with_value, Definition as Meaning, expression_value, tree_size, values_after}
+use Rattle.linear_programs.specs.Lines.{line_value, Point}
+use Rattle.nl_meaning.specs.Trees.{Known, nothing_known, with_value, Definition as Meaning, expression_value, tree_size, values_after}
 use Rattle.nl_model.specs.File.{Definition, File}
 use Rattle.nl_model.specs.HeaderRules.{defined_count}
 use Rattle.nl_model.specs.Rules.{IsDefinition, is_defined}
@@ -20,12 +20,12 @@ use Rattle.nl_model.specs.Rules.{IsFile}
 use Rattle.nl_model.specs.declared.at.Owner.TheVariants.{Def}
 use Rattle.file_meaning.specs.Expressions.{definition_of, linear_terms, tree_or_zero}
 use Rattle.file_meaning.specs.FoldFaults.{Owned, owners_fault}
-use Rattle.file_meaning.specs.LinearFile.{elements_from}
+use Rattle.linear_programs.specs.Elements.{elements_from}
 use Rattle.linear_fold.specs.declared.fold_fault.FoldFault.{FoldFault}
-use Rattle.linear_fold.specs.declared.form.Form.{Form}
+use Rattle.linear_program.specs.declared.form.Form.{Form}
 use Rattle.linear_fold.specs.FoldedFaults.{named_fault}
 use Rattle.linear_fold.specs.Folds.{AreKnown, AreSlotsWithin, HasLineOf, IsGiven}
-use Rattle.linear_fold.specs.Forms.{IsWithin, form_line}
+use Rattle.linear_program.specs.Forms.{IsWithin, form_line}
 use Rattle.linear_fold.specs.OwnerFolds.{AreSlotsOf, HasStopped, HasFolded, IsFormOf, definitions_size, form_count, known_by}
 use Rattle.linear_fold.specs.declared.owners.Folder.{Folder}
 use Rattle.linear_fold.proofs.OwnerLemmas.{definition_at, found_here}

@@ -9,12 +9,12 @@ use Rattle.fractions.proofs.Arithmetic.{*ℚ_zero, +ℚ_zero}
 use Rattle.exact_numbers.proofs.Bridge.{zero_decimal}
 use Rattle.fractions.specs.Fits.{fits}
 use Rattle.nl_meaning.specs.declared.Fault.{Fault}
-use Rattle.nl_meaning.specs.Lines.{Line, line_value}
-use Rattle.nl_meaning.specs.Faults.{constant_line, fault_at, too_wide_unless, line_with, line_with_terms, terms_fault, tree_fault, products_fit}
-use Rattle.nl_meaning.specs.Trees.{Point, Known, Tree, Trees, LinearTerm, AreTermsBelow, tree_size, trees_size, tree_value}
+use Rattle.linear_programs.specs.Lines.{Line, line_value, constant_line, line_with, products_fit, Point}
+use Rattle.nl_meaning.specs.Faults.{fault_at, too_wide_unless, line_with_terms, terms_fault, tree_fault}
+use Rattle.nl_meaning.specs.Trees.{Known, Tree, Trees, LinearTerm, AreTermsBelow, tree_size, trees_size, tree_value}
 use Rattle.fractions.proofs.Tests.{option_or-none_right}
 use Rattle.nl_meaning.proofs.Linear.{terms_added}
-use Rattle.nl_meaning.proofs.LineLemmas.{apart-eqb}
+use Rattle.linear_programs.proofs.LineLemmas.{apart-eqb}
 use Rattle.nl_model.specs.declared.node.Node.{Node}
 use Rattle.nl_model.specs.File.{Term}
 use Rattle.nl_model.specs.Nodes.{IsPrefix, a_number, a_variable, a_defined, an_operation, ArePrefixes, no_tree, one_more}
@@ -22,9 +22,9 @@ use Rattle.nl_model.specs.Rules.{AreTermsBelow as AreFileTermsBelow}
 use Rattle.file_meaning.specs.Expressions.{linear_terms, zero_tree}
 use Rattle.linear_fold.specs.declared.entries.Entry.{Entry}
 use Rattle.linear_fold.specs.declared.entries.Entry.TheVariants.{Linear, Broken}
-use Rattle.linear_fold.specs.declared.form.Form.{Form}
-use Rattle.linear_fold.specs.declared.too_wide.Wide.{Wide}
-use Rattle.linear_fold.specs.Forms.{form_line, AddsScaled, IsWithin, IsZeroFrom}
+use Rattle.linear_program.specs.declared.form.Form.{Form}
+use Rattle.linear_program.specs.declared.too_wide.Wide.{Wide}
+use Rattle.linear_program.specs.Forms.{form_line, AddsScaled, IsWithin, IsZeroFrom}
 use Rattle.linear_fold.specs.Operates.{zero_line}
 use Rattle.linear_fold.specs.Folds.{AddsTerms, AreNodesWithin, AreTreesGiven, ComesToTerms, HasLineOf, IsEntryWithin, IsExpressionFolded, IsFolded, IsTreeGiven}
 use Rattle.linear_fold.proofs.Folding.{constant_lined, is_line_of, same_form}

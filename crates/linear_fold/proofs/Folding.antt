@@ -10,21 +10,21 @@ use Rattle.fractions.specs.Rational.{ℚ, zero_ℚ, one_ℚ, ◌+ℚ◌, ◌*ℚ
 use Rattle.fractions.proofs.Arithmetic.{*ℚ_zero, +ℚ_zero, neg_zero}
 use Rattle.nl_meaning.specs.declared.Fault.{Fault}
 use Rattle.nl_meaning.specs.declared.Reason.{Reason}
-use Rattle.nl_meaning.specs.Lines.{Line, some_values, line_value, line_by, is_constant}
-use Rattle.nl_meaning.specs.Faults.{line_with, line_sum, line_scaled, line_neg, running_line, constant_line, operator_fault, operator_line, fault_at, lines_of, tree_fault}
-use Rattle.nl_meaning.specs.Trees.{Point, Known, Tree, operator, Trees, none, more, on_values, operator_value, tree_value, trees_values, HasCount}
-use Rattle.nl_meaning.proofs.LineLemmas.{same_constant, same_coef, no_coef}
+use Rattle.linear_programs.specs.Lines.{Line, some_values, line_value, line_by, is_constant, line_with, line_sum, line_scaled, line_neg, running_line, constant_line, Point}
+use Rattle.nl_meaning.specs.Faults.{operator_fault, operator_line, fault_at, lines_of, tree_fault}
+use Rattle.nl_meaning.specs.Trees.{Known, Tree, operator, Trees, none, more, on_values, operator_value, tree_value, trees_values, HasCount}
+use Rattle.linear_programs.proofs.LineLemmas.{same_constant, same_coef, no_coef}
 use Rattle.nl_meaning.proofs.Linear.{all_there-some, constant_value, variable_value, operator_has_line}
 use Rattle.linear_fold.specs.declared.entries.Entry.{Entry}
 use Rattle.linear_fold.specs.declared.entries.Entry.TheVariants.{Linear as Whole, Broken as Faulty}
-use Rattle.linear_fold.specs.declared.form.Form.{Form}
+use Rattle.linear_program.specs.declared.form.Form.{Form}
 use Rattle.linear_fold.specs.declared.parts.Part.{Part}
 use Rattle.linear_fold.specs.declared.parts.Part.TheVariants.{Number, Variable, Linear, Broken}
-use Rattle.linear_fold.specs.Forms.{form_line, IsWithin, IsZeroFrom}
+use Rattle.linear_program.specs.Forms.{form_line, IsWithin, IsZeroFrom}
 use Rattle.linear_fold.specs.Operates.{IsOperand, IsSound, AreOperands, lines_of_parts, part_line}
 use Rattle.linear_fold.specs.Folds.{HasLine, HasLineOf, IsLined, AreLinesOf, AreOperandsOf, ArePartsWithin, ComesToLine, IsEntryOf, IsEntryWithin, IsFolded, IsPartFolded, IsPartWithin, first_broken}
 use Rattle.linear_fold.proofs.PartLemmas.{multiple_zero_from}
-use Rattle.linear_fold.proofs.Scaled.{same_line}
+use Rattle.linear_program.proofs.Scaled.{same_line}
 
 -- a function of points that has the values of a line
 pub same_values : (n : ℕ) (f : Point → Option ℚ) (a l : Line) → a ≡ l → HasLine n f l → HasLine n f a

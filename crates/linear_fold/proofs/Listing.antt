@@ -8,16 +8,19 @@ use Rattle.fractions.specs.Fits.{fits, sum_fits}
 use Rattle.fractions.specs.Rational.{ℚ, zero_ℚ, ◌+ℚ◌}
 use Rattle.fractions.proofs.Arithmetic.{zero-+ℚ}
 use Rattle.nl_meaning.specs.declared.Reason.TheVariants.{TooWide}
-use Rattle.nl_meaning.specs.Faults.{fault_at, too_wide_unless, line_with, line_with_terms, terms_fault}
-use Rattle.nl_meaning.specs.Lines.{Line}
+use Rattle.nl_meaning.specs.Faults.{fault_at, too_wide_unless, line_with_terms, terms_fault}
+use Rattle.linear_programs.specs.Lines.{line_with, Line}
 use Rattle.nl_meaning.specs.Trees.{LinearTerm}
 use Rattle.nl_model.specs.File.{Term as FileTerm}
 use Rattle.file_meaning.specs.Expressions.{linear_terms}
-use Rattle.linear_fold.specs.Coefs.{Term, found, value_or_zero, coef_in, AreAscending, AreBelow, AreStrictlyAscending, AreZeroTerms}
-use Rattle.linear_fold.proofs.Closing.{found_last, found_other}
-use Rattle.linear_fold.proofs.CoefLemmas.{adds_at, ascending_append, below_append, below_from, found_beyond, nothing_added}
+use Rattle.linear_program.specs.Coefs.{Term, found, value_or_zero, coef_in, AreAscending, AreBelow}
+use Rattle.linear_fold.specs.LinearTerms.{AreStrictlyAscending, AreZeroTerms}
+use Rattle.linear_program.proofs.Closing.{found_last, found_other}
+use Rattle.linear_program.proofs.CoefLemmas.{adds_at, ascending_append, below_append, below_from, found_beyond, nothing_added}
 use Rattle.exact_numbers.proofs.Zeros.{fits_zero, sum_fits_zero, zero_frac_fits}
-use Rattle.linear_fold.proofs.Scaled.{same_line}
+use Rattle.linear_program.proofs.Scaled.{same_line}
+use Rattle.linear_program.specs.Decimals.{DecimalTerm, AreDecimals}
+use Rattle.linear_program.proofs.DecimalLemmas.{AllFit}
 
 -- ---- the test
 module _ (n : ℕ) (all rest : List FileTerm) (i : ℕ) (t : FileTerm) (whole : Type 0) (at : drop i all ≡ t ∷ rest) (h : AreStrictlyAscending n (linear_terms (drop i all)) ↔ whole) where
@@ -119,3 +122,8 @@ nothing_listed a i (t ∷ ts) f z =
 pub some_term : (ts : List FileTerm) → (AreZeroTerms (linear_terms ts) → ⊥) → 0 < length ts
 some_term [] n = absurd (n tt)
 some_term (t ∷ ts) n = omega arith
+
+-- ---- terms of a file as decimals
+pub are_decimals : (n : ℕ) (ds : List DecimalTerm) → AreStrictlyAscending n (linear_terms ds) → AllFit ds → AreDecimals n ds
+are_decimals n [] a f = tt
+are_decimals n (d ∷ ds) a f = (a.0, a.1, f.0, are_decimals (suc d.0) ds a.2 f.1)

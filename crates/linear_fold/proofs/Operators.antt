@@ -11,22 +11,22 @@ use Rattle.fractions.specs.Rational.{ℚ, zero_ℚ, one_ℚ, ◌+ℚ◌, ◌*ℚ
 use Rattle.fractions.proofs.Arithmetic.{one-*ℚ, neg-*ℚ, *ℚ_zero, zero-+ℚ, +ℚ_zero}
 use Rattle.nl_meaning.specs.declared.Reason.{Reason}
 use Rattle.nl_meaning.specs.declared.Reason.TheVariants.{Nonlinear, DivideByZero}
-use Rattle.nl_meaning.specs.Faults.{line_sum, line_scaled, line_neg, sums_fit, products_fit, running_sums_fit, running_line, too_wide_unless, operator_fault}
-use Rattle.nl_meaning.specs.Lines.{Line, is_zero, is_constant}
-use Rattle.nl_meaning.proofs.LineLemmas.{all_below-true}
-use Rattle.linear_fold.specs.declared.form.Form.{Form}
+use Rattle.linear_programs.specs.Lines.{line_sum, line_scaled, line_neg, sums_fit, products_fit, running_sums_fit, running_line, Line, is_zero, is_constant}
+use Rattle.nl_meaning.specs.Faults.{too_wide_unless, operator_fault}
+use Rattle.linear_programs.proofs.LineLemmas.{all_below-true}
+use Rattle.linear_program.specs.declared.form.Form.{Form}
 use Rattle.linear_fold.specs.declared.parts.Part.{Part}
 use Rattle.linear_fold.specs.declared.operate.Outcome.{Outcome}
 use Rattle.linear_fold.specs.declared.operate.Outcome.TheVariants.{Linear, Refused}
-use Rattle.linear_fold.specs.declared.too_wide.Wide.{Wide}
-use Rattle.linear_fold.specs.Coefs.{AreAscending}
-use Rattle.linear_fold.specs.Forms.{form_terms, IsWithin, IsZeroFrom, ScaledSumFits, AddsScaled}
+use Rattle.linear_program.specs.declared.too_wide.Wide.{Wide}
+use Rattle.linear_program.specs.Coefs.{AreAscending}
+use Rattle.linear_program.specs.Forms.{form_terms, IsWithin, IsZeroFrom, ScaledSumFits, AddsScaled}
 use Rattle.linear_fold.specs.Operates.{zero_line, IsOperand, AreOperands, SumsTo, ComesTo, Operates, part_line}
 use Rattle.exact_numbers.proofs.Zeros.{fits_zero, sum_fits_zero, zero_sum_fits}
-use Rattle.linear_fold.proofs.FracLemmas.{fits_neg}
+use Rattle.linear_program.proofs.FracLemmas.{fits_neg}
 pub use Rattle.linear_fold.proofs.PartLemmas.{FitsLine, form_fits}
 use Rattle.linear_fold.proofs.PartLemmas.{part_fits}
-use Rattle.linear_fold.proofs.Scaled.{same_line, few_terms, all_below-intro}
+use Rattle.linear_program.proofs.Scaled.{same_line, few_terms, all_below-intro}
 
 pub neg_fits : (l : Line) → FitsLine l → FitsLine (line_neg l)
 neg_fits l h = record { constant = fits_neg l.constant ∙ h.constant; coefs = λ j. fits_neg (l.coef j) ∙ h.coefs j }

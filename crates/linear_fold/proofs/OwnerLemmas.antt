@@ -9,11 +9,11 @@ use Rattle.exact_numbers.proofs.Bridge.{zero_decimal}
 use Rattle.nl_meaning.specs.declared.Fault.{Fault}
 use Rattle.nl_meaning.specs.declared.Reason.{Reason}
 use Rattle.nl_meaning.specs.declared.Reason.TheVariants.{Nonlinear as IsNonlinear, DivideByZero as DividesByZero, TooWide as IsTooWide, RefusedPower as HasRefusedPower}
-use Rattle.nl_meaning.specs.Lines.{Line}
-use Rattle.nl_meaning.specs.Faults.{constant_line, fault_at, too_wide_unless, tree_fault, trees_fault, terms_fault, expression_fault, line_of, line_with, lines_of, operator_fault}
-use Rattle.nl_meaning.specs.Trees.{Point, Known, Tree, number, variable, defined, operator, Trees, none, more, Expression, expression_value, tree_size, trees_size}
+use Rattle.linear_programs.specs.Lines.{Line, constant_line, line_with, Point}
+use Rattle.nl_meaning.specs.Faults.{fault_at, too_wide_unless, tree_fault, trees_fault, terms_fault, expression_fault, line_of, lines_of, operator_fault}
+use Rattle.nl_meaning.specs.Trees.{Known, Tree, number, variable, defined, operator, Trees, none, more, Expression, expression_value, tree_size, trees_size}
 use Rattle.nl_meaning.proofs.Linear.{terms_added}
-use Rattle.nl_meaning.proofs.LineLemmas.{same_coef}
+use Rattle.linear_programs.proofs.LineLemmas.{same_coef}
 use Rattle.nl_model.specs.declared.at.At.{At}
 use Rattle.nl_model.specs.declared.at.At.TheVariants.{Node, Term as TermOf, Head}
 use Rattle.nl_model.specs.declared.at.Owner.{Owner}
@@ -25,14 +25,14 @@ use Rattle.nl_model.specs.Rules.{AreDefinitions, AreTermsBelow, AreTreesWithin, 
 use Rattle.file_meaning.specs.Expressions.{linear_term, linear_terms, tree_or_zero, zero_tree}
 use Rattle.file_meaning.specs.FoldFaults.{Owned, at_owner, coefficient_count, fold_too_large, head_fault, most_coefficients, owned_line, owners_fault}
 use Rattle.linear_fold.specs.declared.fold_fault.FoldFault.TheVariants.{FoldTooLarge}
-use Rattle.linear_fold.specs.declared.form.Form.{Form}
+use Rattle.linear_program.specs.declared.form.Form.{Form}
 use Rattle.linear_fold.specs.FoldedFaults.{HasFaultPlace, fault_for, named_fault, owner_of, place_at}
 use Rattle.linear_fold.specs.declared.entries.Entry.{Entry}
-use Rattle.linear_fold.specs.Coefs.{AreAscending}
-use Rattle.linear_fold.specs.Forms.{IsWithin, form_line, form_terms}
+use Rattle.linear_program.specs.Coefs.{AreAscending}
+use Rattle.linear_program.specs.Forms.{IsWithin, form_line, form_terms}
 use Rattle.linear_fold.specs.Folds.{AreKnown, AreSlotsWithin, AreTreesGiven, HasLineOf, IsExpressionFolded, IsGiven, IsTreeGiven}
 use Rattle.linear_fold.specs.OwnerFolds.{AreSlotsOf, HasOwner, IsFormOf, definitions_before, expression_at, fold_owner_of, known_by, owned_at}
-use Rattle.linear_fold.proofs.CoefLemmas.{apart_test}
+use Rattle.linear_program.proofs.CoefLemmas.{apart_test}
 use Rattle.linear_fold.proofs.CountLemmas.{count_zero, form_count_is}
 use Rattle.linear_fold.proofs.Folding.{constant_lined, is_line_of}
 use Rattle.exact_numbers.proofs.Zeros.{fits_zero}

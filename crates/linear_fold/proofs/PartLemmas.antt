@@ -11,21 +11,20 @@ use Rattle.exact_numbers.proofs.Bridge.{frac_fits_lem}
 use Rattle.fractions.specs.Fits.{fits, sum_fits}
 use Rattle.fractions.specs.Rational.{ℚ, zero_ℚ, ◌+ℚ◌, ◌*ℚ◌}
 use Rattle.fractions.proofs.Arithmetic.{*ℚ_one, *ℚ_zero, +ℚ_zero, zero-+ℚ}
-use Rattle.nl_meaning.specs.Faults.{constant_line, line_scaled, line_sum, products_fit}
-use Rattle.nl_meaning.specs.Lines.{Line, is_zero, is_constant, one_if}
-use Rattle.nl_meaning.proofs.LineLemmas.{all_below-true, apart-eqb}
-use Rattle.linear_fold.specs.declared.form.Form.{Form}
-use Rattle.linear_fold.specs.declared.sum.Sum.{Sum}
+use Rattle.linear_programs.specs.Lines.{constant_line, line_scaled, line_sum, products_fit, Line, is_zero, is_constant, one_if}
+use Rattle.linear_programs.proofs.LineLemmas.{all_below-true, apart-eqb}
+use Rattle.linear_program.specs.declared.form.Form.{Form}
+use Rattle.linear_program.specs.declared.sum.Sum.{Sum}
 use Rattle.linear_fold.specs.declared.parts.Part.{Part}
 use Rattle.linear_fold.specs.declared.parts.Part.TheVariants.{Number, Variable, Linear, Broken}
-use Rattle.linear_fold.specs.declared.too_wide.Wide.{Wide}
-use Rattle.linear_fold.specs.Coefs.{AddsAt, coef_in, value_or_zero}
-use Rattle.linear_fold.specs.Forms.{form_line, sum_line, AddsScaled, IsWithin, IsZeroFrom, ScaledSumFits, kept_constant, form_terms}
+use Rattle.linear_program.specs.declared.too_wide.Wide.{Wide}
+use Rattle.linear_program.specs.Coefs.{AddsAt, coef_in, value_or_zero}
+use Rattle.linear_program.specs.Forms.{form_line, sum_line, AddsScaled, IsWithin, IsZeroFrom, ScaledSumFits, kept_constant, form_terms}
 use Rattle.linear_fold.specs.Operates.{AreOperands, AreUnbroken, IsOperand, IsSound, IsUnbroken, multiple_line, part_line}
-use Rattle.linear_fold.proofs.CoefLemmas.{adds_at, found_apart, found_same}
+use Rattle.linear_program.proofs.CoefLemmas.{adds_at, found_apart, found_same}
 use Rattle.exact_numbers.proofs.Zeros.{fits_zero, sum_fits_zero}
-use Rattle.linear_fold.proofs.FracLemmas.{coef_fits, place_fits, zero_test}
-use Rattle.linear_fold.proofs.Scaled.{all_below-intro, same_line}
+use Rattle.linear_program.proofs.FracLemmas.{coef_fits, place_fits, zero_test}
+use Rattle.linear_program.proofs.Scaled.{all_below-intro, same_line}
 
 pub record FitsLine (l : Line) : Type 0 where
   pub constant : fits l.constant ≡ true

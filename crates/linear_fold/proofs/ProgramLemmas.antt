@@ -10,20 +10,22 @@ use Rattle.texts.specs.Stopped.{IfFault}
 use Rattle.linear_fold.specs.declared.fold_fault.FoldFault.{FoldFault}
 use Rattle.linear_fold.specs.FoldedFaults.{first_fold_fault, named_fault}
 use Rattle.nl_model.specs.declared.at.Owner.TheVariants.{Con, Obj}
-use Rattle.nl_model.specs.declared.interval.Interval.{Interval}
-use Rattle.nl_model.specs.declared.kind.Kind.{Kind}
+use Rattle.linear_program.specs.declared.interval.Interval.{Interval}
+use Rattle.linear_program.specs.declared.kind.Kind.{Kind}
 use Rattle.nl_model.specs.File.{Objective, File}
 use Rattle.nl_model.specs.HeaderRules.{AreCounts}
 use Rattle.nl_model.specs.Kinds.{kind_of}
-use Rattle.nl_model.specs.Rules.{IsFile, IsOrdered}
+use Rattle.nl_model.specs.Rules.{IsFile}
+use Rattle.linear_program.specs.Intervals.{IsOrdered, no_sides}
 use Rattle.file_meaning.specs.Expressions.{maximises, no_objective}
 use Rattle.file_meaning.specs.FoldFaults.{fold_fault, has_objective, no_such_objective, owned_body, owned_line, owners_fault, owners_of}
-use Rattle.file_meaning.specs.LinearFile.{elements_from, form_of_line, linear_of, row_of, variable_of}
-use Rattle.file_meaning.specs.Meaning.{no_sides}
-use Rattle.linear_fold.specs.declared.form.Form.{Form}
-use Rattle.linear_fold.specs.Forms.{form_line}
+use Rattle.linear_programs.specs.Elements.{elements_from}
+use Rattle.linear_programs.specs.Lines.{form_of_line}
+use Rattle.file_meaning.specs.LinearFile.{linear_of, row_of, variable_of}
+use Rattle.linear_program.specs.declared.form.Form.{Form}
+use Rattle.linear_program.specs.Forms.{form_line}
 use Rattle.linear_fold.specs.OwnerFolds.{AreBodiesOf, AreFormsOf, IsFormOf}
-use Rattle.linear_fold.specs.Programs.{IsFormOver, IsLinear, LinearValue, linear_value, rows_from, variables_from}
+use Rattle.linear_program.specs.Programs.{IsFormOver, IsLinear, LinearValue, linear_value, rows_from, variables_from}
 use Rattle.linear_fold.proofs.BodyLemmas.{body_owned, objective_owned}
 use Rattle.linear_fold.proofs.OwnerLemmas.{found_here, owner_line}
 

@@ -5,12 +5,12 @@ use Rattle.std.proofs.lemmas.List.{reverse-append, length-reverse}
 use Rattle.std.proofs.Math.Nat.{mul-le-mul_left}
 use Rattle.code_tables.specs.Opcodes.{class_of}
 use Rattle.nl_meaning.specs.Faults.{trees_fault}
-use Rattle.nl_meaning.specs.Lines.{Line}
-use Rattle.nl_meaning.specs.Trees.{Tree, Trees, Point, Known, operator, tree_size, trees_size, first_trees}
+use Rattle.linear_programs.specs.Lines.{Line, Point}
+use Rattle.nl_meaning.specs.Trees.{Tree, Trees, Known, operator, tree_size, trees_size, first_trees}
 use Rattle.nl_model.specs.declared.node.Node.{Node}
 use Rattle.nl_model.specs.declared.node.Node.TheVariants.{Num, Var, Defined, Op}
 use Rattle.nl_model.specs.Nodes.{AreNodesFormed, trees_of, with_node}
-use Rattle.linear_fold.specs.declared.form.Form.{Form}
+use Rattle.linear_program.specs.declared.form.Form.{Form}
 use Rattle.linear_fold.specs.declared.parts.Part.{Part}
 use Rattle.linear_fold.specs.declared.parts.Part.TheVariants.{Number, Variable, Linear, Broken}
 use Rattle.linear_fold.specs.Folds.{AreLinesOf, AreNodesWithin, AreOperandsOf, ArePartsFolded, ArePartsWithin, IsLined, IsNodeWithin, IsPartFolded, NodeFinds, first_broken}

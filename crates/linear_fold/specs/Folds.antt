@@ -6,16 +6,16 @@ use Rattle.code_tables.specs.Opcodes.{class_of}
 use Rattle.fractions.specs.Rational.{ℚ}
 use Rattle.nl_meaning.specs.declared.Fault.{Fault}
 use Rattle.nl_meaning.specs.Faults.{expression_fault, line_with_terms, terms_fault, tree_fault, trees_fault}
-use Rattle.nl_meaning.specs.Lines.{Line, line_value}
-use Rattle.nl_meaning.specs.Trees.{Point, Known, Tree, number, variable, defined, operator, Trees, none, more, LinearTerm, Expression, HasCount, expression_value, tree_size, tree_value}
+use Rattle.linear_programs.specs.Lines.{Line, line_value, Point}
+use Rattle.nl_meaning.specs.Trees.{Known, Tree, number, variable, defined, operator, Trees, none, more, LinearTerm, Expression, HasCount, expression_value, tree_size, tree_value}
 use Rattle.nl_model.specs.declared.node.Node.{Node}
 use Rattle.nl_model.specs.declared.node.Node.TheVariants.{Num, Var, Defined, Op}
 use Rattle.linear_fold.specs.declared.entries.Entry.{Entry}
 use Rattle.linear_fold.specs.declared.entries.Entry.TheVariants.{Linear, Broken}
 use Rattle.linear_fold.specs.declared.parts.Part.{Part}
 use Rattle.linear_fold.specs.declared.parts.Part.TheVariants.{Number as Constant, Variable as Multiple, Linear as Whole, Broken as Faulty}
-use Rattle.linear_fold.specs.declared.form.Form.{Form}
-use Rattle.linear_fold.specs.Forms.{IsWithin, form_line}
+use Rattle.linear_program.specs.declared.form.Form.{Form}
+use Rattle.linear_program.specs.Forms.{IsWithin, form_line}
 use Rattle.linear_fold.specs.Operates.{IsOperand, lines_of_parts, part_line}
 
 -- the value of f at each point is that of a line of n variables

@@ -1,10 +1,6 @@
-pub mod Coefs
-pub mod Decimals
-pub mod TermLists
 pub mod FoldedFaults
 pub mod Folds
-pub mod Forms
 pub mod Operates
 pub mod OwnerFolds
-pub mod Places
-pub mod Programs
+pub mod Kinds
+pub mod LinearTerms

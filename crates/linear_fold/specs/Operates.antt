@@ -5,18 +5,18 @@ use Rattle.texts.specs.declared.stop.Stop.TheVariants.{Fault, Memory}
 use Rattle.code_tables.specs.declared.class.OpClass.{OpClass}
 use Rattle.fractions.specs.Rational.{ℚ, zero_ℚ}
 use Rattle.nl_meaning.specs.declared.Reason.TheVariants.{TooWide}
-use Rattle.nl_meaning.specs.Faults.{constant_line, line_with, operator_fault, operator_line}
-use Rattle.nl_meaning.specs.Lines.{Line, are_constant, constants_of}
+use Rattle.linear_programs.specs.Lines.{constant_line, line_with, Line, are_constant, constants_of}
+use Rattle.nl_meaning.specs.Faults.{operator_fault, operator_line}
 use Rattle.nl_meaning.specs.Trees.{on_values}
 use Rattle.exact_numbers.specs.declared.frac.Frac.{Frac}
 use Rattle.exact_numbers.specs.Values.{frac_value}
-use Rattle.linear_fold.specs.declared.sum.Sum.{Sum}
+use Rattle.linear_program.specs.declared.sum.Sum.{Sum}
 use Rattle.linear_fold.specs.declared.parts.Part.{Part}
 use Rattle.linear_fold.specs.declared.parts.Part.TheVariants.{Number, Variable, Linear as Whole, Broken}
 use Rattle.linear_fold.specs.declared.operate.Outcome.{Outcome}
 use Rattle.linear_fold.specs.declared.operate.Outcome.TheVariants.{Linear, Refused}
-use Rattle.linear_fold.specs.declared.too_wide.Wide.{Wide}
-use Rattle.linear_fold.specs.Forms.{form_line, place_count, sum_line, IsZeroFrom}
+use Rattle.linear_program.specs.declared.too_wide.Wide.{Wide}
+use Rattle.linear_program.specs.Forms.{form_line, place_count, sum_line, IsZeroFrom}
 
 abbrev pub zero_line : Line
 zero_line = constant_line zero_ℚ

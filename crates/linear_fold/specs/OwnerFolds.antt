@@ -3,7 +3,8 @@ use Rattle.std.specs.Prelude.{◌≡◌, ℕ, suc, ◌+◌, ◌-◌, ◌<◌, �
 use Rattle.std.specs.Option.{option_map_or}
 use Rattle.texts.specs.declared.stop.Stop.{Stop}
 use Rattle.texts.specs.declared.stop.Stop.TheVariants.{Fault, Memory}
-use Rattle.nl_meaning.specs.Trees.{Point, Known, Tree, Expression, expression_value, known_values, tree_size}
+use Rattle.linear_programs.specs.Lines.{Point}
+use Rattle.nl_meaning.specs.Trees.{Known, Tree, Expression, expression_value, known_values, tree_size}
 use Rattle.nl_model.specs.declared.at.Owner.{Owner}
 use Rattle.nl_model.specs.declared.at.Owner.TheVariants.{Def, Con, Obj}
 use Rattle.nl_model.specs.File.{Term, Definition, File}
@@ -13,13 +14,13 @@ use Rattle.nl_model.specs.Rules.{is_defined}
 use Rattle.file_meaning.specs.Expressions.{definition_of, linear_terms, tree_or_zero}
 use Rattle.file_meaning.specs.FoldFaults.{Owner as FoldOwner, definition, constraint, objective, Owned, most_coefficients, owners_fault}
 use Rattle.linear_fold.specs.declared.fold_fault.FoldFault.{FoldFault}
-use Rattle.linear_fold.specs.declared.form.Form.{Form}
+use Rattle.linear_program.specs.declared.form.Form.{Form}
 use Rattle.linear_fold.specs.declared.owners.Folder.{Folder}
 use Rattle.linear_fold.specs.Folds.{AreKnown, AreSlotsWithin, HasLineOf, IsGiven}
 use Rattle.linear_fold.specs.FoldedFaults.{named_fault}
-use Rattle.linear_fold.specs.Forms.{IsWithin, form_terms, place_count}
+use Rattle.linear_program.specs.Forms.{IsWithin, form_terms, place_count}
 use Rattle.linear_fold.specs.Operates.{IsBlank}
-use Rattle.linear_fold.specs.Programs.{IsFormOver}
+use Rattle.linear_program.specs.Programs.{IsFormOver}
 
 -- the file has the owner
 abbrev pub HasOwner : File → Owner → Type 0

@@ -1,14 +1,13 @@
 // Terms that ascend by variable: as they stand, they are the coefficients of a form.
 ghost use Rattle.std.specs.Prelude.{◌≡◌, ◌+◌, ◌^◌, ◌≤◌, ◌↔◌, [], length, IfOk, IsTrue};
 ghost use Rattle.file_meaning.specs.Expressions.{linear_terms};
-ghost use Rattle.linear_fold.specs.Coefs.{AreStrictlyAscending, AreZeroTerms};
+ghost use Rattle.linear_fold.specs.LinearTerms.{AreStrictlyAscending, AreZeroTerms};
 ghost use Rattle.linear_fold.specs.Folds.{ComesToTerms};
-ghost use Rattle.linear_fold.specs.Forms.{form_line, form_terms};
+ghost use Rattle.linear_program.specs.Forms.{form_line, form_terms};
 
-use crate::coefficients::Coefficients;
 use crate::entries::Entry;
-use crate::form::Form;
 use exact_numbers::Dec;
+use linear_program::{Coefficients, Form};
 use nl_meaning::{Fault, Reason};
 use std::alloc::{AllocError, Global};
 use texts::{Ledger, Steps};

@@ -5,15 +5,15 @@ ghost use Rattle.nl_model.specs.HeaderRules.{AreCounts};
 ghost use Rattle.nl_model.specs.Rules.{IsFile};
 ghost use Rattle.nl_model.specs.declared.at.Owner.TheVariants.{Con as OfConstraint, Obj as OfObjective};
 ghost use Rattle.file_meaning.specs.FoldFaults.{has_objective, most_coefficients, owners_fault, owners_of};
-ghost use Rattle.file_meaning.specs.LinearFile.{elements_from};
+ghost use Rattle.linear_programs.specs.Elements.{elements_from};
 ghost use Rattle.linear_fold.specs.FoldedFaults.{HasFaultPlace, named_fault, step_bound};
-ghost use Rattle.linear_fold.specs.Forms.{form_terms};
+ghost use Rattle.linear_program.specs.Forms.{form_terms};
 ghost use Rattle.linear_fold.specs.OwnerFolds.{AreBodiesOf, AreFormsOf, AreOwnersFolded, HasFolded, IsFormOf, bodies_size, coefficients_of, owned_at, owner_size};
 
 use crate::definitions::fold_definitions;
 use crate::fold_fault::FoldFault;
-use crate::form::Form;
 use crate::owners::{Folder, fold_owner};
+use linear_program::Form;
 use nl_model::{NlFile, Owner};
 use std::alloc::Global;
 use texts::{Ledger, Steps, Stop};

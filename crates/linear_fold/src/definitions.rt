@@ -5,15 +5,13 @@ ghost use Rattle.nl_meaning.specs.Trees.{tree_size};
 ghost use Rattle.nl_model.specs.HeaderRules.{AreCounts};
 ghost use Rattle.nl_model.specs.Rules.{IsFile};
 ghost use Rattle.nl_model.specs.declared.at.Owner.TheVariants.{Def as OfDefinition};
-ghost use Rattle.file_meaning.specs.LinearFile.{elements_from};
+ghost use Rattle.linear_programs.specs.Elements.{elements_from};
 ghost use Rattle.linear_fold.specs.FoldedFaults.{HasFaultPlace};
 ghost use Rattle.linear_fold.specs.OwnerFolds.{AreOwnersFolded, HasFolded, definitions_size, owned_at};
 
 use crate::fold_fault::FoldFault;
-use crate::form::Form;
 use crate::owners::{Folder, fold_owner};
-use crate::pad::Pad;
-use crate::sum::Sum;
+use linear_program::{Form, Pad, Sum};
 use nl_model::{Def, NlFile, Owner, defined_count};
 use std::alloc::{AllocError, Global};
 use texts::{Ledger, Steps, Stop};

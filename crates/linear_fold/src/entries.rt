@@ -1,5 +1,5 @@
 // What a whole tree comes to.
-use crate::form::Form;
+use linear_program::Form;
 use nl_meaning::Fault;
 
 /// What a tree, or an expression, came to.

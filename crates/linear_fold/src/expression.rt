@@ -2,23 +2,22 @@
 ghost use Rattle.std.specs.Prelude.{◌≡◌, ℕ, ◌+◌, ◌*◌, ◌^◌, ◌<◌, ◌≤◌, List, [], ◌∷◌, IfOk, IfSome, OnOk, OnErr, length, option_copied};
 ghost use Rattle.std.specs.Option.{option_map_or};
 ghost use Rattle.texts.specs.Stopped.{IfFault};
-ghost use Rattle.nl_meaning.specs.Lines.{Line};
-ghost use Rattle.nl_meaning.specs.Trees.{Known, LinearTerm, Point, Tree, tree_size};
+ghost use Rattle.linear_programs.specs.Lines.{Line, Point};
+ghost use Rattle.nl_meaning.specs.Trees.{Known, LinearTerm, Tree, tree_size};
 ghost use Rattle.nl_model.specs.Nodes.{IsTreeFormed};
 ghost use Rattle.nl_model.specs.Rules.{AreTermsBelow};
 ghost use Rattle.file_meaning.specs.Expressions.{linear_term, linear_terms, tree_or_zero};
 ghost use Rattle.linear_fold.specs.Folds.{AddsTerms, AreKnown, AreSlotsWithin, ComesToTerms, IsEntryWithin, IsExpressionFolded, IsFolded, IsTreeGiven};
-ghost use Rattle.linear_fold.specs.Forms.{IsWithin, form_line, place_count, sum_line};
+ghost use Rattle.linear_program.specs.Forms.{IsWithin, form_line, place_count, sum_line};
 ghost use Rattle.linear_fold.specs.Operates.{IsBlank, StaysBlank};
 
 use crate::ascending::{are_ascending, are_zero, form_of_ascending};
 use crate::entries::Entry;
 use crate::fold::fold_tree;
-use crate::form::Form;
-use crate::sum::Sum;
 use exact_numbers::{Dec, Frac};
+use linear_program::{Form, Sum, Terms};
 use nl_meaning::{Fault, Reason};
-use nl_model::{Expr, Terms};
+use nl_model::Expr;
 use std::alloc::{AllocError, Global};
 use texts::{Ledger, Steps, Stop};
 

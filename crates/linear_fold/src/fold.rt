@@ -1,18 +1,18 @@
 // Trees folded to forms, from the last node to the first.
 ghost use Rattle.std.specs.Prelude.{◌≡◌, ℕ, ◌+◌, ◌*◌, ◌<◌, ◌≤◌, List, [], ◌∷◌, IfOk, OnOk, length, reverse, vec_len};
-ghost use Rattle.nl_meaning.specs.Trees.{HasCount, Known, Point, Tree, Trees, defined, number, operator, variable};
+ghost use Rattle.nl_meaning.specs.Trees.{HasCount, Known, Tree, Trees, defined, number, operator, variable};
+ghost use Rattle.linear_programs.specs.Lines.{Point};
 ghost use Rattle.nl_model.specs.Nodes.{AreNodesFormed, trees_of, with_node};
 ghost use Rattle.linear_fold.specs.Folds.{AreKnown, AreNodesWithin, AreOperandsOf, ArePartsFolded, ArePartsWithin, AreSlotsWithin, IsEntryWithin, IsFolded, IsGiven, IsPartFolded, IsPartWithin, NodeFinds};
-ghost use Rattle.linear_fold.specs.Forms.{place_count};
+ghost use Rattle.linear_program.specs.Forms.{place_count};
 ghost use Rattle.linear_fold.specs.Operates.{IsBlank, StaysBlank};
 
 use crate::entries::Entry;
-use crate::form::Form;
 use crate::operate::{self, Outcome};
 use crate::parts::{Part, first_fault};
-use crate::sum::Sum;
 use code_tables::{OpClass, class_of};
 use exact_numbers::{Dec, Frac};
+use linear_program::{Form, Sum};
 use nl_meaning::{Fault, Reason};
 use nl_model::Node;
 use std::alloc::{AllocError, Global};

@@ -2,19 +2,16 @@
 ghost use Rattle.std.specs.Prelude.{◌≡◌, Bool, ◌+◌, ◌*◌, ◌≤◌, [], ◌∷◌, IfOk, OnOk, OnErr, length, ℕ, ◌<◌, reverse};
 ghost use Rattle.code_tables.specs.declared.class.OpClass.TheVariants.{Difference, Product, Quotient, Negation};
 ghost use Rattle.exact_numbers.specs.Values.{frac_value};
-ghost use Rattle.nl_meaning.specs.Faults.{constant_line, line_neg, line_scaled, line_sum, products_fit, running_line, running_sums_fit, sums_fit};
-ghost use Rattle.nl_meaning.specs.Lines.{Line};
+ghost use Rattle.linear_programs.specs.Lines.{constant_line, line_neg, line_scaled, line_sum, products_fit, running_line, running_sums_fit, sums_fit, Line};
 ghost use Rattle.nl_meaning.specs.Trees.{HasCount};
-ghost use Rattle.linear_fold.specs.Forms.{AddsScaled, IsWithin, form_line, place_count, sum_line};
+ghost use Rattle.linear_program.specs.Forms.{AddsScaled, IsWithin, form_line, place_count, sum_line};
 ghost use Rattle.linear_fold.specs.Operates.{AreOperands, ComesTo, IsBlank, IsOperand, IsSound, Operates, StaysBlank, SumsTo, lines_of_parts, multiple_line, part_line, zero_line};
 
 use crate::constants;
-use crate::form::Form;
 use crate::parts::Part;
-use crate::sum::Sum;
-use crate::too_wide::Wide;
 use code_tables::OpClass;
 use exact_numbers::Frac;
+use linear_program::{Form, Sum, Wide};
 use nl_meaning::Reason;
 use std::alloc::{AllocError, Global};
 use texts::{Ledger, Steps, Stop};

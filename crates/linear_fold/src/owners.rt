@@ -7,17 +7,16 @@ ghost use Rattle.nl_model.specs.declared.at.At.TheVariants.{Head};
 ghost use Rattle.file_meaning.specs.FoldFaults.{most_coefficients};
 ghost use Rattle.linear_fold.specs.declared.fold_fault.FoldFault.TheVariants.{FoldTooLarge};
 ghost use Rattle.linear_fold.specs.FoldedFaults.{HasFaultPlace, fault_for, place_after};
-ghost use Rattle.linear_fold.specs.Coefs.{AreAscending};
-ghost use Rattle.linear_fold.specs.Forms.{form_terms};
+ghost use Rattle.linear_program.specs.Coefs.{AreAscending};
+ghost use Rattle.linear_program.specs.Forms.{form_terms};
 ghost use Rattle.linear_fold.specs.OwnerFolds.{AreOwnersFolded, HasFolded, HasOwner, IsFormOf, definitions_before, owned_at, owner_size};
 
 use crate::entries::Entry;
 use crate::expression::{fold_expression, node_count};
 use crate::fold_fault::FoldFault;
-use crate::form::Form;
-use crate::sum::Sum;
+use linear_program::{Form, Sum, Terms};
 use nl_meaning::{Fault, Reason};
-use nl_model::{At, Expr, NlFile, Owner, Terms};
+use nl_model::{At, Expr, NlFile, Owner};
 use std::alloc::Global;
 use texts::{Ledger, Steps, Stop};
 

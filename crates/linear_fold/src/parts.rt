@@ -3,15 +3,14 @@
 ghost use Rattle.std.specs.Prelude.{◌≡◌, ◌∷◌, List, ℕ, IfOk, IfSome, is_some, reverse};
 ghost use Rattle.exact_numbers.specs.Values.{frac_value};
 ghost use Rattle.fractions.specs.Rational.{zero_ℚ};
-ghost use Rattle.nl_meaning.specs.Lines.{is_constant, is_zero};
-ghost use Rattle.linear_fold.specs.Forms.{IsWithin, form_line};
+ghost use Rattle.linear_programs.specs.Lines.{is_constant, is_zero};
+ghost use Rattle.linear_program.specs.Forms.{IsWithin, form_line};
 ghost use Rattle.linear_fold.specs.Folds.{IsEntryOf, first_broken};
 ghost use Rattle.linear_fold.specs.Operates.{IsOperand, IsUnbroken, multiple_line, part_line};
 
-use crate::coefficients::Coefficients;
 use crate::entries::Entry;
-use crate::form::Form;
 use exact_numbers::Frac;
+use linear_program::{Coefficients, Form};
 use nl_meaning::Fault;
 use std::alloc::{AllocError, Global};
 

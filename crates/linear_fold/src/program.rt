@@ -8,15 +8,15 @@ ghost use Rattle.file_meaning.specs.FoldFaults.{fold_fault, has_objective};
 ghost use Rattle.file_meaning.specs.LinearFile.{linear_of, HasLines};
 ghost use Rattle.linear_fold.specs.FoldedFaults.{first_fold_fault, HasFaultPlace, step_bound};
 ghost use Rattle.linear_fold.specs.OwnerFolds.{AreFormsOf};
-ghost use Rattle.linear_fold.specs.Programs.{kinds_in, linear_value};
+ghost use Rattle.linear_fold.specs.Kinds.{kinds_in};
+ghost use Rattle.linear_program.specs.Programs.{linear_value};
 
 use crate::bodies::fold_forms;
 use crate::definitions::empty_folder;
 use crate::fold_fault::FoldFault;
-use crate::form::Form;
-use crate::linear::Linear;
+use linear_program::{Form, Interval, Kind, Linear};
 use nl_header::kinds_of;
-use nl_model::{Counts, Interval, Kind, NlFile};
+use nl_model::{Counts, NlFile};
 use std::alloc::{AllocError, Global};
 use texts::{Ledger, Steps, Stop};
 

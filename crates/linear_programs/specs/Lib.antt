@@ -1,2 +1,4 @@
 pub mod Linear
 pub mod Names
+pub mod Elements
+pub mod Lines

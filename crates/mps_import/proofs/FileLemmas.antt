@@ -8,11 +8,11 @@ use Rattle.texts.specs.declared.stop.Stop.{Stop}
 use Rattle.texts.specs.declared.stop.Stop.TheVariants.{Fault, Memory}
 use Rattle.linear_programs.specs.Linear.{Interval}
 use Rattle.exact_numbers.specs.declared.dec.Dec.{Dec}
-use Rattle.file_meaning.specs.Meaning.{interval_of, no_sides}
+use Rattle.linear_program.specs.Intervals.{interval_of, no_sides, IsOrdered}
 use Rattle.nl_meaning.specs.Trees.{Tree}
 use Rattle.nl_model.specs.Draft.{Draft, empty_draft, file_of, is_given}
-use Rattle.nl_model.specs.Rules.{term_count, IsOrdered}
-use Rattle.nl_model.specs.declared.interval.Interval.{Interval as Sides}
+use Rattle.nl_model.specs.Rules.{term_count}
+use Rattle.linear_program.specs.declared.interval.Interval.{Interval as Sides}
 use Rattle.mps_model.specs.Mps.{Mps, with_values, row_interval, column_interval, objective_row}
 use Rattle.mps_import.specs.declared.build.Parts.{Parts}
 use Rattle.mps_import.specs.declared.rows.RowUse.{RowUse}

@@ -11,9 +11,8 @@ use Rattle.fractions.proofs.Arithmetic.{≤ℚ_refl, ≤ℚ_by, ≤ℚ_of_<ℚ, 
 use Rattle.linear_programs.specs.Linear.{Interval}
 use Rattle.exact_numbers.specs.declared.dec.Dec.{Dec}
 use Rattle.exact_numbers.specs.Values.{dec_value, order_of}
-use Rattle.file_meaning.specs.Meaning.{interval_of}
-use Rattle.nl_model.specs.declared.interval.Interval.{Interval as Sides}
-use Rattle.nl_model.specs.Rules.{AreOrdered, IsOrdered}
+use Rattle.linear_program.specs.Intervals.{interval_of, AreOrdered, IsOrdered}
+use Rattle.linear_program.specs.declared.interval.Interval.{Interval as Sides}
 use Rattle.mps_model.specs.declared.kinds.RowKind.{RowKind}
 use Rattle.mps_model.specs.declared.kinds.RowKind.TheVariants.{N, L, G, E}
 use Rattle.mps_model.specs.Mps.{Mps, with_values, no_row, at_row, rhs_at, row_sides, row_interval, column_interval, is_negative, size_of}

@@ -16,14 +16,14 @@ use Rattle.exact_numbers.specs.declared.dec.Dec.{Dec}
 use Rattle.exact_numbers.specs.Values.{dec_value, mantissa_of, exponent_of}
 use Rattle.exact_numbers.proofs.Signs.{dec_zero}
 use Rattle.exact_numbers.proofs.Spelling.{decimal_of-decimal}
-use Rattle.file_meaning.specs.Meaning.{interval_of}
+use Rattle.linear_program.specs.Intervals.{interval_of}
 use Rattle.nl_meaning.specs.Trees.{number}
 use Rattle.nl_model.specs.Draft.{Draft}
 use Rattle.nl_model.specs.HeaderRules.{is_header}
 use Rattle.nl_model.specs.Rules.{term_count}
-use Rattle.nl_model.specs.declared.interval.Interval.{Interval as Sides}
-use Rattle.nl_model.specs.declared.kind.Kind.{Kind}
-use Rattle.nl_model.specs.declared.kind.Kind.TheVariants.{Continuous, Binary, Integer}
+use Rattle.linear_program.specs.declared.interval.Interval.{Interval as Sides}
+use Rattle.linear_program.specs.declared.kind.Kind.{Kind}
+use Rattle.linear_program.specs.declared.kind.Kind.TheVariants.{Continuous, Binary, Integer}
 use Rattle.mps_model.specs.Built.{entry_of, bound_of}
 use Rattle.mps_model.specs.Mps.{MpsRow, Entry, Bound, Column, Mps, with_values, entry_with, column_with, no_row, no_column, at_row, rhs_at, or_zero, row_sides, row_interval, column_at, column_interval, usual_lower, given, objective_row}
 use Rattle.mps_model.specs.declared.kinds.BoundKind.{BoundKind}

@@ -4,8 +4,8 @@ use Rattle.std.specs.Option.{option_map, option_or}
 use Rattle.fractions.specs.Rational.{ℚ}
 use Rattle.exact_numbers.specs.declared.dec.Dec.{Dec}
 use Rattle.exact_numbers.specs.Values.{dec_value}
-use Rattle.nl_model.specs.declared.kind.Kind.{Kind}
-use Rattle.nl_model.specs.declared.kind.Kind.TheVariants.{Continuous, Binary, Integer}
+use Rattle.linear_program.specs.declared.kind.Kind.{Kind}
+use Rattle.linear_program.specs.declared.kind.Kind.TheVariants.{Continuous, Binary, Integer}
 use Rattle.mps_model.specs.Mps.{Bound, Mps, bound_with, side_set, lower_set, upper_set, has_whole_record}
 use Rattle.mps_import.specs.declared.columns.ColumnSides.{ColumnSides}
 use Rattle.mps_import.specs.Places.{places}

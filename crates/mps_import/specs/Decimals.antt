@@ -5,7 +5,7 @@ use Rattle.linear_programs.specs.Linear.{Interval}
 use Rattle.exact_numbers.specs.Numbers.{dec_from}
 use Rattle.exact_numbers.specs.Values.{decimal_of}
 use Rattle.nl_meaning.specs.Trees.{Tree, number}
-use Rattle.nl_model.specs.declared.interval.Interval.{Interval as Sides}
+use Rattle.linear_program.specs.declared.interval.Interval.{Interval as Sides}
 
 -- the sides of a file that are those of an interval; nothing asks for those of one whose sides are
 -- no decimals

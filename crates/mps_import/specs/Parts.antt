@@ -2,11 +2,11 @@
 use Rattle.std.specs.Prelude.{◌≡◌, Bool, cond, [], ◌∷◌, length, map, Some, None}
 use Rattle.std.specs.Ordering.{is_eq, is_ne}
 use Rattle.exact_numbers.specs.declared.dec.Dec.{Dec}
-use Rattle.file_meaning.specs.Meaning.{interval_of}
+use Rattle.linear_program.specs.Intervals.{interval_of}
 use Rattle.mps_model.specs.Mps.{Mps, row_interval, column_interval, objective_row}
 use Rattle.nl_model.specs.Draft.{Draft, empty_draft}
 use Rattle.nl_model.specs.Rules.{term_count}
-use Rattle.nl_model.specs.declared.interval.Interval.{Interval as Sides}
+use Rattle.linear_program.specs.declared.interval.Interval.{Interval as Sides}
 use Rattle.mps_import.specs.declared.build.Parts.{Parts}
 use Rattle.mps_import.specs.Decimals.{sides_from}
 use Rattle.mps_import.specs.Faults.{import_fault}

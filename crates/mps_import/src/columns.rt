@@ -3,7 +3,7 @@ ghost use Rattle.std.specs.Prelude.{◌≡◌, None, Some, false, ◌||◌, ℕ,
 ghost use Rattle.std.specs.Option.{option_map, option_or};
 ghost use Rattle.exact_numbers.specs.Values.{dec_value};
 ghost use Rattle.exact_numbers.specs.declared.dec.Dec.{Dec as DecValue};
-ghost use Rattle.file_meaning.specs.Meaning.{interval_of};
+ghost use Rattle.linear_program.specs.Intervals.{interval_of};
 ghost use Rattle.mps_model.specs.Built.{bound_of};
 ghost use Rattle.mps_model.specs.Mps.{Bound, column_interval, given, is_whole_kind, lower_set, upper_set, usual_lower};
 ghost use Rattle.mps_import.specs.Columns.{column_kind, none_set, set_value, sets_of, with_sets};

@@ -2,7 +2,7 @@
 ghost use Rattle.std.specs.Prelude.{◌≡◌, ◌∷◌, [], ◌++◌, ◌+◌, ◌≤◌, ◌<◌, ◌^◌, cond, None, Some, false, true, MatchOption, IfOk, IfErr, OnOk, length, map};
 ghost use Rattle.std.specs.Option.{option_map};
 ghost use Rattle.exact_numbers.specs.Values.{dec_value};
-ghost use Rattle.file_meaning.specs.Meaning.{interval_of};
+ghost use Rattle.linear_program.specs.Intervals.{interval_of};
 ghost use Rattle.mps_model.specs.Built.{entry_of};
 ghost use Rattle.mps_model.specs.Mps.{at_row, objective_row, or_zero, row_interval, row_sides};
 ghost use Rattle.texts.specs.Stopped.{IfFault};

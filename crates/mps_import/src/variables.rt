@@ -3,8 +3,8 @@ ghost use Rattle.std.specs.Prelude.{◌≡◌, ◌≤◌, ◌^◌, ◌++◌, len
 ghost use Rattle.std.specs.Ordering.{is_ge, is_gt, is_le};
 ghost use Rattle.fractions.specs.Rational.{one_ℚ, zero_ℚ};
 ghost use Rattle.exact_numbers.specs.Values.{dec_value, order_of};
-ghost use Rattle.file_meaning.specs.Meaning.{interval_of, no_sides};
-ghost use Rattle.nl_model.specs.declared.kind.Kind.TheVariants.{Binary, Continuous, Integer};
+ghost use Rattle.linear_program.specs.Intervals.{interval_of, no_sides};
+ghost use Rattle.linear_program.specs.declared.kind.Kind.TheVariants.{Binary, Continuous, Integer};
 ghost use Rattle.mps_import.specs.Columns.{kind_by, of_kind};
 ghost use Rattle.mps_import.specs.Import.{both_sides};
 ghost use Rattle.mps_import.specs.Places.{first, places};

@@ -137,9 +137,7 @@ lower_set Fx v = Some (Some v)
 lower_set Fr v = Some None
 lower_set Mi v = Some None
 lower_set Bv v = Some (Some zero_ℚ)
-lower_set Up v = None
-lower_set Ui v = None
-lower_set Pl v = None
+lower_set _ v = None
 
 -- the side that a record sets, where it sets the upper one
 abbrev pub upper_set : BoundKind → ℚ → Option (Option ℚ)
@@ -149,9 +147,7 @@ upper_set Fx v = Some (Some v)
 upper_set Fr v = Some None
 upper_set Pl v = Some None
 upper_set Bv v = Some (Some one_ℚ)
-upper_set Lo v = None
-upper_set Li v = None
-upper_set Mi v = None
+upper_set _ v = None
 
 -- the side that the first record of column j that sets one sets
 unfoldable pub side_set : (BoundKind → ℚ → Option (Option ℚ)) → ℕ → List (Bound ℚ)
@@ -163,8 +159,7 @@ side_set sets j (b ∷ bs) =
 -- without a record: 0, but no lower side where the upper one is below 0
 abbrev pub usual_lower : Option (Option ℚ) → Option ℚ
 usual_lower (Some (Some u)) = cond (is_negative u) None (Some zero_ℚ)
-usual_lower (Some None) = Some zero_ℚ
-usual_lower None = Some zero_ℚ
+usual_lower _ = Some zero_ℚ
 
 -- the side that is set, or else the usual one
 abbrev pub given : Option (Option ℚ) → Option ℚ → Option ℚ
@@ -185,12 +180,7 @@ abbrev pub is_whole_kind : BoundKind → Bool
 is_whole_kind Bv = true
 is_whole_kind Li = true
 is_whole_kind Ui = true
-is_whole_kind Lo = false
-is_whole_kind Up = false
-is_whole_kind Fx = false
-is_whole_kind Fr = false
-is_whole_kind Mi = false
-is_whole_kind Pl = false
+is_whole_kind _ = false
 
 -- column j has a record that makes it whole
 unfoldable pub has_whole_record : ℕ → List (Bound ℚ) → Bool

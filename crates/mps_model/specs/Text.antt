@@ -28,15 +28,11 @@ bound_text Ui = codes "UI"
 
 -- FR, MI, PL and BV are written without their value
 abbrev pub value_words : BoundKind → List ℕ → List (List ℕ)
-value_words Lo value = value ∷ []
-value_words Up value = value ∷ []
-value_words Fx value = value ∷ []
-value_words Li value = value ∷ []
-value_words Ui value = value ∷ []
 value_words Fr value = []
 value_words Mi value = []
 value_words Pl value = []
 value_words Bv value = []
+value_words _ value = value ∷ []
 
 -- the name of row i
 abbrev pub row_name : List MpsRow → ℕ → List ℕ
@@ -69,15 +65,13 @@ marker_line i word = indented ((codes "M" ++ decimal i) ∷ codes "'MARKER'" ∷
 abbrev pub change_lines : Bool → Bool → ℕ → List Line
 change_lines false true i = marker_line i (codes "'INTORG'") ∷ []
 change_lines true false i = marker_line i (codes "'INTEND'") ∷ []
-change_lines false false i = []
-change_lines true true i = []
+change_lines _ _ i = []
 
 -- how many marker lines stand after that place
 abbrev pub markers_after : Bool → Bool → ℕ → ℕ
 markers_after false true i = i + 1
 markers_after true false i = i + 1
-markers_after false false i = i
-markers_after true true i = i
+markers_after _ _ i = i
 
 -- text is how a number is written
 module _ {V : Type 0} (text : V → List ℕ) where

@@ -1,7 +1,7 @@
 // Laws of names. Each is proved by a function with an empty body.
-ghost use Rattle.std.specs.Prelude.{◌≡◌, List, ℕ, length};
+ghost use Rattle.std.specs.Prelude.{◌≡◌, ◌<◌, ◌^◌, List, ℕ, length};
 ghost use Rattle.texts.specs.Judged.{HasOneOutcome};
-ghost use Rattle.texts.specs.Reading.{lines_of, last_of};
+ghost use Rattle.texts.specs.Reading.{IsRead, lines_of, last_of};
 ghost use Rattle.exact_numbers.specs.declared.dec.Dec.{Dec};
 ghost use Rattle.exact_numbers.specs.Values.{dec_value};
 ghost use Rattle.mps_model.specs.Mps.{Mps, with_values};
@@ -45,4 +45,10 @@ pub fn exported_names()
         → HasExportedNames (length f.rows) (length f.variables) (program f factor) }
     ensures tied { (f : Linear) (factor : ℕ → ℕ) (g : ℕ) → IsNamedLinear f
         → HasExportedNames (length f.rows) (length f.variables) (tied_program f factor g) }
+{}
+
+/// The names that a text lists are names, no two the same, and none of them reserved.
+pub fn listed_names_are_names()
+    ensures { (counts : Counts) (text : List ℕ) (names : List (List ℕ)) → counts.used < 2 ^ 32
+        → IsRead (name_rules counts) (SaysNames counts) text names → AreNames names }
 {}

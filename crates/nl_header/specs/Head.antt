@@ -2,15 +2,14 @@
 -- with one.
 -- A line is the list of its words; lines, places and rows are counted from 1. Which numbers are
 -- refused, and the order of faults, are this project's own.
-use Rattle.std.specs.Prelude.{◌≡◌, ℕ, ◌+◌, ◌-◌, ◌^◌, ◌==◌, Bool, true, false, not, ◌&&◌, ◌||◌, nat_lt, nat_le, ℤ, List, [], ◌∷◌, ◌++◌, length, drop, slice_index, slice_index_or, find, Option, Some, None, is_none, Result, Ok, Err, unwrap_or, if◌then◌else◌, codes}
+use Rattle.std.specs.Prelude.{◌≡◌, ℕ, ◌+◌, ◌-◌, ◌^◌, ◌==◌, Bool, true, false, not, ◌&&◌, ◌||◌, nat_lt, nat_le, ℤ, List, [], ◌∷◌, ◌++◌, length, drop, slice_index, slice_index_or, Option, Some, None, is_none, Result, Ok, Err, unwrap_or, if◌then◌else◌}
 use Rattle.std.specs.List.{list_any, filter_map}
-use Rattle.std.specs.Str.{bytes_eq}
 use Rattle.std.specs.Option.{option_map_or, option_or}
 use Rattle.texts.specs.Judged.{first_reason}
 use Rattle.texts.specs.Words.{word_at}
 use Rattle.code_tables.specs.declared.field.Field.{Field}
 use Rattle.code_tables.specs.declared.field.FieldRow.{FieldRow}
-use Rattle.code_tables.specs.Header.{header, header_rows, field_at}
+use Rattle.code_tables.specs.Header.{header_rows, field_at}
 use Rattle.nl_model.specs.declared.header_counts.Counts.{Counts}
 use Rattle.nl_model.specs.HeaderRules.{has_second_three, are_shared_within, are_whole_within, are_definitions_within}
 use Rattle.exact_numbers.specs.Numbers.{whole_of, signed_of}
@@ -37,46 +36,41 @@ no_row = record { line = 0; place = 0; field = record { row = 0; required = fals
 abbrev pub number_after : FieldRow → ℕ → List (List ℕ) → ℕ → ℕ
 number_after row line words number = if row.line == line then number_in words row.place else number
 
--- the number of the field of this name
-abbrev pub named : (ℕ → ℕ → ℕ) → List ℕ → ℕ
-named number name =
-    option_map_or (λ r. number r.line r.place) (find (λ r. bytes_eq r.name name) header) 0
-
 -- the counts, where a number stands at each line and place
 unfoldable pub counts_by : (ℕ → ℕ → ℕ) → Counts
 counts_by number =
     record {
-      n_var = named number (codes "n_var");
-      n_con = named number (codes "n_con");
-      n_obj = named number (codes "n_obj");
-      n_ranges = named number (codes "n_ranges");
-      n_eqns = named number (codes "n_eqns");
-      n_lcon = named number (codes "n_lcon");
-      nlc = named number (codes "nlc");
-      nlo = named number (codes "nlo");
-      nlnc = named number (codes "nlnc");
-      lnc = named number (codes "lnc");
-      nlvc = named number (codes "nlvc");
-      nlvo = named number (codes "nlvo");
-      nlvb = named number (codes "nlvb");
-      nwv = named number (codes "nwv");
-      nfunc = named number (codes "nfunc");
-      arith = named number (codes "arith");
-      flags = named number (codes "flags");
-      nbv = named number (codes "nbv");
-      niv = named number (codes "niv");
-      nlvbi = named number (codes "nlvbi");
-      nlvci = named number (codes "nlvci");
-      nlvoi = named number (codes "nlvoi");
-      nzc = named number (codes "nzc");
-      nzo = named number (codes "nzo");
-      row_name_len = named number (codes "row_name_len");
-      col_name_len = named number (codes "col_name_len");
-      comb = named number (codes "comb");
-      comc = named number (codes "comc");
-      como = named number (codes "como");
-      comc1 = named number (codes "comc1");
-      como1 = named number (codes "como1");
+      n_var = number 2 1;
+      n_con = number 2 2;
+      n_obj = number 2 3;
+      n_ranges = number 2 4;
+      n_eqns = number 2 5;
+      n_lcon = number 2 6;
+      nlc = number 3 1;
+      nlo = number 3 2;
+      nlnc = number 4 1;
+      lnc = number 4 2;
+      nlvc = number 5 1;
+      nlvo = number 5 2;
+      nlvb = number 5 3;
+      nwv = number 6 1;
+      nfunc = number 6 2;
+      arith = number 6 3;
+      flags = number 6 4;
+      nbv = number 7 1;
+      niv = number 7 2;
+      nlvbi = number 7 3;
+      nlvci = number 7 4;
+      nlvoi = number 7 5;
+      nzc = number 8 1;
+      nzo = number 8 2;
+      row_name_len = number 9 1;
+      col_name_len = number 9 2;
+      comb = number 10 1;
+      comc = number 10 2;
+      como = number 10 3;
+      comc1 = number 10 4;
+      como1 = number 10 5;
     }
 
 -- the counts of lines 2 to 10

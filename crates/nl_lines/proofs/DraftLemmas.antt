@@ -5,7 +5,7 @@ use Rattle.std.specs.List.{fold, cons_option}
 use Rattle.std.proofs.lemmas.List.{append_assoc}
 use Rattle.std.proofs.lemmas.List.Elements.{filter_map-append}
 use Rattle.nl_model.specs.declared.header_counts.Counts.{Counts}
-use Rattle.nl_model.specs.declared.interval.Interval.{Interval}
+use Rattle.linear_program.specs.declared.interval.Interval.{Interval}
 use Rattle.nl_model.specs.File.{Term}
 use Rattle.nl_model.specs.Draft.{Draft, empty_draft}
 use Rattle.nl_lines.specs.declared.head.Head.{Head}

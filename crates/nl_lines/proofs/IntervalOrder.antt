@@ -6,8 +6,8 @@ use Rattle.std.proofs.lemmas.Int.{ints}
 use Rattle.fractions.specs.Rational.{ℚ, ◌≤ℚ◌}
 use Rattle.exact_numbers.specs.declared.dec.Dec.{Dec}
 use Rattle.exact_numbers.specs.Values.{dec_value}
-use Rattle.nl_model.specs.declared.interval.Interval.{Interval}
-use Rattle.nl_model.specs.Rules.{AreOrdered, IsOrdered}
+use Rattle.linear_program.specs.declared.interval.Interval.{Interval}
+use Rattle.linear_program.specs.Intervals.{AreOrdered, IsOrdered}
 use Rattle.nl_lines.specs.Tests.{is_empty, is_value_below}
 
 not_less : (x y : ℤ) → is_lt (int_cmp x y) ≡ false → y ≤ℤ x

@@ -11,7 +11,7 @@ use Rattle.exact_numbers.specs.Values.{dec_value}
 use Rattle.exact_numbers.specs.declared.dec.Dec.{Dec}
 use Rattle.exact_numbers.specs.Numbers.{are_digits, has_31_bits, signed_of}
 use Rattle.exact_numbers.proofs.NumberLemmas.{dec_from-value, fits-from_31}
-use Rattle.exact_numbers.specs.Spelled.{second_of_both}
+use Rattle.exact_numbers.specs.SpelledLemmas.{second_of_both}
 use Rattle.nl_lines.specs.Nodes.{dec_of_signed}
 
 fits-64 : (z : ℤ) → has_31_bits z ≡ true → FitsSigned w64 z

@@ -1,16 +1,20 @@
 -- A row that is an index and a value alone is judged by its pair.
-use Rattle.std.proofs.Common.{◌≡◌, ◌∙◌, ℕ, ◌+◌, ◌-◌, ◌<◌, ◌≤◌, take, drop, Bool, true, false, not, List, [], ◌∷◌, length, refl, sym, ap, subst, arith, Option, Some, None, get_or}
+use Rattle.std.proofs.Common.{◌≡◌, ◌∙◌, ℕ, ◌+◌, ◌-◌, ◌<◌, ◌≤◌, take, drop, Bool, true, false, List, [], ◌∷◌, ◌++◌, length, refl, sym, ap, ap₂, subst, arith, append_assoc, append-nil, length-append, length-take, take-append-drop, Option, Some, None, get_or}
 use Rattle.std.specs.Prelude.{unwrap_or, slice_index}
 use Rattle.std.specs.Char.{digit_value}
+use Rattle.std.proofs.Math.Seq.{take-append_seam}
+use Rattle.std.proofs.lemmas.List.{drop_more}
 use Rattle.std.proofs.lemmas.Bool.{ltb-true, not-false}
 use Rattle.std.proofs.lemmas.Bool.Decides.{nat_tests}
 use Rattle.texts.specs.Judged.{first_reason}
-use Rattle.texts.specs.Words.{IsUnmarked, row_of, without_comment, word_at}
-use Rattle.texts.proofs.PairLemmas.{pair_line}
+use Rattle.texts.specs.Cut.{IsTextLine}
+use Rattle.texts.specs.Fronts.{IsFront}
+use Rattle.texts.specs.Words.{IsUnmarked, row_of, words_of, without_comment, word_at}
+use Rattle.texts.proofs.PairLemmas.{one_line-pair, pair_line, without_comment-pair, words_of-pair}
 use Rattle.texts.proofs.FirstReasons.{none_each}
 use Rattle.exact_numbers.specs.declared.dec.Dec.{Dec}
 use Rattle.exact_numbers.specs.Numbers.{are_any_digits, are_digits, dec_of, whole_of}
-use Rattle.exact_numbers.specs.Spelled.{first_of_both, second_of_both}
+use Rattle.exact_numbers.specs.SpelledLemmas.{first_of_both, second_of_both}
 use Rattle.exact_numbers.proofs.Texts.{digit_byte}
 use Rattle.nl_model.specs.declared.header_counts.Counts.{Counts}
 use Rattle.nl_model.specs.File.{Term}
@@ -18,6 +22,7 @@ use Rattle.nl_lines.specs.declared.head.Head.{Head}
 use Rattle.nl_lines.specs.Heads.{is_ascii_letter, is_head}
 use Rattle.nl_lines.specs.Pieces.{pair_in}
 use Rattle.nl_lines.specs.Tests.{index_limit, pair_form_tests}
+use Rattle.nl_lines.specs.FirstPairs.{IsFirstPair}
 use Rattle.nl_lines.specs.PairTests.{IsPairRow, SaysFreshPair, known_pair_tests, next_pair_tests}
 use Rattle.nl_lines.proofs.PairJudging.{index_of}
 
@@ -86,3 +91,38 @@ pub pair_row : (line word : List ℕ) (n i : ℕ) (d : Dec) → n < length line 
 pair_row line word n i d within space cut some whole index dec word_some word_unmarked =
     let words = pair_line line word n within space cut some index word_some word_unmarked in
     subst (λ ws. IsPairRow ws (i, d)) (sym (ap (take 12) words)) (two_words (take n line) word i d whole dec)
+
+-- ---- such a line at the front of a text
+
+front_one : (text line more : List ℕ) (len : ℕ) → text ≡ (line ++ 10 ∷ []) ++ more → len ≡ length line + 1 → IsTextLine line → IsFront text (record { len = len; lines = 1 }) (line ∷ [])
+front_one text line more len parts is one =
+    let whole : length (line ++ 10 ∷ []) ≡ len = omega (arith, is, length-append line (10 ∷ [])) in
+    let front : take len text ≡ line ++ 10 ∷ [] = ap (take len) parts ∙ ap (λ k. take k ((line ++ 10 ∷ []) ++ more)) (sym whole) ∙ take-append_seam (line ++ 10 ∷ []) more in
+    record {
+      within = omega (arith, whole, ap length parts, length-append (line ++ 10 ∷ []) more);
+      text = front ∙ sym (append-nil (line ++ 10 ∷ []));
+      each = (one, tt);
+      count = refl;
+    }
+
+pub first_row : (text rest word : List ℕ) (n m i : ℕ) (d : Dec) → n < length text → get_or text n 0 ≡ 32 → rest ≡ drop (n + 1) text → m < length rest → get_or rest m 0 ≡ 10 → word ≡ take m rest → n ≤ 40 → m ≤ 40
+    → 0 < n → whole_of (take n text) ≡ Some i → IsUnmarked (take n text) → dec_of word ≡ Some d → 0 < length word → IsUnmarked word
+    → IsFirstPair text (record { index = i; value = d; len = (n + m) + 2 })
+first_row text rest word n m i d within space behind ends lf cut few few_more some whole index dec word_some word_unmarked =
+    let front = take n text in
+    let line = front ++ 32 ∷ word in
+    let more = drop (m + 1) rest in
+    let size : length front ≡ n = omega (arith, within, length-take n text) in
+    let word_size : length word ≡ m = omega (arith, ends, ap length cut, length-take m rest) in
+    let line_size : length line ≡ (n + m) + 1 = omega (arith, size, word_size, length-append front (32 ∷ word)) in
+    let last : rest ≡ word ++ 10 ∷ more = sym (take-append-drop m rest) ∙ ap₂ (λ (a b : List ℕ). a ++ b) (sym cut) (drop_more rest m 0 ends ∙ ap (λ b. b ∷ more) lf) in
+    let first : text ≡ front ++ 32 ∷ rest = sym (take-append-drop n text) ∙ ap (λ bs. front ++ bs) (drop_more text n 0 within ∙ ap₂ (λ b bs. b ∷ bs) space (sym behind)) in
+    let parts : text ≡ (line ++ 10 ∷ []) ++ more =
+    first ∙ ap (λ bs. front ++ 32 ∷ bs) last ∙ sym (append_assoc front (32 ∷ word) (10 ∷ more)) ∙ sym (append_assoc line (10 ∷ []) more) in
+    let words : words_of (without_comment line) ≡ front ∷ word ∷ [] =
+    ap words_of (without_comment-pair front word index word_unmarked) ∙ words_of-pair front word (omega (arith, size, some)) index word_some word_unmarked in
+    record {
+      line = line;
+      first = front_one text line more ((n + m) + 2) parts (omega (arith, line_size)) (record { one = one_line-pair front word index word_some word_unmarked; short = omega (arith, line_size, few, few_more) });
+      pair = subst (λ ws. IsPairRow ws (i, d)) (sym (ap (take 12) words)) (two_words front word i d whole dec);
+    }

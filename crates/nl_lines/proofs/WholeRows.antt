@@ -6,7 +6,7 @@ use Rattle.texts.specs.Words.{IsUnmarked, row_of, without_comment, word_at}
 use Rattle.texts.proofs.FirstReasons.{none_each}
 use Rattle.texts.proofs.PairLemmas.{without_comment-unmarked, words_of-one}
 use Rattle.exact_numbers.specs.Numbers.{whole_of}
-use Rattle.exact_numbers.specs.Spelled.{first_of_both}
+use Rattle.exact_numbers.specs.SpelledLemmas.{first_of_both}
 use Rattle.nl_lines.specs.Heads.{is_head}
 use Rattle.nl_lines.specs.Tests.{column_tests}
 use Rattle.nl_lines.specs.WholeRows.{IsWholeRow}

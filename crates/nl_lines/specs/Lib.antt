@@ -10,3 +10,4 @@ pub mod SeenSegments
 pub mod Segment
 pub mod Tests
 pub mod WholeRows
+pub mod FirstPairs

@@ -29,17 +29,14 @@ variable_node n i = if nat_lt i n then Var i else Defined i
 
 -- an opcode with a fixed number of operands
 abbrev pub fixed_node : ℕ → Option Operands → Option Node
-fixed_node o None = None
 fixed_node o (Some One) = Some (Op o 1)
 fixed_node o (Some Two) = Some (Op o 2)
-fixed_node o (Some Counted) = None
+fixed_node o _ = None
 
 -- an opcode whose number of operands is on the next line
 abbrev pub counted_opcode : ℕ → Option Operands → Option ℕ
-counted_opcode o None = None
-counted_opcode o (Some One) = None
-counted_opcode o (Some Two) = None
 counted_opcode o (Some Counted) = Some o
+counted_opcode o _ = None
 
 -- the Dec that a signed whole number is
 unfoldable pub dec_of_signed : List ℕ → Option Dec

@@ -1,11 +1,12 @@
 -- The pieces of the body: a head, and the rows up to the next head (Gay 2005, "Writing .nl Files",
 -- segments).
 use Rattle.std.specs.Prelude.{ℕ, ◌==◌, Bool, nat_lt, List, [], ◌∷◌, ◌++◌, length, take, drop, Option, Some, None, option_map, option_and_then, if◌then◌else◌, codes}
+use Rattle.std.specs.Option.{option_map_or}
 use Rattle.std.specs.List.{fold, filter_map}
 use Rattle.std.specs.Str.{bytes_eq}
 use Rattle.exact_numbers.specs.declared.dec.Dec.{Dec}
 use Rattle.nl_model.specs.declared.header_counts.Counts.{Counts}
-use Rattle.nl_model.specs.declared.interval.Interval.{Interval}
+use Rattle.linear_program.specs.declared.interval.Interval.{Interval}
 use Rattle.nl_model.specs.File.{Term}
 use Rattle.nl_model.specs.Nodes.{awaited}
 use Rattle.nl_lines.specs.declared.awaited.Awaited.{Awaited}
@@ -109,11 +110,7 @@ is_complete c p = is_nothing (awaited_in c p)
 
 -- what the piece that was begun last awaits; nothing where no head has come yet
 abbrev pub awaited_of : Counts → List Piece → Awaited
-awaited_of c pieces = awaited_by c (last_piece pieces)
-  where
-    awaited_by : Counts → Option Piece → Awaited
-    awaited_by c None = Nothing
-    awaited_by c (Some p) = awaited_in c p
+awaited_of c pieces = option_map_or (awaited_in c) (last_piece pieces) Nothing
 
 -- ---- What lines say.
 

@@ -83,9 +83,7 @@ is_same_segment s t = s.letter == t.letter && index_of s.subject == index_of t.s
 -- those of an index and a value
 abbrev pub pairs_in : Lines → ℕ
 pairs_in (Pairs n) = n
-pairs_in EachConstraint = 0
-pairs_in EachVariable = 0
-pairs_in (Columns n) = 0
+pairs_in _ = 0
 
 -- all of them
 abbrev pub lines_in : Counts → Lines → ℕ
@@ -101,10 +99,8 @@ kind_in EachVariable = IntervalLine
 kind_in (Columns n) = ColumnCount
 
 abbrev pub are_sides : Lines → Bool
-are_sides (Pairs n) = false
 are_sides EachConstraint = true
-are_sides EachVariable = false
-are_sides (Columns n) = false
+are_sides _ = false
 
 -- ---- Pairs.
 
@@ -116,16 +112,13 @@ limit_in c (Objects kind) = object_count c kind
 
 -- each value of a suffix is whole unless the bit of value 4 is there
 abbrev pub are_whole : Indices → Bool
-are_whole Variables = false
-are_whole Constraints = false
 are_whole (Objects kind) = is_whole_kind kind
+are_whole _ = false
 
 abbrev pub are_linear : Total → Bool
-are_linear Neither = false
 are_linear Linear = true
-are_linear SuffixValues = false
+are_linear _ = false
 
 abbrev pub are_suffix_values : Total → Bool
-are_suffix_values Neither = false
-are_suffix_values Linear = false
 are_suffix_values SuffixValues = true
+are_suffix_values _ = false

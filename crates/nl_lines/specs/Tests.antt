@@ -10,9 +10,9 @@ use Rattle.code_tables.specs.Opcodes.{operands_of}
 use Rattle.exact_numbers.specs.declared.dec.Dec.{Dec}
 use Rattle.exact_numbers.specs.Values.{dec_value, order_of}
 use Rattle.nl_model.specs.declared.header_counts.Counts.{Counts}
-use Rattle.nl_model.specs.declared.interval.Interval.{Interval}
-use Rattle.nl_model.specs.declared.kind.Kind.{Kind}
-use Rattle.nl_model.specs.declared.kind.Kind.TheVariants.{Continuous, Binary, Integer}
+use Rattle.linear_program.specs.declared.interval.Interval.{Interval}
+use Rattle.linear_program.specs.declared.kind.Kind.{Kind}
+use Rattle.linear_program.specs.declared.kind.Kind.TheVariants.{Continuous, Binary, Integer}
 use Rattle.nl_model.specs.Draft.{Draft}
 use Rattle.nl_model.specs.File.{Term}
 use Rattle.nl_model.specs.HeaderRules.{defined_count}
@@ -178,9 +178,8 @@ is_within_unit i =
     && option_map_or (λ hi. not (is_value_below (whole (pos 1)) (dec_value hi))) i.hi Bool.false
 
 abbrev pub is_binary : Kind → Bool
-is_binary Continuous = Bool.false
 is_binary Binary = Bool.true
-is_binary Integer = Bool.false
+is_binary _ = Bool.false
 
 -- the intervals of constraints, where complementarity is refused
 abbrev pub is_sides : Head → Bool

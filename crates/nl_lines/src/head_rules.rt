@@ -12,8 +12,8 @@ use crate::heads::defined_end;
 use crate::segment::{Indices, Lines, Subject, Total, segment_of};
 use nl_model::{Counts, object_limit};
 
-// There are at most so many linear terms, and so many values of suffixes.
-const MOST_TERMS: u32 = 4_194_304;
+/// There are at most so many linear terms, and so many values of suffixes.
+pub const MOST_TERMS: u32 = 4_194_304;
 
 // There are so many letters.
 const LETTERS: u64 = 11;

@@ -26,8 +26,8 @@ pub use awaited::{Awaited, is_nothing};
 pub use fault::{NlFault, NlReason};
 pub use head::Head;
 pub use head_rules::{
-    has_tree, holds_once, is_full, is_linear, is_sides, is_suffix, keeps_pairs, line_count,
-    line_kind, mark_count, mark_of,
+    MOST_TERMS, has_tree, holds_once, is_full, is_linear, is_sides, is_suffix, keeps_pairs,
+    line_count, line_kind, mark_count, mark_of,
 };
 pub use heads::{is_in_range, read_head};
 pub use intervals::read_interval;
@@ -38,7 +38,7 @@ pub use leaf_row::read_leaf_row;
 pub use node_row::NodeRow;
 pub use nodes::read_node;
 pub use number_lines::{read_column, read_operand_count};
-pub use pair_line::pair_of_line;
+pub use pair_line::{FirstPair, first_pair, pair_of_line};
 pub use pending::Pending;
 pub use whole_line::whole_of_line;
 pub use words::is_head;

@@ -11,10 +11,10 @@ use Rattle.fractions.proofs.Tests.{option_or-none}
 use Rattle.fractions.proofs.Adding.{sum_over_nil, sum_over_cons, sum_below_all_zero}
 use Rattle.nl_meaning.specs.declared.Reason.{Reason}
 use Rattle.nl_meaning.specs.declared.Reason.TheVariants.{Nonlinear, DivideByZero}
-use Rattle.nl_meaning.specs.Lines.{Line, line_value, line_values, some_values, is_zero, is_constant, are_constant, constants_of}
-use Rattle.nl_meaning.specs.Faults.{nonlinear_unless, power_fault, constant_line, constants_line, running_line, operator_line, line_sum, line_scaled, line_neg, line_with, line_with_terms, operator_fault, fault_at, line_of, lines_of, tree_fault, trees_fault, expression_fault, definitions_fault, first_fault, first_expression_fault, coef, constant_of, expression_line}
-use Rattle.nl_meaning.specs.Trees.{Point, Known, nothing_known, with_value, Tree, number, variable, defined, operator, Trees, none, more, all_there, on_values, operator_value, tree_value, trees_values, LinearTerm, Expression, Definition, terms_value, expression_value, values_after, known_values, val, expression_val, tree_size, count_of, HasCount, IsOneOf, IsFormed, AreFormed, AreTermsBelow, IsExpressionFormed, indices_after, indices_of, AreDefined}
-use Rattle.nl_meaning.proofs.LineLemmas.{is_zero-false, line_value-sum, line_value-scaled, line_value-neg, line_value-constant, line_values-constant, line_value-with, line_by_lem}
+use Rattle.linear_programs.specs.Lines.{Line, line_value, line_values, some_values, is_zero, is_constant, are_constant, constants_of, constant_line, running_line, line_sum, line_scaled, line_neg, line_with, Point}
+use Rattle.nl_meaning.specs.Faults.{nonlinear_unless, power_fault, constants_line, operator_line, line_with_terms, operator_fault, fault_at, line_of, lines_of, tree_fault, trees_fault, expression_fault, definitions_fault, first_fault, first_expression_fault, coef, constant_of, expression_line}
+use Rattle.nl_meaning.specs.Trees.{Known, nothing_known, with_value, Tree, number, variable, defined, operator, Trees, none, more, all_there, on_values, operator_value, tree_value, trees_values, LinearTerm, Expression, Definition, terms_value, expression_value, values_after, known_values, val, expression_val, tree_size, count_of, HasCount, IsOneOf, IsFormed, AreFormed, AreTermsBelow, IsExpressionFormed, indices_after, indices_of, AreDefined}
+use Rattle.linear_programs.proofs.LineLemmas.{is_zero-false, line_value-sum, line_value-scaled, line_value-neg, line_value-constant, line_values-constant, line_value-with, line_by_lem}
 
 pub all_there-some : (n : ℕ) (at : Point) (ls : List Line) → all_there (some_values n at ls) ≡ Some (line_values n at ls)
 all_there-some n at [] = refl

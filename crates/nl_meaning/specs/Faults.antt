@@ -1,16 +1,16 @@
 -- The first fault of folding a tree to a line (own profile).
-use Rattle.std.specs.Prelude.{ℕ, ◌+◌, ◌==◌, List, [], ◌∷◌, Bool, true, false, ◌&&◌, if◌then◌else◌, Option, Some, None}
+use Rattle.std.specs.Prelude.{ℕ, ◌+◌, List, [], ◌∷◌, Bool, true, false, ◌&&◌, if◌then◌else◌, Option, Some, None}
 use Rattle.std.specs.Option.{option_or}
 use Rattle.code_tables.specs.declared.class.OpClass.{OpClass}
 use Rattle.code_tables.specs.declared.class.OpClass.TheVariants.{Sum, Difference, Product, Quotient, Negation, List as SumOfAll, Power, Least, Greatest, Floor, Ceiling, Absolute}
 use Rattle.fractions.specs.Fits.{fits, sum_fits}
 use Rattle.fractions.specs.Functions.{exponent_of, or_zero, power_of}
-use Rattle.fractions.specs.Rational.{ℚ, zero_ℚ, ◌+ℚ◌, ◌*ℚ◌, neg_ℚ, inverse_of, decimal_value}
+use Rattle.fractions.specs.Rational.{ℚ, inverse_of, decimal_value}
 use Rattle.nl_meaning.specs.declared.Fault.{Fault}
 use Rattle.nl_meaning.specs.declared.Reason.{Reason}
 use Rattle.nl_meaning.specs.declared.Reason.TheVariants.{Nonlinear, DivideByZero, TooWide, RefusedPower}
-use Rattle.nl_meaning.specs.Lines.{Line, line_by, all_below, is_zero, is_constant, are_constant, constants_of, one_if}
-use Rattle.nl_meaning.specs.Trees.{Tree, number, variable, defined, operator, Trees, none, more, Point, Known, nothing_known, with_value, LinearTerm, Expression, Definition, on_values, tree_value, known_values, val, expression_value, expression_val, tree_size}
+use Rattle.linear_programs.specs.Lines.{Line, line_by, is_zero, is_constant, are_constant, constants_of, Point, line_sum, line_scaled, line_neg, constant_line, running_line, line_with, sums_fit, products_fit, running_sums_fit}
+use Rattle.nl_meaning.specs.Trees.{Tree, number, variable, defined, operator, Trees, none, more, Known, nothing_known, with_value, LinearTerm, Expression, Definition, on_values, tree_value, known_values, val, expression_value, expression_val, tree_size}
 
 abbrev pub too_wide_unless : Bool → Option Reason
 too_wide_unless true = None
@@ -21,22 +21,6 @@ nonlinear_unless true = None
 nonlinear_unless false = Some Nonlinear
 
 -- ---- lines of operators
-abbrev pub line_sum : Line → Line → Line
-line_sum a b = record { constant = a.constant +ℚ b.constant; coef = λ j. a.coef j +ℚ b.coef j }
-
-abbrev pub line_scaled : ℚ → Line → Line
-line_scaled k a = record { constant = k *ℚ a.constant; coef = λ j. k *ℚ a.coef j }
-
-abbrev pub line_neg : Line → Line
-line_neg a = record { constant = neg_ℚ a.constant; coef = λ j. neg_ℚ (a.coef j) }
-
-abbrev pub constant_line : ℚ → Line
-constant_line k = record { constant = k; coef = λ j. zero_ℚ }
-
-abbrev pub running_line : Line → List Line → Line
-running_line a [] = a
-running_line a (b ∷ bs) = running_line (line_sum a b) bs
-
 -- what a class makes of constants alone
 abbrev pub constants_line : OpClass → List Line → Line
 constants_line c ls = constant_line (or_zero (on_values c (constants_of ls)))
@@ -53,19 +37,6 @@ operator_line n SumOfAll (a ∷ bs) = running_line a bs
 operator_line n c ls = constants_line c ls
 
 -- ---- the table of faults
--- the constants' sum and each coefficient's fit
-abbrev pub sums_fit : ℕ → Line → Line → Bool
-sums_fit n a b = sum_fits a.constant b.constant && all_below (λ j. sum_fits (a.coef j) (b.coef j)) n
-
--- the constant's and each coefficient's product with k fit
-abbrev pub products_fit : ℕ → ℚ → Line → Bool
-products_fit n k a = fits (k *ℚ a.constant) && all_below (λ j. fits (k *ℚ a.coef j)) n
-
--- each running sum from the left fits
-abbrev pub running_sums_fit : ℕ → Line → List Line → Bool
-running_sums_fit n a [] = true
-running_sums_fit n a (b ∷ bs) = sums_fit n a b && running_sums_fit n (line_sum a b) bs
-
 abbrev pub power_fault : ℚ → Option ℕ → Option Reason
 power_fault x None = Some RefusedPower
 power_fault x (Some k) = too_wide_unless (fits (power_of x k))
@@ -126,10 +97,6 @@ abbrev mutual
       option_or (tree_fault known n i t) (trees_fault known n (i + tree_size t) ts)
 
 -- ---- linear terms
--- a line with k added at j
-abbrev pub line_with : Line → ℕ → ℚ → Line
-line_with a j k = record { constant = a.constant; coef = λ i. a.coef i +ℚ k *ℚ one_if (i == j) }
-
 -- a line with the terms of a list added
 abbrev pub line_with_terms : Line → List LinearTerm → Line
 line_with_terms a [] = a

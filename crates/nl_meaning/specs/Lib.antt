@@ -1,5 +1,4 @@
 pub mod Example
 pub mod Faults
-pub mod Lines
 pub mod Trees
 pub mod Parts

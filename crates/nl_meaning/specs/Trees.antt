@@ -5,6 +5,7 @@ use Rattle.code_tables.specs.declared.class.OpClass.TheVariants.{Sum, Difference
 use Rattle.fractions.specs.Functions.{power_of, exponent_of, least_of, greatest_of, floor_of, ceiling_of, absolute_of}
 use Rattle.fractions.specs.Rational.{ℚ, ◌+ℚ◌, ◌-ℚ◌, ◌*ℚ◌, neg_ℚ, quotient_of, decimal_value}
 use Rattle.fractions.specs.Sums.{sum_of_all, sum_over}
+use Rattle.linear_programs.specs.Lines.{Point}
 
 -- a tree; `number m e` is m * 10 ^ e
 mutual
@@ -55,10 +56,6 @@ HasCount Floor k = k ≡ 1
 HasCount Ceiling k = k ≡ 1
 HasCount Absolute k = k ≡ 1
 HasCount Refused k = ⊥
-
--- a value of each variable
-abbrev pub Point : Type 0
-Point = ℕ → ℚ
 
 -- all values of a list, where none is missing
 abbrev pub all_there : List (Option ℚ) → Option (List ℚ)

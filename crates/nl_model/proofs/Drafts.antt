@@ -5,8 +5,9 @@ use Rattle.std.proofs.lemmas.List.{length_push, get_or_default}
 use Rattle.std.proofs.lemmas.List.Elements.{All-push, All-set, All-get_or, All-head, All-tail, All-cons, All-nil}
 use Rattle.std.proofs.lemmas.List.Sums.{sum_by-set}
 use Rattle.nl_model.specs.File.{Term, Objective}
-use Rattle.nl_model.specs.Rules.{AreTerms, AreTermsBelow, term_count, most_terms, IsOrdered, IsTreeKnown, IsFile}
-use Rattle.nl_model.specs.declared.interval.Interval.{Interval}
+use Rattle.nl_model.specs.Rules.{AreTerms, AreTermsBelow, term_count, most_terms, IsTreeKnown, IsFile}
+use Rattle.linear_program.specs.Intervals.{IsOrdered}
+use Rattle.linear_program.specs.declared.interval.Interval.{Interval}
 use Rattle.nl_model.specs.Draft.{Draft, IsDraft, given, file_of}
 use Rattle.nl_model.specs.Built.{IsKept}
 

@@ -2,10 +2,11 @@
 use Rattle.std.specs.Prelude.{◌≡◌, ℕ, ℤ, ◌≤◌, IsTrue, List, [], ◌∷◌, length, All, Bool, Option, Some, None, IfSome, is_some, option_and_then, slice_get, replicate}
 use Rattle.nl_meaning.specs.Trees.{Tree}
 use Rattle.nl_model.specs.declared.header_counts.Counts.{Counts}
-use Rattle.nl_model.specs.declared.interval.Interval.{Interval}
+use Rattle.linear_program.specs.declared.interval.Interval.{Interval}
 use Rattle.nl_model.specs.File.{Term, Objective, Definition, Suffix, File}
 use Rattle.nl_model.specs.HeaderRules.{is_header, defined_count}
-use Rattle.nl_model.specs.Rules.{IsTreeKnown, AreDefinitions, AreBodies, AreTerms, IsOrdered, AreGuesses, AreSuffixes}
+use Rattle.nl_model.specs.Rules.{IsTreeKnown, AreDefinitions, AreBodies, AreTerms, AreGuesses, AreSuffixes}
+use Rattle.linear_program.specs.Intervals.{IsOrdered}
 
 -- as a file, with a place for each objective
 pub record Draft : Type 0 where

@@ -4,7 +4,7 @@ use Rattle.exact_numbers.specs.declared.dec.Dec.{Dec}
 use Rattle.nl_meaning.specs.Trees.{Tree}
 use Rattle.nl_model.specs.declared.header_counts.Counts.{Counts}
 use Rattle.nl_model.specs.declared.definition.Def.{Def}
-use Rattle.nl_model.specs.declared.interval.Interval.{Interval}
+use Rattle.linear_program.specs.declared.interval.Interval.{Interval}
 use Rattle.nl_model.specs.declared.objective.Objective.{Objective as ObjectiveFields}
 use Rattle.nl_model.specs.declared.suffix.Suffix.{Suffix as SuffixFields}
 

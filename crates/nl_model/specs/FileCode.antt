@@ -4,12 +4,12 @@ use Rattle.std.specs.Coded.{Coded, code_by, coded×, coded_ℤ, coded_list, code
 use Rattle.nl_meaning.specs.Trees.{Tree}
 use Rattle.nl_model.specs.contracts.header_counts.Counts.{the_row as counts_row}
 use Rattle.nl_model.specs.contracts.definition.Def.{the_row as definition_row}
-use Rattle.nl_model.specs.contracts.interval.Interval.{the_row as interval_row}
+use Rattle.linear_program.specs.contracts.interval.Interval.{the_row as interval_row}
 use Rattle.nl_model.specs.contracts.objective.Objective.{the_row as objective_row}
 use Rattle.nl_model.specs.contracts.suffix.Suffix.{the_row as suffix_row}
-use Rattle.nl_model.specs.contracts.terms.Terms.{the_row as terms_row}
+use Rattle.linear_program.specs.contracts.terms.Terms.{the_row as terms_row}
 use Rattle.nl_model.specs.declared.header_counts.Counts.{Counts}
-use Rattle.nl_model.specs.declared.interval.Interval.{Interval}
+use Rattle.linear_program.specs.declared.interval.Interval.{Interval}
 use Rattle.nl_model.specs.File.{Term, Objective, Definition, Suffix, File}
 use Rattle.nl_model.specs.Draft.{Draft}
 use Rattle.nl_model.specs.TreeCode.{tree_code}

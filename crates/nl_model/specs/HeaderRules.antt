@@ -7,9 +7,8 @@ use Rattle.nl_model.specs.declared.header_counts.Counts.{Counts}
 
 -- the second of the options is 3: it announces a line that is refused
 abbrev pub has_second_three : List ℤ → Bool
-has_second_three [] = Bool.false
-has_second_three (first ∷ []) = Bool.false
 has_second_three (first ∷ second ∷ rest) = int_eq second (pos 3)
+has_second_three _ = Bool.false
 
 -- at most four options, the second of which is not 3
 abbrev pub are_options : List ℤ → Bool

@@ -1,18 +1,15 @@
 -- What each .nl file keeps: indices in range, orders, and no repeats (Gay 2005, "Writing .nl
 -- Files"; the limits are this project's own).
-use Rattle.std.specs.Prelude.{◌≡◌, ◌≢◌, ℕ, ◌+◌, ◌^◌, ◌<◌, ◌≤◌, Bool, false, ◌&&◌, ◌==◌, IsTrue, List, [], ◌∷◌, ◌++◌, length, sum_by, All, AllPairs, Option, Some, None, IfSome}
+use Rattle.std.specs.Prelude.{◌≡◌, ◌≢◌, ℕ, ◌+◌, ◌^◌, ◌<◌, ◌≤◌, Bool, false, ◌&&◌, ◌==◌, IsTrue, List, [], ◌∷◌, ◌++◌, length, sum_by, All, AllPairs, Option, IfSome}
 use Rattle.std.specs.List.{list_any}
 use Rattle.std.specs.Str.{bytes_eq}
-use Rattle.fractions.specs.Rational.{◌≤ℚ◌}
-use Rattle.exact_numbers.specs.Values.{dec_value}
-use Rattle.exact_numbers.specs.declared.dec.Dec.{Dec}
 use Rattle.nl_meaning.specs.Trees.{Tree, number, variable, defined, operator, Trees, none, more}
 use Rattle.nl_model.specs.declared.header_counts.Counts.{Counts}
-use Rattle.nl_model.specs.declared.interval.Interval.{Interval}
 use Rattle.nl_model.specs.File.{Term, Objective, Definition, Suffix, File}
 use Rattle.nl_model.specs.HeaderRules.{is_header, defined_count}
 use Rattle.nl_model.specs.Nodes.{IsTreeFormed}
 use Rattle.nl_model.specs.SuffixKinds.{has_same_objects, object_limit}
+use Rattle.linear_program.specs.Intervals.{IsOrdered}
 
 -- limits: terms of all constraints together, and terms of one other owner
 abbrev pub most_terms : ℕ
@@ -44,15 +41,6 @@ AreTermsBelow n ts = All (λ t. t.0 < n) ts
 -- no index stands twice
 abbrev pub AreIndicesApart : List Term → Type 0
 AreIndicesApart ts = AllPairs (λ s t. s.0 ≢ t.0) ts
-
--- the lower side is not above the upper, where both are there
-abbrev pub AreOrdered : Option Dec → Option Dec → Type 0
-AreOrdered None u = Unit {0}
-AreOrdered (Some l) None = Unit {0}
-AreOrdered (Some l) (Some u) = dec_value l ≤ℚ dec_value u
-
-abbrev pub IsOrdered : Interval → Type 0
-IsOrdered i = AreOrdered i.lo i.hi
 
 -- a definition that may use n variables and the definitions ds, in a file of k defined variables
 pub record IsDefinition (n k : ℕ) (ds : List Definition) (x : Definition) : Type 0 where

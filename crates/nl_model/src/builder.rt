@@ -3,19 +3,19 @@ ghost use Rattle.std.specs.Prelude.{◌≡◌, ◌≢◌, ◌+◌, ◌<◌, ◌�
 ghost use Rattle.nl_model.specs.HeaderRules.{defined_count};
 ghost use Rattle.nl_model.specs.HeaderWords.{header_counts, header_options};
 ghost use Rattle.nl_model.specs.Draft.{empty_draft, is_given, IsDraft};
-ghost use Rattle.nl_model.specs.Rules.{AreIndicesApart, AreTermsBelow, IsOrdered, IsTreeWithin, has_suffix, is_defined, is_suffix_of, most_terms, object_count, term_count};
+ghost use Rattle.nl_model.specs.Rules.{AreIndicesApart, AreTermsBelow, IsTreeWithin, has_suffix, is_defined, is_suffix_of, most_terms, object_count, term_count};
+ghost use Rattle.linear_program.specs.Intervals.{IsOrdered};
 
 use crate::definition::Def;
 use crate::expr::Expr;
 use crate::header::Header;
 use crate::header_rules::defined_count;
-use crate::interval::Interval;
 use crate::objective::Objective;
 use crate::places::{lists, marks, places};
 use crate::suffix::Suffix;
 use crate::suffix_kinds::has_same_objects;
-use crate::terms::Terms;
 use exact_numbers::Dec;
+use linear_program::{Interval, Terms};
 use std::alloc::{AllocError, Global};
 use std::marker::Model;
 

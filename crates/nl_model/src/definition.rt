@@ -1,6 +1,6 @@
 // Defined variables.
 use crate::expr::Expr;
-use crate::terms::Terms;
+use linear_program::Terms;
 
 /// A defined variable: its index in the file, its linear terms, its usage as the file gives it, and
 /// its tree.

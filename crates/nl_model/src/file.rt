@@ -10,10 +10,9 @@ use crate::builder::NlBuilder;
 use crate::definition::Def;
 use crate::expr::Expr;
 use crate::header::Header;
-use crate::interval::Interval;
 use crate::objective::Objective;
 use crate::suffix::Suffix;
-use crate::terms::Terms;
+use linear_program::{Interval, Terms};
 use std::marker::Model;
 
 /// What an .nl file says.

@@ -1,7 +1,7 @@
 // Empty places.
 ghost use Rattle.std.specs.Prelude.{◌≡◌, [], None, false, IfOk, replicate};
 
-use crate::terms::Terms;
+use linear_program::Terms;
 use std::alloc::{AllocError, Global};
 
 /// So many empty places.

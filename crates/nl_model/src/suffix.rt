@@ -1,5 +1,5 @@
 // Suffixes.
-use crate::terms::Terms;
+use linear_program::Terms;
 use texts::Name;
 
 /// Values of a name for variables, constraints, objectives or the problem, by the low two bits of

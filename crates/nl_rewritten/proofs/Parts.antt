@@ -10,11 +10,12 @@ use Rattle.std.proofs.lemmas.List.Folds.{list_any_at}
 use Rattle.std.proofs.lemmas.List.Quantifiers.{all_pairs_push}
 use Rattle.std.proofs.lemmas.List.Sums.{sum_by-cons, sum_by_push, sum_by-set}
 use Rattle.nl_model.specs.declared.header_counts.Counts.{Counts}
-use Rattle.nl_model.specs.declared.interval.Interval.{Interval}
+use Rattle.linear_program.specs.declared.interval.Interval.{Interval}
 use Rattle.nl_model.specs.Draft.{Draft}
 use Rattle.nl_model.specs.File.{Term, Definition, Suffix}
 use Rattle.nl_model.specs.Kinds.{kind_of}
-use Rattle.nl_model.specs.Rules.{AreGuesses, AreIndicesApart, AreSuffixes, AreTermsBelow, IsOrdered, IsSuffix, has_suffix, is_suffix_of, term_count}
+use Rattle.nl_model.specs.Rules.{AreGuesses, AreIndicesApart, AreSuffixes, AreTermsBelow, IsSuffix, has_suffix, is_suffix_of, term_count}
+use Rattle.linear_program.specs.Intervals.{IsOrdered}
 use Rattle.nl_lines.specs.declared.awaited.Awaited.TheVariants.{Interval as IntervalLine}
 use Rattle.nl_lines.specs.declared.head.Head.{Head}
 use Rattle.nl_lines.specs.declared.head.Head.TheVariants.{Body, Definition as DefinitionHead, DualGuesses, PrimalGuesses, Sides, Bounds, Terms, Slopes, Suffix as SuffixHead}

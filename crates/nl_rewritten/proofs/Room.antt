@@ -17,7 +17,7 @@ use Rattle.code_tables.specs.declared.class.OpClass.{OpClass}
 use Rattle.code_tables.specs.declared.class.OpClass.TheVariants.{Sum, Refused}
 use Rattle.nl_meaning.specs.Trees.{Tree, tree_size, HasCount}
 use Rattle.nl_model.specs.declared.header_counts.Counts.{Counts}
-use Rattle.nl_model.specs.declared.interval.Interval.{Interval}
+use Rattle.linear_program.specs.declared.interval.Interval.{Interval}
 use Rattle.nl_model.specs.declared.node.Node.{Node}
 use Rattle.nl_model.specs.declared.node.Node.TheVariants.{Num, Var, Defined, Op}
 use Rattle.nl_model.specs.File.{Term, Objective, Definition, Suffix, File}

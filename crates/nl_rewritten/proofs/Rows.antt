@@ -12,12 +12,13 @@ use Rattle.texts.proofs.FirstReasons.{none_head, none_each, none_first, none_sec
 use Rattle.exact_numbers.specs.declared.dec.Dec.{Dec}
 use Rattle.exact_numbers.specs.Numbers.{dec_of, is_whole, whole_of}
 use Rattle.nl_model.specs.declared.header_counts.Counts.{Counts}
-use Rattle.nl_model.specs.declared.interval.Interval.{Interval}
+use Rattle.linear_program.specs.declared.interval.Interval.{Interval}
 use Rattle.nl_model.specs.declared.node.Node.{Node}
 use Rattle.nl_model.specs.Draft.{Draft}
 use Rattle.nl_model.specs.File.{Term}
 use Rattle.nl_model.specs.Kinds.{kind_of}
-use Rattle.nl_model.specs.Rules.{IsOrdered, most_terms}
+use Rattle.linear_program.specs.Intervals.{IsOrdered}
+use Rattle.nl_model.specs.Rules.{most_terms}
 use Rattle.nl_lines.specs.declared.awaited.Awaited.{Awaited}
 use Rattle.nl_lines.specs.declared.awaited.Awaited.TheVariants.{Nothing, Pair, ColumnCount, Interval as IntervalLine, Node as NodeLine, OperandCount}
 use Rattle.nl_lines.specs.declared.head.Head.{Head}

@@ -4,7 +4,7 @@ use Rattle.std.specs.Prelude.{codes}
 use Rattle.std.specs.List.{AllByRecursion, slice_get, flat_map}
 use Rattle.nl_meaning.specs.Trees.{Tree, tree_size}
 use Rattle.nl_model.specs.declared.header_counts.Counts.{Counts}
-use Rattle.nl_model.specs.declared.interval.Interval.{Interval}
+use Rattle.linear_program.specs.declared.interval.Interval.{Interval}
 use Rattle.nl_model.specs.Draft.{Draft, empty_draft}
 use Rattle.nl_model.specs.File.{Term, Objective, File}
 use Rattle.nl_model.specs.HeaderRules.{defined_count, AreCounts}

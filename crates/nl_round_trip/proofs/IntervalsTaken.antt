@@ -9,7 +9,7 @@ use Rattle.exact_numbers.proofs.Bridge.{and_true}
 use Rattle.exact_numbers.specs.declared.dec.Dec.{Dec}
 use Rattle.fractions.specs.Rational.{decimal_value}
 use Rattle.nl_model.specs.declared.header_counts.Counts.{Counts}
-use Rattle.nl_model.specs.declared.interval.Interval.{Interval}
+use Rattle.linear_program.specs.declared.interval.Interval.{Interval}
 use Rattle.std.proofs.Common.{nat_lt, length-append}
 use Rattle.std.proofs.lemmas.Bool.Decides.{nat_tests}
 use Rattle.std.specs.List.{AllByRecursion, filter_map}

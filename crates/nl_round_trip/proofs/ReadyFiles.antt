@@ -11,11 +11,12 @@ use Rattle.std.proofs.lemmas.Option.{slice_get_within, get_or_from_slice_get}
 use Rattle.exact_numbers.specs.declared.dec.Dec.{Dec}
 use Rattle.nl_meaning.specs.Trees.{Tree}
 use Rattle.nl_model.specs.declared.header_counts.Counts.{Counts}
-use Rattle.nl_model.specs.declared.interval.Interval.{Interval}
+use Rattle.linear_program.specs.declared.interval.Interval.{Interval}
 use Rattle.nl_model.specs.File.{Term, Definition, Suffix, File}
 use Rattle.nl_model.specs.HeaderRules.{defined_count, AreCounts}
 use Rattle.nl_model.specs.Kinds.{kind_of}
-use Rattle.nl_model.specs.Rules.{AreTermsBelow, AreOrdered, IsOrdered, AreDefinitions, IsTreeKnown, IsSuffix, is_suffix_of, has_suffix, object_count}
+use Rattle.nl_model.specs.Rules.{AreTermsBelow, AreDefinitions, IsTreeKnown, IsSuffix, is_suffix_of, has_suffix, object_count}
+use Rattle.linear_program.specs.Intervals.{AreOrdered, IsOrdered}
 use Rattle.nl_model.proofs.Headers.{counts_of_header}
 use Rattle.nl_lines.specs.Tests.{is_empty, is_binary, is_within_unit}
 use Rattle.exact_numbers.specs.Numbers.{is_whole}

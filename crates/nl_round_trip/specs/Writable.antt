@@ -7,7 +7,7 @@ use Rattle.std.specs.Str.{bytes_eq}
 use Rattle.texts.specs.Names.{is_name}
 use Rattle.exact_numbers.specs.Numbers.{has_31_bits, is_whole}
 use Rattle.nl_meaning.specs.Trees.{Tree, tree_size}
-use Rattle.nl_model.specs.declared.interval.Interval.{Interval}
+use Rattle.linear_program.specs.declared.interval.Interval.{Interval}
 use Rattle.nl_model.specs.declared.node.Node.{Node}
 use Rattle.nl_model.specs.File.{Suffix, File}
 use Rattle.nl_model.specs.Kinds.{kind_of}

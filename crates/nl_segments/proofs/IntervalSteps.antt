@@ -6,7 +6,7 @@ use Rattle.std.proofs.lemmas.List.{append_assoc}
 use Rattle.std.proofs.lemmas.List.Elements.{filter_map-append}
 use Rattle.nl_header.specs.Head.{options_in}
 use Rattle.nl_model.specs.declared.header_counts.Counts.{Counts}
-use Rattle.nl_model.specs.declared.interval.Interval.{Interval}
+use Rattle.linear_program.specs.declared.interval.Interval.{Interval}
 use Rattle.nl_model.specs.Draft.{Draft}
 use Rattle.nl_model.specs.Kinds.{kind_of}
 use Rattle.nl_lines.specs.declared.awaited.Awaited.{Awaited}

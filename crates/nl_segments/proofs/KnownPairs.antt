@@ -1,5 +1,5 @@
 -- The pair of a row that is an index and a value alone is kept as that of any row.
-use Rattle.std.proofs.Common.{◌≡◌, ◌∙◌, ℕ, ◌-◌, ◌≤◌, Bool, false, List, length, refl, sym, ap, ap₂, subst, Some, None}
+use Rattle.std.proofs.Common.{◌≡◌, ◌∙◌, ℕ, ◌≤◌, Bool, false, List, length, refl, sym, ap, ap₂, subst, Some, None}
 use Rattle.std.specs.Prelude.{IsSomeAnd}
 use Rattle.texts.specs.Judged.{first_reason}
 use Rattle.nl_model.specs.declared.header_counts.Counts.{Counts}

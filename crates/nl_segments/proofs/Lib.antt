@@ -29,3 +29,4 @@ pub mod TreePieces
 pub mod KnownPairs
 pub mod NodeKept
 pub mod LineRunLemmas
+pub mod TermRuns

@@ -1,50 +1,94 @@
 -- Runs of lines: one line more, and the line at a place.
-use Rattle.std.proofs.Common.{◌≡◌, ◌∙◌, ℕ, ◌+◌, ◌-◌, ◌<◌, ◌≤◌, List, [], ◌∷◌, ◌++◌, length, get_or, sym, ap, ap₂, arith, drop, suc, zero, Option, Some, None, Result, Ok, Err, append_assoc}
-use Rattle.std.specs.Prelude.{slice_get, slice_set, OnOk}
+use Rattle.std.proofs.Common.{◌≡◌, ◌∙◌, ℕ, ◌+◌, ◌-◌, ◌<◌, ◌≤◌, ◌==◌, true, List, [], ◌∷◌, ◌++◌, length, get_or, refl, sym, ap, ap₂, arith, drop, suc, zero, Option, Some, None, append_assoc, append-nil}
+use Rattle.std.specs.Prelude.{slice_get, nat_lt}
+use Rattle.std.proofs.lemmas.Bool.{eqb-true}
+use Rattle.std.proofs.lemmas.Bool.Decides.{nat_tests}
+use Rattle.std.proofs.lemmas.List.{drop_all}
 use Rattle.std.specs.List.{range_with_len}
 use Rattle.nl_segments.specs.declared.line_runs.LineRun.{LineRun}
-use Rattle.nl_segments.specs.LineRuns.{lines_in, run_lines}
+use Rattle.nl_segments.specs.LineRuns.{follows, lines_in, run_lines}
 
-range_more : (a n : ℕ) → range_with_len a (suc n) ≡ range_with_len a n ++ (a + n) ∷ []
-range_more a zero =
+-- ---- lines that follow one another
+
+pub range_parts : (a m n : ℕ) → range_with_len a (m + n) ≡ range_with_len a m ++ range_with_len (a + m) n
+range_parts a zero n =
+    let none : 0 + n ≡ n = omega arith in
     let same : a ≡ a + 0 = omega arith in
-    ap (λ b. b ∷ []) same
-range_more a (suc n) =
+    ap (range_with_len a) none ∙ ap (λ b. range_with_len b n) same
+range_parts a (suc m) n =
+    let more : suc m + n ≡ suc (m + n) = omega arith in
+    let same : a + 1 + m ≡ a + suc m = omega arith in
+    ap (range_with_len a) more ∙ ap (λ xs. a ∷ xs) (range_parts (a + 1) m n ∙ ap (λ b. range_with_len (a + 1) m ++ range_with_len b n) same)
+
+follows_range : (before : List ℕ) (a n line : ℕ) → follows (before ++ range_with_len a (suc n)) line ≡ (a + n + 1 == line)
+follows_range [] a zero line =
+    let same : a ≡ a + 0 = omega arith in
+    ap (λ (b : ℕ). b + 1 == line) same
+follows_range [] a (suc n) line =
     let same : a + 1 + n ≡ a + suc n = omega arith in
-    ap (λ xs. a ∷ xs) (range_more (a + 1) n ∙ ap (λ b. range_with_len (a + 1) n ++ b ∷ []) same)
+    follows_range [] (a + 1) n line ∙ ap (λ (b : ℕ). b + 1 == line) same
+follows_range (b ∷ []) a n line = follows_range [] a n line
+follows_range (b ∷ c ∷ before) a n line = follows_range (c ∷ before) a n line
 
--- a line of its own
-pub one_run : (xs : List LineRun) (r : LineRun) (line : ℕ) → r.first ≡ line → r.last ≡ line → run_lines (xs ++ r ∷ []) ≡ run_lines xs ++ line ∷ []
+pub follows_run : (before : List ℕ) (r : LineRun) (line : ℕ) → r.first ≤ r.last → follows (before ++ lines_in r) line ≡ (r.last + 1 == line)
+follows_run before r line some =
+    let count : r.last + 1 - r.first ≡ suc (r.last - r.first) = omega (arith, some) in
+    let end : r.first + (r.last - r.first) + 1 ≡ r.last + 1 = omega (arith, some) in
+    ap (λ n. follows (before ++ range_with_len r.first n) line) count ∙ follows_range before r.first (r.last - r.first) line ∙ ap (λ n. n == line) end
+
+-- ---- the last run
+
+-- no lines
+pub none_there : (now : List ℕ) (earlier : List LineRun) (r : LineRun) → run_lines earlier ++ lines_in r ≡ now → earlier ≡ [] → r.last < r.first → now ≡ []
 unfolding run_lines
-one_run [] r line first last =
-    let one : r.last + 1 - line ≡ 1 = omega (arith, last) in
-    ap (λ a. range_with_len a (r.last + 1 - a) ++ []) first ∙ ap (λ n. range_with_len line n ++ []) one
-one_run (x ∷ xs) r line first last = ap (λ ys. lines_in x ++ ys) (one_run xs r line first last) ∙ sym (append_assoc (lines_in x) (run_lines xs) (line ∷ []))
+none_there now earlier r view none empty =
+    let zero_lines : r.last + 1 - r.first ≡ 0 = omega (arith, empty) in
+    sym view ∙ ap (λ (xs : List LineRun). run_lines xs ++ lines_in r) none ∙ ap (range_with_len r.first) zero_lines
 
-pushed : (now : List ℕ) (old grown new : List LineRun) (r : LineRun) (line : ℕ) → run_lines old ≡ now → grown ≡ old → new ≡ grown ++ r ∷ [] → r.first ≡ line → r.last ≡ line → run_lines new ≡ now ++ line ∷ []
-pushed now old grown new r line view same is first last = ap run_lines (is ∙ ap (λ xs. xs ++ r ∷ []) same) ∙ one_run old r line first last ∙ ap (λ xs. xs ++ line ∷ []) view
+pub follows_last : (now : List ℕ) (earlier : List LineRun) (r : LineRun) (line : ℕ) → run_lines earlier ++ lines_in r ≡ now → r.first ≤ r.last → follows now line ≡ (r.last + 1 == line)
+follows_last now earlier r line view some = ap (λ xs. follows xs line) (sym view) ∙ follows_run (run_lines earlier) r line some
 
-pub begun : {E : Type 0} (o : Result (Unit {0}) E) (now : List ℕ) (old grown new : List LineRun) (r : LineRun) (line : ℕ) → run_lines old ≡ now → grown ≡ old → r.first ≡ line → r.last ≡ line → OnOk o (new ≡ grown ++ r ∷ []) → OnOk o (run_lines new ≡ now ++ line ∷ [])
-begun (Ok u) now old grown new r line view same first last is = pushed now old grown new r line view same is first last
-begun (Err e) now old grown new r line view same first last is = tt
+pub next_after : (now : List ℕ) (earlier : List LineRun) (r : LineRun) (line : ℕ) → run_lines earlier ++ lines_in r ≡ now → follows now line ≡ true → r.first ≤ r.last → r.last + 1 ≡ line
+next_after now earlier r line view next some = eqb-true (r.last + 1) line (sym (follows_last now earlier r line view some) ∙ next)
 
--- a run that is one longer
-longer : (r s : LineRun) (line : ℕ) → s.first ≡ r.first → s.last ≡ line → r.last + 1 ≡ line → r.first ≤ line → lines_in s ≡ lines_in r ++ line ∷ []
-longer r s line first last next begun =
-    let count : s.last + 1 - r.first ≡ suc (r.last + 1 - r.first) = omega (arith, last, next, begun) in
-    let end : r.first + (r.last + 1 - r.first) ≡ line = omega (arith, next, begun) in
-    ap (λ a. range_with_len a (s.last + 1 - a)) first ∙ ap (λ n. range_with_len r.first n) count ∙ range_more r.first (r.last + 1 - r.first) ∙ ap (λ b. lines_in r ++ b ∷ []) end
+pub just_after : (last line : ℕ) → last < line → (line - last == 1) ≡ (last + 1 == line)
+just_after last line lt = grind (arith, nat_tests)
 
-pub last_longer : (xs : List LineRun) (i : ℕ) (d r s : LineRun) (line : ℕ) → length xs ≡ i + 1 → r ≡ get_or xs i d → s.first ≡ r.first → s.last ≡ line → r.last + 1 ≡ line → r.first ≤ line
-    → run_lines (slice_set xs i s) ≡ run_lines xs ++ line ∷ []
+pub not_after : (last line : ℕ) → line ≤ last → nat_lt last line ≡ (last + 1 == line)
+not_after last line le = grind (arith, nat_tests)
+
+-- it has so many lines more
+pub grown : (now : List ℕ) (earlier : List LineRun) (r s : LineRun) (line n : ℕ) → run_lines earlier ++ lines_in r ≡ now → follows now line ≡ true → r.first ≤ r.last
+    → s.first ≡ r.first → s.last + 1 ≡ line + n → run_lines earlier ++ lines_in s ≡ now ++ range_with_len line n
+grown now earlier r s line n view next some first last =
+    let after = next_after now earlier r line view next some in
+    let count : s.last + 1 - r.first ≡ (r.last + 1 - r.first) + n = omega (arith, after, last, some) in
+    let end : r.first + (r.last + 1 - r.first) ≡ line = omega (arith, after, some) in
+    let longer : lines_in s ≡ lines_in r ++ range_with_len line n =
+    ap (λ a. range_with_len a (s.last + 1 - a)) first ∙ ap (range_with_len r.first) count ∙ range_parts r.first (r.last + 1 - r.first) n ∙ ap (λ a. lines_in r ++ range_with_len a n) end in
+    ap (λ xs. run_lines earlier ++ xs) longer ∙ sym (append_assoc (run_lines earlier) (lines_in r) (range_with_len line n)) ∙ ap (λ xs. xs ++ range_with_len line n) view
+
+-- its first lines
+pub first_lines : (now : List ℕ) (earlier : List LineRun) (r s : LineRun) (line n : ℕ) → run_lines earlier ++ lines_in r ≡ now → earlier ≡ [] → r.last < r.first → s.first ≡ line → s.last + 1 ≡ line + n
+    → run_lines earlier ++ lines_in s ≡ now ++ range_with_len line n
 unfolding run_lines
-last_longer [] i d r s line len is first last next begun = absurd (omega (arith, len))
-last_longer (x ∷ []) zero d r s line len is first last next begun =
-    ap (λ ys. ys ++ []) (longer r s line first last next begun ∙ ap (λ q. lines_in q ++ line ∷ []) is) ∙ append_assoc (lines_in x) (line ∷ []) [] ∙ sym (append_assoc (lines_in x) [] (line ∷ []))
-last_longer (x ∷ []) (suc i) d r s line len is first last next begun = absurd (omega (arith, len))
-last_longer (x ∷ y ∷ xs) zero d r s line len is first last next begun = absurd (omega (arith, len))
-last_longer (x ∷ y ∷ xs) (suc i) d r s line len is first last next begun =
-    ap (λ ys. lines_in x ++ ys) (last_longer (y ∷ xs) i d r s line (omega (arith, len)) is first last next begun) ∙ sym (append_assoc (lines_in x) (run_lines (y ∷ xs)) (line ∷ []))
+first_lines now earlier r s line n view none empty first last =
+    let count : s.last + 1 - line ≡ n = omega (arith, last) in
+    ap (λ (xs : List LineRun). run_lines xs ++ lines_in s) none ∙ ap (λ a. range_with_len a (s.last + 1 - a)) first ∙ ap (range_with_len line) count
+    ∙ ap (λ xs. xs ++ range_with_len line n) (sym (none_there now earlier r view none empty))
+
+-- a line of its own after it
+runs-append : (xs : List LineRun) (r : LineRun) → run_lines (xs ++ r ∷ []) ≡ run_lines xs ++ lines_in r
+unfolding run_lines
+runs-append [] r = append-nil (lines_in r)
+runs-append (x ∷ xs) r = ap (λ ys. lines_in x ++ ys) (runs-append xs r) ∙ sym (append_assoc (lines_in x) (run_lines xs) (lines_in r))
+
+pub begun : (now : List ℕ) (earlier longer : List LineRun) (r s : LineRun) (line : ℕ) → run_lines earlier ++ lines_in r ≡ now → longer ≡ earlier ++ r ∷ [] → s.first ≡ line → s.last ≡ line
+    → run_lines longer ++ lines_in s ≡ now ++ line ∷ []
+begun now earlier longer r s line view is first last =
+    let one : line + 1 - line ≡ 1 = omega arith in
+    let alone : lines_in s ≡ line ∷ [] = ap₂ (λ a b. range_with_len a (b + 1 - a)) first last ∙ ap (range_with_len line) one in
+    ap₂ (λ xs ys. xs ++ ys) (ap run_lines is ∙ runs-append earlier r ∙ view) alone
 
 -- the line at a place of a run, and behind it
 within : (a n i : ℕ) (rest : List ℕ) → i < n → slice_get (range_with_len a n ++ rest) i ≡ Some (a + i)
@@ -75,28 +119,28 @@ empty_run r rest h =
     let none : r.last + 1 - r.first ≡ 0 = omega (arith, h) in
     ap (λ n. range_with_len r.first n ++ rest) none
 
--- a run, and the runs that are left
-at_run : (xs : List LineRun) (i : ℕ) (d r : LineRun) → i < length xs → r ≡ get_or xs i d → run_lines (drop i xs) ≡ lines_in r ++ run_lines (drop (suc i) xs)
+-- a run, and what follows it
+at_run : (xs : List LineRun) (i : ℕ) (d r : LineRun) (tail : List ℕ) → i < length xs → r ≡ get_or xs i d → run_lines (drop i xs) ++ tail ≡ lines_in r ++ (run_lines (drop (suc i) xs) ++ tail)
 unfolding run_lines
-at_run [] i d r h is = absurd (omega (arith, h))
-at_run (x ∷ xs) zero d r h is = ap (λ q. lines_in q ++ run_lines xs) (sym is)
-at_run (x ∷ xs) (suc i) d r h is = at_run xs i d r (omega (arith, h)) is
+at_run [] i d r tail h is = absurd (omega (arith, h))
+at_run (x ∷ xs) zero d r tail h is = append_assoc (lines_in x) (run_lines xs) tail ∙ ap (λ q. lines_in q ++ (run_lines xs ++ tail)) (sym is)
+at_run (x ∷ xs) (suc i) d r tail h is = at_run xs i d r tail (omega (arith, h)) is
 
-pub found_in : (xs : List LineRun) (i : ℕ) (d r : LineRun) (left line : ℕ) (o : Option ℕ) → i < length xs → r ≡ get_or xs i d → r.first + left ≤ r.last → line ≡ r.first + left → slice_get (run_lines (drop i xs)) left ≡ o → Some line ≡ o
-found_in xs i d r left line o h is within e same =
-    ap (λ n. Some n) e ∙ sym (in_run r (run_lines (drop (suc i) xs)) left within) ∙ sym (ap (λ ys. slice_get ys left) (at_run xs i d r h is)) ∙ same
+pub found_in : (xs : List LineRun) (i : ℕ) (d r : LineRun) (tail : List ℕ) (left line : ℕ) (o : Option ℕ) → i < length xs → r ≡ get_or xs i d → ((rest : List ℕ) → slice_get (lines_in r ++ rest) left ≡ Some line)
+    → slice_get (run_lines (drop i xs) ++ tail) left ≡ o → Some line ≡ o
+found_in xs i d r tail left line o h is at same = sym (at (run_lines (drop (suc i) xs) ++ tail)) ∙ sym (ap (λ ys. slice_get ys left) (at_run xs i d r tail h is)) ∙ same
 
-pub found_after : (xs : List LineRun) (i j : ℕ) (d r : LineRun) (left next : ℕ) (o : Option ℕ) → j ≡ suc i → i < length xs → r ≡ get_or xs i d → r.first ≤ r.last → left ≡ r.last + 1 - r.first + next → slice_get (run_lines (drop i xs)) left ≡ o → slice_get (run_lines (drop j xs)) next ≡ o
-found_after xs i j d r left next o more h is some e same =
-    ap (λ k. slice_get (run_lines (drop k xs)) next) more ∙ sym (after_run r (run_lines (drop (suc i) xs)) next left some e) ∙ sym (ap (λ ys. slice_get ys left) (at_run xs i d r h is)) ∙ same
+pub found_after : (xs : List LineRun) (i j : ℕ) (d r : LineRun) (tail : List ℕ) (left next : ℕ) (o : Option ℕ) → j ≡ suc i → i < length xs → r ≡ get_or xs i d
+    → ((rest : List ℕ) → slice_get (lines_in r ++ rest) left ≡ slice_get rest next) → slice_get (run_lines (drop i xs) ++ tail) left ≡ o → slice_get (run_lines (drop j xs) ++ tail) next ≡ o
+found_after xs i j d r tail left next o more h is behind same =
+    ap (λ k. slice_get (run_lines (drop k xs) ++ tail) next) more ∙ sym (behind (run_lines (drop (suc i) xs) ++ tail)) ∙ sym (ap (λ ys. slice_get ys left) (at_run xs i d r tail h is)) ∙ same
 
-pub found_beyond : (xs : List LineRun) (i j : ℕ) (d r : LineRun) (left next : ℕ) (o : Option ℕ) → j ≡ suc i → i < length xs → r ≡ get_or xs i d → r.last < r.first → next ≡ left → slice_get (run_lines (drop i xs)) left ≡ o → slice_get (run_lines (drop j xs)) next ≡ o
-found_beyond xs i j d r left next o more h is none e same =
-    ap₂ (λ k n. slice_get (run_lines (drop k xs)) n) more e ∙ sym (ap (λ ys. slice_get ys left) (at_run xs i d r h is ∙ empty_run r (run_lines (drop (suc i) xs)) none)) ∙ same
-
-pub found_nowhere : (xs : List LineRun) (i left : ℕ) (o : Option ℕ) → length xs ≤ i → slice_get (run_lines (drop i xs)) left ≡ o → None ≡ o
+-- no runs are left
+pub only_last : (xs : List LineRun) (i left : ℕ) (tail : List ℕ) (o : Option ℕ) → length xs ≤ i → slice_get (run_lines (drop i xs) ++ tail) left ≡ o → slice_get (tail ++ []) left ≡ o
 unfolding run_lines
-found_nowhere [] zero left o h same = same
-found_nowhere [] (suc i) left o h same = same
-found_nowhere (x ∷ xs) zero left o h same = absurd (omega (arith, h))
-found_nowhere (x ∷ xs) (suc i) left o h same = found_nowhere xs i left o (omega (arith, h)) same
+only_last xs i left tail o h same = ap (λ ys. slice_get ys left) (append-nil tail ∙ ap (λ (ys : List LineRun). run_lines ys ++ tail) (sym (drop_all i xs h))) ∙ same
+
+pub nothing_there : (none : List ℕ) (i : ℕ) → none ≡ [] → slice_get none i ≡ None
+nothing_there [] zero e = refl
+nothing_there [] (suc i) e = refl
+nothing_there (x ∷ xs) i e = absurd cc

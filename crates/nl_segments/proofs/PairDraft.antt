@@ -44,7 +44,7 @@ still_open c p row i j u e few =
 
 -- ---- the file
 
-not_closed : (d : Draft) (name : Option (List ℕ)) (cur : Current) → is_suffix cur.head ≡ false → with_closed d name cur ≡ d
+pub not_closed : (d : Draft) (name : Option (List ℕ)) (cur : Current) → is_suffix cur.head ≡ false → with_closed d name cur ≡ d
 not_closed d name cur f = by (is_nothing (current_awaits cur)) refl
   where
     same : (h : Head) → is_suffix h ≡ false → with_suffix d name cur h ≡ d

@@ -48,6 +48,9 @@ IsPending nodes p = (operands_of p.opcode ≡ Some OnNextLine) × (0 < awaited n
 abbrev pub less_line : Current → Current
 less_line c = record c { left = c.left - 1 }
 
+abbrev pub less_lines : Current → ℕ → Current
+less_lines c n = record c { left = c.left - n }
+
 abbrev pub with_pair : Current → Term → Current
 with_pair c t = record c { left = c.left - 1; pairs = c.pairs ++ t ∷ [] }
 

@@ -15,3 +15,4 @@ pub mod KnownPairs
 pub mod KnownNodes
 pub mod KnownColumns
 pub mod LineRuns
+pub mod TermRuns

@@ -1,7 +1,7 @@
 -- What a line before an expression does to what is held, and by which tests the next one is judged.
 use Rattle.std.specs.Prelude.{ℕ, ◌-◌, ◌<◌, ◌++◌, ◌∷◌, [], Bool, true, false, not, ◌&&◌, List, length, Option, Some, None, if◌then◌else◌}
 use Rattle.nl_model.specs.declared.header_counts.Counts.{Counts}
-use Rattle.nl_model.specs.declared.interval.Interval.{Interval}
+use Rattle.linear_program.specs.declared.interval.Interval.{Interval}
 use Rattle.nl_model.specs.Draft.{Draft}
 use Rattle.nl_model.specs.Kinds.{kind_of}
 use Rattle.nl_lines.specs.Pieces.{is_nothing}

@@ -1,9 +1,11 @@
 -- What a head, a node and a term more do to the lines of places.
-use Rattle.std.specs.Prelude.{ℕ, ◌-◌, ◌<◌, [], ◌∷◌, ◌++◌, length, Some}
+use Rattle.std.specs.Prelude.{ℕ, ◌-◌, ◌<◌, Bool, false, [], ◌∷◌, ◌++◌, length, get_or, Some}
+use Rattle.std.specs.List.{range_with_len}
 use Rattle.std.specs.Option.{option_or}
 use Rattle.nl_lines.specs.declared.head.Head.{Head}
 use Rattle.nl_lines.specs.declared.head.Head.TheVariants.{Body, Objective, Definition, Terms, Slopes}
-use Rattle.nl_lines.specs.Saying.{OwnerLines, PlaceLines, changed}
+use Rattle.nl_lines.specs.Saying.{OwnerLines, PlaceLines, changed, no_lines}
+use Rattle.nl_segments.specs.LineRuns.{follows}
 
 -- a head in this line
 abbrev pub with_begun : PlaceLines → ℕ → Head → PlaceLines
@@ -56,6 +58,24 @@ with_term_line l line (Terms i n) =
 with_term_line l line (Slopes k n) =
     record l { objectives = changed (more_terms line) l.objectives k }
 with_term_line l line head = l
+
+-- so many terms in lines that follow one another, from this one on
+abbrev pub more_term_run : ℕ → ℕ → OwnerLines → OwnerLines
+more_term_run first n o = record o { terms = o.terms ++ range_with_len first n }
+
+-- such terms of the last piece, which has this head
+abbrev pub with_term_run : PlaceLines → ℕ → ℕ → Head → PlaceLines
+with_term_run l first n (Terms i k) =
+    record l { constraints = changed (more_term_run first n) l.constraints i }
+with_term_run l first n (Slopes k j) =
+    record l { objectives = changed (more_term_run first n) l.objectives k }
+with_term_run l first n head = l
+
+-- a line follows those of the terms of the last piece, which are not kept
+abbrev pub terms_follow : PlaceLines → Head → ℕ → Bool
+terms_follow l (Terms i k) line = follows (get_or l.constraints i no_lines).terms line
+terms_follow l (Slopes k j) line = follows (get_or l.objectives k no_lines).terms line
+terms_follow l head line = false
 
 -- the owner of a head has a place
 abbrev pub HasOwner : PlaceLines → Head → Type 0

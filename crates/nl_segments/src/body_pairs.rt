@@ -1,5 +1,5 @@
 // A line of an index and a value.
-ghost use Rattle.std.specs.Prelude.{ℕ, List, ◌≡◌, ◌<◌, ◌≤◌, ◌&&◌, length, get_or, true, false, Some, None, IsSome, IsTrue, IsSomeAnd, IfSome, IfOk, IfErr, OnOk, if◌then◌else◌};
+ghost use Rattle.std.specs.Prelude.{ℕ, List, ◌≡◌, ◌<◌, ◌≤◌, ◌&&◌, length, get_or, true, false, Some, None, IsSome, IsTrue, IsSomeAnd, IfSome, IfOk, IfErr, OnOk, OnErr, if◌then◌else◌};
 ghost use Rattle.texts.specs.Words.{texts};
 ghost use Rattle.nl_model.specs.Rules.{most_terms};
 ghost use Rattle.nl_lines.specs.declared.awaited.Awaited.TheVariants.{Pair};
@@ -24,9 +24,15 @@ use std::alloc::AllocError;
 use texts::{Marks, Name, Stop};
 
 // Gives the file a pair that is not kept.
-fn give_pair(builder: &mut NlBuilder, head: Head, pair: (u32, Dec)) -> Result<(), AllocError>
+#[inline]
+pub(crate) fn give_pair(
+    builder: &mut NlBuilder,
+    head: Head,
+    pair: (u32, Dec),
+) -> Result<(), AllocError>
     requires { CanGive builder.old head pair }
-    ensures { OnOk result (builder.new ≡ with_given builder.old head pair) }
+    ensures ok { OnOk result (builder.new ≡ with_given builder.old head pair) }
+    ensures err { OnErr result (builder.new ≡ builder.old) }
 {
     match head {
         Head::DualGuesses(_) => builder.dual_guess(pair.0, pair.1),
@@ -108,7 +114,8 @@ fn mark(marks: &mut Marks, head: Head, index: u32)
 }
 
 // Counts a use of a variable in the terms of a constraint.
-fn count_use(uses: &mut Vec<u32>, head: Head, var: u32)
+#[inline]
+pub(crate) fn count_use(uses: &mut Vec<u32>, head: Head, var: u32)
     requires { CanUse head uses.old.items var }
     ensures { uses.new.items ≡ with_use head uses.old.items var }
 {

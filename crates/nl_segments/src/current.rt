@@ -1,7 +1,7 @@
 // The piece that was begun last.
-ghost use Rattle.std.specs.Prelude.{◌≡◌, ◌<◌, ◌^◌, length, OnOk, IfSome};
+ghost use Rattle.std.specs.Prelude.{◌≡◌, ◌<◌, ◌≤◌, ◌^◌, length, OnOk, IfSome};
 ghost use Rattle.nl_model.specs.Nodes.{awaited};
-ghost use Rattle.nl_segments.specs.Current.{IsPending, new_current, nodes_await, current_awaits, less_line, with_pair, with_node_row};
+ghost use Rattle.nl_segments.specs.Current.{IsPending, new_current, nodes_await, current_awaits, less_line, less_lines, with_pair, with_node_row};
 ghost use Rattle.nl_lines.specs.NodeRows.{IsFormedRow};
 
 use exact_numbers::Dec;
@@ -101,6 +101,14 @@ impl Current {
         ensures { self.new ≡ less_line self.old }
     {
         self.left -= 1;
+    }
+
+    /// Counts so many lines that are kept elsewhere.
+    pub(crate) fn take_lines(&mut self, count: u32)
+        requires { count ≤ self.old.left }
+        ensures { self.new ≡ less_lines self.old count }
+    {
+        self.left -= count;
     }
 
     /// Keeps a pair.

@@ -21,7 +21,7 @@ use nl_lines::{Awaited, Leaf, NlReason, leaf_of_line, pair_of_line, whole_of_lin
 use std::alloc::Global;
 use std::marker::Model;
 use std::mem;
-use texts::{Grammar, LineFault, Row, Stop, strip_comment};
+use texts::{Front, Grammar, LineFault, Row, Stop, strip_comment};
 
 // What a fault of the header is called here.
 fn reason_of(fault: HeadFault) -> NlReason
@@ -79,6 +79,13 @@ impl Grammar for NlGrammar {
 
     fn take(&mut self, line: &[u8], number: u32) -> Result<(), Stop<NlReason>> {
         self.take_line(line, number)
+    }
+
+    fn take_front(&mut self, piece: &[u8], number: u32) -> Front {
+        let Some(body) = &mut self.body else {
+            return Front { len: 0, lines: 0 };
+        };
+        body.take_front(piece, number)
     }
 
     fn line_fault(&self, fault: LineFault) -> NlReason {

@@ -9,6 +9,7 @@ mod body_leaves;
 mod body_nodes;
 mod body_operands;
 mod body_pairs;
+mod body_terms;
 mod closing;
 mod current;
 mod ending;

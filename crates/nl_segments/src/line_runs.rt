@@ -1,82 +1,77 @@
 // Lines that mostly follow one another.
-ghost use Rattle.std.specs.Prelude.{◌≡◌, ◌++◌, ◌∷◌, [], true, false, OnOk, slice_get};
-ghost use Rattle.nl_segments.specs.LineRuns.{run_lines};
+ghost use Rattle.std.specs.Prelude.{◌≡◌, ◌≤◌, ◌+◌, ◌^◌, ◌++◌, ◌∷◌, List, ℕ, [], true, MatchResult, OnOk, Some, slice_get};
+ghost use Rattle.std.specs.List.{range_with_len};
+ghost use Rattle.nl_segments.specs.LineRuns.{follows, lines_in, run_lines};
 
 use std::alloc::{AllocError, Global};
 use std::marker::Model;
 
-/// Lines that follow one another, from the first to the last.
+/// Lines that follow one another, from the first to the last; none where the last is below the
+/// first.
 #[derive(Clone, Copy)]
 pub struct LineRun {
     first: u32,
     last: u32,
 }
 
-/// Lines, as runs of lines that follow one another.
+/// Lines, as runs of lines that follow one another. The last run stands apart, so that no memory is
+/// wanted while it grows.
 #[derive(Drop)]
 pub struct LineRuns {
-    runs: Vec<LineRun>,
+    earlier: Vec<LineRun>,
+    last: LineRun,
 }
 
 impl Model for LineRuns {
-    ghost use Rattle.std.specs.Prelude.{List, ℕ};
-    ghost use Rattle.nl_segments.specs.LineRuns.{run_lines};
+    ghost use Rattle.std.specs.Prelude.{◌≡◌, ◌<◌, ◌++◌, [], List, ℕ};
+    ghost use Rattle.nl_segments.specs.LineRuns.{lines_in, run_lines};
 
     ghost Value = { List ℕ };
 
-    ghost view = { λ l. run_lines l.runs.items };
+    ghost view = { λ l. run_lines l.earlier.items ++ lines_in l.last };
+
+    // where the last run has no lines, there are none
+    ghost invariant = { λ l. l.last.last < l.last.first → l.earlier.items ≡ [] };
 }
 
-// Adds a line to the last run, where it follows that; whether it does.
-#[inline]
-fn grow_last(runs: &mut Vec<LineRun>, line: u32) -> bool
-    ensures grown { result ≡ true
-        → run_lines runs.new.items ≡ run_lines runs.old.items ++ line ∷ [] }
-    ensures same { result ≡ false → runs.new.items ≡ runs.old.items }
+// No lines.
+fn no_run() -> LineRun
+    ensures { result ≡ record { first = 1; last = 0 } }
 {
-    if runs.is_empty() {
-        return false;
-    }
-    let place = runs.len() - 1;
-    let run = runs[place];
-    if run.last >= line || line - run.last > 1 || run.first > line {
-        return false;
-    }
-    runs[place] = LineRun {
-        first: run.first,
-        last: line,
-    };
-    true
+    LineRun { first: 1, last: 0 }
 }
 
-// Begins a run with a line. Its room is not made where a run grows.
-#[inline(never)]
-fn begin_run(runs: &mut Vec<LineRun>, line: u32) -> Result<(), AllocError>
-    ensures { OnOk result (runs.new.items
-        ≡ runs.old.items ++ record { first = line; last = line } ∷ []) }
+// The line at a place of a run, or the place in what follows the run.
+fn line_in(run: LineRun, place: u32) -> Result<u32, u32>
+    ensures { MatchResult result
+        (λ line. (rest : List ℕ) → slice_get (lines_in run ++ rest) place ≡ Some line)
+        (λ left. (rest : List ℕ) → slice_get (lines_in run ++ rest) place ≡ slice_get rest left) }
 {
-    runs.push(LineRun {
-        first: line,
-        last: line,
-    })?;
-    Ok(())
+    if run.first > run.last {
+        return Err(place);
+    }
+    let more = run.last - run.first;
+    if place <= more {
+        return Ok(run.first + place);
+    }
+    Err(place - more - 1)
 }
 
 // The line at a place.
-fn line_in(runs: &[LineRun], place: u32) -> Option<u32>
-    ensures { result ≡ slice_get (run_lines runs.now) place }
+fn line_at(earlier: &[LineRun], last: LineRun, place: u32) -> Option<u32>
+    ensures { result ≡ slice_get (run_lines earlier.now ++ lines_in last) place }
 {
     let mut left = place;
-    for run in runs {
-        if run.first <= run.last {
-            let more = run.last - run.first;
-            if left <= more {
-                return Some(run.first + left);
-            }
-            left = left - more - 1;
+    for run in earlier {
+        match line_in(*run, left) {
+            Ok(line) => return Some(line),
+            Err(next) => left = next,
         }
     }
-    None
+    match line_in(last, left) {
+        Ok(line) => Some(line),
+        Err(_) => None,
+    }
 }
 
 impl LineRuns {
@@ -86,7 +81,8 @@ impl LineRuns {
         ensures { result ≡ [] }
     {
         LineRuns {
-            runs: Vec::new(alloc),
+            earlier: Vec::new(alloc),
+            last: no_run(),
         }
     }
 
@@ -95,7 +91,53 @@ impl LineRuns {
     pub(crate) fn clear(&mut self)
         ensures { self.new ≡ [] }
     {
-        self.runs.clear();
+        self.earlier.clear();
+        self.last = no_run();
+    }
+
+    /// Whether a line follows these, or is the first.
+    #[inline]
+    pub(crate) fn follows(&self, line: u32) -> bool
+        ensures { result ≡ follows self.now line }
+    {
+        if self.last.first > self.last.last {
+            return true;
+        }
+        self.last.last < line && line - self.last.last == 1
+    }
+
+    /// Adds so many lines that follow these, from this one on.
+    #[inline]
+    pub(crate) fn grow(&mut self, line: u32, count: u32)
+        requires next { follows self.old line ≡ true }
+        requires room { line + count ≤ 2 ^ 32 }
+        ensures { self.new ≡ self.old ++ range_with_len line count }
+    {
+        if count == 0 {
+            return;
+        }
+        let last = line + (count - 1);
+        if self.last.first > self.last.last {
+            self.last = LineRun { first: line, last };
+            return;
+        }
+        self.last = LineRun {
+            first: self.last.first,
+            last,
+        };
+    }
+
+    // Begins a run with a line. Its room is not made where a run grows.
+    #[inline(never)]
+    fn begin_run(&mut self, line: u32) -> Result<(), AllocError>
+        ensures { OnOk result (self.new ≡ self.old ++ line ∷ []) }
+    {
+        self.earlier.push(self.last)?;
+        self.last = LineRun {
+            first: line,
+            last: line,
+        };
+        Ok(())
     }
 
     /// Adds a line.
@@ -103,16 +145,17 @@ impl LineRuns {
     pub(crate) fn push(&mut self, line: u32) -> Result<(), AllocError>
         ensures { OnOk result (self.new ≡ self.old ++ line ∷ []) }
     {
-        if grow_last(&mut self.runs, line) {
+        if self.follows(line) {
+            self.grow(line, 1);
             return Ok(());
         }
-        begin_run(&mut self.runs, line)
+        self.begin_run(line)
     }
 
     /// The line at a place.
     pub(crate) fn get(&self, place: u32) -> Option<u32>
         ensures { result ≡ slice_get self.now place }
     {
-        line_in(&self.runs, place)
+        line_at(&self.earlier, self.last, place)
     }
 }

@@ -1,5 +1,7 @@
 // The lines of one owner.
-ghost use Rattle.std.specs.Prelude.{◌≡◌, ◌++◌, ◌∷◌, [], None, Some, OnOk, slice_get};
+ghost use Rattle.std.specs.Prelude.{◌≡◌, ◌≤◌, ◌+◌, ◌^◌, ◌++◌, ◌∷◌, [], true, None, Some, OnOk, slice_get};
+ghost use Rattle.nl_segments.specs.LineRuns.{follows};
+ghost use Rattle.nl_segments.specs.PlaceSteps.{more_term_run};
 ghost use Rattle.nl_lines.specs.Saying.{no_lines};
 ghost use Rattle.std.specs.Option.{option_or};
 
@@ -74,6 +76,22 @@ impl OwnerLines {
         ensures { OnOk result (self.new ≡ record self.old { terms = self.old.terms ++ line ∷ [] }) }
     {
         self.terms.push(line)
+    }
+
+    /// Whether a line follows those of the terms, or is the first.
+    pub(crate) fn terms_follow(&self, line: u32) -> bool
+        ensures { result ≡ follows self.now.terms line }
+    {
+        self.terms.follows(line)
+    }
+
+    /// Adds the lines of so many terms that follow the others, from this line on.
+    pub(crate) fn add_terms(&mut self, line: u32, count: u32)
+        requires next { follows self.old.terms line ≡ true }
+        requires room { line + count ≤ 2 ^ 32 }
+        ensures { self.new ≡ more_term_run line count self.old }
+    {
+        self.terms.grow(line, count);
     }
 
     /// The line of the head.

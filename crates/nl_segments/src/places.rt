@@ -1,7 +1,8 @@
 // The lines of all nodes, terms and heads of a file.
-ghost use Rattle.std.specs.Prelude.{◌≡◌, ◌<◌, ◌+◌, ◌-◌, if◌then◌else◌, ◌++◌, ◌∷◌, [], length, replicate, get_or, slice_get, slice_set, Some, IsSome, IfOk, OnOk, option_copied};
+ghost use Rattle.std.specs.Prelude.{◌≡◌, ◌<◌, ◌≤◌, ◌^◌, ◌+◌, ◌-◌, if◌then◌else◌, ◌++◌, ◌∷◌, [], length, replicate, get_or, slice_get, slice_set, true, Some, IsSome, IfOk, OnOk, option_copied};
 ghost use Rattle.nl_lines.specs.Saying.{changed, empty_lines, no_lines, owner_lines, line_of};
-ghost use Rattle.nl_segments.specs.PlaceSteps.{HasOwner, HasBegun, more_nodes, more_terms, with_begun, with_node_line, with_term_line};
+ghost use Rattle.nl_segments.specs.LineRuns.{follows};
+ghost use Rattle.nl_segments.specs.PlaceSteps.{HasOwner, HasBegun, more_nodes, more_term_run, more_terms, terms_follow, with_begun, with_node_line, with_term_line, with_term_run};
 ghost use Rattle.std.specs.Option.{option_or};
 
 use crate::owner_lines::OwnerLines;
@@ -82,6 +83,16 @@ fn add_term(owners: &mut Vec<OwnerLines>, i: usize, line: u32) -> Result<(), All
 {
     let owner = &mut owners[i];
     owner.add_term(line)
+}
+
+fn add_terms(owners: &mut Vec<OwnerLines>, i: usize, line: u32, count: u32)
+    requires owner { i < length owners.old.items }
+    requires next { follows (get_or owners.old.items i no_lines).terms line ≡ true }
+    requires room { line + count ≤ 2 ^ 32 }
+    ensures { owners.new.items ≡ changed (more_term_run line count) owners.old.items i }
+{
+    let owner = &mut owners[i];
+    owner.add_terms(line, count);
 }
 
 impl Places {
@@ -169,6 +180,33 @@ impl Places {
             Head::Terms(i, _) => add_term(&mut self.constraints, i as usize, line),
             Head::Slopes(k, _) => add_term(&mut self.objectives, k as usize, line),
             _ => Ok(()),
+        }
+    }
+
+    /// Whether a line follows those of the terms of the last piece, which has this head, where these
+    /// are not kept.
+    pub(crate) fn terms_follow(&self, head: Head, line: u32) -> bool
+        requires { HasOwner self.now head }
+        ensures { result ≡ terms_follow self.now head line }
+    {
+        match head {
+            Head::Terms(i, _) => self.constraints[i as usize].terms_follow(line),
+            Head::Slopes(k, _) => self.objectives[k as usize].terms_follow(line),
+            _ => false,
+        }
+    }
+
+    /// Takes the lines of so many terms of the last piece, which has this head, from this line on.
+    pub(crate) fn add_terms(&mut self, head: Head, line: u32, count: u32)
+        requires owner { HasOwner self.old head }
+        requires next { terms_follow self.old head line ≡ true }
+        requires room { line + count ≤ 2 ^ 32 }
+        ensures { self.new ≡ with_term_run self.old line count head }
+    {
+        match head {
+            Head::Terms(i, _) => add_terms(&mut self.constraints, i as usize, line, count),
+            Head::Slopes(k, _) => add_terms(&mut self.objectives, k as usize, line, count),
+            _ => {}
         }
     }
 

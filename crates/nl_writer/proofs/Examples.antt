@@ -7,7 +7,7 @@ use Rattle.code_tables.specs.Opcodes.{operands_of}
 use Rattle.code_tables.specs.declared.class.OpClass.TheVariants.{Sum, Least}
 use Rattle.exact_numbers.specs.declared.dec.Dec.{Dec}
 use Rattle.nl_meaning.specs.Trees.{number, variable, defined, operator, none, more}
-use Rattle.nl_model.specs.declared.interval.Interval.{Interval}
+use Rattle.linear_program.specs.declared.interval.Interval.{Interval}
 use Rattle.nl_model.specs.File.{File}
 use Rattle.written_texts.specs.Lines.{lines_text}
 use Rattle.nl_writer.specs.Trees.{tree_lines}

@@ -8,7 +8,7 @@ use Rattle.std.specs.Ordering.{int_eq}
 use Rattle.exact_numbers.specs.declared.dec.Dec.{Dec}
 use Rattle.nl_meaning.specs.Trees.{Tree}
 use Rattle.nl_model.specs.declared.header_counts.Counts.{Counts}
-use Rattle.nl_model.specs.declared.interval.Interval.{Interval}
+use Rattle.linear_program.specs.declared.interval.Interval.{Interval}
 use Rattle.nl_model.specs.File.{Term, Objective, Definition, Suffix, File}
 use Rattle.nl_model.specs.UseCounts.{terms_up_to}
 use Rattle.exact_numbers.specs.Values.{text_of}

@@ -15,10 +15,11 @@ use Rattle.exact_numbers.specs.Numbers.{dec_of, whole_of}
 use Rattle.exact_numbers.specs.Values.{dec_value}
 use Rattle.nl_model.specs.File.{File}
 use Rattle.nl_model.specs.Kinds.{kind_of}
-use Rattle.nl_model.specs.declared.kind.Kind.TheVariants.{Continuous}
-use Rattle.file_meaning.specs.LinearFile.{elements_from}
-use Rattle.file_meaning.specs.Meaning.{is_whole_kind, is_whole_variable}
-use Rattle.file_meaning.proofs.Elements.{elements_at, elements_length}
+use Rattle.linear_program.specs.declared.kind.Kind.TheVariants.{Continuous}
+use Rattle.linear_programs.specs.Elements.{elements_from}
+use Rattle.linear_program.specs.Intervals.{is_whole_kind}
+use Rattle.file_meaning.specs.Meaning.{is_whole_variable}
+use Rattle.linear_programs.proofs.Elements.{elements_at, elements_length}
 use Rattle.proof_text.specs.declared.proof.Claim.{Claim}
 use Rattle.proof_text.specs.declared.proof.Claim.TheVariants.{Value, Infeasible}
 use Rattle.proof_text.specs.declared.proof.ProofNode.{ProofNode}

@@ -2,8 +2,8 @@
 use Rattle.std.specs.Prelude.{ℕ, List}
 use Rattle.nl_model.specs.File.{File}
 use Rattle.nl_model.specs.Kinds.{kind_of}
-use Rattle.nl_model.specs.declared.kind.Kind.{Kind}
-use Rattle.file_meaning.specs.LinearFile.{elements_from}
+use Rattle.linear_program.specs.declared.kind.Kind.{Kind}
+use Rattle.linear_programs.specs.Elements.{elements_from}
 
 -- the number of constraints, and the kinds of the variables
 pub record Setting : Type 0 where

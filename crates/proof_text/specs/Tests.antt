@@ -3,9 +3,9 @@ use Rattle.std.specs.Prelude.{ℕ, ◌+◌, ◌^◌, ◌==◌, Bool, true, false
 use Rattle.std.specs.Option.{option_map_or}
 use Rattle.std.specs.Str.{bytes_eq}
 use Rattle.texts.specs.Words.{row_of, word_at}
-use Rattle.nl_model.specs.declared.kind.Kind.{Kind}
-use Rattle.nl_model.specs.declared.kind.Kind.TheVariants.{Continuous}
-use Rattle.file_meaning.specs.Meaning.{is_whole_kind}
+use Rattle.linear_program.specs.declared.kind.Kind.{Kind}
+use Rattle.linear_program.specs.declared.kind.Kind.TheVariants.{Continuous}
+use Rattle.linear_program.specs.Intervals.{is_whole_kind}
 use Rattle.proof_text.specs.declared.proof.ProofNode.{ProofNode}
 use Rattle.proof_text.specs.declared.proof.ProofNode.TheVariants.{Split}
 use Rattle.proof_text.specs.Proofs.{Pair}

@@ -4,7 +4,7 @@ ghost use Rattle.texts.specs.Judged.{DecidesOrStops, Takes};
 ghost use Rattle.texts.specs.Words.{texts};
 ghost use Rattle.nl_model.specs.File.{File};
 ghost use Rattle.nl_model.specs.Kinds.{kind_of};
-ghost use Rattle.file_meaning.specs.LinearFile.{elements_from};
+ghost use Rattle.linear_programs.specs.Elements.{elements_from};
 ghost use Rattle.proof_text.specs.Grammar.{SaysProof, proof_rules};
 ghost use Rattle.proof_text.specs.Rows.{claim_in, node_in, pair_in};
 ghost use Rattle.proof_text.specs.Setting.{Setting, setting_of};

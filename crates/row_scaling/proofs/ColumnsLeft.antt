@@ -13,7 +13,7 @@ use Rattle.exact_numbers.specs.declared.dec.Dec.{Dec}
 use Rattle.exact_numbers.specs.Values.{dec_value}
 use Rattle.linear_programs.specs.Names.{variable_name}
 use Rattle.scaling.specs.declared.row.Tie.{Tie}
-use Rattle.nl_model.specs.File.{Term as TermOf}
+use Rattle.linear_program.specs.Decimals.{DecimalTerm as TermOf}
 use Rattle.scaling.specs.Scaled.{ScaledValue, IsScaled, term_count}
 use Rattle.scaling.specs.Exported.{program_objective, program_rows, program_variables, tied_variables}
 use Rattle.row_scaling.specs.Columns.{entry_value, entries_in_column, tied_count, total_of}

@@ -10,9 +10,8 @@ use Rattle.mps_model.specs.Mps.{Entry}
 use Rattle.exported_program.specs.Program.{ScaledRow, nonzero, with_entry, entries_of, then_at, z_form}
 use Rattle.exact_numbers.specs.declared.dec.Dec.{Dec}
 use Rattle.exact_numbers.specs.Values.{dec_value}
-use Rattle.file_meaning.specs.LinearFile.{coefficient_of}
+use Rattle.linear_program.specs.Decimals.{coefficient_of, DecimalTerm as TermOf}
 use Rattle.scaling.specs.declared.row.Tie.{Tie}
-use Rattle.nl_model.specs.File.{Term as TermOf}
 use Rattle.scaling.specs.Rows.{IsSparse, IsBelow}
 use Rattle.scaling.specs.Scaled.{ScaledValue, IsScaled, IsTie, term_count}
 use Rattle.scaling.specs.Exported.{exported_from, form_of, tied_row, tied_rows, written_form}

@@ -8,12 +8,12 @@ use Rattle.exported_program.specs.Program.{bounds_of, bound_record, column_bound
 use Rattle.exported_program.proofs.Sides.{nonzero_cases, difference_zero}
 use Rattle.exact_numbers.specs.declared.dec.Dec.{Dec}
 use Rattle.exact_numbers.specs.Values.{dec_value}
-use Rattle.nl_model.specs.declared.interval.Interval.{Interval}
-use Rattle.nl_model.specs.declared.kind.Kind.{Kind}
-use Rattle.nl_model.specs.declared.kind.Kind.TheVariants.{Continuous}
-use Rattle.linear_fold.specs.Programs.{variables_from}
+use Rattle.linear_program.specs.declared.interval.Interval.{Interval}
+use Rattle.linear_program.specs.declared.kind.Kind.{Kind}
+use Rattle.linear_program.specs.declared.kind.Kind.TheVariants.{Continuous}
+use Rattle.linear_program.specs.Programs.{variables_from}
 use Rattle.linear_programs.specs.Names.{variable_name}
-use Rattle.file_meaning.specs.Meaning.{is_whole_kind, interval_of}
+use Rattle.linear_program.specs.Intervals.{is_whole_kind, interval_of}
 use Rattle.scaling.specs.declared.row.Tie.{Tie}
 use Rattle.scaling.specs.Rows.{side_value}
 use Rattle.scaling.specs.Scaled.{ScaledValue}

@@ -6,7 +6,7 @@ use Rattle.mps_model.specs.Mps.{Column, Bound, Mps, bound_with}
 use Rattle.mps_model.specs.Built.{entry_of}
 use Rattle.exact_numbers.specs.declared.dec.Dec.{Dec}
 use Rattle.exact_numbers.specs.Values.{dec_value}
-use Rattle.nl_model.specs.File.{Term as TermOf}
+use Rattle.linear_program.specs.Decimals.{DecimalTerm as TermOf}
 
 -- e alone, where there is none
 abbrev pub or_first : {A : Type 0} → A → List A → List A

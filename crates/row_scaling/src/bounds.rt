@@ -12,8 +12,8 @@ ghost use Rattle.scaling.specs.Rows.{side_value};
 
 use crate::numbers::{same_value, zero};
 use exact_numbers::Dec;
+use linear_program::Interval;
 use mps_model::{BoundKind, MpsBuilder};
-use nl_model::Interval;
 use scaling::Scaled;
 use std::alloc::AllocError;
 

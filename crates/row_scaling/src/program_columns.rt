@@ -2,7 +2,7 @@
 ghost use Rattle.std.specs.Prelude.{◌≡◌, ℕ, ◌+◌, ◌<◌, ◌≤◌, ◌^◌, ◌++◌, ◌∷◌, [], length, OnOk, IfOk, All, map};
 ghost use Rattle.mps_model.specs.Built.{CanAddColumn};
 ghost use Rattle.mps_model.specs.Valid.{entry_count};
-ghost use Rattle.file_meaning.specs.Meaning.{is_whole_kind};
+ghost use Rattle.linear_program.specs.Intervals.{is_whole_kind};
 ghost use Rattle.row_scaling.specs.Columns.{AreColumns, column_count, entries_in_column, total_of};
 ghost use Rattle.scaling.specs.Exported.{program_rows};
 ghost use Rattle.row_scaling.specs.Filled.{AreFilled};
@@ -12,8 +12,8 @@ ghost use Rattle.scaling.specs.Scaled.{term_count};
 use crate::names::{name_of, numbered_name};
 use crate::numbers::zero;
 use exact_numbers::Dec;
+use linear_program::Kind;
 use mps_model::MpsBuilder;
-use nl_model::Kind;
 use scaling::Scaled;
 use std::alloc::{AllocError, Global};
 use texts::Name;

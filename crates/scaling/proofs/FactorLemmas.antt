@@ -8,15 +8,16 @@ use Rattle.std.proofs.Common.{length-append}
 use Rattle.std.proofs.lemmas.Int.{ints}
 use Rattle.std.proofs.lemmas.List.Elements.{All-push}
 use Rattle.std.proofs.lemmas.Nat.Gcd.{dvd_antisymm, dvd_refl, le_of_dvd}
-use Rattle.fractions.specs.Lowest.{reduced_lem}
+use Rattle.fractions.specs.LowestLemmas.{reduced_lem}
 use Rattle.fractions.specs.Rational.{ℚ, whole, ◌*ℚ◌}
 use Rattle.exported_program.specs.Factor.{IsFinite, least_factor, cofactor_of}
+use Rattle.exported_program.specs.FactorLemmas.{factor_by_steps}
 use Rattle.fractions.specs.Fits.{least_multiple}
 use Rattle.exported_program.proofs.Factor.{cofactor_above, factor_multiples, factor_above, finite_multiple, only_cofactor, is_lcm}
 use Rattle.exact_numbers.specs.Fraction.{IsCofactor, IsLcm}
 use Rattle.exact_numbers.specs.declared.frac.Frac.{Frac}
 use Rattle.exact_numbers.specs.Values.{frac_value}
-use Rattle.linear_fold.specs.Coefs.{Term}
+use Rattle.linear_program.specs.Coefs.{Term}
 use Rattle.scaling.specs.Fitting.{coefficients_in}
 
 abbrev Finite : ℕ → ℚ → Type 0
@@ -115,11 +116,11 @@ pub size_above : (f : ℤ) → pos 0 <ℤ f → 0 < unsigned_abs f
 size_above f h = omega (arith, ints, h)
 
 pub no_factor : pos 1 ≡ pos (least_factor [])
-unfolding least_factor
+unfolding least_factor factor_by_steps
 no_factor = refl
 
 pub first_number : (x y : ℚ) → x ≡ y → least_multiple 1 (cofactor_of x.bottom) ≡ least_factor (y ∷ [])
-unfolding least_factor
+unfolding least_factor factor_by_steps
 first_number x y e = one_more [] x ∙ ap (λ z. least_factor (z ∷ [])) e
 
 pub factor_positive : (z : ℤ) (xs : List ℚ) → z ≡ pos (least_factor xs) → pos 0 <ℤ z

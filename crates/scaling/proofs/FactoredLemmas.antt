@@ -10,13 +10,13 @@ use Rattle.exported_program.proofs.Factor.{factor_above}
 use Rattle.exact_numbers.specs.declared.dec.Dec.{Dec}
 use Rattle.exact_numbers.specs.declared.frac.Frac.{Frac}
 use Rattle.exact_numbers.specs.Values.{frac_value}
-use Rattle.nl_model.specs.declared.interval.Interval.{Interval}
-use Rattle.file_meaning.specs.LinearFile.{coefficient_of}
+use Rattle.linear_program.specs.declared.interval.Interval.{Interval}
+use Rattle.linear_program.specs.Decimals.{coefficient_of}
 use Rattle.linear_programs.specs.Names.{row_name}
-use Rattle.linear_fold.specs.Coefs.{AreAscending, AreBelow}
-use Rattle.linear_fold.specs.declared.form.Form.{Form}
-use Rattle.linear_fold.specs.Forms.{form_line, form_terms}
-use Rattle.linear_fold.specs.declared.too_wide.Wide.{Wide}
+use Rattle.linear_program.specs.Coefs.{AreAscending, AreBelow}
+use Rattle.linear_program.specs.declared.form.Form.{Form}
+use Rattle.linear_program.specs.Forms.{form_line, form_terms}
+use Rattle.linear_program.specs.declared.too_wide.Wide.{Wide}
 use Rattle.texts.specs.Stopped.{IfFault}
 use Rattle.texts.specs.declared.stop.Stop.{Stop}
 use Rattle.texts.specs.declared.stop.Stop.TheVariants.{Fault, Memory}

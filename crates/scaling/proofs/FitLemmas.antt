@@ -9,8 +9,8 @@ use Rattle.fractions.proofs.Arithmetic.{*ℚ_zero}
 use Rattle.exported_program.specs.Factor.{IsFinite, least_factor, coefficients_below}
 use Rattle.exported_program.proofs.Factor.{factor_multiples}
 use Rattle.exact_numbers.specs.Values.{frac_value}
-use Rattle.linear_fold.specs.Coefs.{Term, coef_in, value_or_zero, AreAscending, AreBelow}
-use Rattle.linear_fold.proofs.CoefLemmas.{found_same, found_apart}
+use Rattle.linear_program.specs.Coefs.{Term, coef_in, value_or_zero, AreAscending, AreBelow}
+use Rattle.linear_program.proofs.CoefLemmas.{found_same, found_apart}
 use Rattle.scaling.specs.Fitting.{coefficients_in}
 use Rattle.scaling.proofs.SharedLemmas.{zero_decimal}
 

@@ -10,7 +10,7 @@ use Rattle.fractions.specs.Fits.{least_multiple}
 use Rattle.std.proofs.lemmas.Nat.Gcd.{dvd_refl}
 use Rattle.exact_numbers.specs.Fraction.{IsLcm}
 use Rattle.exported_program.proofs.Factor.{finite_multiple}
-use Rattle.linear_fold.specs.Coefs.{Term, AreDecimalsOf}
+use Rattle.linear_program.specs.Coefs.{Term, AreDecimalsOf}
 use Rattle.scaling.specs.Rows.{TermOf}
 use Rattle.scaling.specs.Fitting.{coefficients_in, AreTermsTimes}
 use Rattle.scaling.proofs.FactorLemmas.{same_lcm, one_dvd, running, running_is}

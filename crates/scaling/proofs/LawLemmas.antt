@@ -4,7 +4,7 @@ use Rattle.fractions.proofs.Arithmetic.{*ℚ_one, *ℚ-neg}
 use Rattle.fractions.proofs.Ring.{ring, v, num, ◌⊖◌, ◌⊗◌, opp}
 use Rattle.linear_programs.specs.Linear.{Form}
 use Rattle.exported_program.specs.Program.{program_of, scaled_row, tie, then_at, zdef_name}
-use Rattle.linear_fold.specs.Programs.{variables_from}
+use Rattle.linear_program.specs.Programs.{variables_from}
 use Rattle.scaling.specs.Scaled.{ScaledValue}
 use Rattle.scaling.specs.Exported.{exported_as, exported_from, form_of, tied_row, tied_rows, tied_variables, written_form}
 

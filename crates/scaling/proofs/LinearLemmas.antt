@@ -12,12 +12,12 @@ use Rattle.linear_programs.specs.Linear.{Row, Linear, variable_count, no_row, ro
 use Rattle.exported_program.specs.Export.{ExportFits, RowFits}
 use Rattle.exported_program.specs.Program.{has_side}
 use Rattle.exported_program.specs.Return.{is_exported}
-use Rattle.nl_model.specs.declared.interval.Interval.{Interval}
-use Rattle.nl_model.specs.declared.kind.Kind.{Kind}
-use Rattle.linear_fold.specs.Coefs.{AreBelow}
-use Rattle.linear_fold.specs.declared.form.Form.{Form}
-use Rattle.linear_fold.specs.Forms.{form_terms}
-use Rattle.linear_fold.specs.Programs.{LinearValue, IsLinear, IsFormOver, linear_value, rows_from, variables_from}
+use Rattle.linear_program.specs.declared.interval.Interval.{Interval}
+use Rattle.linear_program.specs.declared.kind.Kind.{Kind}
+use Rattle.linear_program.specs.Coefs.{AreBelow}
+use Rattle.linear_program.specs.declared.form.Form.{Form}
+use Rattle.linear_program.specs.Forms.{form_terms}
+use Rattle.linear_program.specs.Programs.{LinearValue, IsLinear, IsFormOver, linear_value, rows_from, variables_from}
 use Rattle.scaling.specs.declared.row.FactoredRow.{FactoredRow}
 use Rattle.scaling.specs.declared.scale_fault.ScaleFault.{ScaleFault}
 use Rattle.scaling.specs.declared.scale_fault.ScaleFault.TheVariants.{RowTooWide}

@@ -12,11 +12,11 @@ use Rattle.exact_numbers.specs.Values.{FitsDec, frac_value}
 use Rattle.texts.specs.Stopped.{IfFault}
 use Rattle.texts.specs.declared.stop.Stop.{Stop}
 use Rattle.texts.specs.declared.stop.Stop.TheVariants.{Fault, Memory}
-use Rattle.linear_fold.specs.Coefs.{Term, AreAscending, AreBelow}
-use Rattle.linear_fold.specs.declared.form.Form.{Form}
-use Rattle.linear_fold.specs.declared.too_wide.Wide.{Wide}
-use Rattle.linear_fold.specs.Forms.{form_line, form_terms, kept_constant}
-use Rattle.linear_fold.specs.Programs.{LinearValue, IsLinear, form_of, linear_value}
+use Rattle.linear_program.specs.Coefs.{Term, AreAscending, AreBelow}
+use Rattle.linear_program.specs.declared.form.Form.{Form}
+use Rattle.linear_program.specs.declared.too_wide.Wide.{Wide}
+use Rattle.linear_program.specs.Forms.{form_line, form_terms, kept_constant}
+use Rattle.linear_program.specs.Programs.{LinearValue, IsLinear, form_of, linear_value}
 use Rattle.exact_numbers.proofs.Bridge.{frac_fits_lem}
 use Rattle.scaling.specs.declared.objectives.TiedObjective.{TiedObjective}
 use Rattle.scaling.specs.declared.row.ScaledObjective.{ScaledObjective}

@@ -8,12 +8,12 @@ use Rattle.exported_program.specs.Export.{RowFits, ScaledFits, SideFits, IfSide,
 use Rattle.exported_program.specs.Factor.{least_factor, coefficients_below, side_less}
 use Rattle.exported_program.specs.Program.{scaled_side}
 use Rattle.exact_numbers.specs.Values.{FitsDec}
-use Rattle.nl_model.specs.declared.interval.Interval.{Interval}
+use Rattle.linear_program.specs.declared.interval.Interval.{Interval}
 use Rattle.exact_numbers.proofs.Zeros.{fits_zero}
 use Rattle.fractions.specs.Fits.{fits}
-use Rattle.linear_fold.specs.Coefs.{AreAscending, AreBelow}
-use Rattle.linear_fold.specs.declared.form.Form.{Form}
-use Rattle.linear_fold.specs.Forms.{form_line, form_terms}
+use Rattle.linear_program.specs.Coefs.{AreAscending, AreBelow}
+use Rattle.linear_program.specs.declared.form.Form.{Form}
+use Rattle.linear_program.specs.Forms.{form_line, form_terms}
 use Rattle.scaling.specs.Factored.{row_for, factor_for}
 use Rattle.scaling.specs.Fitting.{coefficients_in, listed, less_side, times_side, LessFits, ProductFits, NumberFits, AreSidesFit}
 use Rattle.scaling.specs.Rows.{side_value}

@@ -10,12 +10,12 @@ use Rattle.exported_program.specs.Export.{ExportFits, IsDecimal, ObjectiveFits, 
 use Rattle.exported_program.specs.Factor.{least_factor}
 use Rattle.exported_program.specs.Program.{exported_rows, has_side, program, program_of, scaled_row, tie as tie_row, tied_program, z_form, z_variable}
 use Rattle.exported_program.specs.Return.{is_exported}
-use Rattle.nl_model.specs.declared.interval.Interval.{Interval}
-use Rattle.nl_model.specs.declared.kind.Kind.{Kind}
-use Rattle.linear_fold.specs.Coefs.{AreAscending}
-use Rattle.linear_fold.specs.Forms.{form_line, form_terms}
-use Rattle.linear_fold.specs.Programs.{LinearValue, IsLinear, linear_value, variables_from}
-use Rattle.file_meaning.specs.LinearFile.{coefficient_of}
+use Rattle.linear_program.specs.declared.interval.Interval.{Interval}
+use Rattle.linear_program.specs.declared.kind.Kind.{Kind}
+use Rattle.linear_program.specs.Coefs.{AreAscending}
+use Rattle.linear_program.specs.Forms.{form_line, form_terms}
+use Rattle.linear_program.specs.Programs.{LinearValue, IsLinear, linear_value, variables_from}
+use Rattle.linear_program.specs.Decimals.{coefficient_of}
 use Rattle.scaling.specs.declared.row.FactoredRow.{FactoredRow}
 use Rattle.scaling.specs.declared.row.ScaledObjective.{ScaledObjective}
 use Rattle.scaling.specs.declared.row.Tie.{Tie}

@@ -11,7 +11,7 @@ use Rattle.exported_program.specs.Program.{nonzero}
 use Rattle.exact_numbers.specs.Values.{dec_value, FitsDec, order_of}
 use Rattle.exact_numbers.proofs.Orders.{less_z, greater_z, equal_z}
 use Rattle.fractions.specs.Sums.{sum_over}
-use Rattle.file_meaning.specs.LinearFile.{coefficient_of}
+use Rattle.linear_program.specs.Decimals.{coefficient_of}
 use Rattle.scaling.specs.Rows.{TermOf}
 
 -- the elements from i on

@@ -3,13 +3,13 @@ use Rattle.std.proofs.Common.{◌≡◌, ◌≢◌, suc, ◌<◌, ◌≤◌, ⊎
 use Rattle.std.proofs.lemmas.List.Elements.{All-nil, All-cons, All-head, All-tail}
 use Rattle.std.proofs.lemmas.Bool.{cases_eq}
 use Rattle.fractions.proofs.Arithmetic.{+ℚ_zero, *ℚ_zero, zero-*ℚ, *ℚ_comm, *ℚ_cancel}
-use Rattle.linear_fold.proofs.CoefLemmas.{found_same, found_apart}
-use Rattle.file_meaning.specs.LinearFile.{coefficient_of}
+use Rattle.linear_program.proofs.CoefLemmas.{found_same, found_apart}
+use Rattle.linear_program.specs.Decimals.{coefficient_of}
 use Rattle.scaling.proofs.SharedLemmas.{nothing_in, first_in, later_in}
 use Rattle.fractions.specs.Rational.{ℚ, zero_ℚ, ◌+ℚ◌, ◌*ℚ◌}
 use Rattle.exact_numbers.specs.declared.dec.Dec.{Dec}
 use Rattle.exact_numbers.specs.Values.{dec_value, frac_value}
-use Rattle.linear_fold.specs.Coefs.{Term, coef_in, value_or_zero, AreAscending, AreBelow}
+use Rattle.linear_program.specs.Coefs.{Term, coef_in, value_or_zero, AreAscending, AreBelow}
 use Rattle.scaling.specs.Rows.{TermOf, IsSparse, IsBelow}
 use Rattle.scaling.specs.Fitting.{coefficients_in, NumberFits, AreTermsTimes}
 

@@ -5,10 +5,10 @@ use Rattle.linear_programs.specs.Linear.{Form, Variable}
 use Rattle.mps_model.specs.Mps.{Mps}
 use Rattle.exported_program.specs.Program.{ScaledRow, program_of, then_at, z_form, z_variable, zdef_name}
 use Rattle.exact_numbers.specs.Values.{dec_value}
-use Rattle.file_meaning.specs.LinearFile.{coefficient_of}
+use Rattle.linear_program.specs.Decimals.{coefficient_of}
 use Rattle.linear_programs.specs.Names.{row_name}
-use Rattle.file_meaning.specs.Meaning.{interval_of}
-use Rattle.linear_fold.specs.Programs.{variables_from}
+use Rattle.linear_program.specs.Intervals.{interval_of}
+use Rattle.linear_program.specs.Programs.{variables_from}
 use Rattle.scaling.specs.declared.row.FactoredRow.{FactoredRow}
 use Rattle.scaling.specs.declared.row.ScaledObjective.{ScaledObjective}
 use Rattle.scaling.specs.declared.row.Tie.{Tie}

@@ -9,12 +9,12 @@ use Rattle.exported_program.specs.Export.{RowFits}
 use Rattle.exported_program.specs.Factor.{least_factor, row_numbers}
 use Rattle.exported_program.specs.Program.{scaled_row}
 use Rattle.exported_program.specs.Return.{is_exported}
-use Rattle.nl_model.specs.declared.interval.Interval.{Interval}
+use Rattle.linear_program.specs.declared.interval.Interval.{Interval}
 use Rattle.linear_programs.specs.Names.{row_name}
-use Rattle.file_meaning.specs.Meaning.{interval_of}
-use Rattle.linear_fold.specs.declared.form.Form.{Form}
-use Rattle.linear_fold.specs.Forms.{form_line, form_terms}
-use Rattle.linear_fold.specs.Programs.{form_of}
+use Rattle.linear_program.specs.Intervals.{interval_of}
+use Rattle.linear_program.specs.declared.form.Form.{Form}
+use Rattle.linear_program.specs.Forms.{form_line, form_terms}
+use Rattle.linear_program.specs.Programs.{form_of}
 use Rattle.scaling.specs.declared.row.FactoredRow.{FactoredRow}
 use Rattle.scaling.specs.declared.row.ScaledObjective.{ScaledObjective}
 use Rattle.scaling.specs.declared.row.Tie.{Tie}

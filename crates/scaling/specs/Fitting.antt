@@ -6,7 +6,7 @@ use Rattle.fractions.specs.Rational.{ℚ, neg_ℚ, ◌-ℚ◌, ◌*ℚ◌}
 use Rattle.exact_numbers.specs.declared.frac.Frac.{Frac}
 use Rattle.exact_numbers.specs.Values.{dec_value, frac_value, FitsDec}
 use Rattle.exported_program.specs.Export.{IfSide, IfBoth, RangeFits}
-use Rattle.linear_fold.specs.Coefs.{Term}
+use Rattle.linear_program.specs.Coefs.{Term}
 use Rattle.scaling.specs.Rows.{TermOf}
 
 -- the coefficients of terms, in order

@@ -5,8 +5,8 @@ use Rattle.fractions.specs.Rational.{ℚ, zero_ℚ}
 use Rattle.exported_program.specs.Program.{has_side, range_of}
 use Rattle.exact_numbers.specs.declared.dec.Dec.{Dec}
 use Rattle.exact_numbers.specs.Values.{dec_value}
-pub use Rattle.nl_model.specs.File.{Term as TermOf}
-use Rattle.nl_model.specs.declared.interval.Interval.{Interval}
+pub use Rattle.linear_program.specs.Decimals.{DecimalTerm as TermOf}
+use Rattle.linear_program.specs.declared.interval.Interval.{Interval}
 
 -- the variables rise, the first being at least n, and no coefficient is 0
 abbrev pub IsSparse : ℕ → List TermOf → Type 0

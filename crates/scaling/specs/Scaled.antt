@@ -4,8 +4,8 @@ use Rattle.std.specs.List.{sum_by}
 use Rattle.std.specs.Option.{option_map, option_map_or}
 use Rattle.fractions.specs.Rational.{whole, neg_ℚ}
 use Rattle.exact_numbers.specs.Values.{dec_value}
-use Rattle.nl_model.specs.declared.interval.Interval.{Interval}
-use Rattle.nl_model.specs.declared.kind.Kind.{Kind}
+use Rattle.linear_program.specs.declared.interval.Interval.{Interval}
+use Rattle.linear_program.specs.declared.kind.Kind.{Kind}
 use Rattle.scaling.specs.declared.row.FactoredRow.{FactoredRow}
 use Rattle.scaling.specs.declared.row.ScaledObjective.{ScaledObjective}
 use Rattle.scaling.specs.declared.row.Tie.{Tie}

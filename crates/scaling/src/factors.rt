@@ -4,14 +4,14 @@ ghost use Rattle.fractions.specs.Rational.{ℚ};
 ghost use Rattle.exact_numbers.specs.Values.{frac_value};
 ghost use Rattle.exported_program.specs.Factor.{cofactor_of, least_factor};
 ghost use Rattle.fractions.specs.Fits.{least_multiple};
-ghost use Rattle.linear_fold.specs.Coefs.{AreAscending};
-ghost use Rattle.linear_fold.specs.Forms.{form_line, form_terms};
+ghost use Rattle.linear_program.specs.Coefs.{AreAscending};
+ghost use Rattle.linear_program.specs.Forms.{form_line, form_terms};
 ghost use Rattle.scaling.specs.Fitting.{coefficients_in, frac_side, listed};
 
 use crate::decimals::has_few_places;
 use crate::fraction_sides::FractionSides;
 use exact_numbers::{Frac, lcm};
-use linear_fold::Form;
+use linear_program::Form;
 
 // The least multiple of a factor that makes one number more a finite decimal; none where it is
 // beyond the greatest size.

@@ -9,8 +9,7 @@ ghost use Rattle.scaling.specs.Rows.{side_value};
 
 use crate::decimals::decimal_of;
 use exact_numbers::{Dec, Frac};
-use linear_fold::Wide;
-use nl_model::Interval;
+use linear_program::{Interval, Wide};
 use std::cmp::Ordering;
 
 /// Two sides, each of which may be missing.

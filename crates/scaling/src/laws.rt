@@ -4,7 +4,7 @@ ghost use Rattle.std.specs.Prelude.{◌≡◌, ℕ, pos, None};
 ghost use Rattle.fractions.specs.Rational.{whole, ◌*ℚ◌};
 ghost use Rattle.linear_programs.specs.Linear.{Form};
 ghost use Rattle.exported_program.specs.Program.{program_of, scaled_row, tie};
-ghost use Rattle.linear_fold.specs.Programs.{variables_from};
+ghost use Rattle.linear_program.specs.Programs.{variables_from};
 ghost use Rattle.scaling.specs.Exported.{exported_as, exported_from, form_of, tied_row};
 ghost use Rattle.scaling.specs.Scaled.{ScaledValue};
 

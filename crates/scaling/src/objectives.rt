@@ -3,8 +3,8 @@ ghost use Rattle.std.specs.Prelude.{◌≡◌, ◌≢◌, ◌<ℤ◌, pos, IfOk,
 ghost use Rattle.texts.specs.Stopped.{IfFault};
 ghost use Rattle.fractions.specs.Rational.{one_ℚ};
 ghost use Rattle.exact_numbers.specs.Values.{frac_value};
-ghost use Rattle.linear_fold.specs.Coefs.{AreAscending};
-ghost use Rattle.linear_fold.specs.Forms.{form_terms};
+ghost use Rattle.linear_program.specs.Coefs.{AreAscending};
+ghost use Rattle.linear_program.specs.Forms.{form_terms};
 ghost use Rattle.scaling.specs.Factored.{AreTiedFit, IsObjectiveTimes, IsTiedOrPlain, IsTiedTo, IsTooWide, numbers_of};
 ghost use Rattle.scaling.specs.Fitting.{NumberFits};
 ghost use Rattle.scaling.specs.Scaled.{IsTie};
@@ -14,7 +14,7 @@ use crate::row::{ScaledObjective, Tie};
 use crate::scaled_rows::whole;
 use crate::scaled_terms::{scaled_number, scaled_terms};
 use exact_numbers::Frac;
-use linear_fold::{Form, Wide};
+use linear_program::{Form, Wide};
 use std::alloc::Global;
 use texts::Stop;
 

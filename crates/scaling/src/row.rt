@@ -2,7 +2,7 @@
 ghost use Rattle.std.specs.Prelude.{◌≡◌};
 
 use exact_numbers::Dec;
-use nl_model::{Interval, Terms};
+use linear_program::{Interval, Terms};
 use std::marker::Model;
 
 /// A row times its factor: its coefficients, and its sides less the body's constant.

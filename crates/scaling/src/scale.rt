@@ -1,7 +1,7 @@
 // The scaled program of a folded file.
 ghost use Rattle.std.specs.Prelude.{◌≡◌, IfOk, IfErr, OnOk};
 ghost use Rattle.texts.specs.Stopped.{IfFault};
-ghost use Rattle.linear_fold.specs.Programs.{linear_value};
+ghost use Rattle.linear_program.specs.Programs.{linear_value};
 ghost use Rattle.scaling.specs.Factored.{AreScaledRows, IsTiedOrPlain};
 ghost use Rattle.scaling.specs.Scaling.{HasNoScaleFault, HasScaleFault, IsScaledOf};
 
@@ -9,7 +9,7 @@ use crate::objectives::{TiedObjective, scaled_objective};
 use crate::scale_fault::ScaleFault;
 use crate::scaled::Scaled;
 use crate::scaled_rows::scaled_rows;
-use linear_fold::Linear;
+use linear_program::Linear;
 use std::alloc::Global;
 use texts::Stop;
 

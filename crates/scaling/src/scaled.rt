@@ -3,7 +3,7 @@ ghost use Rattle.std.specs.Prelude.{◌≡◌, ◌<◌, length, slice_get, Some,
 ghost use Rattle.std.specs.Option.{option_copied, option_map};
 
 use crate::row::{FactoredRow, ScaledObjective, ScaledRow, Tie};
-use nl_model::{Interval, Kind};
+use linear_program::{Interval, Kind};
 use std::marker::Model;
 
 /// Scaled rows by constraint, an objective, and bounds and kinds by variable.

@@ -3,14 +3,13 @@ ghost use Rattle.std.specs.Prelude.{◌≡◌, MatchOption, All, IfOk, IfErr, If
 ghost use Rattle.texts.specs.Stopped.{IfFault};
 ghost use Rattle.fractions.specs.Rational.{◌*ℚ◌};
 ghost use Rattle.exact_numbers.specs.Values.{dec_value, frac_value};
-ghost use Rattle.linear_fold.specs.Coefs.{AreAscending};
-ghost use Rattle.linear_fold.specs.Forms.{form_terms};
+ghost use Rattle.linear_program.specs.Coefs.{AreAscending};
+ghost use Rattle.linear_program.specs.Forms.{form_terms};
 ghost use Rattle.scaling.specs.Fitting.{coefficients_in, NumberFits, AreTermsTimes};
 
 use crate::decimals::{decimal_of, is_one};
 use exact_numbers::{Dec, Frac};
-use linear_fold::{Form, Wide};
-use nl_model::Terms;
+use linear_program::{Form, Terms, Wide};
 use std::alloc::{AllocError, Global};
 use texts::Stop;
 

@@ -3,7 +3,7 @@
 
 pub use desk::{Desk, Failed, HostDesk, MemoryDesk};
 pub use texts::{
-    BadName, Blank, Grammar, Ledger, LineFault, Lines, Marks, Name, Reader, Row, Steps, Stop, Taken,
-    TextFault, TextLines, Words, begins, is_name, read, read_pieces, skip_blanks, strip_comment,
-    word_at, words,
+    BadName, Blank, Grammar, Ledger, LineFault, Lines, Marks, Name, Reader, Row, Steps, Stop,
+    Taken, TextFault, TextLines, Words, begins, is_name, read, read_pieces, skip_blanks,
+    strip_comment, word_at, words,
 };

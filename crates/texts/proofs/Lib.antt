@@ -1,8 +1,12 @@
 pub mod NamePlaces
+pub mod Walk
+pub mod WalkSteps
+pub mod WalkScan
 pub mod ScanLemmas
 pub mod WordLemmas
 pub mod FirstReasons
 pub mod JudgedLemmas
+pub mod FrontLemmas
 pub mod ReadingLemmas
 pub mod CutLemmas
 pub mod LineLemmas

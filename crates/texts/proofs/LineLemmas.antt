@@ -11,7 +11,7 @@ use Rattle.texts.specs.Cut.{HasNoEnd, IsLine, IsOneLine, IsTextLine, IsText, IsC
 use Rattle.texts.specs.Lines.{Scan, trimmed, scan, front_of, LinesState, TakesWhole}
 use Rattle.texts.specs.Reading.{lines_of, lines_by, lines_so_far}
 use Rattle.texts.specs.Words.{is_blank, without_blanks}
-use Rattle.texts.proofs.ScanLemmas.{no_end-take, parted}
+use Rattle.texts.proofs.WalkSteps.{no_end-take, parted}
 use Rattle.texts.proofs.CutLemmas.{scan_cut}
 
 -- ---- no LF
@@ -35,7 +35,7 @@ no_end-blanks (b ∷ bytes) h = by (is_blank b) (no_end-blanks bytes h.1)
 abbrev pub EndsFree : List ℕ → Type 0
 EndsFree bytes = suffix_len (λ b. b == 13) bytes ≡ 0
 
-trimmed-free : (bytes : List ℕ) → EndsFree bytes → trimmed bytes ≡ bytes
+pub trimmed-free : (bytes : List ℕ) → EndsFree bytes → trimmed bytes ≡ bytes
 trimmed-free bytes e = ap (λ (k : ℕ). take (length bytes - k) bytes) e ∙ take_all (length bytes - 0) bytes (omega arith)
 
 none-in-front : (zs : List ℕ) (x : ℕ) (b : Bool) → eqb (prefix_len (λ b. b == 13) zs) (length zs) ≡ b → cond b (length zs + prefix_len (λ b. b == 13) (x ∷ [])) (prefix_len (λ b. b == 13) zs) ≡ 0 → prefix_len (λ b. b == 13) zs ≡ 0
@@ -86,6 +86,10 @@ free-trimmed bytes =
 
 trimmed-free_of : (bytes : List ℕ) → trimmed bytes ≡ bytes → EndsFree bytes
 trimmed-free_of bytes e = subst EndsFree e (free-trimmed bytes)
+
+-- a byte that is no CR ends the bytes
+pub last-free : (front : List ℕ) (b : ℕ) → (b == 13) ≡ false → EndsFree (front ++ b ∷ [])
+last-free front b e = ap (prefix_len (λ b. b == 13)) (reverse-append front (b ∷ [])) ∙ rw e refl
 
 -- ---- what is left of one line
 

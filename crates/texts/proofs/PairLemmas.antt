@@ -1,9 +1,12 @@
 -- A line of one word, or of two with a space between them, whose bytes stand above `#`.
-use Rattle.std.proofs.Common.{◌≡◌, ◌∙◌, ℕ, ◌+◌, ◌-◌, ◌<◌, ◌==◌, ◌&&◌, Bool, true, false, List, [], ◌∷◌, ◌++◌, length, take, drop, get_or, refl, sym, ap, ap₂, arith, append-nil, length-drop, length-take, take-append-drop, take_all}
+use Rattle.std.proofs.Common.{◌≡◌, ◌∙◌, ℕ, ◌+◌, ◌-◌, ◌<◌, ◌==◌, ◌&&◌, Bool, true, false, List, [], ◌∷◌, ◌++◌, length, take, drop, get_or, refl, sym, ap, ap₂, subst, arith, append_assoc, append-nil, length-drop, length-take, take-append-drop, take_all}
 use Rattle.std.proofs.lemmas.List.{drop_more}
 use Rattle.std.proofs.lemmas.Bool.Decides.{nat_tests}
 use Rattle.texts.proofs.CommentLemmas.{no_mark}
+use Rattle.texts.proofs.LineLemmas.{EndsFree, last-free, trimmed-free}
+use Rattle.texts.proofs.WalkSteps.{no_end-append}
 use Rattle.texts.proofs.WordLemmas.{begins}
+use Rattle.texts.specs.Cut.{HasNoEnd, IsOneLine}
 use Rattle.texts.specs.Words.{is_blank, onto_word, ends_word, words_of, up_to_comment, without_comment, IsUnmarked}
 
 no_blank : (b : ℕ) → 35 < b → is_blank b ≡ false
@@ -59,3 +62,29 @@ pair_line line word n within space behind first i some w =
     sym (take-append-drop n line) ∙ ap (λ bs. index ++ bs) (drop_more line n 0 within) ∙ ap₂ (λ b bs. index ++ b ∷ bs) space (sym rest) in
     let front : 0 < length index = omega (arith, length-take n line) in
     ap (λ bs. words_of (without_comment bs)) parts ∙ ap words_of (without_comment-pair index word i w) ∙ words_of-pair index word front i some w
+
+-- ---- such a line is one line
+
+no_lf : (b : ℕ) → 35 < b → (b == 10) ≡ false
+no_lf b h = grind (arith, nat_tests)
+
+no_cr : (b : ℕ) → 35 < b → (b == 13) ≡ false
+no_cr b h = grind (arith, nat_tests)
+
+no_end-unmarked : (word : List ℕ) → IsUnmarked word → HasNoEnd word
+no_end-unmarked [] all = tt
+no_end-unmarked (b ∷ word) all = (no_lf b all.0, no_end-unmarked word all.1)
+
+unmarked-free : (front word : List ℕ) → 0 < length word → IsUnmarked word → EndsFree (front ++ word)
+unmarked-free front [] some all = absurd (omega arith)
+unmarked-free front (b ∷ []) some all = last-free front b (no_cr b all.0)
+unmarked-free front (b ∷ c ∷ word) some all = subst EndsFree (append_assoc front (b ∷ []) (c ∷ word)) (unmarked-free (front ++ b ∷ []) (c ∷ word) (omega arith) all.1)
+
+pub one_line-word : (word : List ℕ) → 0 < length word → IsUnmarked word → IsOneLine word
+one_line-word word some all = record { no_end = no_end-unmarked word all; no_cr = trimmed-free word (unmarked-free [] word some all) }
+
+pub one_line-pair : (index word : List ℕ) → IsUnmarked index → 0 < length word → IsUnmarked word → IsOneLine (index ++ 32 ∷ word)
+one_line-pair index word i some w = record {
+  no_end = no_end-append index (32 ∷ word) (no_end-unmarked index i) (refl, no_end-unmarked word w);
+  no_cr = trimmed-free (index ++ 32 ∷ word) (subst EndsFree (append_assoc index (32 ∷ []) word) (unmarked-free (index ++ 32 ∷ []) word some w));
+}

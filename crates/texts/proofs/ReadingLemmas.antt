@@ -8,14 +8,20 @@ use Rattle.texts.specs.declared.stop.Stop.{Stop}
 use Rattle.texts.specs.declared.stop.Stop.TheVariants.{Fault, Memory}
 use Rattle.texts.specs.declared.fault.TextFault.{TextFault}
 use Rattle.texts.specs.Stopped.{IfFault, IsFaultAnd, MatchStop}
-use Rattle.texts.specs.Lines.{trimmed, Scan, no_lines, next_byte, scan, LinesState, StandsFor, GoesOn, EndsLine, number_of}
+use Rattle.texts.specs.Lines.{trimmed, scan, LinesState, StandsFor, GoesOn, EndsLine, number_of}
 use Rattle.texts.specs.Judged.{Rules, Last, Open, Bad, End, HasFaultAt}
 use Rattle.texts.specs.Cut.{IsTextLine, lines_text}
 use Rattle.texts.specs.Reading.{rest_line, lines_by, last_by, lines_of, last_of, lines_so_far, last_so_far, HasFault, IsRead, Reads, IsFreeSoFar, HasFaultSoFar, IsGoing, Stands, IsAtEnd}
-use Rattle.texts.proofs.ScanLemmas.{steps, steps-line, scan-lines, scan-fault}
+use Rattle.texts.proofs.Walk.{no_lines, walk}
+use Rattle.texts.proofs.WalkScan.{scan_is}
+use Rattle.texts.proofs.ScanLemmas.{scan-lines, scan-fault}
+use Rattle.texts.proofs.FrontLemmas.{steps-written}
 use Rattle.std.specs.List.{AllByRecursion}
-use Rattle.std.proofs.lemmas.List.Sums.{fold-append}
 use Rattle.texts.proofs.JudgedLemmas.{clean_none, clean_last, clean_more, fault_last, fault_here, fault-append}
+
+-- the bytes of a piece
+pub parts_of : (piece front rest : List ℕ) (n : ℕ) → piece ≡ front ++ rest → piece ≡ (front ++ take n rest) ++ drop n rest
+parts_of piece front rest n e = e ∙ ap (λ (r : List ℕ). front ++ r) (sym (take-append-drop n rest)) ∙ sym (append_assoc front (take n rest) (drop n rest))
 
 module _ {R : Type 0} (rules : Rules R) where
   -- ---- faults stay
@@ -53,6 +59,16 @@ module _ {R : Type 0} (rules : Rules R) where
 
   pub carries_none : (took : List (List ℕ) → Type 0) (s : LinesState) → Carries took took s s []
   carries_none took s = λ text h. rw (append-nil text) h
+
+  -- what a reader that goes on has taken of a piece, of which these bytes are left
+  abbrev pub HasGone : (List (List ℕ) → Type 0) → (List (List ℕ) → Type 0) → LinesState → LinesState → List ℕ → List ℕ → Type 0
+  HasGone took now s t piece rest = (front : List ℕ) × (piece ≡ front ++ rest) × Carries took now s t front
+
+  -- by so many bytes more
+  pub goes-on : (took mid now : List (List ℕ) → Type 0) (s t u : LinesState) (piece rest left : List ℕ) (n : ℕ) → HasGone took mid s t piece rest → left ≡ drop n rest
+      → ((text : List ℕ) → IsGoing rules mid t text → IsGoing rules now u (text ++ take n rest)) → HasGone took now s u piece left
+  goes-on took mid now s t u piece rest left n goes is step =
+      rw is (goes.0 ++ take n rest, parts_of piece goes.0 rest n goes.1, λ text g. rw (← append_assoc text goes.0 (take n rest)) (step (text ++ goes.0) (goes.2 text g)))
 
   -- the grammar took the line that was given
   abbrev pub Judged : (List (List ℕ) → Type 0) → (List (List ℕ) → Type 0) → LinesState → Type 0
@@ -306,10 +322,6 @@ pub none_left : (n : ℕ) (b : Bool) → b ≡ false → (0 < n → b ≡ true) 
 none_left zero b e h = refl
 none_left (suc n) b e h = let is = h (omega arith) in absurd cc
 
--- the bytes of a piece
-pub parts_of : (piece front rest : List ℕ) (n : ℕ) → piece ≡ front ++ rest → piece ≡ (front ++ take n rest) ++ drop n rest
-parts_of piece front rest n e = e ∙ ap (λ (r : List ℕ). front ++ r) (sym (take-append-drop n rest)) ∙ sym (append_assoc front (take n rest) (drop n rest))
-
 -- a fault that `feed` answers is the one of the whole text, whatever comes
 pub early : {R V : Type 0} (rules : Rules R) (says : List (List ℕ) → V → Type 0) (fed : List ℕ → Type 0) (before piece more : List ℕ) (stop : Stop (TextFault R)) → fed before
     → IfFault stop (λ fault. (text : List ℕ) → fed text → HasFaultSoFar rules (text ++ piece) fault) → Reads rules says ((before ++ piece) ++ more) (Err stop)
@@ -318,23 +330,10 @@ early rules says fed before piece more (Fault fault) is h = so_far-whole rules (
 
 -- ---- a text that was written
 
-steps-written : (lines : List (List ℕ)) (c : Scan) → c.fault ≡ None → c.rest ≡ [] → AllByRecursion IsTextLine lines → c.total + length (lines_text lines) ≤ 2 ^ 31
-    → ((steps c (lines_text lines)).lines ≡ c.lines ++ lines) × ((steps c (lines_text lines)).rest ≡ []) × ((steps c (lines_text lines)).fault ≡ None)
-steps-written [] c none empty all room = (sym (append-nil c.lines), empty, none)
-steps-written (line ∷ lines) c none empty all room =
-    let len : length (lines_text (line ∷ lines)) ≡ (length line + 1) + length (lines_text lines) = length-append (line ++ 10 ∷ []) (lines_text lines) ∙ ap (λ (n : ℕ). n + length (lines_text lines)) (length-append line (10 ∷ [])) in
-    let short : length c.rest + length line ≤ 65536 = rw empty (let fits : length line ≤ 65536 = all.0.short in omega arith) in
-    let one = steps-line c line 10 none all.0.one.no_end refl short (omega arith) in
-    let next : Scan = record { lines = c.lines ++ trimmed (c.rest ++ line) ∷ []; rest = []; total = (c.total + length line) + 1; fault = None } in
-    let more = steps-written lines next refl refl all.1 (omega arith) in
-    let all_steps : steps c (lines_text (line ∷ lines)) ≡ steps next (lines_text lines) = fold-append next_byte c (line ++ 10 ∷ []) (lines_text lines) ∙ ap (λ (s : Scan). steps s (lines_text lines)) one in
-    let same : trimmed (c.rest ++ line) ≡ line = rw empty all.0.one.no_cr in
-    let grown : next.lines ++ lines ≡ c.lines ++ line ∷ lines = append_assoc c.lines (trimmed (c.rest ++ line) ∷ []) lines ∙ ap (λ (l : List ℕ). c.lines ++ l ∷ lines) same in
-    rw all_steps (more.0 ∙ grown, more.1, more.2)
-
 -- lines that are written are read as themselves
 pub written_lines : (lines : List (List ℕ)) → AllByRecursion IsTextLine lines → length (lines_text lines) ≤ 2 ^ 31 → (lines_of (lines_text lines) ≡ lines) × (last_of (lines_text lines) ≡ End)
-unfolding scan lines_of last_of
+unfolding walk lines_of last_of
 written_lines lines all room =
     let w = steps-written lines no_lines refl refl all (omega arith) in
-    (rw (w.2, w.0, w.1) (append-nil lines), rw w.2 refl)
+    let is = scan_is (lines_text lines) in
+    (rw (is, w.2, w.0, w.1) (append-nil lines), rw (is, w.2) refl)

@@ -9,3 +9,4 @@ pub mod Names
 pub mod TextLines
 pub mod Stamps
 pub mod Readers
+pub mod Fronts

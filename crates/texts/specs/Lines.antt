@@ -1,6 +1,6 @@
 -- The lines of a text, and the line fault that may end them.
-use Rattle.std.specs.Prelude.{◌≡◌, ◌+◌, ◌<◌, ◌≤◌, ◌-◌, ◌^◌, ◌==◌, ℕ, nat_le, List, [], ◌∷◌, ◌++◌, length, take, if◌then◌else◌, is_some, not, take_while}
-use Rattle.std.specs.List.{suffix_len, fold}
+use Rattle.std.specs.Prelude.{◌≡◌, ◌+◌, ◌<◌, ◌≤◌, ◌-◌, ◌^◌, ◌==◌, ℕ, nat_le, Bool, List, [], ◌∷◌, ◌++◌, length, map, take, get_or, if◌then◌else◌, is_some, not, take_while}
+use Rattle.std.specs.List.{suffix_len, slice_split, list_all}
 use Rattle.std.specs.declared.option.Option.{Option}
 use Rattle.std.specs.declared.option.Option.TheVariants.{None, Some}
 use Rattle.texts.specs.declared.lines.LineFault.{LineFault}
@@ -12,43 +12,43 @@ use Rattle.texts.specs.declared.lines.Taken.TheVariants.{Line, More, Fault}
 abbrev pub trimmed : List ℕ → List ℕ
 trimmed bytes = take (length bytes - suffix_len (λ b. b == 13) bytes) bytes
 
+-- a line has at most 65,536 bytes, without its LF
+abbrev pub is_short : List ℕ → Bool
+is_short part = nat_le (length part) 65536
+
+-- The parts of a text that is cut at each LF. Byte 2^31 + 1 and what follows it are not in them.
+abbrev pub parts_of : List ℕ → List (List ℕ)
+parts_of text = slice_split (λ b. b == 10) (take (2 ^ 31) text)
+
+-- the parts with an LF after them, up to the first that is too long
+abbrev pub ended_parts : List (List ℕ) → List (List ℕ)
+ended_parts parts = take_while is_short (take (length parts - 1) parts)
+
+-- a part is too long, or else the text
+abbrev pub line_fault : List (List ℕ) → Bool → Option LineFault
+line_fault parts fits =
+    if list_all is_short parts
+    then (if fits then None else Some InputTooLong)
+    else Some LineTooLong
+
 -- How far the lines of a text go.
 pub record Scan : Type 0 where
   -- the lines that have ended, without LF and without the CR bytes at their end
   pub lines : List (List ℕ)
-  -- the bytes after them
+  -- the bytes after them, as many as one line may have
   pub rest : List ℕ
-  -- how many bytes have come
-  pub total : ℕ
   -- what is wrong with the line after them
   pub fault : Option LineFault
 
-abbrev pub no_lines : Scan
-no_lines = record { lines = []; rest = []; total = 0; fault = None }
-
--- A byte more. Byte 2^31 + 1 of a text is a fault, and else byte 65,537 of a line, to which its LF
--- does not count.
-abbrev pub with_byte : Scan → ℕ → Scan
-with_byte s b =
-    if nat_le (2 ^ 31) s.total
-    then record s { fault = Some InputTooLong }
-    else if b == 10
-    then record {
-      lines = s.lines ++ trimmed s.rest ∷ [];
-      rest = [];
-      total = s.total + 1;
-      fault = None;
-    }
-    else if nat_le 65536 (length s.rest)
-    then record s { fault = Some LineTooLong }
-    else record { lines = s.lines; rest = s.rest ++ b ∷ []; total = s.total + 1; fault = None }
-
--- nothing is looked for after a line fault
-unfoldable pub next_byte : Scan → ℕ → Scan
-next_byte s b = if is_some s.fault then s else with_byte s b
+abbrev pub scan_of : List (List ℕ) → Bool → Scan
+scan_of parts fits = record {
+  lines = map trimmed (ended_parts parts);
+  rest = take 65536 (get_or parts (length (ended_parts parts)) []);
+  fault = line_fault parts fits;
+}
 
 unfoldable pub scan : List ℕ → Scan
-scan text = fold next_byte no_lines text
+scan text = scan_of (parts_of text) (nat_le (length text) (2 ^ 31))
 
 -- ---- What a reader of lines stands for.
 
@@ -66,17 +66,14 @@ pub record LinesState : Type 0 where
 abbrev pub new_state : LinesState
 new_state = record { count = 0; rest = []; line = None; total = 0; fault = None }
 
--- the reader is where the lines of a text end; after a fault only the count and the fault are kept
-pub record Keeps (c : Scan) (s : LinesState) : Type 0 where
-  pub count : s.count ≡ length c.lines
-  pub fault : s.fault ≡ c.fault
-  pub rest : s.fault ≡ None → s.rest ≡ c.rest
-  pub total : s.fault ≡ None → s.total ≡ c.total
+-- The reader has taken this text, and is where its lines end. After a fault only the count and the
+-- fault are kept.
+pub record StandsFor (text : List ℕ) (s : LinesState) : Type 0 where
+  pub count : s.count ≡ length (scan text).lines
+  pub fault : s.fault ≡ (scan text).fault
+  pub rest : s.fault ≡ None → s.rest ≡ (scan text).rest
+  pub total : s.fault ≡ None → s.total ≡ length text
   pub awaits : (fault : LineFault) → s.fault ≡ Some fault → s.line ≡ None
-
--- the reader has taken this text
-abbrev pub StandsFor : List ℕ → LinesState → Type 0
-StandsFor text s = Keeps (scan text) s
 
 -- how the lines go on when these bytes come
 abbrev pub GoesOn : Scan → Scan → Taken → LinesState → Type 0

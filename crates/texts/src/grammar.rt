@@ -1,11 +1,19 @@
 // A grammar of lines.
-ghost use Rattle.std.specs.Prelude.{◌≡◌, List, ℕ, ◌+◌, length, ◌++◌, ◌∷◌, [], OnOk, IfOk, IfErr, None, Some};
+ghost use Rattle.std.specs.Prelude.{◌≡◌, List, ℕ, ◌+◌, ◌≤◌, ◌^◌, length, ◌++◌, ◌∷◌, [], OnOk, IfOk, IfErr, None, Some};
 ghost use Rattle.texts.specs.Cut.{IsTextLine};
+ghost use Rattle.texts.specs.Fronts.{TakesFront};
 ghost use Rattle.texts.specs.Judged.{Rules};
 ghost use Rattle.texts.specs.Stopped.{IfFault};
 
 use crate::lines::LineFault;
 use crate::stop::Stop;
+
+/// So many bytes at the front of a piece, which are so many lines, each with its LF.
+#[derive(Clone, Copy, Debug, PartialEq, Eq)]
+pub struct Front {
+    pub len: usize,
+    pub lines: u32,
+}
 
 /// What takes the lines of a text one after another, and has a value at the end.
 pub trait Grammar: Drop {
@@ -43,6 +51,19 @@ pub trait Grammar: Drop {
         ensures fault { IfErr result (λ stop. IfFault stop (λ reason. (lines : List (List ℕ))
             → number ≡ length lines + 1 → took self.old lines
             → (rules (setting self.old)).at_line lines line.now ≡ Some reason)) };
+
+    /// Takes lines that lie whole at the front of a piece, as many as it will at once. The first of
+    /// them has this number. It takes no line with a fault: `take` says what is wrong with it.
+    fn take_front(&mut self, piece: &[u8], number: u32) -> Front
+        requires { number + length piece.now ≤ 2 ^ 31 + 1 }
+        ensures setting { setting self.new ≡ setting self.old }
+        ensures front { TakesFront (rules (setting self.old)) (took self.old) (took self.new)
+            piece.now number result }
+    {
+        let _ = piece;
+        let _ = number;
+        Front { len: 0, lines: 0 }
+    }
 
     /// The reason that stands for a line fault of the next line.
     fn line_fault(&self, fault: LineFault) -> Self::Reason

@@ -16,7 +16,7 @@ mod text_lines;
 
 pub use blanks::{Row, begins, skip_blanks, strip_comment, word_at, words};
 pub use fault::TextFault;
-pub use grammar::Grammar;
+pub use grammar::{Front, Grammar};
 pub use lines::{LineFault, Lines, Taken};
 pub use marks::Marks;
 pub use names::{BadName, Name, is_name};

@@ -1,8 +1,10 @@
 // The lines of a text that comes in pieces.
 ghost use Rattle.std.specs.Prelude.{◌≡◌, ◌+◌, ◌-◌, ◌<◌, ◌≤◌, ◌^◌, ◌++◌, ◌==◌, List, ℕ, position, [], length, take, IfOk, IfSome, MatchOption, IsSome, IsTrue, ◌↔◌, None, Some, IsNone, false, true};
 ghost use Rattle.texts.specs.Cut.{IsTextLine};
-ghost use Rattle.texts.specs.Lines.{new_state, StandsFor, Keeps, Scan, GoesOn, IfLine, TakesWhole, EndsLine, taken_of, scan, number_of, trimmed, front_of, TakesPiece, end_done};
+ghost use Rattle.texts.specs.Fronts.{after_front};
+ghost use Rattle.texts.specs.Lines.{new_state, StandsFor, GoesOn, IfLine, TakesWhole, EndsLine, taken_of, scan, number_of, trimmed, front_of, TakesPiece, end_done};
 
+use crate::grammar::Front;
 use std::alloc::{AllocError, Global};
 use std::marker::Model;
 
@@ -182,29 +184,40 @@ impl Lines {
         Taken::Line(count)
     }
 
-    // Whether no line was begun and nothing is wrong.
-    fn is_between(&self) -> bool
+    /// Whether no line was begun and nothing is wrong.
+    pub(crate) fn is_between(&self) -> bool
         ensures { result ≡ true → (self.now.fault ≡ None) × (self.now.rest ≡ []) }
     {
         self.fault.is_none() && (self.ended || self.line.is_empty())
     }
 
-    // Goes on by a line of so many bytes that is held elsewhere.
-    fn pass(&mut self, count: u32)
+    /// How many bytes may still come.
+    pub(crate) fn room(&self) -> usize
+        ensures { self.now.total + result ≡ 2 ^ 31 }
+    {
+        (LONGEST_INPUT - self.total) as usize
+    }
+
+    /// The number of the line that comes next, where none was begun.
+    pub(crate) fn next_number(&self) -> u32
+        ensures value { result ≡ self.now.count + 1 }
+        ensures few { result ≤ self.now.total + 1 }
+    {
+        self.count + 1
+    }
+
+    /// Goes on by lines that are held elsewhere.
+    pub(crate) fn pass(&mut self, front: Front)
         requires fault { self.old.fault ≡ None }
         requires rest { self.old.rest ≡ [] }
-        requires some { 0 < count }
-        requires room { self.old.total + count ≤ 2 ^ 31 }
-        ensures { self.new ≡ record self.old {
-          count = self.old.count + 1;
-          line = None;
-          total = self.old.total + count;
-        } }
+        requires few { front.lines ≤ front.len }
+        requires room { self.old.total + front.len ≤ 2 ^ 31 }
+        ensures { self.new ≡ after_front self.old front }
     {
         self.line.clear();
         self.ended = false;
-        self.count += 1;
-        self.total += count;
+        self.count += front.lines;
+        self.total += front.len as u32;
     }
 
     fn take_front<'a>(&mut self, piece: &'a [u8]) -> Option<Whole<'a>>
@@ -221,11 +234,12 @@ impl Lines {
         if front > LONGEST_LINE || front >= (LONGEST_INPUT - self.total) as usize {
             return None;
         }
-        self.pass(front as u32 + 1);
+        let len = front + 1;
+        self.pass(Front { len, lines: 1 });
         Some(Whole {
             line: trim(&piece[..front]),
             number: self.count,
-            len: front + 1,
+            len,
         })
     }
 

@@ -1,12 +1,12 @@
 // A reader of texts for any grammar of lines.
-ghost use Rattle.std.specs.Prelude.{◌≡◌, ◌++◌, ◌∷◌, ◌+◌, ◌≤◌, List, ℕ, [], length, Some, None, IsSome, IfOk, IfErr, IfSome, OnOk, Err};
+ghost use Rattle.std.specs.Prelude.{◌≡◌, ◌++◌, ◌∷◌, ◌+◌, ◌≤◌, List, ℕ, [], length, take, Some, None, IsSome, IfOk, IfErr, IfSome, OnOk, Err};
 ghost use Rattle.std.specs.Result.{result_err};
 ghost use Rattle.texts.specs.Stopped.{IfFault};
 ghost use Rattle.texts.specs.Judged.{Rules};
 ghost use Rattle.texts.specs.Cut.{IsTextLine};
 ghost use Rattle.texts.specs.Lines.{number_of};
 ghost use Rattle.texts.specs.Readers.{HasTaken, grammar_of, stopped_by};
-ghost use Rattle.texts.specs.Reading.{IsFreeSoFar, HasFaultSoFar, IsAtEnd, Reads, joined};
+ghost use Rattle.texts.specs.Reading.{IsFreeSoFar, HasFaultSoFar, IsAtEnd, IsGoing, Reads, joined};
 
 use crate::fault::TextFault;
 use crate::grammar::Grammar;
@@ -109,6 +109,29 @@ impl<G: Grammar> Reader<G> {
         }
     }
 
+    // Lets the grammar take lines at the front of a piece, where no line was begun, and says how
+    // many bytes these are.
+    fn take_front(&mut self, piece: &[u8]) -> usize
+        ensures within { result ≤ length piece.now }
+        ensures stopped { self.new.stopped ≡ self.old.stopped }
+        ensures setting { G.setting self.new.grammar ≡ G.setting self.old.grammar }
+        ensures goes { (text : List ℕ)
+            → IsGoing (G.rules (G.setting self.old.grammar)) (G.took self.old.grammar)
+            self.old.lines text
+            → IsGoing (G.rules (G.setting self.old.grammar)) (G.took self.new.grammar)
+            self.new.lines (text ++ take result piece.now) }
+    {
+        if !self.lines.is_between() {
+            return 0;
+        }
+        let most = piece.len().min(self.lines.room());
+        let front = self
+            .grammar
+            .take_front(piece.split_at(most).0, self.lines.next_number());
+        self.lines.pass(front);
+        front.len
+    }
+
     // Takes all of a piece, and stops at the first fault.
     fn take(&mut self, piece: &[u8]) -> Result<(), Stop<TextFault<G::Reason>>>
         requires { self.old.stopped ≡ None }
@@ -123,6 +146,8 @@ impl<G: Grammar> Reader<G> {
     {
         let mut rest = piece;
         'pieces: loop {
+            let passed = self.take_front(rest);
+            rest = rest.split_at(passed).1;
             if let Some(whole) = self.lines.take_whole(rest) {
                 if let Err(stop) = self.judge_whole(whole.line, whole.number) {
                     return Err(stop);

@@ -1,10 +1,7 @@
 use Rattle.std.proofs.Common.{◌∙◌, length, sym, ap}
 use Rattle.linear_programs.specs.Linear.{row_count, variable_count}
-use Rattle.file_meaning.specs.FoldFaults.{has_objective}
-use Rattle.linear_fold.specs.FoldedFaults.{step_bound}
 use Rattle.nl_segments.specs.Reader.{value_of}
 use Rattle.bridge_tool.proofs.Checking.{all_duals, all_primals}
-use Rattle.bridge_tool.proofs.SeveralFiles.{steps_so}
 use Rattle.bridge_tool.proofs.check.certified.Goals as goal
 
 pub told_verdict-requires-clause-numbers : goal.told_verdict-requires-clause-numbers
@@ -16,9 +13,3 @@ pub told_verdict-requires-clause-duals : goal.told_verdict-requires-clause-duals
 told_verdict-requires-clause-duals g c =
     ap length (c.items-2.ensures ∙ c.duals-y.ensures.value) ∙ all_duals (value_of c.args.read.now) c.args.sol.now c.requires.fits c.args.objective c.duals-y.ensures.given
     ∙ ap row_count (sym c.in_ok-linear.ensures.folds.linear)
-
-pub returns-in_err-told-clause-counts : goal.returns-in_err-told-clause-counts
-returns-in_err-told-clause-counts g c = steps_so (has_objective c.args.read.now.file c.args.objective) _ _ (step_bound c.args.read.now.file) c.fold.ensures.below c.fold.ensures.none
-
-pub returns-clause-counts : goal.returns-clause-counts
-returns-clause-counts g c = steps_so (has_objective c.args.read.now.file c.args.objective) _ _ (step_bound c.args.read.now.file) c.fold.ensures.below c.fold.ensures.none

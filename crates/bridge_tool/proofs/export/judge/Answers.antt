@@ -1,14 +1,11 @@
-use Rattle.std.proofs.Common.{List, ℕ}
-use Rattle.nl_segments.specs.Reader.{IsFed, IsNl, value_of}
-use Rattle.bridge_tool.specs.Export.{IsExportMeant}
-use Rattle.bridge_tool.proofs.Exporting.{counts_of_read}
-use Rattle.bridge_tool.proofs.Working.{on_ok}
+use Rattle.nl_segments.specs.Reader.{value_of}
+use Rattle.bridge_tool.proofs.Exporting.{exported_so}
+use Rattle.bridge_tool.proofs.Meaning.{export_meant}
 use Rattle.bridge_tool.proofs.export.judge.Goals as goal
 
-pub returns-in-Ok-clause-means : goal.returns-in-Ok-clause-means
-returns-in-Ok-clause-means g c =
-    let fed : ((text : List ℕ) → IsNl text (value_of c.in-Ok.read) → IsExportMeant text c.args.objective) → (text : List ℕ) → IsFed c.args.reader text → IsExportMeant text c.args.objective = λ h text is. h text (c.in-Ok.ensures.reads text is) in
-    on_ok _ _ _ fed c.export_read.ensures.means
+pub returns-clause-comes : goal.returns-clause-comes
+returns-clause-comes g c =
+    exported_so (value_of c.args.read) c.args.objective c.in_ok-linear.linear c.in_ok-scaled.scaled c.in_ok-out.out.items c.in_ok-linear.ensures.folds c.in_ok-scaled.ensures c.in_ok-out.ensures
 
-pub returns-in-Ok-clause-counts : goal.returns-in-Ok-clause-counts
-returns-in-Ok-clause-counts g c = λ text fed. counts_of_read text c.args.objective (value_of c.in-Ok.read) _ _ (c.in-Ok.ensures.reads text fed) c.export_read.ensures.below c.export_read.ensures.none
+pub returns-clause-means : goal.returns-clause-means
+returns-clause-means g c = export_meant (value_of c.args.read) c.args.objective c.in_ok-linear.ensures.file

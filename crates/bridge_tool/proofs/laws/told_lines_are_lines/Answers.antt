@@ -1,8 +1,5 @@
-use Rattle.bridge_tool.proofs.FaultLines.{answer_told, certificate_told, export_told, fault_lines, fixed_told, fold_told, mps_told, names_told, proof_told, sol_told, text_told}
+use Rattle.bridge_tool.proofs.FaultLines.{answer_told, certificate_told, export_told, fault_lines, fixed_told, mps_told, names_told, proof_told, sol_told, text_told}
 use Rattle.bridge_tool.proofs.laws.told_lines_are_lines.Goals as goal
-
-pub returns-clause-export : goal.returns-clause-export
-returns-clause-export c = export_told
 
 pub returns-clause-nl : goal.returns-clause-nl
 returns-clause-nl c = text_told
@@ -28,8 +25,8 @@ returns-clause-mps c = mps_told
 pub returns-clause-fixed : goal.returns-clause-fixed
 returns-clause-fixed c = fixed_told
 
-pub returns-clause-fold : goal.returns-clause-fold
-returns-clause-fold c = fold_told
+pub returns-clause-stages : goal.returns-clause-stages
+returns-clause-stages c = export_told
 
 pub returns-clause-places : goal.returns-clause-places
 returns-clause-places c = fault_lines

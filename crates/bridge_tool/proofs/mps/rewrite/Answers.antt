@@ -1,7 +1,13 @@
-use Rattle.bridge_tool.proofs.MpsRewriting.{mps_decided}
-use Rattle.bridge_tool.proofs.Working.{file_worked}
+use Rattle.bridge_tool.specs.Mps.{IsMpsMeant}
+use Rattle.bridge_tool.specs.SeveralFiles.{itself}
+use Rattle.bridge_tool.proofs.MpsRewriting.{mps_last}
+use Rattle.bridge_tool.proofs.SeveralFiles.{meant_anyway, only_ended, only_stopped}
 use Rattle.bridge_tool.proofs.mps.rewrite.Goals as goal
 
-pub returns-in-Ok-clause-worked : goal.returns-in-Ok-clause-worked
-returns-in-Ok-clause-worked g c =
-    file_worked _ _ mps_decided _ _ _ _ _ _ _ _ _ c.in-Ok.ensures.text c.in-Ok.ensures.cause.ok c.in-Ok.ensures.rest c.judge-judged.ensures.judges c.judge-judged.ensures.means c.end.ensures
+pub returns-in-Err-clause-worked : goal.returns-in-Err-clause-worked
+returns-in-Err-clause-worked g c = only_stopped mps_last IsMpsMeant c.args.file.now itself _ _ c.in-Err.ended c.in-Err.ensures.reads
+
+pub returns-clause-worked : goal.returns-clause-worked
+returns-clause-worked g c =
+    only_ended mps_last IsMpsMeant c.args.file.now itself _ _ c.in-Ok.mps c.in-Ok.ensures.reads _ _ _ c.judge-judged.ensures.comes
+    (meant_anyway _ _ c.judge-judged.ensures.means) c.end.ensures

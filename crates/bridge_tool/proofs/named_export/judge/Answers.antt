@@ -1,17 +1,15 @@
-use Rattle.std.proofs.Common.{◌+◌, ◌≤◌, sym, subst}
-use Rattle.file_meaning.specs.FoldFaults.{has_objective}
-use Rattle.linear_fold.specs.FoldedFaults.{step_bound}
+use Rattle.std.proofs.Common.{sym, subst}
 use Rattle.nl_segments.specs.Reader.{value_of}
 use Rattle.scaling.specs.Exported.{exported_as}
-use Rattle.bridge_tool.specs.NamedExport.{AreNamedMeant, IsNamedExport, Named, most_named_steps}
-use Rattle.bridge_tool.proofs.NamedExporting.{exports_so, written_so}
+use Rattle.bridge_tool.specs.NamedExport.{AreNamedMeant, IsNamedExport, Named}
+use Rattle.bridge_tool.proofs.NamedExporting.{written_so}
 use Rattle.bridge_tool.proofs.NamedProgram.{export_named, named_meant}
-use Rattle.bridge_tool.proofs.SeveralFiles.{steps_so}
+use Rattle.bridge_tool.proofs.Staging.{exports_so}
 use Rattle.bridge_tool.proofs.named_export.judge.Goals as goal
 
 pub write_named-requires : goal.write_named-requires
 write_named-requires g c =
-    let exports = exports_so (value_of c.args.read) c.args.objective c.in_ok-linear.linear c.in_ok-scaled.scaled c.in_ok-linear.ensures.folds c.in_ok-scaled.ensures in
+    let exports = exports_so (value_of c.args.read) c.args.objective c.in_ok-linear.linear c.in_ok-linear.ensures.folds c.in_ok-scaled.scaled c.in_ok-scaled.ensures in
     export_named c.args.read.file c.args.objective (exported_as c.in_ok-scaled.scaled) _ _ c.in_ok-linear.ensures.file exports c.requires.rows c.requires.columns
 
 pub returns-clause-comes : goal.returns-clause-comes
@@ -23,15 +21,5 @@ returns-clause-comes g c = λ n is.
 pub returns-clause-means : goal.returns-clause-means
 returns-clause-means g c = λ n is.
     let own : Named = record { nl = value_of c.args.read; objective = c.args.objective; rows = c.args.rows.now; columns = c.args.columns.now } in
-    let exports = exports_so (value_of c.args.read) c.args.objective c.in_ok-linear.linear c.in_ok-scaled.scaled c.in_ok-linear.ensures.folds c.in_ok-scaled.ensures in
+    let exports = exports_so (value_of c.args.read) c.args.objective c.in_ok-linear.linear c.in_ok-linear.ensures.folds c.in_ok-scaled.scaled c.in_ok-scaled.ensures in
     subst AreNamedMeant (sym is) (named_meant own (exported_as c.in_ok-scaled.scaled) c.in_ok-out.out.items c.in_ok-linear.ensures.file exports c.in_ok-out.ensures)
-
-pub returns-in_err-out-clause-counts : goal.returns-in_err-out-clause-counts
-returns-in_err-out-clause-counts g c = λ n is.
-    let own : Named = record { nl = value_of c.args.read; objective = c.args.objective; rows = c.args.rows.now; columns = c.args.columns.now } in
-    subst (λ (x : Named). c.fold_read.new.steps ≤ c.args.steps.now + most_named_steps x) (sym is) (steps_so (has_objective own.nl.file own.objective) c.args.steps.now c.fold_read.new.steps (step_bound own.nl.file) c.fold_read.ensures.below c.fold_read.ensures.none)
-
-pub returns-clause-counts : goal.returns-clause-counts
-returns-clause-counts g c = λ n is.
-    let own : Named = record { nl = value_of c.args.read; objective = c.args.objective; rows = c.args.rows.now; columns = c.args.columns.now } in
-    subst (λ (x : Named). c.fold_read.new.steps ≤ c.args.steps.now + most_named_steps x) (sym is) (steps_so (has_objective own.nl.file own.objective) c.args.steps.now c.fold_read.new.steps (step_bound own.nl.file) c.fold_read.ensures.below c.fold_read.ensures.none)

@@ -1,11 +1,14 @@
-use Rattle.std.proofs.Common.{List, ℕ}
-use Rattle.nl_segments.specs.Reader.{IsFed}
-use Rattle.bridge_tool.specs.Nl.{IsNlMeant}
-use Rattle.bridge_tool.proofs.NlRewriting.{nl_decided, nl_meant}
-use Rattle.bridge_tool.proofs.Working.{file_worked, on_any}
+use Rattle.nl_round_trip.specs.Writable.{IsText}
+use Rattle.nl_segments.specs.Reader.{value_of}
+use Rattle.nl_writer.specs.Written.{nl_text}
+use Rattle.bridge_tool.proofs.NlRewriting.{nl_last, nl_meant}
+use Rattle.bridge_tool.proofs.SeveralFiles.{meant_anyway, only_ended, only_stopped}
 use Rattle.bridge_tool.proofs.nl.rewrite.Goals as goal
 
-pub returns-in-Ok-clause-worked : goal.returns-in-Ok-clause-worked
-returns-in-Ok-clause-worked g c =
-    let any : (text : List ℕ) → IsFed c.in-Ok.reader text → IsNlMeant text = λ text fed. nl_meant text in
-    file_worked _ _ nl_decided _ _ _ _ _ _ _ _ _ c.in-Ok.ensures.text c.in-Ok.ensures.cause.ok c.in-Ok.ensures.rest c.judge-judged.ensures (on_any _ _ any) c.end.ensures
+pub returns-in-Err-clause-worked : goal.returns-in-Err-clause-worked
+returns-in-Err-clause-worked g c = only_stopped nl_last (λ nl. IsText nl.file (nl_text nl.file)) c.args.file.now value_of _ _ c.in-Err.ended c.in-Err.ensures.reads
+
+pub returns-clause-worked : goal.returns-clause-worked
+returns-clause-worked g c =
+    only_ended nl_last (λ nl. IsText nl.file (nl_text nl.file)) c.args.file.now value_of _ _ c.in-Ok.read c.in-Ok.ensures.reads _ _ _ c.judge-judged.ensures
+    (meant_anyway _ _ (nl_meant c.in-Ok.ensures.reads.judged.bytes (value_of c.in-Ok.read) c.in-Ok.ensures.reads.judged.says)) c.end.ensures

@@ -1,4 +1,4 @@
-use Rattle.nl_segments.specs.Reader.{IsFed, IsNl, value_of}
+use Rattle.nl_segments.specs.Reader.{IsNl, value_of}
 use Rattle.bridge_tool.specs.Refusal.{HasTextRefusal}
 use Rattle.bridge_tool.proofs.SeveralFiles.{file_judged, file_missed}
 use Rattle.bridge_tool.proofs.nl_input.open_nl.Goals as goal

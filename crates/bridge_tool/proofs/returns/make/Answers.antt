@@ -1,20 +1,8 @@
 use Rattle.std.proofs.Common.{◌≡◌}
 use Rattle.nl_segments.specs.Reader.{value_of}
 use Rattle.texts.specs.declared.stop.Stop.TheVariants.{Fault}
-use Rattle.bridge_tool.proofs.Returning.{most_so, wide_so}
+use Rattle.bridge_tool.proofs.Returning.{wide_so}
 use Rattle.bridge_tool.proofs.returns.make.Goals as goal
-
-pub returns-in-Ok-clause-counts : goal.returns-in-Ok-clause-counts
-returns-in-Ok-clause-counts g c =
-    most_so (value_of c.args.read.now) c.args.given.now c.objective-objective.result c.objective-objective.ensures _ _ c.in_ok-linear.ensures.below c.in_ok-linear.ensures.none
-
-pub returns-in-Err-Memory-clause-counts : goal.returns-in-Err-Memory-clause-counts
-returns-in-Err-Memory-clause-counts g c =
-    most_so (value_of c.args.read.now) c.args.given.now c.objective-objective.result c.objective-objective.ensures _ _ c.in_ok-linear.ensures.below c.in_ok-linear.ensures.none
-
-pub returns-in_err-line-in-Err-Fault-clause-counts : goal.returns-in_err-line-in-Err-Fault-clause-counts
-returns-in_err-line-in-Err-Fault-clause-counts g c =
-    most_so (value_of c.args.read.now) c.args.given.now c.objective-objective.result c.objective-objective.ensures _ _ c.in_ok-linear.ensures.below c.in_ok-linear.ensures.none
 
 pub returns-clause-makes : goal.returns-clause-makes
 returns-clause-makes g c =
@@ -23,7 +11,3 @@ returns-clause-makes g c =
     let is : c.in-Err-Fault.field-0 ≡ Fault c.in-Err-Fault.fault = cc in
     wide_so (value_of c.args.read.now) c.args.given.now c.objective-objective.result c.objective-objective.ensures c.in_ok-linear.linear c.in_ok-scaled.scaled c.in-Err-Fault.field-0 c.in-Err-Fault.fault _
     c.in_ok-linear.ensures.folds c.in_ok-scaled.ensures is c.in-Err-Fault.ensures.fault c.in_ok-line-in-Err-Fault.ensures
-
-pub returns-clause-counts : goal.returns-clause-counts
-returns-clause-counts g c =
-    most_so (value_of c.args.read.now) c.args.given.now c.objective-objective.result c.objective-objective.ensures _ _ c.in_ok-linear.ensures.below c.in_ok-linear.ensures.none

@@ -1,11 +1,13 @@
-use Rattle.std.proofs.Common.{List, ℕ}
-use Rattle.sol_files.specs.Reader.{IsFed}
+use Rattle.bridge_tool.specs.SeveralFiles.{itself}
 use Rattle.bridge_tool.specs.Sol.{IsSolMeant}
-use Rattle.bridge_tool.proofs.SolRewriting.{sol_decided, sol_meant}
-use Rattle.bridge_tool.proofs.Working.{file_worked, on_any}
+use Rattle.bridge_tool.proofs.SolRewriting.{sol_last, sol_meant}
+use Rattle.bridge_tool.proofs.SeveralFiles.{meant_anyway, only_ended, only_stopped}
 use Rattle.bridge_tool.proofs.sol.rewrite.Goals as goal
 
-pub returns-in-Ok-clause-worked : goal.returns-in-Ok-clause-worked
-returns-in-Ok-clause-worked g c =
-    let any : (text : List ℕ) → IsFed c.in-Ok.reader text → IsSolMeant text = λ text fed. sol_meant text in
-    file_worked _ _ sol_decided _ _ _ _ _ _ _ _ _ c.in-Ok.ensures.text c.in-Ok.ensures.cause.ok c.in-Ok.ensures.rest c.judge-judged.ensures (on_any _ _ any) c.end.ensures
+pub returns-in-Err-clause-worked : goal.returns-in-Err-clause-worked
+returns-in-Err-clause-worked g c = only_stopped sol_last IsSolMeant c.args.file.now itself _ _ c.in-Err.ended c.in-Err.ensures.reads
+
+pub returns-clause-worked : goal.returns-clause-worked
+returns-clause-worked g c =
+    only_ended sol_last IsSolMeant c.args.file.now itself _ _ c.in-Ok.sol c.in-Ok.ensures.reads _ _ _ c.judge-judged.ensures
+    (meant_anyway _ _ (sol_meant c.in-Ok.ensures.reads.judged.bytes c.in-Ok.sol c.in-Ok.ensures.reads.judged.says)) c.end.ensures

@@ -1,6 +1,3 @@
-use Rattle.std.proofs.Common.{map, string_bytes, ◌≡◌, sym, subst, Option, Some}
-use Rattle.desk.specs.Desk.{Texts}
-use Rattle.bridge_tool.specs.Command.{Command}
 use Rattle.bridge_tool.proofs.Headline.{at_command}
 use Rattle.bridge_tool.proofs.Making.{leaves_told}
 use Rattle.bridge_tool.proofs.Working.{answered}

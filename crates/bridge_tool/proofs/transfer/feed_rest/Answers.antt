@@ -1,4 +1,4 @@
-use Rattle.std.proofs.Common.{rules, ◌∙◌, ◌≤◌, ◌<◌, length, take, arith}
+use Rattle.std.proofs.Common.{rules, ◌∙◌, ◌≤◌, ◌<◌, length, take}
 use Rattle.std.proofs.lemmas.List.{length-take-le}
 use Rattle.bridge_tool.proofs.Known.{fed_nothing, fed_further, fed_to_limit, fed_to_end, OnlyInput-same, OnlyInput-then}
 use Rattle.bridge_tool.proofs.transfer.feed_rest.Goals as goal

@@ -1,7 +1,7 @@
 use Rattle.std.proofs.Common.{◌∙◌, ap}
 use Rattle.nl_segments.specs.Reader.{value_of}
 use Rattle.certificates.specs.Certificates.{objective_of}
-use Rattle.bridge_tool.proofs.Verifying.{bound_fits, certificate_so, done_so, folded_so, most_so, verified_so}
+use Rattle.bridge_tool.proofs.Verifying.{bound_fits, certificate_so, done_so, folded_so, verified_so}
 use Rattle.bridge_tool.proofs.verify.judge.Goals as goal
 
 pub outcome_on-outcome-requires : goal.outcome_on-outcome-requires
@@ -9,16 +9,6 @@ outcome_on-outcome-requires g c =
     let same = c.objective_of-objective.ensures ∙ ap objective_of c.claim.ensures in
     let folds = folded_so (value_of c.args.read.now) c.args.certificate.now c.objective_of-objective.result c.in_ok-linear.linear same c.in_ok-linear.ensures.folds in
     certificate_so (value_of c.args.read.now) c.args.certificate.now c.requires.certificate c.in_ok-linear.linear folds
-
-pub returns-in_err-outcome-clause-counts : goal.returns-in_err-outcome-clause-counts
-returns-in_err-outcome-clause-counts g c =
-    let same = c.objective_of-objective.ensures ∙ ap objective_of c.claim.ensures in
-    most_so (value_of c.args.read.now) c.args.certificate.now c.objective_of-objective.result _ _ same c.in_ok-linear.ensures.below c.in_ok-linear.ensures.none
-
-pub returns-in_err-told-clause-counts : goal.returns-in_err-told-clause-counts
-returns-in_err-told-clause-counts g c =
-    let same = c.objective_of-objective.ensures ∙ ap objective_of c.claim.ensures in
-    most_so (value_of c.args.read.now) c.args.certificate.now c.objective_of-objective.result _ _ same c.in_ok-linear.ensures.below c.in_ok-linear.ensures.none
 
 pub returns-clause-comes : goal.returns-clause-comes
 returns-clause-comes g c =
@@ -31,11 +21,6 @@ returns-clause-means g c = λ holding.
     let same = c.objective_of-objective.ensures ∙ ap objective_of c.claim.ensures in
     let folds = folded_so (value_of c.args.read.now) c.args.certificate.now c.objective_of-objective.result c.in_ok-linear.linear same c.in_ok-linear.ensures.folds in
     verified_so (value_of c.args.read.now) c.args.certificate.now c.requires.certificate c.in_ok-linear.linear _ _ _ c.in_ok-linear.ensures.file folds c.in_ok-outcome.ensures c.in_ok-told.ensures.holds c.in_ok-told.ensures.line holding
-
-pub returns-clause-counts : goal.returns-clause-counts
-returns-clause-counts g c =
-    let same = c.objective_of-objective.ensures ∙ ap objective_of c.claim.ensures in
-    most_so (value_of c.args.read.now) c.args.certificate.now c.objective_of-objective.result _ _ same c.in_ok-linear.ensures.below c.in_ok-linear.ensures.none
 
 pub told_outcome-requires : goal.told_outcome-requires
 told_outcome-requires g c = bound_fits c.args.read.now.file c.args.certificate.now c.requires.certificate

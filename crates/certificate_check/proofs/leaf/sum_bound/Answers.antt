@@ -1,7 +1,7 @@
 use Rattle.fractions.specs.Rational.{zero_ℚ}
 use Rattle.duality.specs.Parts.{maximising}
 use Rattle.exact_numbers.specs.Values.{frac_value}
-use Rattle.linear_fold.specs.Coefs.{coef_in}
+use Rattle.linear_program.specs.Coefs.{coef_in}
 use Rattle.certificate_check.proofs.LeafLemmas.{rows_maximised, sum_goal}
 use Rattle.certificate_check.proofs.SumLemmas.{if_put}
 use Rattle.certificate_check.proofs.leaf.sum_bound.Goals as goal

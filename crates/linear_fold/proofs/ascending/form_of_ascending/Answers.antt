@@ -2,12 +2,12 @@ use Rattle.std.proofs.Common.{◌≡◌, ◌∙◌, ◌+◌, ◌++◌, ◌∷◌
 use Rattle.exact_numbers.specs.Values.{dec_value}
 use Rattle.fractions.specs.Fits.{fits}
 use Rattle.file_meaning.specs.Expressions.{linear_term, linear_terms}
-use Rattle.linear_fold.specs.Coefs.{Term}
-use Rattle.linear_fold.specs.Decimals.{frac_of, fraction_terms}
-use Rattle.linear_fold.specs.Forms.{form_line}
-use Rattle.linear_fold.proofs.DecimalLemmas.{AllFit, are_decimals, fit_more, frac_of-value, one_fraction_more}
+use Rattle.linear_program.specs.Coefs.{Term}
+use Rattle.linear_program.specs.Decimals.{frac_of, fraction_terms}
+use Rattle.linear_program.specs.Forms.{form_line}
+use Rattle.linear_program.proofs.DecimalLemmas.{AllFit, fit_more, frac_of-value, one_fraction_more}
+use Rattle.linear_fold.proofs.Listing.{are_decimals, IsListed, one_listed}
 use Rattle.linear_fold.proofs.Expressions.{no_terms_left, term_at}
-use Rattle.linear_fold.proofs.Listing.{IsListed, one_listed}
 use Rattle.linear_fold.proofs.ascending.form_of_ascending.Goals as goal
 
 pub loop-index-preserved : goal.loop-index-preserved

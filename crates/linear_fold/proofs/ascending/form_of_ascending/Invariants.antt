@@ -1,8 +1,8 @@
 use Rattle.std.proofs.Common.{◌≡◌, ◌+◌, drop, take}
 use Rattle.file_meaning.specs.Expressions.{linear_terms}
-use Rattle.linear_fold.specs.Decimals.{fraction_terms}
-use Rattle.linear_fold.specs.Forms.{form_line}
-use Rattle.linear_fold.proofs.DecimalLemmas.{AllFit}
+use Rattle.linear_program.specs.Decimals.{fraction_terms}
+use Rattle.linear_program.specs.Forms.{form_line}
+use Rattle.linear_program.proofs.DecimalLemmas.{AllFit}
 use Rattle.linear_fold.proofs.Listing.{IsListed}
 use Rattle.linear_fold.proofs.ascending.form_of_ascending.Given as goal
 

@@ -1,6 +1,6 @@
 use Rattle.std.proofs.Common.{◌∙◌, ap, Some, refl, sym, [], ◌∷◌}
 use Rattle.exact_numbers.specs.Values.{frac_value}
-use Rattle.nl_meaning.specs.Faults.{constant_line}
+use Rattle.linear_programs.specs.Lines.{constant_line}
 use Rattle.code_tables.specs.declared.class.OpClass.TheVariants.{Floor}
 use Rattle.fractions.specs.Functions.{floor_of}
 use Rattle.linear_fold.specs.Operates.{part_line}

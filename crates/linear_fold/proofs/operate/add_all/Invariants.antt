@@ -1,5 +1,5 @@
 use Rattle.std.proofs.Common.{◌≡◌, ◌≤◌, ◌+◌, ◌-◌, ◌*◌, length, reverse, take}
-use Rattle.linear_fold.specs.Forms.{place_count, sum_line}
+use Rattle.linear_program.specs.Forms.{place_count, sum_line}
 use Rattle.linear_fold.proofs.Operators.{Running}
 use Rattle.linear_fold.proofs.operate.add_all.Given as goal
 

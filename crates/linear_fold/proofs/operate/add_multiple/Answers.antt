@@ -1,6 +1,6 @@
 use Rattle.std.proofs.Common.{arith}
 use Rattle.exact_numbers.specs.Values.{frac_value}
-use Rattle.linear_fold.specs.Forms.{form_line, place_count, sum_line}
+use Rattle.linear_program.specs.Forms.{form_line, place_count, sum_line}
 use Rattle.linear_fold.proofs.Operators.{few_of_form, multiplied}
 use Rattle.linear_fold.proofs.operate.add_multiple.Goals as goal
 

@@ -1,6 +1,6 @@
 use Rattle.std.proofs.Common.{Ok}
 use Rattle.exact_numbers.specs.Values.{frac_value}
-use Rattle.linear_fold.specs.Forms.{sum_line}
+use Rattle.linear_program.specs.Forms.{sum_line}
 use Rattle.linear_fold.proofs.PartLemmas.{adds_multiple, stops_multiple, total_fits, wide_multiple}
 use Rattle.linear_fold.proofs.operate.add_variable.Goals as goal
 

@@ -1,7 +1,7 @@
 use Rattle.std.proofs.Common.{◌≡◌, ◌≤◌, ◌∙◌, length, refl, reverse, sym, subst}
 use Rattle.std.proofs.lemmas.List.{length-reverse}
 use Rattle.nl_meaning.specs.Trees.{HasCount}
-use Rattle.linear_fold.specs.Forms.{place_count}
+use Rattle.linear_program.specs.Forms.{place_count}
 use Rattle.linear_fold.proofs.Operators.{as_operands, if_ok, one_within, sum_comes, sum_of_all_comes, two_within}
 use Rattle.linear_fold.proofs.PartLemmas.{unbroken_of, sound_unbroken}
 use Rattle.linear_fold.proofs.operate.operate.Goals as goal

@@ -1,5 +1,5 @@
 use Rattle.std.proofs.Common.{arith}
-use Rattle.linear_fold.specs.Forms.{place_count}
+use Rattle.linear_program.specs.Forms.{place_count}
 use Rattle.linear_fold.proofs.Operators.{few_of_form}
 use Rattle.linear_fold.proofs.operate.scaled_form.Goals as goal
 

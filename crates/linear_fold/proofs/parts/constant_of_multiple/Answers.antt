@@ -1,6 +1,6 @@
 use Rattle.std.proofs.Common.{sym}
 use Rattle.exact_numbers.specs.Values.{frac_value}
-use Rattle.linear_fold.proofs.FracLemmas.{nonzero_test, zero_test}
+use Rattle.linear_program.proofs.FracLemmas.{nonzero_test, zero_test}
 use Rattle.linear_fold.proofs.parts.constant_of_multiple.Goals as goal
 
 pub returns-then-is_zero-clause-test : goal.returns-then-is_zero-clause-test

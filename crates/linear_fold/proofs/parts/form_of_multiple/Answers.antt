@@ -1,8 +1,8 @@
 use Rattle.std.proofs.Common.{◌∙◌, ap, refl}
 use Rattle.exact_numbers.specs.Values.{frac_value}
-use Rattle.nl_meaning.specs.Lines.{Line}
-use Rattle.linear_fold.specs.Coefs.{coef_in}
-use Rattle.linear_fold.specs.Forms.{form_line}
+use Rattle.linear_programs.specs.Lines.{Line}
+use Rattle.linear_program.specs.Coefs.{coef_in}
+use Rattle.linear_program.specs.Forms.{form_line}
 use Rattle.linear_fold.proofs.PartLemmas.{multiple_of_zero, multiple_term}
 use Rattle.linear_fold.proofs.parts.form_of_multiple.Goals as goal
 

@@ -1,6 +1,6 @@
 use Rattle.std.proofs.Common.{◌≡◌, ◌-◌, ◌++◌}
 use Rattle.nl_model.specs.Kinds.{kind_of}
-use Rattle.file_meaning.specs.LinearFile.{elements_from}
+use Rattle.linear_programs.specs.Elements.{elements_from}
 use Rattle.linear_fold.proofs.program.all_kinds.Given as goal
 
 abbrev pub invariant-loop-var : goal.invariant-loop-var

@@ -1,5 +1,5 @@
 use Rattle.std.proofs.Common.{◌∙◌, ap}
-use Rattle.linear_fold.specs.Programs.{LinearValue, linear_value}
+use Rattle.linear_program.specs.Programs.{LinearValue, linear_value}
 use Rattle.linear_fold.proofs.ProgramLemmas.{is_linear, is_program}
 use Rattle.linear_fold.proofs.program.assemble.Goals as goal
 

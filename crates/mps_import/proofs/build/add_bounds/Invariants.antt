@@ -1,5 +1,5 @@
 use Rattle.std.proofs.Common.{◌≡◌, ◌++◌, map, take, get_or}
-use Rattle.file_meaning.specs.Meaning.{no_sides}
+use Rattle.linear_program.specs.Intervals.{no_sides}
 use Rattle.mps_import.proofs.build.add_bounds.Given as goal
 
 abbrev pub invariant-variables : goal.invariant-variables

@@ -1,7 +1,6 @@
 use Rattle.std.proofs.Common.{ℕ, ◌+◌, ◌<◌, ◌≤◌, ◌∙◌, sym, ap, ap₂, subst, List, ◌++◌, map, length, get_or, All}
-use Rattle.file_meaning.specs.Meaning.{no_sides}
-use Rattle.nl_model.specs.Rules.{IsOrdered}
-use Rattle.nl_model.specs.declared.interval.Interval.{Interval as Sides}
+use Rattle.linear_program.specs.Intervals.{no_sides, IsOrdered}
+use Rattle.linear_program.specs.declared.interval.Interval.{Interval as Sides}
 use Rattle.mps_import.proofs.FileLemmas.{room_for_sides, sides_ordered, room_for_bounds, bounds_ordered, order_within, c_counts, c_terms, c_slopes, all_given, all_sides, all_bounds, all_terms, file_is}
 use Rattle.mps_import.proofs.PartLemmas.{clean_large}
 use Rattle.mps_import.proofs.build.file_of.Goals as goal

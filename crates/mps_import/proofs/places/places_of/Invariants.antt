@@ -1,5 +1,5 @@
 use Rattle.std.proofs.Common.{◌≡◌, get_or}
-use Rattle.nl_model.specs.declared.kind.Kind.TheVariants.{Continuous}
+use Rattle.linear_program.specs.declared.kind.Kind.TheVariants.{Continuous}
 use Rattle.mps_import.specs.Columns.{is_kind}
 use Rattle.mps_import.specs.Places.{places}
 use Rattle.mps_import.proofs.places.places_of.Given as goal

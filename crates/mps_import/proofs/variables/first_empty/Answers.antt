@@ -1,8 +1,8 @@
 use Rattle.std.proofs.Common.{◌∙◌, sym, ap, arith, length, get_or}
 use Rattle.std.specs.Ordering.{is_gt}
 use Rattle.std.proofs.lemmas.List.{get_or_default}
-use Rattle.file_meaning.specs.Meaning.{interval_of, no_sides}
-use Rattle.nl_model.specs.declared.interval.Interval.{Interval as Sides}
+use Rattle.linear_program.specs.Intervals.{interval_of, no_sides}
+use Rattle.linear_program.specs.declared.interval.Interval.{Interval as Sides}
 use Rattle.mps_import.specs.Import.{both_sides}
 use Rattle.mps_import.proofs.FirstLemmas.{first_here, none_more}
 use Rattle.mps_import.proofs.variables.first_empty.Goals as goal

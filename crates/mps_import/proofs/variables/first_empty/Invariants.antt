@@ -1,6 +1,6 @@
 use Rattle.std.proofs.Common.{◌≡◌, [], get_or}
 use Rattle.std.specs.Ordering.{is_gt}
-use Rattle.file_meaning.specs.Meaning.{interval_of, no_sides}
+use Rattle.linear_program.specs.Intervals.{interval_of, no_sides}
 use Rattle.mps_import.specs.Import.{both_sides}
 use Rattle.mps_import.specs.Places.{places}
 use Rattle.mps_import.proofs.variables.first_empty.Given as goal

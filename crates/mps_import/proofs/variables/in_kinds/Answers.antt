@@ -1,5 +1,5 @@
 use Rattle.std.proofs.Common.{ap, arith, length}
-use Rattle.nl_model.specs.declared.kind.Kind.TheVariants.{Binary, Integer}
+use Rattle.linear_program.specs.declared.kind.Kind.TheVariants.{Binary, Integer}
 use Rattle.mps_import.proofs.PartLemmas.{kind_few}
 use Rattle.mps_import.proofs.variables.in_kinds.Goals as goal
 

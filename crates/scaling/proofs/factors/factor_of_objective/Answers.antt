@@ -1,7 +1,7 @@
 use Rattle.std.proofs.Common.{rules, ◌≡◌, ◌≤◌, ◌^◌, ◌∷◌, [], ◌∙◌, ap, subst, pos, to_z, of_z}
 use Rattle.std.specs.Int.{w128}
 use Rattle.exact_numbers.specs.Values.{frac_value}
-use Rattle.linear_fold.specs.Forms.{form_line, form_terms}
+use Rattle.linear_program.specs.Forms.{form_line, form_terms}
 use Rattle.scaling.specs.Fitting.{coefficients_in}
 use Rattle.scaling.proofs.FactorLemmas.{first_number, fewer_wide, factor_positive}
 use Rattle.scaling.proofs.factors.factor_of_objective.Goals as goal

@@ -1,6 +1,6 @@
 use Rattle.std.proofs.Common.{rules, ◌≡◌, ◌++◌, [], ◌∙◌, to_z, of_z}
 use Rattle.std.specs.Int.{w128}
-use Rattle.linear_fold.specs.Forms.{form_terms}
+use Rattle.linear_program.specs.Forms.{form_terms}
 use Rattle.scaling.specs.Fitting.{coefficients_in, frac_side, listed}
 use Rattle.scaling.proofs.FactorLemmas.{no_factor, fewer_wide, factor_positive}
 use Rattle.scaling.proofs.factors.factor_of_row.Goals as goal

@@ -1,6 +1,6 @@
 use Rattle.std.proofs.Common.{rules, ◌≡◌, ◌∙◌, sym, ap, unsigned_abs, to_z, of_z}
 use Rattle.std.specs.Int.{w128}
-use Rattle.linear_fold.specs.Forms.{form_terms, terms_left}
+use Rattle.linear_program.specs.Forms.{form_terms, terms_left}
 use Rattle.scaling.proofs.FactorLemmas.{running, running_end, running_wide, next_above, size_above, back_to}
 use Rattle.scaling.proofs.factors.with_fractions.Goals as goal
 

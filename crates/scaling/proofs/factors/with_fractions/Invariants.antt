@@ -1,5 +1,5 @@
 use Rattle.std.proofs.Common.{◌≡◌, pos, unsigned_abs, ◌<ℤ◌}
-use Rattle.linear_fold.specs.Forms.{form_terms, terms_left}
+use Rattle.linear_program.specs.Forms.{form_terms, terms_left}
 use Rattle.scaling.proofs.FactorLemmas.{running}
 use Rattle.scaling.proofs.factors.with_fractions.Given as goal
 

@@ -1,6 +1,6 @@
 use Rattle.std.proofs.Common.{rules, ◌≡◌, ◌∙◌, ap, pos, to_z, of_z}
 use Rattle.std.specs.Int.{w128}
-use Rattle.linear_fold.specs.Forms.{form_terms}
+use Rattle.linear_program.specs.Forms.{form_terms}
 use Rattle.scaling.proofs.KeptDecimals.{factor_same}
 use Rattle.scaling.proofs.factors.with_terms.Goals as goal
 

@@ -1,8 +1,8 @@
 use Rattle.std.proofs.Common.{◌++◌, ◌∙◌, sym, ap, subst}
 use Rattle.texts.specs.Stopped.{IfFault}
-use Rattle.linear_fold.specs.Coefs.{AreAscending}
-use Rattle.linear_fold.specs.Forms.{form_terms}
-use Rattle.linear_fold.specs.Programs.{linear_value}
+use Rattle.linear_program.specs.Coefs.{AreAscending}
+use Rattle.linear_program.specs.Forms.{form_terms}
+use Rattle.linear_program.specs.Programs.{linear_value}
 use Rattle.scaling.specs.Factored.{IsTiedOrPlain, IsTooWide}
 use Rattle.scaling.specs.Scaled.{IsScaled}
 use Rattle.scaling.specs.Scaling.{IsScaledOf}

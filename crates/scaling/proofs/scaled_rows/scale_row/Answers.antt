@@ -2,7 +2,7 @@ use Rattle.std.proofs.Common.{rules, ◌≡◌, ◌++◌, ◌∙◌, sym, ap, su
 use Rattle.std.specs.Int.{w128}
 use Rattle.fractions.specs.Rational.{whole}
 use Rattle.exact_numbers.specs.Values.{frac_value}
-use Rattle.linear_fold.specs.Forms.{form_terms}
+use Rattle.linear_program.specs.Forms.{form_terms}
 use Rattle.scaling.specs.Factored.{IsFactored, row_for}
 use Rattle.scaling.specs.Fitting.{coefficients_in, frac_side, listed, less_side, LessFits}
 use Rattle.exported_program.specs.Export.{IfSide}

@@ -1,5 +1,5 @@
 use Rattle.std.proofs.Common.{◌≡◌, ◌<◌, ap, arith, length}
-use Rattle.linear_fold.specs.Programs.{linear_value}
+use Rattle.linear_program.specs.Programs.{linear_value}
 use Rattle.scaling.proofs.LinearLemmas.{all_rows, before_fit, one_row_more, row_fault}
 use Rattle.scaling.proofs.scaled_rows.scaled_rows.Goals as goal
 

@@ -1,5 +1,5 @@
 use Rattle.exact_numbers.specs.Values.{frac_value}
-use Rattle.linear_fold.specs.Forms.{form_terms}
+use Rattle.linear_program.specs.Forms.{form_terms}
 use Rattle.scaling.proofs.KeptDecimals.{plain_if_some}
 use Rattle.scaling.proofs.scaled_terms.decimals_at_one.Goals as goal
 

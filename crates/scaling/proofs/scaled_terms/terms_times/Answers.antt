@@ -1,5 +1,5 @@
 use Rattle.exact_numbers.specs.Values.{frac_value}
-use Rattle.linear_fold.specs.Forms.{form_terms, terms_left}
+use Rattle.linear_program.specs.Forms.{form_terms, terms_left}
 use Rattle.scaling.proofs.TermLemmas.{first_fits, others_fit, one_added, all_added}
 use Rattle.scaling.proofs.scaled_terms.terms_times.Goals as goal
 

@@ -1,6 +1,6 @@
 use Rattle.std.proofs.Common.{◌++◌, List, All}
 use Rattle.exact_numbers.specs.Values.{frac_value}
-use Rattle.linear_fold.specs.Forms.{form_terms, terms_left}
+use Rattle.linear_program.specs.Forms.{form_terms, terms_left}
 use Rattle.scaling.specs.Rows.{TermOf}
 use Rattle.scaling.specs.Fitting.{coefficients_in, NumberFits, AreTermsTimes}
 use Rattle.scaling.proofs.scaled_terms.terms_times.Given as goal

@@ -1,47 +1,9 @@
-use Rattle.std.proofs.Common.{rules, sym, ap, ◌∙◌, ◌≡◌, SFits, to_z-of_z, unsigned_abs}
-use mir.Syntax.{w128}
-use Rattle.exact_numbers.proofs.Fractions.{multiplied, frac_fits}
+use Rattle.std.proofs.Common.{sym, ap, ◌∙◌}
 use Rattle.exact_numbers.specs.Values.{frac_value}
-use Rattle.exact_numbers.proofs.Bridge.{not_fits, fitting, is_fitting, product_is}
+use Rattle.exact_numbers.proofs.Bridge.{is_fitting}
 use Rattle.fractions.specs.Rational.{◌*ℚ◌}
 use Rattle.fractions.proofs.Arithmetic.{*ℚ_one, one-*ℚ}
 use Rattle.exact_numbers.proofs.frac.Frac.mul.Goals as goal
-
-pub returns-in_default : goal.returns-in_default
-returns-in_default c = not_fits _ _ (product_is (frac_value c.args.self) (frac_value c.args.other)) (λ fits.
-    let a : c.unsigned_abs-size.result ≡ unsigned_abs c.args.self.num = search rules in
-    let b : c.unsigned_abs-other_size.result ≡ unsigned_abs c.args.other.num = search rules in
-    let w = multiplied c.args.self.num c.args.other.num _ _ c.args.self.den c.args.other.den _ _ a b c.args.self.spelled c.args.other.spelled c.gcd-first.ensures.greatest c.gcd-second.ensures.greatest in
-    c.in_default.ensures (w.only fits).0)
-
-pub returns-in_default-bounded_product : goal.returns-in_default-bounded_product
-returns-in_default-bounded_product c = not_fits _ _ (product_is (frac_value c.args.self) (frac_value c.args.other)) (λ fits.
-    let a : c.unsigned_abs-size.result ≡ unsigned_abs c.args.self.num = search rules in
-    let b : c.unsigned_abs-other_size.result ≡ unsigned_abs c.args.other.num = search rules in
-    let w = multiplied c.args.self.num c.args.other.num _ _ c.args.self.den c.args.other.den _ _ a b c.args.self.spelled c.args.other.spelled c.gcd-first.ensures.greatest c.gcd-second.ensures.greatest in
-    c.in_default-bounded_product.ensures (w.only fits).1)
-
-pub paired-requires : goal.paired-requires
-paired-requires c =
-    let a : c.unsigned_abs-size.result ≡ unsigned_abs c.args.self.num = search rules in
-    let b : c.unsigned_abs-other_size.result ≡ unsigned_abs c.args.other.num = search rules in
-    let w = multiplied c.args.self.num c.args.other.num _ _ c.args.self.den c.args.other.den _ _ a b c.args.self.spelled c.args.other.spelled c.gcd-first.ensures.greatest c.gcd-second.ensures.greatest in
-    let f : SFits w128 c.args.self.num = frac_fits _ _ c.args.self.spelled in
-    let g : SFits w128 c.args.other.num = frac_fits _ _ c.args.other.spelled in
-    let num = c.in-Some.ensures in
-    let den = c.in-Some-bounded_product.ensures in
-    simp (to_z-of_z, num.1, den.1) (w.is_frac num.0 den.0)
-
-pub returns : goal.returns
-returns c =
-    let a : c.unsigned_abs-size.result ≡ unsigned_abs c.args.self.num = search rules in
-    let b : c.unsigned_abs-other_size.result ≡ unsigned_abs c.args.other.num = search rules in
-    let w = multiplied c.args.self.num c.args.other.num _ _ c.args.self.den c.args.other.den _ _ a b c.args.self.spelled c.args.other.spelled c.gcd-first.ensures.greatest c.gcd-second.ensures.greatest in
-    let f : SFits w128 c.args.self.num = frac_fits _ _ c.args.self.spelled in
-    let g : SFits w128 c.args.other.num = frac_fits _ _ c.args.other.spelled in
-    let num = c.in-Some.ensures in
-    let den = c.in-Some-bounded_product.ensures in
-    fitting c.paired.result _ _ (product_is (frac_value c.args.self) (frac_value c.args.other)) (simp (c.paired.ensures.numerator, c.paired.ensures.denominator, to_z-of_z, num.1, den.1) w.same)
 
 pub returns-then-is_one : goal.returns-then-is_one
 returns-then-is_one c = is_fitting c.args.self _ (sym (ap (λ x. frac_value c.args.self *ℚ x) (c.is_one.ensures c.if-is_one.true) ∙ *ℚ_one (frac_value c.args.self)))

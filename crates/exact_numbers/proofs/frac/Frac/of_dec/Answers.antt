@@ -1,10 +1,26 @@
-use Rattle.std.proofs.Common.{rules, arith, ◌≡◌, ◌*◌, ◌^◌, ◌<◌, ◌∙◌, ap, to_z-of_z, unsigned_abs, one-mul, to_z, of_z}
+use Rattle.std.proofs.Common.{rules, arith, ◌≡◌, ◌*◌, ◌^◌, ◌<◌, ◌∙◌, ap, to_z-of_z, unsigned_abs, one-mul, to_z, of_z, pos, subst, sym}
 use mir.Syntax.{w16}
 use Rattle.std.specs.Int.{w128}
 use Rattle.std.proofs.lemmas.Int.{ints}
+use Rattle.exact_numbers.specs.Fraction.{IsFrac}
+use Rattle.exact_numbers.proofs.Pairs.{SameValue, pair, scaled}
+use Rattle.exact_numbers.proofs.Wholes.{whole_frac}
+use Rattle.exact_numbers.proofs.ShortSums.{whole_same}
 use Rattle.exact_numbers.proofs.OfDec.{whole_of_dec, part_of_dec, front_le}
-use Rattle.exact_numbers.proofs.Bridge.{not_fits, fitting, decimal_is}
+use Rattle.exact_numbers.proofs.Bridge.{not_fits, fitting, fitting_parts, decimal_is}
 use Rattle.exact_numbers.proofs.frac.Frac.of_dec.Goals as goal
+
+pub invariant_of-result : goal.invariant_of-result
+invariant_of-result c =
+    let m : to_z w128 (of_z w128 c.m-m.result) ≡ c.args.d.m = to_z-of_z {w = w128} (record { sfits = c.m-m.type_inv }) ∙ c.m-m.ensures in
+    record { spelled = subst (λ z. IsFrac z 1) (sym m) (whole_frac c.args.d.m c.args.d.spelled.mantissa) }
+
+pub returns-then-e-eq0 : goal.returns-then-e-eq0
+returns-then-e-eq0 c =
+    let m : to_z w128 (of_z w128 c.m-m.result) ≡ c.args.d.m = to_z-of_z {w = w128} (record { sfits = c.m-m.type_inv }) ∙ c.m-m.ensures in
+    let e : to_z w16 (of_z w16 c.e-e.result) ≡ c.args.d.e = to_z-of_z {w = w16} (record { sfits = c.e-e.type_inv }) ∙ c.e-e.ensures in
+    let none : c.args.d.e ≡ pos 0 = omega (arith, ints, e, c.if-e-eq0.true) in
+    fitting_parts _ _ _ _ (subst (λ z. IsFrac z 1) (sym m) (whole_frac c.args.d.m c.args.d.spelled.mantissa)) _ _ (decimal_is c.args.d.m c.args.d.e) (subst (λ z. SameValue (pair z 1) (scaled c.args.d.m c.args.d.e)) (sym m) (whole_same c.args.d.m c.args.d.e none))
 
 pub returns-in_default : goal.returns-in_default
 returns-in_default c = not_fits _ _ (decimal_is c.args.d.m c.args.d.e) (λ fits.

@@ -2,7 +2,7 @@ use Rattle.std.proofs.Common.{ap, sym, subst, ◌∙◌, ◌≡◌, ◌+◌, ◌
 use Rattle.std.proofs.lemmas.List.{length-take}
 use Rattle.texts.specs.LinesFields.{IsLines}
 use Rattle.texts.specs.declared.lines.Lines.TheInside.{Inside}
-use Rattle.texts.proofs.ScanLemmas.{no_end_front, no_end_none}
+use Rattle.texts.proofs.WalkSteps.{no_end_front, no_end_none}
 use Rattle.texts.proofs.lines.Lines.take_piece.Goals as goal
 use Rattle.texts.proofs.lines.Lines.take_piece.Goals.{then-self, else-self, then-ends, else-ends, else-count-input_room-via-then-count-input_room+else-front-line_room, else-count-input_room-via-else-count-input_room}
 

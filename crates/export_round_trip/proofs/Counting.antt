@@ -1,0 +1,242 @@
+-- How many entries the program of a file has: at most as many as its linear program has coefficients, with some more.
+use Rattle.std.proofs.Common.{◌≡◌, ◌∙◌, ℕ, zero, suc, ◌+◌, ◌<◌, ◌≤◌, Bool, true, false, cond, if◌then◌else◌, nat_lt, List, [], ◌∷◌, ◌++◌, length, Option, Some, None, ℤ, pos, negsuc, refl, sym, ap, ap₂, arith}
+use Rattle.std.proofs.lemmas.Bool.{ltb-false}
+use Rattle.std.proofs.lemmas.List.Sums.{sum_by-cons}
+use Rattle.fractions.specs.Rational.{ℚ, zero_ℚ, whole, ◌*ℚ◌, unless_zero}
+use Rattle.fractions.specs.Functions.{is_zero, is_pos_zero}
+use Rattle.fractions.proofs.Arithmetic.{*ℚ_zero, zero_top}
+use Rattle.fractions.proofs.Tests.{option_or-none}
+use Rattle.linear_programs.specs.Linear.{Form, Row, Variable}
+use Rattle.mps_model.specs.Mps.{Entry, Column}
+use Rattle.mps_model.specs.Valid.{entry_count}
+use Rattle.exported_program.specs.Program.{ScaledRow, nonzero, with_entry, entries_of, or_obj_zero, column_entries, columns_of, exported_rows, scaled_row, has_side}
+use Rattle.linear_programs.specs.Lines.{Line}
+use Rattle.nl_meaning.specs.Trees.{nothing_known}
+use Rattle.nl_model.specs.File.{File}
+use Rattle.file_meaning.specs.Expressions.{definitions_of}
+use Rattle.file_meaning.specs.FoldFaults.{Owner, FoldFault, Owned, coefficient_count, fold_fault, has_objective, head_fault, most_coefficients, owned_body, owned_definitions, owned_line, owned_objective, owners_fault}
+use Rattle.linear_programs.specs.Elements.{elements_from}
+use Rattle.file_meaning.specs.LinearFile.{objective_form, row_of}
+
+-- ---- sums over rows, and over columns
+
+abbrev pub sums : {A : Type 0} → (A → ℕ) → List A → ℕ
+sums f [] = 0
+sums f (x ∷ xs) = f x + sums f xs
+
+-- c j + .. + c (j + n - 1)
+abbrev pub range_sum : (ℕ → ℕ) → ℕ → ℕ → ℕ
+range_sum c j zero = 0
+range_sum c j (suc n) = c j + range_sum c (suc j) n
+
+pub sums-append : {A : Type 0} (f : A → ℕ) (xs ys : List A) → sums f (xs ++ ys) ≡ sums f xs + sums f ys
+sums-append f [] ys = omega arith
+sums-append f (x ∷ xs) ys = omega (arith, sums-append f xs ys)
+
+sums-both : {A : Type 0} (f g : A → ℕ) (xs : List A) → sums (λ x. f x + g x) xs ≡ sums f xs + sums g xs
+sums-both f g [] = refl
+sums-both f g (x ∷ xs) = omega (arith, sums-both f g xs)
+
+pub range_last : (c : ℕ → ℕ) (j n : ℕ) → range_sum c j (suc n) ≡ range_sum c j n + c (j + n)
+range_last c j zero = let here : c (j + 0) ≡ c j = ap c (omega arith) in omega (arith, here)
+range_last c j (suc n) =
+    let step : c (suc j + n) ≡ c (j + suc n) = ap c (omega arith) in
+    omega (arith, range_last c (suc j) n, step)
+
+pub range_less : (c d : ℕ → ℕ) (j n : ℕ) → ((i : ℕ) → c i ≤ d i) → range_sum c j n ≤ range_sum d j n
+range_less c d j zero h = omega arith
+range_less c d j (suc n) h = omega (arith, h j, range_less c d (suc j) n h)
+
+pub range_ones : (c : ℕ → ℕ) (j n : ℕ) → ((i : ℕ) → c i ≤ 1) → range_sum c j n ≤ n
+range_ones c j zero h = omega arith
+range_ones c j (suc n) h = omega (arith, h j, range_ones c (suc j) n h)
+
+-- ---- the entries of columns
+
+abbrev pub is_there : Option ℚ → ℕ
+is_there None = 0
+is_there (Some v) = 1
+
+pub there_or_not : (o : Option ℚ) → is_there o ≤ 1
+there_or_not None = omega arith
+there_or_not (Some v) = omega arith
+
+-- coefficient j is not 0
+abbrev pub counted : (ℕ → ℚ) → ℕ → ℕ
+counted c j = is_there (nonzero (c j))
+
+with_one : (i : ℕ) (o : Option ℚ) (es : List (Entry ℚ)) → length (with_entry i o es) ≡ is_there o + length es
+with_one i None es = omega arith
+with_one i (Some v) es = omega arith
+
+of_rows : (g : ScaledRow → Option ℚ) (i : ℕ) (rows : List ScaledRow) → length (entries_of g i rows) ≡ sums (λ r. is_there (g r)) rows
+unfolding entries_of
+of_rows g i [] = refl
+of_rows g i (r ∷ rows) = with_one i (g r) (entries_of g (suc i) rows) ∙ ap (λ (n : ℕ). is_there (g r) + n) (of_rows g (suc i) rows)
+
+or_one : (es : List (Entry ℚ)) → length (or_obj_zero es) ≤ 1 + length es
+or_one [] = omega arith
+or_one (e ∷ es) = omega arith
+
+in_column : (objective : Form) (rows : List ScaledRow) (j : ℕ) → length (column_entries objective rows j) ≤ 1 + (counted objective.coefficient j + sums (λ r. counted r.coefficient j) rows)
+in_column objective rows j =
+    let own = entries_of (λ r. nonzero (r.coefficient j)) 1 rows in
+    omega (arith, or_one (with_entry 0 (nonzero (objective.coefficient j)) own), with_one 0 (nonzero (objective.coefficient j)) own, of_rows (λ r. nonzero (r.coefficient j)) 1 rows)
+
+-- a column for each variable, its entries in the objective and in the rows
+abbrev pub most_entries : Form → List ScaledRow → ℕ → ℕ → ℕ
+most_entries objective rows j n = n + (range_sum (counted objective.coefficient) j n + sums (λ r. range_sum (counted r.coefficient) j n) rows)
+
+pub in_columns : (objective : Form) (rows : List ScaledRow) (j n : ℕ) (vs : List Variable) → length vs ≡ n → entry_count (columns_of objective rows j vs) ≤ most_entries objective rows j n
+unfolding columns_of
+in_columns objective rows j zero [] e = omega arith
+in_columns objective rows j zero (v ∷ vs) e = absurd (omega (arith, e))
+in_columns objective rows j (suc n) [] e = absurd (omega (arith, e))
+in_columns objective rows j (suc n) (v ∷ vs) e =
+    let first : Column ℚ = record { name = v.name; marked = v.whole; entries = column_entries objective rows j } in
+    let more = columns_of objective rows (suc j) vs in
+    omega (
+      arith,
+      in_column objective rows j,
+      in_columns objective rows (suc j) n vs (omega (arith, e)),
+      sum_by-cons (λ (c : Column ℚ). length c.entries) first more,
+      sums-both (λ r. counted r.coefficient j) (λ r. range_sum (counted r.coefficient) (suc j) n) rows,
+    )
+
+-- ---- coefficients that are not 0
+
+abbrev pub none_zero : ℚ → ℕ
+none_zero x = if is_zero x then 0 else 1
+
+counted_none : (x : ℚ) → is_there (nonzero x) ≡ none_zero x
+counted_none x = elim x.top as (λ t. is_there (unless_zero t x) ≡ (if is_pos_zero t then 0 else 1)) [
+  | pos n ↦ by n
+  | negsuc n ↦ refl
+]
+  where
+    by : (n : ℕ) → is_there (unless_zero (pos n) x) ≡ (if is_pos_zero (pos n) then 0 else 1)
+    by zero = refl
+    by (suc n) = refl
+
+zero_is : (x : ℚ) → is_zero x ≡ true → x ≡ zero_ℚ
+zero_is x e = zero_top x (by x.top e)
+  where
+    by : (t : ℤ) → is_pos_zero t ≡ true → t ≡ pos 0
+    by (pos zero) h = refl
+    by (pos (suc n)) h = absurd cc
+    by (negsuc n) h = absurd cc
+
+no_zero : is_there (nonzero zero_ℚ) ≡ 0
+unfolding whole
+no_zero = refl
+
+-- a multiple of 0 is 0
+scaled_less : (k x : ℚ) → is_there (nonzero (k *ℚ x)) ≤ none_zero x
+scaled_less k x = by (is_zero x) refl
+  where
+    by : (b : Bool) → is_zero x ≡ b → is_there (nonzero (k *ℚ x)) ≤ (if b then 0 else 1)
+    by true e = let none : is_there (nonzero (k *ℚ x)) ≡ 0 = ap (λ (y : ℚ). is_there (nonzero y)) (ap (λ (z : ℚ). k *ℚ z) (zero_is x e) ∙ *ℚ_zero k) ∙ no_zero in omega (arith, none)
+    by false e = there_or_not (nonzero (k *ℚ x))
+
+-- the count of a line's coefficients, from the front
+pub line_count : (l : Line) (n : ℕ) → range_sum (λ j. none_zero (l.coef j)) 0 n ≡ coefficient_count n l
+line_count l zero = refl
+line_count l (suc n) =
+    let last : none_zero (l.coef (0 + n)) ≡ none_zero (l.coef n) = ap (λ (j : ℕ). none_zero (l.coef j)) (omega arith) in
+    omega (arith, range_last (λ j. none_zero (l.coef j)) 0 n, line_count l n, last)
+
+-- of a form
+abbrev pub form_count : ℕ → Form → ℕ
+form_count n f = range_sum (λ j. none_zero (f.coefficient j)) 0 n
+
+pub plain_form : (f : Form) (n : ℕ) → range_sum (counted f.coefficient) 0 n ≤ form_count n f
+plain_form f n = range_less (counted f.coefficient) (λ j. none_zero (f.coefficient j)) 0 n (λ j. omega (arith, counted_none (f.coefficient j)))
+
+pub scaled_form : (k : ℕ) (c : ℕ → ℚ) (f : Form) (n : ℕ) → ((j : ℕ) → j < n → c j ≡ whole (pos k) *ℚ f.coefficient j) → range_sum (counted c) 0 n ≤ form_count n f
+scaled_form k c f n h = from 0 n (λ j le lt. h j (omega (arith, lt)))
+  where
+    from : (j m : ℕ) → ((i : ℕ) → j ≤ i → i < j + m → c i ≡ whole (pos k) *ℚ f.coefficient i) → range_sum (counted c) j m ≤ range_sum (λ i. none_zero (f.coefficient i)) j m
+    from j zero g = omega arith
+    from j (suc m) g =
+        let same : counted c j ≡ is_there (nonzero (whole (pos k) *ℚ f.coefficient j)) = ap (λ (x : ℚ). is_there (nonzero x)) (g j (omega arith) (omega arith)) in
+        omega (arith, same, scaled_less (whole (pos k)) (f.coefficient j), from (suc j) m (λ i le lt. g i (omega (arith, le)) (omega (arith, lt))))
+
+-- of exported rows
+pub exported_count : (factor : ℕ → ℕ) (n i : ℕ) (rows : List Row) → sums (λ r. range_sum (counted r.coefficient) 0 n) (exported_rows factor i rows) ≤ sums (λ r. form_count n r.body) rows
+unfolding exported_rows
+exported_count factor n i [] = omega arith
+exported_count factor n i (r ∷ rows) = by (has_side r.side.lower r.side.upper) (exported_count factor n (suc i) rows)
+  where
+    rest : List ScaledRow
+    rest = exported_rows factor (suc i) rows
+
+    size : ScaledRow → ℕ
+    size s = range_sum (counted s.coefficient) 0 n
+
+    by : (there : Bool) → sums size rest ≤ sums (λ r. form_count n r.body) rows → sums size (cond there (scaled_row (factor i) r ∷ rest) rest) ≤ form_count n r.body + sums (λ r. form_count n r.body) rows
+    by true h = omega (arith, h, scaled_form (factor i) (scaled_row (factor i) r).coefficient r.body n (λ j lt. refl))
+    by false h = omega (arith, h)
+
+pub exported_rows_count : (factor : ℕ → ℕ) (i : ℕ) (rows : List Row) → length (exported_rows factor i rows) ≤ length rows
+unfolding exported_rows
+exported_rows_count factor i [] = omega arith
+exported_rows_count factor i (r ∷ rows) = by (has_side r.side.lower r.side.upper) (exported_rows_count factor (suc i) rows)
+  where
+    rest : List ScaledRow
+    rest = exported_rows factor (suc i) rows
+
+    by : (there : Bool) → length rest ≤ length rows → length (cond there (scaled_row (factor i) r ∷ rest) rest) ≤ suc (length rows)
+    by true h = omega (arith, h)
+    by false h = omega (arith, h)
+
+-- ---- a file that folds
+
+few_at_head : (o : Owner) (count : ℕ) → head_fault o count ≡ None → count ≤ most_coefficients
+few_at_head o count e = by (nat_lt most_coefficients count) refl e
+  where
+    by : (b : Bool) → nat_lt most_coefficients count ≡ b → (if b then Some (FoldFault.fold_too_large o) else None) ≡ None → count ≤ most_coefficients
+    by true q h = absurd cc
+    by false q h = ltb-false most_coefficients count q
+
+few_owned : (n count : ℕ) (os : List Owned) → count ≤ most_coefficients → owners_fault n count os ≡ None → count + sums (λ o. coefficient_count n (owned_line o)) os ≤ most_coefficients
+few_owned n count [] le e = omega (arith, le)
+few_owned n count (o ∷ os) le e =
+    let total : ℕ = count + coefficient_count n (owned_line o) in
+    let parts = option_or-none _ _ e in
+    let head = option_or-none _ _ parts.0 in
+    let here : total ≤ most_coefficients = few_at_head o.owner total head.1 in
+    few_more count (coefficient_count n (owned_line o)) (sums (λ o. coefficient_count n (owned_line o)) os) (few_owned n total os here parts.1)
+  where
+    few_more : (a b c : ℕ) → (a + b) + c ≤ most_coefficients → a + (b + c) ≤ most_coefficients
+    few_more a b c h = omega (arith, h)
+
+-- the bodies' lines are those of the linear program
+bodies_count : (f : File) (n i m : ℕ) → sums (λ o. coefficient_count n (owned_line o)) (elements_from (owned_body f) i m) ≡ sums (λ r. form_count n r.body) (elements_from (row_of f) i m)
+unfolding elements_from
+bodies_count f n i zero = refl
+bodies_count f n i (suc m) = ap₂ (λ (a b : ℕ). a + b) (sym (line_count (owned_line (owned_body f i)) n)) (bodies_count f n (suc i) m)
+
+pub few_coefficients : (f : File) (k : ℕ) → fold_fault f k ≡ None
+    → sums (λ r. form_count f.counts.n_var r.body) (elements_from (row_of f) 0 f.counts.n_con) + form_count f.counts.n_var (objective_form f k) ≤ most_coefficients
+unfolding fold_fault
+few_coefficients f k e = by (has_objective f k) e
+  where
+    n : ℕ
+    n = f.counts.n_var
+
+    bodies : List Owned
+    bodies = elements_from (owned_body f) 0 f.counts.n_con
+
+    definitions : List Owned
+    definitions = owned_definitions (λ at. nothing_known) 0 (definitions_of f)
+
+    size : Owned → ℕ
+    size o = coefficient_count n (owned_line o)
+
+    by : (b : Bool) → (if b then owners_fault n 0 (definitions ++ (bodies ++ owned_objective f k ∷ [])) else Some (FoldFault.no_such_objective k)) ≡ None
+        → sums (λ r. form_count n r.body) (elements_from (row_of f) 0 f.counts.n_con) + form_count n (objective_form f k) ≤ most_coefficients
+    by true h =
+        let few = few_owned n 0 (definitions ++ (bodies ++ owned_objective f k ∷ [])) (omega arith) h in
+        let own : size (owned_objective f k) ≡ form_count n (objective_form f k) = sym (line_count (owned_line (owned_objective f k)) n) in
+        omega (arith, few, sums-append size definitions (bodies ++ owned_objective f k ∷ []), sums-append size bodies (owned_objective f k ∷ []), own, bodies_count f n 0 f.counts.n_con)
+    by false h = absurd cc

@@ -1,0 +1,209 @@
+-- The program that a file is exported as is a whole decimal program.
+use Rattle.std.proofs.Common.{◌≡◌, ◌≢◌, ◌∙◌, ⊎_elim, ℕ, zero, suc, ◌+◌, ◌<◌, ◌≤◌, ◌^◌, Bool, true, false, cond, nat_eq, List, [], ◌∷◌, ◌++◌, length, get_or, Option, Some, None, ℤ, pos, negsuc, IsTrue, refl, sym, ap, subst, arith}
+use Rattle.std.specs.Prelude.{All, IfSome, option_map}
+use Rattle.std.proofs.Math.ListN.{get_or-append}
+use Rattle.std.proofs.lemmas.Bool.{cases_lt, eq-eqb}
+use Rattle.std.proofs.lemmas.List.{length-append}
+use Rattle.std.proofs.lemmas.List.Elements.{All-nil, All-cons, All-head, All-tail}
+use Rattle.fractions.specs.Rational.{ℚ, zero_ℚ, one_ℚ, whole, neg_ℚ, ◌-ℚ◌, ◌*ℚ◌, unless_zero}
+use Rattle.fractions.proofs.Arithmetic.{*ℚ_zero, *ℚ_one, *ℚ-neg, +ℚ-neg, -ℚ_lem}
+use Rattle.fractions.proofs.Ring.{ring, v, num, ◌⊖◌, ◌⊗◌, opp}
+use Rattle.exact_numbers.specs.declared.dec.Dec.{Dec}
+use Rattle.exact_numbers.specs.Values.{FitsDec, dec_value}
+use Rattle.linear_programs.specs.Linear.{Form, Interval, Row, Variable, no_row}
+use Rattle.mps_model.specs.declared.kinds.RowKind.TheVariants.{N}
+use Rattle.exported_program.specs.Export.{IfBoth, IfSide, RangeFits, RowFits, ScaledFits, SideFits}
+use Rattle.exported_program.specs.Factor.{coefficients_below, objective_numbers}
+use Rattle.exported_program.specs.Program.{ScaledRow, exported_rows, has_side, kind_of, nonzero, range_of, rhs_of, scaled_row, scaled_side, tie, two_sided, z_form, z_variable}
+use Rattle.exported_program.specs.Return.{is_exported}
+use Rattle.linear_program.specs.declared.interval.Interval.{Interval as Sides}
+use Rattle.nl_model.specs.File.{File}
+use Rattle.linear_programs.specs.Elements.{elements_from}
+use Rattle.file_meaning.specs.LinearFile.{variable_of}
+use Rattle.linear_program.specs.Intervals.{interval_of, no_sides}
+use Rattle.linear_programs.proofs.Elements.{all_elements}
+use Rattle.export_round_trip.proofs.Fitting.{dec_fits, neg_fits, one_fits, whole_fits, zero_fits}
+use Rattle.export_round_trip.proofs.ProgramParts.{HasDecimalBounds}
+use Rattle.export_round_trip.proofs.Whole.{IfFits}
+
+-- ---- numbers
+
+nonzero_fits : (x : ℚ) → FitsDec x → IfFits (nonzero x)
+nonzero_fits x h = by x.top
+  where
+    by : (t : ℤ) → IfFits (unless_zero t x)
+    by (pos zero) = tt
+    by (pos (suc n)) = h
+    by (negsuc n) = h
+
+there_fits : (x : ℚ) → IfSide (λ r. FitsDec x) (nonzero x) → IfFits (nonzero x)
+there_fits x h = by x.top h
+  where
+    by : (t : ℤ) → IfSide (λ r. FitsDec x) (unless_zero t x) → IfFits (unless_zero t x)
+    by (pos zero) g = tt
+    by (pos (suc n)) g = g
+    by (negsuc n) g = g
+
+below_fits : (P : ℚ → Type 0) (c : ℕ → ℚ) (n : ℕ) → All P (coefficients_below c n) → (j : ℕ) → j < n → P (c j)
+below_fits P c zero h j l = absurd (omega (arith, l))
+below_fits P c (suc n) h j l =
+    ⊎_elim
+    (λ (e : j < n). below_fits P c n (λ i d lt. subst P (get_or-append (coefficients_below c n) (c n ∷ []) d i lt) (h i d (omega (arith, lt, length-append (coefficients_below c n) (c n ∷ []))))) j e)
+    (λ (e : n ≤ j). let same : n ≡ j = omega (arith, e, l) in subst (λ i. P (c i)) same (last (coefficients_below c n) (c n) h))
+    (cases_lt j n)
+  where
+    last : (xs : List ℚ) (x : ℚ) → All P (xs ++ x ∷ []) → P x
+    last [] x g = All-head P x [] g
+    last (y ∷ xs) x g = last xs x (All-tail P y (xs ++ x ∷ []) g)
+
+-- ---- rows
+
+-- a row that is exported, of which the first m coefficients count
+pub record IsWritten (m : ℕ) (r : ScaledRow) : Type 0 where
+  pub coefficients : (j : ℕ) → j < m → IfFits (nonzero (r.coefficient j))
+  pub right : IfFits (nonzero (rhs_of r.side.lower r.side.upper))
+  pub range : IfFits (range_of r.side.lower r.side.upper)
+  pub sided : kind_of r.side.lower r.side.upper ≢ N
+
+scaled_fits : (k : ℕ) (constant : ℚ) (o : Option ℚ) → IfSide (SideFits k constant) o → IfSide FitsDec (scaled_side (whole (pos k)) constant o)
+scaled_fits k constant None h = tt
+scaled_fits k constant (Some s) h = h.scaled.dec
+
+right_fits : (l u : Option ℚ) → IfSide FitsDec l → IfSide FitsDec u → IfFits (nonzero (rhs_of l u))
+right_fits None None hl hu = nonzero_fits zero_ℚ zero_fits
+right_fits None (Some u) hl hu = nonzero_fits u hu
+right_fits (Some l) u hl hu = nonzero_fits l hl
+
+range_fits : (l u : Option ℚ) → IfBoth (λ l u. FitsDec (u -ℚ l)) l u → IfFits (range_of l u)
+range_fits None u h = tt
+range_fits (Some l) None h = tt
+range_fits (Some l) (Some u) h = there_fits (u -ℚ l) h
+
+both_fit : (l u : Option ℚ) → IfBoth RangeFits l u → IfBoth (λ l u. FitsDec (u -ℚ l)) l u
+both_fit None u h = tt
+both_fit (Some l) None h = tt
+both_fit (Some l) (Some u) h = by (nonzero (u -ℚ l)) h
+  where
+    by : (o : Option ℚ) → IfSide (λ r. RangeFits l u) o → IfSide (λ r. FitsDec (u -ℚ l)) o
+    by None g = tt
+    by (Some r) g = g.dec
+
+sides_kept : (k constant : ℚ) (l u : Option ℚ) → IsTrue (has_side l u) → kind_of (scaled_side k constant l) (scaled_side k constant u) ≢ N
+sides_kept k constant None None h e = absurd cc
+sides_kept k constant None (Some u) h e = absurd cc
+sides_kept k constant (Some l) None h e = absurd cc
+sides_kept k constant (Some l) (Some u) h e = by (nonzero ((k *ℚ (u -ℚ constant)) -ℚ (k *ℚ (l -ℚ constant)))) e
+  where
+    by : (o : Option ℚ) → two_sided o ≢ N
+    by None same = absurd cc
+    by (Some r) same = absurd cc
+
+-- a row of a file with its factor
+row_written : (n m k : ℕ) (r : Row) → ((j : ℕ) → n ≤ j → r.body.coefficient j ≡ zero_ℚ) → IsTrue (is_exported r) → RowFits n r k → IsWritten m (scaled_row k r)
+row_written n m k r past exported fits =
+    let q = whole (pos k) in
+    let lower = scaled_fits k r.body.constant r.side.lower fits.lower in
+    let upper = scaled_fits k r.body.constant r.side.upper fits.upper in
+    let low = scaled_side q r.body.constant r.side.lower in
+    let high = scaled_side q r.body.constant r.side.upper in
+    record {
+      coefficients = λ j lt. ⊎_elim
+          (λ (e : j < n). nonzero_fits (q *ℚ r.body.coefficient j) (below_fits (ScaledFits k) r.body.coefficient n fits.coefficients j e).dec)
+          (λ (e : n ≤ j). nonzero_fits (q *ℚ r.body.coefficient j) (subst FitsDec (sym (ap (λ (x : ℚ). q *ℚ x) (past j e) ∙ *ℚ_zero q)) zero_fits))
+          (cases_lt j n);
+      right = right_fits low high lower upper;
+      range = range_fits low high (both_fit low high fits.range);
+      sided = sides_kept q r.body.constant r.side.lower r.side.upper exported;
+    }
+
+-- the rows of a file, of which the first is row i
+pub rows_written : (n m i : ℕ) (factor : ℕ → ℕ) (rs : List Row) → All (λ r. (j : ℕ) → n ≤ j → r.body.coefficient j ≡ zero_ℚ) rs
+    → ((j : ℕ) → j < length rs → IsTrue (is_exported (get_or rs j no_row)) → RowFits n (get_or rs j no_row) (factor (i + j))) → All (IsWritten m) (exported_rows factor i rs)
+unfolding exported_rows
+rows_written n m i factor [] past fits = All-nil (IsWritten m)
+rows_written n m i factor (r ∷ rs) past fits = by (has_side r.side.lower r.side.upper) refl
+    (rows_written n m (suc i) factor rs (All-tail (λ r. (j : ℕ) → n ≤ j → r.body.coefficient j ≡ zero_ℚ) r rs past) (λ j lt is. subst (λ (k : ℕ). RowFits n (get_or rs j no_row) (factor k)) (omega arith) (fits (suc j) (omega (arith, lt)) is)))
+  where
+    rest : List ScaledRow
+    rest = exported_rows factor (suc i) rs
+
+    by : (there : Bool) → has_side r.side.lower r.side.upper ≡ there → All (IsWritten m) rest → All (IsWritten m) (cond there (scaled_row (factor i) r ∷ rest) rest)
+    by true e h =
+        let is : IsTrue (is_exported r) = e in
+        let here : RowFits n r (factor i) = subst (λ (k : ℕ). RowFits n r (factor k)) (omega arith) (fits 0 (omega arith) is) in
+        All-cons (IsWritten m) (scaled_row (factor i) r) rest (row_written n m (factor i) r (All-head (λ r. (j : ℕ) → n ≤ j → r.body.coefficient j ≡ zero_ℚ) r rs past) is here) h
+    by false e h = h
+
+-- ---- a tied objective
+
+-- the tie, times g
+tie_side : (g : ℕ) (c : ℚ) → whole (pos g) *ℚ (zero_ℚ -ℚ c) ≡ neg_ℚ (whole (pos g) *ℚ c)
+tie_side g c = ring (whole (pos g) ∷ c ∷ []) (v 0 ⊗ (num (pos 0) ⊖ v 1)) (opp (v 0 ⊗ v 1)) refl
+
+tie_one : (g : ℕ) → whole (pos g) *ℚ neg_ℚ one_ℚ ≡ neg_ℚ (whole (pos g))
+tie_one g = *ℚ-neg (whole (pos g)) one_ℚ ∙ ap neg_ℚ (*ℚ_one (whole (pos g)))
+
+same_less : (x : ℚ) → x -ℚ x ≡ zero_ℚ
+same_less x = -ℚ_lem x x ∙ +ℚ-neg x
+
+pub tie_written : (n g : ℕ) (objective : Form) → g < 2 ^ 127 → All (ScaledFits g) (objective_numbers n objective) → IsWritten (n + 1) (scaled_row g (tie n objective))
+tie_written n g objective few parts =
+    let q = whole (pos g) in
+    let side : FitsDec (q *ℚ (zero_ℚ -ℚ objective.constant)) = subst FitsDec (sym (tie_side g objective.constant)) (neg_fits (q *ℚ objective.constant) (All-head (ScaledFits g) objective.constant (coefficients_below objective.coefficient n) parts).dec) in
+    let costs = All-tail (ScaledFits g) objective.constant (coefficients_below objective.coefficient n) parts in
+    let s = q *ℚ (zero_ℚ -ℚ objective.constant) in
+    record {
+      coefficients = λ j lt. at j lt (nat_eq j n) refl costs;
+      right = nonzero_fits s side;
+      range = nonzero_fits (s -ℚ s) (subst FitsDec (sym (same_less s)) zero_fits);
+      sided = equal_sides s;
+    }
+  where
+    at : (j : ℕ) → j < n + 1 → (b : Bool) → nat_eq j n ≡ b → All (ScaledFits g) (coefficients_below objective.coefficient n) → IfFits (nonzero (whole (pos g) *ℚ cond b (neg_ℚ one_ℚ) (objective.coefficient j)))
+    at j lt true e costs = nonzero_fits (whole (pos g) *ℚ neg_ℚ one_ℚ) (subst FitsDec (sym (tie_one g)) (neg_fits (whole (pos g)) (whole_fits (pos g) few)))
+    at j lt false e costs =
+        let other : j ≢ n = λ same. absurd (let is = eq-eqb j n same in cc) in
+        nonzero_fits (whole (pos g) *ℚ objective.coefficient j) (below_fits (ScaledFits g) objective.coefficient n costs j (omega (arith, lt, other))).dec
+
+    equal_sides : (s : ℚ) → kind_of (Some s) (Some s) ≢ N
+    equal_sides s e = by (nonzero (s -ℚ s)) e
+      where
+        by : (o : Option ℚ) → two_sided o ≢ N
+        by None same = absurd cc
+        by (Some r) same = absurd cc
+
+pub z_costs : (n j : ℕ) → IfFits (nonzero ((z_form n).coefficient j))
+z_costs n j = by (nat_eq j n)
+  where
+    by : (b : Bool) → IfFits (nonzero (cond b one_ℚ zero_ℚ))
+    by true = nonzero_fits one_ℚ one_fits
+    by false = nonzero_fits zero_ℚ zero_fits
+
+pub z_constant : IfFits (nonzero (neg_ℚ zero_ℚ))
+z_constant = nonzero_fits (neg_ℚ zero_ℚ) (neg_fits zero_ℚ zero_fits)
+
+-- ---- a decimal objective
+
+pub costs_fit : (n : ℕ) (objective : Form) → All FitsDec (objective_numbers n objective) → (j : ℕ) → j < n → IfFits (nonzero (objective.coefficient j))
+costs_fit n objective h j lt = nonzero_fits (objective.coefficient j) (below_fits FitsDec objective.coefficient n (All-tail FitsDec objective.constant (coefficients_below objective.coefficient n) h) j lt)
+
+pub constant_fits : (n : ℕ) (objective : Form) → All FitsDec (objective_numbers n objective) → IfFits (nonzero (neg_ℚ objective.constant))
+constant_fits n objective h = nonzero_fits (neg_ℚ objective.constant) (neg_fits objective.constant (All-head FitsDec objective.constant (coefficients_below objective.coefficient n) h))
+
+-- ---- bounds
+
+dec_side : (o : Option Dec) → IfSome (option_map dec_value o) FitsDec
+dec_side None = tt
+dec_side (Some d) = dec_fits d
+
+sides_decimal : (s : Sides) (x : Variable) → x.bound ≡ interval_of s → HasDecimalBounds x
+sides_decimal s x e = record {
+  lower = subst (λ (i : Interval). IfSome i.lower FitsDec) (sym e) (dec_side s.lo);
+  upper = subst (λ (i : Interval). IfSome i.upper FitsDec) (sym e) (dec_side s.hi);
+}
+
+pub variables_decimal : (f : File) (n : ℕ) → All HasDecimalBounds (elements_from (variable_of f) 0 n)
+variables_decimal f n = all_elements (variable_of f) HasDecimalBounds n (λ j lt. sides_decimal (get_or f.bounds j no_sides) (variable_of f j) refl)
+
+pub z_decimal : HasDecimalBounds z_variable
+z_decimal = record { lower = tt; upper = tt }

@@ -1,0 +1,143 @@
+-- The rows and columns of the program of a file have names, no two the same.
+use Rattle.std.proofs.Common.{◌≡◌, ◌≢◌, ◌∙◌, ℕ, zero, suc, ◌+◌, ◌<◌, ◌≤◌, ◌^◌, Bool, true, false, cond, List, [], ◌∷◌, ◌++◌, refl, sym, arith}
+use Rattle.std.specs.Prelude.{All}
+use Rattle.std.specs.List.{AllPairs}
+use Rattle.std.proofs.lemmas.List.Elements.{All-nil, All-cons, All-weaker, All-push}
+use Rattle.std.proofs.lemmas.List.Kept.{AllPairs-cons}
+use Rattle.std.proofs.lemmas.List.Quantifiers.{all_pairs_push}
+use Rattle.texts.specs.Names.{IsName}
+use Rattle.linear_programs.specs.Linear.{Variable}
+use Rattle.linear_programs.specs.Names.{row_name, variable_name}
+use Rattle.mps_model.specs.Valid.{marker_word}
+use Rattle.exported_program.specs.Program.{ScaledRow, exported_rows, scaled_row, has_side, obj_name, z_name, zdef_name, z_variable}
+use Rattle.exported_program.proofs.Names.{constraint_is_name, variable_is_name, z_is_name, zdef_is_name, constraints_apart, variables_apart, constraint_not_obj, constraint_not_zdef, constraint_not_marker, obj_not_zdef, zdef_not_marker, variable_not_z}
+use Rattle.linear_programs.specs.Elements.{elements_from}
+use Rattle.file_meaning.specs.LinearFile.{row_of, variable_of}
+use Rattle.nl_model.specs.File.{File}
+
+-- named by a number from i on
+abbrev pub IsRowFrom : ℕ → ScaledRow → Type 0
+IsRowFrom i r = (k : ℕ) × (i ≤ k) × (k < 2 ^ 32) × (r.name ≡ row_name k)
+
+abbrev pub IsVariableFrom : ℕ → Variable → Type 0
+IsVariableFrom j v = (k : ℕ) × (j ≤ k) × (k < 2 ^ 32) × (v.name ≡ variable_name k)
+
+abbrev pub AreApart : List ScaledRow → Type 0
+AreApart rs = AllPairs (λ r s. r.name ≢ s.name) rs
+
+abbrev pub AreVariablesApart : List Variable → Type 0
+AreVariablesApart vs = AllPairs (λ v w. v.name ≢ w.name) vs
+
+record RowsFrom (i : ℕ) (rs : List ScaledRow) : Type 0 where
+  named : All (IsRowFrom i) rs
+  apart : AreApart rs
+
+record VariablesFrom (j : ℕ) (vs : List Variable) : Type 0 where
+  named : All (IsVariableFrom j) vs
+  apart : AreVariablesApart vs
+
+later : (i : ℕ) (r : ScaledRow) → IsRowFrom (suc i) r → IsRowFrom i r
+later i r h = (h.0, omega (arith, h.1), h.2, h.3)
+
+rows_more : (i : ℕ) (r : ScaledRow) (rs : List ScaledRow) → i < 2 ^ 32 → r.name ≡ row_name i → RowsFrom (suc i) rs → RowsFrom i (r ∷ rs)
+rows_more i r rs lt e h = record {
+  named = All-cons (IsRowFrom i) r rs (i, omega arith, lt, e) (All-weaker (IsRowFrom (suc i)) (IsRowFrom i) (later i) rs h.named);
+  apart = AllPairs-cons (λ (x y : ScaledRow). x.name ≢ y.name) r rs (All-weaker (IsRowFrom (suc i)) (λ s. r.name ≢ s.name) (λ s from same. other s from same) rs h.named) h.apart;
+}
+  where
+    other : (s : ScaledRow) → IsRowFrom (suc i) s → r.name ≢ s.name
+    other s from same = absurd (omega (arith, from.1, constraints_apart i from.0 lt from.2 (sym e ∙ same ∙ from.3)))
+
+exported_from : (factor : ℕ → ℕ) (f : File) (i n : ℕ) → i + n ≤ 2 ^ 32 → RowsFrom i (exported_rows factor i (elements_from (row_of f) i n))
+unfolding exported_rows elements_from
+exported_from factor f i zero le = record { named = All-nil (IsRowFrom i); apart = λ a b d lt within. absurd (omega arith) }
+exported_from factor f i (suc n) le = by (has_side (row_of f i).side.lower (row_of f i).side.upper) (exported_from factor f (suc i) n (omega arith))
+  where
+    rest : List ScaledRow
+    rest = exported_rows factor (suc i) (elements_from (row_of f) (suc i) n)
+
+    by : (there : Bool) → RowsFrom (suc i) rest → RowsFrom i (cond there (scaled_row (factor i) (row_of f i) ∷ rest) rest)
+    by true h = rows_more i (scaled_row (factor i) (row_of f i)) rest (omega (arith, le)) refl h
+    by false h = record { named = All-weaker (IsRowFrom (suc i)) (IsRowFrom i) (later i) rest h.named; apart = h.apart }
+
+-- rows with names for a program
+pub record AreNamedRows (rs : List ScaledRow) : Type 0 where
+  pub named : All (λ r. IsName r.name) rs
+  pub apart : AreApart rs
+  pub not_obj : All (λ r. r.name ≢ obj_name) rs
+  pub no_marker : All (λ r. r.name ≢ marker_word) rs
+
+pub record AreNamedVariables (vs : List Variable) : Type 0 where
+  pub named : All (λ v. IsName v.name) vs
+  pub apart : AreVariablesApart vs
+
+row_is_name : (r : ScaledRow) → IsRowFrom 0 r → IsName r.name
+row_is_name r h = rw h.3 (constraint_is_name h.0 h.2)
+
+named_rows : (rs : List ScaledRow) → RowsFrom 0 rs → AreNamedRows rs
+named_rows rs h = record {
+  named = All-weaker (IsRowFrom 0) (λ r. IsName r.name) row_is_name rs h.named;
+  apart = h.apart;
+  not_obj = All-weaker (IsRowFrom 0) (λ r. r.name ≢ obj_name) (λ r k e. constraint_not_obj k.0 (sym k.3 ∙ e)) rs h.named;
+  no_marker = All-weaker (IsRowFrom 0) (λ r. r.name ≢ marker_word) (λ r k e. constraint_not_marker k.0 (sym k.3 ∙ e)) rs h.named;
+}
+
+pub exported_named : (factor : ℕ → ℕ) (f : File) (n : ℕ) → n ≤ 2 ^ 32 → AreNamedRows (exported_rows factor 0 (elements_from (row_of f) 0 n))
+exported_named factor f n le = named_rows (exported_rows factor 0 (elements_from (row_of f) 0 n)) (exported_from factor f 0 n (omega (arith, le)))
+
+-- zdef as the last row
+pub tied_named : (factor : ℕ → ℕ) (f : File) (n : ℕ) (r : ScaledRow) → n ≤ 2 ^ 32 → r.name ≡ zdef_name → AreNamedRows (exported_rows factor 0 (elements_from (row_of f) 0 n) ++ r ∷ [])
+tied_named factor f n r le e =
+    let rs = exported_rows factor 0 (elements_from (row_of f) 0 n) in
+    let from = exported_from factor f 0 n (omega (arith, le)) in
+    let h = named_rows rs from in
+    let others : All (λ s. s.name ≢ r.name) rs = All-weaker (IsRowFrom 0) (λ s. s.name ≢ r.name) (λ s k same. constraint_not_zdef k.0 (sym k.3 ∙ same ∙ e)) rs from.named in
+    record {
+      named = All-push (λ (s : ScaledRow). IsName s.name) rs r h.named (rw e zdef_is_name);
+      apart = all_pairs_push (λ (s t : ScaledRow). s.name ≢ t.name) rs r h.apart others;
+      not_obj = All-push (λ (s : ScaledRow). s.name ≢ obj_name) rs r h.not_obj (λ same. obj_not_zdef (sym same ∙ e));
+      no_marker = All-push (λ (s : ScaledRow). s.name ≢ marker_word) rs r h.no_marker (λ same. zdef_not_marker (sym e ∙ same));
+    }
+
+variables_from : (f : File) (j n : ℕ) → j + n ≤ 2 ^ 32 → VariablesFrom j (elements_from (variable_of f) j n)
+unfolding elements_from
+variables_from f j zero le = record { named = All-nil (IsVariableFrom j); apart = λ a b d lt within. absurd (omega arith) }
+variables_from f j (suc n) le = by (variables_from f (suc j) n (omega arith))
+  where
+    v : Variable
+    v = variable_of f j
+
+    rest : List Variable
+    rest = elements_from (variable_of f) (suc j) n
+
+    lt : j < 2 ^ 32
+    lt = omega (arith, le)
+
+    other : (w : Variable) → IsVariableFrom (suc j) w → v.name ≢ w.name
+    other w from same = absurd (omega (arith, from.1, variables_apart j from.0 lt from.2 (same ∙ from.3)))
+
+    by : VariablesFrom (suc j) rest → VariablesFrom j (v ∷ rest)
+    by h = record {
+      named = All-cons (IsVariableFrom j) v rest (j, omega arith, lt, refl) (All-weaker (IsVariableFrom (suc j)) (IsVariableFrom j) (λ w k. (k.0, omega (arith, k.1), k.2, k.3)) rest h.named);
+      apart = AllPairs-cons (λ (x y : Variable). x.name ≢ y.name) v rest (All-weaker (IsVariableFrom (suc j)) (λ w. v.name ≢ w.name) other rest h.named) h.apart;
+    }
+
+variable_is : (v : Variable) → IsVariableFrom 0 v → IsName v.name
+variable_is v h = rw h.3 (variable_is_name h.0 h.2)
+
+pub variables_named : (f : File) (n : ℕ) → n ≤ 2 ^ 32 → AreNamedVariables (elements_from (variable_of f) 0 n)
+variables_named f n le =
+    let vs = elements_from (variable_of f) 0 n in
+    let h = variables_from f 0 n (omega (arith, le)) in
+    record { named = All-weaker (IsVariableFrom 0) (λ v. IsName v.name) variable_is vs h.named; apart = h.apart }
+
+-- z as the last variable
+pub tied_variables_named : (f : File) (n : ℕ) → n ≤ 2 ^ 32 → AreNamedVariables (elements_from (variable_of f) 0 n ++ z_variable ∷ [])
+tied_variables_named f n le =
+    let vs = elements_from (variable_of f) 0 n in
+    let from = variables_from f 0 n (omega (arith, le)) in
+    let h = variables_named f n le in
+    record {
+      named = All-push (λ (v : Variable). IsName v.name) vs z_variable h.named z_is_name;
+      apart = all_pairs_push (λ (v w : Variable). v.name ≢ w.name) vs z_variable h.apart (All-weaker (IsVariableFrom 0) (λ v. v.name ≢ z_name) (λ v k same. variable_not_z k.0 (sym k.3 ∙ same)) vs from.named);
+    }

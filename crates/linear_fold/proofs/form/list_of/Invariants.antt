@@ -1,9 +1,0 @@
-use Rattle.std.proofs.Common.{◌≡◌, ◌++◌}
-use Rattle.linear_fold.specs.Forms.{terms_left}
-use Rattle.linear_fold.proofs.form.list_of.Given as goal
-
-abbrev pub invariant-loop-term : goal.invariant-loop-term
-invariant-loop-term l =
-    (goal.iterator-loop-term).can_next l.term-iterator
-    × (goal.iterator-loop-term).is_finite l.term-iterator
-    × (l.items.items ++ terms_left l.term-iterator ≡ terms_left l.fn.terms)

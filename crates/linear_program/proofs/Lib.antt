@@ -1,0 +1,10 @@
+pub mod Closing
+pub mod CoefLemmas
+pub mod DecimalLemmas
+pub mod FracLemmas
+pub mod Merging
+pub mod PlaceLemmas
+pub mod PlaceTerms
+pub mod Products
+pub mod PutLemmas
+pub mod Scaled

@@ -1,0 +1,7 @@
+pub mod Coefs
+pub mod Decimals
+pub mod Forms
+pub mod Intervals
+pub mod Places
+pub mod Programs
+pub mod TermLists

@@ -1,0 +1,196 @@
+// A sparse accumulator: the coefficients of a sum, each at the place of its variable.
+ghost use Rattle.std.specs.Prelude.{◌≡◌, ◌≢◌, ◌<◌, ℕ, [], length, IfOk, true};
+ghost use Rattle.exact_numbers.specs.Values.{frac_value};
+ghost use Rattle.linear_program.specs.Coefs.{AddsAt, AreAscending, AreBelow, coef_in};
+ghost use Rattle.linear_program.specs.Forms.{terms_left};
+ghost use Rattle.linear_program.specs.Places.{AreListed, AreZeros, place_in, terms_from};
+
+use crate::coefficients::Coefficients;
+use crate::form_terms::{FormTerms, TermSource};
+use crate::fraction_terms::FractionTerms;
+use crate::marked_places::MarkedPlaces;
+use crate::too_wide::Wide;
+use exact_numbers::Frac;
+use std::alloc::{AllocError, Global};
+use std::marker::Model;
+use texts::Stop;
+
+/// A place for each variable, and terms that are not yet put at theirs: while the variables that
+/// are added ascend, their terms are only listed.
+#[derive(Drop)]
+pub struct Accumulator {
+    alloc: Global,
+    places: MarkedPlaces,
+    listed: FractionTerms,
+}
+
+impl Model for Accumulator {
+    ghost use Rattle.std.specs.Prelude.{List};
+    ghost use Rattle.exact_numbers.specs.declared.frac.Frac.{Frac as FracFields};
+    ghost use Rattle.linear_program.specs.Places.{AreListed, put_all};
+
+    ghost Value = { List FracFields };
+
+    ghost view = { λ w. put_all w.listed w.places };
+
+    ghost invariant = { λ w. AreListed w.places w.listed };
+}
+
+impl Accumulator {
+    /// No places.
+    pub(crate) fn without_places(alloc: Global) -> Accumulator
+        ensures { AreZeros result }
+    {
+        Accumulator {
+            alloc,
+            places: MarkedPlaces::without_places(alloc),
+            listed: FractionTerms::new(alloc),
+        }
+    }
+
+    /// So many places, which hold 0.
+    pub(crate) fn new(alloc: Global, count: u32) -> Result<Accumulator, AllocError>
+        ensures zeros { IfOk result (λ w. AreZeros w) }
+        ensures count { IfOk result (λ w. length w ≡ count) }
+    {
+        let places = MarkedPlaces::new(alloc, count)?;
+        Ok(Accumulator {
+            alloc,
+            places,
+            listed: FractionTerms::new(alloc),
+        })
+    }
+
+    /// Adds a factor to the coefficient of a variable.
+    pub(crate) fn add(&mut self, variable: u32, factor: Frac) -> Result<(), Stop<Wide>>
+        requires { variable < length self.old }
+        ensures adds { AddsAt (place_in self.old) variable (frac_value factor) (place_in self.new)
+            result }
+        ensures count { length self.new ≡ length self.old }
+    {
+        if factor.is_zero() {
+            return Ok(());
+        }
+        if !comes_last(&self.listed, &self.places, variable) {
+            return self.add_at(variable, factor);
+        }
+        let Ok(()) = self.listed.push(variable, factor) else {
+            return Err(Stop::Memory);
+        };
+        Ok(())
+    }
+
+    // The same, at its place.
+    fn add_at(&mut self, variable: u32, factor: Frac) -> Result<(), Stop<Wide>>
+        requires { variable < length self.old }
+        ensures adds { AddsAt (place_in self.old) variable (frac_value factor) (place_in self.new)
+            result }
+        ensures count { length self.new ≡ length self.old }
+    {
+        let put = self.places.put_all(self.listed.items());
+        self.listed.clear();
+        let Ok(()) = put else {
+            return Err(Stop::Memory);
+        };
+        self.places.add(variable, factor)
+    }
+
+    /// Sets each place to 0.
+    pub(crate) fn clear(&mut self)
+        ensures zeros { AreZeros self.new }
+        ensures count { length self.new ≡ length self.old }
+    {
+        self.listed.clear();
+        self.places.clear();
+    }
+
+    // The terms one by one.
+    pub(crate) fn terms(&self) -> FormTerms<'_>
+        ensures terms { terms_left result ≡ terms_from 0 self.now }
+        ensures ascending { AreAscending 0 (terms_from 0 self.now) }
+    {
+        let listed = self.listed.items();
+        if listed.is_empty() {
+            return FormTerms {
+                source: TermSource::Places(&self.places),
+                next: 0,
+            };
+        }
+        FormTerms {
+            source: TermSource::Fractions(listed),
+            next: 0,
+        }
+    }
+
+    // The coefficients in order, and the places, which hold 0 again.
+    pub(crate) fn close(self) -> Result<(Coefficients, Accumulator), AllocError>
+        ensures coefficients { IfOk result (λ r. (j : ℕ) → coef_in r.0 j ≡ place_in self j) }
+        ensures zeros { IfOk result (λ r. AreZeros r.1) }
+        ensures count { IfOk result (λ r. length r.1 ≡ length self) }
+    {
+        let Accumulator {
+            alloc,
+            places,
+            listed,
+        } = self;
+        if listed.items().is_empty() {
+            return close_places(alloc, places, listed);
+        }
+        close_listed(alloc, places, listed)
+    }
+}
+
+// Whether a variable comes after each that is listed, and no place holds anything but 0.
+#[inline]
+fn comes_last(listed: &FractionTerms, places: &MarkedPlaces, variable: u32) -> bool
+    requires { AreListed places.now listed.now }
+    ensures last { result ≡ true → AreBelow variable listed.now }
+    ensures zeros { result ≡ true → AreZeros places.now }
+    ensures found { listed.now ≢ [] → AreBelow variable listed.now → result ≡ true }
+{
+    if listed.items().is_empty() {
+        return places.are_untouched();
+    }
+    listed.comes_last(variable)
+}
+
+// The coefficients at the places, where nothing is listed.
+fn close_places(
+    alloc: Global,
+    places: MarkedPlaces,
+    listed: FractionTerms,
+) -> Result<(Coefficients, Accumulator), AllocError>
+    requires { listed ≡ [] }
+    ensures coefficients { IfOk result (λ r. (j : ℕ) → coef_in r.0 j ≡ place_in places j) }
+    ensures zeros { IfOk result (λ r. AreZeros r.1) }
+    ensures count { IfOk result (λ r. length r.1 ≡ length places) }
+{
+    let (coefficients, places) = places.close()?;
+    let accumulator = Accumulator {
+        alloc,
+        places,
+        listed,
+    };
+    Ok((coefficients, accumulator))
+}
+
+// A copy of the listed terms, which has room for no more, where no place holds anything but 0.
+fn close_listed(
+    alloc: Global,
+    places: MarkedPlaces,
+    mut listed: FractionTerms,
+) -> Result<(Coefficients, Accumulator), AllocError>
+    requires { AreZeros places }
+    ensures coefficients { IfOk result (λ r. r.0 ≡ listed) }
+    ensures zeros { IfOk result (λ r. AreZeros r.1) }
+    ensures count { IfOk result (λ r. length r.1 ≡ length places) }
+{
+    let terms = FractionTerms::of_slice(alloc, listed.items())?;
+    listed.clear();
+    let accumulator = Accumulator {
+        alloc,
+        places,
+        listed,
+    };
+    Ok((Coefficients::of_fractions(terms), accumulator))
+}

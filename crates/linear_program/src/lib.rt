@@ -1,0 +1,29 @@
+// Linear programs: forms with exact coefficients, and rows and variables with sides and kinds.
+#![tactic(auto)]
+
+mod accumulator;
+mod coefficients;
+mod decimal_terms;
+mod form;
+mod form_terms;
+mod fraction_terms;
+mod interval;
+mod kind;
+mod linear;
+mod marked_places;
+mod merged;
+mod pad;
+mod sum;
+mod terms;
+mod too_wide;
+
+pub use coefficients::Coefficients;
+pub use form::Form;
+pub use form_terms::FormTerms;
+pub use interval::Interval;
+pub use kind::Kind;
+pub use linear::Linear;
+pub use pad::Pad;
+pub use sum::Sum;
+pub use terms::Terms;
+pub use too_wide::Wide;

@@ -1,0 +1,88 @@
+-- The names that a text lists can be the names of a program.
+use Rattle.std.proofs.Common.{◌≡◌, ◌∙◌, ℕ, ◌+◌, ◌==◌, ◌<◌, ◌≤◌, ◌^◌, Bool, true, false, not, ◌&&◌, List, [], ◌∷◌, ◌++◌, length, take, Option, Some, None, All, refl, sym, ap, subst, arith, append_assoc, length-append, length-take}
+use Rattle.std.specs.Prelude.{is_some, nat_le, nat_lt, if◌then◌else◌}
+use Rattle.std.proofs.lemmas.Bool.{eqb-false, leb-true, ltb-true}
+use Rattle.std.proofs.lemmas.List.{append-nil, take_all}
+use Rattle.std.proofs.lemmas.List.Elements.{All-nil}
+use Rattle.std.proofs.Math.Seq.{take_at, drop_at}
+use Rattle.texts.specs.Judged.{IsClean, Last, first_reason, reason_at}
+use Rattle.texts.specs.Names.{IsName, is_name, place_of}
+use Rattle.texts.specs.Words.{word_at, words_of}
+use Rattle.texts.proofs.FirstReasons.{none_head}
+use Rattle.exact_numbers.specs.SpelledLemmas.{first_of_both, second_of_both}
+use Rattle.name_files.specs.Names.{AreNames, Counts, Standing, Tests, is_reserved, is_sole_name, is_used, line_reason, name_rules, name_tests, names_of, standing, tests_if, used_names, used_tests, with_name}
+use Rattle.name_files.specs.declared.fault.NameReason.TheVariants.{BadName, OtherCount, Repeated, Reserved}
+use Rattle.name_files.proofs.GrammarLemmas.{standing-more, standing-same}
+use Rattle.name_files.proofs.NameLemmas.{names_more}
+
+not_false : (b : Bool) → not b ≡ false → b ≡ true
+not_false true e = refl
+not_false false e = absurd cc
+
+not_true : (b : Bool) → not b ≡ true → b ≡ false
+not_true true e = absurd cc
+not_true false e = refl
+
+is_a_name : (word : List ℕ) → is_name word ≡ true → IsName word
+is_a_name word e =
+    let sizes = first_of_both _ _ e in
+    let some = eqb-false (length word) 0 (not_true _ (first_of_both _ _ sizes)) in
+    record { some = omega (arith, some); most = leb-true (length word) 255 (second_of_both _ _ sizes); each = second_of_both _ _ e }
+
+none_there : (o : Option ℕ) → is_some o ≡ false → o ≡ None
+none_there None e = refl
+none_there (Some i) e = absurd cc
+
+-- one name more, which passed its tests
+with_more : (c : Counts) (s : Standing) (words : List (List ℕ)) → c.used < 2 ^ 32 → AreNames s.names → first_reason (name_tests c s words) ≡ None → AreNames (with_name c s (word_at words 0)).names
+unfolding name_tests
+with_more c s words room are fine =
+    let last : Tests = tests_if (is_used c s) (used_tests s (word_at words 0)) in
+    let after = none_head (nat_le (c.used + c.further) s.count) OtherCount ((not (is_sole_name words), BadName) ∷ last) fine in
+    let sole = none_head (not (is_sole_name words)) BadName last after.1 in
+    by (is_used c s) refl (not_false (is_sole_name words) sole.0) sole.1
+  where
+    by : (used : Bool) → nat_lt (length s.names) c.used ≡ used → is_sole_name words ≡ true → first_reason (tests_if used (used_tests s (word_at words 0))) ≡ None
+        → AreNames (if used then s.names ++ word_at words 0 ∷ [] else s.names)
+    by true e sole tests =
+        let word : List ℕ = word_at words 0 in
+        let reserved = none_head (is_reserved word) Reserved ((is_some (place_of s.names word), Repeated) ∷ []) tests in
+        let repeated = none_head (is_some (place_of s.names word)) Repeated [] reserved.1 in
+        let name : is_name word ≡ true = second_of_both (length words == 1) (is_name word) sole in
+        let less = ltb-true (length s.names) c.used e in
+        let few : length s.names + 1 < 2 ^ 32 = omega (arith, less, room) in
+        names_more s.names word are (none_there (place_of s.names word) repeated.0) few (is_a_name word name) reserved.0
+    by false e sole tests = are
+
+-- one line more
+step : (c : Counts) (before : List (List ℕ)) (line : List ℕ) → c.used < 2 ^ 32 → AreNames (standing c before).names → line_reason c (standing c before) (words_of line) ≡ None → AreNames (standing c (before ++ line ∷ [])).names
+unfolding line_reason
+step c before line room are fine = by (length (words_of line) == 0) refl fine
+  where
+    by : (b : Bool) → (length (words_of line) == 0) ≡ b → (if b then None else first_reason (name_tests c (standing c before) (words_of line))) ≡ None → AreNames (standing c (before ++ line ∷ [])).names
+    by true e h = subst (λ (s : Standing). AreNames s.names) (sym (standing-same c before line e)) are
+    by false e h = subst (λ (s : Standing). AreNames s.names) (sym (standing-more c before line e)) (with_more c (standing c before) (words_of line) room are h)
+
+here_none : (c : Counts) (before : List (List ℕ)) (line : List ℕ) (rest : List (List ℕ)) (last : Last) → IsClean (name_rules c) (before ++ line ∷ rest) last → line_reason c (standing c before) (words_of line) ≡ None
+here_none c before line rest last clean =
+    let here : reason_at (name_rules c) (before ++ line ∷ rest) last (length before) ≡ line_reason c (standing c before) (words_of line) =
+    rw (take_at before (line ∷ rest) (length before) refl, drop_at before (line ∷ rest) (length before) refl) refl in
+    sym here ∙ clean.clean (length before) (omega (arith, length-append before (line ∷ rest)))
+
+all_lines : (c : Counts) (before rest : List (List ℕ)) (last : Last) → c.used < 2 ^ 32 → IsClean (name_rules c) (before ++ rest) last → AreNames (standing c before).names → AreNames (standing c (before ++ rest)).names
+all_lines c before [] last room clean are = subst (λ ls. AreNames (standing c ls).names) (sym (append-nil before)) are
+all_lines c before (line ∷ rest) last room clean are =
+    let one : (before ++ line ∷ []) ++ rest ≡ before ++ line ∷ rest = append_assoc before (line ∷ []) rest in
+    let next = step c before line room are (here_none c before line rest last clean) in
+    subst (λ ls. AreNames (standing c ls).names) one (all_lines c (before ++ line ∷ []) rest last room (subst (λ ls. IsClean (name_rules c) ls last) (sym one) clean) next)
+
+no_names : (c : Counts) → AreNames (standing c []).names
+unfolding names_of
+no_names c = subst AreNames (sym (none c.used)) (record { few = omega arith; named = All-nil IsName; apart = λ i j d lt within. absurd (omega arith); free = All-nil (λ n. is_reserved n ≡ false) })
+  where
+    none : (n : ℕ) → take {A = List ℕ} n [] ≡ []
+    none n = take_all n [] (omega arith)
+
+-- lines that have no fault list names
+pub listed_names : (c : Counts) (lines : List (List ℕ)) (last : Last) → c.used < 2 ^ 32 → IsClean (name_rules c) lines last → AreNames (used_names c lines)
+listed_names c lines last room clean = all_lines c [] lines last room clean (no_names c)

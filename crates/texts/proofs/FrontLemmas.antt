@@ -1,0 +1,90 @@
+-- Lines that stand one after another, each with its LF, and a reader that goes on by them.
+use Rattle.std.proofs.Common.{◌≡◌, ◌∙◌, ℕ, ◌+◌, ◌≤◌, ◌^◌, List, [], ◌∷◌, ◌++◌, length, take, None, refl, sym, ap, arith, append_assoc}
+use Rattle.std.proofs.lemmas.List.{append-nil, length-append, length-take, take-take}
+use Rattle.std.proofs.lemmas.List.Sums.{fold-append}
+use Rattle.std.specs.List.{AllByRecursion}
+use Rattle.texts.specs.declared.grammar.Front.{Front}
+use Rattle.texts.specs.Cut.{IsTextLine, lines_text}
+use Rattle.texts.specs.Fronts.{IsFront, TakesFront, after_front}
+use Rattle.texts.specs.Judged.{Rules}
+use Rattle.texts.specs.Lines.{LinesState, StandsFor, scan, trimmed}
+use Rattle.texts.specs.Reading.{IsGoing}
+use Rattle.texts.proofs.Walk.{Walk, Keeps, next_byte, steps, walk}
+use Rattle.texts.proofs.WalkScan.{scan_is}
+use Rattle.texts.proofs.WalkSteps.{steps-line}
+use Rattle.texts.proofs.ScanLemmas.{kept, stands_more, scan-append}
+
+-- ---- the lines of a text
+
+pub steps-written : (lines : List (List ℕ)) (c : Walk) → c.fault ≡ None → c.rest ≡ [] → AllByRecursion IsTextLine lines → c.total + length (lines_text lines) ≤ 2 ^ 31
+    → ((steps c (lines_text lines)).lines ≡ c.lines ++ lines) × ((steps c (lines_text lines)).rest ≡ []) × ((steps c (lines_text lines)).fault ≡ None)
+    × ((steps c (lines_text lines)).total ≡ c.total + length (lines_text lines))
+steps-written [] c none empty all room = (sym (append-nil c.lines), empty, none, omega arith)
+steps-written (line ∷ lines) c none empty all room =
+    let len : length (lines_text (line ∷ lines)) ≡ (length line + 1) + length (lines_text lines) = length-append (line ++ 10 ∷ []) (lines_text lines) ∙ ap (λ (n : ℕ). n + length (lines_text lines)) (length-append line (10 ∷ [])) in
+    let short : length c.rest + length line ≤ 65536 = rw empty (let fits : length line ≤ 65536 = all.0.short in omega arith) in
+    let one = steps-line c line 10 none all.0.one.no_end refl short (omega arith) in
+    let next : Walk = record { lines = c.lines ++ trimmed (c.rest ++ line) ∷ []; rest = []; total = (c.total + length line) + 1; fault = None } in
+    let more = steps-written lines next refl refl all.1 (omega arith) in
+    let all_steps : steps c (lines_text (line ∷ lines)) ≡ steps next (lines_text lines) = fold-append next_byte c (line ++ 10 ∷ []) (lines_text lines) ∙ ap (λ (s : Walk). steps s (lines_text lines)) one in
+    let same : trimmed (c.rest ++ line) ≡ line = rw empty all.0.one.no_cr in
+    let grown : next.lines ++ lines ≡ c.lines ++ line ∷ lines = append_assoc c.lines (trimmed (c.rest ++ line) ∷ []) lines ∙ ap (λ (l : List ℕ). c.lines ++ l ∷ lines) same in
+    rw all_steps (more.0 ∙ grown, more.1, more.2, omega (arith, more.3, len))
+
+pub few_lines : (lines : List (List ℕ)) → length lines ≤ length (lines_text lines)
+few_lines [] = omega arith
+few_lines (line ∷ lines) = omega (arith, few_lines lines, length-append (line ++ 10 ∷ []) (lines_text lines), length-append line (10 ∷ []))
+
+-- ---- a front of a piece
+
+front_len : (piece : List ℕ) (front : Front) (lines : List (List ℕ)) → IsFront piece front lines → front.len ≡ length (lines_text lines)
+front_len piece front lines h = omega (arith, h.within, length-take front.len piece, ap length h.text)
+
+pub front_few : (piece : List ℕ) (front : Front) (lines : List (List ℕ)) → IsFront piece front lines → front.lines ≤ front.len
+front_few piece front lines h = omega (arith, h.count, front_len piece front lines h, few_lines lines)
+
+-- a front of a piece's front is one of the piece
+pub front_of_front : (n : ℕ) (piece : List ℕ) (front : Front) (lines : List (List ℕ)) → IsFront (take n piece) front lines → IsFront piece front lines
+front_of_front n piece front lines h =
+    let within : front.len ≤ n = omega (arith, h.within, length-take n piece) in
+    record {
+      within = omega (arith, h.within, length-take n piece);
+      text = sym (take-take front.len n piece within) ∙ h.text;
+      each = h.each;
+      count = h.count;
+    }
+
+-- ---- a reader
+
+fronted : (s : LinesState) (front : Front) (piece text : List ℕ) (lines : List (List ℕ)) → s.fault ≡ None → s.rest ≡ [] → s.total + front.len ≤ 2 ^ 31 → IsFront piece front lines → StandsFor text s
+    → StandsFor (text ++ take front.len piece) (after_front s front) × ((scan (text ++ take front.len piece)).lines ≡ (scan text).lines ++ lines)
+fronted s front piece text lines none empty room h k =
+    let len = front_len piece front lines h in
+    let at = kept text s k in
+    let fits : (walk text).total + length (lines_text lines) ≤ 2 ^ 31 = omega (arith, at.total none) in
+    let w = steps-written lines (walk text) (sym at.fault ∙ none) (sym (at.rest none) ∙ empty) h.each fits in
+    let moved : steps (walk text) (take front.len piece) ≡ steps (walk text) (lines_text lines) = ap (steps (walk text)) h.text in
+    let keeps : Keeps (steps (walk text) (take front.len piece)) (after_front s front) =
+    rw moved (record {
+      count = omega (arith, at.count, h.count, ap length w.0, length-append (walk text).lines lines);
+      fault = none ∙ sym w.2;
+      rest = λ _. empty ∙ sym w.1;
+      total = λ _. omega (arith, at.total none, w.3, len);
+      awaits = λ fault is. refl;
+    }) in (
+      stands_more text (take front.len piece) (after_front s front) keeps,
+      ap (λ c. c.lines) (scan-append text (take front.len piece)) ∙ ap (λ (c : Walk). c.lines) moved ∙ w.0
+          ∙ ap (λ ls. ls ++ lines) (sym (ap (λ c. c.lines) (scan_is text))),
+    )
+
+pub going-front : {R : Type 0} (rules : Rules R) (took now : List (List ℕ) → Type 0) (s : LinesState) (number : ℕ) (front : Front) (n : ℕ) (piece text : List ℕ) → s.fault ≡ None → s.rest ≡ [] → number ≡ s.count + 1
+    → s.total + front.len ≤ 2 ^ 31 → TakesFront rules took now (take n piece) number front → IsGoing rules took s text → IsGoing rules now (after_front s front) (text ++ take front.len piece)
+going-front rules took now s number front n piece text none empty next room h g =
+    let f = fronted s front piece text h.lines none empty room (front_of_front n piece front h.lines h.is) g.split in
+    let place : number ≡ length (scan text).lines + 1 = next ∙ ap (λ (k : ℕ). k + 1) g.split.count in
+    record {
+      split = f.0;
+      none = none;
+      clean = rw f.1 (h.clean (scan text).lines place g.taken g.clean);
+      taken = rw f.1 (h.taken (scan text).lines place g.taken);
+    }
