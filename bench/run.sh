@@ -1,7 +1,8 @@
 #!/usr/bin/env bash
 # Times the built program: `export` beside a plain converter on AMPL's own library (asl2mps.c, which is built here where
-# Debian's libamplsolver-dev is there), `mps`, which reads and writes, beside clp, which reads alone (coinor-clp), and
-# `verify` of large certificates.
+# Debian's libamplsolver-dev is there), `mps`, which reads and writes, beside clp, which reads alone (coinor-clp),
+# `verify` of large certificates, and `prove` beside `verify` on one tree of an integer program (coinor-libcoinutils-dev has
+# it, coinor-libclp1 serves the search for the tree, which takes about half a minute).
 #
 #     [TERMS="1000000 2000000 4000000"] [RUNS=5] bench/run.sh PROGRAM [BASELINE]
 #
@@ -105,3 +106,17 @@ for made in "leaves 18" "leaves 20" "planes 16384" "planes 65535"; do
     read -r seconds peak <<<"$(measure 0 "$program" verify "$work/$kind.nl" "$work/$kind.certificate")"
     printf '%16s %8s %14s %15s\n' "$made" "$seconds" "$(stat -c %s "$work/$kind.certificate")" "$peak"
 done
+
+echo
+echo "prove and verify: one tree of splits, that no point of lseu (89 binary variables, 28 rows) is better than 1120"
+lseu=/usr/share/coin/Data/Sample/lseu.mps
+if [ ! -f "$lseu" ]; then
+    echo "no $lseu: Debian's coinor-libcoinutils-dev is not there"
+elif "$program" import "$lseu" >"$work/lseu.nl" && figures=$(python3 "$here/proofs.py" "$program" "$work/lseu.nl" 1120 "$work"); then
+    words=(0 "$program" prove "$work/lseu.nl" "$work/lseu.proof" ::: 0 "$program" verify "$work/lseu.nl" "$work/lseu.certificate")
+    read -r seconds _ beside _ <<<"$(measure "${words[@]}")"
+    printf '%26s %8s %8s\n' tree prove verify
+    printf '%26s %8s %8s\n' "$figures" "$seconds" "$beside"
+else
+    echo "no tree was found: bench/proofs.py says why"
+fi

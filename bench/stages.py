@@ -19,9 +19,9 @@ import time
 # A stage and the functions that are its own; those of numbers and lists belong to several.
 STAGES = [
     ("reading", r"(nl_segments|nl_lines|nl_header)::"),
-    ("fold", r"linear_fold::(fold|owners|bodies|program|ascending|definitions|expression|accumulator)"),
-    ("scaling", r"row_scaling::(scale|scaled|scaled_rows|scaled_terms|factors|fraction_sides|objectives)::"),
-    ("program", r"(row_scaling|mps_export)::(export|columns|program_columns|bounds|rows|sides|names)::"),
+    ("fold", r"linear_fold::(fold|owners|bodies|program|ascending|definitions|expression)|linear_program::accumulator"),
+    ("scaling", r"scaling::"),
+    ("program", r"row_scaling::"),
     ("writing", r"mps_writer::"),
 ]
 

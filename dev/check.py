@@ -10,10 +10,11 @@ two builds of one crate do not go together: OWN (a variable, names of crates) ar
 their text is the same, since a crate below them differs.
 """
 import os
+import shutil
 import subprocess
 import sys
 
-KIT = "/opt/rattle"
+KIT = os.path.dirname(os.path.dirname(os.path.realpath(shutil.which("rt") or sys.exit("rt is not on the PATH"))))
 TOP = os.path.dirname(os.path.dirname(os.path.abspath(__file__)))
 GATE = os.path.abspath(os.environ.get("GATE", f"{TOP}/../gate"))
 PARTS = ("src", "specs", "proofs")

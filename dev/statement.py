@@ -4,10 +4,14 @@
     dev/statement.py CRATE/FILE:NAME ..   the definitions, by file, from the ground up, with their texts
     dev/statement.py --sizes              how large the statement of each theorem is
     dev/statement.py --write              writes docs/verify/reading.md: the statement of each theorem, by file
-    dev/statement.py --check              says whether docs/verify/reading.md is as --write makes it; status 1 where not
+    dev/statement.py --check              says whether docs/verify/reading.md is as --write makes it, and what a statement may
+                                          not rest on; status 1 where something is wrong
 
 A definition of `crates/CRATE/specs/FILE.antt` rests on those that its text names. Names of the toolchain's library and
 types that code declares (`specs.declared`) are not followed: the library is trusted, and a type says its parts itself.
+A value that holds a proof cites lemmas, which stand in files named `..Lemmas`. The machine checks them, and their types
+say nothing that the value's type does not say: they are counted apart, and what they alone rest on is no part of a
+statement. Files named `Inside..` have what only contracts of private code cite: no statement rests on them.
 """
 from __future__ import annotations
 
@@ -29,6 +33,8 @@ OUTSIDE = re.compile(r"^(?:unfoldable )?(?:pub )?use |^\s*(?:module|infix|mutual
 HEAD = re.compile(r"^\s*(?:(?:abbrev|unfoldable)\s+)?(?:pub\s+)?(?:(?:record|data)\s+)?([^\s:({]+)")
 CONSTRUCTOR = re.compile(r"^\s+([\w\-]+)\s*:")
 WORD = re.compile(r"[^\s(){}\[\];,]+")
+PROPOSITION = re.compile(r"[≡<≤∣≢]|\b(?:Is|Are|Has)[A-Z]")
+FIELD = re.compile(r"(?:^\s+|[{;]\s*)[\w\-]+ = ", re.M)
 
 
 @dataclass
@@ -43,6 +49,17 @@ class Definition:
     @property
     def text(self) -> str:
         return "\n".join(self.lines)
+
+    @property
+    def is_lemma(self) -> bool:
+        """Whether it stands in a file of lemmas."""
+        return self.key[1].endswith("Lemmas")
+
+    def is_proof(self) -> bool:
+        """Whether its type, up to its first clause, ends in a relation or in a proposition's name."""
+        own = self.key[2]
+        head = [self.lines[0], *(it for it in self.lines[1:] if not re.match(rf"\s*({re.escape(own)}|unfolding)\b", it))]
+        return bool(PROPOSITION.search(" ".join(head)))
 
     def constructors(self) -> list[str]:
         """The names of the cases, where it is a data type."""
@@ -124,9 +141,23 @@ class Statement:
         return self.resolve(other, own) if other else None
 
     def rests_on(self, key: Key) -> set[Key]:
-        """The definitions that one names."""
+        """The definitions that one names, without lemmas."""
+        return {it for it in self.names_in(key) if not self[it].is_lemma}
+
+    def lemmas_below(self, keys: list[Key]) -> list[Key]:
+        """The lemmas that these cite, with those that they rest on."""
+        found: set[Key] = set()
+        left = list(keys)
+        while left:
+            cited = {it for it in self.names_in(left.pop()) if self[it].is_lemma} - found
+            found |= cited
+            left += cited
+        return sorted(found)
+
+    def names_in(self, key: Key) -> set[Key]:
+        """The definitions that one names, lemmas among them."""
         file, text = self.files[key[:2]], self[key].text
-        names = set(WORD.findall(text))
+        names = set(WORD.findall(FIELD.sub(" { ", text)))
         names |= {name.split(".")[0] for name in names}
         operators = [*file.imports, *file.definitions]
         names |= {name for name in operators if name.startswith("◌") and name.strip("◌") in text}
@@ -185,10 +216,14 @@ THEOREMS = (
             "What `export` answers, writes and tells, and what its program means. `nl_model/File` is the value of an .nl "
             "text, `nl_segments/Reader` (`IsNl`) says which texts are .nl texts and what they say, `file_meaning/Meaning` "
             "which assignments satisfy a file, `nl_meaning/Faults` and `file_meaning/FoldFaults` what does not fold, "
-            "`exported_program` which program is written, `mps_model/Mps` what a program means, `mps_model/Text` and "
-            "`mps_reader` its text, `bridge_tool/Export` and `Promise` what is promised of all that."),
+            "`exported_program` which program is written, `mps_model/Mps` what a program means, `mps_model/Text` its "
+            "text, `bridge_tool/Export` and `Promise` what is promised of all that."),
     Theorem("what an export means", ("bridge_tool/Export:MeansTheFile",),
             "The program that is written means what the file means: this much has to be read to believe only that."),
+    Theorem("what an export is read as",
+            ("nl_segments/Reader:IsNl", "bridge_tool/Export:IsExported", "export_round_trip/ReadAs:IsReadAs"),
+            "Each text that a file is exported as is read, as an MPS text, as the program that was exported (the law "
+            "`exports_are_read_back`; with names, `named_exports_are_read_back`)."),
     Theorem("export with names", (HEADLINE, "bridge_tool/NamedExport:named_promise"),
             "The same with two lists: `name_files/Names` says which texts are lists, `Renamed` what names change."),
     Theorem("return", (HEADLINE, "bridge_tool/Return:return_promise"),
@@ -216,6 +251,10 @@ OPENING = (
     "theorem rests on the definitions below, from the ground up; `dev/statement.py CRATE/FILE:NAME` prints their texts.",
     "Paths are `crates/CRATE/specs/FILE.antt`, the number before a name is its line. Who finds that they say what the words",
     "mean, and trusts the toolchain, believes the theorem: no code and no proof need be read.",
+    "",
+    "A value that holds a proof, as a fraction that it is in lowest terms, is made by a lemma. Lemmas stand in files named",
+    "`..Lemmas` and are not to be read, since the value's type says all that they give: the last column counts them, and the",
+    "column before it leaves them out.",
 )
 
 CLOSING = (
@@ -245,6 +284,12 @@ def whole_size(statement: Statement, keys: list[Key]) -> str:
     return f"{size_of([statement[key] for key in keys])}, {len(files)} files, {len(crates)} crates"
 
 
+def lemma_size(statement: Statement, keys: list[Key]) -> str:
+    """How many lines the lemmas are that these cite."""
+    lines = sum(len(statement[it].lines) for it in statement.lemmas_below(keys))
+    return f"{lines} lines"
+
+
 def printed(statement: Statement, roots: list[Key]) -> str:
     """The texts of all definitions, by file."""
     keys = statement.closure(roots)
@@ -253,7 +298,8 @@ def printed(statement: Statement, roots: list[Key]) -> str:
         lines.append(f"==== crates/{crate}/specs/{file}.antt: {size_of(found)}\n")
         for it in found:
             lines += [*it.comment, *it.lines, ""]
-    return "\n".join([*lines, whole_size(statement, keys)])
+    cited = f"lemmas that they cite, not to be read: {lemma_size(statement, keys)}"
+    return "\n".join([*lines, whole_size(statement, keys), cited])
 
 
 def section(statement: Statement, keys: list[Key], known: set[Key]) -> list[str]:
@@ -274,15 +320,29 @@ def section(statement: Statement, keys: list[Key], known: set[Key]) -> list[str]
 def reading(statement: Statement) -> str:
     """The text of docs/verify/reading.md."""
     found = {it.name: statement.closure([key_of(root) for root in it.roots]) for it in THEOREMS}
-    lines = [*OPENING, "", "| theorem | definitions that say it | its statement |", "|---|---|---|"]
+    lines = [*OPENING, "", "| theorem | definitions that say it | its statement | lemmas |", "|---|---|---|---|"]
     for it in THEOREMS:
         roots = ", ".join(f"`{root}`" for root in it.roots)
-        lines.append(f"| {it.name} | {roots} | {whole_size(statement, found[it.name])} |")
+        sizes = f"{whole_size(statement, found[it.name])} | {lemma_size(statement, found[it.name])}"
+        lines.append(f"| {it.name} | {roots} | {sizes} |")
     known: set[Key] = set()
     for it in THEOREMS[:-1]:
         lines += ["", f"## {it.name}", "", it.sentence, "", *section(statement, found[it.name], known)]
         known = known or set(found[it.name])
     return "\n".join([*lines, *CLOSING]) + "\n"
+
+
+def complaints(statement: Statement) -> list[str]:
+    """What statements rest on and may not: what is inside, and a lemma whose type is no proposition."""
+    found = set()
+    for it in THEOREMS:
+        for key in statement.closure([key_of(root) for root in it.roots]):
+            if key[1].startswith("Inside"):
+                found.add(f"{'/'.join(key)} is part of the statement of `{it.name}`")
+            for lemma in statement.names_in(key):
+                if statement[lemma].is_lemma and not statement[lemma].is_proof():
+                    found.add(f"{'/'.join(lemma)} is no proof, and {'/'.join(key)} cites it")
+    return sorted(found)
 
 
 def main(words: list[str]) -> int:
@@ -292,14 +352,16 @@ def main(words: list[str]) -> int:
     if words == ["--sizes"]:
         for it in THEOREMS:
             keys = statement.closure([key_of(root) for root in it.roots])
-            print(f"{it.name}: {whole_size(statement, keys)}")
+            print(f"{it.name}: {whole_size(statement, keys)}; lemmas: {lemma_size(statement, keys)}")
     elif words == ["--write"]:
         READING.parent.mkdir(parents=True, exist_ok=True)
         READING.write_text(reading(statement))
     elif words == ["--check"]:
+        found = complaints(statement)
         if not READING.exists() or READING.read_text() != reading(statement):
-            print(f"{READING.relative_to(TOP)} is not as the definitions are: dev/statement.py --write")
-            return 1
+            found.append(f"{READING.relative_to(TOP)} is not as the definitions are: dev/statement.py --write")
+        print("\n".join(found), end="\n" if found else "")
+        return 1 if found else 0
     else:
         print(printed(statement, [key_of(word) for word in words]))
     return 0

@@ -6,7 +6,6 @@ import hashlib
 import json
 import os
 import re
-import subprocess
 import time
 from typing import Iterator, NamedTuple
 
@@ -15,9 +14,9 @@ try:
 except ImportError:
     raise SystemExit("packaging/build: needs Python 3.11 or later") from None
 
-TOP = os.path.dirname(os.path.dirname(os.path.realpath(__file__)))
+from sources import BUILT, TOP, noted, said_by
+
 PACKAGE = "bridge_drivers"
-BUILT = os.path.join(TOP, "crates", "bridge", "out", "bridge")
 DOCUMENTS = ("user/formats.md", "user/refusals.md", "user/commands.md", "verify/reading.md",
              "verify/theorems.md")
 DRIVER = "bridge_drivers.driver:main"       # commands of this kind share a man page
@@ -40,15 +39,6 @@ def read(*parts: str) -> bytes:
         return f.read()
 
 
-def said_by(*words: str) -> str:
-    """What a command says, or nothing where it is not there or fails."""
-    try:
-        ran = subprocess.run(words, cwd=TOP, capture_output=True, text=True, check=False)
-    except OSError:
-        return ""
-    return ran.stdout.strip() if ran.returncode == 0 else ""
-
-
 def epoch() -> int:
     """The time of every file: SOURCE_DATE_EPOCH, else that of the commit, else 1980."""
     given = os.environ.get("SOURCE_DATE_EPOCH") or said_by("git", "log", "-1", "--format=%ct")
@@ -56,14 +46,22 @@ def epoch() -> int:
 
 
 class Project:
-    """A clone with a program: `proved` says that it is the one that the clone's gate built."""
+    """A clone with a program: that which its gate built and proved from the sources that are
+    there, or another one, which may not be proved."""
 
-    def __init__(self, program: str, proved: bool) -> None:
+    def __init__(self, other: str | None) -> None:
+        program = other or BUILT
+        self.proved, self.toolchain = not other, said_by("rt", "--version")
+        if self.proved:
+            facts, why = noted()
+            if why:
+                raise Unfit(f"{os.path.relpath(BUILT, TOP)}: {why}. Run .ci/run first")
+            self.toolchain = facts["toolchain"]
         with open(program, "rb") as f:
             self.program = f.read()
         if self.program[:4] != b"\x7fELF" or self.program[18:20] != X86_64:
             raise Unfit(f"{program} is no program for x86-64")
-        self.proved, self.epoch = proved, epoch()
+        self.epoch = epoch()
         self.table = tomllib.loads(read("drivers", "pyproject.toml").decode())["project"]
         self.name: str = self.table["name"]
         self.scripts: dict[str, str] = dict(sorted(self.table["scripts"].items()))
@@ -73,6 +71,12 @@ class Project:
             raise Unfit("bridge_drivers has no VERSION")
         self.version = found.group(1)
 
+    def maintainer(self) -> str:
+        """The project's, or that of whoever builds packages for others, as Debian's tools ask."""
+        own = self.table["maintainers"][0]
+        return f"{os.environ.get('DEBFULLNAME', own['name'])} " \
+               f"<{os.environ.get('DEBEMAIL', own['email'])}>"
+
     def glibc(self) -> tuple[int, int]:
         """The version of the C library that the program needs."""
         return max((int(a), int(b))
@@ -81,7 +85,7 @@ class Project:
     def built(self) -> bytes:
         """What `nl-bridge version` tells of the program."""
         facts = {"sha256": hashlib.sha256(self.program).hexdigest(),
-                 "toolchain": said_by("rt", "--version"),
+                 "toolchain": self.toolchain,
                  "commit": said_by("git", "describe", "--always", "--dirty", "--abbrev=40",
                                    "--exclude=*"),
                  "proved": "yes" if self.proved else "no"}

@@ -9,11 +9,11 @@ import subprocess
 import tempfile
 import time
 
-from contents import TOP, File, Project, Unfit, read
+from contents import File, Project, Unfit, read
+from sources import TOP
 
 ARCHITECTURE = "amd64"
 MODULES = "usr/lib/python3/dist-packages"
-MAINTAINER = "Tiwheruko <tiwheruko@localhost>"
 SOLVERS = "coinor-clp, glpk-utils, lp-solve, minizinc, python3-pulp, python3-scipy, qsopt-ex"
 COMMAND = """#!/usr/bin/python3
 import signal
@@ -69,7 +69,7 @@ def copyright_of() -> bytes:
 def changelog(project: Project) -> bytes:
     when = time.strftime("%a, %d %b %Y %H:%M:%S +0000", time.gmtime(project.epoch))
     return zipped(f"{project.name} ({project.version}) unstable; urgency=medium\n\n"
-                  f"  * Built from the clone.\n\n -- {MAINTAINER}  {when}\n".encode())
+                  f"  * Built from the clone.\n\n -- {project.maintainer()}  {when}\n".encode())
 
 
 def files(project: Project) -> list[File]:
@@ -96,7 +96,7 @@ def control(project: Project, inside: list[File]) -> list[File]:
     size = sum(-(-len(f.data) // 1024) for f in inside)
     major, minor = project.glibc()
     fields = [f"Package: {project.name}", f"Version: {project.version}",
-              f"Architecture: {ARCHITECTURE}", f"Maintainer: {MAINTAINER}",
+              f"Architecture: {ARCHITECTURE}", f"Maintainer: {project.maintainer()}",
               f"Installed-Size: {size}", f"Depends: libc6 (>= {major}.{minor}), python3 (>= 3.9)",
               "Recommends: coinor-cbc", f"Suggests: {SOLVERS}", "Section: math",
               "Priority: optional", f"Description: {project.table['description']}"]

@@ -7,7 +7,8 @@ import hashlib
 import time
 import zipfile
 
-from contents import PACKAGE, TOP, File, Project, read
+from contents import PACKAGE, File, Project, read
+from sources import TOP
 
 LEVEL = 9
 
@@ -41,6 +42,7 @@ def facts(project: Project) -> list[File]:
     folder = name_of(project) + ".dist-info"
     metadata = ["Metadata-Version: 2.1", f"Name: {project.name}", f"Version: {project.version}",
                 f"Summary: {project.table['description']}", "License: MIT",
+                f"Maintainer-email: {project.maintainer()}",
                 f"Requires-Python: {project.table['requires-python']}"]
     for extra, needs in project.table["optional-dependencies"].items():
         metadata.append(f"Provides-Extra: {extra}")

@@ -128,6 +128,9 @@ def scale_cases():
     for term, entry in [("-0", "obj 0"), ("+1.50e1", "c0 15"), ("1e38", "c0 1e38"), ("0e999999999", "obj 0"), (".5", "c0 0.5"), (str(BIG), f"c0 {BIG}")]:
         yield written(f"term {term}", one_term(term), one_term_mps(f" x0 {entry}"))
     yield refused("a wide side", one_term("1", "1 2e38"), "row 0: row too wide")
+    for bound, ends in [("2 1e30", " LO BND x0 1e30/ PL BND x0"), ("0 -1e30 1e40", " LO BND x0 -1e30/ UP BND x0 1e40")]:
+        far = file((1, 1, 0, 0, 0, 1, 0, 0), f"r / 2 1e30 / b / {bound} / J0 1 / 0 1")
+        yield written(f"no bound is infinite: {bound}", far, mps(f"ROWS/ N obj/ G c0/COLUMNS/ x0 c0 1/RHS/ RHS c0 1e30/BOUNDS/{ends}"))
     tied = (1, 0, 1, 0, 0, 0, 1, 0)
     tie = "ROWS/ N obj/ E zdef/COLUMNS/ x0 zdef 1/ z obj 1/ z zdef -3/RHS{}/BOUNDS/ FR BND x0/ FR BND z"
     yield written("a tied objective", file(tied, "O0 0 / o3 / v0 / n3 / b / 3 / G0 1 / 0 0"), mps(tie.format("")))

@@ -1,7 +1,7 @@
 """`verify NL CERTIFICATE`: each claim of a solver with its certificate, each verdict, and each fault of a certificate's text."""
 from . import texts
 from .check import EXACT
-from .texts import BIG, bad_words, file, lines, text
+from .texts import BIG, KNAPSACK, bad_words, file, lines, text
 
 ROW = "O0 0 / n0 / r / {} / b / {} / J0 1 / 0 {} / G0 1 / 0 {}"
 
@@ -28,6 +28,19 @@ NO_OBJECTIVE = text(file((1, 1, 0, 0, 1, 1, 0, 0), "r / 0 1 2 / b / 3 / J0 1 / 0
 TWO = text(file((1, 1, 2, 0, 1, 1, 2, 0), "O0 0 / n0 / O1 1 / n0 / r / 2 2 / b / 0 0 5 / J0 1 / 0 2 / G0 1 / 0 1 / G1 1 / 0 3"))
 PRODUCT = text(file((2, 1, 1, 0, 0, 0, 0, 0), "O0 0 / o2 / v0 / v1 / r / 1 1 / b / 3 / 3"))
 TINY = f"1/{BIG}"
+COLLECTIONS = {
+    "samp1": "73/3",
+    "exmip1": "123/38",
+    "toy": "-5854102608999999751747255006807/2236068031500000000000000000000",
+    "atm_5_10_1": "29835072266811108087/499716304191452",
+}
+# A model, the line where these numbers of its certificate are cut to nine digits, and the numbers.
+SHORTER = [
+    ("samp1", "row 1 broken", (b"8/3", b"2.66666667"), (b"10/3", b"3.33333333")),
+    ("samp1", "leaf 1 gap 2433333333/100000000", (b"11/9", b"1.222222222"), (b"5/9", b".555555555")),
+    ("exmip1", "row 4 broken", (b"5/19", b".263157895")),
+    ("exmip1", "leaf 0 gap 323684210163/100000000000", (b"-10/19", b"-.526315789")),
+]
 
 
 def verdict(name, program, certificate, line, seconds=600):
@@ -84,8 +97,22 @@ def ray_cases():
     yield verdict("a ray in the wrong sense", row(bound="2 0"), "unbounded 0 / point 1 / 0 1 / ray 1 / 0 1", "ray does not improve")
 
 
+def plane_cases():
+    """A plane on the objective: at most 17, or at least 18, where each part is a contradiction; a rounded row, whose part beyond is one."""
+    found, plane = "optimal 0 / point 2 / 0 1 / 1 1", "plane 3 {} / 0 10 / 1 7 / 2 12 / duals 1 / 1 1"
+    beyond = "split 2 0 / weights 1 / 1 1 / split 0 0 / split 1 0 / weights 1 / 1 1 / weights 1 / 0 -1 / weights 1 / 0 -1"
+    program = text(KNAPSACK)
+    yield verdict("a plane on the objective", program, f"{found} / {plane.format(17)} / {beyond}", "optimal 17")
+    yield verdict("the same as a bound", program, f"bound 0 17 / {plane.format(17)} / {beyond}", "bound 17")
+    yield verdict("a plane that cuts the point off", program, f"{found} / {plane.format(16)} / {beyond}", "leaf 1 gap 0")
+    yield verdict("a part beyond that has points of the relaxation", program, f"{found} / {plane.format(17)} / weights 1 / 1 1", "leaf 1 gap -11")
+    cut = "plane 2 1 / 0 1 / 1 1 / duals 1 / 1 1 / weights 2 / 0 -1 / 1 2"
+    yield verdict("a rounded row", ROUNDED, f"optimal 0 / point 1 / 0 1 / {cut}", "optimal 1")
+    yield verdict("a row that is not rounded", ROUNDED, "optimal 0 / point 1 / 0 1 / duals 1 / 0 1/2", "leaf 0 gap 3/2")
+
+
 def lemma_cases():
-    """A lemma over a continuous variable, y - 7 x at most 0; a plane on the objective."""
+    """A lemma over a continuous variable, y - 7 x at most 0."""
     rest = " / duals 1 / 1 1"
     yield verdict("a lemma", CHARGE, "bound 0 7 / " + LEMMA.format(0) + rest, "bound 7")
     yield verdict("a lemma that is not shown", CHARGE, "bound 0 7 / " + LEMMA.format(-1) + rest, "leaf 0 gap 0")
@@ -96,9 +123,6 @@ def lemma_cases():
     yield verdict("an optimum by a lemma", CHARGE, "optimal 0 / point 2 / 0 7 / 1 1 / " + LEMMA.format(0) + rest, "optimal 7")
     yield verdict("duals in the proof of a lemma under infeasible", NO_OBJECTIVE,
                   "infeasible / lemma 1 2/3 / 0 1 / duals 1 / 0 1/3 / split 0 0 / weights 1 / 0 1 / weights 1 / 1 -1", "infeasible")
-    cut = "plane 2 1 / 0 1 / 1 1 / duals 1 / 1 1 / weights 2 / 0 -1 / 1 2"
-    yield verdict("a rounded row", ROUNDED, f"optimal 0 / point 1 / 0 1 / {cut}", "optimal 1")
-    yield verdict("a row that is not rounded", ROUNDED, "optimal 0 / point 1 / 0 1 / duals 1 / 0 1/2", "leaf 0 gap 3/2")
 
 
 def wide_cases():
@@ -112,6 +136,10 @@ def wide_cases():
     yield verdict("a bound that is infinite to some", row(bound="0 0 1e40"), "feasible 0 / point 1 / 0 1", "feasible 1")
     yield verdict("a lower bound beyond every number", row(bound="2 1e40"), "feasible 0 / point 1 / 0 1", "bound 0 broken")
     yield verdict("a leaf that uses it", row(bound="0 0 1e40", cost="-1"), "bound 0 0 / duals 0", "leaf 0 too wide")
+    far = row(side="2 1e30", factor="1")
+    yield verdict("a row that many solvers drop", far, "optimal 0 / point 1 / 0 1e30 / duals 1 / 0 1", f"optimal {10**30}")
+    yield verdict("a bound that many solvers drop", row(bound="2 1e30"), "optimal 0 / point 1 / 0 1e30 / duals 0", f"optimal {10**30}")
+    yield verdict("no ray where a solver says unbounded", row(bound="0 0 1e30", cost="-1"), "unbounded 0 / point 1 / 0 1 / ray 1 / 0 1", "ray bound 0 broken")
     yield verdict("a wide row of a ray", small, f"unbounded 0 / point 0 / ray 1 / 0 {TINY}", "too wide at ray row 0")
     yield verdict("a wide objective of a ray", row(bound="2 0", side="2 -9", cost="0.1"), f"unbounded 0 / point 0 / ray 1 / 0 {TINY}", "too wide at ray objective")
     yield verdict("a wide leaf", small, f"bound 0 0 / duals 1 / 0 -{TINY}", "leaf 0 too wide")
@@ -125,6 +153,24 @@ def exact_cases():
         number, point, duals = solution(answer.decode().split("\n"))
         yield verdict(f"a bound by the duals of {name}", program, [f"bound {number} {value}", *duals], f"bound {value}")
         yield verdict(f"the answer to {name}", program, [f"optimal {number}", *point, *duals], whole.get(name, f"optimal {value}"))
+
+
+def collection_cases():
+    """Optima without a short decimal of models of GLPK (samp1; samp2 is the same file), CoinUtils (exmip1, atm_5_10_1) and Bonmin
+    (toy), with certificates that `bridge-certify` found; and the same in nine digits."""
+    for name, value in COLLECTIONS.items():
+        program, certificate = collected(name)
+        yield texts.done(f"the optimum of {name}", "verify", program, certificate, out=f"optimal {value}\n")
+    for name, line, *numbers in SHORTER:
+        program, certificate = collected(name)
+        for exact, short in numbers:
+            certificate = certificate.replace(exact, short)
+        yield texts.done(f"{name} in nine digits: {line}", "verify", program, certificate, out=line + "\n", status=1)
+
+
+def collected(name):
+    """A model of a collection and its certificate."""
+    return (texts.data("data", "collections", f"{name}.{kind}") for kind in ("nl", "certificate"))
 
 
 def solution(answer):
@@ -199,9 +245,11 @@ def cases():
     yield from third_cases()
     yield from parity_cases()
     yield from ray_cases()
+    yield from plane_cases()
     yield from lemma_cases()
     yield from wide_cases()
     yield from exact_cases()
+    yield from collection_cases()
     yield from large_cases()
     yield from fault_cases()
     claim = lines("certificate 1 / bound 1 2 / duals 0")

@@ -52,7 +52,8 @@ class Certifier:
 
     def checked(self, answer: Answer) -> str:
         """What `bridge check` says of the .sol, in words. It wants duals: where there are none,
-        zeros ask for feasibility alone."""
+        zeros ask for feasibility alone, which fails where the file has constraints of which none is
+        exported."""
         name = "bridge"
         try:
             if answer.duals is None or not self.linear:
@@ -62,7 +63,7 @@ class Certifier:
             sol = self.job.path(name + ".sol")
             verdict = self.job.clock.timed("check", self.bridge.verdict, "check", self.nl, sol)
         except Refused as fault:
-            return fault.line()
+            return fault.line().removeprefix(self.job.path(name + ".sol") + ": ")
         return self.reading(verdict, name == "bridge")
 
     # the verdict -----------------------------------------------------------------

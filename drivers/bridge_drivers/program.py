@@ -12,6 +12,7 @@ from typing import Mapping
 
 LAST_COLUMN = re.compile(rb" x(\d+) ")
 MARKER = re.compile(rb"^ M\d+ 'MARKER' '(INTORG|INTEND)'\n(?: x(\d+) )?", re.M)
+FAR = re.compile(rb"^ \S+(?: BND)? (\S+) (-?(?:\d{20,}[\d.]*|[\d.]+e\d+))$", re.M)
 COST = re.compile(rb"^ (\S+) obj (\S+)$", re.M)
 CONSTANT = re.compile(rb"^ RHS obj (\S+)$", re.M)
 
@@ -60,6 +61,11 @@ class Program:
         """The objective at decimal texts, in doubles: for a message, never for a claim."""
         terms = [float(cost) * float(values[column]) for column, cost in self.costs.items()]
         return math.fsum([-float(self.objective_rhs)] + terms)
+
+    def far(self, size: float) -> int:
+        """How many sides, ranges and bounds are at least of that size, which is 1e20 or more."""
+        numbers = FAR.findall(self.text, self.text.index(b"\nRHS\n"))
+        return sum(abs(float(number)) >= size for name, number in numbers if name != b"obj")
 
     def free_name(self) -> bytes:
         """The text for readers that take `NAME nl` for fixed columns (all COIN readers)."""

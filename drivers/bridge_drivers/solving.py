@@ -4,6 +4,7 @@ from __future__ import annotations
 
 import os
 import shlex
+import shutil
 from dataclasses import dataclass, replace
 
 from .answer import Answer
@@ -50,12 +51,14 @@ class Solving:
         """The outcome. Failure where there is none."""
         if self.options.certificate:
             remove_older(self.options.certificate)
+        kept = os.path.join(self.folder, "text.nl")
         try:
-            text_form = prepared(self.nl, os.path.join(self.folder, "text.nl"),
-                                 bool(self.options.shortest))
+            text_form = prepared(self.nl, kept, bool(self.options.shortest))
         except BadFile as fault:
             raise Failure(Code.REFUSED, str(fault), Status.REFUSED) from None
         self.bridge.shown[text_form.path] = self.nl
+        if self.options.keep:
+            keep_model(text_form.path, kept)
         try:
             program = self.exported(text_form.path)
         except Refused as fault:
@@ -174,6 +177,8 @@ class Solving:
         """The .sol by `bridge return`, with a message whose last line is the verdict."""
         certifier = Certifier(self.bridge, nl, job, self.nl[:-3])
         lines = [self.headline(job, outcome, answer), *notes, *outcome.notes]
+        far = self.solver.far_note(job.program)
+        lines += [far] if far else []
         if missed.is_much():
             lines.append(f"its point misses {certifier.named(missed.name)} by {missed.share:.2g} "
                          "of the largest term")
@@ -271,6 +276,12 @@ class Solving:
         assert answer.values is not None
         share = max(miss(answer.program, answer.values).share, ROUNDING)
         return f"; no row or bound is missed by more than {share:.2g} of its largest term"
+
+
+def keep_model(path: str, kept: str) -> None:
+    """The model as it is judged: MiniZinc, for one, removes its file."""
+    if path != kept and not (os.path.exists(kept) and os.path.samefile(path, kept)):
+        shutil.copyfile(path, kept)
 
 
 def is_apart(one: float, other: float) -> bool:

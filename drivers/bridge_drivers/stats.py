@@ -21,7 +21,7 @@ from .sol import duals_of
 
 Exact = Union[int, Fraction]
 MOST_NAMED = 5                  # rows and numbers that are named of a long list
-INFINITE = 10 ** 30             # cbc, clp and lp_solve take it for no bound
+INFINITE = 10 ** 20             # a solver takes it for no bound
 OBJECTIVE, TIED_ROW, TIED = "obj", "zdef", "z"
 
 
@@ -229,8 +229,8 @@ def lines_of(f: Figures, factors: dict[str, str], names: Names) -> list[str]:
              f"coefficients  {f.sizes.line()} in rows, {f.cost_sizes.line()} in the objective",
              f"sides         {f.sides.line()}"]
     if f.infinite:
-        lines.append(f"infinite      {f.infinite} sides and bounds from 1e30 on, which cbc, clp "
-                     "and lp_solve take for none")
+        lines.append(f"infinite      {f.infinite} sides and bounds from 1e20 on: none to highs, to "
+                     "cbc and clp from 1e25, to lp_solve from 1e30")
     lost = [f"{text[:45]} ({where})" for where, text in f.lost]
     lines.append("not doubles   " + (f"{len(lost)} numbers: {named(lost)}" if lost else "none"))
     scaled = [f"{row_name(row, names)} by {factor}" for row, factor in factors.items()

@@ -11,7 +11,7 @@ import unittest
 from support import HAS_CLP, HERE, Case, Sol, knows
 from bridge_drivers import solvers
 from claim_models import CLAIMED
-from models import MODELS
+from models import FAR, MODELS
 
 
 class EndToEnd(Case):
@@ -50,6 +50,34 @@ class LargeFactors(Case):
             self.assertEqual((sol.code, sol.message[-1]), (0, "optimal 20001/2000"), sol.text)
 
 
+class FarBounds(Case):
+    """Sides and bounds that a solver takes for none: a line says so, and nothing false is proved
+    or passed on as solved."""
+
+    def through(self, driver: str) -> None:
+        solver = solvers.load(driver)
+        for name, (text, optimum) in FAR.items():
+            with self.subTest(model=name):
+                self.put(text)
+                program = os.path.join(HERE, "..", "bin", "bridge-" + driver)
+                ran = subprocess.run([sys.executable, program, self.stub, "-AMPL", "-e"],
+                                     stdin=subprocess.DEVNULL, capture_output=True, text=True)
+                self.assertEqual(ran.returncode, 0, ran.stderr)
+                sol = self.sol()
+                if sol.code == 505:
+                    continue
+                size = 10 ** 29 if name == "near" else 10 ** 30
+                is_told = bool(solver.infinite) and float(solver.infinite) <= float(size)
+                self.assertEqual("may take for none" in sol.text, is_told, sol.text)
+                self.assertNotIn(sol.message[-1], ("infeasible", "unbounded"))
+                if sol.message[-1].startswith("optimal"):
+                    self.assertEqual(sol.message[-1], f"optimal {optimum}")
+                elif name != "whole":
+                    self.assertNotEqual(sol.code, 0, sol.text)
+                if not is_told:
+                    self.assertEqual((sol.code, sol.values[0]), (0, optimum), sol.text)
+
+
 def add_tests() -> None:
     there = knows("verify")
     for driver in solvers.NAMES:
@@ -59,6 +87,9 @@ def add_tests() -> None:
                 self.through(driver, name)
             reason = f"no {driver}" if there else "no bridge that knows `verify`"
             setattr(EndToEnd, f"test_{driver}_{name}", unittest.skipUnless(solver, reason)(test))
+        def far(self: FarBounds, driver: str = driver) -> None:
+            self.through(driver)
+        setattr(FarBounds, f"test_{driver}", unittest.skipUnless(solver, reason)(far))
         if solvers.load(driver).integers:
             def factors(self: LargeFactors, driver: str = driver) -> None:
                 self.through(driver)

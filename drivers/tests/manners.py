@@ -15,7 +15,7 @@ from bridge_drivers import VERSION, solvers
 from bridge_drivers.certificates import Certifier
 from bridge_drivers.certify import clp
 from bridge_drivers.certify.claims import Verdict
-from models import MODELS
+from models import FAR, MODELS
 import stored
 
 
@@ -76,8 +76,9 @@ class Words(Case):
         self.assertRegex(ended.stdout, r"seconds: export .*; driver's own processor time \d")
         for name in ("model.mps", "coin.mps", "bridge.txt", "bridge.sol", "answer.bin"):
             self.assertTrue(os.path.exists(os.path.join(kept, name)), name)
-        with open(os.path.join(kept, "bridge.sol")) as a, open(self.stub + ".sol") as b:
-            self.assertEqual(a.read(), b.read())
+        for name, own in (("bridge.sol", ".sol"), ("text.nl", ".nl")):
+            with open(os.path.join(kept, name)) as a, open(self.stub + own) as b:
+                self.assertEqual(a.read(), b.read())
 
 
 @NEEDS_PROGRAM
@@ -354,6 +355,28 @@ class Claims(Case):
                 run["logs"]["solver.log"] = ["Problem is infeasible or unbounded"]
             self.assertRegex(self.last("cbc", "knap", run=run), line)
             self.assertIn(self.sol().code, (code, 100 if code == 290 else code))
+
+    def test_lp_solve_at_1e30(self) -> None:
+        """The size that it prints where there is no end: an answer where a bound is there."""
+        for name, value, code in (("lower", "1e+30", 0), ("upper", "1e+30", 300),
+                                  ("beyond", "1e+30", 300), ("side", "1e+30", 300),
+                                  ("near", "1e+29", 0)):
+            text, optimum = FAR[name]
+            self.put(text)
+            columns = ["x0", "x1"] if name == "upper" else ["x0"]
+            rows = ["c0"] if name in ("upper", "side") else []
+            log = ["", f"Value of objective function: {float(value):.8f}", "",
+                   "Actual values of the variables:", *(f"{j} {value}" for j in columns), "",
+                   "Dual values with from - till limits:", *(f"{i} 0" for i in rows + columns), ""]
+            run = {"files": {}, "logs": {"solver.log": log}}
+            last = self.last("lp_solve", name, run=run)
+            self.assertEqual(self.sol().code, code, self.sol().text)
+            if code:
+                self.assertTrue(last.startswith("not proved: "), last)
+            elif HAS_CLP:
+                self.assertIn(last, (f"optimal {optimum}", f"feasible {optimum}"))
+            self.assertEqual("1 side or bound from 1e30 on, which lp_solve may take for none"
+                             in self.sol().text, name != "near")
 
     def test_certificate(self) -> None:
         """It is kept where it is accepted, and judged again; an older one goes."""

@@ -150,6 +150,18 @@ MODELS = {
 }
 
 
+# Sides and bounds that some solvers take for none, each with the exact optimum.
+FAR = {
+    "lower": (nl([real("1e30")], [(None, None, {0: 1})], [("min", 0, {0: 1})]), 10 ** 30),
+    "upper": (nl([real(0, "1e30"), real()], [(None, 5, {0: 1, 1: -1})], [("max", 0, {0: 1})]),
+              10 ** 30),
+    "beyond": (nl([real(0, "1e31")], [], [("max", 0, {0: 1})]), 10 ** 31),
+    "side": (nl([real(None, None)], [("1e30", None, {0: 1})], [("min", 0, {0: 1})]), 10 ** 30),
+    "near": (nl([real("1e29")], [], [("min", 0, {0: 1})]), 10 ** 29),
+    "whole": (nl([whole(0, "1e30")], [(None, "2.5", {0: "0.5"})], [("max", 0, {0: 1})]), 5),
+}
+
+
 def is_solved(name: str) -> bool:
     """Whether a solver is reached at all."""
     return MODELS[name].code < 500 and name != "crossed"

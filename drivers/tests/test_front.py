@@ -201,8 +201,8 @@ class Figures(unittest.TestCase):
             "entries       4 in rows, 1 in the objective",
             "coefficients  0.3 to 1e+31 in rows, 2 to 2 in the objective",
             "sides         5 to 1e+30",
-            "infinite      1 sides and bounds from 1e30 on, which cbc, clp and lp_solve take for "
-            "none",
+            "infinite      1 sides and bounds from 1e20 on: none to highs, to cbc and clp from "
+            "1e25, to lp_solve from 1e30",
             "not doubles   1 numbers: 0.30000000000000004441 (c2 x2)",
             "scaled rows   1: c0 by 3"])
 

@@ -52,11 +52,20 @@ class Solver:
     again = ""                          # how it is asked where an answer is not good
     options: Sequence[Option] = ()      # its own
     version = ""                        # a pattern whose one group is the version in the log
+    infinite = ""                       # the size from which sides and bounds are none to it
 
     def named(self, log: str) -> str:
         """The title, with the version where the log has it."""
         found = re.search(self.version, log) if self.version else None
         return self.title + (" " + found.group(1) if found else "")
+
+    def far_note(self, program: Program) -> str:
+        """A line where the program has sides or bounds that are none to this solver."""
+        count = program.far(float(self.infinite)) if self.infinite else 0
+        if not count:
+            return ""
+        return f"the model has {count} {'side or bound' if count == 1 else 'sides or bounds'} " \
+               f"from {self.infinite} on, which {self.title} may take for none"
 
     def solve(self, job: Job) -> Outcome:
         raise NotImplementedError

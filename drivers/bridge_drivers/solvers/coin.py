@@ -27,6 +27,8 @@ class Saved(NamedTuple):
 
 
 class Coin(Solver):
+    infinite = "1e25"                   # of upper bounds; of others 1e30
+
     def model(self, job: Job) -> list[str]:
         """The words that name the model. To CoinUtils a `NAME nl` line means fixed columns, and
         OBJSENSE it ignores."""

@@ -23,6 +23,7 @@ class Highs(Solver):
     name, program, title = "highs", "a python3 with SciPy", "HiGHS of SciPy"
     version = r"HiGHS of SciPy (\S+)"
     again = "without presolve"
+    infinite = "1e20"
     options = (Option("mipgap", 0.0, float, "relative gap at which the search stops"),)
 
     def place(self, named: str = "") -> str | None:

@@ -1,4 +1,5 @@
-"""lp_solve: mixed integer programs. Its printed answers have six digits, and 1e30 is infinite."""
+"""lp_solve: mixed integer programs. Its printed answers have six digits, and 1e30 is infinite: in
+what it prints too, so that a column at 1e30 may have no end."""
 
 from __future__ import annotations
 
@@ -7,14 +8,16 @@ import math
 from ..codes import Code
 from ..job import Job
 from ..program import Program
+from ..sections import Sections
 from .base import Outcome, Solver, Unclear, first_line, stopped
 
-INFINITE = 1e29
+INFINITE = 1e30
 NOTE = "lp_solve prints six digits"
 
 
 class LpSolve(Solver):
     name, program, title = "lp_solve", "lp_solve", "lp_solve"
+    infinite = "1e30"
 
     def solve(self, job: Job) -> Outcome:
         options, p = job.options, job.program
@@ -35,11 +38,11 @@ class LpSolve(Solver):
             raise Unclear(first_line(ran.log, r"\S"))
         parts = parsed(ran.log)
         objective = objective_of(ran.log)
-        if abs(objective) >= INFINITE:
-            return Outcome(Code.UNBOUNDED, "unbounded")
         values = parts["values"]
         if set(values) != set(p.columns):
             raise Unclear("not all columns have a value")
+        if abs(objective) >= INFINITE and has_no_end(p, values):
+            return Outcome(Code.UNBOUNDED, "unbounded")
         duals = {name: y for name, y in parts["duals"].items() if name in p.kinds}
         costs = {name: d for name, d in parts["duals"].items() if name not in p.kinds}
         if p.whole and not options.relax or set(duals) != set(p.constraints):
@@ -50,6 +53,14 @@ class LpSolve(Solver):
 
     def reading(self, program: Program, path: str) -> list[str]:
         return ["-fmps", path, "-S4", "-mps_negobjconst"]
+
+
+def has_no_end(program: Program, values: dict[str, float]) -> bool:
+    """Whether a column at 1e30 is at no bound of its own."""
+    far = [name for name, value in values.items() if abs(value) >= INFINITE]
+    bounds = Sections(program.text).bounds if far else {}
+    return any(values[name] not in [float(end) for end in bounds[name] if end is not None]
+               for name in far)
 
 
 def objective_of(log: str) -> float:

@@ -1,0 +1,82 @@
+#!/usr/bin/env python3
+"""The sum of the sources that the program is built and proved from, and the gate's note of it.
+
+    packaging/sources.py                prints the sum of the sources as they stand
+    packaging/sources.py --note SUM     notes beside the built program its sum, that of its sources,
+                                        and the toolchain; SUM is that of the sources before the
+                                        gate, and status 1 says that they have changed since
+"""
+
+from __future__ import annotations
+
+import hashlib
+import json
+import os
+import subprocess
+import sys
+from typing import Iterator, Mapping
+
+TOP = os.path.dirname(os.path.dirname(os.path.realpath(__file__)))
+BUILT = os.path.join(TOP, "crates", "bridge", "out", "bridge")
+NOTE = BUILT + ".built"
+
+
+def said_by(*words: str) -> str:
+    """What a command says, or nothing where it is not there or fails."""
+    try:
+        ran = subprocess.run(words, cwd=TOP, capture_output=True, text=True, check=False)
+    except OSError:
+        return ""
+    return ran.stdout.strip() if ran.returncode == 0 else ""
+
+
+def paths() -> Iterator[str]:
+    """All that `rt ci` reads, in a fixed order."""
+    yield from ("HANDLES", "crates.txt")
+    for folder, inner, names in os.walk(os.path.join(TOP, "crates")):
+        inner[:] = sorted(name for name in inner if name != "out")
+        yield from (os.path.relpath(os.path.join(folder, name), TOP) for name in sorted(names))
+
+
+def sum_of(path: str) -> str:
+    with open(path, "rb") as f:
+        return hashlib.sha256(f.read()).hexdigest()
+
+
+def sources() -> str:
+    """The sum of the sources' paths and sums."""
+    lines = (f"{sum_of(os.path.join(TOP, path))}  {path}\n" for path in paths())
+    return hashlib.sha256("".join(lines).encode()).hexdigest()
+
+
+def note(before: str) -> None:
+    now = sources()
+    if now != before:
+        sys.exit("packaging/sources.py: the sources have changed while the gate ran")
+    facts = {"program": sum_of(BUILT), "sources": now, "toolchain": said_by("rt", "--version")}
+    with open(NOTE, "w", encoding="ascii") as f:
+        f.write(json.dumps(facts, indent=1) + "\n")
+
+
+def noted() -> tuple[Mapping[str, str], str]:
+    """The note, and why it does not say that the gate built this program from these sources;
+    nothing where it does."""
+    try:
+        with open(NOTE, encoding="ascii") as f:
+            facts: dict[str, str] = json.load(f)
+    except (OSError, ValueError):
+        return {}, "there is no note of its sources"
+    if facts.get("program") != sum_of(BUILT):
+        return facts, "it is not the program that was noted"
+    if facts.get("sources") != sources():
+        return facts, "it was built from other sources than these"
+    return facts, ""
+
+
+if __name__ == "__main__":
+    if sys.argv[1:2] == ["--note"] and len(sys.argv) == 3:
+        note(sys.argv[2])
+    elif len(sys.argv) == 1:
+        print(sources())
+    else:
+        sys.exit(__doc__)
