@@ -1,6 +1,6 @@
 // The places of suffixes by name.
 ghost use Rattle.std.specs.Prelude.{◌≡◌, ◌++◌, ◌∷◌, [], None, OnOk, OnErr};
-ghost use Rattle.answer_file.specs.NamedPlaces.{lookup_name, no_places, places_for, with_place};
+ghost use Rattle.answer_file.specs.InsideNamedPlaces.{lookup_name, no_places, places_for, with_place};
 
 use indexmap::IndexMap;
 use std::alloc::{AllocError, Global};
@@ -14,7 +14,7 @@ pub struct NameMap {
 
 impl Model for NameMap {
     ghost use Rattle.std.specs.Prelude.{List, ℕ};
-    ghost use Rattle.answer_file.specs.NamedPlaces.{by_name};
+    ghost use Rattle.answer_file.specs.InsideNamedPlaces.{by_name};
 
     ghost Value = { List (List ℕ × ℕ) };
 
@@ -60,7 +60,7 @@ pub struct NamedPlaces {
 }
 
 impl Model for NamedPlaces {
-    ghost use Rattle.answer_file.specs.NamedPlaces.{Places};
+    ghost use Rattle.answer_file.specs.InsideNamedPlaces.{Places};
 
     ghost Value = { Places };
 

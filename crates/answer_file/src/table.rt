@@ -32,7 +32,7 @@ pub struct SuffixTable {
 impl Model for SuffixTable {
     ghost use Rattle.std.specs.Prelude.{List};
     ghost use Rattle.nl_model.specs.File.{Suffix as SuffixOf};
-    ghost use Rattle.answer_file.specs.NamedPlaces.{IsTable};
+    ghost use Rattle.answer_file.specs.InsideNamedPlaces.{IsTable};
 
     ghost Value = { List SuffixOf };
 

@@ -13,8 +13,8 @@ use Rattle.certificate_check.specs.Leaves.{AreIndices}
 use Rattle.certificate_walk.specs.Walks.{IsWalkable}
 use Rattle.proof_text.specs.declared.proof.ProofNode.{ProofNode}
 use Rattle.proof_text.specs.declared.proof.ProofNode.TheVariants.{Split, Duals, Weights}
-use Rattle.branch_proof.specs.Converted.{HasCutNumber, IsTreeFor, node_with, pair_count}
-use Rattle.branch_proof.specs.Numbers.{AreAdded}
+use Rattle.branch_proof.specs.InsideConverted.{HasCutNumber, IsTreeFor, node_with, pair_count}
+use Rattle.branch_proof.specs.InsideNumbers.{AreAdded}
 use Rattle.branch_proof.specs.Proofs.{IsProofOf, IsTreeOf, Pair, ProofTree, ProofValue, split, duals, weights, nodes_of, number_of, pairs_of, spread, tree_over}
 
 none_taken : {A : Type 0} (xs : List A) → length xs ≤ 0 → xs ≡ []

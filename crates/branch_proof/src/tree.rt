@@ -2,8 +2,8 @@
 ghost use Rattle.std.specs.Prelude.{◌≡◌, [], IfOk, length};
 ghost use Rattle.linear_programs.specs.Linear.{Linear, row_count};
 ghost use Rattle.certificate_check.specs.Programs.{program_of};
-ghost use Rattle.branch_proof.specs.Converted.{HasCutNumber, IsTreeFor, node_with, pair_count};
-ghost use Rattle.branch_proof.specs.Numbers.{AreReady};
+ghost use Rattle.branch_proof.specs.InsideConverted.{HasCutNumber, IsTreeFor, node_with, pair_count};
+ghost use Rattle.branch_proof.specs.InsideNumbers.{AreReady};
 ghost use Rattle.branch_proof.specs.Proofs.{IsProofOf};
 
 use crate::numbers::Numbers;

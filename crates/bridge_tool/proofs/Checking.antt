@@ -15,7 +15,7 @@ use Rattle.certificate_check.specs.declared.fitting.FitFault.{FitFault}
 use Rattle.certificate_check.specs.declared.fitting.FitFault.TheVariants.{OtherCounts, NoPrimal, NoDual}
 use Rattle.certificate_check.proofs.Files.{certificates}
 use Rattle.file_meaning.specs.FoldFaults.{fold_fault, FoldFault as FileFault}
-use Rattle.file_meaning.specs.LinearFile.{linear_of, row_of}
+use Rattle.file_meaning.specs.LinearFile.{linear_of, linear_row}
 use Rattle.linear_programs.proofs.Elements.{elements_length}
 use Rattle.file_meaning.proofs.Files.{count_lem}
 use Rattle.linear_fold.specs.FoldedFaults.{first_fold_fault, named_fault}
@@ -81,7 +81,7 @@ module _ (nl : NlValue) (s : Sol) (fits : unfit nl s ≡ None) where
 
   rows_counted : (k : ℕ) → row_count (linear_of nl.file k) ≡ nl.file.counts.n_con
   unfolding linear_of
-  rows_counted k = elements_length (row_of nl.file) 0 nl.file.counts.n_con
+  rows_counted k = elements_length (linear_row nl.file) 0 nl.file.counts.n_con
 
   pub all_duals : (k : ℕ) → IsEmptyOrFull s.n_con (length s.duals) → length s.duals ≡ row_count (linear_of nl.file k)
   all_duals k given = full nl.file.counts.n_con (length s.duals) (subst (λ (n : ℕ). IsEmptyOrFull n (length s.duals)) (sym same.0) given) tests.2 ∙ sym (rows_counted k)

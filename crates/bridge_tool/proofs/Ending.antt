@@ -4,8 +4,8 @@ use Rattle.std.specs.Prelude.{IsTrue}
 use Rattle.std.specs.Global.{Vec}
 use Rattle.std.specs.Io.KnownBytes.{Appends}
 use Rattle.desk.specs.Desk.{Meaning, Rose, OnlyInput}
-use Rattle.bridge_tool.specs.Answer.{IsWorked, EndsWriting, HasWritten, HasStopped}
-use Rattle.bridge_tool.specs.Outcome.{Outcome, BadWords, Untold, NoText, Refused, Done, Status, Written, IsQuiet, line_of, verdict_status}
+use Rattle.bridge_tool.specs.InsideAnswer.{IsWorked, EndsWriting, HasWritten, HasStopped}
+use Rattle.bridge_tool.specs.Outcome.{Outcome, BadWords, Untold, NoText, Refused, Done, Status, Written, IsQuiet, told_line, verdict_status}
 use Rattle.bridge_tool.specs.Promise.{Promise}
 use Rattle.bridge_tool.specs.Told.{IsRefusalLine}
 use Rattle.bridge_tool.specs.Transfer.{AppendsPart}
@@ -41,7 +41,7 @@ memory_status NoText input output known = inr refl
 memory_status (Refused line) input output known = inr (inl refl)
 memory_status (Done holds bytes) input output known = inr (inl refl)
 
-pub line_none : (o : Outcome) (status : ℕ) → status ≤ 1 → line_of o status ≡ None
+pub line_none : (o : Outcome) (status : ℕ) → status ≤ 1 → told_line o status ≡ None
 line_none o zero le = refl
 line_none o (suc zero) le = refl
 line_none o (suc (suc n)) le = absurd (omega (arith, le))
@@ -61,7 +61,7 @@ not_quiet n le q = elim q [ inl e ↦ absurd (omega (arith, e, le)) | inr p ↦ 
 five_is_loud : IsQuiet 5 → ⊥
 five_is_loud q = elim q [ inl e ↦ absurd (omega (arith, e)) | inr p ↦ elim p [ inl e ↦ absurd (omega (arith, e)) | inr r ↦ elim r [ inl e ↦ absurd (omega (arith, e)) | inr e ↦ absurd (omega (arith, e)) ] ] ]
 
-no_line : (o : Outcome) (n : ℕ) (P : List ℕ → Type 0) → n ≤ 1 → IfSome (line_of o n) P
+no_line : (o : Outcome) (n : ℕ) (P : List ℕ → Type 0) → n ≤ 1 → IfSome (told_line o n) P
 no_line o n P le = rw (line_none o n le) tt
 
 -- the verdict is yes, or the command judges

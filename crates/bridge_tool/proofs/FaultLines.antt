@@ -22,7 +22,7 @@ use Rattle.scaling.specs.declared.scale_fault.ScaleFault.{ScaleFault}
 use Rattle.scaling.specs.declared.scale_fault.ScaleFault.TheVariants.{RowTooWide, ObjectiveTooWide}
 use Rattle.nl_segments.specs.Grammar.{NlValue}
 use Rattle.nl_segments.specs.Reader.{IsNl}
-use Rattle.nl_lines.specs.Saying.{PlaceLines, line_of}
+use Rattle.nl_lines.specs.Saying.{PlaceLines, place_line}
 use Rattle.nl_segments.proofs.CleanTexts.{has_lines_up_to}
 use Rattle.bridge_tool.specs.AnswerTold.{answer_reason_text}
 use Rattle.bridge_tool.specs.CertificateTold.{certificate_reason_text}
@@ -91,9 +91,9 @@ pub fixed_told : (text told : List ℕ) → IsFixedRefused text told → TellsLi
 fixed_told text told r = told_so fixed_rules mps_reason_text 1 text told r.fault r.first r.told
 
 placed_told : (text told why : List ℕ) (places : PlaceLines) (at : At) → HasLineUpTo (length (lines_of text)) places at → told ≡ placed_line places at why → TellsLine 1 text told
-placed_told text told why places at has e = by (line_of places at) refl has
+placed_told text told why places at has e = by (place_line places at) refl has
   where
-    by : (o : Option ℕ) → line_of places at ≡ o → IsSomeAnd o (λ line. (0 < line) × (line ≤ length (lines_of text))) → TellsLine 1 text told
+    by : (o : Option ℕ) → place_line places at ≡ o → IsSomeAnd o (λ line. (0 < line) × (line ≤ length (lines_of text))) → TellsLine 1 text told
     by None q h = absurd h
     by (Some line) q h = record { line = line; why = why; of_text = (h.0, (let within = h.1 in omega arith)); same = rw q at e }
 

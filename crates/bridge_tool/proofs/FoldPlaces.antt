@@ -18,7 +18,7 @@ use Rattle.file_meaning.specs.FoldFaults.{FoldFault as FileFault, Owner as FoldO
 use Rattle.linear_programs.specs.Elements.{elements_from}
 use Rattle.linear_fold.specs.declared.fold_fault.FoldFault.{FoldFault}
 use Rattle.linear_fold.specs.FoldedFaults.{HasFaultPlace, fault_for, first_fold_fault, named_fault, place_at}
-use Rattle.linear_fold.specs.OwnerFolds.{definitions_before, expression_at, fold_owner_of, known_by, owned_at}
+use Rattle.linear_fold.specs.InsideOwnerFolds.{definitions_before, expression_at, fold_owner_of, known_by, owned_at}
 use Rattle.linear_fold.proofs.BodyLemmas.{owners_are}
 use Rattle.linear_fold.proofs.CountLemmas.{count_zero}
 use Rattle.linear_fold.proofs.Folding.{constant_lined}

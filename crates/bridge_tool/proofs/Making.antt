@@ -20,7 +20,7 @@ use Rattle.scaling.specs.Scaled.{ScaledValue}
 use Rattle.desk.specs.Desk.{Meaning, OnlyMessages}
 use Rattle.texts.specs.declared.stop.Stop.{Stop}
 use Rattle.texts.specs.declared.stop.Stop.TheVariants.{Fault as IsFault, Memory as IsMemory}
-use Rattle.bridge_tool.specs.Answer.{Ends, EndsWriting, IsWorked, status_of}
+use Rattle.bridge_tool.specs.InsideAnswer.{Ends, EndsWriting, IsWorked, status_of}
 use Rattle.bridge_tool.specs.Command.{Command, Make}
 use Rattle.bridge_tool.specs.Commands.{Leaves}
 use Rattle.bridge_tool.specs.Export.{IsExported}

@@ -21,7 +21,7 @@ use Rattle.bridge_tool.specs.declared.answer.Answer.{Answer}
 use Rattle.bridge_tool.proofs.Decisions.{AreRead}
 use Rattle.bridge_tool.proofs.RefusalLines.{refusal_so, same_so}
 use Rattle.bridge_tool.proofs.SeveralFiles.{HasComeDown, IsSound, further, sound_after, stopped}
-use Rattle.bridge_tool.specs.Answer.{IsWorked}
+use Rattle.bridge_tool.specs.InsideAnswer.{IsWorked}
 use Rattle.bridge_tool.specs.Promise.{Promise}
 
 outcome_of : (counts : Counts) (text : List ℕ) → HasOneOutcome (name_rules counts) (lines_of text) (last_of text)

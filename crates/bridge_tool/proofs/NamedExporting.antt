@@ -24,7 +24,7 @@ use Rattle.bridge_tool.proofs.Staging.{a_program, exports_so, one_program, one_r
 use Rattle.bridge_tool.specs.declared.answer.Answer.{Answer}
 use Rattle.bridge_tool.specs.Refusal.{HasTextRefusal}
 use Rattle.nl_segments.specs.Reader.{IsNl}
-use Rattle.bridge_tool.specs.Answer.{IsWorked}
+use Rattle.bridge_tool.specs.InsideAnswer.{IsWorked}
 use Rattle.bridge_tool.specs.SeveralFiles.{ReadsFile}
 use Rattle.bridge_tool.proofs.Exporting.{nl_read}
 

@@ -9,7 +9,7 @@ use Rattle.exact_numbers.specs.Values.{dec_value, value_text}
 use Rattle.export_round_trip.specs.ReadAs.{IsReadAs}
 use Rattle.exported_program.specs.Export.{IsDecimal, factor_of_row, factor_of_objective}
 use Rattle.linear_programs.specs.Elements.{elements_from}
-use Rattle.file_meaning.specs.LinearFile.{linear_of, row_of, variable_of}
+use Rattle.file_meaning.specs.LinearFile.{linear_of, linear_row, linear_variable}
 use Rattle.linear_programs.proofs.Elements.{all_elements, elements_length}
 use Rattle.mps_model.specs.Mps.{Column, Mps, column_with, with_values}
 use Rattle.mps_model.specs.Text.{mps_text_by}
@@ -47,24 +47,24 @@ pub linear_named : (f : File) (k : ℕ) → IsFile f → IsNamedLinear (linear_o
 unfolding linear_of
 linear_named f k file =
     let counts = counts_of_header f.options f.counts file.ruled in
-    let rows : length (elements_from (row_of f) 0 f.counts.n_con) ≡ f.counts.n_con = elements_length (row_of f) 0 f.counts.n_con in
-    let variables : length (elements_from (variable_of f) 0 f.counts.n_var) ≡ f.counts.n_var = elements_length (variable_of f) 0 f.counts.n_var in
+    let rows : length (elements_from (linear_row f) 0 f.counts.n_con) ≡ f.counts.n_con = elements_length (linear_row f) 0 f.counts.n_con in
+    let variables : length (elements_from (linear_variable f) 0 f.counts.n_var) ≡ f.counts.n_var = elements_length (linear_variable f) 0 f.counts.n_var in
     record {
       few_rows = omega (arith, rows, counts.constraints);
       few_variables = omega (arith, variables, counts.variables);
-      rows = all_elements (row_of f) (λ (r : Row). IsNumbered row_name (length (elements_from (row_of f) 0 f.counts.n_con)) r.name) f.counts.n_con
+      rows = all_elements (linear_row f) (λ (r : Row). IsNumbered row_name (length (elements_from (linear_row f) 0 f.counts.n_con)) r.name) f.counts.n_con
           (λ i lt. record { number = i; below = omega (arith, lt, rows); same = refl });
-      variables = all_elements (variable_of f) (λ (v : Variable). IsNumbered variable_name (length (elements_from (variable_of f) 0 f.counts.n_var)) v.name) f.counts.n_var
+      variables = all_elements (linear_variable f) (λ (v : Variable). IsNumbered variable_name (length (elements_from (linear_variable f) 0 f.counts.n_var)) v.name) f.counts.n_var
           (λ j lt. record { number = j; below = omega (arith, lt, variables); same = refl });
     }
 
 row_count : (f : File) (k : ℕ) → length (linear_of f k).rows ≡ f.counts.n_con
 unfolding linear_of
-row_count f k = elements_length (row_of f) 0 f.counts.n_con
+row_count f k = elements_length (linear_row f) 0 f.counts.n_con
 
 column_count : (f : File) (k : ℕ) → length (linear_of f k).variables ≡ f.counts.n_var
 unfolding linear_of
-column_count f k = elements_length (variable_of f) 0 f.counts.n_var
+column_count f k = elements_length (linear_variable f) 0 f.counts.n_var
 
 by_objective : (l : Linear) (m : Mps ℚ) → IsNamedLinear l → IsExportOf l m → (IsDecimal l ⊎ (IsDecimal l → ⊥)) → HasExportedNames (length l.rows) (length l.variables) m
 by_objective l m is exports (inl d) = subst (HasExportedNames (length l.rows) (length l.variables)) (sym (exports.plain d)) (plain_names l (factor_of_row l) is)

@@ -6,7 +6,7 @@ use Rattle.linear_fold.specs.declared.fold_fault.FoldFault.{FoldFault}
 use Rattle.linear_fold.specs.declared.fold_fault.FoldFault.TheVariants.{Nonlinear, DivideByZero, TooWide, RefusedPower, FoldTooLarge, NoSuchObjective}
 use Rattle.mps_import.specs.declared.import_fault.ImportFault.{ImportFault}
 use Rattle.mps_import.specs.declared.import_fault.ImportFault.TheVariants.{EmptyInterval, TooWide as RowWide, TooLarge}
-use Rattle.nl_lines.specs.Saying.{PlaceLines, line_of}
+use Rattle.nl_lines.specs.Saying.{PlaceLines, place_line}
 use Rattle.nl_lines.specs.declared.fault.NlFault.{NlFault}
 use Rattle.scaling.specs.declared.scale_fault.ScaleFault.{ScaleFault}
 use Rattle.scaling.specs.declared.scale_fault.ScaleFault.TheVariants.{RowTooWide, ObjectiveTooWide}
@@ -41,11 +41,11 @@ pub nl_so : (f : NlFault) → IsRefusalLine (nl_line f)
 nl_so f = ended _ (more _ (opcode_text f.reason) (more _ (reason_text f.reason) (at_begins 1 (codes "line") f.line)))
 
 pub fold_so : (places : PlaceLines) (f : FoldFault) → IsRefusalLine (fold_line places f)
-fold_so places (Nonlinear at) = refusal_so 1 (codes "line") (or_zero (line_of places at)) (codes "nonlinear")
-fold_so places (DivideByZero at) = refusal_so 1 (codes "line") (or_zero (line_of places at)) (codes "division by zero")
-fold_so places (TooWide at) = refusal_so 1 (codes "line") (or_zero (line_of places at)) (codes "too wide")
-fold_so places (RefusedPower at) = refusal_so 1 (codes "line") (or_zero (line_of places at)) (codes "refused power")
-fold_so places (FoldTooLarge at) = refusal_so 1 (codes "line") (or_zero (line_of places at)) (codes "fold too large")
+fold_so places (Nonlinear at) = refusal_so 1 (codes "line") (or_zero (place_line places at)) (codes "nonlinear")
+fold_so places (DivideByZero at) = refusal_so 1 (codes "line") (or_zero (place_line places at)) (codes "division by zero")
+fold_so places (TooWide at) = refusal_so 1 (codes "line") (or_zero (place_line places at)) (codes "too wide")
+fold_so places (RefusedPower at) = refusal_so 1 (codes "line") (or_zero (place_line places at)) (codes "refused power")
+fold_so places (FoldTooLarge at) = refusal_so 1 (codes "line") (or_zero (place_line places at)) (codes "fold too large")
 fold_so places (NoSuchObjective k) = refusal_so 1 (codes "objective") k (codes "no such objective")
 
 pub scale_so : (k : ℕ) (f : ScaleFault) → IsRefusalLine (scale_line k f)

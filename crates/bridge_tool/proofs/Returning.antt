@@ -39,7 +39,7 @@ use Rattle.bridge_tool.proofs.NameLists.{lists_sound}
 use Rattle.bridge_tool.proofs.Staging.{one_reason, staged, staged_or_not, staged_so, unstaged_so}
 use Rattle.bridge_tool.specs.Refusal.{HasTextRefusal}
 use Rattle.nl_segments.specs.Reader.{IsNl}
-use Rattle.bridge_tool.specs.Answer.{IsWorked}
+use Rattle.bridge_tool.specs.InsideAnswer.{IsWorked}
 use Rattle.bridge_tool.specs.SeveralFiles.{ReadsFile}
 use Rattle.bridge_tool.proofs.Exporting.{nl_read}
 use Rattle.bridge_tool.specs.declared.answer.Answer.{Answer as Ended}

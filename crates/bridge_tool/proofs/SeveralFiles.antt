@@ -5,12 +5,12 @@ use Rattle.std.specs.Global.{Vec}
 use Rattle.desk.specs.Desk.{IsUnknown, Meaning, OnlyInput, Rose, Texts}
 use Rattle.texts.specs.declared.stop.Stop.{Stop}
 use Rattle.texts.specs.declared.stop.Stop.TheVariants.{Fault, Memory}
-use Rattle.bridge_tool.specs.Answer.{IsWorked, Ends, Missed}
+use Rattle.bridge_tool.specs.InsideAnswer.{IsWorked, Ends, Missed}
 use Rattle.bridge_tool.specs.Outcome.{Outcome, Untold, NoText, BadWords, Refused as IsRefusal, Done as IsDone, Status}
 use Rattle.bridge_tool.specs.Promise.{Promise}
 use Rattle.bridge_tool.specs.SeveralFiles.{Answered, ByValue, Comes, HasEnded, HasSaid, ReadsFile, Says, after_file, desk_promise, ends}
 use Rattle.bridge_tool.specs.Told.{IsRefusalLine}
-use Rattle.bridge_tool.specs.Transfer.{HasRead, HasReadCause, IsRead, Reads}
+use Rattle.bridge_tool.specs.Transfer.{HasRead, HasReadCause, IsFrontRead, ReadsFront}
 use Rattle.bridge_tool.specs.declared.answer.Answer.{Answer}
 use Rattle.bridge_tool.specs.declared.answer.Answer.TheVariants.{Done, Refused, BadWords as HasBadWords, InputFault, OutputFault, NoMemory}
 use Rattle.bridge_tool.specs.declared.transfer.Unread.{Unread}
@@ -188,9 +188,9 @@ pub record HasFirst {V : Type 0} (reads : List ℕ → V → Type 0) (texts : Te
   pub says : reads (take LIMIT text) value
   pub rest : left ≡ Some (drop LIMIT text)
 
-first_by : {V : Type 0} (reads : List ℕ → V → Type 0) (told : Option Texts) (texts : Texts) (file bytes : List ℕ) (left : Option (List ℕ)) (value : V) → told ≡ Some texts → Reads told file LIMIT bytes left → reads bytes value → HasFirst reads texts file left value
+first_by : {V : Type 0} (reads : List ℕ → V → Type 0) (told : Option Texts) (texts : Texts) (file bytes : List ℕ) (left : Option (List ℕ)) (value : V) → told ≡ Some texts → ReadsFront told file LIMIT bytes left → reads bytes value → HasFirst reads texts file left value
 first_by reads told texts file bytes left value is read says =
-    let r : IsRead texts file LIMIT bytes left = subst (λ (t : Option Texts). Reads t file LIMIT bytes left) is read in
+    let r : IsFrontRead texts file LIMIT bytes left = subst (λ (t : Option Texts). ReadsFront t file LIMIT bytes left) is read in
     record { text = r.text; named = r.named; says = subst (λ (b : List ℕ). reads b value) r.front says; rest = r.rest }
 
 first_of : {V : Type 0} (reads : List ℕ → V → Type 0) (texts : Texts) (file : List ℕ) (old new : Meaning) (value : V) → old.texts ≡ Some texts → HasSaid reads file old new value → HasFirst reads texts file new.left value

@@ -1,4 +1,4 @@
-pub mod Answer
+pub mod InsideAnswer
 pub mod AnswerTold
 pub mod CertificateTold
 pub mod Check

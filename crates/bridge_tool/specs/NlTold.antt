@@ -6,7 +6,7 @@ use Rattle.nl_model.specs.declared.at.At.{At}
 use Rattle.nl_lines.specs.declared.fault.NlFault.{NlFault}
 use Rattle.nl_lines.specs.declared.fault.NlReason.{NlReason}
 use Rattle.nl_lines.specs.declared.fault.NlReason.TheVariants.{BinaryFile, BadFirstLine, Options, BadHeaderNumber, CountsDisagree, RefusedCount, TooLarge, LineTooLong, UnknownSegment, RefusedSegment, RepeatedSegment, BadHead, IndexOut, BadLine, BadNumber, ShortSegment, ExtraLine, RefusedOpcode, RefusedLeaf, Undefined, Complementarity, EmptyInterval, BinaryBounds, RepeatedIndex, SosSuffix, Missing, NonzeroCount, ColumnCount, InputTooLong, EndInHeader}
-use Rattle.nl_lines.specs.Saying.{PlaceLines, line_of}
+use Rattle.nl_lines.specs.Saying.{PlaceLines, place_line}
 use Rattle.linear_fold.specs.declared.fold_fault.FoldFault.{FoldFault}
 use Rattle.linear_fold.specs.declared.fold_fault.FoldFault.TheVariants.{Nonlinear, DivideByZero, TooWide, RefusedPower, FoldTooLarge, NoSuchObjective}
 use Rattle.scaling.specs.declared.scale_fault.ScaleFault.{ScaleFault}
@@ -62,7 +62,7 @@ or_zero (Some line) = line
 
 -- a fault at a place of the file, by the place's line; each place that is asked for has one
 abbrev pub placed_line : PlaceLines → At → List ℕ → List ℕ
-placed_line places at text = refusal 1 (codes "line") (or_zero (line_of places at)) text
+placed_line places at text = refusal 1 (codes "line") (or_zero (place_line places at)) text
 
 -- the line of a fault of the fold
 abbrev pub fold_line : PlaceLines → FoldFault → List ℕ
@@ -75,7 +75,7 @@ fold_line places (NoSuchObjective k) = refusal 1 (codes "objective") k (codes "n
 
 -- a place has a line, which is one of so many
 abbrev pub HasLineUpTo : ℕ → PlaceLines → At → Type 0
-HasLineUpTo count places at = IsSomeAnd (line_of places at) (λ line. (0 < line) × (line ≤ count))
+HasLineUpTo count places at = IsSomeAnd (place_line places at) (λ line. (0 < line) × (line ≤ count))
 
 -- the place of a fault of the fold, where it has one, has such a line
 abbrev pub HasFaultLine : ℕ → PlaceLines → FoldFault → Type 0

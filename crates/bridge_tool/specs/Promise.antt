@@ -3,7 +3,7 @@ use Rattle.std.specs.Prelude.{◌≡◌, ◌⊎◌, ◌↔◌, ℕ, ◌≤◌, B
 use Rattle.std.specs.Io.KnownBytes.{Appends}
 use Rattle.desk.specs.Desk.{Meaning}
 use Rattle.bridge_tool.specs.Outcome.{Outcome, NoText, Refused, Done}
-use Rattle.bridge_tool.specs.Transfer.{TellsLine}
+use Rattle.bridge_tool.specs.Transfer.{TellsFront}
 
 pub record Promise : Type 1 where
   -- it comes to this outcome
@@ -18,7 +18,7 @@ pub record Promise : Type 1 where
 -- nothing is written, and this line is told
 pub record Tells (old new : Meaning) (line : List ℕ) : Type 0 where
   pub quiet : new.written ≡ old.written
-  pub told : TellsLine old.told new.told old.message_faults new.message_faults line
+  pub told : TellsFront old.told new.told old.message_faults new.message_faults line
 
 -- the input is refused, and its line is told
 pub record IsTurnedDown (p : Promise) (old new : Meaning) (status : ℕ) : Type 0 where

@@ -33,7 +33,7 @@ use Rattle.texts.specs.declared.stop.Stop.{Stop}
 use Rattle.texts.specs.declared.stop.Stop.TheVariants.{Fault, Memory}
 use Rattle.bridge_tool.specs.Outcome.{Outcome, Untold, NoText, Refused as IsRefusal, Done as IsDone}
 use Rattle.bridge_tool.specs.Promise.{Promise}
-use Rattle.bridge_tool.specs.Transfer.{Reads}
+use Rattle.bridge_tool.specs.Transfer.{ReadsFront}
 use Rattle.bridge_tool.specs.declared.answer.Answer.{Answer}
 use Rattle.bridge_tool.specs.declared.answer.Answer.TheVariants.{Done, Refused, BadWords, InputFault, OutputFault, NoMemory}
 use Rattle.bridge_tool.specs.declared.transfer.TheConstants.{LIMIT}
@@ -114,7 +114,7 @@ Answered (Err Memory) result = result ≡ Err NoMemory
 pub record HasSaid {V : Type 0} (reads : List ℕ → V → Type 0) (file : List ℕ) (old new : Meaning)
     (value : V) : Type 0 where
   pub bytes : List ℕ
-  pub read : Reads old.texts file LIMIT bytes new.left
+  pub read : ReadsFront old.texts file LIMIT bytes new.left
   pub says : reads bytes value
   pub same : new.input_faults ≡ old.input_faults
 

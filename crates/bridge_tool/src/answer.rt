@@ -1,6 +1,6 @@
 // How a command ends.
 ghost use Rattle.std.specs.Prelude.{◌≡◌};
-ghost use Rattle.bridge_tool.specs.Answer.{status_of, told_by};
+ghost use Rattle.bridge_tool.specs.InsideAnswer.{status_of, told_by};
 
 /// How a command ends: whether the verdict is yes, or the line of a refusal, or what failed.
 #[derive(Drop)]

@@ -2,7 +2,7 @@
 ghost use Rattle.std.specs.Prelude.{◌≡◌, ◌≢◌, List, ℕ, [], IfErr, length};
 ghost use Rattle.answer_file.specs.Names.{Setting, named_setting, setting_of};
 ghost use Rattle.answer_file.specs.Reading.{IsAnswer, IsFed};
-ghost use Rattle.bridge_tool.specs.Answer.{status_of};
+ghost use Rattle.bridge_tool.specs.InsideAnswer.{status_of};
 ghost use Rattle.bridge_tool.specs.Return.{IsAnswerRefused};
 ghost use Rattle.bridge_tool.specs.SeveralFiles.{ReadsFile, Says, itself};
 

@@ -5,7 +5,7 @@ ghost use Rattle.certificates.specs.Certificates.{IsCertificateIn};
 ghost use Rattle.nl_model.specs.File.{File};
 ghost use Rattle.certificate_text.specs.Reader.{IsFed, IsCertificateText};
 ghost use Rattle.certificate_text.specs.Setting.{setting_of};
-ghost use Rattle.bridge_tool.specs.Answer.{status_of};
+ghost use Rattle.bridge_tool.specs.InsideAnswer.{status_of};
 ghost use Rattle.bridge_tool.specs.Verify.{IsCertificateRefused};
 ghost use Rattle.bridge_tool.specs.SeveralFiles.{ReadsFile, Says, itself};
 ghost use Rattle.bridge_tool.specs.Transfer.{HasRead, HasReadCause};

@@ -10,7 +10,7 @@ ghost use Rattle.nl_model.specs.Rules.{IsFile};
 ghost use Rattle.nl_segments.specs.Reader.{HasLines, value_of};
 ghost use Rattle.certificate_check.specs.Answers.{answer_of};
 ghost use Rattle.certificate_check.specs.Terms.{values_of};
-ghost use Rattle.bridge_tool.specs.Answer.{IsWorked, status_of};
+ghost use Rattle.bridge_tool.specs.InsideAnswer.{IsWorked, status_of};
 ghost use Rattle.bridge_tool.specs.Check.{IsCertified, by_fold, check_outcome, check_promise, most_steps, objective_number, steps_by_number, unfit};
 ghost use Rattle.bridge_tool.specs.SeveralFiles.{Comes};
 ghost use Rattle.bridge_tool.specs.VerdictTold.{is_yes, verdict_line};

@@ -1,7 +1,7 @@
 // The command fixed: from an MPS text of fixed columns to the one written form of what it says, or
 // to the line to tell.
 ghost use Rattle.std.specs.Prelude.{◌≢◌};
-ghost use Rattle.bridge_tool.specs.Answer.{IsWorked, status_of};
+ghost use Rattle.bridge_tool.specs.InsideAnswer.{IsWorked, status_of};
 ghost use Rattle.bridge_tool.specs.Fixed.{fixed_promise};
 
 use crate::answer::Answer;

@@ -1,7 +1,7 @@
 // The command import: from an MPS text to the .nl text of a file that means the same, or to the
 // line to tell.
 ghost use Rattle.std.specs.Prelude.{◌≡◌, ◌≢◌};
-ghost use Rattle.bridge_tool.specs.Answer.{IsWorked, status_of};
+ghost use Rattle.bridge_tool.specs.InsideAnswer.{IsWorked, status_of};
 ghost use Rattle.bridge_tool.specs.Import.{import_outcome, import_promise};
 ghost use Rattle.bridge_tool.specs.SeveralFiles.{Comes};
 

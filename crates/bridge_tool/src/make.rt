@@ -5,7 +5,7 @@ ghost use Rattle.instances.specs.Instance.{instance};
 ghost use Rattle.linear_fold.specs.FoldedFaults.{step_bound};
 ghost use Rattle.nl_segments.specs.Reader.{HasLines, value_of};
 ghost use Rattle.scaling.specs.Exported.{exported_as};
-ghost use Rattle.bridge_tool.specs.Answer.{IsWorked, status_of};
+ghost use Rattle.bridge_tool.specs.InsideAnswer.{IsWorked, status_of};
 ghost use Rattle.bridge_tool.specs.Make.{IsSummedUp, LeavesInput, MakesAs, make_promise, made_text};
 ghost use Rattle.bridge_tool.specs.SeveralFiles.{Comes};
 ghost use Rattle.bridge_tool.specs.Stages.{fold_steps};

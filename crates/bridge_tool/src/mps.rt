@@ -2,7 +2,7 @@
 // tell.
 ghost use Rattle.std.specs.Prelude.{◌≡◌, ◌≢◌, true};
 ghost use Rattle.mps_reader.specs.Written.{mps_text};
-ghost use Rattle.bridge_tool.specs.Answer.{IsWorked, status_of};
+ghost use Rattle.bridge_tool.specs.InsideAnswer.{IsWorked, status_of};
 ghost use Rattle.bridge_tool.specs.Mps.{IsMpsMeant, mps_promise};
 ghost use Rattle.bridge_tool.specs.Outcome.{Done};
 ghost use Rattle.bridge_tool.specs.SeveralFiles.{Comes};

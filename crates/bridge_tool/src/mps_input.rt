@@ -3,7 +3,7 @@ ghost use Rattle.std.specs.Prelude.{◌≢◌, List, ℕ, IfErr, IfOk};
 ghost use Rattle.desk.specs.Desk.{IsUnknown, OnlyInput};
 ghost use Rattle.fixed_mps.specs.Reader.{IsFed as IsFixedFed, IsFixedText};
 ghost use Rattle.mps_reader.specs.Reader.{IsFed, IsMpsText};
-ghost use Rattle.bridge_tool.specs.Answer.{status_of};
+ghost use Rattle.bridge_tool.specs.InsideAnswer.{status_of};
 ghost use Rattle.bridge_tool.specs.Fixed.{IsFixedRefused};
 ghost use Rattle.bridge_tool.specs.Mps.{IsMpsRefused};
 ghost use Rattle.bridge_tool.specs.SeveralFiles.{ReadsFile, Says, itself};

@@ -1,7 +1,7 @@
 // The command nl: from an .nl text to the one written text of its file, or to the line to tell.
 ghost use Rattle.std.specs.Prelude.{◌≡◌, ◌≢◌, true};
 ghost use Rattle.nl_writer.specs.Written.{nl_text};
-ghost use Rattle.bridge_tool.specs.Answer.{IsWorked, status_of};
+ghost use Rattle.bridge_tool.specs.InsideAnswer.{IsWorked, status_of};
 ghost use Rattle.bridge_tool.specs.Nl.{nl_promise};
 ghost use Rattle.bridge_tool.specs.Outcome.{Done};
 ghost use Rattle.bridge_tool.specs.SeveralFiles.{Comes};

@@ -2,7 +2,7 @@
 ghost use Rattle.std.specs.Prelude.{◌≡◌, ◌++◌, IfOk, IsSome, OnOk};
 ghost use Rattle.linear_fold.specs.FoldedFaults.{HasFaultPlace};
 ghost use Rattle.nl_segments.specs.Reader.{HasLines};
-ghost use Rattle.nl_lines.specs.Saying.{line_of};
+ghost use Rattle.nl_lines.specs.Saying.{place_line};
 ghost use Rattle.bridge_tool.specs.NlTold.{fold_line, nl_line, opcode_text, placed_line, reason_text, scale_line};
 
 use crate::told::{put, refusal, refused_at};
@@ -76,7 +76,7 @@ pub(crate) fn nl_line(alloc: Global, fault: NlFault) -> Result<Vec<u8>, AllocErr
 
 // The line of a fault at a place.
 fn placed_line(alloc: Global, read: &NlRead, at: At, text: &[u8]) -> Result<Vec<u8>, AllocError>
-    requires { IsSome (line_of read.now.places at) }
+    requires { IsSome (place_line read.now.places at) }
     ensures { IfOk result (λ line. line.items ≡ placed_line read.now.places at text.now) }
 {
     let number = read.places.line(at);

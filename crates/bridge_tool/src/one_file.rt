@@ -1,7 +1,7 @@
 // What all commands share that read files: feeding a reader, and ending with what was judged.
 ghost use Rattle.std.specs.Prelude.{◌≡◌, [], IfOk};
 ghost use Rattle.desk.specs.Desk.{IsUnknown, OnlyInput};
-ghost use Rattle.bridge_tool.specs.Answer.{Ends, EndsWriting, Missed};
+ghost use Rattle.bridge_tool.specs.InsideAnswer.{Ends, EndsWriting, Missed};
 ghost use Rattle.bridge_tool.specs.SeveralFiles.{Answered};
 ghost use Rattle.bridge_tool.specs.Transfer.{HasRead, HasReadCause};
 

@@ -5,7 +5,7 @@ ghost use Rattle.branch_proof.specs.Files.{IsProofIn};
 ghost use Rattle.nl_model.specs.File.{File};
 ghost use Rattle.proof_text.specs.Reader.{IsFed, IsProofText};
 ghost use Rattle.proof_text.specs.Setting.{setting_of};
-ghost use Rattle.bridge_tool.specs.Answer.{status_of};
+ghost use Rattle.bridge_tool.specs.InsideAnswer.{status_of};
 ghost use Rattle.bridge_tool.specs.Prove.{IsProofRefused};
 ghost use Rattle.bridge_tool.specs.SeveralFiles.{ReadsFile, Says, itself};
 ghost use Rattle.bridge_tool.specs.Transfer.{HasRead, HasReadCause};

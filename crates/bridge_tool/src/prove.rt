@@ -6,7 +6,7 @@ ghost use Rattle.nl_segments.specs.Reader.{HasLines, value_of};
 ghost use Rattle.branch_proof.specs.Files.{IsProofIn};
 ghost use Rattle.branch_proof.specs.Leaves.{IsProved, IsVerdictOn, fault_of};
 ghost use Rattle.branch_proof.specs.Proofs.{IsProofOf};
-ghost use Rattle.bridge_tool.specs.Answer.{IsWorked, status_of};
+ghost use Rattle.bridge_tool.specs.InsideAnswer.{IsWorked, status_of};
 ghost use Rattle.bridge_tool.specs.Prove.{IsProvedOf, claimed_objective, prove_outcome, prove_promise};
 ghost use Rattle.bridge_tool.specs.ProofTold.{leaf_line};
 ghost use Rattle.bridge_tool.specs.SeveralFiles.{Comes};

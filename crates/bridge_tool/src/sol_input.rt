@@ -2,7 +2,7 @@
 ghost use Rattle.std.specs.Prelude.{◌≢◌, List, ℕ, IfErr, IfOk};
 ghost use Rattle.desk.specs.Desk.{IsUnknown, OnlyInput};
 ghost use Rattle.sol_files.specs.Reader.{IsFed, IsSol};
-ghost use Rattle.bridge_tool.specs.Answer.{status_of};
+ghost use Rattle.bridge_tool.specs.InsideAnswer.{status_of};
 ghost use Rattle.bridge_tool.specs.Sol.{IsSolRefused};
 ghost use Rattle.bridge_tool.specs.SeveralFiles.{ReadsFile, Says, itself};
 ghost use Rattle.bridge_tool.specs.Transfer.{HasRead, HasReadCause};

@@ -5,7 +5,7 @@ ghost use Rattle.linear_program.specs.Programs.{linear_value};
 ghost use Rattle.nl_segments.specs.Reader.{HasLines, value_of};
 ghost use Rattle.certificates.specs.Certificates.{IsCertificateIn, IsCertificateOf, claim_outcome, objective_of};
 ghost use Rattle.certificate_walk.specs.Outcomes.{outcome_of};
-ghost use Rattle.bridge_tool.specs.Answer.{IsWorked, status_of};
+ghost use Rattle.bridge_tool.specs.InsideAnswer.{IsWorked, status_of};
 ghost use Rattle.bridge_tool.specs.CertificateTold.{HasFittingBound, is_held, outcome_line};
 ghost use Rattle.bridge_tool.specs.SeveralFiles.{Comes};
 ghost use Rattle.bridge_tool.specs.Stages.{fold_steps};

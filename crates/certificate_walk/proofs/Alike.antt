@@ -22,7 +22,7 @@ use Rattle.exact_numbers.proofs.Zeros.{fits_zero, sum_fits_zero, zero_sum_fits}
 use Rattle.linear_program.specs.Intervals.{interval_of}
 use Rattle.certificate_check.specs.Lists.{form_of}
 use Rattle.certificate_check.specs.declared.form.Row.{Row}
-use Rattle.certificate_walk.specs.Paths.{IsLemmaRow}
+use Rattle.certificate_walk.specs.InsidePaths.{IsLemmaRow}
 use Rattle.certificate_walk.proofs.Lasts.{get_inside, get_last}
 
 pub record IsAlike (a b : LinearRow) : Type 0 where

@@ -2,7 +2,7 @@
 use Rattle.std.proofs.Common.{◌≡◌, ℕ, zero, suc, ◌<◌, sym, ap, refl, arith, List, [], ◌∷◌, ◌++◌, ◌-◌, ◌∙◌, length, get_or, All, Bor, MatchOption, Option, Some, None, subst}
 use Rattle.std.specs.Option.{option_copied}
 use Rattle.std.specs.Prelude.{slice_get}
-use Rattle.certificate_walk.specs.Paths.{last_of}
+use Rattle.certificate_walk.specs.InsidePaths.{last_of}
 
 pub data Placed {A : Type 0} (xs : List A) (y : A) (i : ℕ) (x : A) : Type 0 where
   inside : i < length xs → slice_get xs i ≡ Some x → Placed xs y i x

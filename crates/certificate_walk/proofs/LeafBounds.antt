@@ -14,7 +14,7 @@ use Rattle.certificate_check.specs.Programs.{asked, program_of}
 use Rattle.certificate_check.specs.declared.columns.Columns.{Columns}
 use Rattle.certificate_check.specs.declared.form.Row.{Row}
 use Rattle.certificate_check.specs.declared.verdict.Goal.TheVariants.{Objective, Zero}
-use Rattle.certificate_walk.specs.Paths.{IsAt, IsPath, Turn, last_of, part_under, sides_of}
+use Rattle.certificate_walk.specs.InsidePaths.{IsAt, IsPath, Turn, last_of, part_under, sides_of}
 use Rattle.certificate_walk.specs.Walks.{bound_in}
 use Rattle.certificate_walk.specs.declared.path.Lemma.{Lemma}
 use Rattle.certificate_walk.specs.declared.path.Path.{Path}

@@ -14,7 +14,7 @@ use Rattle.certificates.specs.Numbers.{number_value}
 use Rattle.certificate_check.specs.Leaves.{AreIndices}
 use Rattle.certificate_check.specs.declared.verdict.Goal.{Goal}
 use Rattle.certificate_walk.specs.Outcomes.{leaf_fault_of}
-use Rattle.certificate_walk.specs.Paths.{IsAt, Turn, next_turns, part_under, to_first}
+use Rattle.certificate_walk.specs.InsidePaths.{IsAt, Turn, next_turns, part_under, to_first}
 use Rattle.certificate_walk.specs.Walks.{IsWritten, bound_in, leaf_check, leaf_node, pair_count}
 use Rattle.certificate_walk.specs.declared.outcome.LeafFault.{LeafFault as Fault}
 use Rattle.certificate_walk.specs.declared.path.Path.{Path}

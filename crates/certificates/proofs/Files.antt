@@ -13,7 +13,7 @@ use Rattle.nl_model.specs.File.{File}
 use Rattle.nl_model.specs.Rules.{IsFile}
 use Rattle.file_meaning.specs.Expressions.{maximises}
 use Rattle.file_meaning.specs.FoldFaults.{fold_fault}
-use Rattle.file_meaning.specs.LinearFile.{HasLines, linear_of, row_of, body_form}
+use Rattle.file_meaning.specs.LinearFile.{HasLines, linear_of, linear_row, body_form}
 use Rattle.file_meaning.specs.Meaning.{HasValueInside, IsBetterValue, objective_value, side_of}
 use Rattle.linear_programs.proofs.Elements.{elements_at, elements_length}
 use Rattle.file_meaning.proofs.Files.{count_lem, variable_lem, same_feasible, same_objective, same_relaxed, same_sense}
@@ -40,11 +40,11 @@ better_value max o a b e better = subst (λ x. IsBetterValue max x (Some b)) (sy
 module _ (f : File) (k : ℕ) where
   pub rows_counted : row_count (linear_of f k) ≡ f.counts.n_con
   unfolding linear_of
-  rows_counted = elements_length (row_of f) 0 f.counts.n_con
+  rows_counted = elements_length (linear_row f) 0 f.counts.n_con
 
-  row_lem : (i : ℕ) → i < f.counts.n_con → row_at (linear_of f k) i ≡ row_of f i
+  row_lem : (i : ℕ) → i < f.counts.n_con → row_at (linear_of f k) i ≡ linear_row f i
   unfolding linear_of
-  row_lem i h = elements_at (row_of f) 0 f.counts.n_con i no_row h ∙ ap (row_of f) (omega arith)
+  row_lem i h = elements_at (linear_row f) 0 f.counts.n_con i no_row h ∙ ap (linear_row f) (omega arith)
 
   module _ (lines : HasLines f k) where
     -- ---- better points

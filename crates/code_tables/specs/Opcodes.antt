@@ -27,12 +27,12 @@ opcodes =
     ∷ []
 
 -- the row of an opcode
-abbrev pub row_of : ℕ → Option OpcodeRow
-row_of opcode = find (λ r. r.opcode == opcode) opcodes
+abbrev pub table_row : ℕ → Option OpcodeRow
+table_row opcode = find (λ r. r.opcode == opcode) opcodes
 
 unfoldable pub class_of : ℕ → OpClass
-class_of opcode = unwrap_or (option_map (λ r. r.class) (row_of opcode)) Refused
+class_of opcode = unwrap_or (option_map (λ r. r.class) (table_row opcode)) Refused
 
 -- none for a refused opcode
 unfoldable pub operands_of : ℕ → Option Operands
-operands_of opcode = option_map (λ r. r.operands) (row_of opcode)
+operands_of opcode = option_map (λ r. r.operands) (table_row opcode)

@@ -9,7 +9,7 @@ use Rattle.std.specs.List.{position, position_or_len}
 use Rattle.std.proofs.lemmas.List.Quantifiers.{position-Some}
 use Rattle.desk.specs.Memory.{text_named, with_text}
 use Rattle.texts.proofs.NamePlaces.{bytes_same, bytes_self, past_all}
-use Rattle.desk.specs.Entries.{entry_pair, entries, text_at, text_set}
+use Rattle.desk.specs.InsideEntries.{entry_pair, entries, text_at, text_set}
 
 -- the test for a text of that name
 abbrev pub has_name : List ℕ → Entry → Bool

@@ -1,5 +1,5 @@
 pub mod Desk
 pub mod Memory
-pub mod Entries
-pub mod MemoryFields
+pub mod InsideEntries
+pub mod InsideMemoryFields
 pub mod Host

@@ -7,7 +7,7 @@ ghost use Rattle.desk.specs.Memory.{next_count, text_named, with_text, has_room,
 ghost use Rattle.std.specs.Io.{ReadsAtMost, WritesAtMost};
 ghost use Rattle.std.specs.Io.KnownBytes.{ReadConsumes, WriteAppends};
 ghost use Rattle.desk.specs.Desk.{HasCause, HasStartCause, OnlyInput, OnlyMessages, OnlyOutput, Starts};
-ghost use Rattle.desk.specs.Entries.{entries, text_at, text_set};
+ghost use Rattle.desk.specs.InsideEntries.{entries, text_at, text_set};
 
 use crate::{Desk, Failed};
 use std::alloc::{AllocError, Global};
@@ -165,7 +165,7 @@ impl Model for MemoryDesk {
 
     ghost Value = { MemoryState };
 
-    ghost use Rattle.desk.specs.MemoryFields.{memory_state, IsMemoryDesk};
+    ghost use Rattle.desk.specs.InsideMemoryFields.{memory_state, IsMemoryDesk};
 
     ghost view = { memory_state };
 

@@ -11,7 +11,7 @@ use Rattle.exported_program.proofs.Return.{law_of_return, law_of_return_tied}
 use Rattle.nl_model.specs.File.{File}
 use Rattle.nl_model.specs.Rules.{IsFile}
 use Rattle.file_meaning.specs.FoldFaults.{fold_fault}
-use Rattle.file_meaning.specs.LinearFile.{HasLines, body_form, linear_of, row_of}
+use Rattle.file_meaning.specs.LinearFile.{HasLines, body_form, linear_of, linear_row}
 use Rattle.file_meaning.specs.Meaning.{body_value}
 use Rattle.linear_programs.proofs.Elements.{elements_at, elements_length}
 use Rattle.file_meaning.proofs.Files.{count_lem, linear_lem}
@@ -22,11 +22,11 @@ use Rattle.dual_return.specs.Return.{AreDuals, IsDualTimes, MeanTheProgram, line
 
 rows_count : (f : File) (k : ℕ) → length (linear_of f k).rows ≡ f.counts.n_con
 unfolding linear_of
-rows_count f k = elements_length (row_of f) 0 f.counts.n_con
+rows_count f k = elements_length (linear_row f) 0 f.counts.n_con
 
-row_is : (f : File) (k i : ℕ) → i < f.counts.n_con → row_at (linear_of f k) i ≡ row_of f i
+row_is : (f : File) (k i : ℕ) → i < f.counts.n_con → row_at (linear_of f k) i ≡ linear_row f i
 unfolding linear_of
-row_is f k i h = elements_at (row_of f) 0 f.counts.n_con i no_row h ∙ ap (row_of f) (omega arith)
+row_is f k i h = elements_at (linear_row f) 0 f.counts.n_con i no_row h ∙ ap (linear_row f) (omega arith)
 
 -- the value of a body is that of its row in the linear program
 body_is : (f : File) (k i : ℕ) (xs : List ℚ) → HasLines f k → i < f.counts.n_con

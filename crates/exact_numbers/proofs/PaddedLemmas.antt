@@ -1,7 +1,7 @@
 -- One byte more in a room whose other bytes are 0.
 use Rattle.std.proofs.Common.{◌≡◌, ◌∙◌, ℕ, ◌+◌, ◌-◌, ◌<◌, List, drop, replicate, set, sym, ap, arith}
 use Rattle.std.proofs.lemmas.List.{drop-replicate, drop-set-lt, length-set, drop-drop}
-use Rattle.exact_numbers.specs.Padded.{IsPadded}
+use Rattle.exact_numbers.specs.InsidePadded.{IsPadded}
 
 pub padded-push : (bytes : List ℕ) (len b : ℕ) → IsPadded bytes len → len < 96 → IsPadded (set bytes len b) (len + 1)
 padded-push bytes len b h lt = record {

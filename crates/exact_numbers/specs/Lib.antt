@@ -1,10 +1,10 @@
 pub mod Fraction
 pub mod Decimal
 pub mod Written
-pub mod Padded
+pub mod InsidePadded
 pub mod Values
 pub mod Text
 pub mod SpelledLemmas
 pub mod Numbers
-pub mod Packed
-pub mod Held
+pub mod InsidePacked
+pub mod InsideHeld

@@ -1,5 +1,5 @@
 ghost use Rattle.exact_numbers.specs.Decimal.{IsDec};
-ghost use Rattle.exact_numbers.specs.Packed.{whole_of};
+ghost use Rattle.exact_numbers.specs.InsidePacked.{whole_of};
 
 use crate::words::Words;
 use std::marker::Model;
@@ -14,8 +14,8 @@ pub struct Dec {
 
 impl Model for Dec {
     ghost use Rattle.exact_numbers.specs.Decimal.{IsDec, DecValue};
-    ghost use Rattle.exact_numbers.specs.Packed.{AreWords, whole_of, signed_words_of, signed_words_back};
-    ghost use Rattle.exact_numbers.specs.Held.{IsDec-prop, dec_words};
+    ghost use Rattle.exact_numbers.specs.InsidePacked.{AreWords, whole_of, signed_words_of, signed_words_back};
+    ghost use Rattle.exact_numbers.specs.InsideHeld.{IsDec-prop, dec_words};
     ghost use mathlib.Core.HLevel.{is_prop→PathP};
 
     ghost Value = { DecValue };

@@ -12,7 +12,7 @@ pub struct NumText {
 
 impl Model for NumText {
     ghost use Rattle.std.specs.Prelude.{ℕ, List, length, take};
-    ghost use Rattle.exact_numbers.specs.Padded.{IsPadded, room_of, room_back, length_back};
+    ghost use Rattle.exact_numbers.specs.InsidePadded.{IsPadded, room_of, room_back, length_back};
 
     ghost Value = { List ℕ };
 

@@ -14,7 +14,7 @@ pub struct Words {
 }
 
 impl Words {
-    ghost use Rattle.exact_numbers.specs.Packed.{size_of, whole_of, AreWords};
+    ghost use Rattle.exact_numbers.specs.InsidePacked.{size_of, whole_of, AreWords};
 
     // The words of a number from 0 on.
     #[inline]

@@ -16,7 +16,7 @@ use Rattle.nl_model.specs.File.{File}
 use Rattle.file_meaning.specs.Expressions.{definitions_of}
 use Rattle.file_meaning.specs.FoldFaults.{Owner, FoldFault, Owned, coefficient_count, fold_fault, has_objective, head_fault, most_coefficients, owned_body, owned_definitions, owned_line, owned_objective, owners_fault}
 use Rattle.linear_programs.specs.Elements.{elements_from}
-use Rattle.file_meaning.specs.LinearFile.{objective_form, row_of}
+use Rattle.file_meaning.specs.LinearFile.{objective_form, linear_row}
 
 -- ---- sums over rows, and over columns
 
@@ -211,13 +211,13 @@ few_owned n count (o ∷ os) le e =
     few_more a b c h = omega (arith, h)
 
 -- the bodies' lines are those of the linear program
-bodies_count : (f : File) (n i m : ℕ) → sums (λ o. coefficient_count n (owned_line o)) (elements_from (owned_body f) i m) ≡ sums (λ r. form_count n r.body) (elements_from (row_of f) i m)
+bodies_count : (f : File) (n i m : ℕ) → sums (λ o. coefficient_count n (owned_line o)) (elements_from (owned_body f) i m) ≡ sums (λ r. form_count n r.body) (elements_from (linear_row f) i m)
 unfolding elements_from
 bodies_count f n i zero = refl
 bodies_count f n i (suc m) = ap₂ (λ (a b : ℕ). a + b) (sym (line_count (owned_line (owned_body f i)) n)) (bodies_count f n (suc i) m)
 
 pub few_coefficients : (f : File) (k : ℕ) → fold_fault f k ≡ None
-    → sums (λ r. form_count f.counts.n_var r.body) (elements_from (row_of f) 0 f.counts.n_con) + form_count f.counts.n_var (objective_form f k) ≤ most_coefficients
+    → sums (λ r. form_count f.counts.n_var r.body) (elements_from (linear_row f) 0 f.counts.n_con) + form_count f.counts.n_var (objective_form f k) ≤ most_coefficients
 unfolding fold_fault
 few_coefficients f k e = by (has_objective f k) e
   where
@@ -234,7 +234,7 @@ few_coefficients f k e = by (has_objective f k) e
     size o = coefficient_count n (owned_line o)
 
     by : (b : Bool) → (if b then owners_fault n 0 (definitions ++ (bodies ++ owned_objective f k ∷ [])) else Some (FoldFault.no_such_objective k)) ≡ None
-        → sums (λ r. form_count n r.body) (elements_from (row_of f) 0 f.counts.n_con) + form_count n (objective_form f k) ≤ most_coefficients
+        → sums (λ r. form_count n r.body) (elements_from (linear_row f) 0 f.counts.n_con) + form_count n (objective_form f k) ≤ most_coefficients
     by true h =
         let few = few_owned n 0 (definitions ++ (bodies ++ owned_objective f k ∷ [])) (omega arith) h in
         let own : size (owned_objective f k) ≡ form_count n (objective_form f k) = sym (line_count (owned_line (owned_objective f k)) n) in

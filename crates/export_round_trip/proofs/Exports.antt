@@ -19,7 +19,7 @@ use Rattle.exported_program.specs.Return.{is_exported}
 use Rattle.linear_program.specs.declared.interval.Interval.{Interval as Sides}
 use Rattle.nl_model.specs.File.{File}
 use Rattle.linear_programs.specs.Elements.{elements_from}
-use Rattle.file_meaning.specs.LinearFile.{variable_of}
+use Rattle.file_meaning.specs.LinearFile.{linear_variable}
 use Rattle.linear_program.specs.Intervals.{interval_of, no_sides}
 use Rattle.linear_programs.proofs.Elements.{all_elements}
 use Rattle.export_round_trip.proofs.Fitting.{dec_fits, neg_fits, one_fits, whole_fits, zero_fits}
@@ -202,8 +202,8 @@ sides_decimal s x e = record {
   upper = subst (λ (i : Interval). IfSome i.upper FitsDec) (sym e) (dec_side s.hi);
 }
 
-pub variables_decimal : (f : File) (n : ℕ) → All HasDecimalBounds (elements_from (variable_of f) 0 n)
-variables_decimal f n = all_elements (variable_of f) HasDecimalBounds n (λ j lt. sides_decimal (get_or f.bounds j no_sides) (variable_of f j) refl)
+pub variables_decimal : (f : File) (n : ℕ) → All HasDecimalBounds (elements_from (linear_variable f) 0 n)
+variables_decimal f n = all_elements (linear_variable f) HasDecimalBounds n (λ j lt. sides_decimal (get_or f.bounds j no_sides) (linear_variable f j) refl)
 
 pub z_decimal : HasDecimalBounds z_variable
 z_decimal = record { lower = tt; upper = tt }

@@ -7,7 +7,7 @@ use Rattle.std.proofs.lemmas.List.Elements.{All-nil, All-cons, All-head, All-tai
 use Rattle.fractions.specs.Rational.{ℚ}
 use Rattle.linear_programs.specs.Linear.{Form, Row, Variable}
 use Rattle.exported_program.specs.Program.{ScaledRow, scaled_row, has_side, exported_rows, mps_row, obj_name, column_entries, columns_of, program_of}
-use Rattle.file_meaning.specs.LinearFile.{row_of, variable_of, linear_of}
+use Rattle.file_meaning.specs.LinearFile.{linear_row, linear_variable, linear_of}
 use Rattle.linear_programs.proofs.Elements.{all_elements}
 use Rattle.mps_model.specs.Mps.{MpsRow, Column}
 use Rattle.mps_model.specs.declared.kinds.RowKind.TheVariants.{N}
@@ -27,11 +27,11 @@ numbered letter n lt = omega (arith, length-decimal-le 7 n (omega arith) (omega 
 
 pub rows_of_file : (f : File) (k : ℕ) → f.counts.n_con ≤ 2 ^ 20 → All ShortRow (linear_of f k).rows
 unfolding linear_of
-rows_of_file f k few = all_elements (row_of f) ShortRow f.counts.n_con (λ i lt. numbered 99 i (omega (arith, lt, few)))
+rows_of_file f k few = all_elements (linear_row f) ShortRow f.counts.n_con (λ i lt. numbered 99 i (omega (arith, lt, few)))
 
 pub variables_of_file : (f : File) (k : ℕ) → f.counts.n_var ≤ 2 ^ 20 → All ShortVariable (linear_of f k).variables
 unfolding linear_of
-variables_of_file f k few = all_elements (variable_of f) ShortVariable f.counts.n_var (λ j lt. numbered 120 j (omega (arith, lt, few)))
+variables_of_file f k few = all_elements (linear_variable f) ShortVariable f.counts.n_var (λ j lt. numbered 120 j (omega (arith, lt, few)))
 
 -- ---- of the program
 

@@ -12,7 +12,7 @@ use Rattle.mps_model.specs.Valid.{marker_word}
 use Rattle.exported_program.specs.Program.{ScaledRow, exported_rows, scaled_row, has_side, obj_name, z_name, zdef_name, z_variable}
 use Rattle.exported_program.proofs.Names.{constraint_is_name, variable_is_name, z_is_name, zdef_is_name, constraints_apart, variables_apart, constraint_not_obj, constraint_not_zdef, constraint_not_marker, obj_not_zdef, zdef_not_marker, variable_not_z}
 use Rattle.linear_programs.specs.Elements.{elements_from}
-use Rattle.file_meaning.specs.LinearFile.{row_of, variable_of}
+use Rattle.file_meaning.specs.LinearFile.{linear_row, linear_variable}
 use Rattle.nl_model.specs.File.{File}
 
 -- named by a number from i on
@@ -48,16 +48,16 @@ rows_more i r rs lt e h = record {
     other : (s : ScaledRow) → IsRowFrom (suc i) s → r.name ≢ s.name
     other s from same = absurd (omega (arith, from.1, constraints_apart i from.0 lt from.2 (sym e ∙ same ∙ from.3)))
 
-exported_from : (factor : ℕ → ℕ) (f : File) (i n : ℕ) → i + n ≤ 2 ^ 32 → RowsFrom i (exported_rows factor i (elements_from (row_of f) i n))
+exported_from : (factor : ℕ → ℕ) (f : File) (i n : ℕ) → i + n ≤ 2 ^ 32 → RowsFrom i (exported_rows factor i (elements_from (linear_row f) i n))
 unfolding exported_rows elements_from
 exported_from factor f i zero le = record { named = All-nil (IsRowFrom i); apart = λ a b d lt within. absurd (omega arith) }
-exported_from factor f i (suc n) le = by (has_side (row_of f i).side.lower (row_of f i).side.upper) (exported_from factor f (suc i) n (omega arith))
+exported_from factor f i (suc n) le = by (has_side (linear_row f i).side.lower (linear_row f i).side.upper) (exported_from factor f (suc i) n (omega arith))
   where
     rest : List ScaledRow
-    rest = exported_rows factor (suc i) (elements_from (row_of f) (suc i) n)
+    rest = exported_rows factor (suc i) (elements_from (linear_row f) (suc i) n)
 
-    by : (there : Bool) → RowsFrom (suc i) rest → RowsFrom i (cond there (scaled_row (factor i) (row_of f i) ∷ rest) rest)
-    by true h = rows_more i (scaled_row (factor i) (row_of f i)) rest (omega (arith, le)) refl h
+    by : (there : Bool) → RowsFrom (suc i) rest → RowsFrom i (cond there (scaled_row (factor i) (linear_row f i) ∷ rest) rest)
+    by true h = rows_more i (scaled_row (factor i) (linear_row f i)) rest (omega (arith, le)) refl h
     by false h = record { named = All-weaker (IsRowFrom (suc i)) (IsRowFrom i) (later i) rest h.named; apart = h.apart }
 
 -- rows with names for a program
@@ -82,13 +82,13 @@ named_rows rs h = record {
   no_marker = All-weaker (IsRowFrom 0) (λ r. r.name ≢ marker_word) (λ r k e. constraint_not_marker k.0 (sym k.3 ∙ e)) rs h.named;
 }
 
-pub exported_named : (factor : ℕ → ℕ) (f : File) (n : ℕ) → n ≤ 2 ^ 32 → AreNamedRows (exported_rows factor 0 (elements_from (row_of f) 0 n))
-exported_named factor f n le = named_rows (exported_rows factor 0 (elements_from (row_of f) 0 n)) (exported_from factor f 0 n (omega (arith, le)))
+pub exported_named : (factor : ℕ → ℕ) (f : File) (n : ℕ) → n ≤ 2 ^ 32 → AreNamedRows (exported_rows factor 0 (elements_from (linear_row f) 0 n))
+exported_named factor f n le = named_rows (exported_rows factor 0 (elements_from (linear_row f) 0 n)) (exported_from factor f 0 n (omega (arith, le)))
 
 -- zdef as the last row
-pub tied_named : (factor : ℕ → ℕ) (f : File) (n : ℕ) (r : ScaledRow) → n ≤ 2 ^ 32 → r.name ≡ zdef_name → AreNamedRows (exported_rows factor 0 (elements_from (row_of f) 0 n) ++ r ∷ [])
+pub tied_named : (factor : ℕ → ℕ) (f : File) (n : ℕ) (r : ScaledRow) → n ≤ 2 ^ 32 → r.name ≡ zdef_name → AreNamedRows (exported_rows factor 0 (elements_from (linear_row f) 0 n) ++ r ∷ [])
 tied_named factor f n r le e =
-    let rs = exported_rows factor 0 (elements_from (row_of f) 0 n) in
+    let rs = exported_rows factor 0 (elements_from (linear_row f) 0 n) in
     let from = exported_from factor f 0 n (omega (arith, le)) in
     let h = named_rows rs from in
     let others : All (λ s. s.name ≢ r.name) rs = All-weaker (IsRowFrom 0) (λ s. s.name ≢ r.name) (λ s k same. constraint_not_zdef k.0 (sym k.3 ∙ same ∙ e)) rs from.named in
@@ -99,16 +99,16 @@ tied_named factor f n r le e =
       no_marker = All-push (λ (s : ScaledRow). s.name ≢ marker_word) rs r h.no_marker (λ same. zdef_not_marker (sym e ∙ same));
     }
 
-variables_from : (f : File) (j n : ℕ) → j + n ≤ 2 ^ 32 → VariablesFrom j (elements_from (variable_of f) j n)
+variables_from : (f : File) (j n : ℕ) → j + n ≤ 2 ^ 32 → VariablesFrom j (elements_from (linear_variable f) j n)
 unfolding elements_from
 variables_from f j zero le = record { named = All-nil (IsVariableFrom j); apart = λ a b d lt within. absurd (omega arith) }
 variables_from f j (suc n) le = by (variables_from f (suc j) n (omega arith))
   where
     v : Variable
-    v = variable_of f j
+    v = linear_variable f j
 
     rest : List Variable
-    rest = elements_from (variable_of f) (suc j) n
+    rest = elements_from (linear_variable f) (suc j) n
 
     lt : j < 2 ^ 32
     lt = omega (arith, le)
@@ -125,16 +125,16 @@ variables_from f j (suc n) le = by (variables_from f (suc j) n (omega arith))
 variable_is : (v : Variable) → IsVariableFrom 0 v → IsName v.name
 variable_is v h = rw h.3 (variable_is_name h.0 h.2)
 
-pub variables_named : (f : File) (n : ℕ) → n ≤ 2 ^ 32 → AreNamedVariables (elements_from (variable_of f) 0 n)
+pub variables_named : (f : File) (n : ℕ) → n ≤ 2 ^ 32 → AreNamedVariables (elements_from (linear_variable f) 0 n)
 variables_named f n le =
-    let vs = elements_from (variable_of f) 0 n in
+    let vs = elements_from (linear_variable f) 0 n in
     let h = variables_from f 0 n (omega (arith, le)) in
     record { named = All-weaker (IsVariableFrom 0) (λ v. IsName v.name) variable_is vs h.named; apart = h.apart }
 
 -- z as the last variable
-pub tied_variables_named : (f : File) (n : ℕ) → n ≤ 2 ^ 32 → AreNamedVariables (elements_from (variable_of f) 0 n ++ z_variable ∷ [])
+pub tied_variables_named : (f : File) (n : ℕ) → n ≤ 2 ^ 32 → AreNamedVariables (elements_from (linear_variable f) 0 n ++ z_variable ∷ [])
 tied_variables_named f n le =
-    let vs = elements_from (variable_of f) 0 n in
+    let vs = elements_from (linear_variable f) 0 n in
     let from = variables_from f 0 n (omega (arith, le)) in
     let h = variables_named f n le in
     record {

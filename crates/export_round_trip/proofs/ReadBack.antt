@@ -21,7 +21,7 @@ use Rattle.nl_model.specs.Rules.{IsFile}
 use Rattle.nl_model.proofs.Headers.{counts_of_header}
 use Rattle.file_meaning.specs.FoldFaults.{fold_fault}
 use Rattle.linear_programs.specs.Elements.{elements_from}
-use Rattle.file_meaning.specs.LinearFile.{linear_of, objective_form, row_of, variable_of}
+use Rattle.file_meaning.specs.LinearFile.{linear_of, objective_form, linear_row, linear_variable}
 use Rattle.linear_programs.proofs.Elements.{elements_length}
 use Rattle.file_meaning.proofs.Files.{linear_lem}
 use Rattle.file_meaning.proofs.Formed.{file_formed}
@@ -36,11 +36,11 @@ use Rattle.export_round_trip.proofs.Reading.{is_decimal, read_back}
 use Rattle.export_round_trip.proofs.Whole.{CanBeWritten, IfFits, program_is_decimal, program_is_whole}
 
 module _ (f : File) (k : ℕ) (file : IsFile f) (folded : fold_fault f k ≡ None) (fits : (i : ℕ) → ExportFits (linear_of f k) i) where
-  rows_are : (linear_of f k).rows ≡ elements_from (row_of f) 0 f.counts.n_con
+  rows_are : (linear_of f k).rows ≡ elements_from (linear_row f) 0 f.counts.n_con
   unfolding linear_of
   rows_are = refl
 
-  variables_are : (linear_of f k).variables ≡ elements_from (variable_of f) 0 f.counts.n_var
+  variables_are : (linear_of f k).variables ≡ elements_from (linear_variable f) 0 f.counts.n_var
   unfolding linear_of
   variables_are = refl
 
@@ -49,10 +49,10 @@ module _ (f : File) (k : ℕ) (file : IsFile f) (folded : fold_fault f k ≡ Non
   objective_is = refl
 
   width : variable_count (linear_of f k) ≡ f.counts.n_var
-  width = ap length variables_are ∙ elements_length (variable_of f) 0 f.counts.n_var
+  width = ap length variables_are ∙ elements_length (linear_variable f) 0 f.counts.n_var
 
-  rows_length : length (elements_from (row_of f) 0 f.counts.n_con) ≡ f.counts.n_con
-  rows_length = elements_length (row_of f) 0 f.counts.n_con
+  rows_length : length (elements_from (linear_row f) 0 f.counts.n_con) ≡ f.counts.n_con
+  rows_length = elements_length (linear_row f) 0 f.counts.n_con
 
   few_variables : f.counts.n_var ≤ 2 ^ 20
   few_variables = (counts_of_header f.options f.counts file.ruled).variables
@@ -60,42 +60,42 @@ module _ (f : File) (k : ℕ) (file : IsFile f) (folded : fold_fault f k ≡ Non
   few_rows : f.counts.n_con ≤ 2 ^ 20
   few_rows = (counts_of_header f.options f.counts file.ruled).constraints
 
-  past : All (λ r. (j : ℕ) → f.counts.n_var ≤ j → r.body.coefficient j ≡ zero_ℚ) (elements_from (row_of f) 0 f.counts.n_con)
+  past : All (λ r. (j : ℕ) → f.counts.n_var ≤ j → r.body.coefficient j ≡ zero_ℚ) (elements_from (linear_row f) 0 f.counts.n_con)
   past =
       let linear = linear_lem f k (file_formed f file k) in
-      subst (λ (m : ℕ). All (λ (r : Row). (j : ℕ) → m ≤ j → r.body.coefficient j ≡ zero_ℚ) (elements_from (row_of f) 0 f.counts.n_con)) width
+      subst (λ (m : ℕ). All (λ (r : Row). (j : ℕ) → m ≤ j → r.body.coefficient j ≡ zero_ℚ) (elements_from (linear_row f) 0 f.counts.n_con)) width
       (subst (All (λ (r : Row). (j : ℕ) → variable_count (linear_of f k) ≤ j → r.body.coefficient j ≡ zero_ℚ)) rows_are linear.within)
 
   -- every exported row can be written, with coefficients below m
-  written : (m : ℕ) → All (IsWritten m) (exported_rows (factor_of_row (linear_of f k)) 0 (elements_from (row_of f) 0 f.counts.n_con))
-  written m = rows_written f.counts.n_var m 0 (factor_of_row (linear_of f k)) (elements_from (row_of f) 0 f.counts.n_con) past (λ j lt is. one j is)
+  written : (m : ℕ) → All (IsWritten m) (exported_rows (factor_of_row (linear_of f k)) 0 (elements_from (linear_row f) 0 f.counts.n_con))
+  written m = rows_written f.counts.n_var m 0 (factor_of_row (linear_of f k)) (elements_from (linear_row f) 0 f.counts.n_con) past (λ j lt is. one j is)
     where
-      one : (j : ℕ) → IsTrue (is_exported (get_or (elements_from (row_of f) 0 f.counts.n_con) j no_row)) → RowFits f.counts.n_var (get_or (elements_from (row_of f) 0 f.counts.n_con) j no_row) (factor_of_row (linear_of f k) (0 + j))
+      one : (j : ℕ) → IsTrue (is_exported (get_or (elements_from (linear_row f) 0 f.counts.n_con) j no_row)) → RowFits f.counts.n_var (get_or (elements_from (linear_row f) 0 f.counts.n_con) j no_row) (factor_of_row (linear_of f k) (0 + j))
       one j is =
-          let here : row_at (linear_of f k) j ≡ get_or (elements_from (row_of f) 0 f.counts.n_con) j no_row = ap (λ (rs : List Row). get_or rs j no_row) rows_are in
+          let here : row_at (linear_of f k) j ≡ get_or (elements_from (linear_row f) 0 f.counts.n_con) j no_row = ap (λ (rs : List Row). get_or rs j no_row) rows_are in
           let own : RowFits (variable_count (linear_of f k)) (row_at (linear_of f k) j) (factor_of_row (linear_of f k) j) = fits j (subst (λ (r : Row). IsTrue (is_exported r)) (sym here) is) in
           let at : factor_of_row (linear_of f k) j ≡ factor_of_row (linear_of f k) (0 + j) = ap (factor_of_row (linear_of f k)) (omega arith) in
-          subst (λ (k : ℕ). RowFits f.counts.n_var (get_or (elements_from (row_of f) 0 f.counts.n_con) j no_row) k) at
+          subst (λ (k : ℕ). RowFits f.counts.n_var (get_or (elements_from (linear_row f) 0 f.counts.n_con) j no_row) k) at
           (subst (λ (r : Row). RowFits f.counts.n_var r (factor_of_row (linear_of f k) j)) here (subst (λ (m : ℕ). RowFits m (row_at (linear_of f k) j) (factor_of_row (linear_of f k) j)) width own))
 
   coefficients_of : (m : ℕ) (rs : List ScaledRow) → All (IsWritten m) rs → (j : ℕ) → j < m → All (λ r. IfFits (nonzero (r.coefficient j))) rs
   coefficients_of m rs h j lt = All-weaker (IsWritten m) (λ r. IfFits (nonzero (r.coefficient j))) (λ r w. w.coefficients j lt) rs h
 
-  few_exported : length (exported_rows (factor_of_row (linear_of f k)) 0 (elements_from (row_of f) 0 f.counts.n_con)) ≤ f.counts.n_con
-  few_exported = omega (arith, exported_rows_count (factor_of_row (linear_of f k)) 0 (elements_from (row_of f) 0 f.counts.n_con), rows_length)
+  few_exported : length (exported_rows (factor_of_row (linear_of f k)) 0 (elements_from (linear_row f) 0 f.counts.n_con)) ≤ f.counts.n_con
+  few_exported = omega (arith, exported_rows_count (factor_of_row (linear_of f k)) 0 (elements_from (linear_row f) 0 f.counts.n_con), rows_length)
 
-  variables_length : length (elements_from (variable_of f) 0 f.counts.n_var) ≡ f.counts.n_var
-  variables_length = elements_length (variable_of f) 0 f.counts.n_var
+  variables_length : length (elements_from (linear_variable f) 0 f.counts.n_var) ≡ f.counts.n_var
+  variables_length = elements_length (linear_variable f) 0 f.counts.n_var
 
   -- ---- a decimal objective
 
   plain_can : All FitsDec (objective_numbers f.counts.n_var (objective_form f k))
-      → CanBeWritten (exported_rows (factor_of_row (linear_of f k)) 0 (elements_from (row_of f) 0 f.counts.n_con)) (objective_form f k) (elements_from (variable_of f) 0 f.counts.n_var)
+      → CanBeWritten (exported_rows (factor_of_row (linear_of f k)) 0 (elements_from (linear_row f) 0 f.counts.n_con)) (objective_form f k) (elements_from (linear_variable f) 0 f.counts.n_var)
   plain_can decimal =
       let n = f.counts.n_var in
-      let rs = exported_rows (factor_of_row (linear_of f k)) 0 (elements_from (row_of f) 0 f.counts.n_con) in
+      let rs = exported_rows (factor_of_row (linear_of f k)) 0 (elements_from (linear_row f) 0 f.counts.n_con) in
       let objective = objective_form f k in
-      let vs = elements_from (variable_of f) 0 n in
+      let vs = elements_from (linear_variable f) 0 n in
       let h = written n in
       let below : (j : ℕ) → j < length vs → j < n = λ j lt. omega (arith, lt, variables_length) in
       let entries = in_columns objective rs 0 n vs variables_length in
@@ -104,7 +104,7 @@ module _ (f : File) (k : ℕ) (file : IsFile f) (folded : fold_fault f k ≡ Non
         variables = variables_named f n (omega (arith, few_variables));
         few_rows = omega (arith, few_exported, few_rows);
         few_variables = omega (arith, variables_length, few_variables);
-        few_entries = omega (arith, entries, few_variables, plain_form objective n, exported_count (factor_of_row (linear_of f k)) n 0 (elements_from (row_of f) 0 f.counts.n_con), few_coefficients f k folded);
+        few_entries = omega (arith, entries, few_variables, plain_form objective n, exported_count (factor_of_row (linear_of f k)) n 0 (elements_from (linear_row f) 0 f.counts.n_con), few_coefficients f k folded);
         sided = All-weaker (IsWritten n) (λ r. kind_of r.side.lower r.side.upper ≢ N) (λ r w. w.sided) rs h;
         costs = λ j lt. costs_fit n objective decimal j (below j lt);
         constant = constant_fits n objective decimal;
@@ -128,14 +128,14 @@ module _ (f : File) (k : ℕ) (file : IsFile f) (folded : fold_fault f k ≡ Non
       at j lt true e = absurd (let same = eqb-true j f.counts.n_var e in omega (arith, lt, same))
       at j lt false e = refl
 
-  tied_entries : (g : ℕ) → (rs : List ScaledRow) → rs ≡ exported_rows (factor_of_row (linear_of f k)) 0 (elements_from (row_of f) 0 f.counts.n_con)
+  tied_entries : (g : ℕ) → (rs : List ScaledRow) → rs ≡ exported_rows (factor_of_row (linear_of f k)) 0 (elements_from (linear_row f) 0 f.counts.n_con)
       → most_entries (z_form f.counts.n_var) (rs ++ scaled_row g (tie f.counts.n_var (objective_form f k)) ∷ []) 0 (suc f.counts.n_var) ≤ 2 ^ 24
   tied_entries g rs e =
       let n = f.counts.n_var in
       let last = scaled_row g (tie n (objective_form f k)) in
       let wide : ScaledRow → ℕ = λ r. range_sum (counted r.coefficient) 0 (suc n) in
       let narrow : ScaledRow → ℕ = λ r. range_sum (counted r.coefficient) 0 n in
-      let before : sums narrow rs ≤ sums (λ r. form_count n r.body) (elements_from (row_of f) 0 f.counts.n_con) = rw e (exported_count (factor_of_row (linear_of f k)) n 0 (elements_from (row_of f) 0 f.counts.n_con)) in
+      let before : sums narrow rs ≤ sums (λ r. form_count n r.body) (elements_from (linear_row f) 0 f.counts.n_con) = rw e (exported_count (factor_of_row (linear_of f k)) n 0 (elements_from (linear_row f) 0 f.counts.n_con)) in
       let few : length rs ≤ f.counts.n_con = rw e few_exported in
       omega (
         arith,
@@ -152,15 +152,15 @@ module _ (f : File) (k : ℕ) (file : IsFile f) (folded : fold_fault f k ≡ Non
       )
 
   tied_can : (g : ℕ) → g < 2 ^ 127 → All (ScaledFits g) (objective_numbers f.counts.n_var (objective_form f k))
-      → CanBeWritten (exported_rows (factor_of_row (linear_of f k)) 0 (elements_from (row_of f) 0 f.counts.n_con) ++ scaled_row g (tie f.counts.n_var (objective_form f k)) ∷ []) (z_form f.counts.n_var) (elements_from (variable_of f) 0 f.counts.n_var ++ z_variable ∷ [])
+      → CanBeWritten (exported_rows (factor_of_row (linear_of f k)) 0 (elements_from (linear_row f) 0 f.counts.n_con) ++ scaled_row g (tie f.counts.n_var (objective_form f k)) ∷ []) (z_form f.counts.n_var) (elements_from (linear_variable f) 0 f.counts.n_var ++ z_variable ∷ [])
   tied_can g few parts =
       let n = f.counts.n_var in
-      let own = exported_rows (factor_of_row (linear_of f k)) 0 (elements_from (row_of f) 0 f.counts.n_con) in
+      let own = exported_rows (factor_of_row (linear_of f k)) 0 (elements_from (linear_row f) 0 f.counts.n_con) in
       let last = scaled_row g (tie n (objective_form f k)) in
       let rs = own ++ last ∷ [] in
-      let vs = elements_from (variable_of f) 0 n ++ z_variable ∷ [] in
+      let vs = elements_from (linear_variable f) 0 n ++ z_variable ∷ [] in
       let h : All (IsWritten (n + 1)) rs = All-push (IsWritten (n + 1)) own last (written (n + 1)) (tie_written n g (objective_form f k) few parts) in
-      let count : length vs ≡ suc n = omega (arith, length-append (elements_from (variable_of f) 0 n) (z_variable ∷ []), variables_length) in
+      let count : length vs ≡ suc n = omega (arith, length-append (elements_from (linear_variable f) 0 n) (z_variable ∷ []), variables_length) in
       let below : (j : ℕ) → j < length vs → j < n + 1 = λ j lt. omega (arith, lt, count) in
       record {
         named = tied_named (factor_of_row (linear_of f k)) f f.counts.n_con last (omega (arith, few_rows)) refl;
@@ -174,7 +174,7 @@ module _ (f : File) (k : ℕ) (file : IsFile f) (folded : fold_fault f k ≡ Non
         coefficients = λ j lt. coefficients_of (n + 1) rs h j (below j lt);
         right = All-weaker (IsWritten (n + 1)) (λ r. IfFits (nonzero (rhs_of r.side.lower r.side.upper))) (λ r w. w.right) rs h;
         ranges = All-weaker (IsWritten (n + 1)) (λ r. IfFits (range_of r.side.lower r.side.upper)) (λ r w. w.range) rs h;
-        bounds = All-push HasDecimalBounds (elements_from (variable_of f) 0 n) z_variable (variables_decimal f n) z_decimal;
+        bounds = All-push HasDecimalBounds (elements_from (linear_variable f) 0 n) z_variable (variables_decimal f n) z_decimal;
       }
 
   -- ---- the program
@@ -191,8 +191,8 @@ module _ (f : File) (k : ℕ) (file : IsFile f) (folded : fold_fault f k ≡ Non
   plain_whole decimal =
       let l = linear_of f k in
       let numbers : All FitsDec (objective_numbers f.counts.n_var (objective_form f k)) = subst (λ (m : ℕ). All FitsDec (objective_numbers m (objective_form f k))) width (subst (λ (o : Form). All FitsDec (objective_numbers (variable_count l) o)) objective_is decimal) in
-      let rs = elements_from (row_of f) 0 f.counts.n_con in
-      let vs = elements_from (variable_of f) 0 f.counts.n_var in
+      let rs = elements_from (linear_row f) 0 f.counts.n_con in
+      let vs = elements_from (linear_variable f) 0 f.counts.n_var in
       let base = whole_of (exported_rows (factor_of_row l) 0 rs) (objective_form f k) vs l.maximise (plain_can numbers) in
       let with_variables = subst (λ (ws : List Variable). IsWhole (program_of (exported_rows (factor_of_row l) 0 rs) (objective_form f k) ws l.maximise)) (sym variables_are) base in
       let with_objective = subst (λ (o : Form). IsWhole (program_of (exported_rows (factor_of_row l) 0 rs) o l.variables l.maximise)) (sym objective_is) with_variables in
@@ -203,8 +203,8 @@ module _ (f : File) (k : ℕ) (file : IsFile f) (folded : fold_fault f k ≡ Non
       let l = linear_of f k in
       let g = factor_of_objective l in
       let parts : All (ScaledFits g) (objective_numbers f.counts.n_var (objective_form f k)) = subst (λ (m : ℕ). All (ScaledFits g) (objective_numbers m (objective_form f k))) width (subst (λ (o : Form). All (ScaledFits g) (objective_numbers (variable_count l) o)) objective_is tied.parts) in
-      let rs = elements_from (row_of f) 0 f.counts.n_con in
-      let vs = elements_from (variable_of f) 0 f.counts.n_var in
+      let rs = elements_from (linear_row f) 0 f.counts.n_con in
+      let vs = elements_from (linear_variable f) 0 f.counts.n_var in
       let whole_at : List Row → ℕ → Form → List Variable → Type 0 = λ own m o ws. IsWhole (program_of (exported_rows (factor_of_row l) 0 own ++ scaled_row g (tie m o) ∷ []) (z_form m) (ws ++ z_variable ∷ []) l.maximise) in
       let base : whole_at rs f.counts.n_var (objective_form f k) vs = whole_of (exported_rows (factor_of_row l) 0 rs ++ scaled_row g (tie f.counts.n_var (objective_form f k)) ∷ []) (z_form f.counts.n_var) (vs ++ z_variable ∷ []) l.maximise (tied_can g tied.factor parts) in
       let with_variables = subst (λ (ws : List Variable). whole_at rs f.counts.n_var (objective_form f k) ws) (sym variables_are) base in

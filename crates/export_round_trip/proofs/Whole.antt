@@ -10,7 +10,7 @@ use Rattle.fractions.specs.Rational.{ℚ, zero_ℚ, neg_ℚ}
 use Rattle.exact_numbers.specs.Values.{FitsDec}
 use Rattle.linear_programs.specs.Linear.{Form, Variable}
 use Rattle.mps_model.specs.declared.kinds.RowKind.TheVariants.{N}
-use Rattle.mps_model.specs.Mps.{MpsRow, Entry, Column, Bound, no_row, objective_row}
+use Rattle.mps_model.specs.Mps.{MpsRow, Entry, Column, Bound, no_mps_row, objective_row}
 use Rattle.mps_model.specs.Valid.{AreRows, AreEntries, AreRanges, IsPartOfMps, IsMps, IsBounded, IsOtherRow, HasEntries, marker_word, entry_count}
 use Rattle.exported_program.specs.Program.{ScaledRow, nonzero, with_entry, entries_of, or_obj_zero, column_entries, columns_of, kind_of, mps_row, obj_name, program_of, range_of, rhs_of, bounds_of}
 use Rattle.exported_program.proofs.Names.{nl_is_name, obj_is_name, obj_not_marker}
@@ -137,7 +137,7 @@ module _ (rows : List ScaledRow) (objective : Form) (vs : List Variable) (maximi
   bounded_at zero le lt = absurd (omega arith)
   bounded_at (suc i) le lt =
       let inside : i < length (map mps_row rows) = omega (arith, lt, length-map rows mps_row) in
-      All-map (λ (r : MpsRow). r.kind ≢ N) mps_row rows can.sided i no_row inside
+      All-map (λ (r : MpsRow). r.kind ≢ N) mps_row rows can.sided i no_mps_row inside
 
   ranges_are : AreRanges (record { name = obj_name; kind = N } ∷ map mps_row rows) (entries_of (λ r. range_of r.side.lower r.side.upper) 1 rows)
   ranges_are =

@@ -8,4 +8,3 @@ pub mod Names
 pub mod Return
 pub mod Scaling
 pub mod Sides
-pub mod Terms

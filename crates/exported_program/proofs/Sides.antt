@@ -7,7 +7,7 @@ use Rattle.fractions.specs.Rational.{ℚ, zero_ℚ, whole, ◌+ℚ◌, ◌-ℚ�
 use Rattle.fractions.proofs.Arithmetic.{+ℚ_comm, +ℚ_assoc, +ℚ_zero, +ℚ-neg, -ℚ_lem, zero_top, difference_above}
 use Rattle.linear_programs.specs.Linear.{Interval, AreOrdered, Variable}
 use Rattle.mps_model.specs.declared.kinds.BoundKind.{BoundKind}
-use Rattle.mps_model.specs.Mps.{row_sides, is_negative, size_of, Bound, side_set, lower_set, upper_set, usual_lower, given, has_whole_record, is_below_zero}
+use Rattle.mps_model.specs.Mps.{row_sides, is_negative, size_of, Bound, side_set, lower_set, upper_set, usual_lower, or_usual, has_whole_record, is_below_zero}
 use Rattle.mps_model.specs.declared.kinds.BoundKind.TheVariants.{Lo, Up, Fx, Fr, Mi, Pl}
 use Rattle.exported_program.specs.Program.{nonzero, range_of, rhs_of, kind_of, two_sided, column_bounds, fixed_or_both, bound_record, bounds_of}
 
@@ -106,9 +106,9 @@ side_set_there sets side own (v ∷ vs) p j (suc k) d e h =
     ∙ side_set_there sets side own vs p (suc j) k d (omega arith) (omega arith)
 
 pub column_sides_back : (vs : List Variable) (k : ℕ) (d : Variable) → k < length vs →
-    (let upper = side_set upper_set k (bounds_of 0 vs) in sides (given (side_set lower_set k (bounds_of 0 vs)) (usual_lower upper)) (given upper None)) ≡ (get_or vs k d).bound
+    (let upper = side_set upper_set k (bounds_of 0 vs) in sides (or_usual (side_set lower_set k (bounds_of 0 vs)) (usual_lower upper)) (or_usual upper None)) ≡ (get_or vs k d).bound
 column_sides_back vs k d h =
-    ap₂ (λ lower upper. sides (given lower (usual_lower upper)) (given upper None))
+    ap₂ (λ lower upper. sides (or_usual lower (usual_lower upper)) (or_usual upper None))
     (side_set_there lower_set (λ l u. l) lower_there vs k 0 k d (omega arith) h)
     (side_set_there upper_set (λ l u. u) upper_there vs k 0 k d (omega arith) h)
 

@@ -5,5 +5,3 @@ pub mod FactorLemmas
 pub mod Factor
 pub mod Program
 pub mod Return
-pub mod Terms
-pub mod Written

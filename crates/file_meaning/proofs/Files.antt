@@ -6,25 +6,25 @@ use Rattle.nl_model.specs.File.{File}
 use Rattle.nl_meaning.proofs.Local.{no_coefficient_beyond}
 use Rattle.file_meaning.specs.Expressions.{definitions_of, body_of, maximises}
 use Rattle.file_meaning.specs.Meaning.{objective_value, side_of, HasValueInside, IsRelaxed, IsFeasible}
-use Rattle.file_meaning.specs.LinearFile.{body_form, objective_form, row_of, variable_of, linear_of, HasLines, IsFormedFile}
+use Rattle.file_meaning.specs.LinearFile.{body_form, objective_form, linear_row, linear_variable, linear_of, HasLines, IsFormedFile}
 use Rattle.linear_programs.proofs.Elements.{elements_length, elements_at, all_elements, elements_all}
 
 module _ (f : File) (k : ℕ) where
   pub count_lem : variable_count (linear_of f k) ≡ f.counts.n_var
   unfolding linear_of
-  count_lem = elements_length (variable_of f) 0 f.counts.n_var
+  count_lem = elements_length (linear_variable f) 0 f.counts.n_var
 
-  pub variable_lem : (j : ℕ) → j < f.counts.n_var → variable_at (linear_of f k) j ≡ variable_of f j
+  pub variable_lem : (j : ℕ) → j < f.counts.n_var → variable_at (linear_of f k) j ≡ linear_variable f j
   unfolding linear_of
-  variable_lem j h = elements_at (variable_of f) 0 f.counts.n_var j no_variable h ∙ ap (variable_of f) (omega arith)
+  variable_lem j h = elements_at (linear_variable f) 0 f.counts.n_var j no_variable h ∙ ap (linear_variable f) (omega arith)
 
-  pub rows_all : (P : Row → Type 0) → ((i : ℕ) → i < f.counts.n_con → P (row_of f i)) → All P (linear_of f k).rows
+  pub rows_all : (P : Row → Type 0) → ((i : ℕ) → i < f.counts.n_con → P (linear_row f i)) → All P (linear_of f k).rows
   unfolding linear_of
-  rows_all P h = all_elements (row_of f) P f.counts.n_con h
+  rows_all P h = all_elements (linear_row f) P f.counts.n_con h
 
-  pub all_rows : (P : Row → Type 0) → All P (linear_of f k).rows → (i : ℕ) → i < f.counts.n_con → P (row_of f i)
+  pub all_rows : (P : Row → Type 0) → All P (linear_of f k).rows → (i : ℕ) → i < f.counts.n_con → P (linear_row f i)
   unfolding linear_of
-  all_rows P h = elements_all (row_of f) P f.counts.n_con h
+  all_rows P h = elements_all (linear_row f) P f.counts.n_con h
 
   pub same_sense : (linear_of f k).maximise ≡ maximises f k
   unfolding linear_of

@@ -3,7 +3,7 @@ use Rattle.std.proofs.Common.{◌≡◌, ℕ, zero, suc, ◌+◌, ◌<◌, ◌�
 use Rattle.std.specs.Option.{option_or}
 use Rattle.linear_programs.specs.Linear.{value_at}
 use Rattle.nl_meaning.specs.declared.Fault.{Fault}
-use Rattle.nl_meaning.specs.Faults.{expression_fault, definitions_fault, line_of, line_with_terms, expression_line}
+use Rattle.nl_meaning.specs.Faults.{expression_fault, definitions_fault, tree_line, line_with_terms, expression_line}
 use Rattle.nl_meaning.specs.Parts.{IsPart, IsLinearTree}
 use Rattle.nl_meaning.specs.Trees.{Tree, Known, nothing_known, with_value, Expression, Definition, expression_value, known_values, expression_val, IsExpressionFormed, AreDefined, IsOneOf, indices_of}
 use Rattle.linear_programs.specs.Lines.{Point, line_value}
@@ -63,7 +63,7 @@ with_objective false r k e = cc
 -- an expression without a fault, over defined variables without one, has the values of its line
 clean_line : (n : ℕ) (ds : List Definition) → AreDefined n [] ds → definitions_fault (λ at. nothing_known) n ds ≡ None → (x : Expression) → IsExpressionFormed n (indices_of ds) x → expression_fault (known_values ds) n x ≡ None → HasValues n (expression_val ds x) (expression_line ds x)
 clean_line n ds above clean x formed fault =
-    line_by_lem n (expression_val ds x) (line_with_terms (line_of (known_values ds) x.tree) x.terms)
+    line_by_lem n (expression_val ds x) (line_with_terms (tree_line (known_values ds) x.tree) x.terms)
     (expression_linear n (known_values ds) (indices_of ds) (known_linear n ds above clean) x formed fault)
 
 -- nothing that is folded has a fault

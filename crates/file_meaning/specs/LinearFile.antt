@@ -19,19 +19,19 @@ body_form f i = form_of_line (expression_line (definitions_of f) (body_of f i))
 abbrev pub objective_form : File → ℕ → Form
 objective_form f k = form_of_line (expression_line (definitions_of f) (objective_of f k))
 
-abbrev pub row_of : File → ℕ → Row
-row_of f i = record { name = row_name i; body = body_form f i; side = side_of f i }
+abbrev pub linear_row : File → ℕ → Row
+linear_row f i = record { name = row_name i; body = body_form f i; side = side_of f i }
 
-abbrev pub variable_of : File → ℕ → Variable
-variable_of f j =
+abbrev pub linear_variable : File → ℕ → Variable
+linear_variable f j =
     record { name = variable_name j; bound = bound_of f j; whole = is_whole_variable f j }
 
 -- the linear program of a file with objective k
 unfoldable pub linear_of : File → ℕ → Linear
 linear_of f k =
     record {
-      rows = elements_from (row_of f) 0 f.counts.n_con;
-      variables = elements_from (variable_of f) 0 f.counts.n_var;
+      rows = elements_from (linear_row f) 0 f.counts.n_con;
+      variables = elements_from (linear_variable f) 0 f.counts.n_var;
       objective = objective_form f k;
       maximise = maximises f k;
     }

@@ -9,9 +9,9 @@ use Rattle.nl_model.specs.File.{Objective}
 use Rattle.nl_model.specs.Nodes.{IsTreeFormed}
 use Rattle.nl_model.specs.Rules.{AreBodies, AreDefinitions, AreGuesses, AreObjectives, AreTerms, AreTermsBelow, IsDefinition, IsFile, IsSuffix, IsTreeKnown, IsTreeWithin, most_terms, term_count}
 use Rattle.linear_program.specs.Intervals.{IsOrdered}
-use Rattle.instances.specs.Draws.{row_of}
+use Rattle.instances.specs.Draws.{drawn_row}
 use Rattle.instances.specs.Instance.{each, whole_dec, counts_of, chained, definition_of, body_of, terms_of, side_of, bound_of, slope_of, goal_of, instance}
-use Rattle.instances.specs.Making.{drafted}
+use Rattle.instances.specs.InsideMaking.{drafted}
 use Rattle.instances.proofs.Drafting.{can_add}
 use Rattle.instances.proofs.NumberLemmas.{is_headed}
 use Rattle.instances.proofs.RowLemmas.{is_one, not_defined, terms_so_far}
@@ -43,7 +43,7 @@ definition_known seed n k lt le = record {
   from = omega arith;
   below = omega (arith, lt);
   fresh = not_defined seed n 0 k (n + k) (omega arith);
-  terms = one (λ t. t.0 < n) (k, whole_dec (row_of seed k).defining) lt;
+  terms = one (λ t. t.0 < n) (k, whole_dec (drawn_row seed k).defining) lt;
   few = omega arith;
   tree = record { formed = formed (n + k - 1) (k % 8 == 0); within = chain_known seed n k lt le };
 }
@@ -85,7 +85,7 @@ terms_known seed n le =
     record {
       rows = length-map-range_with_len (terms_of seed) 0 n;
       costs = refl;
-      terms_below = all_each (AreTermsBelow n) (terms_of seed) n (λ k lt. one (λ t. t.0 < n) (k, whole_dec (row_of seed k).linear) lt);
+      terms_below = all_each (AreTermsBelow n) (terms_of seed) n (λ k lt. one (λ t. t.0 < n) (k, whole_dec (drawn_row seed k).linear) lt);
       slopes_below = one (AreTermsBelow n) (each n (slope_of seed)) (all_each (λ t. t.0 < n) (slope_of seed) n (λ k lt. lt));
       few_terms = omega (arith, term_total seed n, le);
       few_slopes = one (λ ts. length ts ≤ most_terms) (each n (slope_of seed)) (omega (arith, slopes, le));
@@ -108,7 +108,7 @@ is_file seed n le = record {
   side_count = length-map-range_with_len (side_of seed) 0 n;
   sides = all_each IsOrdered (side_of seed) n (λ k lt. tt);
   bound_count = length-map-range_with_len (bound_of seed) 0 n;
-  bounds = all_each IsOrdered (bound_of seed) n (λ k lt. above_zero (row_of seed k).bound);
+  bounds = all_each IsOrdered (bound_of seed) n (λ k lt. above_zero (drawn_row seed k).bound);
   dual_guesses = no_guesses n;
   primal_guesses = no_guesses n;
   suffixes = record { each = All-nil (IsSuffix (counts_of n)); apart = λ i j d lt within. absurd (omega (arith, within)) };

@@ -14,7 +14,7 @@ use Rattle.written_texts.specs.Lines.{text_of}
 use Rattle.written_texts.proofs.Lengths.{text-length}
 use Rattle.nl_writer.specs.Trees.{tree_lines}
 use Rattle.nl_writer.specs.Written.{body_lines, body_piece, column_lines, column_piece, definition_piece, header_lines, lettered, nl_lines, numbers, objective_piece, options_line, part_lines, size_lines, term_line, term_piece}
-use Rattle.instances.specs.Draws.{row_of}
+use Rattle.instances.specs.Draws.{drawn_row}
 use Rattle.instances.specs.Instance.{each, zero_dec, whole_dec, counts_of, chained, definition_of, body_of, terms_of, side_of, bound_of, slope_of, goal_of, instance}
 use Rattle.instance_texts.proofs.Lines.{AreFew, HasShortText, IsBrief, at_most, by_their_number, filled, in_turn, intervals_few, joined, lettered_brief, mapped, nothing, number_brief, one_line, short_text, text_brief}
 
@@ -73,7 +73,7 @@ definition_few : (seed n k : ℕ) → k < n → n ≤ 20000 → AreFew 3 (defini
 definition_few seed n k lt le =
     joined 1 2 ((lettered (codes "V") (n + k) ∷ decimal 1 ∷ decimal 0 ∷ []) ∷ []) _
     (one_line (lettered (codes "V") (n + k) ∷ decimal 1 ∷ decimal 0 ∷ []) (omega arith) (lettered_brief 86 (n + k) (omega (arith, lt, le)), (number_brief 1 (omega arith), (number_brief 0 (omega arith), tt))))
-    (joined 1 1 (term_line (k, whole_dec (row_of seed k).defining) ∷ []) (tree_lines (chained n k)) (term_few k (whole_dec (row_of seed k).defining) (omega (arith, lt, le)))
+    (joined 1 1 (term_line (k, whole_dec (drawn_row seed k).defining) ∷ []) (tree_lines (chained n k)) (term_few k (whole_dec (drawn_row seed k).defining) (omega (arith, lt, le)))
     (chained_few (n + k - 1) (k % 8 == 0) (omega (arith, lt, le))))
 
 body_few : (n k : ℕ) → k < n → n ≤ 20000 → AreFew 2 (body_piece k (body_of n k))
@@ -87,14 +87,14 @@ goal_few =
 
 row_few : (seed n k : ℕ) → k < n → n ≤ 20000 → AreFew 2 (term_piece (codes "J") k (terms_of seed k))
 row_few seed n k lt le =
-    joined 1 1 ((lettered (codes "J") k ∷ decimal 1 ∷ []) ∷ []) (term_line (k, whole_dec (row_of seed k).linear) ∷ [])
+    joined 1 1 ((lettered (codes "J") k ∷ decimal 1 ∷ []) ∷ []) (term_line (k, whole_dec (drawn_row seed k).linear) ∷ [])
     (one_line (lettered (codes "J") k ∷ decimal 1 ∷ []) (omega arith) (lettered_brief 74 k (omega (arith, lt, le)), (number_brief 1 (omega arith), tt)))
-    (term_few k (whole_dec (row_of seed k).linear) (omega (arith, lt, le)))
+    (term_few k (whole_dec (drawn_row seed k).linear) (omega (arith, lt, le)))
 
 slopes_few : (seed n : ℕ) → n ≤ 20000 → AreFew (1 + n) (term_piece (codes "G") 0 (each n (slope_of seed)))
 slopes_few seed n le =
     let size : length (each n (slope_of seed)) ≡ n = length-map-range_with_len (slope_of seed) 0 n in
-    let lines = mapped (slope_of seed) term_line n 0 n (omega arith) (λ k lt. term_few k (whole_dec (row_of seed k).slope) (omega (arith, lt, le))) in
+    let lines = mapped (slope_of seed) term_line n 0 n (omega arith) (λ k lt. term_few k (whole_dec (drawn_row seed k).slope) (omega (arith, lt, le))) in
     filled (1 + n) (each n (slope_of seed)) _
     (joined 1 n ((lettered (codes "G") 0 ∷ decimal (length (each n (slope_of seed))) ∷ []) ∷ []) _
     (one_line (lettered (codes "G") 0 ∷ decimal (length (each n (slope_of seed))) ∷ []) (omega arith) (lettered_brief 71 0 (omega arith), (number_brief (length (each n (slope_of seed))) (omega (arith, size, le)), tt))) lines)
@@ -109,7 +109,7 @@ kept_most false t = omega arith
 up_to_most : (seed j a m : ℕ) → terms_up_to (map (terms_of seed) (range_with_len a m)) j ≤ m
 up_to_most seed j a zero = omega arith
 up_to_most seed j a (suc m) =
-    let one = kept_most (nat_le a j) (a, whole_dec (row_of seed a).linear) in
+    let one = kept_most (nat_le a j) (a, whole_dec (drawn_row seed a).linear) in
     omega (arith, sum_by-cons (λ terms. length (filter (λ t. nat_le t.0 j) terms)) (terms_of seed a) (map (terms_of seed) (range_with_len (a + 1) m)), one, up_to_most seed j (a + 1) m)
 
 column_lines_few : (rows : List (List Term)) → ((j : ℕ) → terms_up_to rows j ≤ 20000) → (j n : ℕ) → AreFew n (column_lines rows j n)

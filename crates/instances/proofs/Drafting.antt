@@ -12,9 +12,9 @@ use Rattle.nl_meaning.specs.Trees.{Tree, number, defined}
 use Rattle.nl_model.specs.File.{Term}
 use Rattle.nl_model.specs.Draft.{Draft, is_given, empty_draft, file_of}
 use Rattle.nl_model.specs.Rules.{IsTreeWithin, is_defined, term_count}
-use Rattle.instances.specs.Draws.{row_of, state_after}
+use Rattle.instances.specs.Draws.{drawn_row, state_after}
 use Rattle.instances.specs.Instance.{each, whole_dec, counts_of, definition_of, body_of, terms_of, side_of, bound_of, slope_of, goal_of, instance}
-use Rattle.instances.specs.Making.{drafted, with_row, CanAddRow}
+use Rattle.instances.specs.InsideMaking.{drafted, with_row, CanAddRow}
 use Rattle.instances.proofs.RowLemmas.{not_defined, is_one, terms_so_far}
 
 -- n - k places, of which the first is next
@@ -37,10 +37,10 @@ empty_place f n k e d lt =
     ap (λ ys. get_or (each k f ++ ys) k d) (place_more n k e lt)
     ∙ get_or_at (each k f) e (replicate (n - (k + 1)) e) d k (length-map-range_with_len f 0 k)
 
-pub added : (seed n k : ℕ) → k < n → with_row (drafted seed n k) n k (row_of seed k) ≡ drafted seed n (k + 1)
+pub added : (seed n k : ℕ) → k < n → with_row (drafted seed n k) n k (drawn_row seed k) ≡ drafted seed n (k + 1)
 unfolding drafted
 added seed n k lt =
-    let term : Term = (k, whole_dec (row_of seed k).linear) in
+    let term : Term = (k, whole_dec (drawn_row seed k).linear) in
     let empty : slice_set (each k (terms_of seed) ++ replicate (n - k) []) k (get_or (each k (terms_of seed) ++ replicate (n - k) []) k [] ++ term ∷ []) ≡ slice_set (each k (terms_of seed) ++ replicate (n - k) []) k (terms_of seed k)
     = ap (λ ts. slice_set (each k (terms_of seed) ++ replicate (n - k) []) k (ts ++ term ∷ [])) (empty_place (terms_of seed) n k [] [] lt) in
     let terms = empty ∙ placed (terms_of seed) n k [] lt in

@@ -1,6 +1,6 @@
 -- The states of draws that follow one another.
 use Rattle.std.proofs.Common.{◌≡◌, ◌∙◌, ℕ, suc, ◌+◌, ◌*◌, sym, ap, arith}
-use Rattle.instances.specs.Draws.{drawn, next_state, row_of, state_after}
+use Rattle.instances.specs.Draws.{drawn, next_state, drawn_row, state_after}
 use Rattle.instances.specs.declared.draws.Row.{Row}
 
 pub next_after : (seed i j s t : ℕ) → j ≡ suc i → s ≡ state_after seed i → t ≡ next_state s → t ≡ state_after seed j
@@ -30,8 +30,8 @@ next_row seed k s1 s2 s3 s4 s5 h = h.fifth ∙ ap (state_after seed) (omega arit
 
 pub row_drawn : (seed k s1 s2 s3 s4 s5 a p h u g : ℕ) → AreFive seed k s1 s2 s3 s4 s5
     → a ≡ drawn s1 9 → p ≡ drawn s2 9 → h ≡ drawn s3 90 → u ≡ drawn s4 9 → g ≡ drawn s5 99
-    → ◌≡◌ {A = Row} (record { defining = 1 + a; linear = 1 + p; most = 10 + h; bound = 1 + u; slope = 1 + g }) (row_of seed k)
-unfolding row_of
+    → ◌≡◌ {A = Row} (record { defining = 1 + a; linear = 1 + p; most = 10 + h; bound = 1 + u; slope = 1 + g }) (drawn_row seed k)
+unfolding drawn_row
 row_drawn seed k s1 s2 s3 s4 s5 a p h u g f da dp dh du dg =
     let ea : a ≡ drawn (state_after seed (5 * k + 1)) 9 = da ∙ ap (λ s. drawn s 9) f.first in
     let ep : p ≡ drawn (state_after seed (5 * k + 2)) 9 = dp ∙ ap (λ s. drawn s 9) f.second in

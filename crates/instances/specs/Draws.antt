@@ -17,8 +17,8 @@ abbrev pub drawn : ℕ → ℕ → ℕ
 drawn s m = s / 65536 % m
 
 -- the numbers of row k, which are drawn one after the other, five for each row
-unfoldable pub row_of : ℕ → ℕ → Row
-row_of seed k =
+unfoldable pub drawn_row : ℕ → ℕ → Row
+drawn_row seed k =
     record {
       defining = 1 + drawn (state_after seed (5 * k + 1)) 9;
       linear = 1 + drawn (state_after seed (5 * k + 2)) 9;

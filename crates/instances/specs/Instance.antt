@@ -10,7 +10,7 @@ use Rattle.nl_meaning.specs.Trees.{Tree, number, defined}
 use Rattle.nl_model.specs.declared.header_counts.Counts.{Counts}
 use Rattle.linear_program.specs.declared.interval.Interval.{Interval}
 use Rattle.nl_model.specs.File.{Term, Objective, Definition, File}
-use Rattle.instances.specs.Draws.{row_of}
+use Rattle.instances.specs.Draws.{drawn_row}
 
 -- of the numbers below n, in order
 abbrev pub each : {A : Type 0} → ℕ → (ℕ → A) → List A
@@ -77,7 +77,7 @@ abbrev pub definition_of : ℕ → ℕ → ℕ → Definition
 definition_of seed n k =
     record {
       index = n + k;
-      terms = (k, whole_dec (row_of seed k).defining) ∷ [];
+      terms = (k, whole_dec (drawn_row seed k).defining) ∷ [];
       usage = 0;
       tree = chained n k;
     }
@@ -88,19 +88,19 @@ body_of n k = Some (defined (n + k))
 
 -- its linear term
 abbrev pub terms_of : ℕ → ℕ → List Term
-terms_of seed k = (k, whole_dec (row_of seed k).linear) ∷ []
+terms_of seed k = (k, whole_dec (drawn_row seed k).linear) ∷ []
 
 -- its side
 abbrev pub side_of : ℕ → ℕ → Interval
-side_of seed k = record { lo = None; hi = Some (whole_dec (row_of seed k).most) }
+side_of seed k = record { lo = None; hi = Some (whole_dec (drawn_row seed k).most) }
 
 -- the sides of variable k
 abbrev pub bound_of : ℕ → ℕ → Interval
-bound_of seed k = record { lo = Some (whole_dec 0); hi = Some (whole_dec (row_of seed k).bound) }
+bound_of seed k = record { lo = Some (whole_dec 0); hi = Some (whole_dec (drawn_row seed k).bound) }
 
 -- its term in the objective
 abbrev pub slope_of : ℕ → ℕ → Term
-slope_of seed k = (k, whole_dec (row_of seed k).slope)
+slope_of seed k = (k, whole_dec (drawn_row seed k).slope)
 
 -- the objective's sense and tree
 abbrev pub goal_of : Objective

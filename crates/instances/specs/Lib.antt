@@ -1,3 +1,3 @@
 pub mod Draws
 pub mod Instance
-pub mod Making
+pub mod InsideMaking

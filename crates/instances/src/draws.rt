@@ -1,6 +1,6 @@
 // The numbers of an instance, drawn one after the other.
 ghost use Rattle.std.specs.Prelude.{◌≡◌, ℕ, ◌+◌, ◌*◌, ◌<◌, ◌≤◌};
-ghost use Rattle.instances.specs.Draws.{drawn, next_state, row_of, state_after};
+ghost use Rattle.instances.specs.Draws.{drawn, next_state, drawn_row, state_after};
 
 /// The numbers of one row.
 #[derive(Clone, Copy)]
@@ -41,7 +41,7 @@ impl Draws {
         ensures state { (seed k : ℕ) → self.old.state ≡ state_after seed (5 * k)
             → self.new.state ≡ state_after seed (5 * (k + 1)) }
         ensures row { (seed k : ℕ) → self.old.state ≡ state_after seed (5 * k)
-            → result ≡ row_of seed k }
+            → result ≡ drawn_row seed k }
     {
         let defining = 1 + self.draw(9);
         let linear = 1 + self.draw(9);

@@ -8,7 +8,7 @@ ghost use Rattle.linear_program.specs.Intervals.{IsOrdered};
 ghost use Rattle.nl_model.specs.Rules.{is_defined, most_terms, term_count};
 ghost use Rattle.nl_model.specs.HeaderWords.{header_counts, header_options};
 ghost use Rattle.instances.specs.Instance.{chained, counts_of, whole_dec};
-ghost use Rattle.instances.specs.Making.{CanAddRow, with_row};
+ghost use Rattle.instances.specs.InsideMaking.{CanAddRow, with_row};
 
 use crate::draws::Row;
 use exact_numbers::Dec;

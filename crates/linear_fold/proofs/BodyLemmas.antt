@@ -18,7 +18,7 @@ use Rattle.linear_program.specs.declared.form.Form.{Form}
 use Rattle.linear_fold.specs.FoldedFaults.{named_fault, node_total, step_bound, term_total}
 use Rattle.linear_fold.specs.declared.entries.Entry.TheVariants.{Linear}
 use Rattle.linear_program.specs.Coefs.{AreAscending, AreBelow}
-use Rattle.linear_fold.specs.Folds.{IsExpressionFolded}
+use Rattle.linear_fold.specs.InsideFolds.{IsExpressionFolded}
 use Rattle.linear_program.specs.Forms.{IsWithin, form_line, form_terms}
 use Rattle.fractions.specs.Rational.{zero_ℚ}
 use Rattle.nl_model.specs.FilePlaces.{terms_at, tree_at}
@@ -26,7 +26,7 @@ use Rattle.std.proofs.lemmas.List.{get_or_past}
 use Rattle.std.proofs.lemmas.Option.{slice_get_past}
 use Rattle.linear_fold.proofs.Expressions.{no_terms, zero_folded}
 use Rattle.linear_fold.proofs.Folding.{constant_within}
-use Rattle.linear_fold.specs.OwnerFolds.{AreBodiesOf, HasStopped, IsFormOf, bodies_size, coefficients_of, definitions_size, expression_at, known_by, owned_at, owner_size}
+use Rattle.linear_fold.specs.InsideOwnerFolds.{AreBodiesOf, HasStopped, IsFormOf, bodies_size, coefficients_of, definitions_size, expression_at, known_by, owned_at, owner_size}
 use Rattle.linear_fold.proofs.DefinitionLemmas.{known_push, steps_more, steps_within, take_more}
 use Rattle.linear_fold.proofs.OwnerLemmas.{linear_folded, owner_count, there}
 

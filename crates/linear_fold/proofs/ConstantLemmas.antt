@@ -25,7 +25,7 @@ use Rattle.nl_meaning.specs.Trees.{on_values}
 use Rattle.code_tables.specs.declared.class.OpClass.{OpClass}
 use Rattle.code_tables.specs.declared.class.OpClass.TheVariants.{Least, Greatest, Power}
 use Rattle.linear_fold.specs.declared.parts.Part.{Part}
-use Rattle.linear_fold.specs.Operates.{AreOperands, AreUnbroken, IsOperand, IsUnbroken, IsValueOf, part_line}
+use Rattle.linear_fold.specs.InsideOperates.{AreOperands, AreUnbroken, IsOperand, IsUnbroken, IsValueOf, part_line}
 use Rattle.linear_fold.proofs.Operators.{fault_first}
 
 -- ---- signs

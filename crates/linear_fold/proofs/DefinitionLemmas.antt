@@ -24,9 +24,9 @@ use Rattle.linear_programs.specs.Elements.{elements_from}
 use Rattle.linear_fold.specs.declared.fold_fault.FoldFault.{FoldFault}
 use Rattle.linear_program.specs.declared.form.Form.{Form}
 use Rattle.linear_fold.specs.FoldedFaults.{named_fault}
-use Rattle.linear_fold.specs.Folds.{AreKnown, AreSlotsWithin, HasLineOf, IsGiven}
+use Rattle.linear_fold.specs.InsideFolds.{AreKnown, AreSlotsWithin, HasLineOf, IsGiven}
 use Rattle.linear_program.specs.Forms.{IsWithin, form_line}
-use Rattle.linear_fold.specs.OwnerFolds.{AreSlotsOf, HasStopped, HasFolded, IsFormOf, definitions_size, form_count, known_by}
+use Rattle.linear_fold.specs.InsideOwnerFolds.{AreSlotsOf, HasStopped, HasFolded, IsFormOf, definitions_size, form_count, known_by}
 use Rattle.linear_fold.specs.declared.owners.Folder.{Folder}
 use Rattle.linear_fold.proofs.OwnerLemmas.{definition_at, found_here}
 

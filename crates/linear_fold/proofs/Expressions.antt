@@ -25,8 +25,8 @@ use Rattle.linear_fold.specs.declared.entries.Entry.TheVariants.{Linear, Broken}
 use Rattle.linear_program.specs.declared.form.Form.{Form}
 use Rattle.linear_program.specs.declared.too_wide.Wide.{Wide}
 use Rattle.linear_program.specs.Forms.{form_line, AddsScaled, IsWithin, IsZeroFrom}
-use Rattle.linear_fold.specs.Operates.{zero_line}
-use Rattle.linear_fold.specs.Folds.{AddsTerms, AreNodesWithin, AreTreesGiven, ComesToTerms, HasLineOf, IsEntryWithin, IsExpressionFolded, IsFolded, IsTreeGiven}
+use Rattle.linear_fold.specs.InsideOperates.{zero_line}
+use Rattle.linear_fold.specs.InsideFolds.{AddsTerms, AreNodesWithin, AreTreesGiven, ComesToTerms, HasLineOf, IsEntryWithin, IsExpressionFolded, IsFolded, IsTreeGiven}
 use Rattle.linear_fold.proofs.Folding.{constant_lined, is_line_of, same_form}
 use Rattle.exact_numbers.proofs.Zeros.{fits_zero}
 use Rattle.linear_fold.proofs.Operators.{FitsLine, copy_fits, multiplied, scaled_by_one}

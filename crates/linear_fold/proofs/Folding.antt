@@ -11,7 +11,7 @@ use Rattle.fractions.proofs.Arithmetic.{*ℚ_zero, +ℚ_zero, neg_zero}
 use Rattle.nl_meaning.specs.declared.Fault.{Fault}
 use Rattle.nl_meaning.specs.declared.Reason.{Reason}
 use Rattle.linear_programs.specs.Lines.{Line, some_values, line_value, line_by, is_constant, line_with, line_sum, line_scaled, line_neg, running_line, constant_line, Point}
-use Rattle.nl_meaning.specs.Faults.{operator_fault, operator_line, fault_at, lines_of, tree_fault}
+use Rattle.nl_meaning.specs.Faults.{operator_fault, operator_line, fault_at, trees_lines, tree_fault}
 use Rattle.nl_meaning.specs.Trees.{Known, Tree, operator, Trees, none, more, on_values, operator_value, tree_value, trees_values, HasCount}
 use Rattle.linear_programs.proofs.LineLemmas.{same_constant, same_coef, no_coef}
 use Rattle.nl_meaning.proofs.Linear.{all_there-some, constant_value, variable_value, operator_has_line}
@@ -21,8 +21,8 @@ use Rattle.linear_program.specs.declared.form.Form.{Form}
 use Rattle.linear_fold.specs.declared.parts.Part.{Part}
 use Rattle.linear_fold.specs.declared.parts.Part.TheVariants.{Number, Variable, Linear, Broken}
 use Rattle.linear_program.specs.Forms.{form_line, IsWithin, IsZeroFrom}
-use Rattle.linear_fold.specs.Operates.{IsOperand, IsSound, AreOperands, lines_of_parts, part_line}
-use Rattle.linear_fold.specs.Folds.{HasLine, HasLineOf, IsLined, AreLinesOf, AreOperandsOf, ArePartsWithin, ComesToLine, IsEntryOf, IsEntryWithin, IsFolded, IsPartFolded, IsPartWithin, first_broken}
+use Rattle.linear_fold.specs.InsideOperates.{IsOperand, IsSound, AreOperands, lines_of_parts, part_line}
+use Rattle.linear_fold.specs.InsideFolds.{HasLine, HasLineOf, IsLined, AreLinesOf, AreOperandsOf, ArePartsWithin, ComesToLine, IsEntryOf, IsEntryWithin, IsFolded, IsPartFolded, IsPartWithin, first_broken}
 use Rattle.linear_fold.proofs.PartLemmas.{multiple_zero_from}
 use Rattle.linear_program.proofs.Scaled.{same_line}
 
@@ -69,7 +69,7 @@ AreZeroLines n [] = Unit {0}
 AreZeroLines n (l ∷ ls) = IsZeroFrom n l × AreZeroLines n ls
 
 module _ (known : Point → Known) (n : ℕ) where
-  lines_are : (ts : Trees) (ls : List Line) → AreZeroLines n ls → AreLinesOf known n ts ls → ls ≡ lines_of known ts
+  lines_are : (ts : Trees) (ls : List Line) → AreZeroLines n ls → AreLinesOf known n ts ls → ls ≡ trees_lines known ts
   lines_are none [] w h = refl
   lines_are none (l ∷ ls) w h = absurd h
   lines_are (more t ts) [] w h = absurd h
@@ -168,7 +168,7 @@ module _ (known : Point → Known) (n i : ℕ) (c : OpClass) (ts : Trees) (ps : 
   operator_folded (Broken x) clean line sound = absurd sound
 
 pub faulty_operands : (known : Point → Known) (n i : ℕ) (c : OpClass) (ts : Trees) (ps : List Part) → AreOperandsOf known n (i + 1) ts ps → (x : Fault) → first_broken ps ≡ Some x → tree_fault known n i (operator c ts) ≡ Some x
-faulty_operands known n i c ts ps operands x e = ap (λ o. option_or o (fault_at i (operator_fault n c (lines_of known ts)))) (sym operands.fault ∙ e)
+faulty_operands known n i c ts ps operands x e = ap (λ o. option_or o (fault_at i (operator_fault n c (trees_lines known ts)))) (sym operands.fault ∙ e)
 
 pub operand_within : (n : ℕ) (p : Part) → IsOperand n p → IsPartWithin n p
 operand_within n (Number k) w = w

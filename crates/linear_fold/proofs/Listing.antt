@@ -14,7 +14,7 @@ use Rattle.nl_meaning.specs.Trees.{LinearTerm}
 use Rattle.nl_model.specs.File.{Term as FileTerm}
 use Rattle.file_meaning.specs.Expressions.{linear_terms}
 use Rattle.linear_program.specs.Coefs.{Term, found, value_or_zero, coef_in, AreAscending, AreBelow}
-use Rattle.linear_fold.specs.LinearTerms.{AreStrictlyAscending, AreZeroTerms}
+use Rattle.linear_fold.specs.InsideLinearTerms.{AreStrictlyAscending, AreZeroTerms}
 use Rattle.linear_program.proofs.Closing.{found_last, found_other}
 use Rattle.linear_program.proofs.CoefLemmas.{adds_at, ascending_append, below_append, below_from, found_beyond, nothing_added}
 use Rattle.exact_numbers.proofs.Zeros.{fits_zero, sum_fits_zero, zero_frac_fits}

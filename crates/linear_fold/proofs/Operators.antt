@@ -21,7 +21,7 @@ use Rattle.linear_fold.specs.declared.operate.Outcome.TheVariants.{Linear, Refus
 use Rattle.linear_program.specs.declared.too_wide.Wide.{Wide}
 use Rattle.linear_program.specs.Coefs.{AreAscending}
 use Rattle.linear_program.specs.Forms.{form_terms, IsWithin, IsZeroFrom, ScaledSumFits, AddsScaled}
-use Rattle.linear_fold.specs.Operates.{zero_line, IsOperand, AreOperands, SumsTo, ComesTo, Operates, part_line}
+use Rattle.linear_fold.specs.InsideOperates.{zero_line, IsOperand, AreOperands, SumsTo, ComesTo, Operates, part_line}
 use Rattle.exact_numbers.proofs.Zeros.{fits_zero, sum_fits_zero, zero_sum_fits}
 use Rattle.linear_program.proofs.FracLemmas.{fits_neg}
 pub use Rattle.linear_fold.proofs.PartLemmas.{FitsLine, form_fits}

@@ -10,7 +10,7 @@ use Rattle.nl_meaning.specs.declared.Fault.{Fault}
 use Rattle.nl_meaning.specs.declared.Reason.{Reason}
 use Rattle.nl_meaning.specs.declared.Reason.TheVariants.{Nonlinear as IsNonlinear, DivideByZero as DividesByZero, TooWide as IsTooWide, RefusedPower as HasRefusedPower}
 use Rattle.linear_programs.specs.Lines.{Line, constant_line, line_with, Point}
-use Rattle.nl_meaning.specs.Faults.{fault_at, too_wide_unless, tree_fault, trees_fault, terms_fault, expression_fault, line_of, lines_of, operator_fault}
+use Rattle.nl_meaning.specs.Faults.{fault_at, too_wide_unless, tree_fault, trees_fault, terms_fault, expression_fault, tree_line, trees_lines, operator_fault}
 use Rattle.nl_meaning.specs.Trees.{Known, Tree, number, variable, defined, operator, Trees, none, more, Expression, expression_value, tree_size, trees_size}
 use Rattle.nl_meaning.proofs.Linear.{terms_added}
 use Rattle.linear_programs.proofs.LineLemmas.{same_coef}
@@ -30,8 +30,8 @@ use Rattle.linear_fold.specs.FoldedFaults.{HasFaultPlace, fault_for, named_fault
 use Rattle.linear_fold.specs.declared.entries.Entry.{Entry}
 use Rattle.linear_program.specs.Coefs.{AreAscending}
 use Rattle.linear_program.specs.Forms.{IsWithin, form_line, form_terms}
-use Rattle.linear_fold.specs.Folds.{AreKnown, AreSlotsWithin, AreTreesGiven, HasLineOf, IsExpressionFolded, IsGiven, IsTreeGiven}
-use Rattle.linear_fold.specs.OwnerFolds.{AreSlotsOf, HasOwner, IsFormOf, definitions_before, expression_at, fold_owner_of, known_by, owned_at}
+use Rattle.linear_fold.specs.InsideFolds.{AreKnown, AreSlotsWithin, AreTreesGiven, HasLineOf, IsExpressionFolded, IsGiven, IsTreeGiven}
+use Rattle.linear_fold.specs.InsideOwnerFolds.{AreSlotsOf, HasOwner, IsFormOf, definitions_before, expression_at, fold_owner_of, known_by, owned_at}
 use Rattle.linear_program.proofs.CoefLemmas.{apart_test}
 use Rattle.linear_fold.proofs.CountLemmas.{count_zero, form_count_is}
 use Rattle.linear_fold.proofs.Folding.{constant_lined, is_line_of}
@@ -122,8 +122,8 @@ module _ (known : Point → Known) (n : ℕ) where
     tree_place i (operator c ts) x h =
         ⊎_elim
         (λ (e : trees_fault known n (i + 1) ts ≡ Some x). let r = trees_place (i + 1) ts x e in (omega (arith, r.0), omega (arith, r.1)))
-        (λ (e : fault_at i (operator_fault n c (lines_of known ts)) ≡ Some x). let p = fault_at_place i (operator_fault n c (lines_of known ts)) x e in (omega arith, omega arith))
-        (option_or_some (trees_fault known n (i + 1) ts) (fault_at i (operator_fault n c (lines_of known ts))) x h)
+        (λ (e : fault_at i (operator_fault n c (trees_lines known ts)) ≡ Some x). let p = fault_at_place i (operator_fault n c (trees_lines known ts)) x e in (omega arith, omega arith))
+        (option_or_some (trees_fault known n (i + 1) ts) (fault_at i (operator_fault n c (trees_lines known ts))) x h)
 
     trees_place : (i : ℕ) (ts : Trees) (x : Fault) → trees_fault known n i ts ≡ Some x → (i ≤ x.place) × (x.place < i + trees_size ts)
     trees_place i none x h = cc
@@ -155,10 +155,10 @@ pub expression_among : (known : Point → Known) (n : ℕ) (t : Option Tree) (ts
 expression_among known n t ts x h =
     ⊎_elim
     (λ (e : tree_fault known n 0 (tree_or_zero t) ≡ Some x). inl (node_among known n t x e))
-    (λ (e : terms_fault (line_of known (tree_or_zero t)) (tree_size (tree_or_zero t)) (linear_terms ts) ≡ Some x).
-    let r = terms_place (tree_size (tree_or_zero t)) ts (line_of known (tree_or_zero t)) x e in
+    (λ (e : terms_fault (tree_line known (tree_or_zero t)) (tree_size (tree_or_zero t)) (linear_terms ts) ≡ Some x).
+    let r = terms_place (tree_size (tree_or_zero t)) ts (tree_line known (tree_or_zero t)) x e in
     inr (r.0, omega (arith, r.0, r.1), r.1))
-    (option_or_some (tree_fault known n 0 (tree_or_zero t)) (terms_fault (line_of known (tree_or_zero t)) (tree_size (tree_or_zero t)) (linear_terms ts)) x h)
+    (option_or_some (tree_fault known n 0 (tree_or_zero t)) (terms_fault (tree_line known (tree_or_zero t)) (tree_size (tree_or_zero t)) (linear_terms ts)) x h)
 
 pub place_bound : (t : Option Tree) (ts : List Term) (p : ℕ) → IsAmong t ts p → tree_size (tree_or_zero t) ≤ 2 ^ 22 → length ts ≤ most_terms → p < 2 ^ 32
 place_bound t ts p among few short =

@@ -20,7 +20,7 @@ use Rattle.linear_fold.specs.declared.parts.Part.TheVariants.{Number, Variable, 
 use Rattle.linear_program.specs.declared.too_wide.Wide.{Wide}
 use Rattle.linear_program.specs.Coefs.{AddsAt, coef_in, value_or_zero}
 use Rattle.linear_program.specs.Forms.{form_line, sum_line, AddsScaled, IsWithin, IsZeroFrom, ScaledSumFits, kept_constant, form_terms}
-use Rattle.linear_fold.specs.Operates.{AreOperands, AreUnbroken, IsOperand, IsSound, IsUnbroken, multiple_line, part_line}
+use Rattle.linear_fold.specs.InsideOperates.{AreOperands, AreUnbroken, IsOperand, IsSound, IsUnbroken, multiple_line, part_line}
 use Rattle.linear_program.proofs.CoefLemmas.{adds_at, found_apart, found_same}
 use Rattle.exact_numbers.proofs.Zeros.{fits_zero, sum_fits_zero}
 use Rattle.linear_program.proofs.FracLemmas.{coef_fits, place_fits, zero_test}

@@ -21,10 +21,10 @@ use Rattle.file_meaning.specs.Expressions.{maximises, no_objective}
 use Rattle.file_meaning.specs.FoldFaults.{fold_fault, has_objective, no_such_objective, owned_body, owned_line, owners_fault, owners_of}
 use Rattle.linear_programs.specs.Elements.{elements_from}
 use Rattle.linear_programs.specs.Lines.{form_of_line}
-use Rattle.file_meaning.specs.LinearFile.{linear_of, row_of, variable_of}
+use Rattle.file_meaning.specs.LinearFile.{linear_of, linear_row, linear_variable}
 use Rattle.linear_program.specs.declared.form.Form.{Form}
 use Rattle.linear_program.specs.Forms.{form_line}
-use Rattle.linear_fold.specs.OwnerFolds.{AreBodiesOf, AreFormsOf, IsFormOf}
+use Rattle.linear_fold.specs.InsideOwnerFolds.{AreBodiesOf, AreFormsOf, IsFormOf}
 use Rattle.linear_program.specs.Programs.{IsFormOver, IsLinear, LinearValue, linear_value, rows_from, variables_from}
 use Rattle.linear_fold.proofs.BodyLemmas.{body_owned, objective_owned}
 use Rattle.linear_fold.proofs.OwnerLemmas.{found_here, owner_line}
@@ -74,14 +74,14 @@ module _ (f : File) where
   body_line : (i : ℕ) (b : Form) → IsFormOf f (Con i) b → form_line b ≡ owned_line (owned_body f i)
   body_line i b h = owner_line f (Con i) b h ∙ ap owned_line (sym (body_owned f i))
 
-  rows_are : (i : ℕ) (bodies : List Form) → AreBodiesOf f i bodies → i + length bodies ≡ length f.sides → rows_from i bodies (drop i f.sides) ≡ elements_from (row_of f) i (length bodies)
+  rows_are : (i : ℕ) (bodies : List Form) → AreBodiesOf f i bodies → i + length bodies ≡ length f.sides → rows_from i bodies (drop i f.sides) ≡ elements_from (linear_row f) i (length bodies)
   unfolding elements_from
   rows_are i [] all e = refl
   rows_are i (b ∷ bodies) all e =
       ap (rows_from i (b ∷ bodies)) (begins f.sides i (omega arith))
-      ∙ ap₂ (λ (r : Row) rs. r ∷ rs) (λ q. record { name = (row_of f i).name; body = form_of_line (body_line i b all.0 q); side = (row_of f i).side }) (rows_are (suc i) bodies all.1 (omega arith))
+      ∙ ap₂ (λ (r : Row) rs. r ∷ rs) (λ q. record { name = (linear_row f i).name; body = form_of_line (body_line i b all.0 q); side = (linear_row f i).side }) (rows_are (suc i) bodies all.1 (omega arith))
 
-  variables_are : (m j : ℕ) → j + m ≡ length f.bounds → variables_from j (drop j f.bounds) (elements_from (kind_of f.counts) j m) ≡ elements_from (variable_of f) j m
+  variables_are : (m j : ℕ) → j + m ≡ length f.bounds → variables_from j (drop j f.bounds) (elements_from (kind_of f.counts) j m) ≡ elements_from (linear_variable f) j m
   unfolding elements_from
   variables_are zero j e = ap (λ bs. variables_from j bs []) (past f.bounds j (omega arith))
     where
@@ -92,7 +92,7 @@ module _ (f : File) where
       past (x ∷ xs) (suc k) h = past xs k (omega arith)
   variables_are (suc m) j e =
       ap (λ bs. variables_from j bs (elements_from (kind_of f.counts) j (suc m))) (begins f.bounds j (omega arith))
-      ∙ ap (λ vs. variable_of f j ∷ vs) (variables_are m (suc j) (omega arith))
+      ∙ ap (λ vs. linear_variable f j ∷ vs) (variables_are m (suc j) (omega arith))
 
 bodies_over : (f : File) (i n : ℕ) (bodies : List Form) → n ≡ f.counts.n_var → AreBodiesOf f i bodies → All (IsFormOver n) bodies
 bodies_over f i n [] e all k d h = absurd (omega arith)
@@ -125,7 +125,7 @@ module _ (f : File) (file : IsFile f) (k : ℕ) (bodies : List Form) (objective 
     is_program =
         let height : 0 + length bodies ≡ length f.sides = (let a = forms.count in let b = file.side_count in omega arith) in
         let width : 0 + f.counts.n_var ≡ length f.bounds = (let a = file.bound_count in omega arith) in
-        let rows = ap (rows_from 0 bodies) sides_is ∙ rows_are f 0 bodies forms.bodies_are height ∙ ap (elements_from (row_of f) 0) forms.count in
+        let rows = ap (rows_from 0 bodies) sides_is ∙ rows_are f 0 bodies forms.bodies_are height ∙ ap (elements_from (linear_row f) 0) forms.count in
         let variables = ap₂ (λ bs ks. variables_from 0 bs ks) bounds_is kinds_is ∙ variables_are f f.counts.n_var 0 width in
         let line = owner_line f (Obj k) objective forms.objective_is ∙ ap owned_line (sym (objective_owned f k)) in
         λ q. record { rows = rows q; variables = variables q; objective = form_of_line (line q); maximise = sense q }

@@ -13,8 +13,8 @@ use Rattle.nl_model.specs.Nodes.{AreNodesFormed, trees_of, with_node}
 use Rattle.linear_program.specs.declared.form.Form.{Form}
 use Rattle.linear_fold.specs.declared.parts.Part.{Part}
 use Rattle.linear_fold.specs.declared.parts.Part.TheVariants.{Number, Variable, Linear, Broken}
-use Rattle.linear_fold.specs.Folds.{AreLinesOf, AreNodesWithin, AreOperandsOf, ArePartsFolded, ArePartsWithin, IsLined, IsNodeWithin, IsPartFolded, NodeFinds, first_broken}
-use Rattle.linear_fold.specs.Operates.{lines_of_parts, part_line}
+use Rattle.linear_fold.specs.InsideFolds.{AreLinesOf, AreNodesWithin, AreOperandsOf, ArePartsFolded, ArePartsWithin, IsLined, IsNodeWithin, IsPartFolded, NodeFinds, first_broken}
+use Rattle.linear_fold.specs.InsideOperates.{lines_of_parts, part_line}
 
 pub top_first : {A : Type 0} (stack new : List A) (x : A) → stack ≡ new ++ x ∷ [] → reverse stack ≡ x ∷ reverse new
 top_first stack new x e = ap reverse e ∙ reverse-append new (x ∷ [])

@@ -1,6 +1,6 @@
 pub mod FoldedFaults
-pub mod Folds
-pub mod Operates
-pub mod OwnerFolds
+pub mod InsideFolds
+pub mod InsideOperates
+pub mod InsideOwnerFolds
 pub mod Kinds
-pub mod LinearTerms
+pub mod InsideLinearTerms

@@ -1,8 +1,8 @@
 // Terms that ascend by variable: as they stand, they are the coefficients of a form.
 ghost use Rattle.std.specs.Prelude.{◌≡◌, ◌+◌, ◌^◌, ◌≤◌, ◌↔◌, [], length, IfOk, IsTrue};
 ghost use Rattle.file_meaning.specs.Expressions.{linear_terms};
-ghost use Rattle.linear_fold.specs.LinearTerms.{AreStrictlyAscending, AreZeroTerms};
-ghost use Rattle.linear_fold.specs.Folds.{ComesToTerms};
+ghost use Rattle.linear_fold.specs.InsideLinearTerms.{AreStrictlyAscending, AreZeroTerms};
+ghost use Rattle.linear_fold.specs.InsideFolds.{ComesToTerms};
 ghost use Rattle.linear_program.specs.Forms.{form_line, form_terms};
 
 use crate::entries::Entry;

@@ -8,7 +8,7 @@ ghost use Rattle.file_meaning.specs.FoldFaults.{has_objective, most_coefficients
 ghost use Rattle.linear_programs.specs.Elements.{elements_from};
 ghost use Rattle.linear_fold.specs.FoldedFaults.{HasFaultPlace, named_fault, step_bound};
 ghost use Rattle.linear_program.specs.Forms.{form_terms};
-ghost use Rattle.linear_fold.specs.OwnerFolds.{AreBodiesOf, AreFormsOf, AreOwnersFolded, HasFolded, IsFormOf, bodies_size, coefficients_of, owned_at, owner_size};
+ghost use Rattle.linear_fold.specs.InsideOwnerFolds.{AreBodiesOf, AreFormsOf, AreOwnersFolded, HasFolded, IsFormOf, bodies_size, coefficients_of, owned_at, owner_size};
 
 use crate::definitions::fold_definitions;
 use crate::fold_fault::FoldFault;

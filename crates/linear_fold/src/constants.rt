@@ -5,7 +5,7 @@ ghost use Rattle.exact_numbers.specs.Values.{frac_value};
 ghost use Rattle.fractions.specs.Fits.{fits};
 ghost use Rattle.fractions.specs.Functions.{absolute_of as absolute_in, exponent_of as exponent_in, floor_of as floor_in, greater_of, lesser_of, power_of as power_in};
 ghost use Rattle.fractions.specs.Rational.{whole as whole_number};
-ghost use Rattle.linear_fold.specs.Operates.{AreOperands, AreUnbroken, IsOperand, IsUnbroken, IsValueOf, Operates, lines_of_parts, part_line};
+ghost use Rattle.linear_fold.specs.InsideOperates.{AreOperands, AreUnbroken, IsOperand, IsUnbroken, IsValueOf, Operates, lines_of_parts, part_line};
 
 use crate::operate::Outcome;
 use crate::parts::Part;

@@ -7,7 +7,7 @@ ghost use Rattle.nl_model.specs.Rules.{IsFile};
 ghost use Rattle.nl_model.specs.declared.at.Owner.TheVariants.{Def as OfDefinition};
 ghost use Rattle.linear_programs.specs.Elements.{elements_from};
 ghost use Rattle.linear_fold.specs.FoldedFaults.{HasFaultPlace};
-ghost use Rattle.linear_fold.specs.OwnerFolds.{AreOwnersFolded, HasFolded, definitions_size, owned_at};
+ghost use Rattle.linear_fold.specs.InsideOwnerFolds.{AreOwnersFolded, HasFolded, definitions_size, owned_at};
 
 use crate::fold_fault::FoldFault;
 use crate::owners::{Folder, fold_owner};

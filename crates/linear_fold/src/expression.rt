@@ -7,9 +7,9 @@ ghost use Rattle.nl_meaning.specs.Trees.{Known, LinearTerm, Tree, tree_size};
 ghost use Rattle.nl_model.specs.Nodes.{IsTreeFormed};
 ghost use Rattle.nl_model.specs.Rules.{AreTermsBelow};
 ghost use Rattle.file_meaning.specs.Expressions.{linear_term, linear_terms, tree_or_zero};
-ghost use Rattle.linear_fold.specs.Folds.{AddsTerms, AreKnown, AreSlotsWithin, ComesToTerms, IsEntryWithin, IsExpressionFolded, IsFolded, IsTreeGiven};
+ghost use Rattle.linear_fold.specs.InsideFolds.{AddsTerms, AreKnown, AreSlotsWithin, ComesToTerms, IsEntryWithin, IsExpressionFolded, IsFolded, IsTreeGiven};
 ghost use Rattle.linear_program.specs.Forms.{IsWithin, form_line, place_count, sum_line};
-ghost use Rattle.linear_fold.specs.Operates.{IsBlank, StaysBlank};
+ghost use Rattle.linear_fold.specs.InsideOperates.{IsBlank, StaysBlank};
 
 use crate::ascending::{are_ascending, are_zero, form_of_ascending};
 use crate::entries::Entry;

@@ -3,9 +3,9 @@ ghost use Rattle.std.specs.Prelude.{◌≡◌, ℕ, ◌+◌, ◌*◌, ◌<◌, �
 ghost use Rattle.nl_meaning.specs.Trees.{HasCount, Known, Tree, Trees, defined, number, operator, variable};
 ghost use Rattle.linear_programs.specs.Lines.{Point};
 ghost use Rattle.nl_model.specs.Nodes.{AreNodesFormed, trees_of, with_node};
-ghost use Rattle.linear_fold.specs.Folds.{AreKnown, AreNodesWithin, AreOperandsOf, ArePartsFolded, ArePartsWithin, AreSlotsWithin, IsEntryWithin, IsFolded, IsGiven, IsPartFolded, IsPartWithin, NodeFinds};
+ghost use Rattle.linear_fold.specs.InsideFolds.{AreKnown, AreNodesWithin, AreOperandsOf, ArePartsFolded, ArePartsWithin, AreSlotsWithin, IsEntryWithin, IsFolded, IsGiven, IsPartFolded, IsPartWithin, NodeFinds};
 ghost use Rattle.linear_program.specs.Forms.{place_count};
-ghost use Rattle.linear_fold.specs.Operates.{IsBlank, StaysBlank};
+ghost use Rattle.linear_fold.specs.InsideOperates.{IsBlank, StaysBlank};
 
 use crate::entries::Entry;
 use crate::operate::{self, Outcome};

@@ -5,7 +5,7 @@ ghost use Rattle.exact_numbers.specs.Values.{frac_value};
 ghost use Rattle.linear_programs.specs.Lines.{constant_line, line_neg, line_scaled, line_sum, products_fit, running_line, running_sums_fit, sums_fit, Line};
 ghost use Rattle.nl_meaning.specs.Trees.{HasCount};
 ghost use Rattle.linear_program.specs.Forms.{AddsScaled, IsWithin, form_line, place_count, sum_line};
-ghost use Rattle.linear_fold.specs.Operates.{AreOperands, ComesTo, IsBlank, IsOperand, IsSound, Operates, StaysBlank, SumsTo, lines_of_parts, multiple_line, part_line, zero_line};
+ghost use Rattle.linear_fold.specs.InsideOperates.{AreOperands, ComesTo, IsBlank, IsOperand, IsSound, Operates, StaysBlank, SumsTo, lines_of_parts, multiple_line, part_line, zero_line};
 
 use crate::constants;
 use crate::parts::Part;

@@ -9,7 +9,7 @@ ghost use Rattle.linear_fold.specs.declared.fold_fault.FoldFault.TheVariants.{Fo
 ghost use Rattle.linear_fold.specs.FoldedFaults.{HasFaultPlace, fault_for, place_after};
 ghost use Rattle.linear_program.specs.Coefs.{AreAscending};
 ghost use Rattle.linear_program.specs.Forms.{form_terms};
-ghost use Rattle.linear_fold.specs.OwnerFolds.{AreOwnersFolded, HasFolded, HasOwner, IsFormOf, definitions_before, owned_at, owner_size};
+ghost use Rattle.linear_fold.specs.InsideOwnerFolds.{AreOwnersFolded, HasFolded, HasOwner, IsFormOf, definitions_before, owned_at, owner_size};
 
 use crate::entries::Entry;
 use crate::expression::{fold_expression, node_count};

@@ -5,8 +5,8 @@ ghost use Rattle.exact_numbers.specs.Values.{frac_value};
 ghost use Rattle.fractions.specs.Rational.{zero_ℚ};
 ghost use Rattle.linear_programs.specs.Lines.{is_constant, is_zero};
 ghost use Rattle.linear_program.specs.Forms.{IsWithin, form_line};
-ghost use Rattle.linear_fold.specs.Folds.{IsEntryOf, first_broken};
-ghost use Rattle.linear_fold.specs.Operates.{IsOperand, IsUnbroken, multiple_line, part_line};
+ghost use Rattle.linear_fold.specs.InsideFolds.{IsEntryOf, first_broken};
+ghost use Rattle.linear_fold.specs.InsideOperates.{IsOperand, IsUnbroken, multiple_line, part_line};
 
 use crate::entries::Entry;
 use exact_numbers::Frac;

@@ -7,7 +7,7 @@ ghost use Rattle.file_meaning.specs.Expressions.{maximises};
 ghost use Rattle.file_meaning.specs.FoldFaults.{fold_fault, has_objective};
 ghost use Rattle.file_meaning.specs.LinearFile.{linear_of, HasLines};
 ghost use Rattle.linear_fold.specs.FoldedFaults.{first_fold_fault, HasFaultPlace, step_bound};
-ghost use Rattle.linear_fold.specs.OwnerFolds.{AreFormsOf};
+ghost use Rattle.linear_fold.specs.InsideOwnerFolds.{AreFormsOf};
 ghost use Rattle.linear_fold.specs.Kinds.{kinds_in};
 ghost use Rattle.linear_program.specs.Programs.{linear_value};
 

@@ -4,4 +4,4 @@ pub mod Forms
 pub mod Intervals
 pub mod Places
 pub mod Programs
-pub mod TermLists
+pub mod InsideTermLists

@@ -29,7 +29,7 @@ pub struct Coefficients {
 impl Model for Coefficients {
     ghost use Rattle.std.specs.Prelude.{List, ℕ};
     ghost use Rattle.exact_numbers.specs.declared.frac.Frac.{Frac as FracFields};
-    ghost use Rattle.linear_program.specs.TermLists.{listed_terms};
+    ghost use Rattle.linear_program.specs.InsideTermLists.{listed_terms};
 
     ghost Value = { List (ℕ × FracFields) };
 

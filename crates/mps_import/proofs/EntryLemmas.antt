@@ -8,7 +8,7 @@ use Rattle.mps_model.specs.Mps.{Entry, Column, Mps, no_column}
 use Rattle.mps_model.specs.Valid.{AreEntries}
 use Rattle.mps_import.specs.Import.{entries_at}
 use Rattle.mps_import.specs.Places.{listed}
-use Rattle.mps_import.specs.Uses.{IsOnItsWay, entries_left, use_of}
+use Rattle.mps_import.specs.InsideUses.{IsOnItsWay, entries_left, use_of}
 use Rattle.mps_import.specs.Variables.{order_of_columns}
 use Rattle.mps_import.specs.declared.rows.RowUse.{RowUse}
 use Rattle.mps_import.specs.declared.rows.RowUse.TheVariants.{Unused}

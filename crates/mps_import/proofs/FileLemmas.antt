@@ -21,9 +21,9 @@ use Rattle.mps_import.specs.declared.import_fault.ImportFault.TheVariants.{TooWi
 use Rattle.mps_import.specs.Decimals.{sides_from, number_tree}
 use Rattle.mps_import.specs.Faults.{is_too_large, is_column_empty, first_wide, first_empty, import_fault}
 use Rattle.mps_import.specs.Import.{both_sides, is_constraint, constraints, constraint_terms, objective_terms, import_counts, import_options, import_objective, import_of, objective_constant}
-use Rattle.mps_import.specs.Parts.{ArePartsOf, begun_draft}
+use Rattle.mps_import.specs.InsideParts.{ArePartsOf, begun_draft}
 use Rattle.mps_import.specs.Places.{places, first, listed}
-use Rattle.mps_import.specs.Uses.{use_of, hits_in, is_constraint_at, is_objective_at}
+use Rattle.mps_import.specs.InsideUses.{use_of, hits_in, is_constraint_at, is_objective_at}
 use Rattle.mps_import.specs.Variables.{values_of, order_of_columns}
 use Rattle.mps_import.proofs.FirstLemmas.{listed_at, listed_length, places_same}
 use Rattle.mps_import.proofs.MeaningLemmas.{order_length}

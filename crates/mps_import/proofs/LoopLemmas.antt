@@ -15,7 +15,7 @@ use Rattle.mps_model.specs.declared.kinds.BoundKind.{BoundKind}
 use Rattle.mps_model.specs.declared.kinds.RowKind.{RowKind}
 use Rattle.mps_model.specs.declared.kinds.RowKind.TheVariants.{N, L, G, E}
 use Rattle.mps_import.specs.declared.columns.ColumnSides.{ColumnSides}
-use Rattle.mps_import.specs.Columns.{none_set, set_value, with_sets, sets_of}
+use Rattle.mps_import.specs.InsideColumns.{none_set, set_value, with_sets, sets_of}
 use Rattle.mps_import.specs.Import.{is_bounded_kind, is_constraint}
 
 module _ {A : Type 0} (xs : List A) (k : ℕ) (t : A) (lt : k < length xs) (is : t ≡ get_or xs k t) where

@@ -15,7 +15,7 @@ use Rattle.linear_program.specs.Intervals.{interval_of, AreOrdered, IsOrdered}
 use Rattle.linear_program.specs.declared.interval.Interval.{Interval as Sides}
 use Rattle.mps_model.specs.declared.kinds.RowKind.{RowKind}
 use Rattle.mps_model.specs.declared.kinds.RowKind.TheVariants.{N, L, G, E}
-use Rattle.mps_model.specs.Mps.{Mps, with_values, no_row, at_row, rhs_at, row_sides, row_interval, column_interval, is_negative, size_of}
+use Rattle.mps_model.specs.Mps.{Mps, with_values, no_mps_row, at_row, rhs_at, row_sides, row_interval, column_interval, is_negative, size_of}
 use Rattle.mps_import.specs.Decimals.{sides_from}
 use Rattle.mps_import.specs.Faults.{is_row_wide, is_column_empty}
 use Rattle.mps_import.specs.Import.{both_sides}
@@ -73,7 +73,7 @@ row_rising E b (Some r) =
 pub row_ordered : (m : Mps Dec) (i : ℕ) → is_row_wide m i ≡ false → IsOrdered (sides_from (row_interval (values_of m) i))
 unfolding with_values
 row_ordered m i clean =
-    let kind = (get_or m.rows i no_row).kind in
+    let kind = (get_or m.rows i no_mps_row).kind in
     let b = rhs_at (values_of m) i in
     let range = at_row i (values_of m).ranges in
     ordered_by (sides_from (row_sides kind b range)) (subst (λ (s : Interval). IsRising s.lower s.upper) (sym (sides_back (row_sides kind b range) (row_fits kind b range (rhs_fits i m.rhs) clean))) (row_rising kind b range))

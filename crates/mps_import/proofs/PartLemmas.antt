@@ -25,7 +25,7 @@ use Rattle.linear_program.specs.declared.interval.Interval.{Interval as Sides}
 use Rattle.linear_program.specs.declared.kind.Kind.{Kind}
 use Rattle.linear_program.specs.declared.kind.Kind.TheVariants.{Continuous, Binary, Integer}
 use Rattle.mps_model.specs.Built.{entry_of, bound_of}
-use Rattle.mps_model.specs.Mps.{MpsRow, Entry, Bound, Column, Mps, with_values, entry_with, column_with, no_row, no_column, at_row, rhs_at, or_zero, row_sides, row_interval, column_at, column_interval, usual_lower, given, objective_row}
+use Rattle.mps_model.specs.Mps.{MpsRow, Entry, Bound, Column, Mps, with_values, entry_with, column_with, no_mps_row, no_column, at_row, rhs_at, or_zero, row_sides, row_interval, column_at, column_interval, usual_lower, or_usual, objective_row}
 use Rattle.mps_model.specs.declared.kinds.BoundKind.{BoundKind}
 use Rattle.mps_model.specs.declared.kinds.RowKind.{RowKind}
 use Rattle.mps_import.specs.declared.build.Parts.{Parts}
@@ -33,13 +33,13 @@ use Rattle.mps_import.specs.declared.import_fault.ImportFault.{ImportFault}
 use Rattle.mps_import.specs.declared.import_fault.ImportFault.TheVariants.{EmptyInterval, TooWide, TooLarge}
 use Rattle.mps_import.specs.declared.rows.RowUse.{RowUse}
 use Rattle.mps_import.specs.declared.rows.RowUse.TheVariants.{Unused, Objective, Constraint}
-use Rattle.mps_import.specs.Columns.{SetSides, set_value, sets_of, kind_by, column_kind, is_kind, of_kind}
+use Rattle.mps_import.specs.InsideColumns.{SetSides, set_value, sets_of, kind_by, column_kind, is_kind, of_kind}
 use Rattle.mps_import.specs.Decimals.{sides_from, number_tree}
 use Rattle.mps_import.specs.Faults.{is_too_large, is_range_wide, is_row_wide, is_column_empty, first_wide, first_empty, import_fault}
 use Rattle.mps_import.specs.Import.{is_constraint, constraints, both_sides, has_sides, is_zero_dec, constraint_terms, objective_terms, counts_with, import_counts, import_options, objective_constant}
-use Rattle.mps_import.specs.Parts.{side_test, ArePartsOf}
+use Rattle.mps_import.specs.InsideParts.{side_test, ArePartsOf}
 use Rattle.mps_import.specs.Places.{places, listed}
-use Rattle.mps_import.specs.Uses.{rank, use_of, is_hit, one_if, hits, with_term}
+use Rattle.mps_import.specs.InsideUses.{rank, use_of, is_hit, one_if, hits, with_term}
 use Rattle.mps_import.specs.Variables.{values_of, columns_that, are_zero_to_one, is_whole, is_zero_to_one, is_continuous, is_binary, is_integer, order_of_columns}
 use Rattle.mps_import.proofs.FirstLemmas.{listed_at, listed_length, before_small, places_same}
 use Rattle.mps_import.proofs.LoopLemmas.{drop_is}
@@ -120,7 +120,7 @@ at_values i (e ∷ es) = by (nat_eq e.row i) (at_values i es)
     by true h = refl
     by false h = h
 
-module _ (m : Mps Dec) (i : ℕ) (kind : RowKind) (rhs range : Option Dec) (k : kind ≡ (get_or m.rows i no_row).kind) (h : rhs ≡ at_row i m.rhs) (g : range ≡ at_row i m.ranges) where
+module _ (m : Mps Dec) (i : ℕ) (kind : RowKind) (rhs range : Option Dec) (k : kind ≡ (get_or m.rows i no_mps_row).kind) (h : rhs ≡ at_row i m.rhs) (g : range ≡ at_row i m.ranges) where
   rhs_is : or_zero (option_map dec_value rhs) ≡ rhs_at (values_of m) i
   unfolding with_values
   rhs_is = ap or_zero (ap (option_map dec_value) h ∙ at_values i m.rhs)
@@ -146,15 +146,15 @@ place_pushed f test i xs new b x h e g n =
     one false = refl
 
 -- ---- columns
-pub column_is : (m : Mps Dec) (j : ℕ) (lower upper : Option (Option Dec)) (whole : Bool) (s : Sides) → record { lower = set_value lower; upper = set_value upper; whole = whole } ≡ sets_of j m.bounds → interval_of s ≡ record { lower = given (set_value lower) (usual_lower (set_value upper)); upper = given (set_value upper) None } → s ≡ sides_from (column_interval (values_of m) j)
+pub column_is : (m : Mps Dec) (j : ℕ) (lower upper : Option (Option Dec)) (whole : Bool) (s : Sides) → record { lower = set_value lower; upper = set_value upper; whole = whole } ≡ sets_of j m.bounds → interval_of s ≡ record { lower = or_usual (set_value lower) (usual_lower (set_value upper)); upper = or_usual (set_value upper) None } → s ≡ sides_from (column_interval (values_of m) j)
 unfolding with_values
-column_is m j lower upper whole s e h = sides_of s (record { lower = given (set_value lower) (usual_lower (set_value upper)); upper = given (set_value upper) None }) h ∙ ap (λ (t : SetSides). sides_from (record { lower = given t.lower (usual_lower t.upper); upper = given t.upper None })) e
+column_is m j lower upper whole s e h = sides_of s (record { lower = or_usual (set_value lower) (usual_lower (set_value upper)); upper = or_usual (set_value upper) None }) h ∙ ap (λ (t : SetSides). sides_from (record { lower = or_usual t.lower (usual_lower t.upper); upper = or_usual t.upper None })) e
 
-pub kind_is : (m : Mps Dec) (j : ℕ) (column : Column Dec) (lower upper : Option (Option Dec)) (whole marked : Bool) (s : Sides) (kind : Kind) → j < length m.columns → column ≡ get_or m.columns j column → marked ≡ column.marked → record { lower = set_value lower; upper = set_value upper; whole = whole } ≡ sets_of j m.bounds → interval_of s ≡ record { lower = given (set_value lower) (usual_lower (set_value upper)); upper = given (set_value upper) None } → kind ≡ kind_by (marked || whole) (are_zero_to_one (interval_of s).lower (interval_of s).upper) → kind ≡ column_kind m j
+pub kind_is : (m : Mps Dec) (j : ℕ) (column : Column Dec) (lower upper : Option (Option Dec)) (whole marked : Bool) (s : Sides) (kind : Kind) → j < length m.columns → column ≡ get_or m.columns j column → marked ≡ column.marked → record { lower = set_value lower; upper = set_value upper; whole = whole } ≡ sets_of j m.bounds → interval_of s ≡ record { lower = or_usual (set_value lower) (usual_lower (set_value upper)); upper = or_usual (set_value upper) None } → kind ≡ kind_by (marked || whole) (are_zero_to_one (interval_of s).lower (interval_of s).upper) → kind ≡ column_kind m j
 unfolding with_values
 kind_is m j column lower upper whole marked s kind lt read mark e h k =
     let same : marked ≡ (column_at (values_of m) j).marked = mark ∙ ap (λ c. c.marked) (read ∙ get_or_default m.columns j column no_column lt) ∙ sym (ap (λ c. c.marked) (get_or-map-any (column_with dec_value) m.columns j no_column)) in
-    let sides : interval_of s ≡ column_interval (values_of m) j = h ∙ ap (λ (t : SetSides). record { lower = given t.lower (usual_lower t.upper); upper = given t.upper None }) e in
+    let sides : interval_of s ≡ column_interval (values_of m) j = h ∙ ap (λ (t : SetSides). record { lower = or_usual t.lower (usual_lower t.upper); upper = or_usual t.upper None }) e in
     k ∙ (λ p. kind_by (same p || (e p).whole) (are_zero_to_one (sides p).lower (sides p).upper))
 
 module _ (m : Mps Dec) (kinds : List Kind) (are : kinds ≡ listed (column_kind m) (length m.columns)) where
@@ -311,7 +311,7 @@ module _ (m : Mps Dec) (p : Parts) (are : ArePartsOf m p) where
 
   pub row_back : (i : ℕ) → i < length m.rows → interval_of (sides_from (row_interval (values_of m) i)) ≡ row_interval (values_of m) i
   unfolding with_values
-  row_back i lt = sides_back (row_interval (values_of m) i) (row_fits (get_or m.rows i no_row).kind (rhs_at (values_of m) i) (at_row i (values_of m).ranges) (rhs_fits i m.rhs) (not_wide m are.clean i lt))
+  row_back i lt = sides_back (row_interval (values_of m) i) (row_fits (get_or m.rows i no_mps_row).kind (rhs_at (values_of m) i) (at_row i (values_of m).ranges) (rhs_fits i m.rhs) (not_wide m are.clean i lt))
 
   pub counted_sides : (equal : Bool) → count_by (side_test equal) p.sides.items ≡ count_by (has_sides (cond equal is_eq is_ne) m) (constraints m)
   counted_sides equal =

@@ -18,7 +18,7 @@ use Rattle.mps_model.specs.declared.kinds.RowKind.{RowKind}
 use Rattle.mps_model.specs.declared.kinds.RowKind.TheVariants.{N, L, G, E}
 use Rattle.mps_model.specs.declared.kinds.BoundKind.{BoundKind}
 use Rattle.mps_model.specs.declared.kinds.BoundKind.TheVariants.{Lo, Up, Fx, Fr, Mi, Pl, Bv, Li, Ui}
-use Rattle.mps_model.specs.Mps.{Entry, Bound, entry_with, bound_with, at_row, or_zero, row_sides, is_negative, size_of, lower_set, upper_set, side_set, usual_lower, given}
+use Rattle.mps_model.specs.Mps.{Entry, Bound, entry_with, bound_with, at_row, or_zero, row_sides, is_negative, size_of, lower_set, upper_set, side_set, usual_lower, or_usual}
 use Rattle.linear_program.specs.Intervals.{interval_of}
 use Rattle.exact_numbers.specs.Numbers.{dec_from}
 use Rattle.exact_numbers.proofs.NumberLemmas.{dec_from-value, dec_from-fits}
@@ -176,11 +176,11 @@ usual_fits None = zero_fits
 usual_fits (Some None) = zero_fits
 usual_fits (Some (Some u)) = either_side (is_negative u) None (Some zero_ℚ) tt zero_fits
 
-given_fits : (o : Option (Option ℚ)) (usual : Option ℚ) → IsDecimalSet o → IsDecimalSide usual → IsDecimalSide (given o usual)
+given_fits : (o : Option (Option ℚ)) (usual : Option ℚ) → IsDecimalSet o → IsDecimalSide usual → IsDecimalSide (or_usual o usual)
 given_fits None usual f g = g
 given_fits (Some side) usual f g = f
 
-pub column_fits : (j : ℕ) (bs : List (Bound Dec)) → let cs = map (bound_with dec_value) bs in AreDecimalSides (record { lower = given (side_set lower_set j cs) (usual_lower (side_set upper_set j cs)); upper = given (side_set upper_set j cs) None })
+pub column_fits : (j : ℕ) (bs : List (Bound Dec)) → let cs = map (bound_with dec_value) bs in AreDecimalSides (record { lower = or_usual (side_set lower_set j cs) (usual_lower (side_set upper_set j cs)); upper = or_usual (side_set upper_set j cs) None })
 column_fits j bs =
     let cs = map (bound_with dec_value) bs in
     record {

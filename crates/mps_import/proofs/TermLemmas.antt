@@ -8,13 +8,13 @@ use Rattle.exact_numbers.specs.declared.dec.Dec.{Dec}
 use Rattle.nl_model.specs.Draft.{Draft}
 use Rattle.nl_model.specs.File.{Term}
 use Rattle.nl_model.specs.Rules.{term_count, most_terms}
-use Rattle.mps_model.specs.Mps.{MpsRow, Entry, Mps, no_row, objective_row}
+use Rattle.mps_model.specs.Mps.{MpsRow, Entry, Mps, no_mps_row, objective_row}
 use Rattle.mps_import.specs.declared.rows.RowUse.{RowUse}
 use Rattle.mps_import.specs.declared.rows.RowUse.TheVariants.{Unused, Objective, Constraint}
 use Rattle.mps_import.specs.Faults.{is_too_large}
 use Rattle.mps_import.specs.Import.{is_bounded_kind, is_constraint, constraints, is_zero_dec, term_of, entries_at, terms_from, row_terms, constraint_terms, objective_terms, import_counts}
 use Rattle.mps_import.specs.Places.{places, listed}
-use Rattle.mps_import.specs.Uses.{rank, use_of, is_hit, one_if, hits, hits_in, is_constraint_use, is_objective_use, is_constraint_at, is_objective_at, terms_left, entries_left, IsOnItsWay, CanAddTerm, with_term}
+use Rattle.mps_import.specs.InsideUses.{rank, use_of, is_hit, one_if, hits, hits_in, is_constraint_use, is_objective_use, is_constraint_at, is_objective_at, terms_left, entries_left, IsOnItsWay, CanAddTerm, with_term}
 use Rattle.mps_import.specs.Variables.{order_of_columns}
 use Rattle.mps_import.proofs.FirstLemmas.{listed_at, listed_length, place_at, before_at, before_end}
 use Rattle.mps_import.proofs.LoopLemmas.{drop_is, drop_all, objective_free}
@@ -97,7 +97,7 @@ module _ (m : Mps Dec) where
   obj = objective_row m.rows
 
   past_rows : (r : ℕ) → length m.rows ≤ r → test r ≡ false
-  past_rows r h = ap (λ (x : MpsRow). is_bounded_kind x.kind) (get_or_past m.rows r no_row h)
+  past_rows r h = ap (λ (x : MpsRow). is_bounded_kind x.kind) (get_or_past m.rows r no_mps_row h)
 
   once_or_not : (r : ℕ) (z : Bool) → sum_by (λ i. one_if (nat_eq r i && z)) (constraints m) ≡ one_if (test r && z)
   unfolding constraints

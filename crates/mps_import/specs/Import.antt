@@ -9,7 +9,7 @@ use Rattle.exact_numbers.specs.declared.dec.Dec.{Dec}
 use Rattle.nl_model.specs.declared.header_counts.Counts.{Counts}
 use Rattle.nl_model.specs.File.{Term, Objective, File}
 use Rattle.nl_model.specs.Rules.{term_count}
-use Rattle.mps_model.specs.Mps.{MpsRow, Entry, Mps, no_row, no_column, row_interval, column_interval, rhs_at, objective_row}
+use Rattle.mps_model.specs.Mps.{MpsRow, Entry, Mps, no_mps_row, no_column, row_interval, column_interval, rhs_at, objective_row}
 use Rattle.mps_model.specs.declared.kinds.RowKind.{RowKind}
 use Rattle.mps_model.specs.declared.kinds.RowKind.TheVariants.{N, L, G, E}
 use Rattle.mps_import.specs.Decimals.{sides_from, number_tree}
@@ -25,7 +25,7 @@ is_bounded_kind E = true
 
 -- row i is no N row
 abbrev pub is_constraint : List MpsRow → ℕ → Bool
-is_constraint rows i = is_bounded_kind (get_or rows i no_row).kind
+is_constraint rows i = is_bounded_kind (get_or rows i no_mps_row).kind
 
 -- the row of each constraint, in order
 unfoldable pub constraints : Mps Dec → List ℕ

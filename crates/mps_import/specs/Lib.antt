@@ -3,6 +3,6 @@ pub mod Places
 pub mod Variables
 pub mod Import
 pub mod Faults
-pub mod Columns
-pub mod Uses
-pub mod Parts
+pub mod InsideColumns
+pub mod InsideUses
+pub mod InsideParts

@@ -10,7 +10,7 @@ ghost use Rattle.nl_meaning.specs.Trees.{number};
 ghost use Rattle.nl_model.specs.HeaderWords.{header_counts, header_options};
 ghost use Rattle.mps_import.specs.Faults.{import_fault};
 ghost use Rattle.mps_import.specs.Import.{counts_with, import_counts, import_of, import_options, objective_constant};
-ghost use Rattle.mps_import.specs.Parts.{ArePartsOf, begun_draft, side_test};
+ghost use Rattle.mps_import.specs.InsideParts.{ArePartsOf, begun_draft, side_test};
 ghost use Rattle.mps_import.specs.Variables.{order_of_columns};
 
 use crate::by_place::at_row;

@@ -5,8 +5,8 @@ ghost use Rattle.exact_numbers.specs.Values.{dec_value};
 ghost use Rattle.exact_numbers.specs.declared.dec.Dec.{Dec as DecValue};
 ghost use Rattle.linear_program.specs.Intervals.{interval_of};
 ghost use Rattle.mps_model.specs.Built.{bound_of};
-ghost use Rattle.mps_model.specs.Mps.{Bound, column_interval, given, is_whole_kind, lower_set, upper_set, usual_lower};
-ghost use Rattle.mps_import.specs.Columns.{column_kind, none_set, set_value, sets_of, with_sets};
+ghost use Rattle.mps_model.specs.Mps.{Bound, column_interval, or_usual, is_whole_kind, lower_set, upper_set, usual_lower};
+ghost use Rattle.mps_import.specs.InsideColumns.{column_kind, none_set, set_value, sets_of, with_sets};
 ghost use Rattle.mps_import.specs.Decimals.{sides_from};
 ghost use Rattle.mps_import.specs.Places.{listed};
 ghost use Rattle.mps_import.specs.Variables.{values_of};
@@ -82,7 +82,7 @@ fn usual_lower(upper: Option<Option<Dec>>) -> Option<Dec>
 // The side that is set, or else the usual one.
 fn given(side: Option<Option<Dec>>, usual: Option<Dec>) -> Option<Dec>
     ensures { option_map dec_value result
-        ≡ given (option_map (option_map dec_value) side) (option_map dec_value usual) }
+        ≡ or_usual (option_map (option_map dec_value) side) (option_map dec_value usual) }
 {
     match side {
         Some(set) => set,
@@ -93,9 +93,9 @@ fn given(side: Option<Option<Dec>>, usual: Option<Dec>) -> Option<Dec>
 // The interval of a column.
 fn column_sides(column: ColumnSides) -> Interval
     ensures { interval_of result ≡ record {
-      lower = given (option_map (option_map dec_value) column.lower)
+      lower = or_usual (option_map (option_map dec_value) column.lower)
           (usual_lower (option_map (option_map dec_value) column.upper));
-      upper = given (option_map (option_map dec_value) column.upper) None;
+      upper = or_usual (option_map (option_map dec_value) column.upper) None;
     } }
 {
     Interval {

@@ -1,6 +1,6 @@
 // Places of a kind.
 ghost use Rattle.std.specs.Prelude.{◌≡◌, ◌≤◌, ◌^◌, ◌++◌, ◌∷◌, [], if◌then◌else◌, length, IfOk, OnOk};
-ghost use Rattle.mps_import.specs.Columns.{is_kind, of_kind};
+ghost use Rattle.mps_import.specs.InsideColumns.{is_kind, of_kind};
 
 use nl_model::Kind;
 use std::alloc::{AllocError, Global};

@@ -10,7 +10,7 @@ ghost use Rattle.mps_import.specs.Decimals.{sides_from};
 ghost use Rattle.mps_import.specs.Faults.{first_wide, is_range_wide};
 ghost use Rattle.mps_import.specs.Import.{constraints, is_bounded_kind};
 ghost use Rattle.mps_import.specs.Places.{listed};
-ghost use Rattle.mps_import.specs.Uses.{one_if, rank, use_of};
+ghost use Rattle.mps_import.specs.InsideUses.{one_if, rank, use_of};
 ghost use Rattle.mps_import.specs.Variables.{values_of};
 ghost use Rattle.mps_import.specs.declared.import_fault.ImportFault.TheVariants.{TooWide as TooWideFault};
 ghost use Rattle.mps_import.specs.declared.rows.RowUse.TheVariants.{Constraint, Objective, Unused};

@@ -5,7 +5,7 @@ ghost use Rattle.nl_model.specs.Rules.{most_terms};
 ghost use Rattle.mps_import.specs.Faults.{is_too_large};
 ghost use Rattle.mps_import.specs.Import.{constraint_terms, constraints, import_counts, is_zero_dec, objective_terms};
 ghost use Rattle.mps_import.specs.Places.{listed};
-ghost use Rattle.mps_import.specs.Uses.{CanAddTerm, IsOnItsWay, hits, hits_in, is_constraint_at, is_constraint_use, is_objective_at, is_objective_use, one_if, terms_left, use_of, with_term};
+ghost use Rattle.mps_import.specs.InsideUses.{CanAddTerm, IsOnItsWay, hits, hits_in, is_constraint_at, is_constraint_use, is_objective_at, is_objective_use, one_if, terms_left, use_of, with_term};
 ghost use Rattle.mps_import.specs.declared.rows.RowUse.TheVariants.{Unused};
 ghost use Rattle.mps_import.specs.Variables.{order_of_columns};
 

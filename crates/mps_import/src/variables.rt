@@ -5,7 +5,7 @@ ghost use Rattle.fractions.specs.Rational.{one_ℚ, zero_ℚ};
 ghost use Rattle.exact_numbers.specs.Values.{dec_value, order_of};
 ghost use Rattle.linear_program.specs.Intervals.{interval_of, no_sides};
 ghost use Rattle.linear_program.specs.declared.kind.Kind.TheVariants.{Binary, Continuous, Integer};
-ghost use Rattle.mps_import.specs.Columns.{kind_by, of_kind};
+ghost use Rattle.mps_import.specs.InsideColumns.{kind_by, of_kind};
 ghost use Rattle.mps_import.specs.Import.{both_sides};
 ghost use Rattle.mps_import.specs.Places.{first, places};
 ghost use Rattle.mps_import.specs.Variables.{are_zero_to_one};

@@ -10,7 +10,7 @@ use Rattle.exact_numbers.specs.declared.dec.Dec.{Dec}
 use Rattle.exact_numbers.specs.Values.{dec_value}
 use Rattle.mps_model.specs.declared.kinds.RowKind.{RowKind}
 use Rattle.mps_model.specs.declared.kinds.BoundKind.{BoundKind}
-use Rattle.mps_model.specs.Mps.{MpsRow, Entry, Column, Bound, Mps, no_row}
+use Rattle.mps_model.specs.Mps.{MpsRow, Entry, Column, Bound, Mps, no_mps_row}
 use Rattle.mps_model.specs.Valid.{AreRows, AreColumns, AreEntries, AreRanges, AreBounds, IsPartOfMps, IsBounded, IsOtherRow, marker_word, IsOtherEntry, IsOtherBound, IsWithoutNumber, entry_count}
 use Rattle.mps_model.specs.Built.{CanAddRow, CanAddColumn, CanAddEntry, CanAddRhs, CanAddRange, CanAddBound, with_entry_last, last_entries}
 
@@ -39,7 +39,7 @@ ranges_with_row : (rows : List MpsRow) (r : MpsRow) (es : List (Entry Dec)) → 
 ranges_with_row rows r es a =
     record {
       entries = more_rows (length rows) (length (rows ++ r ∷ [])) es (omega (arith, count_push rows r)) a.entries;
-      bounded = λ i d l. λ e. a.bounded i d l (ap (λ (x : MpsRow). x.kind) (sym (get_or-append rows (r ∷ []) no_row (get_or es i d).row (a.entries.within i d l))) ∙ e);
+      bounded = λ i d l. λ e. a.bounded i d l (ap (λ (x : MpsRow). x.kind) (sym (get_or-append rows (r ∷ []) no_mps_row (get_or es i d).row (a.entries.within i d l))) ∙ e);
     }
 
 rows_with_row : (m : Mps Dec) (r : MpsRow) → AreRows m.rows → CanAddRow m r.name → IsName r.name → AreRows (m.rows ++ r ∷ [])

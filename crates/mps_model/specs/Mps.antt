@@ -118,16 +118,16 @@ row_sides E b (Some r) =
     (record { lower = Some b; upper = Some (b +ℚ r) })
 
 -- nothing asks for a row past the last
-abbrev pub no_row : MpsRow
-no_row = record { name = []; kind = N }
+abbrev pub no_mps_row : MpsRow
+no_mps_row = record { name = []; kind = N }
 
--- the right side of row i; 0 where none is given
+-- the right side of row i; 0 where none is or_usual
 abbrev pub rhs_at : Mps ℚ → ℕ → ℚ
 rhs_at m i = or_zero (at_row i m.rhs)
 
 -- the interval of row i
 abbrev pub row_interval : Mps ℚ → ℕ → Interval
-row_interval m i = row_sides (get_or m.rows i no_row).kind (rhs_at m i) (at_row i m.ranges)
+row_interval m i = row_sides (get_or m.rows i no_mps_row).kind (rhs_at m i) (at_row i m.ranges)
 
 -- the side that a record sets, where it sets the lower one
 abbrev pub lower_set : BoundKind → ℚ → Option (Option ℚ)
@@ -162,17 +162,17 @@ usual_lower (Some (Some u)) = cond (is_negative u) None (Some zero_ℚ)
 usual_lower _ = Some zero_ℚ
 
 -- the side that is set, or else the usual one
-abbrev pub given : Option (Option ℚ) → Option ℚ → Option ℚ
-given (Some side) usual = side
-given None usual = usual
+abbrev pub or_usual : Option (Option ℚ) → Option ℚ → Option ℚ
+or_usual (Some side) usual = side
+or_usual None usual = usual
 
 -- the interval of column j
 abbrev pub column_interval : Mps ℚ → ℕ → Interval
 column_interval m j =
     let upper = side_set upper_set j m.bounds in
     record {
-      lower = given (side_set lower_set j m.bounds) (usual_lower upper);
-      upper = given upper None;
+      lower = or_usual (side_set lower_set j m.bounds) (usual_lower upper);
+      upper = or_usual upper None;
     }
 
 -- a record of this kind makes its column whole

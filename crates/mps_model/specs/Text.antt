@@ -2,7 +2,7 @@
 use Rattle.std.specs.Prelude.{ℕ, ◌+◌, Bool, true, false, List, [], ◌∷◌, ◌++◌, get_or, map, codes}
 use Rattle.std.specs.Fmt.{decimal}
 use Rattle.written_texts.specs.Lines.{Line, indented, unless_empty, lines_text}
-use Rattle.mps_model.specs.Mps.{RowKind, BoundKind, MpsRow, Entry, Column, Bound, Mps, no_row, no_column}
+use Rattle.mps_model.specs.Mps.{RowKind, BoundKind, MpsRow, Entry, Column, Bound, Mps, no_mps_row, no_column}
 use Rattle.mps_model.specs.declared.kinds.RowKind.TheVariants.{N, L, G, E}
 use Rattle.mps_model.specs.declared.kinds.BoundKind.TheVariants.{Lo, Up, Fx, Fr, Mi, Pl, Bv, Li, Ui}
 
@@ -36,7 +36,7 @@ value_words _ value = value ∷ []
 
 -- the name of row i
 abbrev pub row_name : List MpsRow → ℕ → List ℕ
-row_name rows i = (get_or rows i no_row).name
+row_name rows i = (get_or rows i no_mps_row).name
 
 -- ---- sections
 -- the line that begins a section; all other lines begin with a space

@@ -3,7 +3,7 @@ use Rattle.std.specs.Prelude.{◌≡◌, ◌≢◌, ℕ, ◌<◌, ◌≤◌, ◌
 use Rattle.std.specs.List.{sum_by, AllPairs}
 use Rattle.fractions.specs.Rational.{ℚ, zero_ℚ}
 use Rattle.texts.specs.Names.{IsName}
-use Rattle.mps_model.specs.Mps.{BoundKind, MpsRow, Entry, Column, Bound, Mps, no_row, lower_set, upper_set, objective_row}
+use Rattle.mps_model.specs.Mps.{BoundKind, MpsRow, Entry, Column, Bound, Mps, no_mps_row, lower_set, upper_set, objective_row}
 use Rattle.mps_model.specs.declared.kinds.RowKind.TheVariants.{N}
 use Rattle.mps_model.specs.declared.kinds.BoundKind.TheVariants.{Lo, Up, Fx, Fr, Mi, Pl, Bv, Li, Ui}
 
@@ -30,7 +30,7 @@ pub record AreRows (rows : List MpsRow) : Type 0 where
 
 -- row i is no N row
 abbrev pub IsBounded : List MpsRow → ℕ → Type 0
-IsBounded rows i = (get_or rows i no_row).kind ≢ N
+IsBounded rows i = (get_or rows i no_mps_row).kind ≢ N
 
 -- ---- bounds
 abbrev pub IsNone : {A : Type 0} → Option A → Type 0

@@ -10,7 +10,7 @@ use Rattle.std.proofs.lemmas.Grind.{pow_more, get_or_default_zero}
 use Rattle.std.proofs.lemmas.List.{length-map, map-append, get_or-map, length-append}
 use Rattle.std.proofs.lemmas.List.Elements.{All-head, All-tail, All-push}
 use Rattle.texts.specs.Names.{IsName, is_name}
-use Rattle.mps_reader.specs.Codes.{bytes_code, code_of, AreBytes, HaveCodes}
+use Rattle.mps_reader.specs.InsideCodes.{bytes_code, code_of, AreBytes, HaveCodes}
 use Rattle.mps_reader.specs.Saying.{place_of, last_name}
 use Rattle.texts.proofs.NamePlaces.{place_at, place_none, bytes_differ, bytes_same}
 

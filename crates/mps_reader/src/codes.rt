@@ -1,6 +1,6 @@
 // Short names as numbers, so that a name is found by its place without a look at its bytes.
 ghost use Rattle.std.specs.Prelude.{◌≡◌, ◌<◌, ◌≤◌, ◌^◌, ◌++◌, ◌∷◌, [], OnOk, OnErr, IfSome, length, get_or};
-ghost use Rattle.mps_reader.specs.Codes.{bytes_code, code_of};
+ghost use Rattle.mps_reader.specs.InsideCodes.{bytes_code, code_of};
 
 use std::alloc::{AllocError, Global};
 use std::marker::Model;

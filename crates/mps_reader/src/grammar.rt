@@ -24,7 +24,7 @@ pub struct MpsGrammar {
 impl Model for MpsGrammar {
     ghost use Rattle.std.specs.Prelude.{◌≡◌, false};
     ghost use Rattle.mps_reader.specs.Tests.{Standing};
-    ghost use Rattle.mps_reader.specs.Held.{IsSound};
+    ghost use Rattle.mps_reader.specs.InsideHeld.{IsSound};
 
     ghost Value = { Standing };
 

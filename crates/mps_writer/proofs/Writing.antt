@@ -2,7 +2,7 @@ use Rattle.std.proofs.Common.{[], ◌≡◌, ℕ, suc, ◌+◌, ◌<◌, ◌≤�
 use Rattle.std.proofs.lemmas.List.{length-map, get_or-map, drop_all, take_more, map-append}
 use Rattle.std.proofs.lemmas.Option.{slice_get_within, get_or_from_slice_get}
 use Rattle.std.specs.List.{slice_get}
-use Rattle.mps_model.specs.Mps.{Bound, Entry, Column, MpsRow, Mps, no_row, with_values}
+use Rattle.mps_model.specs.Mps.{Bound, Entry, Column, MpsRow, Mps, no_mps_row, with_values}
 use Rattle.mps_model.specs.declared.kinds.BoundKind.{BoundKind}
 use Rattle.mps_model.specs.Text.{entry_line, entry_lines, change_lines, markers_after, column_lines, mps_text_by}
 use Rattle.mps_model.proofs.Texts.{text_by_values}
@@ -34,8 +34,8 @@ pub entry_written : (rows : List MpsRow) (names : List (List ℕ)) (word row : L
 entry_written rows names word row ts i t out0 out1 out2 h is same found first second =
     let at : slice_get (map (λ (r : MpsRow). r.name) rows) t.0 ≡ Some row = subst (λ ns. slice_get ns t.0 ≡ Some row) same (sym found) in
     let inside : t.0 < length rows = omega (arith, slice_get_within (map (λ (r : MpsRow). r.name) rows) t.0 row at, length-map rows (λ (r : MpsRow). r.name)) in
-    let name : row ≡ (get_or rows t.0 no_row).name =
-    sym (get_or_from_slice_get (map (λ (r : MpsRow). r.name) rows) t.0 row [] at) ∙ get_or-map (λ (r : MpsRow). r.name) rows t.0 no_row [] inside in
+    let name : row ≡ (get_or rows t.0 no_mps_row).name =
+    sym (get_or_from_slice_get (map (λ (r : MpsRow). r.name) rows) t.0 row [] at) ∙ get_or-map (λ (r : MpsRow). r.name) rows t.0 no_mps_row [] inside in
     let line : Entry Dec → Line = entry_line text_of rows word in
     let now : out2 ≡ out1 ++ line_text (line (entry_of t)) = second ∙ ap (λ r. out1 ++ line_text (indented (word ∷ r ∷ text_of t.1 ∷ []))) name in
     let more : map line (map entry_of (take (i + 1) ts)) ≡ map line (map entry_of (take i ts)) ++ line (entry_of t) ∷ [] =

@@ -10,7 +10,7 @@ use Rattle.exact_numbers.specs.declared.dec.Dec.{Dec}
 use Rattle.exact_numbers.specs.Values.{dec_value}
 use Rattle.mps_model.specs.declared.kinds.RowKind.{RowKind}
 use Rattle.mps_model.specs.declared.kinds.RowKind.TheVariants.{N, L, G, E}
-use Rattle.mps_model.specs.Mps.{MpsRow, Entry, Column, Mps, with_values, column_with, no_row, no_column, column_at, part_of_row, row_value, row_interval, row_sides, rhs_at, at_row, column_interval, has_whole_record, is_whole_column, IsMpsFeasible, objective_row, mps_objective}
+use Rattle.mps_model.specs.Mps.{MpsRow, Entry, Column, Mps, with_values, column_with, no_mps_row, no_column, column_at, part_of_row, row_value, row_interval, row_sides, rhs_at, at_row, column_interval, has_whole_record, is_whole_column, IsMpsFeasible, objective_row, mps_objective}
 use Rattle.name_files.specs.Renamed.{named_row, named_column, with_names, HaveOneMeaning}
 
 abbrev pub Naming : Type 0
@@ -72,7 +72,7 @@ feasible m n xs s f =
 
 interval_kept : (row column : Naming) (m : Mps ℚ) (i : ℕ) → row_interval (with_names row column m) i ≡ row_interval m i
 unfolding with_names
-interval_kept row column m i = ap (λ (k : RowKind). row_sides k (rhs_at m i) (at_row i m.ranges)) (kept_at (named_row row) (λ (r : MpsRow). r.kind) no_row (λ r. refl) m.rows i)
+interval_kept row column m i = ap (λ (k : RowKind). row_sides k (rhs_at m i) (at_row i m.ranges)) (kept_at (named_row row) (λ (r : MpsRow). r.kind) no_mps_row (λ r. refl) m.rows i)
 
 entries_kept : (column : Naming) (columns : List (Column ℚ)) (j : ℕ) → (get_or (map (named_column column) columns) j no_column).entries ≡ (get_or columns j no_column).entries
 entries_kept column columns j = kept_at (named_column column) (λ (c : Column ℚ). c.entries) no_column (λ c. refl) columns j

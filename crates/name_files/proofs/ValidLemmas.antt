@@ -11,7 +11,7 @@ use Rattle.texts.specs.Names.{IsName}
 use Rattle.exact_numbers.specs.declared.dec.Dec.{Dec}
 use Rattle.exact_numbers.specs.Values.{dec_value}
 use Rattle.linear_programs.specs.Names.{row_name, variable_name}
-use Rattle.mps_model.specs.Mps.{MpsRow, Entry, Column, Bound, Mps, no_row, objective_row}
+use Rattle.mps_model.specs.Mps.{MpsRow, Entry, Column, Bound, Mps, no_mps_row, objective_row}
 use Rattle.mps_model.specs.Valid.{AreRows, AreColumns, AreEntries, AreRanges, AreBounds, IsPartOfMps, IsComplete, IsMps, IsBounded, IsOtherRow, HasEntries, IsNameOrEmpty, marker_word, entry_count}
 use Rattle.name_files.specs.Names.{AreNames, is_reserved}
 use Rattle.name_files.specs.Renamed.{index_named, marked, named_at, new_name, named_row, named_column, named_rows, named_columns, named, with_names, IsExportedName, AreExportedNames, HasExportedNames}
@@ -131,7 +131,7 @@ module _ (m : Mps Dec) (row_names column_names : List (List ℕ)) where
       let f = named_row (new_name row_name row_names) in
       record {
         entries = subst (λ (n : ℕ). AreEntries n m.ranges) (sym (length-map m.rows f)) a.entries;
-        bounded = λ i d lt. λ e. a.bounded i d lt (sym (kept_at f (λ (r : MpsRow). r.kind) no_row (λ r. refl) m.rows (get_or m.ranges i d).row) ∙ e);
+        bounded = λ i d lt. λ e. a.bounded i d lt (sym (kept_at f (λ (r : MpsRow). r.kind) no_mps_row (λ r. refl) m.rows (get_or m.ranges i d).row) ∙ e);
       }
 
   -- the parts of the program with other names, each as it is added to those before it

@@ -14,7 +14,7 @@ use Rattle.code_tables.specs.Header.{header_rows, field_at, field_in}
 use Rattle.nl_header.specs.declared.fault.HeadFault.{HeadFault}
 use Rattle.exact_numbers.specs.Numbers.{whole_of, signed_of}
 use Rattle.exact_numbers.proofs.NumberLemmas.{first_of_both, second_of_both}
-use Rattle.nl_header.specs.Head.{number_in, word_tests, words_fault, number_after, no_row}
+use Rattle.nl_header.specs.Head.{number_in, word_tests, words_fault, number_after, no_field_row}
 use Rattle.nl_header.specs.Reading.{put_in}
 use Rattle.std.proofs.Math.Nat.{suc_inj}
 
@@ -129,7 +129,7 @@ set-done i numbers old v f lt done rest this =
 pub set-rest : (i : ℕ) (numbers old : List ℕ) (v : ℕ) → ((k : ℕ) → i ≤ k → get_or numbers k 0 ≡ get_or old k 0) → (k : ℕ) → i + 1 ≤ k → get_or (set numbers i v) k 0 ≡ get_or old k 0
 set-rest i numbers old v rest k past = let ne : k ≢ i = omega arith in rw get_or-set_other (rest k (omega arith))
 
-pub put_in-each : (rows : List FieldRow) (line : ℕ) (words : List (List ℕ)) (old new : List ℕ) → length rows ≡ length old → length new ≡ length old → ((k : ℕ) → k < length old → get_or new k 0 ≡ number_after (get_or rows k no_row) line words (get_or old k 0)) → new ≡ put_in rows line words old
+pub put_in-each : (rows : List FieldRow) (line : ℕ) (words : List (List ℕ)) (old new : List ℕ) → length rows ≡ length old → length new ≡ length old → ((k : ℕ) → k < length old → get_or new k 0 ≡ number_after (get_or rows k no_field_row) line words (get_or old k 0)) → new ≡ put_in rows line words old
 unfolding put_in
 put_in-each [] line words [] [] m n each = refl
 put_in-each [] line words [] (v ∷ new) m n each = absurd (omega (arith, n))

@@ -18,7 +18,7 @@ use Rattle.nl_header.specs.declared.fault.HeadFault.{HeadFault}
 use Rattle.nl_header.specs.declared.fault.HeadFault.TheVariants.{BadHeaderNumber, BinaryFile, BadFirstLine, Options, RefusedCount, TooLarge, CountsDisagree}
 use Rattle.exact_numbers.specs.Numbers.{whole_of, are_digits}
 use Rattle.std.specs.Str.Parse.{digits_value}
-use Rattle.nl_header.specs.Head.{number_in, number_at, line_at, words_fault, word_tests, number_tests, limit_of, limit_of_row, begins_with, is_short, rule_tests, number_line_fault, line_fault, first_line_tests, options_in, options_of, counts_in, counts_by, has_options, option_count}
+use Rattle.nl_header.specs.Head.{number_in, header_number, header_line, words_fault, word_tests, number_tests, limit_of, limit_of_row, begins_with, lacks_number, rule_tests, number_line_fault, header_line_fault, first_line_tests, options_in, options_of, counts_in, counts_by, has_options, option_count}
 use Rattle.nl_header.specs.Reading.{AreClean, last_rule}
 use Rattle.exact_numbers.proofs.NumberLemmas.{both, first_of_both, second_of_both}
 
@@ -81,24 +81,24 @@ number-clean line place ws some clean =
 
 pub record AreNineClean (lines : List (List (List ℕ))) : Type 0 where
   pub many : 9 ≤ length lines
-  pub clean : (i : ℕ) → i < 9 → line_fault (take i lines) (get_or lines i []) ≡ None
+  pub clean : (i : ℕ) → i < 9 → header_line_fault (take i lines) (get_or lines i []) ≡ None
 
 pub nine_clean : (before : List (List (List ℕ))) (ws : List (List ℕ)) → length before ≡ 9 → AreClean before → AreNineClean (before ++ ws ∷ [])
 nine_clean before ws nine clean = record {
   many = omega (arith, length-append before (ws ∷ []), nine);
   clean = λ i lt.
       let below : i < length before = omega (arith, lt, nine) in
-      ap (λ b. line_fault b (get_or (before ++ ws ∷ []) i [])) (take-append-le i before (ws ∷ []) (omega (arith, below)))
-      ∙ ap (line_fault (take i before)) (get_or_append_left before (ws ∷ []) [] i below) ∙ clean.clean i below;
+      ap (λ b. header_line_fault b (get_or (before ++ ws ∷ []) i [])) (take-append-le i before (ws ∷ []) (omega (arith, below)))
+      ∙ ap (header_line_fault (take i before)) (get_or_append_left before (ws ∷ []) [] i below) ∙ clean.clean i below;
 }
 
-line-of : (lines : Lines) (n : ℕ) → 0 < n → n < 9 → AreNineClean lines → number_line_fault (n + 1) (counts_in (take (n + 1) lines)) (line_at lines (n + 1)) ≡ None
-unfolding line_fault
+line-of : (lines : Lines) (n : ℕ) → 0 < n → n < 9 → AreNineClean lines → number_line_fault (n + 1) (counts_in (take (n + 1) lines)) (header_line lines (n + 1)) ≡ None
+unfolding header_line_fault
 line-of lines n some lt clean =
     let within : n < length lines = omega (arith, lt, clean.many) in
     let size : length (take n lines) ≡ n = omega (arith, length-take n lines, within) in
     let same : n + 1 - 1 ≡ n = omega arith in
-    let now : line_fault (take n lines) (get_or lines n []) ≡ number_line_fault (length (take n lines) + 1) (counts_in (take n lines ++ get_or lines n [] ∷ [])) (get_or lines n []) =
+    let now : header_line_fault (take n lines) (get_or lines n []) ≡ number_line_fault (length (take n lines) + 1) (counts_in (take n lines ++ get_or lines n [] ∷ [])) (get_or lines n []) =
     ap (λ t. cond t (first_reason (first_line_tests (get_or lines n []))) (number_line_fault (length (take n lines) + 1) (counts_in (take n lines ++ get_or lines n [] ∷ [])) (get_or lines n []))) (ne_eqb (length (take n lines)) 0 (omega (arith, size, some))) in
     ap (λ i. number_line_fault (n + 1) (counts_in (take (n + 1) lines)) (get_or lines i [])) same
     ∙ ap (λ l. number_line_fault (n + 1) (counts_in l) (get_or lines n [])) (take_more lines n [] within)
@@ -111,11 +111,11 @@ words-clean line counts ws clean = else-first _ _ clean
 
 rules-clean : (line : ℕ) (counts : Counts) (ws : List (List ℕ)) → number_line_fault line counts ws ≡ None → first_reason (rule_tests line counts) ≡ None
 unfolding number_line_fault
-rules-clean line counts ws clean = (none_head (is_short header_rows line (length ws)) BadHeaderNumber (rule_tests line counts) (else-second _ _ clean)).1
+rules-clean line counts ws clean = (none_head (lacks_number header_rows line (length ws)) BadHeaderNumber (rule_tests line counts) (else-second _ _ clean)).1
 
 -- the number at a place of a line that is not the first
-number-of : (lines : Lines) (n place : ℕ) → 0 < n → n < 9 → 0 < place → AreNineClean lines → first_reason (number_tests (field_at (n + 1) place) (number_at lines (n + 1) place)) ≡ None
-number-of lines n place some lt here clean = number-clean (n + 1) place (line_at lines (n + 1)) here (words-clean _ _ _ (line-of lines n some lt clean))
+number-of : (lines : Lines) (n place : ℕ) → 0 < n → n < 9 → 0 < place → AreNineClean lines → first_reason (number_tests (field_at (n + 1) place) (header_number lines (n + 1) place)) ≡ None
+number-of lines n place some lt here clean = number-clean (n + 1) place (header_line lines (n + 1)) here (words-clean _ _ _ (line-of lines n some lt clean))
 
 -- ---- The rules, one after the other.
 
@@ -135,11 +135,11 @@ no-refused lines clean =
     both _ _
     (both _ _
     (both _ _
-    (both _ _ (is-zero 7 false (number_at lines 2 6) (number-of lines 1 6 (omega arith) (omega arith) (omega arith) clean))
-    (is-zero 10 true (number_at lines 4 1) (number-of lines 3 1 (omega arith) (omega arith) (omega arith) clean)))
-    (is-zero 11 true (number_at lines 4 2) (number-of lines 3 2 (omega arith) (omega arith) (omega arith) clean)))
-    (is-zero 15 true (number_at lines 6 1) (number-of lines 5 1 (omega arith) (omega arith) (omega arith) clean)))
-    (is-zero 16 true (number_at lines 6 2) (number-of lines 5 2 (omega arith) (omega arith) (omega arith) clean))
+    (both _ _ (is-zero 7 false (header_number lines 2 6) (number-of lines 1 6 (omega arith) (omega arith) (omega arith) clean))
+    (is-zero 10 true (header_number lines 4 1) (number-of lines 3 1 (omega arith) (omega arith) (omega arith) clean)))
+    (is-zero 11 true (header_number lines 4 2) (number-of lines 3 2 (omega arith) (omega arith) (omega arith) clean)))
+    (is-zero 15 true (header_number lines 6 1) (number-of lines 5 1 (omega arith) (omega arith) (omega arith) clean)))
+    (is-zero 16 true (header_number lines 6 2) (number-of lines 5 2 (omega arith) (omega arith) (omega arith) clean))
 
 sizes-within : (lines : Lines) → AreNineClean lines → are_sizes_within (counts_in lines) ≡ true
 unfolding counts_in counts_by field_at header_rows
@@ -147,10 +147,10 @@ sizes-within lines clean =
     both _ _
     (both _ _
     (both _ _
-    (is-within 2 (2 ^ 20) true (number_at lines 2 1) refl (number-of lines 1 1 (omega arith) (omega arith) (omega arith) clean))
-    (is-within 3 (2 ^ 20) true (number_at lines 2 2) refl (number-of lines 1 2 (omega arith) (omega arith) (omega arith) clean)))
-    (is-within 4 256 true (number_at lines 2 3) refl (number-of lines 1 3 (omega arith) (omega arith) (omega arith) clean)))
-    (is-within 24 (2 ^ 22) true (number_at lines 8 1) refl (number-of lines 7 1 (omega arith) (omega arith) (omega arith) clean))
+    (is-within 2 (2 ^ 20) true (header_number lines 2 1) refl (number-of lines 1 1 (omega arith) (omega arith) (omega arith) clean))
+    (is-within 3 (2 ^ 20) true (header_number lines 2 2) refl (number-of lines 1 2 (omega arith) (omega arith) (omega arith) clean)))
+    (is-within 4 256 true (header_number lines 2 3) refl (number-of lines 1 3 (omega arith) (omega arith) (omega arith) clean)))
+    (is-within 24 (2 ^ 22) true (header_number lines 8 1) refl (number-of lines 7 1 (omega arith) (omega arith) (omega arith) clean))
 
 -- a number that was read, or 0, is below 2 ^ 31
 small-word : (word : List ℕ) → unwrap_or (whole_of word) 0 < 2 ^ 31
@@ -161,15 +161,15 @@ small-word word = by (are_digits word && nat_lt (digits_value 10 word) (2 ^ 31))
     by true e = subst (λ (t : Bool). unwrap_or (cond t (Some (digits_value 10 word)) None) 0 < 2 ^ 31) (sym e) (ltb-true (digits_value 10 word) (2 ^ 31) (second_of_both _ _ e))
     by false e = subst (λ (t : Bool). unwrap_or (cond t (Some (digits_value 10 word)) None) 0 < 2 ^ 31) (sym e) (omega arith)
 
-all-small : (lines : Lines) (rows : List FieldRow) → list_all (λ n. nat_lt n (2 ^ 31)) (map (λ r. number_at lines r.line r.place) rows) ≡ true
+all-small : (lines : Lines) (rows : List FieldRow) → list_all (λ n. nat_lt n (2 ^ 31)) (map (λ r. header_number lines r.line r.place) rows) ≡ true
 all-small lines [] = refl
-all-small lines (r ∷ rows) = both _ _ (lt-ltb (number_at lines r.line r.place) (2 ^ 31) (small-word (word_at (line_at lines r.line) (r.place - 1)))) (all-small lines rows)
+all-small lines (r ∷ rows) = both _ _ (lt-ltb (header_number lines r.line r.place) (2 ^ 31) (small-word (word_at (header_line lines r.line) (r.place - 1)))) (all-small lines rows)
 
 numbers-are : (lines : Lines) → are_numbers (counts_in lines) ≡ true
 unfolding counts_in counts_by header_rows
 numbers-are lines = all-small lines (drop 1 header_rows)
 
-line_at-take : (lines : Lines) (n line : ℕ) → 0 < line → line ≤ n → line_at (take n lines) line ≡ line_at lines line
+line_at-take : (lines : Lines) (n line : ℕ) → 0 < line → line ≤ n → header_line (take n lines) line ≡ header_line lines line
 line_at-take lines n line some le = get_or-take n lines (line - 1) [] (omega (arith, some, le))
 
 shared-by : List (List ℕ) → Bool
@@ -180,11 +180,11 @@ whole-by w2 w5 w7 =
     nat_le (number_in w7 3) (number_in w5 3) && nat_le (number_in w7 4) (number_in w5 1 - number_in w5 3) && nat_le (number_in w7 5) (number_in w5 2 - number_in w5 1)
     && nat_le (max (number_in w5 1) (number_in w5 2) + number_in w7 1 + number_in w7 2) (number_in w2 1)
 
-shared-is : (lines : Lines) → are_shared_within (counts_in lines) ≡ shared-by (line_at lines 5)
+shared-is : (lines : Lines) → are_shared_within (counts_in lines) ≡ shared-by (header_line lines 5)
 unfolding counts_in counts_by shared-by
 shared-is lines = refl
 
-whole-is : (lines : Lines) → are_whole_within (counts_in lines) ≡ whole-by (line_at lines 2) (line_at lines 5) (line_at lines 7)
+whole-is : (lines : Lines) → are_whole_within (counts_in lines) ≡ whole-by (header_line lines 2) (header_line lines 5) (header_line lines 7)
 unfolding counts_in counts_by whole-by
 whole-is lines = refl
 
@@ -204,9 +204,9 @@ shared-within lines clean =
 whole-within : (lines : Lines) → AreNineClean lines → are_whole_within (counts_in lines) ≡ true
 whole-within lines clean =
     whole-is lines
-    ∙ ap (λ w. whole-by w (line_at lines 5) (line_at lines 7)) (sym (line_at-take lines 7 2 (omega arith) (omega arith)))
-    ∙ ap (λ w. whole-by (line_at (take 7 lines) 2) w (line_at lines 7)) (sym (line_at-take lines 7 5 (omega arith) (omega arith)))
-    ∙ ap (λ w. whole-by (line_at (take 7 lines) 2) (line_at (take 7 lines) 5) w) (sym (line_at-take lines 7 7 (omega arith) (omega arith)))
+    ∙ ap (λ w. whole-by w (header_line lines 5) (header_line lines 7)) (sym (line_at-take lines 7 2 (omega arith) (omega arith)))
+    ∙ ap (λ w. whole-by (header_line (take 7 lines) 2) w (header_line lines 7)) (sym (line_at-take lines 7 5 (omega arith) (omega arith)))
+    ∙ ap (λ w. whole-by (header_line (take 7 lines) 2) (header_line (take 7 lines) 5) w) (sym (line_at-take lines 7 7 (omega arith) (omega arith)))
     ∙ sym (whole-is (take 7 lines))
     ∙ rule-seven (counts_in (take 7 lines)) (rules-clean 7 _ _ (line-of lines 6 (omega arith) (omega arith) clean))
 
@@ -226,8 +226,8 @@ first-options ws clean =
     options-from (options_of ws) (unwrap_or (option_count ws) 0) _
     (not-false has (none_head (not has) Options [] (none_head (is_none (option_count ws)) BadFirstLine last (none_head (begins_with 98 (word_at ws 0)) BinaryFile ((is_none (option_count ws), BadFirstLine) ∷ last) clean).1).1).0)
 
-first-fault : (lines : Lines) → line_fault (take 0 lines) (get_or lines 0 []) ≡ first_reason (first_line_tests (get_or lines 0 []))
-unfolding line_fault
+first-fault : (lines : Lines) → header_line_fault (take 0 lines) (get_or lines 0 []) ≡ first_reason (first_line_tests (get_or lines 0 []))
+unfolding header_line_fault
 first-fault lines = refl
 
 options-are : (lines : Lines) → AreNineClean lines → are_options (options_in lines) ≡ true

@@ -17,7 +17,7 @@ use Rattle.nl_model.specs.HeaderRules.{has_second_three}
 use Rattle.nl_header.specs.declared.fault.HeadFault.{HeadFault}
 use Rattle.nl_header.specs.declared.fault.HeadFault.TheVariants.{BadHeaderNumber, BinaryFile, BadFirstLine, Options}
 use Rattle.exact_numbers.specs.Numbers.{whole_of}
-use Rattle.nl_header.specs.Head.{number_in, number_at, line_at, number_after, words_fault, is_short, rule_tests, number_line_fault, line_fault, first_line_tests, options_in, options_of, counts_in, counts_by, has_options, option_count, begins_with}
+use Rattle.nl_header.specs.Head.{number_in, header_number, header_line, number_after, words_fault, lacks_number, rule_tests, number_line_fault, header_line_fault, first_line_tests, options_in, options_of, counts_in, counts_by, has_options, option_count, begins_with}
 use Rattle.nl_header.specs.Reading.{Taken, IsReading, AreClean, numbers_in, put_in, counts_from, GoesOn}
 use Rattle.exact_numbers.proofs.NumberLemmas.{first_of_both, second_of_both}
 use Rattle.nl_header.proofs.HeadLemmas.{header_places}
@@ -64,67 +64,67 @@ count-row ws place lt = by (nat_lt (length ws) place) refl
     by true e = lt-ltb (length (take 12 ws)) place (omega (arith, ltb-true _ _ e, length-take 12 ws)) ∙ sym e
     by false e = le-ltb (length (take 12 ws)) place (omega (arith, ltb-false _ _ e, length-take 12 ws, lt)) ∙ sym e
 
-is_short-row-by : (rows : List FieldRow) (line : ℕ) (ws : List (List ℕ)) → list_all (λ r. nat_lt r.place 7) rows ≡ true → is_short rows line (length (take 12 ws)) ≡ is_short rows line (length ws)
-unfolding is_short
+is_short-row-by : (rows : List FieldRow) (line : ℕ) (ws : List (List ℕ)) → list_all (λ r. nat_lt r.place 7) rows ≡ true → lacks_number rows line (length (take 12 ws)) ≡ lacks_number rows line (length ws)
+unfolding lacks_number
 is_short-row-by [] line ws small = refl
 is_short-row-by (r ∷ rows) line ws small =
-    let more : is_short rows line (length (take 12 ws)) ≡ is_short rows line (length ws) = is_short-row-by rows line ws (second_of_both _ _ small) in
-    ap (λ t. ((r.line == line) && r.field.required && t) || is_short rows line (length (take 12 ws))) (count-row ws r.place (ltb-true _ _ (first_of_both _ _ small)))
+    let more : lacks_number rows line (length (take 12 ws)) ≡ lacks_number rows line (length ws) = is_short-row-by rows line ws (second_of_both _ _ small) in
+    ap (λ t. ((r.line == line) && r.field.required && t) || lacks_number rows line (length (take 12 ws))) (count-row ws r.place (ltb-true _ _ (first_of_both _ _ small)))
     ∙ ap (λ t. ((r.line == line) && r.field.required && nat_lt (length ws) r.place) || t) more
 
-pub short_at : (t u : Bool) (rows : List FieldRow) (line : ℕ) (text : List ℕ) (words : List (Bor (List ℕ))) → t ≡ is_short rows line (length words) → rows ≡ header_rows → texts words ≡ row_of text → t ≡ u → is_short header_rows line (length (words_of text)) ≡ u
+pub short_at : (t u : Bool) (rows : List FieldRow) (line : ℕ) (text : List ℕ) (words : List (Bor (List ℕ))) → t ≡ lacks_number rows line (length words) → rows ≡ header_rows → texts words ≡ row_of text → t ≡ u → lacks_number header_rows line (length (words_of text)) ≡ u
 short_at t u rows line text words short is same e =
     let count : length words ≡ length (take 12 (words_of text)) = sym (length-map words (λ w. w.now)) ∙ ap length same in
-    sym (is_short-row-by header_rows line (words_of text) header_places) ∙ ap (is_short header_rows line) (sym count) ∙ ap (λ r. is_short r line (length words)) (sym is) ∙ sym short ∙ e
+    sym (is_short-row-by header_rows line (words_of text) header_places) ∙ ap (lacks_number header_rows line) (sym count) ∙ ap (λ r. lacks_number r line (length words)) (sym is) ∙ sym short ∙ e
 
 -- ---- The faults of a line of numbers.
 
 pub line_words : (line : ℕ) (counts : Counts) (ws : List (List ℕ)) (f : HeadFault) → words_fault line 1 ws ≡ Some f → number_line_fault line counts ws ≡ Some f
 unfolding number_line_fault
-line_words line counts ws f e = ap (λ g. option_or g (first_reason ((is_short header_rows line (length ws), BadHeaderNumber) ∷ rule_tests line counts))) e
+line_words line counts ws f e = ap (λ g. option_or g (first_reason ((lacks_number header_rows line (length ws), BadHeaderNumber) ∷ rule_tests line counts))) e
 
-pub line_short : (line : ℕ) (counts : Counts) (ws : List (List ℕ)) → words_fault line 1 ws ≡ None → is_short header_rows line (length ws) ≡ true → number_line_fault line counts ws ≡ Some BadHeaderNumber
+pub line_short : (line : ℕ) (counts : Counts) (ws : List (List ℕ)) → words_fault line 1 ws ≡ None → lacks_number header_rows line (length ws) ≡ true → number_line_fault line counts ws ≡ Some BadHeaderNumber
 unfolding number_line_fault
 line_short line counts ws e short =
-    ap (λ g. option_or g (first_reason ((is_short header_rows line (length ws), BadHeaderNumber) ∷ rule_tests line counts))) e
+    ap (λ g. option_or g (first_reason ((lacks_number header_rows line (length ws), BadHeaderNumber) ∷ rule_tests line counts))) e
     ∙ ap (λ t. cond t (Some BadHeaderNumber) (first_reason (rule_tests line counts))) short
 
-pub line_rules : (line : ℕ) (counts : Counts) (ws : List (List ℕ)) (o : Option HeadFault) → words_fault line 1 ws ≡ None → is_short header_rows line (length ws) ≡ false → first_reason (rule_tests line counts) ≡ o → number_line_fault line counts ws ≡ o
+pub line_rules : (line : ℕ) (counts : Counts) (ws : List (List ℕ)) (o : Option HeadFault) → words_fault line 1 ws ≡ None → lacks_number header_rows line (length ws) ≡ false → first_reason (rule_tests line counts) ≡ o → number_line_fault line counts ws ≡ o
 unfolding number_line_fault
 line_rules line counts ws o e short rules =
-    ap (λ g. option_or g (first_reason ((is_short header_rows line (length ws), BadHeaderNumber) ∷ rule_tests line counts))) e
+    ap (λ g. option_or g (first_reason ((lacks_number header_rows line (length ws), BadHeaderNumber) ∷ rule_tests line counts))) e
     ∙ ap (λ t. cond t (Some BadHeaderNumber) (first_reason (rule_tests line counts))) short ∙ rules
 
 -- ---- One more line.
 
-pub line_at-more : (before : List (List (List ℕ))) (ws : List (List ℕ)) (line : ℕ) → 0 < line → line_at (before ++ ws ∷ []) line ≡ cond (line == length before + 1) ws (line_at before line)
+pub line_at-more : (before : List (List (List ℕ))) (ws : List (List ℕ)) (line : ℕ) → 0 < line → header_line (before ++ ws ∷ []) line ≡ cond (line == length before + 1) ws (header_line before line)
 line_at-more before ws line some = by (line == length before + 1) refl
   where
-    by : (t : Bool) → (line == length before + 1) ≡ t → line_at (before ++ ws ∷ []) line ≡ cond (line == length before + 1) ws (line_at before line)
+    by : (t : Bool) → (line == length before + 1) ≡ t → header_line (before ++ ws ∷ []) line ≡ cond (line == length before + 1) ws (header_line before line)
     by true e =
         let same : line - 1 ≡ length before = omega (arith, eqb-true _ _ e) in
-        ap (λ i. get_or (before ++ ws ∷ []) i []) same ∙ get_or-append_seam before ws [] [] ∙ sym (ap (λ t. cond t ws (line_at before line)) e)
-    by false e = here (nat_lt (line - 1) (length before)) refl ∙ sym (ap (λ t. cond t ws (line_at before line)) e)
+        ap (λ i. get_or (before ++ ws ∷ []) i []) same ∙ get_or-append_seam before ws [] [] ∙ sym (ap (λ t. cond t ws (header_line before line)) e)
+    by false e = here (nat_lt (line - 1) (length before)) refl ∙ sym (ap (λ t. cond t ws (header_line before line)) e)
       where
-        here : (t : Bool) → nat_lt (line - 1) (length before) ≡ t → line_at (before ++ ws ∷ []) line ≡ line_at before line
+        here : (t : Bool) → nat_lt (line - 1) (length before) ≡ t → header_line (before ++ ws ∷ []) line ≡ header_line before line
         here true lt = get_or_append_left before (ws ∷ []) [] (line - 1) (ltb-true _ _ lt)
         here false ge =
             let past : length before < line - 1 = omega (arith, ltb-false _ _ ge, eqb-false line (length before + 1) e, some) in
             get_or_past (before ++ ws ∷ []) (line - 1) [] (omega (arith, length-append before (ws ∷ []), past)) ∙ sym (get_or_past before (line - 1) [] (omega (arith, past)))
 
-number_after-more : (before : List (List (List ℕ))) (ws : List (List ℕ)) (r : FieldRow) → 0 < r.line → number_after r (length before + 1) ws (number_at before r.line r.place) ≡ number_at (before ++ ws ∷ []) r.line r.place
+number_after-more : (before : List (List (List ℕ))) (ws : List (List ℕ)) (r : FieldRow) → 0 < r.line → number_after r (length before + 1) ws (header_number before r.line r.place) ≡ header_number (before ++ ws ∷ []) r.line r.place
 number_after-more before ws r some = by (r.line == length before + 1) refl ∙ sym (ap (λ l. number_in l r.place) (line_at-more before ws r.line some))
   where
-    by : (t : Bool) → (r.line == length before + 1) ≡ t → cond (r.line == length before + 1) (number_in ws r.place) (number_at before r.line r.place) ≡ number_in (cond (r.line == length before + 1) ws (line_at before r.line)) r.place
-    by true e = ap (λ t. cond t (number_in ws r.place) (number_at before r.line r.place)) e ∙ sym (ap (λ t. number_in (cond t ws (line_at before r.line)) r.place) e)
-    by false e = ap (λ t. cond t (number_in ws r.place) (number_at before r.line r.place)) e ∙ sym (ap (λ t. number_in (cond t ws (line_at before r.line)) r.place) e)
+    by : (t : Bool) → (r.line == length before + 1) ≡ t → cond (r.line == length before + 1) (number_in ws r.place) (header_number before r.line r.place) ≡ number_in (cond (r.line == length before + 1) ws (header_line before r.line)) r.place
+    by true e = ap (λ t. cond t (number_in ws r.place) (header_number before r.line r.place)) e ∙ sym (ap (λ t. number_in (cond t ws (header_line before r.line)) r.place) e)
+    by false e = ap (λ t. cond t (number_in ws r.place) (header_number before r.line r.place)) e ∙ sym (ap (λ t. number_in (cond t ws (header_line before r.line)) r.place) e)
 
-put_in-more-by : (rows : List FieldRow) (before : List (List (List ℕ))) (ws : List (List ℕ)) → list_all (λ r. nat_lt 0 r.line) rows ≡ true → put_in rows (length before + 1) ws (map (λ r. number_at before r.line r.place) rows) ≡ map (λ r. number_at (before ++ ws ∷ []) r.line r.place) rows
+put_in-more-by : (rows : List FieldRow) (before : List (List (List ℕ))) (ws : List (List ℕ)) → list_all (λ r. nat_lt 0 r.line) rows ≡ true → put_in rows (length before + 1) ws (map (λ r. header_number before r.line r.place) rows) ≡ map (λ r. header_number (before ++ ws ∷ []) r.line r.place) rows
 unfolding put_in
 put_in-more-by [] before ws some = refl
 put_in-more-by (r ∷ rows) before ws some =
-    ap (λ x. x ∷ put_in rows (length before + 1) ws (map (λ r. number_at before r.line r.place) rows)) (number_after-more before ws r (ltb-true _ _ (first_of_both _ _ some)))
-    ∙ ap (λ xs. number_at (before ++ ws ∷ []) r.line r.place ∷ xs) (put_in-more-by rows before ws (second_of_both _ _ some))
+    ap (λ x. x ∷ put_in rows (length before + 1) ws (map (λ r. header_number before r.line r.place) rows)) (number_after-more before ws r (ltb-true _ _ (first_of_both _ _ some)))
+    ∙ ap (λ xs. header_number (before ++ ws ∷ []) r.line r.place ∷ xs) (put_in-more-by rows before ws (second_of_both _ _ some))
 
 pub put_in-more : (before : List (List (List ℕ))) (ws : List (List ℕ)) → put_in header_rows (length before + 1) ws (numbers_in before) ≡ numbers_in (before ++ ws ∷ [])
 unfolding numbers_in
@@ -185,33 +185,33 @@ first_row-whole ws clean = by (nat_le (length ws) 12) refl
 
 -- ---- All lines so far.
 
-pub clean-more : (before : List (List (List ℕ))) (ws : List (List ℕ)) → AreClean before → line_fault before ws ≡ None → AreClean (before ++ ws ∷ [])
+pub clean-more : (before : List (List (List ℕ))) (ws : List (List ℕ)) → AreClean before → header_line_fault before ws ≡ None → AreClean (before ++ ws ∷ [])
 clean-more before ws clean this = record {
   clean = λ i lt. at i (omega (arith, lt, length-append before (ws ∷ []))) (nat_lt i (length before)) refl;
 }
   where
-    at : (i : ℕ) → i < length before + 1 → (t : Bool) → nat_lt i (length before) ≡ t → line_fault (take i (before ++ ws ∷ [])) (get_or (before ++ ws ∷ []) i []) ≡ None
+    at : (i : ℕ) → i < length before + 1 → (t : Bool) → nat_lt i (length before) ≡ t → header_line_fault (take i (before ++ ws ∷ [])) (get_or (before ++ ws ∷ []) i []) ≡ None
     at i le true e =
         let lt : i < length before = ltb-true _ _ e in
-        ap (λ b. line_fault b (get_or (before ++ ws ∷ []) i [])) (take-append-le i before (ws ∷ []) (omega (arith, lt)))
-        ∙ ap (line_fault (take i before)) (get_or_append_left before (ws ∷ []) [] i lt) ∙ clean.clean i lt
+        ap (λ b. header_line_fault b (get_or (before ++ ws ∷ []) i [])) (take-append-le i before (ws ∷ []) (omega (arith, lt)))
+        ∙ ap (header_line_fault (take i before)) (get_or_append_left before (ws ∷ []) [] i lt) ∙ clean.clean i lt
     at i le false e =
         let same : i ≡ length before = omega (arith, ltb-false _ _ e, le) in
-        ap (λ j. line_fault (take j (before ++ ws ∷ [])) (get_or (before ++ ws ∷ []) j [])) same
-        ∙ ap (λ b. line_fault b (get_or (before ++ ws ∷ []) (length before) [])) (take-append-le (length before) before (ws ∷ []) (omega arith) ∙ take-all (length before) before (omega arith))
-        ∙ ap (line_fault before) (get_or-append_seam before ws [] []) ∙ this
+        ap (λ j. header_line_fault (take j (before ++ ws ∷ [])) (get_or (before ++ ws ∷ []) j [])) same
+        ∙ ap (λ b. header_line_fault b (get_or (before ++ ws ∷ []) (length before) [])) (take-append-le (length before) before (ws ∷ []) (omega arith) ∙ take-all (length before) before (omega arith))
+        ∙ ap (header_line_fault before) (get_or-append_seam before ws [] []) ∙ this
 
 no_lines : (before : List (List (List ℕ))) → length before ≡ 0 → before ≡ []
 no_lines [] e = refl
 no_lines (l ∷ before) e = absurd (omega (arith, e))
 
-first_fault : (ws : List (List ℕ)) → line_fault [] ws ≡ first_reason (first_line_tests ws)
-unfolding line_fault
+first_fault : (ws : List (List ℕ)) → header_line_fault [] ws ≡ first_reason (first_line_tests ws)
+unfolding header_line_fault
 first_fault ws = refl
 
-pub first-err : (s : Taken) (before : List (List (List ℕ))) (ws row : List (List ℕ)) (f : HeadFault) → row ≡ take 12 ws → s.lines ≡ 0 → IsReading s before → first_reason (first_line_tests row) ≡ Some f → line_fault before ws ≡ Some f
+pub first-err : (s : Taken) (before : List (List (List ℕ))) (ws row : List (List ℕ)) (f : HeadFault) → row ≡ take 12 ws → s.lines ≡ 0 → IsReading s before → first_reason (first_line_tests row) ≡ Some f → header_line_fault before ws ≡ Some f
 first-err s before ws row f is none reading fault =
-    ap (λ b. line_fault b ws) (no_lines before (sym reading.count ∙ none)) ∙ first_fault ws ∙ sym (first_reason-row ws) ∙ ap (λ w. first_reason (first_line_tests w)) (sym is) ∙ fault
+    ap (λ b. header_line_fault b ws) (no_lines before (sym reading.count ∙ none)) ∙ first_fault ws ∙ sym (first_reason-row ws) ∙ ap (λ w. first_reason (first_line_tests w)) (sym is) ∙ fault
 
 pub first-ok : (s new : Taken) (before : List (List (List ℕ))) (ws row : List (List ℕ)) → row ≡ take 12 ws → s.lines ≡ 0 → IsReading s before → first_reason (first_line_tests row) ≡ None → new ≡ record s { lines = 1; options = options_of row; numbers = put_in header_rows 1 row s.numbers } → GoesOn before ws new
 unfolding options_in
@@ -219,7 +219,7 @@ first-ok s new before ws row is none reading fine step =
     let nil : before ≡ [] = no_lines before (sym reading.count ∙ none) in
     let clean : first_reason (first_line_tests ws) ≡ None = sym (first_reason-row ws) ∙ ap (λ w. first_reason (first_line_tests w)) (sym is) ∙ fine in
     let whole : row ≡ ws = is ∙ first_row-whole ws clean in
-    let this : line_fault before ws ≡ None = ap (λ b. line_fault b ws) nil ∙ first_fault ws ∙ clean in
+    let this : header_line_fault before ws ≡ None = ap (λ b. header_line_fault b ws) nil ∙ first_fault ws ∙ clean in
     record {
       clean = this;
       reading = record {

@@ -8,7 +8,7 @@ use Rattle.nl_model.specs.declared.header.Header.{Header}
 use Rattle.nl_model.specs.HeaderRules.{is_header, are_definitions_within}
 use Rattle.texts.specs.Judged.{first_reason}
 use Rattle.nl_header.specs.declared.fault.HeadFault.{HeadFault}
-use Rattle.nl_header.specs.Head.{number_line_fault, line_fault, first_line_tests, options_in, options_of, counts_in}
+use Rattle.nl_header.specs.Head.{number_line_fault, header_line_fault, first_line_tests, options_in, options_of, counts_in}
 use Rattle.nl_header.specs.Reading.{Taken, IsReading, AreClean, numbers_in, put_in, counts_from, last_rule, Takes, Closes}
 use Rattle.nl_header.proofs.ReaderLemmas.{put_in-row, put_in-more, counts_from-in, clean-more}
 use Rattle.nl_header.proofs.HeaderLaw.{nine_clean, header-rule, last_rule-kept, last_rule-broken, last_rule-before}
@@ -20,14 +20,14 @@ numbers-more s before ws row is reading =
     ∙ ap (put_in header_rows (length before + 1) ws) reading.numbers
     ∙ put_in-more before ws
 
-fault-later : (s : Taken) (before : List (List (List ℕ))) (ws : List (List ℕ)) → (s.lines ≡ 0 → ⊥) → IsReading s before → line_fault before ws ≡ number_line_fault (s.lines + 1) (counts_in (before ++ ws ∷ [])) ws
-unfolding line_fault
+fault-later : (s : Taken) (before : List (List (List ℕ))) (ws : List (List ℕ)) → (s.lines ≡ 0 → ⊥) → IsReading s before → header_line_fault before ws ≡ number_line_fault (s.lines + 1) (counts_in (before ++ ws ∷ [])) ws
+unfolding header_line_fault
 fault-later s before ws some reading =
     ap (λ t. cond t (first_reason (first_line_tests ws)) (number_line_fault (length before + 1) (counts_in (before ++ ws ∷ [])) ws))
     (ne_eqb (length before) 0 (λ e. some (reading.count ∙ e)))
     ∙ ap (λ n. number_line_fault (n + 1) (counts_in (before ++ ws ∷ [])) ws) (sym reading.count)
 
-pub number-err : (s : Taken) (before : List (List (List ℕ))) (ws row : List (List ℕ)) (f : HeadFault) → row ≡ take 12 ws → (s.lines ≡ 0 → ⊥) → IsReading s before → number_line_fault (s.lines + 1) (counts_from (put_in header_rows (s.lines + 1) row s.numbers)) ws ≡ Some f → line_fault before ws ≡ Some f
+pub number-err : (s : Taken) (before : List (List (List ℕ))) (ws row : List (List ℕ)) (f : HeadFault) → row ≡ take 12 ws → (s.lines ≡ 0 → ⊥) → IsReading s before → number_line_fault (s.lines + 1) (counts_from (put_in header_rows (s.lines + 1) row s.numbers)) ws ≡ Some f → header_line_fault before ws ≡ Some f
 number-err s before ws row f is some reading fault =
     fault-later s before ws some reading
     ∙ ap (λ c. number_line_fault (s.lines + 1) c ws) (sym (counts_from-in (before ++ ws ∷ [])) ∙ ap counts_from (sym (numbers-more s before ws row is reading)))
@@ -45,7 +45,7 @@ record IsTaken (before : List (List (List ℕ))) (ws : List (List ℕ)) (s mid :
   numbers : mid.numbers ≡ numbers_in (before ++ ws ∷ [])
   going : mid.fault ≡ None
   counts_are : counts ≡ counts_in (before ++ ws ∷ [])
-  fault : line_fault before ws ≡ last_rule (length before + 1) counts
+  fault : header_line_fault before ws ≡ last_rule (length before + 1) counts
   clean : AreClean before
 
 taken : (s mid : Taken) (before : List (List (List ℕ))) (ws row : List (List ℕ)) (counts : Counts) → row ≡ take 12 ws → (s.lines ≡ 0 → ⊥) → IsReading s before → mid ≡ record s { numbers = put_in header_rows (s.lines + 1) row s.numbers } → counts ≡ counts_from mid.numbers → number_line_fault (s.lines + 1) counts ws ≡ last_rule (s.lines + 1) counts → IsTaken before ws s mid counts
@@ -73,7 +73,7 @@ rules-true b t = t
 closes : (before : List (List (List ℕ))) (ws : List (List ℕ)) (s mid new : Taken) (counts : Counts) (result : Result (Option Header) HeadFault) → IsTaken before ws s mid counts → Closes mid counts result new → Takes before ws result new
 closes before ws s mid new counts (Ok None) is closed =
     let line : length before + 1 < 10 = omega (arith, is.lines, closed.0) in
-    let this : line_fault before ws ≡ None = is.fault ∙ last_rule-before (length before + 1) counts line in
+    let this : header_line_fault before ws ≡ None = is.fault ∙ last_rule-before (length before + 1) counts line in
     record {
       clean = this;
       reading = record {

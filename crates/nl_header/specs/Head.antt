@@ -16,8 +16,8 @@ use Rattle.exact_numbers.specs.Numbers.{whole_of, signed_of}
 use Rattle.nl_header.specs.declared.fault.HeadFault.{HeadFault}
 use Rattle.nl_header.specs.declared.fault.HeadFault.TheVariants.{BinaryFile, BadFirstLine, Options, BadHeaderNumber, CountsDisagree, RefusedCount, TooLarge}
 
-abbrev pub line_at : List (List (List ℕ)) → ℕ → List (List ℕ)
-line_at lines line = slice_index_or lines (line - 1) []
+abbrev pub header_line : List (List (List ℕ)) → ℕ → List (List ℕ)
+header_line lines line = slice_index_or lines (line - 1) []
 
 -- ---- What the lines say.
 
@@ -25,12 +25,12 @@ line_at lines line = slice_index_or lines (line - 1) []
 abbrev pub number_in : List (List ℕ) → ℕ → ℕ
 number_in words place = unwrap_or (whole_of (word_at words (place - 1))) 0
 
-abbrev pub number_at : List (List (List ℕ)) → ℕ → ℕ → ℕ
-number_at lines line place = number_in (line_at lines line) place
+abbrev pub header_number : List (List (List ℕ)) → ℕ → ℕ → ℕ
+header_number lines line place = number_in (header_line lines line) place
 
 -- nothing asks for a row past the last
-abbrev pub no_row : FieldRow
-no_row = record { line = 0; place = 0; field = record { row = 0; required = false; zero = false } }
+abbrev pub no_field_row : FieldRow
+no_field_row = record { line = 0; place = 0; field = record { row = 0; required = false; zero = false } }
 
 -- what a row's number is after a line with these words, when it was `number` before
 abbrev pub number_after : FieldRow → ℕ → List (List ℕ) → ℕ → ℕ
@@ -75,14 +75,14 @@ counts_by number =
 
 -- the counts of lines 2 to 10
 unfoldable pub counts_in : List (List (List ℕ)) → Counts
-counts_in lines = counts_by (number_at lines)
+counts_in lines = counts_by (header_number lines)
 
 -- the options of a first line: the words after the first
 abbrev pub options_of : List (List ℕ) → List ℤ
 options_of words = filter_map signed_of (drop 1 words)
 
 unfoldable pub options_in : List (List (List ℕ)) → List ℤ
-options_in lines = options_of (line_at lines 1)
+options_in lines = options_of (header_line lines 1)
 
 -- ---- What is wrong with a line: the first test that holds gives the fault.
 
@@ -144,8 +144,8 @@ words_fault line place (word ∷ words) =
     (words_fault line (place + 1) words)
 
 -- a field that must be there has no word
-unfoldable pub is_short : List FieldRow → ℕ → ℕ → Bool
-is_short rows line count =
+unfoldable pub lacks_number : List FieldRow → ℕ → ℕ → Bool
+lacks_number rows line count =
     list_any (λ r. (r.line == line) && r.field.required && nat_lt count r.place) rows
 
 -- the rule of a line, once its numbers are known
@@ -159,11 +159,11 @@ rule_tests line counts =
 unfoldable pub number_line_fault : ℕ → Counts → List (List ℕ) → Option HeadFault
 number_line_fault line counts words =
     option_or (words_fault line 1 words)
-    (first_reason ((is_short header_rows line (length words), BadHeaderNumber)
+    (first_reason ((lacks_number header_rows line (length words), BadHeaderNumber)
     ∷ rule_tests line counts))
 
 -- the first fault of the header line that comes after these
-unfoldable pub line_fault : List (List (List ℕ)) → List (List ℕ) → Option HeadFault
-line_fault before words =
+unfoldable pub header_line_fault : List (List (List ℕ)) → List (List ℕ) → Option HeadFault
+header_line_fault before words =
     if length before == 0 then first_reason (first_line_tests words) else
     number_line_fault (length before + 1) (counts_in (before ++ words ∷ [])) words

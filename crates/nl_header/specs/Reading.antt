@@ -9,7 +9,7 @@ use Rattle.nl_model.specs.HeaderWords.{header_options, header_counts}
 use Rattle.nl_model.specs.HeaderRules.{are_definitions_within, is_header}
 use Rattle.nl_header.specs.declared.fault.HeadFault.{HeadFault}
 use Rattle.nl_header.specs.declared.fault.HeadFault.TheVariants.{TooLarge}
-use Rattle.nl_header.specs.Head.{number_at, number_after, options_in, counts_in, line_fault}
+use Rattle.nl_header.specs.Head.{header_number, number_after, options_in, counts_in, header_line_fault}
 
 -- how many lines were taken, their options, the number of each row of the table, and the fault that
 -- was met
@@ -21,12 +21,12 @@ pub record Taken : Type 0 where
 
 -- the numbers of the rows of the table
 unfoldable pub numbers_in : List (List (List ℕ)) → List ℕ
-numbers_in lines = map (λ r. number_at lines r.line r.place) header_rows
+numbers_in lines = map (λ r. header_number lines r.line r.place) header_rows
 
 -- no line has a fault, each judged from the lines before it
 pub record AreClean (lines : List (List (List ℕ))) : Type 0 where
   pub clean : (i : ℕ) → i < length lines
-      → line_fault (take i lines) (slice_index_or lines i []) ≡ None
+      → header_line_fault (take i lines) (slice_index_or lines i []) ≡ None
 
 -- the reader took these lines, which have no fault
 pub record IsReading (s : Taken) (lines : List (List (List ℕ))) : Type 0 where
@@ -45,13 +45,13 @@ pub record SaysHeader (lines : List (List (List ℕ))) (header : Header) : Type 
 -- a line without a fault that is not the last
 pub record GoesOn (before : List (List (List ℕ))) (words : List (List ℕ))
     (after : Taken) : Type 0 where
-  pub clean : line_fault before words ≡ None
+  pub clean : header_line_fault before words ≡ None
   pub reading : IsReading after (before ++ words ∷ [])
 
 -- the last line, without a fault
 pub record Ends (before : List (List (List ℕ))) (words : List (List ℕ)) (header : Header)
     (after : Taken) : Type 0 where
-  pub clean : line_fault before words ≡ None
+  pub clean : header_line_fault before words ≡ None
   pub says : SaysHeader (before ++ words ∷ []) header
   pub count : after.lines ≡ 10
 
@@ -61,7 +61,7 @@ abbrev pub Takes : List (List (List ℕ)) → List (List ℕ) → Result (Option
     → Taken → Type 0
 Takes before words (Ok None) after = GoesOn before words after
 Takes before words (Ok (Some header)) after = Ends before words header after
-Takes before words (Err fault) after = line_fault before words ≡ Some fault
+Takes before words (Err fault) after = header_line_fault before words ≡ Some fault
 
 -- how many lines were taken, before and after
 abbrev pub HasCounted : ℕ → Result (Option Header) HeadFault → ℕ → Type 0

@@ -2,7 +2,7 @@
 ghost use Rattle.std.specs.Prelude.{◌≡◌, ℕ, ◌<◌, ◌≤◌, ◌==◌, ◌+◌, min, length, slice_index, slice_index_or, if◌then◌else◌, None};
 ghost use Rattle.texts.specs.Judged.{first_reason};
 ghost use Rattle.texts.specs.Words.{words_of, texts};
-ghost use Rattle.nl_header.specs.Head.{Judges, number_in, limit_of_row, number_tests, word_tests, words_fault, is_short, no_row, number_after};
+ghost use Rattle.nl_header.specs.Head.{Judges, number_in, limit_of_row, number_tests, word_tests, words_fault, lacks_number, no_field_row, number_after};
 ghost use Rattle.nl_header.specs.Reading.{put_in};
 
 use crate::fault::HeadFault;
@@ -84,9 +84,9 @@ pub fn judge_words(line: u32, text: &[u8]) -> Result<(), HeadFault>
 }
 
 /// Whether a field that must be there has no word.
-#[tactic(auto, unfolding(crate::specs::Head::is_short))]
+#[tactic(auto, unfolding(crate::specs::Head::lacks_number))]
 pub fn is_short<const N: usize>(table: &Table<N>, line: u32, count: usize) -> bool
-    ensures { result ≡ is_short table.now.rows line count }
+    ensures { result ≡ lacks_number table.now.rows line count }
 {
     table.rows.iter().any(|r| r.line == line && r.field.required && count < r.place as usize)
 }

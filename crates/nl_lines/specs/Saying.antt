@@ -142,7 +142,7 @@ owner_lines l (Con i) = slice_get l.constraints i
 owner_lines l (Obj k) = slice_get l.objectives k
 
 -- the line of a place; none of one that the file does not have
-unfoldable pub line_of : PlaceLines → At → Option ℕ
-line_of l (Node owner i) = option_and_then (λ o. slice_get o.nodes i) (owner_lines l owner)
-line_of l (Term owner i) = option_and_then (λ o. slice_get o.terms i) (owner_lines l owner)
-line_of l (HeadOf owner) = option_and_then (λ o. o.head) (owner_lines l owner)
+unfoldable pub place_line : PlaceLines → At → Option ℕ
+place_line l (Node owner i) = option_and_then (λ o. slice_get o.nodes i) (owner_lines l owner)
+place_line l (Term owner i) = option_and_then (λ o. slice_get o.terms i) (owner_lines l owner)
+place_line l (HeadOf owner) = option_and_then (λ o. o.head) (owner_lines l owner)

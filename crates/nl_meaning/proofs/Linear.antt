@@ -12,7 +12,7 @@ use Rattle.fractions.proofs.Adding.{sum_over_nil, sum_over_cons, sum_below_all_z
 use Rattle.nl_meaning.specs.declared.Reason.{Reason}
 use Rattle.nl_meaning.specs.declared.Reason.TheVariants.{Nonlinear, DivideByZero}
 use Rattle.linear_programs.specs.Lines.{Line, line_value, line_values, some_values, is_zero, is_constant, are_constant, constants_of, constant_line, running_line, line_sum, line_scaled, line_neg, line_with, Point}
-use Rattle.nl_meaning.specs.Faults.{nonlinear_unless, power_fault, constants_line, operator_line, line_with_terms, operator_fault, fault_at, line_of, lines_of, tree_fault, trees_fault, expression_fault, definitions_fault, first_fault, first_expression_fault, coef, constant_of, expression_line}
+use Rattle.nl_meaning.specs.Faults.{nonlinear_unless, power_fault, constants_line, operator_line, line_with_terms, operator_fault, fault_at, tree_line, trees_lines, tree_fault, trees_fault, expression_fault, definitions_fault, first_fault, first_expression_fault, coef, constant_of, expression_line}
 use Rattle.nl_meaning.specs.Trees.{Known, nothing_known, with_value, Tree, number, variable, defined, operator, Trees, none, more, all_there, on_values, operator_value, tree_value, trees_values, LinearTerm, Expression, Definition, terms_value, expression_value, values_after, known_values, val, expression_val, tree_size, count_of, HasCount, IsOneOf, IsFormed, AreFormed, AreTermsBelow, IsExpressionFormed, indices_after, indices_of, AreDefined}
 use Rattle.linear_programs.proofs.LineLemmas.{is_zero-false, line_value-sum, line_value-scaled, line_value-neg, line_value-constant, line_values-constant, line_value-with, line_by_lem}
 
@@ -125,7 +125,7 @@ fault_at-none : (i : ℕ) (r : Option Reason) → fault_at i r ≡ None → r �
 fault_at-none i None e = refl
 fault_at-none i (Some r) e = cc
 
-length-lines : (known : Point → Known) (ts : Trees) → length (lines_of known ts) ≡ count_of ts
+length-lines : (known : Point → Known) (ts : Trees) → length (trees_lines known ts) ≡ count_of ts
 length-lines known none = refl
 length-lines known (more t ts) = omega (arith, length-lines known ts)
 
@@ -142,7 +142,7 @@ variable_value n j at h =
     sym (line_value-with n at (constant_line zero_ℚ) j one_ℚ h ∙ ap₂ ◌+ℚ◌ (constant_value n zero_ℚ at) (one-*ℚ (at j)) ∙ zero-+ℚ (at j))
 
 mutual
-  pub tree_linear : (n : ℕ) (known : Point → Known) (is : List ℕ) (linear : AreLinear n known is) (i : ℕ) (t : Tree) → IsFormed n is t → tree_fault known n i t ≡ None → HasValues n (λ at. tree_value (known at) at t) (line_of known t)
+  pub tree_linear : (n : ℕ) (known : Point → Known) (is : List ℕ) (linear : AreLinear n known is) (i : ℕ) (t : Tree) → IsFormed n is t → tree_fault known n i t ≡ None → HasValues n (λ at. tree_value (known at) at t) (tree_line known t)
   tree_linear n known is linear i (number m e) formed clean =
       line_by_lem n (λ p. tree_value (known p) p (number m e)) (constant_line (decimal_value m e)) (λ p. ap Some (sym (constant_value n (decimal_value m e) p)))
   tree_linear n known is linear i (variable j) formed clean =
@@ -152,11 +152,11 @@ mutual
       line_by_lem n (λ p. tree_value (known p) p (defined k)) r.0 r.1
   tree_linear n known is linear i (operator c ts) formed clean =
       let free = option_or-none _ _ clean in
-      let r = operator_has_line n c (lines_of known ts) (subst (HasCount c) (sym (length-lines known ts)) formed.0) (fault_at-none i _ free.1) in
-      line_by_lem n (λ p. tree_value (known p) p (operator c ts)) (operator_line n c (lines_of known ts))
-      (λ p. ap (operator_value c) (trees_linear n known is linear (i + 1) ts formed.1 free.0 p) ∙ ap (option_and_then (on_values c)) (all_there-some n p (lines_of known ts)) ∙ r p)
+      let r = operator_has_line n c (trees_lines known ts) (subst (HasCount c) (sym (length-lines known ts)) formed.0) (fault_at-none i _ free.1) in
+      line_by_lem n (λ p. tree_value (known p) p (operator c ts)) (operator_line n c (trees_lines known ts))
+      (λ p. ap (operator_value c) (trees_linear n known is linear (i + 1) ts formed.1 free.0 p) ∙ ap (option_and_then (on_values c)) (all_there-some n p (trees_lines known ts)) ∙ r p)
 
-  pub trees_linear : (n : ℕ) (known : Point → Known) (is : List ℕ) (linear : AreLinear n known is) (i : ℕ) (ts : Trees) → AreFormed n is ts → trees_fault known n i ts ≡ None → (at : Point) → trees_values (known at) at ts ≡ some_values n at (lines_of known ts)
+  pub trees_linear : (n : ℕ) (known : Point → Known) (is : List ℕ) (linear : AreLinear n known is) (i : ℕ) (ts : Trees) → AreFormed n is ts → trees_fault known n i ts ≡ None → (at : Point) → trees_values (known at) at ts ≡ some_values n at (trees_lines known ts)
   trees_linear n known is linear i none formed clean at = refl
   trees_linear n known is linear i (more t ts) formed clean at =
       let free = option_or-none _ _ clean in
@@ -176,10 +176,10 @@ pub terms_added : (n : ℕ) (known : Point → Known) (x : Expression) (l : Line
 terms_added n known x l below values at =
     ap (option_and_then (λ v. Some (v +ℚ terms_value at x.terms))) (values at) ∙ ap Some (terms_line n at l x.terms below)
 
-pub expression_linear : (n : ℕ) (known : Point → Known) (is : List ℕ) → AreLinear n known is → (x : Expression) → IsExpressionFormed n is x → expression_fault known n x ≡ None → HasValues n (λ at. expression_value (known at) at x) (line_with_terms (line_of known x.tree) x.terms)
+pub expression_linear : (n : ℕ) (known : Point → Known) (is : List ℕ) → AreLinear n known is → (x : Expression) → IsExpressionFormed n is x → expression_fault known n x ≡ None → HasValues n (λ at. expression_value (known at) at x) (line_with_terms (tree_line known x.tree) x.terms)
 expression_linear n known is linear x formed clean =
     let free = option_or-none _ _ clean in
-    terms_added n known x (line_of known x.tree) formed.terms (tree_linear n known is linear 0 x.tree formed.tree free.0)
+    terms_added n known x (tree_line known x.tree) formed.terms (tree_linear n known is linear 0 x.tree formed.tree free.0)
 
 -- one more definition with a line
 pub more_linear : (n : ℕ) (known : Point → Known) (is : List ℕ) → AreLinear n known is → (i : ℕ) (f : Point → Option ℚ) (l : Line) → HasValues n f l → AreLinear n (λ at. with_value (known at) i (f at)) (i ∷ is)
@@ -195,7 +195,7 @@ definitions_linear n known is linear [] formed clean = linear
 definitions_linear n known is linear (d ∷ ds) formed clean =
     let free = option_or-none _ _ clean in
     definitions_linear n (λ at. with_value (known at) d.index (expression_value (known at) at d.expression)) (d.index ∷ is)
-    (more_linear n known is linear d.index (λ at. expression_value (known at) at d.expression) (line_with_terms (line_of known d.expression.tree) d.expression.terms) (expression_linear n known is linear d.expression formed.0 free.0))
+    (more_linear n known is linear d.index (λ at. expression_value (known at) at d.expression) (line_with_terms (tree_line known d.expression.tree) d.expression.terms) (expression_linear n known is linear d.expression formed.0 free.0))
     ds formed.1 free.1
 
 -- where no definition is known
@@ -214,5 +214,5 @@ linear_where_clean n ds t above formed clean =
 pub expression_linear_where_clean : (n : ℕ) (ds : List Definition) (x : Expression) → AreDefined n [] ds → IsExpressionFormed n (indices_of ds) x → first_expression_fault n ds x ≡ None → HasValues n (expression_val ds x) (expression_line ds x)
 expression_linear_where_clean n ds x above formed clean =
     let free = option_or-none _ _ clean in
-    line_by_lem n (expression_val ds x) (line_with_terms (line_of (known_values ds) x.tree) x.terms)
+    line_by_lem n (expression_val ds x) (line_with_terms (tree_line (known_values ds) x.tree) x.terms)
     (expression_linear n (known_values ds) (indices_of ds) (known_linear n ds above free.0) x formed free.1)

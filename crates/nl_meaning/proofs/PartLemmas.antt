@@ -1,7 +1,7 @@
 -- Each part of a tree without a fault is linear.
 use Rattle.std.proofs.Common.{◌≡◌, ⊎_elim, ℕ, zero, suc, ◌+◌, sym, ap, subst, Some, None, List, [], ◌∷◌, slice_get, take}
 use Rattle.std.specs.Option.{option_map_or}
-use Rattle.nl_meaning.specs.Faults.{line_of, line_with_terms, tree_fault, trees_fault, definitions_fault, first_fault}
+use Rattle.nl_meaning.specs.Faults.{tree_line, line_with_terms, tree_fault, trees_fault, definitions_fault, first_fault}
 use Rattle.nl_meaning.specs.Parts.{IsPart, IsPartOfOne, IsLinearTree}
 use Rattle.nl_meaning.specs.Trees.{Tree, number, variable, defined, operator, Trees, none, more, Known, with_value, Definition, expression_value, values_after, known_values, tree_value, tree_size, IsFormed, AreFormed, indices_of, AreDefined}
 use Rattle.linear_programs.specs.Lines.{Point}
@@ -10,7 +10,7 @@ use Rattle.nl_meaning.proofs.Linear.{AreLinear, HasValues, tree_linear, expressi
 
 -- a tree has the values of its line
 abbrev HasLine : ℕ → (Point → Known) → Tree → Type 0
-HasLine n known t = HasValues n (λ at. tree_value (known at) at t) (line_of known t)
+HasLine n known t = HasValues n (λ at. tree_value (known at) at t) (tree_line known t)
 
 mutual
   pub part_linear : (n : ℕ) (known : Point → Known) (is : List ℕ) (linear : AreLinear n known is) (i : ℕ) (t : Tree) → IsFormed n is t → tree_fault known n i t ≡ None → (u : Tree) → IsPart u t → HasLine n known u
@@ -43,5 +43,5 @@ definition_parts n known is linear (x ∷ ds) formed clean zero d e u part =
 definition_parts n known is linear (x ∷ ds) formed clean (suc i) d e u part =
     let free = option_or-none _ _ clean in
     definition_parts n (λ at. with_value (known at) x.index (expression_value (known at) at x.expression)) (x.index ∷ is)
-    (more_linear n known is linear x.index (λ at. expression_value (known at) at x.expression) (line_with_terms (line_of known x.expression.tree) x.expression.terms) (expression_linear n known is linear x.expression formed.0 free.0))
+    (more_linear n known is linear x.index (λ at. expression_value (known at) at x.expression) (line_with_terms (tree_line known x.expression.tree) x.expression.terms) (expression_linear n known is linear x.expression formed.0 free.0))
     ds formed.1 free.1 i d e u part

@@ -73,12 +73,12 @@ fault_at i (Some r) = Some (record { place = i; reason = r })
 
 -- ---- trees
 -- the line of a tree, by its values
-abbrev pub line_of : (Point → Known) → Tree → Line
-line_of known t = line_by (λ at. tree_value (known at) at t)
+abbrev pub tree_line : (Point → Known) → Tree → Line
+tree_line known t = line_by (λ at. tree_value (known at) at t)
 
-abbrev pub lines_of : (Point → Known) → Trees → List Line
-lines_of known none = []
-lines_of known (more t ts) = line_of known t ∷ lines_of known ts
+abbrev pub trees_lines : (Point → Known) → Trees → List Line
+trees_lines known none = []
+trees_lines known (more t ts) = tree_line known t ∷ trees_lines known ts
 
 -- the first fault of a tree whose first node has the number i: operands before their operator, from
 -- left to right
@@ -89,7 +89,7 @@ abbrev mutual
   tree_fault known n i (defined k) = None
   tree_fault known n i (operator c ts) =
       option_or (trees_fault known n (i + 1) ts)
-      (fault_at i (operator_fault n c (lines_of known ts)))
+      (fault_at i (operator_fault n c (trees_lines known ts)))
 
   pub trees_fault : (Point → Known) → ℕ → ℕ → Trees → Option Fault
   trees_fault known n i none = None
@@ -115,7 +115,7 @@ terms_fault a i (t ∷ ts) =
 abbrev pub expression_fault : (Point → Known) → ℕ → Expression → Option Fault
 expression_fault known n x =
     option_or (tree_fault known n 0 x.tree)
-    (terms_fault (line_of known x.tree) (tree_size x.tree) x.terms)
+    (terms_fault (tree_line known x.tree) (tree_size x.tree) x.terms)
 
 -- the first fault of the definitions, in file order
 abbrev pub definitions_fault : (Point → Known) → ℕ → List Definition → Option Fault

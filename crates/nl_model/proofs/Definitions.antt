@@ -9,7 +9,7 @@ use Rattle.nl_model.specs.File.{Definition, Objective}
 use Rattle.nl_model.specs.HeaderRules.{defined_count}
 use Rattle.nl_model.specs.Rules.{is_defined, IsTreeWithin, AreTreesWithin, IsTreeKnown, IsDefinition, AreDefinitions}
 use Rattle.nl_model.specs.Draft.{Draft}
-use Rattle.nl_model.specs.Built.{IsKept}
+use Rattle.nl_model.specs.InsideBuilt.{IsKept}
 
 pub defined-push : (ds : List Definition) (d : Definition) (i : ℕ) → is_defined (ds ++ d ∷ []) i ≡ (is_defined ds i || (eqb d.index i || false))
 defined-push ds d i = list_any-append (λ e. eqb e.index i) ds (d ∷ [])

@@ -1,4 +1,4 @@
--- What a draft keeps as its parts are given.
+-- What a draft keeps as its parts are those_given.
 use Rattle.std.proofs.Common.{◌≡◌, ℕ, zero, suc, ◌+◌, ◌<◌, ◌≤◌, Bool, List, [], ◌∷◌, ◌++◌, length, get_or, set, ◌∙◌, sym, ap, subst, refl, arith, All, Option, None, Some, IsSome, IfSome, is_some, true, slice_get}
 use Rattle.std.proofs.Math.ListN.{length-set}
 use Rattle.std.proofs.lemmas.List.{length_push, get_or_default}
@@ -8,8 +8,8 @@ use Rattle.nl_model.specs.File.{Term, Objective}
 use Rattle.nl_model.specs.Rules.{AreTerms, AreTermsBelow, term_count, most_terms, IsTreeKnown, IsFile}
 use Rattle.linear_program.specs.Intervals.{IsOrdered}
 use Rattle.linear_program.specs.declared.interval.Interval.{Interval}
-use Rattle.nl_model.specs.Draft.{Draft, IsDraft, given, file_of}
-use Rattle.nl_model.specs.Built.{IsKept}
+use Rattle.nl_model.specs.Draft.{Draft, IsDraft, those_given, file_of}
+use Rattle.nl_model.specs.InsideBuilt.{IsKept}
 
 -- a row with one more term
 row_below : (n : ℕ) (rows : List (List Term)) (i : ℕ) (t : Term) (old row : List Term) → All (AreTermsBelow n) rows → i < length rows → t.0 < n
@@ -91,19 +91,19 @@ kept-slope d marks count i t old row k con var few e f =
     k.counted
 
 -- ---- the whole file
-pub given_length : (os : List (Option Objective)) → All IsSome os → length (given os) ≡ length os
+pub given_length : (os : List (Option Objective)) → All IsSome os → length (those_given os) ≡ length os
 given_length [] h = refl
 given_length (None ∷ os) h = let some = All-head IsSome None os h in cc
 given_length (Some o ∷ os) h = let same = given_length os (All-tail IsSome (Some o) os h) in omega arith
 
-given_known : (P : Objective → Type 0) (os : List (Option Objective)) → All (λ o. IfSome o P) os → All P (given os)
+given_known : (P : Objective → Type 0) (os : List (Option Objective)) → All (λ o. IfSome o P) os → All P (those_given os)
 given_known P [] h = All-nil P
 given_known P (None ∷ os) h = given_known P os (All-tail (λ o. IfSome o P) None os h)
 given_known P (Some o ∷ os) h =
-    All-cons P o (given os) (All-head (λ o. IfSome o P) (Some o) os h) (given_known P os (All-tail (λ o. IfSome o P) (Some o) os h))
+    All-cons P o (those_given os) (All-head (λ o. IfSome o P) (Some o) os h) (given_known P os (All-tail (λ o. IfSome o P) (Some o) os h))
 
 -- what stands at a place
-pub given_at : (os : List (Option Objective)) (k : ℕ) (o : Objective) → All IsSome os → slice_get os k ≡ Some (Some o) → slice_get (given os) k ≡ Some o
+pub given_at : (os : List (Option Objective)) (k : ℕ) (o : Objective) → All IsSome os → slice_get os k ≡ Some (Some o) → slice_get (those_given os) k ≡ Some o
 given_at [] k o h e = cc
 given_at (None ∷ os) k o h e = let some = All-head IsSome None os h in cc
 given_at (Some p ∷ os) zero o h e = cc

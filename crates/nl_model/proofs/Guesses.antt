@@ -8,7 +8,7 @@ use Rattle.nl_model.specs.declared.header_counts.Counts.{Counts}
 use Rattle.nl_model.specs.File.{Term, Suffix}
 use Rattle.nl_model.specs.Rules.{AreGuesses, AreSuffixes, IsSuffix, has_suffix, is_suffix_of}
 use Rattle.nl_model.specs.Draft.{Draft}
-use Rattle.nl_model.specs.Built.{IsKept}
+use Rattle.nl_model.specs.InsideBuilt.{IsKept}
 
 -- one more guess
 pub guesses-push : (n : ℕ) (ts : List Term) (t : Term) (more : List Term) → AreGuesses n ts → t.0 < n → All (λ s. s.0 ≢ t.0) ts → more ≡ ts ++ t ∷ [] → AreGuesses n more

@@ -45,11 +45,11 @@ empty_draft options c =
 abbrev pub is_given : {A : Type 0} → List (Option A) → ℕ → Bool
 is_given places i = is_some (option_and_then (λ x. x) (slice_get places i))
 
--- those that were given
-abbrev pub given : List (Option Objective) → List Objective
-given [] = []
-given (None ∷ os) = given os
-given (Some o ∷ os) = o ∷ given os
+-- those that were those_given
+abbrev pub those_given : List (Option Objective) → List Objective
+those_given [] = []
+those_given (None ∷ os) = those_given os
+those_given (Some o ∷ os) = o ∷ those_given os
 
 -- the file of a draft
 abbrev pub file_of : Draft → File
@@ -58,7 +58,7 @@ file_of d =
       options = d.options;
       counts = d.counts;
       bodies = d.bodies;
-      objectives = given d.objectives;
+      objectives = those_given d.objectives;
       definitions = d.definitions;
       terms = d.terms;
       slopes = d.slopes;

@@ -1,7 +1,7 @@
-pub mod Built
+pub mod InsideBuilt
 pub mod Draft
 pub mod File
-pub mod FileCode
+pub mod InsideFileCode
 pub mod FilePlaces
 pub mod HeaderRules
 pub mod HeaderWords
@@ -9,5 +9,5 @@ pub mod Kinds
 pub mod Nodes
 pub mod Rules
 pub mod SuffixKinds
-pub mod TreeCode
+pub mod InsideTreeCode
 pub mod UseCounts

@@ -40,13 +40,13 @@ pub struct NlBuilder {
 
 impl Model for NlBuilder {
     ghost use Rattle.nl_model.specs.Draft.{Draft};
-    ghost use Rattle.nl_model.specs.FileCode.{draft_code};
+    ghost use Rattle.nl_model.specs.InsideFileCode.{draft_code};
 
     ghost Value = { Draft };
 
     ghost coded = { draft_code };
 
-    ghost use Rattle.nl_model.specs.Built.{draft_of, IsBuilt};
+    ghost use Rattle.nl_model.specs.InsideBuilt.{draft_of, IsBuilt};
 
     ghost view = { draft_of };
 

@@ -33,13 +33,13 @@ pub struct NlFile {
 
 impl Model for NlFile {
     ghost use Rattle.nl_model.specs.File.{File};
-    ghost use Rattle.nl_model.specs.FileCode.{file_code};
+    ghost use Rattle.nl_model.specs.InsideFileCode.{file_code};
 
     ghost Value = { File };
 
     ghost coded = { file_code };
 
-    ghost use Rattle.nl_model.specs.Built.{read_file, IsWhole};
+    ghost use Rattle.nl_model.specs.InsideBuilt.{read_file, IsWhole};
 
     ghost view = { read_file };
 

@@ -10,7 +10,7 @@ use Rattle.exact_numbers.specs.Numbers.{has_31_bits}
 use Rattle.nl_header.specs.Head.{options_in}
 use Rattle.nl_meaning.specs.Trees.{tree_size}
 use Rattle.nl_model.specs.declared.header_counts.Counts.{Counts}
-use Rattle.nl_model.specs.Draft.{Draft, file_of, given}
+use Rattle.nl_model.specs.Draft.{Draft, file_of, those_given}
 use Rattle.nl_model.specs.File.{Objective, Term}
 use Rattle.nl_model.specs.HeaderRules.{is_header}
 use Rattle.nl_model.specs.Rules.{IsFile, IsTreeKnown, term_count}
@@ -29,22 +29,22 @@ use Rattle.nl_rewritten.proofs.TextRoom.{HasFew, text_fits}
 use Rattle.nl_rewritten.proofs.Texts.{IsWhole, whole_text}
 use Rattle.nl_rewritten.proofs.Trees.{AreTreesKept, objective_size, trees_kept}
 
--- ---- objectives that were given
+-- ---- objectives that were those_given
 
-given_length : (os : List (Option Objective)) → All IsSome os → length (given os) ≡ length os
+given_length : (os : List (Option Objective)) → All IsSome os → length (those_given os) ≡ length os
 given_length [] h = refl
 given_length (None ∷ os) h = let some = All-head IsSome None os h in cc
 given_length (Some o ∷ os) h = let same = given_length os (All-tail IsSome (Some o) os h) in omega arith
 
-given_each : (P : Objective → Type 0) (os : List (Option Objective)) → All (λ o. IfSome o P) os → All P (given os)
+given_each : (P : Objective → Type 0) (os : List (Option Objective)) → All (λ o. IfSome o P) os → All P (those_given os)
 given_each P [] h = All-nil P
 given_each P (None ∷ os) h = given_each P os (All-tail (λ o. IfSome o P) None os h)
-given_each P (Some o ∷ os) h = All-cons P o (given os) (All-head (λ o. IfSome o P) (Some o) os h) (given_each P os (All-tail (λ o. IfSome o P) (Some o) os h))
+given_each P (Some o ∷ os) h = All-cons P o (those_given os) (All-head (λ o. IfSome o P) (Some o) os h) (given_each P os (All-tail (λ o. IfSome o P) (Some o) os h))
 
-given_sizes : (os : List (Option Objective)) → sum_by (λ o. tree_size o.tree) (given os) ≡ sum_by objective_size os
+given_sizes : (os : List (Option Objective)) → sum_by (λ o. tree_size o.tree) (those_given os) ≡ sum_by objective_size os
 given_sizes [] = refl
 given_sizes (None ∷ os) = let more = given_sizes os in omega (arith, more, sum_by-cons objective_size None os)
-given_sizes (Some o ∷ os) = let more = given_sizes os in omega (arith, more, sum_by-cons objective_size (Some o) os, sum_by-cons (λ (x : Objective). tree_size x.tree) o (given os))
+given_sizes (Some o ∷ os) = let more = given_sizes os in omega (arith, more, sum_by-cons objective_size (Some o) os, sum_by-cons (λ (x : Objective). tree_size x.tree) o (those_given os))
 
 -- ---- all that is known of what was said
 

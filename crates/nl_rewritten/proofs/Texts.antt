@@ -15,7 +15,7 @@ use Rattle.texts.specs.Reading.{last_of as last_line, lines_of}
 use Rattle.texts.specs.Words.{without_comment, words_of}
 use Rattle.texts.proofs.FirstReasons.{none_each}
 use Rattle.exact_numbers.specs.Numbers.{has_31_bits}
-use Rattle.nl_header.specs.Head.{counts_in, line_at, line_fault, number_line_fault, options_in, is_short, rule_tests, words_fault}
+use Rattle.nl_header.specs.Head.{counts_in, header_line, header_line_fault, number_line_fault, options_in, lacks_number, rule_tests, words_fault}
 use Rattle.code_tables.specs.Header.{header_rows}
 use Rattle.nl_header.specs.declared.fault.HeadFault.TheVariants.{BadHeaderNumber}
 use Rattle.nl_header.specs.declared.fault.HeadFault.{HeadFault}
@@ -67,7 +67,7 @@ step s n line h fine = by (holds_words line) (is_in_header s) refl refl
     by false u e q = rw e h
     by true true e q =
         let words = words_of (without_comment line) in
-        let here : line_fault s.header words ≡ None = no_header_fault (line_fault s.header words) (rw (e, q) at fine) in
+        let here : header_line_fault s.header words ≡ None = no_header_fault (header_line_fault s.header words) (rw (e, q) at fine) in
         let less = ltb-true (length s.header) 10 q in
         rw (e, q) (record {
           header = clean-more s.header words h.header here;
@@ -119,11 +119,11 @@ second_none : (a b : Option HeadFault) → option_or a b ≡ None → b ≡ None
 second_none None b e = e
 second_none (Some f) b e = absurd cc
 
-last_rule : (before : List (List (List ℕ))) (words : List (List ℕ)) → length before ≡ 9 → line_fault before words ≡ None → are_definitions_within (counts_in (before ++ words ∷ [])) ≡ true
-unfolding line_fault number_line_fault rule_tests
+last_rule : (before : List (List (List ℕ))) (words : List (List ℕ)) → length before ≡ 9 → header_line_fault before words ≡ None → are_definitions_within (counts_in (before ++ words ∷ [])) ≡ true
+unfolding header_line_fault number_line_fault rule_tests
 last_rule before words nine fine =
     let counts = counts_in (before ++ words ∷ []) in
-    let tests : List (Bool × HeadFault) = (is_short header_rows 10 (length words), BadHeaderNumber) ∷ rule_tests 10 counts in
+    let tests : List (Bool × HeadFault) = (lacks_number header_rows 10 (length words), BadHeaderNumber) ∷ rule_tests 10 counts in
     let none = none_each tests (second_none (words_fault 10 1 words) (first_reason tests) (rw nine at fine)) in
     not-false (are_definitions_within counts) none.1.1.1.0
 
@@ -137,7 +137,7 @@ header_ruled lines h ten =
 
 options_few : (lines : List (List (List ℕ))) → list_all has_31_bits (options_in lines) ≡ true
 unfolding options_in
-options_few lines = options_small (drop 1 (line_at lines 1))
+options_few lines = options_small (drop 1 (header_line lines 1))
 
 -- ---- the pieces one after the other
 

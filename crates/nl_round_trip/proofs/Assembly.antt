@@ -15,7 +15,7 @@ use Rattle.written_texts.specs.Words.{IsWritten, IsWordLine}
 use Rattle.nl_writer.specs.Written.{header_lines, body_lines, nl_lines, nl_text}
 use Rattle.written_texts.proofs.WordLemmas.{are_words}
 use Rattle.written_texts.proofs.LineLemmas.{lines-read, one-spaced}
-use Rattle.nl_round_trip.specs.Taking.{AreFine, pieces_after, IsTaken}
+use Rattle.nl_round_trip.specs.InsideTaking.{AreFine, pieces_after, IsTaken}
 use Rattle.nl_round_trip.specs.Writable.{IsText}
 use Rattle.nl_round_trip.proofs.TakenLemmas.{all_append}
 use Rattle.nl_round_trip.proofs.Reached.{IsReached, reached_end, in_body, body_reached}

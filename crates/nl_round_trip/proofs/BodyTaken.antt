@@ -15,8 +15,8 @@ use Rattle.nl_lines.specs.Saying.{draft_of}
 use Rattle.nl_lines.specs.Tests.{is_empty, all_column_counts}
 use Rattle.written_texts.specs.Lines.{Line}
 use Rattle.nl_writer.specs.Written.{by_number, suffix_piece, definition_piece, body_piece, objective_piece, guess_piece, interval_piece, column_piece, term_piece, body_lines}
-use Rattle.nl_round_trip.specs.Standings.{rank, IsStanding, Reaches}
-use Rattle.nl_round_trip.specs.Taking.{IsTaken}
+use Rattle.nl_round_trip.specs.InsideStandings.{rank, IsStanding, Reaches}
+use Rattle.nl_round_trip.specs.InsideTaking.{IsTaken}
 use Rattle.nl_round_trip.proofs.ColumnsTaken.{counts_from, ReachesColumns, columns_reached}
 use Rattle.nl_round_trip.proofs.DefinitionsTaken.{AreDefinitionsReady, definitions_reached}
 use Rattle.nl_round_trip.proofs.IntervalsTaken.{AreUnits, sides_reached, bounds_reached}

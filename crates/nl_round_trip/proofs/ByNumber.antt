@@ -10,7 +10,7 @@ use Rattle.nl_model.specs.Draft.{Draft}
 use Rattle.nl_lines.specs.Pieces.{Piece}
 use Rattle.written_texts.specs.Lines.{Line}
 use Rattle.nl_writer.specs.Written.{by_number}
-use Rattle.nl_round_trip.specs.Standings.{IsStanding, Reaches}
+use Rattle.nl_round_trip.specs.InsideStandings.{IsStanding, Reaches}
 use Rattle.nl_round_trip.proofs.StandingMore.{reaches_then}
 use Rattle.nl_round_trip.proofs.TakenLemmas.{taken_none}
 

@@ -25,8 +25,8 @@ use Rattle.nl_writer.specs.Written.{lettered, column_lines, column_piece}
 use Rattle.nl_model.specs.UseCounts.{terms_up_to}
 use Rattle.written_texts.proofs.WordLemmas.{row-written}
 use Rattle.written_texts.proofs.WrittenWords.{word-lettered, word-decimal, written-one}
-use Rattle.nl_round_trip.specs.Standings.{rank, IsStanding}
-use Rattle.nl_round_trip.specs.Taking.{row_at, rows_at, IsTaken}
+use Rattle.nl_round_trip.specs.InsideStandings.{rank, IsStanding}
+use Rattle.nl_round_trip.specs.InsideTaking.{row_at, rows_at, IsTaken}
 use Rattle.nl_round_trip.proofs.LinesTaken.{with_lines, AreLinesFine, lines_taken}
 use Rattle.written_texts.proofs.NumbersRead.{whole_of-decimal, are_digits-decimal}
 use Rattle.nl_round_trip.proofs.PairsTaken.{decimal_no_head}

@@ -32,8 +32,8 @@ use Rattle.std.specs.List.{flat_map}
 use Rattle.nl_writer.specs.Written.{lettered, term_lines, definition_piece}
 use Rattle.nl_writer.proofs.Writing.{node_lines-prefix}
 use Rattle.written_texts.proofs.WrittenWords.{word-lettered, word-decimal, written-three}
-use Rattle.nl_round_trip.specs.Standings.{rank, IsStanding, Reaches}
-use Rattle.nl_round_trip.specs.Taking.{rows_at, IsTaken}
+use Rattle.nl_round_trip.specs.InsideStandings.{rank, IsStanding, Reaches}
+use Rattle.nl_round_trip.specs.InsideTaking.{rows_at, IsTaken}
 use Rattle.nl_round_trip.proofs.LinesTaken.{with_lines}
 use Rattle.written_texts.proofs.NumbersRead.{whole_of-decimal}
 use Rattle.nl_round_trip.proofs.NodesTaken.{IsInTree, IsNodeFine, SaysBefore, TakesNodes, nodes_taken, tree_done, with_lines-append}

@@ -14,7 +14,7 @@ use Rattle.code_tables.specs.declared.field.Field.{Field}
 use Rattle.code_tables.specs.Header.{header_rows, field_at}
 use Rattle.exact_numbers.proofs.Bridge.{and_true}
 use Rattle.exact_numbers.proofs.Texts.{digit_byte}
-use Rattle.nl_header.specs.Head.{line_fault, number_line_fault, words_fault, word_tests, number_tests, must_be_zero, limit_of, is_short, rule_tests, first_line_tests, counts_in, counts_by, options_in}
+use Rattle.nl_header.specs.Head.{header_line_fault, number_line_fault, words_fault, word_tests, number_tests, must_be_zero, limit_of, lacks_number, rule_tests, first_line_tests, counts_in, counts_by, options_in}
 use Rattle.exact_numbers.specs.Numbers.{has_31_bits, signed_of}
 use Rattle.exact_numbers.proofs.NumberLemmas.{signed_of-signed_decimal}
 use Rattle.nl_model.specs.declared.header_counts.Counts.{Counts}
@@ -53,8 +53,8 @@ options_written options few all =
       each = (word-lettered 103 (length options) (omega arith) (lt_trans count (lit< tt)), words-signed options all);
     }
 
-pub first_fine : (options : List ℤ) → length options ≤ 4 → has_second_three options ≡ false → AllByRecursion IsSmall options → line_fault [] (options_line options) ≡ None
-unfolding line_fault first_line_tests
+pub first_fine : (options : List ℤ) → length options ≤ 4 → has_second_three options ≡ false → AllByRecursion IsSmall options → header_line_fault [] (options_line options) ≡ None
+unfolding header_line_fault first_line_tests
 first_fine options few second all =
     let count : length options < 2 ^ 31 = omega arith in
     rw (whole_of-decimal (length options) count, options_read options all, length-map options signed_decimal, le-leb (length options) 4 few, same (length options), second) refl
@@ -103,9 +103,9 @@ zero_field f n e = rw (e, no_and (must_be_zero f), none_below (limit_of f)) refl
     none_below : (k : ℕ) → nat_lt k 0 ≡ false
     none_below k = grind (arith, nat_tests)
 
-pub number_line : (before : List Line) (line : ℕ) (ns : List ℕ) → length before + 1 ≡ line → 0 < length before → AllByRecursion (λ n. n < 2 ^ 31) ns → AreFieldsFine line 1 ns → is_short header_rows line (length ns) ≡ false
-    → first_reason (rule_tests line (counts_in (before ++ numbers ns ∷ []))) ≡ None → line_fault before (numbers ns) ≡ None
-unfolding line_fault number_line_fault
+pub number_line : (before : List Line) (line : ℕ) (ns : List ℕ) → length before + 1 ≡ line → 0 < length before → AllByRecursion (λ n. n < 2 ^ 31) ns → AreFieldsFine line 1 ns → lacks_number header_rows line (length ns) ≡ false
+    → first_reason (rule_tests line (counts_in (before ++ numbers ns ∷ []))) ≡ None → header_line_fault before (numbers ns) ≡ None
+unfolding header_line_fault number_line_fault
 number_line before line ns at some all fine long rule =
     let later : (length before == 0) ≡ false = not_none (length before) some in
     rw (later, at, words_fine line 1 ns all fine, length-map ns decimal, long) rule

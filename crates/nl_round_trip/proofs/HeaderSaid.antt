@@ -5,7 +5,7 @@ use Rattle.std.specs.Prelude.{IsTrue}
 use Rattle.std.specs.List.{AllByRecursion, list_all}
 use Rattle.code_tables.specs.Header.{header_rows, field_at}
 use Rattle.exact_numbers.proofs.Bridge.{and_true}
-use Rattle.nl_header.specs.Head.{line_fault, is_short, rule_tests, counts_in, counts_by, options_in}
+use Rattle.nl_header.specs.Head.{header_line_fault, lacks_number, rule_tests, counts_in, counts_by, options_in}
 use Rattle.exact_numbers.specs.Numbers.{has_31_bits, whole_of}
 use Rattle.nl_model.specs.declared.header_counts.Counts.{Counts}
 use Rattle.nl_model.specs.HeaderRules.{has_second_three, are_options, are_numbers, has_no_refused, are_sizes_within, are_shared_within, are_whole_within, are_definitions_within, are_counts, is_header, AreCounts}
@@ -28,8 +28,8 @@ pub record KeepsRules (c : Counts) : Type 0 where
 below : (n : ℕ) → n < 2 ^ 31 → n ≤ 2 ^ 31
 below n h = omega arith
 
-line_2 : (c : Counts) (h1 : Line) → KeepsRules c → line_fault (h1 ∷ []) (numbers (c.n_var ∷ c.n_con ∷ c.n_obj ∷ c.n_ranges ∷ c.n_eqns ∷ [])) ≡ None
-unfolding field_at header_rows is_short rule_tests
+line_2 : (c : Counts) (h1 : Line) → KeepsRules c → header_line_fault (h1 ∷ []) (numbers (c.n_var ∷ c.n_con ∷ c.n_obj ∷ c.n_ranges ∷ c.n_eqns ∷ [])) ≡ None
+unfolding field_at header_rows lacks_number rule_tests
 line_2 c h1 r =
     let m = r.small in
     let z = r.none in
@@ -38,8 +38,8 @@ line_2 c h1 r =
     (free_field (field_at 2 1) c.n_var (2 ^ 20) refl refl k.variables, (free_field (field_at 2 2) c.n_con (2 ^ 20) refl refl k.constraints, (free_field (field_at 2 3) c.n_obj 256 refl refl k.objectives, (free_field (field_at 2 4) c.n_ranges (2 ^ 31) refl refl (below c.n_ranges m.n_ranges), (free_field (field_at 2 5) c.n_eqns (2 ^ 31) refl refl (below c.n_eqns m.n_eqns), tt)))))
     refl (refl)
 
-line_3 : (c : Counts) (h1 h2 : Line) → KeepsRules c → line_fault (h1 ∷ h2 ∷ []) (numbers (c.nlc ∷ c.nlo ∷ [])) ≡ None
-unfolding field_at header_rows is_short rule_tests
+line_3 : (c : Counts) (h1 h2 : Line) → KeepsRules c → header_line_fault (h1 ∷ h2 ∷ []) (numbers (c.nlc ∷ c.nlo ∷ [])) ≡ None
+unfolding field_at header_rows lacks_number rule_tests
 line_3 c h1 h2 r =
     let m = r.small in
     let z = r.none in
@@ -48,8 +48,8 @@ line_3 c h1 h2 r =
     (free_field (field_at 3 1) c.nlc (2 ^ 31) refl refl (below c.nlc m.nlc), (free_field (field_at 3 2) c.nlo (2 ^ 31) refl refl (below c.nlo m.nlo), tt))
     refl (refl)
 
-line_4 : (c : Counts) (h1 h2 h3 : Line) → KeepsRules c → line_fault (h1 ∷ h2 ∷ h3 ∷ []) (numbers (c.nlnc ∷ c.lnc ∷ [])) ≡ None
-unfolding field_at header_rows is_short rule_tests
+line_4 : (c : Counts) (h1 h2 h3 : Line) → KeepsRules c → header_line_fault (h1 ∷ h2 ∷ h3 ∷ []) (numbers (c.nlnc ∷ c.lnc ∷ [])) ≡ None
+unfolding field_at header_rows lacks_number rule_tests
 line_4 c h1 h2 h3 r =
     let m = r.small in
     let z = r.none in
@@ -58,8 +58,8 @@ line_4 c h1 h2 h3 r =
     (zero_field (field_at 4 1) c.nlnc z.nlnc, (zero_field (field_at 4 2) c.lnc z.lnc, tt))
     refl (refl)
 
-line_5 : (c : Counts) (h1 h2 h3 h4 : Line) → KeepsRules c → line_fault (h1 ∷ h2 ∷ h3 ∷ h4 ∷ []) (numbers (c.nlvc ∷ c.nlvo ∷ c.nlvb ∷ [])) ≡ None
-unfolding field_at header_rows is_short rule_tests
+line_5 : (c : Counts) (h1 h2 h3 h4 : Line) → KeepsRules c → header_line_fault (h1 ∷ h2 ∷ h3 ∷ h4 ∷ []) (numbers (c.nlvc ∷ c.nlvo ∷ c.nlvb ∷ [])) ≡ None
+unfolding field_at header_rows lacks_number rule_tests
 line_5 c h1 h2 h3 h4 r =
     let m = r.small in
     let z = r.none in
@@ -68,8 +68,8 @@ line_5 c h1 h2 h3 h4 r =
     (free_field (field_at 5 1) c.nlvc (2 ^ 31) refl refl (below c.nlvc m.nlvc), (free_field (field_at 5 2) c.nlvo (2 ^ 31) refl refl (below c.nlvo m.nlvo), (free_field (field_at 5 3) c.nlvb (2 ^ 31) refl refl (below c.nlvb m.nlvb), tt)))
     refl (rule_5 h1 h2 h3 h4 c.nlvc c.nlvo c.nlvb m.nlvc m.nlvo m.nlvb k.shared_in_constraints k.shared_in_objectives)
 
-line_6 : (c : Counts) (h1 h2 h3 h4 h5 : Line) → KeepsRules c → line_fault (h1 ∷ h2 ∷ h3 ∷ h4 ∷ h5 ∷ []) (numbers (c.nwv ∷ c.nfunc ∷ c.arith ∷ c.flags ∷ [])) ≡ None
-unfolding field_at header_rows is_short rule_tests
+line_6 : (c : Counts) (h1 h2 h3 h4 h5 : Line) → KeepsRules c → header_line_fault (h1 ∷ h2 ∷ h3 ∷ h4 ∷ h5 ∷ []) (numbers (c.nwv ∷ c.nfunc ∷ c.arith ∷ c.flags ∷ [])) ≡ None
+unfolding field_at header_rows lacks_number rule_tests
 line_6 c h1 h2 h3 h4 h5 r =
     let m = r.small in
     let z = r.none in
@@ -78,8 +78,8 @@ line_6 c h1 h2 h3 h4 h5 r =
     (zero_field (field_at 6 1) c.nwv z.nwv, (zero_field (field_at 6 2) c.nfunc z.nfunc, (free_field (field_at 6 3) c.arith (2 ^ 31) refl refl (below c.arith m.arith), (free_field (field_at 6 4) c.flags (2 ^ 31) refl refl (below c.flags m.flags), tt))))
     refl (refl)
 
-line_7 : (c : Counts) (h1 h3 h4 h6 : Line) → KeepsRules c → line_fault (h1 ∷ numbers (c.n_var ∷ c.n_con ∷ c.n_obj ∷ c.n_ranges ∷ c.n_eqns ∷ []) ∷ h3 ∷ h4 ∷ numbers (c.nlvc ∷ c.nlvo ∷ c.nlvb ∷ []) ∷ h6 ∷ []) (numbers (c.nbv ∷ c.niv ∷ c.nlvbi ∷ c.nlvci ∷ c.nlvoi ∷ [])) ≡ None
-unfolding field_at header_rows is_short rule_tests
+line_7 : (c : Counts) (h1 h3 h4 h6 : Line) → KeepsRules c → header_line_fault (h1 ∷ numbers (c.n_var ∷ c.n_con ∷ c.n_obj ∷ c.n_ranges ∷ c.n_eqns ∷ []) ∷ h3 ∷ h4 ∷ numbers (c.nlvc ∷ c.nlvo ∷ c.nlvb ∷ []) ∷ h6 ∷ []) (numbers (c.nbv ∷ c.niv ∷ c.nlvbi ∷ c.nlvci ∷ c.nlvoi ∷ [])) ≡ None
+unfolding field_at header_rows lacks_number rule_tests
 line_7 c h1 h3 h4 h6 r =
     let m = r.small in
     let z = r.none in
@@ -88,8 +88,8 @@ line_7 c h1 h3 h4 h6 r =
     (free_field (field_at 7 1) c.nbv (2 ^ 31) refl refl (below c.nbv m.nbv), (free_field (field_at 7 2) c.niv (2 ^ 31) refl refl (below c.niv m.niv), (free_field (field_at 7 3) c.nlvbi (2 ^ 31) refl refl (below c.nlvbi m.nlvbi), (free_field (field_at 7 4) c.nlvci (2 ^ 31) refl refl (below c.nlvci m.nlvci), (free_field (field_at 7 5) c.nlvoi (2 ^ 31) refl refl (below c.nlvoi m.nlvoi), tt)))))
     refl (rule_7 h1 h3 h4 h6 c.n_var c.n_con c.n_obj c.n_ranges c.n_eqns c.nlvc c.nlvo c.nlvb c.nbv c.niv c.nlvbi c.nlvci c.nlvoi m.n_var m.nlvc m.nlvo m.nlvb m.nbv m.niv m.nlvbi m.nlvci m.nlvoi k.whole_shared k.whole_in_constraints k.whole_in_objectives k.grouped)
 
-line_8 : (c : Counts) (h1 h2 h3 h4 h5 h6 h7 : Line) → KeepsRules c → line_fault (h1 ∷ h2 ∷ h3 ∷ h4 ∷ h5 ∷ h6 ∷ h7 ∷ []) (numbers (c.nzc ∷ c.nzo ∷ [])) ≡ None
-unfolding field_at header_rows is_short rule_tests
+line_8 : (c : Counts) (h1 h2 h3 h4 h5 h6 h7 : Line) → KeepsRules c → header_line_fault (h1 ∷ h2 ∷ h3 ∷ h4 ∷ h5 ∷ h6 ∷ h7 ∷ []) (numbers (c.nzc ∷ c.nzo ∷ [])) ≡ None
+unfolding field_at header_rows lacks_number rule_tests
 line_8 c h1 h2 h3 h4 h5 h6 h7 r =
     let m = r.small in
     let z = r.none in
@@ -98,8 +98,8 @@ line_8 c h1 h2 h3 h4 h5 h6 h7 r =
     (free_field (field_at 8 1) c.nzc (2 ^ 22) refl refl k.terms, (free_field (field_at 8 2) c.nzo (2 ^ 31) refl refl (below c.nzo m.nzo), tt))
     refl (refl)
 
-line_9 : (c : Counts) (h1 h2 h3 h4 h5 h6 h7 h8 : Line) → KeepsRules c → line_fault (h1 ∷ h2 ∷ h3 ∷ h4 ∷ h5 ∷ h6 ∷ h7 ∷ h8 ∷ []) (numbers (c.row_name_len ∷ c.col_name_len ∷ [])) ≡ None
-unfolding field_at header_rows is_short rule_tests
+line_9 : (c : Counts) (h1 h2 h3 h4 h5 h6 h7 h8 : Line) → KeepsRules c → header_line_fault (h1 ∷ h2 ∷ h3 ∷ h4 ∷ h5 ∷ h6 ∷ h7 ∷ h8 ∷ []) (numbers (c.row_name_len ∷ c.col_name_len ∷ [])) ≡ None
+unfolding field_at header_rows lacks_number rule_tests
 line_9 c h1 h2 h3 h4 h5 h6 h7 h8 r =
     let m = r.small in
     let z = r.none in
@@ -108,8 +108,8 @@ line_9 c h1 h2 h3 h4 h5 h6 h7 h8 r =
     (free_field (field_at 9 1) c.row_name_len (2 ^ 31) refl refl (below c.row_name_len m.row_name_len), (free_field (field_at 9 2) c.col_name_len (2 ^ 31) refl refl (below c.col_name_len m.col_name_len), tt))
     refl (refl)
 
-line_10 : (c : Counts) (h1 h2 h3 h4 h5 h6 h7 h8 h9 : Line) → KeepsRules c → line_fault (h1 ∷ h2 ∷ h3 ∷ h4 ∷ h5 ∷ h6 ∷ h7 ∷ h8 ∷ h9 ∷ []) (numbers (c.comb ∷ c.comc ∷ c.como ∷ c.comc1 ∷ c.como1 ∷ [])) ≡ None
-unfolding field_at header_rows is_short rule_tests
+line_10 : (c : Counts) (h1 h2 h3 h4 h5 h6 h7 h8 h9 : Line) → KeepsRules c → header_line_fault (h1 ∷ h2 ∷ h3 ∷ h4 ∷ h5 ∷ h6 ∷ h7 ∷ h8 ∷ h9 ∷ []) (numbers (c.comb ∷ c.comc ∷ c.como ∷ c.comc1 ∷ c.como1 ∷ [])) ≡ None
+unfolding field_at header_rows lacks_number rule_tests
 line_10 c h1 h2 h3 h4 h5 h6 h7 h8 h9 r =
     let m = r.small in
     let z = r.none in

@@ -3,7 +3,7 @@ use Rattle.std.proofs.Common.{◌≡◌, ℕ, ◌+◌, ◌<◌, ◌≤◌, List,
 use Rattle.std.proofs.lemmas.Bool.{lt-ltb}
 use Rattle.std.proofs.lemmas.List.{map-append}
 use Rattle.std.specs.List.{AllByRecursion}
-use Rattle.nl_header.specs.Head.{line_fault}
+use Rattle.nl_header.specs.Head.{header_line_fault}
 use Rattle.nl_segments.specs.Grammar.{standing, line_refusal}
 use Rattle.nl_lines.specs.Rows.{rows_from}
 use Rattle.nl_lines.specs.Pieces.{pieces_of}
@@ -16,9 +16,9 @@ use Rattle.nl_round_trip.proofs.Reached.{IsReached, reached_none, reached_more, 
 -- each line may come after those before it
 abbrev pub AreHeadFine : List Line → List Line → Type 0
 AreHeadFine before [] = Unit {0}
-AreHeadFine before (words ∷ lines) = (line_fault before words ≡ None) × AreHeadFine (before ++ words ∷ []) lines
+AreHeadFine before (words ∷ lines) = (header_line_fault before words ≡ None) × AreHeadFine (before ++ words ∷ []) lines
 
-head_line_fine : (before : List Line) (words : Line) → length before < 10 → IsWritten words → line_fault before words ≡ None → line_refusal (in_body before []) (spaced words) ≡ None
+head_line_fine : (before : List Line) (words : Line) → length before < 10 → IsWritten words → header_line_fault before words ≡ None → line_refusal (in_body before []) (spaced words) ≡ None
 unfolding line_refusal
 head_line_fine before words few w fine = rw (some-written words w, kept-spaced words w.each, lt-ltb (length before) 10 few, words-spaced words (are_words words w.each), fine) refl
 

@@ -33,10 +33,10 @@ use Rattle.written_texts.specs.Lines.{Line}
 use Rattle.written_texts.specs.Words.{IsKeptWord, IsWritten}
 use Rattle.nl_writer.specs.Written.{is_same, sides_line, interval_line, interval_piece}
 use Rattle.written_texts.proofs.WrittenWords.{word-text, plain-word, written-one, written-two, written-three}
-use Rattle.nl_round_trip.specs.Taking.{row_at, rows_at, IsTaken}
+use Rattle.nl_round_trip.specs.InsideTaking.{row_at, rows_at, IsTaken}
 use Rattle.written_texts.proofs.NumbersRead.{dec_of-text}
 use Rattle.nl_round_trip.proofs.TakenLemmas.{taken_then, begun_piece, IsHeadFine, head_taken, IsLineFine}
-use Rattle.nl_round_trip.specs.Standings.{rank, IsStanding, Reaches}
+use Rattle.nl_round_trip.specs.InsideStandings.{rank, IsStanding, Reaches}
 use Rattle.nl_round_trip.proofs.StandingMore.{columns-append, not_repeated, standing_more, same_standing}
 use Rattle.nl_round_trip.proofs.LinesTaken.{AwaitsLines, with_lines, AreLinesFine, lines_taken}
 

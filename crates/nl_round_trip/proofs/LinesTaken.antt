@@ -6,7 +6,7 @@ use Rattle.nl_lines.specs.declared.awaited.Awaited.{Awaited}
 use Rattle.nl_lines.specs.Pieces.{Piece, awaited_in, line_kind, line_count}
 use Rattle.nl_lines.proofs.PieceLemmas.{longer}
 use Rattle.written_texts.specs.Lines.{Line}
-use Rattle.nl_round_trip.specs.Taking.{row_at, rows_at, IsTaken}
+use Rattle.nl_round_trip.specs.InsideTaking.{row_at, rows_at, IsTaken}
 use Rattle.nl_round_trip.proofs.TakenLemmas.{taken_none, taken_then, IsLineFine, line_taken}
 
 -- a piece that awaits lines of this kind, and lacks at least k of them

@@ -45,7 +45,7 @@ use Rattle.nl_writer.specs.Trees.{operator_lines, node_lines}
 use Rattle.written_texts.specs.Words.{IsWritten}
 use Rattle.written_texts.proofs.WordLemmas.{row-written}
 use Rattle.written_texts.proofs.WrittenWords.{word-lettered, word-number, word-decimal, written-one}
-use Rattle.nl_round_trip.specs.Taking.{row_at, rows_at, IsTaken}
+use Rattle.nl_round_trip.specs.InsideTaking.{row_at, rows_at, IsTaken}
 use Rattle.written_texts.proofs.NumbersRead.{whole_of-decimal, are_digits-decimal, dec_of-text}
 use Rattle.nl_round_trip.proofs.LinesTaken.{with_lines}
 use Rattle.nl_round_trip.proofs.PairsTaken.{decimal_no_head}

@@ -19,7 +19,7 @@ use Rattle.nl_lines.proofs.RowLemmas.{early_pairs}
 use Rattle.nl_lines.proofs.PieceLemmas.{longer}
 use Rattle.written_texts.specs.Lines.{Line}
 use Rattle.nl_writer.specs.Written.{term_line, term_lines}
-use Rattle.nl_round_trip.specs.Taking.{row_at, rows_at, IsTaken}
+use Rattle.nl_round_trip.specs.InsideTaking.{row_at, rows_at, IsTaken}
 use Rattle.nl_round_trip.proofs.TakenLemmas.{taken_then, begun_piece, IsHeadFine, head_taken}
 use Rattle.nl_round_trip.proofs.LinesTaken.{with_lines}
 use Rattle.nl_round_trip.proofs.PairsTaken.{IsPairFine, pair_read, ArePairsFine, pairs_taken}

@@ -19,7 +19,7 @@ use Rattle.nl_lines.specs.Tests.{index_limit, wants_whole, has_index, is_linear,
 use Rattle.written_texts.specs.Lines.{Line}
 use Rattle.nl_writer.specs.Written.{lettered, term_lines, guess_piece}
 use Rattle.written_texts.proofs.WrittenWords.{word-lettered, written-one}
-use Rattle.nl_round_trip.specs.Standings.{rank, IsStanding, Reaches}
+use Rattle.nl_round_trip.specs.InsideStandings.{rank, IsStanding, Reaches}
 use Rattle.written_texts.proofs.NumbersRead.{whole_of-decimal}
 use Rattle.nl_round_trip.proofs.TakenLemmas.{taken_none, begun_piece, IsHeadFine}
 use Rattle.nl_round_trip.proofs.PairPieces.{IsTermBelow, each_small, pairs_more, AreFresh, IsTermFine, MayTake, IsPairHead, pair_piece, pair_piece_taken, pair_piece-pairs, pair_piece-done, pair_piece-nodes}

@@ -20,7 +20,7 @@ use Rattle.written_texts.specs.Lines.{Line}
 use Rattle.nl_writer.specs.Written.{term_line, term_lines}
 use Rattle.written_texts.proofs.WordLemmas.{row-written}
 use Rattle.nl_round_trip.proofs.TermLines.{written-term}
-use Rattle.nl_round_trip.specs.Taking.{row_at, IsTaken}
+use Rattle.nl_round_trip.specs.InsideTaking.{row_at, IsTaken}
 use Rattle.written_texts.proofs.NumbersRead.{whole_of-decimal, are_digits-decimal, dec_of-text}
 use Rattle.nl_round_trip.proofs.TakenLemmas.{IsLineFine}
 use Rattle.nl_round_trip.proofs.LinesTaken.{AwaitsLines, with_lines, AreLinesFine, lines_taken}

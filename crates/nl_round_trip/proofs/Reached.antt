@@ -13,7 +13,7 @@ use Rattle.nl_segments.proofs.StandingLemmas.{standing-more}
 use Rattle.written_texts.specs.Lines.{Line, spaced}
 use Rattle.written_texts.specs.Words.{IsWritten}
 use Rattle.written_texts.proofs.WordLemmas.{kept-spaced, some-written, row-written}
-use Rattle.nl_round_trip.specs.Taking.{row_at, AreFine, pieces_after}
+use Rattle.nl_round_trip.specs.InsideTaking.{row_at, AreFine, pieces_after}
 
 -- the lines have no fault, and mean this
 pub record IsReached (lines : List (List ℕ)) (s : Standing) : Type 0 where

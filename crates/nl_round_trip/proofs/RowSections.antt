@@ -20,7 +20,7 @@ use Rattle.nl_lines.specs.Tests.{index_limit, wants_whole, holds_once, is_linear
 use Rattle.written_texts.specs.Lines.{Line}
 use Rattle.nl_writer.specs.Written.{lettered, term_piece, by_number}
 use Rattle.written_texts.proofs.WrittenWords.{word-lettered, word-decimal, written-two}
-use Rattle.nl_round_trip.specs.Standings.{rank, IsStanding, Reaches}
+use Rattle.nl_round_trip.specs.InsideStandings.{rank, IsStanding, Reaches}
 use Rattle.nl_round_trip.proofs.ByNumber.{filled, filled-set, filled-get, filled-same, filled-all, filled-none, all_reached, sum_by-take_more}
 use Rattle.written_texts.proofs.NumbersRead.{whole_of-decimal}
 use Rattle.nl_round_trip.proofs.TakenLemmas.{taken_none, begun_piece, IsHeadFine}

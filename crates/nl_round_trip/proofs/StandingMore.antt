@@ -16,7 +16,7 @@ use Rattle.nl_lines.specs.Saying.{with_piece}
 use Rattle.nl_lines.specs.Tests.{is_linear, is_suffix, node_total, suffix_count, is_same_head, is_repeated, column_counts, all_column_counts}
 use Rattle.nl_lines.proofs.PieceLemmas.{draft-append}
 use Rattle.written_texts.specs.Lines.{Line}
-use Rattle.nl_round_trip.specs.Standings.{rank, IsStanding, Reaches}
+use Rattle.nl_round_trip.specs.InsideStandings.{rank, IsStanding, Reaches}
 use Rattle.nl_round_trip.proofs.TakenLemmas.{awaited-append, taken_then}
 use Rattle.nl_round_trip.proofs.PairPieces.{pairs_more, pair_total-append}
 

@@ -24,8 +24,8 @@ use Rattle.written_texts.specs.Lines.{Line}
 use Rattle.written_texts.specs.Words.{IsKeptWord}
 use Rattle.nl_writer.specs.Written.{lettered, suffix_piece}
 use Rattle.written_texts.proofs.WrittenWords.{word-lettered, word-decimal, written-three}
-use Rattle.nl_round_trip.specs.Standings.{rank, IsStanding, Reaches}
-use Rattle.nl_round_trip.specs.Taking.{IsTaken}
+use Rattle.nl_round_trip.specs.InsideStandings.{rank, IsStanding, Reaches}
+use Rattle.nl_round_trip.specs.InsideTaking.{IsTaken}
 use Rattle.nl_round_trip.specs.Writable.{IsWritableSuffix}
 use Rattle.written_texts.proofs.NumbersRead.{whole_of-decimal}
 use Rattle.nl_round_trip.proofs.TakenLemmas.{taken_none, taken_then, begun_piece, IsHeadFine}

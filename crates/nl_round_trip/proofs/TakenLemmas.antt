@@ -14,7 +14,7 @@ use Rattle.nl_lines.proofs.PieceLemmas.{longer, last-append, extended-append}
 use Rattle.written_texts.specs.Lines.{Line}
 use Rattle.written_texts.specs.Words.{IsWritten}
 use Rattle.written_texts.proofs.WordLemmas.{row-written}
-use Rattle.nl_round_trip.specs.Taking.{row_at, AreFine, pieces_after, IsTaken}
+use Rattle.nl_round_trip.specs.InsideTaking.{row_at, AreFine, pieces_after, IsTaken}
 
 -- ---- lines after lines
 

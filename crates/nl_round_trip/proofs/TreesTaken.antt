@@ -28,11 +28,11 @@ use Rattle.nl_writer.specs.Written.{lettered, sense_word, body_piece, objective_
 use Rattle.nl_writer.proofs.Writing.{node_lines-prefix}
 use Rattle.written_texts.proofs.WrittenWords.{plain-word, word-lettered, written-one, written-two}
 use Rattle.written_texts.specs.Words.{IsKeptWord}
-use Rattle.nl_round_trip.specs.Taking.{IsTaken}
+use Rattle.nl_round_trip.specs.InsideTaking.{IsTaken}
 use Rattle.written_texts.proofs.NumbersRead.{whole_of-decimal}
 use Rattle.nl_round_trip.proofs.LinesTaken.{with_lines}
 use Rattle.nl_round_trip.proofs.NodesTaken.{HasFewIndices, IsNodeFine, IsInTree, SaysBefore, AreAwaited, TakesNodes, nodes_taken, tree_done}
-use Rattle.nl_round_trip.specs.Standings.{rank, IsStanding, Reaches}
+use Rattle.nl_round_trip.specs.InsideStandings.{rank, IsStanding, Reaches}
 use Rattle.nl_round_trip.proofs.PairPieces.{pairs_more}
 use Rattle.nl_round_trip.proofs.StandingMore.{columns-append, tree_no_columns, not_repeated, suffixes_more, standing_more, same_standing}
 use Rattle.nl_round_trip.proofs.TreeNodes.{nodes-size, AreInRange, nodes_fine}

@@ -20,7 +20,7 @@ use Rattle.nl_lines.specs.Tests.{index_limit, awaited_tests, line_tests, row_tes
 use Rattle.nl_segments.specs.Grammar.{Standing, counts_of, said}
 use Rattle.nl_model.specs.UseCounts.{use_count}
 use Rattle.nl_segments.specs.Held.{Body, IsHeld, IsHeaderOf, AreSeen, AreSound, IsLast, only_header, words_refusal}
-use Rattle.nl_segments.specs.Taking.{body_awaits}
+use Rattle.nl_segments.specs.InsideTaking.{body_awaits}
 use Rattle.nl_segments.proofs.CurrentLemmas.{awaits}
 
 -- ---- no rows

@@ -18,7 +18,7 @@ use Rattle.nl_segments.specs.declared.nl_read.NlRead.{NlRead}
 use Rattle.nl_lines.specs.Rows.{Row, holds_words, row_words, rows_from}
 use Rattle.nl_lines.specs.Heads.{is_head, head_of, name_in}
 use Rattle.nl_lines.specs.Pieces.{Piece, extended, is_complete, last_piece, pieces_of, with_row}
-use Rattle.nl_lines.specs.Saying.{line_of}
+use Rattle.nl_lines.specs.Saying.{place_line}
 use Rattle.nl_lines.specs.Tests.{end_tests}
 use Rattle.nl_segments.specs.Grammar.{NlValue, Standing, counts_of, end_refusal, is_in_header, line_refusal, nl_rules, said, SaysFile, standing}
 use Rattle.nl_segments.specs.Reader.{HasLines, HasLinesUpTo, IsNl, value_of}
@@ -153,11 +153,11 @@ has_lines_up_to text value h at has =
     let P = IsLine (length (lines_of text)) in
     let w = whole_text P text (λ n more most. (more, most)) h.clean in
     let there = lines_there P (options_in s.header) (counts_of s) s.pieces w.clean.sound w.complete w.lines w.objectives at (subst (λ f. HasPlace f at) h.said.file has) in
-    subst (λ l. IsSomeAnd (line_of l at) P) (sym h.said.places) there
+    subst (λ l. IsSomeAnd (place_line l at) P) (sym h.said.places) there
 
 some_of : {A : Type 0} (P : A → Type 0) (o : Option A) → IsSomeAnd o P → IsSome o
 some_of P None h = absurd h
 some_of P (Some x) h = refl
 
 pub has_lines : (text : List ℕ) (r : NlRead) → Reads nl_rules (λ lines r. SaysFile lines (value_of r)) text (Ok r) → HasLines r
-has_lines text r h at has = some_of (IsLine (length (lines_of text))) (line_of r.places at) (has_lines_up_to text (value_of r) (record { clean = h.clean; said = h.said }) at has)
+has_lines text r h at has = some_of (IsLine (length (lines_of text))) (place_line r.places at) (has_lines_up_to text (value_of r) (record { clean = h.clean; said = h.said }) at has)

@@ -25,8 +25,8 @@ use Rattle.nl_segments.specs.Current.{Current}
 use Rattle.nl_lines.specs.Tests.{are_column_counts, is_short, end_tests}
 use Rattle.nl_segments.specs.Grammar.{Standing, counts_of, said}
 use Rattle.nl_segments.specs.Held.{Body, Finishes, IsHeld, IsLast, end_refusal_of}
-use Rattle.nl_segments.specs.Taking.{body_awaits}
-use Rattle.nl_segments.specs.Ending.{are_sums, body_end_tests, IsReady}
+use Rattle.nl_segments.specs.InsideTaking.{body_awaits}
+use Rattle.nl_segments.specs.InsideEnding.{are_sums, body_end_tests, IsReady}
 use Rattle.nl_segments.proofs.CurrentLemmas.{awaits}
 
 -- ---- the numbers of columns

@@ -22,7 +22,7 @@ use Rattle.nl_lines.specs.PairTests.{IsPairRow}
 use Rattle.nl_lines.specs.Leaves.{IsLeafRow, IsWordOf}
 use Rattle.nl_segments.specs.Held.{Body, Progress, IsAwaiting, IsHeld, IsHeaderOf, only_header, HoldsBy, HoldsStanding, TakesRow, Finishes}
 use Rattle.nl_segments.specs.Steps.{after, after_header_row}
-use Rattle.nl_segments.specs.Taking.{TakesAnyRow, TakesHeaderRow, TakesLine, body_awaits, line_awaits}
+use Rattle.nl_segments.specs.InsideTaking.{TakesAnyRow, TakesHeaderRow, TakesLine, body_awaits, line_awaits}
 use Rattle.nl_lines.specs.WholeRows.{IsWholeRow}
 use Rattle.nl_lines.proofs.PieceLemmas.{some_are}
 use Rattle.nl_segments.proofs.StandingLemmas.{standing-more}

@@ -13,7 +13,7 @@ use Rattle.nl_lines.specs.Nodes.{nodes_from, pending_from}
 use Rattle.nl_lines.specs.Pieces.{Piece, awaited_in, is_nothing, is_complete, line_kind, line_count, has_tree, pair_count, tree_rows, piece_nodes, piece_pairs, piece_pending}
 use Rattle.nl_lines.specs.Saying.{if_complete, said_by, draft_of}
 use Rattle.nl_lines.specs.Tests.{node_total, pair_total, suffix_count, all_column_counts, column_counts, is_suffix}
-use Rattle.nl_segments.specs.HeadSteps.{begun_draft, begun_count}
+use Rattle.nl_segments.specs.InsideHeadSteps.{begun_draft, begun_count}
 use Rattle.nl_lines.proofs.PieceLemmas.{draft-append, drop_none, some_are, take_none}
 use Rattle.nl_lines.proofs.TotalLemmas.{nodes-append, pairs-append, pairs-other}
 

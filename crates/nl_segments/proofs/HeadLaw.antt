@@ -21,18 +21,18 @@ use Rattle.nl_lines.specs.Pieces.{Piece, last_piece, awaited_of, is_complete, is
 use Rattle.nl_lines.specs.Saying.{place_lines}
 use Rattle.nl_lines.specs.SeenSegments.{Segments, IsSeenIn, with_segment}
 use Rattle.nl_segments.specs.Current.{Current, new_current}
-use Rattle.nl_segments.specs.PlaceSteps.{with_begun, HasOwner}
+use Rattle.nl_segments.specs.InsidePlaceSteps.{with_begun, HasOwner}
 use Rattle.nl_segments.specs.Grammar.{Standing, counts_of, said}
 use Rattle.nl_segments.specs.Steps.{after_body_row}
 use Rattle.nl_lines.specs.Tests.{is_suffix, is_linear, is_same_piece, is_repeated, index_limit, has_index, head_form_tests, formed_head_tests, head_tests, row_tests}
 use Rattle.nl_model.specs.UseCounts.{use_count}
 use Rattle.nl_lines.specs.PairTests.{IsMarked}
 use Rattle.nl_segments.specs.Held.{Body, IsSoundPiece, AreSound, IsOpen, IsLast, IsNodeLeft, IsHeld, HoldsSome, IsRowOf, HasRow, words_refusal}
-use Rattle.nl_segments.specs.HeadSteps.{has_come, has_come_suffix, held_head_tests, formed_tests, new_head_tests, begun_current, begun_name, begun_count, begun_draft, with_begun_head}
+use Rattle.nl_segments.specs.InsideHeadSteps.{has_come, has_come_suffix, held_head_tests, formed_tests, new_head_tests, begun_current, begun_name, begun_count, begun_draft, with_begun_head}
 use Rattle.nl_lines.proofs.PieceLemmas.{split, last-append, lines-append, take_none}
 use Rattle.nl_lines.proofs.DraftLemmas.{draft_counts}
 use Rattle.nl_segments.proofs.PlaceLemmas.{owner_there, place_begun}
-use Rattle.nl_segments.specs.Taking.{body_awaits}
+use Rattle.nl_segments.specs.InsideTaking.{body_awaits}
 use Rattle.nl_segments.proofs.CurrentLemmas.{begun}
 use Rattle.nl_segments.proofs.EndLemmas.{last_awaits}
 use Rattle.nl_lines.proofs.HeadSuffixes.{suffixes_come}

@@ -11,7 +11,7 @@ use Rattle.nl_lines.specs.declared.fault.NlReason.TheVariants.{TooLarge, Repeate
 use Rattle.nl_lines.specs.declared.fault.NlReason.{NlReason}
 use Rattle.nl_lines.specs.declared.head.Head.{Head}
 use Rattle.nl_lines.specs.Heads.{head_of, name_in, is_in_range}
-use Rattle.nl_segments.specs.HeadSteps.{has_come, held_head_tests, formed_tests, new_head_tests}
+use Rattle.nl_segments.specs.InsideHeadSteps.{has_come, held_head_tests, formed_tests, new_head_tests}
 use Rattle.nl_lines.specs.SeenSegments.{Segments}
 use Rattle.nl_lines.specs.Tests.{is_suffix, head_form_tests}
 

@@ -24,7 +24,7 @@ use Rattle.texts.specs.Judged.{first_reason}
 use Rattle.nl_segments.specs.Steps.{after_body_row}
 use Rattle.nl_segments.specs.Grammar.{Standing, counts_of, said}
 use Rattle.nl_segments.specs.Current.{Current, IsCurrent, current_awaits, less_line}
-use Rattle.nl_segments.specs.LineSteps.{unless_complete, with_interval, HasRoom, next_interval_tests}
+use Rattle.nl_segments.specs.InsideLineSteps.{unless_complete, with_interval, HasRoom, next_interval_tests}
 use Rattle.nl_lines.specs.Saying.{draft_of, said_by}
 use Rattle.nl_model.specs.UseCounts.{use_count}
 use Rattle.nl_segments.specs.Held.{AreSound, Body, HoldsSome, IsAwaiting, IsHeld, IsNodeLeft, IsOpen, IsRowOf, words_refusal}

@@ -15,7 +15,7 @@ use Rattle.nl_segments.specs.Steps.{after_body_row}
 use Rattle.nl_segments.specs.Current.{Current}
 use Rattle.nl_lines.specs.PairTests.{SaysFreshPair, is_full_at, next_pair_tests, IsPairRow, known_pair_tests}
 use Rattle.nl_segments.specs.Held.{Body, HoldsSome, IsAwaiting, IsHeld, IsRowOf, words_refusal}
-use Rattle.nl_segments.specs.KnownPairs.{HasGoodPair, IsGoodPair}
+use Rattle.nl_segments.specs.InsideKnownPairs.{HasGoodPair, IsGoodPair}
 use Rattle.nl_segments.proofs.PairCan.{CanTake, IsRead, can_take, pair_room, read_by}
 use Rattle.nl_lines.proofs.PairRows.{pair_plain, same_known, fresh_known}
 use Rattle.nl_segments.proofs.PairLines.{awaiting, holds_again}

@@ -6,7 +6,7 @@ use Rattle.std.proofs.lemmas.Bool.Decides.{nat_tests}
 use Rattle.std.proofs.lemmas.List.{drop_all}
 use Rattle.std.specs.List.{range_with_len}
 use Rattle.nl_segments.specs.declared.line_runs.LineRun.{LineRun}
-use Rattle.nl_segments.specs.LineRuns.{follows, lines_in, run_lines}
+use Rattle.nl_segments.specs.InsideLineRuns.{follows, lines_in, run_lines}
 
 -- ---- lines that follow one another
 

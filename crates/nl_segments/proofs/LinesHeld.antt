@@ -7,7 +7,7 @@ use Rattle.std.proofs.lemmas.List.{length-append, length-map, length-replicate, 
 use Rattle.std.proofs.lemmas.Bool.{ltb-true, ltb-false}
 use Rattle.nl_meaning.specs.Trees.{Tree, tree_size}
 use Rattle.nl_model.specs.declared.header_counts.Counts.{Counts}
-use Rattle.nl_model.specs.Draft.{Draft, file_of, given}
+use Rattle.nl_model.specs.Draft.{Draft, file_of, those_given}
 use Rattle.nl_model.specs.File.{Term, Definition, Objective}
 use Rattle.nl_model.specs.Nodes.{tree_of}
 use Rattle.nl_lines.specs.declared.awaited.Awaited.{Awaited}
@@ -20,7 +20,7 @@ use Rattle.nl_lines.specs.Rows.{Row, row_words}
 use Rattle.nl_lines.specs.Heads.{is_in_range}
 use Rattle.nl_lines.specs.Nodes.{Placed, node_in, opcode_in, pending_in, nodes_from, only_nodes, only_lines}
 use Rattle.nl_lines.specs.Pieces.{Piece, awaited_in, has_tree, is_complete, is_nothing, line_count, line_kind, pair_count, piece_nodes, piece_pairs, piece_pending, tree_awaits, tree_rows}
-use Rattle.nl_lines.specs.Saying.{OwnerLines, PlaceLines, no_lines, said_by, draft_of, place_lines, lines_by, line_of, piece_tree, node_lines, term_lines, with_tree_lines, with_term_lines, with_slope_lines}
+use Rattle.nl_lines.specs.Saying.{OwnerLines, PlaceLines, no_lines, said_by, draft_of, place_lines, lines_by, place_line, piece_tree, node_lines, term_lines, with_tree_lines, with_term_lines, with_slope_lines}
 use Rattle.nl_model.specs.declared.at.At.{At}
 use Rattle.nl_model.specs.FilePlaces.{HasPlace}
 use Rattle.nl_model.specs.declared.at.At.TheVariants.{Node as NodeAt, Term as TermAt, Head as HeadAt}
@@ -29,7 +29,7 @@ use Rattle.nl_lines.specs.Tests.{is_same_piece}
 use Rattle.nl_segments.specs.Held.{AreSound, IsSoundPiece}
 use Rattle.nl_lines.proofs.PieceLemmas.{draft-append, lines-append}
 use Rattle.nl_lines.proofs.DraftLemmas.{draft_counts}
-use Rattle.nl_segments.specs.PlaceSteps.{HasOwner}
+use Rattle.nl_segments.specs.InsidePlaceSteps.{HasOwner}
 use Rattle.nl_segments.proofs.HeadBegun.{some_line}
 use Rattle.nl_segments.proofs.PlaceLemmas.{owner_there}
 use Rattle.nl_lines.proofs.FreshLaw.{none_before, gave_none}
@@ -123,7 +123,7 @@ record AreLined (P : ℕ → Type 0) (d : Draft) (l : PlaceLines) : Type 0 where
   constraints : AllLined P true (λ (t : Option Tree). t) d.bodies d.terms l.constraints
   objectives : AllLined P false (option_map (λ (o : Objective). o.tree)) d.objectives d.slopes l.objectives
 
--- no terms were given for its index
+-- no terms were those_given for its index
 abbrev IsUnused : Draft → Head → Type 0
 IsUnused d (Terms i n) = get_or d.terms i [] ≡ []
 IsUnused d (Slopes k n) = get_or d.slopes k [] ≡ []
@@ -297,7 +297,7 @@ body_in [] i = refl
 body_in (x ∷ xs) zero = refl
 body_in (x ∷ xs) (suc i) = body_in xs i
 
-pub given_in : (os : List (Option Objective)) (k : ℕ) → All IsSome os → slice_get (given os) k ≡ get_or os k None
+pub given_in : (os : List (Option Objective)) (k : ℕ) → All IsSome os → slice_get (those_given os) k ≡ get_or os k None
 given_in [] k h = refl
 given_in (None ∷ os) k h = absurd (let wrong = h 0 None (omega arith) in cc)
 given_in (Some o ∷ os) zero h = refl
@@ -319,8 +319,8 @@ objective_head P xs rows os i h g has = by (nat_lt i (length xs)) refl
         let past : length xs ≤ i = ltb-false i (length xs) q in
         absurd (let wrong : false ≡ true = rw (get_or_past xs i None past, get_or_past rows i [] (omega (arith, h.trees, h.rows_count))) at has in cc)
 
-places_there : (P : ℕ → Type 0) (d : Draft) (l : PlaceLines) → AreLined P d l → All IsSome d.objectives → (at : At) → HasPlace (file_of d) at → IsSomeAnd (line_of l at) P
-unfolding line_of
+places_there : (P : ℕ → Type 0) (d : Draft) (l : PlaceLines) → AreLined P d l → All IsSome d.objectives → (at : At) → HasPlace (file_of d) at → IsSomeAnd (place_line l at) P
+unfolding place_line
 places_there P d l h g (NodeAt (Def i) k) has = (def_at P d.definitions l.definitions i h.definitions).nodes k has
 places_there P d l h g (NodeAt (Con i) k) has = (owner_at P true (λ t. t) d.bodies d.terms l.constraints i refl h.constraints).nodes k (rw (body_in d.bodies i) at has)
 places_there P d l h g (NodeAt (Obj i) k) has = (owner_at P false (option_map (λ (o : Objective). o.tree)) d.objectives d.slopes l.objectives i refl h.objectives).nodes k (rw (given_in d.objectives i g) at has)
@@ -334,6 +334,6 @@ places_there P d l h g (HeadAt (Obj i)) has = objective_head P d.objectives d.sl
 -- ---- all pieces are complete
 
 pub lines_there : (P : ℕ → Type 0) (o : List ℤ) (c : Counts) (pieces : List Piece) → AreSound c pieces → All (λ q. is_complete c q ≡ true) pieces → All (AreRowLines P) pieces
-    → All IsSome (draft_of o c pieces).objectives → (at : At) → HasPlace (file_of (draft_of o c pieces)) at → IsSomeAnd (line_of (place_lines c pieces) at) P
-lines_there P o c pieces h whole rows given at has =
-    places_there P (draft_of o c pieces) (place_lines c pieces) (lined P o c [] pieces (none_yet P o c) (follow [] pieces h.apart) (all_whole P c pieces h.each whole rows)) given at has
+    → All IsSome (draft_of o c pieces).objectives → (at : At) → HasPlace (file_of (draft_of o c pieces)) at → IsSomeAnd (place_line (place_lines c pieces) at) P
+lines_there P o c pieces h whole rows those_given at has =
+    places_there P (draft_of o c pieces) (place_lines c pieces) (lined P o c [] pieces (none_yet P o c) (follow [] pieces h.apart) (all_whole P c pieces h.each whole rows)) those_given at has

@@ -10,11 +10,11 @@ use Rattle.nl_segments.specs.Current.{Current, with_node_row}
 use Rattle.nl_segments.specs.Grammar.{Standing}
 use Rattle.nl_lines.specs.Heads.{is_head}
 use Rattle.nl_segments.specs.Held.{Body, HoldsSome, IsAwaiting, IsHeld, IsRowOf, words_refusal}
-use Rattle.nl_segments.specs.KnownNodes.{HasGoodNode, IsGoodNode}
+use Rattle.nl_segments.specs.InsideKnownNodes.{HasGoodNode, IsGoodNode}
 use Rattle.nl_lines.specs.Rows.{Row}
 use Rattle.nl_lines.specs.Saying.{PlaceLines}
 use Rattle.nl_segments.specs.Steps.{after_body_row}
-use Rattle.nl_segments.specs.TreeSteps.{CanTakeRow, IsNextRow, IsSettled, counted_node_tests, row_count, with_row_line}
+use Rattle.nl_segments.specs.InsideTreeSteps.{CanTakeRow, IsNextRow, IsSettled, counted_node_tests, row_count, with_row_line}
 use Rattle.nl_segments.proofs.NodeTaken.{IsRowRead, can_take, node_judged, node_read, row_taken}
 use Rattle.nl_segments.proofs.PairLines.{Awaits, awaiting, holds_again}
 

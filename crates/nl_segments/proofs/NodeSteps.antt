@@ -21,7 +21,7 @@ use Rattle.nl_lines.specs.Pieces.{Piece, line_kind, line_count, pair_count, has_
 use Rattle.nl_lines.specs.Tests.{has_index, index_limit, is_linear, is_suffix}
 use Rattle.nl_lines.specs.Saying.{PlaceLines, lines_by, place_lines, piece_tree, draft_of}
 use Rattle.nl_segments.specs.Current.{Current, IsCurrent, current_awaits, nodes_await}
-use Rattle.nl_segments.specs.TreeSteps.{IsSettled, with_tree}
+use Rattle.nl_segments.specs.InsideTreeSteps.{IsSettled, with_tree}
 use Rattle.nl_model.specs.UseCounts.{use_count}
 use Rattle.nl_lines.specs.PairTests.{IsMarked}
 use Rattle.nl_lines.specs.NodeRows.{IsNodeKnown}

@@ -30,8 +30,8 @@ use Rattle.nl_lines.specs.Saying.{PlaceLines, term_lines, lines_by, place_lines}
 use Rattle.nl_segments.specs.Grammar.{Standing, counts_of, said}
 use Rattle.nl_segments.specs.Steps.{after_body_row}
 use Rattle.nl_segments.specs.Current.{Current, IsPending, current_awaits, with_node_row}
-use Rattle.nl_segments.specs.PlaceSteps.{HasOwner, HasBegun, with_node_line}
-use Rattle.nl_segments.specs.TreeSteps.{CanTakeRow, IsNextRow, IsSettled, row_count, with_row_line, counted_node_tests}
+use Rattle.nl_segments.specs.InsidePlaceSteps.{HasOwner, HasBegun, with_node_line}
+use Rattle.nl_segments.specs.InsideTreeSteps.{CanTakeRow, IsNextRow, IsSettled, row_count, with_row_line, counted_node_tests}
 use Rattle.nl_segments.specs.Held.{Body, HoldsSome, IsAwaiting, IsHeld, IsNodeLeft, IsRowOf, words_refusal}
 use Rattle.nl_lines.proofs.RowLemmas.{last_nodes}
 use Rattle.nl_segments.proofs.CurrentLemmas.{IsRowStep, count_step, node_step, row_fields, row_placed, with_row}

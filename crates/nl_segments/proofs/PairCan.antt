@@ -14,13 +14,13 @@ use Rattle.nl_lines.specs.declared.head.Head.TheVariants.{Body as BodyHead, Dual
 use Rattle.nl_lines.specs.Rows.{Row, row_words}
 use Rattle.nl_lines.specs.Heads.{is_in_range}
 use Rattle.nl_lines.specs.Pieces.{pair_in, piece_pairs, keeps_pairs}
-use Rattle.nl_segments.specs.PlaceSteps.{HasBegun, HasOwner}
+use Rattle.nl_segments.specs.InsidePlaceSteps.{HasBegun, HasOwner}
 use Rattle.nl_lines.specs.Saying.{draft_of, place_lines, said_by}
 use Rattle.nl_lines.specs.Tests.{holds_once, index_limit, is_linear, is_same_piece, is_suffix}
 use Rattle.nl_segments.specs.Grammar.{Standing, counts_of}
 use Rattle.nl_segments.specs.Current.{Current}
 use Rattle.nl_lines.specs.PairTests.{SaysFreshPair, is_full_at, IsMarked}
-use Rattle.nl_segments.specs.PairSteps.{CanClose, CanGive, CanUse, with_given, with_kept}
+use Rattle.nl_segments.specs.InsidePairSteps.{CanClose, CanGive, CanUse, with_given, with_kept}
 use Rattle.nl_segments.specs.Held.{Body, HasRow, HoldsSome, IsAwaiting, IsHeld}
 use Rattle.nl_lines.proofs.DraftLemmas.{draft_before, says_whole}
 use Rattle.nl_lines.proofs.FreshLaw.{none_before, gave_none}

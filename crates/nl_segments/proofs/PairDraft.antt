@@ -15,12 +15,12 @@ use Rattle.nl_lines.specs.Rows.{Row}
 use Rattle.nl_lines.specs.Nodes.{only_lines, nodes_from, nodes_of, pending_from, pending_of}
 use Rattle.nl_lines.specs.Pieces.{Piece, awaited_in, is_complete, has_tree, is_nothing, line_count, line_kind, pair_count, piece_pairs, tree_awaits, tree_rows, keeps_pairs}
 use Rattle.nl_lines.specs.Saying.{node_lines, draft_of, said_by, with_piece, place_lines, lines_by, term_lines}
-use Rattle.nl_segments.specs.PlaceSteps.{HasBegun, with_term_line}
+use Rattle.nl_segments.specs.InsidePlaceSteps.{HasBegun, with_term_line}
 use Rattle.nl_lines.specs.Heads.{is_in_range}
 use Rattle.nl_lines.specs.Tests.{is_linear, is_suffix}
 use Rattle.nl_segments.specs.Current.{Current, current_awaits}
 use Rattle.nl_model.specs.UseCounts.{use_count}
-use Rattle.nl_segments.specs.PairSteps.{with_closed, with_given, with_suffix, with_use}
+use Rattle.nl_segments.specs.InsidePairSteps.{with_closed, with_given, with_suffix, with_use}
 use Rattle.nl_lines.proofs.RowLemmas.{early_tree}
 use Rattle.nl_lines.proofs.DraftLemmas.{draft_before, with_dual, with_primal, with_term, with_slope, with_suffix as suffix_said}
 use Rattle.nl_lines.proofs.FreshLaw.{either}

@@ -19,7 +19,7 @@ use Rattle.nl_lines.specs.Tests.{all_column_counts, column_counts, index_limit, 
 use Rattle.nl_lines.specs.Saying.{place_lines}
 use Rattle.nl_segments.specs.Grammar.{counts_of, said}
 use Rattle.nl_segments.specs.Current.{Current, IsCurrent, current_awaits, less_line}
-use Rattle.nl_segments.specs.LineSteps.{unless_complete}
+use Rattle.nl_segments.specs.InsideLineSteps.{unless_complete}
 use Rattle.nl_model.specs.UseCounts.{use_count}
 use Rattle.nl_lines.specs.PairTests.{IsMarked}
 use Rattle.nl_lines.specs.NodeRows.{IsNodeKnown}

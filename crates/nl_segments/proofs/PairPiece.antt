@@ -19,7 +19,7 @@ use Rattle.nl_lines.specs.Tests.{has_index, holds_once, index_limit}
 use Rattle.nl_segments.specs.Current.{Current, IsCurrent, less_line, with_pair}
 use Rattle.nl_lines.specs.PairTests.{IsMarked}
 use Rattle.nl_segments.specs.Held.{IsSoundPiece}
-use Rattle.nl_segments.specs.PairSteps.{with_kept, with_mark}
+use Rattle.nl_segments.specs.InsidePairSteps.{with_kept, with_mark}
 use Rattle.nl_lines.proofs.RowLemmas.{early_pairs}
 use Rattle.nl_segments.proofs.CurrentLemmas.{with_line}
 use Rattle.nl_lines.proofs.PieceLemmas.{longer}

@@ -16,15 +16,15 @@ use Rattle.nl_lines.specs.declared.head.Head.TheVariants.{DualGuesses, Terms, Su
 use Rattle.nl_lines.specs.Rows.{Row}
 use Rattle.nl_lines.specs.Heads.{is_head, is_in_range}
 use Rattle.nl_lines.specs.Pieces.{Piece, is_nothing, piece_pairs}
-use Rattle.nl_segments.specs.PlaceSteps.{with_term_line}
+use Rattle.nl_segments.specs.InsidePlaceSteps.{with_term_line}
 use Rattle.nl_lines.specs.Saying.{draft_of}
 use Rattle.nl_lines.specs.Tests.{index_limit, is_full, is_linear, is_suffix, pair_total}
 use Rattle.nl_segments.specs.Grammar.{Standing, counts_of}
 use Rattle.nl_segments.specs.Steps.{after_body_row}
 use Rattle.nl_segments.specs.Current.{Current, current_awaits}
-use Rattle.nl_segments.specs.LineSteps.{unless_complete}
+use Rattle.nl_segments.specs.InsideLineSteps.{unless_complete}
 use Rattle.nl_lines.specs.PairTests.{is_full_at, next_pair_tests, IsMarked}
-use Rattle.nl_segments.specs.PairSteps.{one_more, with_closed, with_given, with_kept, with_mark, with_suffix, with_use}
+use Rattle.nl_segments.specs.InsidePairSteps.{one_more, with_closed, with_given, with_kept, with_mark, with_suffix, with_use}
 use Rattle.nl_model.specs.UseCounts.{use_count}
 use Rattle.nl_lines.specs.NodeRows.{IsNodeKnown}
 use Rattle.nl_segments.specs.Held.{Body, IsAwaiting, IsHeld, IsNodeLeft, IsRowOf, words_refusal}

@@ -13,7 +13,7 @@ use Rattle.nl_lines.specs.Nodes.{nodes_from}
 use Rattle.nl_lines.specs.Pieces.{Piece, has_tree}
 use Rattle.nl_lines.specs.Tests.{is_linear}
 use Rattle.nl_lines.specs.Saying.{OwnerLines, PlaceLines, no_lines, empty_lines, node_lines, term_lines, with_tree_lines, with_term_lines, with_slope_lines, changed, lines_by, place_lines}
-use Rattle.nl_segments.specs.PlaceSteps.{HasOwner, with_begun, with_node_line, with_term_line, more_nodes, more_terms}
+use Rattle.nl_segments.specs.InsidePlaceSteps.{HasOwner, with_begun, with_node_line, with_term_line, more_nodes, more_terms}
 use Rattle.nl_lines.proofs.PieceLemmas.{drop_none, longer, take_none}
 use Rattle.nl_lines.proofs.DraftLemmas.{set_again, get_set}
 

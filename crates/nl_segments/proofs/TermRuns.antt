@@ -30,11 +30,11 @@ use Rattle.nl_lines.proofs.PairRows.{pair_plain, same_known}
 use Rattle.nl_segments.specs.Current.{Current, current_awaits, less_line, less_lines}
 use Rattle.nl_segments.specs.Grammar.{Standing, counts_of, standing, line_refusal, nl_rules}
 use Rattle.nl_segments.specs.Held.{Body, HoldsSome, HoldsStanding, IsHeld, words_refusal}
-use Rattle.nl_segments.specs.LineSteps.{unless_complete}
-use Rattle.nl_segments.specs.PairSteps.{one_more, with_given, with_kept, with_use}
-use Rattle.nl_segments.specs.PlaceSteps.{HasOwner, more_term_run, more_terms, terms_follow, with_term_line, with_term_run}
+use Rattle.nl_segments.specs.InsideLineSteps.{unless_complete}
+use Rattle.nl_segments.specs.InsidePairSteps.{one_more, with_given, with_kept, with_use}
+use Rattle.nl_segments.specs.InsidePlaceSteps.{HasOwner, more_term_run, more_terms, terms_follow, with_term_line, with_term_run}
 use Rattle.nl_segments.specs.Steps.{after, after_body_row}
-use Rattle.nl_segments.specs.TermRuns.{AwaitsTerms, GoesOn, HasBodyOf, IsBodyOf, TakesLines, with_counted, with_parts}
+use Rattle.nl_segments.specs.InsideTermRuns.{AwaitsTerms, GoesOn, HasBodyOf, IsBodyOf, TakesLines, with_counted, with_parts}
 use Rattle.nl_segments.proofs.GrammarLemmas.{pair_holds_words}
 use Rattle.nl_segments.proofs.LineRunLemmas.{range_parts}
 use Rattle.nl_segments.proofs.PairCan.{CanTake, IsRead, can_take}

@@ -17,7 +17,7 @@ use Rattle.nl_lines.specs.Tests.{index_limit, is_linear, is_same_piece, pair_tot
 use Rattle.nl_lines.specs.Saying.{draft_of}
 use Rattle.nl_segments.specs.Grammar.{Standing}
 use Rattle.nl_segments.specs.Current.{Current}
-use Rattle.nl_segments.specs.TreeSteps.{IsFresh}
+use Rattle.nl_segments.specs.InsideTreeSteps.{IsFresh}
 use Rattle.nl_segments.specs.Held.{Body, IsHeld, IsOpen}
 use Rattle.nl_lines.proofs.DraftLemmas.{draft_before}
 use Rattle.nl_lines.proofs.FreshLaw.{none_before, gave_none}

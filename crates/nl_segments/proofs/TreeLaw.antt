@@ -9,7 +9,7 @@ use Rattle.nl_model.specs.Rules.{IsTreeWithin, AreTreesWithin}
 use Rattle.nl_lines.specs.NodeRows.{IsNodeKnown}
 use Rattle.nl_segments.specs.Current.{Current}
 use Rattle.nl_lines.specs.declared.head.Head.{Head}
-use Rattle.nl_segments.specs.TreeSteps.{IsFresh, MayTake}
+use Rattle.nl_segments.specs.InsideTreeSteps.{IsFresh, MayTake}
 
 -- node by node
 abbrev Each : ℕ → List Definition → List Node → Type 0

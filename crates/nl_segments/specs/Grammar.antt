@@ -5,7 +5,7 @@ use Rattle.texts.specs.Judged.{Rules, first_reason}
 use Rattle.texts.specs.Words.{words_of, row_of, without_comment}
 use Rattle.texts.specs.declared.lines.LineFault.{LineFault}
 use Rattle.texts.specs.declared.lines.LineFault.TheVariants.{LineTooLong as LongLine, InputTooLong as LongInput}
-use Rattle.nl_header.specs.Head.{line_fault, options_in, counts_in}
+use Rattle.nl_header.specs.Head.{header_line_fault, options_in, counts_in}
 use Rattle.nl_header.specs.declared.fault.HeadFault.{HeadFault}
 use Rattle.nl_header.specs.declared.fault.HeadFault.TheVariants.{BinaryFile as BinaryHead, BadFirstLine as BadFirst, Options as BadOptions, BadHeaderNumber as BadNumberInHeader, CountsDisagree as Disagree, RefusedCount as Refused, TooLarge as Large}
 use Rattle.nl_model.specs.declared.header_counts.Counts.{Counts}
@@ -57,7 +57,7 @@ reason_of Large = TooLarge
 -- a row of the header
 abbrev pub header_refusal : Standing → List ℕ → Option NlReason
 header_refusal s text =
-    option_map (λ fault. (reason_of fault)) (line_fault s.header (words_of text))
+    option_map (λ fault. (reason_of fault)) (header_line_fault s.header (words_of text))
 
 -- a row of the body
 abbrev pub body_refusal : Standing → List ℕ → Option NlReason

@@ -23,10 +23,10 @@ use Rattle.nl_lines.specs.declared.fault.NlFault.{NlFault}
 use Rattle.nl_lines.specs.declared.fault.NlReason.{NlReason}
 use Rattle.nl_lines.specs.declared.fault.NlReason.TheVariants.{RefusedOpcode}
 use Rattle.nl_segments.specs.declared.nl_read.NlRead.{NlRead}
-use Rattle.nl_lines.specs.Saying.{line_of}
+use Rattle.nl_lines.specs.Saying.{place_line}
 use Rattle.nl_segments.specs.Grammar.{Standing, standing, counts_of, nl_rules, NlValue, SaysFile}
 use Rattle.nl_segments.specs.Held.{Progress, HoldsStanding}
-use Rattle.nl_segments.specs.HeldCode.{progress_code, stop_code}
+use Rattle.nl_segments.specs.InsideHeldCode.{progress_code, stop_code}
 
 -- ---- texts
 
@@ -64,12 +64,12 @@ ReadsNl text (Err Memory) = Unit {0}
 
 -- each place of the file has its line
 abbrev pub HasLines : NlRead → Type 0
-HasLines r = (at : At) → HasPlace r.file at → IsSome (line_of r.places at)
+HasLines r = (at : At) → HasPlace r.file at → IsSome (place_line r.places at)
 
 -- each place of the file has its line, which is one of so many lines
 abbrev pub HasLinesUpTo : ℕ → NlValue → Type 0
 HasLinesUpTo count v = (at : At) → HasPlace v.file at
-    → IsSomeAnd (line_of v.places at) (λ line. (0 < line) × (line ≤ count))
+    → IsSomeAnd (place_line v.places at) (λ line. (0 < line) × (line ≤ count))
 
 -- a head begins the expression of an owner of the file
 abbrev pub BeginsTree : File → Owner → Head → Type 0

@@ -5,9 +5,9 @@ ghost use Rattle.nl_model.specs.Draft.{IsDraft};
 ghost use Rattle.nl_lines.specs.declared.head.Head.{Head};
 ghost use Rattle.nl_lines.specs.Heads.{is_head};
 ghost use Rattle.nl_segments.specs.Held.{IsHeld, IsHeaderOf, only_header, TakesRow, HasRow, Finishes};
-ghost use Rattle.nl_segments.specs.Taking.{body_awaits};
+ghost use Rattle.nl_segments.specs.InsideTaking.{body_awaits};
 ghost use Rattle.nl_lines.specs.Tests.{index_limit};
-ghost use Rattle.nl_segments.specs.Ending.{body_end_tests};
+ghost use Rattle.nl_segments.specs.InsideEnding.{body_end_tests};
 ghost use Rattle.texts.specs.Judged.{Decides, first_reason};
 ghost use Rattle.texts.specs.Stopped.{IfFault};
 
@@ -49,7 +49,7 @@ impl Model for BodyReader {
 
     ghost Value = { Body };
 
-    ghost use Rattle.nl_segments.specs.HeldCode.{body_code};
+    ghost use Rattle.nl_segments.specs.InsideHeldCode.{body_code};
 
     ghost coded = { body_code };
 

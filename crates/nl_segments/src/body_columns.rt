@@ -5,7 +5,7 @@ ghost use Rattle.nl_lines.specs.declared.awaited.Awaited.TheVariants.{ColumnCoun
 ghost use Rattle.nl_lines.specs.Heads.{is_head};
 ghost use Rattle.nl_segments.specs.Held.{HasRow, TakesRow, IsAwaiting};
 ghost use Rattle.nl_lines.specs.WholeRows.{IsWholeRow};
-ghost use Rattle.nl_segments.specs.KnownColumns.{HasWholeRow};
+ghost use Rattle.nl_segments.specs.InsideKnownColumns.{HasWholeRow};
 
 use crate::body::BodyReader;
 use crate::closing::count_line;

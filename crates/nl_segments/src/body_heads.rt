@@ -4,7 +4,7 @@ ghost use Rattle.texts.specs.Judged.{Decides};
 ghost use Rattle.texts.specs.Names.{IsName};
 ghost use Rattle.texts.specs.Words.{texts};
 ghost use Rattle.nl_lines.specs.Heads.{is_head, head_of, is_in_range, name_in};
-ghost use Rattle.nl_segments.specs.HeadSteps.{has_come, has_come_suffix, held_head_tests, new_head_tests, begun_current, begun_name, begun_count, begun_draft};
+ghost use Rattle.nl_segments.specs.InsideHeadSteps.{has_come, has_come_suffix, held_head_tests, new_head_tests, begun_current, begun_name, begun_count, begun_draft};
 ghost use Rattle.nl_segments.specs.Held.{TakesRow, HasRow};
 ghost use Rattle.nl_lines.specs.SeenSegments.{IsSeenIn};
 ghost use Rattle.nl_lines.specs.Tests.{is_suffix};

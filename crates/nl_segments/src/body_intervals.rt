@@ -7,7 +7,7 @@ ghost use Rattle.linear_program.specs.Intervals.{IsOrdered};
 ghost use Rattle.nl_lines.specs.declared.awaited.Awaited.TheVariants.{Interval as IntervalLine};
 ghost use Rattle.nl_lines.specs.Heads.{is_head};
 ghost use Rattle.nl_segments.specs.Held.{HasRow, TakesRow, IsAwaiting};
-ghost use Rattle.nl_segments.specs.LineSteps.{HasRoom, next_interval_tests, with_interval};
+ghost use Rattle.nl_segments.specs.InsideLineSteps.{HasRoom, next_interval_tests, with_interval};
 ghost use Rattle.nl_lines.specs.Tests.{SaysInterval, is_binary, is_sides};
 
 use crate::body::BodyReader;

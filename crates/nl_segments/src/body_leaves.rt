@@ -3,9 +3,9 @@ ghost use Rattle.std.specs.Prelude.{List, ℕ};
 ghost use Rattle.texts.specs.Judged.{Decides};
 ghost use Rattle.nl_lines.specs.declared.awaited.Awaited.TheVariants.{Node};
 ghost use Rattle.nl_segments.specs.Held.{IsAwaiting, TakesRow};
-ghost use Rattle.nl_segments.specs.KnownNodes.{HasLeafRow};
+ghost use Rattle.nl_segments.specs.InsideKnownNodes.{HasLeafRow};
 ghost use Rattle.nl_lines.specs.Leaves.{IsLeafRow};
-ghost use Rattle.nl_segments.specs.TreeSteps.{IsNextRow, counted_node_tests};
+ghost use Rattle.nl_segments.specs.InsideTreeSteps.{IsNextRow, counted_node_tests};
 
 use crate::body::BodyReader;
 use crate::body_nodes::MOST_NODES;

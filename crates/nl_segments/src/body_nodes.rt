@@ -8,10 +8,10 @@ ghost use Rattle.nl_segments.specs.Current.{current_awaits, with_node_row};
 ghost use Rattle.nl_lines.specs.Heads.{is_head};
 ghost use Rattle.nl_lines.specs.NodeRows.{IsNodeKnown};
 ghost use Rattle.nl_segments.specs.Held.{TakesRow, IsAwaiting, HasRow};
-ghost use Rattle.nl_segments.specs.KnownNodes.{HasGoodNode, IsGoodNode};
+ghost use Rattle.nl_segments.specs.InsideKnownNodes.{HasGoodNode, IsGoodNode};
 ghost use Rattle.nl_lines.specs.Pieces.{has_tree};
-ghost use Rattle.nl_segments.specs.PlaceSteps.{HasOwner, HasBegun};
-ghost use Rattle.nl_segments.specs.TreeSteps.{CanTakeRow, IsNextRow, MayTake, IsFresh, with_tree, IsSettled, row_count, with_row_line, counted_node_tests};
+ghost use Rattle.nl_segments.specs.InsidePlaceSteps.{HasOwner, HasBegun};
+ghost use Rattle.nl_segments.specs.InsideTreeSteps.{CanTakeRow, IsNextRow, MayTake, IsFresh, with_tree, IsSettled, row_count, with_row_line, counted_node_tests};
 
 use crate::body::BodyReader;
 use crate::current::Current;

@@ -7,9 +7,9 @@ ghost use Rattle.nl_segments.specs.Current.{current_awaits};
 ghost use Rattle.nl_lines.specs.Heads.{is_head};
 ghost use Rattle.nl_segments.specs.Held.{HasRow, TakesRow, IsAwaiting};
 ghost use Rattle.nl_lines.specs.PairTests.{IsPairRow};
-ghost use Rattle.nl_segments.specs.KnownPairs.{HasGoodPair, HasPairRow, IsGoodPair};
-ghost use Rattle.nl_segments.specs.LineSteps.{unless_complete};
-ghost use Rattle.nl_segments.specs.PairSteps.{CanClose, CanGive, CanUse, one_more, with_closed, with_given, with_kept, with_mark, with_suffix, with_use};
+ghost use Rattle.nl_segments.specs.InsideKnownPairs.{HasGoodPair, HasPairRow, IsGoodPair};
+ghost use Rattle.nl_segments.specs.InsideLineSteps.{unless_complete};
+ghost use Rattle.nl_segments.specs.InsidePairSteps.{CanClose, CanGive, CanUse, one_more, with_closed, with_given, with_kept, with_mark, with_suffix, with_use};
 ghost use Rattle.nl_lines.specs.Pieces.{is_nothing};
 
 use crate::body::BodyReader;

@@ -3,8 +3,8 @@ ghost use Rattle.std.specs.Prelude.{◌≡◌, ◌≤◌, ◌+◌, ◌^◌, ℕ,
 ghost use Rattle.nl_lines.specs.Pieces.{is_nothing};
 ghost use Rattle.nl_segments.specs.Current.{Current as CurrentValue, current_awaits, less_lines};
 ghost use Rattle.nl_segments.specs.Held.{Body};
-ghost use Rattle.nl_segments.specs.LineSteps.{unless_complete};
-ghost use Rattle.nl_segments.specs.TermRuns.{HasBodyOf, HasTerms, IsBodyOf, TakesLines, with_counted, with_parts};
+ghost use Rattle.nl_segments.specs.InsideLineSteps.{unless_complete};
+ghost use Rattle.nl_segments.specs.InsideTermRuns.{HasBodyOf, HasTerms, IsBodyOf, TakesLines, with_counted, with_parts};
 
 use crate::body::BodyReader;
 use crate::body_pairs::{count_use, give_pair};

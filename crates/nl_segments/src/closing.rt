@@ -1,6 +1,6 @@
 // The end of a piece: it is held until it is complete.
 ghost use Rattle.std.specs.Prelude.{◌≡◌, ◌<◌, IsSomeAnd, IfSome};
-ghost use Rattle.nl_segments.specs.LineSteps.{unless_complete};
+ghost use Rattle.nl_segments.specs.InsideLineSteps.{unless_complete};
 ghost use Rattle.nl_segments.specs.Current.{less_line};
 
 use crate::current::Current;

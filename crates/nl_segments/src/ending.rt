@@ -1,7 +1,7 @@
 // What the end of a text asks of its parts.
 ghost use Rattle.std.specs.Prelude.{◌≡◌, is_some, get_or};
 ghost use Rattle.std.specs.List.{list_all};
-ghost use Rattle.nl_segments.specs.Ending.{are_sums};
+ghost use Rattle.nl_segments.specs.InsideEnding.{are_sums};
 ghost use Rattle.nl_lines.specs.Tests.{is_short};
 
 use nl_model::NlBuilder;

@@ -4,14 +4,14 @@ ghost use Rattle.texts.specs.Words.{words_of, row_of};
 ghost use Rattle.nl_lines.specs.declared.awaited.Awaited.TheVariants.{ColumnCount, Node, Pair};
 ghost use Rattle.nl_segments.specs.Grammar.{standing, nl_rules, SaysFile, fault_refusal, reason_of};
 ghost use Rattle.nl_segments.specs.Held.{HoldsStanding, IsAwaiting};
-ghost use Rattle.nl_segments.specs.KnownNodes.{HasLeafRow};
+ghost use Rattle.nl_segments.specs.InsideKnownNodes.{HasLeafRow};
 ghost use Rattle.nl_lines.specs.PairTests.{IsPairRow};
-ghost use Rattle.nl_segments.specs.KnownPairs.{HasPairRow};
+ghost use Rattle.nl_segments.specs.InsideKnownPairs.{HasPairRow};
 ghost use Rattle.nl_lines.specs.Leaves.{IsLeafRow};
 ghost use Rattle.nl_segments.specs.Reader.{value_of};
-ghost use Rattle.nl_segments.specs.Taking.{TakesHeaderRow, TakesAnyRow, TakesLine, line_awaits};
+ghost use Rattle.nl_segments.specs.InsideTaking.{TakesHeaderRow, TakesAnyRow, TakesLine, line_awaits};
 ghost use Rattle.nl_lines.specs.WholeRows.{IsWholeRow};
-ghost use Rattle.nl_segments.specs.KnownColumns.{HasWholeRow};
+ghost use Rattle.nl_segments.specs.InsideKnownColumns.{HasWholeRow};
 
 use crate::body::BodyReader;
 use crate::nl_read::NlRead;
@@ -51,13 +51,13 @@ impl Model for NlGrammar {
 
     ghost Value = { Progress };
 
-    ghost use Rattle.nl_segments.specs.HeldCode.{progress_code};
+    ghost use Rattle.nl_segments.specs.InsideHeldCode.{progress_code};
 
     ghost coded = { progress_code };
 
     ghost view = { λ g. record { header = g.header; body = g.body } };
 
-    ghost use Rattle.nl_segments.specs.Taking.{AwaitsHeader};
+    ghost use Rattle.nl_segments.specs.InsideTaking.{AwaitsHeader};
 
     ghost invariant = { λ g. AwaitsHeader g.header g.body };
 }

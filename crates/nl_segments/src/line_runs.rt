@@ -1,7 +1,7 @@
 // Lines that mostly follow one another.
 ghost use Rattle.std.specs.Prelude.{◌≡◌, ◌≤◌, ◌+◌, ◌^◌, ◌++◌, ◌∷◌, List, ℕ, [], true, MatchResult, OnOk, Some, slice_get};
 ghost use Rattle.std.specs.List.{range_with_len};
-ghost use Rattle.nl_segments.specs.LineRuns.{follows, lines_in, run_lines};
+ghost use Rattle.nl_segments.specs.InsideLineRuns.{follows, lines_in, run_lines};
 
 use std::alloc::{AllocError, Global};
 use std::marker::Model;
@@ -24,7 +24,7 @@ pub struct LineRuns {
 
 impl Model for LineRuns {
     ghost use Rattle.std.specs.Prelude.{◌≡◌, ◌<◌, ◌++◌, [], List, ℕ};
-    ghost use Rattle.nl_segments.specs.LineRuns.{lines_in, run_lines};
+    ghost use Rattle.nl_segments.specs.InsideLineRuns.{lines_in, run_lines};
 
     ghost Value = { List ℕ };
 

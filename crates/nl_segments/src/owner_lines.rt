@@ -1,7 +1,7 @@
 // The lines of one owner.
 ghost use Rattle.std.specs.Prelude.{◌≡◌, ◌≤◌, ◌+◌, ◌^◌, ◌++◌, ◌∷◌, [], true, None, Some, OnOk, slice_get};
-ghost use Rattle.nl_segments.specs.LineRuns.{follows};
-ghost use Rattle.nl_segments.specs.PlaceSteps.{more_term_run};
+ghost use Rattle.nl_segments.specs.InsideLineRuns.{follows};
+ghost use Rattle.nl_segments.specs.InsidePlaceSteps.{more_term_run};
 ghost use Rattle.nl_lines.specs.Saying.{no_lines};
 ghost use Rattle.std.specs.Option.{option_or};
 

@@ -1,8 +1,8 @@
 // The lines of all nodes, terms and heads of a file.
 ghost use Rattle.std.specs.Prelude.{◌≡◌, ◌<◌, ◌≤◌, ◌^◌, ◌+◌, ◌-◌, if◌then◌else◌, ◌++◌, ◌∷◌, [], length, replicate, get_or, slice_get, slice_set, true, Some, IsSome, IfOk, OnOk, option_copied};
-ghost use Rattle.nl_lines.specs.Saying.{changed, empty_lines, no_lines, owner_lines, line_of};
-ghost use Rattle.nl_segments.specs.LineRuns.{follows};
-ghost use Rattle.nl_segments.specs.PlaceSteps.{HasOwner, HasBegun, more_nodes, more_term_run, more_terms, terms_follow, with_begun, with_node_line, with_term_line, with_term_run};
+ghost use Rattle.nl_lines.specs.Saying.{changed, empty_lines, no_lines, owner_lines, place_line};
+ghost use Rattle.nl_segments.specs.InsideLineRuns.{follows};
+ghost use Rattle.nl_segments.specs.InsidePlaceSteps.{HasOwner, HasBegun, more_nodes, more_term_run, more_terms, terms_follow, with_begun, with_node_line, with_term_line, with_term_run};
 ghost use Rattle.std.specs.Option.{option_or};
 
 use crate::owner_lines::OwnerLines;
@@ -222,9 +222,9 @@ impl Places {
     }
 
     /// The line of a place, where the file has it.
-    #[tactic(auto, unfolding(nl_lines::specs::Saying::line_of))]
+    #[tactic(auto, unfolding(nl_lines::specs::Saying::place_line))]
     pub(crate) fn line_at(&self, at: At) -> Option<u32>
-        ensures { result ≡ line_of self.now at }
+        ensures { result ≡ place_line self.now at }
     {
         match at {
             At::Node(owner, i) => {
@@ -250,8 +250,8 @@ impl Places {
 
     /// The line of a node, term or head that the file has.
     pub fn line(&self, at: At) -> u32
-        requires { IsSome (line_of self.now at) }
-        ensures { Some result ≡ line_of self.now at }
+        requires { IsSome (place_line self.now at) }
+        ensures { Some result ≡ place_line self.now at }
     {
         match self.line_at(at) {
             Some(line) => line,

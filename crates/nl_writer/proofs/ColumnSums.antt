@@ -9,7 +9,7 @@ use Rattle.written_texts.specs.Lines.{Line, lines_text}
 use Rattle.nl_model.specs.UseCounts.{terms_up_to, use_count}
 use Rattle.nl_model.proofs.UseLemmas.{below, split_rows, next_rows, nothing_below}
 use Rattle.nl_writer.specs.Written.{lettered, column_lines, column_piece}
-use Rattle.nl_writer.specs.Uses.{HasUses, sum_lines}
+use Rattle.nl_writer.specs.InsideUses.{HasUses, sum_lines}
 
 -- the sums of the uses of the variables from j on
 sums_from : (rows : List (List Term)) (j before : ℕ) (uses : List ℕ) → ((i : ℕ) → i < length uses → get_or uses i 0 ≡ use_count rows (j + i)) → before ≡ below rows j

@@ -1,3 +1,3 @@
 pub mod Trees
-pub mod Uses
+pub mod InsideUses
 pub mod Written

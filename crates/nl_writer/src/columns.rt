@@ -5,7 +5,7 @@ ghost use Rattle.nl_model.specs.Rules.{AreTermsBelow};
 ghost use Rattle.written_texts.specs.Lines.{line_text, lines_text};
 ghost use Rattle.nl_writer.specs.Written.{column_piece};
 ghost use Rattle.nl_model.specs.UseCounts.{uses_in};
-ghost use Rattle.nl_writer.specs.Uses.{sum_lines, HasUses};
+ghost use Rattle.nl_writer.specs.InsideUses.{sum_lines, HasUses};
 
 use crate::words::put_lettered;
 use exact_numbers::Dec;

@@ -3,7 +3,7 @@ use Rattle.std.proofs.Common.{◌≡◌, ℕ, zero, suc, ◌<◌, ◌==◌, ◌�
 use Rattle.std.proofs.lemmas.Bool.{cases_eq, eq-eqb, ne_eqb}
 use Rattle.std.proofs.lemmas.List.Folds.{list_any-append}
 use Rattle.proof_text.specs.Proofs.{Pair}
-use Rattle.proof_text.specs.Leaves.{AreMarked}
+use Rattle.proof_text.specs.InsideLeaves.{AreMarked}
 use Rattle.proof_text.specs.Standing.{has_pair}
 
 set_here : (bs : List Bool) (k : ℕ) (v : Bool) → k < length bs → get_or (slice_set bs k v) k false ≡ v

@@ -17,7 +17,7 @@ pub struct LeafPairs {
 }
 
 impl Model for LeafPairs {
-    ghost use Rattle.proof_text.specs.Leaves.{LeafValue, AreMarked};
+    ghost use Rattle.proof_text.specs.InsideLeaves.{LeafValue, AreMarked};
 
     ghost Value = { LeafValue };
 

@@ -14,7 +14,7 @@ use Rattle.linear_programs.specs.Names.{row_name}
 use Rattle.scaling.specs.declared.row.FactoredRow.{FactoredRow}
 use Rattle.scaling.specs.Rows.{side_value}
 use Rattle.scaling.specs.Exported.{exported_from, scaled_row_of}
-use Rattle.row_scaling.specs.Sides.{IsEntryAdded, AreEntriesAdded}
+use Rattle.row_scaling.specs.InsideSides.{IsEntryAdded, AreEntriesAdded}
 use Rattle.row_scaling.proofs.RowLemmas.{Rows, left, left_none, left_some, left_end, entries_more, entries_none}
 use Rattle.row_scaling.proofs.ColumnLemmas.{entry_front}
 

@@ -16,9 +16,9 @@ use Rattle.scaling.specs.declared.row.Tie.{Tie}
 use Rattle.linear_program.specs.Decimals.{DecimalTerm as TermOf}
 use Rattle.scaling.specs.Scaled.{ScaledValue, IsScaled, term_count}
 use Rattle.scaling.specs.Exported.{program_objective, program_rows, program_variables, tied_variables}
-use Rattle.row_scaling.specs.Columns.{entry_value, entries_in_column, tied_count, total_of}
-use Rattle.row_scaling.specs.Filling.{or_first, column_from, with_column, AreRising}
-use Rattle.row_scaling.specs.Filled.{AreFilled}
+use Rattle.row_scaling.specs.InsideColumns.{entry_value, entries_in_column, tied_count, total_of}
+use Rattle.row_scaling.specs.InsideFilling.{or_first, column_from, with_column, AreRising}
+use Rattle.row_scaling.specs.InsideFilled.{AreFilled}
 use Rattle.scaling.proofs.SharedLemmas.{rest_of}
 use Rattle.row_scaling.proofs.RowLemmas.{entries_more, entries_none}
 use Rattle.row_scaling.proofs.VariableLemmas.{left_variables, left_end}

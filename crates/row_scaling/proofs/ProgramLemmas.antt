@@ -2,7 +2,7 @@ use Rattle.std.proofs.Common.{◌≡◌, ◌≢◌, ℕ, zero, suc, ◌+◌, ◌
 use Rattle.std.proofs.lemmas.List.{length-map, map-append}
 use Rattle.std.proofs.lemmas.List.Elements.{All-append}
 use Rattle.fractions.specs.Rational.{ℚ, neg_ℚ, ◌-ℚ◌}
-use Rattle.mps_model.specs.Mps.{MpsRow, Entry, Column, Bound, Mps, with_values, entry_with, bound_with, no_row, objective_row}
+use Rattle.mps_model.specs.Mps.{MpsRow, Entry, Column, Bound, Mps, with_values, entry_with, bound_with, no_mps_row, objective_row}
 use Rattle.mps_model.specs.declared.kinds.RowKind.TheVariants.{N, E}
 use Rattle.mps_model.specs.Valid.{IsBounded, IsComplete, HasEntries}
 use Rattle.exported_program.specs.Program.{kind_of, two_sided, has_side, nonzero, mps_row, with_entry, entries_of, bounds_of, obj_name, nl_name, program_of}
@@ -12,8 +12,8 @@ use Rattle.scaling.specs.declared.row.Tie.{Tie}
 use Rattle.scaling.specs.Rows.{side_value}
 use Rattle.scaling.specs.Scaled.{ScaledValue, IsScaled, IsRowOver}
 use Rattle.scaling.specs.Exported.{exported_from, tied_rows, program_rows, program_objective, program_variables, exported_as}
-use Rattle.row_scaling.specs.Sides.{right_side_of, range_in}
-use Rattle.row_scaling.specs.Filled.{AreFilled}
+use Rattle.row_scaling.specs.InsideSides.{right_side_of, range_in}
+use Rattle.row_scaling.specs.InsideFilled.{AreFilled}
 use Rattle.row_scaling.proofs.RowLemmas.{Rows}
 use Rattle.row_scaling.proofs.WholeLemmas.{tied_row_is}
 
@@ -46,7 +46,7 @@ rows_bounded s ms h e i less =
     (All-append (λ r. r.kind ≢ N) (map mps_row (exported_from 0 s.rows)) (map mps_row (tied_rows s.tie s)) (exported_bounded (length s.bounds) 0 s.rows h.rows) (tied_bounded s s.tie)) in
     let place : suc i ≡ 1 + i = omega arith in
     subst (λ rs. IsBounded rs (1 + i)) (sym e)
-    (subst (IsBounded (record { name = obj_name; kind = N } ∷ map mps_row (program_rows s))) place (all i no_row (omega (arith, length-map (program_rows s) mps_row, less))))
+    (subst (IsBounded (record { name = obj_name; kind = N } ∷ map mps_row (program_rows s))) place (all i no_mps_row (omega (arith, length-map (program_rows s) mps_row, less))))
 
 pub complete : (s : ScaledValue) (m : Mps Dec) (columns : List (Column Dec)) → m.rows ≡ record { name = obj_name; kind = N } ∷ map mps_row (program_rows s) → m.columns ≡ columns → AreFilled s columns → IsComplete m
 unfolding objective_row

@@ -15,7 +15,7 @@ use Rattle.scaling.specs.declared.row.Tie.{Tie}
 use Rattle.scaling.specs.Rows.{IsSparse, IsBelow}
 use Rattle.scaling.specs.Scaled.{ScaledValue, IsScaled, IsTie, term_count}
 use Rattle.scaling.specs.Exported.{exported_from, form_of, tied_row, tied_rows, written_form}
-use Rattle.row_scaling.specs.Columns.{terms_in, entry_value, entries_in_column, column_count, tied_count, IsAdded, AreRowsAdded, AreColumns, total_of}
+use Rattle.row_scaling.specs.InsideColumns.{terms_in, entry_value, entries_in_column, column_count, tied_count, IsAdded, AreRowsAdded, AreColumns, total_of}
 use Rattle.scaling.proofs.SharedLemmas.{nothing_in, first_in, later_in, one_not_zero}
 use Rattle.row_scaling.proofs.ColumnLemmas.{terms_of_row, terms_in-append, entry_front, no_terms}
 use Rattle.row_scaling.proofs.RowLemmas.{entries_more, entries_none}

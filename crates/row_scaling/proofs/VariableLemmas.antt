@@ -18,7 +18,7 @@ use Rattle.scaling.specs.declared.row.Tie.{Tie}
 use Rattle.scaling.specs.Rows.{side_value}
 use Rattle.scaling.specs.Scaled.{ScaledValue}
 use Rattle.scaling.specs.Exported.{tied_variables, program_variables}
-use Rattle.row_scaling.specs.Filling.{AreBoundsAdded}
+use Rattle.row_scaling.specs.InsideFilling.{AreBoundsAdded}
 use Rattle.scaling.proofs.SharedLemmas.{rest_of}
 use Rattle.row_scaling.proofs.WholeLemmas.{no_difference}
 

@@ -11,7 +11,7 @@ use Rattle.exact_numbers.specs.Values.{dec_value}
 use Rattle.scaling.specs.declared.row.Tie.{Tie}
 use Rattle.scaling.specs.Scaled.{ScaledValue}
 use Rattle.scaling.specs.Exported.{exported_from, form_of, tied_row, tied_rows, written_form, program_rows, program_objective}
-use Rattle.row_scaling.specs.Sides.{IsEntryAdded, AreEntriesAdded, right_side_of, range_in}
+use Rattle.row_scaling.specs.InsideSides.{IsEntryAdded, AreEntriesAdded, right_side_of, range_in}
 use Rattle.row_scaling.proofs.RowLemmas.{Rows, entries_none}
 use Rattle.row_scaling.proofs.TieLemmas.{entries_of-append, one_entry}
 use Rattle.scaling.proofs.SharedLemmas.{zero_left_out}

@@ -1,5 +1,5 @@
-pub mod Batches
-pub mod Columns
-pub mod Filled
-pub mod Filling
-pub mod Sides
+pub mod InsideBatches
+pub mod InsideColumns
+pub mod InsideFilled
+pub mod InsideFilling
+pub mod InsideSides

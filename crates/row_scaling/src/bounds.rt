@@ -5,9 +5,9 @@ ghost use Rattle.exact_numbers.specs.Values.{dec_value};
 ghost use Rattle.mps_model.specs.Mps.{bound_with};
 ghost use Rattle.mps_model.specs.Valid.{IsWithoutNumber, SetOtherSides};
 ghost use Rattle.exported_program.specs.Program.{bounds_of, column_bounds};
-ghost use Rattle.row_scaling.specs.Columns.{column_count};
+ghost use Rattle.row_scaling.specs.InsideColumns.{column_count};
 ghost use Rattle.scaling.specs.Exported.{program_variables, tied_variables};
-ghost use Rattle.row_scaling.specs.Filling.{AreBoundsAdded};
+ghost use Rattle.row_scaling.specs.InsideFilling.{AreBoundsAdded};
 ghost use Rattle.scaling.specs.Rows.{side_value};
 
 use crate::numbers::{same_value, zero};

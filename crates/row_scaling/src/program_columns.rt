@@ -3,10 +3,10 @@ ghost use Rattle.std.specs.Prelude.{◌≡◌, ℕ, ◌+◌, ◌<◌, ◌≤◌,
 ghost use Rattle.mps_model.specs.Built.{CanAddColumn};
 ghost use Rattle.mps_model.specs.Valid.{entry_count};
 ghost use Rattle.linear_program.specs.Intervals.{is_whole_kind};
-ghost use Rattle.row_scaling.specs.Columns.{AreColumns, column_count, entries_in_column, total_of};
+ghost use Rattle.row_scaling.specs.InsideColumns.{AreColumns, column_count, entries_in_column, total_of};
 ghost use Rattle.scaling.specs.Exported.{program_rows};
-ghost use Rattle.row_scaling.specs.Filled.{AreFilled};
-ghost use Rattle.row_scaling.specs.Filling.{AreRising, column_from, or_first, with_column};
+ghost use Rattle.row_scaling.specs.InsideFilled.{AreFilled};
+ghost use Rattle.row_scaling.specs.InsideFilling.{AreRising, column_from, or_first, with_column};
 ghost use Rattle.scaling.specs.Scaled.{term_count};
 
 use crate::names::{name_of, numbered_name};

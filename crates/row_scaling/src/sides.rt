@@ -7,7 +7,7 @@ ghost use Rattle.mps_model.specs.Valid.{IsBounded};
 ghost use Rattle.exported_program.specs.Program.{entries_of, nonzero, range_of, rhs_of, with_entry};
 ghost use Rattle.scaling.specs.Exported.{exported_from, program_objective, program_rows};
 ghost use Rattle.scaling.specs.Rows.{side_value};
-ghost use Rattle.row_scaling.specs.Sides.{IsEntryAdded, AreEntriesAdded, right_side_of, range_in};
+ghost use Rattle.row_scaling.specs.InsideSides.{IsEntryAdded, AreEntriesAdded, right_side_of, range_in};
 
 use crate::numbers::{negated, nonzero};
 use exact_numbers::Dec;

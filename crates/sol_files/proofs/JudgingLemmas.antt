@@ -14,8 +14,8 @@ use Rattle.texts.specs.Words.{word_at}
 use Rattle.sol_files.specs.Standing.{Standing}
 use Rattle.sol_files.specs.Tests.{Tests, is_below, has_index, index_limit, last_kind, last_values, value_tests}
 use Rattle.nl_model.specs.SuffixKinds.{wants_whole}
-use Rattle.sol_files.specs.Judging.{marked_value_tests}
-use Rattle.sol_files.specs.Held.{AreMarked}
+use Rattle.sol_files.specs.InsideJudging.{marked_value_tests}
+use Rattle.sol_files.specs.InsideHeld.{AreMarked}
 
 -- the fifth test matters only where the third fails
 third_first : (t1 t2 t3 t4 a b c : Bool) (r1 r2 r3 r4 r5 r6 : Refusal) → (t3 ≡ false → a ≡ b)

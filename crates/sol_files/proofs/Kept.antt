@@ -11,7 +11,7 @@ use Rattle.sol_files.specs.declared.suffix.SolSuffix.{SolSuffix}
 use Rattle.sol_files.specs.Sol.{Sol}
 use Rattle.sol_files.specs.Standing.{Standing}
 use Rattle.sol_files.specs.Built.{IsEmptyOrFull}
-use Rattle.sol_files.specs.Held.{HasNoValues, HasDualCount, AwaitsDuals, AwaitsPrimals}
+use Rattle.sol_files.specs.InsideHeld.{HasNoValues, HasDualCount, AwaitsDuals, AwaitsPrimals}
 use Rattle.sol_files.specs.Written.{IsSaidLine, IsSignedPair, IsWritableSuffix}
 
 pub record Speaks (message : List (List ℕ)) (held : Bool) : Type 0 where

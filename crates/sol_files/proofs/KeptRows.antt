@@ -21,7 +21,7 @@ use Rattle.sol_files.specs.Written.{IsSignedPair}
 use Rattle.sol_files.specs.Tests.{row_tests, is_below, is_given_count, is_three}
 use Rattle.texts.specs.Judged.{first_reason}
 use Rattle.sol_files.specs.Steps.{after_row, options_await, values_await}
-use Rattle.sol_files.specs.Held.{HasNoValues, IsReadyAt}
+use Rattle.sol_files.specs.InsideHeld.{HasNoValues, IsReadyAt}
 use Rattle.sol_files.proofs.ReadyLemmas.{ready_counts, ready_dual, ready_primal}
 use Rattle.sol_files.proofs.Kept.{Speaks, HasOptions, HasNoSuffixes, HasSuffixes, NoneBegun, KeptAt, KeepsAt, Keeps}
 

@@ -6,10 +6,10 @@ pub mod Standing
 pub mod Tests
 pub mod Grammar
 pub mod Steps
-pub mod Held
+pub mod InsideHeld
 pub mod Told
 pub mod Reader
 pub mod Built
 pub mod Written
-pub mod Fields
-pub mod Judging
+pub mod InsideFields
+pub mod InsideJudging

@@ -44,11 +44,11 @@ impl Model for SolGrammar {
 
     ghost Value = { Standing };
 
-    ghost use Rattle.sol_files.specs.Fields.{standing_in};
+    ghost use Rattle.sol_files.specs.InsideFields.{standing_in};
 
     ghost view = { standing_in };
 
-    ghost use Rattle.sol_files.specs.Held.{IsReady};
+    ghost use Rattle.sol_files.specs.InsideHeld.{IsReady};
 
     ghost invariant = { λ g. IsReady (standing_in g) g.marks };
 }

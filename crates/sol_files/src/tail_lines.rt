@@ -8,7 +8,7 @@ ghost use Rattle.sol_files.specs.Rows.{pair_in};
 ghost use Rattle.sol_files.specs.Parts.{rest_awaits};
 ghost use Rattle.sol_files.specs.Tests.{index_limit, last_kind, name_tests, objno_tests, suffix_tests, tail_tests, value_tests};
 ghost use Rattle.nl_model.specs.SuffixKinds.{wants_whole};
-ghost use Rattle.sol_files.specs.Judging.{marked_value_tests};
+ghost use Rattle.sol_files.specs.InsideJudging.{marked_value_tests};
 ghost use Rattle.sol_files.specs.Steps.{after_name, after_objno, after_suffix_head, after_table, after_tail, after_value};
 
 use crate::awaited::{Awaited, SuffixHead};

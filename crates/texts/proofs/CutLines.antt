@@ -3,7 +3,7 @@ use Rattle.std.proofs.Common.{◌≡◌, ◌∙◌, ℕ, zero, suc, ◌+◌, ◌
 use Rattle.std.specs.Prelude.{slice_get, slice_range}
 use Rattle.std.proofs.lemmas.List.{take-append-le, drop-append-le, length-append, length-drop}
 use Rattle.std.proofs.Math.Seq.{drop-append_seam, take-length}
-use Rattle.texts.specs.TextLines.{cut_at, start_at, AreEnds}
+use Rattle.texts.specs.InsideTextLines.{cut_at, start_at, AreEnds}
 
 pub length-cut_at : (start : ℕ) (bytes ends : List ℕ) → length (cut_at start bytes ends) ≡ length ends
 length-cut_at start bytes [] = refl

@@ -2,7 +2,7 @@
 use Rattle.std.proofs.Common.{◌≡◌, ℕ, zero, suc, ◌+◌, ◌<◌, ◌≤◌, ◌==◌, Bool, true, false, List, [], ◌∷◌, length, replicate, slice_set, refl, ap, ap₂, arith}
 use Rattle.std.specs.Prelude.{All}
 use Rattle.std.proofs.lemmas.Bool.{eq-eqb, eqb-true}
-use Rattle.texts.specs.Stamps.{marked}
+use Rattle.texts.specs.InsideStamps.{marked}
 
 unlike : (a b : ℕ) → a < b → (a == b) ≡ false
 unlike a b lt = by (a == b) refl

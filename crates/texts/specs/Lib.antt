@@ -1,12 +1,12 @@
 pub mod Lines
-pub mod LinesFields
+pub mod InsideLinesFields
 pub mod Words
 pub mod Judged
 pub mod Stopped
 pub mod Reading
 pub mod Cut
 pub mod Names
-pub mod TextLines
-pub mod Stamps
+pub mod InsideTextLines
+pub mod InsideStamps
 pub mod Readers
 pub mod Fronts

@@ -54,7 +54,7 @@ impl Model for Lines {
 
     ghost Value = { LinesState };
 
-    ghost use Rattle.texts.specs.LinesFields.{lines_state, IsLines};
+    ghost use Rattle.texts.specs.InsideLinesFields.{lines_state, IsLines};
 
     ghost view = { lines_state };
 

@@ -14,7 +14,7 @@ pub struct Marks {
 
 impl Model for Marks {
     ghost use Rattle.std.specs.Prelude.{List, Bool, map, ◌==◌};
-    ghost use Rattle.texts.specs.Stamps.{marked, AreStamps};
+    ghost use Rattle.texts.specs.InsideStamps.{marked, AreStamps};
 
     ghost Value = { List Bool };
 

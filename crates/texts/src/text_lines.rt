@@ -1,6 +1,6 @@
 // Lists of lines of bytes.
 ghost use Rattle.std.specs.Prelude.{◌≡◌, ◌<◌, ◌++◌, ◌∷◌, [], length, OnOk, OnErr, Some, slice_get};
-ghost use Rattle.texts.specs.TextLines.{cut_at, start_at, AreEnds};
+ghost use Rattle.texts.specs.InsideTextLines.{cut_at, start_at, AreEnds};
 
 use std::alloc::{AllocError, Global};
 use std::marker::Model;
@@ -18,7 +18,7 @@ impl Model for TextLines {
 
     ghost Value = { List (List ℕ) };
 
-    ghost use Rattle.texts.specs.TextLines.{cut_at, AreEnds};
+    ghost use Rattle.texts.specs.InsideTextLines.{cut_at, AreEnds};
 
     ghost view = { λ t. cut_at 0 t.bytes.items t.ends.items };
 

@@ -1,6 +1,6 @@
 use Rattle.std.proofs.Common.{◌∙◌, ap₂, sym, subst}
 use Rattle.nl_model.specs.Draft.{Draft}
-use Rattle.instances.specs.Making.{CanAddRow, with_row}
+use Rattle.instances.specs.InsideMaking.{CanAddRow, with_row}
 use Rattle.instances.specs.declared.draws.Row.{Row}
 use Rattle.instances.proofs.Drafting.{added, begun, can_add, full}
 use Rattle.instances.proofs.make_instance.Goals as goal

@@ -1,6 +1,6 @@
 use Rattle.std.proofs.Common.{◌≡◌, ◌*◌}
 use Rattle.instances.specs.Draws.{state_after}
-use Rattle.instances.specs.Making.{drafted}
+use Rattle.instances.specs.InsideMaking.{drafted}
 use Rattle.instances.proofs.make_instance.Given as goal
 
 abbrev pub invariant-loop-k : goal.invariant-loop-k

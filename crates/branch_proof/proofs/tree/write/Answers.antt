@@ -1,7 +1,7 @@
 use Rattle.std.proofs.Common.{◌<◌, ◌≤◌, ◌∙◌, sym, ap, subst, arith, length, get_or, pos}
 use Rattle.proof_text.specs.declared.proof.ProofNode.TheVariants.{Split}
-use Rattle.branch_proof.specs.Converted.{node_with, pair_count}
-use Rattle.branch_proof.specs.Numbers.{AreReady}
+use Rattle.branch_proof.specs.InsideConverted.{node_with, pair_count}
+use Rattle.branch_proof.specs.InsideNumbers.{AreReady}
 use Rattle.branch_proof.proofs.Conversion.{here, node_added, one_counted, own_rows, whole_begins, whole_ends}
 use Rattle.branch_proof.proofs.tree.write.Goals as goal
 

@@ -1,6 +1,6 @@
 use Rattle.std.proofs.Common.{◌≡◌, ◌+◌, drop, length}
 use Rattle.linear_programs.specs.Linear.{Linear, row_count}
-use Rattle.branch_proof.specs.Numbers.{AreReady}
+use Rattle.branch_proof.specs.InsideNumbers.{AreReady}
 use Rattle.branch_proof.specs.Proofs.{IsProofOf}
 use Rattle.branch_proof.proofs.Conversion.{OnWrite}
 use Rattle.branch_proof.proofs.tree.write.Given as goal

@@ -6,7 +6,7 @@ use Rattle.exact_numbers.specs.Values.{frac_value}
 use Rattle.certificates.specs.Certificates.{tree_over}
 use Rattle.certificate_check.specs.Programs.{program_of}
 use Rattle.certificate_check.proofs.SumLemmas.{if_put}
-use Rattle.certificate_walk.specs.Points.{fractions_of}
+use Rattle.certificate_walk.specs.InsidePoints.{fractions_of}
 use Rattle.certificate_walk.proofs.check.near_outcome.Goals as goal
 
 pub returns-in-Ok : goal.returns-in-Ok

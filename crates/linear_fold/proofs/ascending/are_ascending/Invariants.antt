@@ -1,6 +1,6 @@
 use Rattle.std.proofs.Common.{◌↔◌, drop}
 use Rattle.file_meaning.specs.Expressions.{linear_terms}
-use Rattle.linear_fold.specs.LinearTerms.{AreStrictlyAscending}
+use Rattle.linear_fold.specs.InsideLinearTerms.{AreStrictlyAscending}
 use Rattle.linear_fold.proofs.ascending.are_ascending.Given as goal
 
 abbrev pub invariant-loop-variable : goal.invariant-loop-variable

@@ -1,6 +1,6 @@
 use Rattle.std.proofs.Common.{◌↔◌, drop}
 use Rattle.file_meaning.specs.Expressions.{linear_terms}
-use Rattle.linear_fold.specs.LinearTerms.{AreZeroTerms}
+use Rattle.linear_fold.specs.InsideLinearTerms.{AreZeroTerms}
 use Rattle.linear_fold.proofs.ascending.are_zero.Given as goal
 
 abbrev pub invariant-loop-factor : goal.invariant-loop-factor

@@ -3,7 +3,7 @@ use Rattle.exact_numbers.specs.Values.{frac_value}
 use Rattle.linear_programs.specs.Lines.{constant_line}
 use Rattle.code_tables.specs.declared.class.OpClass.TheVariants.{Absolute}
 use Rattle.fractions.specs.Functions.{absolute_of}
-use Rattle.linear_fold.specs.Operates.{part_line}
+use Rattle.linear_fold.specs.InsideOperates.{part_line}
 use Rattle.linear_fold.proofs.ConstantLemmas.{made_of, one_constant}
 use Rattle.linear_fold.proofs.constants.absolute.Goals as goal
 

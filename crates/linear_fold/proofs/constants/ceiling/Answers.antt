@@ -4,7 +4,7 @@ use Rattle.linear_programs.specs.Lines.{constant_line}
 use Rattle.code_tables.specs.declared.class.OpClass.TheVariants.{Ceiling}
 use Rattle.fractions.specs.Functions.{floor_of}
 use Rattle.fractions.specs.Rational.{neg_ℚ}
-use Rattle.linear_fold.specs.Operates.{part_line}
+use Rattle.linear_fold.specs.InsideOperates.{part_line}
 use Rattle.linear_fold.proofs.ConstantLemmas.{ceiling_is, made_of, one_constant}
 use Rattle.linear_fold.proofs.constants.ceiling.Goals as goal
 

@@ -2,7 +2,7 @@ use Rattle.std.proofs.Common.{refl, reverse}
 use Rattle.exact_numbers.specs.Values.{frac_value}
 use Rattle.code_tables.specs.declared.class.OpClass.TheVariants.{Least}
 use Rattle.linear_programs.specs.Lines.{constant_line}
-use Rattle.linear_fold.specs.Operates.{lines_of_parts}
+use Rattle.linear_fold.specs.InsideOperates.{lines_of_parts}
 use Rattle.linear_fold.proofs.ConstantLemmas.{made_of}
 use Rattle.linear_fold.proofs.constants.least.Goals as goal
 

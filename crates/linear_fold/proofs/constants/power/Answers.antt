@@ -1,7 +1,7 @@
 use Rattle.std.proofs.Common.{◌∙◌, refl, sym}
 use Rattle.exact_numbers.specs.Values.{frac_value}
 use Rattle.linear_programs.specs.Lines.{constant_line}
-use Rattle.linear_fold.specs.Operates.{part_line}
+use Rattle.linear_fold.specs.InsideOperates.{part_line}
 use Rattle.linear_fold.proofs.ConstantLemmas.{power_made, power_refused, power_too_wide}
 use Rattle.linear_fold.proofs.constants.power.Goals as goal
 

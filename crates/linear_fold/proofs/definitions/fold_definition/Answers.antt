@@ -1,5 +1,5 @@
 use Rattle.std.proofs.Common.{◌-◌, ◌+◌, take, Some, set, sym, subst, arith}
-use Rattle.linear_fold.specs.OwnerFolds.{AreSlotsOf}
+use Rattle.linear_fold.specs.InsideOwnerFolds.{AreSlotsOf}
 use Rattle.linear_fold.proofs.DefinitionLemmas.{definition_folded, definition_here}
 use Rattle.linear_fold.proofs.definitions.fold_definition.Goals as goal
 

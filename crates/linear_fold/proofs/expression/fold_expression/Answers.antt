@@ -1,6 +1,6 @@
 use Rattle.std.proofs.Common.{sym, option_copied, subst}
 use Rattle.file_meaning.specs.Expressions.{linear_terms, tree_or_zero}
-use Rattle.linear_fold.specs.Folds.{IsExpressionFolded}
+use Rattle.linear_fold.specs.InsideFolds.{IsExpressionFolded}
 use Rattle.linear_fold.proofs.Operators.{if_ok}
 use Rattle.linear_fold.proofs.expression.fold_expression.Goals as goal
 

@@ -1,6 +1,6 @@
 use Rattle.std.proofs.Common.{subst, arith, length}
 use Rattle.file_meaning.specs.Expressions.{linear_terms}
-use Rattle.linear_fold.specs.Folds.{IsEntryWithin, IsFolded}
+use Rattle.linear_fold.specs.InsideFolds.{IsEntryWithin, IsFolded}
 use Rattle.linear_program.specs.Forms.{IsWithin, form_line}
 use Rattle.linear_fold.proofs.Listing.{nothing_listed, some_term}
 use Rattle.linear_fold.proofs.Operators.{form_fits, if_ok}

@@ -4,7 +4,7 @@ use Rattle.fractions.specs.Rational.{zero_ℚ}
 use Rattle.nl_meaning.specs.Trees.{tree_size}
 use Rattle.file_meaning.specs.Expressions.{tree_or_zero}
 use Rattle.linear_fold.specs.declared.entries.Entry.TheVariants.{Linear}
-use Rattle.linear_fold.specs.Folds.{IsFolded, IsTreeGiven}
+use Rattle.linear_fold.specs.InsideFolds.{IsFolded, IsTreeGiven}
 use Rattle.linear_fold.proofs.Expressions.{prefix_size, prefix_within, same_bound, zero_folded}
 use Rattle.linear_fold.proofs.Folding.{constant_within}
 use Rattle.linear_fold.proofs.expression.tree_entry.Goals as goal

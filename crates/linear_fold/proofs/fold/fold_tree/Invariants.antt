@@ -2,9 +2,9 @@ use Rattle.std.proofs.Common.{◌≡◌, ◌≤◌, ◌+◌, ◌-◌, ◌*◌, l
 use Rattle.nl_meaning.specs.Trees.{Known}
 use Rattle.linear_programs.specs.Lines.{Point}
 use Rattle.nl_model.specs.Nodes.{trees_of}
-use Rattle.linear_fold.specs.Folds.{AreKnown, ArePartsFolded, ArePartsWithin}
+use Rattle.linear_fold.specs.InsideFolds.{AreKnown, ArePartsFolded, ArePartsWithin}
 use Rattle.linear_program.specs.Forms.{place_count}
-use Rattle.linear_fold.specs.Operates.{IsBlank}
+use Rattle.linear_fold.specs.InsideOperates.{IsBlank}
 use Rattle.linear_fold.proofs.fold.fold_tree.Given as goal
 
 abbrev pub invariant-loop-place : goal.invariant-loop-place

@@ -2,9 +2,9 @@ use Rattle.std.proofs.Common.{◌≡◌, ◌∙◌, None, length, reverse, subst
 use Rattle.std.proofs.lemmas.List.{length-reverse}
 use Rattle.nl_meaning.specs.Trees.{HasCount}
 use Rattle.linear_fold.specs.declared.operate.Outcome.TheVariants.{Linear, Refused}
-use Rattle.linear_fold.specs.Folds.{first_broken}
+use Rattle.linear_fold.specs.InsideFolds.{first_broken}
 use Rattle.linear_program.specs.Forms.{place_count}
-use Rattle.linear_fold.specs.Operates.{AreOperands, Operates, lines_of_parts}
+use Rattle.linear_fold.specs.InsideOperates.{AreOperands, Operates, lines_of_parts}
 use Rattle.linear_fold.proofs.Folding.{all_operands, operand_within, operator_broken, operator_folded, operator_within, faulty_operands}
 use Rattle.linear_fold.proofs.fold.operation_part.Goals as goal
 

@@ -1,7 +1,7 @@
 use Rattle.std.proofs.Common.{◌≡◌, ◌≤◌, ◌∷◌, ◌∙◌, ◌+◌, ◌-◌, drop, length, reverse, sym, ap, subst, take, arith, vec_len}
 use Rattle.nl_meaning.specs.Trees.{operator}
 use Rattle.nl_model.specs.Nodes.{with_node}
-use Rattle.linear_fold.specs.Folds.{ArePartsFolded, ArePartsWithin, IsPartFolded, NodeFinds}
+use Rattle.linear_fold.specs.InsideFolds.{ArePartsFolded, ArePartsWithin, IsPartFolded, NodeFinds}
 use Rattle.linear_fold.proofs.Operators.{if_ok}
 use Rattle.linear_fold.proofs.PartLemmas.{back_is, front_is}
 use Rattle.linear_fold.proofs.Stacks.{entry_steps, length-reverse_stack, operator_size, operator_step, within_take, within_parts_drop}

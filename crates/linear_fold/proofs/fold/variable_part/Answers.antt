@@ -1,5 +1,5 @@
 use Rattle.std.proofs.Common.{ap, refl}
-use Rattle.linear_fold.specs.Operates.{multiple_line}
+use Rattle.linear_fold.specs.InsideOperates.{multiple_line}
 use Rattle.linear_fold.proofs.Folding.{multiple_within, same_values, variable_lined}
 use Rattle.linear_fold.proofs.fold.variable_part.Goals as goal
 

@@ -1,7 +1,7 @@
 use Rattle.std.proofs.Common.{◌∙◌, ◌≤◌, ap, arith, refl, ◌+◌, ◌-◌, length, reverse, subst, sym, take}
 use Rattle.exact_numbers.specs.Values.{frac_value}
 use Rattle.linear_program.specs.Forms.{place_count, sum_line}
-use Rattle.linear_fold.specs.Operates.{IsOperand}
+use Rattle.linear_fold.specs.InsideOperates.{IsOperand}
 use Rattle.linear_fold.proofs.Operators.{Running, here_within, running_init, running_more, running_stop, running_end, one_done, done_within}
 use Rattle.linear_fold.proofs.PartLemmas.{last_first, take_all, take_none}
 use Rattle.linear_fold.proofs.operate.add_all.Goals as goal

@@ -1,7 +1,7 @@
 use Rattle.std.proofs.Common.{refl}
 use Rattle.exact_numbers.specs.Values.{frac_value}
 use Rattle.linear_program.specs.Forms.{place_count, sum_line}
-use Rattle.linear_fold.specs.Operates.{part_line}
+use Rattle.linear_fold.specs.InsideOperates.{part_line}
 use Rattle.linear_fold.proofs.Operators.{first_stop, difference_done}
 use Rattle.linear_fold.proofs.PartLemmas.{part_fits}
 use Rattle.linear_fold.proofs.operate.add_difference.Goals as goal

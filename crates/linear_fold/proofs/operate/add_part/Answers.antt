@@ -1,6 +1,6 @@
 use Rattle.std.proofs.Common.{arith, subst}
 use Rattle.linear_program.specs.Forms.{place_count}
-use Rattle.linear_fold.specs.Operates.{IsOperand}
+use Rattle.linear_fold.specs.InsideOperates.{IsOperand}
 use Rattle.linear_fold.proofs.Operators.{few_of_form}
 use Rattle.linear_fold.proofs.PartLemmas.{whole_within}
 use Rattle.linear_fold.proofs.operate.add_part.Goals as goal

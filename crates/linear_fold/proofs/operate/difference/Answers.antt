@@ -1,5 +1,5 @@
 use Rattle.linear_program.specs.Forms.{place_count}
-use Rattle.linear_fold.specs.Operates.{part_line}
+use Rattle.linear_fold.specs.InsideOperates.{part_line}
 use Rattle.linear_fold.proofs.Operators.{if_ok, difference_comes}
 use Rattle.linear_fold.proofs.operate.difference.Goals as goal
 

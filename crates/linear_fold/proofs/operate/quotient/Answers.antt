@@ -2,7 +2,7 @@ use Rattle.std.proofs.Common.{◌∙◌, ap, sym}
 use Rattle.exact_numbers.specs.Values.{frac_value}
 use Rattle.fractions.specs.Rational.{inverse_of}
 use Rattle.linear_program.specs.Forms.{place_count}
-use Rattle.linear_fold.specs.Operates.{part_line}
+use Rattle.linear_fold.specs.InsideOperates.{part_line}
 use Rattle.linear_program.proofs.FracLemmas.{zero_test, nonzero_test}
 use Rattle.linear_fold.proofs.Operators.{if_ok, quotient_zero, quotient_comes}
 use Rattle.linear_fold.proofs.operate.quotient.Goals as goal

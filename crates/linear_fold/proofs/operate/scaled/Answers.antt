@@ -2,7 +2,7 @@ use Rattle.std.proofs.Common.{subst, sym}
 use Rattle.exact_numbers.specs.Values.{frac_value}
 use Rattle.linear_programs.specs.Lines.{line_scaled, products_fit}
 use Rattle.linear_program.specs.Forms.{place_count}
-use Rattle.linear_fold.specs.Operates.{ComesTo, IsOperand, part_line}
+use Rattle.linear_fold.specs.InsideOperates.{ComesTo, IsOperand, part_line}
 use Rattle.linear_fold.proofs.PartLemmas.{whole_within}
 use Rattle.linear_fold.proofs.operate.scaled.Goals as goal
 

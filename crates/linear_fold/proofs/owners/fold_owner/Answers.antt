@@ -3,9 +3,9 @@ use Rattle.nl_meaning.specs.Trees.{tree_size}
 use Rattle.nl_model.specs.FilePlaces.{terms_at, tree_at}
 use Rattle.file_meaning.specs.Expressions.{tree_or_zero}
 use Rattle.linear_fold.specs.FoldedFaults.{HasFaultPlace, fault_for, place_after}
-use Rattle.linear_fold.specs.Folds.{IsEntryWithin, IsExpressionFolded}
+use Rattle.linear_fold.specs.InsideFolds.{IsEntryWithin, IsExpressionFolded}
 use Rattle.linear_program.specs.Forms.{form_terms}
-use Rattle.linear_fold.specs.OwnerFolds.{definitions_before, expression_at, known_by}
+use Rattle.linear_fold.specs.InsideOwnerFolds.{definitions_before, expression_at, known_by}
 use Rattle.linear_fold.proofs.CountLemmas.{over_of}
 use Rattle.linear_fold.proofs.OwnerLemmas.{below_seen, broken_folded, entry_seen, expression_among, given_seen, head_placed, large_folded, linear_folded, owner_count, owner_place, owner_terms, place_bound, within_seen}
 use Rattle.linear_fold.proofs.owners.fold_owner.Goals as goal

@@ -1,5 +1,5 @@
 use Rattle.std.proofs.Common.{◌∙◌, ap, sym, reverse, take}
-use Rattle.linear_fold.specs.Folds.{first_broken}
+use Rattle.linear_fold.specs.InsideFolds.{first_broken}
 use Rattle.linear_fold.proofs.PartLemmas.{one_more, take_all}
 use Rattle.linear_fold.proofs.parts.first_fault.Goals as goal
 

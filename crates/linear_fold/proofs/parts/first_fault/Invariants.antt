@@ -1,5 +1,5 @@
 use Rattle.std.proofs.Common.{◌≡◌, reverse, take}
-use Rattle.linear_fold.specs.Folds.{first_broken}
+use Rattle.linear_fold.specs.InsideFolds.{first_broken}
 use Rattle.linear_fold.proofs.parts.first_fault.Given as goal
 
 abbrev pub invariant-loop-operand : goal.invariant-loop-operand

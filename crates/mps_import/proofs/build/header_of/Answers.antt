@@ -2,7 +2,7 @@ use Rattle.std.proofs.Common.{◌∙◌, sym, ap, ap₂, arith, true, false, len
 use Rattle.nl_model.specs.HeaderRules.{is_header}
 use Rattle.mps_import.specs.Import.{counts_with, import_options}
 use Rattle.std.specs.List.{count_by}
-use Rattle.mps_import.specs.Parts.{side_test}
+use Rattle.mps_import.specs.InsideParts.{side_test}
 use Rattle.mps_import.proofs.PartLemmas.{few_constraints, few_columns, sides_count, counts_are, header_there}
 use Rattle.mps_import.proofs.PlaceLemmas.{not_both_ways}
 use Rattle.mps_import.proofs.build.header_of.Goals as goal

@@ -4,13 +4,13 @@ use Rattle.mps_import.specs.Decimals.{sides_from}
 use Rattle.mps_import.specs.Faults.{is_too_large}
 use Rattle.mps_import.specs.Import.{constraints}
 use Rattle.mps_import.specs.Places.{listed}
-use Rattle.mps_import.specs.Uses.{rank, use_of}
+use Rattle.mps_import.specs.InsideUses.{rank, use_of}
 use Rattle.mps_import.specs.Variables.{order_of_columns, values_of}
 use Rattle.mps_import.proofs.FirstLemmas.{listed_length}
 use Rattle.mps_import.proofs.PartLemmas.{order_is, binary_places, integer_places, all_columns, large_fault, empty_fault, no_fault, large_places, large_terms, not_large}
 use Rattle.mps_import.proofs.TermLemmas.{use_count}
 use Rattle.mps_import.proofs.FileLemmas.{large_is, rank_all, terms_counted, slopes_counted, empty_is, wide_stop}
-use Rattle.mps_import.specs.Columns.{column_kind}
+use Rattle.mps_import.specs.InsideColumns.{column_kind}
 use Rattle.mps_import.proofs.build.parts_of.Goals as goal
 
 pub in_kinds-requires : goal.in_kinds-requires

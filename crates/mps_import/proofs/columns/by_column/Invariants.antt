@@ -1,6 +1,6 @@
 use Rattle.std.proofs.Common.{◌≡◌, ℕ, ◌<◌, map, drop, length, get_or}
 use Rattle.mps_model.specs.Built.{bound_of}
-use Rattle.mps_import.specs.Columns.{none_set, sets_of, with_sets}
+use Rattle.mps_import.specs.InsideColumns.{none_set, sets_of, with_sets}
 use Rattle.mps_import.proofs.columns.by_column.Given as goal
 
 abbrev pub invariant-bounds : goal.invariant-bounds

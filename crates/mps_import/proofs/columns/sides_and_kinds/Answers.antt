@@ -1,7 +1,7 @@
 use Rattle.std.proofs.Common.{◌≡◌, ◌<◌, ◌∙◌, sym, ap, arith, [], length, get_or}
 use Rattle.std.proofs.lemmas.List.{get_or_default}
 use Rattle.mps_model.specs.Mps.{column_interval}
-use Rattle.mps_import.specs.Columns.{column_kind, kind_by, none_set, sets_of, with_sets, set_value}
+use Rattle.mps_import.specs.InsideColumns.{column_kind, kind_by, none_set, sets_of, with_sets, set_value}
 use Rattle.linear_program.specs.Intervals.{interval_of}
 use Rattle.mps_import.specs.Decimals.{sides_from}
 use Rattle.mps_import.specs.Variables.{are_zero_to_one, values_of}

@@ -1,6 +1,6 @@
 use Rattle.std.proofs.Common.{◌≡◌}
 use Rattle.mps_model.specs.Mps.{column_interval}
-use Rattle.mps_import.specs.Columns.{column_kind}
+use Rattle.mps_import.specs.InsideColumns.{column_kind}
 use Rattle.mps_import.specs.Decimals.{sides_from}
 use Rattle.mps_import.specs.Places.{listed}
 use Rattle.mps_import.specs.Variables.{values_of}

@@ -1,7 +1,7 @@
 use Rattle.std.proofs.Common.{◌≡◌, ◌∙◌, sym, ap, ap₂, arith, ◌++◌, get_or}
 use Rattle.std.proofs.lemmas.List.{get_or_default}
 use Rattle.linear_program.specs.declared.kind.Kind.TheVariants.{Continuous}
-use Rattle.mps_import.specs.Columns.{is_kind}
+use Rattle.mps_import.specs.InsideColumns.{is_kind}
 use Rattle.mps_import.proofs.PlaceLemmas.{one_where, places_more}
 use Rattle.mps_import.proofs.places.places_of.Goals as goal
 

@@ -1,6 +1,6 @@
 use Rattle.std.proofs.Common.{◌≡◌}
 use Rattle.mps_import.specs.Places.{listed}
-use Rattle.mps_import.specs.Uses.{rank, use_of}
+use Rattle.mps_import.specs.InsideUses.{rank, use_of}
 use Rattle.mps_import.proofs.rows.row_uses.Given as goal
 
 abbrev pub invariant-rows : goal.invariant-rows

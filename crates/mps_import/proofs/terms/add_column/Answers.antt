@@ -6,7 +6,7 @@ use Rattle.mps_model.specs.Mps.{Entry}
 use Rattle.nl_model.specs.Draft.{Draft}
 use Rattle.nl_model.specs.declared.header_counts.Counts.{Counts}
 use Rattle.mps_import.specs.Import.{import_counts, is_zero_dec}
-use Rattle.mps_import.specs.Uses.{IsOnItsWay, entries_left}
+use Rattle.mps_import.specs.InsideUses.{IsOnItsWay, entries_left}
 use Rattle.mps_import.proofs.EntryLemmas.{column_inside, entries_read, next_entry}
 use Rattle.mps_import.proofs.MeaningLemmas.{order_length}
 use Rattle.mps_import.proofs.LoopLemmas.{drop_all}

@@ -1,6 +1,6 @@
 use Rattle.std.proofs.Common.{◌≡◌, suc, map, drop}
 use Rattle.mps_model.specs.Built.{entry_of}
-use Rattle.mps_import.specs.Uses.{IsOnItsWay, entries_left}
+use Rattle.mps_import.specs.InsideUses.{IsOnItsWay, entries_left}
 use Rattle.mps_import.proofs.terms.add_column.Given as goal
 
 abbrev pub invariant-entries : goal.invariant-entries

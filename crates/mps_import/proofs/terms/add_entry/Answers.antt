@@ -1,5 +1,5 @@
 use Rattle.std.proofs.Common.{◌≡◌, ◌∙◌, sym, ap, subst, cond, OnOk}
-use Rattle.mps_import.specs.Uses.{with_term}
+use Rattle.mps_import.specs.InsideUses.{with_term}
 use Rattle.mps_import.proofs.terms.add_entry.Goals as goal
 
 pub returns-then-is_zero : goal.returns-then-is_zero

@@ -1,5 +1,5 @@
 use Rattle.std.proofs.Common.{ℕ, ◌≤◌, ◌∙◌, sym, ap₂, subst, refl, arith, List, length}
-use Rattle.mps_import.specs.Uses.{IsOnItsWay, terms_left}
+use Rattle.mps_import.specs.InsideUses.{IsOnItsWay, terms_left}
 use Rattle.mps_import.proofs.TermLemmas.{way_begun, way_ended_terms, way_ended_slopes}
 use Rattle.mps_import.proofs.terms.add_terms.Goals as goal
 

@@ -1,5 +1,5 @@
 use Rattle.std.proofs.Common.{◌≡◌, drop}
-use Rattle.mps_import.specs.Uses.{IsOnItsWay, terms_left}
+use Rattle.mps_import.specs.InsideUses.{IsOnItsWay, terms_left}
 use Rattle.mps_import.proofs.terms.add_terms.Given as goal
 
 abbrev pub invariant-variables : goal.invariant-variables

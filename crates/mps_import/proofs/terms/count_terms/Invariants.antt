@@ -1,6 +1,6 @@
 use Rattle.std.proofs.Common.{◌≡◌, ◌+◌, ◌≤◌, drop}
 use Rattle.nl_model.specs.Rules.{most_terms}
-use Rattle.mps_import.specs.Uses.{hits_in, is_constraint_at, is_objective_at}
+use Rattle.mps_import.specs.InsideUses.{hits_in, is_constraint_at, is_objective_at}
 use Rattle.mps_import.proofs.terms.count_terms.Given as goal
 
 abbrev pub invariant-columns : goal.invariant-columns

@@ -1,5 +1,5 @@
 use Rattle.std.proofs.Common.{◌∙◌, arith, length}
-use Rattle.mps_import.specs.Uses.{is_constraint_use, is_objective_use}
+use Rattle.mps_import.specs.InsideUses.{is_constraint_use, is_objective_use}
 use Rattle.mps_import.proofs.PartLemmas.{count_step, entry_within}
 use Rattle.mps_import.proofs.terms.with_entries.Goals as goal
 

@@ -1,7 +1,7 @@
 use Rattle.std.proofs.Common.{◌≡◌, ◌+◌, ◌≤◌, map, drop}
 use Rattle.mps_model.specs.Built.{entry_of}
 use Rattle.nl_model.specs.Rules.{most_terms}
-use Rattle.mps_import.specs.Uses.{hits, is_constraint_at, is_objective_at}
+use Rattle.mps_import.specs.InsideUses.{hits, is_constraint_at, is_objective_at}
 use Rattle.mps_import.proofs.terms.with_entries.Given as goal
 
 abbrev pub invariant-entries : goal.invariant-entries

@@ -1,6 +1,6 @@
 use Rattle.std.proofs.Common.{◌+◌, ◌*◌, ◌<◌, ◌^◌, length, sym, ap, arith}
 use Rattle.std.proofs.lemmas.List.{drop_all}
-use Rattle.mps_reader.specs.Codes.{bytes_code}
+use Rattle.mps_reader.specs.InsideCodes.{bytes_code}
 use Rattle.mps_reader.proofs.CodeLemmas.{one_is_small, code_fits}
 use Rattle.mps_reader.proofs.codes.bytes_code.Goals as goal
 

@@ -1,5 +1,5 @@
 use Rattle.std.proofs.Common.{◌≡◌, ◌≤◌, ◌<◌, ◌-◌, ◌*◌, ◌^◌, length, drop}
-use Rattle.mps_reader.specs.Codes.{bytes_code}
+use Rattle.mps_reader.specs.InsideCodes.{bytes_code}
 use Rattle.mps_reader.proofs.codes.bytes_code.Given as goal
 
 -- the code of the bytes from the place on

@@ -1,7 +1,7 @@
 use Rattle.std.proofs.Common.{◌≡◌, ◌≤◌, ◌-◌, ℕ, length}
 use Rattle.nl_segments.specs.Current.{Current}
 use Rattle.nl_segments.specs.Held.{Body}
-use Rattle.nl_segments.specs.TermRuns.{IsBodyOf, TakesLines, with_counted, with_parts}
+use Rattle.nl_segments.specs.InsideTermRuns.{IsBodyOf, TakesLines, with_counted, with_parts}
 use Rattle.nl_segments.proofs.body_terms.give_terms.Given as goal
 
 -- the lines so far were taken

@@ -1,5 +1,5 @@
 use Rattle.std.proofs.Common.{◌≡◌, drop}
-use Rattle.nl_segments.specs.Ending.{are_sums}
+use Rattle.nl_segments.specs.InsideEnding.{are_sums}
 use Rattle.nl_segments.proofs.ending.are_sums.Given as goal
 
 abbrev pub invariant-columns : goal.invariant-columns

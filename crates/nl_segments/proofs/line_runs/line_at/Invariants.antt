@@ -1,6 +1,6 @@
 use Rattle.std.proofs.Common.{◌≡◌, ◌++◌, drop}
 use Rattle.std.specs.Prelude.{slice_get}
-use Rattle.nl_segments.specs.LineRuns.{lines_in, run_lines}
+use Rattle.nl_segments.specs.InsideLineRuns.{lines_in, run_lines}
 use Rattle.nl_segments.proofs.line_runs.line_at.Given as goal
 
 -- the place is the place `left` of the runs that are left

@@ -1,6 +1,6 @@
 use Rattle.std.proofs.Common.{◌≡◌, ◌*◌, ◌^◌, ◌≤◌, ◌++◌, drop}
 use Rattle.written_texts.specs.Lines.{lines_text}
-use Rattle.nl_writer.specs.Uses.{sum_lines}
+use Rattle.nl_writer.specs.InsideUses.{sum_lines}
 use Rattle.nl_writer.proofs.columns.put_sums.Given as goal
 
 abbrev pub invariant-loop-count : goal.invariant-loop-count

@@ -3,7 +3,7 @@ use Rattle.std.specs.Vec.Iter.{into_iter_items}
 use Rattle.linear_program.specs.declared.interval.Interval.{Interval}
 use Rattle.linear_program.specs.declared.kind.Kind.TheVariants.{Continuous}
 use Rattle.linear_program.specs.Intervals.{is_whole_kind}
-use Rattle.row_scaling.specs.Columns.{column_count, tied_count, entry_value, entries_in_column}
+use Rattle.row_scaling.specs.InsideColumns.{column_count, tied_count, entry_value, entries_in_column}
 use Rattle.row_scaling.proofs.VariableLemmas.{left_more, there, variable_of}
 use Rattle.row_scaling.proofs.ColumnsLeft.{column_put, rising_enough, all_filled, all_filled_tied}
 use Rattle.row_scaling.proofs.FillLemmas.{first_left, others_left}

@@ -1,7 +1,7 @@
 use Rattle.std.proofs.Common.{◌<◌, ◌∙◌, length, All, ap, sym, subst, refl, arith}
 use Rattle.scaling.specs.Rows.{side_value}
 use Rattle.scaling.specs.Exported.{exported_from, program_rows}
-use Rattle.row_scaling.specs.Sides.{range_in, AreEntriesAdded}
+use Rattle.row_scaling.specs.InsideSides.{range_in, AreEntriesAdded}
 use Rattle.row_scaling.proofs.AddLemmas.{there_is_place, no_entries_yet, entry_put, entries_put}
 use Rattle.row_scaling.proofs.WholeLemmas.{ranges_only, range_bounded, ranges_put, exported_are_rows}
 use Rattle.row_scaling.proofs.sides.add_ranges.Goals as goal

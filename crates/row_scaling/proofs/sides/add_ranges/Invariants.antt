@@ -1,5 +1,5 @@
 use Rattle.std.proofs.Common.{◌≡◌}
-use Rattle.row_scaling.specs.Sides.{range_in}
+use Rattle.row_scaling.specs.InsideSides.{range_in}
 use Rattle.row_scaling.proofs.AddLemmas.{AreEntriesLeft}
 use Rattle.row_scaling.proofs.sides.add_ranges.Given as goal
 

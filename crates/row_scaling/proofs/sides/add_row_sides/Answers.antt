@@ -1,5 +1,5 @@
 use Rattle.std.proofs.Common.{length, ap, arith}
-use Rattle.row_scaling.specs.Sides.{right_side_of}
+use Rattle.row_scaling.specs.InsideSides.{right_side_of}
 use Rattle.row_scaling.proofs.AddLemmas.{there_is_place, entry_put, entries_put}
 use Rattle.row_scaling.proofs.WholeLemmas.{rhs_only}
 use Rattle.row_scaling.proofs.sides.add_row_sides.Goals as goal

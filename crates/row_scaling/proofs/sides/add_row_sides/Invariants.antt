@@ -1,5 +1,5 @@
 use Rattle.std.proofs.Common.{◌≡◌}
-use Rattle.row_scaling.specs.Sides.{right_side_of}
+use Rattle.row_scaling.specs.InsideSides.{right_side_of}
 use Rattle.row_scaling.proofs.AddLemmas.{AreEntriesLeft}
 use Rattle.row_scaling.proofs.sides.add_row_sides.Given as goal
 

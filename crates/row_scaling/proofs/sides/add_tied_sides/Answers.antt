@@ -3,7 +3,7 @@ use Rattle.fractions.specs.Rational.{neg_ℚ}
 use Rattle.exported_program.specs.Program.{nonzero}
 use Rattle.exact_numbers.specs.Values.{dec_value}
 use Rattle.scaling.specs.Exported.{exported_from}
-use Rattle.row_scaling.specs.Sides.{right_side_of, AreEntriesAdded}
+use Rattle.row_scaling.specs.InsideSides.{right_side_of, AreEntriesAdded}
 use Rattle.row_scaling.proofs.WholeLemmas.{tied_sides_put}
 use Rattle.row_scaling.proofs.sides.add_tied_sides.Goals as goal
 

@@ -1,5 +1,5 @@
 use Rattle.std.proofs.Common.{◌≡◌, ◌<◌, ◌-◌, suc, length, sym, ap, ◌∙◌, arith}
-use Rattle.texts.specs.TextLines.{start_at}
+use Rattle.texts.specs.InsideTextLines.{start_at}
 use Rattle.texts.proofs.CutLines.{start-next}
 use Rattle.texts.proofs.text_lines.start_of.Goals as goal
 

@@ -1,6 +1,6 @@
 use Rattle.std.proofs.Common.{refl}
 use Rattle.duality.specs.Parts.{lemma}
-use Rattle.certificate_walk.specs.Paths.{sides_of, to_first}
+use Rattle.certificate_walk.specs.InsidePaths.{sides_of, to_first}
 use Rattle.certificate_walk.specs.declared.path.Step.TheVariants.{Showing}
 use Rattle.certificate_walk.proofs.PathLemmas.{one_lemma, path_lemma, stepped}
 use Rattle.certificate_walk.proofs.path.Path.enter_proof.Goals as goal

@@ -1,6 +1,6 @@
 use Rattle.std.proofs.Common.{refl}
 use Rattle.duality.specs.Parts.{lemma}
-use Rattle.certificate_walk.specs.Paths.{sides_of, to_second}
+use Rattle.certificate_walk.specs.InsidePaths.{sides_of, to_second}
 use Rattle.certificate_walk.specs.declared.path.Step.TheVariants.{Over}
 use Rattle.certificate_walk.proofs.PathLemmas.{one_row, path_row, stepped}
 use Rattle.certificate_walk.proofs.path.Path.enter_rest.Goals as goal

@@ -4,7 +4,7 @@ use Rattle.certificate_check.specs.Answers.{bound_answer_of}
 use Rattle.certificate_check.specs.Programs.{program_of}
 use Rattle.certificate_check.specs.Terms.{AreTerms}
 use Rattle.certificate_check.proofs.SumLemmas.{if_put}
-use Rattle.certificate_walk.specs.Paths.{IsLemmaWithin, part_under}
+use Rattle.certificate_walk.specs.InsidePaths.{IsLemmaWithin, part_under}
 use Rattle.certificate_walk.specs.Walks.{bound_in}
 use Rattle.certificate_walk.proofs.Lasts.{last_all}
 use Rattle.certificate_walk.proofs.LeafBounds.{objective_here, sum_here, zero_here}

@@ -1,6 +1,6 @@
 use Rattle.std.proofs.Common.{◌≡◌, ◌≤◌, length, [], rules}
 use Rattle.std.proofs.lemmas.List.{length-map}
-use Rattle.desk.specs.Entries.{entries, text_at}
+use Rattle.desk.specs.InsideEntries.{entries, text_at}
 use Rattle.desk.proofs.Entries.{text_at-past}
 use Rattle.desk.proofs.memory.MemoryDesk.put.Goals as goal
 

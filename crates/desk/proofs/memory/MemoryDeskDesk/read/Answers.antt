@@ -1,6 +1,6 @@
 use Rattle.std.proofs.Common.{◌≡◌, ◌∙◌, ◌-◌, ◌<◌, length, take, drop, [], ap, sym, List, ℕ}
 use Rattle.desk.specs.declared.memory.Entry.{Entry}
-use Rattle.desk.specs.Entries.{entries, text_at}
+use Rattle.desk.specs.InsideEntries.{entries, text_at}
 use Rattle.desk.specs.Memory.{MemoryState}
 use Rattle.desk.proofs.Entries.{read_rest, none_left, rest_whole}
 use Rattle.desk.proofs.memory.MemoryDeskDesk.read.Goals as goal

@@ -1,5 +1,5 @@
 use Rattle.std.proofs.Common.{◌≡◌, ◌≤◌, length, [], rules, arith}
-use Rattle.desk.specs.Entries.{entries, text_at}
+use Rattle.desk.specs.InsideEntries.{entries, text_at}
 use Rattle.desk.proofs.Entries.{past_entries}
 use Rattle.desk.proofs.memory.MemoryDeskDesk.start.Goals as goal
 

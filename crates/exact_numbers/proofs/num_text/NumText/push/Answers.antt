@@ -1,5 +1,5 @@
 use Rattle.std.proofs.Common.{ℕ, ap, arith, length}
-use Rattle.exact_numbers.specs.Padded.{length_back}
+use Rattle.exact_numbers.specs.InsidePadded.{length_back}
 use Rattle.exact_numbers.proofs.PaddedLemmas.{padded-push}
 use Rattle.exact_numbers.proofs.num_text.NumText.push.Goals as goal
 

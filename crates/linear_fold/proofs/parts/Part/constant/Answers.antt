@@ -1,7 +1,7 @@
 use Rattle.std.proofs.Common.{◌≡◌, ◌∙◌, is_some, subst, sym, true}
 use Rattle.exact_numbers.specs.Values.{frac_value}
 use Rattle.linear_programs.specs.Lines.{is_constant}
-use Rattle.linear_fold.specs.Operates.{IsOperand, part_line}
+use Rattle.linear_fold.specs.InsideOperates.{IsOperand, part_line}
 use Rattle.linear_fold.proofs.PartLemmas.{multiple_constant, number_constant}
 use Rattle.linear_fold.proofs.parts.Part.constant.Goals as goal
 

@@ -1,6 +1,6 @@
 use Rattle.std.proofs.Common.{subst₂, sym, ◌∙◌, ap}
 use Rattle.linear_program.specs.Coefs.{AreDecimalsOf}
-use Rattle.linear_program.specs.TermLists.{listed_terms}
+use Rattle.linear_program.specs.InsideTermLists.{listed_terms}
 use Rattle.linear_program.proofs.DecimalLemmas.{decimals_of}
 use Rattle.linear_program.proofs.coefficients.Coefficients.decimals.Goals as goal
 

@@ -1,6 +1,6 @@
 use Rattle.std.proofs.Common.{subst, sym, ◌∙◌, ap}
 use Rattle.linear_program.specs.Coefs.{AreAscending}
-use Rattle.linear_program.specs.TermLists.{listed_terms}
+use Rattle.linear_program.specs.InsideTermLists.{listed_terms}
 use Rattle.linear_program.proofs.DecimalLemmas.{fractions_ascend}
 use Rattle.linear_program.proofs.coefficients.Coefficients.ordered.Goals as goal
 

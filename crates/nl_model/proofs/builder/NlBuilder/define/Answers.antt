@@ -1,7 +1,7 @@
 use Rattle.std.proofs.Common.{◌≡◌, ◌+◌, ◌-◌, ◌<◌, ◌≤◌, false, sym, ap, subst, arith}
 use Rattle.nl_model.specs.HeaderRules.{defined_count}
 use Rattle.nl_model.specs.Rules.{AreTermsBelow, IsDefinition, IsTreeWithin, is_defined}
-use Rattle.nl_model.specs.Built.{draft_of}
+use Rattle.nl_model.specs.InsideBuilt.{draft_of}
 use Rattle.nl_model.proofs.Definitions.{kept-define}
 use Rattle.nl_model.proofs.builder.NlBuilder.define.Goals as goal
 

@@ -1,5 +1,5 @@
 use Rattle.std.proofs.Common.{◌≢◌, ◌<◌, All, sym, subst}
-use Rattle.nl_model.specs.Built.{draft_of}
+use Rattle.nl_model.specs.InsideBuilt.{draft_of}
 use Rattle.nl_model.proofs.Guesses.{guesses-push, kept-dual}
 use Rattle.nl_model.proofs.builder.NlBuilder.dual_guess.Goals as goal
 

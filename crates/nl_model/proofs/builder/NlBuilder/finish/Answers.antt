@@ -1,6 +1,6 @@
 use Rattle.std.proofs.Common.{◌≡◌, length, All, IsSome, sym, subst}
 use Rattle.nl_model.specs.Rules.{term_count}
-use Rattle.nl_model.specs.Built.{draft_of}
+use Rattle.nl_model.specs.InsideBuilt.{draft_of}
 use Rattle.nl_model.proofs.Drafts.{file_of_draft}
 use Rattle.nl_model.proofs.builder.NlBuilder.finish.Goals as goal
 

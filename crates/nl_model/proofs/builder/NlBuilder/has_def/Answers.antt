@@ -1,7 +1,7 @@
 use Rattle.std.proofs.Common.{◌≡◌, ◌+◌, ◌<◌, ◌≤◌, [], false, sym, ap, subst, arith, inl, inr}
 use Rattle.nl_model.specs.HeaderRules.{defined_count}
 use Rattle.nl_model.specs.Rules.{is_defined}
-use Rattle.nl_model.specs.Built.{draft_of}
+use Rattle.nl_model.specs.InsideBuilt.{draft_of}
 use Rattle.nl_model.proofs.Definitions.{undefined_outside}
 use Rattle.nl_model.proofs.builder.NlBuilder.has_def.Goals as goal
 

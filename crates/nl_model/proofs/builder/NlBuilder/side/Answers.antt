@@ -1,5 +1,5 @@
 use Rattle.std.proofs.Common.{◌<◌, length, sym, subst}
-use Rattle.nl_model.specs.Built.{draft_of}
+use Rattle.nl_model.specs.InsideBuilt.{draft_of}
 use Rattle.nl_model.proofs.Drafts.{kept-side}
 use Rattle.nl_model.proofs.builder.NlBuilder.side.Goals as goal
 

@@ -1,6 +1,6 @@
 use Rattle.std.proofs.Common.{◌<◌, [], length, get_or, sym, subst}
 use Rattle.nl_model.specs.Rules.{most_terms}
-use Rattle.nl_model.specs.Built.{draft_of}
+use Rattle.nl_model.specs.InsideBuilt.{draft_of}
 use Rattle.nl_model.proofs.Drafts.{kept-slope}
 use Rattle.nl_model.proofs.builder.NlBuilder.slope.Goals as goal
 

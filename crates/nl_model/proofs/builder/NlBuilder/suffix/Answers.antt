@@ -1,6 +1,6 @@
 use Rattle.std.proofs.Common.{◌≡◌, false, sym, subst}
 use Rattle.nl_model.specs.Rules.{AreTermsBelow, has_suffix, object_count}
-use Rattle.nl_model.specs.Built.{draft_of}
+use Rattle.nl_model.specs.InsideBuilt.{draft_of}
 use Rattle.nl_model.proofs.Guesses.{suffixes-push, kept-suffix}
 use Rattle.nl_model.proofs.builder.NlBuilder.suffix.Goals as goal
 

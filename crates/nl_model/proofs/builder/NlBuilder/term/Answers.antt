@@ -1,6 +1,6 @@
 use Rattle.std.proofs.Common.{◌<◌, sym, subst}
 use Rattle.nl_model.specs.Rules.{term_count, most_terms}
-use Rattle.nl_model.specs.Built.{draft_of}
+use Rattle.nl_model.specs.InsideBuilt.{draft_of}
 use Rattle.nl_model.proofs.Drafts.{kept-term}
 use Rattle.nl_model.proofs.builder.NlBuilder.term.Goals as goal
 

@@ -1,7 +1,7 @@
 use Rattle.std.proofs.Common.{◌∙◌, ◌<◌, arith, subst, sym}
 use Rattle.std.proofs.lemmas.Bool.Decides.{nat_tests}
 use Rattle.nl_segments.specs.Held.{Body, HoldsSome}
-use Rattle.nl_segments.specs.TermRuns.{HasTerms}
+use Rattle.nl_segments.specs.InsideTermRuns.{HasTerms}
 use Rattle.nl_segments.specs.contracts.body.BodyReader.{the_view}
 use Rattle.nl_segments.proofs.TermRuns.{given_at_once, owner_held}
 use Rattle.nl_segments.proofs.body.BodyReader.awaited_terms.Goals as goal

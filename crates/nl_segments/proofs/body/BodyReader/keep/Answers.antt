@@ -1,5 +1,5 @@
 use Rattle.std.proofs.Common.{◌∙◌, refl, ap}
-use Rattle.nl_segments.specs.PairSteps.{one_more}
+use Rattle.nl_segments.specs.InsidePairSteps.{one_more}
 use Rattle.nl_segments.proofs.KnownPairs.{can_keep, kept, kept_some, piece_of}
 use Rattle.nl_segments.proofs.PairTaken.{done_by}
 use Rattle.nl_segments.proofs.body.BodyReader.keep.Goals as goal

@@ -1,6 +1,6 @@
 use Rattle.std.proofs.Common.{refl, subst, sym}
 use Rattle.nl_segments.specs.Held.{Body, HoldsSome}
-use Rattle.nl_segments.specs.TermRuns.{HasTerms, with_counted, with_parts}
+use Rattle.nl_segments.specs.InsideTermRuns.{HasTerms, with_counted, with_parts}
 use Rattle.nl_segments.specs.contracts.body.BodyReader.{the_view}
 use Rattle.nl_segments.proofs.TermRuns.{counted_by, still_some}
 use Rattle.nl_segments.proofs.body.BodyReader.take_front.Goals as goal

@@ -5,7 +5,7 @@ use Rattle.texts.specs.Words.{texts}
 use Rattle.nl_model.specs.Draft.{Draft}
 use Rattle.nl_segments.specs.contracts.body.BodyReader.{the_view}
 use Rattle.nl_lines.specs.Heads.{name_in}
-use Rattle.nl_segments.specs.HeadSteps.{has_come_suffix, new_head_tests, begun_current, begun_name, begun_draft}
+use Rattle.nl_segments.specs.InsideHeadSteps.{has_come_suffix, new_head_tests, begun_current, begun_name, begun_draft}
 use Rattle.nl_segments.specs.Held.{Body, IsHeld, HoldsSome}
 use Rattle.nl_segments.specs.Steps.{after_body_row}
 use Rattle.nl_segments.proofs.HeadSeen.{suffix_named}

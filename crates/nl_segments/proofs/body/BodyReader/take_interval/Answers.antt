@@ -1,7 +1,7 @@
 use Rattle.std.proofs.Common.{◌∙◌, sym, ap, subst}
 use Rattle.texts.specs.Judged.{first_reason}
 use Rattle.texts.specs.Words.{texts}
-use Rattle.nl_segments.specs.LineSteps.{next_interval_tests, with_interval, HasRoom}
+use Rattle.nl_segments.specs.InsideLineSteps.{next_interval_tests, with_interval, HasRoom}
 use Rattle.nl_lines.specs.Tests.{is_sides}
 use Rattle.nl_segments.proofs.IntervalSteps.{interval_refused, interval_step, next_interval}
 use Rattle.nl_segments.proofs.PairLines.{holds_again}

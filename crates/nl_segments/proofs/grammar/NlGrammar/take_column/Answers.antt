@@ -2,7 +2,7 @@ use Rattle.std.proofs.Common.{◌≡◌, ◌∙◌, Some, sym, subst, ap}
 use Rattle.texts.specs.Words.{row_of}
 use Rattle.nl_lines.specs.Rows.{Row}
 use Rattle.nl_segments.specs.Held.{Progress}
-use Rattle.nl_segments.specs.Taking.{TakesAnyRow}
+use Rattle.nl_segments.specs.InsideTaking.{TakesAnyRow}
 use Rattle.nl_segments.proofs.GrammarLemmas.{row_in_body}
 use Rattle.nl_segments.proofs.grammar.NlGrammar.take_column.Goals as goal
 

@@ -2,7 +2,7 @@ use Rattle.std.proofs.Common.{◌≡◌, ◌∙◌, Some, None, refl, sym, subst
 use Rattle.texts.specs.Words.{texts, row_of}
 use Rattle.nl_lines.specs.Rows.{Row}
 use Rattle.nl_segments.specs.Held.{Progress, TakesRow}
-use Rattle.nl_segments.specs.Taking.{TakesAnyRow, TakesHeaderRow}
+use Rattle.nl_segments.specs.InsideTaking.{TakesAnyRow, TakesHeaderRow}
 use Rattle.nl_segments.proofs.GrammarLemmas.{row_in_body, row_in_header}
 use Rattle.nl_segments.proofs.grammar.NlGrammar.take_row.Goals as goal
 

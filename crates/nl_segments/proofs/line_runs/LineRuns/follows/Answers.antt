@@ -1,6 +1,6 @@
 use Rattle.std.proofs.Common.{◌∙◌, ◌<◌, ◌≤◌, arith, ap, sym}
 use Rattle.std.proofs.lemmas.Bool.Decides.{nat_tests}
-use Rattle.nl_segments.specs.LineRuns.{follows}
+use Rattle.nl_segments.specs.InsideLineRuns.{follows}
 use Rattle.nl_segments.proofs.LineRunLemmas.{follows_last, just_after, none_there, not_after}
 use Rattle.nl_segments.proofs.line_runs.LineRuns.follows.Goals as goal
 

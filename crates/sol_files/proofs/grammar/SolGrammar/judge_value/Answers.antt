@@ -2,7 +2,7 @@ use Rattle.std.proofs.Common.{ap, arith}
 use Rattle.texts.specs.Words.{texts}
 use Rattle.sol_files.specs.Standing.{Standing}
 use Rattle.sol_files.specs.Tests.{value_tests}
-use Rattle.sol_files.specs.Judging.{marked_value_tests}
+use Rattle.sol_files.specs.InsideJudging.{marked_value_tests}
 use Rattle.sol_files.proofs.ReadyLemmas.{value_awaited}
 use Rattle.sol_files.proofs.JudgingLemmas.{judged, judged_ok, judged_err}
 use Rattle.sol_files.proofs.grammar.SolGrammar.judge_value.Goals as goal

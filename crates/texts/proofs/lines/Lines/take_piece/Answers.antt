@@ -1,6 +1,6 @@
 use Rattle.std.proofs.Common.{ap, sym, subst, ◌∙◌, ◌≡◌, ◌+◌, ◌≤◌, ◌^◌, arith, false, vec_len}
 use Rattle.std.proofs.lemmas.List.{length-take}
-use Rattle.texts.specs.LinesFields.{IsLines}
+use Rattle.texts.specs.InsideLinesFields.{IsLines}
 use Rattle.texts.specs.declared.lines.Lines.TheInside.{Inside}
 use Rattle.texts.proofs.WalkSteps.{no_end_front, no_end_none}
 use Rattle.texts.proofs.lines.Lines.take_piece.Goals as goal

@@ -1,5 +1,5 @@
 use Rattle.std.proofs.Common.{◌∙◌, ap, lit<}
-use Rattle.texts.specs.Stamps.{marked}
+use Rattle.texts.specs.InsideStamps.{marked}
 use Rattle.texts.proofs.MarkLemmas.{none_marked}
 use Rattle.texts.proofs.marks.Marks.new.Goals as goal
 

@@ -1,6 +1,6 @@
 use Rattle.std.proofs.Common.{◌≡◌, arith, ◌∙◌, ap, sym, replicate, length, ℕ, false, lit<, ◌==◌}
 use Rattle.std.proofs.lemmas.List.{length-map}
-use Rattle.texts.specs.Stamps.{marked}
+use Rattle.texts.specs.InsideStamps.{marked}
 use Rattle.texts.proofs.MarkLemmas.{none_marked}
 use Rattle.texts.proofs.marks.Marks.wipe.Goals as goal
 

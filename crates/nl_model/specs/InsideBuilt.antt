@@ -5,7 +5,7 @@ use Rattle.nl_model.specs.declared.file.NlFile.TheInside.{Inside as FileFields}
 use Rattle.nl_model.specs.File.{File}
 use Rattle.nl_model.specs.HeaderRules.{defined_count}
 use Rattle.nl_model.specs.Rules.{is_defined, term_count, IsFile}
-use Rattle.nl_model.specs.Draft.{Draft, IsDraft, given}
+use Rattle.nl_model.specs.Draft.{Draft, IsDraft, those_given}
 
 abbrev pub draft_of : BuilderFields → Draft
 draft_of b =
@@ -24,7 +24,7 @@ draft_of b =
       suffixes = b.suffixes.items;
     }
 
--- a draft with a mark for each defined variable that was given, and the number of terms
+-- a draft with a mark for each defined variable that was those_given, and the number of terms
 pub record IsKept (d : Draft) (marks : List Bool) (count : ℕ) : Type 0 where
   pub draft : IsDraft d
   pub mark_count : length marks ≡ defined_count d.counts
@@ -41,7 +41,7 @@ read_file f =
       options = f.header.options;
       counts = f.header.counts;
       bodies = f.bodies.items;
-      objectives = given f.objectives.items;
+      objectives = those_given f.objectives.items;
       definitions = f.definitions.items;
       terms = f.terms.items;
       slopes = f.slopes.items;
@@ -52,7 +52,7 @@ read_file f =
       suffixes = f.suffixes.items;
     }
 
--- a file whose objectives were all given
+-- a file whose objectives were all those_given
 pub record IsWhole (f : FileFields) : Type 0 where
   pub file : IsFile (read_file f)
   pub all_given : All IsSome f.objectives.items

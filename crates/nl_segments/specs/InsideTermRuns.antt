@@ -10,8 +10,8 @@ use Rattle.nl_lines.specs.Tests.{is_linear}
 use Rattle.nl_segments.specs.Current.{Current, current_awaits, less_lines}
 use Rattle.nl_segments.specs.Grammar.{Standing, line_refusal}
 use Rattle.nl_segments.specs.Held.{Body, HoldsSome, IsHeld}
-use Rattle.nl_segments.specs.LineSteps.{unless_complete}
-use Rattle.nl_segments.specs.PlaceSteps.{HasOwner, terms_follow, with_term_run}
+use Rattle.nl_segments.specs.InsideLineSteps.{unless_complete}
+use Rattle.nl_segments.specs.InsidePlaceSteps.{HasOwner, terms_follow, with_term_run}
 use Rattle.nl_segments.specs.Steps.{after}
 
 -- ---- lines after one another

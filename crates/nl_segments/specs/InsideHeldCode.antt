@@ -7,7 +7,7 @@ use Rattle.texts.specs.declared.fault.TextFault.{TextFault}
 use Rattle.nl_header.specs.contracts.reader.HeaderReader.{the_row as header_row}
 use Rattle.nl_header.specs.Reading.{Taken}
 use Rattle.nl_model.specs.Draft.{Draft}
-use Rattle.nl_model.specs.FileCode.{draft_code}
+use Rattle.nl_model.specs.InsideFileCode.{draft_code}
 use Rattle.nl_segments.specs.contracts.current.Current.{the_row as current_row}
 use Rattle.nl_segments.specs.contracts.seen.Seen.{the_row as seen_row}
 use Rattle.nl_segments.specs.contracts.places.Places.{the_row as places_row}

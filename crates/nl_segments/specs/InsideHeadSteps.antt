@@ -12,7 +12,7 @@ use Rattle.nl_lines.specs.Heads.{is_in_range, head_of, name_in}
 use Rattle.nl_lines.specs.Pieces.{has_tree, line_count}
 use Rattle.nl_lines.specs.Tests.{Tests, is_suffix, head_form_tests}
 use Rattle.nl_lines.specs.SeenSegments.{Segments, has_segment, with_segment}
-use Rattle.nl_segments.specs.PlaceSteps.{with_begun}
+use Rattle.nl_segments.specs.InsidePlaceSteps.{with_begun}
 use Rattle.nl_segments.specs.Current.{Current, new_current}
 use Rattle.nl_segments.specs.Held.{Body}
 

@@ -5,7 +5,7 @@ use Rattle.nl_lines.specs.declared.leaf.Leaf.{Leaf}
 use Rattle.nl_lines.specs.declared.node_row.NodeRow.{NodeRow}
 use Rattle.nl_lines.specs.Heads.{is_head}
 use Rattle.nl_lines.specs.Leaves.{IsLeafRow}
-use Rattle.nl_segments.specs.TreeSteps.{IsNextRow, counted_node_tests}
+use Rattle.nl_segments.specs.InsideTreeSteps.{IsNextRow, counted_node_tests}
 use Rattle.nl_segments.specs.Held.{Body, HasRow}
 
 -- there is a row in this line that is a letter and a number alone

@@ -12,7 +12,7 @@ use Rattle.nl_model.specs.declared.header_counts.Counts.{Counts}
 use Rattle.linear_program.specs.declared.interval.Interval.{Interval}
 use Rattle.nl_model.specs.File.{Term, Objective, Definition, Suffix, File}
 use Rattle.nl_model.specs.Draft.{Draft}
-use Rattle.nl_model.specs.TreeCode.{tree_code}
+use Rattle.nl_model.specs.InsideTreeCode.{tree_code}
 
 -- what files and drafts share but for objectives
 abbrev Rest : Type 0

@@ -5,7 +5,7 @@ use Rattle.std.specs.Option.{option_or}
 use Rattle.nl_lines.specs.declared.head.Head.{Head}
 use Rattle.nl_lines.specs.declared.head.Head.TheVariants.{Body, Objective, Definition, Terms, Slopes}
 use Rattle.nl_lines.specs.Saying.{OwnerLines, PlaceLines, changed, no_lines}
-use Rattle.nl_segments.specs.LineRuns.{follows}
+use Rattle.nl_segments.specs.InsideLineRuns.{follows}
 
 -- a head in this line
 abbrev pub with_begun : PlaceLines → ℕ → Head → PlaceLines

@@ -12,7 +12,7 @@ use Rattle.mps_import.specs.Decimals.{sides_from}
 use Rattle.mps_import.specs.Faults.{import_fault}
 use Rattle.mps_import.specs.Import.{both_sides, constraints, constraint_terms, objective_terms, import_counts, import_options, import_objective}
 use Rattle.mps_import.specs.Places.{listed}
-use Rattle.mps_import.specs.Uses.{use_of}
+use Rattle.mps_import.specs.InsideUses.{use_of}
 use Rattle.mps_import.specs.Variables.{values_of, columns_that, is_binary, is_integer, order_of_columns}
 
 -- both sides are there, and are equal or differ

@@ -16,7 +16,7 @@ use Rattle.linear_fold.specs.declared.parts.Part.{Part}
 use Rattle.linear_fold.specs.declared.parts.Part.TheVariants.{Number as Constant, Variable as Multiple, Linear as Whole, Broken as Faulty}
 use Rattle.linear_program.specs.declared.form.Form.{Form}
 use Rattle.linear_program.specs.Forms.{IsWithin, form_line}
-use Rattle.linear_fold.specs.Operates.{IsOperand, lines_of_parts, part_line}
+use Rattle.linear_fold.specs.InsideOperates.{IsOperand, lines_of_parts, part_line}
 
 -- the value of f at each point is that of a line of n variables
 abbrev pub HasLine : ℕ → (Point → Option ℚ) → Line → Type 0

@@ -17,7 +17,7 @@ use Rattle.nl_segments.specs.Current.{Current, current_awaits, with_node_row}
 use Rattle.nl_lines.specs.NodeRows.{IsNodeKnown, IsFormedRow, IsReadAs}
 use Rattle.nl_lines.specs.Nodes.{node_in, opcode_in}
 use Rattle.nl_lines.specs.Pieces.{has_tree, is_nothing}
-use Rattle.nl_segments.specs.PlaceSteps.{HasBegun, HasOwner, with_node_line}
+use Rattle.nl_segments.specs.InsidePlaceSteps.{HasBegun, HasOwner, with_node_line}
 use Rattle.nl_lines.specs.Saying.{PlaceLines}
 use Rattle.nl_lines.specs.Tests.{Tests, node_form_tests}
 

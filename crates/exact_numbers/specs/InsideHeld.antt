@@ -4,7 +4,7 @@ use Rattle.std.proofs.Common.{sym, subst}
 use Rattle.std.specs.Coded.{le_prop}
 use lib.IntN.{ℤ_set}
 use Rattle.exact_numbers.specs.Decimal.{IsDec}
-use Rattle.exact_numbers.specs.Packed.{whole_of, signed_words_of, whole_back}
+use Rattle.exact_numbers.specs.InsidePacked.{whole_of, signed_words_of, whole_back}
 
 pub IsDec-prop : (m e : ℤ) → IsProp (IsDec m e)
 IsDec-prop m e x y i =

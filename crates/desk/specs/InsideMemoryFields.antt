@@ -1,7 +1,7 @@
 -- What the fields of a desk in memory stand for.
 use Rattle.std.specs.Prelude.{◌<◌, ◌≤◌, drop, length, All, vec_len, vec_capacity}
 use Rattle.desk.specs.declared.memory.MemoryDesk.TheInside.{Inside}
-use Rattle.desk.specs.Entries.{entries, text_at}
+use Rattle.desk.specs.InsideEntries.{entries, text_at}
 use Rattle.desk.specs.Memory.{MemoryState}
 
 abbrev pub memory_state : Inside → MemoryState

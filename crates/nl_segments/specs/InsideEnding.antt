@@ -6,7 +6,7 @@ use Rattle.nl_lines.specs.declared.fault.NlReason.TheVariants.{ShortSegment, Mis
 use Rattle.nl_lines.specs.Pieces.{is_nothing}
 use Rattle.nl_lines.specs.Tests.{Tests, is_short}
 use Rattle.nl_segments.specs.Held.{Body}
-use Rattle.nl_segments.specs.Taking.{body_awaits}
+use Rattle.nl_segments.specs.InsideTaking.{body_awaits}
 
 -- each number is the one before it and the uses of its variable; the first is that of variable j
 abbrev pub are_sums : List ℕ → ℕ → ℕ → List ℕ → Bool

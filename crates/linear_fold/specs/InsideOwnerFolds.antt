@@ -16,10 +16,10 @@ use Rattle.file_meaning.specs.FoldFaults.{Owner as FoldOwner, definition, constr
 use Rattle.linear_fold.specs.declared.fold_fault.FoldFault.{FoldFault}
 use Rattle.linear_program.specs.declared.form.Form.{Form}
 use Rattle.linear_fold.specs.declared.owners.Folder.{Folder}
-use Rattle.linear_fold.specs.Folds.{AreKnown, AreSlotsWithin, HasLineOf, IsGiven}
+use Rattle.linear_fold.specs.InsideFolds.{AreKnown, AreSlotsWithin, HasLineOf, IsGiven}
 use Rattle.linear_fold.specs.FoldedFaults.{named_fault}
 use Rattle.linear_program.specs.Forms.{IsWithin, form_terms, place_count}
-use Rattle.linear_fold.specs.Operates.{IsBlank}
+use Rattle.linear_fold.specs.InsideOperates.{IsBlank}
 use Rattle.linear_program.specs.Programs.{IsFormOver}
 
 -- the file has the owner

@@ -5,7 +5,7 @@ use Rattle.std.specs.Io.KnownBytes.{Appends}
 use Rattle.desk.specs.Desk.{Meaning, OnlyOutput, Rose}
 use Rattle.texts.specs.declared.stop.Stop.{Stop}
 use Rattle.texts.specs.declared.stop.Stop.TheVariants.{Fault, Memory}
-use Rattle.bridge_tool.specs.Outcome.{Outcome, Status, Written, IsQuiet, line_of, verdict_status}
+use Rattle.bridge_tool.specs.Outcome.{Outcome, Status, Written, IsQuiet, told_line, verdict_status}
 use Rattle.bridge_tool.specs.Promise.{Promise}
 use Rattle.bridge_tool.specs.Told.{IsRefusalLine}
 use Rattle.bridge_tool.specs.Transfer.{AppendsPart}
@@ -40,7 +40,7 @@ pub record IsWorked (p : Promise) (old new : Meaning) (answer : Answer) : Type 0
   pub written : (outcome : Outcome) → p.comes outcome
       → Written outcome old.written new.written (status_of answer)
   pub line : (outcome : Outcome) → p.comes outcome
-      → IfSome (line_of outcome (status_of answer)) (λ line. line ≡ told_by answer)
+      → IfSome (told_line outcome (status_of answer)) (λ line. line ≡ told_by answer)
   pub refusal : status_of answer ≡ 2 → IsRefusalLine (told_by answer)
   pub quiet : IsQuiet (status_of answer) → new.written ≡ old.written
   pub left : (status_of answer ≤ 2) ⊎ (status_of answer ≡ 5) → (text : List ℕ) → p.last text
