@@ -24,11 +24,6 @@ use Rattle.bridge_tool.proofs.Options.{same_some}
 
 -- ---- steps
 
--- steps are counted only where a test says so, as where the objective is there
-pub steps_so : (b : Bool) (old new bound : ℕ) → new ≤ old + bound → (b ≡ false → new ≡ old) → new ≤ old + (if b then bound else 0)
-steps_so true old new bound le none = le
-steps_so false old new bound le none = let is = none refl in omega (arith, is)
-
 -- ---- promises
 
 -- exactly one outcome, one text that is started last, and steps need not be counted

@@ -18,7 +18,7 @@ use Rattle.scaling.specs.Exported.{exported_as}
 use Rattle.scaling.specs.Scaled.{ScaledValue}
 use Rattle.scaling.specs.Scaling.{IsScaledOf, factor_at}
 use Rattle.answer_file.specs.Grammar.{AnswerValue}
-use Rattle.dual_return.specs.Return.{sign_by, sign_of, multiplier_of, linear_for, IsDualAt, Reaches, IsTooWideAt, AreDuals, DualBy, AreFactors}
+use Rattle.dual_return.specs.Return.{sign_by, sign_of, multiplier_of, linear_for, IsDualAt, Reaches, IsTooWideAt, AreDuals, DualBy}
 
 -- ---- the sense
 
@@ -49,16 +49,6 @@ pub same-sign : (f : File) (a : AnswerValue) (s : ScaledValue) → IsScaledOf (l
 same-sign f a s h = ap (λ b. sign_by (a.min_sign && b)) (same-sense (linear_for f a) s h ∙ same-maximise f a.objective)
 
 -- ---- factors
-
-factor-known : (f : Linear) (s : ScaledValue) (i : ℕ) (b : Bool) → is_exported (row_at f i) ≡ b → IsScaledOf f s → IfSome (factor_at s i) (λ g. pos 0 ≤ℤ g)
-factor-known f s i true e h = subst (λ (o : Option ℤ). IfSome o (λ g. pos 0 ≤ℤ g)) (sym (h.factors.exported i e)) (omega (arith, ints))
-factor-known f s i false e h = subst (λ (o : Option ℤ). IfSome o (λ g. pos 0 ≤ℤ g)) (sym (h.factors.others i (λ t. absurd (clash (sym t ∙ e))))) tt
-  where
-    clash : true ≡ false → ⊥
-    clash e = absurd cc
-
-pub factors-known : (f : Linear) (s : ScaledValue) → IsScaledOf f s → AreFactors s
-factors-known f s h = λ i. factor-known f s i (is_exported (row_at f i)) refl h
 
 exported-by : (f : Linear) (s : ScaledValue) (i : ℕ) (g : ℤ) (b : Bool) → is_exported (row_at f i) ≡ b → IsScaledOf f s → factor_at s i ≡ Some g → IsTrue (is_exported (row_at f i)) × (g ≡ pos (factor_of_row f i))
 exported-by f s i g true e h is = (e, let same = sym is ∙ h.factors.exported i e in cc)
@@ -138,9 +128,6 @@ pub record AreFirst (a : AnswerValue) (s : ScaledValue) (duals : List Dec) (n : 
   pub count : length duals ≡ n
   pub each : (f : File) → IsScaledOf (linear_for f a) s → (i : ℕ) (d : Dec) → slice_get duals i ≡ Some d → IsDualAt f a i d
   pub reach : (f : File) → IsScaledOf (linear_for f a) s → (k : ℕ) → k < n → Reaches f a k
-
-pub none-first : (a : AnswerValue) (s : ScaledValue) (duals : List Dec) → duals ≡ [] → AreFirst a s duals 0
-none-first a s duals e = subst (λ (ds : List Dec). AreFirst a s ds 0) (sym e) (record { count = refl; each = λ f h i d is. absurd (cc); reach = λ f h k less. absurd (omega arith) })
 
 pub get-push : {A : Type 0} (xs : List A) (y : A) (i : ℕ) (x : A) → slice_get (xs ++ y ∷ []) i ≡ Some x → (slice_get xs i ≡ Some x) ⊎ ((i ≡ length xs) × (x ≡ y))
 get-push [] y zero x e = inr (refl, let same : Some y ≡ Some x = e in cc)

@@ -201,10 +201,6 @@ decimal-times m e k =
     same_value (decimal_is (m *ℤ k) e) (product_value (decimal_is m e) (whole_value k))
     (ap₂ (λ z n. z *ℤ pos n) (*ℤ_assoc m k (pos (10 ^ up e)) ∙ ap (λ z. m *ℤ z) (*ℤ_comm k (pos (10 ^ up e))) ∙ sym (*ℤ_assoc m (pos (10 ^ up e)) k)) (mul-one (10 ^ down e)))
 
--- what `Dec::times` stands on
-pub product_out : (d : Dec) (k : ℤ) → IsInReach d k → unsigned_abs (d.m *ℤ k) < 2 ^ 127
-product_out d k h = h.size
-
 pub in_reach : (r : Option Dec) (d : Dec) (n e k : ℤ) → n ≡ d.m *ℤ k → e ≡ d.e → unsigned_abs (d.m *ℤ k) < 2 ^ 127 → MatchOption r (FitsDec (decimal_value n e) → ⊥) (λ x. dec_value x ≡ decimal_value n e) → MatchOption r (IsInReach d k → ⊥) (λ x. IsInReach d k × (dec_value x ≡ dec_value d *ℚ whole k))
 in_reach r d n e k p q size h = by r (match_dec r _ _ (ap₂ decimal_value p q ∙ decimal-times d.m d.e k) h)
   where

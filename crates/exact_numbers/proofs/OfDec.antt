@@ -8,7 +8,7 @@ use Rattle.std.proofs.lemmas.Nat.Gcd.{le_of_dvd, mod-eq-zero_of_dvd, dvd_of_mod-
 use Rattle.fractions.specs.Divisors.{AreCoprime}
 use Rattle.exact_numbers.proofs.Pairs.{SameValue, HasFrac, pair, scaled}
 use Rattle.exact_numbers.specs.Fraction.{IsFrac, IsCofactor}
-use Rattle.exact_numbers.specs.Decimal.{signed, IsDec}
+use Rattle.exact_numbers.specs.Decimal.{signed}
 use Rattle.std.specs.Int.{w16, w128}
 use mir.Val.{SFits}
 use Rattle.exact_numbers.proofs.Coprime.{coprime-mul, coprime-pow, dvd_other}
@@ -16,7 +16,7 @@ use Rattle.exact_numbers.proofs.Signed.{times_twice}
 use Rattle.exact_numbers.proofs.Decimals.{abs_is, scaled-bottom}
 use Rattle.std.proofs.lemmas.Int.{ints}
 use borrow.Author.Differences.{up, down}
-use Rattle.exact_numbers.proofs.Fractions.{only_coprime, is_frac_signed, signed_times, signed_self, sized_fits}
+use Rattle.exact_numbers.proofs.Fractions.{only_coprime, is_frac_signed, signed_times, signed_self}
 
 pub grown_more : (s f i : ℕ) → s * f ^ i * f ≡ s * f ^ (i + 1)
 grown_more s f i = rw add-one (mul_assoc s (f ^ i) f ∙ ap (λ p. s * p) (sym (pow-suc f i)))
@@ -147,13 +147,6 @@ part_of_dec m e n k a b t rest h same size within second whole part twos fives =
     let parts = abs_is e in
     (of_part m e k a b rest (omega (arith, ints)) (omega (arith, ints, size)) s, s.small)
 
-pub mantissa_fits : (m e : ℤ) → IsDec m e → SFits w128 m
-mantissa_fits m e h = sized_fits m h.mantissa
-
-pub exponent_fits : (m e : ℤ) → IsDec m e → SFits w16 e
-exponent_fits m (pos n) h = record { sfits = let p = h.exponent in omega arith }
-exponent_fits m (negsuc n) h = record { sfits = let p = h.exponent in omega arith }
-
 pub front_le : (a b : ℕ) → 2 ^ a ≤ 2 ^ a * 5 ^ b
 front_le a b = le-mul_of_pos_right (2 ^ a) (one-le-pow b 5 (lit< tt))
 
@@ -167,9 +160,6 @@ some_left n r f k l two h live small e = ⊎_elim (λ p. p) none (cases_lt 0 l)
         let whole : n ≡ r * f ^ k = e ∙ ap (λ j. r * f ^ j) all in
         let some : 0 < r = ⊎_elim (λ p. p) (λ y. absurd (let gone : r ≡ 0 = omega arith in let m = ap (λ x. x * f ^ k) gone in omega (arith, m, whole))) (cases_lt 0 r) in
         absurd (omega (arith, whole, le-mul_of_pos_right (f ^ k) some, mul_comm r (f ^ k)))
-
-apart_from : (d f k : ℕ) → AreCoprime d f → AreCoprime d (f ^ k)
-apart_from = coprime-pow
 
 pub cofactor_of : (n t c i j : ℕ) → 0 < n → n < 2 ^ 127 → i ≤ 127 → j ≤ 127 → n ≡ t * 2 ^ (127 - i) → t ≡ c * 5 ^ (127 - j) → (0 < i → t % 2 ≢ 0) → (0 < j → c % 5 ≢ 0) → IsCofactor n c × (0 < c) × (c ≤ n)
 cofactor_of n t c i j live small hi hj whole part twos fives =

@@ -15,9 +15,6 @@ use Rattle.std.specs.Str.Parse.{AllDigits, digits_value, digits_value_after}
 pub digit_byte : (c : ℕ) → digit_value c < 10 → (48 ≤ c) × (c ≤ 57) × (digit_value c ≡ c - 48)
 digit_byte c h = grind (arith, nat_tests)
 
-pub byte_digit : (c : ℕ) → 48 ≤ c → c ≤ 57 → digit_value c ≡ c - 48
-byte_digit c p q = grind (arith, nat_tests)
-
 pub digit_at : (xs : List ℕ) (k : ℕ) → AllDigits 10 xs → k < length xs → digit_value (get_or xs k 0) < 10
 digit_at [] k h l = absurd (omega arith)
 digit_at (x ∷ xs) zero h l = h.0

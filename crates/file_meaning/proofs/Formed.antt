@@ -62,8 +62,6 @@ all_among (d ∷ ds) is i h =
     ⊎_elim (λ (g : d.index == i ≡ true). kept ds (d.index ∷ is) i (inl (sym (eqb-true d.index i g)))) (λ (g : is_defined ds i ≡ true). all_among ds (d.index ∷ is) i g) (or_cases (d.index == i) (is_defined ds i) h)
 
 -- ---- bodies and objectives
-zero_formed : (n : ℕ) (is : List ℕ) → IsFormed n is (tree_or_zero None)
-zero_formed n is = tt
 
 body_formed : (n : ℕ) (ds : List Definition) (is : List ℕ) → AreAmong ds is → (b : Option Tree) → IfSome b (IsTreeKnown n ds) → IsFormed n is (tree_or_zero b)
 body_formed n ds is among None h = tt

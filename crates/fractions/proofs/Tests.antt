@@ -19,7 +19,3 @@ is_zero-false x e h = let f : true ≡ false = ap is_pos_zero (sym (top_zero x h
 pub option_or-none : {T : Type 0} (f g : Option T) → option_or f g ≡ None → (f ≡ None) × (g ≡ None)
 option_or-none {T} None g e = (refl, e)
 option_or-none {T} (Some x) g e = cc
-
-pub option_or-none_right : {T : Type 0} (f : Option T) → option_or f None ≡ f
-option_or-none_right {T} None = refl
-option_or-none_right {T} (Some x) = refl

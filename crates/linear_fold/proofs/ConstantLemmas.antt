@@ -314,9 +314,6 @@ some_size x h = by x.top h
     by (pos n) g = absurd (omega (arith, ints))
     by (negsuc n) g = omega arith
 
-pub quotient_small : (a b m : ℕ) → 0 < b → a < m → a / b < m
-quotient_small a b m some h = let r : a / b ≤ a = div-le_self a b in omega arith
-
 pub ceiling_is : (x : ℚ) → neg_ℚ (floor_of (neg_ℚ x)) ≡ ceiling_of x
 unfolding ceiling_of
 ceiling_is x = refl

@@ -48,17 +48,6 @@ none_there zero i = refl
 none_there (suc n) zero = refl
 none_there (suc n) (suc i) = none_there n i
 
-pub no_slots : (f : File) → AreSlotsOf f [] (replicate (defined_count f.counts) None)
-no_slots f =
-    record {
-      within = λ k x e. (let clash : None ≡ Some x = sym (none_there (defined_count f.counts) k) ∙ e in cc);
-      known = λ k x e. (let clash : None ≡ Some x = sym (none_there (defined_count f.counts) k) ∙ e in cc);
-      given = λ i e. absurd (let clash : false ≡ true = e in cc);
-      free = λ i e h. none_there (defined_count f.counts) (i - f.counts.n_var);
-      room = length-replicate (defined_count f.counts) None;
-      filled = sum_by-replicate (λ s. option_map_or (λ x. 1) s 0) (defined_count f.counts) None ∙ omega arith;
-    }
-
 -- ---- one more form
 some-inj : (x y : Form) → Some x ≡ Some y → x ≡ y
 some-inj x y e = ap (λ o. option_map_or (λ z. z) o x) e

@@ -3,16 +3,14 @@ use Rattle.std.proofs.Common.{◌≡◌, ℕ, zero, suc, ◌+◌, ◌*◌, ◌<�
 use Rattle.std.specs.Option.{option_or}
 use Rattle.std.proofs.lemmas.List.Elements.{All-head, All-tail}
 use Rattle.texts.specs.declared.stop.Stop.{Stop}
-use Rattle.texts.specs.declared.stop.Stop.TheVariants.{Fault as Stopped, Memory}
+use Rattle.texts.specs.declared.stop.Stop.TheVariants.{Fault as Stopped}
 use Rattle.fractions.specs.Rational.{ℚ, zero_ℚ, one_ℚ, ◌+ℚ◌, ◌*ℚ◌}
 use Rattle.fractions.proofs.Arithmetic.{*ℚ_zero, +ℚ_zero}
 use Rattle.exact_numbers.proofs.Bridge.{zero_decimal}
 use Rattle.fractions.specs.Fits.{fits}
-use Rattle.nl_meaning.specs.declared.Fault.{Fault}
 use Rattle.linear_programs.specs.Lines.{Line, line_value, constant_line, line_with, products_fit, Point}
 use Rattle.nl_meaning.specs.Faults.{fault_at, too_wide_unless, line_with_terms, terms_fault, tree_fault}
 use Rattle.nl_meaning.specs.Trees.{Known, Tree, Trees, LinearTerm, AreTermsBelow, tree_size, trees_size, tree_value}
-use Rattle.fractions.proofs.Tests.{option_or-none_right}
 use Rattle.nl_meaning.proofs.Linear.{terms_added}
 use Rattle.linear_programs.proofs.LineLemmas.{apart-eqb}
 use Rattle.nl_model.specs.declared.node.Node.{Node}
@@ -26,7 +24,7 @@ use Rattle.linear_program.specs.declared.form.Form.{Form}
 use Rattle.linear_program.specs.declared.too_wide.Wide.{Wide}
 use Rattle.linear_program.specs.Forms.{form_line, AddsScaled, IsWithin, IsZeroFrom}
 use Rattle.linear_fold.specs.InsideOperates.{zero_line}
-use Rattle.linear_fold.specs.InsideFolds.{AddsTerms, AreNodesWithin, AreTreesGiven, ComesToTerms, HasLineOf, IsEntryWithin, IsExpressionFolded, IsFolded, IsTreeGiven}
+use Rattle.linear_fold.specs.InsideFolds.{AreNodesWithin, AreTreesGiven, ComesToTerms, HasLineOf, IsEntryWithin, IsExpressionFolded, IsFolded, IsTreeGiven}
 use Rattle.linear_fold.proofs.Folding.{constant_lined, is_line_of, same_form}
 use Rattle.exact_numbers.proofs.Zeros.{fits_zero}
 use Rattle.linear_fold.proofs.Operators.{FitsLine, copy_fits, multiplied, scaled_by_one}
@@ -70,19 +68,6 @@ module _ (z : Line) (empty : z ≡ zero_line) (a : Line) (k : ℚ) (one : k ≡ 
       cc
 
 -- ---- terms
-pub add_more : (a new : Line) (i : ℕ) (t : LinearTerm) (ts : List LinearTerm) → (terms_fault a i (t ∷ []) ≡ None) × (new ≡ line_with_terms a (t ∷ [])) → (terms_fault new (i + 1) ts ≡ terms_fault a i (t ∷ ts)) × (line_with_terms new ts ≡ line_with_terms a (t ∷ ts))
-add_more a new i t ts h = (
-  ap (λ l. terms_fault l (i + 1) ts) h.1 ∙ ap (λ f. option_or f (terms_fault (line_with_terms a (t ∷ [])) (i + 1) ts)) (sym h.0 ∙ option_or-none_right _),
-  ap (λ l. line_with_terms l ts) h.1,
-)
-
-pub add_stop : (a new other : Line) (i : ℕ) (t : LinearTerm) (ts : List LinearTerm) (s : Stop Fault) → AddsTerms a i (t ∷ []) new (Err s) → AddsTerms a i (t ∷ ts) other (Err s)
-add_stop a new other i t ts (Stopped f) h = ap (λ r. option_or r (terms_fault (line_with_terms a (t ∷ [])) (i + 1) ts)) (sym (option_or-none_right _) ∙ h)
-add_stop a new other i t ts Memory h = tt
-
-pub stop_same : (a b new : Line) (i j : ℕ) (ts us : List LinearTerm) (s : Stop Fault) → terms_fault a i ts ≡ terms_fault b j us → AddsTerms a i ts new (Err s) → AddsTerms b j us new (Err s)
-stop_same a b new i j ts us (Stopped f) e h = sym e ∙ h
-stop_same a b new i j ts us Memory e h = tt
 
 pub term_at : (ts : List Term) (i : ℕ) (t : Term) → i < length ts → t ≡ get_or ts i t → drop i ts ≡ t ∷ drop (i + 1) ts
 term_at ts i t h e =

@@ -92,22 +92,11 @@ module _ (a : Line) (i : ℕ) (ts : List LinearTerm) (k : ℚ) (out : List Term)
       sym l.fault
       ∙ ap (λ b. option_or (fault_at j (too_wide_unless (b && sum_fits (coef_in out t.variable) t.factor))) (terms_fault (line_with (list_line k out) t.variable t.factor) (j + 1) rest)) wide
 
-pub all_listed : (a : Line) (i : ℕ) (ts : List LinearTerm) (k : ℚ) (out : List Term) (j : ℕ) (rest : List LinearTerm) → rest ≡ [] → IsListed a i ts k out j rest → (terms_fault a i ts ≡ None) × (list_line k out ≡ line_with_terms a ts)
-all_listed a i ts k out j rest e l = (
-  sym l.fault ∙ ap (terms_fault (list_line k out) j) e,
-  sym (ap (line_with_terms (list_line k out)) e) ∙ l.line,
-)
-
 -- ---- terms that add nothing
 pub zero_more : (all rest : List FileTerm) (i : ℕ) (t : FileTerm) (whole : Type 0) → drop i all ≡ t ∷ rest → dec_value t.1 ≡ zero_ℚ → AreZeroTerms (linear_terms (drop i all)) ↔ whole → AreZeroTerms (linear_terms rest) ↔ whole
 zero_more all rest i t whole at z h =
     let here = subst (λ ts. AreZeroTerms (linear_terms ts) ↔ whole) at h in
     (λ a. here.0 (z, a), λ w. (here.1 w).1)
-
-pub zero_stop : (all rest : List FileTerm) (i : ℕ) (t : FileTerm) (whole : Type 0) → drop i all ≡ t ∷ rest → dec_value t.1 ≢ zero_ℚ → AreZeroTerms (linear_terms (drop i all)) ↔ whole → whole → ⊥
-zero_stop all rest i t whole at n h w =
-    let here = subst (λ ts. AreZeroTerms (linear_terms ts) ↔ whole) at h in
-    n (here.1 w).0
 
 pub nothing_listed : (a : Line) (i : ℕ) (ts : List LinearTerm) → ((j : ℕ) → fits (a.coef j) ≡ true) → AreZeroTerms ts → (terms_fault a i ts ≡ None) × (a ≡ line_with_terms a ts)
 nothing_listed a i [] f z = (refl, refl)

@@ -5,12 +5,12 @@ use Rattle.std.proofs.Math.Nat.{mul-le-mul_left}
 use Rattle.texts.specs.declared.stop.Stop.{Stop}
 use Rattle.texts.specs.declared.stop.Stop.TheVariants.{Fault, Memory}
 use Rattle.code_tables.specs.declared.class.OpClass.{OpClass}
-use Rattle.code_tables.specs.declared.class.OpClass.TheVariants.{Sum, Difference, Product, Quotient, Negation, List as SumOfAll}
+use Rattle.code_tables.specs.declared.class.OpClass.TheVariants.{Sum, Difference, Quotient, Negation, List as SumOfAll}
 use Rattle.fractions.specs.Fits.{fits, sum_fits}
 use Rattle.fractions.specs.Rational.{ℚ, zero_ℚ, one_ℚ, ◌+ℚ◌, ◌*ℚ◌, neg_ℚ, inverse_of}
 use Rattle.fractions.proofs.Arithmetic.{one-*ℚ, neg-*ℚ, *ℚ_zero, zero-+ℚ, +ℚ_zero}
 use Rattle.nl_meaning.specs.declared.Reason.{Reason}
-use Rattle.nl_meaning.specs.declared.Reason.TheVariants.{Nonlinear, DivideByZero}
+use Rattle.nl_meaning.specs.declared.Reason.TheVariants.{DivideByZero}
 use Rattle.linear_programs.specs.Lines.{line_sum, line_scaled, line_neg, sums_fit, products_fit, running_sums_fit, running_line, Line, is_zero, is_constant}
 use Rattle.nl_meaning.specs.Faults.{too_wide_unless, operator_fault}
 use Rattle.linear_programs.proofs.LineLemmas.{all_below-true}
@@ -185,14 +185,6 @@ pub difference_comes : (n : ℕ) (a b : Line) (o : Outcome) → ComesTo n (sums_
 difference_comes n a b (Linear f) h = (ap too_wide_unless h.0, h.1, h.2)
 difference_comes n a b (Refused r) h = ap too_wide_unless h.0 ∙ ap Some (sym h.1)
 
-line_first : (p : Bool) (x y : Line) → p ≡ true → (if p then x else y) ≡ x
-line_first true x y e = refl
-line_first false x y e = cc
-
-line_second : (p : Bool) (x y : Line) → p ≡ false → (if p then x else y) ≡ y
-line_second true x y e = cc
-line_second false x y e = refl
-
 pub fault_first : (p : Bool) (x y : Option Reason) → p ≡ true → (if p then x else y) ≡ x
 fault_first true x y e = refl
 fault_first false x y e = cc
@@ -200,25 +192,6 @@ fault_first false x y e = cc
 pub fault_second : (p : Bool) (x y : Option Reason) → p ≡ false → (if p then x else y) ≡ y
 fault_second true x y e = cc
 fault_second false x y e = refl
-
-pub product_first : (n : ℕ) (a b : Line) (o : Outcome) (k : ℚ) → k ≡ a.constant → is_constant n a ≡ true → ComesTo n (products_fit n k b) (line_scaled k b) o → Operates n Product (a ∷ b ∷ []) o
-product_first n a b (Linear f) k is t h = (
-  fault_first _ _ _ t ∙ ap too_wide_unless (ap (λ x. products_fit n x b) (sym is) ∙ h.0),
-  h.1 ∙ ap (λ x. line_scaled x b) is ∙ sym (line_first _ _ _ t),
-  h.2,
-)
-product_first n a b (Refused r) k is t h = fault_first _ _ _ t ∙ ap too_wide_unless (ap (λ x. products_fit n x b) (sym is) ∙ h.0) ∙ ap Some (sym h.1)
-
-pub product_second : (n : ℕ) (a b : Line) (o : Outcome) (k : ℚ) → k ≡ b.constant → is_constant n a ≡ false → is_constant n b ≡ true → ComesTo n (products_fit n k a) (line_scaled k a) o → Operates n Product (a ∷ b ∷ []) o
-product_second n a b (Linear f) k is s t h = (
-  fault_second _ _ _ s ∙ fault_first _ _ _ t ∙ ap too_wide_unless (ap (λ x. products_fit n x a) (sym is) ∙ h.0),
-  h.1 ∙ ap (λ x. line_scaled x a) is ∙ sym (line_second _ _ _ s),
-  h.2,
-)
-product_second n a b (Refused r) k is s t h = fault_second _ _ _ s ∙ fault_first _ _ _ t ∙ ap too_wide_unless (ap (λ x. products_fit n x a) (sym is) ∙ h.0) ∙ ap Some (sym h.1)
-
-pub product_none : (n : ℕ) (a b : Line) → is_constant n a ≡ false → is_constant n b ≡ false → operator_fault n Product (a ∷ b ∷ []) ≡ Some Nonlinear
-product_none n a b s t = fault_second _ _ _ s ∙ fault_second _ _ _ t
 
 pub quotient_zero : (n : ℕ) (a b : Line) → is_constant n b ≡ true → is_zero b.constant ≡ true → operator_fault n Quotient (a ∷ b ∷ []) ≡ Some DivideByZero
 quotient_zero n a b t z = fault_first _ _ _ t ∙ fault_first _ _ _ z

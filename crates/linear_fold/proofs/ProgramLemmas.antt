@@ -12,12 +12,12 @@ use Rattle.linear_fold.specs.FoldedFaults.{first_fold_fault, named_fault}
 use Rattle.nl_model.specs.declared.at.Owner.TheVariants.{Con, Obj}
 use Rattle.linear_program.specs.declared.interval.Interval.{Interval}
 use Rattle.linear_program.specs.declared.kind.Kind.{Kind}
-use Rattle.nl_model.specs.File.{Objective, File}
+use Rattle.nl_model.specs.File.{File}
 use Rattle.nl_model.specs.HeaderRules.{AreCounts}
 use Rattle.nl_model.specs.Kinds.{kind_of}
 use Rattle.nl_model.specs.Rules.{IsFile}
 use Rattle.linear_program.specs.Intervals.{IsOrdered, no_sides}
-use Rattle.file_meaning.specs.Expressions.{maximises, no_objective}
+use Rattle.file_meaning.specs.Expressions.{maximises}
 use Rattle.file_meaning.specs.FoldFaults.{fold_fault, has_objective, no_such_objective, owned_body, owned_line, owners_fault, owners_of}
 use Rattle.linear_programs.specs.Elements.{elements_from}
 use Rattle.linear_programs.specs.Lines.{form_of_line}
@@ -144,10 +144,3 @@ owners_stopped f k (Fault x) e h = ap (option_map (named_fault f)) (fault_of_own
 owners_stopped f k Memory e h = tt
 
 -- ---- the sense of an objective
-pub sense_at : (os : List Objective) (k : ℕ) (b : Bool) → option_map (λ o. o.maximise) (slice_get os k) ≡ Some b → b ≡ (get_or os k no_objective).maximise
-sense_at [] k b e = cc
-sense_at (o ∷ os) zero b e = sym (ap (λ x. option_map_or (λ y. y) x b) e)
-sense_at (o ∷ os) (suc k) b e = sense_at os k b e
-
-pub sense_past : (os : List Objective) (k : ℕ) → length os ≤ k → false ≡ (get_or os k no_objective).maximise
-sense_past os k h = ap (λ o. o.maximise) (sym (get_or_past os k no_objective h))

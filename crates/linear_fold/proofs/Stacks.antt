@@ -131,13 +131,6 @@ tree_steps w total p start from to old new some within a b =
     let f : w * (new + 1) ≡ w * new + w = omega arith in
     omega arith)
 
-pub tree_stop : (w total p start to new : ℕ) → to + w * (new + 1) ≤ start + 2 * w * (total - p) → to + w ≤ start + 2 * w * total
-tree_stop w total p start to new a =
-    let less : total - p ≤ total = omega arith in
-    let most : 2 * w * (total - p) ≤ 2 * w * total = mul-le-mul_left (2 * w) less in
-    let f : w * (new + 1) ≡ w * new + w = omega arith in
-    omega arith
-
 pub some_node : (nodes : List Node) → length (trees_of nodes) ≡ 1 → 0 < length nodes
 some_node [] e = absurd (omega arith)
 some_node (x ∷ ns) e = omega arith

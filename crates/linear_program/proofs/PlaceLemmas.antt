@@ -29,11 +29,6 @@ place_set_other (p ∷ ps) zero x (suc j) n = refl
 place_set_other (p ∷ ps) (suc i) x zero n = refl
 place_set_other (p ∷ ps) (suc i) x (suc j) n = place_set_other ps i x j (λ e. n (ap suc e))
 
-pub place_beyond : (ps : List Frac) (j : ℕ) → length ps ≤ j → place_in ps j ≡ zero_ℚ
-place_beyond [] j h = refl
-place_beyond (p ∷ ps) zero h = absurd (omega arith)
-place_beyond (p ∷ ps) (suc j) h = place_beyond ps j (omega arith)
-
 one_only : (i j : ℕ) → Contains (i ∷ []) j → j ≡ i
 one_only i j c = let within = c.1 in let k : c.0 ≡ 0 = omega arith in sym c.2 ∙ ap (λ q. get_or (i ∷ []) q j) k
 

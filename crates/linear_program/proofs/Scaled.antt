@@ -8,13 +8,12 @@ use Rattle.exact_numbers.specs.Values.{frac_value}
 use Rattle.fractions.specs.Fits.{fits, sum_fits}
 use Rattle.fractions.specs.Rational.{ℚ, whole, zero_ℚ, ◌+ℚ◌, ◌*ℚ◌}
 use Rattle.fractions.proofs.Arithmetic.{*ℚ_one, *ℚ_zero, +ℚ_zero}
-use Rattle.linear_programs.specs.Lines.{constant_line, line_sum, line_scaled, line_with, Line, all_below, is_zero, is_constant}
+use Rattle.linear_programs.specs.Lines.{line_sum, line_scaled, line_with, Line, all_below, is_zero, is_constant}
 use Rattle.linear_programs.proofs.LineLemmas.{same-eqb, apart-eqb, all_below-true, is_zero-true}
 use Rattle.linear_program.specs.declared.too_wide.Wide.{Wide}
 use Rattle.linear_program.specs.Coefs.{Term, found, value_or_zero, coef_in, AreAscending, AreBelow}
-use Rattle.linear_program.specs.Places.{place_in, AreZeros}
 use Rattle.linear_program.specs.Forms.{IsZeroFrom, ScaledSumFits, stepped, step_fits, adds_fit, with_scaled, SumsUp, AddsScaled}
-use Rattle.linear_program.proofs.CoefLemmas.{apart_test, found_same, found_apart, found_before}
+use Rattle.linear_program.proofs.CoefLemmas.{found_same, found_apart, found_before}
 use Rattle.exact_numbers.proofs.Zeros.{sum_fits_zero, fits_zero}
 
 -- lines with one constant and the same coefficients are one line
@@ -123,12 +122,6 @@ steps_left a new k t rest left at h = (
   ap (λ l. with_scaled l k rest) h.1 ∙ ap (with_scaled a k) (sym at),
 )
 
-pub term_wide : (a : Line) (k : ℚ) (t : Term) (scaled : ℚ) → scaled ≡ k *ℚ frac_value t.1 → sum_fits (a.coef t.0) scaled ≡ false → step_fits a k t ≡ false
-term_wide a k t scaled is e = false_from_ne_true _ (λ h. let both = and_parts _ _ h in (let clash : true ≡ false = sym both.1 ∙ ap (sum_fits (a.coef t.0)) (sym is) ∙ e in cc))
-
-pub product_wide : (a : Line) (k : ℚ) (t : Term) → fits (k *ℚ frac_value t.1) ≡ false → step_fits a k t ≡ false
-product_wide a k t e = false_from_ne_true _ (λ h. let both = and_parts _ _ h in (let clash : true ≡ false = sym both.0 ∙ e in cc))
-
 -- ---- a form of n variables
 pub terms_below : (n low : ℕ) (ts : List Term) → AreAscending low ts → ((j : ℕ) → n ≤ j → coef_in ts j ≡ zero_ℚ) → AreBelow n ts
 terms_below n low [] a z = tt
@@ -137,9 +130,6 @@ terms_below n low (t ∷ ts) a z = (
   terms_below n (suc t.0) ts a.2 (λ j g.
       ⊎_elim (λ (e : j ≡ t.0). ap value_or_zero (found_before (suc t.0) ts j a.2 (omega arith))) (λ (m : j ≢ t.0). sym (ap value_or_zero (found_apart t ts j m)) ∙ z j g) (cases_eq j t.0)),
 )
-
-pub zero_places : (ps : List Frac) (c : ℚ) → c ≡ zero_ℚ → AreZeros ps → (record { constant = c; coef = place_in ps }) ≡ constant_line zero_ℚ
-zero_places ps c e z = same_line (record { constant = c; coef = place_in ps }) (constant_line zero_ℚ) e z
 
 -- ---- constant forms
 pub all_below-intro : (p : ℕ → Bool) (n : ℕ) → ((j : ℕ) → j < n → p j ≡ true) → all_below p n ≡ true
@@ -152,10 +142,6 @@ all_below-false p n j h e = false_from_ne_true _ (λ t. (let clash : true ≡ fa
 abbrev pub is_nil : List Term → Bool
 is_nil [] = true
 is_nil (t ∷ ts) = false
-
-pub nil_test : (ts : List Term) → length ts == 0 ≡ is_nil ts
-nil_test [] = refl
-nil_test (t ∷ ts) = apart_test (length (t ∷ ts)) 0 (λ e. omega arith)
 
 is_zero_zero : is_zero zero_ℚ ≡ true
 unfolding whole

@@ -15,7 +15,7 @@ use Rattle.mps_model.specs.declared.kinds.BoundKind.{BoundKind}
 use Rattle.mps_model.specs.declared.kinds.RowKind.{RowKind}
 use Rattle.mps_model.specs.declared.kinds.RowKind.TheVariants.{N, L, G, E}
 use Rattle.mps_import.specs.declared.columns.ColumnSides.{ColumnSides}
-use Rattle.mps_import.specs.InsideColumns.{none_set, set_value, with_sets, sets_of}
+use Rattle.mps_import.specs.InsideColumns.{none_set, set_value, with_sets}
 use Rattle.mps_import.specs.Import.{is_bounded_kind, is_constraint}
 
 module _ {A : Type 0} (xs : List A) (k : ℕ) (t : A) (lt : k < length xs) (is : t ≡ get_or xs k t) where
@@ -113,10 +113,6 @@ module _ (c n : ColumnSides) (k : BoundKind) (v : Dec) (lower : set_value n.lowe
       by false e =
           ap (λ s. with_sets s j rest) (get_or-set_other xs r j n none_set (not_eq r j e))
           ∙ record_other r j rest (get_or xs j none_set) e
-
--- without a record so far, all are those of the rest
-pub none_so_far : (j : ℕ) (bs : List (Bound Dec)) → with_sets none_set j bs ≡ sets_of j bs
-none_so_far j bs = refl
 
 -- without a further record, all are set
 pub all_set : (c : ColumnSides) (j : ℕ) → with_sets c j [] ≡ record { lower = set_value c.lower; upper = set_value c.upper; whole = c.whole }

@@ -76,11 +76,6 @@ module _ (test : ℕ → Bool) (r : ℕ) (z : Bool) where
       here same false y e f = ap (λ t. one_if (t && z)) (sym (ap test same ∙ e))
 
 -- ---- how many terms there are
-hits_none : (s : ℕ → Bool) → hits s [] ≡ 0
-hits_none s = refl
-
-pub hits_same : (s t : ℕ → Bool) → ((i : ℕ) → s i ≡ t i) → (es : List (Entry Dec)) → hits s es ≡ hits t es
-hits_same s t h es = λ k. hits (λ i. h i k) es
 
 pub hits_in_same : (s t : ℕ → Bool) → ((i : ℕ) → s i ≡ t i) → (m : Mps Dec) (js : List ℕ) → hits_in s m js ≡ hits_in t m js
 hits_in_same s t h m js = λ k. hits_in (λ i. h i k) m js

@@ -201,11 +201,6 @@ column_with_entry n cols k c e a h is inside few new =
       entries = All-set (λ (c : Column Dec). AreEntries n c.entries) cols k v (one_more n c.entries e (subst (λ (c : Column Dec). AreEntries n c.entries) (sym is) (a.entries k c h)) inside new) a.entries;
     }
 
-length_kept : (e : Entry Dec) (cols : List (Column Dec)) → length (with_entry_last e cols) ≡ length cols
-length_kept e [] = refl
-length_kept e (d ∷ []) = refl
-length_kept e (d ∷ f ∷ cols) = ap suc (length_kept e (f ∷ cols))
-
 pub entry_last : (m old : Mps Dec) (e : Entry Dec) (l : ℕ) (c v : Column Dec) → m ≡ old → 0 < length old.columns → l ≡ length m.columns → c ≡ get_or m.columns (l - 1) c → v ≡ record c { entries = c.entries ++ e ∷ [] } →
     record m { columns = set m.columns (l - 1) v } ≡ record old { columns = with_entry_last e old.columns }
 entry_last m old e l c v is some same at more =

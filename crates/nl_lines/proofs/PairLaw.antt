@@ -19,11 +19,6 @@ use Rattle.nl_lines.specs.Tests.{is_linear, pair_total}
 
 -- ---- lists
 
-set_past : {A : Type 0} (xs : List A) (i : ℕ) (x : A) → length xs ≤ i → slice_set xs i x ≡ xs
-set_past [] i x h = refl
-set_past (y ∷ xs) zero x h = absurd (omega (arith, h))
-set_past (y ∷ xs) (suc i) x h = ap (λ ys. y ∷ ys) (set_past xs i x (omega (arith, h)))
-
 -- a sum with one more list in row i
 sum_set : (f : List Term → ℕ) (rows : List (List Term)) (i : ℕ) (x : List Term) → i < length rows → sum_by f (slice_set rows i x) + f (get_or rows i []) ≡ sum_by f rows + f x
 sum_set f [] i x lt = absurd (omega (arith, lt))

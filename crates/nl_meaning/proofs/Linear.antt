@@ -46,10 +46,6 @@ quotient_sides false z r e = cc
 abbrev HasLine : ℕ → OpClass → List Line → Type 0
 HasLine n c ls = (at : Point) → on_values c (line_values n at ls) ≡ Some (line_value n (operator_line n c ls) at)
 
-chosen_first : (p : Bool) (a b : Line) → p ≡ true → (if p then a else b) ≡ a
-chosen_first true a b e = refl
-chosen_first false a b e = cc
-
 linear_where : (p : Bool) → nonlinear_unless p ≡ None → p ≡ true
 linear_where true e = refl
 linear_where false e = cc

@@ -60,14 +60,6 @@ short_lines (line ∷ lines) all =
     let whole = one_more 65537 (65537 * length lines) line lines less (short_lines lines all.1) in
     omega (arith, whole)
 
--- pieces, each with 96 bytes for its weight
-weighed : {X : Type 0} (w : X → ℕ) (P : X → Type 0) (piece : X → List Line) (xs : List X) → ((x : X) → P x → Fits (96 * w x) (piece x)) → AllByRecursion P xs → Fits (96 * sum_by w xs) (flat_map piece xs)
-weighed w P piece [] each all = omega arith
-weighed w P piece (x ∷ xs) each all =
-    let here = each x all.0 in
-    let rest = weighed w P piece xs each all.1 in
-    omega (arith, here, rest, sum_by-cons w x xs, text-append (piece x) (flat_map piece xs))
-
 weighed_by_number : {X : Type 0} (w : X → ℕ) (P : X → Type 0) (piece : ℕ → X → List Line) (limit i : ℕ) (xs : List X) → ((j : ℕ) (x : X) → j < limit → P x → Fits (96 * w x) (piece j x)) → i + length xs ≤ limit → AllByRecursion P xs
     → Fits (96 * sum_by w xs) (by_number piece i xs)
 weighed_by_number w P piece limit i [] each few all = omega arith

@@ -36,10 +36,6 @@ use Rattle.nl_round_trip.proofs.TreesTaken.{IsTreeReady}
 at_all : {X : Type 0} (P : X → Type 0) (xs : List X) (i : ℕ) (x : X) → All P xs → slice_get xs i ≡ Some x → P x
 at_all P xs i x h at = subst P (get_or_from_slice_get xs i x x at) (All-get_or P xs i x (slice_get_within xs i x at) h)
 
-one_by_one : {X : Type 0} (P : X → Type 0) (xs : List X) → All P xs → AllByRecursion P xs
-one_by_one P [] h = tt
-one_by_one P (x ∷ xs) h = (h 0 x (omega arith), one_by_one P xs (λ k d lt. h (suc k) d (omega (arith, lt))))
-
 later_ones : {X : Type 0} (P : X → Type 0) (x : X) (xs : List X) → All P (x ∷ xs) → All P xs
 later_ones P x xs h = λ k d lt. h (suc k) d (omega (arith, lt))
 

@@ -87,10 +87,6 @@ known_good value fields counts head full t words same counts_is full_is fine p =
     good_by value fields counts head full t words same counts_is full_is (pair_plain words t p) (same_known counts head fields.marks full words t p ∙ fine)
     (fresh_known counts head fields.marks full words t p fine)
 
-pub heads_are : (value fields : Body) (cur : Current) (head : Head) → fields ≡ value → fields.current ≡ Some cur → head ≡ cur.head → IsSomeAnd value.current (λ c. head ≡ c.head)
-heads_are value fields cur head same e is =
-    subst (λ (b : Body). IsSomeAnd b.current (λ c. head ≡ c.head)) same (subst (λ o. IsSomeAnd o (λ c. head ≡ c.head)) (sym e) is)
-
 pub room_for : (fields : Body) (cur : Current) (counts : Counts) (head : Head) → fields.current ≡ Some cur → counts ≡ fields.draft.counts → head ≡ cur.head → HoldsSome fields
     → index_limit counts head ≤ length fields.marks
 room_for fields cur counts head e counts_is is held =

@@ -114,11 +114,6 @@ in_run r rest i h = within r.first (r.last + 1 - r.first) i rest (omega (arith, 
 pub after_run : (r : LineRun) (rest : List ℕ) (i j : ℕ) → r.first ≤ r.last → j ≡ r.last + 1 - r.first + i → slice_get (lines_in r ++ rest) j ≡ slice_get rest i
 after_run r rest i j h is = ap (λ k. slice_get (lines_in r ++ rest) k) is ∙ behind r.first (r.last + 1 - r.first) i rest
 
-pub empty_run : (r : LineRun) (rest : List ℕ) → r.last < r.first → lines_in r ++ rest ≡ rest
-empty_run r rest h =
-    let none : r.last + 1 - r.first ≡ 0 = omega (arith, h) in
-    ap (λ n. range_with_len r.first n ++ rest) none
-
 -- a run, and what follows it
 at_run : (xs : List LineRun) (i : ℕ) (d r : LineRun) (tail : List ℕ) → i < length xs → r ≡ get_or xs i d → run_lines (drop i xs) ++ tail ≡ lines_in r ++ (run_lines (drop (suc i) xs) ++ tail)
 unfolding run_lines

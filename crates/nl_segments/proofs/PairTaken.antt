@@ -188,11 +188,6 @@ judged_pair s b cur words full e a plain full_by h =
     ∙ same_pair_tests c s.pieces o.piece words b.marks full marks full_said
     ∙ sym (ap (λ k. first_reason (next_pair_tests k cur.head b.marks full words)) h.counts ∙ ap (λ x. first_reason (next_pair_tests c x b.marks full words)) head)
 
-pub pair_refused : (value : Body) (cur : Current) (words : List (List ℕ)) (full : Bool) (r : NlReason) → value.current ≡ Some cur → IsAwaiting Pair value → is_head words ≡ false
-    → full ≡ is_full_at cur.head value.linear value.values → first_reason (next_pair_tests value.draft.counts cur.head value.marks full words) ≡ Some r
-    → (s : Standing) → IsHeld s value → words_refusal s words ≡ Some r
-pair_refused value cur words full r e a plain full_by fault s h = judged_pair s value cur words full e a plain full_by h ∙ fault
-
 pub pair_step : (value fields new : Body) (cur : Current) (words : List (List ℕ)) (line : ℕ) (t : Term) (full : Bool) → fields ≡ value → is_head words ≡ false → IsRead fields cur words t
     → full ≡ is_full_at cur.head fields.linear fields.values → first_reason (next_pair_tests fields.draft.counts cur.head fields.marks full words) ≡ None → IsPairDone fields new cur t line
     → (s : Standing) (row : Row) → IsRowOf row words line → IsHeld s value → (words_refusal s words ≡ None) × IsHeld (after_body_row s row) new

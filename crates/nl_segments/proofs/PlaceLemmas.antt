@@ -19,9 +19,6 @@ use Rattle.nl_lines.proofs.DraftLemmas.{set_again, get_set}
 
 -- ---- owners
 
-changed_same : (f g : OwnerLines → OwnerLines) (xs : List OwnerLines) (i : ℕ) → f (get_or xs i no_lines) ≡ g (get_or xs i no_lines) → changed f xs i ≡ changed g xs i
-changed_same f g xs i e = ap (slice_set xs i) e
-
 changed_again : (f g : OwnerLines → OwnerLines) (xs : List OwnerLines) (i : ℕ) → i < length xs → changed f (changed g xs i) i ≡ slice_set xs i (f (g (get_or xs i no_lines)))
 changed_again f g xs i lt =
     ap (λ o. slice_set (changed g xs i) i (f o)) (get_set xs i (g (get_or xs i no_lines)) no_lines lt)

@@ -29,12 +29,6 @@ piece_written piece xs i x out0 out1 total at start now =
     drop-cons xs i x inside ∙ ap₂ (λ y k. y ∷ drop k xs) (get_or_from_slice_get xs i x x at) (sym (add-one i)) in
     rest_written out0 out1 total (piece i x) (by_number piece (i + 1) (drop (i + 1) xs)) (ap (λ ys. out0 ++ lines_text (by_number piece i ys)) (sym split) ∙ start) now
 
--- no number is left
-pub pieces_written : {A : Type 0} (piece : ℕ → A → List Line) (xs : List A) (i : ℕ) (out total : List ℕ) → length xs ≤ i →
-    out ++ lines_text (by_number piece i (drop i xs)) ≡ total → out ≡ total
-pieces_written piece xs i out total past start =
-    sym (append-nil out) ∙ sym (ap (λ ys. out ++ lines_text (by_number piece i ys)) (drop_all i xs past)) ∙ start
-
 pub header_written : (o options : List ℤ) (k m c : Counts) (out0 out1 out2 out3 : List ℕ) → o ≡ options → k ≡ c → m ≡ c →
     out1 ≡ out0 ++ line_text (options_line o) → out2 ≡ out1 ++ lines_text (size_lines k) → out3 ≡ out2 ++ lines_text (part_lines m) →
     out3 ≡ out0 ++ lines_text (header_lines options c)

@@ -8,12 +8,6 @@ use Rattle.texts.specs.Judged.{first_reason, Takes}
 
 -- ---- one test
 
-pub reason_here : {R : Type 0} (b : Bool) (r : R) (tests : List (Bool × R)) → b ≡ true → first_reason ((b, r) ∷ tests) ≡ Some r
-reason_here b r tests e = rw e refl
-
-pub reason_next : {R : Type 0} (b : Bool) (r : R) (tests : List (Bool × R)) → b ≡ false → first_reason ((b, r) ∷ tests) ≡ first_reason tests
-reason_next b r tests e = rw e refl
-
 -- no reason: the first test does not hold, and the others give none
 pub none_head : {R : Type 0} (b : Bool) (r : R) (tests : List (Bool × R)) → first_reason ((b, r) ∷ tests) ≡ None → (b ≡ false) × (first_reason tests ≡ None)
 none_head true r tests e = absurd cc
@@ -72,23 +66,7 @@ same_reasons {R} xs xs' ys ys' e f = by (first_reason xs) refl
 
 -- ---- reasons that stand for others
 
-pub reason_of_map : {R S : Type 0} (f : R → S) (tests : List (Bool × R)) → first_reason (map (λ t. (t.0, f t.1)) tests) ≡ option_map f (first_reason tests)
-reason_of_map f [] = refl
-reason_of_map {R} {S} f (x ∷ xs) = by x.0 (reason_of_map f xs)
-  where
-    by : (t : Bool) → first_reason (map (λ t. (t.0, f t.1)) xs) ≡ option_map f (first_reason xs)
-        → first_reason ((t, f x.1) ∷ map (λ t. (t.0, f t.1)) xs) ≡ option_map f (first_reason ((t, x.1) ∷ xs))
-    by true rest = refl
-    by false rest = rest
-
 -- ---- what calls answer
-
--- a call that judged the first tests stands for both lists where the second ones give no reason
-pub takes_more : {R A : Type 0} (xs ys : List (Bool × R)) (next new : A) (result : Result (Unit {0}) (Stop R)) → (first_reason xs ≡ None → first_reason ys ≡ None)
-    → Takes xs next result new → Takes (xs ++ ys) next result new
-takes_more xs ys next new (Ok u) fine h = (none_both xs ys h.0 (fine h.0), h.1)
-takes_more xs ys next new (Err (Fault r)) fine h = reason_before xs ys r h
-takes_more xs ys next new (Err Memory) fine h = tt
 
 -- where the tests before give none, the tests after decide
 pub takes_after : {R A : Type 0} (xs ys : List (Bool × R)) (next new : A) (result : Result (Unit {0}) (Stop R)) → first_reason xs ≡ None → Takes ys next result new
@@ -96,10 +74,3 @@ pub takes_after : {R A : Type 0} (xs ys : List (Bool × R)) (next new : A) (resu
 takes_after xs ys next new (Ok u) none h = (none_both xs ys none h.0, h.1)
 takes_after xs ys next new (Err (Fault r)) none h = reason_after xs ys none ∙ h
 takes_after xs ys next new (Err Memory) none h = tt
-
--- tests with the same first reason judge the same
-pub takes_same : {R A : Type 0} (xs ys : List (Bool × R)) (next new : A) (result : Result (Unit {0}) (Stop R)) → first_reason xs ≡ first_reason ys → Takes xs next result new
-    → Takes ys next result new
-takes_same xs ys next new (Ok u) e h = (sym e ∙ h.0, h.1)
-takes_same xs ys next new (Err (Fault r)) e h = sym e ∙ h
-takes_same xs ys next new (Err Memory) e h = tt

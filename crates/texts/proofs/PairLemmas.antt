@@ -80,9 +80,6 @@ unmarked-free front [] some all = absurd (omega arith)
 unmarked-free front (b ∷ []) some all = last-free front b (no_cr b all.0)
 unmarked-free front (b ∷ c ∷ word) some all = subst EndsFree (append_assoc front (b ∷ []) (c ∷ word)) (unmarked-free (front ++ b ∷ []) (c ∷ word) (omega arith) all.1)
 
-pub one_line-word : (word : List ℕ) → 0 < length word → IsUnmarked word → IsOneLine word
-one_line-word word some all = record { no_end = no_end-unmarked word all; no_cr = trimmed-free word (unmarked-free [] word some all) }
-
 pub one_line-pair : (index word : List ℕ) → IsUnmarked index → 0 < length word → IsUnmarked word → IsOneLine (index ++ 32 ∷ word)
 one_line-pair index word i some w = record {
   no_end = no_end-append index (32 ∷ word) (no_end-unmarked index i) (refl, no_end-unmarked word w);

@@ -23,12 +23,6 @@ abbrev pub Decides : {R V : Type 0} → List (Bool × R) → (V → Type 0) → 
 Decides tests says (Ok value) = (first_reason tests ≡ None) × says value
 Decides tests says (Err reason) = first_reason tests ≡ Some reason
 
--- the same, where the answered fault stands for a reason
-abbrev pub DecidesAs : {R E V : Type 0} → (E → R) → List (Bool × R) → (V → Type 0) → Result V E
-    → Type 0
-DecidesAs reason_of tests says (Ok value) = (first_reason tests ≡ None) × says value
-DecidesAs reason_of tests says (Err fault) = first_reason tests ≡ Some (reason_of fault)
-
 -- the same for a reader that may want memory, of which nothing is said
 abbrev pub DecidesOrStops : {R V : Type 0} → List (Bool × R) → (V → Type 0) → Result V (Stop R)
     → Type 0

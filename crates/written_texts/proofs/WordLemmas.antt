@@ -15,12 +15,6 @@ use Rattle.written_texts.specs.Words.{IsWord, IsKeptWord, IsWritten}
 not_blank : (b : ℕ) → nat_le 33 b ≡ true → is_blank b ≡ false
 not_blank b h = grind (arith, nat_tests)
 
-not_end : (b : ℕ) → nat_le 33 b ≡ true → (b == 10) ≡ false
-not_end b h = grind (arith, nat_tests)
-
-not_return : (b : ℕ) → nat_le 33 b ≡ true → (b == 13) ≡ false
-not_return b h = grind (arith, nat_tests)
-
 -- the first byte, and those after it
 bytes-cons : (b : ℕ) (word : List ℕ) → has_name_bytes (b ∷ word) ≡ true → (nat_le 33 b ≡ true) × (has_name_bytes word ≡ true)
 bytes-cons b word h = and_parts _ _ h
