@@ -20,6 +20,4 @@ mod words;
 
 pub use fault::{MpsFault, MpsReason};
 pub use grammar::MpsGrammar;
-pub use keyword::Keyword;
 pub use reader::MpsReader;
-pub use sides::Sides;

@@ -32,7 +32,6 @@ pub use header_counts::Counts;
 pub use header_rules::{are_shared_within, are_whole_within, defined_count, has_second_three};
 pub use linear_program::{Interval, Kind, Terms};
 pub use node::Node;
-pub use objective::Objective;
 pub use options::Options;
 pub use suffix::Suffix;
-pub use suffix_kinds::{has_same_objects, object_limit, wants_whole};
+pub use suffix_kinds::{object_limit, wants_whole};
