@@ -2,6 +2,7 @@
 """Prints the definitions on which a clause rests: what has to be read to believe a theorem.
 
     dev/statement.py CRATE/FILE:NAME ..   the definitions, by file, from the ground up, with their texts
+    dev/statement.py --all                the definitions of every theorem (the packages hold this text)
     dev/statement.py --sizes              how large the statement of each theorem is
     dev/statement.py --write              writes docs/verify/reading.md: the statement of each theorem, by file
     dev/statement.py --check              says whether docs/verify/reading.md is as --write makes it, and what a statement may
@@ -249,8 +250,9 @@ OPENING = (
     "",
     "Written by `dev/statement.py --write`. A proof is checked by the machine; what it says is for people to read. Each",
     "theorem rests on the definitions below, from the ground up; `dev/statement.py CRATE/FILE:NAME` prints their texts.",
-    "Paths are `crates/CRATE/specs/FILE.antt`, the number before a name is its line. Who finds that they say what the words",
-    "mean, and trusts the toolchain, believes the theorem: no code and no proof need be read.",
+    "Paths are `crates/CRATE/specs/FILE.antt`, the number before a name is its line; in a package all texts stand, in this",
+    "order, in `definitions.txt` beside this page. Who finds that they say what the words mean, and trusts the toolchain,",
+    "believes the theorem: no code and no proof need be read.",
     "",
     "A value that holds a proof, as a fraction that it is in lowest terms, is made by a lemma. Lemmas stand in files named",
     "`..Lemmas` and are not to be read, since the value's type says all that they give: the last column counts them, and the",
@@ -302,6 +304,11 @@ def printed(statement: Statement, roots: list[Key]) -> str:
     return "\n".join([*lines, whole_size(statement, keys), cited])
 
 
+def all_texts() -> str:
+    """The texts of the definitions of every theorem."""
+    return printed(Statement(), [key_of(root) for it in THEOREMS for root in it.roots]) + "\n"
+
+
 def section(statement: Statement, keys: list[Key], known: set[Key]) -> list[str]:
     """The lines on these definitions: the files of those that are known, and the others by file."""
     files = statement.by_file(keys)
@@ -349,7 +356,9 @@ def main(words: list[str]) -> int:
     if not words:
         sys.exit(__doc__)
     statement = Statement()
-    if words == ["--sizes"]:
+    if words == ["--all"]:
+        print(all_texts(), end="")
+    elif words == ["--sizes"]:
         for it in THEOREMS:
             keys = statement.closure([key_of(root) for root in it.roots])
             print(f"{it.name}: {whole_size(statement, keys)}; lemmas: {lemma_size(statement, keys)}")

@@ -6,6 +6,7 @@ import hashlib
 import json
 import os
 import re
+import sys
 import time
 from typing import Iterator, NamedTuple
 
@@ -15,6 +16,9 @@ except ImportError:
     raise SystemExit("packaging/build: needs Python 3.11 or later") from None
 
 from sources import BUILT, TOP, noted, said_by
+
+sys.path.append(os.path.join(TOP, "dev"))
+import statement                                        # noqa: E402
 
 PACKAGE = "bridge_drivers"
 DOCUMENTS = ("user/formats.md", "user/refusals.md", "user/commands.md", "verify/reading.md",
@@ -138,6 +142,7 @@ class Project:
         yield File("drivers/README.md", read("drivers", "README.md"))
         for name in DOCUMENTS:
             yield File(f"docs/{name}", read("docs", name))
+        yield File("docs/verify/definitions.txt", statement.all_texts().encode())
 
     def examples(self) -> Iterator[File]:
         """What users can try. Not among the documents, which small systems leave out."""
