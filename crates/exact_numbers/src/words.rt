@@ -43,7 +43,7 @@ impl Words {
 
     // The words of a number of either sign.
     #[inline]
-    #[tactic(auto, unfolding(crate::specs::Packed::whole_of))]
+    #[tactic(auto, unfolding(crate::specs::InsidePacked::whole_of))]
     pub(crate) fn of_whole(n: i128) -> Words
         ensures value { whole_of result ≡ n }
         ensures words { AreWords result }
@@ -53,7 +53,7 @@ impl Words {
 
     // The number of either sign.
     #[inline]
-    #[tactic(auto, unfolding(crate::specs::Packed::whole_of))]
+    #[tactic(auto, unfolding(crate::specs::InsidePacked::whole_of))]
     pub(crate) fn whole(self) -> i128
         ensures { result ≡ whole_of self }
     {

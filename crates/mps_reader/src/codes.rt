@@ -42,7 +42,7 @@ fn bytes_code(name: &[u8]) -> u64
 }
 
 // The code of a name; 0 where it is not short.
-#[tactic(auto, unfolding(crate::specs::Codes::code_of))]
+#[tactic(auto, unfolding(crate::specs::InsideCodes::code_of))]
 fn code_of(name: &[u8]) -> u64
     ensures { result ≡ code_of name.now }
 {

@@ -76,7 +76,7 @@ fn line_at(earlier: &[LineRun], last: LineRun, place: u32) -> Option<u32>
 
 impl LineRuns {
     /// No lines.
-    #[tactic(auto, unfolding(crate::specs::LineRuns::run_lines))]
+    #[tactic(auto, unfolding(crate::specs::InsideLineRuns::run_lines))]
     pub(crate) fn new(alloc: Global) -> LineRuns
         ensures { result ≡ [] }
     {
@@ -87,7 +87,7 @@ impl LineRuns {
     }
 
     /// Takes all lines away.
-    #[tactic(auto, unfolding(crate::specs::LineRuns::run_lines))]
+    #[tactic(auto, unfolding(crate::specs::InsideLineRuns::run_lines))]
     pub(crate) fn clear(&mut self)
         ensures { self.new ≡ [] }
     {
