@@ -31,6 +31,7 @@ T = TypeVar("T", bound=Any)
 
 USE = re.compile(r"^(?:unfoldable )?(?:pub )?use ([\w.]+?)\.\{(.*)\}$")
 OUTSIDE = re.compile(r"^(?:unfoldable )?(?:pub )?use |^\s*(?:module|infix|mutual|abbrev mutual)")
+MODULE = re.compile(r"^\s*(?:module|mutual|abbrev mutual)")
 HEAD = re.compile(r"^\s*(?:(?:abbrev|unfoldable)\s+)?(?:pub\s+)?(?:(?:record|data)\s+)?([^\s:({]+)")
 CONSTRUCTOR = re.compile(r"^\s+([\w\-]+)\s*:")
 WORD = re.compile(r"[^\s(){}\[\];,]+")
@@ -38,9 +39,13 @@ PROPOSITION = re.compile(r"[≡<≤∣≢]|\b(?:Is|Are|Has)[A-Z]")
 FIELD = re.compile(r"(?:^\s+|[{;]\s*)[\w\-]+ = ", re.M)
 
 
+def is_comment(line: str) -> bool:
+    return line.strip().startswith("--")
+
+
 @dataclass
 class Definition:
-    """One definition: where it stands, its comment and its lines."""
+    """One definition: where it stands, what stands above it (its comment, the head of its module), its lines."""
 
     key: Key
     line: int
@@ -48,8 +53,13 @@ class Definition:
     lines: list[str] = field(default_factory=list)
 
     @property
+    def own_lines(self) -> list[str]:
+        """Its lines without comments: what counts, and what names what it rests on."""
+        return [line for line in self.lines if not is_comment(line)]
+
+    @property
     def text(self) -> str:
-        return "\n".join(self.lines)
+        return "\n".join(self.own_lines)
 
     @property
     def is_lemma(self) -> bool:
@@ -59,7 +69,7 @@ class Definition:
     def is_proof(self) -> bool:
         """Whether its type, up to its first clause, ends in a relation or in a proposition's name."""
         own = self.key[2]
-        head = [self.lines[0], *(it for it in self.lines[1:] if not re.match(rf"\s*({re.escape(own)}|unfolding)\b", it))]
+        head = [self.lines[0], *(it for it in self.own_lines[1:] if not re.match(rf"\s*({re.escape(own)}|unfolding)\b", it))]
         return bool(PROPOSITION.search(" ".join(head)))
 
     def constructors(self) -> list[str]:
@@ -71,10 +81,11 @@ class Definition:
 
 @dataclass
 class SpecFile:
-    """A file of definitions: what it imports, under which name, and what it defines, in order."""
+    """A file of definitions: what it is about, what it imports, under which name, and what it defines, in order."""
 
     crate: str
     name: str
+    head: list[str] = field(default_factory=list)
     imports: dict[str, tuple[list[str], str]] = field(default_factory=dict)
     definitions: dict[str, Definition] = field(default_factory=dict)
     owners: dict[str, str] = field(default_factory=dict)
@@ -86,13 +97,16 @@ class SpecFile:
         current: Definition | None = None
         for number, line in enumerate(path.read_text().splitlines(), start=1):
             if found := USE.match(line):
+                if not file.imports:
+                    file.head = comment
                 file.add_imports(found[1].split("."), found[2])
-            elif line.strip().startswith("--"):
-                comment.append(line.rstrip())
+                comment = []
+            elif is_comment(line):
+                (comment if current is None else current.lines).append(line.rstrip())
             elif not line.strip():
                 current = None
             elif current is None and OUTSIDE.match(line):
-                comment = []
+                comment = [*comment, line.rstrip()] if MODULE.match(line) else []
             elif current is None:
                 current = file.begin(line, number, comment)
                 comment = []
@@ -106,6 +120,12 @@ class SpecFile:
         for name in names.split(", "):
             own, _, other = name.strip().partition(" as ")
             self.imports[other or own] = (path, own)
+
+    def other_names(self, found: list[Definition]) -> list[str]:
+        """A line for each name that these definitions use for what is called otherwise where it stands."""
+        words = {word for it in found for word in WORD.findall(it.text)}
+        return [f"-- here {name} is {'.'.join(path).removeprefix('Rattle.')}:{own}" for name, (path, own) in sorted(self.imports.items())
+                if name != own and name in words]
 
     def begin(self, line: str, number: int, comment: list[str]) -> Definition:
         """The definition that begins at this line; the one of that name, where clauses of it go on."""
@@ -254,6 +274,12 @@ OPENING = (
     "order, in `definitions.txt` beside this page. Who finds that they say what the words mean, and trusts the toolchain,",
     "believes the theorem: no code and no proof need be read.",
     "",
+    "How to read them: `Type 0` is read \"proposition\" or \"kind of thing\". `(x : A) → P x` is for all x, `(x : A) × P x` there is",
+    "an x, `A × B` and, `A ⊎ B` or, `A ↔ B` exactly where, `A → ⊥` not, `≡` equal, `Unit` true. A `record` is all of its fields: each",
+    "of them holds, or each is a part. `abbrev` and `unfoldable` begin a definition (they differ for the prover alone). `[]`, `∷`, `++`",
+    "make lists, `None` and `Some x` an `Option`, `λ x.` a function; `◌` is the place of an operand; `-` on ℕ stops at 0. A text is",
+    "a list of bytes, `List ℕ`. Types that code declares (`specs.declared`) say their parts in `crates/CRATE/src`.",
+    "",
     "A value that holds a proof, as a fraction that it is in lowest terms, is made by a lemma. Lemmas stand in files named",
     "`..Lemmas` and are not to be read, since the value's type says all that they give: the last column counts them, and the",
     "column before it leaves them out.",
@@ -277,7 +303,7 @@ def key_of(name: str) -> Key:
 
 def size_of(found: list[Definition]) -> str:
     """How many definitions and lines these are."""
-    return f"{len(found)} definitions, {sum(len(it.lines) for it in found)} lines"
+    return f"{len(found)} definitions, {sum(len(it.own_lines) for it in found)} lines"
 
 
 def whole_size(statement: Statement, keys: list[Key]) -> str:
@@ -288,7 +314,7 @@ def whole_size(statement: Statement, keys: list[Key]) -> str:
 
 def lemma_size(statement: Statement, keys: list[Key]) -> str:
     """How many lines the lemmas are that these cite."""
-    lines = sum(len(statement[it].lines) for it in statement.lemmas_below(keys))
+    lines = sum(len(statement[it].own_lines) for it in statement.lemmas_below(keys))
     return f"{lines} lines"
 
 
@@ -297,7 +323,8 @@ def printed(statement: Statement, roots: list[Key]) -> str:
     keys = statement.closure(roots)
     lines = []
     for (crate, file), found in statement.by_file(keys).items():
-        lines.append(f"==== crates/{crate}/specs/{file}.antt: {size_of(found)}\n")
+        own = statement.files[crate, file]
+        lines += [f"==== crates/{crate}/specs/{file}.antt: {size_of(found)}", *own.head, *own.other_names(found), ""]
         for it in found:
             lines += [*it.comment, *it.lines, ""]
     cited = f"lemmas that they cite, not to be read: {lemma_size(statement, keys)}"

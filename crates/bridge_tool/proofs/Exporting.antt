@@ -22,7 +22,7 @@ use Rattle.bridge_tool.specs.NlTold.{nl_line}
 use Rattle.bridge_tool.specs.Outcome.{Done, NoText, Refused}
 use Rattle.bridge_tool.specs.Refusal.{HasTextRefusal}
 use Rattle.bridge_tool.specs.SeveralFiles.{ByValue}
-use Rattle.bridge_tool.specs.Stages.{HasFolded, HasScaled, IsStaged, IsUnstaged, fold_steps}
+use Rattle.bridge_tool.specs.Stages.{HasFolded, HasScaled, CanBeExported, CannotBeExported, fold_steps}
 use Rattle.bridge_tool.specs.declared.transfer.TheConstants.{LIMIT}
 use Rattle.bridge_tool.proofs.Decisions.{AreRead}
 use Rattle.bridge_tool.proofs.OneOutcome.{IsEither, done_so, one_of_both}
@@ -81,11 +81,11 @@ module _ (nl : NlValue) (k : ℕ) where
   pub one_text : (a b : List ℕ) → IsExported nl k a → IsExported nl k b → a ≡ b
   one_text a b h j = h.written ∙ ap (mps_text_by value_text) (one_program (linear_of nl.file k) h.program j.program h.exports j.exports) ∙ sym j.written
 
-  by_stages : IsStaged nl k ⊎ ((line : List ℕ) × IsUnstaged nl k line) → ((bytes : List ℕ) × IsExported nl k bytes) ⊎ ((line : List ℕ) × IsUnstaged nl k line)
+  by_stages : CanBeExported nl k ⊎ ((line : List ℕ) × CannotBeExported nl k line) → ((bytes : List ℕ) × IsExported nl k bytes) ⊎ ((line : List ℕ) × CannotBeExported nl k line)
   by_stages (inl s) = let m = a_program (linear_of nl.file k) in inl (mps_text_by value_text m.0, record { program = m.0; staged = s; exports = m.1; written = refl })
   by_stages (inr why) = inr why
 
-  pub export_either : IsEither (IsExported nl k) (IsUnstaged nl k)
+  pub export_either : IsEither (IsExported nl k) (CannotBeExported nl k)
   export_either = record {
     accepted = one_text;
     refused = one_reason nl k;
@@ -96,10 +96,10 @@ module _ (nl : NlValue) (k : ℕ) where
 pub export_last : (k : ℕ) → IsLast false IsNl HasTextRefusal (λ nl. ExportsAs nl k) (λ nl old new. new ≤ old + fold_steps nl k)
 export_last k = record {
   read = nl_read;
-  one = λ nl. one_of_both (IsExported nl k) (IsUnstaged nl k) (export_either nl k);
+  one = λ nl. one_of_both (IsExported nl k) (CannotBeExported nl k) (export_either nl k);
   idle = λ nl n. omega arith;
   lines = λ nl line h. unstaged_so nl k line h;
-  verdict = λ nl holds bytes h. inl (done_so (IsExported nl k) (IsUnstaged nl k) holds bytes h);
+  verdict = λ nl holds bytes h. inl (done_so (IsExported nl k) (CannotBeExported nl k) holds bytes h);
 }
 
 -- what was folded, scaled and written
@@ -121,15 +121,15 @@ module _ (texts : Texts) (file text : List ℕ) (k : ℕ) (is : texts file ≡ S
     λ h. subst (At (Done true bytes ≡ NoText) (λ t line. Done true bytes ≡ Refused line) (λ nl. IsExported nl k bytes)) (sym is) (inr h),
   )
 
-  pub export_refused : (line : List ℕ) → (export_told file k texts).comes (Refused line) ↔ (HasTextRefusal first line ⊎ ((nl : NlValue) × (IsNl first nl × IsUnstaged nl k line)))
+  pub export_refused : (line : List ℕ) → (export_told file k texts).comes (Refused line) ↔ (HasTextRefusal first line ⊎ ((nl : NlValue) × (IsNl first nl × CannotBeExported nl k line)))
   export_refused line = (
     λ h.
-        elim (subst (At (Refused line ≡ NoText) (λ t x. Refused line ≡ Refused x) (λ nl. IsUnstaged nl k line)) is h) [
+        elim (subst (At (Refused line ≡ NoText) (λ t x. Refused line ≡ Refused x) (λ nl. CannotBeExported nl k line)) is h) [
           | inl r ↦ inl (subst (HasTextRefusal first) (sym (refused_same line r.0 r.1.1)) r.1.0)
           | inr said ↦ inr said
         ],
     λ h.
-        subst (At (Refused line ≡ NoText) (λ t x. Refused line ≡ Refused x) (λ nl. IsUnstaged nl k line)) (sym is)
+        subst (At (Refused line ≡ NoText) (λ t x. Refused line ≡ Refused x) (λ nl. CannotBeExported nl k line)) (sym is)
         (elim h [ inl r ↦ inl (line, (r, refl)) | inr said ↦ inr said ]),
   )
 

@@ -43,7 +43,7 @@ use Rattle.bridge_tool.specs.ToldLines.{TellsLine, TellsPlace}
 use Rattle.bridge_tool.specs.Verify.{IsCertificateRefused}
 use Rattle.bridge_tool.proofs.FoldPlaces.{fold_placed}
 use Rattle.bridge_tool.proofs.SolLines.{sol_fault_line}
-use Rattle.bridge_tool.specs.Stages.{IsUnstaged}
+use Rattle.bridge_tool.specs.Stages.{CannotBeExported}
 
 pub fault_lines : (text : List ℕ) (value : NlValue) (fault : FoldFault) → IsNl text value → HasFaultPlace value.file fault → HasFaultLine (length (lines_of text)) value.places fault
 fault_lines text value (NoSuchObjective k) read place = tt
@@ -109,6 +109,6 @@ scale_told : (text told : List ℕ) (k : ℕ) (fault : ScaleFault) → told ≡ 
 scale_told text told k (RowTooWide i) e = inr (inl (record { number = i; why = codes "row too wide"; same = e }))
 scale_told text told k ObjectiveTooWide e = inr (inr (record { number = k; why = codes "objective too wide"; same = e }))
 
-pub export_told : (text : List ℕ) (nl : NlValue) (k : ℕ) (told : List ℕ) → IsNl text nl → IsUnstaged nl k told → TellsPlace text told
+pub export_told : (text : List ℕ) (nl : NlValue) (k : ℕ) (told : List ℕ) → IsNl text nl → CannotBeExported nl k told → TellsPlace text told
 export_told text nl k told read (inl f) = placed_fold text told nl.places f.fault (fault_lines text nl f.fault read (fold_placed nl.file k f.fault f.first)) f.told
 export_told text nl k told read (inr h) = scale_told text told k h.first.fault h.first.told

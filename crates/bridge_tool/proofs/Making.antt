@@ -28,7 +28,7 @@ use Rattle.bridge_tool.specs.Make.{IsInstanceSummedUp, IsMade, IsSummedUp, Leave
 use Rattle.bridge_tool.specs.Outcome.{Outcome, Refused, Done}
 use Rattle.bridge_tool.specs.Refusal.{HasTextRefusal}
 use Rattle.bridge_tool.specs.SeveralFiles.{Comes}
-use Rattle.bridge_tool.specs.Stages.{HasFolded, HasScaled, IsUnstaged, fold_steps}
+use Rattle.bridge_tool.specs.Stages.{HasFolded, HasScaled, CannotBeExported, fold_steps}
 use Rattle.bridge_tool.specs.Told.{IsRefusalLine}
 use Rattle.bridge_tool.specs.declared.answer.Answer.{Answer}
 use Rattle.bridge_tool.specs.declared.answer.Answer.TheVariants.{Done as IsDone, Refused as IsRefusal, BadWords as HasBadWords, InputFault, OutputFault, NoMemory}
@@ -50,11 +50,11 @@ module _ (nl : NlValue) where
       let texts = one_text nl 0 h.mps k.mps h.exported k.exported in
       h.summary ∙ (λ i. summary_of nl.file (programs i) (texts i)) ∙ sym k.summary
 
-  a_summary : ((bytes : List ℕ) × IsExported nl 0 bytes) ⊎ ((line : List ℕ) × IsUnstaged nl 0 line) → ((bytes : List ℕ) × IsMade nl bytes) ⊎ ((line : List ℕ) × IsUnstaged nl 0 line)
+  a_summary : ((bytes : List ℕ) × IsExported nl 0 bytes) ⊎ ((line : List ℕ) × CannotBeExported nl 0 line) → ((bytes : List ℕ) × IsMade nl bytes) ⊎ ((line : List ℕ) × CannotBeExported nl 0 line)
   a_summary (inl e) = inl (summary_of nl.file e.1.program e.0, record { mps = e.0; exported = e.1; summary = refl })
   a_summary (inr why) = inr why
 
-  made_either : IsEither (IsMade nl) (IsUnstaged nl 0)
+  made_either : IsEither (IsMade nl) (CannotBeExported nl 0)
   made_either = record {
     accepted = one_summary;
     refused = one_reason nl 0;
@@ -63,7 +63,7 @@ module _ (nl : NlValue) where
   }
 
   made_one : HasOne IsPlain (MakesAs nl)
-  made_one = one_of_both (IsMade nl) (IsUnstaged nl 0) made_either
+  made_one = one_of_both (IsMade nl) (CannotBeExported nl 0) made_either
 
 -- the summary of a program of decimals
 pub of_program : (variables rows terms bytes : ℕ) (m : Mps Dec) (p : Mps ℚ) (text out : List ℕ) → with_values dec_value m ≡ p → terms ≡ coefficient_count rows m → text ≡ mps_text_by value_text p → bytes ≡ length text → out ≡ summary_line variables rows terms bytes → IsSummedUp variables rows p out
@@ -135,7 +135,7 @@ module _ (seed size : ℕ) where
 
   holds_so : (holds : Bool) (bytes : List ℕ) → (make_promise seed size).comes (Done holds bytes) → holds ≡ true
   holds_so holds bytes (inl h) = let e = h.1.1 in absurd cc
-  holds_so holds bytes (inr h) = done_so (IsMade h.0) (IsUnstaged h.0 0) holds bytes h.1.1
+  holds_so holds bytes (inr h) = done_so (IsMade h.0) (CannotBeExported h.0 0) holds bytes h.1.1
 
   pub make_worked : size ≤ 20000 → (old new : Meaning) (judged : Result (Bool × Vec ℕ) (Stop (Vec ℕ))) (answer : Answer) → Comes (make_promise seed size).comes judged → Ends judged old new answer
       → IsWorked (make_promise seed size) old new answer

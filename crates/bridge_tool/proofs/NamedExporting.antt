@@ -16,7 +16,7 @@ use Rattle.bridge_tool.specs.NameLists.{AreListed, IsListRefused, after_lists, c
 use Rattle.bridge_tool.specs.NamedExport.{AreNamedMeant, IsNamedExport, Named, NamedComesTo, named_end, named_promise, named_told}
 use Rattle.bridge_tool.specs.InsideExport.{IsNamedTextOf}
 use Rattle.bridge_tool.specs.Promise.{Promise}
-use Rattle.bridge_tool.specs.Stages.{HasFolded, HasScaled, IsStaged, IsUnstaged, fold_steps}
+use Rattle.bridge_tool.specs.Stages.{HasFolded, HasScaled, CanBeExported, CannotBeExported, fold_steps}
 use Rattle.bridge_tool.proofs.NameLists.{list_read, lists_sound}
 use Rattle.bridge_tool.proofs.OneOutcome.{HasOne, IsPlain, done_so, one_of_both}
 use Rattle.bridge_tool.proofs.SeveralFiles.{HasComeDown, IsLast, IsSound, first_down, first_idle, first_sound, first_stopped, sound_end}
@@ -35,7 +35,7 @@ module _ (n : Named) where
   one_bytes x y h k =
       h.written ∙ ap (λ (p : Mps ℚ). mps_text_by value_text (named p n.rows n.columns)) (one_program (linear_of n.nl.file n.objective) h.program k.program h.exports k.exports) ∙ sym k.written
 
-  by_stages : IsStaged n.nl n.objective ⊎ ((line : List ℕ) × IsUnstaged n.nl n.objective line) → ((bytes : List ℕ) × IsNamedExport n bytes) ⊎ ((line : List ℕ) × IsUnstaged n.nl n.objective line)
+  by_stages : CanBeExported n.nl n.objective ⊎ ((line : List ℕ) × CannotBeExported n.nl n.objective line) → ((bytes : List ℕ) × IsNamedExport n bytes) ⊎ ((line : List ℕ) × CannotBeExported n.nl n.objective line)
   by_stages (inl is) =
       let p = a_program (linear_of n.nl.file n.objective) in
       inl (mps_text_by value_text (named p.0 n.rows n.columns), record { program = p.0; staged = is; exports = p.1; written = refl })
@@ -43,7 +43,7 @@ module _ (n : Named) where
 
   one : HasOne IsPlain (NamedComesTo n)
   one =
-      one_of_both (IsNamedExport n) (IsUnstaged n.nl n.objective)
+      one_of_both (IsNamedExport n) (CannotBeExported n.nl n.objective)
       (record { accepted = one_bytes; refused = one_reason n.nl n.objective; either = by_stages (staged n.nl n.objective); apart = λ bytes line h. staged_or_not n.nl n.objective h.staged line })
 
   -- it was folded, scaled and written with its names
@@ -62,7 +62,7 @@ named_last objective nl r = record {
   one = λ c. one (of_lists objective nl r c);
   idle = λ c n. omega arith;
   lines = λ c line h. unstaged_so nl objective line h;
-  verdict = λ c holds bytes h. inl (done_so (IsNamedExport (of_lists objective nl r c)) (IsUnstaged nl objective) holds bytes h);
+  verdict = λ c holds bytes h. inl (done_so (IsNamedExport (of_lists objective nl r c)) (CannotBeExported nl objective) holds bytes h);
 }
 
 module _ (objective : ℕ) (rows columns : List ℕ) where

@@ -28,7 +28,7 @@ use Rattle.dual_return.proofs.OneReturn.{one-return}
 use Rattle.bridge_tool.specs.AnswerTold.{answer_line, answer_reason_text, return_line}
 use Rattle.bridge_tool.specs.Promise.{Promise}
 use Rattle.bridge_tool.specs.Return.{IsAnswerRefused, IsReturnMeant, IsReturned, IsTurnedBack, ReturnsAs, after_answer, named_return_promise, named_return_told}
-use Rattle.bridge_tool.specs.Stages.{HasFolded, HasScaled, IsStaged, IsUnstaged, fold_steps}
+use Rattle.bridge_tool.specs.Stages.{HasFolded, HasScaled, CanBeExported, CannotBeExported, fold_steps}
 use Rattle.bridge_tool.specs.Told.{IsRefusalLine, refusal}
 use Rattle.bridge_tool.proofs.Decisions.{AreRead}
 use Rattle.bridge_tool.proofs.OneOutcome.{HasOne, IsPlain, done_so, one_of_both}
@@ -79,11 +79,11 @@ module _ (nl : NlValue) (a : AnswerValue) where
   one_line x y (inr h) (inl k) = absurd (staged_or_not nl a.objective h.staged y k)
   one_line x y (inr h) (inr k) = h.first.told ∙ ap return_line ((one-return nl.file a).one_fault h.first.fault k.first.fault h.first.first k.first.first) ∙ sym k.first.told
 
-  by_return : IsStaged nl a.objective → ((s : Sol) × IsReturn nl.file a s) ⊎ ((fault : ReturnFault) × HasReturnFault nl.file a fault) → ((bytes : List ℕ) × IsReturned nl a bytes) ⊎ ((line : List ℕ) × IsTurnedBack nl a line)
+  by_return : CanBeExported nl a.objective → ((s : Sol) × IsReturn nl.file a s) ⊎ ((fault : ReturnFault) × HasReturnFault nl.file a fault) → ((bytes : List ℕ) × IsReturned nl a bytes) ⊎ ((line : List ℕ) × IsTurnedBack nl a line)
   by_return is (inl s) = inl (sol_text s.0, record { staged = is; sol = s.0; returned = s.1; written = refl })
   by_return is (inr w) = inr (return_line w.0, inr (record { staged = is; first = record { fault = w.0; first = w.1; told = refl } }))
 
-  by_stages : IsStaged nl a.objective ⊎ ((line : List ℕ) × IsUnstaged nl a.objective line) → ((bytes : List ℕ) × IsReturned nl a bytes) ⊎ ((line : List ℕ) × IsTurnedBack nl a line)
+  by_stages : CanBeExported nl a.objective ⊎ ((line : List ℕ) × CannotBeExported nl a.objective line) → ((bytes : List ℕ) × IsReturned nl a bytes) ⊎ ((line : List ℕ) × IsTurnedBack nl a line)
   by_stages (inl is) = by_return is (one-return nl.file a).some
   by_stages (inr why) = inr (why.0, inl why.1)
 
@@ -96,7 +96,7 @@ module _ (nl : NlValue) (a : AnswerValue) (n : ℕ) (same : n ≡ a.objective) w
   folds_at : (l : LinearValue) → HasFolded nl n l → HasFolded nl a.objective l
   folds_at l folds = subst (λ (k : ℕ). HasFolded nl k l) same folds
 
-  pub staged_by : (l : LinearValue) (s : ScaledValue) → HasFolded nl n l → HasScaled (linear_value l) s → IsStaged nl a.objective
+  pub staged_by : (l : LinearValue) (s : ScaledValue) → HasFolded nl n l → HasScaled (linear_value l) s → CanBeExported nl a.objective
   staged_by l s folds scales = staged_so nl a.objective l (folds_at l folds) s scales
 
   -- a dual is too wide

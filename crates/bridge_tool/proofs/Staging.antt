@@ -18,7 +18,7 @@ use Rattle.scaling.specs.Scaled.{ScaledValue}
 use Rattle.scaling.specs.Scaling.{HasNoScaleFault, HasScaleFault, IsExportOf}
 use Rattle.scaling.specs.declared.scale_fault.ScaleFault.{ScaleFault}
 use Rattle.bridge_tool.specs.NlTold.{fold_line, scale_line}
-use Rattle.bridge_tool.specs.Stages.{HasFolded, HasScaled, HasUnscaled, IsStaged, IsUnstaged}
+use Rattle.bridge_tool.specs.Stages.{HasFolded, HasScaled, HasScaleRefusal, CanBeExported, CannotBeExported}
 use Rattle.bridge_tool.specs.Told.{IsRefusalLine}
 use Rattle.bridge_tool.proofs.Decided.{IsDecided, decimal_decided, one_scale_fault, scales_without_fault, scaling_decided}
 use Rattle.bridge_tool.proofs.Options.{same_some}
@@ -39,29 +39,29 @@ module _ (nl : NlValue) (k : ℕ) where
   abbrev f : Linear
   f = linear_of nl.file k
 
-  pub staged_or_not : IsStaged nl k → (line : List ℕ) → IsUnstaged nl k line → ⊥
+  pub staged_or_not : CanBeExported nl k → (line : List ℕ) → CannotBeExported nl k line → ⊥
   staged_or_not s line (inl h) = folds_without_fault nl.file k h.fault s.folded h.first
   staged_or_not s line (inr h) = scales_without_fault f h.first.fault s.scaled h.first.first
 
-  pub one_reason : (x y : List ℕ) → IsUnstaged nl k x → IsUnstaged nl k y → x ≡ y
+  pub one_reason : (x y : List ℕ) → CannotBeExported nl k x → CannotBeExported nl k y → x ≡ y
   one_reason x y (inl h) (inl j) = h.told ∙ ap (fold_line nl.places) (same_some h.fault j.fault (first_fold_fault nl.file k) h.first j.first) ∙ sym j.told
   one_reason x y (inl h) (inr j) = absurd (folds_without_fault nl.file k h.fault j.folded h.first)
   one_reason x y (inr h) (inl j) = absurd (folds_without_fault nl.file k j.fault h.folded j.first)
   one_reason x y (inr h) (inr j) = h.first.told ∙ ap (scale_line k) (one_scale_fault f h.first.fault j.first.fault h.first.first j.first.first) ∙ sym j.first.told
 
-  by_scaling : fold_fault nl.file k ≡ None → HasNoScaleFault f ⊎ ((fault : ScaleFault) × HasScaleFault f fault) → IsStaged nl k ⊎ ((line : List ℕ) × IsUnstaged nl k line)
+  by_scaling : fold_fault nl.file k ≡ None → HasNoScaleFault f ⊎ ((fault : ScaleFault) × HasScaleFault f fault) → CanBeExported nl k ⊎ ((line : List ℕ) × CannotBeExported nl k line)
   by_scaling folded (inl fine) = inl (record { folded = folded; scaled = fine })
   by_scaling folded (inr wide) = inr (scale_line k wide.0, inr (record { folded = folded; first = record { fault = wide.0; first = wide.1; told = refl } }))
 
-  by_fold : (o : Option FileFault) → fold_fault nl.file k ≡ o → IsStaged nl k ⊎ ((line : List ℕ) × IsUnstaged nl k line)
+  by_fold : (o : Option FileFault) → fold_fault nl.file k ≡ o → CanBeExported nl k ⊎ ((line : List ℕ) × CannotBeExported nl k line)
   by_fold None e = by_scaling e (scaling_decided f)
   by_fold (Some fault) e = inr (fold_line nl.places (named_fault nl.file fault), inl (record { fault = named_fault nl.file fault; first = ap (option_map (named_fault nl.file)) e; told = refl }))
 
-  pub staged : IsStaged nl k ⊎ ((line : List ℕ) × IsUnstaged nl k line)
+  pub staged : CanBeExported nl k ⊎ ((line : List ℕ) × CannotBeExported nl k line)
   staged = by_fold (fold_fault nl.file k) refl
 
   -- the line tells a refusal
-  pub unstaged_so : (line : List ℕ) → IsUnstaged nl k line → IsRefusalLine line
+  pub unstaged_so : (line : List ℕ) → CannotBeExported nl k line → IsRefusalLine line
   unstaged_so line (inl h) = same_so line _ h.told (fold_so nl.places h.fault)
   unstaged_so line (inr h) = same_so line _ h.first.told (scale_so k h.first.fault)
 
@@ -86,14 +86,14 @@ a_program f = by_objective f (decimal_decided f)
 
 module _ (nl : NlValue) (k : ℕ) (l : LinearValue) (folds : HasFolded nl k l) where
   -- it folds, and does not scale
-  pub unscaled_so : (line : List ℕ) → HasUnscaled (linear_value l) k line → IsUnstaged nl k line
-  unscaled_so line h = inr (record { folded = folds.fine; first = subst (λ (g : Linear). HasUnscaled g k line) folds.linear h })
+  pub unscaled_so : (line : List ℕ) → HasScaleRefusal (linear_value l) k line → CannotBeExported nl k line
+  unscaled_so line h = inr (record { folded = folds.fine; first = subst (λ (g : Linear). HasScaleRefusal g k line) folds.linear h })
 
   module _ (s : ScaledValue) (scales : HasScaled (linear_value l) s) where
     scaled_so : HasScaled (linear_of nl.file k) s
     scaled_so = subst (λ (g : Linear). HasScaled g s) folds.linear scales
 
-    pub staged_so : IsStaged nl k
+    pub staged_so : CanBeExported nl k
     staged_so = record { folded = folds.fine; scaled = scaled_so.fine }
 
     -- what was scaled is the program that is exported

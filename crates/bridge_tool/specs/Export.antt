@@ -18,28 +18,30 @@ use Rattle.bridge_tool.specs.Outcome.{DoneOrRefused, Outcome}
 use Rattle.bridge_tool.specs.Promise.{Promise}
 use Rattle.bridge_tool.specs.Refusal.{HasTextRefusal}
 use Rattle.bridge_tool.specs.SeveralFiles.{after_file, desk_promise, ends}
-use Rattle.bridge_tool.specs.Stages.{IsStaged, IsUnstaged, fold_steps}
+use Rattle.bridge_tool.specs.Stages.{CanBeExported, CannotBeExported, fold_steps}
 
--- the file folds and scales with objective k, and these bytes are the text of its program
+-- the file folds and scales with objective k, there is a program that it is exported as, and these
+-- bytes are its text
 pub record IsExported (nl : NlValue) (k : ℕ) (bytes : List ℕ) : Type 0 where
   pub program : Mps ℚ
-  pub staged : IsStaged nl k
+  pub staged : CanBeExported nl k
   pub exports : IsExportOf (linear_of nl.file k) program
   pub written : bytes ≡ mps_text_by value_text program
 
--- what a file with objective k comes to
+-- what a file with objective k comes to: its program's text is written, or a line refuses it
 abbrev pub ExportsAs : NlValue → ℕ → Outcome → Type 0
-ExportsAs nl k = DoneOrRefused (IsExported nl k) (IsUnstaged nl k)
+ExportsAs nl k = DoneOrRefused (IsExported nl k) (CannotBeExported nl k)
 
 -- an assignment satisfies the program exactly where it satisfies the file, with the same objective
--- value and sense
+-- value and sense; a list that is too short has 0 for the rest
 pub record IsSameProgram (f : File) (k : ℕ) (m : Mps ℚ) : Type 0 where
   pub points : (xs : List ℚ) → IsMpsFeasible m xs ↔ IsFeasible f xs
   pub objective : (xs : List ℚ) → objective_value f k xs ≡ Some (mps_objective m xs)
   pub sense : m.maximise ≡ maximises f k
 
--- An assignment with one number more satisfies the program exactly where the assignment satisfies
--- the file and the number is the objective's value; the program's objective is that number.
+-- The program has one column more. An assignment with one number more satisfies the program exactly
+-- where the assignment satisfies the file and the number is the objective's value; the program's
+-- objective is that number.
 pub record IsTiedProgram (f : File) (k : ℕ) (m : Mps ℚ) : Type 0 where
   pub points : (xs : List ℚ) (z : ℚ) → length xs ≡ f.counts.n_var → IsMpsFeasible m (xs ++ z ∷ [])
       ↔ (IsFeasible f xs × (objective_value f k xs ≡ Some z))
@@ -47,23 +49,25 @@ pub record IsTiedProgram (f : File) (k : ℕ) (m : Mps ℚ) : Type 0 where
       → mps_objective m (xs ++ z ∷ []) ≡ z
   pub sense : m.maximise ≡ maximises f k
 
--- the program means what the file with objective k means; it is tied where the objective is not
--- decimal
+-- the program means what the file with objective k means; it is tied where a number of the
+-- objective is no decimal that fits
 pub record MeansTheFile (f : File) (k : ℕ) (m : Mps ℚ) : Type 0 where
   pub plain : IsDecimal (linear_of f k) → IsSameProgram f k m
   pub tied : (IsDecimal (linear_of f k) → ⊥) → IsTiedProgram f k m
 
--- what is exported means what the file means
+-- every program that the file may be exported as means what the file means
 abbrev pub IsExportMeant : NlValue → ℕ → Type 0
 IsExportMeant nl k =
     (bytes : List ℕ) (e : IsExported nl k bytes) → MeansTheFile nl.file k e.program
 
 -- ---- the promise
 
+-- at a desk with these texts: the file is read, and then exported
 abbrev pub export_told : List ℕ → ℕ → Texts → Promise
 export_told file k texts =
     after_file IsNl HasTextRefusal texts file (λ nl.
     ends texts file (ExportsAs nl k) (λ old new. new ≤ old + fold_steps nl k) (IsExportMeant nl k))
 
+-- at any desk: of one that does not tell its texts, only that it does not
 abbrev pub export_promise : Option Texts → List ℕ → ℕ → Promise
 export_promise texts file k = desk_promise false (export_told file k) texts

@@ -23,7 +23,7 @@ use Rattle.bridge_tool.specs.Outcome.{DoneOrRefused, Outcome, Refused}
 use Rattle.bridge_tool.specs.Promise.{Promise}
 use Rattle.bridge_tool.specs.Refusal.{HasTextRefusal}
 use Rattle.bridge_tool.specs.SeveralFiles.{ByValue}
-use Rattle.bridge_tool.specs.Stages.{IsUnstaged}
+use Rattle.bridge_tool.specs.Stages.{CannotBeExported}
 
 -- the written text of the instance
 abbrev pub made_text : ℕ → ℕ → List ℕ
@@ -72,7 +72,7 @@ pub record IsMade (nl : NlValue) (bytes : List ℕ) : Type 0 where
 
 -- what a file comes to
 abbrev pub MakesAs : NlValue → Outcome → Type 0
-MakesAs nl = DoneOrRefused (IsMade nl) (IsUnstaged nl 0)
+MakesAs nl = DoneOrRefused (IsMade nl) (CannotBeExported nl 0)
 
 -- the same of a program with so many variables and exported rows
 abbrev pub IsSummedUp : ℕ → ℕ → Mps ℚ → List ℕ → Type 0

@@ -19,7 +19,7 @@ use Rattle.bridge_tool.specs.Outcome.{DoneOrRefused, Outcome}
 use Rattle.bridge_tool.specs.Promise.{Promise}
 use Rattle.bridge_tool.specs.Refusal.{HasTextRefusal}
 use Rattle.bridge_tool.specs.SeveralFiles.{after_file, desk_promise, ends}
-use Rattle.bridge_tool.specs.Stages.{IsStaged, IsUnstaged, fold_steps}
+use Rattle.bridge_tool.specs.Stages.{CanBeExported, CannotBeExported, fold_steps}
 
 -- a file, the number of its objective, and the names of its rows and columns
 pub record Named : Type 0 where
@@ -31,13 +31,13 @@ pub record Named : Type 0 where
 -- the file folds and scales, and these bytes are the text of its program with these names
 pub record IsNamedExport (n : Named) (bytes : List ℕ) : Type 0 where
   pub program : Mps ℚ
-  pub staged : IsStaged n.nl n.objective
+  pub staged : CanBeExported n.nl n.objective
   pub exports : IsExportOf (linear_of n.nl.file n.objective) program
   pub written : bytes ≡ mps_text_by value_text (named program n.rows n.columns)
 
 -- what a file with names comes to
 abbrev pub NamedComesTo : Named → Outcome → Type 0
-NamedComesTo n = DoneOrRefused (IsNamedExport n) (IsUnstaged n.nl n.objective)
+NamedComesTo n = DoneOrRefused (IsNamedExport n) (CannotBeExported n.nl n.objective)
 
 -- the program with names means what the file means, as the program without them does
 pub record IsNamedMeant (n : Named) (bytes : List ℕ) (e : IsNamedExport n bytes) : Type 0 where

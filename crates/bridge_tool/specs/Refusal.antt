@@ -4,6 +4,6 @@ use Rattle.nl_segments.specs.Reader.{HasNlFault}
 use Rattle.bridge_tool.specs.NlTold.{nl_line}
 use Rattle.bridge_tool.specs.Told.{TellsFault}
 
--- the text itself has a fault
+-- the text is no .nl text, and this line tells its first fault
 abbrev pub HasTextRefusal : List ℕ → List ℕ → Type 0
 HasTextRefusal text = TellsFault (HasNlFault text) nl_line

@@ -21,7 +21,7 @@ use Rattle.bridge_tool.specs.Outcome.{DoneOrRefused, Outcome}
 use Rattle.bridge_tool.specs.Promise.{Promise}
 use Rattle.bridge_tool.specs.Refusal.{HasTextRefusal}
 use Rattle.bridge_tool.specs.SeveralFiles.{after_file, desk_promise, ends}
-use Rattle.bridge_tool.specs.Stages.{IsStaged, IsUnstaged, fold_steps}
+use Rattle.bridge_tool.specs.Stages.{CanBeExported, CannotBeExported, fold_steps}
 use Rattle.bridge_tool.specs.Told.{TellsFault}
 
 -- ---- the second file
@@ -34,18 +34,18 @@ IsAnswerRefused s text = TellsFault (HasFault (answer_rules s) text) (answer_lin
 
 -- the answer is returned as a .sol file, the written text of which is these bytes
 pub record IsReturned (nl : NlValue) (a : AnswerValue) (bytes : List ℕ) : Type 0 where
-  pub staged : IsStaged nl a.objective
+  pub staged : CanBeExported nl a.objective
   pub sol : Sol
   pub returned : IsReturn nl.file a sol
   pub written : bytes ≡ sol_text sol
 
 -- it scales, and a dual is too wide
 pub record HasWideDual (nl : NlValue) (a : AnswerValue) (line : List ℕ) : Type 0 where
-  pub staged : IsStaged nl a.objective
+  pub staged : CanBeExported nl a.objective
   pub first : TellsFault (HasReturnFault nl.file a) return_line line
 
 abbrev pub IsTurnedBack : NlValue → AnswerValue → List ℕ → Type 0
-IsTurnedBack nl a line = IsUnstaged nl a.objective line ⊎ HasWideDual nl a line
+IsTurnedBack nl a line = CannotBeExported nl a.objective line ⊎ HasWideDual nl a line
 
 -- what an answer for a file comes to
 abbrev pub ReturnsAs : NlValue → AnswerValue → Outcome → Type 0
@@ -53,7 +53,7 @@ ReturnsAs nl a = DoneOrRefused (IsReturned nl a) (IsTurnedBack nl a)
 
 -- what making the .sol value answers
 abbrev pub Makes : NlValue → AnswerValue → Result Sol (Stop (Vec ℕ)) → Type 0
-Makes nl a (Ok sol) = IsStaged nl a.objective × IsReturn nl.file a sol
+Makes nl a (Ok sol) = CanBeExported nl a.objective × IsReturn nl.file a sol
 Makes nl a (Err (Fault line)) = IsTurnedBack nl a line.items
 Makes nl a (Err Memory) = Unit {0}
 

@@ -19,7 +19,7 @@ pub record HasFolded (value : NlValue) (k : ℕ) (l : LinearValue) : Type 0 wher
   pub fine : fold_fault value.file k ≡ None
   pub linear : linear_value l ≡ linear_of value.file k
 
--- the first fault of the fold, and its line
+-- this line tells the first expression of the file that is not linear or does not fit
 abbrev pub HasFoldFault : NlValue → ℕ → List ℕ → Type 0
 HasFoldFault value k =
     TellsFault (λ fault. first_fold_fault value.file k ≡ Some fault) (fold_line value.places)
@@ -35,30 +35,30 @@ pub record HasScaled (f : Linear) (s : ScaledValue) : Type 0 where
   pub fine : HasNoScaleFault f
   pub scaled : IsScaledOf f s
 
--- the first fault of scaling, and its line
-abbrev pub HasUnscaled : Linear → ℕ → List ℕ → Type 0
-HasUnscaled f k = TellsFault (HasScaleFault f) (scale_line k)
+-- this line tells the first row, or else the objective, no multiple of which is decimal and fits
+abbrev pub HasScaleRefusal : Linear → ℕ → List ℕ → Type 0
+HasScaleRefusal f k = TellsFault (HasScaleFault f) (scale_line k)
 
--- the file folds with objective k, and a row or the objective has no decimal program
+-- the file folds with objective k but does not scale, and this line tells why
 pub record IsUnscaled (value : NlValue) (k : ℕ) (line : List ℕ) : Type 0 where
   pub folded : fold_fault value.file k ≡ None
-  pub first : HasUnscaled (linear_of value.file k) k line
+  pub first : HasScaleRefusal (linear_of value.file k) k line
 
 -- the file folds and scales with objective k
-pub record IsStaged (value : NlValue) (k : ℕ) : Type 0 where
+pub record CanBeExported (value : NlValue) (k : ℕ) : Type 0 where
   pub folded : fold_fault value.file k ≡ None
   pub scaled : HasNoScaleFault (linear_of value.file k)
 
--- it does not, and this line tells why
-abbrev pub IsUnstaged : NlValue → ℕ → List ℕ → Type 0
-IsUnstaged value k line = HasFoldFault value k line ⊎ IsUnscaled value k line
+-- the file does not fold, or does not scale, and this line tells why
+abbrev pub CannotBeExported : NlValue → ℕ → List ℕ → Type 0
+CannotBeExported value k line = HasFoldFault value k line ⊎ IsUnscaled value k line
 
--- at most so many steps are counted for the fold: none without objective k
+-- so many steps the fold may count, at most: none where there is no objective k
 abbrev pub fold_steps : NlValue → ℕ → ℕ
 fold_steps value k = if has_objective value.file k then step_bound value.file else 0
 
 -- what scaling answers
 abbrev pub Scales : Linear → ℕ → Result ScaledValue (Stop (Vec ℕ)) → Type 0
 Scales f k (Ok s) = HasScaled f s
-Scales f k (Err (Fault line)) = HasUnscaled f k line.items
+Scales f k (Err (Fault line)) = HasScaleRefusal f k line.items
 Scales f k (Err Memory) = Unit {0}

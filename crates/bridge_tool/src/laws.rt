@@ -25,7 +25,7 @@ ghost use Rattle.bridge_tool.specs.Prove.{IsProofRefused};
 ghost use Rattle.bridge_tool.specs.Refusal.{HasTextRefusal};
 ghost use Rattle.bridge_tool.specs.Return.{IsAnswerRefused};
 ghost use Rattle.bridge_tool.specs.Sol.{IsSolRefused};
-ghost use Rattle.bridge_tool.specs.Stages.{IsUnstaged, fold_steps};
+ghost use Rattle.bridge_tool.specs.Stages.{CannotBeExported, fold_steps};
 ghost use Rattle.bridge_tool.specs.ToldLines.{TellsLine, TellsPlace};
 ghost use Rattle.bridge_tool.specs.declared.transfer.TheConstants.{LIMIT};
 ghost use Rattle.bridge_tool.specs.Verify.{IsCertificateRefused};
@@ -46,7 +46,7 @@ pub fn exports_by_text()
     ensures refused { (texts : Texts) (file text : List ℕ) (k : ℕ) → texts file ≡ Some text
         → (line : List ℕ) → (export_told file k texts).comes (Refused line)
         ↔ (HasTextRefusal (take LIMIT text) line
-        ⊎ ((nl : NlValue) × (IsNl (take LIMIT text) nl × IsUnstaged nl k line))) }
+        ⊎ ((nl : NlValue) × (IsNl (take LIMIT text) nl × CannotBeExported nl k line))) }
     ensures steps { (texts : Texts) (file text : List ℕ) (k : ℕ) → texts file ≡ Some text
         → (old new : ℕ) → (export_told file k texts).counts old new
         → (nl : NlValue) → IsNl (take LIMIT text) nl → new ≤ old + fold_steps nl k }
@@ -99,7 +99,7 @@ pub fn told_lines_are_lines()
     ensures mps { (text told : List ℕ) → IsMpsRefused text told → TellsLine 1 text told }
     ensures fixed { (text told : List ℕ) → IsFixedRefused text told → TellsLine 1 text told }
     ensures stages { (text : List ℕ) (value : NlValue) (k : ℕ) (told : List ℕ) → IsNl text value
-        → IsUnstaged value k told → TellsPlace text told }
+        → CannotBeExported value k told → TellsPlace text told }
     ensures places { (text : List ℕ) (value : NlValue) (fault : FoldFault) → IsNl text value
         → HasFaultPlace value.file fault → HasFaultLine (length (lines_of text)) value.places
         fault }
