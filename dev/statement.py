@@ -69,7 +69,8 @@ class Definition:
     def is_proof(self) -> bool:
         """Whether its type, up to its first clause, ends in a relation or in a proposition's name."""
         own = self.key[2]
-        head = [self.lines[0], *(it for it in self.own_lines[1:] if not re.match(rf"\s*({re.escape(own)}|unfolding)\b", it))]
+        later = [it for it in self.own_lines[1:] if not re.match(rf"\s*({re.escape(own)}|unfolding)\b", it)]
+        head = [self.lines[0], *later]
         return bool(PROPOSITION.search(" ".join(head)))
 
     def constructors(self) -> list[str]:
@@ -274,11 +275,12 @@ OPENING = (
     "order, in `definitions.txt` beside this page. Who finds that they say what the words mean, and trusts the toolchain,",
     "believes the theorem: no code and no proof need be read.",
     "",
-    "How to read them: `Type 0` is read \"proposition\" or \"kind of thing\". `(x : A) → P x` is for all x, `(x : A) × P x` there is",
-    "an x, `A × B` and, `A ⊎ B` or, `A ↔ B` exactly where, `A → ⊥` not, `≡` equal, `Unit` true. A `record` is all of its fields: each",
-    "of them holds, or each is a part. `abbrev` and `unfoldable` begin a definition (they differ for the prover alone). `[]`, `∷`, `++`",
-    "make lists, `None` and `Some x` an `Option`, `λ x.` a function; `◌` is the place of an operand; `-` on ℕ stops at 0. A text is",
-    "a list of bytes, `List ℕ`. Types that code declares (`specs.declared`) say their parts in `crates/CRATE/src`.",
+    "How to read them: `Type 0` is read \"proposition\" or \"kind of thing\". `(x : A) → P x` is for all x, `(x : A) × P x`",
+    "there is an x, `A × B` and, `A ⊎ B` or, `A ↔ B` exactly where, `A → ⊥` not, `≡` equal, `Unit` true. A `record` is all of",
+    "its fields: each of them holds, or each is a part. `abbrev` and `unfoldable` begin a definition (they differ for the",
+    "prover alone). `[]`, `∷`, `++` make lists, `None` and `Some x` an `Option`, `λ x.` a function; `◌` is the place of an",
+    "operand; `-` on ℕ stops at 0. A text is a list of bytes, `List ℕ`. Types that code declares (`specs.declared`) say",
+    "their parts in `crates/CRATE/src`.",
     "",
     "A value that holds a proof, as a fraction that it is in lowest terms, is made by a lemma. Lemmas stand in files named",
     "`..Lemmas` and are not to be read, since the value's type says all that they give: the last column counts them, and the",
