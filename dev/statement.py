@@ -125,8 +125,8 @@ class SpecFile:
     def other_names(self, found: list[Definition]) -> list[str]:
         """A line for each name that these definitions use for what is called otherwise where it stands."""
         words = {word for it in found for word in WORD.findall(it.text)}
-        return [f"-- here {name} is {'.'.join(path).removeprefix('Rattle.')}:{own}" for name, (path, own) in sorted(self.imports.items())
-                if name != own and name in words]
+        others = [(name, *there) for name, there in sorted(self.imports.items()) if name != there[1] and name in words]
+        return [f"-- here {name} is {'.'.join(path).removeprefix('Rattle.')}:{own}" for name, path, own in others]
 
     def begin(self, line: str, number: int, comment: list[str]) -> Definition:
         """The definition that begins at this line; the one of that name, where clauses of it go on."""
@@ -275,12 +275,12 @@ OPENING = (
     "order, in `definitions.txt` beside this page. Who finds that they say what the words mean, and trusts the toolchain,",
     "believes the theorem: no code and no proof need be read.",
     "",
-    "How to read them: `Type 0` is read \"proposition\" or \"kind of thing\". `(x : A) → P x` is for all x, `(x : A) × P x`",
-    "there is an x, `A × B` and, `A ⊎ B` or, `A ↔ B` exactly where, `A → ⊥` not, `≡` equal, `Unit` true. A `record` is all of",
-    "its fields: each of them holds, or each is a part. `abbrev` and `unfoldable` begin a definition (they differ for the",
-    "prover alone). `[]`, `∷`, `++` make lists, `None` and `Some x` an `Option`, `λ x.` a function; `◌` is the place of an",
-    "operand; `-` on ℕ stops at 0. A text is a list of bytes, `List ℕ`. Types that code declares (`specs.declared`) say",
-    "their parts in `crates/CRATE/src`.",
+    "How to read them: `Type 0` is read \"proposition\" or \"kind of thing\". `(x : A) → P x` is for all x, `(x : A) × P",
+    "x` there is an x, `A × B` and, `A ⊎ B` or, `A ↔ B` exactly where, `A → ⊥` not, `≡` equal, `Unit` true. A",
+    "`record` is all of its fields: each of them holds, or each is a part. `abbrev` and `unfoldable` begin a",
+    "definition (they differ for the prover alone). `[]`, `∷`, `++` make lists, `None` and `Some x` an `Option`, `λ",
+    "x.` a function; `◌` is the place of an operand; `-` on ℕ stops at 0. A text is a list of bytes, `List ℕ`. Types",
+    "that code declares (`specs.declared`) say their parts in `crates/CRATE/src`.",
     "",
     "A value that holds a proof, as a fraction that it is in lowest terms, is made by a lemma. Lemmas stand in files named",
     "`..Lemmas` and are not to be read, since the value's type says all that they give: the last column counts them, and the",
