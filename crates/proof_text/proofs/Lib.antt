@@ -1,6 +1,8 @@
-pub mod Marks
+pub mod Counted
 pub mod KindLemmas
+pub mod RowLemmas
+pub mod Steps
 pub mod GrammarLemmas
-pub mod CleanLines
+pub mod Runs
 pub mod TextTrees
 pub mod ReadingLemmas

@@ -1,6 +1,7 @@
 -- Each text has one reading, and what a reader answers is a proof of its file.
-use Rattle.std.proofs.Common.{◌≡◌, ◌∙◌, ℕ, Bool, false, ◌||◌, not, List, ◌++◌, Option, Some, None, Result, Ok, Err, is_none, inl, inr, refl, sym, ap₂, subst}
+use Rattle.std.proofs.Common.{◌≡◌, ◌∙◌, ℕ, Bool, true, false, ◌&&◌, List, Option, Some, None, Result, Ok, Err, is_some, inl, inr, refl, sym, ap₂, subst}
 use Rattle.std.specs.Prelude.{IfOk}
+use Rattle.std.proofs.lemmas.Bool.{not-false}
 use Rattle.texts.specs.declared.stop.Stop.{Stop}
 use Rattle.texts.specs.Reading.{Stands}
 use Rattle.texts.specs.declared.fault.TextFault.{TextFault}
@@ -15,17 +16,22 @@ use Rattle.proof_text.specs.Proofs.{Pair, ProofValue}
 use Rattle.nl_model.specs.File.{File}
 use Rattle.proof_text.specs.declared.fault.ProofReason.{ProofReason}
 use Rattle.proof_text.specs.Setting.{Setting, setting_of}
-use Rattle.proof_text.specs.Standing.{IsSaid, Standing, is_whole_tree, nothing_yet, standing}
+use Rattle.proof_text.specs.Rows.{rows_in}
+use Rattle.proof_text.specs.Standing.{IsSaid, Standing, is_whole, standing}
 use Rattle.proof_text.specs.Tests.{end_tests}
 use Rattle.proof_text.specs.Grammar.{proof_rules}
 use Rattle.proof_text.specs.Reader.{HasOneReading, IsFed, IsProofText, Reading, ReadsProof}
-use Rattle.proof_text.proofs.CleanLines.{end_fine, text_fine}
 use Rattle.proof_text.proofs.GrammarLemmas.{read_for}
+use Rattle.proof_text.proofs.Runs.{text_ends}
 use Rattle.proof_text.proofs.TextTrees.{text_is_proof}
 
-some_claim : (o : Option Claim) (b : Bool) → (is_none o || b) ≡ false → (c : Claim) × (o ≡ Some c)
-some_claim None b e = absurd cc
-some_claim (Some c) b e = (c, refl)
+some_claim : (o : Option Claim) → is_some o ≡ true → (c : Claim) × (o ≡ Some c)
+some_claim None e = absurd cc
+some_claim (Some c) e = (c, refl)
+
+first_of_whole : (a b c : Bool) → (a && b && c) ≡ true → a ≡ true
+first_of_whole true b c h = refl
+first_of_whole false b c h = h
 
 parts : Claim → List ProofNode → List Pair → ProofValue
 parts c ns ps = record { claim = c; nodes = ns; pairs = ps }
@@ -40,10 +46,10 @@ one_said st p q h g = same_parts p.claim q.claim p.nodes q.nodes p.pairs q.pairs
 clean_said : (s : Setting) (text : List ℕ) → IsClean (proof_rules s) (lines_of text) (last_of text) → (p : ProofValue) × IsProofText s text p
 unfolding end_tests
 clean_said s text clean =
-    let st = standing (lines_of text) in
-    let tests = none_each (end_tests st) (end_fine s nothing_yet (lines_of text) (text_fine s text clean)) in
-    let claim = some_claim st.claim (not (is_whole_tree st)) tests.1.0 in
-    (record { claim = claim.0; nodes = st.nodes; pairs = st.pairs ++ st.own }, record { clean = clean; said = record { claim = claim.1; nodes = refl; pairs = refl } })
+    let st = standing (rows_in (lines_of text)) in
+    let tests = none_each (end_tests st) (text_ends s text clean) in
+    let claim = some_claim st.claim (first_of_whole (is_some st.claim) _ _ (not-false (is_whole st) tests.1.0)) in
+    (record { claim = claim.0; nodes = st.nodes; pairs = st.pairs }, record { clean = clean; said = record { claim = claim.1; nodes = refl; pairs = refl } })
 
 fault_at : ℕ → ProofReason → TextFault ProofReason
 fault_at line reason = record { reason = reason; line = line }
@@ -58,7 +64,7 @@ one_reading s text =
         | inr fault ↦ inr (record { reason = fault.1; line = fault.0 }, fault.2)
       ];
       not_both = λ p fault h f. one.not_both h.clean fault.line fault.reason f;
-      one_value = λ p q h g. one_said (standing (lines_of text)) p q h.said g.said;
+      one_value = λ p q h g. one_said (standing (rows_in (lines_of text))) p q h.said g.said;
       one_fault = λ a b f g.
           let same = one.one_fault a.line b.line a.reason b.reason f g in
           ap₂ fault_at same.0 same.1;
@@ -71,7 +77,7 @@ proof_from f text s same (Err stop) reads = tt
 
 -- the same for a reader
 pub proof_read : (inside held : Reading) (result : Result ProofValue (Stop (TextFault ProofReason))) → inside ≡ held
-    → ((text : List ℕ) → Stands inside.stopped (proof_rules inside.read.setting) (λ lines. inside.read.standing ≡ standing lines) inside.lines text → ReadsProof inside.read.setting text result)
+    → ((text : List ℕ) → Stands inside.stopped (proof_rules inside.read.setting) (λ lines. inside.read.standing ≡ standing (rows_in lines)) inside.lines text → ReadsProof inside.read.setting text result)
     → IfOk result (λ p. (f : File) (text : List ℕ) → IsFed (setting_of f) held text → IsProofIn f p)
 proof_read inside held (Ok p) same reads = λ f text fed. text_is_proof f text p (read_for inside held (Ok p) same reads (setting_of f) text fed)
 proof_read inside held (Err stop) same reads = tt

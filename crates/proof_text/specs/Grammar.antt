@@ -8,6 +8,7 @@ use Rattle.proof_text.specs.Proofs.{ProofValue}
 use Rattle.proof_text.specs.declared.fault.ProofReason.{ProofReason}
 use Rattle.proof_text.specs.declared.fault.ProofReason.TheVariants.{LineTooLong, InputTooLong}
 use Rattle.proof_text.specs.Setting.{Setting}
+use Rattle.proof_text.specs.Rows.{rows_in}
 use Rattle.proof_text.specs.Standing.{IsSaid, standing}
 use Rattle.proof_text.specs.Tests.{end_tests, line_tests}
 
@@ -17,11 +18,11 @@ reason_of LongInput = InputTooLong
 
 abbrev pub proof_rules : Setting → Rules ProofReason
 proof_rules s = record {
-  at_line = λ before line. first_reason (line_tests s (standing before) line);
+  at_line = λ before line. first_reason (line_tests s (standing (rows_in before)) line);
   at_fault = λ before fault. reason_of fault;
-  at_end = λ lines. first_reason (end_tests (standing lines));
+  at_end = λ lines. first_reason (end_tests (standing (rows_in lines)));
 }
 
 -- these lines say this
 abbrev pub SaysProof : List (List ℕ) → ProofValue → Type 0
-SaysProof lines p = IsSaid (standing lines) p
+SaysProof lines p = IsSaid (standing (rows_in lines)) p

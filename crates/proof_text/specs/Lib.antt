@@ -6,5 +6,5 @@ pub mod Standing
 pub mod Tests
 pub mod Grammar
 pub mod Reader
-pub mod InsideLeaves
 pub mod Steps
+pub mod InsideReader

@@ -2,9 +2,9 @@
 -- `value K V` or `infeasible`, and one tree in prefix order: `split J T`, followed by the part
 -- "variable J at most T" and the part "at least T + 1"; or a leaf `duals N` or `weights N`,
 -- followed by N rows `I VALUE`, the number of constraint I.
-use Rattle.std.specs.Prelude.{ℕ, ℤ, Bool, true, false, not, ◌&&◌, ◌||◌, ◌==◌, List, length, Option, Some, None, codes, if◌then◌else◌}
+use Rattle.std.specs.Prelude.{ℕ, ℤ, Bool, true, false, not, ◌&&◌, ◌||◌, ◌==◌, List, length, map, filter, Option, Some, None, codes, if◌then◌else◌}
 use Rattle.fractions.specs.Fits.{fits}
-use Rattle.texts.specs.Words.{begins, word_at}
+use Rattle.texts.specs.Words.{begins, row_of, word_at}
 use Rattle.exact_numbers.specs.Numbers.{dec_of, signed_of, whole_of}
 use Rattle.exact_numbers.specs.Values.{dec_value}
 use Rattle.exact_numbers.specs.declared.dec.Dec.{Dec}
@@ -14,8 +14,13 @@ use Rattle.proof_text.specs.declared.proof.ProofNode.{ProofNode}
 use Rattle.proof_text.specs.declared.proof.ProofNode.TheVariants.{Split, Duals, Weights}
 use Rattle.proof_text.specs.Proofs.{Pair}
 
+-- the words of a line
 abbrev pub Row : Type 0
 Row = List (List ℕ)
+
+-- a line without words is left out
+unfoldable pub rows_in : List (List ℕ) → List Row
+rows_in lines = filter (λ words. not (length words == 0)) (map row_of lines)
 
 -- ---- first words, and how many words there are
 
@@ -36,7 +41,7 @@ is_node_row claim words =
     is_row (codes "weights") 2 words
     || (not (is_alone claim) && (is_row (codes "duals") 2 words || is_row (codes "split") 3 words))
 
--- ---- what they say
+-- ---- what they say, whatever stands before them
 
 abbrev pub value_claim : Option ℕ → Option Dec → Option Claim
 value_claim (Some k) (Some v) = if fits (dec_value v) then Some (Value k v) else None
@@ -45,8 +50,10 @@ value_claim k v = None
 -- `value K V`, where V is a fraction too, or `infeasible`
 unfoldable pub claim_in : Row → Option Claim
 claim_in words =
-    if begins words (codes "infeasible") then Some Infeasible
-    else value_claim (whole_of (word_at words 1)) (dec_of (word_at words 2))
+    if is_row (codes "infeasible") 1 words then Some Infeasible
+    else if is_row (codes "value") 3 words
+    then value_claim (whole_of (word_at words 1)) (dec_of (word_at words 2))
+    else None
 
 abbrev pub split_node : Option ℕ → Option ℤ → Option ProofNode
 split_node (Some j) (Some t) = Some (Split j t)
@@ -59,10 +66,11 @@ leaf_in node (Some n) = Some (node n)
 -- `split J T`, `duals N` or `weights N`
 unfoldable pub node_in : Row → Option ProofNode
 node_in words =
-    if begins words (codes "split")
+    if is_row (codes "split") 3 words
     then split_node (whole_of (word_at words 1)) (signed_of (word_at words 2))
-    else if begins words (codes "duals") then leaf_in Duals (whole_of (word_at words 1))
-    else leaf_in Weights (whole_of (word_at words 1))
+    else if is_row (codes "duals") 2 words then leaf_in Duals (whole_of (word_at words 1))
+    else if is_row (codes "weights") 2 words then leaf_in Weights (whole_of (word_at words 1))
+    else None
 
 abbrev pub pair_of : Option ℕ → Option Dec → Option Pair
 pair_of (Some i) (Some v) = Some (i, v)

@@ -1,4 +1,12 @@
--- What is read of a proof.
+-- What is read of a proof, and how a row more changes it: for the contracts of the reader's own
+-- functions. That it is what the rows come to is proved.
+use Rattle.std.specs.Prelude.{ℕ, ◌==◌, true, List, ◌++◌, length, Option, option_to_list, if◌then◌else◌}
+use Rattle.std.specs.Option.{option_or}
+use Rattle.texts.specs.Words.{row_of}
+use Rattle.proof_text.specs.declared.proof.Claim.{Claim}
+use Rattle.proof_text.specs.declared.proof.ProofNode.{ProofNode}
+use Rattle.proof_text.specs.Proofs.{Pair}
+use Rattle.proof_text.specs.Rows.{Row, claim_in, node_in, pair_in}
 use Rattle.proof_text.specs.Setting.{Setting}
 use Rattle.proof_text.specs.Standing.{Standing}
 
@@ -9,3 +17,23 @@ pub record ReadSoFar : Type 0 where
 
 abbrev pub moved : ReadSoFar → Standing → ReadSoFar
 moved read st = record read { standing = st }
+
+abbrev pub with_claim : Standing → Option Claim → Standing
+with_claim st c = record st { claim = c }
+
+abbrev pub with_node : Standing → Option ProofNode → Standing
+with_node st n = record st { nodes = st.nodes ++ option_to_list n }
+
+abbrev pub with_pair : Standing → Option Pair → Standing
+with_pair st p = record st { pairs = st.pairs ++ option_to_list p }
+
+abbrev pub with_row : Standing → Row → Standing
+with_row st words = record {
+  begun = true;
+  claim = option_or st.claim (claim_in words);
+  nodes = st.nodes ++ option_to_list (node_in words);
+  pairs = st.pairs ++ option_to_list (pair_in words);
+}
+
+abbrev pub with_line : Standing → List ℕ → Standing
+with_line st line = if length (row_of line) == 0 then st else with_row st (row_of line)

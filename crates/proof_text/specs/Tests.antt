@@ -1,5 +1,5 @@
 -- The tests of a line, in their order: the first that holds gives the reason.
-use Rattle.std.specs.Prelude.{ℕ, ◌+◌, ◌^◌, ◌==◌, Bool, true, false, not, ◌&&◌, ◌||◌, nat_le, nat_lt, List, [], ◌∷◌, length, get_or, Option, Some, is_none, codes, if◌then◌else◌}
+use Rattle.std.specs.Prelude.{ℕ, ◌^◌, ◌==◌, Bool, true, false, not, ◌&&◌, nat_le, nat_lt, List, [], ◌∷◌, length, get_or, Option, Some, is_none, codes, if◌then◌else◌}
 use Rattle.std.specs.Option.{option_map_or}
 use Rattle.std.specs.Str.{bytes_eq}
 use Rattle.texts.specs.Words.{row_of, word_at}
@@ -13,7 +13,7 @@ use Rattle.proof_text.specs.declared.fault.ProofReason.{ProofReason}
 use Rattle.proof_text.specs.declared.fault.ProofReason.TheVariants.{BadFirst, BadLine, BadNumber, IndexOut, NotWhole, RepeatedIndex, Short, Extra, TooLarge}
 use Rattle.proof_text.specs.Setting.{Setting}
 use Rattle.proof_text.specs.Rows.{Row, claim_in, is_claim_row, is_node_row, node_in, pair_in}
-use Rattle.proof_text.specs.Standing.{Standing, has_pair, is_whole_tree}
+use Rattle.proof_text.specs.Standing.{Standing, has_pair, is_whole, last_pairs, pairs_left, subtrees_left}
 
 abbrev pub Tests : Type 0
 Tests = List (Bool × ProofReason)
@@ -63,23 +63,22 @@ pair_tests s st words =
     (not (length words == 2), BadLine)
     ∷ (is_none (pair_in words), BadNumber)
     ∷ (is_pair_out s.rows (pair_in words), IndexOut)
-    ∷ (is_repeated st.own (pair_in words), RepeatedIndex)
-    ∷ (nat_le (2 ^ 22) (length st.pairs + length st.own), TooLarge) ∷ []
+    ∷ (is_repeated (last_pairs st.nodes st.pairs) (pair_in words), RepeatedIndex)
+    ∷ (nat_le (2 ^ 22) (length st.pairs), TooLarge) ∷ []
 
--- ---- all rows
+-- ---- all rows: by what is awaited
 
 unfoldable pub row_tests : Setting → Standing → Row → Tests
 row_tests s st words =
     if not st.begun then first_tests words
     else if is_none st.claim then claim_tests words
-    else if is_whole_tree st then (true, Extra) ∷ []
-    else if nat_lt 0 st.left then pair_tests s st words
-    else node_tests s st words
+    else if nat_lt 0 (pairs_left st) then pair_tests s st words
+    else if nat_lt 0 (subtrees_left st) then node_tests s st words
+    else (true, Extra) ∷ []
 
 unfoldable pub line_tests : Setting → Standing → List ℕ → Tests
 line_tests s st line = if length (row_of line) == 0 then [] else row_tests s st (row_of line)
 
 -- the end of the text
 unfoldable pub end_tests : Standing → Tests
-end_tests st =
-    (not st.begun, BadFirst) ∷ (is_none st.claim || not (is_whole_tree st), Short) ∷ []
+end_tests st = (not st.begun, BadFirst) ∷ (not (is_whole st), Short) ∷ []

@@ -1,27 +1,26 @@
 // The grammar of proof texts, a line at a time.
-ghost use Rattle.std.specs.Prelude.{◌≡◌, List, ℕ, [], None, Some, IfOk, OnOk, true};
+ghost use Rattle.std.specs.Prelude.{◌≡◌, ◌<◌, ◌^◌, ◌+◌, ◌∷◌, count_by, List, ℕ, [], Some, is_some, IfOk, OnOk, true};
 ghost use Rattle.texts.specs.Judged.{DecidesOrStops, Takes};
 ghost use Rattle.texts.specs.Words.{texts};
-ghost use Rattle.nl_model.specs.File.{File};
 ghost use Rattle.nl_model.specs.Kinds.{kind_of};
 ghost use Rattle.linear_programs.specs.Elements.{elements_from};
 ghost use Rattle.proof_text.specs.Grammar.{SaysProof, proof_rules};
-ghost use Rattle.proof_text.specs.Rows.{claim_in, node_in, pair_in};
+ghost use Rattle.proof_text.specs.Rows.{claim_in, node_in, pair_in, rows_in};
 ghost use Rattle.proof_text.specs.Setting.{Setting, setting_of};
-ghost use Rattle.proof_text.specs.Standing.{IsSaid, is_whole_tree, standing, with_leaf, with_line, with_node, with_pair, with_row, with_split};
-ghost use Rattle.proof_text.specs.Steps.{moved};
+ghost use Rattle.proof_text.specs.Standing.{IsSaid, has_pair, is_leaf, is_split, is_whole, last_pairs, node_count, pairs_left, standing, subtrees_left};
+ghost use Rattle.proof_text.specs.Steps.{moved, with_claim, with_line, with_node, with_pair, with_row};
 ghost use Rattle.proof_text.specs.Tests.{claim_tests, end_tests, first_tests, is_split_continuous, is_split_out, line_tests, node_tests, pair_tests, row_tests};
 
 use crate::fault::ProofReason;
-use crate::leaf_pairs::LeafPairs;
 use crate::proof::{Claim, Proof, ProofNode};
 use crate::rows::{judge_first, read_claim};
 use crate::words::{is_node_row, node_in, pair_in};
+use exact_numbers::Dec;
 use nl_header::kinds_of;
 use nl_model::{Kind, NlFile, Terms};
 use std::alloc::{AllocError, Global};
 use std::marker::Model;
-use texts::{Grammar, LineFault, Row, Stop};
+use texts::{Grammar, LineFault, Marks, Row, Stop};
 
 /// A proof has at most so many nodes.
 const MOST_NODES: usize = 1 << 16;
@@ -29,41 +28,40 @@ const MOST_NODES: usize = 1 << 16;
 /// All leaves together have at most so many pairs.
 const MOST_PAIRS: usize = 1 << 22;
 
-/// What was read of a proof, and the kinds of the variables of its file.
+/// What was read of a proof, and the number of constraints and the kinds of the variables of its
+/// file.
 #[derive(Drop)]
 pub struct ProofGrammar {
+    rows: u32,
     kinds: Vec<Kind>,
     begun: bool,
     claim: Option<Claim>,
     nodes: Vec<ProofNode>,
-    // the pairs of the leaves before the last
     pairs: Terms,
-    leaf: LeafPairs,
     // how many subtrees, and how many pairs of the last leaf, are awaited
     subtrees: u64,
     left: u32,
+    // the rows of the last leaf's pairs
+    marks: Marks,
 }
 
 impl Model for ProofGrammar {
-    ghost use Rattle.std.specs.Prelude.{◌≤◌, ◌+◌, length};
+    ghost use Rattle.proof_text.specs.InsideReader.{AreCounted};
     ghost use Rattle.proof_text.specs.Steps.{ReadSoFar};
 
     ghost Value = { ReadSoFar };
 
     ghost view = { λ g. record {
-      setting = record { rows = g.leaf.rows; kinds = g.kinds.items };
+      setting = record { rows = g.rows; kinds = g.kinds.items };
       standing = record {
         begun = g.begun;
         claim = g.claim;
         nodes = g.nodes.items;
         pairs = g.pairs;
-        own = g.leaf.own;
-        subtrees = g.subtrees;
-        left = g.left;
       };
     } };
 
-    ghost invariant = { λ g. g.subtrees ≤ length g.nodes.items + 1 };
+    ghost invariant = { λ g. AreCounted g.nodes.items g.pairs g.subtrees g.left g.rows g.marks };
 }
 
 impl Grammar for ProofGrammar {
@@ -77,7 +75,7 @@ impl Grammar for ProofGrammar {
 
     ghost rules = { λ s. proof_rules s };
 
-    ghost took = { λ g lines. g.standing ≡ standing lines };
+    ghost took = { λ g lines. g.standing ≡ standing (rows_in lines) };
 
     ghost says = { λ s lines proof. SaysProof lines proof };
 
@@ -135,25 +133,86 @@ fn is_split_continuous(kinds: &[Kind], node: ProofNode) -> bool
     }
 }
 
+// How many pairs a node announces.
+fn node_count(node: ProofNode) -> u32
+    ensures { result ≡ node_count node }
+{
+    match node {
+        ProofNode::Split(_, _) => 0,
+        ProofNode::Duals(count) => count,
+        ProofNode::Weights(count) => count,
+    }
+}
+
+// How many subtrees are awaited behind a node, where so many were before it.
+fn subtrees_after(subtrees: u64, node: ProofNode) -> u64
+    requires some { 0 < subtrees }
+    requires few { subtrees < 2 ^ 63 }
+    ensures { result + count_by is_leaf (node ∷ []) ≡ subtrees + count_by is_split (node ∷ []) }
+{
+    match node {
+        ProofNode::Split(_, _) => subtrees + 1,
+        ProofNode::Duals(_) => subtrees - 1,
+        ProofNode::Weights(_) => subtrees - 1,
+    }
+}
+
 impl ProofGrammar {
     /// No lines of a proof of this file.
-    #[tactic(auto, unfolding(crate::specs::Standing::standing_from))]
+    #[tactic(auto, unfolding(crate::specs::Rows::rows_in))]
     pub(crate) fn new(alloc: Global, file: &NlFile) -> Result<ProofGrammar, AllocError>
         ensures setting { IfOk result (λ g. g.setting ≡ setting_of file.now) }
-        ensures standing { IfOk result (λ g. g.standing ≡ standing []) }
+        ensures standing { IfOk result (λ g. g.standing ≡ standing (rows_in [])) }
     {
         let kinds = all_kinds(alloc, file)?;
-        let leaf = LeafPairs::new(alloc, file.header().counts().n_con)?;
+        let rows = file.header().counts().n_con;
+        let marks = Marks::new(alloc, rows as usize)?;
         Ok(ProofGrammar {
+            rows,
             kinds,
             begun: false,
             claim: None,
             nodes: Vec::new(alloc),
             pairs: Terms::new(alloc),
-            leaf,
             subtrees: 1,
             left: 0,
+            marks,
         })
+    }
+
+    // Whether the first row has come.
+    fn has_begun(&self) -> bool
+        ensures { result ≡ self.now.standing.begun }
+    {
+        self.begun
+    }
+
+    // Whether the claim has come.
+    fn has_claim(&self) -> bool
+        ensures { result ≡ is_some self.now.standing.claim }
+    {
+        self.claim.is_some()
+    }
+
+    // How many subtrees are awaited.
+    fn subtrees_left(&self) -> u64
+        ensures { result ≡ subtrees_left self.now.standing }
+    {
+        self.subtrees
+    }
+
+    // How many pairs of the last leaf are awaited.
+    fn pairs_left(&self) -> u32
+        ensures { result ≡ pairs_left self.now.standing }
+    {
+        self.left
+    }
+
+    // Whether all has come.
+    fn is_whole(&self) -> bool
+        ensures { result ≡ is_whole self.now.standing }
+    {
+        self.has_claim() && self.pairs_left() == 0 && self.subtrees_left() == 0
     }
 
     // The first row.
@@ -172,7 +231,7 @@ impl ProofGrammar {
     // The claim.
     fn take_claim(&mut self, words: &[&[u8]]) -> Result<(), Stop<ProofReason>>
         ensures row { Takes (claim_tests (texts words.now))
-            (moved self.old (record self.old.standing { claim = claim_in (texts words.now) }))
+            (moved self.old (with_claim self.old.standing (claim_in (texts words.now))))
             result self.new }
         ensures setting { self.new.setting ≡ self.old.setting }
     {
@@ -185,73 +244,27 @@ impl ProofGrammar {
         }
     }
 
-    // A pair of the last leaf.
-    #[tactic(auto, unfolding(crate::specs::Tests::pair_tests))]
-    fn take_pair(&mut self, words: &[&[u8]]) -> Result<(), Stop<ProofReason>>
-        ensures row { Takes (pair_tests self.old.setting self.old.standing (texts words.now))
-            (moved self.old (with_pair self.old.standing (pair_in (texts words.now))))
-            result self.new }
-        ensures setting { self.new.setting ≡ self.old.setting }
-    {
-        if words.len() != 2 {
-            return Err(Stop::Fault(ProofReason::BadLine));
-        }
-        let Some(pair) = pair_in(words) else {
-            return Err(Stop::Fault(ProofReason::BadNumber));
-        };
-        if self.leaf.rows() <= pair.0 {
-            return Err(Stop::Fault(ProofReason::IndexOut));
-        }
-        if self.leaf.has(pair.0) {
-            return Err(Stop::Fault(ProofReason::RepeatedIndex));
-        }
-        if MOST_PAIRS <= self.pairs.len().saturating_add(self.leaf.len()) {
-            return Err(Stop::Fault(ProofReason::TooLarge));
-        }
-        self.leaf.push(pair)?;
-        self.left = self.left.saturating_sub(1);
-        Ok(())
-    }
-
-    // A leaf ends a subtree, and awaits its pairs.
-    fn add_leaf(&mut self, node: ProofNode, count: u32) -> Result<(), AllocError>
-        ensures added { OnOk result (self.new
-            ≡ moved self.old (with_leaf self.old.standing node count)) }
-        ensures setting { self.new.setting ≡ self.old.setting }
-    {
-        self.leaf.move_to(&mut self.pairs)?;
-        self.nodes.push(node)?;
-        self.subtrees = self.subtrees.saturating_sub(1);
-        self.left = count;
-        Ok(())
-    }
-
-    // A split awaits one subtree more.
-    fn add_split(&mut self, node: ProofNode) -> Result<(), AllocError>
-        ensures added { OnOk result (self.new
-            ≡ moved self.old (with_split self.old.standing node)) }
-        ensures setting { self.new.setting ≡ self.old.setting }
-    {
-        self.nodes.push(node)?;
-        self.subtrees += 1;
-        Ok(())
-    }
-
+    // Adds a node.
     fn add_node(&mut self, node: ProofNode) -> Result<(), AllocError>
+        requires pairs { pairs_left self.old.standing ≡ 0 }
+        requires subtrees { 0 < subtrees_left self.old.standing }
         ensures added { OnOk result (self.new
             ≡ moved self.old (with_node self.old.standing (Some node))) }
         ensures setting { self.new.setting ≡ self.old.setting }
     {
-        match node {
-            ProofNode::Split(_, _) => self.add_split(node),
-            ProofNode::Duals(count) => self.add_leaf(node, count),
-            ProofNode::Weights(count) => self.add_leaf(node, count),
-        }
+        let subtrees = subtrees_after(self.subtrees, node);
+        self.nodes.push(node)?;
+        self.subtrees = subtrees;
+        self.left = node_count(node);
+        self.marks.clear();
+        Ok(())
     }
 
     // A node of the tree.
     #[tactic(auto, unfolding(crate::specs::Tests::node_tests))]
     fn take_node(&mut self, words: &[&[u8]]) -> Result<(), Stop<ProofReason>>
+        requires pairs { pairs_left self.old.standing ≡ 0 }
+        requires subtrees { 0 < subtrees_left self.old.standing }
         ensures row { Takes (node_tests self.old.setting self.old.standing (texts words.now))
             (moved self.old (with_node self.old.standing (node_in (texts words.now))))
             result self.new }
@@ -276,33 +289,78 @@ impl ProofGrammar {
         Ok(())
     }
 
-    // Whether every subtree is there, with the pairs of the last leaf.
-    fn is_whole_tree(&self) -> bool
-        ensures { result ≡ is_whole_tree self.now.standing }
+    // Whether the last leaf has a pair of a row.
+    fn has_pair(&self, row: u32) -> bool
+        requires { row < self.now.setting.rows }
+        ensures { result
+            ≡ has_pair (last_pairs self.now.standing.nodes self.now.standing.pairs) row }
     {
-        self.subtrees == 0 && self.left == 0
+        self.marks.is_marked(row)
+    }
+
+    // Adds a pair.
+    fn add_pair(&mut self, pair: (u32, Dec)) -> Result<(), AllocError>
+        requires left { 0 < pairs_left self.old.standing }
+        requires row { pair.0 < self.old.setting.rows }
+        ensures added { OnOk result (self.new
+            ≡ moved self.old (with_pair self.old.standing (Some pair))) }
+        ensures setting { self.new.setting ≡ self.old.setting }
+    {
+        let row = pair.0;
+        self.pairs.push(pair)?;
+        self.left -= 1;
+        self.marks.mark(row);
+        Ok(())
+    }
+
+    // A pair of the last leaf.
+    #[tactic(auto, unfolding(crate::specs::Tests::pair_tests))]
+    fn take_pair(&mut self, words: &[&[u8]]) -> Result<(), Stop<ProofReason>>
+        requires { 0 < pairs_left self.old.standing }
+        ensures row { Takes (pair_tests self.old.setting self.old.standing (texts words.now))
+            (moved self.old (with_pair self.old.standing (pair_in (texts words.now))))
+            result self.new }
+        ensures setting { self.new.setting ≡ self.old.setting }
+    {
+        if words.len() != 2 {
+            return Err(Stop::Fault(ProofReason::BadLine));
+        }
+        let Some(pair) = pair_in(words) else {
+            return Err(Stop::Fault(ProofReason::BadNumber));
+        };
+        if self.rows <= pair.0 {
+            return Err(Stop::Fault(ProofReason::IndexOut));
+        }
+        if self.has_pair(pair.0) {
+            return Err(Stop::Fault(ProofReason::RepeatedIndex));
+        }
+        if MOST_PAIRS <= self.pairs.len() {
+            return Err(Stop::Fault(ProofReason::TooLarge));
+        }
+        self.add_pair(pair)?;
+        Ok(())
     }
 
     // Takes a row with a word.
-    #[tactic(auto, unfolding(crate::specs::Tests::row_tests, crate::specs::Standing::with_row))]
+    #[tactic(auto, unfolding(crate::specs::Tests::row_tests))]
     fn take_row(&mut self, words: &[&[u8]]) -> Result<(), Stop<ProofReason>>
         ensures row { Takes (row_tests self.old.setting self.old.standing (texts words.now))
             (moved self.old (with_row self.old.standing (texts words.now))) result self.new }
         ensures setting { self.new.setting ≡ self.old.setting }
     {
-        if !self.begun {
+        if !self.has_begun() {
             return self.take_first(words);
         }
-        if self.claim.is_none() {
+        if !self.has_claim() {
             return self.take_claim(words);
         }
-        if self.is_whole_tree() {
-            return Err(Stop::Fault(ProofReason::Extra));
-        }
-        if self.left > 0 {
+        if self.pairs_left() > 0 {
             return self.take_pair(words);
         }
-        self.take_node(words)
+        if self.subtrees_left() > 0 {
+            return self.take_node(words);
+        }
+        Err(Stop::Fault(ProofReason::Extra))
     }
 
     // Takes a line; one without words is left out.
@@ -328,24 +386,24 @@ impl ProofGrammar {
         if !self.begun {
             return Err(Stop::Fault(ProofReason::BadFirst));
         }
+        if !self.is_whole() {
+            return Err(Stop::Fault(ProofReason::Short));
+        }
         let given = self.claim;
         let Some(claim) = given else {
             return Err(Stop::Fault(ProofReason::Short));
         };
-        if !self.is_whole_tree() {
-            return Err(Stop::Fault(ProofReason::Short));
-        }
         let ProofGrammar {
+            rows: _,
             kinds: _,
             begun: _,
             claim: _,
             nodes,
-            mut pairs,
-            mut leaf,
+            pairs,
             subtrees: _,
             left: _,
+            marks: _,
         } = self;
-        leaf.move_to(&mut pairs)?;
         Ok(Proof::of_parts(claim, nodes, pairs))
     }
 }

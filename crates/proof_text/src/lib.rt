@@ -4,7 +4,6 @@
 mod fault;
 mod grammar;
 pub mod laws;
-mod leaf_pairs;
 mod proof;
 mod reader;
 mod rows;

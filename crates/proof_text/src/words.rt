@@ -1,18 +1,24 @@
 // The words of rows, and what they say.
 ghost use Rattle.std.specs.Prelude.{◌≡◌};
 ghost use Rattle.texts.specs.Words.{texts};
-ghost use Rattle.proof_text.specs.Rows.{claim_in, is_alone, is_claim_row, is_node_row, node_in, pair_in, split_node, value_claim};
+ghost use Rattle.proof_text.specs.Rows.{claim_in, is_alone, is_claim_row, is_node_row, is_row, node_in, pair_in, split_node, value_claim};
 
 use crate::proof::{Claim, ProofNode};
 use exact_numbers::{Dec, Frac, dec_of, signed_of, whole_of};
 use texts::{begins, word_at};
 
+// Whether a row has this first word and so many words.
+fn is_row(first: &[u8], count: usize, words: &[&[u8]]) -> bool
+    ensures { result ≡ is_row first.now count (texts words.now) }
+{
+    begins(words, first) && words.len() == count
+}
+
 /// Whether a row has the first word and the number of words of a claim.
 pub(crate) fn is_claim_row(words: &[&[u8]]) -> bool
     ensures { result ≡ is_claim_row (texts words.now) }
 {
-    (begins(words, b"infeasible".as_slice()) && words.len() == 1)
-        || (begins(words, b"value".as_slice()) && words.len() == 3)
+    is_row(b"infeasible".as_slice(), 1, words) || is_row(b"value".as_slice(), 3, words)
 }
 
 // A claim of a value that is a fraction too.
@@ -36,10 +42,13 @@ fn value_claim(number: Option<u32>, value: Option<Dec>) -> Option<Claim>
 pub(crate) fn claim_in(words: &[&[u8]]) -> Option<Claim>
     ensures { result ≡ claim_in (texts words.now) }
 {
-    if begins(words, b"infeasible".as_slice()) {
+    if is_row(b"infeasible".as_slice(), 1, words) {
         return Some(Claim::Infeasible);
     }
-    value_claim(whole_of(word_at(words, 1)), dec_of(word_at(words, 2)))
+    if is_row(b"value".as_slice(), 3, words) {
+        return value_claim(whole_of(word_at(words, 1)), dec_of(word_at(words, 2)));
+    }
+    None
 }
 
 // Whether a proof has one leaf alone.
@@ -53,10 +62,9 @@ fn is_alone(claim: Option<Claim>) -> bool
 pub(crate) fn is_node_row(claim: Option<Claim>, words: &[&[u8]]) -> bool
     ensures { result ≡ is_node_row claim (texts words.now) }
 {
-    (begins(words, b"weights".as_slice()) && words.len() == 2)
+    is_row(b"weights".as_slice(), 2, words)
         || (!is_alone(claim)
-            && ((begins(words, b"duals".as_slice()) && words.len() == 2)
-                || (begins(words, b"split".as_slice()) && words.len() == 3)))
+            && (is_row(b"duals".as_slice(), 2, words) || is_row(b"split".as_slice(), 3, words)))
 }
 
 fn split_node(variable: Option<u32>, most: Option<i32>) -> Option<ProofNode>
@@ -74,16 +82,19 @@ pub(crate) fn node_in(words: &[&[u8]]) -> Option<ProofNode>
     ensures { result ≡ node_in (texts words.now) }
 {
     let number = whole_of(word_at(words, 1));
-    if begins(words, b"split".as_slice()) {
+    if is_row(b"split".as_slice(), 3, words) {
         return split_node(number, signed_of(word_at(words, 2)));
     }
     let Some(count) = number else {
         return None;
     };
-    if begins(words, b"duals".as_slice()) {
+    if is_row(b"duals".as_slice(), 2, words) {
         return Some(ProofNode::Duals(count));
     }
-    Some(ProofNode::Weights(count))
+    if is_row(b"weights".as_slice(), 2, words) {
+        return Some(ProofNode::Weights(count));
+    }
+    None
 }
 
 /// The pair of a row.

@@ -1,0 +1,218 @@
+-- A row says one thing at most, by its first word: the claim, a node, or a pair.
+use Rattle.std.proofs.Common.{◌≡◌, ◌∙◌, ℕ, zero, suc, ◌<◌, ◌≤◌, ◌==◌, Bool, true, false, not, ◌&&◌, ◌||◌, nat_lt, List, ◌++◌, length, codes, Option, Some, None, is_none, Result, Ok, Err, refl, sym, ap, subst, arith, append-nil}
+use Rattle.std.proofs.lemmas.Bool.{and_parts, lt-ltb, not-false}
+use Rattle.std.specs.Option.{option_or}
+use Rattle.std.specs.Prelude.{option_to_list}
+use Rattle.std.specs.Str.{bytes_eq}
+use Rattle.texts.specs.Judged.{Takes, first_reason}
+use Rattle.texts.specs.Words.{begins, word_at}
+use Rattle.texts.specs.declared.stop.Stop.{Stop}
+use Rattle.texts.specs.declared.stop.Stop.TheVariants.{Fault, Memory}
+use Rattle.texts.proofs.FirstReasons.{none_each}
+use Rattle.texts.proofs.NamePlaces.{bytes_same}
+use Rattle.exact_numbers.specs.Numbers.{dec_of, whole_of}
+use Rattle.exact_numbers.specs.declared.dec.Dec.{Dec}
+use Rattle.proof_text.specs.declared.fault.ProofReason.{ProofReason}
+use Rattle.proof_text.specs.declared.proof.Claim.{Claim}
+use Rattle.proof_text.specs.declared.proof.ProofNode.{ProofNode}
+use Rattle.proof_text.specs.Proofs.{Pair}
+use Rattle.proof_text.specs.Setting.{Setting}
+use Rattle.proof_text.specs.Rows.{Row, claim_in, is_alone, is_claim_row, is_node_row, is_row, node_in, pair_in, pair_of}
+use Rattle.proof_text.specs.Standing.{Standing, pairs_left, subtrees_left}
+use Rattle.proof_text.specs.Steps.{ReadSoFar, moved, with_claim, with_node, with_pair, with_row}
+use Rattle.proof_text.specs.Tests.{claim_tests, first_tests, is_first, node_tests, pair_tests, row_tests}
+
+-- what a row says
+pub record Says (words : Row) (c : Option Claim) (n : Option ProofNode) (p : Option Pair) : Type 0 where
+  pub claim : claim_in words ≡ c
+  pub node : node_in words ≡ n
+  pub pair : pair_in words ≡ p
+
+-- ---- by the first word
+
+no_claim : (words : Row) → begins words (codes "infeasible") ≡ false → begins words (codes "value") ≡ false → claim_in words ≡ None
+unfolding claim_in
+no_claim words a b = rw (a, b) refl
+
+no_node : (words : Row) → begins words (codes "split") ≡ false → begins words (codes "duals") ≡ false → begins words (codes "weights") ≡ false → node_in words ≡ None
+unfolding node_in
+no_node words a b c = rw (a, b, c) refl
+
+no_pair : (words : Row) → whole_of (word_at words 0) ≡ None → pair_in words ≡ None
+unfolding pair_in
+no_pair words none = rw none refl
+
+abbrev IsWord : Row → List ℕ → Type 0
+IsWord words first = word_at words 0 ≡ first
+
+not_first : (words : Row) (first other : List ℕ) → IsWord words first → bytes_eq first other ≡ false → begins words other ≡ false
+not_first words first other same e = ap (λ w. bytes_eq w other) same ∙ e
+
+word_is : (words : Row) (first : List ℕ) (count : ℕ) → is_row first count words ≡ true → IsWord words first
+word_is words first count e = bytes_same (word_at words 0) first (and_parts (begins words first) (length words == count) e).0
+
+-- a row of a claim, and one of a node
+claim_says : (words : Row) (first : List ℕ) → IsWord words first → bytes_eq first (codes "split") ≡ false → bytes_eq first (codes "duals") ≡ false → bytes_eq first (codes "weights") ≡ false → whole_of first ≡ None
+    → Says words (claim_in words) None None
+claim_says words first is a b c none = record {
+  claim = refl;
+  node = no_node words (not_first words first (codes "split") is a) (not_first words first (codes "duals") is b) (not_first words first (codes "weights") is c);
+  pair = no_pair words (ap whole_of is ∙ none);
+}
+
+node_says : (words : Row) (first : List ℕ) → IsWord words first → bytes_eq first (codes "infeasible") ≡ false → bytes_eq first (codes "value") ≡ false → whole_of first ≡ None → Says words None (node_in words) None
+node_says words first is a b none = record {
+  claim = no_claim words (not_first words first (codes "infeasible") is a) (not_first words first (codes "value") is b);
+  node = refl;
+  pair = no_pair words (ap whole_of is ∙ none);
+}
+
+-- a word that is a number is none of the first words
+not_word : (w first : List ℕ) (o : Option ℕ) → whole_of w ≡ o → is_none o ≡ false → whole_of first ≡ None → bytes_eq w first ≡ false
+not_word w first None is some none = absurd cc
+not_word w first (Some i) is some none = by (bytes_eq w first) refl
+  where
+    by : (b : Bool) → bytes_eq w first ≡ b → bytes_eq w first ≡ false
+    by true e = absurd (let same = ap whole_of (bytes_same w first e) in cc)
+    by false e = e
+
+pair_says : (words : Row) → is_none (whole_of (word_at words 0)) ≡ false → Says words None None (pair_in words)
+unfolding whole_of
+pair_says words some =
+    let no = λ (first : List ℕ) (none : whole_of first ≡ None). not_word (word_at words 0) first (whole_of (word_at words 0)) refl some none in
+    record {
+      claim = no_claim words (no (codes "infeasible") refl) (no (codes "value") refl);
+      node = no_node words (no (codes "split") refl) (no (codes "duals") refl) (no (codes "weights") refl);
+      pair = refl;
+    }
+
+-- ---- by the tests
+
+pub claim_row_says : (words : Row) → first_reason (claim_tests words) ≡ None → Says words (claim_in words) None None
+unfolding claim_tests whole_of
+claim_row_says words none = infeasible (is_row (codes "infeasible") 1 words) refl (not-false (is_claim_row words) (none_each (claim_tests words) none).0)
+  where
+    value : (b : Bool) → is_row (codes "value") 3 words ≡ b → b ≡ true → Says words (claim_in words) None None
+    value true e h = claim_says words (codes "value") (word_is words (codes "value") 3 e) refl refl refl refl
+    value false e h = absurd cc
+
+    infeasible : (b : Bool) → is_row (codes "infeasible") 1 words ≡ b → (b || is_row (codes "value") 3 words) ≡ true → Says words (claim_in words) None None
+    infeasible true e h = claim_says words (codes "infeasible") (word_is words (codes "infeasible") 1 e) refl refl refl refl
+    infeasible false e h = value (is_row (codes "value") 3 words) refl h
+
+node_row_by : (c : Option Claim) (words : Row) → is_node_row c words ≡ true → Says words None (node_in words) None
+unfolding whole_of
+node_row_by c words is = weights (is_row (codes "weights") 2 words) refl is
+  where
+    split : (b : Bool) → is_row (codes "split") 3 words ≡ b → b ≡ true → Says words None (node_in words) None
+    split true e h = node_says words (codes "split") (word_is words (codes "split") 3 e) refl refl refl
+    split false e h = absurd cc
+
+    duals : (b : Bool) → is_row (codes "duals") 2 words ≡ b → (b || is_row (codes "split") 3 words) ≡ true → Says words None (node_in words) None
+    duals true e h = node_says words (codes "duals") (word_is words (codes "duals") 2 e) refl refl refl
+    duals false e h = split (is_row (codes "split") 3 words) refl h
+
+    weights : (b : Bool) → is_row (codes "weights") 2 words ≡ b → (b || (not (is_alone c) && (is_row (codes "duals") 2 words || is_row (codes "split") 3 words))) ≡ true → Says words None (node_in words) None
+    weights true e h = node_says words (codes "weights") (word_is words (codes "weights") 2 e) refl refl refl
+    weights false e h = duals (is_row (codes "duals") 2 words) refl (and_parts (not (is_alone c)) (is_row (codes "duals") 2 words || is_row (codes "split") 3 words) h).1
+
+pub node_row_says : (s : Setting) (st : Standing) (words : Row) → first_reason (node_tests s st words) ≡ None → Says words None (node_in words) None
+unfolding node_tests
+node_row_says s st words none = node_row_by st.claim words (not-false (is_node_row st.claim words) (none_each (node_tests s st words) none).0)
+
+pair_index : (i : Option ℕ) (v : Option Dec) → is_none (pair_of i v) ≡ false → is_none i ≡ false
+pair_index None v e = absurd cc
+pair_index (Some i) v e = refl
+
+pub pair_row_says : (s : Setting) (st : Standing) (words : Row) → first_reason (pair_tests s st words) ≡ None → Says words None None (pair_in words)
+unfolding pair_tests pair_in
+pair_row_says s st words none = pair_says words (pair_index (whole_of (word_at words 0)) (dec_of (word_at words 1)) (none_each (pair_tests s st words) none).1.0)
+
+pub first_row_says : (words : Row) → first_reason (first_tests words) ≡ None → Says words None None None
+unfolding first_tests whole_of
+first_row_says words none =
+    let is = not-false (is_first words) (none_each (first_tests words) none).0 in
+    let both = and_parts ((length words == 2) && bytes_eq (word_at words 0) (codes "proof")) (bytes_eq (word_at words 1) (codes "1")) is in
+    let first = and_parts (length words == 2) (bytes_eq (word_at words 0) (codes "proof")) both.0 in
+    let same = bytes_same (word_at words 0) (codes "proof") first.1 in
+    record {
+      claim = (node_says words (codes "proof") same refl refl refl).claim;
+      node = (claim_says words (codes "proof") same refl refl refl refl).node;
+      pair = no_pair words (ap whole_of same);
+    }
+
+-- ---- what it comes to
+
+unfoldable pub full : Bool → Option Claim → List ProofNode → List Pair → Standing
+full b c ns ps = record { begun = b; claim = c; nodes = ns; pairs = ps }
+
+pub full_same : (a b : Bool) (c d : Option Claim) (ns ms : List ProofNode) (ps qs : List Pair) → a ≡ b → c ≡ d → ns ≡ ms → ps ≡ qs → full a c ns ps ≡ full b d ms qs
+full_same a b c d ns ms ps qs e f g h = cc
+
+or_none : (o : Option Claim) → o ≡ option_or o None
+or_none None = refl
+or_none (Some c) = refl
+
+pub row_is : (st : Standing) (words : Row) (c : Option Claim) (n : Option ProofNode) (p : Option Pair) (now : Standing) → Says words c n p → now.begun ≡ true → now.claim ≡ option_or st.claim c
+    → now.nodes ≡ st.nodes ++ option_to_list n → now.pairs ≡ st.pairs ++ option_to_list p → now ≡ with_row st words
+unfolding full
+row_is st words c n p now says b e f g =
+    full_same _ _ _ _ _ _ _ _ b (e ∙ ap (option_or st.claim) (sym says.claim)) (f ∙ ap (λ o. st.nodes ++ option_to_list o) (sym says.node)) (g ∙ ap (λ o. st.pairs ++ option_to_list o) (sym says.pair))
+
+pub first_is : (st : Standing) (words : Row) → Says words None None None → record st { begun = true } ≡ with_row st words
+first_is st words says = row_is st words None None None _ says refl (or_none st.claim) (sym (append-nil st.nodes)) (sym (append-nil st.pairs))
+
+none_or : (o p : Option Claim) → is_none o ≡ true → p ≡ option_or o p
+none_or None p e = refl
+none_or (Some c) p e = absurd cc
+
+pub claim_is : (st : Standing) (words : Row) (c : Option Claim) → Says words c None None → st.begun ≡ true → is_none st.claim ≡ true → with_claim st c ≡ with_row st words
+claim_is st words c says b none = row_is st words c None None _ says b (none_or st.claim c none) (sym (append-nil st.nodes)) (sym (append-nil st.pairs))
+
+pub node_is : (st : Standing) (words : Row) (n : Option ProofNode) → Says words None n None → st.begun ≡ true → with_node st n ≡ with_row st words
+node_is st words n says b = row_is st words None n None _ says b (or_none st.claim) refl (sym (append-nil st.pairs))
+
+pub pair_is : (st : Standing) (words : Row) (p : Option Pair) → Says words None None p → st.begun ≡ true → with_pair st p ≡ with_row st words
+pair_is st words p says b = row_is st words None None p _ says b (or_none st.claim) (sym (append-nil st.nodes)) refl
+
+-- ---- what a call answers
+
+takes_next : {R A : Type 0} (tests : List (Bool × R)) (next other new : A) (r : Result (Unit {0}) (Stop R)) → (first_reason tests ≡ None → next ≡ other) → Takes tests next r new → Takes tests other r new
+takes_next tests next other new (Ok u) same h = (h.0, h.1 ∙ same h.0)
+takes_next tests next other new (Err (Fault reason)) same h = h
+takes_next tests next other new (Err Memory) same h = tt
+
+abbrev Answer : Type 0
+Answer = Result (Unit {0}) (Stop ProofReason)
+
+pub at_first : (read new : ReadSoFar) (words : Row) (r : Answer) → read.standing.begun ≡ false
+    → Takes (first_tests words) (moved read (record read.standing { begun = true })) r new → Takes (row_tests read.setting read.standing words) (moved read (with_row read.standing words)) r new
+unfolding row_tests
+at_first read new words r a h = rw a (takes_next (first_tests words) _ _ new r (λ none. ap (moved read) (first_is read.standing words (first_row_says words none))) h)
+
+pub at_claim : (read new : ReadSoFar) (words : Row) (r : Answer) → read.standing.begun ≡ true → is_none read.standing.claim ≡ true
+    → Takes (claim_tests words) (moved read (with_claim read.standing (claim_in words))) r new → Takes (row_tests read.setting read.standing words) (moved read (with_row read.standing words)) r new
+unfolding row_tests
+at_claim read new words r a b h = rw (a, b) (takes_next (claim_tests words) _ _ new r (λ none. ap (moved read) (claim_is read.standing words (claim_in words) (claim_row_says words none) a b)) h)
+
+pub at_pair : (read new : ReadSoFar) (words : Row) (r : Answer) → read.standing.begun ≡ true → is_none read.standing.claim ≡ false → nat_lt 0 (pairs_left read.standing) ≡ true
+    → Takes (pair_tests read.setting read.standing words) (moved read (with_pair read.standing (pair_in words))) r new → Takes (row_tests read.setting read.standing words) (moved read (with_row read.standing words)) r new
+unfolding row_tests pair_tests node_tests
+at_pair read new words r a b d h =
+    rw (a, b, d) (takes_next (pair_tests read.setting read.standing words) _ _ new r (λ none. ap (moved read) (pair_is read.standing words (pair_in words) (pair_row_says read.setting read.standing words none) a)) h)
+
+pub at_node : (read new : ReadSoFar) (words : Row) (r : Answer) → read.standing.begun ≡ true → is_none read.standing.claim ≡ false → nat_lt 0 (pairs_left read.standing) ≡ false → nat_lt 0 (subtrees_left read.standing) ≡ true
+    → Takes (node_tests read.setting read.standing words) (moved read (with_node read.standing (node_in words))) r new → Takes (row_tests read.setting read.standing words) (moved read (with_row read.standing words)) r new
+unfolding row_tests node_tests
+at_node read new words r a b d e h =
+    rw (a, b, d, e) (takes_next (node_tests read.setting read.standing words) _ _ new r (λ none. ap (moved read) (node_is read.standing words (node_in words) (node_row_says read.setting read.standing words none) a)) h)
+
+pub some_left : (n m : ℕ) → n ≡ m → 0 < n → nat_lt 0 m ≡ true
+some_left n m e h = lt-ltb 0 m (subst (λ k. 0 < k) e h)
+
+pub none_left : (n m : ℕ) → n ≡ m → n ≤ 0 → nat_lt 0 m ≡ false
+none_left n m e h = by m (subst (λ k. k ≤ 0) e h)
+  where
+    by : (k : ℕ) → k ≤ 0 → nat_lt 0 k ≡ false
+    by zero le = refl
+    by (suc k) le = absurd (omega (arith, le))

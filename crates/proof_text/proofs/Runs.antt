@@ -1,0 +1,364 @@
+-- A text without faults as a run of pieces, each of which may come where it stands.
+use Rattle.std.proofs.Common.{◌≡◌, ◌∙◌, ℕ, ◌+◌, ◌<◌, ◌≤◌, ◌^◌, ◌==◌, Bool, true, false, cond, not, ◌&&◌, ◌||◌, nat_le, nat_lt, List, [], ◌∷◌, ◌++◌, length, get_or, Option, Some, None, is_none, is_some, codes, refl, sym, ap, ap₂, subst, arith, append-nil, append_assoc, length-append}
+use Rattle.std.proofs.lemmas.Bool.{and_parts, not-false, ltb-true}
+use Rattle.std.proofs.lemmas.Bool.Decides.{nat_tests}
+use Rattle.std.proofs.lemmas.List.{take_at, drop_at}
+use Rattle.std.specs.Prelude.{IsTrue}
+use Rattle.std.specs.List.{cons_option, filter_map}
+use Rattle.std.specs.Str.{bytes_eq}
+use Rattle.fractions.specs.Fits.{fits}
+use Rattle.fractions.specs.Rational.{whole, zero_ℚ}
+use Rattle.exact_numbers.specs.declared.dec.Dec.{Dec}
+use Rattle.exact_numbers.specs.Numbers.{dec_of, whole_of}
+use Rattle.exact_numbers.specs.Values.{dec_value}
+use Rattle.texts.specs.Judged.{End, IsClean, Last, first_reason, last_reason, reason_after, reason_at}
+use Rattle.texts.specs.declared.lines.LineFault.{LineFault}
+use Rattle.texts.specs.Lines.{scan}
+use Rattle.texts.specs.Reading.{last_by, last_of, lines_of}
+use Rattle.texts.specs.Words.{begins, row_of, word_at}
+use Rattle.texts.proofs.FirstReasons.{none_each}
+use Rattle.texts.proofs.NamePlaces.{bytes_same}
+use Rattle.nl_model.specs.File.{File}
+use Rattle.nl_model.specs.Kinds.{kind_of}
+use Rattle.linear_program.specs.declared.kind.Kind.TheVariants.{Continuous}
+use Rattle.linear_program.specs.Intervals.{is_whole_kind}
+use Rattle.linear_programs.specs.Elements.{elements_from}
+use Rattle.linear_programs.proofs.Elements.{elements_at, elements_length}
+use Rattle.file_meaning.specs.Meaning.{is_whole_variable}
+use Rattle.proof_text.specs.declared.proof.Claim.{Claim}
+use Rattle.proof_text.specs.declared.proof.Claim.TheVariants.{Value, Infeasible}
+use Rattle.proof_text.specs.declared.proof.ProofNode.{ProofNode}
+use Rattle.proof_text.specs.declared.proof.ProofNode.TheVariants.{Split, Duals, Weights}
+use Rattle.proof_text.specs.declared.fault.ProofReason.TheVariants.{Extra}
+use Rattle.proof_text.specs.Proofs.{Pair, claim_value}
+use Rattle.proof_text.specs.Setting.{Setting, setting_of}
+use Rattle.proof_text.specs.Rows.{Row, claim_in, is_alone, is_node_row, is_row, leaf_in, node_in, pair_in, rows_in, value_claim}
+use Rattle.proof_text.specs.Standing.{Standing, is_whole, pairs_left, standing, subtrees_left}
+use Rattle.proof_text.specs.Steps.{with_claim, with_line, with_node, with_pair, with_row}
+use Rattle.proof_text.specs.Tests.{claim_tests, end_tests, first_tests, is_pair_out, is_split_continuous, is_split_out, line_tests, node_tests, pair_tests, row_tests}
+use Rattle.proof_text.specs.Grammar.{proof_rules}
+use Rattle.proof_text.proofs.RowLemmas.{Says, claim_is, claim_row_says, first_is, first_row_says, node_is, node_row_says, pair_is, pair_row_says}
+use Rattle.proof_text.proofs.Steps.{line_push}
+
+-- ---- the pieces, and what may come
+
+-- what a row behind the first says
+pub data Piece : Type 0 where
+  claim_row : Claim → Piece
+  node_row : ProofNode → Piece
+  pair_row : Pair → Piece
+
+abbrev pub as_claim : Piece → Option Claim
+as_claim (claim_row c) = Some c
+as_claim (node_row n) = None
+as_claim (pair_row p) = None
+
+abbrev pub as_node : Piece → Option ProofNode
+as_node (claim_row c) = None
+as_node (node_row n) = Some n
+as_node (pair_row p) = None
+
+abbrev pub as_pair : Piece → Option Pair
+as_pair (claim_row c) = None
+as_pair (node_row n) = None
+as_pair (pair_row p) = Some p
+
+abbrev pub with_piece : Standing → Piece → Standing
+with_piece st (claim_row c) = with_claim st (Some c)
+with_piece st (node_row n) = with_node st (Some n)
+with_piece st (pair_row p) = with_pair st (Some p)
+
+abbrev Is : Row → Piece → Type 0
+Is words p = Says words (as_claim p) (as_node p) (as_pair p)
+
+-- under `infeasible` there is one leaf with weights
+abbrev pub MayStand : Option Claim → ProofNode → Type 0
+MayStand c (Split j t) = is_alone c ≡ false
+MayStand c (Duals n) = is_alone c ≡ false
+MayStand c (Weights n) = Unit {0}
+
+abbrev pub FitsNode : File → ProofNode → Type 0
+FitsNode f (Split j t) = (j < f.counts.n_var) × IsTrue (is_whole_variable f j)
+FitsNode f (Duals n) = Unit {0}
+FitsNode f (Weights n) = Unit {0}
+
+abbrev pub MayCome : File → Standing → Piece → Type 0
+MayCome f st (claim_row c) = (is_none st.claim ≡ true) × (fits (claim_value c) ≡ true)
+MayCome f st (node_row n) =
+    (is_some st.claim ≡ true) × (pairs_left st ≡ 0) × (0 < subtrees_left st) × (length st.nodes < 2 ^ 16) × FitsNode f n × MayStand st.claim n
+MayCome f st (pair_row p) = (is_some st.claim ≡ true) × (0 < pairs_left st) × (p.0 < f.counts.n_con)
+
+-- each may come, and behind them all has come
+unfoldable pub IsRun : File → Standing → List Piece → Type 0
+IsRun f st [] = is_whole st ≡ true
+IsRun f st (p ∷ ps) = MayCome f st p × IsRun f (with_piece st p) ps
+
+-- behind the first row
+abbrev pub begun_only : Standing
+begun_only = record { begun = true; claim = None; nodes = []; pairs = [] }
+
+-- the row says a piece that may come
+record Here (f : File) (st : Standing) (words : Row) : Type 0 where
+  piece : Piece
+  may : MayCome f st piece
+  is : Is words piece
+  next : with_row st words ≡ with_piece st piece
+
+-- ---- by the tests of a row
+
+le_false : (a b : ℕ) → nat_le a b ≡ false → b < a
+le_false a b e = grind arith
+
+zero_left : (n : ℕ) → nat_lt 0 n ≡ false → n ≡ 0
+zero_left n e = (let le : n ≤ 0 = grind (arith, nat_tests) in omega (arith, le))
+
+is_there : (o : Option Claim) → is_none o ≡ false → is_some o ≡ true
+is_there None e = absurd cc
+is_there (Some c) e = refl
+
+-- ---- the claim
+
+value_fits : (k : Option ℕ) (v : Option Dec) (c : Claim) → value_claim k v ≡ Some c → fits (claim_value c) ≡ true
+value_fits None v c e = absurd cc
+value_fits (Some k) None c e = absurd cc
+value_fits (Some k) (Some v) c e = by (fits (dec_value v)) refl e
+  where
+    by : (b : Bool) → fits (dec_value v) ≡ b → cond b (Some (Value k v)) None ≡ Some c → fits (claim_value c) ≡ true
+    by true fit e = (let same : Value k v ≡ c = cc in subst (λ (d : Claim). fits (claim_value d) ≡ true) same fit)
+    by false fit e = absurd cc
+
+none_fits : fits zero_ℚ ≡ true
+unfolding whole
+none_fits = refl
+
+claim_in_fits : (words : Row) (c : Claim) → claim_in words ≡ Some c → fits (claim_value c) ≡ true
+unfolding claim_in
+claim_in_fits words c e = by (is_row (codes "infeasible") 1 words) e
+  where
+    value : (b : Bool) → cond b (value_claim (whole_of (word_at words 1)) (dec_of (word_at words 2))) None ≡ Some c → fits (claim_value c) ≡ true
+    value true e = value_fits (whole_of (word_at words 1)) (dec_of (word_at words 2)) c e
+    value false e = absurd cc
+
+    by : (b : Bool) → cond b (Some Infeasible) (cond (is_row (codes "value") 3 words) (value_claim (whole_of (word_at words 1)) (dec_of (word_at words 2))) None) ≡ Some c → fits (claim_value c) ≡ true
+    by true e = (let same : Infeasible ≡ c = cc in subst (λ (d : Claim). fits (claim_value d) ≡ true) same none_fits)
+    by false e = value (is_row (codes "value") 3 words) e
+
+claim_may : (f : File) (st : Standing) (words : Row) (o : Option Claim) → claim_in words ≡ o → Says words o None None → is_none st.claim ≡ true → is_none o ≡ false → st.begun ≡ true → Here f st words
+claim_may f st words None e says none given b = absurd cc
+claim_may f st words (Some c) e says none given b = record { piece = claim_row c; may = (none, claim_in_fits words c e); is = says; next = sym (claim_is st words (Some c) says b none) }
+
+-- ---- a node
+
+weights_node : (words : Row) → is_row (codes "weights") 2 words ≡ true → node_in words ≡ leaf_in Weights (whole_of (word_at words 1))
+unfolding node_in
+weights_node words e =
+    let same : word_at words 0 ≡ codes "weights" = bytes_same (word_at words 0) (codes "weights") (and_parts (begins words (codes "weights")) (length words == 2) e).0 in
+    let no_split : begins words (codes "split") ≡ false = ap (λ w. bytes_eq w (codes "split")) same in
+    let no_duals : begins words (codes "duals") ≡ false = ap (λ w. bytes_eq w (codes "duals")) same in
+    rw (no_split, no_duals, e) refl
+
+weights_stand : (c : Option Claim) (o : Option ℕ) (n : ProofNode) → leaf_in Weights o ≡ Some n → MayStand c n
+weights_stand c None n e = absurd cc
+weights_stand c (Some k) n e = (let same : Weights k ≡ n = cc in subst (MayStand c) same tt)
+
+other_stand : (c : Option Claim) (n : ProofNode) → is_alone c ≡ false → MayStand c n
+other_stand c (Split j t) e = e
+other_stand c (Duals n) e = e
+other_stand c (Weights n) e = tt
+
+not_true : (b : Bool) → not b ≡ true → b ≡ false
+not_true true e = absurd cc
+not_true false e = refl
+
+may_stand : (c : Option Claim) (words : Row) (n : ProofNode) → node_in words ≡ Some n → is_node_row c words ≡ true → MayStand c n
+may_stand c words n is row = by (is_row (codes "weights") 2 words) refl row
+  where
+    by : (b : Bool) → is_row (codes "weights") 2 words ≡ b → (b || (not (is_alone c) && (is_row (codes "duals") 2 words || is_row (codes "split") 3 words))) ≡ true → MayStand c n
+    by true e h = weights_stand c (whole_of (word_at words 1)) n (sym (weights_node words e) ∙ is)
+    by false e h = other_stand c n (not_true (is_alone c) (and_parts (not (is_alone c)) (is_row (codes "duals") 2 words || is_row (codes "split") 3 words) h).0)
+
+-- the variable of a split that is no fault
+fits_node : (f : File) (n : ProofNode) → is_split_out (setting_of f).kinds (Some n) ≡ false → is_split_continuous (setting_of f).kinds (Some n) ≡ false → FitsNode f n
+fits_node f (Split j t) out continuous =
+    let kind = kind_of f.counts in
+    let n = f.counts.n_var in
+    let below : j < n = subst (λ m. j < m) (elements_length kind 0 n) (le_false (length (elements_from kind 0 n)) j out) in
+    let here : 0 + j ≡ j = omega arith in
+    (below, ap (λ (i : ℕ). is_whole_kind (kind i)) (sym here) ∙ ap is_whole_kind (sym (elements_at kind 0 n j Continuous below)) ∙ not-false (is_whole_kind (get_or (elements_from kind 0 n) j Continuous)) continuous)
+fits_node f (Duals n) out continuous = tt
+fits_node f (Weights n) out continuous = tt
+
+-- ---- a row
+
+node_may : (f : File) (st : Standing) (words : Row) (o : Option ProofNode) → node_in words ≡ o → Says words None o None → st.begun ≡ true → is_some st.claim ≡ true → pairs_left st ≡ 0 → 0 < subtrees_left st
+    → is_node_row st.claim words ≡ true → is_none o ≡ false → is_split_out (setting_of f).kinds o ≡ false
+    → is_split_continuous (setting_of f).kinds o ≡ false → nat_le (2 ^ 16) (length st.nodes) ≡ false → Here f st words
+node_may f st words None e says b claim none some row given out continuous few = absurd cc
+node_may f st words (Some n) e says b claim none some row given out continuous few =
+    record {
+      piece = node_row n;
+      may = (claim, none, some, le_false (2 ^ 16) (length st.nodes) few, fits_node f n out continuous, may_stand st.claim words n e row);
+      is = says;
+      next = sym (node_is st words (Some n) says b);
+    }
+
+pair_may : (f : File) (st : Standing) (words : Row) (o : Option Pair) → Says words None None o → st.begun ≡ true → is_some st.claim ≡ true → 0 < pairs_left st → is_none o ≡ false → is_pair_out f.counts.n_con o ≡ false → Here f st words
+pair_may f st words None says b claim left given out = absurd cc
+pair_may f st words (Some p) says b claim left given out =
+    record { piece = pair_row p; may = (claim, left, le_false f.counts.n_con p.0 out); is = says; next = sym (pair_is st words (Some p) says b) }
+
+claim_here : (f : File) (st : Standing) (words : Row) → st.begun ≡ true → is_none st.claim ≡ true → first_reason (claim_tests words) ≡ None → Here f st words
+unfolding claim_tests
+claim_here f st words b none tests =
+    let each = none_each (claim_tests words) tests in
+    claim_may f st words (claim_in words) refl (claim_row_says words tests) none each.1.0 b
+
+node_here : (f : File) (st : Standing) (words : Row) → st.begun ≡ true → is_some st.claim ≡ true → pairs_left st ≡ 0 → 0 < subtrees_left st → first_reason (node_tests (setting_of f) st words) ≡ None → Here f st words
+unfolding node_tests
+node_here f st words b claim none some tests =
+    let each = none_each (node_tests (setting_of f) st words) tests in
+    node_may f st words (node_in words) refl (node_row_says (setting_of f) st words tests) b claim none some (not-false (is_node_row st.claim words) each.0) each.1.0 each.1.1.0 each.1.1.1.0 each.1.1.1.1.0
+
+pair_here : (f : File) (st : Standing) (words : Row) → st.begun ≡ true → is_some st.claim ≡ true → 0 < pairs_left st → first_reason (pair_tests (setting_of f) st words) ≡ None → Here f st words
+unfolding pair_tests
+pair_here f st words b claim left tests =
+    let each = none_each (pair_tests (setting_of f) st words) tests in
+    pair_may f st words (pair_in words) (pair_row_says (setting_of f) st words tests) b claim left each.1.0 each.1.1.0
+
+row_may : (f : File) (st : Standing) (words : Row) → st.begun ≡ true → first_reason (row_tests (setting_of f) st words) ≡ None → Here f st words
+unfolding row_tests pair_tests node_tests
+row_may f st words begun tests = claim (is_none st.claim) refl (rw begun at tests)
+  where
+    s : Setting
+    s = setting_of f
+
+    node : is_some st.claim ≡ true → pairs_left st ≡ 0 → (b : Bool) → nat_lt 0 (subtrees_left st) ≡ b → first_reason (cond b (node_tests s st words) ((true, Extra) ∷ [])) ≡ None → Here f st words
+    node claim none true is tests = node_here f st words begun claim none (ltb-true 0 (subtrees_left st) is) tests
+    node claim none false is tests = absurd cc
+
+    pair : is_some st.claim ≡ true → (b : Bool) → nat_lt 0 (pairs_left st) ≡ b
+        → first_reason (cond b (pair_tests s st words) (cond (nat_lt 0 (subtrees_left st)) (node_tests s st words) ((true, Extra) ∷ []))) ≡ None → Here f st words
+    pair claim true is tests = pair_here f st words begun claim (ltb-true 0 (pairs_left st) is) tests
+    pair claim false is tests = node claim (zero_left (pairs_left st) is) (nat_lt 0 (subtrees_left st)) refl tests
+
+    claim : (b : Bool) → is_none st.claim ≡ b
+        → first_reason (cond b (claim_tests words) (cond (nat_lt 0 (pairs_left st)) (pair_tests s st words) (cond (nat_lt 0 (subtrees_left st)) (node_tests s st words) ((true, Extra) ∷ [])))) ≡ None
+        → Here f st words
+    claim true is tests = claim_here f st words begun is tests
+    claim false is tests = pair (is_there st.claim is) (nat_lt 0 (pairs_left st)) refl tests
+
+-- ---- a text
+
+at_here : (s : Setting) (last : Last) (before rest : List (List ℕ)) → reason_at (proof_rules s) (before ++ rest) last (length before) ≡ reason_after (proof_rules s) last before rest
+at_here s last before rest = rw (take_at before rest (length before) refl, drop_at before rest (length before) refl) refl
+
+-- what is said at a line, and at the end
+line_clean : (s : Setting) (last : Last) (before rest : List (List ℕ)) (line : List ℕ) → IsClean (proof_rules s) (before ++ line ∷ rest) last → first_reason (line_tests s (standing (rows_in before)) line) ≡ None
+line_clean s last before rest line clean = sym (at_here s last before (line ∷ rest)) ∙ clean.clean (length before) (omega (arith, length-append before (line ∷ rest)))
+
+end_clean : (s : Setting) (last : Last) (before : List (List ℕ)) → IsClean (proof_rules s) (before ++ []) last → last_reason (proof_rules s) before last ≡ None
+end_clean s last before clean = sym (at_here s last before []) ∙ clean.clean (length before) (omega (arith, length-append before []))
+
+after_line : (before rest : List (List ℕ)) (line : List ℕ) (s : Setting) (last : Last) → IsClean (proof_rules s) (before ++ line ∷ rest) last → IsClean (proof_rules s) ((before ++ line ∷ []) ++ rest) last
+after_line before rest line s last clean = subst (λ ls. IsClean (proof_rules s) ls last) (sym (append_assoc before (line ∷ []) rest)) clean
+
+-- the end has no fault
+abbrev EndsFine : Setting → Last → Type 0
+EndsFine s last = (lines : List (List ℕ)) → last_reason (proof_rules s) lines last ≡ None → first_reason (end_tests (standing (rows_in lines))) ≡ None
+
+-- the rows are those of a run of pieces
+pub record Runs (f : File) (st : Standing) (rows : List Row) : Type 0 where
+  pub pieces : List Piece
+  pub run : IsRun f st pieces
+  pub claims : filter_map claim_in rows ≡ filter_map as_claim pieces
+  pub nodes : filter_map node_in rows ≡ filter_map as_node pieces
+  pub pairs : filter_map pair_in rows ≡ filter_map as_pair pieces
+
+-- a row before them
+runs_more : (f : File) (st : Standing) (words : Row) (rows : List Row) → Here f st words → Runs f (with_row st words) rows → Runs f st (words ∷ rows)
+unfolding IsRun
+runs_more f st words rows here more =
+    record {
+      pieces = here.piece ∷ more.pieces;
+      run = (here.may, subst (λ (now : Standing). IsRun f now more.pieces) here.next more.run);
+      claims = ap₂ cons_option here.is.claim more.claims;
+      nodes = ap₂ cons_option here.is.node more.nodes;
+      pairs = ap₂ cons_option here.is.pair more.pairs;
+    }
+
+runs_from : (f : File) (last : Last) → EndsFine (setting_of f) last → (rest before : List (List ℕ)) → (standing (rows_in before)).begun ≡ true → IsClean (proof_rules (setting_of f)) (before ++ rest) last
+    → Runs f (standing (rows_in before)) (rows_in rest)
+unfolding IsRun end_tests line_tests rows_in
+runs_from f last ends [] before begun clean =
+    let tests = none_each (end_tests (standing (rows_in before))) (ends before (end_clean (setting_of f) last before clean)) in
+    record { pieces = []; run = not-false (is_whole (standing (rows_in before))) tests.1.0; claims = refl; nodes = refl; pairs = refl }
+runs_from f last ends (line ∷ rest) before begun clean =
+    by (length (row_of line) == 0) (line_clean (setting_of f) last before rest line clean) (line_push before line)
+    (λ more. runs_from f last ends rest (before ++ line ∷ []) more (after_line before rest line (setting_of f) last clean))
+  where
+    st : Standing
+    st = standing (rows_in before)
+
+    words : Row
+    words = row_of line
+
+    by : (b : Bool) → first_reason (cond b [] (row_tests (setting_of f) st words)) ≡ None → standing (rows_in (before ++ line ∷ [])) ≡ cond b st (with_row st words)
+        → ((standing (rows_in (before ++ line ∷ []))).begun ≡ true → Runs f (standing (rows_in (before ++ line ∷ []))) (rows_in rest))
+        → Runs f st (cond (not b) (words ∷ rows_in rest) (rows_in rest))
+    by true tests is next = subst (λ (now : Standing). Runs f now (rows_in rest)) is (next (ap (λ (now : Standing). now.begun) is ∙ begun))
+    by false tests is next =
+        runs_more f st words (rows_in rest) (row_may f st words begun tests)
+        (subst (λ (now : Standing). Runs f now (rows_in rest)) is (next (ap (λ (now : Standing). now.begun) is)))
+
+-- the first row, and a run behind it
+first_runs : (f : File) (words : Row) (rows : List Row) → first_reason (first_tests words) ≡ None → Runs f (with_row (standing []) words) rows → Runs f begun_only (words ∷ rows)
+first_runs f words rows tests more =
+    let says = first_row_says words tests in
+    record {
+      pieces = more.pieces;
+      run = subst (λ (now : Standing). IsRun f now more.pieces) (sym (first_is (standing []) words says)) more.run;
+      claims = ap₂ cons_option says.claim more.claims;
+      nodes = ap₂ cons_option says.node more.nodes;
+      pairs = ap₂ cons_option says.pair more.pairs;
+    }
+
+begins_from : (f : File) (last : Last) → EndsFine (setting_of f) last → (rest before : List (List ℕ)) → standing (rows_in before) ≡ standing [] → IsClean (proof_rules (setting_of f)) (before ++ rest) last → Runs f begun_only (rows_in rest)
+unfolding end_tests line_tests row_tests rows_in
+begins_from f last ends [] before none clean =
+    let tests = none_each (end_tests (standing (rows_in before))) (ends before (end_clean (setting_of f) last before clean)) in
+    absurd (let wrong = tests.0 in let no_rows = ap (λ (st : Standing). not st.begun) none in cc)
+begins_from f last ends (line ∷ rest) before none clean =
+    by (length (row_of line) == 0) (subst (λ (st : Standing). first_reason (line_tests (setting_of f) st line) ≡ None) none (line_clean (setting_of f) last before rest line clean))
+    (line_push before line ∙ ap (λ st. with_line st line) none)
+    (λ more. begins_from f last ends rest (before ++ line ∷ []) more (after_line before rest line (setting_of f) last clean))
+    (λ more. runs_from f last ends rest (before ++ line ∷ []) more (after_line before rest line (setting_of f) last clean))
+  where
+    words : Row
+    words = row_of line
+
+    now : Standing
+    now = standing (rows_in (before ++ line ∷ []))
+
+    by : (b : Bool) → first_reason (cond b [] (first_tests words)) ≡ None → now ≡ cond b (standing []) (with_row (standing []) words) → (now ≡ standing [] → Runs f begun_only (rows_in rest))
+        → (now.begun ≡ true → Runs f now (rows_in rest)) → Runs f begun_only (cond (not b) (words ∷ rows_in rest) (rows_in rest))
+    by true tests is next run = next is
+    by false tests is next run = first_runs f words (rows_in rest) tests (subst (λ (st : Standing). Runs f st (rows_in rest)) is (run (ap (λ (st : Standing). st.begun) is)))
+
+last_fine : (s : Setting) (fault : Option LineFault) → EndsFine s (last_by fault End)
+last_fine s None lines e = e
+last_fine s (Some fault) lines e = absurd cc
+
+no_rows : standing (rows_in []) ≡ standing []
+unfolding rows_in
+no_rows = refl
+
+-- at the end of a text without faults all has come
+pub text_ends : (s : Setting) (text : List ℕ) → IsClean (proof_rules s) (lines_of text) (last_of text) → first_reason (end_tests (standing (rows_in (lines_of text)))) ≡ None
+unfolding last_of
+text_ends s text clean =
+    last_fine s (scan text).fault (lines_of text)
+    (end_clean s (last_of text) (lines_of text) (subst (λ ls. IsClean (proof_rules s) ls (last_of text)) (sym (append-nil (lines_of text))) clean))
+
+pub text_runs : (f : File) (text : List ℕ) → IsClean (proof_rules (setting_of f)) (lines_of text) (last_of text) → Runs f begun_only (rows_in (lines_of text))
+unfolding last_of
+text_runs f text clean = begins_from f (last_of text) (last_fine (setting_of f) (scan text).fault) (lines_of text) [] no_rows clean
