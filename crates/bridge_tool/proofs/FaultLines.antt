@@ -42,7 +42,7 @@ use Rattle.bridge_tool.specs.Told.{refusal, refused_at}
 use Rattle.bridge_tool.specs.ToldLines.{TellsLine, TellsPlace}
 use Rattle.bridge_tool.specs.Verify.{IsCertificateRefused}
 use Rattle.bridge_tool.proofs.FoldPlaces.{fold_placed}
-use Rattle.bridge_tool.proofs.SolLines.{sol_fault_line}
+use Rattle.sol_files.proofs.FaultLines.{sol_fault_line}
 use Rattle.bridge_tool.specs.Stages.{CannotBeExported}
 
 pub fault_lines : (text : List ℕ) (value : NlValue) (fault : FoldFault) → IsNl text value → HasFaultPlace value.file fault → HasFaultLine (length (lines_of text)) value.places fault

@@ -24,7 +24,6 @@ pub mod Outcomes
 pub mod RefusalLines
 pub mod Returning
 pub mod SeveralFiles
-pub mod SolLines
 pub mod SolRewriting
 pub mod Staging
 pub mod Summing

@@ -1,25 +1,37 @@
 -- What a body means with a row of numbers more.
 use Rattle.std.proofs.Common.{◌≡◌, ◌∙◌, ℕ, ◌+◌, ◌-◌, ◌<◌, ◌≤◌, false, ℤ, List, [], ◌∷◌, ◌++◌, length, take, drop, Option, Some, None, refl, sym, ap, ap₂, arith}
 use Rattle.std.specs.Prelude.{slice_get, codes}
-use Rattle.std.specs.List.{filter_map}
+use Rattle.std.specs.List.{filter_map, sum_by}
+use Rattle.std.specs.Option.{option_map_or}
 use Rattle.std.proofs.lemmas.List.{length_push, nil_from_length, drop_all}
 use Rattle.exact_numbers.specs.declared.dec.Dec.{Dec}
 use Rattle.exact_numbers.specs.Numbers.{whole_of}
 use Rattle.sol_files.specs.declared.awaited.Awaited.{Awaited}
 use Rattle.sol_files.specs.declared.awaited.Awaited.TheVariants.{Message, OptionCount, Options, Constraints, DualCount, Variables, PrimalCount, Duals, Primals, Tail, Name, Table, Values}
-use Rattle.sol_files.specs.Rows.{Row, number_in, option_in, value_in, objno_in}
+use Rattle.sol_files.specs.Rows.{Row, table_size, number_in, option_in, value_in, objno_in}
 use Rattle.texts.specs.Words.{begins}
-use Rattle.sol_files.specs.Parts.{Body, row_number, option_count, constraint_count, dual_count, variable_count, primal_count, row_at, rows_await, body_awaits}
-use Rattle.sol_files.specs.Saying.{option_rows, dual_rows, primal_rows, rows_past, sol_of, table_total, value_total}
-use Rattle.sol_files.specs.Standing.{Standing}
+use Rattle.sol_files.specs.Parts.{Piece, Body, row_number, option_count, constraint_count, dual_count, variable_count, primal_count}
+use Rattle.sol_files.specs.Saying.{option_rows, dual_rows, primal_rows, rows_past, suffix_of, sol_of}
+use Rattle.sol_files.specs.Progress.{Progress}
 use Rattle.sol_files.specs.Steps.{listed, or_else, options_await, values_await, after_row}
-use Rattle.sol_files.proofs.RowLemmas.{number-at, number-other, part_none, part_past, part_more, rest_none, rest_more, Place, first, option, constraints, duals, variables, primals, dual, primal, past, place, after_first_row, after_option_row, after_constraints_row, after_duals_row, after_variables_row, after_primals_row, after_dual_row, after_primal_row, after_past_row}
+use Rattle.sol_files.proofs.RowLemmas.{number-at, number-other, part_none, part_past, part_more, rest_none, rest_more}
+use Rattle.sol_files.proofs.PlaceLemmas.{row_at, rows_left, body_left, Place, first, option, constraints, duals, variables, primals, dual, primal, past, place, after_first_row, after_option_row, after_constraints_row, after_duals_row, after_variables_row, after_primals_row, after_dual_row, after_primal_row, after_past_row}
+
+-- how many table lines suffixes announce together, and how many values they have so far
+abbrev pub table_total : List Piece → ℕ
+table_total pieces = sum_by (λ p. table_size p.head) pieces
+
+abbrev pub value_count_in : Piece → ℕ
+value_count_in p = option_map_or (λ s. length s.values) (suffix_of p) 0
+
+abbrev pub value_total : List Piece → ℕ
+value_total pieces = sum_by value_count_in pieces
 
 -- what a message and a body mean for the next line
-unfoldable pub met : List (List ℕ) → Body → Standing
+unfoldable pub met : List (List ℕ) → Body → Progress
 met message b =
     record {
-      awaited = body_awaits b;
+      awaited = body_left b;
       is_held_back = false;
       sol = sol_of message b;
       dual_count = dual_count b.rows;
@@ -44,7 +56,7 @@ record Numbers : Type 0 where
 numbers_of : List Row → Numbers
 numbers_of rows =
     record {
-      awaited = rows_await rows;
+      awaited = rows_left rows;
       options = filter_map option_in (option_rows rows);
       n_con = constraint_count rows;
       duals = filter_map value_in (dual_rows rows);
@@ -55,7 +67,7 @@ numbers_of rows =
       primal_count = primal_count rows;
     }
 
-with_numbers : List (List ℕ) → Numbers → Standing
+with_numbers : List (List ℕ) → Numbers → Progress
 with_numbers message n =
     record {
       awaited = n.awaited;
@@ -147,7 +159,7 @@ module _ (rows : List Row) (row : Row) (begun : 0 < length rows) where
         ap₂ (λ p k. drop (k + 5 + dual_count (rows ++ row ∷ []) + p) (rows ++ row ∷ [])) primal_count_kept option_count_kept
         ∙ ap (λ d. drop (option_count rows + 5 + d + primal_count rows) (rows ++ row ∷ [])) dual_count_kept
 
-    await_part : rows_await (rows ++ row ∷ []) ≡ row_at (option_count rows) (dual_count rows) (primal_count rows) (length rows + 1)
+    await_part : rows_left (rows ++ row ∷ []) ≡ row_at (option_count rows) (dual_count rows) (primal_count rows) (length rows + 1)
     await_part =
         ap₂ (λ k i. row_at k (dual_count (rows ++ row ∷ [])) (primal_count (rows ++ row ∷ [])) i) option_count_kept (length_push rows row)
         ∙ ap₂ (λ d p. row_at (option_count rows) d p (length rows + 1)) dual_count_kept primal_count_kept
@@ -216,7 +228,7 @@ module _ (message : List (List ℕ)) (rows : List Row) (row : Row) where
   module _ (begun : 0 < length rows) where
     -- before the duals
     early : (n : Numbers) (a : Awaited) → length rows < option_count rows + 5
-        → rows_await (rows ++ row ∷ []) ≡ n.awaited
+        → rows_left (rows ++ row ∷ []) ≡ n.awaited
         → filter_map option_in (option_rows (rows ++ row ∷ [])) ≡ n.options
         → constraint_count (rows ++ row ∷ []) ≡ n.n_con
         → filter_map value_in (dual_rows rows) ≡ n.duals
@@ -232,7 +244,7 @@ module _ (message : List (List ℕ)) (rows : List Row) (row : Row) where
         (same_numbers (numbers_of (rows ++ row ∷ [])) n e1 e2 e3 (duals_none rows row begun lt ∙ e4) e5 (primals_none rows row begun lt ∙ e6) (objno_none rows row begun lt ∙ e7) e8 e9)
 
     -- the row that is awaited, by what the numbers become
-    await_early : (k d p i : ℕ) → option_count rows ≡ k → length rows + 1 ≡ i → rows_await (rows ++ row ∷ []) ≡ row_at k (dual_count (rows ++ row ∷ [])) (primal_count (rows ++ row ∷ [])) i
+    await_early : (k d p i : ℕ) → option_count rows ≡ k → length rows + 1 ≡ i → rows_left (rows ++ row ∷ []) ≡ row_at k (dual_count (rows ++ row ∷ [])) (primal_count (rows ++ row ∷ [])) i
     await_early k d p i e f = ap₂ (λ k i. row_at k (dual_count (rows ++ row ∷ [])) (primal_count (rows ++ row ∷ [])) i) (option_count_kept rows row begun ∙ e) (length_push rows row ∙ f)
 
     option_next : length rows ≤ option_count rows → Meets (Options ((option_count rows + 1) - length rows))
@@ -334,17 +346,17 @@ module _ (message : List (List ℕ)) (rows : List Row) (row : Row) where
         (after_primal_row (option_count rows) (dual_count rows) (primal_count rows) (length rows) le lt)
         refl refl (duals_same rows row begun late le) refl (primals_more rows row begun late le lt) (objno_later rows row begun late lt) refl refl
 
-    past_next : rows_await rows ≡ Tail → begins row (codes "suffix") ≡ false → option_count rows + 5 + dual_count rows + primal_count rows ≤ length rows → Meets Tail
+    past_next : rows_left rows ≡ Tail → begins row (codes "suffix") ≡ false → option_count rows + 5 + dual_count rows + primal_count rows ≤ length rows → Meets Tail
     unfolding after_row with_numbers numbers_of met only_rows sol_of
     past_next tail other le =
         let late : option_count rows + 5 ≤ length rows = omega arith in
         rw other
-        (late_next (record (numbers_of rows) { awaited = rows_await rows; objno = or_else (slice_get (filter_map objno_in (rows_past rows)) 0) (objno_in row) }) late
+        (late_next (record (numbers_of rows) { awaited = rows_left rows; objno = or_else (slice_get (filter_map objno_in (rows_past rows)) 0) (objno_in row) }) late
         (after_past_row (option_count rows) (dual_count rows) (primal_count rows) (length rows) le ∙ sym tail)
         refl refl (duals_same rows row begun late (omega arith)) refl (primals_same rows row begun late le) (objno_more rows row begun late le) refl refl)
 
   -- a row without a piece before it
-  by_place : (a : Awaited) → rows_await rows ≡ a → (a ≡ Tail → begins row (codes "suffix") ≡ false) → Place (option_count rows) (dual_count rows) (primal_count rows) (length rows) a → Meets a
+  by_place : (a : Awaited) → rows_left rows ≡ a → (a ≡ Tail → begins row (codes "suffix") ≡ false) → Place (option_count rows) (dual_count rows) (primal_count rows) (length rows) a → Meets a
   by_place Message e other h = elim h [ ]
   by_place OptionCount e other (first z) = first_more z
   by_place (Options left) e other (option lt le) = option_next lt le
@@ -359,6 +371,6 @@ module _ (message : List (List ℕ)) (rows : List Row) (row : Row) where
   by_place (Table tables values) e other h = elim h [ ]
   by_place (Values left) e other h = elim h [ ]
 
-  pub row_more : (rows_await rows ≡ Tail → begins row (codes "suffix") ≡ false) → met message (record { rows = rows ++ row ∷ []; pieces = [] }) ≡ after_row (rows_await rows) (met message (record { rows = rows; pieces = [] })) row
+  pub row_more : (rows_left rows ≡ Tail → begins row (codes "suffix") ≡ false) → met message (record { rows = rows ++ row ∷ []; pieces = [] }) ≡ after_row (rows_left rows) (met message (record { rows = rows; pieces = [] })) row
   unfolding only_rows
-  row_more other = by_place (rows_await rows) refl other (place (option_count rows) (dual_count rows) (primal_count rows) (length rows))
+  row_more other = by_place (rows_left rows) refl other (place (option_count rows) (dual_count rows) (primal_count rows) (length rows))

@@ -9,7 +9,7 @@ use Rattle.sol_files.specs.declared.awaited.Awaited.TheVariants.{Message, Option
 use Rattle.sol_files.specs.declared.awaited.SuffixHead.{SuffixHead}
 use Rattle.sol_files.specs.declared.suffix.SolSuffix.{SolSuffix}
 use Rattle.sol_files.specs.Sol.{Sol}
-use Rattle.sol_files.specs.Standing.{Standing}
+use Rattle.sol_files.specs.Progress.{Progress}
 use Rattle.sol_files.specs.Built.{IsEmptyOrFull}
 use Rattle.sol_files.specs.InsideHeld.{HasNoValues, HasDualCount, AwaitsDuals, AwaitsPrimals}
 use Rattle.sol_files.specs.Written.{IsSaidLine, IsSignedPair, IsWritableSuffix}
@@ -46,7 +46,7 @@ pub record FitsHead (head : SuffixHead) : Type 0 where
   pub name_len : head.name_len < 2 ^ 31
   pub table_len : head.table_len < 2 ^ 31
 
-abbrev pub NoneBegun : Standing → Type 0
+abbrev pub NoneBegun : Progress → Type 0
 NoneBegun s = HasNoSuffixes s.sol.suffixes s.suffix_count s.table_count s.value_count
 
 -- all values are there
@@ -57,10 +57,10 @@ pub record AreAllGiven (n_con n_var duals primals : ℕ) : Type 0 where
 abbrev pub Given : Sol → Type 0
 Given s = AreAllGiven s.n_con s.n_var (length s.duals) (length s.primals)
 
-abbrev pub Late : ℕ → ℕ → Standing → Type 0
+abbrev pub Late : ℕ → ℕ → Progress → Type 0
 Late heads rows s = Given s.sol × HasSuffixes heads rows s.sol.n_var s.sol.n_con s.sol.suffixes s.suffix_count s.table_count s.value_count
 
-unfoldable pub KeptAt : Awaited → Standing → Type 0
+unfoldable pub KeptAt : Awaited → Progress → Type 0
 KeptAt Message s = HasNoValues s.sol × NoneBegun s
 KeptAt OptionCount s = HasNoValues s.sol × NoneBegun s
 KeptAt (Options left) s = (0 < left) × (HasNoValues s.sol × NoneBegun s)
@@ -81,7 +81,7 @@ options_left OptionCount = 9
 options_left (Options left) = left
 options_left a = 0
 
-pub record KeepsAt (a : Awaited) (s : Standing) : Type 0 where
+pub record KeepsAt (a : Awaited) (s : Progress) : Type 0 where
   pub said : Speaks s.sol.message s.is_held_back
   pub options : HasOptions (options_left a) s.sol.options
   pub n_con : s.sol.n_con ≤ 2 ^ 20
@@ -89,5 +89,5 @@ pub record KeepsAt (a : Awaited) (s : Standing) : Type 0 where
   pub objno : IfSome s.sol.objno IsSignedPair
   pub rest : KeptAt a s
 
-abbrev pub Keeps : Standing → Type 0
+abbrev pub Keeps : Progress → Type 0
 Keeps s = KeepsAt s.awaited s

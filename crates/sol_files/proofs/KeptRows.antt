@@ -12,7 +12,7 @@ use Rattle.sol_files.specs.declared.fault.Refusal.{Refusal}
 use Rattle.sol_files.specs.declared.awaited.Awaited.TheVariants.{OptionCount, Options, Constraints, DualCount, Variables, PrimalCount, Duals, Primals}
 use Rattle.texts.specs.Words.{word_at}
 use Rattle.sol_files.specs.Rows.{Row, number_in}
-use Rattle.sol_files.specs.Standing.{Standing}
+use Rattle.sol_files.specs.Progress.{Progress, kind_of, seen}
 use Rattle.sol_files.specs.declared.suffix.SolSuffix.{SolSuffix}
 use Rattle.sol_files.specs.declared.fault.Refusal.TheVariants.{Here}
 use Rattle.sol_files.specs.declared.fault.SolReason.TheVariants.{BadLine, BadNumber, Options as BadOptions}
@@ -58,7 +58,7 @@ signed_of-fits word z e = by (are_digits (without_leading_sign word)) (has_31_bi
 
 -- ---- options
 
-await_options : (s : Standing) (n : ℕ) → Speaks s.sol.message s.is_held_back → HasOptions n s.sol.options → s.sol.n_con ≤ 2 ^ 20 → s.sol.n_var ≤ 2 ^ 20 → IfSome s.sol.objno IsSignedPair → HasNoValues s.sol × NoneBegun s → KeepsAt (options_await n) s
+await_options : (s : Progress) (n : ℕ) → Speaks s.sol.message s.is_held_back → HasOptions n s.sol.options → s.sol.n_con ≤ 2 ^ 20 → s.sol.n_var ≤ 2 ^ 20 → IfSome s.sol.objno IsSignedPair → HasNoValues s.sol × NoneBegun s → KeepsAt (options_await n) s
 unfolding KeptAt
 await_options s n said options con var objno none = by (nat_lt 0 n) refl
   where
@@ -69,7 +69,7 @@ await_options s n said options con var objno none = by (nat_lt 0 n) refl
         let room = options.room in
         rw e (record { said = said; options = record { each = options.each; second = options.second; room = omega (arith, last, room) }; n_con = con; n_var = var; objno = objno; rest = none })
 
-pub kept_count : (s : Standing) (words : Row) → KeepsAt OptionCount s → first_reason (row_tests OptionCount s words) ≡ None → Keeps (after_row OptionCount s words)
+pub kept_count : (s : Progress) (words : Row) → KeepsAt OptionCount s → first_reason (row_tests (kind_of OptionCount) (seen s) words) ≡ None → Keeps (after_row OptionCount s words)
 unfolding row_tests after_row KeptAt
 kept_count s words h f =
     let one = fine_next (not (length words == 1)) (Here BadLine) _ f in
@@ -89,7 +89,7 @@ pub all_push : {A : Type 0} (P : A → Type 0) (xs : List A) (x : A) → AllByRe
 all_push P [] x all h = (h, tt)
 all_push P (y ∷ xs) x all h = (all.0, all_push P xs x all.1 h)
 
-pub kept_option : (s : Standing) (left : ℕ) (words : Row) → KeepsAt (Options left) s → first_reason (row_tests (Options left) s words) ≡ None → Keeps (after_row (Options left) s words)
+pub kept_option : (s : Progress) (left : ℕ) (words : Row) → KeepsAt (Options left) s → first_reason (row_tests (kind_of (Options left)) (seen s) words) ≡ None → Keeps (after_row (Options left) s words)
 unfolding row_tests after_row KeptAt
 kept_option s left words h f =
     let some = h.rest.0 in
@@ -101,7 +101,7 @@ kept_option s left words h f =
     let z = there.value in
     let room = h.options.room in
     let more = length_push s.sol.options z in
-    let next : Standing = record s { awaited = options_await (left - 1); sol = record s.sol { options = s.sol.options ++ z ∷ [] } } in
+    let next : Progress = record s { awaited = options_await (left - 1); sol = record s.sol { options = s.sol.options ++ z ∷ [] } } in
     rw there.is (await_options next (left - 1) h.said
     (record { each = all_push (λ x. has_31_bits x ≡ true) s.sol.options z h.options.each (signed_of-fits (word_at words 0) z there.is); second = second_kept s.sol.options z h.options.second second.0; room = omega (arith, room, more, some) })
     h.n_con h.n_var h.objno (record { duals = h.rest.1.0.duals; primals = h.rest.1.0.primals }, h.rest.1.1))
@@ -116,7 +116,7 @@ size_less words more a b c f =
     let three = fine_next (not (is_below (2 ^ 20 + 1) (whole_of (word_at words 0)))) c more two.1 in
     (is_number (2 ^ 20 + 1) (whole_of (word_at words 0)) (not-false _ three.0), three.1)
 
-pub kept_constraints : (s : Standing) (words : Row) → KeepsAt Constraints s → first_reason (row_tests Constraints s words) ≡ None → Keeps (after_row Constraints s words)
+pub kept_constraints : (s : Progress) (words : Row) → KeepsAt Constraints s → first_reason (row_tests (kind_of Constraints) (seen s) words) ≡ None → Keeps (after_row Constraints s words)
 unfolding row_tests after_row KeptAt
 kept_constraints s words h f =
     let less = (size_less words _ _ _ _ f).0 in
@@ -129,13 +129,13 @@ is_given full n h = by (n == 0) refl h
     by true e g = inl (eqb-true n 0 e)
     by false e g = inr (eqb-true n full g)
 
-pub kept_dual_count : (s : Standing) (words : Row) → KeepsAt DualCount s → first_reason (row_tests DualCount s words) ≡ None → Keeps (after_row DualCount s words)
+pub kept_dual_count : (s : Progress) (words : Row) → KeepsAt DualCount s → first_reason (row_tests (kind_of DualCount) (seen s) words) ≡ None → Keeps (after_row DualCount s words)
 unfolding row_tests after_row KeptAt
 kept_dual_count s words h f =
     let given = is_given s.sol.n_con (number_in words 0) (not-false _ (fine_next _ _ _ (size_less words _ _ _ _ f).1).0) in
     record { said = h.said; options = h.options; n_con = h.n_con; n_var = h.n_var; objno = h.objno; rest = (record { none = record { duals = h.rest.0.duals; primals = h.rest.0.primals }; count = given }, h.rest.1) }
 
-pub kept_variables : (s : Standing) (words : Row) → KeepsAt Variables s → first_reason (row_tests Variables s words) ≡ None → Keeps (after_row Variables s words)
+pub kept_variables : (s : Progress) (words : Row) → KeepsAt Variables s → first_reason (row_tests (kind_of Variables) (seen s) words) ≡ None → Keeps (after_row Variables s words)
 unfolding row_tests after_row KeptAt
 kept_variables s words h f =
     let less = (size_less words _ _ _ _ f).0 in
@@ -149,7 +149,7 @@ none_yet n_var n_con suffixes c t v h =
     let none : HasSuffixes 0 0 n_var n_con [] 0 0 0 = record { each = tt; begun = omega arith; begun_room = omega arith; tables = omega arith; table_room = omega arith; values = omega arith; value_room = omega arith } in
     rw (h.none, h.begun, h.tables, h.values) none
 
-keeps_values : (s : Standing) (d p : ℕ) → Speaks s.sol.message s.is_held_back → HasOptions 0 s.sol.options → s.sol.n_con ≤ 2 ^ 20 → s.sol.n_var ≤ 2 ^ 20 → IfSome s.sol.objno IsSignedPair → IsReadyAt (values_await d p) s [] → NoneBegun s → KeepsAt (values_await d p) s
+keeps_values : (s : Progress) (d p : ℕ) → Speaks s.sol.message s.is_held_back → HasOptions 0 s.sol.options → s.sol.n_con ≤ 2 ^ 20 → s.sol.n_var ≤ 2 ^ 20 → IfSome s.sol.objno IsSignedPair → IsReadyAt (values_await d p) s [] → NoneBegun s → KeepsAt (values_await d p) s
 unfolding KeptAt IsReadyAt
 keeps_values s d p said options con var objno h none = by (nat_lt 0 d) (nat_lt 0 p) refl refl
   where
@@ -160,28 +160,28 @@ keeps_values s d p said options con var objno h none = by (nat_lt 0 d) (nat_lt 0
         let given : AreGiven s.sol = rw (q, r) at h in
         rw (q, r) (record { said = said; options = options; n_con = con; n_var = var; objno = objno; rest = (record { duals_given = given.duals; primals_given = given.primals }, none_yet s.sol.n_var s.sol.n_con s.sol.suffixes s.suffix_count s.table_count s.value_count none) })
 
-pub kept_primal_count : (s : Standing) (words : Row) → KeepsAt PrimalCount s → first_reason (row_tests PrimalCount s words) ≡ None → Keeps (after_row PrimalCount s words)
+pub kept_primal_count : (s : Progress) (words : Row) → KeepsAt PrimalCount s → first_reason (row_tests (kind_of PrimalCount) (seen s) words) ≡ None → Keeps (after_row PrimalCount s words)
 unfolding row_tests after_row KeptAt
 kept_primal_count s words h f =
     let given = is_given s.sol.n_var (number_in words 0) (not-false _ (fine_next _ _ _ (size_less words _ _ _ _ f).1).0) in
-    let next : Standing = record s { awaited = values_await s.dual_count (number_in words 0); primal_count = number_in words 0 } in
+    let next : Progress = record s { awaited = values_await s.dual_count (number_in words 0); primal_count = number_in words 0 } in
     keeps_values next s.dual_count (number_in words 0) h.said h.options h.n_con h.n_var h.objno
     (ready_counts next [] (values_await s.dual_count (number_in words 0)) refl (record { duals = h.rest.0.none.duals; primals = h.rest.0.none.primals }) h.rest.0.count given) h.rest.1
 
-pub kept_dual : (s : Standing) (left : ℕ) (words : Row) → KeepsAt (Duals left) s → first_reason (row_tests (Duals left) s words) ≡ None → Keeps (after_row (Duals left) s words)
+pub kept_dual : (s : Progress) (left : ℕ) (words : Row) → KeepsAt (Duals left) s → first_reason (row_tests (kind_of (Duals left)) (seen s) words) ≡ None → Keeps (after_row (Duals left) s words)
 unfolding row_tests after_row KeptAt
 kept_dual s left words h f =
     let one = fine_next (not (length words == 1)) _ _ f in
     let two = fine_next (is_none (dec_of (word_at words 0))) _ _ one.1 in
     let there = is_there (dec_of (word_at words 0)) two.0 in
-    let next : Standing = record s { awaited = values_await (left - 1) s.primal_count; sol = with_dual s.sol there.value } in
+    let next : Progress = record s { awaited = values_await (left - 1) s.primal_count; sol = with_dual s.sol there.value } in
     rw there.is (keeps_values next (left - 1) s.primal_count h.said h.options h.n_con h.n_var h.objno (ready_dual next s [] (values_await (left - 1) s.primal_count) left there.value h.rest.0 refl refl refl refl) h.rest.1)
 
-pub kept_primal : (s : Standing) (left : ℕ) (words : Row) → KeepsAt (Primals left) s → first_reason (row_tests (Primals left) s words) ≡ None → Keeps (after_row (Primals left) s words)
+pub kept_primal : (s : Progress) (left : ℕ) (words : Row) → KeepsAt (Primals left) s → first_reason (row_tests (kind_of (Primals left)) (seen s) words) ≡ None → Keeps (after_row (Primals left) s words)
 unfolding row_tests after_row KeptAt
 kept_primal s left words h f =
     let one = fine_next (not (length words == 1)) _ _ f in
     let two = fine_next (is_none (dec_of (word_at words 0))) _ _ one.1 in
     let there = is_there (dec_of (word_at words 0)) two.0 in
-    let next : Standing = record s { awaited = values_await 0 (left - 1); sol = with_primal s.sol there.value } in
+    let next : Progress = record s { awaited = values_await 0 (left - 1); sol = with_primal s.sol there.value } in
     rw there.is (keeps_values next 0 (left - 1) h.said h.options h.n_con h.n_var h.objno (ready_primal next s [] (values_await 0 (left - 1)) left there.value h.rest.0 refl refl refl) h.rest.1)

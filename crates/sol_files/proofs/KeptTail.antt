@@ -22,11 +22,12 @@ use Rattle.sol_files.specs.declared.awaited.Awaited.TheVariants.{Message, Tail, 
 use Rattle.sol_files.specs.declared.awaited.SuffixHead.{SuffixHead}
 use Rattle.sol_files.specs.declared.suffix.SolSuffix.{SolSuffix}
 use Rattle.sol_files.specs.Rows.{Row, number_in, both, objno_in, pair_in}
-use Rattle.sol_files.specs.Parts.{is_options, rest_awaits, change_last, last_of}
-use Rattle.sol_files.specs.Standing.{Standing, message_count}
+use Rattle.sol_files.specs.Parts.{is_options, change_last, last_of}
+use Rattle.sol_files.specs.Standing.{message_count}
+use Rattle.sol_files.specs.Progress.{Progress, kind_of, seen}
 use Rattle.sol_files.specs.Built.{with_table_line}
 use Rattle.sol_files.specs.Tests.{row_tests, tail_tests, message_tests, name_tests, is_below, objno_tests, suffix_tests, has_table_room, are_head_numbers, has_index, index_limit, last_kind, last_values, value_tests}
-use Rattle.sol_files.specs.Steps.{after_message, after_row, after_name, after_table, after_objno, after_suffix_head, held_lines, lines_with, listed, or_else, named_suffix, with_values}
+use Rattle.sol_files.specs.Steps.{after_message, after_row, after_name, after_table, after_objno, after_suffix_head, held_lines, lines_with, listed, or_else, named_suffix, rest_awaits, with_values}
 use Rattle.sol_files.specs.Written.{IsSaidLine, IsSignedPair, IsWritableSuffix, are_values}
 use Rattle.sol_files.proofs.ShortWords.{row-line}
 use Rattle.sol_files.proofs.Kept.{Speaks, HasOptions, Late, KeptAt, KeepsAt, Keeps}
@@ -68,7 +69,7 @@ speaks_more message held line h one room test = by (length line == 0) refl
           count = omega (arith, room, less, more, held_count message held);
         })
 
-pub kept_message : (s : Standing) (line : List ℕ) → IsTextLine line → s.awaited ≡ Message → KeepsAt Message s → first_reason (message_tests s line) ≡ None → Keeps (after_message s line)
+pub kept_message : (s : Progress) (line : List ℕ) → IsTextLine line → s.awaited ≡ Message → KeepsAt Message s → first_reason (message_tests (seen s) line) ≡ None → Keeps (after_message s line)
 unfolding KeptAt
 kept_message s line text is h f = by (is_options line) refl
   where
@@ -77,12 +78,12 @@ kept_message s line text is h f = by (is_options line) refl
         let room = h.said.room in
         rw e (record { said = record { each = h.said.each; room = room; count = omega (arith, room) }; options = h.options; n_con = h.n_con; n_var = h.n_var; objno = h.objno; rest = (record { duals = h.rest.0.duals; primals = h.rest.0.primals }, h.rest.1) })
     by false e =
-        let tests : first_reason (((true && (message_count s == 65537)) && true, IsLate) ∷ (((message_count s == 65536) && true) && not (length line == 0), Here TooLarge) ∷ []) ≡ None = rw (is, e) at f in
-        let one = fine_next ((true && (message_count s == 65537)) && true) IsLate _ tests in
-        let two = fine_next (((message_count s == 65536) && true) && not (length line == 0)) (Here TooLarge) None one.1 in
+        let tests : first_reason (((true && (message_count (seen s) == 65537)) && true, IsLate) ∷ (((message_count (seen s) == 65536) && true) && not (length line == 0), Here TooLarge) ∷ []) ≡ None = rw (is, e) at f in
+        let one = fine_next ((true && (message_count (seen s) == 65537)) && true) IsLate _ tests in
+        let two = fine_next (((message_count (seen s) == 65536) && true) && not (length line == 0)) (Here TooLarge) None one.1 in
         let count = h.said.count in
-        let less = eqb-false (message_count s) 65537 (both_false (message_count s == 65537) true one.0 refl) in
-        let said = speaks_more s.sol.message s.is_held_back line h.said (record { line_of_text = text; other = e }) (omega (arith, count, less)) (with_true (message_count s == 65536) (not (length line == 0)) two.0) in
+        let less = eqb-false (message_count (seen s)) 65537 (both_false (message_count (seen s) == 65537) true one.0 refl) in
+        let said = speaks_more s.sol.message s.is_held_back line h.said (record { line_of_text = text; other = e }) (omega (arith, count, less)) (with_true (message_count (seen s) == 65536) (not (length line == 0)) two.0) in
         let kept : KeepsAt Message (record s { is_held_back = length line == 0; sol = record s.sol { message = lines_with (s.sol.message ++ held_lines s.is_held_back) line } }) = record { said = said; options = h.options; n_con = h.n_con; n_var = h.n_var; objno = h.objno; rest = (record { duals = h.rest.0.duals; primals = h.rest.0.primals }, h.rest.1) } in
         rw e (subst (λ a. KeepsAt a (record s { is_held_back = length line == 0; sol = record s.sol { message = lines_with (s.sol.message ++ held_lines s.is_held_back) line } })) (sym is) kept)
       where
@@ -124,7 +125,7 @@ has_room : (before : ℕ) (o : Option ℕ) → has_table_room before o ≡ true 
 has_room before None e = absurd cc
 has_room before (Some n) e = leb-true (before + n) 65536 e
 
-pub kept_head : (s : Standing) (words : Row) → KeepsAt Tail s → first_reason (suffix_tests s.suffix_count s.table_count words) ≡ None → Keeps (after_suffix_head s words)
+pub kept_head : (s : Progress) (words : Row) → KeepsAt Tail s → first_reason (suffix_tests s.suffix_count s.table_count words) ≡ None → Keeps (after_suffix_head s words)
 unfolding KeptAt
 kept_head s words h f =
     let all = none_each (suffix_tests s.suffix_count s.table_count words) f in
@@ -159,7 +160,7 @@ kept_head s words h f =
       );
     }
 
-kept_objno : (s : Standing) (words : Row) → begins words (codes "objno") ≡ true → KeepsAt Tail s → first_reason (objno_tests (is_some s.sol.objno || nat_lt 0 s.suffix_count) words) ≡ None → KeepsAt Tail (after_objno s words)
+kept_objno : (s : Progress) (words : Row) → begins words (codes "objno") ≡ true → KeepsAt Tail s → first_reason (objno_tests (is_some s.sol.objno || nat_lt 0 s.suffix_count) words) ≡ None → KeepsAt Tail (after_objno s words)
 unfolding KeptAt
 kept_objno s words b h f =
     let all = none_each (objno_tests (is_some s.sol.objno || nat_lt 0 s.suffix_count) words) f in
@@ -180,7 +181,7 @@ not_both words e f =
     let same : codes "suffix" ≡ codes "objno" = sym ((bytes_eq-Decides (word_at words 0) (codes "suffix")).0 e) ∙ (bytes_eq-Decides (word_at words 0) (codes "objno")).0 f in
     absurd (let five : 6 ≡ 5 = ap length same in omega (arith, five))
 
-pub kept_tail : (s : Standing) (words : Row) → s.awaited ≡ Tail → KeepsAt Tail s → first_reason (row_tests Tail s words) ≡ None → Keeps (after_row Tail s words)
+pub kept_tail : (s : Progress) (words : Row) → s.awaited ≡ Tail → KeepsAt Tail s → first_reason (row_tests (kind_of Tail) (seen s) words) ≡ None → Keeps (after_row Tail s words)
 unfolding row_tests tail_tests after_row
 kept_tail s words is h f = by (begins words (codes "suffix")) (begins words (codes "objno")) refl refl
   where
@@ -200,13 +201,13 @@ kept_tail s words is h f = by (begins words (codes "suffix")) (begins words (cod
 
 -- ---- the rest of a suffix
 
-less_rows : (s : Standing) (rows : ℕ) → Late 0 rows s → Late 0 0 s
+less_rows : (s : Progress) (rows : ℕ) → Late 0 rows s → Late 0 0 s
 less_rows s rows h =
     let old = h.1 in
     let tables = old.tables in
     (h.0, record { each = old.each; begun = old.begun; begun_room = old.begun_room; tables = omega (arith, tables); table_room = old.table_room; values = old.values; value_room = old.value_room })
 
-await_rest : (s : Standing) (t v : ℕ) → Speaks s.sol.message s.is_held_back → HasOptions 0 s.sol.options → s.sol.n_con ≤ 2 ^ 20 → s.sol.n_var ≤ 2 ^ 20 → IfSome s.sol.objno IsSignedPair → Late 0 t s → KeepsAt (rest_awaits t v) s
+await_rest : (s : Progress) (t v : ℕ) → Speaks s.sol.message s.is_held_back → HasOptions 0 s.sol.options → s.sol.n_con ≤ 2 ^ 20 → s.sol.n_var ≤ 2 ^ 20 → IfSome s.sol.objno IsSignedPair → Late 0 t s → KeepsAt (rest_awaits t v) s
 unfolding KeptAt
 await_rest s t v said options con var objno late = by (nat_lt 0 t) (nat_lt 0 v) refl refl
   where
@@ -219,7 +220,7 @@ sum_push : {A : Type 0} (g : A → ℕ) (xs : List A) (x : A) → sum_by g (xs +
 sum_push g [] x = omega (arith, sum_by-cons g x [])
 sum_push g (y ∷ xs) x = omega (arith, sum_push g xs x, sum_by-cons g y (xs ++ x ∷ []), sum_by-cons g y xs)
 
-pub kept_name : (s : Standing) (head : SuffixHead) (words : Row) → KeepsAt (Name head) s → first_reason (name_tests words) ≡ None → Keeps (after_name s head words)
+pub kept_name : (s : Progress) (head : SuffixHead) (words : Row) → KeepsAt (Name head) s → first_reason (name_tests words) ≡ None → Keeps (after_name s head words)
 unfolding KeptAt are_values
 kept_name s head words h f =
     let all = none_each (name_tests words) f in
@@ -265,7 +266,7 @@ sum_changed g f k [] more = omega arith
 sum_changed g f k (x ∷ []) more = omega (arith, more x, sum_by-cons g (f x) [], sum_by-cons g x [])
 sum_changed g f k (x ∷ y ∷ xs) more = omega (arith, sum_changed g f k (y ∷ xs) more, sum_by-cons g x (change_last f (y ∷ xs)), sum_by-cons g x (y ∷ xs))
 
-pub kept_table : (s : Standing) (tables values : ℕ) (line : List ℕ) → IsTextLine line → KeepsAt (Table tables values) s → Keeps (after_table s tables values line)
+pub kept_table : (s : Progress) (tables values : ℕ) (line : List ℕ) → IsTextLine line → KeepsAt (Table tables values) s → Keeps (after_table s tables values line)
 unfolding KeptAt
 kept_table s tables values line text h =
     let f = with_table_line line in
@@ -331,10 +332,10 @@ pair_there : (words : Row) (i : ℕ) (d : Dec) → whole_of (word_at words 0) �
 unfolding pair_in
 pair_there words i d e g = rw (e, g) refl
 
-pub kept_value : (s : Standing) (left : ℕ) (words : Row) → KeepsAt (Values left) s → first_reason (row_tests (Values left) s words) ≡ None → Keeps (after_row (Values left) s words)
+pub kept_value : (s : Progress) (left : ℕ) (words : Row) → KeepsAt (Values left) s → first_reason (row_tests (kind_of (Values left)) (seen s) words) ≡ None → Keeps (after_row (Values left) s words)
 unfolding row_tests after_row KeptAt
 kept_value s left words h f =
-    let all = none_each (value_tests s words) f in
+    let all = none_each (value_tests (seen s) words) f in
     let inside = not-false (is_below (index_limit s.sol) (whole_of (word_at words 0))) all.1.1.0 in
     let index = index_there (index_limit s.sol) (whole_of (word_at words 0)) inside in
     let number = is_there (dec_of (word_at words 1)) (or_each _ _ all.1.1.1.0).0 in
@@ -349,7 +350,7 @@ kept_value s left words h f =
     let begun = old.begun in
     let rows = old.tables in
     let sums = old.values in
-    let next : Standing = record s { awaited = rest_awaits 0 (left - 1); sol = record s.sol { suffixes = change_last g s.sol.suffixes }; value_count = s.value_count + 1 } in
+    let next : Progress = record s { awaited = rest_awaits 0 (left - 1); sol = record s.sol { suffixes = change_last g s.sol.suffixes }; value_count = s.value_count + 1 } in
     subst (λ o. Keeps (record s { awaited = rest_awaits 0 (left - 1); sol = record s.sol { suffixes = change_last (with_values (listed o)) s.sol.suffixes }; value_count = s.value_count + length (listed o) })) (sym (pair_there words index.value number.value index.is number.is))
     (await_rest next 0 (left - 1) h.said h.options h.n_con h.n_var h.objno (
       record { duals_given = given.duals_given; primals_given = given.primals_given },

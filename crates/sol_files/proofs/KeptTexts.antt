@@ -17,20 +17,20 @@ use Rattle.sol_files.specs.Sol.{Sol}
 use Rattle.sol_files.specs.Rows.{Row}
 use Rattle.sol_files.specs.Parts.{is_tail}
 use Rattle.sol_files.specs.Standing.{Standing, standing}
-use Rattle.sol_files.specs.Built.{empty_sol}
+use Rattle.sol_files.specs.Progress.{Progress, kind_of, seen, start}
 use Rattle.sol_files.specs.Tests.{line_tests, line_tests_at, row_tests, row_line_tests, end_tests}
-use Rattle.sol_files.specs.Steps.{after, after_at, after_row, after_row_line}
+use Rattle.sol_files.specs.Steps.{after, after_at, after_row, after_row_line, read}
 use Rattle.sol_files.specs.Grammar.{sol_rules}
 use Rattle.sol_files.specs.Reader.{IsSol}
 use Rattle.sol_files.specs.Written.{KeepsRules}
-use Rattle.sol_files.proofs.StandingLemmas.{standing-more, no_lines, with_draft}
+use Rattle.sol_files.proofs.StandingLemmas.{standing-read, read-more, read-none, tail_is}
 use Rattle.sol_files.proofs.Kept.{KeptAt, KeepsAt, Keeps}
 use Rattle.sol_files.proofs.KeptRows.{kept_count, kept_option, kept_constraints, kept_dual_count, kept_variables, kept_primal_count, kept_dual, kept_primal}
 use Rattle.sol_files.proofs.KeptTail.{kept_message, kept_tail, kept_name, kept_table, kept_value}
 
 -- ---- a line more
 
-row_kept : (a : Awaited) (s : Standing) (words : Row) → s.awaited ≡ a → KeepsAt a s → first_reason (row_tests a s words) ≡ None → Keeps (after_row a s words)
+row_kept : (a : Awaited) (s : Progress) (words : Row) → s.awaited ≡ a → KeepsAt a s → first_reason (row_tests (kind_of a) (seen s) words) ≡ None → Keeps (after_row a s words)
 unfolding after_row
 row_kept Message s words is h f = subst (λ x. KeepsAt x s) (sym is) h
 row_kept OptionCount s words is h f = kept_count s words h f
@@ -46,14 +46,14 @@ row_kept (Name head) s words is h f = subst (λ x. KeepsAt x s) (sym is) h
 row_kept (Table tables values) s words is h f = subst (λ x. KeepsAt x s) (sym is) h
 row_kept (Values left) s words is h f = kept_value s left words h f
 
-row_line_kept : (a : Awaited) (s : Standing) (words : Row) → s.awaited ≡ a → KeepsAt a s → first_reason (row_line_tests a s words) ≡ None → Keeps (after_row_line a s words)
+row_line_kept : (a : Awaited) (s : Progress) (words : Row) → s.awaited ≡ a → KeepsAt a s → first_reason (row_line_tests (kind_of a) (seen s) words) ≡ None → Keeps (after_row_line a s words)
 row_line_kept a s words is h f = by (length words == 0) f
   where
-    by : (b : Bool) → first_reason (cond b [] (row_tests a s words)) ≡ None → Keeps (cond b s (after_row a s words))
+    by : (b : Bool) → first_reason (cond b [] (row_tests (kind_of a) (seen s) words)) ≡ None → Keeps (cond b s (after_row a s words))
     by true g = subst (λ x. KeepsAt x s) (sym is) h
     by false g = row_kept a s words is h g
 
-line_kept : (a : Awaited) (s : Standing) (line : List ℕ) → IsTextLine line → s.awaited ≡ a → KeepsAt a s → first_reason (line_tests_at a s line) ≡ None → Keeps (after_at a s line)
+line_kept : (a : Awaited) (s : Progress) (line : List ℕ) → IsTextLine line → s.awaited ≡ a → KeepsAt a s → first_reason (line_tests_at (kind_of a) (seen s) line) ≡ None → Keeps (after_at a s line)
 unfolding line_tests_at after_at
 line_kept Message s line text is h f = kept_message s line text is h f
 line_kept (Name head) s line text is h f = kept_name s head (row_of line) h f
@@ -71,11 +71,11 @@ line_kept (Values left) s line text is h f = row_line_kept (Values left) s (row_
 
 -- ---- all lines
 
-none_kept : Keeps (standing [])
+none_kept : Keeps (read [])
 unfolding KeptAt
-none_kept = subst Keeps (sym no_lines) first
+none_kept = subst Keeps (sym read-none) first
   where
-    first : Keeps (with_draft (empty_sol [] 0 0))
+    first : Keeps start
     first = record {
       said = record { each = tt; room = omega arith; count = omega arith };
       options = record { each = tt; second = refl; room = omega arith };
@@ -102,33 +102,18 @@ some_left i [] lt = absurd (omega arith)
 some_left zero (x ∷ xs) lt = (x, xs, refl)
 some_left (suc i) (x ∷ xs) lt = some_left i xs (omega arith)
 
-front_kept : (lines : List (List ℕ)) (last : Last) → AllByRecursion IsTextLine lines → IsClean sol_rules lines last → (i : ℕ) → i ≤ length lines → Keeps (standing (take i lines))
+front_kept : (lines : List (List ℕ)) (last : Last) → AllByRecursion IsTextLine lines → IsClean sol_rules lines last → (i : ℕ) → i ≤ length lines → Keeps (read (take i lines))
 front_kept lines last all clean zero le = none_kept
 front_kept lines last all clean (suc i) le =
     let left = some_left i lines (omega arith) in
     let line = left.0 in
-    let s = standing (take i lines) in
+    let s = read (take i lines) in
     let before : Keeps s = front_kept lines last all clean i (omega arith) in
-    let fine : first_reason (line_tests s line) ≡ None = ap (reason_after sol_rules last (take i lines)) (sym left.2) ∙ clean.clean i (omega arith) in
+    let fine : first_reason (line_tests (seen s) line) ≡ None = ap (λ (x : Standing). first_reason (line_tests x line)) (sym (standing-read (take i lines))) ∙ ap (reason_after sol_rules last (take i lines)) (sym left.2) ∙ clean.clean i (omega arith) in
     let next : Keeps (after s line) = line_kept s.awaited s line (rest_lines i lines line left.1 left.2 all) refl before fine in
-    subst Keeps (sym (standing-more (take i lines) line) ∙ ap standing (sym (take_next i lines line left.1 left.2).0)) next
+    subst Keeps (sym (read-more (take i lines) line) ∙ ap read (sym (take_next i lines line left.1 left.2).0)) next
 
-tail_of : (a : Awaited) → is_tail a ≡ true → a ≡ Tail
-tail_of Tail e = refl
-tail_of Message e = absurd cc
-tail_of OptionCount e = absurd cc
-tail_of (Options left) e = absurd cc
-tail_of Constraints e = absurd cc
-tail_of DualCount e = absurd cc
-tail_of Variables e = absurd cc
-tail_of PrimalCount e = absurd cc
-tail_of (Duals left) e = absurd cc
-tail_of (Primals left) e = absurd cc
-tail_of (Name head) e = absurd cc
-tail_of (Table tables values) e = absurd cc
-tail_of (Values left) e = absurd cc
-
-rules_kept : (s : Standing) → KeepsAt Tail s → KeepsRules s.sol
+rules_kept : (s : Progress) → KeepsAt Tail s → KeepsRules s.sol
 unfolding KeptAt
 rules_kept s h =
     let given = h.rest.0 in
@@ -164,12 +149,12 @@ pub read_keeps : (text : List ℕ) (sol : Sol) → IsSol text sol → KeepsRules
 unfolding last_of
 read_keeps text sol h =
     let lines = lines_of text in
-    let s = standing lines in
+    let s = read lines in
     let n = length lines in
     let whole : take n lines ≡ lines = take_all n lines (omega arith) in
-    let kept : Keeps s = subst (λ ls. Keeps (standing ls)) whole (front_kept lines (last_of text) (lines_of-lines text) h.clean n (omega arith)) in
+    let kept : Keeps s = subst (λ ls. Keeps (read ls)) whole (front_kept lines (last_of text) (lines_of-lines text) h.clean n (omega arith)) in
     let at_last : last_reason sol_rules lines (last_of text) ≡ None =
     ap (λ ls. last_reason sol_rules ls (last_of text)) (sym whole) ∙ ap (reason_after sol_rules (last_of text) (take n lines)) (sym (drop_all n lines (omega arith))) ∙ h.clean.clean n (omega arith) in
-    let tests = none_each (end_tests s) (last_fine (scan text).fault lines at_last) in
-    let tail = tail_of s.awaited (not-false (is_tail s.awaited) tests.1.1.0) in
-    subst KeepsRules (sym h.said) (rules_kept s (subst (λ a. KeepsAt a s) tail kept))
+    let tests = none_each (end_tests (seen s)) (ap (λ (x : Standing). first_reason (end_tests x)) (sym (standing-read lines)) ∙ last_fine (scan text).fault lines at_last) in
+    let tail = tail_is s.awaited (not-false (is_tail (kind_of s.awaited)) tests.1.1.0) in
+    subst KeepsRules (sym (h.said ∙ ap (λ (x : Standing). x.sol) (standing-read lines))) (rules_kept s (subst (λ a. KeepsAt a s) tail kept))

@@ -2,6 +2,7 @@ pub mod LastLemmas
 pub mod ReadyLemmas
 pub mod MessageLemmas
 pub mod RowLemmas
+pub mod PlaceLemmas
 pub mod BodyLemmas
 pub mod PieceLemmas
 pub mod WriteLemmas
@@ -9,6 +10,7 @@ pub mod MarkedLemmas
 pub mod StandingLemmas
 pub mod JudgingLemmas
 pub mod ReadingLemmas
+pub mod FaultLines
 pub mod ShortWords
 pub mod Reached
 pub mod NumbersReached

@@ -1,52 +1,23 @@
 -- What a body means with a line more of a suffix.
-use Rattle.std.proofs.Common.{◌≡◌, ◌∙◌, ℕ, zero, suc, ◌+◌, ◌-◌, ◌<◌, ◌≤◌, Bool, true, false, List, [], ◌∷◌, ◌++◌, length, take, drop, refl, sym, ap, ap₂, arith, nat_lt, ◌==◌}
+use Rattle.std.proofs.Common.{◌≡◌, ◌∙◌, ℕ, zero, suc, ◌+◌, ◌-◌, ◌<◌, ◌≤◌, false, List, [], ◌∷◌, ◌++◌, length, take, drop, refl, sym, ap, ap₂, arith}
 use Rattle.std.specs.List.{filter_map}
-use Rattle.std.proofs.lemmas.Bool.{ltb-true, ltb-false, eqb-true, eqb-false, ne_eqb}
-use Rattle.std.proofs.lemmas.Bool.Decides.{nat_tests}
 use Rattle.std.proofs.lemmas.List.{append-nil, length-append, length_push, drop_all, take_all, take-append-le, drop-append-le, length-drop}
 use Rattle.std.proofs.lemmas.List.Elements.{filter_map-append}
 use Rattle.std.proofs.lemmas.List.Sums.{sum_by_push}
 use Rattle.exact_numbers.specs.declared.dec.Dec.{Dec}
 use Rattle.texts.specs.Words.{row_of, word_at}
 use Rattle.sol_files.specs.declared.awaited.Awaited.{Awaited}
-use Rattle.sol_files.specs.declared.awaited.Awaited.TheVariants.{Tail, Name, Table, Values}
 use Rattle.sol_files.specs.declared.awaited.SuffixHead.{SuffixHead}
 use Rattle.sol_files.specs.declared.suffix.SolSuffix.{SolSuffix}
-use Rattle.sol_files.specs.Rows.{Row, head_in, pair_in}
-use Rattle.sol_files.specs.Parts.{Piece, Body, rest_awaits, line_at, piece_awaits, awaits_after, last_of, change_last, with_piece_line, new_piece, dual_count, primal_count}
-use Rattle.sol_files.specs.Saying.{values_in, suffix_by, suffix_of, value_count_in, sol_of, table_total, value_total}
-use Rattle.sol_files.specs.Standing.{Standing}
+use Rattle.sol_files.specs.Rows.{Row, pair_in}
+use Rattle.sol_files.specs.Parts.{Piece, Body, last_of, change_last, with_piece_line, dual_count, primal_count}
+use Rattle.sol_files.specs.Saying.{values_in, suffix_by, suffix_of, sol_of}
+use Rattle.sol_files.specs.Progress.{Progress}
 use Rattle.sol_files.specs.Built.{with_table_line}
-use Rattle.sol_files.specs.Steps.{listed, named_suffix, with_values, after_name, after_table, after_value, after_suffix_head}
+use Rattle.sol_files.specs.Steps.{listed, head_in, rest_awaits, named_suffix, with_values, after_name, after_table, after_value, after_suffix_head}
 use Rattle.sol_files.proofs.LastLemmas.{change_last-end, last_of-end}
-use Rattle.sol_files.proofs.BodyLemmas.{met}
-
--- ---- which line it is, by its place
-
-pub data LinePlace (head : SuffixHead) (i : ℕ) : Awaited → Type 0 where
-  at_name : i ≡ 0 → LinePlace head i (Name head)
-  at_table : 0 < i → i ≤ head.table_lines → LinePlace head i (Table ((head.table_lines + 1) - i) (head.value_count - (i - (head.table_lines + 1))))
-  at_value : head.table_lines < i → i < head.table_lines + 1 + head.value_count → LinePlace head i (Values (head.value_count - (i - (head.table_lines + 1))))
-  at_end : head.table_lines + 1 + head.value_count ≤ i → LinePlace head i Tail
-
-pub line_place : (head : SuffixHead) (i : ℕ) → LinePlace head i (line_at head i)
-line_place head i = by (i == 0) refl (nat_lt 0 ((head.table_lines + 1) - i)) refl (nat_lt 0 (head.value_count - (i - (head.table_lines + 1)))) refl
-  where
-    by : (a : Bool) → (i == 0) ≡ a → (b : Bool) → nat_lt 0 ((head.table_lines + 1) - i) ≡ b → (c : Bool) → nat_lt 0 (head.value_count - (i - (head.table_lines + 1))) ≡ c → LinePlace head i (line_at head i)
-    by true q b r c s = rw q (at_name (eqb-true i 0 q))
-    by false q true r c s =
-        let ne = eqb-false i 0 q in
-        let lt = ltb-true 0 ((head.table_lines + 1) - i) r in
-        rw (q, r) (at_table (omega arith) (omega arith))
-    by false q false r true s =
-        let le = ltb-false 0 ((head.table_lines + 1) - i) r in
-        let lt = ltb-true 0 (head.value_count - (i - (head.table_lines + 1))) s in
-        rw (q, r, s) (at_value (omega arith) (omega arith))
-    by false q false r false s =
-        let ne = eqb-false i 0 q in
-        let le = ltb-false 0 ((head.table_lines + 1) - i) r in
-        let less = ltb-false 0 (head.value_count - (i - (head.table_lines + 1))) s in
-        rw (q, r, s) (at_end (omega arith))
+use Rattle.sol_files.proofs.PlaceLemmas.{line_at, left_after, later_awaits, over_awaits}
+use Rattle.sol_files.proofs.BodyLemmas.{met, table_total, value_count_in, value_total}
 
 -- ---- the table and the values with a line more
 
@@ -77,12 +48,6 @@ table_more : (tables : ℕ) (lines : List (List ℕ)) (line : List ℕ) → leng
 table_more tables lines line lt =
     take_all tables (lines ++ line ∷ []) (omega (arith, length_push lines line)) ∙ ap (λ ls. ls ++ line ∷ []) (sym (take_all tables lines (omega arith)))
 
-later_awaits : (head : SuffixHead) (i : ℕ) → line_at head (i + 1) ≡ rest_awaits ((head.table_lines + 1) - (i + 1)) (head.value_count - ((i + 1) - (head.table_lines + 1)))
-later_awaits head i = rw (ne_eqb (i + 1) 0 (λ e. omega (arith, e))) refl
-
-over_awaits : (head : SuffixHead) (i : ℕ) → 0 < i → head.table_lines + 1 + head.value_count ≤ i → line_at head (i + 1) ≡ line_at head i
-over_awaits head i lt le = grind (arith, nat_tests)
-
 -- a suffix whose first line says this, named so, with these lines
 abbrev made_suffix : SuffixHead → List ℕ → List (List ℕ) → List (ℕ × Dec) → SolSuffix
 made_suffix head name table values = record { kind = head.kind; name = name; name_len = head.name_len; table_len = head.table_len; table = table; values = values }
@@ -93,7 +58,7 @@ module _ (message : List (List ℕ)) (rows : List Row) where
   abbrev pub body_with : List Piece → Body
   body_with pieces = record { rows = rows; pieces = pieces }
 
-  made : Awaited → List SolSuffix → ℕ → ℕ → ℕ → Standing
+  made : Awaited → List SolSuffix → ℕ → ℕ → ℕ → Progress
   made a suffixes count tables values =
       record {
         awaited = a;
@@ -106,7 +71,7 @@ module _ (message : List (List ℕ)) (rows : List Row) where
         value_count = values;
       }
 
-  met_pieces : (pieces : List Piece) → met message (body_with pieces) ≡ made (awaits_after rows (last_of pieces)) (filter_map suffix_of pieces) (length pieces) (table_total pieces) (value_total pieces)
+  met_pieces : (pieces : List Piece) → met message (body_with pieces) ≡ made (left_after rows (last_of pieces)) (filter_map suffix_of pieces) (length pieces) (table_total pieces) (value_total pieces)
   unfolding met made sol_of
   met_pieces pieces = refl
 
@@ -114,17 +79,17 @@ module _ (message : List (List ℕ)) (rows : List Row) where
   same_made a a' ss ss' c c' t t' v v' e1 e2 e3 e4 e5 = λ i. made (e1 i) (e2 i) (e3 i) (e4 i) (e5 i)
 
   -- pieces of which the last is this
-  ended : (front : List Piece) (p : Piece) → met message (body_with (front ++ p ∷ [])) ≡ made (piece_awaits p) (filter_map suffix_of front ++ listed (suffix_of p)) (length front + 1) (table_total front + (head_in p.head).table_lines) (value_total front + value_count_in p)
+  ended : (front : List Piece) (p : Piece) → met message (body_with (front ++ p ∷ [])) ≡ made (line_at (head_in p.head) (length p.lines)) (filter_map suffix_of front ++ listed (suffix_of p)) (length front + 1) (table_total front + (head_in p.head).table_lines) (value_total front + value_count_in p)
   ended front p =
       met_pieces (front ++ p ∷ [])
-      ∙ same_made _ (piece_awaits p) _ (filter_map suffix_of front ++ listed (suffix_of p)) _ (length front + 1) _ (table_total front + (head_in p.head).table_lines) _ (value_total front + value_count_in p)
-      (ap (awaits_after rows) (last_of-end front p)) (filter_map-append suffix_of front (p ∷ [])) (length_push front p) (sum_by_push (λ q. (head_in q.head).table_lines) front p) (sum_by_push value_count_in front p)
+      ∙ same_made _ (line_at (head_in p.head) (length p.lines)) _ (filter_map suffix_of front ++ listed (suffix_of p)) _ (length front + 1) _ (table_total front + (head_in p.head).table_lines) _ (value_total front + value_count_in p)
+      (ap (left_after rows) (last_of-end front p)) (filter_map-append suffix_of front (p ∷ [])) (length_push front p) (sum_by_push (λ q. (head_in q.head).table_lines) front p) (sum_by_push value_count_in front p)
 
   -- ---- a piece more
-  pub piece_begun : (pieces : List Piece) (row : Row) → met message (body_with (pieces ++ new_piece row ∷ [])) ≡ after_suffix_head (met message (body_with pieces)) row
+  pub piece_begun : (pieces : List Piece) (row : Row) → met message (body_with (pieces ++ record { head = row; lines = [] } ∷ [])) ≡ after_suffix_head (met message (body_with pieces)) row
   unfolding made
   piece_begun pieces row =
-      ended pieces (new_piece row)
+      ended pieces (record { head = row; lines = [] })
       ∙ same_made _ _ _ _ _ _ _ _ _ _ refl (append-nil (filter_map suffix_of pieces)) refl refl (omega arith)
       ∙ ap (λ s. after_suffix_head s row) (sym (met_pieces pieces))
 
@@ -133,20 +98,20 @@ module _ (message : List (List ℕ)) (rows : List Row) where
     abbrev pub piece : List (List ℕ) → Piece
     piece lines = record { head = row; lines = lines }
 
-    abbrev pub before : List (List ℕ) → Standing
+    abbrev pub before : List (List ℕ) → Progress
     before lines = met message (body_with (front ++ piece lines ∷ []))
 
-    abbrev pub grown : List (List ℕ) → Standing
+    abbrev pub grown : List (List ℕ) → Progress
     grown lines = met message (body_with (change_last (with_piece_line line) (front ++ piece lines ∷ [])))
 
     -- what it means with other lines
-    with_lines : (lines : List (List ℕ)) → before lines ≡ made (line_at (head_in row) (length lines)) (filter_map suffix_of front ++ listed (suffix_by (head_in row) lines)) (length front + 1) (table_total front + (head_in row).table_lines) (value_total front + value_count_in (piece lines))
+    with_lines : (lines : List (List ℕ)) → before lines ≡ made (line_at (head_in row) (length lines)) (filter_map suffix_of front ++ listed (suffix_by row lines)) (length front + 1) (table_total front + (head_in row).table_lines) (value_total front + value_count_in (piece lines))
     with_lines lines = ended front (piece lines)
 
-    with_line_more : (lines : List (List ℕ)) → grown lines ≡ made (line_at (head_in row) (length lines + 1)) (filter_map suffix_of front ++ listed (suffix_by (head_in row) (lines ++ line ∷ []))) (length front + 1) (table_total front + (head_in row).table_lines) (value_total front + value_count_in (piece (lines ++ line ∷ [])))
+    with_line_more : (lines : List (List ℕ)) → grown lines ≡ made (line_at (head_in row) (length lines + 1)) (filter_map suffix_of front ++ listed (suffix_by row (lines ++ line ∷ []))) (length front + 1) (table_total front + (head_in row).table_lines) (value_total front + value_count_in (piece (lines ++ line ∷ [])))
     with_line_more lines =
         ap (λ ps. met message (body_with ps)) (change_last-end (with_piece_line line) front (piece lines)) ∙ with_lines (lines ++ line ∷ [])
-        ∙ ap (λ i. made (line_at (head_in row) i) (filter_map suffix_of front ++ listed (suffix_by (head_in row) (lines ++ line ∷ []))) (length front + 1) (table_total front + (head_in row).table_lines) (value_total front + value_count_in (piece (lines ++ line ∷ [])))) (length_push lines line)
+        ∙ ap (λ i. made (line_at (head_in row) i) (filter_map suffix_of front ++ listed (suffix_by row (lines ++ line ∷ []))) (length front + 1) (table_total front + (head_in row).table_lines) (value_total front + value_count_in (piece (lines ++ line ∷ [])))) (length_push lines line)
 
     -- its name
     pub named : grown [] ≡ after_name (before []) (head_in row) (row_of line)
@@ -182,7 +147,7 @@ module _ (message : List (List ℕ)) (rows : List Row) where
           with_line_more (first ∷ lines)
           ∙ same_made _ a _ (change_last f (filter_map suffix_of front ++ suffix ∷ [])) _ _ _ _ _ (value_total front + length (values_in (head_in row).table_lines (head_in row).value_count lines) + more) e1
           (ap (λ s. filter_map suffix_of front ++ s ∷ []) e2 ∙ sym (change_last-end f (filter_map suffix_of front) suffix)) refl refl (omega (arith, e3))
-          ∙ ap (λ (s : Standing). record s { awaited = a; sol = record s.sol { suffixes = change_last f s.sol.suffixes }; value_count = s.value_count + more }) (sym (with_lines (first ∷ lines)))
+          ∙ ap (λ (s : Progress). record s { awaited = a; sol = record s.sol { suffixes = change_last f s.sol.suffixes }; value_count = s.value_count + more }) (sym (with_lines (first ∷ lines)))
 
       -- a line of its table
       pub tabled : length (first ∷ lines) ≤ (head_in row).table_lines → (left rest : ℕ) → left ≡ ((head_in row).table_lines + 1) - length (first ∷ lines) → rest ≡ (head_in row).value_count - (length (first ∷ lines) - ((head_in row).table_lines + 1)) → grown (first ∷ lines) ≡ after_table (before (first ∷ lines)) left rest line

@@ -10,11 +10,13 @@ use Rattle.sol_files.specs.declared.fault.SolFault.{SolFault}
 use Rattle.sol_files.specs.Sol.{Sol}
 use Rattle.sol_files.specs.Built.{IsEmptyOrFull}
 use Rattle.sol_files.specs.Standing.{Standing}
+use Rattle.sol_files.specs.Progress.{Progress, seen}
 use Rattle.sol_files.specs.Tests.{end_tests}
 use Rattle.sol_files.specs.Reader.{IsSol, ReadsSol}
 use Rattle.sol_files.specs.Written.{objno_lines, sol_lines, sol_text, KeepsRules, IsWritable}
 use Rattle.written_texts.specs.Lines.{text_of}
 use Rattle.sol_files.proofs.ReadingLemmas.{one_reading}
+use Rattle.sol_files.proofs.StandingLemmas.{standing-read}
 use Rattle.sol_files.proofs.Reached.{reached_options, reached_end}
 use Rattle.sol_files.proofs.NumbersReached.{count_reached, options_reached, con_reached, dual_count_reached, var_reached, primal_count_reached, duals_reached, primals_reached, objno_reached}
 use Rattle.sol_files.proofs.SuffixesReached.{IsSaid, suffixes_reached}
@@ -51,7 +53,7 @@ lines_said s h =
     let all = suffixes_reached l9 _ d p 0 0 0 s.suffixes h.suffixes h.n_var h.n_con (omega (arith, h.suffix_room)) (omega (arith, h.table_room)) (omega (arith, h.value_room)) s9 in
     subst (λ ls. IsSaid ls s) (simp append_assoc) all
 
-end_fine : (s : Standing) (lines : List (List ℕ)) (said : Sol) (g : IsSaid lines said) → first_reason (end_tests g.last) ≡ None
+end_fine : (s : Progress) (lines : List (List ℕ)) (said : Sol) (g : IsSaid lines said) → first_reason (end_tests (seen g.last)) ≡ None
 end_fine s lines said g = rw g.tail refl
 
 -- the text of a value that can be read again says this value
@@ -62,7 +64,7 @@ is_read_back s h =
     let read = written_lines (sol_lines s) said.reached.ones h.text in
     record {
       clean = rw (read.0, read.1) (reached_end (sol_lines s) said.last said.reached (end_fine said.last (sol_lines s) s said));
-      said = rw read.0 (sym (ap (λ x. x.sol) said.reached.here ∙ said.sol));
+      said = rw read.0 (sym (ap (λ (x : Standing). x.sol) (standing-read (sol_lines s)) ∙ ap (λ (x : Progress). x.sol) said.reached.here ∙ said.sol));
     }
 
 -- reading it answers nothing else, but for want of memory

@@ -1,46 +1,45 @@
--- What a line adds to what the lines before it mean.
-use Rattle.std.proofs.Common.{◌≡◌, ◌∙◌, ℕ, ◌+◌, ◌<◌, Bool, true, false, cond, ◌&&◌, ◌||◌, List, [], ◌∷◌, ◌++◌, length, refl, sym, ap, ap₂, subst, arith, ◌==◌, ◌-◌, ◌≤◌}
+-- What a line adds to what is held of the lines before it, and what that means.
+use Rattle.std.proofs.Common.{◌≡◌, ◌∙◌, ℕ, ◌+◌, ◌<◌, Bool, true, false, cond, ◌&&◌, ◌||◌, List, [], ◌∷◌, ◌++◌, length, Option, Some, None, refl, sym, ap, ap₂, subst, arith, ◌==◌, ◌-◌, ◌≤◌}
 use Rattle.std.specs.Prelude.{codes}
-use Rattle.std.specs.List.{list_any, after_first}
+use Rattle.std.specs.List.{list_any, after_first, fold, filter_map, sum_by, cons_option}
+use Rattle.std.specs.Option.{option_map_or}
 use Rattle.std.proofs.lemmas.Bool.{ne_eqb, and_parts}
-use Rattle.std.proofs.lemmas.List.{length_push, nil_from_length}
+use Rattle.std.proofs.lemmas.List.{length_push, nil_from_length, append-nil, append_assoc}
 use Rattle.std.proofs.lemmas.List.Folds.{list_any-append}
-use Rattle.std.proofs.lemmas.List.Sums.{fold_push}
+use Rattle.std.proofs.lemmas.List.Sums.{fold_push, sum_by-cons}
 use Rattle.texts.specs.Words.{row_of, begins}
 use Rattle.exact_numbers.specs.Numbers.{whole_of}
 use Rattle.sol_files.specs.declared.awaited.Awaited.{Awaited}
 use Rattle.sol_files.specs.declared.awaited.Awaited.TheVariants.{Message, OptionCount, Options, Constraints, DualCount, Variables, PrimalCount, Duals, Primals, Tail, Name, Table, Values}
+use Rattle.sol_files.specs.declared.suffix.SolSuffix.{SolSuffix}
 use Rattle.sol_files.specs.Sol.{Sol}
-use Rattle.sol_files.specs.Rows.{Row, head_in}
-use Rattle.sol_files.specs.Parts.{Piece, Body, is_options, message_lines, ends_blank, without_blank_end, body_from, body_of, body_awaits, rows_await, option_count, dual_count, primal_count, is_raw, is_tail, new_piece, to_last_piece, with_row_line, with_line, line_at, awaits_after, no_body}
-use Rattle.sol_files.specs.Saying.{sol_of}
-use Rattle.sol_files.specs.Standing.{Standing, standing}
-use Rattle.sol_files.specs.Built.{empty_sol}
-use Rattle.sol_files.specs.Steps.{after, after_at, after_row, after_row_line, after_suffix_head, lines_with, held_lines}
+use Rattle.sol_files.specs.Rows.{Row}
+use Rattle.sol_files.specs.Parts.{Piece, Body, is_options, message_lines, ends_blank, without_blank_end, is_in_message, body_of, body_awaits, option_count, dual_count, primal_count, is_raw, is_tail, with_new_piece, to_last_piece, with_row_line, with_line, no_body}
+use Rattle.sol_files.specs.Saying.{suffix_of, sol_of}
+use Rattle.sol_files.specs.Plan.{LineKind}
+use Rattle.sol_files.specs.Standing.{standing}
+use Rattle.sol_files.specs.Progress.{Progress, kind_of, seen, start}
+use Rattle.sol_files.specs.Steps.{after, after_at, after_row, after_row_line, after_suffix_head, head_in, lines_with, held_lines, read}
 use Rattle.sol_files.proofs.LastLemmas.{ends_with, last_of-end}
 use Rattle.sol_files.proofs.MessageLemmas.{inside_before, first_before, first_after, past_before, past_after, none_after, ends_blank-more, held_back, without_blank_end-more}
-use Rattle.sol_files.proofs.RowLemmas.{Place, place}
-use Rattle.sol_files.proofs.BodyLemmas.{met, row_more}
-use Rattle.sol_files.proofs.PieceLemmas.{LinePlace, at_name, at_table, at_value, at_end, line_place, piece_begun, named, tabled, valued, over}
+use Rattle.sol_files.proofs.BodyLemmas.{met, value_count_in, value_total, row_more}
+use Rattle.sol_files.proofs.PlaceLemmas.{rows_left, Place, place, line_at, LinePlace, at_name, at_table, at_value, at_end, line_place, left_after, body_left, rows_kind, body_kind}
+use Rattle.sol_files.proofs.PieceLemmas.{piece_begun, named, tabled, valued, over}
 
 -- nothing but what was said
-abbrev pub with_draft : Sol → Standing
-with_draft s = record { awaited = Message; is_held_back = false; sol = s; dual_count = 0; primal_count = 0; suffix_count = 0; table_count = 0; value_count = 0 }
-
-pub no_lines : standing [] ≡ with_draft (empty_sol [] 0 0)
-unfolding standing body_from ends_blank without_blank_end sol_of whole_of
-no_lines = refl
+abbrev pub with_draft : Sol → Progress
+with_draft s = record start { sol = s }
 
 -- ---- a line of a body, by what is awaited
 
-abbrev with_at : Awaited → Body → List ℕ → Body
+abbrev with_at : LineKind → Body → List ℕ → Body
 with_at a b line =
     cond (is_raw a) (to_last_piece b line)
     (cond (length (row_of line) == 0) b
-    (cond (is_tail a && begins (row_of line) (codes "suffix")) (record b { pieces = b.pieces ++ new_piece (row_of line) ∷ [] }) (with_row_line b line)))
+    (cond (is_tail a && begins (row_of line) (codes "suffix")) (with_new_piece b (row_of line)) (with_row_line b line)))
 
 abbrev Steps : List (List ℕ) → Body → List ℕ → Awaited → Type 0
-Steps message b line a = met message (with_at a b line) ≡ after_at a (met message b) line
+Steps message b line a = met message (with_at (kind_of a) b line) ≡ after_at a (met message b) line
 
 -- a line that is judged by its words
 abbrev pub is_plain : Awaited → Bool
@@ -49,7 +48,7 @@ is_plain (Name head) = false
 is_plain (Table tables values) = false
 is_plain a = true
 
-pub plain_after : (a : Awaited) (s : Standing) (line : List ℕ) → is_plain a ≡ true → after_row_line a s (row_of line) ≡ after_at a s line
+pub plain_after : (a : Awaited) (s : Progress) (line : List ℕ) → is_plain a ≡ true → after_row_line a s (row_of line) ≡ after_at a s line
 unfolding after_at
 plain_after Message s line e = absurd cc
 plain_after OptionCount s line e = refl
@@ -65,7 +64,7 @@ plain_after (Name head) s line e = absurd cc
 plain_after (Table tables values) s line e = absurd cc
 plain_after (Values left) s line e = refl
 
-plain_raw : (a : Awaited) → is_plain a ≡ true → is_raw a ≡ false
+plain_raw : (a : Awaited) → is_plain a ≡ true → is_raw (kind_of a) ≡ false
 plain_raw Message e = refl
 plain_raw OptionCount e = refl
 plain_raw (Options left) e = refl
@@ -80,7 +79,7 @@ plain_raw (Name head) e = absurd cc
 plain_raw (Table tables values) e = absurd cc
 plain_raw (Values left) e = refl
 
-tail_is : (a : Awaited) → is_tail a ≡ true → a ≡ Tail
+pub tail_is : (a : Awaited) → is_tail (kind_of a) ≡ true → a ≡ Tail
 tail_is Message e = absurd cc
 tail_is OptionCount e = absurd cc
 tail_is (Options left) e = absurd cc
@@ -95,7 +94,7 @@ tail_is (Name head) e = absurd cc
 tail_is (Table tables values) e = absurd cc
 tail_is (Values left) e = absurd cc
 
-tail_suffix : (s : Standing) (row : Row) → begins row (codes "suffix") ≡ true → after_row Tail s row ≡ after_suffix_head s row
+tail_suffix : (s : Progress) (row : Row) → begins row (codes "suffix") ≡ true → after_row Tail s row ≡ after_suffix_head s row
 unfolding after_row
 tail_suffix s row e = rw e refl
 
@@ -104,12 +103,12 @@ plain_step : (message : List (List ℕ)) (b : Body) (line : List ℕ) (a : Await
     → ((a ≡ Tail → begins (row_of line) (codes "suffix") ≡ false) → met message (with_row_line b line) ≡ after_row a (met message b) (row_of line))
     → Steps message b line a
 unfolding after_row
-plain_step message b line a plain row = by (length (row_of line) == 0) refl (is_tail a && begins (row_of line) (codes "suffix")) refl ∙ plain_after a (met message b) line plain
+plain_step message b line a plain row = by (length (row_of line) == 0) refl (is_tail (kind_of a) && begins (row_of line) (codes "suffix")) refl ∙ plain_after a (met message b) line plain
   where
-    by : (z : Bool) → (length (row_of line) == 0) ≡ z → (t : Bool) → (is_tail a && begins (row_of line) (codes "suffix")) ≡ t → met message (with_at a b line) ≡ after_row_line a (met message b) (row_of line)
+    by : (z : Bool) → (length (row_of line) == 0) ≡ z → (t : Bool) → (is_tail (kind_of a) && begins (row_of line) (codes "suffix")) ≡ t → met message (with_at (kind_of a) b line) ≡ after_row_line a (met message b) (row_of line)
     by true e t f = rw (plain_raw a plain, e) refl
     by false e true f =
-        let parts = and_parts (is_tail a) (begins (row_of line) (codes "suffix")) f in
+        let parts = and_parts (is_tail (kind_of a)) (begins (row_of line) (codes "suffix")) f in
         rw (plain_raw a plain, e, f) (piece_begun message b.rows b.pieces (row_of line) ∙ sym (tail_suffix (met message b) (row_of line) parts.1) ∙ ap (λ x. after_row x (met message b) (row_of line)) (sym (tail_is a parts.0)))
     by false e false f = rw (plain_raw a plain, e, f) (row (λ tail. rw tail at f))
 
@@ -133,9 +132,11 @@ rows_plain k d p i (Values left) h = elim h [ ]
 step_of_rows : (message : List (List ℕ)) (rows : List Row) (line : List ℕ) → met message (with_line (record { rows = rows; pieces = [] }) line) ≡ after (met message (record { rows = rows; pieces = [] })) line
 unfolding met
 step_of_rows message rows line =
-    plain_step message (record { rows = rows; pieces = [] }) line (rows_await rows)
-    (rows_plain (option_count rows) (dual_count rows) (primal_count rows) (length rows) (rows_await rows) (place (option_count rows) (dual_count rows) (primal_count rows) (length rows)))
-    (row_more message rows (row_of line))
+    let b : Body = record { rows = rows; pieces = [] } in
+    subst (λ k. met message (with_at k b line) ≡ after (met message b) line) (sym (rows_kind rows))
+    (plain_step message b line (rows_left rows)
+    (rows_plain (option_count rows) (dual_count rows) (primal_count rows) (length rows) (rows_left rows) (place (option_count rows) (dual_count rows) (primal_count rows) (length rows)))
+    (row_more message rows (row_of line)))
 
 -- ---- after a suffix
 
@@ -187,8 +188,9 @@ module _ (message : List (List ℕ)) (rows : List Row) (front : List Piece) (hea
   step_of_piece : (lines : List (List ℕ)) → met message (with_line (body lines) line) ≡ after (met message (body lines)) line
   unfolding met
   step_of_piece lines =
-      let awaited : body_awaits (body lines) ≡ line_at (head_in head) (length lines) = ap (awaits_after rows) (last_of-end front (record { head = head; lines = lines })) in
-      subst (Steps message (body lines) line) (sym awaited) (step_by lines (line_at (head_in head) (length lines)) (line_place (head_in head) (length lines)))
+      let awaited : body_left (body lines) ≡ line_at (head_in head) (length lines) = ap (left_after rows) (last_of-end front (record { head = head; lines = lines })) in
+      subst (λ k. met message (with_at k (body lines) line) ≡ after (met message (body lines)) line) (sym (body_kind (body lines)))
+      (subst (Steps message (body lines) line) (sym awaited) (step_by lines (line_at (head_in head) (length lines)) (line_place (head_in head) (length lines))))
 
 -- ---- any line of a body
 
@@ -205,7 +207,7 @@ body_step message b line = step_with message b.rows b.pieces line
 -- ---- any line of a text
 
 -- lines of a message
-unfoldable pub spoken : List (List ℕ) → Standing
+unfoldable pub spoken : List (List ℕ) → Progress
 spoken lines =
     record {
       awaited = Message;
@@ -219,15 +221,19 @@ spoken lines =
     }
 
 no_body_yet : (lines : List (List ℕ)) → list_any is_options lines ≡ false → body_of lines ≡ no_body
-unfolding body_from
-no_body_yet lines none = ap (λ (ls : List (List ℕ)). body_from ls) (none_after is_options lines none)
+unfolding body_of
+no_body_yet lines none = ap (fold with_line no_body) (none_after is_options lines none)
 
-in_message : (lines : List (List ℕ)) → list_any is_options lines ≡ false → standing lines ≡ spoken (message_lines lines)
-unfolding standing spoken
-in_message lines none = rw (none, no_body_yet lines none) refl
+-- what is held of lines, by their places
+counted : List (List ℕ) → Progress
+counted lines = cond (is_in_message lines) (spoken (message_lines lines)) (met (without_blank_end (message_lines lines)) (body_of lines))
 
-past_message : (lines : List (List ℕ)) → list_any is_options lines ≡ true → standing lines ≡ met (without_blank_end (message_lines lines)) (body_of lines)
-unfolding standing met
+in_message : (lines : List (List ℕ)) → list_any is_options lines ≡ false → counted lines ≡ spoken (message_lines lines)
+unfolding counted spoken
+in_message lines none = rw none refl
+
+past_message : (lines : List (List ℕ)) → list_any is_options lines ≡ true → counted lines ≡ met (without_blank_end (message_lines lines)) (body_of lines)
+unfolding counted met
 past_message lines some = rw some refl
 
 options_more : (lines : List (List ℕ)) (line : List ℕ) → list_any is_options (lines ++ line ∷ []) ≡ (list_any is_options lines || (is_options line || false))
@@ -241,36 +247,89 @@ spoken_more said line other =
     becomes ∙ sym (ap₂ (λ h m. record (spoken said) { is_held_back = h; sol = record (spoken said).sol { message = m } }) (ends_blank-more said line) more)
 
 -- a line of the message
-message_line : (lines : List (List ℕ)) (line : List ℕ) → list_any is_options lines ≡ false → is_options line ≡ false → standing (lines ++ line ∷ []) ≡ after (standing lines) line
+message_line : (lines : List (List ℕ)) (line : List ℕ) → list_any is_options lines ≡ false → is_options line ≡ false → counted (lines ++ line ∷ []) ≡ after (counted lines) line
 message_line lines line none other =
     let still : list_any is_options (lines ++ line ∷ []) ≡ false = rw (options_more lines line, none, other) refl in
     in_message (lines ++ line ∷ []) still ∙ ap spoken (inside_before is_options lines line none other)
-    ∙ sym (spoken_more (message_lines lines) line other) ∙ ap (λ s. after s line) (sym (in_message lines none))
+    ∙ sym (spoken_more (message_lines lines) line other) ∙ ap (λ (s : Progress). after s line) (sym (in_message lines none))
 
 -- the line `Options`
-options_line : (lines : List (List ℕ)) (line : List ℕ) → list_any is_options lines ≡ false → is_options line ≡ true → standing (lines ++ line ∷ []) ≡ after (standing lines) line
-unfolding after_at spoken met sol_of
+options_line : (lines : List (List ℕ)) (line : List ℕ) → list_any is_options lines ≡ false → is_options line ≡ true → counted (lines ++ line ∷ []) ≡ after (counted lines) line
+unfolding after_at spoken met sol_of body_of
 options_line lines line none is =
     let said = message_lines lines in
     let now : list_any is_options (lines ++ line ∷ []) ≡ true = rw (options_more lines line, none, is) refl in
-    let begun : body_of (lines ++ line ∷ []) ≡ no_body = ap (λ (ls : List (List ℕ)). body_from ls) (first_after is_options lines line none is) ∙ no_body_yet lines none in
+    let begun : body_of (lines ++ line ∷ []) ≡ no_body = ap (fold with_line no_body) (first_after is_options lines line none is) ∙ no_body_yet lines none in
     let becomes : after (spoken said) line ≡ met (without_blank_end said) no_body = rw is refl in
     past_message (lines ++ line ∷ []) now ∙ ap₂ (λ ls b. met (without_blank_end ls) b) (first_before is_options lines line none is) begun
-    ∙ sym becomes ∙ ap (λ s. after s line) (sym (in_message lines none))
+    ∙ sym becomes ∙ ap (λ (s : Progress). after s line) (sym (in_message lines none))
 
 -- a line after it
-body_line : (lines : List (List ℕ)) (line : List ℕ) → list_any is_options lines ≡ true → standing (lines ++ line ∷ []) ≡ after (standing lines) line
-unfolding body_from
+body_line : (lines : List (List ℕ)) (line : List ℕ) → list_any is_options lines ≡ true → counted (lines ++ line ∷ []) ≡ after (counted lines) line
+unfolding body_of
 body_line lines line some =
     let still : list_any is_options (lines ++ line ∷ []) ≡ true = rw (options_more lines line, some) refl in
-    let more : body_of (lines ++ line ∷ []) ≡ with_line (body_of lines) line = ap (λ (ls : List (List ℕ)). body_from ls) (past_after is_options lines line some) ∙ fold_push with_line no_body (after_first is_options lines) line in
+    let more : body_of (lines ++ line ∷ []) ≡ with_line (body_of lines) line = ap (fold with_line no_body) (past_after is_options lines line some) ∙ fold_push with_line no_body (after_first is_options lines) line in
     past_message (lines ++ line ∷ []) still ∙ ap₂ (λ ls b. met (without_blank_end ls) b) (past_before is_options lines line some) more
-    ∙ body_step (without_blank_end (message_lines lines)) (body_of lines) line ∙ ap (λ s. after s line) (sym (past_message lines some))
+    ∙ body_step (without_blank_end (message_lines lines)) (body_of lines) line ∙ ap (λ (s : Progress). after s line) (sym (past_message lines some))
 
-pub standing-more : (lines : List (List ℕ)) (line : List ℕ) → standing (lines ++ line ∷ []) ≡ after (standing lines) line
-standing-more lines line = by (list_any is_options lines) refl (is_options line) refl
+counted-more : (lines : List (List ℕ)) (line : List ℕ) → counted (lines ++ line ∷ []) ≡ after (counted lines) line
+counted-more lines line = by (list_any is_options lines) refl (is_options line) refl
   where
-    by : (b : Bool) → list_any is_options lines ≡ b → (c : Bool) → is_options line ≡ c → standing (lines ++ line ∷ []) ≡ after (standing lines) line
+    by : (b : Bool) → list_any is_options lines ≡ b → (c : Bool) → is_options line ≡ c → counted (lines ++ line ∷ []) ≡ after (counted lines) line
     by true e c f = body_line lines line e
     by false e true f = options_line lines line e f
     by false e false f = message_line lines line e f
+
+-- ---- all lines of a text
+
+counted-none : counted [] ≡ start
+unfolding counted spoken ends_blank without_blank_end sol_of whole_of
+counted-none = refl
+
+read_from : (done rest : List (List ℕ)) → fold after (counted done) rest ≡ counted (done ++ rest)
+read_from done [] = ap counted (sym (append-nil done))
+read_from done (line ∷ rest) =
+    ap (λ (s : Progress). fold after s rest) (sym (counted-more done line)) ∙ read_from (done ++ line ∷ []) rest ∙ ap counted (append_assoc done (line ∷ []) rest)
+
+read-counted : (lines : List (List ℕ)) → read lines ≡ counted lines
+unfolding read
+read-counted lines = ap (λ (s : Progress). fold after s lines) (sym counted-none) ∙ read_from [] lines
+
+value_sum : (pieces : List Piece) → sum_by (λ s. length s.values) (filter_map suffix_of pieces) ≡ value_total pieces
+value_sum [] = refl
+value_sum (p ∷ ps) = by (suffix_of p) ∙ ap (λ n. value_count_in p + n) (value_sum ps) ∙ sym (sum_by-cons value_count_in p ps)
+  where
+    by : (o : Option SolSuffix) → sum_by (λ s. length s.values) (cons_option o (filter_map suffix_of ps)) ≡ option_map_or (λ s. length s.values) o 0 + sum_by (λ s. length s.values) (filter_map suffix_of ps)
+    by None = omega arith
+    by (Some s) = sum_by-cons (λ x. length x.values) s (filter_map suffix_of ps)
+
+standing-counted : (lines : List (List ℕ)) → standing lines ≡ seen (counted lines)
+unfolding standing counted spoken met sol_of
+standing-counted lines = by (list_any is_options lines) refl
+  where
+    by : (b : Bool) → list_any is_options lines ≡ b → standing lines ≡ seen (counted lines)
+    by true some =
+        let said = met (without_blank_end (message_lines lines)) (body_of lines) in
+        let b = body_of lines in
+        let is : standing lines ≡ record (seen said) { awaited = body_awaits b; value_count = sum_by (λ s. length s.values) (filter_map suffix_of b.pieces) } = rw some refl in
+        is ∙ ap₂ (λ k n. record (seen said) { awaited = k; value_count = n }) (body_kind b) (value_sum b.pieces) ∙ sym (ap seen (past_message lines some))
+    by false none = rw (none, no_body_yet lines none) refl
+
+pub read-none : read [] ≡ start
+unfolding read
+read-none = refl
+
+pub read-more : (lines : List (List ℕ)) (line : List ℕ) → read (lines ++ line ∷ []) ≡ after (read lines) line
+unfolding read
+read-more lines line = fold_push after start lines line
+
+pub standing-read : (lines : List (List ℕ)) → standing lines ≡ seen (read lines)
+standing-read lines = standing-counted lines ∙ ap seen (sym (read-counted lines))
+
+-- what is held of lines shows what they mean
+pub standing-held : (s : Progress) (lines : List (List ℕ)) → s ≡ read lines → standing lines ≡ seen s
+standing-held s lines e = standing-read lines ∙ ap seen (sym e)
+
+pub no_lines : standing [] ≡ seen start
+no_lines = standing-read [] ∙ ap seen read-none

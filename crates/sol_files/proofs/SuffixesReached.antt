@@ -15,15 +15,14 @@ use Rattle.sol_files.specs.declared.awaited.Awaited.TheVariants.{Tail, Name, Tab
 use Rattle.sol_files.specs.declared.awaited.SuffixHead.{SuffixHead}
 use Rattle.sol_files.specs.declared.suffix.SolSuffix.{SolSuffix}
 use Rattle.sol_files.specs.Sol.{Sol}
-use Rattle.sol_files.specs.Parts.{rest_awaits}
-use Rattle.sol_files.specs.Standing.{Standing}
+use Rattle.sol_files.specs.Progress.{Progress}
 use Rattle.sol_files.specs.Built.{with_suffix}
 use Rattle.texts.specs.Cut.{IsTextLine}
 use Rattle.sol_files.specs.Rows.{pair_in}
 use Rattle.sol_files.specs.Tests.{row_tests, tail_tests, line_tests_at, has_index}
 use Rattle.nl_model.specs.SuffixKinds.{object_limit, wants_whole}
 use Rattle.exact_numbers.specs.Numbers.{is_whole}
-use Rattle.sol_files.specs.Steps.{after_row, after_at, named_suffix}
+use Rattle.sol_files.specs.Steps.{after_row, after_at, named_suffix, rest_awaits}
 use Rattle.sol_files.specs.Written.{head_line, value_line, suffix_lines, are_values, IsWritableSuffix}
 use Rattle.written_texts.specs.Lines.{text_of}
 use Rattle.sol_files.proofs.LastLemmas.{change_last-end, last_of-end}
@@ -237,7 +236,7 @@ suffix_reached lines s d p c t v x h var con room tables values g =
 
 -- the lines have no fault and say this, and nothing more must come
 pub record IsSaid (lines : List (List ℕ)) (s : Sol) : Type 0 where
-  pub last : Standing
+  pub last : Progress
   pub reached : IsReached lines last
   pub tail : last.awaited ≡ Tail
   pub sol : last.sol ≡ s

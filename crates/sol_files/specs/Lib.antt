@@ -1,10 +1,12 @@
 pub mod Sol
 pub mod Rows
+pub mod Plan
 pub mod Parts
 pub mod Saying
 pub mod Standing
 pub mod Tests
 pub mod Grammar
+pub mod Progress
 pub mod Steps
 pub mod InsideHeld
 pub mod Told

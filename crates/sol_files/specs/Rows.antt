@@ -3,7 +3,6 @@ use Rattle.std.specs.Prelude.{ℕ, ℤ, List, Option, Some, None, unwrap_or, opt
 use Rattle.texts.specs.Words.{word_at, begins}
 use Rattle.exact_numbers.specs.declared.dec.Dec.{Dec}
 use Rattle.exact_numbers.specs.Numbers.{dec_of, signed_of, whole_of}
-use Rattle.sol_files.specs.declared.awaited.SuffixHead.{SuffixHead}
 
 -- the words of a line
 abbrev pub Row : Type 0
@@ -33,16 +32,12 @@ objno_in words =
     then both (signed_of (word_at words 1)) (signed_of (word_at words 2))
     else None
 
--- `suffix kind values namelen tablen tablelines`
-abbrev pub head_in : Row → SuffixHead
-head_in words =
-    record {
-      kind = number_in words 1;
-      value_count = number_in words 2;
-      name_len = number_in words 3;
-      table_len = number_in words 4;
-      table_lines = number_in words 5;
-    }
+-- how many values and table lines a line `suffix kind values namelen tablen tablelines` announces
+abbrev pub value_size : Row → ℕ
+value_size head = number_in head 2
+
+abbrev pub table_size : Row → ℕ
+table_size head = number_in head 5
 
 -- `index value`
 unfoldable pub pair_in : Row → Option (ℕ × Dec)

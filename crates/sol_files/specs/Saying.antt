@@ -1,13 +1,11 @@
 -- What the parts of a .sol text say.
-use Rattle.std.specs.Prelude.{ℕ, ◌+◌, List, [], ◌∷◌, length, take, drop, slice_get, Option, Some, None}
-use Rattle.std.specs.List.{filter_map, sum_by}
-use Rattle.std.specs.Option.{option_map_or}
+use Rattle.std.specs.Prelude.{ℕ, ◌+◌, List, [], ◌∷◌, take, drop, slice_get, Option, Some, None}
+use Rattle.std.specs.List.{filter_map}
 use Rattle.exact_numbers.specs.declared.dec.Dec.{Dec}
 use Rattle.texts.specs.Words.{row_of, word_at}
 use Rattle.sol_files.specs.declared.suffix.SolSuffix.{SolSuffix}
-use Rattle.sol_files.specs.declared.awaited.SuffixHead.{SuffixHead}
 use Rattle.sol_files.specs.Sol.{Sol}
-use Rattle.sol_files.specs.Rows.{Row, option_in, value_in, objno_in, head_in, pair_in}
+use Rattle.sol_files.specs.Rows.{Row, number_in, option_in, value_in, objno_in, value_size, table_size, pair_in}
 use Rattle.sol_files.specs.Parts.{option_count, constraint_count, dual_count, variable_count, primal_count, Piece, Body}
 
 -- ---- rows of numbers
@@ -31,33 +29,21 @@ abbrev pub values_in : ℕ → ℕ → List (List ℕ) → List (ℕ × Dec)
 values_in tables values lines =
     filter_map (λ line. pair_in (row_of line)) (take values (drop tables lines))
 
--- a suffix whose first line says this, with its name line and the lines after it, as far as they
--- came
-abbrev pub suffix_by : SuffixHead → List (List ℕ) → Option SolSuffix
+-- a suffix of this first line, with its name line and the lines after it, as far as they came
+abbrev pub suffix_by : Row → List (List ℕ) → Option SolSuffix
 suffix_by head [] = None
 suffix_by head (name ∷ lines) =
     Some (record {
-      kind = head.kind;
+      kind = number_in head 1;
       name = word_at (row_of name) 0;
-      name_len = head.name_len;
-      table_len = head.table_len;
-      table = take head.table_lines lines;
-      values = values_in head.table_lines head.value_count lines;
+      name_len = number_in head 3;
+      table_len = number_in head 4;
+      table = take (table_size head) lines;
+      values = values_in (table_size head) (value_size head) lines;
     })
 
 abbrev pub suffix_of : Piece → Option SolSuffix
-suffix_of p = suffix_by (head_in p.head) p.lines
-
--- how many values it has so far
-abbrev pub value_count_in : Piece → ℕ
-value_count_in p = option_map_or (λ s. length s.values) (suffix_of p) 0
-
--- how many table lines and how many values they have together
-abbrev pub table_total : List Piece → ℕ
-table_total pieces = sum_by (λ p. (head_in p.head).table_lines) pieces
-
-abbrev pub value_total : List Piece → ℕ
-value_total pieces = sum_by value_count_in pieces
+suffix_of p = suffix_by p.head p.lines
 
 -- ---- the whole
 

@@ -1,15 +1,15 @@
--- What one line without a fault does to what the lines mean.
+-- What one line without a fault does to what a reader holds.
 use Rattle.std.specs.Prelude.{ℕ, ◌+◌, ◌-◌, ◌==◌, Bool, false, nat_lt, List, [], ◌∷◌, ◌++◌, length, Option, Some, None, if◌then◌else◌, codes}
-use Rattle.std.specs.List.{cons_option}
+use Rattle.std.specs.List.{cons_option, fold}
 use Rattle.exact_numbers.specs.declared.dec.Dec.{Dec}
 use Rattle.texts.specs.Words.{row_of, word_at, begins}
 use Rattle.sol_files.specs.declared.awaited.Awaited.{Awaited}
 use Rattle.sol_files.specs.declared.awaited.Awaited.TheVariants.{Message, OptionCount, Options, Constraints, DualCount, Variables, PrimalCount, Duals, Primals, Tail, Name, Table, Values}
 use Rattle.sol_files.specs.declared.awaited.SuffixHead.{SuffixHead}
 use Rattle.sol_files.specs.declared.suffix.SolSuffix.{SolSuffix}
-use Rattle.sol_files.specs.Rows.{Row, number_in, option_in, value_in, objno_in, head_in, pair_in}
-use Rattle.sol_files.specs.Parts.{is_options, rest_awaits, change_last}
-use Rattle.sol_files.specs.Standing.{Standing}
+use Rattle.sol_files.specs.Rows.{Row, number_in, option_in, value_in, objno_in, pair_in}
+use Rattle.sol_files.specs.Parts.{is_options, change_last}
+use Rattle.sol_files.specs.Progress.{Progress, start}
 use Rattle.sol_files.specs.Built.{with_table_line}
 
 abbrev pub listed : {A : Type 0} → Option A → List A
@@ -30,6 +30,11 @@ abbrev pub values_await : ℕ → ℕ → Awaited
 values_await duals primals = if nat_lt 0 duals then Duals duals else
     if nat_lt 0 primals then Primals primals else Tail
 
+-- so many lines of a table and so many values are left
+abbrev pub rest_awaits : ℕ → ℕ → Awaited
+rest_awaits tables values = if nat_lt 0 tables then Table tables values else
+    if nat_lt 0 values then Values values else Tail
+
 -- ---- the message
 
 abbrev pub held_lines : Bool → List (List ℕ)
@@ -39,7 +44,7 @@ held_lines is_held_back = if is_held_back then ([] ∷ []) else []
 abbrev pub lines_with : List (List ℕ) → List ℕ → List (List ℕ)
 lines_with lines line = if length line == 0 then lines else lines ++ line ∷ []
 
-abbrev pub after_message : Standing → List ℕ → Standing
+abbrev pub after_message : Progress → List ℕ → Progress
 after_message s line =
     if is_options line then record s { awaited = OptionCount; is_held_back = false }
     else record s {
@@ -49,42 +54,42 @@ after_message s line =
 
 -- ---- rows of numbers
 
-abbrev pub after_option_count : Standing → Row → Standing
+abbrev pub after_option_count : Progress → Row → Progress
 after_option_count s words = record s { awaited = options_await (number_in words 0) }
 
-abbrev pub after_option : Standing → ℕ → Row → Standing
+abbrev pub after_option : Progress → ℕ → Row → Progress
 after_option s left words =
     record s {
       awaited = options_await (left - 1);
       sol = record s.sol { options = s.sol.options ++ listed (option_in words) };
     }
 
-abbrev pub after_constraints : Standing → Row → Standing
+abbrev pub after_constraints : Progress → Row → Progress
 after_constraints s words =
     record s { awaited = DualCount; sol = record s.sol { n_con = number_in words 0 } }
 
-abbrev pub after_dual_count : Standing → Row → Standing
+abbrev pub after_dual_count : Progress → Row → Progress
 after_dual_count s words = record s { awaited = Variables; dual_count = number_in words 0 }
 
-abbrev pub after_variables : Standing → Row → Standing
+abbrev pub after_variables : Progress → Row → Progress
 after_variables s words =
     record s { awaited = PrimalCount; sol = record s.sol { n_var = number_in words 0 } }
 
-abbrev pub after_primal_count : Standing → Row → Standing
+abbrev pub after_primal_count : Progress → Row → Progress
 after_primal_count s words =
     record s {
       awaited = values_await s.dual_count (number_in words 0);
       primal_count = number_in words 0;
     }
 
-abbrev pub after_dual : Standing → ℕ → Row → Standing
+abbrev pub after_dual : Progress → ℕ → Row → Progress
 after_dual s left words =
     record s {
       awaited = values_await (left - 1) s.primal_count;
       sol = record s.sol { duals = s.sol.duals ++ listed (value_in words) };
     }
 
-abbrev pub after_primal : Standing → ℕ → Row → Standing
+abbrev pub after_primal : Progress → ℕ → Row → Progress
 after_primal s left words =
     record s {
       awaited = values_await 0 (left - 1);
@@ -93,11 +98,22 @@ after_primal s left words =
 
 -- ---- suffixes
 
-abbrev pub after_objno : Standing → Row → Standing
+abbrev pub after_objno : Progress → Row → Progress
 after_objno s words =
     record s { sol = record s.sol { objno = or_else s.sol.objno (objno_in words) } }
 
-abbrev pub after_suffix_head : Standing → Row → Standing
+-- `suffix kind values namelen tablen tablelines`
+abbrev pub head_in : Row → SuffixHead
+head_in words =
+    record {
+      kind = number_in words 1;
+      value_count = number_in words 2;
+      name_len = number_in words 3;
+      table_len = number_in words 4;
+      table_lines = number_in words 5;
+    }
+
+abbrev pub after_suffix_head : Progress → Row → Progress
 after_suffix_head s words =
     record s {
       awaited = Name (head_in words);
@@ -106,7 +122,7 @@ after_suffix_head s words =
     }
 
 -- any other row that may come there
-abbrev pub after_tail : Standing → Row → Standing
+abbrev pub after_tail : Progress → Row → Progress
 after_tail s words =
     if begins words (codes "suffix") then after_suffix_head s words else
     if s.suffix_count == 0 then after_objno s words else s
@@ -123,14 +139,14 @@ named_suffix head name =
       values = [];
     }
 
-abbrev pub after_name : Standing → SuffixHead → Row → Standing
+abbrev pub after_name : Progress → SuffixHead → Row → Progress
 after_name s head words =
     record s {
       awaited = rest_awaits head.table_lines head.value_count;
       sol = record s.sol { suffixes = s.sol.suffixes ++ named_suffix head (word_at words 0) ∷ [] };
     }
 
-abbrev pub after_table : Standing → ℕ → ℕ → List ℕ → Standing
+abbrev pub after_table : Progress → ℕ → ℕ → List ℕ → Progress
 after_table s tables values line =
     record s {
       awaited = rest_awaits (tables - 1) values;
@@ -141,7 +157,7 @@ after_table s tables values line =
 abbrev pub with_values : List (ℕ × Dec) → SolSuffix → SolSuffix
 with_values pairs s = record s { values = s.values ++ pairs }
 
-abbrev pub after_value : Standing → ℕ → Row → Standing
+abbrev pub after_value : Progress → ℕ → Row → Progress
 after_value s left words =
     record s {
       awaited = rest_awaits 0 (left - 1);
@@ -153,7 +169,7 @@ after_value s left words =
 
 -- ---- any line
 
-unfoldable pub after_row : Awaited → Standing → Row → Standing
+unfoldable pub after_row : Awaited → Progress → Row → Progress
 after_row Message s words = s
 after_row OptionCount s words = after_option_count s words
 after_row (Options left) s words = after_option s left words
@@ -168,14 +184,18 @@ after_row (Name head) s words = s
 after_row (Table tables values) s words = s
 after_row (Values left) s words = after_value s left words
 
-abbrev pub after_row_line : Awaited → Standing → Row → Standing
+abbrev pub after_row_line : Awaited → Progress → Row → Progress
 after_row_line a s words = if length words == 0 then s else after_row a s words
 
-unfoldable pub after_at : Awaited → Standing → List ℕ → Standing
+unfoldable pub after_at : Awaited → Progress → List ℕ → Progress
 after_at Message s line = after_message s line
 after_at (Name head) s line = after_name s head (row_of line)
 after_at (Table tables values) s line = after_table s tables values line
 after_at a s line = after_row_line a s (row_of line)
 
-abbrev pub after : Standing → List ℕ → Standing
+abbrev pub after : Progress → List ℕ → Progress
 after s line = after_at s.awaited s line
+
+-- what a reader holds after these lines
+unfoldable pub read : List (List ℕ) → Progress
+read lines = fold after start lines

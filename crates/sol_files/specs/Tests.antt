@@ -11,8 +11,7 @@ use Rattle.texts.specs.declared.lines.LineFault.{LineFault}
 use Rattle.texts.specs.declared.lines.LineFault.TheVariants.{LineTooLong as LongLine, InputTooLong as LongInput}
 use Rattle.exact_numbers.specs.Numbers.{are_digits, dec_of, is_whole, signed_of, whole_of}
 use Rattle.nl_model.specs.SuffixKinds.{object_limit, wants_whole}
-use Rattle.sol_files.specs.declared.awaited.Awaited.{Awaited}
-use Rattle.sol_files.specs.declared.awaited.Awaited.TheVariants.{Message, OptionCount, Options, Constraints, DualCount, Variables, PrimalCount, Duals, Primals, Tail, Name, Table, Values}
+use Rattle.sol_files.specs.Plan.{LineKind, Message, OptionCount, OptionRow, ConstraintCount, DualCount, VariableCount, PrimalCount, DualRow, PrimalRow, NameLine, TableLine, ValueRow, Tail}
 use Rattle.sol_files.specs.declared.fault.Refusal.{Refusal}
 use Rattle.sol_files.specs.declared.fault.Refusal.TheVariants.{Here, Late}
 use Rattle.sol_files.specs.declared.fault.SolReason.{SolReason}
@@ -127,8 +126,8 @@ suffix_tests suffixes tables words =
 -- nothing else may come; `objno` comes once, and before all suffixes
 unfoldable pub tail_tests : Standing → Row → Tests
 tail_tests s words =
-    if begins words (codes "objno") then objno_tests (is_some s.sol.objno
-    || nat_lt 0 s.suffix_count) words else
+    let is_past = is_some s.sol.objno || nat_lt 0 s.suffix_count in
+    if begins words (codes "objno") then objno_tests is_past words else
     if begins words (codes "suffix") then suffix_tests s.suffix_count s.table_count words else
     (Bool.true, Here Extra) ∷ []
 
@@ -175,29 +174,27 @@ value_tests s words =
 -- ---- Any line.
 
 -- a row, where this is awaited
-unfoldable pub row_tests : Awaited → Standing → Row → Tests
-row_tests Message s words = []
+unfoldable pub row_tests : LineKind → Standing → Row → Tests
 row_tests OptionCount s words = count_tests words
-row_tests (Options left) s words = option_tests (length s.sol.options) words
-row_tests Constraints s words = size_tests words
+row_tests OptionRow s words = option_tests (length s.sol.options) words
+row_tests ConstraintCount s words = size_tests words
 row_tests DualCount s words = given_tests s.sol.n_con words
-row_tests Variables s words = size_tests words
+row_tests VariableCount s words = size_tests words
 row_tests PrimalCount s words = given_tests s.sol.n_var words
-row_tests (Duals left) s words = dec_tests words
-row_tests (Primals left) s words = dec_tests words
+row_tests DualRow s words = dec_tests words
+row_tests PrimalRow s words = dec_tests words
 row_tests Tail s words = tail_tests s words
-row_tests (Name head) s words = []
-row_tests (Table tables values) s words = []
-row_tests (Values left) s words = value_tests s words
+row_tests ValueRow s words = value_tests s words
+row_tests a s words = []
 
 -- the row of a line; one without words means nothing
-abbrev pub row_line_tests : Awaited → Standing → Row → Tests
+abbrev pub row_line_tests : LineKind → Standing → Row → Tests
 row_line_tests a s words = if length words == 0 then [] else row_tests a s words
 
-unfoldable pub line_tests_at : Awaited → Standing → List ℕ → Tests
+unfoldable pub line_tests_at : LineKind → Standing → List ℕ → Tests
 line_tests_at Message s line = message_tests s line
-line_tests_at (Name head) s line = name_tests (row_of line)
-line_tests_at (Table tables values) s line = []
+line_tests_at NameLine s line = name_tests (row_of line)
+line_tests_at TableLine s line = []
 line_tests_at a s line = row_line_tests a s (row_of line)
 
 abbrev pub line_tests : Standing → List ℕ → Tests

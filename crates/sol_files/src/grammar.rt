@@ -5,9 +5,10 @@ ghost use Rattle.texts.specs.Cut.{IsTextLine};
 ghost use Rattle.texts.specs.Words.{row_of, texts, begins};
 ghost use Rattle.sol_files.specs.Sol.{Sol};
 ghost use Rattle.sol_files.specs.Parts.{is_options};
-ghost use Rattle.sol_files.specs.Standing.{standing, is_message, message_count};
+ghost use Rattle.sol_files.specs.Standing.{is_message, message_count};
 ghost use Rattle.sol_files.specs.Tests.{end_tests, fault_refusal, is_over, line_tests, line_tests_at, message_tests, row_tests, row_line_tests};
-ghost use Rattle.sol_files.specs.Steps.{after, after_at, after_message, after_row, after_row_line};
+ghost use Rattle.sol_files.specs.Progress.{kind_of, seen};
+ghost use Rattle.sol_files.specs.Steps.{after, after_at, after_message, after_row, after_row_line, read};
 ghost use Rattle.sol_files.specs.Grammar.{sol_rules, SaysSol};
 
 use crate::awaited::Awaited;
@@ -25,7 +26,7 @@ const MOST_LINES: usize = 65_536;
 /// What was read of a .sol text: what it says so far, the line that comes next, and what judging
 /// further lines needs.
 #[derive(Drop)]
-pub struct SolGrammar {
+pub(crate) struct SolGrammar {
     pub(crate) alloc: Global,
     pub(crate) draft: SolBuilder,
     pub(crate) awaited: Awaited,
@@ -40,17 +41,17 @@ pub struct SolGrammar {
 }
 
 impl Model for SolGrammar {
-    ghost use Rattle.sol_files.specs.Standing.{Standing};
+    ghost use Rattle.sol_files.specs.Progress.{Progress};
 
-    ghost Value = { Standing };
+    ghost Value = { Progress };
 
-    ghost use Rattle.sol_files.specs.InsideFields.{standing_in};
+    ghost use Rattle.sol_files.specs.InsideFields.{progress_in};
 
-    ghost view = { standing_in };
+    ghost view = { progress_in };
 
     ghost use Rattle.sol_files.specs.InsideHeld.{IsReady};
 
-    ghost invariant = { λ g. IsReady (standing_in g) g.marks };
+    ghost invariant = { λ g. IsReady (progress_in g) g.marks };
 }
 
 impl Grammar for SolGrammar {
@@ -64,7 +65,7 @@ impl Grammar for SolGrammar {
 
     ghost rules = { λ s. sol_rules };
 
-    ghost took = { λ g lines. g ≡ standing lines };
+    ghost took = { λ g lines. g ≡ read lines };
 
     ghost says = { λ s lines sol. SaysSol lines sol };
 
@@ -100,7 +101,7 @@ fn is_options(line: &[u8]) -> bool
 }
 
 fn is_message(awaited: Awaited) -> bool
-    ensures { result ≡ is_message awaited }
+    ensures { result ≡ is_message (kind_of awaited) }
 {
     match awaited {
         Awaited::Message => true,
@@ -111,7 +112,7 @@ fn is_message(awaited: Awaited) -> bool
 impl SolGrammar {
     /// No lines.
     pub(crate) fn new(alloc: Global) -> Result<SolGrammar, AllocError>
-        ensures { IfOk result (λ g. g ≡ standing []) }
+        ensures { IfOk result (λ g. g ≡ read []) }
     {
         let marks = Marks::new(alloc, 1)?;
         Ok(SolGrammar {
@@ -131,7 +132,7 @@ impl SolGrammar {
     // Whether so many message lines have come.
     fn has_lines(&self, count: usize) -> bool
         requires { 0 < count }
-        ensures { result ≡ (message_count self.now == count) }
+        ensures { result ≡ (message_count (seen self.now) == count) }
     {
         if self.is_held_back {
             return self.draft.line_count() == count - 1;
@@ -141,14 +142,14 @@ impl SolGrammar {
 
     // Whether a message line too many waits for the next line.
     fn is_over(&self) -> bool
-        ensures { result ≡ is_over self.now }
+        ensures { result ≡ is_over (seen self.now) }
     {
         is_message(self.awaited) && self.has_lines(MOST_LINES + 1)
     }
 
     // What a line fault of the next line is.
     fn refuse(&self, fault: LineFault) -> Refusal
-        ensures { result ≡ fault_refusal self.now fault }
+        ensures { result ≡ fault_refusal (seen self.now) fault }
     {
         if self.is_over() {
             return Refusal::Late;
@@ -161,9 +162,10 @@ impl SolGrammar {
 
     // What is said, at the end of the text.
     fn end(self) -> Result<Sol, Refusal>
-        ensures sol { IfOk result (λ sol. (sol ≡ self.sol) × (first_reason (end_tests self)
-            ≡ None)) }
-        ensures fault { IfErr result (λ refusal. first_reason (end_tests self) ≡ Some refusal) }
+        ensures sol { IfOk result (λ sol. (sol ≡ self.sol)
+            × (first_reason (end_tests (seen self)) ≡ None)) }
+        ensures fault { IfErr result (λ refusal. first_reason (end_tests (seen self))
+            ≡ Some refusal) }
     {
         if self.is_over() {
             return Err(Refusal::Late);
@@ -179,7 +181,7 @@ impl SolGrammar {
     #[tactic(auto, unfolding(crate::specs::Tests::line_tests_at, crate::specs::Steps::after_at))]
     fn take_line(&mut self, line: &[u8]) -> Result<(), Stop<Refusal>>
         requires { IsTextLine line.now }
-        ensures { Takes (line_tests self.old line.now)
+        ensures { Takes (line_tests (seen self.old) line.now)
             (after self.old line.now) result self.new }
     {
         match self.awaited {
@@ -194,7 +196,7 @@ impl SolGrammar {
     fn take_message(&mut self, line: &[u8]) -> Result<(), Stop<Refusal>>
         requires awaited { self.old.awaited ≡ Awaited.Message }
         requires line { IsTextLine line.now }
-        ensures { Takes (message_tests self.old line.now)
+        ensures { Takes (message_tests (seen self.old) line.now)
             (after_message self.old line.now) result self.new }
     {
         if is_options(line) {
@@ -222,9 +224,10 @@ impl SolGrammar {
     // Whether the message has room for a line that is not `Options`.
     fn judge_message(&self, line: &[u8]) -> Result<(), Refusal>
         requires { is_options line.now ≡ false }
-        ensures fine { OnOk result (first_reason (message_tests self.now line.now) ≡ None) }
-        ensures fault { IfErr result (λ refusal. first_reason (message_tests self.now line.now)
-            ≡ Some refusal) }
+        ensures fine { OnOk result (first_reason (message_tests (seen self.now) line.now)
+            ≡ None) }
+        ensures fault { IfErr result
+            (λ refusal. first_reason (message_tests (seen self.now) line.now) ≡ Some refusal) }
     {
         if self.is_over() {
             return Err(Refusal::Late);
@@ -237,7 +240,8 @@ impl SolGrammar {
 
     // Takes a row, where the awaited line is neither one of the message nor taken as it is.
     fn take_words(&mut self, words: &[&[u8]]) -> Result<(), Stop<Refusal>>
-        ensures { Takes (row_line_tests self.old.awaited self.old (texts words.now))
+        ensures { Takes
+            (row_line_tests (kind_of self.old.awaited) (seen self.old) (texts words.now))
             (after_row_line self.old.awaited self.old (texts words.now)) result self.new }
     {
         if words.is_empty() {
@@ -249,7 +253,7 @@ impl SolGrammar {
     // Takes a row with a word.
     #[tactic(auto, unfolding(crate::specs::Tests::row_tests, crate::specs::Steps::after_row))]
     fn take_row(&mut self, words: &[&[u8]]) -> Result<(), Stop<Refusal>>
-        ensures { Takes (row_tests self.old.awaited self.old (texts words.now))
+        ensures { Takes (row_tests (kind_of self.old.awaited) (seen self.old) (texts words.now))
             (after_row self.old.awaited self.old (texts words.now)) result self.new }
     {
         match self.awaited {

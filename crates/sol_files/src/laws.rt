@@ -3,7 +3,8 @@ ghost use Rattle.std.specs.Prelude.{◌≡◌, ◌++◌, ◌∷◌, [], List, �
 ghost use Rattle.sol_files.specs.Sol.{Sol as SolValue};
 ghost use Rattle.sol_files.specs.Reader.{HasOneReading, IsSol};
 ghost use Rattle.sol_files.specs.Standing.{standing};
-ghost use Rattle.sol_files.specs.Steps.{after};
+ghost use Rattle.sol_files.specs.Progress.{seen};
+ghost use Rattle.sol_files.specs.Steps.{after, read};
 ghost use Rattle.sol_files.specs.Written.{IsWritable, KeepsRules, sol_text};
 
 /// Each text is a .sol text, which says one thing, or has one first fault.
@@ -11,10 +12,12 @@ pub fn one_reading()
     ensures { (text : List ℕ) → HasOneReading text }
 {}
 
-/// What lines mean for the next one depends on the last of them and on what those before it mean.
+/// What lines mean for the next one is read line by line: what is held of them depends on the last
+/// of them and on what is held of those before it.
 pub fn one_line_more()
-    ensures { (lines : List (List ℕ)) (line : List ℕ)
-        → standing (lines ++ line ∷ []) ≡ after (standing lines) line }
+    ensures step { (lines : List (List ℕ)) (line : List ℕ)
+        → read (lines ++ line ∷ []) ≡ after (read lines) line }
+    ensures meaning { (lines : List (List ℕ)) → standing lines ≡ seen (read lines) }
 {}
 
 /// What is written is read as itself.

@@ -15,9 +15,8 @@ mod suffix_rows;
 mod tail_lines;
 mod write;
 
-pub use awaited::{Awaited, SuffixHead};
 pub use builder::SolBuilder;
-pub use fault::{Refusal, SolFault, SolReason};
+pub use fault::{SolFault, SolReason};
 pub use reader::SolReader;
 pub use sol::Sol;
 pub use suffix::SolSuffix;

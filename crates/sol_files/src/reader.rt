@@ -30,7 +30,7 @@ impl Model for SolReader {
 
     ghost view = { λ r. record {
       lines = r.reader.lines;
-      standing = r.reader.grammar;
+      progress = r.reader.grammar;
       stopped = r.reader.stopped;
     } };
 }

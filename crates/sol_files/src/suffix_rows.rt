@@ -4,7 +4,8 @@ ghost use Rattle.texts.specs.Judged.{first_reason};
 ghost use Rattle.texts.specs.Words.{texts, word_at};
 ghost use Rattle.exact_numbers.specs.Numbers.{whole_of, is_whole};
 ghost use Rattle.sol_files.specs.declared.fault.Refusal.TheVariants.{Here};
-ghost use Rattle.sol_files.specs.Rows.{head_in, number_in, pair_in};
+ghost use Rattle.sol_files.specs.Rows.{number_in, pair_in};
+ghost use Rattle.sol_files.specs.Steps.{head_in};
 ghost use Rattle.sol_files.specs.Tests.{are_all_digits, are_head_numbers, has_table_room, is_below, pair_tests, suffix_tests};
 ghost use Rattle.nl_model.specs.SuffixKinds.{object_limit, wants_whole};
 

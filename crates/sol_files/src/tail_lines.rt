@@ -5,11 +5,11 @@ ghost use Rattle.texts.specs.Names.{IsName};
 ghost use Rattle.texts.specs.Words.{texts, begins, word_at};
 ghost use Rattle.sol_files.specs.declared.fault.Refusal.TheVariants.{Here};
 ghost use Rattle.sol_files.specs.Rows.{pair_in};
-ghost use Rattle.sol_files.specs.Parts.{rest_awaits};
+ghost use Rattle.sol_files.specs.Progress.{seen};
 ghost use Rattle.sol_files.specs.Tests.{index_limit, last_kind, name_tests, objno_tests, suffix_tests, tail_tests, value_tests};
 ghost use Rattle.nl_model.specs.SuffixKinds.{wants_whole};
 ghost use Rattle.sol_files.specs.InsideJudging.{marked_value_tests};
-ghost use Rattle.sol_files.specs.Steps.{after_name, after_objno, after_suffix_head, after_table, after_tail, after_value};
+ghost use Rattle.sol_files.specs.Steps.{after_name, after_objno, after_suffix_head, after_table, after_tail, after_value, rest_awaits};
 
 use crate::awaited::{Awaited, SuffixHead};
 use crate::fault::{Refusal, SolReason};
@@ -89,7 +89,7 @@ impl SolGrammar {
     #[tactic(auto, unfolding(crate::specs::Tests::tail_tests))]
     pub(crate) fn take_tail(&mut self, words: &[&[u8]]) -> Result<(), Stop<Refusal>>
         requires { self.old.awaited ≡ Awaited.Tail }
-        ensures { Takes (tail_tests self.old (texts words.now))
+        ensures { Takes (tail_tests (seen self.old) (texts words.now))
             (after_tail self.old (texts words.now)) result self.new }
     {
         if begins(words, b"objno") {
@@ -221,9 +221,10 @@ impl SolGrammar {
         ensures pair { IfOk result (λ t. pair_in (texts words.now) ≡ Some t) }
         ensures below { IfOk result (λ t. t.0 < index_limit self.now.sol) }
         ensures room { OnOk result (self.now.value_count < 4194304) }
-        ensures fine { OnOk result (first_reason (value_tests self.now (texts words.now)) ≡ None) }
-        ensures fault { IfErr result (λ r. first_reason (value_tests self.now (texts words.now))
-            ≡ Some (Here r)) }
+        ensures fine { OnOk result
+            (first_reason (value_tests (seen self.now) (texts words.now)) ≡ None) }
+        ensures fault { IfErr result
+            (λ r. first_reason (value_tests (seen self.now) (texts words.now)) ≡ Some (Here r)) }
     {
         let count = self.value_count;
         let limit = self.index_limit();
@@ -234,7 +235,7 @@ impl SolGrammar {
     /// A value of a suffix.
     pub(crate) fn take_value(&mut self, words: &[&[u8]], left: u32) -> Result<(), Stop<Refusal>>
         requires { self.old.awaited ≡ Awaited.Values left }
-        ensures { Takes (value_tests self.old (texts words.now))
+        ensures { Takes (value_tests (seen self.old) (texts words.now))
             (after_value self.old left (texts words.now)) result self.new }
     {
         let pair = match self.judge_value(words, left) {

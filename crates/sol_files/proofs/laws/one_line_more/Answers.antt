@@ -1,5 +1,8 @@
-use Rattle.sol_files.proofs.StandingLemmas.{standing-more}
+use Rattle.sol_files.proofs.StandingLemmas.{standing-read, read-more}
 use Rattle.sol_files.proofs.laws.one_line_more.Goals as goal
 
-pub returns : goal.returns
-returns c = standing-more
+pub returns-clause-step : goal.returns-clause-step
+returns-clause-step c = read-more
+
+pub returns-clause-meaning : goal.returns-clause-meaning
+returns-clause-meaning c = standing-read
