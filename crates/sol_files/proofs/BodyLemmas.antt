@@ -7,7 +7,7 @@ use Rattle.std.proofs.lemmas.List.{length_push, nil_from_length, drop_all}
 use Rattle.exact_numbers.specs.declared.dec.Dec.{Dec}
 use Rattle.exact_numbers.specs.Numbers.{whole_of}
 use Rattle.sol_files.specs.declared.awaited.Awaited.{Awaited}
-use Rattle.sol_files.specs.declared.awaited.Awaited.TheVariants.{Message, OptionCount, Options, Constraints, DualCount, Variables, PrimalCount, Duals, Primals, Tail, Name, Table, Values}
+use Rattle.sol_files.specs.declared.awaited.Awaited.TheVariants.{OptionCount, Options, Constraints, DualCount, Variables, PrimalCount, Duals, Primals, Tail}
 use Rattle.sol_files.specs.Rows.{Row, table_size, number_in, option_in, value_in, objno_in}
 use Rattle.texts.specs.Words.{begins}
 use Rattle.sol_files.specs.Parts.{Piece, Body, row_number, option_count, constraint_count, dual_count, variable_count, primal_count}
@@ -357,7 +357,6 @@ module _ (message : List (List ℕ)) (rows : List Row) (row : Row) where
 
   -- a row without a piece before it
   by_place : (a : Awaited) → rows_left rows ≡ a → (a ≡ Tail → begins row (codes "suffix") ≡ false) → Place (option_count rows) (dual_count rows) (primal_count rows) (length rows) a → Meets a
-  by_place Message e other h = elim h [ ]
   by_place OptionCount e other (first z) = first_more z
   by_place (Options left) e other (option lt le) = option_next lt le
   by_place Constraints e other (constraints at) = constraints_next (omega arith) at
@@ -367,9 +366,7 @@ module _ (message : List (List ℕ)) (rows : List Row) (row : Row) where
   by_place (Duals left) e other (dual le lt) = dual_next (omega arith) le lt
   by_place (Primals left) e other (primal le lt) = primal_next (omega arith) le lt
   by_place Tail e other (past le) = past_next (omega arith) e (other refl) le
-  by_place (Name head) e other h = elim h [ ]
-  by_place (Table tables values) e other h = elim h [ ]
-  by_place (Values left) e other h = elim h [ ]
+  by_place a e other h = elim h [ ]
 
   pub row_more : (rows_left rows ≡ Tail → begins row (codes "suffix") ≡ false) → met message (record { rows = rows ++ row ∷ []; pieces = [] }) ≡ after_row (rows_left rows) (met message (record { rows = rows; pieces = [] })) row
   unfolding only_rows

@@ -58,16 +58,7 @@ unfolding line_tests_at after_at
 line_kept Message s line text is h f = kept_message s line text is h f
 line_kept (Name head) s line text is h f = kept_name s head (row_of line) h f
 line_kept (Table tables values) s line text is h f = kept_table s tables values line text h
-line_kept OptionCount s line text is h f = row_line_kept OptionCount s (row_of line) is h f
-line_kept (Options left) s line text is h f = row_line_kept (Options left) s (row_of line) is h f
-line_kept Constraints s line text is h f = row_line_kept Constraints s (row_of line) is h f
-line_kept DualCount s line text is h f = row_line_kept DualCount s (row_of line) is h f
-line_kept Variables s line text is h f = row_line_kept Variables s (row_of line) is h f
-line_kept PrimalCount s line text is h f = row_line_kept PrimalCount s (row_of line) is h f
-line_kept (Duals left) s line text is h f = row_line_kept (Duals left) s (row_of line) is h f
-line_kept (Primals left) s line text is h f = row_line_kept (Primals left) s (row_of line) is h f
-line_kept Tail s line text is h f = row_line_kept Tail s (row_of line) is h f
-line_kept (Values left) s line text is h f = row_line_kept (Values left) s (row_of line) is h f
+line_kept a s line text is h f = row_line_kept a s (row_of line) is h f
 
 -- ---- all lines
 

@@ -7,7 +7,7 @@ use Rattle.std.proofs.lemmas.Bool.Decides.{nat_tests}
 use Rattle.std.proofs.lemmas.Grind.{get_or_tail}
 use Rattle.std.proofs.lemmas.List.{length-append, length-replicate, get_or-replicate, get_or_append_left, get_or_past}
 use Rattle.sol_files.specs.declared.awaited.Awaited.{Awaited}
-use Rattle.sol_files.specs.declared.awaited.Awaited.TheVariants.{Message, OptionCount, Options, Constraints, DualCount, Variables, PrimalCount, Duals, Primals, Tail, Name, Table, Values}
+use Rattle.sol_files.specs.declared.awaited.Awaited.TheVariants.{OptionCount, Options, Constraints, DualCount, Variables, PrimalCount, Duals, Primals, Tail, Name, Table, Values}
 use Rattle.sol_files.specs.declared.awaited.SuffixHead.{SuffixHead}
 use Rattle.sol_files.specs.Plan.{LineKind, OptionCount as OptionCountKind, OptionRow, ConstraintCount, DualCount as DualCountKind, VariableCount, PrimalCount as PrimalCountKind, DualRow, PrimalRow, NameLine, TableLine, ValueRow, Tail as TailKind, row_plan, suffix_plan, next_in}
 use Rattle.sol_files.specs.Rows.{Row}
@@ -171,7 +171,6 @@ module _ (k d p i : ℕ) where
       get_or-append_right (front ++ middle) (replicate p PrimalRow) i TailKind (omega (arith, fronts, e)) ∙ ap (λ n. get_or (replicate p PrimalRow) n TailKind) at
 
   row_kind : (a : Awaited) → Place k d p i a → next_in (row_plan k d p) i ≡ kind_of a
-  row_kind Message h = elim h [ ]
   row_kind OptionCount (first z) = in_front (omega arith) ∙ ap (λ n. get_or front n TailKind) z
   row_kind (Options left) (option lt le) = in_front le ∙ get_or_tail OptionCountKind (replicate k OptionRow) i TailKind lt ∙ get_or-replicate k (i - 1) OptionRow TailKind (omega arith)
   row_kind Constraints (constraints at) = in_middle 0 (omega arith) (omega arith)
@@ -181,9 +180,7 @@ module _ (k d p i : ℕ) where
   row_kind (Duals left) (dual le lt) = in_middle (suc (suc (suc (suc (i - (k + 5)))))) (omega arith) (omega arith) ∙ get_or-replicate d (i - (k + 5)) DualRow TailKind (omega arith)
   row_kind (Primals left) (primal le lt) = in_last (i - (k + 5 + d)) (omega arith) ∙ get_or-replicate p (i - (k + 5 + d)) PrimalRow TailKind (omega arith)
   row_kind Tail (past le) = in_last (i - (k + 5 + d)) (omega arith) ∙ get_or_past (replicate p PrimalRow) (i - (k + 5 + d)) TailKind (omega (arith, length-replicate p PrimalRow, le))
-  row_kind (Name head) h = elim h [ ]
-  row_kind (Table tables values) h = elim h [ ]
-  row_kind (Values left) h = elim h [ ]
+  row_kind a h = elim h [ ]
 
 pub rows_kind : (rows : List Row) → rows_await rows ≡ kind_of (rows_left rows)
 rows_kind rows =
@@ -214,19 +211,11 @@ module _ (head : SuffixHead) (i : ℕ) where
       get_or-append_right named (replicate v ValueRow) i TailKind (omega (arith, many, lt)) ∙ ap (λ n. get_or (replicate v ValueRow) n TailKind) at
 
   line_kind : (a : Awaited) → LinePlace head i a → next_in (suffix_plan t v) i ≡ kind_of a
-  line_kind Message h = elim h [ ]
-  line_kind OptionCount h = elim h [ ]
-  line_kind (Options left) h = elim h [ ]
-  line_kind Constraints h = elim h [ ]
-  line_kind DualCount h = elim h [ ]
-  line_kind Variables h = elim h [ ]
-  line_kind PrimalCount h = elim h [ ]
-  line_kind (Duals left) h = elim h [ ]
-  line_kind (Primals left) h = elim h [ ]
   line_kind Tail (at_end le) = in_values (omega arith) ∙ get_or_past (replicate v ValueRow) (i - (t + 1)) TailKind (omega (arith, length-replicate v ValueRow, le))
   line_kind (Name x) (at_name z) = in_named (omega arith) ∙ ap (λ n. get_or named n TailKind) z
   line_kind (Table tables values) (at_table lt le) = in_named le ∙ get_or_tail NameLine (replicate t TableLine) i TailKind lt ∙ get_or-replicate t (i - 1) TableLine TailKind (omega arith)
   line_kind (Values left) (at_value lt less) = in_values lt ∙ get_or-replicate v (i - (t + 1)) ValueRow TailKind (omega arith)
+  line_kind a h = elim h [ ]
 
 left_kind : (rows : List Row) (o : Option Piece) → option_map_or piece_awaits o (rows_await rows) ≡ kind_of (left_after rows o)
 left_kind rows None = rows_kind rows

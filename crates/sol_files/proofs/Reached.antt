@@ -8,7 +8,7 @@ use Rattle.texts.specs.Words.{row_of}
 use Rattle.texts.specs.Cut.{IsTextLine}
 use Rattle.texts.proofs.JudgedLemmas.{clean_none, clean_last, clean_more}
 use Rattle.sol_files.specs.declared.awaited.Awaited.{Awaited}
-use Rattle.sol_files.specs.declared.awaited.Awaited.TheVariants.{Message, OptionCount, Options, Constraints, DualCount, Variables, PrimalCount, Duals, Primals, Tail, Name, Table, Values}
+use Rattle.sol_files.specs.declared.awaited.Awaited.TheVariants.{Message, OptionCount, Name, Table}
 use Rattle.std.specs.Prelude.{codes}
 use Rattle.exact_numbers.specs.Numbers.{whole_of}
 use Rattle.sol_files.specs.Sol.{Sol}
@@ -66,18 +66,9 @@ pub record AreWords (words : Row) : Type 0 where
 pub plain_tests : (a : Awaited) (s : Standing) (line : List ℕ) → is_plain a ≡ true → row_line_tests (kind_of a) s (row_of line) ≡ line_tests_at (kind_of a) s line
 unfolding line_tests_at
 plain_tests Message s line e = absurd cc
-plain_tests OptionCount s line e = refl
-plain_tests (Options left) s line e = refl
-plain_tests Constraints s line e = refl
-plain_tests DualCount s line e = refl
-plain_tests Variables s line e = refl
-plain_tests PrimalCount s line e = refl
-plain_tests (Duals left) s line e = refl
-plain_tests (Primals left) s line e = refl
-plain_tests Tail s line e = refl
 plain_tests (Name head) s line e = absurd cc
 plain_tests (Table tables values) s line e = absurd cc
-plain_tests (Values left) s line e = refl
+plain_tests a s line e = refl
 
 pub reached_row : (lines : List (List ℕ)) (s t : Progress) (words : Row) → IsReached lines s → is_plain s.awaited ≡ true → AreWords words → first_reason (row_tests (kind_of s.awaited) (seen s) words) ≡ None → after_row s.awaited s words ≡ t
     → IsReached (lines ++ spaced words ∷ []) t

@@ -10,7 +10,7 @@ use Rattle.std.proofs.lemmas.List.Sums.{fold_push, sum_by-cons}
 use Rattle.texts.specs.Words.{row_of, begins}
 use Rattle.exact_numbers.specs.Numbers.{whole_of}
 use Rattle.sol_files.specs.declared.awaited.Awaited.{Awaited}
-use Rattle.sol_files.specs.declared.awaited.Awaited.TheVariants.{Message, OptionCount, Options, Constraints, DualCount, Variables, PrimalCount, Duals, Primals, Tail, Name, Table, Values}
+use Rattle.sol_files.specs.declared.awaited.Awaited.TheVariants.{Message, Tail, Name, Table, Values}
 use Rattle.sol_files.specs.declared.suffix.SolSuffix.{SolSuffix}
 use Rattle.sol_files.specs.Sol.{Sol}
 use Rattle.sol_files.specs.Rows.{Row}
@@ -51,48 +51,19 @@ is_plain a = true
 pub plain_after : (a : Awaited) (s : Progress) (line : List ℕ) → is_plain a ≡ true → after_row_line a s (row_of line) ≡ after_at a s line
 unfolding after_at
 plain_after Message s line e = absurd cc
-plain_after OptionCount s line e = refl
-plain_after (Options left) s line e = refl
-plain_after Constraints s line e = refl
-plain_after DualCount s line e = refl
-plain_after Variables s line e = refl
-plain_after PrimalCount s line e = refl
-plain_after (Duals left) s line e = refl
-plain_after (Primals left) s line e = refl
-plain_after Tail s line e = refl
 plain_after (Name head) s line e = absurd cc
 plain_after (Table tables values) s line e = absurd cc
-plain_after (Values left) s line e = refl
+plain_after a s line e = refl
 
 plain_raw : (a : Awaited) → is_plain a ≡ true → is_raw (kind_of a) ≡ false
 plain_raw Message e = refl
-plain_raw OptionCount e = refl
-plain_raw (Options left) e = refl
-plain_raw Constraints e = refl
-plain_raw DualCount e = refl
-plain_raw Variables e = refl
-plain_raw PrimalCount e = refl
-plain_raw (Duals left) e = refl
-plain_raw (Primals left) e = refl
-plain_raw Tail e = refl
 plain_raw (Name head) e = absurd cc
 plain_raw (Table tables values) e = absurd cc
-plain_raw (Values left) e = refl
+plain_raw a e = refl
 
 pub tail_is : (a : Awaited) → is_tail (kind_of a) ≡ true → a ≡ Tail
-tail_is Message e = absurd cc
-tail_is OptionCount e = absurd cc
-tail_is (Options left) e = absurd cc
-tail_is Constraints e = absurd cc
-tail_is DualCount e = absurd cc
-tail_is Variables e = absurd cc
-tail_is PrimalCount e = absurd cc
-tail_is (Duals left) e = absurd cc
-tail_is (Primals left) e = absurd cc
 tail_is Tail e = refl
-tail_is (Name head) e = absurd cc
-tail_is (Table tables values) e = absurd cc
-tail_is (Values left) e = absurd cc
+tail_is a e = absurd cc
 
 tail_suffix : (s : Progress) (row : Row) → begins row (codes "suffix") ≡ true → after_row Tail s row ≡ after_suffix_head s row
 unfolding after_row
@@ -116,18 +87,9 @@ plain_step message b line a plain row = by (length (row_of line) == 0) refl (is_
 
 rows_plain : (k d p i : ℕ) (a : Awaited) → Place k d p i a → is_plain a ≡ true
 rows_plain k d p i Message h = elim h [ ]
-rows_plain k d p i OptionCount h = refl
-rows_plain k d p i (Options left) h = refl
-rows_plain k d p i Constraints h = refl
-rows_plain k d p i DualCount h = refl
-rows_plain k d p i Variables h = refl
-rows_plain k d p i PrimalCount h = refl
-rows_plain k d p i (Duals left) h = refl
-rows_plain k d p i (Primals left) h = refl
-rows_plain k d p i Tail h = refl
 rows_plain k d p i (Name head) h = elim h [ ]
 rows_plain k d p i (Table tables values) h = elim h [ ]
-rows_plain k d p i (Values left) h = elim h [ ]
+rows_plain k d p i a h = refl
 
 step_of_rows : (message : List (List ℕ)) (rows : List Row) (line : List ℕ) → met message (with_line (record { rows = rows; pieces = [] }) line) ≡ after (met message (record { rows = rows; pieces = [] })) line
 unfolding met
@@ -171,19 +133,11 @@ module _ (message : List (List ℕ)) (rows : List Row) (front : List Piece) (hea
   over_row (text ∷ lines) le e = ap (met message) (to_last (text ∷ lines)) ∙ over message rows front head line text lines le ∙ sym (past_tail (text ∷ lines) e)
 
   step_by : (lines : List (List ℕ)) (a : Awaited) → LinePlace (head_in head) (length lines) a → Steps message (body lines) line a
-  step_by lines Message h = elim h [ ]
-  step_by lines OptionCount h = elim h [ ]
-  step_by lines (Options left) h = elim h [ ]
-  step_by lines Constraints h = elim h [ ]
-  step_by lines DualCount h = elim h [ ]
-  step_by lines Variables h = elim h [ ]
-  step_by lines PrimalCount h = elim h [ ]
-  step_by lines (Duals left) h = elim h [ ]
-  step_by lines (Primals left) h = elim h [ ]
   step_by lines Tail (at_end le) = plain_step message (body lines) line Tail refl (λ tail. over_row lines le (tail refl))
   step_by lines (Name x) (at_name z) = step_named lines z
   step_by lines (Table x y) (at_table lt le) = step_tabled lines lt le
   step_by lines (Values x) (at_value lt less) = plain_step message (body lines) line (Values x) refl (λ tail. valued_row lines lt less)
+  step_by lines a h = elim h [ ]
 
   step_of_piece : (lines : List (List ℕ)) → met message (with_line (body lines) line) ≡ after (met message (body lines)) line
   unfolding met
