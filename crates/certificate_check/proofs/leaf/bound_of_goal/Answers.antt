@@ -1,13 +1,18 @@
-use Rattle.std.proofs.Common.{◌∙◌, ap, length}
-use Rattle.linear_programs.specs.Linear.{Form, row_count}
+use Rattle.std.proofs.Common.{◌∙◌, ap, length, sym}
+use Rattle.linear_programs.specs.Linear.{Form, row_count, value_at}
 use Rattle.duality.specs.Verdict.{row_side_missing}
 use Rattle.exact_numbers.specs.Values.{frac_value}
 use Rattle.certificates.specs.Certificates.{spread}
 use Rattle.certificate_check.specs.Answers.{bound_answer_of}
 use Rattle.certificate_check.specs.Programs.{bounds_in}
-use Rattle.certificate_check.specs.Sums.{cost_count, cost_in, sum_in}
-use Rattle.certificate_check.proofs.LeafLemmas.{bound_is, side_lacks}
+use Rattle.certificate_check.specs.Sums.{cost_count, cost_in, sum_at, sum_value}
+use Rattle.certificate_check.specs.Terms.{value_found}
+use Rattle.certificate_check.proofs.LeafLemmas.{bound_is, by_parts, side_lacks}
+use Rattle.certificate_check.proofs.Rows.{variables_counted}
 use Rattle.certificate_check.proofs.leaf.bound_of_goal.Goals as goal
+
+pub begin-requires-clause-count : goal.begin-requires-clause-count
+begin-requires-clause-count c = c.requires.count ∙ sym (variables_counted c.args.columns.now) ∙ sym c.n_var.ensures
 
 pub returns-in-Some-clause-exact : goal.returns-in-Some-clause-exact
 returns-in-Some-clause-exact c f held goal = side_lacks f (bounds_in c.args.lo.now c.args.hi.now) (spread (row_count f) c.args.pairs.now) (row_side_missing c.in-Some.row) (c.in-Some.ensures f held goal.sense)
@@ -15,8 +20,9 @@ returns-in-Some-clause-exact c f held goal = side_lacks f (bounds_in c.args.lo.n
 pub returns-clause-exact : goal.returns-clause-exact
 returns-clause-exact c f held goal =
     bound_is c.args.columns.now c.args.planes.now f held c.args.maximise (frac_value c.args.constant) c.args.terms.now goal (bounds_in c.args.lo.now c.args.hi.now) c.args.pairs.now
-    (cost_in c.begin.new.self) (cost_in c.order.new.self) (cost_count c.order.new.self) (bound_answer_of c.bound_of_costs-verdict.result)
+    (cost_in c.begin.new.self) (cost_in c.order.new.self) (cost_count c.order.new.self) (bound_answer_of c.bound-verdict.result)
     c.requires.pairs (c.in_default.ensures f held goal.sense) c.in_ok-begin.ensures.costs
-    (λ j. ap (λ v. sum_in v.items j) c.order.ensures.sums ∙ c.in_ok-take_rows.ensures.costs f held j)
+    (λ j. ap (λ v. sum_value (sum_at v.items j)) c.order.ensures.sums ∙ c.in_ok-take_rows.ensures.costs f held j)
     (ap (λ v. length v.items) c.order.ensures.sums ∙ c.in_ok-take_rows.ensures.count ∙ c.in_ok-begin.ensures.count ∙ c.requires.count)
-    (c.bound_of_costs-verdict.ensures f held goal.sense (ap (λ (g : Form). g.constant) goal.sum))
+    (by_parts f (bounds_in c.args.lo.now c.args.hi.now) (value_at (spread (row_count f) c.args.pairs.now)) (cost_in c.order.new.self) (cost_count c.order.new.self) c.args.maximise (frac_value c.args.constant) (value_found c.rows_total-start.result) (bound_answer_of c.bound-verdict.result)
+    goal.sense (ap (λ (g : Form). g.constant) goal.sum) (c.rows_total-start.ensures f held goal.sense) c.bound-verdict.ensures)
