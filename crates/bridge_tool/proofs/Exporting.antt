@@ -17,7 +17,6 @@ use Rattle.nl_lines.specs.declared.fault.NlFault.{NlFault}
 use Rattle.scaling.specs.Exported.{exported_as}
 use Rattle.scaling.specs.Scaled.{ScaledValue}
 use Rattle.bridge_tool.specs.Export.{ExportsAs, IsExportMeant, IsExported, export_told}
-use Rattle.bridge_tool.specs.InsideExport.{IsTextOf}
 use Rattle.bridge_tool.specs.NlTold.{nl_line}
 use Rattle.bridge_tool.specs.Outcome.{Done, NoText, Refused}
 use Rattle.bridge_tool.specs.Refusal.{HasTextRefusal}
@@ -103,8 +102,8 @@ export_last k = record {
 }
 
 -- what was folded, scaled and written
-pub exported_so : (nl : NlValue) (k : ℕ) (l : LinearValue) (s : ScaledValue) (bytes : List ℕ) → HasFolded nl k l → HasScaled (linear_value l) s → IsTextOf bytes (exported_as s) → IsExported nl k bytes
-exported_so nl k l s bytes folds scales t = record { program = exported_as s; staged = staged_so nl k l folds s scales; exports = exports_so nl k l folds s scales; written = t.text }
+pub exported_so : (nl : NlValue) (k : ℕ) (l : LinearValue) (s : ScaledValue) (bytes : List ℕ) → HasFolded nl k l → HasScaled (linear_value l) s → bytes ≡ mps_text_by value_text (exported_as s) → IsExported nl k bytes
+exported_so nl k l s bytes folds scales written = record { program = exported_as s; staged = staged_so nl k l folds s scales; exports = exports_so nl k l folds s scales; written = written }
 
 -- ---- by the text alone
 

@@ -8,13 +8,6 @@ use Rattle.mps_model.specs.Text.{mps_text_by}
 use Rattle.mps_model.specs.Valid.{IsMps}
 use Rattle.name_files.specs.Renamed.{named}
 
--- the bytes are the written text of this program, whose values are those of a whole decimal program
-pub record IsTextOf (bytes : List ℕ) (program : Mps ℚ) : Type 0 where
-  pub decimal : Mps Dec
-  pub valid : IsMps dec_value decimal
-  pub values : with_values dec_value decimal ≡ program
-  pub text : bytes ≡ mps_text_by value_text program
-
 -- The bytes are the written text of a program with these names. Its values are those of a decimal
 -- program, which is whole with these names too.
 pub record IsNamedTextOf (bytes : List ℕ) (program : Mps ℚ)

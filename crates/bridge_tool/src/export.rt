@@ -1,31 +1,28 @@
 // The command export: from the text of a file to the text of its program, or to the line to tell.
 ghost use Rattle.std.specs.Prelude.{◌≡◌, ◌≢◌, ◌+◌, ◌≤◌, IfOk};
+ghost use Rattle.exact_numbers.specs.Values.{value_text};
+ghost use Rattle.mps_model.specs.Text.{mps_text_by};
 ghost use Rattle.nl_segments.specs.Reader.{HasLines, value_of};
 ghost use Rattle.scaling.specs.Exported.{exported_as};
 ghost use Rattle.bridge_tool.specs.InsideAnswer.{IsWorked, status_of};
 ghost use Rattle.bridge_tool.specs.Export.{ExportsAs, IsExportMeant, export_promise};
-ghost use Rattle.bridge_tool.specs.InsideExport.{IsTextOf};
 ghost use Rattle.bridge_tool.specs.SeveralFiles.{Comes};
 ghost use Rattle.bridge_tool.specs.Stages.{fold_steps};
 
 use crate::answer::Answer;
 use crate::nl_input::open_nl;
 use crate::one_file::end;
-use crate::stages::{exported, fold_read, scale};
-use mps_writer::write_mps;
+use crate::stages::{fold_read, scale};
 use nl_segments::NlRead;
-use row_scaling::Scaled;
+use row_scaling::{Scaled, write_exported};
 use std::alloc::{AllocError, Global};
 use text_base::{Desk, Ledger, Steps, Stop};
 
 // The written text of the program of a scaled one.
 fn write_program(alloc: Global, scaled: Scaled) -> Result<Vec<u8>, AllocError>
-    ensures { IfOk result (λ out. IsTextOf out.items (exported_as scaled)) }
+    ensures { IfOk result (λ out. out.items ≡ mps_text_by value_text (exported_as scaled)) }
 {
-    let mps = exported(alloc, scaled)?;
-    let _ = mps.rows();
-    let out = write_mps(alloc, &mps)?;
-    Ok(out)
+    write_exported(alloc, &scaled)
 }
 
 // The bytes to write for a file, or the line to tell.

@@ -44,29 +44,29 @@ entry_written rows names word row ts i t out0 out1 out2 h is same found first se
     ∙ map-append line (map entry_of (take i ts)) (entry_of t ∷ []) in
     line_after out0 out1 out2 (map line (map entry_of (take i ts))) (line (entry_of t)) first now ∙ ap (λ ls. out0 ++ lines_text ls) (sym more)
 
-module _ (rows : List MpsRow) (cols : List (Column Dec)) (before : Bool) (i index : ℕ) where
-  pub column_written : (c : Column Dec) (out0 out1 out2 total word : List ℕ) (ts : List (Entry Dec)) (marked next : Bool) (n : ℕ) → index < length cols → c ≡ get_or cols index c →
-      out0 ++ lines_text (column_lines text_of rows before i (drop index cols)) ≡ total →
+module _ {V : Type 0} (text : V → List ℕ) (rows : List MpsRow) (cols : List (Column V)) (before : Bool) (i index : ℕ) where
+  pub column_written : (c : Column V) (out0 out1 out2 total word : List ℕ) (ts : List (Entry V)) (marked next : Bool) (n : ℕ) → index < length cols → c ≡ get_or cols index c →
+      out0 ++ lines_text (column_lines text rows before i (drop index cols)) ≡ total →
       marked ≡ c.marked → next ≡ c.marked → word ≡ c.name → ts ≡ c.entries → n ≡ markers_after before marked i →
-      out1 ≡ out0 ++ lines_text (change_lines before marked i) → out2 ≡ out1 ++ lines_text (entry_lines text_of rows word ts) →
-      out2 ++ lines_text (column_lines text_of rows next n (drop (index + 1) cols)) ≡ total
+      out1 ≡ out0 ++ lines_text (change_lines before marked i) → out2 ≡ out1 ++ lines_text (entry_lines text rows word ts) →
+      out2 ++ lines_text (column_lines text rows next n (drop (index + 1) cols)) ≡ total
   unfolding column_lines
   column_written c out0 out1 out2 total word ts marked next n h is start m m2 w t k first second =
-      let rest = column_lines text_of rows c.marked (markers_after before c.marked i) (drop (suc index) cols) in
+      let rest = column_lines text rows c.marked (markers_after before c.marked i) (drop (suc index) cols) in
       let change = change_lines before c.marked i in
-      let lines = entry_lines text_of rows c.name c.entries in
+      let lines = entry_lines text rows c.name c.entries in
       let split : drop index cols ≡ c ∷ drop (suc index) cols = drop-cons cols index c h ∙ ap (λ x. x ∷ drop (suc index) cols) (sym is) in
       let now : out2 ≡ out0 ++ lines_text (change ++ lines) =
-      lines_after out0 out1 out2 change lines (first ∙ ap (λ b. out0 ++ lines_text (change_lines before b i)) m) (second ∙ ap₂ (λ w es. out1 ++ lines_text (entry_lines text_of rows w es)) w t) in
-      let after : column_lines text_of rows next n (drop (index + 1) cols) ≡ rest =
-      ap (λ x. column_lines text_of rows next n (drop x cols)) (add-one index) ∙ ap₂ (λ b x. column_lines text_of rows b x (drop (suc index) cols)) m2 (k ∙ ap (λ b. markers_after before b i) m) in
-      ap (λ ls. out2 ++ lines_text ls) after ∙ rest_written out0 out2 total (change ++ lines) rest (ap (λ cs. out0 ++ lines_text (column_lines text_of rows before i cs)) (sym split) ∙ start) now
+      lines_after out0 out1 out2 change lines (first ∙ ap (λ b. out0 ++ lines_text (change_lines before b i)) m) (second ∙ ap₂ (λ w es. out1 ++ lines_text (entry_lines text rows w es)) w t) in
+      let after : column_lines text rows next n (drop (index + 1) cols) ≡ rest =
+      ap (λ x. column_lines text rows next n (drop x cols)) (add-one index) ∙ ap₂ (λ b x. column_lines text rows b x (drop (suc index) cols)) m2 (k ∙ ap (λ b. markers_after before b i) m) in
+      ap (λ ls. out2 ++ lines_text ls) after ∙ rest_written out0 out2 total (change ++ lines) rest (ap (λ cs. out0 ++ lines_text (column_lines text rows before i cs)) (sym split) ∙ start) now
 
-pub last_change : (rows : List MpsRow) (before : Bool) (i : ℕ) (cols : List (Column Dec)) (index : ℕ) (out0 out1 total : List ℕ) → length cols ≤ index →
-    out0 ++ lines_text (column_lines text_of rows before i (drop index cols)) ≡ total → out1 ≡ out0 ++ lines_text (change_lines before false i) → out1 ≡ total
-unfolding column_lines
-last_change rows before i cols index out0 out1 total h start last =
-    last ∙ sym (ap (λ cs. out0 ++ lines_text (column_lines text_of rows before i cs)) (drop_all index cols h)) ∙ start
+  pub last_change : (out0 out1 total : List ℕ) → length cols ≤ index →
+      out0 ++ lines_text (column_lines text rows before i (drop index cols)) ≡ total → out1 ≡ out0 ++ lines_text (change_lines before false i) → out1 ≡ total
+  unfolding column_lines
+  last_change out0 out1 total h start last =
+      last ∙ sym (ap (λ cs. out0 ++ lines_text (column_lines text rows before i cs)) (drop_all index cols h)) ∙ start
 
 pub column_rows : (n : ℕ) (cols : List (Column Dec)) (index : ℕ) (c : Column Dec) (ts : List (ℕ × Dec)) → index < length cols → AreColumns n cols → c ≡ get_or cols index c →
     map entry_of ts ≡ c.entries → All (λ t. t.0 < n) ts

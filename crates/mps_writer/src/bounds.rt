@@ -66,9 +66,9 @@ fn put_long_bound(
     put_end(out)
 }
 
-// A line of a bound; FR, MI, PL and BV stand without their value. With a name of at most 32 bytes
-// the line is appended whole.
-fn put_bound(
+/// Writes the line of a bound; FR, MI, PL and BV stand without their value. With a name of at most
+/// 32 bytes it is appended whole.
+pub fn put_bound(
     out: &mut Vec<u8>,
     column: &[u8],
     kind: BoundKind,

@@ -23,9 +23,9 @@ fn put_marker(out: &mut Vec<u8>, i: u32, word: &[u8]) -> Result<(), AllocError>
     put_end(out)
 }
 
-// The marker line between two columns, where one is marked and the other is not; answers the number
-// of marker lines so far.
-fn put_change(
+/// Writes the marker line between two columns, where one is marked and the other is not. Answers the
+/// number of marker lines so far.
+pub fn put_change(
     out: &mut Vec<u8>,
     before: bool,
     marked: bool,

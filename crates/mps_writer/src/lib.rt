@@ -11,8 +11,11 @@ mod bounds;
 mod columns;
 mod lines;
 
+pub use bounds::put_bound;
 use bounds::put_bounds;
+pub use columns::put_change;
 use columns::put_columns;
+pub use lines::put_entry;
 use lines::{put_ranges, put_rhs};
 use mps_model::{Mps, MpsRow, RowKind};
 use std::alloc::{AllocError, Global};
@@ -30,8 +33,8 @@ fn put_name(out: &mut Vec<u8>, mps: &Mps) -> Result<(), AllocError>
     Ok(())
 }
 
-// The sense where the objective is maximised; nothing where it is minimised.
-fn put_sense(out: &mut Vec<u8>, maximise: bool) -> Result<(), AllocError>
+/// Writes the sense where the objective is maximised; nothing where it is minimised.
+pub fn put_sense(out: &mut Vec<u8>, maximise: bool) -> Result<(), AllocError>
     ensures { OnOk result (out.new.items ≡ out.old.items ++ lines_text (sense_lines maximise)) }
 {
     if maximise {
@@ -54,26 +57,27 @@ fn row_front(kind: RowKind) -> &'static [u8]
 }
 
 // The same word by word, for names of any length.
-fn put_long_row(out: &mut Vec<u8>, row: &MpsRow) -> Result<(), AllocError>
-    ensures { OnOk result (out.new.items ≡ out.old.items ++ line_text (row_line row.now)) }
+fn put_long_row(out: &mut Vec<u8>, name: &[u8], kind: RowKind) -> Result<(), AllocError>
+    ensures { OnOk result (out.new.items ≡ out.old.items ++ line_text
+        (row_line (record { name = name.now; kind = kind }))) }
 {
-    put(out, row_front(row.kind))?;
-    put(out, row.name.bytes())?;
+    put(out, row_front(kind))?;
+    put(out, name)?;
     put_end(out)
 }
 
-// A line of a row; with a name of at most 64 bytes it is appended whole.
-fn put_row(out: &mut Vec<u8>, row: &MpsRow) -> Result<(), AllocError>
-    ensures { OnOk result (out.new.items ≡ out.old.items ++ line_text (row_line row.now)) }
+/// Writes the line of a row. With a name of at most 64 bytes it is appended whole.
+pub fn put_row(out: &mut Vec<u8>, name: &[u8], kind: RowKind) -> Result<(), AllocError>
+    ensures { OnOk result (out.new.items ≡ out.old.items ++ line_text
+        (row_line (record { name = name.now; kind = kind }))) }
 {
-    let name = row.name.bytes();
     if name.len() > 64 {
-        return put_long_row(out, row);
+        return put_long_row(out, name, kind);
     }
     let mut line = LineText::new();
     line.put_byte(b'\n');
     line.put_word(name);
-    line.put_word(row_front(row.kind));
+    line.put_word(row_front(kind));
     put(out, line.bytes())
 }
 
@@ -81,7 +85,7 @@ fn put_row_lines(out: &mut Vec<u8>, rows: &[MpsRow]) -> Result<(), AllocError>
     ensures { OnOk result (out.new.items ≡ out.old.items ++ lines_text (map row_line rows.now)) }
 {
     for row in rows {
-        put_row(out, row)?;
+        put_row(out, row.name.bytes(), row.kind)?;
     }
     Ok(())
 }

@@ -21,14 +21,9 @@ fn put_long_entry(out: &mut Vec<u8>, word: &[u8], row: &[u8], value: Dec) -> Res
     put_end(out)
 }
 
-// A word, the name of a row, and a number; with names of at most 32 bytes the line has at most 128
-// and is appended whole.
-pub(crate) fn put_entry(
-    out: &mut Vec<u8>,
-    word: &[u8],
-    row: &[u8],
-    value: Dec,
-) -> Result<(), AllocError>
+/// Writes a line of a word, the name of a row, and a number. With names of at most 32 bytes the line
+/// has at most 128 and is appended whole.
+pub fn put_entry(out: &mut Vec<u8>, word: &[u8], row: &[u8], value: Dec) -> Result<(), AllocError>
     ensures { OnOk result (out.new.items
         ≡ out.old.items ++ line_text (indented (word.now ∷ row.now ∷ text_of value ∷ []))) }
 {

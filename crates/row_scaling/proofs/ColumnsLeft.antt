@@ -70,11 +70,11 @@ entries_or_zero : (ts : List TermOf) (z : Dec) → dec_value z ≡ zero_ℚ → 
 entries_or_zero [] z e = ap (λ v. record { row = 0; value = v } ∷ []) e
 entries_or_zero (t ∷ ts) z e = ap (λ es. entry_value t ∷ es) (values_of_entries ts)
 
-columns_more : (o : Form) (rows : List ScaledRow) (j : ℕ) (v : Variable) (vs : List Variable) → columns_of o rows j (v ∷ vs) ≡ record { name = v.name; marked = v.whole; entries = column_entries o rows j } ∷ columns_of o rows (j + 1) vs
+pub columns_more : (o : Form) (rows : List ScaledRow) (j : ℕ) (v : Variable) (vs : List Variable) → columns_of o rows j (v ∷ vs) ≡ record { name = v.name; marked = v.whole; entries = column_entries o rows j } ∷ columns_of o rows (j + 1) vs
 unfolding columns_of
 columns_more o rows j v vs = ap (λ n. record { name = v.name; marked = v.whole; entries = column_entries o rows j } ∷ columns_of o rows n vs) (sym (add-one j))
 
-columns_none : (o : Form) (rows : List ScaledRow) (j : ℕ) → columns_of o rows j [] ≡ []
+pub columns_none : (o : Form) (rows : List ScaledRow) (j : ℕ) → columns_of o rows j [] ≡ []
 unfolding columns_of
 columns_none o rows j = refl
 

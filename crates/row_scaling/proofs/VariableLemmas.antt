@@ -41,11 +41,11 @@ pub left_end : (s : ScaledValue) (j : ℕ) → j ≡ length s.bounds → left_va
 left_end s j e = ap (λ bs. variables_from j bs (drop j s.kinds) ++ tied_variables s.tie) (drop_all j s.bounds (omega (arith, e)))
 
 -- ---- bounds
-bounds_more : (j : ℕ) (v : Variable) (vs : List Variable) → bounds_of j (v ∷ vs) ≡ column_bounds j v.bound.lower v.bound.upper ++ bounds_of (j + 1) vs
+pub bounds_more : (j : ℕ) (v : Variable) (vs : List Variable) → bounds_of j (v ∷ vs) ≡ column_bounds j v.bound.lower v.bound.upper ++ bounds_of (j + 1) vs
 unfolding bounds_of
 bounds_more j v vs = ap (λ n. column_bounds j v.bound.lower v.bound.upper ++ bounds_of n vs) (sym (add-one j))
 
-bounds_none : (j : ℕ) → bounds_of j [] ≡ []
+pub bounds_none : (j : ℕ) → bounds_of j [] ≡ []
 unfolding bounds_of
 bounds_none j = refl
 

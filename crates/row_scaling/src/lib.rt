@@ -1,15 +1,21 @@
-// Rows and an objective times their factors, and the program that they are exported as.
+// Rows and an objective times their factors, the program that they are exported as, and its text.
 #![tactic(auto)]
 
 mod batches;
+mod bound_lines;
 mod bounds;
+mod column_lines;
 mod columns;
 mod export;
 mod names;
 mod numbers;
 mod program_columns;
+mod row_lines;
 mod rows;
+mod side_lines;
 mod sides;
+mod written;
 
 pub use export::program;
 pub use scaling::{FactoredRow, ScaleFault, Scaled, ScaledObjective, ScaledRow, Tie, scale_rows};
+pub use written::write_exported;

@@ -1,14 +1,62 @@
 // The names of rows and columns.
-ghost use Rattle.std.specs.Prelude.{◌≡◌, ◌≤◌, ◌∷◌, IfOk};
+ghost use Rattle.std.specs.Prelude.{◌≡◌, ◌≤◌, ◌∷◌, length, IfOk};
 ghost use Rattle.std.specs.Fmt.{decimal};
 ghost use Rattle.texts.specs.Names.{IsName};
 
 use itoa::write_digits;
 use std::alloc::{AllocError, Global};
+use std::marker::Model;
 use texts::Name;
 
 // A letter and the digits of 32 bits have no more bytes.
 const LONGEST: usize = 11;
+
+/// A name of at most 11 bytes, without memory of its own. They stand at the end of the array.
+#[derive(Drop)]
+pub(crate) struct ShortName {
+    bytes: [u8; 11],
+    start: usize,
+}
+
+impl Model for ShortName {
+    ghost use Rattle.std.specs.Prelude.{ℕ, List, drop, ◌≤◌};
+
+    ghost Value = { List ℕ };
+
+    ghost view = { λ n. drop n.start n.bytes };
+
+    ghost invariant = { λ n. n.start ≤ 11 };
+}
+
+impl ShortName {
+    /// A letter and a number. Its bytes are made from the last digit on.
+    pub(crate) fn numbered(letter: u8, number: u32) -> ShortName
+        ensures { result ≡ letter ∷ decimal number }
+    {
+        let mut bytes = [0u8; LONGEST];
+        let digits = write_digits(number as u64, &mut bytes, LONGEST);
+        let start = digits - 1;
+        bytes[start] = letter;
+        ShortName { bytes, start }
+    }
+
+    /// A short word.
+    pub(crate) fn word(text: &[u8]) -> ShortName
+        requires { length text.now ≤ 11 }
+        ensures { result ≡ text.now }
+    {
+        let mut bytes = [0u8; LONGEST];
+        let start = LONGEST - text.len();
+        bytes[start..].copy_from_slice(text);
+        ShortName { bytes, start }
+    }
+
+    pub(crate) fn bytes(&self) -> &[u8]
+        ensures { result.now ≡ self.now }
+    {
+        &self.bytes[self.start..]
+    }
+}
 
 // The name with these bytes.
 pub(crate) fn name_of(alloc: Global, text: &[u8]) -> Result<Name, AllocError>
@@ -18,14 +66,11 @@ pub(crate) fn name_of(alloc: Global, text: &[u8]) -> Result<Name, AllocError>
     Name::tested(alloc, text)
 }
 
-// The name of a letter and a number. Its bytes are made in an array, from the last digit on.
+// The name of a letter and a number.
 pub(crate) fn numbered_name(alloc: Global, letter: u8, number: u32) -> Result<Name, AllocError>
     requires { 33 ≤ letter }
     ensures { IfOk result (λ name. name ≡ letter ∷ decimal number) }
 {
-    let mut bytes = [0u8; LONGEST];
-    let digits = write_digits(number as u64, &mut bytes, LONGEST);
-    let start = digits - 1;
-    bytes[start] = letter;
-    Name::tested(alloc, &bytes[start..])
+    let name = ShortName::numbered(letter, number);
+    Name::tested(alloc, name.bytes())
 }

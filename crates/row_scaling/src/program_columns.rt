@@ -19,7 +19,7 @@ use std::alloc::{AllocError, Global};
 use texts::Name;
 
 // Whether a variable of this kind is whole.
-fn is_whole(kind: Kind) -> bool
+pub(crate) fn is_whole(kind: Kind) -> bool
     ensures { result ≡ is_whole_kind kind }
 {
     match kind {

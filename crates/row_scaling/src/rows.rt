@@ -13,7 +13,7 @@ use scaling::{FactoredRow, Scaled, ScaledRow};
 use std::alloc::{AllocError, Global};
 
 // E where both sides are there and do not differ, G with a range where they do.
-fn kind_of(row: &ScaledRow) -> RowKind
+pub(crate) fn kind_of(row: &ScaledRow) -> RowKind
     ensures { result ≡ kind_of (side_value row.now.side.lo) (side_value row.now.side.hi) }
 {
     match (row.side.lo, row.side.hi) {

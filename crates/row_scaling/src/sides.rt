@@ -16,7 +16,7 @@ use scaling::{FactoredRow, Scaled, ScaledRow};
 use std::alloc::AllocError;
 
 // The lower side, or else the upper one, but none where it is 0.
-fn right_side(row: &ScaledRow) -> Option<Dec>
+pub(crate) fn right_side(row: &ScaledRow) -> Option<Dec>
     ensures { side_value result
         ≡ nonzero (rhs_of (side_value row.now.side.lo) (side_value row.now.side.hi)) }
 {

@@ -1,0 +1,61 @@
+-- The program of a scaled linear program, section by section, and the lines of its rows.
+use Rattle.std.specs.Prelude.{ℕ, Bool, List, [], ◌∷◌, drop, map, codes, Option, Some, None}
+use Rattle.fractions.specs.Rational.{ℚ, neg_ℚ}
+use Rattle.exact_numbers.specs.Values.{value_text}
+use Rattle.written_texts.specs.Lines.{Line, indented}
+use Rattle.mps_model.specs.Mps.{MpsRow, Entry, Column, Bound}
+use Rattle.mps_model.specs.declared.kinds.RowKind.TheVariants.{N}
+use Rattle.mps_model.specs.Text.{bound_text, column_lines, row_line, value_words}
+use Rattle.exported_program.specs.Program.{ScaledRow, bounds_of, columns_of, entries_of, mps_row, nonzero, obj_name, with_entry}
+use Rattle.scaling.specs.Scaled.{ScaledValue}
+use Rattle.scaling.specs.Exported.{program_objective, program_rows, program_variables}
+use Rattle.row_scaling.specs.InsideSides.{range_in, right_side_of}
+
+-- the rows, the objective first
+abbrev pub all_rows : ScaledValue → List MpsRow
+all_rows s = record { name = obj_name; kind = N } ∷ map mps_row (program_rows s)
+
+-- a column for each variable
+abbrev pub all_columns : ScaledValue → List (Column ℚ)
+all_columns s = columns_of (program_objective s) (program_rows s) 0 (program_variables s)
+
+-- minus the objective's constant, and the right sides of the rows
+abbrev pub all_sides : ScaledValue → List (Entry ℚ)
+all_sides s =
+    with_entry 0 (nonzero (neg_ℚ (program_objective s).constant))
+    (entries_of right_side_of 1 (program_rows s))
+
+-- the ranges of the rows
+abbrev pub all_ranges : ScaledValue → List (Entry ℚ)
+all_ranges s = entries_of range_in 1 (program_rows s)
+
+-- the bounds of the variables
+abbrev pub all_bounds : ScaledValue → List (Bound ℚ)
+all_bounds s = bounds_of 0 (program_variables s)
+
+-- ---- lines by name
+-- the line of a row
+abbrev pub row_lines : ScaledRow → List Line
+row_lines r = row_line (mps_row r) ∷ []
+
+-- the line of a value at a name, where there is one
+abbrev pub value_lines : List ℕ → List ℕ → Option ℚ → List Line
+value_lines word name None = []
+value_lines word name (Some v) = indented (word ∷ name ∷ value_text v ∷ []) ∷ []
+
+-- the line of a row's right side, where it has one
+abbrev pub side_lines : ScaledRow → List Line
+side_lines r = value_lines (codes "RHS") r.name (right_side_of r)
+
+-- the line of a row's range, where it has one
+abbrev pub range_lines : ScaledRow → List Line
+range_lines r = value_lines (codes "RNG") r.name (range_in r)
+
+-- the line of a bound of the column of this name
+abbrev pub named_bound : List ℕ → Bound ℚ → Line
+named_bound name b =
+    indented (bound_text b.kind ∷ codes "BND" ∷ name ∷ value_words b.kind (value_text b.value))
+
+-- the lines of the columns from column j on, with i marker lines before them
+abbrev pub lines_from : ScaledValue → Bool → ℕ → ℕ → List Line
+lines_from s before i j = column_lines value_text (all_rows s) before i (drop j (all_columns s))

@@ -1,0 +1,45 @@
+// The lines of the rows.
+ghost use Rattle.std.specs.Prelude.{◌≡◌, ◌≤◌, ◌^◌, ◌++◌, ◌∷◌, length, map, codes, OnOk};
+ghost use Rattle.std.specs.List.{flat_map};
+ghost use Rattle.mps_model.specs.Text.{row_line, section};
+ghost use Rattle.scaling.specs.Exported.{exported_from};
+ghost use Rattle.written_texts.specs.Lines.{lines_text};
+ghost use Rattle.row_scaling.specs.InsideSections.{all_rows, row_lines};
+
+use crate::names::ShortName;
+use crate::rows::kind_of;
+use mps_model::RowKind;
+use mps_writer::put_row;
+use scaling::{FactoredRow, Scaled};
+use std::alloc::AllocError;
+use written_texts::put_line;
+
+fn put_exported_rows(out: &mut Vec<u8>, rows: &[Option<FactoredRow>]) -> Result<(), AllocError>
+    requires { length rows.now ≤ 2 ^ 20 }
+    ensures { OnOk result (out.new.items
+        ≡ out.old.items ++ lines_text (flat_map row_lines (exported_from 0 rows.now))) }
+{
+    for (i, row) in rows.iter().enumerate() {
+        let Some(factored) = row else {
+            continue;
+        };
+        let name = ShortName::numbered(b'c', i as u32);
+        put_row(out, name.bytes(), kind_of(&factored.row))?;
+    }
+    Ok(())
+}
+
+/// Writes the rows, the objective first.
+pub(crate) fn put_rows(out: &mut Vec<u8>, scaled: &Scaled) -> Result<(), AllocError>
+    ensures { OnOk result (out.new.items ≡ out.old.items ++ lines_text
+        (section (codes "ROWS") ∷ map row_line (all_rows scaled.now))) }
+{
+    put_line(out, b"ROWS")?;
+    put_row(out, b"obj", RowKind::N)?;
+    put_exported_rows(out, scaled.rows())?;
+    let Some(_tie) = scaled.tie() else {
+        return Ok(());
+    };
+    put_row(out, b"zdef", RowKind::E)?;
+    Ok(())
+}
