@@ -7,7 +7,7 @@ use linear_fold::{Form, Linear, Pad, Wide, fold_all};
 use mps_writer::write_mps;
 use nl_model::NlFile;
 use nl_segments::read_nl;
-use row_scaling::{program, scale_rows};
+use row_scaling::{program, scale_rows, write_exported};
 use std::alloc::{AllocError, Global};
 use std::marker::Brand;
 use std::test::Fail;
@@ -70,8 +70,12 @@ fn a_multiple_is_added(rt: HostRuntime) -> Result<(), Fail> {
     Ok(())
 }
 
-// The written text of a file with its first objective.
-fn exported<L: Ledger>(alloc: Global, file: &NlFile, blank: Blank) -> Result<Vec<u8>, Fail>
+// The written text of a file with its first objective, by its program and without it.
+fn exported<L: Ledger>(
+    alloc: Global,
+    file: &NlFile,
+    blank: Blank,
+) -> Result<(Vec<u8>, Vec<u8>), Fail>
     requires name { blank.name ≡ L.name }
     requires parts { blank.parts ≡ L.parts }
     requires some { 0 < blank.parts }
@@ -86,11 +90,12 @@ fn exported<L: Ledger>(alloc: Global, file: &NlFile, blank: Blank) -> Result<Vec
         return Err(Fail::from("scaling"));
     };
     let exported = program(alloc, &scaled);
+    let text = write_exported(alloc, &scaled);
     drop(scaled);
     let mps = exported?;
     let out = write_mps(alloc, &mps);
     drop(mps);
-    Ok(out?)
+    Ok((out?, text?))
 }
 
 #[test]
@@ -100,7 +105,9 @@ fn a_file_goes_through_all_stages(rt: HostRuntime) -> Result<(), Fail> {
     };
     let written = exported::<Brand>(rt.alloc(), &read.file, Blank::new(1));
     drop(read);
-    assert_eq!(rt; written?.as_slice(), KNAPSACK_WRITTEN.as_bytes());
+    let (out, text) = written?;
+    assert_eq!(rt; out.as_slice(), KNAPSACK_WRITTEN.as_bytes());
+    assert_eq!(rt; text.as_slice(), KNAPSACK_WRITTEN.as_bytes());
     Ok(())
 }
 
