@@ -53,27 +53,38 @@ P
 ratio() { python3 -c "print(f'{$1 / max($2, 0.001):.2f}')"; }
 bytes_each() { echo $(($1 * 1024 / $2)); }
 
-# The .nl text of so many terms, in a form of generate.py.
+# The .nl text of so many terms, in a form of generate.py: ten a row; wide: as many rows and columns as terms.
 nl_text() {
-    local rows=$(($1 / 10))
-    [ -f "$work/$1.$2.nl" ] || python3 "$here/generate.py" "$work/$1.$2.nl" $((rows < 100000 ? rows : 100000)) "$rows" 10 "$2"
-    echo "$work/$1.$2.nl"
+    local rows=$(($1 / 10)) text=$work/$1.$2.nl
+    if [ -f "$text" ]; then
+        :
+    elif [ "$2" = wide ]; then
+        python3 "$here/generate.py" "$text" "$1" "$1" 1 linear
+    else
+        python3 "$here/generate.py" "$text" $((rows < 100000 ? rows : 100000)) "$rows" 10 "$2"
+    fi
+    echo "$text"
+}
+
+# beside_baseline TERMS FORM: a line of `export` beside asl2mps.
+beside_baseline() {
+    local text seconds peak reading beside other part=-
+    text=$(nl_text "$1" "$2")
+    local words=(0 "$program" export "$text" ::: 2 "$program" export "$text" 1)
+    [ -z "$baseline" ] || words+=(::: 0 "$baseline" "$text")
+    read -r seconds peak reading _ beside other <<<"$(measure "${words[@]}")"
+    if [ -n "$baseline" ]; then
+        part=$(ratio "$seconds" "$beside") other=$(bytes_each "$other" "$1")
+    fi
+    printf '%9s %8s %8s %8s %8s %6s %13s %17s\n' "$1" "$2" "$seconds" "$reading" "${beside:--}" "$part" "$(bytes_each "$peak" "$1")" "${other:--}"
 }
 
 echo "export: processor seconds, best of $RUNS runs; reading is export of an objective that the text has not"
 printf '%9s %8s %8s %8s %8s %6s %13s %17s\n' terms form export reading asl2mps ratio "bytes a term" "asl2mps' bytes"
 for size in "${sizes[@]}"; do
-    text=$(nl_text "$size" linear)
-    words=(0 "$program" export "$text" ::: 2 "$program" export "$text" 1)
-    [ -z "$baseline" ] || words+=(::: 0 "$baseline" "$text")
-    times=$(measure "${words[@]}")
-    read -r seconds peak reading _ beside other <<<"$times"
-    part=-
-    if [ -n "$baseline" ]; then
-        part=$(ratio "$seconds" "$beside") other=$(bytes_each "$other" "$size")
-    fi
-    printf '%9s %8s %8s %8s %8s %6s %13s %17s\n' "$size" linear "$seconds" "$reading" "${beside:--}" "$part" "$(bytes_each "$peak" "$size")" "${other:--}"
+    beside_baseline "$size" linear
 done
+beside_baseline "${sizes[0]}" wide
 for form in list defined; do
     text=$(nl_text "${sizes[0]}" "$form")
     plain=$(nl_text "${sizes[0]}" linear)
