@@ -98,8 +98,7 @@ class SpecFile:
         current: Definition | None = None
         for number, line in enumerate(path.read_text().splitlines(), start=1):
             if found := USE.match(line):
-                if not file.imports:
-                    file.head = comment
+                file.head += comment
                 file.add_imports(found[1].split("."), found[2])
                 comment = []
             elif is_comment(line):
@@ -127,6 +126,15 @@ class SpecFile:
         words = {word for it in found for word in WORD.findall(it.text)}
         others = [(name, *there) for name, there in sorted(self.imports.items()) if name != there[1] and name in words]
         return [f"-- here {name} is {'.'.join(path).removeprefix('Rattle.')}:{own}" for name, path, own in others]
+
+    def types_of_code(self, found: list[Definition]) -> list[str]:
+        """A line for each file of code that declares types which these definitions use."""
+        words = {word for it in found for word in WORD.findall(it.text)}
+        files: dict[str, list[str]] = {}
+        for name, (path, own) in sorted(self.imports.items()):
+            if name in words and path[2:4] == ["specs", "declared"] and not path[-1].startswith("The"):
+                files.setdefault("/".join(["crates", path[1], "src", *path[4:-1]]) + ".rt", []).append(own)
+        return [f"-- {', '.join(sorted(set(names)))} of code: {file}" for file, names in sorted(files.items())]
 
     def begin(self, line: str, number: int, comment: list[str]) -> Definition:
         """The definition that begins at this line; the one of that name, where clauses of it go on."""
@@ -266,6 +274,18 @@ THEOREMS = (
             "What `bridge` answers to any words."),
 )
 
+LEGEND = (
+    "How to read them: `Type 0` is read \"proposition\" or \"kind of thing\". `(x : A) → P x` is for all x, `(x : A) × P",
+    "x` there is an x, `A × B` and, `A ⊎ B` or, `A ↔ B` exactly where, `A → ⊥` and `¬ A` not, `≡` equal, `Unit` true. A",
+    "`record` is all of its fields: each of them holds, or each is a part; `data` lists the forms of a value. `abbrev` and",
+    "`unfoldable` begin a definition (they differ for the prover alone); of several equations the first that fits holds.",
+    "`[]`, `∷`, `++` make lists, `get_or xs j d` is element j, or d; `None` and `Some x` an `Option`, whose missing value",
+    "`option_map` and `option_and_then` pass on; `t.0`, `t.1` are the parts of a pair, `λ x.` begins a function; `◌` is the",
+    "place of an operand; `suc n` is n + 1, `pos n` is n and `negsuc n` is -(n + 1); `-` on ℕ stops at 0, `∣` divides. A text",
+    "is a list of bytes, `List ℕ`. Types that code declares (`specs.declared`) have their parts in `crates/CRATE/src`: those",
+    "of its `ghost Value` where it has one.",
+)
+
 OPENING = (
     "# What to read to believe each theorem",
     "",
@@ -275,12 +295,7 @@ OPENING = (
     "order, in `definitions.txt` beside this page. Who finds that they say what the words mean, and trusts the toolchain,",
     "believes the theorem: no code and no proof need be read.",
     "",
-    "How to read them: `Type 0` is read \"proposition\" or \"kind of thing\". `(x : A) → P x` is for all x, `(x : A) × P",
-    "x` there is an x, `A × B` and, `A ⊎ B` or, `A ↔ B` exactly where, `A → ⊥` not, `≡` equal, `Unit` true. A",
-    "`record` is all of its fields: each of them holds, or each is a part. `abbrev` and `unfoldable` begin a",
-    "definition (they differ for the prover alone). `[]`, `∷`, `++` make lists, `None` and `Some x` an `Option`, `λ",
-    "x.` a function; `◌` is the place of an operand; `-` on ℕ stops at 0. A text is a list of bytes, `List ℕ`. Types",
-    "that code declares (`specs.declared`) say their parts in `crates/CRATE/src`.",
+    *LEGEND,
     "",
     "A value that holds a proof, as a fraction that it is in lowest terms, is made by a lemma. Lemmas stand in files named",
     "`..Lemmas` and are not to be read, since the value's type says all that they give: the last column counts them, and the",
@@ -323,10 +338,11 @@ def lemma_size(statement: Statement, keys: list[Key]) -> str:
 def printed(statement: Statement, roots: list[Key]) -> str:
     """The texts of all definitions, by file."""
     keys = statement.closure(roots)
-    lines = []
+    lines = [*LEGEND, ""]
     for (crate, file), found in statement.by_file(keys).items():
         own = statement.files[crate, file]
-        lines += [f"==== crates/{crate}/specs/{file}.antt: {size_of(found)}", *own.head, *own.other_names(found), ""]
+        lines += [f"==== crates/{crate}/specs/{file}.antt: {size_of(found)}", *own.head, *own.other_names(found)]
+        lines += [*own.types_of_code(found), ""]
         for it in found:
             lines += [*it.comment, *it.lines, ""]
     cited = f"lemmas that they cite, not to be read: {lemma_size(statement, keys)}"
@@ -400,6 +416,8 @@ def main(words: list[str]) -> int:
             found.append(f"{READING.relative_to(TOP)} is not as the definitions are: dev/statement.py --write")
         print("\n".join(found), end="\n" if found else "")
         return 1 if found else 0
+    elif any(word.startswith("-") or ":" not in word for word in words):
+        sys.exit(__doc__)
     else:
         print(printed(statement, [key_of(word) for word in words]))
     return 0

@@ -1,6 +1,6 @@
 -- What names of lists stand for.
-use Rattle.std.proofs.Common.{◌≡◌, ◌∙◌, ℕ, ◌+◌, ◌<◌, Bool, false, cond, List, [], ◌∷◌, length, map, get_or, Option, Some, refl, sym, ap, subst, arith}
-use Rattle.std.specs.Prelude.{option_map, option_and_then, codes}
+use Rattle.std.proofs.Common.{◌≡◌, ◌∙◌, ℕ, ◌<◌, false, cond, List, [], ◌∷◌, length, map, get_or, Some, sym, ap, subst, arith}
+use Rattle.std.specs.Prelude.{option_map, option_and_then}
 use Rattle.std.specs.Str.{bytes_eq}
 use Rattle.std.proofs.lemmas.List.{length-map}
 use Rattle.nl_model.specs.File.{File}
@@ -8,7 +8,6 @@ use Rattle.name_files.specs.Names.{AreNames, is_reserved}
 use Rattle.name_files.specs.Renamed.{index_named}
 use Rattle.texts.proofs.NamePlaces.{bytes_other, bytes_self}
 use Rattle.name_files.proofs.NumeralLemmas.{place_first}
-use Rattle.answer_file.specs.declared.target.Target.{Target}
 use Rattle.answer_file.specs.declared.target.Target.TheVariants.{Tied, Place}
 use Rattle.answer_file.specs.Names.{named_setting, has_side, if_exported, column_target, row_target}
 

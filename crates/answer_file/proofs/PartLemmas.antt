@@ -1,5 +1,5 @@
 -- What taking a line of each kind does to the whole.
-use Rattle.std.proofs.Common.{◌≡◌, ◌∙◌, ℕ, Bool, true, false, cond, eqb, List, length, Option, Some, None, Result, Ok, Err, refl, sym, ap, subst}
+use Rattle.std.proofs.Common.{◌≡◌, ◌∙◌, ℕ, Bool, true, false, cond, eqb, List, length, Option, Some, None, Result, Ok, Err, refl, sym, ap, subst, arith}
 use Rattle.texts.specs.Judged.{Takes, first_reason}
 use Rattle.texts.specs.Names.{is_name}
 use Rattle.texts.specs.Words.{row_of, word_at}
@@ -7,15 +7,15 @@ use Rattle.texts.specs.declared.stop.Stop.{Stop}
 use Rattle.texts.specs.declared.stop.Stop.TheVariants.{Fault, Memory}
 use Rattle.exact_numbers.specs.declared.dec.Dec.{Dec}
 use Rattle.exact_numbers.specs.Numbers.{dec_of}
-use Rattle.nl_model.specs.File.{Suffix}
-use Rattle.std.proofs.lemmas.Bool.{eq-eqb, eqb-true}
+use Rattle.nl_model.specs.declared.suffix.Suffix.{Suffix}
+use Rattle.std.proofs.lemmas.Bool.{eq-eqb}
 use Rattle.answer_file.specs.declared.fault.AnswerReason.{AnswerReason}
 use Rattle.answer_file.specs.declared.keyword.Keyword.{Keyword}
 use Rattle.answer_file.specs.declared.target.Target.{Target}
 use Rattle.answer_file.specs.declared.target.Target.TheVariants.{Tied, Place}
 use Rattle.answer_file.specs.Names.{Setting, object_target}
 use Rattle.answer_file.specs.Entries.{keyword_of, kind_in, at_place, suffix_entry, suffix_in, entry_by, entry_in}
-use Rattle.answer_file.specs.Grammar.{Standing, Tests, object_tests, kind_tests, suffix_tests, tests_by, row_tests, line_tests, first_tests}
+use Rattle.answer_file.specs.Grammar.{Standing, object_tests, kind_tests, suffix_tests, tests_by, row_tests, line_tests, first_tests}
 use Rattle.answer_file.specs.Suffixes.{suffix_named}
 use Rattle.answer_file.specs.Steps.{with_object, with_said, after}
 
@@ -50,11 +50,7 @@ pub suffix-taken : (s : Setting) (view st : Standing) (words : List (List ℕ)) 
     → Takes (object_tests view.suffixes kind (suffix_named view.suffixes kind name) target value) (with_object view.suffixes kind name target value) r table
     → Takes (suffix_tests s st.suffixes words) (with_said st (suffix_in s words (kind_in words))) r (record view { suffixes = table })
 suffix-taken s view st words name kind target value r table same five second named is object third h =
-    subst (λ (t : Standing). Takes (suffix_tests s t.suffixes words) (with_said t (suffix_in s words (kind_in words))) r (record view { suffixes = table })) same
-    (object-taken s view words kind r table five (ap is_name (sym second) ∙ named) is
-    (subst (λ (v : Option Dec). Takes (object_tests view.suffixes kind (suffix_named view.suffixes kind (word_at words 2)) (object_target s kind (word_at words 3)) v) (with_object view.suffixes kind (word_at words 2) (object_target s kind (word_at words 3)) v) r table) third
-    (subst (λ (t : Option Target). Takes (object_tests view.suffixes kind (suffix_named view.suffixes kind (word_at words 2)) t value) (with_object view.suffixes kind (word_at words 2) t value) r table) object
-    (subst (λ (n : List ℕ). Takes (object_tests view.suffixes kind (suffix_named view.suffixes kind n) target value) (with_object view.suffixes kind n target value) r table) second h))))
+    rw (← same) (object-taken s view words kind r table five (ap is_name (sym second) ∙ named) is (rw (second, object, third) at h))
 
 -- ---- a row
 
@@ -62,8 +58,7 @@ pub row-taken : (s : Setting) (st new : Standing) (line : List ℕ) (words : Lis
     → Takes (tests_by s st line words k) (with_said st (entry_by s line words k)) r new → Takes (row_tests s st line) (with_said st (entry_in s line)) r new
 unfolding row_tests entry_in
 row-taken s st new line words word k r same first is h =
-    subst (λ (ws : List (List ℕ)). Takes (tests_by s st line ws (keyword_of (word_at ws 0))) (with_said st (entry_by s line ws (keyword_of (word_at ws 0)))) r new) same
-    (subst (λ (o : Option Keyword). Takes (tests_by s st line words o) (with_said st (entry_by s line words o)) r new) (sym is ∙ ap keyword_of first) h)
+    rw (← same, ← first, is) h
 
 -- ---- a line
 
@@ -72,26 +67,18 @@ unfolding line_tests after
 blank-taken s st line e = rw (eq-eqb (length (row_of line)) 0 e) (refl, refl)
 
 some_words : (n : ℕ) → (n ≡ 0 → ⊥) → eqb n 0 ≡ false
-some_words n ne = by (eqb n 0) refl
-  where
-    by : (b : Bool) → eqb n 0 ≡ b → eqb n 0 ≡ false
-    by true e = absurd (ne (eqb-true n 0 e))
-    by false e = e
+some_words n ne = grind arith
 
 pub first-taken : (s : Setting) (st new : Standing) (line : List ℕ) (words : List (List ℕ)) (r : Result (Unit {0}) (Stop AnswerReason)) → words ≡ row_of line → (length words ≡ 0 → ⊥) → st.begun ≡ false
     → Takes (first_tests words) (record st { begun = true }) r new → Takes (line_tests s st line) (after s st line) r new
 unfolding line_tests after
 first-taken s st new line words r same some begun h =
     let none : eqb (length (row_of line)) 0 ≡ false = some_words (length (row_of line)) (λ e. some (ap length same ∙ e)) in
-    rw (none, begun) (subst (λ (ws : List (List ℕ)). Takes (first_tests ws) (record st { begun = true }) r new) same h)
-
-chosen : (tests others : Tests) (next other : Standing) (r : Result (Unit {0}) (Stop AnswerReason)) (new : Standing) (b : Bool) → b ≡ true → Takes tests next r new → Takes (cond b tests others) (cond b next other) r new
-chosen tests others next other r new true e h = h
-chosen tests others next other r new false e h = absurd cc
+    rw (none, begun, ← same) h
 
 pub later-taken : (s : Setting) (st new : Standing) (line : List ℕ) (words : List (List ℕ)) (r : Result (Unit {0}) (Stop AnswerReason)) → words ≡ row_of line → (length words ≡ 0 → ⊥) → st.begun ≡ true
     → Takes (row_tests s st line) (with_said st (entry_in s line)) r new → Takes (line_tests s st line) (after s st line) r new
 unfolding line_tests after
 later-taken s st new line words r same some begun h =
     let none : eqb (length (row_of line)) 0 ≡ false = some_words (length (row_of line)) (λ e. some (ap length same ∙ e)) in
-    rw none (chosen _ _ _ _ r new st.begun begun h)
+    rw none (subst (λ (b : Bool). Takes (cond b (row_tests s st line) (first_tests (row_of line))) (cond b (with_said st (entry_in s line)) (record st { begun = true })) r new) (sym begun) h)

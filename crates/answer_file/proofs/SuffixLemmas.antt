@@ -1,14 +1,15 @@
 -- A line more of suffixes.
-use Rattle.std.proofs.Common.{◌≡◌, ◌∙◌, ◌%◌, Bool, true, false, ◌&&◌, ◌||◌, not, cond, eqb, List, [], ◌∷◌, ◌++◌, map, refl, sym, ap}
+use Rattle.std.proofs.Common.{arith, ◌≡◌, ◌∙◌, ◌%◌, Bool, true, false, ◌&&◌, not, cond, eqb, List, [], ◌∷◌, ◌++◌, map, refl, sym, ap}
 use Rattle.std.specs.Prelude.{filter}
 use Rattle.std.specs.List.{list_any}
 use Rattle.std.specs.Str.{bytes_eq}
-use Rattle.std.proofs.lemmas.Bool.{eqb-true, eq-eqb}
+use Rattle.std.proofs.lemmas.Bool.{cond_both, eqb-true, eq-eqb, not-true, or_parts}
 use Rattle.std.proofs.lemmas.List.{append-nil, map-append}
 use Rattle.std.proofs.lemmas.List.Elements.{filter-append}
 use Rattle.std.proofs.lemmas.Slice.Eq.{bytes_eq-Decides}
 use Rattle.exact_numbers.proofs.NumberLemmas.{first_of_both, second_of_both}
-use Rattle.nl_model.specs.File.{Term, Suffix}
+use Rattle.nl_model.specs.File.{Term}
+use Rattle.nl_model.specs.declared.suffix.Suffix.{Suffix}
 use Rattle.answer_file.specs.Entries.{SuffixLine}
 use Rattle.answer_file.specs.Suffixes.{is_same_suffix, first_lines, values_like, suffix_like, suffixes_of}
 use Rattle.answer_file.specs.Steps.{new_suffix, with_line, with_suffix_line}
@@ -46,29 +47,17 @@ like x h = is_same_suffix h x
 filtered-others : (x l : SuffixLine) (hs : List SuffixLine) → AreOthers x hs → AreOthers x (filter (λ o. not (is_same_suffix l o)) hs)
 unfolding AreOthers
 filtered-others x l [] h = tt
-filtered-others x l (k ∷ hs) h = by (is_same_suffix l k) (filtered-others x l hs h.1)
-  where
-    by : (b : Bool) → AreOthers x (filter (λ o. not (is_same_suffix l o)) hs) → AreOthers x (cond (not b) (k ∷ filter (λ o. not (is_same_suffix l o)) hs) (filter (λ o. not (is_same_suffix l o)) hs))
-    by true r = r
-    by false r = (h.0, r)
+filtered-others x l (k ∷ hs) h = cond_both (not (is_same_suffix l k)) _ _ (AreOthers x) (λ e. (h.0, filtered-others x l hs h.1)) (λ e. filtered-others x l hs h.1)
 
 filtered-apart : (l : SuffixLine) (hs : List SuffixLine) → AreApart hs → AreApart (filter (λ o. not (is_same_suffix l o)) hs)
 unfolding AreApart
 filtered-apart l [] h = tt
-filtered-apart l (k ∷ hs) h = by (is_same_suffix l k) (filtered-apart l hs h.1)
-  where
-    by : (b : Bool) → AreApart (filter (λ o. not (is_same_suffix l o)) hs) → AreApart (cond (not b) (k ∷ filter (λ o. not (is_same_suffix l o)) hs) (filter (λ o. not (is_same_suffix l o)) hs))
-    by true r = r
-    by false r = (filtered-others k l hs h.0, r)
+filtered-apart l (k ∷ hs) h = cond_both (not (is_same_suffix l k)) _ _ AreApart (λ e. (filtered-others k l hs h.0, filtered-apart l hs h.1)) (λ e. filtered-apart l hs h.1)
 
 left-others : (l : SuffixLine) (hs : List SuffixLine) → AreOthers l (filter (λ o. not (is_same_suffix l o)) hs)
 unfolding AreOthers
 left-others l [] = tt
-left-others l (k ∷ hs) = by (is_same_suffix l k) refl (left-others l hs)
-  where
-    by : (b : Bool) → is_same_suffix l k ≡ b → AreOthers l (filter (λ o. not (is_same_suffix l o)) hs) → AreOthers l (cond (not b) (k ∷ filter (λ o. not (is_same_suffix l o)) hs) (filter (λ o. not (is_same_suffix l o)) hs))
-    by true e r = r
-    by false e r = (same-comm k l ∙ e, r)
+left-others l (k ∷ hs) = cond_both (not (is_same_suffix l k)) _ _ (AreOthers l) (λ e. (same-comm k l ∙ not-true _ e, left-others l hs)) (λ e. left-others l hs)
 
 firsts-apart : (lines : List SuffixLine) → AreApart (first_lines lines)
 unfolding AreApart first_lines
@@ -79,37 +68,18 @@ firsts-apart (l ∷ lines) = (left-others l (first_lines lines), filtered-apart 
 some-filtered : (x l : SuffixLine) (hs : List SuffixLine) → is_same_suffix l x ≡ false → list_any (like x) (filter (λ o. not (is_same_suffix l o)) hs) ≡ list_any (like x) hs
 unfolding like
 some-filtered x l [] e = refl
-some-filtered x l (k ∷ hs) e = by (is_same_suffix l k) refl (some-filtered x l hs e)
-  where
-    by : (b : Bool) → is_same_suffix l k ≡ b → list_any (like x) (filter (λ o. not (is_same_suffix l o)) hs) ≡ list_any (like x) hs
-        → list_any (like x) (cond (not b) (k ∷ filter (λ o. not (is_same_suffix l o)) hs) (filter (λ o. not (is_same_suffix l o)) hs)) ≡ (is_same_suffix k x || list_any (like x) hs)
-    by true same r = r ∙ ap (λ t. t || list_any (like x) hs) (sym (sym (same-class l k x same) ∙ e))
-    by false same r = ap (λ t. is_same_suffix k x || t) r
+some-filtered x l (k ∷ hs) e = grind (arith, some-filtered x l hs e, same-class l k x)
 
 some-first : (x : SuffixLine) (lines : List SuffixLine) → list_any (like x) (first_lines lines) ≡ list_any (like x) lines
 unfolding like first_lines
 some-first x [] = refl
-some-first x (l ∷ lines) = by (is_same_suffix l x) refl (some-first x lines)
-  where
-    by : (b : Bool) → is_same_suffix l x ≡ b → list_any (like x) (first_lines lines) ≡ list_any (like x) lines
-        → (b || list_any (like x) (filter (λ o. not (is_same_suffix l o)) (first_lines lines))) ≡ (b || list_any (like x) lines)
-    by true e r = refl
-    by false e r = some-filtered x l (first_lines lines) e ∙ r
+some-first x (l ∷ lines) = grind (arith, some-first x lines, some-filtered x l (first_lines lines))
 
 -- the first lines with a line more
 firsts-more : (lines : List SuffixLine) (x : SuffixLine) → first_lines (lines ++ x ∷ []) ≡ first_lines lines ++ cond (list_any (like x) lines) [] (x ∷ [])
 unfolding like first_lines
 firsts-more [] x = refl
-firsts-more (l ∷ lines) x =
-    ap (λ hs. l ∷ filter (λ o. not (is_same_suffix l o)) hs) (firsts-more lines x)
-    ∙ ap (λ hs. l ∷ hs) (filter-append (λ o. not (is_same_suffix l o)) (first_lines lines) (cond (list_any (like x) lines) [] (x ∷ [])))
-    ∙ ap (λ hs. l ∷ filter (λ o. not (is_same_suffix l o)) (first_lines lines) ++ hs) (by (is_same_suffix l x) (list_any (like x) lines) refl)
-  where
-    by : (b c : Bool) → is_same_suffix l x ≡ b → filter (λ o. not (is_same_suffix l o)) (cond c [] (x ∷ [])) ≡ cond (b || c) [] (x ∷ [])
-    by true true e = refl
-    by true false e = rw e refl
-    by false true e = refl
-    by false false e = rw e refl
+firsts-more (l ∷ lines) x = rw (firsts-more lines x, filter-append (λ o. not (is_same_suffix l o)) (first_lines lines) (cond (list_any (like x) lines) [] (x ∷ []))) (grind arith)
 
 -- ---- the suffixes
 
@@ -141,9 +111,7 @@ like-other lines x h e = ap (with_values h) (values-like-more lines x h ∙ ap (
 others-kept : (lines : List SuffixLine) (x : SuffixLine) (hs : List SuffixLine) → AreOthers x hs → map (suffix_like (lines ++ x ∷ [])) hs ≡ map (suffix_like lines) hs
 unfolding AreOthers
 others-kept lines x [] h = refl
-others-kept lines x (k ∷ hs) h =
-    ap (λ s. s ∷ map (suffix_like (lines ++ x ∷ [])) hs) (like-other lines x k h.0)
-    ∙ ap (λ ss. suffix_like lines k ∷ ss) (others-kept lines x hs h.1)
+others-kept lines x (k ∷ hs) h = rw (like-other lines x k h.0, others-kept lines x hs h.1) refl
 
 -- lines apart from one of a suffix are apart from all of it
 others-of : (h x : SuffixLine) (hs : List SuffixLine) → is_same_suffix h x ≡ true → AreOthers h hs → AreOthers x hs
@@ -155,27 +123,14 @@ stepped : (lines : List SuffixLine) (x : SuffixLine) (hs : List SuffixLine) → 
     → with_suffix_line (map (suffix_like lines) hs) x ≡ map (suffix_like (lines ++ x ∷ [])) hs ++ cond (list_any (like x) hs) [] (new_suffix x ∷ [])
 unfolding AreApart like
 stepped lines x [] apart = refl
-stepped lines x (h ∷ hs) apart = by (is_same_suffix h x) refl (stepped lines x hs apart.1)
-  where
-    by : (b : Bool) → is_same_suffix h x ≡ b → with_suffix_line (map (suffix_like lines) hs) x ≡ map (suffix_like (lines ++ x ∷ [])) hs ++ cond (list_any (like x) hs) [] (new_suffix x ∷ [])
-        → cond b (with_line (suffix_like lines h) x ∷ map (suffix_like lines) hs) (suffix_like lines h ∷ with_suffix_line (map (suffix_like lines) hs) x)
-        ≡ suffix_like (lines ++ x ∷ []) h ∷ (map (suffix_like (lines ++ x ∷ [])) hs ++ cond (b || list_any (like x) hs) [] (new_suffix x ∷ []))
-    by true e r =
-        ap (λ s. s ∷ map (suffix_like lines) hs) (sym (like-same lines x h e))
-        ∙ ap (λ ss. suffix_like (lines ++ x ∷ []) h ∷ ss) (sym (others-kept lines x hs (others-of h x hs e apart.0)) ∙ sym (append-nil (map (suffix_like (lines ++ x ∷ [])) hs)))
-    by false e r =
-        ap (λ s. s ∷ with_suffix_line (map (suffix_like lines) hs) x) (sym (like-other lines x h e))
-        ∙ ap (λ ss. suffix_like (lines ++ x ∷ []) h ∷ ss) r
+stepped lines x (h ∷ hs) apart =
+    grind (arith, like-same lines x h, like-other lines x h, stepped lines x hs apart.1, others-kept lines x hs, others-of h x hs, apart.0, append-nil (map (suffix_like (lines ++ x ∷ [])) hs))
 
 -- a suffix of one line
 nothing-like : (lines : List SuffixLine) (x : SuffixLine) → list_any (like x) lines ≡ false → filter (is_same_suffix x) lines ≡ []
 unfolding like
 nothing-like [] x e = refl
-nothing-like (l ∷ lines) x e = by (is_same_suffix l x) refl e (nothing-like lines x)
-  where
-    by : (b : Bool) → is_same_suffix l x ≡ b → (b || list_any (like x) lines) ≡ false → (list_any (like x) lines ≡ false → filter (is_same_suffix x) lines ≡ []) → filter (is_same_suffix x) (l ∷ lines) ≡ []
-    by true s f r = absurd (cc)
-    by false s f r = rw (same-comm x l ∙ s) (r f)
+nothing-like (l ∷ lines) x e = let f = or_parts (is_same_suffix l x) (list_any (like x) lines) e in rw (same-comm x l, f.0) (nothing-like lines x f.1)
 
 like-new : (lines : List SuffixLine) (x : SuffixLine) → list_any (like x) lines ≡ false → suffix_like (lines ++ x ∷ []) x ≡ new_suffix x
 unfolding with_values pair
@@ -192,9 +147,5 @@ last-one lines x false e = ap (λ s. s ∷ []) (like-new lines x e)
 pub suffixes-more : (lines : List SuffixLine) (x : SuffixLine) → suffixes_of (lines ++ x ∷ []) ≡ with_suffix_line (suffixes_of lines) x
 unfolding suffixes_of
 suffixes-more lines x =
-    let all = suffix_like (lines ++ x ∷ []) in
-    ap (map all) (firsts-more lines x)
-    ∙ map-append all (first_lines lines) (cond (list_any (like x) lines) [] (x ∷ []))
-    ∙ ap (λ ss. map all (first_lines lines) ++ ss) (last-one lines x (list_any (like x) lines) refl)
-    ∙ ap (λ b. map all (first_lines lines) ++ cond b [] (new_suffix x ∷ [])) (sym (some-first x lines))
-    ∙ sym (stepped lines x (first_lines lines) (firsts-apart lines))
+    rw (firsts-more lines x, map-append (suffix_like (lines ++ x ∷ [])) (first_lines lines) (cond (list_any (like x) lines) [] (x ∷ [])), last-one lines x (list_any (like x) lines) refl, ← some-first x lines)
+    (sym (stepped lines x (first_lines lines) (firsts-apart lines)))

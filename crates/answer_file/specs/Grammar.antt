@@ -11,7 +11,7 @@ use Rattle.texts.specs.declared.lines.LineFault.{LineFault}
 use Rattle.texts.specs.declared.lines.LineFault.TheVariants.{LineTooLong as LongLine, InputTooLong as LongInput}
 use Rattle.exact_numbers.specs.declared.dec.Dec.{Dec}
 use Rattle.exact_numbers.specs.Numbers.{dec_of, is_whole}
-use Rattle.nl_model.specs.File.{Suffix as SuffixOf}
+use Rattle.nl_model.specs.declared.suffix.Suffix.{Suffix as SuffixOf}
 use Rattle.nl_model.specs.SuffixKinds.{wants_whole}
 use Rattle.answer_file.specs.declared.keyword.Keyword.{Keyword}
 use Rattle.answer_file.specs.declared.keyword.Keyword.TheVariants.{Status, Message, Sign, Objno, Col, Row, Suffix}

@@ -2,7 +2,7 @@
 use Rattle.std.specs.Prelude.{◌≡◌, ℕ, ◌≤◌, ◌^◌, ◌%◌, ◌==◌, List, [], ◌∷◌, ◌++◌, length, map, Option, Some, None, if◌then◌else◌}
 use Rattle.std.specs.Global.{Vec}
 use Rattle.std.specs.Str.{bytes_eq}
-use Rattle.nl_model.specs.File.{Suffix}
+use Rattle.nl_model.specs.declared.suffix.Suffix.{Suffix}
 use Rattle.answer_file.specs.Suffixes.{place_named, value_count}
 
 -- what stands beside the first entry of a name

@@ -3,7 +3,8 @@ use Rattle.std.specs.Prelude.{◌≡◌, ℕ, ◌%◌, ◌==◌, Bool, not, ◌&
 use Rattle.std.specs.List.{list_any, range_with_len}
 use Rattle.std.specs.Str.{bytes_eq}
 use Rattle.exact_numbers.specs.declared.dec.Dec.{Dec}
-use Rattle.nl_model.specs.File.{Term, Suffix}
+use Rattle.nl_model.specs.File.{Term}
+use Rattle.nl_model.specs.declared.suffix.Suffix.{Suffix}
 use Rattle.nl_model.specs.Rules.{is_suffix_of}
 use Rattle.answer_file.specs.Entries.{SuffixLine}
 

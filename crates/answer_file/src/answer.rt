@@ -111,6 +111,7 @@ impl Answer {
     }
 
     /// Whether a value was given for some variable.
+    #[tactic(auto, using(crate::proofs::GivenLemmas::some_counted))]
     pub fn has_cols(&self) -> bool
         ensures { result ≡ list_any is_some self.now.columns }
     {
@@ -118,6 +119,7 @@ impl Answer {
     }
 
     /// Whether a value was given for some constraint.
+    #[tactic(auto, using(crate::proofs::GivenLemmas::some_counted))]
     pub fn has_rows(&self) -> bool
         ensures { result ≡ list_any is_some self.now.rows }
     {

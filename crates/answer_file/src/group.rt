@@ -17,7 +17,7 @@ pub struct Group {
 }
 
 impl Model for Group {
-    ghost use Rattle.nl_model.specs.File.{Suffix as SuffixValue};
+    ghost use Rattle.nl_model.specs.declared.suffix.Suffix.{Suffix as SuffixValue};
     ghost use Rattle.answer_file.specs.Suffixes.{AreMarks};
 
     ghost Value = { SuffixValue };

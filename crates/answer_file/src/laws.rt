@@ -10,6 +10,7 @@ ghost use Rattle.answer_file.specs.Grammar.{AnswerValue, SaysAnswer, answer_rule
 ghost use Rattle.answer_file.specs.Steps.{after};
 
 /// Each text is free of faults as an answer or has one first fault, and what it says is one answer.
+#[tactic(auto, using(texts::proofs::JudgedLemmas::one_outcome))]
 pub fn one_reading()
     ensures outcome { (s : Setting) (text : List ℕ)
         → HasOneOutcome (answer_rules s) (lines_of text) (last_of text) }
@@ -18,6 +19,7 @@ pub fn one_reading()
 {}
 
 /// What lines mean for the next one depends on the last of them and on what those before it mean.
+#[tactic(auto, using(crate::proofs::StandingLemmas::standing_more))]
 pub fn one_line_more()
     ensures { (s : Setting) (lines : List (List ℕ)) (line : List ℕ)
         → standing s (lines ++ line ∷ []) ≡ after s (standing s lines) line }
@@ -25,6 +27,7 @@ pub fn one_line_more()
 
 /// A name of a list stands for the column of its number, or for the row of its number where that is
 /// exported.
+#[tactic(auto, using(crate::proofs::FoundLemmas::column_found, crate::proofs::FoundLemmas::row_found))]
 pub fn names_of_lists()
     ensures columns { (f : File) (rows columns : List (List ℕ)) (j : ℕ) → AreNames columns
         → length columns ≡ f.counts.n_var → j < length columns

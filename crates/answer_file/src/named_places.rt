@@ -32,6 +32,7 @@ impl NameMap {
     }
 
     /// The place of a name.
+    #[tactic(auto, using(crate::proofs::NamedLemmas::lookup_by_name))]
     fn get(&self, name: &[u8]) -> Option<u32>
         ensures { result ≡ lookup_name self.now name.now }
     {

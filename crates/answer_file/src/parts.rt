@@ -104,6 +104,7 @@ fn is_part(given: usize, all: usize) -> bool
 
 impl Parts {
     /// No lines.
+    #[tactic(auto, using(crate::proofs::StandingLemmas::standing_none))]
     pub(crate) fn new(alloc: Global, scope: &Scope) -> Result<Parts, AllocError>
         ensures { IfOk result (λ p. p ≡ standing scope.now []) }
     {

@@ -41,6 +41,7 @@ fn has_side(side: Interval) -> bool
 }
 
 // Which constraints are exported.
+#[tactic(auto, using(crate::proofs::MapLemmas::one_mapped))]
 fn exported_of(alloc: Global, file: &NlFile) -> Result<Vec<bool>, AllocError>
     ensures { IfOk result (λ v. v.items ≡ map has_side file.now.sides) }
 {

@@ -1,6 +1,6 @@
 // Suffixes in order of first appearance, found by name.
 ghost use Rattle.std.specs.Prelude.{◌≡◌, ◌<◌, ◌++◌, ◌∷◌, ◌^◌, [], map, length, slice_get, slice_set, false, IfOk, OnOk, Some, None, option_copied};
-ghost use Rattle.nl_model.specs.File.{Suffix as SuffixValue};
+ghost use Rattle.nl_model.specs.declared.suffix.Suffix.{Suffix as SuffixValue};
 ghost use Rattle.texts.specs.Names.{IsName};
 ghost use Rattle.answer_file.specs.Entries.{SuffixLine};
 ghost use Rattle.answer_file.specs.Suffixes.{place_named, suffix_at, value_count, with_objective};
@@ -31,7 +31,7 @@ pub struct SuffixTable {
 
 impl Model for SuffixTable {
     ghost use Rattle.std.specs.Prelude.{List};
-    ghost use Rattle.nl_model.specs.File.{Suffix as SuffixOf};
+    ghost use Rattle.nl_model.specs.declared.suffix.Suffix.{Suffix as SuffixOf};
     ghost use Rattle.answer_file.specs.InsideNamedPlaces.{IsTable};
 
     ghost Value = { List SuffixOf };
@@ -83,6 +83,7 @@ fn with_objective(alloc: Global, objective: u32, suffix: Suffix) -> Result<Suffi
 }
 
 // The suffixes of groups, with the number of the objective.
+#[tactic(auto, using(std::proofs::lemmas::List::nil_from_length))]
 fn suffixes_of(alloc: Global, objective: u32, groups: Vec<Group>) -> Result<Vec<Suffix>, AllocError>
     ensures { IfOk result (λ v. v.items ≡ map (with_objective objective) groups.items) }
 {
@@ -158,6 +159,7 @@ impl SuffixTable {
     }
 
     /// Adds a value.
+    #[tactic(auto, using(crate::proofs::TableLemmas::placed_new, crate::proofs::TableLemmas::table_changed))]
     pub(crate) fn add(
         &mut self,
         alloc: Global,

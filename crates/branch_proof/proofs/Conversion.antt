@@ -1,5 +1,6 @@
 -- The nodes and pairs of a proof become those of a tree of a certificate, whatever trees are still to come.
 use Rattle.std.proofs.Common.{◌≡◌, ℕ, ◌+◌, ◌<◌, ◌≤◌, ◌∙◌, sym, ap, ap₂, subst, refl, arith, List, [], ◌∷◌, ◌++◌, length, length-append, take, drop, drop-cons, get_or, add-one, append-nil, append_assoc, ℤ, All}
+use Rattle.std.specs.Prelude.{flat_map}
 use Rattle.std.proofs.lemmas.List.{drop_all, length-take-le, take_at, drop_at}
 use Rattle.fractions.specs.Rational.{zero_ℚ}
 use Rattle.linear_programs.specs.Linear.{Linear, row_count, variable_count}
@@ -8,7 +9,7 @@ use Rattle.duality.specs.Parts.{bound}
 use Rattle.linear_programs.specs.Elements.{elements_from}
 use Rattle.certificates.specs.Certificates.{CertificateTree, IsCutNumber, Pair as WrittenPair, split as written_split, duals as written_duals, weights as written_weights, nodes_of as written_nodes_of, pairs_of as written_pairs_of, number_of as written_number, spread as written_spread, tree_over as written_over}
 use Rattle.certificates.specs.declared.certificate.CertificateNode.{CertificateNode}
-use Rattle.certificates.specs.declared.certificate.CertificateNode.TheVariants.{Split as SplitAt, Duals as DualsOf, Weights as WeightsOf}
+use Rattle.certificates.specs.declared.certificate.CertificateNode.TheVariants.{Split as SplitAt}
 use Rattle.certificate_check.specs.Leaves.{AreIndices}
 use Rattle.certificate_walk.specs.Walks.{IsWalkable}
 use Rattle.proof_text.specs.declared.proof.ProofNode.{ProofNode}
@@ -25,23 +26,6 @@ none_taken (x ∷ xs) h = absurd (omega arith)
 spread_in_order : (m : ℕ) (ps : List Pair) (qs : List WrittenPair) → ((i : ℕ) → written_number qs i zero_ℚ ≡ number_of ps i zero_ℚ) → written_spread m qs ≡ spread m ps
 unfolding spread written_spread
 spread_in_order m ps qs h = ap (λ f. elements_from f 0 m) (λ q i. h i q)
-
--- ---- nodes and pairs of trees that follow one another
-nodes_in : List ProofTree → List ProofNode
-nodes_in [] = []
-nodes_in (tree ∷ more) = nodes_of tree ++ nodes_in more
-
-pairs_in : List ProofTree → List Pair
-pairs_in [] = []
-pairs_in (tree ∷ more) = pairs_of tree ++ pairs_in more
-
-written_nodes : List CertificateTree → List CertificateNode
-written_nodes [] = []
-written_nodes (w ∷ ws) = written_nodes_of w ++ written_nodes ws
-
-written_pairs : List CertificateTree → List WrittenPair
-written_pairs [] = []
-written_pairs (w ∷ ws) = written_pairs_of w ++ written_pairs ws
 
 module _ (f : Linear) where
   -- a tree of a certificate over the program, which is there the same tree
@@ -62,14 +46,14 @@ module _ (f : Linear) where
   unfolding IsWalkable written_over tree_over
   same_split j t a b v w within number low high = record { walkable = (within, number, low.walkable, high.walkable); same = ap₂ (λ x y. split_tree (bound j t) x y) low.same high.same }
 
-  module _ (ps : List Pair) (qs : List WrittenPair) (fine : AreIndices 0 (row_count f) qs) (numbers : (i : ℕ) → written_number qs i zero_ℚ ≡ number_of ps i zero_ℚ) where
+  module _ (ps : List Pair) (qs : List WrittenPair) (fine : AreIndices 0 (row_count f) qs) (same : written_spread (row_count f) qs ≡ spread (row_count f) ps) where
     same_duals : IsSame (duals ps) (written_duals qs)
     unfolding IsWalkable written_over tree_over
-    same_duals = record { walkable = fine; same = ap (λ ys. duals_leaf ys) (spread_in_order (row_count f) ps qs numbers) }
+    same_duals = record { walkable = fine; same = ap (λ ys. duals_leaf ys) same }
 
     same_weights : IsSame (weights ps) (written_weights qs)
     unfolding IsWalkable written_over tree_over
-    same_weights = record { walkable = fine; same = ap (λ ys. weights_leaf ys) (spread_in_order (row_count f) ps qs numbers) }
+    same_weights = record { walkable = fine; same = ap (λ ys. weights_leaf ys) same }
 
   -- ---- what was written, with the same trees for those still to come, is the whole tree
   record IsWhole (all : ProofTree) (nodes : List CertificateNode) (pairs : List WrittenPair) : Type 0 where
@@ -80,13 +64,13 @@ module _ (f : Linear) where
 
   pub record OnWrite (all : ProofTree) (nodes : List ProofNode) (pairs : List Pair) (done : List CertificateNode) (given : List WrittenPair) : Type 0 where
     more : List ProofTree
-    nodes_are : nodes ≡ nodes_in more
-    pairs_are : pairs ≡ pairs_in more
+    nodes_are : nodes ≡ flat_map nodes_of more
+    pairs_are : pairs ≡ flat_map pairs_of more
     trees : AreTrees more
-    whole : (ws : List CertificateTree) → AreSame more ws → IsWhole all (done ++ written_nodes ws) (given ++ written_pairs ws)
+    whole : (ws : List CertificateTree) → AreSame more ws → IsWhole all (done ++ flat_map written_nodes_of ws) (given ++ flat_map written_pairs_of ws)
 
   pub write_begins : (tree : ProofTree) → IsTreeOf f tree → OnWrite tree (nodes_of tree) (pairs_of tree) [] []
-  unfolding nodes_in pairs_in AreTrees AreSame written_nodes written_pairs
+  unfolding AreTrees AreSame
   write_begins tree fine =
       record {
         more = tree ∷ [];
@@ -96,14 +80,14 @@ module _ (f : Linear) where
         whole = whole_of;
       }
     where
-      whole_of : (ws : List CertificateTree) → AreSame (tree ∷ []) ws → IsWhole tree ([] ++ written_nodes ws) ([] ++ written_pairs ws)
+      whole_of : (ws : List CertificateTree) → AreSame (tree ∷ []) ws → IsWhole tree ([] ++ flat_map written_nodes_of ws) ([] ++ flat_map written_pairs_of ws)
       whole_of [] h = absurd h
       whole_of (w ∷ []) h = record { written = w; nodes_are = sym (append-nil (written_nodes_of w)); pairs_are = sym (append-nil (written_pairs_of w)); same = h.0 }
       whole_of (w ∷ v ∷ ws) h = absurd h.1
 
   module _ (all : ProofTree) (pairs : List Pair) (done : List CertificateNode) (given : List WrittenPair) where
     pub write_ends : OnWrite all [] pairs done given → IsTreeFor f all done given
-    unfolding nodes_in nodes_of AreSame written_nodes written_pairs
+    unfolding nodes_of AreSame
     write_ends on = by on.more on.nodes_are on.whole
       where
         ended : IsWhole all (done ++ []) (given ++ []) → IsTreeFor f all done given
@@ -114,7 +98,7 @@ module _ (f : Linear) where
               same = w.same.same;
             }
 
-        by : (more : List ProofTree) → [] ≡ nodes_in more → ((ws : List CertificateTree) → AreSame more ws → IsWhole all (done ++ written_nodes ws) (given ++ written_pairs ws)) → IsTreeFor f all done given
+        by : (more : List ProofTree) → [] ≡ flat_map nodes_of more → ((ws : List CertificateTree) → AreSame more ws → IsWhole all (done ++ flat_map written_nodes_of ws) (given ++ flat_map written_pairs_of ws)) → IsTreeFor f all done given
         by [] none whole = ended (whole [] tt)
         by (split j t a b ∷ more) none whole = absurd (cc)
         by (duals ps ∷ more) none whole = absurd (cc)
@@ -131,9 +115,9 @@ module _ (f : Linear) where
           → OnWrite all nodes (drop (pair_count node) pairs) (done ++ node_with node (length own) ∷ []) (given ++ own)
 
     module _ (more : List ProofTree) (trees : AreTrees more) where
-      at_split : (j : ℕ) (t : ℤ) (a b : ProofTree) (nodes : List ProofNode) → nodes ≡ (nodes_of a ++ nodes_of b) ++ nodes_in more → pairs ≡ (pairs_of a ++ pairs_of b) ++ pairs_in more → IsTreeOf f (split j t a b)
-          → ((ws : List CertificateTree) → AreSame (split j t a b ∷ more) ws → IsWhole all (done ++ written_nodes ws) (given ++ written_pairs ws)) → AtNode (Split j t) nodes
-      unfolding IsTreeOf AreTrees nodes_in pairs_in AreSame written_nodes written_pairs written_nodes_of written_pairs_of
+      at_split : (j : ℕ) (t : ℤ) (a b : ProofTree) (nodes : List ProofNode) → nodes ≡ (nodes_of a ++ nodes_of b) ++ flat_map nodes_of more → pairs ≡ (pairs_of a ++ pairs_of b) ++ flat_map pairs_of more → IsTreeOf f (split j t a b)
+          → ((ws : List CertificateTree) → AreSame (split j t a b ∷ more) ws → IsWhole all (done ++ flat_map written_nodes_of ws) (given ++ flat_map written_pairs_of ws)) → AtNode (Split j t) nodes
+      unfolding IsTreeOf AreTrees AreSame written_nodes_of written_pairs_of
       at_split j t a b nodes left ps fine whole =
           record {
             enough = omega arith;
@@ -141,14 +125,14 @@ module _ (f : Linear) where
             goes_on = λ own indices numbers short number.
                 record {
                   more = a ∷ b ∷ more;
-                  nodes_are = left ∙ append_assoc (nodes_of a) (nodes_of b) (nodes_in more);
-                  pairs_are = ps ∙ append_assoc (pairs_of a) (pairs_of b) (pairs_in more);
+                  nodes_are = left ∙ append_assoc (nodes_of a) (nodes_of b) (flat_map nodes_of more);
+                  pairs_are = ps ∙ append_assoc (pairs_of a) (pairs_of b) (flat_map pairs_of more);
                   trees = (fine.2, (fine.3, trees));
                   whole = next own (none_taken own short) number;
                 };
           }
         where
-          next : (own : List WrittenPair) → own ≡ [] → IsCutNumber t → (ws : List CertificateTree) → AreSame (a ∷ b ∷ more) ws → IsWhole all ((done ++ SplitAt j t ∷ []) ++ written_nodes ws) ((given ++ own) ++ written_pairs ws)
+          next : (own : List WrittenPair) → own ≡ [] → IsCutNumber t → (ws : List CertificateTree) → AreSame (a ∷ b ∷ more) ws → IsWhole all ((done ++ SplitAt j t ∷ []) ++ flat_map written_nodes_of ws) ((given ++ own) ++ flat_map written_pairs_of ws)
           next own none number [] h = absurd h
           next own none number (v ∷ []) h = absurd h.1
           next own none number (v ∷ w ∷ ws) h =
@@ -157,86 +141,71 @@ module _ (f : Linear) where
                 written = is.written;
                 nodes_are =
                     is.nodes_are
-                    ∙ ap (λ ns. done ++ SplitAt j t ∷ ns) (append_assoc (written_nodes_of v) (written_nodes_of w) (written_nodes ws))
-                    ∙ sym (append_assoc done (SplitAt j t ∷ []) (written_nodes_of v ++ (written_nodes_of w ++ written_nodes ws)));
+                    ∙ ap (λ ns. done ++ SplitAt j t ∷ ns) (append_assoc (written_nodes_of v) (written_nodes_of w) (flat_map written_nodes_of ws))
+                    ∙ sym (append_assoc done (SplitAt j t ∷ []) (written_nodes_of v ++ (written_nodes_of w ++ flat_map written_nodes_of ws)));
                 pairs_are =
                     is.pairs_are
-                    ∙ ap (λ qs. given ++ qs) (append_assoc (written_pairs_of v) (written_pairs_of w) (written_pairs ws))
-                    ∙ ap (λ qs. qs ++ (written_pairs_of v ++ (written_pairs_of w ++ written_pairs ws))) (sym (ap (λ qs. given ++ qs) none ∙ append-nil given));
+                    ∙ ap (λ qs. given ++ qs) (append_assoc (written_pairs_of v) (written_pairs_of w) (flat_map written_pairs_of ws))
+                    ∙ ap (λ qs. qs ++ (written_pairs_of v ++ (written_pairs_of w ++ flat_map written_pairs_of ws))) (sym (ap (λ qs. given ++ qs) none ∙ append-nil given));
                 same = is.same;
               }
 
-      module _ (ps : List Pair) (nodes : List ProofNode) (left : nodes ≡ nodes_in more) (are : pairs ≡ ps ++ pairs_in more) (fine : All (λ (p : Pair). p.0 < row_count f) ps) where
+      module _ (ps : List Pair) (nodes : List ProofNode) (left : nodes ≡ flat_map nodes_of more) (are : pairs ≡ ps ++ flat_map pairs_of more) (fine : All (λ (p : Pair). p.0 < row_count f) ps) where
         own_pairs : take (length ps) pairs ≡ ps
-        own_pairs = ap (take (length ps)) are ∙ take_at ps (pairs_in more) (length ps) refl
+        own_pairs = ap (take (length ps)) are ∙ take_at ps (flat_map pairs_of more) (length ps) refl
 
-        later_pairs : drop (length ps) pairs ≡ pairs_in more
-        later_pairs = ap (drop (length ps)) are ∙ drop_at ps (pairs_in more) (length ps) refl
+        later_pairs : drop (length ps) pairs ≡ flat_map pairs_of more
+        later_pairs = ap (drop (length ps)) are ∙ drop_at ps (flat_map pairs_of more) (length ps) refl
 
         enough_pairs : length ps ≤ length pairs
-        enough_pairs = let sum = ap length are ∙ length-append ps (pairs_in more) in omega (arith, sum)
-
-        own_within : All (λ (p : Pair). p.0 < row_count f) (take (length ps) pairs)
-        own_within = subst (All (λ (p : Pair). p.0 < row_count f)) (sym own_pairs) fine
+        enough_pairs = let sum = ap length are ∙ length-append ps (flat_map pairs_of more) in omega (arith, sum)
 
         -- a leaf with these pairs of its own comes next
-        next_leaf : (node : CertificateNode) (own : List WrittenPair) (leaf : CertificateTree) → written_nodes_of leaf ≡ node ∷ [] → written_pairs_of leaf ≡ own → (tree : ProofTree) → IsSame tree leaf
-            → ((ws : List CertificateTree) → AreSame (tree ∷ more) ws → IsWhole all (done ++ written_nodes ws) (given ++ written_pairs ws)) → OnWrite all nodes (drop (length ps) pairs) (done ++ node ∷ []) (given ++ own)
-        unfolding AreSame written_nodes written_pairs
-        next_leaf node own leaf one two tree same whole =
+        at_leaf : (tree : ProofTree) (node : ProofNode) (leaf : List WrittenPair → CertificateTree) → pair_count node ≡ length ps
+            → ((own : List WrittenPair) → written_nodes_of (leaf own) ≡ node_with node (length own) ∷ []) → ((own : List WrittenPair) → written_pairs_of (leaf own) ≡ own)
+            → ((own : List WrittenPair) → AreIndices 0 (row_count f) own → written_spread (row_count f) own ≡ spread (row_count f) ps → IsSame tree (leaf own))
+            → ((ws : List CertificateTree) → AreSame (tree ∷ more) ws → IsWhole all (done ++ flat_map written_nodes_of ws) (given ++ flat_map written_pairs_of ws)) → AtNode node nodes
+        unfolding AreSame
+        at_leaf tree node leaf count one two same whole =
+            let front = ap (λ n. take n pairs) count ∙ own_pairs in
             record {
-              more = more;
-              nodes_are = left;
-              pairs_are = later_pairs;
-              trees = trees;
-              whole = λ ws h.
-                  let is = whole (leaf ∷ ws) (same, h) in
+              enough = omega (arith, count, enough_pairs);
+              within = subst (All (λ (p : Pair). p.0 < row_count f)) (sym front) fine;
+              goes_on = λ own indices numbers short number.
                   record {
-                    written = is.written;
-                    nodes_are = is.nodes_are ∙ ap (λ ns. done ++ (ns ++ written_nodes ws)) one ∙ sym (append_assoc done (node ∷ []) (written_nodes ws));
-                    pairs_are = is.pairs_are ∙ ap (λ qs. given ++ (qs ++ written_pairs ws)) two ∙ sym (append_assoc given own (written_pairs ws));
-                    same = is.same;
+                    more = more;
+                    nodes_are = left;
+                    pairs_are = ap (λ n. drop n pairs) count ∙ later_pairs;
+                    trees = trees;
+                    whole = λ ws h.
+                        let is = whole (leaf own ∷ ws) (same own indices (spread_in_order (row_count f) ps own (λ i. numbers i ∙ ap (λ qs. number_of qs i zero_ℚ) front)), h) in
+                        record {
+                          written = is.written;
+                          nodes_are = is.nodes_are ∙ ap (λ ns. done ++ (ns ++ flat_map written_nodes_of ws)) (one own) ∙ sym (append_assoc done (node_with node (length own) ∷ []) (flat_map written_nodes_of ws));
+                          pairs_are = is.pairs_are ∙ ap (λ qs. given ++ (qs ++ flat_map written_pairs_of ws)) (two own) ∙ sym (append_assoc given own (flat_map written_pairs_of ws));
+                          same = is.same;
+                        };
                   };
             }
 
-        at_duals : ((ws : List CertificateTree) → AreSame (duals ps ∷ more) ws → IsWhole all (done ++ written_nodes ws) (given ++ written_pairs ws)) → AtNode (Duals (length ps)) nodes
-        unfolding written_nodes_of written_pairs_of
-        at_duals whole =
-            record {
-              enough = enough_pairs;
-              within = own_within;
-              goes_on = λ own indices numbers short number.
-                  next_leaf (DualsOf (length own)) own (written_duals own) refl refl (duals ps) (same_duals ps own indices (λ i. numbers i ∙ ap (λ qs. number_of qs i zero_ℚ) own_pairs)) whole;
-            }
-
-        at_weights : ((ws : List CertificateTree) → AreSame (weights ps ∷ more) ws → IsWhole all (done ++ written_nodes ws) (given ++ written_pairs ws)) → AtNode (Weights (length ps)) nodes
-        unfolding written_nodes_of written_pairs_of
-        at_weights whole =
-            record {
-              enough = enough_pairs;
-              within = own_within;
-              goes_on = λ own indices numbers short number.
-                  next_leaf (WeightsOf (length own)) own (written_weights own) refl refl (weights ps) (same_weights ps own indices (λ i. numbers i ∙ ap (λ qs. number_of qs i zero_ℚ) own_pairs)) whole;
-            }
-
     pub at_node : (node : ProofNode) (nodes : List ProofNode) → OnWrite all (node ∷ nodes) pairs done given → AtNode node nodes
-    unfolding nodes_in pairs_in nodes_of pairs_of AreTrees IsTreeOf
+    unfolding nodes_of pairs_of AreTrees IsTreeOf written_nodes_of written_pairs_of
     at_node node nodes on = by on.more on.nodes_are on.pairs_are on.trees on.whole
       where
-        by : (more : List ProofTree) → node ∷ nodes ≡ nodes_in more → pairs ≡ pairs_in more → AreTrees more → ((ws : List CertificateTree) → AreSame more ws → IsWhole all (done ++ written_nodes ws) (given ++ written_pairs ws)) → AtNode node nodes
+        by : (more : List ProofTree) → node ∷ nodes ≡ flat_map nodes_of more → pairs ≡ flat_map pairs_of more → AreTrees more → ((ws : List CertificateTree) → AreSame more ws → IsWhole all (done ++ flat_map written_nodes_of ws) (given ++ flat_map written_pairs_of ws)) → AtNode node nodes
         by [] ns ps trees whole = absurd (cc)
         by (split j t a b ∷ more) ns ps trees whole =
             let is : node ≡ Split j t = cc in
-            let left : nodes ≡ (nodes_of a ++ nodes_of b) ++ nodes_in more = cc in
+            let left : nodes ≡ (nodes_of a ++ nodes_of b) ++ flat_map nodes_of more = cc in
             subst (λ n. AtNode n nodes) (sym is) (at_split more trees.1 j t a b nodes left ps trees.0 whole)
         by (duals qs ∷ more) ns ps trees whole =
             let is : node ≡ Duals (length qs) = cc in
-            let left : nodes ≡ nodes_in more = cc in
-            subst (λ n. AtNode n nodes) (sym is) (at_duals more trees.1 qs nodes left ps trees.0 whole)
+            let left : nodes ≡ flat_map nodes_of more = cc in
+            subst (λ n. AtNode n nodes) (sym is) (at_leaf more trees.1 qs nodes left ps trees.0 (duals qs) (Duals (length qs)) written_duals refl (λ own. refl) (λ own. refl) (same_duals qs) whole)
         by (weights qs ∷ more) ns ps trees whole =
             let is : node ≡ Weights (length qs) = cc in
-            let left : nodes ≡ nodes_in more = cc in
-            subst (λ n. AtNode n nodes) (sym is) (at_weights more trees.1 qs nodes left ps trees.0 whole)
+            let left : nodes ≡ flat_map nodes_of more = cc in
+            subst (λ n. AtNode n nodes) (sym is) (at_leaf more trees.1 qs nodes left ps trees.0 (weights qs) (Weights (length qs)) written_weights refl (λ own. refl) (λ own. refl) (same_weights qs) whole)
 
 -- ---- the node at index k, once its pairs are put in order
 module _ (f : Linear) (all : ProofTree) (nodes : List ProofNode) (k : ℕ) (pairs : List Pair) (done : List CertificateNode) (given : List WrittenPair) (on : OnWrite f all (drop k nodes) pairs done given) (none : ProofNode) (within : k < length nodes) where

@@ -1,25 +1,25 @@
 -- What each way to end a command says of its outcome and of the desk.
-use Rattle.std.proofs.Common.{◌≡◌, ◌≢◌, ◌∙◌, inl, inr, ◌⊎◌, ℕ, zero, suc, ◌≤◌, List, Bool, true, false, drop, Option, Some, None, IfSome, refl, subst, arith}
-use Rattle.std.specs.Prelude.{IsTrue}
+use Rattle.std.proofs.Common.{◌≡◌, ◌≢◌, ◌∙◌, inl, inr, ◌⊎◌, ℕ, zero, suc, ◌<◌, ◌≤◌, List, Bool, true, false, drop, Option, Some, None, IfSome, refl, subst, arith}
+use Rattle.std.specs.Prelude.{IsTrue, Result, Ok, Err}
 use Rattle.std.specs.Global.{Vec}
+use Rattle.texts.specs.declared.stop.Stop.{Stop}
+use Rattle.texts.specs.declared.stop.Stop.TheVariants.{Fault, Memory}
 use Rattle.std.specs.Io.KnownBytes.{Appends}
 use Rattle.desk.specs.Desk.{Meaning, Rose, OnlyInput}
-use Rattle.bridge_tool.specs.InsideAnswer.{IsWorked, EndsWriting, HasWritten, HasStopped}
+use Rattle.bridge_tool.specs.InsideRefusal.{refusal_line}
+use Rattle.bridge_tool.specs.declared.refusal.Refusal.{Refusal}
+use Rattle.bridge_tool.specs.InsideAnswer.{IsWorked, Ends, EndsWriting, status_of, told_by, HasWritten, HasStopped}
 use Rattle.bridge_tool.specs.Outcome.{Outcome, BadWords, Untold, NoText, Refused, Done, Status, Written, IsQuiet, told_line, verdict_status}
 use Rattle.bridge_tool.specs.Promise.{Promise}
-use Rattle.bridge_tool.specs.Told.{IsRefusalLine}
 use Rattle.bridge_tool.specs.Transfer.{AppendsPart}
 use Rattle.bridge_tool.specs.declared.answer.Answer.{Answer}
-use Rattle.bridge_tool.specs.declared.answer.Answer.TheVariants.{Done as IsDone, Refused as IsRefusal, BadWords as HasBadWords, InputFault, OutputFault, NoMemory}
+use Rattle.bridge_tool.specs.declared.answer.Answer.TheVariants.{Done as IsDone, Refused as IsRefusal, InputFault, OutputFault, NoMemory}
 use Rattle.bridge_tool.specs.declared.transfer.TheConstants.{LIMIT}
 
 -- with such a status nothing is said of what is written
 nothing_written : (o : Outcome) (old new : Option (List ℕ)) (status : ℕ) → (status ≤ 1 → ⊥) → (status ≡ 5 → ⊥) → Written o old new status
-nothing_written BadWords old new status low five = tt
-nothing_written (Untold judges) old new status low five = tt
-nothing_written NoText old new status low five = tt
-nothing_written (Refused line) old new status low five = tt
 nothing_written (Done holds bytes) old new status low five = (λ le. absurd (low le), λ e. absurd (five e))
+nothing_written other old new status low five = tt
 
 -- not the outcome of bad words
 unfoldable pub IsKnown : Outcome → Type 0
@@ -48,7 +48,7 @@ line_none o (suc (suc n)) le = absurd (omega (arith, le))
 
 -- ---- verdicts
 
-low : (verdict : Bool) → verdict_status verdict ≤ 1
+pub low : (verdict : Bool) → verdict_status verdict ≤ 1
 low true = omega arith
 low false = omega arith
 
@@ -83,63 +83,45 @@ pub record HasComeTo (p : Promise) (judges : Bool) (old mid : Meaning) (x : Outc
   pub rest : OnlyInput old mid
 
 module _ (p : Promise) (judges : Bool) (old mid : Meaning) where
+  -- nothing was written, and there is no verdict
+  quiet_worked : (answer : Answer) → (status_of answer ≤ 1 → ⊥) → (status_of answer ≡ 5 → ⊥)
+      → ((o : Outcome) → p.comes o → Status o (Rose old.input_faults mid.input_faults) (Rose old.output_faults mid.output_faults) (status_of answer))
+      → ((o : Outcome) → p.comes o → IfSome (told_line o (status_of answer)) (λ line. line ≡ told_by answer))
+      → ((status_of answer ≤ 2) ⊎ (status_of answer ≡ 5) → (text : List ℕ) → p.last text → mid.left ≡ Some (drop LIMIT text))
+      → old.input_faults ≤ mid.input_faults → (old.input_faults < mid.input_faults → status_of answer ≡ 4) → OnlyInput old mid → IsWorked p old mid answer
+  quiet_worked answer low five status line left later input rest =
+      record {
+        status = status;
+        written = λ o h. nothing_written o _ _ (status_of answer) low five;
+        line = line;
+        quiet = λ q. rest.written;
+        left = left;
+        means = λ e. absurd (low (omega (arith, e)));
+        input_later = later;
+        output_later = omega (arith, rest.output_faults);
+        input = input;
+        output = λ lt. absurd (omega (arith, lt, rest.output_faults));
+        texts = rest.texts;
+        told = rest.told;
+        messages = rest.message_faults;
+      }
+
   -- an input call failed, or a file has no text
   pub missed_worked : ((o : Outcome) → p.comes o → Status o (Rose old.input_faults mid.input_faults) (Rose old.output_faults mid.output_faults) 4) → old.input_faults ≤ mid.input_faults → OnlyInput old mid → IsWorked p old mid InputFault
   missed_worked status later rest =
-      record {
-        status = status;
-        written = λ o h. nothing_written o _ _ 4 (λ le. absurd (omega (arith, le))) (λ e. absurd (omega (arith, e)));
-        line = λ o h. refl;
-        refusal = λ e. absurd (omega (arith, e));
-        quiet = λ q. rest.written;
-        left = λ q. absurd (elim q [ inl le ↦ omega (arith, le) | inr e ↦ omega (arith, e) ]);
-        means = λ e. absurd (omega (arith, e));
-        input_later = later;
-        output_later = omega (arith, rest.output_faults);
-        input = λ lt. refl;
-        output = λ lt. absurd (omega (arith, lt, rest.output_faults));
-        texts = rest.texts;
-        told = rest.told;
-        messages = rest.message_faults;
-      }
+      quiet_worked InputFault (λ le. absurd (omega (arith, le))) (λ e. absurd (omega (arith, e))) status (λ o h. refl)
+      (λ q. absurd (elim q [ inl le ↦ omega (arith, le) | inr e ↦ omega (arith, e) ])) later (λ lt. refl) rest
 
   pub memory_worked : ((o : Outcome) → p.comes o → IsKnown o) → mid.input_faults ≡ old.input_faults → OnlyInput old mid → IsWorked p old mid NoMemory
   memory_worked known same rest =
-      record {
-        status = λ o h. memory_status o _ _ (known o h);
-        written = λ o h. nothing_written o _ _ 6 (λ le. absurd (omega (arith, le))) (λ e. absurd (omega (arith, e)));
-        line = λ o h. refl;
-        refusal = λ e. absurd (omega (arith, e));
-        quiet = λ q. rest.written;
-        left = λ q. absurd (elim q [ inl le ↦ omega (arith, le) | inr e ↦ omega (arith, e) ]);
-        means = λ e. absurd (omega (arith, e));
-        input_later = omega (arith, same);
-        output_later = omega (arith, rest.output_faults);
-        input = λ lt. absurd (omega (arith, lt, same));
-        output = λ lt. absurd (omega (arith, lt, rest.output_faults));
-        texts = rest.texts;
-        told = rest.told;
-        messages = rest.message_faults;
-      }
+      quiet_worked NoMemory (λ le. absurd (omega (arith, le))) (λ e. absurd (omega (arith, e))) (λ o h. memory_status o _ _ (known o h)) (λ o h. refl)
+      (λ q. absurd (elim q [ inl le ↦ omega (arith, le) | inr e ↦ omega (arith, e) ])) (omega (arith, same)) (λ lt. absurd (omega (arith, lt, same))) rest
 
-  pub refused_worked : (line : Vec ℕ) → HasComeTo p judges old mid (Refused line.items) → IsRefusalLine line.items → IsWorked p old mid (IsRefusal line)
-  refused_worked line j is_line =
-      record {
-        status = λ o h. elim (j.knows o h) [ inl e ↦ rw e (inr (inr (inl refl))) | inr e ↦ rw e (inl refl) ];
-        written = λ o h. nothing_written o _ _ 2 (λ le. absurd (omega (arith, le))) (λ e. absurd (omega (arith, e)));
-        line = λ o h. elim (j.knows o h) [ inl e ↦ rw e tt | inr e ↦ rw e refl ];
-        refusal = λ e. is_line;
-        quiet = λ q. j.rest.written;
-        left = λ q text is. j.left text is;
-        means = λ e. absurd (omega (arith, e));
-        input_later = omega (arith, j.same);
-        output_later = omega (arith, j.rest.output_faults);
-        input = λ lt. absurd (omega (arith, lt, j.same));
-        output = λ lt. absurd (omega (arith, lt, j.rest.output_faults));
-        texts = j.rest.texts;
-        told = j.rest.told;
-        messages = j.rest.message_faults;
-      }
+  pub refused_worked : (refusal : Refusal) → HasComeTo p judges old mid (Refused (refusal_line refusal)) → IsWorked p old mid (IsRefusal refusal)
+  refused_worked refusal j =
+      quiet_worked (IsRefusal refusal) (λ le. absurd (omega (arith, le))) (λ e. absurd (omega (arith, e)))
+      (λ o h. elim (j.knows o h) [ inl e ↦ rw e (inr (inr (inl refl))) | inr e ↦ rw e (inl refl) ]) (λ o h. elim (j.knows o h) [ inl e ↦ rw e tt | inr e ↦ rw e refl ])
+      (λ q text is. j.left text is) (omega (arith, j.same)) (λ lt. absurd (omega (arith, lt, j.same))) j.rest
 
   done_worked : (new : Meaning) (verdict : Bool) (bytes : List ℕ) → HasComeTo p judges old mid (Done verdict bytes) → (verdict ≡ true) ⊎ IsTrue judges → (verdict ≡ true → p.means) → HasWritten bytes mid new → IsWorked p old new (IsDone verdict)
   done_worked new verdict bytes j may means h =
@@ -149,7 +131,6 @@ module _ (p : Promise) (judges : Bool) (old mid : Meaning) where
         status = λ o c. elim (j.knows o c) [ inl e ↦ rw e (untold_verdict judges verdict _ _ may) | inr e ↦ rw e (inl refl) ];
         written = λ o c. elim (j.knows o c) [ inl e ↦ rw e tt | inr e ↦ rw e (λ one. all, λ five. absurd (not_five _ le five)) ];
         line = λ o c. no_line o (verdict_status verdict) _ le;
-        refusal = λ e. absurd (omega (arith, e, le));
         quiet = λ q. absurd (not_quiet _ le q);
         left = λ q text is. h.rest.left ∙ j.left text is;
         means = meant verdict p.means means;
@@ -170,7 +151,6 @@ module _ (p : Promise) (judges : Bool) (old mid : Meaning) where
         status = λ o c. elim (j.knows o c) [ inl e ↦ rw e (inr (inr (inr (inr (inr (refl, up)))))) | inr e ↦ rw e (inr (inr (inr (refl, up)))) ];
         written = λ o c. elim (j.knows o c) [ inl e ↦ rw e tt | inr e ↦ rw e (λ le. absurd (omega (arith, le)), λ five. front) ];
         line = λ o c. refl;
-        refusal = λ e. absurd (omega (arith, e));
         quiet = λ q. absurd (five_is_loud q);
         left = λ q text is. h.rest.left ∙ j.left text is;
         means = λ e. absurd (omega (arith, e));
@@ -185,9 +165,18 @@ module _ (p : Promise) (judges : Bool) (old mid : Meaning) where
 
   -- the bytes of the outcome were written, or an output call failed
   pub wrote_worked : (new : Meaning) (verdict : Bool) (bytes : List ℕ) (answer : Answer) → HasComeTo p judges old mid (Done verdict bytes) → (verdict ≡ true) ⊎ IsTrue judges → (verdict ≡ true → p.means) → EndsWriting verdict bytes mid new answer → IsWorked p old new answer
-  wrote_worked new verdict bytes (IsDone holds) j may means h = rw (h.0) (done_worked new verdict bytes j may means h.1)
-  wrote_worked new verdict bytes OutputFault j may means h = output_worked new verdict bytes j h
-  wrote_worked new verdict bytes (IsRefusal line) j may means h = absurd h
-  wrote_worked new verdict bytes HasBadWords j may means h = absurd h
-  wrote_worked new verdict bytes InputFault j may means h = absurd h
-  wrote_worked new verdict bytes NoMemory j may means h = absurd h
+  wrote_worked new verdict bytes answer j may means (inl h) = rw h.0 (done_worked new verdict bytes j may means h.1)
+  wrote_worked new verdict bytes answer j may means (inr h) = rw h.0 (output_worked new verdict bytes j h.1)
+
+-- ---- statuses
+
+done_status : (holds : Bool) → (verdict_status holds ≢ 3) × (verdict_status holds ≢ 4)
+done_status true = (λ e. absurd (omega (arith, e)), λ e. absurd (omega (arith, e)))
+done_status false = (λ e. absurd (omega (arith, e)), λ e. absurd (omega (arith, e)))
+
+-- where all files were read, words are known and no input call failed
+pub ends_status : (judged : Result (Bool × Vec ℕ) (Stop Refusal)) (old new : Meaning) (answer : Answer) → Ends judged old new answer → (status_of answer ≢ 3) × (status_of answer ≢ 4)
+ends_status (Ok t) old new answer (inl h) = rw h.0 (done_status t.0)
+ends_status (Ok t) old new answer (inr h) = rw h.0 (λ e. absurd (omega (arith, e)), λ e. absurd (omega (arith, e)))
+ends_status (Err (Fault refusal)) old new answer h = rw h.0 (λ e. absurd (omega (arith, e)), λ e. absurd (omega (arith, e)))
+ends_status (Err Memory) old new answer h = rw h.0 (λ e. absurd (omega (arith, e)), λ e. absurd (omega (arith, e)))

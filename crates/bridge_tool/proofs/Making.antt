@@ -1,16 +1,28 @@
 -- An instance is summed up in one line, or its written text is refused with one line.
-use Rattle.std.proofs.Common.{◌≡◌, ◌≢◌, ◌∙◌, inl, inr, ◌⊎◌, ℕ, ◌+◌, ◌≤◌, List, Bool, true, false, if◌then◌else◌, length, Result, Ok, Err, refl, sym, ap, subst, arith, Option, Some, None}
-use Rattle.std.specs.Global.{Vec}
-use Rattle.fractions.specs.Rational.{ℚ}
+use Rattle.std.proofs.Common.{◌≡◌, ◌∙◌, ℕ, suc, ◌+◌, ◌<◌, ◌≤◌, ◌^◌, ◌||◌, Bool, List, [], ◌∷◌, map, length, get_or, drop, Option, Some, None, cond, refl, sym, ap, ap₂, arith, is_some, inl, inr, true, false, if◌then◌else◌, Result, Ok, Err, subst}
+use Rattle.std.specs.List.{count_by, sum_by}
+use Rattle.std.proofs.lemmas.List.Sums.{count_by-le-length, sum_by-cons, sum_by-drop_more, sum_by-le-sum_by}
 use Rattle.exact_numbers.specs.declared.dec.Dec.{Dec}
 use Rattle.exact_numbers.specs.Values.{dec_value, value_text}
+use Rattle.exported_program.specs.Return.{is_exported}
+use Rattle.linear_program.specs.declared.form.Form.{Form}
+use Rattle.linear_program.specs.Programs.{LinearValue, form_of, linear_value, rows_from}
+use Rattle.linear_programs.specs.Names.{row_name}
+use Rattle.exported_program.specs.Program.{has_side}
+use Rattle.linear_program.specs.Intervals.{interval_of}
+use Rattle.std.specs.Prelude.{option_map}
+use Rattle.mps_model.specs.Built.{entry_of}
+use Rattle.mps_model.specs.Mps.{Column, Mps, column_with, with_values}
+use Rattle.mps_model.specs.Valid.{entry_count}
+use Rattle.linear_program.specs.declared.interval.Interval.{Interval}
+use Rattle.fractions.specs.Rational.{ℚ}
+use Rattle.bridge_tool.specs.Make.{coefficient_count, exported_count, has_finite_side, is_coefficient, of_column, IsInstanceSummedUp, IsMade, IsSummedUp, LeavesInput, MakesAs, made_text, make_promise, summary_line, summary_of}
+use Rattle.std.specs.Global.{Vec}
 use Rattle.file_meaning.specs.FoldFaults.{has_objective}
 use Rattle.file_meaning.specs.LinearFile.{linear_of}
 use Rattle.instances.specs.Instance.{instance}
 use Rattle.instance_texts.proofs.Writing.{said}
 use Rattle.linear_fold.specs.FoldedFaults.{step_bound}
-use Rattle.linear_program.specs.Programs.{LinearValue, linear_value}
-use Rattle.mps_model.specs.Mps.{Mps, with_values}
 use Rattle.mps_model.specs.Text.{mps_text_by}
 use Rattle.nl_model.specs.File.{File}
 use Rattle.nl_segments.specs.Grammar.{NlValue}
@@ -20,26 +32,84 @@ use Rattle.scaling.specs.Scaled.{ScaledValue}
 use Rattle.desk.specs.Desk.{Meaning, OnlyMessages}
 use Rattle.texts.specs.declared.stop.Stop.{Stop}
 use Rattle.texts.specs.declared.stop.Stop.TheVariants.{Fault as IsFault, Memory as IsMemory}
-use Rattle.bridge_tool.specs.InsideAnswer.{Ends, EndsWriting, IsWorked, status_of}
+use Rattle.bridge_tool.specs.InsideAnswer.{Ends, IsWorked, status_of}
 use Rattle.bridge_tool.specs.Command.{Command, Make}
 use Rattle.bridge_tool.specs.Commands.{Leaves}
-use Rattle.bridge_tool.specs.Export.{IsExported}
-use Rattle.bridge_tool.specs.Make.{IsInstanceSummedUp, IsMade, IsSummedUp, LeavesInput, MakesAs, coefficient_count, exported_count, made_text, make_promise, summary_line, summary_of}
+use Rattle.bridge_tool.specs.declared.refusal.Refusal.{Refusal}
+use Rattle.bridge_tool.specs.InsideRefusal.{refusal_line}
 use Rattle.bridge_tool.specs.Outcome.{Outcome, Refused, Done}
 use Rattle.bridge_tool.specs.Refusal.{HasTextRefusal}
 use Rattle.bridge_tool.specs.SeveralFiles.{Comes}
 use Rattle.bridge_tool.specs.Stages.{HasFolded, HasScaled, CannotBeExported, fold_steps}
-use Rattle.bridge_tool.specs.Told.{IsRefusalLine}
 use Rattle.bridge_tool.specs.declared.answer.Answer.{Answer}
-use Rattle.bridge_tool.specs.declared.answer.Answer.TheVariants.{Done as IsDone, Refused as IsRefusal, BadWords as HasBadWords, InputFault, OutputFault, NoMemory}
-use Rattle.bridge_tool.proofs.Ending.{HasComeTo, memory_worked, refused_worked, wrote_worked}
-use Rattle.bridge_tool.proofs.Exporting.{export_either, nl_read, one_text, same_file}
+use Rattle.bridge_tool.proofs.Ending.{HasComeTo, ends_status, memory_worked, refused_worked, wrote_worked}
+use Rattle.bridge_tool.proofs.Exporting.{an_export, exports_so, nl_read, one_program, one_text, same_file, staged_either, staged_so}
 use Rattle.bridge_tool.proofs.Known.{OnlyInput-same}
-use Rattle.bridge_tool.proofs.OneOutcome.{HasOne, IsEither, IsPlain, done_so, one_of_both}
-use Rattle.bridge_tool.proofs.RefusalLines.{refused_same, same_so}
-use Rattle.bridge_tool.proofs.SeveralFiles.{one_by_value, plain_known}
-use Rattle.bridge_tool.proofs.Staging.{exports_so, one_program, one_reason, staged_or_not, staged_so, unstaged_so}
-use Rattle.bridge_tool.proofs.Summing.{coefficients_same}
+use Rattle.bridge_tool.proofs.SeveralFiles.{HasOne, IsPlain, done_so, one_of_both, one_by_value, plain_known}
+
+-- ---- coefficients
+
+column_more : {A : Type 0} (g : A → ℕ) (cs : List A) (i total n : ℕ) (c : A) → i < length cs → c ≡ get_or cs i c → n ≡ g c
+    → total + sum_by g (drop i cs) ≡ sum_by g cs → total + n + sum_by g (drop (i + 1) cs) ≡ sum_by g cs
+column_more g cs i total n c lt is at so =
+    let one : g c ≡ g (get_or cs i c) = ap g is in
+    omega (arith, so, sum_by-drop_more g cs i c lt, at, one)
+
+few_coefficients : (r : ℕ) (cs : List (Column Dec)) → sum_by (of_column r) cs ≤ entry_count cs
+few_coefficients r cs = sum_by-le-sum_by (of_column r) (λ c. length c.entries) cs (λ c. count_by-le-length (is_coefficient r) c.entries)
+
+sum_by-map : {A B : Type 0} (f : A → B) (g : B → ℕ) (h : A → ℕ) → ((a : A) → g (f a) ≡ h a) → (xs : List A) → sum_by g (map f xs) ≡ sum_by h xs
+sum_by-map f g h same [] = refl
+sum_by-map f g h same (x ∷ xs) = sum_by-cons g (f x) (map f xs) ∙ ap₂ (λ a b. a + b) (same x) (sum_by-map f g h same xs) ∙ sym (sum_by-cons h x xs)
+
+count_by-map : {A B : Type 0} (p : B → Bool) (f : A → B) (xs : List A) → count_by p (map f xs) ≡ count_by (λ x. p (f x)) xs
+count_by-map p f xs = sum_by-map f (λ y. cond (p y) 1 0) (λ x. cond (p (f x)) 1 0) (λ x. refl) xs
+
+counted : (r n : ℕ) (c : Column Dec) (es : List (ℕ × Dec)) → map entry_of es ≡ c.entries → n ≡ count_by (λ t. is_coefficient r (entry_of t)) es → n ≡ of_column r c
+counted r n c es entries is = is ∙ sym (count_by-map (is_coefficient r) entry_of es) ∙ ap (count_by (is_coefficient r)) entries
+
+-- one column more
+pub next_column : (r total n i : ℕ) (cs : List (Column Dec)) (c : Column Dec) (es : List (ℕ × Dec)) → i < length cs → c ≡ get_or cs i c → map entry_of es ≡ c.entries
+    → n ≡ count_by (λ t. is_coefficient r (entry_of t)) es → total + sum_by (of_column r) (drop i cs) ≡ sum_by (of_column r) cs
+    → total + n + sum_by (of_column r) (drop (i + 1) cs) ≡ sum_by (of_column r) cs
+next_column r total n i cs c es lt at entries is so = column_more (of_column r) cs i total n c lt at (counted r n c es entries is) so
+
+pub column_fits : (r total n i : ℕ) (cs : List (Column Dec)) (c : Column Dec) (es : List (ℕ × Dec)) → i < length cs → c ≡ get_or cs i c → map entry_of es ≡ c.entries
+    → n ≡ count_by (λ t. is_coefficient r (entry_of t)) es → total + sum_by (of_column r) (drop i cs) ≡ sum_by (of_column r) cs → entry_count cs ≤ 2 ^ 24 → total + n < 2 ^ 64
+column_fits r total n i cs c es lt at entries is so few =
+    omega (arith, next_column r total n i cs c es lt at entries is so, few_coefficients r cs, few)
+
+-- the same of other values
+pub coefficients_same : (r : ℕ) (m : Mps Dec) (p : Mps ℚ) → with_values dec_value m ≡ p → coefficient_count r m ≡ coefficient_count r p
+unfolding with_values
+coefficients_same r m p same =
+    sym (sum_by-map (column_with dec_value) (of_column r) (of_column r) (λ c. count_by-map (is_coefficient r) _ c.entries) m.columns) ∙ ap (coefficient_count r) same
+
+-- ---- rows
+
+abbrev is_exported_side : Interval → Bool
+is_exported_side s = has_side (option_map dec_value s.lo) (option_map dec_value s.hi)
+
+sides_exported : (i : Interval) → is_exported_side i ≡ has_finite_side i
+sides_exported i = by i.lo i.hi
+  where
+    by : (lo hi : Option Dec) → has_side (option_map dec_value lo) (option_map dec_value hi) ≡ (is_some lo || is_some hi)
+    by None None = refl
+    by None (Some u) = refl
+    by (Some l) u = refl
+
+rows_exported : (i : ℕ) (bodies : List Form) (sides : List Interval) → length sides ≡ length bodies → count_by is_exported (rows_from i bodies sides) ≡ count_by has_finite_side sides
+rows_exported i [] [] same = refl
+rows_exported i [] (s ∷ sides) same = absurd (omega (arith, same))
+rows_exported i (b ∷ bodies) [] same = absurd (omega (arith, same))
+rows_exported i (b ∷ bodies) (s ∷ sides) same =
+    sum_by-cons (λ r. cond (is_exported r) 1 0) (record { name = row_name i; body = form_of b; side = interval_of s }) (rows_from (suc i) bodies sides)
+    ∙ ap₂ (λ t n. cond t 1 0 + n) (sides_exported s) (rows_exported (suc i) bodies sides (omega (arith, same)))
+    ∙ sym (sum_by-cons (λ s. cond (has_finite_side s) 1 0) s sides)
+
+pub sides_count : (l : LinearValue) → length l.sides ≡ length l.bodies → exported_count (linear_value l) ≡ count_by has_finite_side l.sides
+unfolding linear_value
+sides_count l same = rows_exported 0 l.bodies l.sides same
 
 -- ---- what a file comes to
 
@@ -50,20 +120,10 @@ module _ (nl : NlValue) where
       let texts = one_text nl 0 h.mps k.mps h.exported k.exported in
       h.summary ∙ (λ i. summary_of nl.file (programs i) (texts i)) ∙ sym k.summary
 
-  a_summary : ((bytes : List ℕ) × IsExported nl 0 bytes) ⊎ ((line : List ℕ) × CannotBeExported nl 0 line) → ((bytes : List ℕ) × IsMade nl bytes) ⊎ ((line : List ℕ) × CannotBeExported nl 0 line)
-  a_summary (inl e) = inl (summary_of nl.file e.1.program e.0, record { mps = e.0; exported = e.1; summary = refl })
-  a_summary (inr why) = inr why
-
-  made_either : IsEither (IsMade nl) (CannotBeExported nl 0)
-  made_either = record {
-    accepted = one_summary;
-    refused = one_reason nl 0;
-    either = a_summary (export_either nl 0).either;
-    apart = λ bytes line h why. staged_or_not nl 0 h.exported.staged line why;
-  }
-
   made_one : HasOne IsPlain (MakesAs nl)
-  made_one = one_of_both (IsMade nl) (CannotBeExported nl 0) made_either
+  made_one = one_of_both (IsMade nl) (CannotBeExported nl 0) (staged_either nl 0 (IsMade nl) one_summary (λ bytes h. h.exported.staged) (λ s.
+      let e = an_export nl 0 s in
+      (summary_of nl.file e.1.program e.0, record { mps = e.0; exported = e.1; summary = refl })))
 
 -- the summary of a program of decimals
 pub of_program : (variables rows terms bytes : ℕ) (m : Mps Dec) (p : Mps ℚ) (text out : List ℕ) → with_values dec_value m ≡ p → terms ≡ coefficient_count rows m → text ≡ mps_text_by value_text p → bytes ≡ length text → out ≡ summary_line variables rows terms bytes → IsSummedUp variables rows p out
@@ -114,9 +174,9 @@ module _ (seed size : ℕ) where
   make_one = one_by_value IsNl HasTextRefusal nl_read MakesAs made_one (made_text seed size)
 
   -- what a text comes to that says this file
-  pub file_comes : (nl : NlValue) (r : Result (Bool × Vec ℕ) (Stop (Vec ℕ))) → IsNl (made_text seed size) nl → Comes (MakesAs nl) r → Comes (make_promise seed size).comes r
+  pub file_comes : (nl : NlValue) (r : Result (Bool × Vec ℕ) (Stop Refusal)) → IsNl (made_text seed size) nl → Comes (MakesAs nl) r → Comes (make_promise seed size).comes r
   file_comes nl (Ok t) read h = inr (nl, (read, h))
-  file_comes nl (Err (IsFault line)) read h = inr (nl, (read, h))
+  file_comes nl (Err (IsFault refusal)) read h = inr (nl, (read, h))
   file_comes nl (Err IsMemory) read h = tt
 
   -- the outcome of the written text
@@ -129,41 +189,31 @@ module _ (seed size : ℕ) where
         rest = OnlyInput-same old;
       }
 
-  refused_line : (line : List ℕ) → (make_promise seed size).comes (Refused line) → IsRefusalLine line
-  refused_line line (inl h) = same_so line h.0 (refused_same line h.0 h.1.1) (nl_read.lines (made_text seed size) h.0 h.1.0)
-  refused_line line (inr h) = unstaged_so h.0 0 line h.1.1
-
   holds_so : (holds : Bool) (bytes : List ℕ) → (make_promise seed size).comes (Done holds bytes) → holds ≡ true
   holds_so holds bytes (inl h) = let e = h.1.1 in absurd cc
   holds_so holds bytes (inr h) = done_so (IsMade h.0) (CannotBeExported h.0 0) holds bytes h.1.1
 
-  pub make_worked : size ≤ 20000 → (old new : Meaning) (judged : Result (Bool × Vec ℕ) (Stop (Vec ℕ))) (answer : Answer) → Comes (make_promise seed size).comes judged → Ends judged old new answer
+  pub make_worked : size ≤ 20000 → (old new : Meaning) (judged : Result (Bool × Vec ℕ) (Stop Refusal)) (answer : Answer) → Comes (make_promise seed size).comes judged → Ends judged old new answer
       → IsWorked (make_promise seed size) old new answer
   make_worked few old new (Ok t) answer comes ends =
       wrote_worked (make_promise seed size) false old old new t.0 t.1.items answer (come old (Done t.0 t.1.items) comes) (inl (holds_so t.0 t.1.items comes)) (λ e. instance_summed_up seed size few) ends
-  make_worked few old new (Err (IsFault line)) answer comes ends =
-      rw (ends.0, ends.1) (refused_worked (make_promise seed size) false old old line (come old (Refused line.items) comes) (refused_line line.items comes))
+  make_worked few old new (Err (IsFault refusal)) answer comes ends =
+      rw (ends.0, ends.1) (refused_worked (make_promise seed size) false old old refusal (come old (Refused (refusal_line refusal)) comes))
   make_worked few old new (Err IsMemory) answer comes ends =
       rw (ends.0, ends.1) (memory_worked (make_promise seed size) false old old (λ o h. plain_known o (subst IsPlain (sym (make_one.one o h)) make_one.is)) refl (OnlyInput-same old))
 
 -- ---- the input
 
-wrote_known : (holds : Bool) → status_of (IsDone holds) ≢ 4
-wrote_known true = λ f. absurd (omega (arith, f))
-wrote_known false = λ f. absurd (omega (arith, f))
+left_so : (judged : Result (Bool × Vec ℕ) (Stop Refusal)) (old new : Meaning) (answer : Answer) → Ends judged old new answer → (new.left ≡ old.left) × (new.input_faults ≡ old.input_faults)
+left_so (Ok t) old new answer (inl h) = (h.1.rest.left, h.1.rest.input_faults)
+left_so (Ok t) old new answer (inr h) = (h.1.rest.left, h.1.rest.input_faults)
+left_so (Err (IsFault refusal)) old new answer h = rw h.1 (refl, refl)
+left_so (Err IsMemory) old new answer h = rw h.1 (refl, refl)
 
-wrote_leaves : (verdict : Bool) (bytes : List ℕ) (old new : Meaning) (answer : Answer) → EndsWriting verdict bytes old new answer → LeavesInput old new (status_of answer)
-wrote_leaves verdict bytes old new (IsDone holds) h = record { left = h.1.rest.left; faults = h.1.rest.input_faults; known = wrote_known holds }
-wrote_leaves verdict bytes old new OutputFault h = record { left = h.rest.left; faults = h.rest.input_faults; known = λ e. absurd (omega (arith, e)) }
-wrote_leaves verdict bytes old new (IsRefusal line) h = absurd h
-wrote_leaves verdict bytes old new HasBadWords h = absurd h
-wrote_leaves verdict bytes old new InputFault h = absurd h
-wrote_leaves verdict bytes old new NoMemory h = absurd h
-
-pub make_leaves : (old new : Meaning) (judged : Result (Bool × Vec ℕ) (Stop (Vec ℕ))) (answer : Answer) → Ends judged old new answer → LeavesInput old new (status_of answer)
-make_leaves old new (Ok t) answer ends = wrote_leaves t.0 t.1.items old new answer ends
-make_leaves old new (Err (IsFault line)) answer ends = rw (ends.0, ends.1) (record { left = refl; faults = refl; known = λ e. absurd (omega (arith, e)) })
-make_leaves old new (Err IsMemory) answer ends = rw (ends.0, ends.1) (record { left = refl; faults = refl; known = λ e. absurd (omega (arith, e)) })
+pub make_leaves : (old new : Meaning) (judged : Result (Bool × Vec ℕ) (Stop Refusal)) (answer : Answer) → Ends judged old new answer → LeavesInput old new (status_of answer)
+make_leaves old new judged answer ends =
+    let left = left_so judged old new answer ends in
+    record { left = left.0; faults = left.1; known = (ends_status judged old new answer ends).1 }
 
 -- what is told changes nothing of it
 pub leaves_told : (command : Option Command) (old mid new : Meaning) (status told : ℕ) → Leaves command old mid status → told ≡ status → OnlyMessages mid new → Leaves command old new told

@@ -1,45 +1,32 @@
 -- Lists of names: each text says one list, or is refused with one line; and how many names there are.
-use Rattle.std.proofs.Common.{◌≡◌, ◌∙◌, inl, inr, ◌⊎◌, ℕ, ◌+◌, ◌==◌, ◌≤◌, Bool, true, false, ◌||◌, List, codes, length, Option, Some, None, Result, Ok, Err, refl, sym, ap, ap₂, arith, eqb-true, length-take-le, take_all}
+use Rattle.std.proofs.Common.{◌≡◌, ◌∙◌, inl, inr, ℕ, ◌+◌, ◌==◌, ◌≤◌, Bool, true, false, List, length, Option, Some, None, Result, Ok, Err, refl, sym, ap, arith, eqb-true, length-take-le, take_all}
 use Rattle.std.specs.Prelude.{IfOk, if◌then◌else◌}
+use Rattle.std.proofs.lemmas.Bool.{or_cases}
 use Rattle.std.proofs.lemmas.List.{drop_all}
 use Rattle.desk.specs.Desk.{Meaning, Texts}
-use Rattle.texts.specs.Judged.{End, HasOneOutcome, IsClean, Last, Rules, last_reason, reason_at}
+use Rattle.texts.specs.Judged.{End, IsClean, Last, Rules, last_reason, reason_at}
 use Rattle.texts.specs.Reading.{last_by, last_of, lines_of}
 use Rattle.texts.specs.Lines.{scan}
 use Rattle.texts.specs.declared.lines.LineFault.{LineFault}
-use Rattle.texts.proofs.JudgedLemmas.{one_outcome}
-use Rattle.name_files.specs.Names.{Counts, end_reason, is_full, name_rules, names_of, used_names}
+use Rattle.name_files.specs.Names.{Counts, SaysNames, end_reason, is_full, name_rules, names_of, used_names}
 use Rattle.name_files.specs.declared.fault.NameReason.{NameReason}
 use Rattle.name_files.specs.declared.fault.NameReason.TheVariants.{OtherCount}
 use Rattle.nl_model.specs.File.{File}
 use Rattle.nl_model.specs.declared.header_counts.Counts.{Counts as FileCounts}
 use Rattle.bridge_tool.specs.NameLists.{AreListed, IsListRefused, column_counts, row_counts, after_lists}
-use Rattle.bridge_tool.specs.NamesTold.{name_line, name_reason_text}
+use Rattle.bridge_tool.specs.NamesTold.{name_line}
+use Rattle.nl_segments.specs.Grammar.{NlValue}
+use Rattle.nl_segments.specs.Reader.{IsNl}
+use Rattle.bridge_tool.specs.Refusal.{HasTextRefusal}
 use Rattle.bridge_tool.specs.SeveralFiles.{ReadsFile, itself, after_file, desk_promise}
-use Rattle.bridge_tool.specs.Told.{refusal}
 use Rattle.bridge_tool.specs.declared.answer.Answer.{Answer}
-use Rattle.bridge_tool.proofs.Decisions.{AreRead}
-use Rattle.bridge_tool.proofs.RefusalLines.{refusal_so, same_so}
-use Rattle.bridge_tool.proofs.SeveralFiles.{HasComeDown, IsSound, further, sound_after, stopped}
-use Rattle.bridge_tool.specs.InsideAnswer.{IsWorked}
+use Rattle.bridge_tool.proofs.SeveralFiles.{AreRead, read_by, HasComeDown, IsSound, first_down, first_sound, first_stopped, further, sound_after, stopped}
+use Rattle.bridge_tool.proofs.Exporting.{nl_read}
+use Rattle.bridge_tool.specs.InsideAnswer.{IsCounted}
 use Rattle.bridge_tool.specs.Promise.{Promise}
 
-outcome_of : (counts : Counts) (text : List ℕ) → HasOneOutcome (name_rules counts) (lines_of text) (last_of text)
-outcome_of counts text = one_outcome (name_rules counts) (lines_of text) (last_of text)
-
 pub list_read : (counts : Counts) (file : ℕ) → AreRead (AreListed counts) (IsListRefused counts file)
-list_read counts file = record {
-  said = λ text a b h k. h.said ∙ sym k.said;
-  refused = λ text a b h k.
-      let same = (outcome_of counts text).one_fault h.fault.line k.fault.line h.fault.reason k.fault.reason h.first k.first in
-      h.told ∙ ap₂ (λ l r. refusal file (codes "line") l (name_reason_text r)) same.0 same.1 ∙ sym k.told;
-  either = λ text. elim (outcome_of counts text).some [
-    | inl clean ↦ inl (used_names counts (lines_of text), record { clean = clean; said = refl })
-    | inr found ↦ inr (name_line file (record { reason = found.1; line = found.0 }), record { fault = record { reason = found.1; line = found.0 }; first = found.2; told = refl })
-  ];
-  apart = λ text value line h k. (outcome_of counts text).not_both h.clean k.fault.line k.fault.reason k.first;
-  lines = λ text line h. same_so line _ h.told (refusal_so file (codes "line") h.fault.line (name_reason_text h.fault.reason));
-}
+list_read counts file = read_by (name_rules counts) (SaysNames counts) (name_line file) (λ lines. used_names counts lines) (λ lines names h. h) (λ lines. refl)
 
 -- ---- how many names there are
 
@@ -50,16 +37,12 @@ at_end rules lines last = rw (take_all (length lines) lines (omega arith), drop_
 end_fine : {R : Type 0} (rules : Rules R) (lines : List (List ℕ)) (last : Last) → IsClean rules lines last → last_reason rules lines last ≡ None
 end_fine rules lines last clean = sym (at_end rules lines last) ∙ clean.clean (length lines) (omega arith)
 
-either_true : (a b : Bool) → (a || b) ≡ true → (a ≡ true) ⊎ (b ≡ true)
-either_true true b e = inl refl
-either_true false b e = inr e
-
 no_reason : (b : Bool) (r : NameReason) → ◌≡◌ {A = Option NameReason} (if b then None else Some r) None → b ≡ true
 no_reason true r e = refl
 no_reason false r e = absurd cc
 
 enough : (counts : Counts) (n : ℕ) → is_full counts n ≡ true → counts.used ≤ n
-enough counts n e = elim (either_true (n == counts.used) (n == counts.used + counts.further) e) [
+enough counts n e = elim (or_cases (n == counts.used) (n == counts.used + counts.further) e) [
   | inl h ↦ let same : n ≡ counts.used = eqb-true n counts.used h in omega (arith, same)
   | inr h ↦ let same : n ≡ counts.used + counts.further = eqb-true n (counts.used + counts.further) h in omega (arith, same)
 ]
@@ -88,30 +71,50 @@ rows_of f counts same = ap (λ (c : FileCounts). record { used = c.n_con; furthe
 pub columns_of : (f : File) (counts : FileCounts) → counts ≡ f.counts → column_counts f ≡ record { used = counts.n_var; further = 0 }
 columns_of f counts same = ap (λ (c : FileCounts). record { used = c.n_var; further = 0 }) (sym same)
 
--- ---- a command that reads both lists
+-- ---- a command of a file and its lists of names
 
-module _ (judges : Bool) (told : Texts → Promise) (s : (texts : Texts) → IsSound (told texts)) (f : File) (number : ℕ) (rows columns : List ℕ) (next : Texts → List (List ℕ) → List (List ℕ) → Promise) (old mid : Meaning)
-    (down : HasComeDown told judges (λ texts. after_lists f number texts rows columns (next texts)) old mid) where
-  abbrev after_rows : Texts → List (List ℕ) → Promise
-  after_rows texts r = after_file (AreListed (column_counts f)) (IsListRefused (column_counts f) (number + 1)) texts columns (next texts r)
+module _ (judges : Bool) (number : ℕ) (file rows columns : List ℕ) (next : NlValue → Texts → List (List ℕ) → List (List ℕ) → Promise) (sound : (nl : NlValue) (texts : Texts) (r c : List (List ℕ)) → IsSound (next nl texts r c)) where
+  abbrev after_rows : NlValue → Texts → List (List ℕ) → Promise
+  after_rows nl texts r = after_file (AreListed (column_counts nl.file)) (IsListRefused (column_counts nl.file) (number + 1)) texts columns (next nl texts r)
 
-  -- the list of rows ends it
-  pub rows_stopped : (new : Meaning) (answer : Answer) → ReadsFile {R = List (List ℕ)} itself (AreListed (row_counts f)) (IsListRefused (row_counts f) number) rows mid new (Err answer) → IsWorked (desk_promise judges told old.texts) old new answer
-  rows_stopped new answer read = stopped told judges s itself (AreListed (row_counts f)) (IsListRefused (row_counts f) number) rows after_rows old mid new down (list_read (row_counts f) number) answer read
+  abbrev after_nl : Texts → NlValue → Promise
+  after_nl texts nl = after_lists nl.file number texts rows columns (next nl texts)
 
-  module _ (after : Meaning) (r : List (List ℕ)) (read : ReadsFile {R = List (List ℕ)} itself (AreListed (row_counts f)) (IsListRefused (row_counts f) number) rows mid after (Ok r)) where
-    pub rows_down : HasComeDown told judges (λ texts. after_rows texts r) old after
-    rows_down = further told judges itself (AreListed (row_counts f)) (IsListRefused (row_counts f) number) rows after_rows old mid after down r read
+  after_nl_sound : (texts : Texts) (nl : NlValue) → IsSound (after_nl texts nl)
+  after_nl_sound texts nl =
+      sound_after (AreListed (row_counts nl.file)) (IsListRefused (row_counts nl.file) number) (list_read (row_counts nl.file) number) texts rows (after_rows nl texts) (λ r.
+      sound_after (AreListed (column_counts nl.file)) (IsListRefused (column_counts nl.file) (number + 1)) (list_read (column_counts nl.file) (number + 1)) texts columns (next nl texts r) (sound nl texts r))
 
-    -- the list of columns ends it
-    pub columns_stopped : (new : Meaning) (answer : Answer) → ReadsFile {R = List (List ℕ)} itself (AreListed (column_counts f)) (IsListRefused (column_counts f) (number + 1)) columns after new (Err answer) → IsWorked (desk_promise judges told old.texts) old new answer
-    columns_stopped new answer other =
-        stopped told judges s itself (AreListed (column_counts f)) (IsListRefused (column_counts f) (number + 1)) columns (λ texts c. next texts r c) old after new rows_down (list_read (column_counts f) (number + 1)) answer other
+  abbrev pub listed : Texts → Promise
+  listed texts = after_file IsNl HasTextRefusal texts file (after_nl texts)
 
-    pub columns_down : (new : Meaning) (c : List (List ℕ)) → ReadsFile {R = List (List ℕ)} itself (AreListed (column_counts f)) (IsListRefused (column_counts f) (number + 1)) columns after new (Ok c) → HasComeDown told judges (λ texts. next texts r c) old new
-    columns_down new c other = further told judges itself (AreListed (column_counts f)) (IsListRefused (column_counts f) (number + 1)) columns (λ texts c. next texts r c) old after new rows_down c other
+  pub listed_sound : (texts : Texts) → IsSound (listed texts)
+  listed_sound = first_sound nl_read judges after_nl after_nl_sound file
 
-pub lists_sound : (f : File) (number : ℕ) (texts : Texts) (rows columns : List ℕ) (next : List (List ℕ) → List (List ℕ) → Promise) → ((r c : List (List ℕ)) → IsSound (next r c)) → IsSound (after_lists f number texts rows columns next)
-lists_sound f number texts rows columns next each =
-    sound_after (AreListed (row_counts f)) (IsListRefused (row_counts f) number) (list_read (row_counts f) number) texts rows _ (λ r.
-    sound_after (AreListed (column_counts f)) (IsListRefused (column_counts f) (number + 1)) (list_read (column_counts f) (number + 1)) texts columns (next r) (each r))
+  module _ {R : Type 0} (seen : R → NlValue) (old mid : Meaning) where
+    -- the file ends it
+    pub nl_stopped : (n : ℕ) (answer : Answer) → ReadsFile {R = R} seen IsNl HasTextRefusal file old mid (Err answer) → IsCounted (desk_promise judges listed old.texts) old mid n n answer
+    nl_stopped n answer read = first_stopped nl_read judges after_nl after_nl_sound file seen n old mid answer read
+
+    module _ (value : R) (read : ReadsFile {R = R} seen IsNl HasTextRefusal file old mid (Ok value)) where
+      abbrev f : File
+      f = (seen value).file
+
+      nl_down : HasComeDown listed judges (λ texts. after_nl texts (seen value)) old mid
+      nl_down = first_down nl_read judges after_nl after_nl_sound file seen old mid value read
+
+      -- the list of rows ends it
+      pub rows_stopped : (n : ℕ) (new : Meaning) (answer : Answer) → ReadsFile {R = List (List ℕ)} itself (AreListed (row_counts f)) (IsListRefused (row_counts f) number) rows mid new (Err answer) → IsCounted (desk_promise judges listed old.texts) old new n n answer
+      rows_stopped n new answer other = stopped listed judges listed_sound itself (AreListed (row_counts f)) (IsListRefused (row_counts f) number) rows (after_rows (seen value)) old mid new nl_down n answer other
+
+      module _ (after : Meaning) (r : List (List ℕ)) (named : ReadsFile {R = List (List ℕ)} itself (AreListed (row_counts f)) (IsListRefused (row_counts f) number) rows mid after (Ok r)) where
+        pub rows_down : HasComeDown listed judges (λ texts. after_rows (seen value) texts r) old after
+        rows_down = further listed judges itself (AreListed (row_counts f)) (IsListRefused (row_counts f) number) rows (after_rows (seen value)) old mid after nl_down r named
+
+        -- the list of columns ends it
+        pub columns_stopped : (n : ℕ) (new : Meaning) (answer : Answer) → ReadsFile {R = List (List ℕ)} itself (AreListed (column_counts f)) (IsListRefused (column_counts f) (number + 1)) columns after new (Err answer) → IsCounted (desk_promise judges listed old.texts) old new n n answer
+        columns_stopped n new answer other =
+            stopped listed judges listed_sound itself (AreListed (column_counts f)) (IsListRefused (column_counts f) (number + 1)) columns (λ texts c. next (seen value) texts r c) old after new rows_down n answer other
+
+        pub columns_down : (new : Meaning) (c : List (List ℕ)) → ReadsFile {R = List (List ℕ)} itself (AreListed (column_counts f)) (IsListRefused (column_counts f) (number + 1)) columns after new (Ok c) → HasComeDown listed judges (λ texts. next (seen value) texts r c) old new
+        columns_down new c other = further listed judges itself (AreListed (column_counts f)) (IsListRefused (column_counts f) (number + 1)) columns (λ texts c. next (seen value) texts r c) old after new rows_down c other

@@ -1,28 +1,114 @@
 -- Commands of files: exactly one outcome, and what each way to end them says.
-use Rattle.std.proofs.Common.{◌≡◌, ◌∙◌, inl, inr, ◌⊎◌, ℕ, ◌+◌, ◌≤◌, List, Bool, true, false, if◌then◌else◌, take, drop, Option, Some, None, Result, Ok, Err, refl, sym, ap, subst, arith}
+use Rattle.std.proofs.Common.{◌≡◌, inl, inr, ◌⊎◌, List, ℕ, Bool, true, false, refl, ap, ◌∙◌, sym, ap₂, ◌≢◌, ◌≤◌, ◌+◌, take, drop, Option, Some, None, Result, Ok, Err, subst, arith}
+use Rattle.bridge_tool.specs.Outcome.{Outcome, BadWords, DoneOrRefused, Untold, NoText, Refused as IsRefusal, Done as IsDone, Status}
+use Rattle.texts.specs.Judged.{Rules}
+use Rattle.texts.specs.Reading.{HasFault, IsRead, last_of, lines_of}
+use Rattle.texts.specs.declared.fault.TextFault.{TextFault}
+use Rattle.texts.proofs.JudgedLemmas.{one_outcome}
+use Rattle.bridge_tool.specs.Told.{TellsFault}
+use Rattle.std.proofs.lemmas.Option.{same_Some}
 use Rattle.std.specs.Prelude.{IfOk, IsTrue, MatchOption, MatchResult}
 use Rattle.std.specs.Global.{Vec}
 use Rattle.desk.specs.Desk.{IsUnknown, Meaning, OnlyInput, Rose, Texts}
 use Rattle.texts.specs.declared.stop.Stop.{Stop}
 use Rattle.texts.specs.declared.stop.Stop.TheVariants.{Fault, Memory}
-use Rattle.bridge_tool.specs.InsideAnswer.{IsWorked, Ends, Missed}
-use Rattle.bridge_tool.specs.Outcome.{Outcome, Untold, NoText, BadWords, Refused as IsRefusal, Done as IsDone, Status}
+use Rattle.bridge_tool.specs.InsideRefusal.{refusal_line}
+use Rattle.bridge_tool.specs.InsideAnswer.{IsAtRest, IsCounted, IsWorked, Ends, Missed, status_of}
 use Rattle.bridge_tool.specs.Promise.{Promise}
 use Rattle.bridge_tool.specs.SeveralFiles.{Answered, ByValue, Comes, HasEnded, HasSaid, ReadsFile, Says, after_file, desk_promise, ends}
-use Rattle.bridge_tool.specs.Told.{IsRefusalLine}
+use Rattle.bridge_tool.specs.declared.refusal.Refusal.{Refusal}
 use Rattle.bridge_tool.specs.Transfer.{HasRead, HasReadCause, IsFrontRead, ReadsFront}
 use Rattle.bridge_tool.specs.declared.answer.Answer.{Answer}
-use Rattle.bridge_tool.specs.declared.answer.Answer.TheVariants.{Done, Refused, BadWords as HasBadWords, InputFault, OutputFault, NoMemory}
+use Rattle.bridge_tool.specs.declared.answer.Answer.TheVariants.{Refused, InputFault, NoMemory}
 use Rattle.bridge_tool.specs.declared.transfer.Unread.{Unread}
 use Rattle.bridge_tool.specs.declared.transfer.Unread.TheVariants.{Fault as IsFault, Memory as IsMemory}
 use Rattle.bridge_tool.specs.declared.transfer.TheConstants.{LIMIT}
-use Rattle.bridge_tool.proofs.Decisions.{AreRead}
-use Rattle.bridge_tool.proofs.Ending.{HasComeTo, IsKnown, fault_status, memory_worked, missed_worked, refused_worked, wrote_worked}
+use Rattle.bridge_tool.proofs.Ending.{HasComeTo, IsKnown, ends_status, fault_status, memory_worked, missed_worked, refused_worked, wrote_worked}
 use Rattle.bridge_tool.proofs.Known.{OnlyInput-same, OnlyInput-then}
-use Rattle.bridge_tool.proofs.OneOutcome.{HasOne, IsPlain}
-use Rattle.bridge_tool.proofs.Options.{same_some}
 
--- ---- steps
+-- an outcome of a command whose texts are told
+abbrev pub IsPlain : Outcome → Type 0
+IsPlain BadWords = ⊥
+IsPlain (Untold judges) = ⊥
+IsPlain NoText = Unit {0}
+IsPlain (IsRefusal line) = Unit {0}
+IsPlain (IsDone holds bytes) = Unit {0}
+
+-- exactly one outcome, which is of this kind
+pub record HasOne (kind comes : Outcome → Type 0) : Type 0 where
+  pub outcome : Outcome
+  pub comes_to : comes outcome
+  pub is : kind outcome
+  pub one : (other : Outcome) → comes other → other ≡ outcome
+
+-- that of an equation
+pub same_one : (x : Outcome) → IsPlain x → HasOne IsPlain (λ outcome. outcome ≡ x)
+same_one x is = record { outcome = x; comes_to = refl; is = is; one = λ other h. h }
+
+-- bytes are accepted, or a line is refused: one of them, and not both
+pub record IsEither (accepts refuses : List ℕ → Type 0) : Type 0 where
+  pub accepted : (a b : List ℕ) → accepts a → accepts b → a ≡ b
+  pub refused : (a b : List ℕ) → refuses a → refuses b → a ≡ b
+  pub either : ((bytes : List ℕ) × accepts bytes) ⊎ ((line : List ℕ) × refuses line)
+  pub apart : (bytes line : List ℕ) → accepts bytes → refuses line → ⊥
+
+module _ (accepts refuses : List ℕ → Type 0) (d : IsEither accepts refuses) where
+  accepted_one : (bytes : List ℕ) → accepts bytes → (other : Outcome) → DoneOrRefused accepts refuses other → other ≡ IsDone true bytes
+  accepted_one bytes h (IsRefusal line) j = absurd (d.apart bytes line h j)
+  accepted_one bytes h (IsDone true other) j = ap (IsDone true) (d.accepted other bytes j h)
+  accepted_one bytes h other j = absurd j
+
+  refused_one : (line : List ℕ) → refuses line → (other : Outcome) → DoneOrRefused accepts refuses other → other ≡ IsRefusal line
+  refused_one line h (IsRefusal other) j = ap IsRefusal (d.refused other line j h)
+  refused_one line h (IsDone true other) j = absurd (d.apart other line j h)
+  refused_one line h other j = absurd j
+
+  pub one_of_both : HasOne IsPlain (DoneOrRefused accepts refuses)
+  one_of_both = elim d.either [
+    | inl h ↦ record { outcome = IsDone true h.0; comes_to = h.1; is = tt; one = accepted_one h.0 h.1 }
+    | inr h ↦ record { outcome = IsRefusal h.0; comes_to = h.1; is = tt; one = refused_one h.0 h.1 }
+  ]
+
+-- what is done is a yes
+pub done_so : (accepts refuses : List ℕ → Type 0) (holds : Bool) (bytes : List ℕ) → DoneOrRefused accepts refuses (IsDone holds bytes) → holds ≡ true
+done_so accepts refuses true bytes h = refl
+done_so accepts refuses false bytes h = absurd h
+
+-- ---- texts of a file
+
+-- each text says one value, or is refused with one line
+pub record AreRead {V : Type 0} (reads : List ℕ → V → Type 0) (refuses : List ℕ → List ℕ → Type 0) : Type 0 where
+  pub said : (text : List ℕ) (a b : V) → reads text a → reads text b → a ≡ b
+  pub refused : (text a b : List ℕ) → refuses text a → refuses text b → a ≡ b
+  pub either : (text : List ℕ) → ((value : V) × reads text value) ⊎ ((line : List ℕ) × refuses text line)
+  pub apart : (text : List ℕ) (value : V) (line : List ℕ) → reads text value → refuses text line → ⊥
+
+-- it says one value, or has one first fault, which a line tells
+pub read_so : {V F : Type 0} (reads : List ℕ → V → Type 0) (has : List ℕ → F → Type 0) (line_of : F → List ℕ)
+    → ((text : List ℕ) (a b : V) → reads text a → reads text b → a ≡ b) → ((text : List ℕ) (a b : F) → has text a → has text b → line_of a ≡ line_of b)
+    → ((text : List ℕ) → ((value : V) × reads text value) ⊎ ((fault : F) × has text fault)) → ((text : List ℕ) (value : V) (fault : F) → reads text value → has text fault → ⊥)
+    → AreRead reads (λ text. TellsFault (has text) line_of)
+read_so reads has line_of said same either apart = record {
+  said = said;
+  refused = λ text a b h k. h.told ∙ same text h.fault k.fault h.first k.first ∙ sym k.told;
+  either = λ text. elim (either text) [ inl h ↦ inl h | inr h ↦ inr (line_of h.0, record { fault = h.0; first = h.1; told = refl }) ];
+  apart = λ text value line h k. apart text value k.fault h k.first;
+}
+
+-- the same by rules, where clean lines say one value
+pub read_by : {V R : Type 0} (rules : Rules R) (says : List (List ℕ) → V → Type 0) (line_of : TextFault R → List ℕ) (value : List (List ℕ) → V)
+    → ((lines : List (List ℕ)) (v : V) → says lines v → v ≡ value lines) → ((lines : List (List ℕ)) → says lines (value lines))
+    → AreRead (IsRead rules says) (λ text. TellsFault (HasFault rules text) line_of)
+read_by rules says line_of value one is = read_so (IsRead rules says) (HasFault rules) line_of
+    (λ text a b h k. one (lines_of text) a h.said ∙ sym (one (lines_of text) b k.said))
+    (λ text a b h k.
+    let same = (one_outcome rules (lines_of text) (last_of text)).one_fault a.line b.line a.reason b.reason h k in
+    ap₂ (λ line reason. line_of (record { reason = reason; line = line })) same.0 same.1)
+    (λ text. elim (one_outcome rules (lines_of text) (last_of text)).some [
+      | inl clean ↦ inl (value (lines_of text), record { clean = clean; said = is (lines_of text) })
+      | inr found ↦ inr (record { reason = found.1; line = found.0 }, found.2)
+    ])
+    (λ text v fault h k. (one_outcome rules (lines_of text) (last_of text)).not_both h.clean fault.line fault.reason k)
 
 -- ---- promises
 
@@ -35,7 +121,7 @@ pub record IsSound (p : Promise) : Type 0 where
 pub sound_end : (texts : Texts) (file : List ℕ) (comes : Outcome → Type 0) (counts : ℕ → ℕ → Type 0) (means : Type 0) → HasOne IsPlain comes → ((n : ℕ) → counts n n) → IsSound (ends texts file comes counts means)
 sound_end texts file comes counts means one idle = record {
   one = one;
-  last = λ a b h k. same_some a b (texts file) h k;
+  last = λ a b h k. same_Some a b (sym h ∙ k);
   idle = idle;
 }
 
@@ -111,16 +197,16 @@ module _ {V : Type 0} (reads : List ℕ → V → Type 0) (refuses : List ℕ �
 -- ---- reading a file
 
 module _ {R V : Type 0} (seen : R → V) (reads : List ℕ → V → Type 0) (refuses : List ℕ → List ℕ → Type 0) where
-  ended_so : (file : List ℕ) (old new : Meaning) (fed : List ℕ → Type 0) (judged : Result R (Stop (Vec ℕ))) (result : Result R Answer)
+  ended_so : (file : List ℕ) (old new : Meaning) (fed : List ℕ → Type 0) (judged : Result R (Stop Refusal)) (result : Result R Answer)
       → HasRead old.texts file LIMIT new.left fed → new.input_faults ≡ old.input_faults
       → ((text : List ℕ) → fed text → Says seen reads refuses text judged) → Answered judged result
       → MatchResult result (λ value. HasSaid reads file old new (seen value)) (λ answer. HasEnded refuses file old new answer)
   ended_so file old new fed (Ok value) result read same says is = rw is (record { bytes = read.bytes; read = read.read; says = says read.bytes read.taken; same = same })
-  ended_so file old new fed (Err (Fault line)) result read same says is = rw is (record { bytes = read.bytes; read = read.read; says = says read.bytes read.taken; same = same })
+  ended_so file old new fed (Err (Fault refusal)) result read same says is = rw is (record { bytes = read.bytes; read = read.read; says = says read.bytes read.taken; same = same })
   ended_so file old new fed (Err Memory) result read same says is = rw is same
 
   -- the text was read and judged
-  pub file_judged : (file : List ℕ) (old new : Meaning) (fed : List ℕ → Type 0) (judged : Result R (Stop (Vec ℕ))) (result : Result R Answer)
+  pub file_judged : (file : List ℕ) (old new : Meaning) (fed : List ℕ → Type 0) (judged : Result R (Stop Refusal)) (result : Result R Answer)
       → HasRead old.texts file LIMIT new.left fed → new.input_faults ≡ old.input_faults → OnlyInput old new
       → ((text : List ℕ) → fed text → Says seen reads refuses text judged) → Answered judged result
       → ReadsFile seen reads refuses file old new result
@@ -151,21 +237,13 @@ whole : (p : Promise) → IsPartOf p p
 whole p = record { comes = λ o h. h; last = λ t h. h; counts = λ m n h. h; means = λ h. h }
 
 module _ {V : Type 0} (reads : List ℕ → V → Type 0) (refuses : List ℕ → List ℕ → Type 0) where
-  leads : (o : Option (List ℕ)) (text : List ℕ) (value : V) (none : Type 0) (P : List ℕ → List ℕ → Type 0) (Q : V → Type 0) → o ≡ Some text → reads (take LIMIT text) value → Q value
-      → MatchOption o none (λ t. ByValue reads refuses (take LIMIT t) (P t) Q)
-  leads o text value none P Q is r q = rw is (inr (value, (r, q)))
-
-  ends_there : (o : Option (List ℕ)) (text line : List ℕ) (none : Type 0) (P : List ℕ → List ℕ → Type 0) (Q : V → Type 0) → o ≡ Some text → refuses (take LIMIT text) line → P text line
-      → MatchOption o none (λ t. ByValue reads refuses (take LIMIT t) (P t) Q)
-  ends_there o text line none P Q is r p = rw is (inl (line, (r, p)))
-
   -- what is next is left where the file says its value
   next_part : (texts : Texts) (file text : List ℕ) (value : V) (next : V → Promise) → texts file ≡ Some text → reads (take LIMIT text) value → IsPartOf (next value) (after_file reads refuses texts file next)
   next_part texts file text value next is r = record {
-    comes = λ o h. leads (texts file) text value (o ≡ NoText) (λ t line. o ≡ IsRefusal line) (λ v. (next v).comes o) is r h;
-    last = λ l h. leads (texts file) text value ⊥ (λ t line. l ≡ t) (λ v. (next v).last l) is r h;
-    counts = λ m n h. leads (texts file) text value (n ≡ m) (λ t line. n ≡ m) (λ v. (next v).counts m n) is r h;
-    means = λ h. leads (texts file) text value ⊥ (λ t line. ⊥) (λ v. (next v).means) is r h;
+    comes = λ o h. rw is (inr (value, (r, h)));
+    last = λ l h. rw is (inr (value, (r, h)));
+    counts = λ m n h. rw is (inr (value, (r, h)));
+    means = λ h. rw is (inr (value, (r, h)));
   }
 
 part_of_part : (r q p : Promise) → IsPartOf r q → IsPartOf q p → IsPartOf r p
@@ -195,9 +273,7 @@ pub plain_known : (o : Outcome) → IsPlain o → IsKnown o
 unfolding IsKnown
 plain_known BadWords p = absurd p
 plain_known (Untold j) p = absurd p
-plain_known NoText p = λ e. absurd cc
-plain_known (IsRefusal line) p = λ e. absurd cc
-plain_known (IsDone holds bytes) p = λ e. absurd cc
+plain_known other p = λ e. absurd cc
 
 module _ (told : Texts → Promise) (judges : Bool) where
   -- The command has come down to this part of its promise: the files before it were read, and said their values.
@@ -246,41 +322,50 @@ module _ (told : Texts → Promise) (judges : Bool) where
         rw is (inl refl)
 
     -- steps need not be counted
-    pub idle : (texts : Option Texts) (n : ℕ) → (desk_promise judges told texts).counts n n
+    idle : (texts : Option Texts) (n : ℕ) → (desk_promise judges told texts).counts n n
     idle None n = tt
     idle (Some texts) n = (s texts).idle n
 
     module _ {R V : Type 0} (seen : R → V) (reads : List ℕ → V → Type 0) (refuses : List ℕ → List ℕ → Type 0) (file : List ℕ) (next : Texts → V → Promise) (old mid new : Meaning) (h : HasComeDown (λ texts. after_file reads refuses texts file (next texts)) old mid) where
-      stopped_so : ((text line : List ℕ) → refuses text line → IsRefusalLine line) → (answer : Answer) → old.input_faults ≤ new.input_faults → OnlyInput old new → HasEnded refuses file mid new answer → IsWorked (desk_promise judges told old.texts) old new answer
-      stopped_so lines (Refused line) later rest ended =
-          refused_worked _ judges old new line (record {
-            knows = λ o c. knows_by old.texts o (IsRefusal line.items)
+      stopped_so : (answer : Answer) → old.input_faults ≤ new.input_faults → OnlyInput old new → HasEnded refuses file mid new answer → IsWorked (desk_promise judges told old.texts) old new answer
+      stopped_so (Refused refusal) later rest ended =
+          let line = refusal_line refusal in
+          refused_worked _ judges old new refusal (record {
+            knows = λ o c. knows_by old.texts o (IsRefusal line)
                 (λ texts is.
-                let first = first_of refuses texts file mid new line.items (h.rest.texts ∙ is) ended in
-                (h.of texts is).comes (IsRefusal line.items)
-                (ends_there reads refuses (texts file) first.text line.items (IsRefusal line.items ≡ NoText) (λ t l. IsRefusal line.items ≡ IsRefusal l) (λ v. (next texts v).comes (IsRefusal line.items)) first.named first.says refl)) c;
+                let first = first_of refuses texts file mid new line (h.rest.texts ∙ is) ended in
+                (h.of texts is).comes (IsRefusal line) (rw first.named (inl (line, (first.says, refl))))) c;
             left = λ text c. left_by old.texts new.left
                 (λ texts is.
-                let first = first_of refuses texts file mid new line.items (h.rest.texts ∙ is) ended in
-                let last = (h.of texts is).last first.text (ends_there reads refuses (texts file) first.text line.items ⊥ (λ t l. first.text ≡ t) (λ v. (next texts v).last first.text) first.named first.says refl) in
-                (first.text, last, first.rest)) text c;
+                let first = first_of refuses texts file mid new line (h.rest.texts ∙ is) ended in
+                (first.text, (h.of texts is).last first.text (rw first.named (inl (line, (first.says, refl)))), first.rest)) text c;
             same = ended.same ∙ h.same;
             rest = rest;
-          }) (lines ended.bytes line.items ended.says)
-      stopped_so lines InputFault later rest ended =
+          })
+      stopped_so InputFault later rest ended =
           missed_worked _ judges old new
           (λ o c. missed_by old.texts file _ _ o
           (λ texts is none. (h.of texts is).comes NoText (rw none refl))
           (elim ended [ inl rose ↦ inl (subst (λ (n : ℕ). Rose n new.input_faults) h.same rose) | inr unknown ↦ inr (subst (λ (t : Option Texts). IsUnknown t file) h.rest.texts unknown) ]) c)
           later rest
-      stopped_so lines NoMemory later rest ended = memory_worked _ judges old new (λ o c. known_by old.texts o c) (ended ∙ h.same) rest
-      stopped_so lines (Done holds) later rest ended = absurd ended
-      stopped_so lines HasBadWords later rest ended = absurd ended
-      stopped_so lines OutputFault later rest ended = absurd ended
+      stopped_so NoMemory later rest ended = memory_worked _ judges old new (λ o c. known_by old.texts o c) (ended ∙ h.same) rest
+      stopped_so other later rest ended = absurd ended
 
-      -- the file ends the command with this answer
-      pub stopped : AreRead reads refuses → (answer : Answer) → ReadsFile {R = R} seen reads refuses file mid new (Err answer) → IsWorked (desk_promise judges told old.texts) old new answer
-      stopped d answer read = stopped_so d.lines answer (omega (arith, h.same, read.later)) (OnlyInput-then _ _ _ h.rest read.rest) read.judged
+      ended_known : (answer : Answer) → HasEnded refuses file mid new answer → status_of answer ≢ 3
+      ended_known (Refused refusal) ended = λ e. absurd (omega (arith, e))
+      ended_known InputFault ended = λ e. absurd (omega (arith, e))
+      ended_known NoMemory ended = λ e. absurd (omega (arith, e))
+      ended_known other ended = absurd ended
+
+      -- the file ends the command with this answer, and no step was counted
+      pub stopped : (n : ℕ) (answer : Answer) → ReadsFile {R = R} seen reads refuses file mid new (Err answer) → IsCounted (desk_promise judges told old.texts) old new n n answer
+      stopped n answer read = record {
+        worked = stopped_so answer (omega (arith, h.same, read.later)) (OnlyInput-then _ _ _ h.rest read.rest) read.judged;
+        known = ended_known answer read.judged;
+        above = omega arith;
+        counts = idle old.texts n;
+        idle = λ e. refl;
+      }
 
     -- ---- all files were read
 
@@ -304,23 +389,34 @@ module _ (told : Texts → Promise) (judges : Bool) where
       meant None part m = tt
       meant (Some texts) part m = (part texts refl).means m
 
-      -- the values were judged so, and the command ended with this answer
-      pub ended : ((line : List ℕ) → comes (seen value) (IsRefusal line) → IsRefusalLine line) → (new : Meaning) (judged : Result (Bool × Vec ℕ) (Stop (Vec ℕ))) (answer : Answer)
+      judged_as : (new : Meaning) (judged : Result (Bool × Vec ℕ) (Stop Refusal)) (answer : Answer)
           → Comes (comes (seen value)) judged
           → IfOk judged (λ t. ((t.0 ≡ true) ⊎ IsTrue judges) × (t.0 ≡ true → means (seen value)))
           → Ends judged mid new answer
           → IsWorked (desk_promise judges told old.texts) old new answer
-      ended lines new (Ok t) answer is m e = wrote_worked _ judges old mid new t.0 t.1.items answer (has_come_to (IsDone t.0 t.1.items) is) m.0 (λ yes. meant old.texts down.of (m.1 yes)) e
-      ended lines new (Err (Fault line)) answer is m e = rw (e.0, e.1) (refused_worked _ judges old mid line (has_come_to (IsRefusal line.items) is) (lines line.items is))
-      ended lines new (Err Memory) answer is m e = rw (e.0, e.1) (memory_worked _ judges old mid (λ o c. known_by old.texts o c) down.same down.rest)
+      judged_as new (Ok t) answer is m e = wrote_worked _ judges old mid new t.0 t.1.items answer (has_come_to (IsDone t.0 t.1.items) is) m.0 (λ yes. meant old.texts down.of (m.1 yes)) e
+      judged_as new (Err (Fault refusal)) answer is m e = rw (e.0, e.1) (refused_worked _ judges old mid refusal (has_come_to (IsRefusal (refusal_line refusal)) is))
+      judged_as new (Err Memory) answer is m e = rw (e.0, e.1) (memory_worked _ judges old mid (λ o c. known_by old.texts o c) down.same down.rest)
 
       counted_by : (texts : Option Texts) (m n : ℕ) → ((t : Texts) → texts ≡ Some t → IsPartOf (ends t file (comes (seen value)) (counts (seen value)) (means (seen value))) (told t)) → counts (seen value) m n → (desk_promise judges told texts).counts m n
       counted_by None m n part c = tt
       counted_by (Some texts) m n part c = (part texts refl).counts m n c
 
-      -- steps were counted so
-      pub counted : (m n : ℕ) → counts (seen value) m n → (desk_promise judges told old.texts).counts m n
-      counted m n c = counted_by old.texts m n down.of c
+      -- the values were judged so with these steps, and the command ended with this answer
+      pub ended : (m n : ℕ) (new : Meaning) (judged : Result (Bool × Vec ℕ) (Stop Refusal)) (answer : Answer)
+          → Comes (comes (seen value)) judged
+          → IfOk judged (λ t. ((t.0 ≡ true) ⊎ IsTrue judges) × (t.0 ≡ true → means (seen value)))
+          → Ends judged mid new answer → m ≤ n → counts (seen value) m n
+          → IsCounted (desk_promise judges told old.texts) old new m n answer
+      ended m n new judged answer is meant e above c =
+          let status = ends_status judged mid new answer e in
+          record {
+            worked = judged_as new judged answer is meant e;
+            known = status.0;
+            above = above;
+            counts = counted_by old.texts m n down.of c;
+            idle = λ four. absurd (status.1 four);
+          }
 
 -- ---- the first file of a command
 
@@ -331,12 +427,9 @@ module _ {V : Type 0} {reads : List ℕ → V → Type 0} {refuses : List ℕ �
   pub first_sound : (texts : Texts) → IsSound (from_first texts)
   first_sound texts = sound_after reads refuses d texts file (next texts) (s texts)
 
-  pub first_idle : (texts : Option Texts) (n : ℕ) → (desk_promise judges from_first texts).counts n n
-  first_idle texts n = idle from_first judges first_sound texts n
-
   -- it ends the command
-  pub first_stopped : {R : Type 0} (seen : R → V) (old new : Meaning) (answer : Answer) → ReadsFile {R = R} seen reads refuses file old new (Err answer) → IsWorked (desk_promise judges from_first old.texts) old new answer
-  first_stopped seen old new answer read = stopped from_first judges first_sound seen reads refuses file next old old new (begun from_first judges old) d answer read
+  pub first_stopped : {R : Type 0} (seen : R → V) (n : ℕ) (old new : Meaning) (answer : Answer) → ReadsFile {R = R} seen reads refuses file old new (Err answer) → IsCounted (desk_promise judges from_first old.texts) old new n n answer
+  first_stopped seen n old new answer read = stopped from_first judges first_sound seen reads refuses file next old old new (begun from_first judges old) n answer read
 
   -- it was read
   pub first_down : {R : Type 0} (seen : R → V) (old new : Meaning) (value : R) → ReadsFile {R = R} seen reads refuses file old new (Ok value) → HasComeDown from_first judges (λ texts. next texts (seen value)) old new
@@ -349,10 +442,37 @@ pub record IsLast (judges : Bool) {V : Type 0} (reads : List ℕ → V → Type 
   pub read : AreRead reads refuses
   pub one : (value : V) → HasOne IsPlain (comes value)
   pub idle : (value : V) (n : ℕ) → counts value n n
-  pub lines : (value : V) (line : List ℕ) → comes value (IsRefusal line) → IsRefusalLine line
   pub verdict : (value : V) (holds : Bool) (bytes : List ℕ) → comes value (IsDone holds bytes) → (holds ≡ true) ⊎ IsTrue judges
 
-judged_so : (judges : Bool) (comes : Outcome → Type 0) (means : Type 0) (judged : Result (Bool × Vec ℕ) (Stop (Vec ℕ))) → ((holds : Bool) (bytes : List ℕ) → comes (IsDone holds bytes) → (holds ≡ true) ⊎ IsTrue judges)
+module _ {V : Type 0} {reads : List ℕ → V → Type 0} {refuses : List ℕ → List ℕ → Type 0} (read : AreRead reads refuses) where
+  -- it is written as a text
+  pub writes_last : (write : V → List ℕ) → IsLast false reads refuses (λ value outcome. outcome ≡ IsDone true (write value)) (λ value old new. new ≡ old)
+  writes_last write = record {
+    read = read;
+    one = λ value. same_one (IsDone true (write value)) tt;
+    idle = λ value n. refl;
+    verdict = λ value holds bytes e. inl cc;
+  }
+
+  -- it is accepted with bytes or refused with a line, in so many steps at most
+  pub either_last : (accepts denies : V → List ℕ → Type 0) (steps : V → ℕ) → ((value : V) → IsEither (accepts value) (denies value)) → IsLast false reads refuses (λ value. DoneOrRefused (accepts value) (denies value)) (λ value old new. new ≤ old + steps value)
+  either_last accepts denies steps either = record {
+    read = read;
+    one = λ value. one_of_both (accepts value) (denies value) (either value);
+    idle = λ value n. omega arith;
+    verdict = λ value holds bytes h. inl (done_so (accepts value) (denies value) holds bytes h);
+  }
+
+  -- it has a verdict
+  pub verdict_last : (outcome : V → Outcome) (steps : V → ℕ) → ((value : V) → IsPlain (outcome value)) → IsLast true reads refuses (λ value other. other ≡ outcome value) (λ value old new. new ≤ old + steps value)
+  verdict_last outcome steps plain = record {
+    read = read;
+    one = λ value. same_one (outcome value) (plain value);
+    idle = λ value n. omega arith;
+    verdict = λ value holds bytes e. inr refl;
+  }
+
+judged_so : (judges : Bool) (comes : Outcome → Type 0) (means : Type 0) (judged : Result (Bool × Vec ℕ) (Stop Refusal)) → ((holds : Bool) (bytes : List ℕ) → comes (IsDone holds bytes) → (holds ≡ true) ⊎ IsTrue judges)
     → Comes comes judged → IfOk judged (λ t. t.0 ≡ true → means) → IfOk judged (λ t. ((t.0 ≡ true) ⊎ IsTrue judges) × (t.0 ≡ true → means))
 judged_so judges comes means (Ok t) may is m = (may t.0 t.1.items is, m)
 judged_so judges comes means (Err stop) may is m = tt
@@ -373,32 +493,24 @@ module _ {judges : Bool} {V : Type 0} {reads : List ℕ → V → Type 0} {refus
   -- of a command that has come down to it
   module _ (told : Texts → Promise) (s : (texts : Texts) → IsSound (told texts)) (old mid : Meaning) (down : HasComeDown told judges from_last old mid) where
     -- it ends the command
-    pub last_stopped : {R : Type 0} (seen : R → V) (new : Meaning) (answer : Answer) → ReadsFile {R = R} seen reads refuses file mid new (Err answer) → IsWorked (desk_promise judges told old.texts) old new answer
-    last_stopped seen new answer read = stopped told judges s seen reads refuses file the_end old mid new down l.read answer read
+    pub last_stopped : {R : Type 0} (seen : R → V) (n : ℕ) (new : Meaning) (answer : Answer) → ReadsFile {R = R} seen reads refuses file mid new (Err answer) → IsCounted (desk_promise judges told old.texts) old new n n answer
+    last_stopped seen n new answer read = stopped told judges s seen reads refuses file the_end old mid new down n answer read
 
-    module _ {R : Type 0} (seen : R → V) (new : Meaning) (value : R) (read : ReadsFile {R = R} seen reads refuses file mid new (Ok value)) where
-      -- all was judged
-      pub last_ended : (last : Meaning) (judged : Result (Bool × Vec ℕ) (Stop (Vec ℕ))) (answer : Answer) → Comes (comes (seen value)) judged → IfOk judged (λ t. t.0 ≡ true → means (seen value)) → Ends judged new last answer
-          → IsWorked (desk_promise judges told old.texts) old last answer
-      last_ended last judged answer is m end =
-          ended told judges s seen reads refuses file comes counts means old mid new down value read (l.lines (seen value)) last judged answer is (judged_so judges (comes (seen value)) (means (seen value)) judged (l.verdict (seen value)) is m) end
-
-      pub last_counted : (m n : ℕ) → counts (seen value) m n → (desk_promise judges told old.texts).counts m n
-      last_counted m n c = counted told judges s seen reads refuses file comes counts means old mid new down value read m n c
+    -- all was judged
+    pub last_ended : {R : Type 0} (seen : R → V) (new : Meaning) (value : R) → ReadsFile {R = R} seen reads refuses file mid new (Ok value) → (m n : ℕ) (last : Meaning) (judged : Result (Bool × Vec ℕ) (Stop Refusal)) (answer : Answer)
+        → Comes (comes (seen value)) judged → IfOk judged (λ t. t.0 ≡ true → means (seen value)) → Ends judged new last answer → m ≤ n → counts (seen value) m n
+        → IsCounted (desk_promise judges told old.texts) old last m n answer
+    last_ended seen new value read m n last judged answer is meant end above c =
+        ended told judges s seen reads refuses file comes counts means old mid new down value read m n last judged answer is (judged_so judges (comes (seen value)) (means (seen value)) judged (l.verdict (seen value)) is meant) end above c
 
   -- of a command of this file alone
-  pub only_idle : (texts : Option Texts) (n : ℕ) → (desk_promise judges from_last texts).counts n n
-  only_idle texts n = idle from_last judges last_sound texts n
+  pub only_stopped : {R : Type 0} (seen : R → V) (n : ℕ) (old new : Meaning) (answer : Answer) → ReadsFile {R = R} seen reads refuses file old new (Err answer) → IsCounted (desk_promise judges from_last old.texts) old new n n answer
+  only_stopped seen n old new answer read = last_stopped from_last last_sound old old (begun from_last judges old) seen n new answer read
 
-  pub only_stopped : {R : Type 0} (seen : R → V) (old new : Meaning) (answer : Answer) → ReadsFile {R = R} seen reads refuses file old new (Err answer) → IsWorked (desk_promise judges from_last old.texts) old new answer
-  only_stopped seen old new answer read = last_stopped from_last last_sound old old (begun from_last judges old) seen new answer read
-
-  pub only_ended : {R : Type 0} (seen : R → V) (old new : Meaning) (value : R) → ReadsFile {R = R} seen reads refuses file old new (Ok value) → (last : Meaning) (judged : Result (Bool × Vec ℕ) (Stop (Vec ℕ))) (answer : Answer)
-      → Comes (comes (seen value)) judged → IfOk judged (λ t. t.0 ≡ true → means (seen value)) → Ends judged new last answer → IsWorked (desk_promise judges from_last old.texts) old last answer
-  only_ended seen old new value read last judged answer is m end = last_ended from_last last_sound old old (begun from_last judges old) seen new value read last judged answer is m end
-
-  pub only_counted : {R : Type 0} (seen : R → V) (old new : Meaning) (value : R) → ReadsFile {R = R} seen reads refuses file old new (Ok value) → (m n : ℕ) → counts (seen value) m n → (desk_promise judges from_last old.texts).counts m n
-  only_counted seen old new value read m n c = last_counted from_last last_sound old old (begun from_last judges old) seen new value read m n c
+  pub only_ended : {R : Type 0} (seen : R → V) (old new : Meaning) (value : R) → ReadsFile {R = R} seen reads refuses file old new (Ok value) → (m n : ℕ) (last : Meaning) (judged : Result (Bool × Vec ℕ) (Stop Refusal)) (answer : Answer)
+      → Comes (comes (seen value)) judged → IfOk judged (λ t. t.0 ≡ true → means (seen value)) → Ends judged new last answer → m ≤ n → counts (seen value) m n
+      → IsCounted (desk_promise judges from_last old.texts) old last m n answer
+  only_ended seen old new value read = last_ended from_last last_sound old old (begun from_last judges old) seen new value read
 
 -- ---- a command of two files
 
@@ -416,36 +528,33 @@ module _ {judges : Bool} {V W : Type 0} {reads : List ℕ → V → Type 0} {ref
   pub both_sound : (texts : Texts) → IsSound (from_both texts)
   both_sound = first_sound d judges from_second second_sound file
 
-  pub both_idle : (texts : Option Texts) (n : ℕ) → (desk_promise judges from_both texts).counts n n
-  both_idle = first_idle d judges from_second second_sound file
-
   -- the first file ends it
-  pub both_stopped : {R : Type 0} (seen : R → V) (old new : Meaning) (answer : Answer) → ReadsFile {R = R} seen reads refuses file old new (Err answer) → IsWorked (desk_promise judges from_both old.texts) old new answer
-  both_stopped seen old new answer read = first_stopped d judges from_second second_sound file seen old new answer read
+  pub both_stopped : {R : Type 0} (seen : R → V) (n : ℕ) (old new : Meaning) (answer : Answer) → ReadsFile {R = R} seen reads refuses file old new (Err answer) → IsCounted (desk_promise judges from_both old.texts) old new n n answer
+  both_stopped seen n old new answer read = first_stopped d judges from_second second_sound file seen n old new answer read
 
-  module _ {R : Type 0} (seen : R → V) (old mid : Meaning) (value : R) (read : ReadsFile {R = R} seen reads refuses file old mid (Ok value)) where
+  module _ {R S : Type 0} (seen : R → V) (seen_second : S → W) (old mid new : Meaning) (value : R) (read : ReadsFile {R = R} seen reads refuses file old mid (Ok value)) where
     second_down : HasComeDown from_both judges (λ texts. from_second texts (seen value)) old mid
     second_down = first_down d judges from_second second_sound file seen old mid value read
 
-    module _ {S : Type 0} (seen_second : S → W) (new : Meaning) where
-      -- the second file ends it
-      pub second_stopped : (answer : Answer) → ReadsFile {R = S} seen_second (reads_second (seen value)) (refuses_second (seen value)) second mid new (Err answer) → IsWorked (desk_promise judges from_both old.texts) old new answer
-      second_stopped answer other = last_stopped (l (seen value)) (means (seen value)) second from_both both_sound old mid second_down seen_second new answer other
+    -- the second file ends it
+    pub second_stopped : (n : ℕ) (answer : Answer) → ReadsFile {R = S} seen_second (reads_second (seen value)) (refuses_second (seen value)) second mid new (Err answer) → IsCounted (desk_promise judges from_both old.texts) old new n n answer
+    second_stopped n answer other = last_stopped (l (seen value)) (means (seen value)) second from_both both_sound old mid second_down seen_second n new answer other
 
-      module _ (given : S) (other : ReadsFile {R = S} seen_second (reads_second (seen value)) (refuses_second (seen value)) second mid new (Ok given)) where
-        -- both were judged
-        pub both_ended : (last : Meaning) (judged : Result (Bool × Vec ℕ) (Stop (Vec ℕ))) (answer : Answer) → Comes (comes (seen value) (seen_second given)) judged → IfOk judged (λ t. t.0 ≡ true → means (seen value) (seen_second given)) → Ends judged new last answer
-            → IsWorked (desk_promise judges from_both old.texts) old last answer
-        both_ended last judged answer is m end = last_ended (l (seen value)) (means (seen value)) second from_both both_sound old mid second_down seen_second new given other last judged answer is m end
-
-        pub both_counted : (m n : ℕ) → counts (seen value) (seen_second given) m n → (desk_promise judges from_both old.texts).counts m n
-        both_counted m n c = last_counted (l (seen value)) (means (seen value)) second from_both both_sound old mid second_down seen_second new given other m n c
+    -- both were judged
+    pub both_ended : (given : S) → ReadsFile {R = S} seen_second (reads_second (seen value)) (refuses_second (seen value)) second mid new (Ok given) → (m n : ℕ) (last : Meaning) (judged : Result (Bool × Vec ℕ) (Stop Refusal)) (answer : Answer)
+        → Comes (comes (seen value) (seen_second given)) judged → IfOk judged (λ t. t.0 ≡ true → means (seen value) (seen_second given)) → Ends judged new last answer → m ≤ n → counts (seen value) (seen_second given) m n
+        → IsCounted (desk_promise judges from_both old.texts) old last m n answer
+    both_ended given other = last_ended (l (seen value)) (means (seen value)) second from_both both_sound old mid second_down seen_second new given other
 
 -- what holds of each verdict
-pub meant_always : (judged : Result (Bool × Vec ℕ) (Stop (Vec ℕ))) (M : Type 0) → IfOk judged (λ t. M) → IfOk judged (λ t. t.0 ≡ true → M)
+pub meant_always : (judged : Result (Bool × Vec ℕ) (Stop Refusal)) (M : Type 0) → IfOk judged (λ t. M) → IfOk judged (λ t. t.0 ≡ true → M)
 meant_always (Ok t) M m = λ e. m
 meant_always (Err stop) M m = tt
 
-pub meant_anyway : (judged : Result (Bool × Vec ℕ) (Stop (Vec ℕ))) (M : Type 0) → M → IfOk judged (λ t. t.0 ≡ true → M)
+pub meant_anyway : (judged : Result (Bool × Vec ℕ) (Stop Refusal)) (M : Type 0) → M → IfOk judged (λ t. t.0 ≡ true → M)
 meant_anyway (Ok t) M m = λ e. m
 meant_anyway (Err stop) M m = tt
+
+-- a command that counts no steps, whatever was counted before it
+pub at_rest : {p : Promise} {old new : Meaning} {answer : Answer} → ((n : ℕ) → IsCounted p old new n n answer) → IsAtRest p old new answer
+at_rest h = record { worked = (h 0).worked; known = (h 0).known; counts = λ n. (h n).counts }

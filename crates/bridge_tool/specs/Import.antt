@@ -29,6 +29,15 @@ by_fault m None = Done true (nl_text (import_of m))
 abbrev pub import_outcome : Mps Dec → Outcome
 import_outcome m = by_fault m (import_fault m)
 
+-- a program without a fault is imported as the text of its file
+abbrev pub IsImportedAs : Mps Dec → List ℕ → Type 0
+IsImportedAs m bytes = (import_fault m ≡ None) × (bytes ≡ nl_text (import_of m))
+
+-- this line tells the first fault of a program
+abbrev pub CannotBeImported : Mps Dec → List ℕ → Type 0
+CannotBeImported m line =
+    (fault : ImportFault) × (import_fault m ≡ Some fault) × (line ≡ import_line fault)
+
 -- at every point of the columns the file is satisfied exactly where the program is, by the point in
 -- the order of the variables, with the same value of the objective; the sense is the same
 pub record MeansTheProgram (m : Mps Dec) : Type 0 where

@@ -1,13 +1,14 @@
 -- How a command ends: its status, its line, and what it did.
-use Rattle.std.specs.Prelude.{◌≡◌, ◌⊎◌, ◌<◌, ◌≤◌, ℕ, Bool, List, [], codes, drop, IfSome, Some, Result, Ok, Err}
+use Rattle.std.specs.Prelude.{◌≡◌, ◌≢◌, ◌⊎◌, ◌<◌, ◌≤◌, ℕ, Bool, List, [], codes, drop, IfSome, Some, Result, Ok, Err}
 use Rattle.std.specs.Global.{Vec}
 use Rattle.std.specs.Io.KnownBytes.{Appends}
 use Rattle.desk.specs.Desk.{Meaning, OnlyOutput, Rose}
 use Rattle.texts.specs.declared.stop.Stop.{Stop}
 use Rattle.texts.specs.declared.stop.Stop.TheVariants.{Fault, Memory}
+use Rattle.bridge_tool.specs.InsideRefusal.{refusal_line}
+use Rattle.bridge_tool.specs.declared.refusal.Refusal.{Refusal}
 use Rattle.bridge_tool.specs.Outcome.{Outcome, Status, Written, IsQuiet, told_line, verdict_status}
 use Rattle.bridge_tool.specs.Promise.{Promise}
-use Rattle.bridge_tool.specs.Told.{IsRefusalLine}
 use Rattle.bridge_tool.specs.Transfer.{AppendsPart}
 use Rattle.bridge_tool.specs.declared.answer.Answer.{Answer}
 use Rattle.bridge_tool.specs.declared.answer.Answer.TheVariants.{Done, Refused, BadWords, InputFault, OutputFault, NoMemory}
@@ -17,7 +18,7 @@ use Rattle.bridge_tool.specs.declared.transfer.Unread.TheVariants.{Fault as Unre
 
 abbrev pub status_of : Answer → ℕ
 status_of (Done holds) = verdict_status holds
-status_of (Refused line) = 2
+status_of (Refused refusal) = 2
 status_of BadWords = 3
 status_of InputFault = 4
 status_of OutputFault = 5
@@ -26,7 +27,7 @@ status_of NoMemory = 6
 -- the line to tell, which is empty where nothing is told
 abbrev pub told_by : Answer → List ℕ
 told_by (Done holds) = []
-told_by (Refused line) = line.items
+told_by (Refused refusal) = refusal_line refusal
 told_by BadWords = codes "bad words\n"
 told_by InputFault = codes "input fault\n"
 told_by OutputFault = codes "output fault\n"
@@ -41,7 +42,6 @@ pub record IsWorked (p : Promise) (old new : Meaning) (answer : Answer) : Type 0
       → Written outcome old.written new.written (status_of answer)
   pub line : (outcome : Outcome) → p.comes outcome
       → IfSome (told_line outcome (status_of answer)) (λ line. line ≡ told_by answer)
-  pub refusal : status_of answer ≡ 2 → IsRefusalLine (told_by answer)
   pub quiet : IsQuiet (status_of answer) → new.written ≡ old.written
   pub left : (status_of answer ≤ 2) ⊎ (status_of answer ≡ 5) → (text : List ℕ) → p.last text
       → new.left ≡ Some (drop LIMIT text)
@@ -53,6 +53,21 @@ pub record IsWorked (p : Promise) (old new : Meaning) (answer : Answer) : Type 0
   pub texts : new.texts ≡ old.texts
   pub told : new.told ≡ old.told
   pub messages : new.message_faults ≡ old.message_faults
+
+-- the same, of words that are known, with the steps before it and after it
+pub record IsCounted (p : Promise) (old new : Meaning) (before now : ℕ)
+    (answer : Answer) : Type 0 where
+  pub worked : IsWorked p old new answer
+  pub known : status_of answer ≢ 3
+  pub above : before ≤ now
+  pub counts : p.counts before now
+  pub idle : status_of answer ≡ 4 → now ≡ before
+
+-- the same of a command that counts no steps
+pub record IsAtRest (p : Promise) (old new : Meaning) (answer : Answer) : Type 0 where
+  pub worked : IsWorked p old new answer
+  pub known : status_of answer ≢ 3
+  pub counts : (n : ℕ) → p.counts n n
 
 -- ---- ends
 
@@ -76,15 +91,11 @@ pub record HasStopped (bytes : List ℕ) (old new : Meaning) : Type 0 where
 
 -- the end of a command with this verdict and these bytes
 abbrev pub EndsWriting : Bool → List ℕ → Meaning → Meaning → Answer → Type 0
-EndsWriting verdict bytes old new (Done holds) = (holds ≡ verdict) × HasWritten bytes old new
-EndsWriting verdict bytes old new OutputFault = HasStopped bytes old new
-EndsWriting verdict bytes old new (Refused line) = ⊥
-EndsWriting verdict bytes old new BadWords = ⊥
-EndsWriting verdict bytes old new InputFault = ⊥
-EndsWriting verdict bytes old new NoMemory = ⊥
+EndsWriting verdict bytes old new answer = ((answer ≡ Done verdict) × HasWritten bytes old new)
+    ⊎ ((answer ≡ OutputFault) × HasStopped bytes old new)
 
--- the end of a command that was judged so: this verdict with these bytes, or a line
-abbrev pub Ends : Result (Bool × Vec ℕ) (Stop (Vec ℕ)) → Meaning → Meaning → Answer → Type 0
+-- the end of a command that was judged so: this verdict with these bytes, or a refusal
+abbrev pub Ends : Result (Bool × Vec ℕ) (Stop Refusal) → Meaning → Meaning → Answer → Type 0
 Ends (Ok t) old new answer = EndsWriting t.0 t.1.items old new answer
-Ends (Err (Fault line)) old new answer = (answer ≡ Refused line) × (new ≡ old)
+Ends (Err (Fault refusal)) old new answer = (answer ≡ Refused refusal) × (new ≡ old)
 Ends (Err Memory) old new answer = (answer ≡ NoMemory) × (new ≡ old)

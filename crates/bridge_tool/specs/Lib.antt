@@ -1,5 +1,7 @@
 pub mod InsideAnswer
+pub mod InsideRefusal
 pub mod AnswerTold
+pub mod ByText
 pub mod CertificateTold
 pub mod Check
 pub mod Command

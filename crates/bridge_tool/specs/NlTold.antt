@@ -1,6 +1,6 @@
 -- The lines that tell faults of .nl texts, of the fold and of scaling; an .nl file is the first of
 -- its command.
-use Rattle.std.specs.Prelude.{ℕ, ◌<◌, ◌≤◌, List, [], ◌++◌, codes, Option, Some, None, IsSomeAnd}
+use Rattle.std.specs.Prelude.{ℕ, ◌<◌, ◌≤◌, List, [], ◌++◌, codes, Option, Some, None, IsSome, IsSomeAnd}
 use Rattle.std.specs.Fmt.{decimal}
 use Rattle.nl_model.specs.declared.at.At.{At}
 use Rattle.nl_lines.specs.declared.fault.NlFault.{NlFault}
@@ -56,13 +56,13 @@ abbrev pub nl_line : NlFault → List ℕ
 nl_line f =
     refused_at 1 (codes "line") f.line ++ reason_text f.reason ++ opcode_text f.reason ++ codes "\n"
 
-abbrev pub or_zero : Option ℕ → ℕ
-or_zero None = 0
-or_zero (Some line) = line
+abbrev pub line_or_zero : Option ℕ → ℕ
+line_or_zero None = 0
+line_or_zero (Some line) = line
 
 -- a fault at a place of the file, by the place's line; each place that is asked for has one
 abbrev pub placed_line : PlaceLines → At → List ℕ → List ℕ
-placed_line places at text = refusal 1 (codes "line") (or_zero (place_line places at)) text
+placed_line places at text = refusal 1 (codes "line") (line_or_zero (place_line places at)) text
 
 -- the line of a fault of the fold
 abbrev pub fold_line : PlaceLines → FoldFault → List ℕ
@@ -72,6 +72,15 @@ fold_line places (TooWide at) = placed_line places at (codes "too wide")
 fold_line places (RefusedPower at) = placed_line places at (codes "refused power")
 fold_line places (FoldTooLarge at) = placed_line places at (codes "fold too large")
 fold_line places (NoSuchObjective k) = refusal 1 (codes "objective") k (codes "no such objective")
+
+-- the place of a fault of the fold, where it has one, has a line
+abbrev pub HasLine : PlaceLines → FoldFault → Type 0
+HasLine places (Nonlinear at) = IsSome (place_line places at)
+HasLine places (DivideByZero at) = IsSome (place_line places at)
+HasLine places (TooWide at) = IsSome (place_line places at)
+HasLine places (RefusedPower at) = IsSome (place_line places at)
+HasLine places (FoldTooLarge at) = IsSome (place_line places at)
+HasLine places (NoSuchObjective k) = Unit {0}
 
 -- a place has a line, which is one of so many
 abbrev pub HasLineUpTo : ℕ → PlaceLines → At → Type 0

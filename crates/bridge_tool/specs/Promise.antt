@@ -21,7 +21,7 @@ pub record Tells (old new : Meaning) (line : List ℕ) : Type 0 where
   pub told : TellsFront old.told new.told old.message_faults new.message_faults line
 
 -- the input is refused, and its line is told
-pub record IsTurnedDown (p : Promise) (old new : Meaning) (status : ℕ) : Type 0 where
+pub record IsInputRefused (p : Promise) (old new : Meaning) (status : ℕ) : Type 0 where
   pub line : List ℕ
   pub refused : p.comes (Refused line)
   pub two : status ≡ 2
@@ -43,4 +43,4 @@ pub record Answers (p : Promise) (old new : Meaning) (status : ℕ) : Type 0 whe
   pub wrote : (holds : Bool) (bytes : List ℕ) → p.comes (Done holds bytes)
       → Appends old.written new.written bytes × (new.told ≡ old.told)
   pub means : status ≡ 0 → p.means
-  pub other : (status ≤ 1) ⊎ IsTurnedDown p old new status ⊎ LacksText p old new status
+  pub other : (status ≤ 1) ⊎ IsInputRefused p old new status ⊎ LacksText p old new status

@@ -13,7 +13,7 @@ use Rattle.nl_segments.specs.Grammar.{NlValue}
 use Rattle.nl_segments.specs.Reader.{IsNl}
 use Rattle.proof_text.specs.declared.proof.Claim.{Claim}
 use Rattle.proof_text.specs.declared.proof.Claim.TheVariants.{Value, Infeasible}
-use Rattle.branch_proof.specs.Files.{IsTrueOf}
+use Rattle.branch_proof.specs.Files.{IsProvedTrueOf}
 use Rattle.branch_proof.specs.Proofs.{ProofValue, claim_value, tree_over}
 use Rattle.branch_proof.specs.Trees.{tree_in}
 use Rattle.proof_text.specs.Reader.{HasProofFault, IsProofText}
@@ -61,7 +61,7 @@ prove_outcome nl p = by_fold nl p (first_fold_fault nl.file (claimed_objective p
 -- relaxed program.
 pub record IsProvedOf (nl : NlValue) (p : ProofValue) : Type 0 where
   pub folds : fold_fault nl.file (claimed_objective p.claim) ≡ None
-  pub true_of : IsTrueOf nl.file (claimed_objective p.claim) p.claim
+  pub true_of : IsProvedTrueOf nl.file (claimed_objective p.claim) p.claim
 
 -- ---- the promise
 

@@ -1,9 +1,7 @@
 -- The command return: the .sol file of an answer for an .nl file, and that its duals mean what the
 -- answer says. The answer is the second file; all other faults are told as of the first.
-use Rattle.std.specs.Prelude.{◌≡◌, ◌⊎◌, ℕ, ◌+◌, ◌≤◌, false, List, Result, Ok, Err}
-use Rattle.std.specs.Global.{Vec}
+use Rattle.std.specs.Prelude.{◌≡◌, ◌⊎◌, ℕ, ◌+◌, ◌≤◌, false, List, Result}
 use Rattle.texts.specs.declared.stop.Stop.{Stop}
-use Rattle.texts.specs.declared.stop.Stop.TheVariants.{Fault, Memory}
 use Rattle.std.specs.declared.option.Option.{Option}
 use Rattle.desk.specs.Desk.{Texts}
 use Rattle.texts.specs.Reading.{HasFault}
@@ -16,6 +14,8 @@ use Rattle.answer_file.specs.Names.{Setting, named_setting, setting_of}
 use Rattle.answer_file.specs.Reading.{IsAnswer}
 use Rattle.dual_return.specs.Return.{HasReturnFault, IsReturn, MeanTheProgram}
 use Rattle.bridge_tool.specs.AnswerTold.{answer_line, return_line}
+use Rattle.bridge_tool.specs.InsideRefusal.{Gives}
+use Rattle.bridge_tool.specs.declared.refusal.Refusal.{Refusal}
 use Rattle.bridge_tool.specs.NameLists.{after_lists}
 use Rattle.bridge_tool.specs.Outcome.{DoneOrRefused, Outcome}
 use Rattle.bridge_tool.specs.Promise.{Promise}
@@ -44,18 +44,17 @@ pub record HasWideDual (nl : NlValue) (a : AnswerValue) (line : List ℕ) : Type
   pub staged : CanBeExported nl a.objective
   pub first : TellsFault (HasReturnFault nl.file a) return_line line
 
-abbrev pub IsTurnedBack : NlValue → AnswerValue → List ℕ → Type 0
-IsTurnedBack nl a line = CannotBeExported nl a.objective line ⊎ HasWideDual nl a line
+abbrev pub IsReturnRefused : NlValue → AnswerValue → List ℕ → Type 0
+IsReturnRefused nl a line = CannotBeExported nl a.objective line ⊎ HasWideDual nl a line
 
 -- what an answer for a file comes to
 abbrev pub ReturnsAs : NlValue → AnswerValue → Outcome → Type 0
-ReturnsAs nl a = DoneOrRefused (IsReturned nl a) (IsTurnedBack nl a)
+ReturnsAs nl a = DoneOrRefused (IsReturned nl a) (IsReturnRefused nl a)
 
 -- what making the .sol value answers
-abbrev pub Makes : NlValue → AnswerValue → Result Sol (Stop (Vec ℕ)) → Type 0
-Makes nl a (Ok sol) = CanBeExported nl a.objective × IsReturn nl.file a sol
-Makes nl a (Err (Fault line)) = IsTurnedBack nl a line.items
-Makes nl a (Err Memory) = Unit {0}
+abbrev pub Makes : NlValue → AnswerValue → Result Sol (Stop Refusal) → Type 0
+Makes nl a =
+    Gives (λ sol. CanBeExported nl a.objective × IsReturn nl.file a sol) (IsReturnRefused nl a)
 
 -- The duals that are written mean at every point what the answer says of the exported program.
 abbrev pub IsReturnMeant : NlValue → AnswerValue → Type 0

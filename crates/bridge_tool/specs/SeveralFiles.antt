@@ -6,7 +6,7 @@
 --   `after_file reads refuses texts file next`: this file is read. A text that it refuses ends the
 --     command with its line; else the text says one value, and the rest of the command is
 --     `next value`, which may read a further file;
---   `desk_promise judges told`: the whole, at a desk that tells its texts or not.
+--   `desk_promise judges known`: the whole, at a desk that tells its texts (`known`) or not.
 -- So a fault of a file comes before the next file is started, and a reader may depend on the values
 -- before it.
 --
@@ -31,23 +31,27 @@ use Rattle.std.specs.declared.option.Option.TheVariants.{None, Some}
 use Rattle.desk.specs.Desk.{IsUnknown, Meaning, OnlyInput, Rose, Texts}
 use Rattle.texts.specs.declared.stop.Stop.{Stop}
 use Rattle.texts.specs.declared.stop.Stop.TheVariants.{Fault, Memory}
+use Rattle.bridge_tool.specs.InsideRefusal.{Gives, refusal_line}
+use Rattle.bridge_tool.specs.declared.refusal.Refusal.{Refusal}
 use Rattle.bridge_tool.specs.Outcome.{Outcome, Untold, NoText, Refused as IsRefusal, Done as IsDone}
 use Rattle.bridge_tool.specs.Promise.{Promise}
 use Rattle.bridge_tool.specs.Transfer.{ReadsFront}
 use Rattle.bridge_tool.specs.declared.answer.Answer.{Answer}
-use Rattle.bridge_tool.specs.declared.answer.Answer.TheVariants.{Done, Refused, BadWords, InputFault, OutputFault, NoMemory}
+use Rattle.bridge_tool.specs.declared.answer.Answer.TheVariants.{Refused, InputFault, NoMemory}
 use Rattle.bridge_tool.specs.declared.transfer.TheConstants.{LIMIT}
 
 -- ---- promises
 
 module _ {V : Type 0} (reads : List ℕ → V → Type 0) (refuses : List ℕ → List ℕ → Type 0) where
-  -- the text is refused with a line, of which P holds, or says a value, of which Q holds
+  -- the text is refused with a line, of which P holds, or it says a value, of which Q holds
   abbrev pub ByValue : List ℕ → (P : List ℕ → Type 0) → (Q : V → Type 0) → Type 0
   ByValue text P Q = ((line : List ℕ) × (refuses text line × P line))
       ⊎ ((value : V) × (reads text value × Q value))
 
   -- A file is read; what its first bytes say, up to the limit, leads to the promise that is next.
-  -- Where they are refused, no further file is started.
+  -- Where they are refused, the command comes to that refusal, this text is the last that it
+  -- starts, no step is counted, and no 0 can mean anything; where there is no such file, it comes
+  -- to `NoText`.
   abbrev pub after_file : Texts → List ℕ → (next : V → Promise) → Promise
   after_file texts file next = record {
     comes = λ outcome. MatchOption (texts file) (outcome ≡ NoText)
@@ -86,28 +90,25 @@ untold judges = record {
   means = Unit {0};
 }
 
--- the promise at a desk with these texts
-abbrev pub desk_promise : (judges : Bool) → (told : Texts → Promise) → Option Texts → Promise
-desk_promise judges told None = untold judges
-desk_promise judges told (Some texts) = told texts
+-- the promise at a desk that tells its texts, or does not
+abbrev pub desk_promise : (judges : Bool) → (known : Texts → Promise) → Option Texts → Promise
+desk_promise judges known None = untold judges
+desk_promise judges known (Some texts) = known texts
 
 -- ---- code
 
 abbrev pub itself : {V : Type 0} → V → V
 itself v = v
 
--- What judging a text answers: what it says, seen so, or the line to tell; of want of memory
--- nothing is said.
+-- what judging a text answers: what it says, seen so, or why it is refused
 abbrev pub Says : {R V : Type 0} → (seen : R → V) → (reads : List ℕ → V → Type 0)
-    → (refuses : List ℕ → List ℕ → Type 0) → List ℕ → Result R (Stop (Vec ℕ)) → Type 0
-Says seen reads refuses text (Ok value) = reads text (seen value)
-Says seen reads refuses text (Err (Fault line)) = refuses text line.items
-Says seen reads refuses text (Err Memory) = Unit {0}
+    → (refuses : List ℕ → List ℕ → Type 0) → List ℕ → Result R (Stop Refusal) → Type 0
+Says seen reads refuses text = Gives (λ value. reads text (seen value)) (refuses text)
 
 -- the same, with the answer that ends the command
-abbrev pub Answered : {R : Type 0} → Result R (Stop (Vec ℕ)) → Result R Answer → Type 0
+abbrev pub Answered : {R : Type 0} → Result R (Stop Refusal) → Result R Answer → Type 0
 Answered (Ok value) result = result ≡ Ok value
-Answered (Err (Fault line)) result = result ≡ Err (Refused line)
+Answered (Err (Fault refusal)) result = result ≡ Err (Refused refusal)
 Answered (Err Memory) result = result ≡ Err NoMemory
 
 -- the file was read up to the limit, and its first bytes say this
@@ -121,13 +122,12 @@ pub record HasSaid {V : Type 0} (reads : List ℕ → V → Type 0) (file : List
 -- why a file ends the command
 abbrev pub HasEnded : (refuses : List ℕ → List ℕ → Type 0) → List ℕ → Meaning → Meaning → Answer
     → Type 0
-HasEnded refuses file old new (Refused line) = HasSaid refuses file old new line.items
+HasEnded refuses file old new (Refused refusal) =
+    HasSaid refuses file old new (refusal_line refusal)
 HasEnded refuses file old new InputFault =
     Rose old.input_faults new.input_faults ⊎ IsUnknown old.texts file
 HasEnded refuses file old new NoMemory = new.input_faults ≡ old.input_faults
-HasEnded refuses file old new (Done holds) = ⊥
-HasEnded refuses file old new BadWords = ⊥
-HasEnded refuses file old new OutputFault = ⊥
+HasEnded refuses file old new other = ⊥
 
 -- What reading and judging a file did: its value, seen so, or the answer that ends the command.
 pub record ReadsFile {R V : Type 0} (seen : R → V) (reads : List ℕ → V → Type 0)
@@ -138,8 +138,6 @@ pub record ReadsFile {R V : Type 0} (seen : R → V) (reads : List ℕ → V →
   pub judged : MatchResult result (λ value. HasSaid reads file old new (seen value))
       (λ answer. HasEnded refuses file old new answer)
 
--- what judging all values answers: a verdict with the bytes to write, or the line to tell
-abbrev pub Comes : (comes : Outcome → Type 0) → Result (Bool × Vec ℕ) (Stop (Vec ℕ)) → Type 0
-Comes comes (Ok t) = comes (IsDone t.0 t.1.items)
-Comes comes (Err (Fault line)) = comes (IsRefusal line.items)
-Comes comes (Err Memory) = Unit {0}
+-- what judging all values answers: a verdict with the bytes to write, or a refusal
+abbrev pub Comes : (comes : Outcome → Type 0) → Result (Bool × Vec ℕ) (Stop Refusal) → Type 0
+Comes comes = Gives (λ t. comes (IsDone t.0 t.1.items)) (λ line. comes (IsRefusal line))

@@ -1,9 +1,7 @@
 -- What the stages of an export answer.
-use Rattle.std.specs.Prelude.{◌≡◌, ◌⊎◌, ℕ, List, if◌then◌else◌, Result, Ok, Err, Some, None}
-use Rattle.std.specs.Global.{Vec}
+use Rattle.std.specs.Prelude.{◌≡◌, ◌⊎◌, ℕ, List, if◌then◌else◌, Result, Some, None}
 use Rattle.linear_programs.specs.Linear.{Linear}
 use Rattle.texts.specs.declared.stop.Stop.{Stop}
-use Rattle.texts.specs.declared.stop.Stop.TheVariants.{Fault, Memory}
 use Rattle.file_meaning.specs.FoldFaults.{fold_fault, has_objective}
 use Rattle.file_meaning.specs.LinearFile.{linear_of}
 use Rattle.linear_fold.specs.FoldedFaults.{first_fold_fault, step_bound}
@@ -11,6 +9,8 @@ use Rattle.linear_program.specs.Programs.{LinearValue, linear_value}
 use Rattle.nl_segments.specs.Grammar.{NlValue}
 use Rattle.scaling.specs.Scaled.{ScaledValue}
 use Rattle.scaling.specs.Scaling.{HasNoScaleFault, HasScaleFault, IsScaledOf}
+use Rattle.bridge_tool.specs.InsideRefusal.{Gives}
+use Rattle.bridge_tool.specs.declared.refusal.Refusal.{Refusal}
 use Rattle.bridge_tool.specs.NlTold.{fold_line, scale_line}
 use Rattle.bridge_tool.specs.Told.{TellsFault}
 
@@ -25,10 +25,8 @@ HasFoldFault value k =
     TellsFault (λ fault. first_fold_fault value.file k ≡ Some fault) (fold_line value.places)
 
 -- what folding answers
-abbrev pub Folds : NlValue → ℕ → Result LinearValue (Stop (Vec ℕ)) → Type 0
-Folds value k (Ok l) = HasFolded value k l
-Folds value k (Err (Fault line)) = HasFoldFault value k line.items
-Folds value k (Err Memory) = Unit {0}
+abbrev pub Folds : NlValue → ℕ → Result LinearValue (Stop Refusal) → Type 0
+Folds value k = Gives (HasFolded value k) (HasFoldFault value k)
 
 -- the linear program scales, to this scaled one
 pub record HasScaled (f : Linear) (s : ScaledValue) : Type 0 where
@@ -58,7 +56,5 @@ abbrev pub fold_steps : NlValue → ℕ → ℕ
 fold_steps value k = if has_objective value.file k then step_bound value.file else 0
 
 -- what scaling answers
-abbrev pub Scales : Linear → ℕ → Result ScaledValue (Stop (Vec ℕ)) → Type 0
-Scales f k (Ok s) = HasScaled f s
-Scales f k (Err (Fault line)) = HasScaleRefusal f k line.items
-Scales f k (Err Memory) = Unit {0}
+abbrev pub Scales : Linear → ℕ → Result ScaledValue (Stop Refusal) → Type 0
+Scales f k = Gives (HasScaled f) (HasScaleRefusal f k)

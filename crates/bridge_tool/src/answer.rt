@@ -2,11 +2,15 @@
 ghost use Rattle.std.specs.Prelude.{◌≡◌};
 ghost use Rattle.bridge_tool.specs.InsideAnswer.{status_of, told_by};
 
-/// How a command ends: whether the verdict is yes, or the line of a refusal, or what failed.
-#[derive(Drop)]
+use crate::refusal::Refusal;
+use crate::told::fixed;
+use written_texts::LineText;
+
+/// How a command ends: whether the verdict is yes, or why the input is refused, or what failed.
+#[derive(Clone, Copy)]
 pub(crate) enum Answer {
     Done(bool),
-    Refused(Vec<u8>),
+    Refused(Refusal),
     BadWords,
     InputFault,
     OutputFault,
@@ -15,8 +19,8 @@ pub(crate) enum Answer {
 
 impl Answer {
     /// The status that the program ends with.
-    pub(crate) fn status(&self) -> u8
-        ensures { result ≡ status_of self.now }
+    pub(crate) fn status(self) -> u8
+        ensures { result ≡ status_of self }
     {
         match self {
             Answer::Done(true) => 0,
@@ -30,16 +34,16 @@ impl Answer {
     }
 
     /// The line to tell, which is empty where nothing is told.
-    pub(crate) fn line(&self) -> &[u8]
-        ensures { result.now ≡ told_by self.now }
+    pub(crate) fn line(self) -> LineText<128>
+        ensures { result ≡ told_by self }
     {
         match self {
-            Answer::Done(_) => b"",
-            Answer::Refused(line) => line,
-            Answer::BadWords => b"bad words\n",
-            Answer::InputFault => b"input fault\n",
-            Answer::OutputFault => b"output fault\n",
-            Answer::NoMemory => b"no memory\n",
+            Answer::Done(_) => LineText::new(),
+            Answer::Refused(refusal) => refusal.line(),
+            Answer::BadWords => fixed(b"bad words\n"),
+            Answer::InputFault => fixed(b"input fault\n"),
+            Answer::OutputFault => fixed(b"output fault\n"),
+            Answer::NoMemory => fixed(b"no memory\n"),
         }
     }
 }

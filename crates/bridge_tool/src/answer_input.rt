@@ -1,14 +1,16 @@
 // Reading and judging an answer for a file.
-ghost use Rattle.std.specs.Prelude.{◌≡◌, ◌≢◌, List, ℕ, [], IfErr, length};
+ghost use Rattle.std.specs.Prelude.{◌≡◌, ◌≢◌, List, ℕ, [], IfErr, length, Err, IfSome};
 ghost use Rattle.answer_file.specs.Names.{Setting, named_setting, setting_of};
 ghost use Rattle.answer_file.specs.Reading.{IsAnswer, IsFed};
 ghost use Rattle.bridge_tool.specs.InsideAnswer.{status_of};
 ghost use Rattle.bridge_tool.specs.Return.{IsAnswerRefused};
+ghost use Rattle.bridge_tool.specs.InsideRefusal.{refused_by};
+ghost use Rattle.bridge_tool.specs.declared.refusal.Refusal.TheVariants.{Answer as IsAnswerFault};
 ghost use Rattle.bridge_tool.specs.SeveralFiles.{ReadsFile, Says, itself};
 
 use crate::answer::Answer;
-use crate::answer_told::answer_line;
 use crate::one_file::{answered, missed, read};
+use crate::refusal::Refusal;
 use crate::transfer::Feed;
 use answer_file::{Answer as Given, AnswerReader};
 use name_files::NameList;
@@ -32,18 +34,15 @@ impl Feed for AnswerReader {
     }
 }
 
-// The answer of the text that a reader was fed, or the line to tell; it is the second file.
-fn judge_answer(alloc: Global, reader: AnswerReader) -> Result<Given, Stop<Vec<u8>>>
-    ensures { (s : Setting) (text : List ℕ) → IsFed s reader text
+// The answer of the text that a reader was fed, or why it is refused; it is the second file.
+fn judge_answer(reader: AnswerReader) -> Result<Given, Stop<Refusal>>
+    ensures says { (s : Setting) (text : List ℕ) → IsFed s reader text
         → Says itself (IsAnswer s) (IsAnswerRefused s) text result }
+    ensures kept { IfSome reader.stopped (λ stop. result ≡ Err (refused_by IsAnswerFault stop)) }
 {
     match reader.finish() {
         Ok(answer) => Ok(answer),
-        Err(Stop::Memory) => Err(Stop::Memory),
-        Err(Stop::Fault(fault)) => {
-            let line = answer_line(alloc, 2, fault)?;
-            Err(Stop::Fault(line))
-        }
+        Err(stop) => Err(stop.map_fault(|fault| Refusal::Answer(fault))),
     }
 }
 
@@ -61,7 +60,7 @@ fn open_with<D: Desk>(
 {
     match read(alloc, desk, name, reader) {
         Ok(reader) => {
-            let judged = judge_answer(alloc, reader);
+            let judged = judge_answer(reader);
             answered(judged)
         }
         Err(unread) => Err(missed(unread)),

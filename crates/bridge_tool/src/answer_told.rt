@@ -1,15 +1,16 @@
-// The lines that tell faults of answers, and of what they are returned as.
-ghost use Rattle.std.specs.Prelude.{◌≡◌, IfOk};
-ghost use Rattle.bridge_tool.specs.AnswerTold.{answer_line, answer_reason_text, return_line};
+// What is told of faults of answers, and of what they are returned as.
+ghost use Rattle.std.specs.Prelude.{◌≡◌, ◌≤◌, length};
+ghost use Rattle.bridge_tool.specs.AnswerTold.{answer_reason_text, return_line};
 
 use crate::told::refusal;
-use answer_file::{AnswerFault, AnswerReason};
+use answer_file::AnswerReason;
 use dual_return::ReturnFault;
-use std::alloc::{AllocError, Global};
+use written_texts::LineText;
 
-// What is said of a fault of an answer.
-fn answer_reason_text(reason: AnswerReason) -> &'static [u8]
-    ensures { result.now ≡ answer_reason_text reason }
+/// What is said of a fault of an answer.
+pub(crate) fn answer_reason_text(reason: AnswerReason) -> &'static [u8]
+    ensures text { result.now ≡ answer_reason_text reason }
+    ensures brief { length result.now ≤ 24 }
 {
     match reason {
         AnswerReason::BadFirst => b"bad first line",
@@ -24,28 +25,11 @@ fn answer_reason_text(reason: AnswerReason) -> &'static [u8]
     }
 }
 
-/// The line of a fault of an answer, which is this file of its command.
-pub(crate) fn answer_line(
-    alloc: Global,
-    file: u32,
-    fault: AnswerFault,
-) -> Result<Vec<u8>, AllocError>
-    ensures { IfOk result (λ line. line.items ≡ answer_line file fault) }
-{
-    refusal(
-        alloc,
-        file,
-        b"line",
-        fault.line,
-        answer_reason_text(fault.reason),
-    )
-}
-
 /// The line of a dual that is too wide.
-pub(crate) fn return_line(alloc: Global, fault: ReturnFault) -> Result<Vec<u8>, AllocError>
-    ensures { IfOk result (λ line. line.items ≡ return_line fault) }
+pub(crate) fn return_line(fault: ReturnFault) -> LineText<128>
+    ensures { result ≡ return_line fault }
 {
     match fault {
-        ReturnFault::DualTooWide(con) => refusal(alloc, 1, b"row", con, b"dual too wide"),
+        ReturnFault::DualTooWide(con) => refusal(1, b"row", con, b"dual too wide"),
     }
 }

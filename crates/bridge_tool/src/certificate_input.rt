@@ -1,5 +1,5 @@
 // Reading and judging the text of a certificate.
-ghost use Rattle.std.specs.Prelude.{◌≡◌, ◌≢◌, List, ℕ, IfErr, IfOk};
+ghost use Rattle.std.specs.Prelude.{◌≡◌, ◌≢◌, List, ℕ, IfErr, IfOk, Err, IfSome};
 ghost use Rattle.desk.specs.Desk.{IsUnknown, OnlyInput};
 ghost use Rattle.certificates.specs.Certificates.{IsCertificateIn};
 ghost use Rattle.nl_model.specs.File.{File};
@@ -7,12 +7,14 @@ ghost use Rattle.certificate_text.specs.Reader.{IsFed, IsCertificateText};
 ghost use Rattle.certificate_text.specs.Setting.{setting_of};
 ghost use Rattle.bridge_tool.specs.InsideAnswer.{status_of};
 ghost use Rattle.bridge_tool.specs.Verify.{IsCertificateRefused};
+ghost use Rattle.bridge_tool.specs.InsideRefusal.{refused_by};
+ghost use Rattle.bridge_tool.specs.declared.refusal.Refusal.TheVariants.{Certificate as IsCertificateFault};
 ghost use Rattle.bridge_tool.specs.SeveralFiles.{ReadsFile, Says, itself};
 ghost use Rattle.bridge_tool.specs.Transfer.{HasRead, HasReadCause};
 
 use crate::answer::Answer;
-use crate::certificate_told::certificate_line;
 use crate::one_file::{answered, missed, read};
+use crate::refusal::Refusal;
 use crate::transfer::{Feed, LIMIT, Unread};
 use certificate_text::CertificateReader;
 use certificates::Certificate;
@@ -53,31 +55,28 @@ pub(crate) fn read_certificate<D: Desk>(
     read(alloc, desk, name, reader)
 }
 
-/// What the text says that a reader of certificates of a file was fed, or the line to tell; the text is
-/// this file of its command.
+/// What the text says that a reader of certificates of a file was fed, or why it is refused; the
+/// text is this file of its command.
 pub(crate) fn judge_certificate(
-    alloc: Global,
     reader: CertificateReader,
     number: u32,
-) -> Result<Certificate, Stop<Vec<u8>>>
+) -> Result<Certificate, Stop<Refusal>>
     ensures says { (f : File) (text : List ℕ) → IsFed (setting_of f) reader text
-        → Says itself (IsCertificateText (setting_of f)) (IsCertificateRefused (setting_of f) number) text
-        result }
-    ensures certificate { IfOk result (λ c. (f : File) (text : List ℕ) → IsFed (setting_of f) reader text
-        → IsCertificateIn f c) }
+        → Says itself (IsCertificateText (setting_of f))
+        (IsCertificateRefused (setting_of f) number) text result }
+    ensures certificate { IfOk result (λ c. (f : File) (text : List ℕ)
+        → IsFed (setting_of f) reader text → IsCertificateIn f c) }
+    ensures kept { IfSome reader.stopped (λ stop. result
+        ≡ Err (refused_by (IsCertificateFault number) stop)) }
 {
     match reader.finish() {
         Ok(certificate) => Ok(certificate),
-        Err(Stop::Memory) => Err(Stop::Memory),
-        Err(Stop::Fault(fault)) => {
-            let line = certificate_line(alloc, number, fault)?;
-            Err(Stop::Fault(line))
-        }
+        Err(stop) => Err(stop.map_fault(|fault| Refusal::Certificate(number, fault))),
     }
 }
 
-/// The certificate of this file that a text says, which is this one of its command, or the answer that
-/// ends the command.
+/// The certificate of this file that a text says, which is this one of its command, or the answer
+/// that ends the command.
 pub(crate) fn open_certificate<D: Desk>(
     alloc: Global,
     desk: &mut D,
@@ -93,7 +92,7 @@ pub(crate) fn open_certificate<D: Desk>(
 {
     match read_certificate(alloc, desk, file, name) {
         Ok(reader) => {
-            let judged = judge_certificate(alloc, reader, number);
+            let judged = judge_certificate(reader, number);
             answered(judged)
         }
         Err(unread) => Err(missed(unread)),

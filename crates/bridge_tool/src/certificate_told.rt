@@ -1,26 +1,27 @@
-// The lines that tell faults of certificates' texts, and the lines of verdicts on certificates.
-ghost use Rattle.std.specs.Prelude.{◌≡◌, ◌++◌, codes, IfOk, OnOk, true};
+// What is told of faults of certificates' texts, and the lines of verdicts on certificates.
+ghost use Rattle.std.specs.Prelude.{◌≡◌, ◌≤◌, ◌++◌, codes, length, IfOk, OnOk, true};
 ghost use Rattle.std.specs.Fmt.{decimal};
 ghost use Rattle.fractions.specs.Fits.{fits};
 ghost use Rattle.certificates.specs.Numbers.{number_value};
 ghost use Rattle.certificate_check.specs.Terms.{value_found};
 ghost use Rattle.certificate_walk.specs.Outcomes.{cause_of, leaf_fault_of, outcome_of, point_fault_of, ray_fault_of};
-ghost use Rattle.bridge_tool.specs.CertificateTold.{certificate_line, certificate_reason_text, claim_text, failed_text, HasFittingBound, is_held, outcome_line, outcome_text, ray_text, value_text};
+ghost use Rattle.bridge_tool.specs.CertificateTold.{certificate_reason_text, claim_text, failed_text, HasFittingBound, is_held, outcome_line, outcome_text, ray_text, value_text};
 ghost use Rattle.bridge_tool.specs.LeafTold.{leaf_text};
 ghost use Rattle.bridge_tool.specs.Told.{number_text};
 ghost use Rattle.bridge_tool.specs.VerdictTold.{cause_text};
 
 use crate::leaf_told::{put_gap, put_side, put_wide};
-use crate::told::{put, put_decimal, put_frac, put_index, refusal};
-use certificate_text::{CertificateFault, CertificateReason};
+use crate::told::{put, put_decimal, put_frac, put_index};
+use certificate_text::CertificateReason;
 use certificate_walk::{Cause, LeafFault, Outcome, PointFault, RayFault};
 use certificates::{Claim, Number};
 use exact_numbers::Frac;
 use std::alloc::{AllocError, Global};
 
-// What is said of a fault of a certificate's text.
-fn certificate_reason_text(reason: CertificateReason) -> &'static [u8]
-    ensures { result.now ≡ certificate_reason_text reason }
+/// What is said of a fault of a certificate's text.
+pub(crate) fn certificate_reason_text(reason: CertificateReason) -> &'static [u8]
+    ensures text { result.now ≡ certificate_reason_text reason }
+    ensures brief { length result.now ≤ 24 }
 {
     match reason {
         CertificateReason::LineTooLong => b"line too long",
@@ -35,23 +36,6 @@ fn certificate_reason_text(reason: CertificateReason) -> &'static [u8]
         CertificateReason::TooLarge => b"too large",
         CertificateReason::Short => b"short file",
     }
-}
-
-/// The line of a fault of a certificate's text, which is this file of its command.
-pub(crate) fn certificate_line(
-    alloc: Global,
-    file: u32,
-    fault: CertificateFault,
-) -> Result<Vec<u8>, AllocError>
-    ensures { IfOk result (λ line. line.items ≡ certificate_line file fault) }
-{
-    refusal(
-        alloc,
-        file,
-        b"line",
-        fault.line,
-        certificate_reason_text(fault.reason),
-    )
 }
 
 // A number as it was given, in lowest terms.

@@ -1,6 +1,6 @@
-// The command check: from an .nl text and a .sol text to the line of a verdict, or to the line to
-// tell.
-ghost use Rattle.std.specs.Prelude.{◌≡◌, ◌≢◌, ◌+◌, ◌≤◌, ◌<ℤ◌, pos, IfOk, MatchOption, None, Some, length};
+// The command check: from an .nl text and a .sol text to the line of a verdict, or to a
+// refusal.
+ghost use Rattle.std.specs.Prelude.{◌≡◌, ◌+◌, ◌≤◌, ◌<ℤ◌, pos, IfOk, MatchOption, None, Some, length};
 ghost use Rattle.linear_programs.specs.Linear.{row_count, variable_count};
 ghost use Rattle.duality.specs.Verdict.{verdict};
 ghost use Rattle.exact_numbers.specs.Values.{dec_value};
@@ -10,7 +10,7 @@ ghost use Rattle.nl_model.specs.Rules.{IsFile};
 ghost use Rattle.nl_segments.specs.Reader.{HasLines, value_of};
 ghost use Rattle.certificate_check.specs.Answers.{answer_of};
 ghost use Rattle.certificate_check.specs.Terms.{values_of};
-ghost use Rattle.bridge_tool.specs.InsideAnswer.{IsWorked, status_of};
+ghost use Rattle.bridge_tool.specs.InsideAnswer.{IsCounted};
 ghost use Rattle.bridge_tool.specs.Check.{IsCertified, by_fold, check_outcome, check_promise, most_steps, objective_number, steps_by_number, unfit};
 ghost use Rattle.bridge_tool.specs.SeveralFiles.{Comes};
 ghost use Rattle.bridge_tool.specs.VerdictTold.{is_yes, verdict_line};
@@ -18,9 +18,10 @@ ghost use Rattle.bridge_tool.specs.VerdictTold.{is_yes, verdict_line};
 use crate::answer::Answer;
 use crate::nl_input::open_nl;
 use crate::one_file::end;
+use crate::refusal::Refusal;
 use crate::sol_input::open_sol;
 use crate::stages::fold;
-use crate::verdict_told::{fit_line, is_yes, negative_line, verdict_line};
+use crate::verdict_told::{is_yes, verdict_line};
 use certificate_check::{Columns, Verdict, certify, fit};
 use exact_numbers::Dec;
 use linear_fold::Linear;
@@ -80,15 +81,15 @@ fn told_verdict(
     Ok((is_yes(verdict), line))
 }
 
-// The verdict on a solution that fits the file, with this objective, or the line of the first fault
-// of the fold.
+// The verdict on a solution that fits the file, with this objective, or the first fault of
+// the fold.
 fn certified<L: Ledger>(
     alloc: Global,
     read: &NlRead,
     sol: &Sol,
     objective: u32,
     steps: &mut Steps<L>,
-) -> Result<(bool, Vec<u8>), Stop<Vec<u8>>>
+) -> Result<(bool, Vec<u8>), Stop<Refusal>>
     requires lines { HasLines read.now }
     requires fits { unfit (value_of read.now) sol.now ≡ None }
     ensures comes { Comes (λ outcome. outcome ≡ by_fold (value_of read.now) sol.now objective
@@ -104,13 +105,13 @@ fn certified<L: Ledger>(
     Ok(told)
 }
 
-// The verdict of a file and a solution, or the line to tell.
+// The verdict of a file and a solution, or why it is refused.
 fn judge<L: Ledger>(
     alloc: Global,
     read: &NlRead,
     sol: &Sol,
     steps: &mut Steps<L>,
-) -> Result<(bool, Vec<u8>), Stop<Vec<u8>>>
+) -> Result<(bool, Vec<u8>), Stop<Refusal>>
     requires { HasLines read.now }
     ensures comes { Comes (λ outcome. outcome ≡ check_outcome (value_of read.now) sol.now) result }
     ensures file { IsFile read.now.file }
@@ -119,13 +120,11 @@ fn judge<L: Ledger>(
 {
     let _ = read.file.header();
     if let Err(fault) = fit(&read.file, sol) {
-        let line = fit_line(alloc, fault)?;
-        return Err(Stop::Fault(line));
+        return Err(Stop::Fault(Refusal::Fit(fault)));
     }
     let number = objective_number(sol);
     let Some(objective) = plain_objective(number) else {
-        let line = negative_line(alloc, number)?;
-        return Err(Stop::Fault(line));
+        return Err(Stop::Fault(Refusal::Negative(number)));
     };
     certified(alloc, read, sol, objective, steps)
 }
@@ -139,13 +138,8 @@ pub(crate) fn check<D: Desk, L: Ledger>(
     desk: &mut D,
     steps: &mut Steps<L>,
 ) -> Answer
-    ensures worked { IsWorked (check_promise (D.meaning desk.old).texts nl.now sol.now)
-        (D.meaning desk.old) (D.meaning desk.new) result }
-    ensures known { status_of result ≢ 3 }
-    ensures above { steps.old ≤ steps.new }
-    ensures counts { (check_promise (D.meaning desk.old).texts nl.now sol.now).counts steps.old
-        steps.new }
-    ensures idle { status_of result ≡ 4 → steps.new ≡ steps.old }
+    ensures { IsCounted (check_promise (D.meaning desk.old).texts nl.now sol.now)
+        (D.meaning desk.old) (D.meaning desk.new) steps.old steps.new result }
 {
     let read = match open_nl(alloc, desk, nl) {
         Ok(read) => read,

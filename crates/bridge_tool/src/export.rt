@@ -1,10 +1,10 @@
-// The command export: from the text of a file to the text of its program, or to the line to tell.
-ghost use Rattle.std.specs.Prelude.{◌≡◌, ◌≢◌, ◌+◌, ◌≤◌, IfOk};
+// The command export: from the text of a file to the text of its program, or to a refusal.
+ghost use Rattle.std.specs.Prelude.{◌≡◌, ◌+◌, ◌≤◌, IfOk};
 ghost use Rattle.exact_numbers.specs.Values.{value_text};
 ghost use Rattle.mps_model.specs.Text.{mps_text_by};
 ghost use Rattle.nl_segments.specs.Reader.{HasLines, value_of};
 ghost use Rattle.scaling.specs.Exported.{exported_as};
-ghost use Rattle.bridge_tool.specs.InsideAnswer.{IsWorked, status_of};
+ghost use Rattle.bridge_tool.specs.InsideAnswer.{IsCounted};
 ghost use Rattle.bridge_tool.specs.Export.{ExportsAs, IsExportMeant, export_promise};
 ghost use Rattle.bridge_tool.specs.SeveralFiles.{Comes};
 ghost use Rattle.bridge_tool.specs.Stages.{fold_steps};
@@ -12,6 +12,7 @@ ghost use Rattle.bridge_tool.specs.Stages.{fold_steps};
 use crate::answer::Answer;
 use crate::nl_input::open_nl;
 use crate::one_file::end;
+use crate::refusal::Refusal;
 use crate::stages::{fold_read, scale};
 use nl_segments::NlRead;
 use row_scaling::{Scaled, write_exported};
@@ -25,13 +26,13 @@ fn write_program(alloc: Global, scaled: Scaled) -> Result<Vec<u8>, AllocError>
     write_exported(alloc, &scaled)
 }
 
-// The bytes to write for a file, or the line to tell.
+// The bytes to write for a file, or why it is refused.
 fn judge<L: Ledger>(
     alloc: Global,
     read: NlRead,
     objective: u32,
     steps: &mut Steps<L>,
-) -> Result<(bool, Vec<u8>), Stop<Vec<u8>>>
+) -> Result<(bool, Vec<u8>), Stop<Refusal>>
     requires { HasLines read }
     ensures comes { Comes (ExportsAs (value_of read) objective) result }
     ensures means { IfOk result (λ t. IsExportMeant (value_of read) objective) }
@@ -52,13 +53,8 @@ pub(crate) fn export<D: Desk, L: Ledger>(
     desk: &mut D,
     steps: &mut Steps<L>,
 ) -> Answer
-    ensures worked { IsWorked (export_promise (D.meaning desk.old).texts file.now objective)
-        (D.meaning desk.old) (D.meaning desk.new) result }
-    ensures known { status_of result ≢ 3 }
-    ensures above { steps.old ≤ steps.new }
-    ensures counts { (export_promise (D.meaning desk.old).texts file.now objective).counts steps.old
-        steps.new }
-    ensures idle { status_of result ≡ 4 → steps.new ≡ steps.old }
+    ensures { IsCounted (export_promise (D.meaning desk.old).texts file.now objective)
+        (D.meaning desk.old) (D.meaning desk.new) steps.old steps.new result }
 {
     let read = match open_nl(alloc, desk, file) {
         Ok(read) => read,

@@ -1,7 +1,6 @@
 // The command fixed: from an MPS text of fixed columns to the one written form of what it says, or
-// to the line to tell.
-ghost use Rattle.std.specs.Prelude.{◌≢◌};
-ghost use Rattle.bridge_tool.specs.InsideAnswer.{IsWorked, status_of};
+// to a refusal.
+ghost use Rattle.bridge_tool.specs.InsideAnswer.{IsAtRest};
 ghost use Rattle.bridge_tool.specs.Fixed.{fixed_promise};
 
 use crate::answer::Answer;
@@ -14,9 +13,8 @@ use text_base::Desk;
 /// Writes an MPS file of fixed columns as free text: reads its text, judges it, and writes what it
 /// comes to. Tells nothing.
 pub(crate) fn rewrite<D: Desk>(alloc: Global, file: &str, desk: &mut D) -> Answer
-    ensures worked { IsWorked (fixed_promise (D.meaning desk.old).texts file.now)
+    ensures { IsAtRest (fixed_promise (D.meaning desk.old).texts file.now)
         (D.meaning desk.old) (D.meaning desk.new) result }
-    ensures known { status_of result ≢ 3 }
 {
     let mps = match open_fixed(alloc, desk, file) {
         Ok(mps) => mps,

@@ -1,22 +1,22 @@
-// The command import: from an MPS text to the .nl text of a file that means the same, or to the
-// line to tell.
-ghost use Rattle.std.specs.Prelude.{◌≡◌, ◌≢◌};
-ghost use Rattle.bridge_tool.specs.InsideAnswer.{IsWorked, status_of};
+// The command import: from an MPS text to the .nl text of a file that means the same, or to a
+// refusal.
+ghost use Rattle.std.specs.Prelude.{◌≡◌};
+ghost use Rattle.bridge_tool.specs.InsideAnswer.{IsAtRest};
 ghost use Rattle.bridge_tool.specs.Import.{import_outcome, import_promise};
 ghost use Rattle.bridge_tool.specs.SeveralFiles.{Comes};
 
 use crate::answer::Answer;
-use crate::import_told::import_line;
 use crate::mps_input::open_mps;
 use crate::one_file::end;
+use crate::refusal::Refusal;
 use mps_import::import;
 use mps_model::Mps;
 use nl_writer::write_nl;
 use std::alloc::Global;
 use text_base::{Desk, Stop};
 
-// The bytes to write for a program, or the line to tell.
-fn judge(alloc: Global, mps: &Mps) -> Result<(bool, Vec<u8>), Stop<Vec<u8>>>
+// The bytes to write for a program, or why it is refused.
+fn judge(alloc: Global, mps: &Mps) -> Result<(bool, Vec<u8>), Stop<Refusal>>
     ensures { Comes (λ outcome. outcome ≡ import_outcome mps.now) result }
 {
     match import(alloc, mps) {
@@ -24,19 +24,14 @@ fn judge(alloc: Global, mps: &Mps) -> Result<(bool, Vec<u8>), Stop<Vec<u8>>>
             let out = write_nl(alloc, &imported.file)?;
             Ok((true, out))
         }
-        Err(Stop::Memory) => Err(Stop::Memory),
-        Err(Stop::Fault(fault)) => {
-            let line = import_line(alloc, fault)?;
-            Err(Stop::Fault(line))
-        }
+        Err(stop) => Err(stop.map_fault(|fault| Refusal::Import(fault))),
     }
 }
 
 /// Imports an MPS file: reads its text, judges it, and writes what it comes to. Tells nothing.
 pub(crate) fn import_file<D: Desk>(alloc: Global, file: &str, desk: &mut D) -> Answer
-    ensures worked { IsWorked (import_promise (D.meaning desk.old).texts file.now)
+    ensures { IsAtRest (import_promise (D.meaning desk.old).texts file.now)
         (D.meaning desk.old) (D.meaning desk.new) result }
-    ensures known { status_of result ≢ 3 }
 {
     let mps = match open_mps(alloc, desk, file) {
         Ok(mps) => mps,

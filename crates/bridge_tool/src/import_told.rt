@@ -1,20 +1,18 @@
 // The lines that tell faults of an import.
-ghost use Rattle.std.specs.Prelude.{◌≡◌, IfOk};
+ghost use Rattle.std.specs.Prelude.{◌≡◌};
 ghost use Rattle.bridge_tool.specs.ImportTold.{import_line};
 
-use crate::told::refusal;
+use crate::told::{fixed, refusal};
 use mps_import::ImportFault;
-use std::alloc::{AllocError, Global};
+use written_texts::LineText;
 
 /// The line of a fault of an import.
-pub(crate) fn import_line(alloc: Global, fault: ImportFault) -> Result<Vec<u8>, AllocError>
-    ensures { IfOk result (λ line. line.items ≡ import_line fault) }
+pub(crate) fn import_line(fault: ImportFault) -> LineText<128>
+    ensures { result ≡ import_line fault }
 {
     match fault {
-        ImportFault::TooLarge => Vec::from_slice(alloc, b"refused program: too large\n"),
-        ImportFault::TooWide(row) => refusal(alloc, 1, b"row", row, b"too wide"),
-        ImportFault::EmptyInterval(column) => {
-            refusal(alloc, 1, b"column", column, b"empty interval")
-        }
+        ImportFault::TooLarge => fixed(b"refused program: too large\n"),
+        ImportFault::TooWide(row) => refusal(1, b"row", row, b"too wide"),
+        ImportFault::EmptyInterval(column) => refusal(1, b"column", column, b"empty interval"),
     }
 }

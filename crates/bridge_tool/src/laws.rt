@@ -1,5 +1,5 @@
 // Each law is proved by a function with an empty body.
-ghost use Rattle.std.specs.Prelude.{◌≡◌, ◌⊎◌, ◌↔◌, ◌+◌, ◌≤◌, ◌^◌, List, ℕ, Option, Some, true, length, take};
+ghost use Rattle.std.specs.Prelude.{◌≡◌, ◌↔◌, ◌+◌, ◌≤◌, ◌^◌, List, ℕ, Option, Some, length, take};
 ghost use Rattle.answer_file.specs.Names.{Setting as AnswerSetting};
 ghost use Rattle.certificate_text.specs.Setting.{Setting as CertificateSetting};
 ghost use Rattle.export_round_trip.specs.ReadAs.{IsReadAs};
@@ -9,28 +9,39 @@ ghost use Rattle.name_files.specs.Names.{Counts};
 ghost use Rattle.name_files.specs.Renamed.{named};
 ghost use Rattle.nl_model.specs.Rules.{IsFile};
 ghost use Rattle.nl_segments.specs.Grammar.{NlValue};
+ghost use Rattle.fixed_mps.specs.Reader.{IsFixedText};
+ghost use Rattle.mps_reader.specs.Reader.{IsMpsText};
+ghost use Rattle.mps_reader.specs.Written.{mps_text};
+ghost use Rattle.nl_round_trip.specs.Writable.{IsText};
 ghost use Rattle.nl_segments.specs.Reader.{IsNl};
+ghost use Rattle.nl_writer.specs.Written.{nl_text};
+ghost use Rattle.sol_files.specs.Reader.{IsSol};
+ghost use Rattle.sol_files.specs.Written.{sol_text};
 ghost use Rattle.proof_text.specs.Setting.{Setting as ProofSetting};
 ghost use Rattle.desk.specs.Desk.{Texts};
 ghost use Rattle.texts.specs.Reading.{lines_of};
 ghost use Rattle.bridge_tool.specs.Commands.{ComesTo};
 ghost use Rattle.bridge_tool.specs.Export.{IsExportMeant, IsExported, MeansTheFile, export_told};
-ghost use Rattle.bridge_tool.specs.Fixed.{IsFixedRefused};
-ghost use Rattle.bridge_tool.specs.Mps.{IsMpsRefused};
+ghost use Rattle.bridge_tool.specs.ByText.{IsByText, IsWritingByText};
+ghost use Rattle.bridge_tool.specs.Fixed.{IsFixedRefused, fixed_told};
+ghost use Rattle.bridge_tool.specs.Import.{CannotBeImported, IsImportedAs, MeansTheProgram, import_told};
+ghost use Rattle.bridge_tool.specs.Mps.{IsMpsMeant, IsMpsRefused, mps_told};
 ghost use Rattle.bridge_tool.specs.NameLists.{AreListed, IsListRefused, column_counts, row_counts};
 ghost use Rattle.bridge_tool.specs.NamedExport.{IsNamedExport, Named};
+ghost use Rattle.bridge_tool.specs.Nl.{nl_told};
 ghost use Rattle.bridge_tool.specs.NlTold.{HasFaultLine};
-ghost use Rattle.bridge_tool.specs.Outcome.{Done, Outcome, Refused};
+ghost use Rattle.bridge_tool.specs.Outcome.{Outcome};
 ghost use Rattle.bridge_tool.specs.Prove.{IsProofRefused};
 ghost use Rattle.bridge_tool.specs.Refusal.{HasTextRefusal};
 ghost use Rattle.bridge_tool.specs.Return.{IsAnswerRefused};
-ghost use Rattle.bridge_tool.specs.Sol.{IsSolRefused};
+ghost use Rattle.bridge_tool.specs.Sol.{IsSolMeant, IsSolRefused, sol_told};
 ghost use Rattle.bridge_tool.specs.Stages.{CannotBeExported, fold_steps};
 ghost use Rattle.bridge_tool.specs.ToldLines.{TellsLine, TellsPlace};
 ghost use Rattle.bridge_tool.specs.declared.transfer.TheConstants.{LIMIT};
 ghost use Rattle.bridge_tool.specs.Verify.{IsCertificateRefused};
 
 /// Words come to exactly one outcome, whatever texts a desk has.
+#[tactic(auto, using(crate::proofs::Headline::some_outcome, crate::proofs::Headline::one_outcome))]
 pub fn one_outcome()
     ensures some { (texts : Option Texts) (words : List (List ℕ))
         → (outcome : Outcome) × ComesTo texts words outcome }
@@ -38,24 +49,29 @@ pub fn one_outcome()
         → ComesTo texts words a → ComesTo texts words b → a ≡ b }
 {}
 
-/// What a text is exported as, why it is refused, and which steps are counted, by the text alone.
-pub fn exports_by_text()
-    ensures done { (texts : Texts) (file text : List ℕ) (k : ℕ) → texts file ≡ Some text
-        → (bytes : List ℕ) → (export_told file k texts).comes (Done true bytes)
-        ↔ ((nl : NlValue) × (IsNl (take LIMIT text) nl × IsExported nl k bytes)) }
-    ensures refused { (texts : Texts) (file text : List ℕ) (k : ℕ) → texts file ≡ Some text
-        → (line : List ℕ) → (export_told file k texts).comes (Refused line)
-        ↔ (HasTextRefusal (take LIMIT text) line
-        ⊎ ((nl : NlValue) × (IsNl (take LIMIT text) nl × CannotBeExported nl k line))) }
-    ensures steps { (texts : Texts) (file text : List ℕ) (k : ℕ) → texts file ≡ Some text
-        → (old new : ℕ) → (export_told file k texts).counts old new
-        → (nl : NlValue) → IsNl (take LIMIT text) nl → new ≤ old + fold_steps nl k }
-    ensures unread { (texts : Texts) (file text : List ℕ) (k : ℕ) → texts file ≡ Some text
-        → (old new : ℕ) → (export_told file k texts).counts old new
-        → (line : List ℕ) → HasTextRefusal (take LIMIT text) line → new ≡ old }
-    ensures means { (texts : Texts) (file text : List ℕ) (k : ℕ) → texts file ≡ Some text
-        → (export_told file k texts).means → (nl : NlValue) → IsNl (take LIMIT text) nl
-        → IsExportMeant nl k }
+/// What a command of one file comes to, why it refuses it, which steps are counted and what a 0
+/// means, by the text of that file alone.
+#[tactic(auto, using(crate::proofs::OneFile::nl_by_text, crate::proofs::OneFile::mps_by_text, crate::proofs::OneFile::fixed_by_text, crate::proofs::OneFile::sol_by_text, crate::proofs::OneFile::import_by_text))]
+pub fn commands_by_text()
+    ensures export { (texts : Texts) (file text : List ℕ) (k : ℕ) → texts file ≡ Some text
+        → IsByText IsNl HasTextRefusal (λ nl. IsExported nl k) (λ nl. CannotBeExported nl k)
+        (λ nl old new. new ≤ old + fold_steps nl k) (λ nl. IsExportMeant nl k) (take LIMIT text)
+        (export_told file k texts) }
+    ensures nl { (texts : Texts) (file text : List ℕ) → texts file ≡ Some text
+        → IsWritingByText IsNl HasTextRefusal (λ nl. nl_text nl.file)
+        (λ nl. IsText nl.file (nl_text nl.file)) (take LIMIT text) (nl_told file texts) }
+    ensures mps { (texts : Texts) (file text : List ℕ) → texts file ≡ Some text
+        → IsWritingByText IsMpsText IsMpsRefused mps_text IsMpsMeant (take LIMIT text)
+        (mps_told file texts) }
+    ensures fixed { (texts : Texts) (file text : List ℕ) → texts file ≡ Some text
+        → IsWritingByText IsFixedText IsFixedRefused mps_text IsMpsMeant (take LIMIT text)
+        (fixed_told file texts) }
+    ensures sol { (texts : Texts) (file text : List ℕ) → texts file ≡ Some text
+        → IsWritingByText IsSol (IsSolRefused 1) sol_text IsSolMeant (take LIMIT text)
+        (sol_told file texts) }
+    ensures import { (texts : Texts) (file text : List ℕ) → texts file ≡ Some text
+        → IsByText IsMpsText IsMpsRefused IsImportedAs CannotBeImported (λ m old new. new ≡ old)
+        MeansTheProgram (take LIMIT text) (import_told file texts) }
 {}
 
 /// The program of a file that is exported means what the file means.
@@ -84,6 +100,7 @@ pub fn named_exports_are_read_back()
 /// among the files of the command, and one of its lines or the line after the last, and never line
 /// 0. What is told of a file that does not fold or scale may name a row or the objective instead. A
 /// fault of the fold at a place of the file stands at one of its lines.
+#[tactic(auto, using(crate::proofs::FaultLines::text_told, crate::proofs::FaultLines::sol_told, crate::proofs::FaultLines::names_told, crate::proofs::FaultLines::proof_told, crate::proofs::FaultLines::certificate_told, crate::proofs::FaultLines::mps_told, crate::proofs::FaultLines::fixed_told, crate::proofs::FaultLines::fault_lines))]
 pub fn told_lines_are_lines()
     ensures nl { (text told : List ℕ) → HasTextRefusal text told → TellsLine 1 text told }
     ensures sol { (file : ℕ) (text told : List ℕ) → IsSolRefused file text told

@@ -28,6 +28,7 @@ mod one_file;
 mod proof_input;
 mod proof_told;
 mod prove;
+mod refusal;
 mod returns;
 mod sol;
 mod sol_input;

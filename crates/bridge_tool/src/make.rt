@@ -11,8 +11,8 @@ ghost use Rattle.bridge_tool.specs.SeveralFiles.{Comes};
 ghost use Rattle.bridge_tool.specs.Stages.{fold_steps};
 
 use crate::answer::Answer;
-use crate::nl_told::nl_line;
 use crate::one_file::end;
+use crate::refusal::Refusal;
 use crate::stages::{exported, fold_read, scale};
 use crate::summary::{coefficient_count, exported_count, summary_line};
 use instances::make_instance;
@@ -35,12 +35,12 @@ fn sum_up(alloc: Global, scaled: Scaled, variables: u32, rows: usize) -> Result<
     Ok(line)
 }
 
-// The summary of a file, or the line to tell.
+// The summary of a file, or why it is refused.
 fn judge_read<L: Ledger>(
     alloc: Global,
     read: NlRead,
     steps: &mut Steps<L>,
-) -> Result<(bool, Vec<u8>), Stop<Vec<u8>>>
+) -> Result<(bool, Vec<u8>), Stop<Refusal>>
     requires { HasLines read }
     ensures comes { Comes (MakesAs (value_of read)) result }
     ensures above { steps.old ≤ steps.new }
@@ -65,13 +65,13 @@ fn instance_text(alloc: Global, seed: u32, size: u32) -> Result<Vec<u8>, AllocEr
     text
 }
 
-// The summary of the written text of an instance, or the line to tell.
+// The summary of the written text of an instance, or why it is refused.
 fn judge<L: Ledger>(
     alloc: Global,
     seed: u32,
     size: u32,
     steps: &mut Steps<L>,
-) -> Result<(bool, Vec<u8>), Stop<Vec<u8>>>
+) -> Result<(bool, Vec<u8>), Stop<Refusal>>
     requires { size ≤ 20000 }
     ensures comes { Comes (make_promise seed size).comes result }
     ensures above { steps.old ≤ steps.new }
@@ -80,11 +80,7 @@ fn judge<L: Ledger>(
     let text = instance_text(alloc, seed, size)?;
     match read_nl(alloc, &text) {
         Ok(read) => judge_read(alloc, read, steps),
-        Err(Stop::Memory) => Err(Stop::Memory),
-        Err(Stop::Fault(fault)) => {
-            let line = nl_line(alloc, fault)?;
-            Err(Stop::Fault(line))
-        }
+        Err(stop) => Err(stop.map_fault(|fault| Refusal::Nl(fault))),
     }
 }
 

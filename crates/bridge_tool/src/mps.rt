@@ -1,8 +1,8 @@
-// The command mps: from an MPS text to the one written form of what it says, or to the line to
-// tell.
-ghost use Rattle.std.specs.Prelude.{◌≡◌, ◌≢◌, true};
+// The command mps: from an MPS text to the one written form of what it says, or to a
+// refusal.
+ghost use Rattle.std.specs.Prelude.{◌≡◌, true, IfOk};
 ghost use Rattle.mps_reader.specs.Written.{mps_text};
-ghost use Rattle.bridge_tool.specs.InsideAnswer.{IsWorked, status_of};
+ghost use Rattle.bridge_tool.specs.InsideAnswer.{IsAtRest};
 ghost use Rattle.bridge_tool.specs.Mps.{IsMpsMeant, mps_promise};
 ghost use Rattle.bridge_tool.specs.Outcome.{Done};
 ghost use Rattle.bridge_tool.specs.SeveralFiles.{Comes};
@@ -10,15 +10,16 @@ ghost use Rattle.bridge_tool.specs.SeveralFiles.{Comes};
 use crate::answer::Answer;
 use crate::mps_input::open_mps;
 use crate::one_file::end;
+use crate::refusal::Refusal;
 use mps_model::Mps;
 use mps_writer::write_mps;
 use std::alloc::Global;
 use text_base::{Desk, Stop};
 
 /// The bytes to write for a program.
-pub(crate) fn judge(alloc: Global, mps: &Mps) -> Result<(bool, Vec<u8>), Stop<Vec<u8>>>
+pub(crate) fn judge(alloc: Global, mps: &Mps) -> Result<(bool, Vec<u8>), Stop<Refusal>>
     ensures comes { Comes (λ outcome. outcome ≡ Done true (mps_text mps.now)) result }
-    ensures means { IsMpsMeant mps.now }
+    ensures means { IfOk result (λ t. IsMpsMeant mps.now) }
 {
     let _ = mps.rows();
     let out = write_mps(alloc, mps)?;
@@ -27,9 +28,8 @@ pub(crate) fn judge(alloc: Global, mps: &Mps) -> Result<(bool, Vec<u8>), Stop<Ve
 
 /// Writes an MPS file again: reads its text, judges it, and writes what it comes to. Tells nothing.
 pub(crate) fn rewrite<D: Desk>(alloc: Global, file: &str, desk: &mut D) -> Answer
-    ensures worked { IsWorked (mps_promise (D.meaning desk.old).texts file.now)
+    ensures { IsAtRest (mps_promise (D.meaning desk.old).texts file.now)
         (D.meaning desk.old) (D.meaning desk.new) result }
-    ensures known { status_of result ≢ 3 }
 {
     let mps = match open_mps(alloc, desk, file) {
         Ok(mps) => mps,

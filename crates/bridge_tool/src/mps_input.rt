@@ -1,18 +1,18 @@
 // Reading and judging an MPS file, free or of fixed columns.
-ghost use Rattle.std.specs.Prelude.{◌≢◌, List, ℕ, IfErr, IfOk};
-ghost use Rattle.desk.specs.Desk.{IsUnknown, OnlyInput};
+ghost use Rattle.std.specs.Prelude.{◌≡◌, ◌≢◌, List, ℕ, IfErr, IfOk, Err, IfSome};
 ghost use Rattle.fixed_mps.specs.Reader.{IsFed as IsFixedFed, IsFixedText};
 ghost use Rattle.mps_reader.specs.Reader.{IsFed, IsMpsText};
 ghost use Rattle.bridge_tool.specs.InsideAnswer.{status_of};
 ghost use Rattle.bridge_tool.specs.Fixed.{IsFixedRefused};
 ghost use Rattle.bridge_tool.specs.Mps.{IsMpsRefused};
+ghost use Rattle.bridge_tool.specs.InsideRefusal.{refused_by};
+ghost use Rattle.bridge_tool.specs.declared.refusal.Refusal.TheVariants.{Mps as IsMps};
 ghost use Rattle.bridge_tool.specs.SeveralFiles.{ReadsFile, Says, itself};
-ghost use Rattle.bridge_tool.specs.Transfer.{HasRead, HasReadCause};
 
 use crate::answer::Answer;
-use crate::mps_told::mps_line;
-use crate::one_file::{answered, missed, read};
-use crate::transfer::{Feed, LIMIT, Unread};
+use crate::one_file::{answered, missed, read_new};
+use crate::refusal::Refusal;
+use crate::transfer::Feed;
 use fixed_mps::FixedReader;
 use mps_model::Mps;
 use mps_reader::MpsReader;
@@ -49,57 +49,27 @@ impl Feed for FixedReader {
     }
 }
 
-// Feeds a reader the named text.
-fn read_mps<D: Desk>(alloc: Global, desk: &mut D, file: &str) -> Result<MpsReader, Unread>
-    ensures text { IfOk result (λ reader. HasRead (D.meaning desk.old).texts file.now LIMIT
-        (D.meaning desk.new).left (IsFed reader)) }
-    ensures cause { HasReadCause (IsUnknown (D.meaning desk.old).texts file.now)
-        (D.meaning desk.old).input_faults (D.meaning desk.new).input_faults result }
-    ensures rest { OnlyInput (D.meaning desk.old) (D.meaning desk.new) }
-{
-    let reader = MpsReader::new(alloc)?;
-    read(alloc, desk, file, reader)
-}
-
-// Feeds a reader the named text.
-fn read_fixed<D: Desk>(alloc: Global, desk: &mut D, file: &str) -> Result<FixedReader, Unread>
-    ensures text { IfOk result (λ reader. HasRead (D.meaning desk.old).texts file.now LIMIT
-        (D.meaning desk.new).left (IsFixedFed reader)) }
-    ensures cause { HasReadCause (IsUnknown (D.meaning desk.old).texts file.now)
-        (D.meaning desk.old).input_faults (D.meaning desk.new).input_faults result }
-    ensures rest { OnlyInput (D.meaning desk.old) (D.meaning desk.new) }
-{
-    let reader = FixedReader::new(alloc)?;
-    read(alloc, desk, file, reader)
-}
-
-// What the text says that a reader was fed, or the line to tell.
-fn judge_mps(alloc: Global, reader: MpsReader) -> Result<Mps, Stop<Vec<u8>>>
-    ensures { (text : List ℕ) → IsFed reader text
+// What the text says that a reader was fed, or why it is refused.
+fn judge_mps(reader: MpsReader) -> Result<Mps, Stop<Refusal>>
+    ensures says { (text : List ℕ) → IsFed reader text
         → Says itself IsMpsText IsMpsRefused text result }
+    ensures kept { IfSome reader.stopped (λ stop. result ≡ Err (refused_by IsMps stop)) }
 {
     match reader.finish() {
         Ok(mps) => Ok(mps),
-        Err(Stop::Memory) => Err(Stop::Memory),
-        Err(Stop::Fault(fault)) => {
-            let line = mps_line(alloc, 1, fault)?;
-            Err(Stop::Fault(line))
-        }
+        Err(stop) => Err(stop.map_fault(|fault| Refusal::Mps(fault))),
     }
 }
 
-// What the text says that a reader was fed, or the line to tell.
-fn judge_fixed(alloc: Global, reader: FixedReader) -> Result<Mps, Stop<Vec<u8>>>
-    ensures { (text : List ℕ) → IsFixedFed reader text
+// What the text says that a reader was fed, or why it is refused.
+fn judge_fixed(reader: FixedReader) -> Result<Mps, Stop<Refusal>>
+    ensures says { (text : List ℕ) → IsFixedFed reader text
         → Says itself IsFixedText IsFixedRefused text result }
+    ensures kept { IfSome reader.stopped (λ stop. result ≡ Err (refused_by IsMps stop)) }
 {
     match reader.finish() {
         Ok(mps) => Ok(mps),
-        Err(Stop::Memory) => Err(Stop::Memory),
-        Err(Stop::Fault(fault)) => {
-            let line = mps_line(alloc, 1, fault)?;
-            Err(Stop::Fault(line))
-        }
+        Err(stop) => Err(stop.map_fault(|fault| Refusal::Mps(fault))),
     }
 }
 
@@ -109,9 +79,9 @@ pub(crate) fn open_mps<D: Desk>(alloc: Global, desk: &mut D, file: &str) -> Resu
         (D.meaning desk.new) result }
     ensures known { IfErr result (λ answer. status_of answer ≢ 3) }
 {
-    match read_mps(alloc, desk, file) {
+    match read_new(alloc, desk, file, MpsReader::new(alloc)) {
         Ok(reader) => {
-            let judged = judge_mps(alloc, reader);
+            let judged = judge_mps(reader);
             answered(judged)
         }
         Err(unread) => Err(missed(unread)),
@@ -124,9 +94,9 @@ pub(crate) fn open_fixed<D: Desk>(alloc: Global, desk: &mut D, file: &str) -> Re
         (D.meaning desk.new) result }
     ensures known { IfErr result (λ answer. status_of answer ≢ 3) }
 {
-    match read_fixed(alloc, desk, file) {
+    match read_new(alloc, desk, file, FixedReader::new(alloc)) {
         Ok(reader) => {
-            let judged = judge_fixed(alloc, reader);
+            let judged = judge_fixed(reader);
             answered(judged)
         }
         Err(unread) => Err(missed(unread)),

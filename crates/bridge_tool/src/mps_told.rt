@@ -1,14 +1,13 @@
-// The lines that tell faults of MPS texts.
-ghost use Rattle.std.specs.Prelude.{◌≡◌, IfOk};
-ghost use Rattle.bridge_tool.specs.MpsTold.{mps_line, mps_reason_text};
+// What is told of faults of MPS texts.
+ghost use Rattle.std.specs.Prelude.{◌≡◌, ◌≤◌, length};
+ghost use Rattle.bridge_tool.specs.MpsTold.{mps_reason_text};
 
-use crate::told::refusal;
-use mps_reader::{MpsFault, MpsReason};
-use std::alloc::{AllocError, Global};
+use mps_reader::MpsReason;
 
-// What is said of a fault of an MPS text.
-fn mps_reason_text(reason: MpsReason) -> &'static [u8]
-    ensures { result.now ≡ mps_reason_text reason }
+/// What is said of a fault of an MPS text.
+pub(crate) fn mps_reason_text(reason: MpsReason) -> &'static [u8]
+    ensures text { result.now ≡ mps_reason_text reason }
+    ensures brief { length result.now ≤ 24 }
 {
     match reason {
         MpsReason::Section => b"bad section",
@@ -30,17 +29,4 @@ fn mps_reason_text(reason: MpsReason) -> &'static [u8]
         MpsReason::LineTooLong => b"line too long",
         MpsReason::InputTooLong => b"input too long",
     }
-}
-
-/// The line of a fault of an MPS text, which is this file of its command.
-pub(crate) fn mps_line(alloc: Global, file: u32, fault: MpsFault) -> Result<Vec<u8>, AllocError>
-    ensures { IfOk result (λ line. line.items ≡ mps_line file fault) }
-{
-    refusal(
-        alloc,
-        file,
-        b"line",
-        fault.line,
-        mps_reason_text(fault.reason),
-    )
 }

@@ -1,16 +1,18 @@
 // Reading and judging lists of names.
-ghost use Rattle.std.specs.Prelude.{◌≡◌, ◌≢◌, List, ℕ, IfErr, IfOk, length};
+ghost use Rattle.std.specs.Prelude.{◌≡◌, ◌≢◌, List, ℕ, IfErr, IfOk, length, Err, IfSome};
 ghost use Rattle.desk.specs.Desk.{IsUnknown, OnlyInput};
 ghost use Rattle.name_files.specs.Names.{Counts};
 ghost use Rattle.name_files.specs.Reader.{IsFed};
 ghost use Rattle.bridge_tool.specs.InsideAnswer.{status_of};
 ghost use Rattle.bridge_tool.specs.NameLists.{AreListed, IsListRefused, column_counts, row_counts};
+ghost use Rattle.bridge_tool.specs.InsideRefusal.{refused_by};
+ghost use Rattle.bridge_tool.specs.declared.refusal.Refusal.TheVariants.{Names};
 ghost use Rattle.bridge_tool.specs.SeveralFiles.{ReadsFile, Says, itself};
 ghost use Rattle.bridge_tool.specs.Transfer.{HasRead, HasReadCause};
 
 use crate::answer::Answer;
-use crate::names_told::name_line;
 use crate::one_file::{answered, missed, read};
+use crate::refusal::Refusal;
 use crate::transfer::{Feed, LIMIT, Unread};
 use name_files::{NameList, NameReader};
 use nl_model::NlFile;
@@ -55,17 +57,15 @@ fn read_names<D: Desk>(
 
 // The names of the text that a reader was fed, which is this file of its command, or the line to
 // tell.
-fn judge_names(alloc: Global, file: u32, reader: NameReader) -> Result<NameList, Stop<Vec<u8>>>
-    ensures { (counts : Counts) (text : List ℕ) → reader.held.counts ≡ counts → IsFed reader text
+fn judge_names(reader: NameReader, file: u32) -> Result<NameList, Stop<Refusal>>
+    ensures says { (counts : Counts) (text : List ℕ) → reader.held.counts ≡ counts
+        → IsFed reader text
         → Says itself (AreListed counts) (IsListRefused counts file) text result }
+    ensures kept { IfSome reader.stopped (λ stop. result ≡ Err (refused_by (Names file) stop)) }
 {
     match reader.finish() {
         Ok(names) => Ok(names),
-        Err(Stop::Memory) => Err(Stop::Memory),
-        Err(Stop::Fault(fault)) => {
-            let line = name_line(alloc, file, fault)?;
-            Err(Stop::Fault(line))
-        }
+        Err(stop) => Err(stop.map_fault(|fault| Refusal::Names(file, fault))),
     }
 }
 
@@ -85,7 +85,7 @@ fn open_names<D: Desk>(
 {
     match read_names(alloc, desk, used, further, name) {
         Ok(reader) => {
-            let judged = judge_names(alloc, file, reader);
+            let judged = judge_names(reader, file);
             answered(judged)
         }
         Err(unread) => Err(missed(unread)),

@@ -1,10 +1,10 @@
 // The command export with names: from the text of a file and two lists of names to the text of its
-// program with these names, or to the line to tell.
-ghost use Rattle.std.specs.Prelude.{◌≡◌, ◌≢◌, ◌+◌, ◌≤◌, length, IfOk};
+// program with these names, or to a refusal.
+ghost use Rattle.std.specs.Prelude.{◌≡◌, ◌+◌, ◌≤◌, length, IfOk};
 ghost use Rattle.name_files.specs.Renamed.{HasExportedNames, named};
 ghost use Rattle.nl_segments.specs.Reader.{HasLines, value_of};
 ghost use Rattle.scaling.specs.Exported.{exported_as};
-ghost use Rattle.bridge_tool.specs.InsideAnswer.{IsWorked, status_of};
+ghost use Rattle.bridge_tool.specs.InsideAnswer.{IsCounted};
 ghost use Rattle.bridge_tool.specs.NamedExport.{AreNamedMeant, Named, NamedComesTo, named_promise};
 ghost use Rattle.bridge_tool.specs.InsideExport.{IsNamedTextOf};
 ghost use Rattle.bridge_tool.specs.SeveralFiles.{Comes};
@@ -14,6 +14,7 @@ use crate::answer::Answer;
 use crate::name_input::{open_columns, open_rows};
 use crate::nl_input::open_nl;
 use crate::one_file::end;
+use crate::refusal::Refusal;
 use crate::stages::{exported, fold_read, scale};
 use mps_model::Mps;
 use mps_writer::write_mps;
@@ -54,7 +55,7 @@ fn write_named(
     Ok(out)
 }
 
-// The bytes to write for a file with names, or the line to tell.
+// The bytes to write for a file with names, or why it is refused.
 fn judge<L: Ledger>(
     alloc: Global,
     read: NlRead,
@@ -62,7 +63,7 @@ fn judge<L: Ledger>(
     rows: &NameList,
     columns: &NameList,
     steps: &mut Steps<L>,
-) -> Result<(bool, Vec<u8>), Stop<Vec<u8>>>
+) -> Result<(bool, Vec<u8>), Stop<Refusal>>
     requires lines { HasLines read }
     requires rows { length rows.now ≡ read.file.counts.n_con }
     requires columns { length columns.now ≡ read.file.counts.n_var }
@@ -103,14 +104,9 @@ pub(crate) fn export_named<D: Desk, L: Ledger>(
     desk: &mut D,
     steps: &mut Steps<L>,
 ) -> Answer
-    ensures worked { IsWorked
+    ensures { IsCounted
         (named_promise (D.meaning desk.old).texts file.now objective rows.now columns.now)
-        (D.meaning desk.old) (D.meaning desk.new) result }
-    ensures known { status_of result ≢ 3 }
-    ensures above { steps.old ≤ steps.new }
-    ensures counts { (named_promise (D.meaning desk.old).texts file.now objective rows.now
-        columns.now).counts steps.old steps.new }
-    ensures idle { status_of result ≡ 4 → steps.new ≡ steps.old }
+        (D.meaning desk.old) (D.meaning desk.new) steps.old steps.new result }
 {
     let read = match open_nl(alloc, desk, file) {
         Ok(read) => read,

@@ -1,14 +1,13 @@
-// The line that tells a fault of a list of names.
-ghost use Rattle.std.specs.Prelude.{◌≡◌, IfOk};
-ghost use Rattle.bridge_tool.specs.NamesTold.{name_line, name_reason_text};
+// What is told of faults of lists of names.
+ghost use Rattle.std.specs.Prelude.{◌≡◌, ◌≤◌, length};
+ghost use Rattle.bridge_tool.specs.NamesTold.{name_reason_text};
 
-use crate::told::refusal;
-use name_files::{NameFault, NameReason};
-use std::alloc::{AllocError, Global};
+use name_files::NameReason;
 
-// What is said of a fault of a list of names.
-fn name_reason_text(reason: NameReason) -> &'static [u8]
-    ensures { result.now ≡ name_reason_text reason }
+/// What is said of a fault of a list of names.
+pub(crate) fn name_reason_text(reason: NameReason) -> &'static [u8]
+    ensures text { result.now ≡ name_reason_text reason }
+    ensures brief { length result.now ≤ 24 }
 {
     match reason {
         NameReason::BadName => b"bad name",
@@ -18,17 +17,4 @@ fn name_reason_text(reason: NameReason) -> &'static [u8]
         NameReason::LineTooLong => b"line too long",
         NameReason::InputTooLong => b"input too long",
     }
-}
-
-/// The line of a fault of a list of names, which is this file of its command.
-pub(crate) fn name_line(alloc: Global, file: u32, fault: NameFault) -> Result<Vec<u8>, AllocError>
-    ensures { IfOk result (λ line. line.items ≡ name_line file fault) }
-{
-    refusal(
-        alloc,
-        file,
-        b"line",
-        fault.line,
-        name_reason_text(fault.reason),
-    )
 }

@@ -1,7 +1,7 @@
-// The command nl: from an .nl text to the one written text of its file, or to the line to tell.
-ghost use Rattle.std.specs.Prelude.{◌≡◌, ◌≢◌, true};
+// The command nl: from an .nl text to the one written text of its file, or to a refusal.
+ghost use Rattle.std.specs.Prelude.{◌≡◌, true};
 ghost use Rattle.nl_writer.specs.Written.{nl_text};
-ghost use Rattle.bridge_tool.specs.InsideAnswer.{IsWorked, status_of};
+ghost use Rattle.bridge_tool.specs.InsideAnswer.{IsAtRest};
 ghost use Rattle.bridge_tool.specs.Nl.{nl_promise};
 ghost use Rattle.bridge_tool.specs.Outcome.{Done};
 ghost use Rattle.bridge_tool.specs.SeveralFiles.{Comes};
@@ -9,13 +9,14 @@ ghost use Rattle.bridge_tool.specs.SeveralFiles.{Comes};
 use crate::answer::Answer;
 use crate::nl_input::open_nl;
 use crate::one_file::end;
+use crate::refusal::Refusal;
 use nl_segments::NlRead;
 use nl_writer::write_nl;
 use std::alloc::Global;
 use text_base::{Desk, Stop};
 
 // The bytes to write for a file.
-fn judge(alloc: Global, read: NlRead) -> Result<(bool, Vec<u8>), Stop<Vec<u8>>>
+fn judge(alloc: Global, read: NlRead) -> Result<(bool, Vec<u8>), Stop<Refusal>>
     ensures { Comes (λ outcome. outcome ≡ Done true (nl_text read.file)) result }
 {
     let out = write_nl(alloc, &read.file);
@@ -25,9 +26,8 @@ fn judge(alloc: Global, read: NlRead) -> Result<(bool, Vec<u8>), Stop<Vec<u8>>>
 
 /// Writes an .nl file again: reads its text, judges it, and writes what it comes to. Tells nothing.
 pub(crate) fn rewrite<D: Desk>(alloc: Global, file: &str, desk: &mut D) -> Answer
-    ensures worked { IsWorked (nl_promise (D.meaning desk.old).texts file.now)
+    ensures { IsAtRest (nl_promise (D.meaning desk.old).texts file.now)
         (D.meaning desk.old) (D.meaning desk.new) result }
-    ensures known { status_of result ≢ 3 }
 {
     let read = match open_nl(alloc, desk, file) {
         Ok(read) => read,

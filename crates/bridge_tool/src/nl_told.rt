@@ -1,21 +1,19 @@
 // The lines that tell faults of .nl texts, of the fold and of scaling.
-ghost use Rattle.std.specs.Prelude.{◌≡◌, ◌++◌, IfOk, IsSome, OnOk};
-ghost use Rattle.linear_fold.specs.FoldedFaults.{HasFaultPlace};
-ghost use Rattle.nl_segments.specs.Reader.{HasLines};
-ghost use Rattle.nl_lines.specs.Saying.{place_line};
-ghost use Rattle.bridge_tool.specs.NlTold.{fold_line, nl_line, opcode_text, placed_line, reason_text, scale_line};
+ghost use Rattle.std.specs.Prelude.{◌≡◌, ◌+◌, ◌≤◌, ◌++◌, length};
+ghost use Rattle.bridge_tool.specs.InsideRefusal.{fold_text, fold_what, refusal_line};
+ghost use Rattle.bridge_tool.specs.NlTold.{HasLine, fold_line, nl_line, opcode_text, reason_text, scale_line};
 
-use crate::told::{put, refusal, refused_at};
-use itoa::Buffer;
+use crate::refusal::Refusal;
+use crate::told::{put_number, put_refused_at, refusal};
 use linear_fold::FoldFault;
-use nl_model::At;
-use nl_segments::{NlFault, NlRead, NlReason};
+use nl_segments::{NlFault, NlReason, Places};
 use row_scaling::ScaleFault;
-use std::alloc::{AllocError, Global};
+use written_texts::LineText;
 
 // What is said of a fault of an .nl text.
 fn reason_text(reason: NlReason) -> &'static [u8]
-    ensures { result.now ≡ reason_text reason }
+    ensures text { result.now ≡ reason_text reason }
+    ensures brief { length result.now ≤ 24 }
 {
     match reason {
         NlReason::BinaryFile => b"binary file",
@@ -51,74 +49,79 @@ fn reason_text(reason: NlReason) -> &'static [u8]
     }
 }
 
-// The number of a refused opcode, after a blank.
-fn put_opcode(line: &mut Vec<u8>, reason: NlReason) -> Result<(), AllocError>
-    ensures { OnOk result (line.new.items ≡ line.old.items ++ opcode_text reason) }
+// Puts the number of a refused opcode in front, after a blank.
+fn put_opcode(line: &mut LineText<128>, reason: NlReason)
+    requires { length line.old ≤ 9 }
+    ensures text { line.new ≡ opcode_text reason ++ line.old }
+    ensures short { length line.new ≤ length line.old + 11 }
 {
     if let NlReason::RefusedOpcode(opcode) = reason {
-        let mut digits = Buffer::new();
-        put(line, b" ")?;
-        put(line, digits.format(opcode).as_bytes())?;
+        put_number(line, opcode);
+        line.put_word(b" ");
     }
-    Ok(())
 }
 
 /// The line of a fault of an .nl text.
-pub(crate) fn nl_line(alloc: Global, fault: NlFault) -> Result<Vec<u8>, AllocError>
-    ensures { IfOk result (λ line. line.items ≡ nl_line fault) }
+pub(crate) fn nl_line(fault: NlFault) -> LineText<128>
+    ensures { result ≡ nl_line fault }
 {
-    let mut line = refused_at(alloc, 1, b"line", fault.line)?;
-    put(&mut line, reason_text(fault.reason))?;
-    put_opcode(&mut line, fault.reason)?;
-    put(&mut line, b"\n")?;
-    Ok(line)
+    let mut line = LineText::new();
+    line.put_word(b"\n");
+    put_opcode(&mut line, fault.reason);
+    line.put_word(reason_text(fault.reason));
+    put_refused_at(&mut line, 1, b"line", fault.line);
+    line
 }
 
-// The line of a fault at a place.
-fn placed_line(alloc: Global, read: &NlRead, at: At, text: &[u8]) -> Result<Vec<u8>, AllocError>
-    requires { IsSome (place_line read.now.places at) }
-    ensures { IfOk result (λ line. line.items ≡ placed_line read.now.places at text.now) }
-{
-    let number = read.places.line(at);
-    refusal(alloc, 1, b"line", number, text)
-}
-
-/// The line of a fault of the fold.
-pub(crate) fn fold_line(
-    alloc: Global,
-    read: &NlRead,
-    fault: FoldFault,
-) -> Result<Vec<u8>, AllocError>
-    requires lines { HasLines read.now }
-    requires place { HasFaultPlace read.now.file fault }
-    ensures { IfOk result (λ line. line.items ≡ fold_line read.now.places fault) }
+/// What a fault of the fold is told at.
+pub(crate) fn fold_what(fault: FoldFault) -> &'static [u8]
+    ensures text { result.now ≡ fold_what fault }
+    ensures brief { length result.now ≤ 9 }
 {
     match fault {
-        FoldFault::Nonlinear(at) => placed_line(alloc, read, at, b"nonlinear"),
-        FoldFault::DivideByZero(at) => placed_line(alloc, read, at, b"division by zero"),
-        FoldFault::TooWide(at) => placed_line(alloc, read, at, b"too wide"),
-        FoldFault::RefusedPower(at) => placed_line(alloc, read, at, b"refused power"),
-        FoldFault::FoldTooLarge(at) => placed_line(alloc, read, at, b"fold too large"),
-        FoldFault::NoSuchObjective(k) => refusal(alloc, 1, b"objective", k, b"no such objective"),
+        FoldFault::NoSuchObjective(_) => b"objective",
+        _ => b"line",
+    }
+}
+
+/// What is said of a fault of the fold.
+pub(crate) fn fold_text(fault: FoldFault) -> &'static [u8]
+    ensures text { result.now ≡ fold_text fault }
+    ensures brief { length result.now ≤ 24 }
+{
+    match fault {
+        FoldFault::Nonlinear(_) => b"nonlinear",
+        FoldFault::DivideByZero(_) => b"division by zero",
+        FoldFault::TooWide(_) => b"too wide",
+        FoldFault::RefusedPower(_) => b"refused power",
+        FoldFault::FoldTooLarge(_) => b"fold too large",
+        FoldFault::NoSuchObjective(_) => b"no such objective",
+    }
+}
+
+/// The refusal of a fault of the fold, whose place is looked up.
+pub(crate) fn fold_refusal(places: &Places, fault: FoldFault) -> Refusal
+    requires { HasLine places.now fault }
+    ensures { refusal_line result ≡ fold_line places.now fault }
+{
+    match fault {
+        FoldFault::Nonlinear(at) => Refusal::Fold(places.line(at), fault),
+        FoldFault::DivideByZero(at) => Refusal::Fold(places.line(at), fault),
+        FoldFault::TooWide(at) => Refusal::Fold(places.line(at), fault),
+        FoldFault::RefusedPower(at) => Refusal::Fold(places.line(at), fault),
+        FoldFault::FoldTooLarge(at) => Refusal::Fold(places.line(at), fault),
+        FoldFault::NoSuchObjective(k) => Refusal::Fold(k, fault),
     }
 }
 
 /// The line of a fault of scaling with this objective.
-pub(crate) fn scale_line(
-    alloc: Global,
-    objective: u32,
-    fault: ScaleFault,
-) -> Result<Vec<u8>, AllocError>
-    ensures { IfOk result (λ line. line.items ≡ scale_line objective fault) }
+pub(crate) fn scale_line(objective: u32, fault: ScaleFault) -> LineText<128>
+    ensures { result ≡ scale_line objective fault }
 {
     match fault {
-        ScaleFault::RowTooWide(i) => refusal(alloc, 1, b"row", i, b"row too wide"),
-        ScaleFault::ObjectiveTooWide => refusal(
-            alloc,
-            1,
-            b"objective",
-            objective,
-            b"objective too wide",
-        ),
+        ScaleFault::RowTooWide(i) => refusal(1, b"row", i, b"row too wide"),
+        ScaleFault::ObjectiveTooWide => {
+            refusal(1, b"objective", objective, b"objective too wide")
+        }
     }
 }

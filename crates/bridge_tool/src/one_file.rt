@@ -6,8 +6,9 @@ ghost use Rattle.bridge_tool.specs.SeveralFiles.{Answered};
 ghost use Rattle.bridge_tool.specs.Transfer.{HasRead, HasReadCause};
 
 use crate::answer::Answer;
+use crate::refusal::Refusal;
 use crate::transfer::{Feed, LIMIT, Unread, feed_text, write_all};
-use std::alloc::Global;
+use std::alloc::{AllocError, Global};
 use text_base::{Desk, Stop};
 
 /// Feeds a new reader the named text.
@@ -27,6 +28,24 @@ pub(crate) fn read<D: Desk, R: Feed + Drop>(
 {
     feed_text(alloc, desk, file, &mut reader)?;
     Ok(reader)
+}
+
+/// Feeds a reader that was made for it, where there was memory for one, the named text.
+pub(crate) fn read_new<D: Desk, R: Feed + Drop>(
+    alloc: Global,
+    desk: &mut D,
+    file: &str,
+    made: Result<R, AllocError>,
+) -> Result<R, Unread>
+    requires { IfOk made (λ reader. R.fed reader []) }
+    ensures text { IfOk result (λ reader. HasRead (D.meaning desk.old).texts file.now LIMIT
+        (D.meaning desk.new).left (R.fed reader)) }
+    ensures cause { HasReadCause (IsUnknown (D.meaning desk.old).texts file.now)
+        (D.meaning desk.old).input_faults (D.meaning desk.new).input_faults result }
+    ensures rest { OnlyInput (D.meaning desk.old) (D.meaning desk.new) }
+{
+    let reader = made?;
+    read(alloc, desk, file, reader)
 }
 
 /// The answer where a text was not read.
@@ -49,24 +68,24 @@ pub(crate) fn write_out<D: Desk>(desk: &mut D, holds: bool, bytes: &[u8]) -> Ans
     }
 }
 
-/// Ends with a verdict and the bytes to write, or with the line to tell.
-pub(crate) fn end<D: Desk>(desk: &mut D, judged: Result<(bool, Vec<u8>), Stop<Vec<u8>>>) -> Answer
+/// Ends with a verdict and the bytes to write, or with the refusal.
+pub(crate) fn end<D: Desk>(desk: &mut D, judged: Result<(bool, Vec<u8>), Stop<Refusal>>) -> Answer
     ensures { Ends judged (D.meaning desk.old) (D.meaning desk.new) result }
 {
     match judged {
         Ok((holds, out)) => write_out(desk, holds, &out),
-        Err(Stop::Fault(line)) => Answer::Refused(line),
+        Err(Stop::Fault(refusal)) => Answer::Refused(refusal),
         Err(Stop::Memory) => Answer::NoMemory,
     }
 }
 
 /// What a text says, or the answer that ends the command.
-pub(crate) fn answered<T>(judged: Result<T, Stop<Vec<u8>>>) -> Result<T, Answer>
+pub(crate) fn answered<T>(judged: Result<T, Stop<Refusal>>) -> Result<T, Answer>
     ensures { Answered judged result }
 {
     match judged {
         Ok(value) => Ok(value),
-        Err(Stop::Fault(line)) => Err(Answer::Refused(line)),
+        Err(Stop::Fault(refusal)) => Err(Answer::Refused(refusal)),
         Err(Stop::Memory) => Err(Answer::NoMemory),
     }
 }

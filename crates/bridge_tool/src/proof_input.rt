@@ -1,5 +1,5 @@
 // Reading and judging a proof text.
-ghost use Rattle.std.specs.Prelude.{◌≡◌, ◌≢◌, List, ℕ, IfErr, IfOk};
+ghost use Rattle.std.specs.Prelude.{◌≡◌, ◌≢◌, List, ℕ, IfErr, IfOk, Err, IfSome};
 ghost use Rattle.desk.specs.Desk.{IsUnknown, OnlyInput};
 ghost use Rattle.branch_proof.specs.Files.{IsProofIn};
 ghost use Rattle.nl_model.specs.File.{File};
@@ -7,12 +7,14 @@ ghost use Rattle.proof_text.specs.Reader.{IsFed, IsProofText};
 ghost use Rattle.proof_text.specs.Setting.{setting_of};
 ghost use Rattle.bridge_tool.specs.InsideAnswer.{status_of};
 ghost use Rattle.bridge_tool.specs.Prove.{IsProofRefused};
+ghost use Rattle.bridge_tool.specs.InsideRefusal.{refused_by};
+ghost use Rattle.bridge_tool.specs.declared.refusal.Refusal.TheVariants.{Proof as IsProofFault};
 ghost use Rattle.bridge_tool.specs.SeveralFiles.{ReadsFile, Says, itself};
 ghost use Rattle.bridge_tool.specs.Transfer.{HasRead, HasReadCause};
 
 use crate::answer::Answer;
 use crate::one_file::{answered, missed, read};
-use crate::proof_told::proof_line;
+use crate::refusal::Refusal;
 use crate::transfer::{Feed, LIMIT, Unread};
 use branch_proof::Proof;
 use nl_model::NlFile;
@@ -53,26 +55,20 @@ pub(crate) fn read_proof<D: Desk>(
     read(alloc, desk, name, reader)
 }
 
-/// What the text says that a reader of proofs of a file was fed, or the line to tell; the text is
+/// What the text says that a reader of proofs of a file was fed, or why it is refused; the text is
 /// this file of its command.
-pub(crate) fn judge_proof(
-    alloc: Global,
-    reader: ProofReader,
-    number: u32,
-) -> Result<Proof, Stop<Vec<u8>>>
+pub(crate) fn judge_proof(reader: ProofReader, number: u32) -> Result<Proof, Stop<Refusal>>
     ensures says { (f : File) (text : List ℕ) → IsFed (setting_of f) reader text
         → Says itself (IsProofText (setting_of f)) (IsProofRefused (setting_of f) number) text
         result }
     ensures proof { IfOk result (λ p. (f : File) (text : List ℕ) → IsFed (setting_of f) reader text
         → IsProofIn f p) }
+    ensures kept { IfSome reader.stopped (λ stop. result
+        ≡ Err (refused_by (IsProofFault number) stop)) }
 {
     match reader.finish() {
         Ok(proof) => Ok(proof),
-        Err(Stop::Memory) => Err(Stop::Memory),
-        Err(Stop::Fault(fault)) => {
-            let line = proof_line(alloc, number, fault)?;
-            Err(Stop::Fault(line))
-        }
+        Err(stop) => Err(stop.map_fault(|fault| Refusal::Proof(number, fault))),
     }
 }
 
@@ -93,7 +89,7 @@ pub(crate) fn open_proof<D: Desk>(
 {
     match read_proof(alloc, desk, file, name) {
         Ok(reader) => {
-            let judged = judge_proof(alloc, reader, number);
+            let judged = judge_proof(reader, number);
             answered(judged)
         }
         Err(unread) => Err(missed(unread)),

@@ -1,17 +1,18 @@
-// The lines that tell faults of proof texts, and the lines of verdicts on proofs.
-ghost use Rattle.std.specs.Prelude.{◌≡◌, ◌++◌, codes, IfOk, OnOk};
+// What is told of faults of proof texts, and the lines of verdicts on proofs.
+ghost use Rattle.std.specs.Prelude.{◌≡◌, ◌≤◌, ◌++◌, codes, length, IfOk, OnOk};
 ghost use Rattle.branch_proof.specs.Leaves.{fault_of};
-ghost use Rattle.bridge_tool.specs.ProofTold.{leaf_line, proof_line, proof_reason_text};
+ghost use Rattle.bridge_tool.specs.ProofTold.{leaf_line, proof_reason_text};
 
 use crate::leaf_told::{put_gap, put_side, put_wide};
-use crate::told::{put, refusal};
+use crate::told::put;
 use branch_proof::ProofVerdict;
-use proof_text::{ProofFault, ProofReason};
+use proof_text::ProofReason;
 use std::alloc::{AllocError, Global};
 
-// What is said of a fault of a proof text.
-fn proof_reason_text(reason: ProofReason) -> &'static [u8]
-    ensures { result.now ≡ proof_reason_text reason }
+/// What is said of a fault of a proof text.
+pub(crate) fn proof_reason_text(reason: ProofReason) -> &'static [u8]
+    ensures text { result.now ≡ proof_reason_text reason }
+    ensures brief { length result.now ≤ 24 }
 {
     match reason {
         ProofReason::LineTooLong => b"line too long",
@@ -26,19 +27,6 @@ fn proof_reason_text(reason: ProofReason) -> &'static [u8]
         ProofReason::TooLarge => b"too large",
         ProofReason::Short => b"short file",
     }
-}
-
-/// The line of a fault of a proof text, which is this file of its command.
-pub(crate) fn proof_line(alloc: Global, file: u32, fault: ProofFault) -> Result<Vec<u8>, AllocError>
-    ensures { IfOk result (λ line. line.items ≡ proof_line file fault) }
-{
-    refusal(
-        alloc,
-        file,
-        b"line",
-        fault.line,
-        proof_reason_text(fault.reason),
-    )
 }
 
 // What is told of a verdict on a proof, but for the end of its line.

@@ -1,12 +1,12 @@
-// The command prove: from an .nl text and a proof text to the line of a verdict, or to the line to
-// tell.
-ghost use Rattle.std.specs.Prelude.{◌≡◌, ◌≢◌, ◌+◌, ◌≤◌, true, is_none, IfOk};
+// The command prove: from an .nl text and a proof text to the line of a verdict, or to a
+// refusal.
+ghost use Rattle.std.specs.Prelude.{◌≡◌, ◌+◌, ◌≤◌, true, is_none, IfOk};
 ghost use Rattle.linear_program.specs.Programs.{linear_value};
 ghost use Rattle.nl_segments.specs.Reader.{HasLines, value_of};
 ghost use Rattle.branch_proof.specs.Files.{IsProofIn};
 ghost use Rattle.branch_proof.specs.Leaves.{IsProved, IsVerdictOn, fault_of};
 ghost use Rattle.branch_proof.specs.Proofs.{IsProofOf};
-ghost use Rattle.bridge_tool.specs.InsideAnswer.{IsWorked, status_of};
+ghost use Rattle.bridge_tool.specs.InsideAnswer.{IsCounted};
 ghost use Rattle.bridge_tool.specs.Prove.{IsProvedOf, claimed_objective, prove_outcome, prove_promise};
 ghost use Rattle.bridge_tool.specs.ProofTold.{leaf_line};
 ghost use Rattle.bridge_tool.specs.SeveralFiles.{Comes};
@@ -17,6 +17,7 @@ use crate::nl_input::open_nl;
 use crate::one_file::end;
 use crate::proof_input::open_proof;
 use crate::proof_told::leaf_line;
+use crate::refusal::Refusal;
 use crate::stages::fold;
 use branch_proof::{Claim, Proof, ProofVerdict, check_proof};
 use certificate_check::Columns;
@@ -25,11 +26,11 @@ use nl_segments::NlRead;
 use std::alloc::{AllocError, Global};
 use text_base::{Desk, Ledger, Steps, Stop};
 
-// The number of the objective of a claim; 0 where it is of none.
-fn claimed_objective(claim: Claim) -> u32
-    ensures { result ≡ claimed_objective claim }
+// The number of the objective of the claim; 0 where it is of none.
+fn claimed_objective(proof: &Proof) -> u32
+    ensures { result ≡ claimed_objective proof.now.claim }
 {
-    match claim {
+    match proof.claim() {
         Claim::Value(objective, _) => objective,
         Claim::Infeasible => 0,
     }
@@ -61,13 +62,13 @@ fn told_verdict(alloc: Global, verdict: ProofVerdict) -> Result<(bool, Vec<u8>),
     Ok((is_yes(verdict), line))
 }
 
-// The verdict on a proof of a file, or the line of the first fault of the fold.
+// The verdict on a proof of a file, or the first fault of the fold.
 fn judge<L: Ledger>(
     alloc: Global,
     read: &NlRead,
     proof: &Proof,
     steps: &mut Steps<L>,
-) -> Result<(bool, Vec<u8>), Stop<Vec<u8>>>
+) -> Result<(bool, Vec<u8>), Stop<Refusal>>
     requires lines { HasLines read.now }
     requires proof { IsProofIn read.now.file proof.now }
     ensures comes { Comes (λ outcome. outcome ≡ prove_outcome (value_of read.now) proof.now)
@@ -77,7 +78,7 @@ fn judge<L: Ledger>(
     ensures counts { steps.new ≤ steps.old + fold_steps (value_of read.now)
         (claimed_objective proof.now.claim) }
 {
-    let objective = claimed_objective(proof.claim());
+    let objective = claimed_objective(proof);
     let linear = fold(alloc, read, objective, steps)?;
     let verdict = verdict_of(alloc, &linear, proof);
     drop(linear);
@@ -94,13 +95,8 @@ pub(crate) fn prove<D: Desk, L: Ledger>(
     desk: &mut D,
     steps: &mut Steps<L>,
 ) -> Answer
-    ensures worked { IsWorked (prove_promise (D.meaning desk.old).texts nl.now proof.now)
-        (D.meaning desk.old) (D.meaning desk.new) result }
-    ensures known { status_of result ≢ 3 }
-    ensures above { steps.old ≤ steps.new }
-    ensures counts { (prove_promise (D.meaning desk.old).texts nl.now proof.now).counts steps.old
-        steps.new }
-    ensures idle { status_of result ≡ 4 → steps.new ≡ steps.old }
+    ensures { IsCounted (prove_promise (D.meaning desk.old).texts nl.now proof.now)
+        (D.meaning desk.old) (D.meaning desk.new) steps.old steps.new result }
 {
     let read = match open_nl(alloc, desk, nl) {
         Ok(read) => read,

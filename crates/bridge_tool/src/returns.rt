@@ -1,36 +1,44 @@
-// The command return: from an .nl text and an answer to the text of its .sol file, or to the line
-// to tell.
-ghost use Rattle.std.specs.Prelude.{◌≡◌, ◌≢◌, ◌+◌, ◌≤◌};
+// The command return: from an .nl text and an answer to the text of its .sol file, or to a
+// refusal.
+ghost use Rattle.std.specs.Prelude.{◌≡◌, ◌+◌, ◌≤◌};
 ghost use Rattle.nl_model.specs.Rules.{IsFile};
 ghost use Rattle.nl_segments.specs.Reader.{HasLines, value_of};
 ghost use Rattle.dual_return.specs.Return.{IsAnswerFor};
-ghost use Rattle.bridge_tool.specs.InsideAnswer.{IsWorked, status_of};
+ghost use Rattle.bridge_tool.specs.InsideAnswer.{IsCounted};
+ghost use Rattle.bridge_tool.specs.InsideRefusal.{refused_by};
+ghost use Rattle.bridge_tool.specs.declared.refusal.Refusal.TheVariants.{Return as IsWideDual};
 ghost use Rattle.bridge_tool.specs.Return.{Makes, ReturnsAs, named_return_promise, return_promise};
 ghost use Rattle.bridge_tool.specs.SeveralFiles.{Comes};
 ghost use Rattle.bridge_tool.specs.Stages.{fold_steps};
 
 use crate::answer::Answer;
 use crate::answer_input::{open_answer, open_named};
-use crate::answer_told::return_line;
 use crate::name_input::{open_columns, open_rows};
 use crate::nl_input::open_nl;
 use crate::one_file::end;
+use crate::refusal::Refusal;
 use crate::stages::{fold, scale};
 use answer_file::Answer as Given;
-use dual_return::solution;
+use dual_return::{ReturnFault, solution};
 use nl_segments::NlRead;
 use sol_files::{Sol, write_sol};
 use std::alloc::Global;
 use text_base::{Desk, Ledger, Steps, Stop};
 
-// The .sol value of an answer for a file, or the line of the first fault of the fold, of scaling or
-// of a dual.
+fn refused(stop: Stop<ReturnFault>) -> Stop<Refusal>
+    ensures { result ≡ refused_by IsWideDual stop }
+{
+    stop.map_fault(|fault| Refusal::Return(fault))
+}
+
+// The .sol value of an answer for a file, or the first fault of the fold, of scaling or of
+// a dual.
 fn make<L: Ledger>(
     alloc: Global,
     read: &NlRead,
     given: &Given,
     steps: &mut Steps<L>,
-) -> Result<Sol, Stop<Vec<u8>>>
+) -> Result<Sol, Stop<Refusal>>
     requires lines { HasLines read.now }
     requires made { IsAnswerFor read.now.file given.now }
     ensures makes { Makes (value_of read.now) given.now result }
@@ -44,21 +52,17 @@ fn make<L: Ledger>(
     let scaled = scale(alloc, linear, objective)?;
     match solution(alloc, &read.file, &scaled, given) {
         Ok(sol) => Ok(sol),
-        Err(Stop::Memory) => Err(Stop::Memory),
-        Err(Stop::Fault(fault)) => {
-            let line = return_line(alloc, fault)?;
-            Err(Stop::Fault(line))
-        }
+        Err(stop) => Err(refused(stop)),
     }
 }
 
-// The bytes to write for an answer for a file, or the line to tell.
+// The bytes to write for an answer for a file, or why it is refused.
 fn judge<L: Ledger>(
     alloc: Global,
     read: &NlRead,
     given: &Given,
     steps: &mut Steps<L>,
-) -> Result<(bool, Vec<u8>), Stop<Vec<u8>>>
+) -> Result<(bool, Vec<u8>), Stop<Refusal>>
     requires lines { HasLines read.now }
     requires made { IsAnswerFor read.now.file given.now }
     ensures comes { Comes (ReturnsAs (value_of read.now) given.now) result }
@@ -81,13 +85,8 @@ pub(crate) fn return_answer<D: Desk, L: Ledger>(
     desk: &mut D,
     steps: &mut Steps<L>,
 ) -> Answer
-    ensures worked { IsWorked (return_promise (D.meaning desk.old).texts nl.now answer.now)
-        (D.meaning desk.old) (D.meaning desk.new) result }
-    ensures known { status_of result ≢ 3 }
-    ensures above { steps.old ≤ steps.new }
-    ensures counts { (return_promise (D.meaning desk.old).texts nl.now answer.now).counts
-        steps.old steps.new }
-    ensures idle { status_of result ≡ 4 → steps.new ≡ steps.old }
+    ensures { IsCounted (return_promise (D.meaning desk.old).texts nl.now answer.now)
+        (D.meaning desk.old) (D.meaning desk.new) steps.old steps.new result }
 {
     let read = match open_nl(alloc, desk, nl) {
         Ok(read) => read,
@@ -117,14 +116,9 @@ pub(crate) fn return_named<D: Desk, L: Ledger>(
     desk: &mut D,
     steps: &mut Steps<L>,
 ) -> Answer
-    ensures worked { IsWorked
+    ensures { IsCounted
         (named_return_promise (D.meaning desk.old).texts nl.now answer.now rows.now columns.now)
-        (D.meaning desk.old) (D.meaning desk.new) result }
-    ensures known { status_of result ≢ 3 }
-    ensures above { steps.old ≤ steps.new }
-    ensures counts { (named_return_promise (D.meaning desk.old).texts nl.now answer.now rows.now
-        columns.now).counts steps.old steps.new }
-    ensures idle { status_of result ≡ 4 → steps.new ≡ steps.old }
+        (D.meaning desk.old) (D.meaning desk.new) steps.old steps.new result }
 {
     let read = match open_nl(alloc, desk, nl) {
         Ok(read) => read,

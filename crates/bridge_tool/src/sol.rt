@@ -1,21 +1,22 @@
-// The command sol: from a .sol text to the one written form of what it says, or to the line to
-// tell.
-ghost use Rattle.std.specs.Prelude.{◌≡◌, ◌≢◌, true};
+// The command sol: from a .sol text to the one written form of what it says, or to a
+// refusal.
+ghost use Rattle.std.specs.Prelude.{◌≡◌, true};
 ghost use Rattle.sol_files.specs.Written.{sol_text};
-ghost use Rattle.bridge_tool.specs.InsideAnswer.{IsWorked, status_of};
+ghost use Rattle.bridge_tool.specs.InsideAnswer.{IsAtRest};
 ghost use Rattle.bridge_tool.specs.Outcome.{Done};
 ghost use Rattle.bridge_tool.specs.SeveralFiles.{Comes};
 ghost use Rattle.bridge_tool.specs.Sol.{sol_promise};
 
 use crate::answer::Answer;
 use crate::one_file::end;
+use crate::refusal::Refusal;
 use crate::sol_input::open_sol;
 use sol_files::{Sol, write_sol};
 use std::alloc::Global;
 use text_base::{Desk, Stop};
 
 // The bytes to write for a value.
-fn judge(alloc: Global, sol: &Sol) -> Result<(bool, Vec<u8>), Stop<Vec<u8>>>
+fn judge(alloc: Global, sol: &Sol) -> Result<(bool, Vec<u8>), Stop<Refusal>>
     ensures { Comes (λ outcome. outcome ≡ Done true (sol_text sol.now)) result }
 {
     let out = write_sol(alloc, sol)?;
@@ -24,9 +25,8 @@ fn judge(alloc: Global, sol: &Sol) -> Result<(bool, Vec<u8>), Stop<Vec<u8>>>
 
 /// Writes a .sol file again: reads its text, judges it, and writes what it comes to. Tells nothing.
 pub(crate) fn rewrite<D: Desk>(alloc: Global, file: &str, desk: &mut D) -> Answer
-    ensures worked { IsWorked (sol_promise (D.meaning desk.old).texts file.now)
+    ensures { IsAtRest (sol_promise (D.meaning desk.old).texts file.now)
         (D.meaning desk.old) (D.meaning desk.new) result }
-    ensures known { status_of result ≢ 3 }
 {
     let sol = match open_sol(alloc, desk, file, 1) {
         Ok(sol) => sol,

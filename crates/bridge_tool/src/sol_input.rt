@@ -1,16 +1,17 @@
 // Reading and judging a .sol file.
-ghost use Rattle.std.specs.Prelude.{◌≢◌, List, ℕ, IfErr, IfOk};
-ghost use Rattle.desk.specs.Desk.{IsUnknown, OnlyInput};
+ghost use Rattle.std.specs.Prelude.{◌≡◌, ◌≢◌, List, ℕ, IfErr, IfOk, Err, IfSome};
 ghost use Rattle.sol_files.specs.Reader.{IsFed, IsSol};
 ghost use Rattle.bridge_tool.specs.InsideAnswer.{status_of};
 ghost use Rattle.bridge_tool.specs.Sol.{IsSolRefused};
+ghost use Rattle.bridge_tool.specs.InsideRefusal.{refused_by};
+ghost use Rattle.bridge_tool.specs.declared.refusal.Refusal.TheVariants.{Sol as IsSolFault};
+ghost use Rattle.sol_files.specs.Told.{told_stop};
 ghost use Rattle.bridge_tool.specs.SeveralFiles.{ReadsFile, Says, itself};
-ghost use Rattle.bridge_tool.specs.Transfer.{HasRead, HasReadCause};
 
 use crate::answer::Answer;
-use crate::one_file::{answered, missed, read};
-use crate::sol_told::sol_line;
-use crate::transfer::{Feed, LIMIT, Unread};
+use crate::one_file::{answered, missed, read_new};
+use crate::refusal::Refusal;
+use crate::transfer::Feed;
 use sol_files::{Sol, SolReader};
 use std::alloc::Global;
 use text_base::{Desk, Stop};
@@ -30,31 +31,17 @@ impl Feed for SolReader {
     }
 }
 
-// Feeds a reader the named text.
-fn read_sol<D: Desk>(alloc: Global, desk: &mut D, file: &str) -> Result<SolReader, Unread>
-    ensures text { IfOk result (λ reader. HasRead (D.meaning desk.old).texts file.now LIMIT
-        (D.meaning desk.new).left (IsFed reader)) }
-    ensures cause { HasReadCause (IsUnknown (D.meaning desk.old).texts file.now)
-        (D.meaning desk.old).input_faults (D.meaning desk.new).input_faults result }
-    ensures rest { OnlyInput (D.meaning desk.old) (D.meaning desk.new) }
-{
-    let reader = SolReader::new(alloc)?;
-    read(alloc, desk, file, reader)
-}
-
-// What the text says that a reader was fed, or the line to tell; the text is this file of its
+// What the text says that a reader was fed, or why it is refused; the text is this file of its
 // command.
-fn judge_sol(alloc: Global, reader: SolReader, file: u32) -> Result<Sol, Stop<Vec<u8>>>
-    ensures { (text : List ℕ) → IsFed reader text
+fn judge_sol(reader: SolReader, file: u32) -> Result<Sol, Stop<Refusal>>
+    ensures says { (text : List ℕ) → IsFed reader text
         → Says itself IsSol (IsSolRefused file) text result }
+    ensures kept { IfSome reader.stopped (λ found. result
+        ≡ Err (refused_by (IsSolFault file) (told_stop found))) }
 {
     match reader.finish() {
         Ok(sol) => Ok(sol),
-        Err(Stop::Memory) => Err(Stop::Memory),
-        Err(Stop::Fault(fault)) => {
-            let line = sol_line(alloc, file, fault)?;
-            Err(Stop::Fault(line))
-        }
+        Err(stop) => Err(stop.map_fault(|fault| Refusal::Sol(file, fault))),
     }
 }
 
@@ -69,9 +56,9 @@ pub(crate) fn open_sol<D: Desk>(
         (D.meaning desk.new) result }
     ensures known { IfErr result (λ answer. status_of answer ≢ 3) }
 {
-    match read_sol(alloc, desk, name) {
+    match read_new(alloc, desk, name, SolReader::new(alloc)) {
         Ok(reader) => {
-            let judged = judge_sol(alloc, reader, file);
+            let judged = judge_sol(reader, file);
             answered(judged)
         }
         Err(unread) => Err(missed(unread)),

@@ -1,14 +1,13 @@
-// The lines that tell faults of .sol texts.
-ghost use Rattle.std.specs.Prelude.{◌≡◌, IfOk};
-ghost use Rattle.bridge_tool.specs.SolTold.{sol_line, sol_reason_text};
+// What is told of faults of .sol texts.
+ghost use Rattle.std.specs.Prelude.{◌≡◌, ◌≤◌, length};
+ghost use Rattle.bridge_tool.specs.SolTold.{sol_reason_text};
 
-use crate::told::refusal;
-use sol_files::{SolFault, SolReason};
-use std::alloc::{AllocError, Global};
+use sol_files::SolReason;
 
-// What is said of a fault of a .sol text.
-fn sol_reason_text(reason: SolReason) -> &'static [u8]
-    ensures { result.now ≡ sol_reason_text reason }
+/// What is said of a fault of a .sol text.
+pub(crate) fn sol_reason_text(reason: SolReason) -> &'static [u8]
+    ensures text { result.now ≡ sol_reason_text reason }
+    ensures brief { length result.now ≤ 24 }
 {
     match reason {
         SolReason::NoOptions => b"no options",
@@ -24,17 +23,4 @@ fn sol_reason_text(reason: SolReason) -> &'static [u8]
         SolReason::LineTooLong => b"line too long",
         SolReason::InputTooLong => b"input too long",
     }
-}
-
-/// The line of a fault of a .sol text, which is this file of its command.
-pub(crate) fn sol_line(alloc: Global, file: u32, fault: SolFault) -> Result<Vec<u8>, AllocError>
-    ensures { IfOk result (λ line. line.items ≡ sol_line file fault) }
-{
-    refusal(
-        alloc,
-        file,
-        b"line",
-        fault.line,
-        sol_reason_text(fault.reason),
-    )
 }

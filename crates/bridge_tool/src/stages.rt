@@ -9,21 +9,22 @@ ghost use Rattle.nl_segments.specs.Reader.{HasLines, value_of};
 ghost use Rattle.scaling.specs.Exported.{exported_as};
 ghost use Rattle.bridge_tool.specs.Stages.{Folds, Scales, fold_steps};
 
-use crate::nl_told::{fold_line, scale_line};
-use linear_fold::{Linear, fold_all};
+use crate::nl_told::fold_refusal;
+use crate::refusal::Refusal;
+use linear_fold::{Linear, fold_all, fold_file};
 use mps_model::Mps;
 use nl_segments::NlRead;
 use row_scaling::{Scaled, program, scale_rows};
 use std::alloc::{AllocError, Global};
 use text_base::{Ledger, Steps, Stop};
 
-/// The linear program of what was read, or the line of its first fault.
+/// The linear program of what was read, or its first fault. A fault that was found wants no memory.
 pub(crate) fn fold<L: Ledger>(
     alloc: Global,
     read: &NlRead,
     objective: u32,
     steps: &mut Steps<L>,
-) -> Result<Linear, Stop<Vec<u8>>>
+) -> Result<Linear, Stop<Refusal>>
     requires { HasLines read.now }
     ensures folds { Folds (value_of read.now) objective result }
     ensures file { IsFile read.now.file }
@@ -34,10 +35,7 @@ pub(crate) fn fold<L: Ledger>(
     match fold_all(alloc, &read.file, objective, steps) {
         Ok(linear) => Ok(linear),
         Err(Stop::Memory) => Err(Stop::Memory),
-        Err(Stop::Fault(fault)) => {
-            let line = fold_line(alloc, read, fault)?;
-            Err(Stop::Fault(line))
-        }
+        Err(Stop::Fault(fault)) => Err(Stop::Fault(fold_refusal(&read.places, fault))),
     }
 }
 
@@ -47,29 +45,31 @@ pub(crate) fn fold_read<L: Ledger>(
     read: NlRead,
     objective: u32,
     steps: &mut Steps<L>,
-) -> Result<Linear, Stop<Vec<u8>>>
+) -> Result<Linear, Stop<Refusal>>
     requires { HasLines read }
     ensures folds { Folds (value_of read) objective result }
     ensures file { IsFile read.file }
     ensures above { steps.old ≤ steps.new }
     ensures counts { steps.new ≤ steps.old + fold_steps (value_of read) objective }
 {
-    fold(alloc, &read, objective, steps)
+    let NlRead { file, places } = read;
+    let _ = file.header();
+    match fold_file(alloc, file, objective, steps) {
+        Ok(linear) => Ok(linear),
+        Err(Stop::Memory) => Err(Stop::Memory),
+        Err(Stop::Fault(fault)) => Err(Stop::Fault(fold_refusal(&places, fault))),
+    }
 }
 
-/// The scaled program, or the line of its first fault.
-pub(crate) fn scale(alloc: Global, linear: Linear, objective: u32) -> Result<Scaled, Stop<Vec<u8>>>
+/// The scaled program, or its first fault.
+pub(crate) fn scale(alloc: Global, linear: Linear, objective: u32) -> Result<Scaled, Stop<Refusal>>
     ensures { Scales (linear_value linear) objective result }
 {
     let scaled = scale_rows(alloc, &linear);
     drop(linear);
     match scaled {
         Ok(scaled) => Ok(scaled),
-        Err(Stop::Memory) => Err(Stop::Memory),
-        Err(Stop::Fault(fault)) => {
-            let line = scale_line(alloc, objective, fault)?;
-            Err(Stop::Fault(line))
-        }
+        Err(stop) => Err(stop.map_fault(|fault| Refusal::Scale(objective, fault))),
     }
 }
 

@@ -1,12 +1,14 @@
-// The lines that tell a refusal.
-ghost use Rattle.std.specs.Prelude.{◌≡◌, ◌++◌, IfOk, OnOk};
-ghost use Rattle.std.specs.Fmt.{decimal};
+// The parts of the lines that are written or told. The line of a refusal is made from its end to
+// its front, and needs no memory.
+ghost use Rattle.std.specs.Prelude.{◌≡◌, ◌+◌, ◌≤◌, ◌++◌, length, OnOk};
+ghost use Rattle.std.specs.Fmt.{decimal, signed_decimal};
 ghost use Rattle.exact_numbers.specs.Values.{frac_value};
 ghost use Rattle.bridge_tool.specs.Told.{file_text, number_text, refusal, refused_at};
 
 use exact_numbers::{Frac, NumText};
 use itoa::Buffer;
-use std::alloc::{AllocError, Global};
+use std::alloc::AllocError;
+use written_texts::LineText;
 
 /// Appends a text to a line.
 pub(crate) fn put(line: &mut Vec<u8>, text: &[u8]) -> Result<(), AllocError>
@@ -49,50 +51,72 @@ pub(crate) fn put_index(
     put(line, back)
 }
 
-// The file of a fault; the first file is not named.
-fn put_file(line: &mut Vec<u8>, file: u32) -> Result<(), AllocError>
-    ensures { OnOk result (line.new.items ≡ line.old.items ++ file_text file) }
-{
-    if file > 1 {
-        let mut digits = Buffer::new();
-        put(line, b"file ")?;
-        put(line, digits.format(file).as_bytes())?;
-        put(line, b" ")?;
-    }
-    Ok(())
-}
-
-/// How a refusal begins: the file, at what, and its number.
-pub(crate) fn refused_at(
-    alloc: Global,
-    file: u32,
-    what: &[u8],
-    number: u32,
-) -> Result<Vec<u8>, AllocError>
-    ensures { IfOk result (λ line. line.items ≡ refused_at file what.now number) }
+/// Puts a whole number in front.
+pub(crate) fn put_number(line: &mut LineText<128>, number: u32)
+    requires { length line.old ≤ 100 }
+    ensures text { line.new ≡ decimal number ++ line.old }
+    ensures short { length line.new ≤ length line.old + 10 }
 {
     let mut digits = Buffer::new();
-    let mut line = Vec::from_slice(alloc, b"refused ")?;
-    put_file(&mut line, file)?;
-    put(&mut line, what)?;
-    put(&mut line, b" ")?;
-    put(&mut line, digits.format(number).as_bytes())?;
-    put(&mut line, b": ")?;
-    Ok(line)
+    line.put_word(digits.format(number).as_bytes());
+}
+
+/// Puts a whole number with its sign in front.
+pub(crate) fn put_signed(line: &mut LineText<128>, number: i32)
+    requires { length line.old ≤ 100 }
+    ensures text { line.new ≡ signed_decimal number ++ line.old }
+    ensures short { length line.new ≤ length line.old + 11 }
+{
+    let mut digits = Buffer::new();
+    line.put_word(digits.format(number).as_bytes());
+}
+
+// Puts the file of a fault in front; the first file is not named.
+fn put_file(line: &mut LineText<128>, file: u32)
+    requires { length line.old ≤ 90 }
+    ensures text { line.new ≡ file_text file ++ line.old }
+    ensures short { length line.new ≤ length line.old + 16 }
+{
+    if file > 1 {
+        line.put_word(b" ");
+        put_number(line, file);
+        line.put_word(b"file ");
+    }
+}
+
+/// Puts how a refusal begins in front: the file, at what, and its number.
+pub(crate) fn put_refused_at(line: &mut LineText<128>, file: u32, what: &[u8], number: u32)
+    requires room { length line.old ≤ 60 }
+    requires brief { length what.now ≤ 9 }
+    ensures { line.new ≡ refused_at file what.now number ++ line.old }
+{
+    line.put_word(b": ");
+    put_number(line, number);
+    line.put_word(b" ");
+    line.put_word(what);
+    put_file(line, file);
+    line.put_word(b"refused ");
 }
 
 /// The line of a refusal of this file.
-pub(crate) fn refusal(
-    alloc: Global,
-    file: u32,
-    what: &[u8],
-    number: u32,
-    text: &[u8],
-) -> Result<Vec<u8>, AllocError>
-    ensures { IfOk result (λ line. line.items ≡ refusal file what.now number text.now) }
+pub(crate) fn refusal(file: u32, what: &[u8], number: u32, text: &[u8]) -> LineText<128>
+    requires what { length what.now ≤ 9 }
+    requires text { length text.now ≤ 24 }
+    ensures { result ≡ refusal file what.now number text.now }
 {
-    let mut line = refused_at(alloc, file, what, number)?;
-    put(&mut line, text)?;
-    put(&mut line, b"\n")?;
-    Ok(line)
+    let mut line = LineText::new();
+    line.put_word(b"\n");
+    line.put_word(text);
+    put_refused_at(&mut line, file, what, number);
+    line
+}
+
+/// A line that is always the same.
+pub(crate) fn fixed(text: &[u8]) -> LineText<128>
+    requires { length text.now ≤ 128 }
+    ensures { result ≡ text.now }
+{
+    let mut line = LineText::new();
+    line.put_word(text);
+    line
 }

@@ -1,14 +1,14 @@
 // The lines of verdicts, and of faults of solutions that do not fit their file.
-ghost use Rattle.std.specs.Prelude.{◌≡◌, ◌++◌, IfOk, OnOk};
+ghost use Rattle.std.specs.Prelude.{◌≡◌, ◌≤◌, ◌++◌, length, IfOk, OnOk};
 ghost use Rattle.certificate_check.specs.Answers.{answer_of, place_of};
 ghost use Rattle.certificate_check.specs.declared.verdict.Verdict.TheVariants.{Gap, TooWide, Yes};
 ghost use Rattle.bridge_tool.specs.VerdictTold.{fit_line, fit_text, is_yes, negative_line, place_text, verdict_line, verdict_text};
 
-use crate::told::{put, put_frac, put_index};
+use crate::told::{fixed, put, put_frac, put_index, put_signed};
 use certificate_check::{FitFault, Spot, Verdict};
 use exact_numbers::Frac;
-use itoa::Buffer;
 use std::alloc::{AllocError, Global};
+use written_texts::LineText;
 
 // Where a number does not fit.
 fn put_place(line: &mut Vec<u8>, place: Spot) -> Result<(), AllocError>
@@ -92,7 +92,8 @@ pub(crate) fn is_yes(verdict: Verdict) -> bool
 
 // What is said of a solution that does not fit its file.
 fn fit_text(fault: FitFault) -> &'static [u8]
-    ensures { result.now ≡ fit_text fault }
+    ensures text { result.now ≡ fit_text fault }
+    ensures brief { length result.now ≤ 24 }
 {
     match fault {
         FitFault::OtherCounts => b"other counts",
@@ -102,22 +103,22 @@ fn fit_text(fault: FitFault) -> &'static [u8]
 }
 
 /// The line of a solution, the second file of its command, that does not fit the first.
-pub(crate) fn fit_line(alloc: Global, fault: FitFault) -> Result<Vec<u8>, AllocError>
-    ensures { IfOk result (λ line. line.items ≡ fit_line fault) }
+pub(crate) fn fit_line(fault: FitFault) -> LineText<128>
+    ensures { result ≡ fit_line fault }
 {
-    let mut line = Vec::from_slice(alloc, b"refused file 2: ")?;
-    put(&mut line, fit_text(fault))?;
-    put(&mut line, b"\n")?;
-    Ok(line)
+    let mut line = LineText::new();
+    line.put_word(b"\n");
+    line.put_word(fit_text(fault));
+    line.put_word(b"refused file 2: ");
+    line
 }
 
 /// The line of an objective of a number below 0.
-pub(crate) fn negative_line(alloc: Global, number: i32) -> Result<Vec<u8>, AllocError>
-    ensures { IfOk result (λ line. line.items ≡ negative_line number) }
+pub(crate) fn negative_line(number: i32) -> LineText<128>
+    ensures { result ≡ negative_line number }
 {
-    let mut digits = Buffer::new();
-    let mut line = Vec::from_slice(alloc, b"refused objective ")?;
-    put(&mut line, digits.format(number).as_bytes())?;
-    put(&mut line, b": no such objective\n")?;
-    Ok(line)
+    let mut line = fixed(b": no such objective\n");
+    put_signed(&mut line, number);
+    line.put_word(b"refused objective ");
+    line
 }

@@ -1,11 +1,11 @@
-// The command verify: from an .nl text and a certificate to the line of a verdict, or to the line
-// to tell.
-ghost use Rattle.std.specs.Prelude.{◌≡◌, ◌≢◌, ◌+◌, ◌≤◌, true, IfOk};
+// The command verify: from an .nl text and a certificate to the line of a verdict, or to a
+// refusal.
+ghost use Rattle.std.specs.Prelude.{◌≡◌, ◌+◌, ◌≤◌, true, IfOk};
 ghost use Rattle.linear_program.specs.Programs.{linear_value};
 ghost use Rattle.nl_segments.specs.Reader.{HasLines, value_of};
 ghost use Rattle.certificates.specs.Certificates.{IsCertificateIn, IsCertificateOf, claim_outcome, objective_of};
 ghost use Rattle.certificate_walk.specs.Outcomes.{outcome_of};
-ghost use Rattle.bridge_tool.specs.InsideAnswer.{IsWorked, status_of};
+ghost use Rattle.bridge_tool.specs.InsideAnswer.{IsCounted};
 ghost use Rattle.bridge_tool.specs.CertificateTold.{HasFittingBound, is_held, outcome_line};
 ghost use Rattle.bridge_tool.specs.SeveralFiles.{Comes};
 ghost use Rattle.bridge_tool.specs.Stages.{fold_steps};
@@ -16,6 +16,7 @@ use crate::certificate_input::open_certificate;
 use crate::certificate_told::{is_held, outcome_line};
 use crate::nl_input::open_nl;
 use crate::one_file::end;
+use crate::refusal::Refusal;
 use crate::stages::fold;
 use certificate_check::Columns;
 use certificate_walk::{Outcome, check_certificate};
@@ -25,11 +26,11 @@ use nl_segments::NlRead;
 use std::alloc::{AllocError, Global};
 use text_base::{Desk, Ledger, Steps, Stop};
 
-// The number of the objective of a claim; 0 where it is of none.
-fn objective_of(claim: Claim) -> u32
-    ensures { result ≡ objective_of claim }
+// The number of the objective of the claim; 0 where it is of none.
+fn objective_of(certificate: &Certificate) -> u32
+    ensures { result ≡ objective_of certificate.now.claim }
 {
-    match claim {
+    match certificate.claim() {
         Claim::Optimal(objective) => objective,
         Claim::Within(objective, _) => objective,
         Claim::Bound(objective, _) => objective,
@@ -69,13 +70,13 @@ fn told_outcome(
     Ok((is_held(outcome), line))
 }
 
-// The verdict on a certificate for a file, or the line of the first fault of the fold.
+// The verdict on a certificate for a file, or the first fault of the fold.
 fn judge<L: Ledger>(
     alloc: Global,
     read: &NlRead,
     certificate: &Certificate,
     steps: &mut Steps<L>,
-) -> Result<(bool, Vec<u8>), Stop<Vec<u8>>>
+) -> Result<(bool, Vec<u8>), Stop<Refusal>>
     requires lines { HasLines read.now }
     requires certificate { IsCertificateIn read.now.file certificate.now }
     ensures comes { Comes (λ outcome. outcome ≡ verify_outcome (value_of read.now)
@@ -86,7 +87,7 @@ fn judge<L: Ledger>(
     ensures counts { steps.new ≤ steps.old + fold_steps (value_of read.now)
         (objective_of certificate.now.claim) }
 {
-    let objective = objective_of(certificate.claim());
+    let objective = objective_of(certificate);
     let linear = fold(alloc, read, objective, steps)?;
     let outcome = outcome_on(alloc, &linear, certificate);
     drop(linear);
@@ -103,13 +104,8 @@ pub(crate) fn verify<D: Desk, L: Ledger>(
     desk: &mut D,
     steps: &mut Steps<L>,
 ) -> Answer
-    ensures worked { IsWorked (verify_promise (D.meaning desk.old).texts nl.now certificate.now)
-        (D.meaning desk.old) (D.meaning desk.new) result }
-    ensures known { status_of result ≢ 3 }
-    ensures above { steps.old ≤ steps.new }
-    ensures counts { (verify_promise (D.meaning desk.old).texts nl.now certificate.now).counts
-        steps.old steps.new }
-    ensures idle { status_of result ≡ 4 → steps.new ≡ steps.old }
+    ensures { IsCounted (verify_promise (D.meaning desk.old).texts nl.now certificate.now)
+        (D.meaning desk.old) (D.meaning desk.new) steps.old steps.new result }
 {
     let read = match open_nl(alloc, desk, nl) {
         Ok(read) => read,

@@ -1,8 +1,8 @@
 // Numbers as texts, and worked sums and products.
 
 use exact_numbers::{
-    Dec, Frac, MAXN, NumFault, NumText, are_digits, dec_of, lcm, plain_dec, plain_index, read_dec,
-    read_whole, signed_of, whole_of,
+    Dec, Frac, MAXN, NumFault, NumText, are_digits, dec_of, front_dec, lcm, plain_dec, plain_index,
+    read_dec, read_whole, signed_of, whole_of,
 };
 use nl_lines::{Leaf, leaf_of_line, pair_of_line, whole_of_line};
 
@@ -179,6 +179,9 @@ fn plain_words_are_taken(rt: HostRuntime) {
     let index = plain_index(b"120 3.5").expect(&rt, "an index");
     assert!(rt; index.number == 120 && index.len == 3);
     assert!(rt; plain_index(b" 1").is_none());
+    let front = front_dec(b"-4.50\n7").expect(&rt, "a decimal");
+    assert!(rt; front.len == 5 && Some(front.value) == Dec::new(-45, -1));
+    assert!(rt; front_dec(b".5").is_none());
 }
 
 // Lines that are read at once, by ways whose clauses let them give up.

@@ -32,19 +32,15 @@ not_below k e = (let both = e ∙ not_negative k in cc)
 
 pub needs_lower : (max negative : Bool) (t : ℤ) (i : Interval) → beq max negative ≡ true → negative ≡ int_lt t (pos 0) → i.lower ≡ needed max t i
 needs_lower false false (pos k) i e h = refl
-needs_lower false false (negsuc k) i e h = absurd (cc)
 needs_lower true true (negsuc k) i e h = refl
 needs_lower true true (pos k) i e h = absurd (not_below k h)
-needs_lower false true t i e h = absurd (cc)
-needs_lower true false t i e h = absurd (cc)
+needs_lower max negative t i e h = absurd (cc)
 
 pub needs_upper : (max negative : Bool) (t : ℤ) (i : Interval) → beq max negative ≡ false → negative ≡ int_lt t (pos 0) → i.upper ≡ needed max t i
 needs_upper false true (negsuc k) i e h = refl
 needs_upper false true (pos k) i e h = absurd (not_below k h)
 needs_upper true false (pos k) i e h = refl
-needs_upper true false (negsuc k) i e h = absurd (cc)
-needs_upper false false t i e h = absurd (cc)
-needs_upper true true t i e h = absurd (cc)
+needs_upper max negative t i e h = absurd (cc)
 
 -- ---- differences
 short_loose : (l : Loose) → IsShort (loose_value l)
@@ -70,7 +66,7 @@ neg_parts : (p : ℚ) → ((neg_ℚ p).top ≡ neg_ℤ p.top) × ((neg_ℚ p).bo
 unfolding neg_ℚ
 neg_parts p = over_lowest (neg_ℤ p.top) p.bottom p.above (subst (λ n. AreCoprime n p.bottom) (sym (neg_size p.top)) p.lowest)
 
-fits_neg : (p : ℚ) → fits (neg_ℚ p) ≡ fits p
+pub fits_neg : (p : ℚ) → fits (neg_ℚ p) ≡ fits p
 fits_neg p = let h = neg_parts p in ap₂ (λ n m. is_small n && is_small m) (ap unsigned_abs h.0 ∙ neg_size p.top) h.1
 
 plus_is_less : (s d v : ℚ) → less_product s (neg_ℚ d) v ≡ plus_product s d v
@@ -95,9 +91,8 @@ part_of max i s d o n e =
 
 pub part_added : (max : Bool) (i : Interval) (cost old : Option ℚ) (side : Option Dec) (v : ℚ) → cost ≢ Some zero_ℚ → IsNeeded max i cost side → Some v ≡ option_and_then fitting (side_value side)
     → less_part (option_map neg_ℚ cost) v old ≡ option_and_then (λ s. option_and_then (cost_part_of max i s) cost) old
-part_added max i cost None side v n h e = refl
-part_added max i None (Some s) side v n h e = refl
 part_added max i (Some d) (Some s) side v n h e = plus_is_less s d v ∙ sym (part_of max i s d (Some v) n (e ∙ ap (option_and_then fitting) (h d refl)))
+part_added max i cost old side v n h e = refl
 
 pub part_missing : (max : Bool) (i : Interval) (cost old : Option ℚ) (side : Option Dec) → cost ≢ Some zero_ℚ → IsNeeded max i cost side → None ≡ option_and_then fitting (side_value side)
     → None ≡ option_and_then (λ s. option_and_then (cost_part_of max i s) cost) old
@@ -166,3 +161,5 @@ part_unchanged max i j sum cost none h = let v = value_without_fault max i j cos
     by : (o : Option ℚ) → sum_value sum ≡ o → (d : ℚ) → cost ≡ Some d → o ≡ option_and_then (λ s. option_and_then (cost_part_of max i s) cost) o
     by None e d c = refl
     by (Some s) e d c = sym (ap (option_and_then (cost_part_of max i s)) c ∙ h s d (sum_fits_own sum s e) c)
+
+pub ruleset needs = (needs_lower, needs_upper)

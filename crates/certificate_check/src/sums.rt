@@ -34,6 +34,7 @@ const MOST: i128 = 0x7fff_ffff_ffff_ffff;
 
 impl Loose {
     // 0.
+    #[tactic(auto, using(crate::proofs::ShortLemmas::zero_over))]
     pub(crate) fn zero() -> Loose
         ensures { loose_value result ≡ zero_ℚ }
     {
@@ -86,6 +87,7 @@ impl Loose {
 
     // The same number over k times the denominator, where it is short.
     #[inline]
+    #[tactic(auto, using(crate::proofs::ShortLemmas::factor_small, crate::proofs::ShortLemmas::scaled_same))]
     fn scaled(self, k: u64) -> Option<Loose>
         requires above { 0 < k }
         requires small { self.den * k < 2 ^ 63 }
@@ -100,6 +102,7 @@ impl Loose {
 
     // The difference over one denominator, where it is short.
     #[inline]
+    #[tactic(auto, using(crate::proofs::ShortLemmas::difference_over))]
     fn less_over(self, other: Loose) -> Option<Loose>
         requires { other.den ≡ self.den }
         ensures { IfSome result (λ l. loose_value l ≡ loose_value self -ℚ loose_value other) }
@@ -174,6 +177,7 @@ impl Sum {
     }
 
     // Whether the sum is 0.
+    #[tactic(auto, using(crate::proofs::ShortLemmas::zero_short))]
     fn is_zero(&self) -> bool
         ensures { IsTrue result ↔ (sum_value self.now ≡ Some zero_ℚ) }
     {
@@ -186,6 +190,7 @@ impl Sum {
     }
 
     // Whether the sum is below 0.
+    #[tactic(auto, using(crate::proofs::CostLemmas::zero_not_negative, crate::proofs::ShortLemmas::sign_over))]
     fn is_negative(&self) -> bool
         ensures { (d : ℚ) → sum_value self.now ≡ Some d → result ≡ int_lt d.top (pos 0) }
     {
@@ -251,6 +256,7 @@ impl Sum {
     }
 
     // The fault of a variable with this cost, where this is the bound that it needs.
+    #[tactic(auto, using(crate::proofs::Sweeps::no_fault_at_zero))]
     pub(crate) fn fault(&self, number: u32, side: &Option<Dec>) -> Option<Fault>
         ensures { (max : Bool) (i : Interval) → IsNeeded max i (sum_value self.now) side.now
             → cause_found result ≡ cost_check max i number (sum_value self.now) }
@@ -268,6 +274,7 @@ impl Sum {
     }
 
     // Whether the cost, or the bound that it needs, is 0.
+    #[tactic(auto, using(crate::proofs::CostLemmas::no_part_of_side, crate::proofs::CostLemmas::no_part_of_zero))]
     pub(crate) fn has_no_part(&self, side: &Option<Dec>) -> bool
         ensures nothing { (max : Bool) (i : Interval) (s d : ℚ) → result ≡ true → fits s ≡ true
             → sum_value self.now ≡ Some d → IsNeeded max i (sum_value self.now) side.now
@@ -299,6 +306,7 @@ impl Sum {
 }
 
 // The bound that a cost needs.
+#[tactic(auto, using(crate::proofs::CostLemmas::needs, crate::proofs::Rows::side_read))]
 pub(crate) fn needed_bound<'a>(
     cost: &Sum,
     maximise: bool,

@@ -1,17 +1,15 @@
 -- Rows that do the same in each bound: so the row of a lemma, of which the number is held as the
 -- constant.
-use Rattle.std.proofs.Common.{◌≡◌, ℕ, ◌+◌, ◌<◌, ◌≤◌, ◌∙◌, sym, ap, ap₂, subst, refl, arith, ⊎_elim, Bool, true, false, ◌&&◌, List, [], ◌∷◌, length, length-append, get_or, Option, Some, None, ℤ, pos, negsuc, neg_ℤ, unsigned_abs}
+use Rattle.std.proofs.Common.{◌≡◌, ℕ, ◌+◌, ◌<◌, ◌≤◌, ◌∙◌, sym, ap, ap₂, subst, refl, arith, ⊎_elim, Bool, true, false, List, [], ◌∷◌, length, length-append, get_or, Option, Some, None, ℤ, pos, negsuc}
 use Rattle.std.specs.Prelude.{if◌then◌else◌, option_and_then, is_some, ◌||◌}
 use Rattle.std.specs.Option.{option_or}
 use Rattle.std.proofs.Math.Path.{fun_ext}
 use Rattle.std.proofs.lemmas.Bool.{cases_eq, cases_lt}
-use Rattle.std.proofs.lemmas.Int.{ints}
 use Rattle.std.proofs.lemmas.List.{get_or_past}
-use Rattle.fractions.specs.Divisors.{AreCoprime}
-use Rattle.fractions.specs.Fits.{fits, is_small, sum_fits}
+use Rattle.fractions.specs.Fits.{fits, sum_fits}
 use Rattle.fractions.specs.Functions.{is_zero}
 use Rattle.fractions.specs.Rational.{ℚ, zero_ℚ, neg_ℚ, ◌+ℚ◌, ◌-ℚ◌}
-use Rattle.fractions.proofs.Arithmetic.{+ℚ_zero, -ℚ_lem, neg-neg, neg_zero, over_lowest, zero-+ℚ}
+use Rattle.fractions.proofs.Arithmetic.{+ℚ_zero, -ℚ_lem, neg-neg, neg_zero, zero-+ℚ}
 use Rattle.linear_programs.specs.Linear.{Form, Interval, Linear, Row as LinearRow, no_row, row_at, row_count, value_at, variable_count}
 use Rattle.duality.specs.Checked.{fitting, fitting_difference, less_product, plus_product, run}
 use Rattle.duality.specs.Parts.{NumberForm, added_row, at_most, sum_of, with_row}
@@ -24,6 +22,7 @@ use Rattle.certificate_check.specs.Lists.{form_of}
 use Rattle.certificate_check.specs.declared.form.Row.{Row}
 use Rattle.certificate_walk.specs.InsidePaths.{IsLemmaRow}
 use Rattle.certificate_walk.proofs.Lasts.{get_inside, get_last}
+use Rattle.certificate_check.proofs.CostLemmas.{fits_neg}
 
 pub record IsAlike (a b : LinearRow) : Type 0 where
   pub coefficient : a.body.coefficient ≡ b.body.coefficient
@@ -72,15 +71,6 @@ one_alike g f a b s t h e =
         (cases_eq i (length g.rows))
 
 -- ---- the row of a lemma
-fits_neg : (x : ℚ) → fits (neg_ℚ x) ≡ fits x
-unfolding neg_ℚ
-fits_neg x =
-    let parts = over_lowest (neg_ℤ x.top) x.bottom x.above (subst (λ n. AreCoprime n x.bottom) (sym (size x.top)) x.lowest) in
-    ap₂ (λ a b. is_small a && is_small b) (ap unsigned_abs parts.0 ∙ size x.top) parts.1
-  where
-    size : (m : ℤ) → unsigned_abs (neg_ℤ m) ≡ unsigned_abs m
-    size m = omega (arith, ints)
-
 fitting_known : (x : ℚ) → fits x ≡ true → fitting x ≡ Some x
 fitting_known x e = ap (λ b. if b then Some x else None) e
 
@@ -111,10 +101,9 @@ module _ (t : ℚ) (fit : fits t ≡ true) (s d : ℚ) where
       ∙ sym (ap (option_and_then (with_side zero_ℚ)) (fitting_known t fit))
 
   by_sign : (max : Bool) (z : ℤ) → option_and_then (with_side (neg_ℚ t)) (option_and_then fitting (needed max z (at_most zero_ℚ))) ≡ option_and_then (with_side zero_ℚ) (option_and_then fitting (needed max z (at_most t)))
-  by_sign false (pos n) = refl
   by_sign false (negsuc n) = upper
   by_sign true (pos n) = upper
-  by_sign true (negsuc n) = refl
+  by_sign max z = refl
 
   same_part : (max : Bool) → row_part_of max (at_most zero_ℚ) (neg_ℚ t) s d ≡ row_part_of max (at_most t) zero_ℚ s d
   same_part max = ap (λ o. if is_zero d then Some s else o) (by_sign max d.top)

@@ -36,16 +36,12 @@ neither true b h k = absurd (h refl)
 neither false true h k = absurd (k refl)
 neither false false h k = refl
 
-at_most_false : (x y : ℚ) → y <ℚ x → is_at_most x y ≡ false
-at_most_false x y h = by (is_at_most x y) refl
-  where
-    by : (b : Bool) → is_at_most x y ≡ b → is_at_most x y ≡ false
-    by true e = absurd (not_both x y (at_most_yes x y e) h)
-    by false e = e
-
 is_false : (b : Bool) → (b ≡ true → ⊥) → b ≡ false
 is_false true h = absurd (h refl)
 is_false false h = refl
+
+at_most_false : (x y : ℚ) → y <ℚ x → is_at_most x y ≡ false
+at_most_false x y h = is_false (is_at_most x y) (λ e. not_both x y (at_most_yes x y e) h)
 
 module _ (x s : ℚ) (negative : Bool) (fit : fits x ≡ true) (sign : IsTrue negative ↔ (s <ℚ zero_ℚ)) where
   above_all : is_at_most large s ≡ true → negative ≡ false

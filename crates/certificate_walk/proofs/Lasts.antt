@@ -24,9 +24,8 @@ get_last [] y d = refl
 get_last (x ∷ xs) y d = get_last xs y d
 
 pub last_more : {A : Type 0} (xs : List A) (x : A) → last_of (xs ++ x ∷ []) ≡ Some x
-last_more [] x = refl
-last_more (y ∷ []) x = refl
 last_more (y ∷ z ∷ xs) x = last_more (z ∷ xs) x
+last_more xs x = refl
 
 pub last_got : {A : Type 0} (xs : List A) → slice_get xs (length xs - 1) ≡ last_of xs
 last_got [] = refl

@@ -19,7 +19,7 @@ use Rattle.certificate_walk.specs.Walks.{bound_in}
 use Rattle.certificate_walk.specs.declared.path.Lemma.{Lemma}
 use Rattle.certificate_walk.specs.declared.path.Path.{Path}
 use Rattle.certificate_walk.proofs.Alike.{AreAlike, same_bound}
-use Rattle.certificate_walk.proofs.Overs.{HasGoal, IsPartHeld, path_held}
+use Rattle.certificate_walk.proofs.Overs.{HasGoal, IsPartHeld, path_held, maximise_same}
 
 -- other goals leave the rows alone
 goals_alike : (g f : Linear) (o u : Form) (m n : Bool) → AreAlike g f → AreAlike (record g { objective = o; maximise = m }) (record f { objective = u; maximise = n })
@@ -96,3 +96,5 @@ module _ (c : Columns) (v : ℚ) (turns : List Turn) (path : Path) (at : IsAt (w
         let of = record held.rows.same { objective = o; maximise = c.maximise } in
         q of (over_goal c rows held.rows.same o c.maximise rows_held refl refl)
         ∙ moved (asked Zero of) (asked Zero here.program) (goals_alike held.rows.same here.program (asked Zero of).objective (asked Zero here.program).objective (asked Zero of).maximise (asked Zero here.program).maximise held.rows.alike) refl refl
+
+pub ruleset senses = (own_sense, own_value, maximise_same)

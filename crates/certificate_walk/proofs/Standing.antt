@@ -146,3 +146,5 @@ module _ (f : Linear) (v : ℚ) (tree : CertificateTree) (nodes : List Certifica
                   on = subst (λ ps. OnWalk (variable_count f) base answer (drop (i + 1) nodes) ps (next_turns s.turns) (k + 1)) (sym leaf_later)
                       (leaf_here.goes_on (leaf_tested (variable_count f) base answer rest s.turns k goal leaf_here.own own o leaf_own tested ∙ ap (option_map (leaf_fault_of k)) is_none));
                 }
+
+pub ruleset stands = (split_variable, stands_first, stands_last)

@@ -1,7 +1,7 @@
 -- The dual of a row, from the answer's value and the factor.
-use Rattle.std.proofs.Common.{◌≡◌, ◌⊎◌, inl, inr, ◌∙◌, ℕ, zero, suc, below_more, ◌+◌, ◌<◌, ℤ, pos, ◌*ℤ◌, Bool, true, false, ◌&&◌, List, [], ◌∷◌, ◌++◌, length, get_or, IsTrue, Option, Some, None, refl, sym, ap, subst, arith}
-use Rattle.std.specs.Prelude.{slice_get, IfSome, ◌≤ℤ◌}
-use Rattle.std.proofs.lemmas.Int.{ints}
+use Rattle.std.proofs.Common.{◌≡◌, inl, inr, ◌∙◌, ℕ, zero, suc, below_more, ◌+◌, ◌<◌, ℤ, pos, ◌*ℤ◌, Bool, true, false, ◌&&◌, List, [], ◌∷◌, ◌++◌, length, get_or, IsTrue, Option, Some, None, refl, sym, ap, subst, arith}
+use Rattle.std.specs.Prelude.{slice_get}
+use Rattle.std.proofs.lemmas.Bool.{both_ways}
 use Rattle.std.proofs.lemmas.List.{length-append}
 use Rattle.fractions.specs.Rational.{whole, zero_ℚ, ◌*ℚ◌}
 use Rattle.fractions.proofs.Arithmetic.{whole-*ℚ}
@@ -11,8 +11,8 @@ use Rattle.linear_programs.specs.Linear.{Linear}
 use Rattle.nl_model.specs.File.{File}
 use Rattle.file_meaning.specs.Expressions.{maximises}
 use Rattle.file_meaning.specs.LinearFile.{linear_of}
-use Rattle.exported_program.specs.Export.{factor_of_row, factor_of_objective}
-use Rattle.exported_program.specs.Program.{program_of, program, tied_program}
+use Rattle.exported_program.specs.Export.{factor_of_row}
+use Rattle.exported_program.specs.Program.{program_of}
 use Rattle.exported_program.specs.Return.{is_exported, row_at}
 use Rattle.scaling.specs.Exported.{exported_as}
 use Rattle.scaling.specs.Scaled.{ScaledValue}
@@ -28,53 +28,29 @@ stable false false h = refl
 stable true false h = absurd (h (λ e. absurd cc))
 stable false true h = absurd (h (λ e. absurd cc))
 
-sense-plain : (f : Linear) (factor : ℕ → ℕ) (s : ScaledValue) → exported_as s ≡ program f factor → s.maximise ≡ f.maximise
-unfolding exported_as program_of
-sense-plain f factor s e = ap (λ m. m.maximise) e
-
-sense-tied : (f : Linear) (factor : ℕ → ℕ) (g : ℕ) (s : ScaledValue) → exported_as s ≡ tied_program f factor g → s.maximise ≡ f.maximise
-unfolding exported_as program_of
-sense-tied f factor g s e = ap (λ m. m.maximise) e
-
-pub same-sense : (f : Linear) (s : ScaledValue) → IsScaledOf f s → s.maximise ≡ f.maximise
-same-sense f s h =
-    stable s.maximise f.maximise (λ ne. ne (sense-tied f (factor_of_row f) (factor_of_objective f) s (h.export.tied (λ decimal. ne (sense-plain f (factor_of_row f) s (h.export.plain decimal))))))
-
-same-maximise : (f : File) (k : ℕ) → (linear_of f k).maximise ≡ maximises f k
-unfolding linear_of
-same-maximise f k = refl
-
 -- the sign by the scaled program is that of the file
-pub same-sign : (f : File) (a : AnswerValue) (s : ScaledValue) → IsScaledOf (linear_for f a) s → sign_by (a.min_sign && s.maximise) ≡ sign_of f a
-same-sign f a s h = ap (λ b. sign_by (a.min_sign && b)) (same-sense (linear_for f a) s h ∙ same-maximise f a.objective)
+same-sign : (f : File) (a : AnswerValue) (s : ScaledValue) → IsScaledOf (linear_for f a) s → sign_by (a.min_sign && s.maximise) ≡ sign_of f a
+unfolding linear_of exported_as program_of
+same-sign f a s h = ap (λ b. sign_by (a.min_sign && b)) (stable s.maximise (maximises f a.objective) (λ ne. ne (ap (λ m. m.maximise) (h.export.tied (λ decimal. ne (ap (λ m. m.maximise) (h.export.plain decimal)))))))
 
 -- ---- factors
 
 exported-by : (f : Linear) (s : ScaledValue) (i : ℕ) (g : ℤ) (b : Bool) → is_exported (row_at f i) ≡ b → IsScaledOf f s → factor_at s i ≡ Some g → IsTrue (is_exported (row_at f i)) × (g ≡ pos (factor_of_row f i))
 exported-by f s i g true e h is = (e, let same = sym is ∙ h.factors.exported i e in cc)
-exported-by f s i g false e h is = absurd (some_none (sym (h.factors.others i (λ t. absurd (clash (sym t ∙ e)))) ∙ is))
-  where
-    clash : true ≡ false → ⊥
-    clash e = absurd cc
-
-    some_none : None ≡ Some g → ⊥
-    some_none e = absurd cc
+exported-by f s i g false e h is = absurd (let none = h.factors.others i (both_ways _ e) in cc)
 
 -- ---- one dual
 
 by-value : (value : Option Dec) (factor : Option ℤ) (sign : ℤ) (d w : Dec) (g : ℤ) → DualBy value factor sign (Some d) → value ≡ Some w → factor ≡ Some g → IsInReach w (sign *ℤ g) × (dec_value d ≡ dec_value w *ℚ whole (sign *ℤ g))
-by-value value factor sign d w g h e is =
-    subst (λ (o : Option ℤ). DualBy (Some w) o sign (Some d)) is (subst (λ (o : Option Dec). DualBy o factor sign (Some d)) e h)
+by-value value factor sign d w g h e is = rw (e, is) at h
 
 by-other : (value : Option Dec) (factor : Option ℤ) (sign : ℤ) (d : Dec) → DualBy value factor sign (Some d) → factor ≡ None → dec_value d ≡ zero_ℚ
-by-other value factor sign d h is = subst (λ (o : Option ℤ). DualBy value o sign (Some d)) is h
+by-other value factor sign d h is = rw is at h
 
 by-missing : (value : Option Dec) (factor : Option ℤ) (sign : ℤ) (d : Dec) → DualBy value factor sign (Some d) → value ≡ None → dec_value d ≡ zero_ℚ
-by-missing value factor sign d h e = missing factor (subst (λ (o : Option Dec). DualBy o factor sign (Some d)) e h)
-  where
-    missing : (factor : Option ℤ) → DualBy None factor sign (Some d) → dec_value d ≡ zero_ℚ
-    missing None h = h
-    missing (Some g) h = h
+by-missing None None sign d h e = h
+by-missing None (Some g) sign d h e = h
+by-missing (Some w) factor sign d h e = absurd cc
 
 -- why there is none
 record IsNone (value : Option Dec) (factor : Option ℤ) (sign : ℤ) : Type 0 where
@@ -106,21 +82,6 @@ dual-at f a s i value factor d h v g by =
       ];
     }
 
-pub wide-at : (f : File) (a : AnswerValue) (s : ScaledValue) (i : ℕ) (value : Option Dec) (factor : Option ℤ) → IsScaledOf (linear_for f a) s → value ≡ get_or a.rows i None → factor ≡ factor_at s i
-    → i < f.counts.n_con → ((k : ℕ) → k < i → Reaches f a k) → DualBy value factor (sign_by (a.min_sign && s.maximise)) None → IsTooWideAt f a i
-wide-at f a s i value factor h v g within before by =
-    let l = linear_for f a in
-    let none = by-none value factor (sign_of f a) (subst (λ (z : ℤ). DualBy value factor z None) (same-sign f a s h) by) in
-    let known = exported-by l s i none.g (is_exported (row_at l i)) refl h (sym g ∙ none.has) in
-    record {
-      within = within;
-      before = before;
-      exported = known.0;
-      value = none.w;
-      given_for = sym v ∙ none.given;
-      wide = λ reach. none.wide (subst (λ (z : ℤ). IsInReach none.w (sign_of f a *ℤ z)) (sym known.1) reach);
-    }
-
 -- ---- all duals
 
 -- the duals of the first n rows
@@ -129,11 +90,11 @@ pub record AreFirst (a : AnswerValue) (s : ScaledValue) (duals : List Dec) (n : 
   pub each : (f : File) → IsScaledOf (linear_for f a) s → (i : ℕ) (d : Dec) → slice_get duals i ≡ Some d → IsDualAt f a i d
   pub reach : (f : File) → IsScaledOf (linear_for f a) s → (k : ℕ) → k < n → Reaches f a k
 
-pub get-push : {A : Type 0} (xs : List A) (y : A) (i : ℕ) (x : A) → slice_get (xs ++ y ∷ []) i ≡ Some x → (slice_get xs i ≡ Some x) ⊎ ((i ≡ length xs) × (x ≡ y))
-get-push [] y zero x e = inr (refl, let same : Some y ≡ Some x = e in cc)
-get-push [] y (suc i) x e = absurd (cc)
-get-push (z ∷ xs) y zero x e = inl e
-get-push (z ∷ xs) y (suc i) x e = elim (get-push xs y i x e) [ inl h ↦ inl h | inr h ↦ inr (ap suc h.0, h.1) ]
+pub each-push : {A : Type 0} (P : ℕ → A → Type 0) (xs : List A) (y : A) → ((i : ℕ) (x : A) → slice_get xs i ≡ Some x → P i x) → P (length xs) y → (i : ℕ) (x : A) → slice_get (xs ++ y ∷ []) i ≡ Some x → P i x
+each-push P [] y all last zero x e = let same : y ≡ x = cc in subst (P 0) same last
+each-push P [] y all last (suc i) x e = absurd (cc)
+each-push P (z ∷ xs) y all last zero x e = all 0 x e
+each-push P (z ∷ xs) y all last (suc i) x e = each-push (λ k. P (suc k)) xs y (λ k. all (suc k)) last i x e
 
 pub first-more : (a : AnswerValue) (s : ScaledValue) (duals next : List Dec) (n : ℕ) (value : Option Dec) (factor : Option ℤ) (d : Dec) → AreFirst a s duals n → value ≡ get_or a.rows n None → factor ≡ factor_at s n
     → DualBy value factor (sign_by (a.min_sign && s.maximise)) (Some d) → next ≡ duals ++ d ∷ [] → AreFirst a s next (n + 1)
@@ -141,10 +102,7 @@ first-more a s duals next n value factor d h v g by pushed =
     subst (λ (ds : List Dec). AreFirst a s ds (n + 1)) (sym pushed)
     (record {
       count = omega (arith, h.count, length-append duals (d ∷ []));
-      each = λ f scaled i x is. elim (get-push duals d i x is) [
-        | inl old ↦ h.each f scaled i x old
-        | inr new ↦ subst (λ (y : Dec). IsDualAt f a i y) (sym new.1) (subst (λ (k : ℕ). IsDualAt f a k d) (sym (new.0 ∙ h.count)) (dual-at f a s n value factor d scaled v g by))
-      ];
+      each = λ f scaled. each-push (IsDualAt f a) duals d (h.each f scaled) (subst (λ (k : ℕ). IsDualAt f a k d) (sym h.count) (dual-at f a s n value factor d scaled v g by));
       reach = λ f scaled. below_more (Reaches f a) n (h.reach f scaled) (dual-at f a s n value factor d scaled v g by).reach;
     })
 
@@ -153,4 +111,14 @@ all-duals a s duals n h f same scaled = record { count = h.count ∙ same; each 
 
 pub first-wide : (a : AnswerValue) (s : ScaledValue) (duals : List Dec) (n : ℕ) (value : Option Dec) (factor : Option ℤ) → AreFirst a s duals n → value ≡ get_or a.rows n None → factor ≡ factor_at s n
     → DualBy value factor (sign_by (a.min_sign && s.maximise)) None → (f : File) → IsScaledOf (linear_for f a) s → n < f.counts.n_con → IsTooWideAt f a n
-first-wide a s duals n value factor h v g by f scaled within = wide-at f a s n value factor scaled v g within (h.reach f scaled) by
+first-wide a s duals n value factor h v g by f scaled within =
+    let none = by-none value factor (sign_of f a) (subst (λ (z : ℤ). DualBy value factor z None) (same-sign f a s scaled) by) in
+    let known = exported-by (linear_for f a) s n none.g (is_exported (row_at (linear_for f a) n)) refl scaled (sym g ∙ none.has) in
+    record {
+      within = within;
+      before = h.reach f scaled;
+      exported = known.0;
+      value = none.w;
+      given_for = sym v ∙ none.given;
+      wide = λ reach. none.wide (subst (λ (z : ℤ). IsInReach none.w (sign_of f a *ℤ z)) (sym known.1) reach);
+    }

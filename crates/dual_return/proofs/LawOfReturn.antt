@@ -1,8 +1,9 @@
 -- The law of return, for the bodies of the file.
-use Rattle.std.proofs.Common.{◌≡◌, ◌∙◌, ℕ, zero, suc, ◌<◌, List, [], ◌∷◌, length, get_or, IsTrue, Option, Some, None, sym, ap, subst, arith}
+use Rattle.std.proofs.Common.{◌≡◌, ◌∙◌, ℕ, ◌<◌, List, [], length, get_or, IsTrue, Some, None, sym, ap, subst, arith}
 use Rattle.std.specs.Prelude.{slice_get}
+use Rattle.std.proofs.lemmas.Option.{slice_get_within}
 use Rattle.fractions.specs.Rational.{ℚ, whole, ◌*ℚ◌, ◌-ℚ◌}
-use Rattle.linear_programs.specs.Linear.{Row, Linear, form_value, no_row, row_at, variable_count}
+use Rattle.linear_programs.specs.Linear.{Row, form_value, no_row, row_at, variable_count}
 use Rattle.exact_numbers.specs.declared.dec.Dec.{Dec}
 use Rattle.exact_numbers.specs.Values.{dec_value}
 use Rattle.exported_program.specs.Export.{factor_of_row, factor_of_objective}
@@ -36,20 +37,12 @@ body_is f k i xs lines h =
     ∙ ap (λ (n : ℕ). Some (form_value (body_form f i) n xs)) (sym (count_lem f k))
     ∙ ap (λ (r : Row). Some (form_value r.body (variable_count (linear_of f k)) xs)) (sym (row_is f k i h))
 
-got : {A : Type 0} (xs : List A) (i : ℕ) (x : A) → slice_get xs i ≡ Some x → i < length xs
-got [] i x e = absurd (let n : None ≡ Some x = e in cc)
-got (y ∷ xs) zero x e = omega arith
-got (y ∷ xs) (suc i) x e = omega (arith, got xs i x e)
-
 module _ (f : File) (a : AnswerValue) (duals : List Dec) (file : IsFile f) (folds : fold_fault f a.objective ≡ None) (all : AreDuals f a duals) where
-  l : Linear
-  l = linear_for f a
-
   lines : HasLines f a.objective
   lines = clean_has_lines f a.objective (file_formed f file a.objective) folds
 
   within : (i : ℕ) (d : Dec) → slice_get duals i ≡ Some d → i < f.counts.n_con
-  within i d at = subst (λ (n : ℕ). i < n) all.count (got duals i d at)
+  within i d at = subst (λ (n : ℕ). i < n) all.count (slice_get_within duals i d at)
 
   times : (i : ℕ) (d w : Dec) (xs : List ℚ) (x : ℚ) → slice_get duals i ≡ Some d → IsTrue (is_exported (row_at (linear_for f a) i)) → get_or a.rows i None ≡ Some w
       → dual_of (whole (sign_of f a)) (dec_value w) (factor_of_row (linear_for f a) i) *ℚ (form_value (row_at (linear_for f a) i).body (variable_count (linear_for f a)) xs -ℚ form_value (row_at (linear_for f a) i).body (variable_count (linear_for f a)) []) ≡ x
@@ -58,18 +51,14 @@ module _ (f : File) (a : AnswerValue) (duals : List Dec) (file : IsFile f) (fold
       let v = form_value (row_at (linear_for f a) i).body (variable_count (linear_for f a)) in
       let body = λ (ys : List ℚ). body_is f a.objective i ys lines (within i d at) in
       let same : dec_value d *ℚ (v xs -ℚ v []) ≡ x = ap (λ (q : ℚ). q *ℚ (v xs -ℚ v [])) ((all.each i d at).exported e w given) ∙ law in
-      subst (λ (o : Option ℚ). IsDualTimes (dec_value d) o (body_value f i []) x) (sym (body xs))
-      (subst (λ (o : Option ℚ). IsDualTimes (dec_value d) (Some (v xs)) o x) (sym (body [])) same)
+      rw (body xs, body []) same
 
   in_program : (i : ℕ) (d : Dec) → slice_get duals i ≡ Some d → i < length (linear_for f a).rows
   in_program i d at = subst (λ (n : ℕ). i < n) (sym (rows_count f a.objective)) (within i d at)
 
-  means : MeanTheProgram f a duals
-  means = record {
+  pub duals_mean : MeanTheProgram f a duals
+  duals_mean = record {
     plain = λ i d w xs at e given. times i d w xs _ at e given (law_of_return (linear_for f a) (factor_of_row (linear_for f a)) (whole (sign_of f a)) (dec_value w) i xs (in_program i d at) e);
     tied = λ i d w xs z count at e given. times i d w xs _ at e given
         (law_of_return_tied (linear_for f a) (factor_of_row (linear_for f a)) (factor_of_objective (linear_for f a)) (whole (sign_of f a)) (dec_value w) i xs z (linear_lem f a.objective (file_formed f file a.objective)) (count ∙ sym (count_lem f a.objective)) (in_program i d at) e);
   }
-
-pub duals_mean : (f : File) (a : AnswerValue) (duals : List Dec) → IsFile f → fold_fault f a.objective ≡ None → AreDuals f a duals → MeanTheProgram f a duals
-duals_mean f a duals file folds all = means f a duals file folds all

@@ -1,7 +1,6 @@
 pub mod CountLemmas
 pub mod DualLemmas
-pub mod MessageLemmas
-pub mod NumberLemmas
+pub mod AnswerKept
 pub mod PartLemmas
 pub mod SolutionLemmas
 pub mod OneReturn

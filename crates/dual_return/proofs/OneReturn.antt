@@ -1,9 +1,10 @@
 -- Each answer for a file is returned as one .sol file, or has one first dual that is too wide.
-use Rattle.std.proofs.Common.{below_more, ◌≡◌, ◌⊎◌, inl, inr, ◌∙◌, ℕ, zero, suc, ◌<◌, ◌≤◌, ◌^◌, ℤ, pos, ◌*ℤ◌, ◌||◌, Bool, true, false, ltb, List, [], ◌∷◌, ◌++◌, length, map, get_or, IsTrue, Option, Some, None, is_some, refl, sym, ap, subst, arith}
+use Rattle.std.proofs.Common.{below_more, ◌≡◌, ◌⊎◌, inl, inr, ◌∙◌, ℕ, zero, suc, ◌<◌, ◌≤◌, ◌^◌, ℤ, pos, ◌*ℤ◌, Bool, true, false, ltb, List, [], ◌∷◌, ◌++◌, length, map, get_or, IsTrue, Option, Some, None, is_some, refl, sym, ap, subst, arith}
 use Rattle.std.specs.Prelude.{slice_get, unsigned_abs, MatchOption}
 use Rattle.std.specs.List.{list_any}
-use Rattle.std.proofs.lemmas.Bool.{lt-ltb, ltb-true, ltb-false}
-use Rattle.std.proofs.lemmas.List.{length-append}
+use Rattle.std.proofs.lemmas.Bool.{both_ways, lt-ltb, ltb-true}
+use Rattle.std.proofs.lemmas.List.{length-append, ext_get_or}
+use Rattle.std.proofs.lemmas.Option.{slice_get-get_or}
 use Rattle.fractions.specs.Rational.{ℚ, whole, zero_ℚ, ◌*ℚ◌}
 use Rattle.fractions.proofs.Arithmetic.{whole-*ℚ}
 use Rattle.exact_numbers.specs.declared.dec.Dec.{Dec}
@@ -17,13 +18,10 @@ use Rattle.exported_program.specs.Return.{is_exported, row_at, dual_of}
 use Rattle.nl_model.specs.File.{File}
 use Rattle.answer_file.specs.Grammar.{AnswerValue}
 use Rattle.sol_files.specs.Sol.{Sol}
-use Rattle.dual_return.proofs.DualLemmas.{get-push}
+use Rattle.dual_return.proofs.DualLemmas.{each-push}
 use Rattle.dual_return.specs.Return.{given, objno_of, suffix_for, linear_for, sign_of, multiplier_of, IsDualAt, Reaches, AreDuals, AreDualsIf, IsReturn, IsTooWideAt, HasReturnFault, HasOneReturn}
 use Rattle.dual_return.specs.declared.fault.ReturnFault.{ReturnFault}
 use Rattle.dual_return.specs.declared.fault.ReturnFault.TheVariants.{DualTooWide}
-
-clash : true ≡ false → ⊥
-clash e = absurd cc
 
 -- ---- numbers
 
@@ -37,50 +35,55 @@ zero_is : dec_value zero_dec ≡ zero_ℚ
 unfolding zero_dec
 zero_is = zero_decimal (pos 0)
 
-same_some : (v w : Dec) (o : Option Dec) → o ≡ Some v → o ≡ Some w → v ≡ w
-same_some v w o e f = cc
-
 dec_for : (x : ℚ) → fits_dec x ≡ true → (d : Dec) × (dec_value d ≡ x)
 dec_for x e = by (dec_from x) (dec_from-fits x)
   where
     by : (o : Option Dec) → MatchOption o (fits_dec x ≡ false) (λ d. (fits_dec x ≡ true) × (dec_value d ≡ x)) → (d : Dec) × (dec_value d ≡ x)
-    by None f = absurd (clash (sym e ∙ f))
+    by None f = absurd (both_ways (fits_dec x) f e)
     by (Some d) h = (d, h.1)
 
 reach_decided : (w : Dec) (k : ℤ) → IsInReach w k ⊎ (IsInReach w k → ⊥)
 reach_decided w k = by (ltb (unsigned_abs (w.m *ℤ k)) (2 ^ 127)) refl (fits_dec (dec_value w *ℚ whole k)) refl
   where
     by : (b : Bool) → ltb (unsigned_abs (w.m *ℤ k)) (2 ^ 127) ≡ b → (c : Bool) → fits_dec (dec_value w *ℚ whole k) ≡ c → IsInReach w k ⊎ (IsInReach w k → ⊥)
-    by false e c f = inr (λ h. absurd (clash (sym (lt-ltb (unsigned_abs (w.m *ℤ k)) (2 ^ 127) h.size) ∙ e)))
-    by true e false f = inr (λ h. absurd (clash (sym (fits_dec_in (dec_value w *ℚ whole k) h.dec) ∙ f)))
+    by false e c f = inr (λ h. both_ways _ e (lt-ltb (unsigned_abs (w.m *ℤ k)) (2 ^ 127) h.size))
+    by true e false f = inr (λ h. both_ways _ f (fits_dec_in (dec_value w *ℚ whole k) h.dec))
     by true e true f = inl (record { size = ltb-true (unsigned_abs (w.m *ℤ k)) (2 ^ 127) e; dec = fits_dec_out (dec_value w *ℚ whole k) f })
 
 -- ---- one row
 
-record IsWide (f : File) (a : AnswerValue) (i : ℕ) : Type 0 where
-  exported : IsTrue (is_exported (row_at (linear_for f a) i))
-  value : Dec
-  given_for : get_or a.rows i None ≡ Some value
-  wide : IsInReach value (multiplier_of f a i) → ⊥
+-- the row is not exported, or has no value
+abbrev IsOther : File → AnswerValue → ℕ → Type 0
+IsOther f a i = (IsTrue (is_exported (row_at (linear_for f a) i)) → ⊥) ⊎ (get_or a.rows i None ≡ None)
 
-row_decided : (f : File) (a : AnswerValue) (i : ℕ) → Reaches f a i ⊎ IsWide f a i
-row_decided f a i = by (is_exported (row_at (linear_for f a) i)) refl (get_or a.rows i None) refl
+row_case : (f : File) (a : AnswerValue) (i : ℕ) → IsOther f a i ⊎ (IsTrue (is_exported (row_at (linear_for f a) i)) × (w : Dec) × (get_or a.rows i None ≡ Some w))
+row_case f a i = by (is_exported (row_at (linear_for f a) i)) refl (get_or a.rows i None) refl
   where
-    by : (b : Bool) → is_exported (row_at (linear_for f a) i) ≡ b → (o : Option Dec) → get_or a.rows i None ≡ o → Reaches f a i ⊎ IsWide f a i
-    by false e o g = inl (λ t w is. absurd (clash (sym t ∙ e)))
-    by true e None g = inl (λ t w is. absurd (let n : None ≡ Some w = sym g ∙ is in cc))
-    by true e (Some v) g = elim (reach_decided v (multiplier_of f a i)) [
-      | inl h ↦ inl (λ t w is. subst (λ (d : Dec). IsInReach d (multiplier_of f a i)) (same_some v w (get_or a.rows i None) g is) h)
-      | inr h ↦ inr (record { exported = e; value = v; given_for = g; wide = h })
-    ]
+    by : (b : Bool) → is_exported (row_at (linear_for f a) i) ≡ b → (o : Option Dec) → get_or a.rows i None ≡ o → IsOther f a i ⊎ (IsTrue (is_exported (row_at (linear_for f a) i)) × (w : Dec) × (get_or a.rows i None ≡ Some w))
+    by false e o g = inl (inl (both_ways _ e))
+    by true e None g = inl (inr g)
+    by true e (Some w) g = inr (e, w, g)
+
+not_given : (f : File) (a : AnswerValue) (i : ℕ) (w : Dec) → IsOther f a i → IsTrue (is_exported (row_at (linear_for f a) i)) → get_or a.rows i None ≡ Some w → ⊥
+not_given f a i w (inl ne) t is = ne t
+not_given f a i w (inr none) t is = absurd cc
+
+row_decided : (f : File) (a : AnswerValue) (i : ℕ) → i < f.counts.n_con → ((k : ℕ) → k < i → Reaches f a k) → Reaches f a i ⊎ IsTooWideAt f a i
+row_decided f a i h before = elim (row_case f a i) [
+  | inl other ↦ inl (λ t w is. absurd (not_given f a i w other t is))
+  | inr (t, v, g) ↦ elim (reach_decided v (multiplier_of f a i)) [
+    | inl reach ↦ inl (λ t w is. let same : v ≡ w = cc in subst (λ (d : Dec). IsInReach d (multiplier_of f a i)) same reach)
+    | inr wide ↦ inr (record { within = h; before = before; exported = t; value = v; given_for = g; wide = wide })
+  ]
+]
 
 -- the first that is too wide, or all reach
 rows_decided : (f : File) (a : AnswerValue) (n : ℕ) → n ≤ f.counts.n_con → ((k : ℕ) → k < n → Reaches f a k) ⊎ ((i : ℕ) × IsTooWideAt f a i)
 rows_decided f a zero h = inl (λ k less. absurd (omega arith))
 rows_decided f a (suc n) h = elim (rows_decided f a n (omega arith)) [
   | inr wide ↦ inr wide
-  | inl before ↦ elim (row_decided f a n) [
-    | inr w ↦ inr (n, record { within = omega arith; before = before; exported = w.exported; value = w.value; given_for = w.given_for; wide = w.wide })
+  | inl before ↦ elim (row_decided f a n h before) [
+    | inr wide ↦ inr (n, wide)
     | inl r ↦ inl (λ k less. below_more (Reaches f a) n before r k (omega (arith, less)))
   ]
 ]
@@ -88,26 +91,21 @@ rows_decided f a (suc n) h = elim (rows_decided f a n (omega arith)) [
 -- ---- duals
 
 dual_in : (f : File) (a : AnswerValue) (i : ℕ) → Reaches f a i → (d : Dec) × IsDualAt f a i d
-dual_in f a i r = by (is_exported (row_at (linear_for f a) i)) refl (get_or a.rows i None) refl
-  where
-    by : (b : Bool) → is_exported (row_at (linear_for f a) i) ≡ b → (o : Option Dec) → get_or a.rows i None ≡ o → (d : Dec) × IsDualAt f a i d
-    by false e o g = (zero_dec, record { reach = r; exported = λ t w is. absurd (clash (sym t ∙ e)); other = λ no. zero_is })
-    by true e None g = (zero_dec, record { reach = r; exported = λ t w is. absurd (let n : None ≡ Some w = sym g ∙ is in cc); other = λ no. zero_is })
-    by true e (Some v) g =
-        let m = multiplier_of f a i in
-        let d = dec_for (dec_value v *ℚ whole m) (fits_dec_in (dec_value v *ℚ whole m) (r e v g).dec) in
-        let factor = factor_of_row (linear_for f a) i in
-        let is_dual : dec_value d.0 ≡ dual_of (whole (sign_of f a)) (dec_value v) factor = d.1 ∙ ap (λ q. dec_value v *ℚ q) (sym (whole-*ℚ (sign_of f a) (pos factor))) in (
-          d.0,
-          record {
-            reach = r;
-            exported = λ t w is. subst (λ (x : Dec). dec_value d.0 ≡ dual_of (whole (sign_of f a)) (dec_value x) factor) (same_some v w (get_or a.rows i None) g is) is_dual;
-            other = λ no. elim no [
-              | inl ne ↦ absurd (ne e)
-              | inr none ↦ absurd (let n : Some v ≡ None = sym g ∙ none in cc)
-            ];
-          },
-        )
+dual_in f a i r = elim (row_case f a i) [
+  | inl other ↦ (zero_dec, record { reach = r; exported = λ t w is. absurd (not_given f a i w other t is); other = λ none. zero_is })
+  | inr (e, v, g) ↦
+      let m = multiplier_of f a i in
+      let d = dec_for (dec_value v *ℚ whole m) (fits_dec_in (dec_value v *ℚ whole m) (r e v g).dec) in
+      let factor = factor_of_row (linear_for f a) i in
+      let is_dual : dec_value d.0 ≡ dual_of (whole (sign_of f a)) (dec_value v) factor = d.1 ∙ ap (λ q. dec_value v *ℚ q) (sym (whole-*ℚ (sign_of f a) (pos factor))) in (
+        d.0,
+        record {
+          reach = r;
+          exported = λ t w is. let same : v ≡ w = cc in subst (λ (x : Dec). dec_value d.0 ≡ dual_of (whole (sign_of f a)) (dec_value x) factor) same is_dual;
+          other = λ none. absurd (not_given f a i v none e g);
+        },
+      )
+]
 
 record AreFirst (f : File) (a : AnswerValue) (duals : List Dec) (n : ℕ) : Type 0 where
   count : length duals ≡ n
@@ -121,31 +119,20 @@ first_duals f a (suc n) reach =
       before.0 ++ next.0 ∷ [],
       record {
         count = omega (arith, before.1.count, length-append before.0 (next.0 ∷ []));
-        each = λ i d is. elim (get-push before.0 next.0 i d is) [
-          | inl old ↦ before.1.each i d old
-          | inr new ↦ subst (λ (y : Dec). IsDualAt f a i y) (sym new.1) (subst (λ (k : ℕ). IsDualAt f a k next.0) (sym (new.0 ∙ before.1.count)) next.1)
-        ];
+        each = each-push (IsDualAt f a) before.0 next.0 before.1.each (subst (λ (k : ℕ). IsDualAt f a k next.0) (sym before.1.count) next.1);
       },
     )
 
 one_dual : (f : File) (a : AnswerValue) (i : ℕ) (c d : Dec) → IsDualAt f a i c → IsDualAt f a i d → c ≡ d
-one_dual f a i c d x y = by (is_exported (row_at (linear_for f a) i)) refl (get_or a.rows i None) refl
-  where
-    by : (b : Bool) → is_exported (row_at (linear_for f a) i) ≡ b → (o : Option Dec) → get_or a.rows i None ≡ o → c ≡ d
-    by false e o g = let no : IsTrue (is_exported (row_at (linear_for f a) i)) → ⊥ = λ t. clash (sym t ∙ e) in dec_same c d (x.other (inl no) ∙ sym (y.other (inl no)))
-    by true e None g = dec_same c d (x.other (inr g) ∙ sym (y.other (inr g)))
-    by true e (Some v) g = dec_same c d (x.exported e v g ∙ sym (y.exported e v g))
-
-same_items : (xs ys : List Dec) → length xs ≡ length ys → ((i : ℕ) (x y : Dec) → slice_get xs i ≡ Some x → slice_get ys i ≡ Some y → x ≡ y) → xs ≡ ys
-same_items [] [] n h = refl
-same_items [] (y ∷ ys) n h = absurd (omega (arith, n))
-same_items (x ∷ xs) [] n h = absurd (omega (arith, n))
-same_items (x ∷ xs) (y ∷ ys) n h =
-    ap (λ (z : Dec). z ∷ xs) (h 0 x y refl refl) ∙ ap (λ (zs : List Dec). y ∷ zs) (same_items xs ys (omega (arith, n)) (λ i u v p q. h (suc i) u v p q))
+one_dual f a i c d x y = elim (row_case f a i) [
+  | inl other ↦ dec_same c d (x.other other ∙ sym (y.other other))
+  | inr (e, v, g) ↦ dec_same c d (x.exported e v g ∙ sym (y.exported e v g))
+]
 
 one_duals : (b : Bool) (f : File) (a : AnswerValue) (xs ys : List Dec) → AreDualsIf b f a xs → AreDualsIf b f a ys → xs ≡ ys
 one_duals false f a xs ys p q = p ∙ sym q
-one_duals true f a xs ys p q = same_items xs ys (p.count ∙ sym q.count) (λ i x y h k. one_dual f a i x y (p.each i x h) (q.each i y k))
+one_duals true f a xs ys p q =
+    ext_get_or zero_dec xs ys (p.count ∙ sym q.count) (λ i h. one_dual f a i _ _ (p.each i _ (slice_get-get_or xs i zero_dec h)) (q.each i _ (slice_get-get_or ys i zero_dec (omega (arith, h, p.count, q.count)))))
 
 -- ---- all of it
 
@@ -170,45 +157,38 @@ some_return f a = by (list_any is_some a.rows) refl
 some_row : (rows : List (Option Dec)) (i : ℕ) (d : Dec) → get_or rows i None ≡ Some d → list_any is_some rows ≡ true
 some_row [] i d e = absurd (let n : None ≡ Some d = e in cc)
 some_row (r ∷ rows) zero d e = rw e refl
-some_row (r ∷ rows) (suc i) d e = by (is_some r) (some_row rows i d e)
-  where
-    by : (b : Bool) → list_any is_some rows ≡ true → (b || list_any is_some rows) ≡ true
-    by true h = refl
-    by false h = h
-
-item_at : (xs : List Dec) (i : ℕ) → i < length xs → (d : Dec) × (slice_get xs i ≡ Some d)
-item_at [] i h = absurd (omega arith)
-item_at (x ∷ xs) zero h = (x, refl)
-item_at (x ∷ xs) (suc i) h = item_at xs i (omega arith)
+some_row (None ∷ rows) (suc i) d e = some_row rows i d e
+some_row (Some x ∷ rows) (suc i) d e = refl
 
 not_both : (f : File) (a : AnswerValue) (s : Sol) (fault : ReturnFault) → IsReturn f a s → HasReturnFault f a fault → ⊥
 not_both f a s (DualTooWide i) h w =
     let all : AreDuals f a s.duals = subst (λ (b : Bool). AreDualsIf b f a s.duals) (some_row a.rows i w.value w.given_for) h.duals in
-    let d = item_at s.duals i (omega (arith, w.within, all.count)) in
-    w.wide ((all.each i d.0 d.1).reach w.exported w.value w.given_for)
-
-same_sol : (s t : Sol) → s.message ≡ t.message → s.options ≡ t.options → s.n_con ≡ t.n_con → s.duals ≡ t.duals → s.n_var ≡ t.n_var → s.primals ≡ t.primals → s.objno ≡ t.objno → s.suffixes ≡ t.suffixes → s ≡ t
-same_sol s t m o c d v p n x = λ i. record { message = m i; options = o i; n_con = c i; duals = d i; n_var = v i; primals = p i; objno = n i; suffixes = x i }
+    let at = slice_get-get_or s.duals i zero_dec (omega (arith, w.within, all.count)) in
+    w.wide ((all.each i _ at).reach w.exported w.value w.given_for)
 
 one_sol : (f : File) (a : AnswerValue) (s t : Sol) → IsReturn f a s → IsReturn f a t → s ≡ t
 one_sol f a s t x y =
-    same_sol s t (x.message ∙ sym y.message) (x.options ∙ sym y.options) (x.constraints ∙ sym y.constraints)
-    (one_duals (list_any is_some a.rows) f a s.duals t.duals x.duals y.duals)
-    (x.variables ∙ sym y.variables) (x.primals ∙ sym y.primals) (x.objno ∙ sym y.objno) (x.suffixes ∙ sym y.suffixes)
+    let duals = one_duals (list_any is_some a.rows) f a s.duals t.duals x.duals y.duals in
+    λ i. record {
+      message = (x.message ∙ sym y.message) i;
+      options = (x.options ∙ sym y.options) i;
+      n_con = (x.constraints ∙ sym y.constraints) i;
+      duals = duals i;
+      n_var = (x.variables ∙ sym y.variables) i;
+      primals = (x.primals ∙ sym y.primals) i;
+      objno = (x.objno ∙ sym y.objno) i;
+      suffixes = (x.suffixes ∙ sym y.suffixes) i;
+    }
 
 not_later : (f : File) (a : AnswerValue) (i j : ℕ) → IsTooWideAt f a i → IsTooWideAt f a j → i < j → ⊥
 not_later f a i j x y less = x.wide (y.before i less x.exported x.value x.given_for)
 
-one_place : (f : File) (a : AnswerValue) (i j : ℕ) → IsTooWideAt f a i → IsTooWideAt f a j → i ≡ j
-one_place f a i j x y = by (ltb i j) refl (ltb j i) refl
-  where
-    by : (b : Bool) → ltb i j ≡ b → (c : Bool) → ltb j i ≡ c → i ≡ j
-    by true e c g = absurd (not_later f a i j x y (ltb-true i j e))
-    by false e true g = absurd (not_later f a j i y x (ltb-true j i g))
-    by false e false g = omega (arith, ltb-false i j e, ltb-false j i g)
-
 one_fault : (f : File) (a : AnswerValue) (x y : ReturnFault) → HasReturnFault f a x → HasReturnFault f a y → x ≡ y
-one_fault f a (DualTooWide i) (DualTooWide j) h k = ap DualTooWide (one_place f a i j h k)
+one_fault f a (DualTooWide i) (DualTooWide j) h k =
+    let one : i < j → ⊥ = not_later f a i j h k in
+    let other : j < i → ⊥ = not_later f a j i k h in
+    let same : i ≡ j = omega arith in
+    ap DualTooWide same
 
 pub one-return : (f : File) (a : AnswerValue) → HasOneReturn f a
 one-return f a = record { some = some_return f a; not_both = not_both f a; one_sol = one_sol f a; one_fault = one_fault f a }

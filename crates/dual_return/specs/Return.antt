@@ -6,7 +6,8 @@ use Rattle.fractions.specs.Rational.{ℚ, whole, zero_ℚ, ◌*ℚ◌, ◌-ℚ�
 use Rattle.exact_numbers.specs.declared.dec.Dec.{Dec}
 use Rattle.exact_numbers.specs.Values.{dec_value, IsInReach}
 use Rattle.linear_programs.specs.Linear.{Linear}
-use Rattle.nl_model.specs.File.{File, Suffix}
+use Rattle.nl_model.specs.File.{File}
+use Rattle.nl_model.specs.declared.suffix.Suffix.{Suffix}
 use Rattle.file_meaning.specs.Expressions.{maximises}
 use Rattle.file_meaning.specs.LinearFile.{linear_of}
 use Rattle.exported_program.specs.Export.{factor_of_row, factor_of_objective}

@@ -1,6 +1,6 @@
 -- Decimal numbers as reduced pairs.
 use Prim.Native.Nat.{◌∣◌}
-use Rattle.std.proofs.Common.{◌≡◌, ◌≢◌, ℕ, zero, suc, ◌+◌, ◌-◌, ◌*◌, ◌/◌, ◌%◌, ◌^◌, ◌<◌, ◌≤◌, ◌⊎◌, ◌∙◌, sym, ap, ap₂, refl, arith, ℤ, pos, negsuc, ◌*ℤ◌, ◌≤ℤ◌, ◌<ℤ◌, unsigned_abs, subst, ⊎_elim, inl, inr, int_lt, pow-suc, pow-add, mul_assoc, mul_comm, mul-le-mul_left, mul-pos, add-one, lit<, le-mul_of_pos_right, one-mul, lt_of_lt_of_le, lt_of_le_of_lt, lit≤}
+use Rattle.std.proofs.Common.{◌≡◌, ◌≢◌, ℕ, zero, suc, ◌+◌, ◌-◌, ◌*◌, ◌/◌, ◌%◌, ◌^◌, ◌<◌, ◌≤◌, ◌⊎◌, ◌∙◌, sym, ap, ap₂, refl, arith, ℤ, pos, ◌*ℤ◌, ◌≤ℤ◌, ◌<ℤ◌, unsigned_abs, subst, ⊎_elim, inl, inr, int_lt, pow-suc, pow-add, mul_assoc, mul_comm, mul-le-mul_left, mul-pos, add-one, lit<, le-mul_of_pos_right, one-mul, lt_of_lt_of_le, lt_of_le_of_lt, lit≤}
 use Rattle.std.proofs.Math.Nat.{pow-le-pow_right, pow-zero, one-le-pow, div-add-mod', dvd-mul_left, dvd-mul_right, dvd-mul_right_of_dvd, eq-zero_of_zero-dvd}
 use Rattle.std.proofs.lemmas.Bool.{cases_lt}
 use Rattle.std.proofs.lemmas.Nat.{mul-pow}
@@ -9,8 +9,6 @@ use Rattle.fractions.specs.Divisors.{AreCoprime}
 use Rattle.exact_numbers.proofs.Pairs.{SameValue, HasFrac, pair, scaled}
 use Rattle.exact_numbers.specs.Fraction.{IsFrac, IsCofactor}
 use Rattle.exact_numbers.specs.Decimal.{signed}
-use Rattle.std.specs.Int.{w16, w128}
-use mir.Val.{SFits}
 use Rattle.exact_numbers.proofs.Coprime.{coprime-mul, coprime-pow, dvd_other}
 use Rattle.exact_numbers.proofs.Signed.{times_twice}
 use Rattle.exact_numbers.proofs.Decimals.{abs_is, scaled-bottom}

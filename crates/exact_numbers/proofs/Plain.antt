@@ -1,6 +1,6 @@
 -- A text of digits, with one point among them or none, after a sign or none.
-use Rattle.std.proofs.Common.{◌≡◌, ◌≢◌, ℕ, ◌+◌, ◌-◌, ◌<◌, ◌≤◌, ◌^◌, ◌||◌, nat_eq, cond, Bool, true, false, Option, Some, None, IfSome, refl, ◌∙◌, sym, ap, ap₂, arith, subst, List, [], ◌∷◌, ◌++◌, length, take, drop, get_or, pos, neg_ℤ, append-nil, length-drop, length-take-le, take-append-drop, take_all}
-use Rattle.std.proofs.lemmas.List.{drop_more}
+use Rattle.std.proofs.Common.{◌≡◌, ◌≢◌, ℕ, zero, suc, ◌+◌, ◌-◌, ◌<◌, ◌≤◌, ◌^◌, ◌||◌, nat_eq, cond, Bool, true, false, Some, refl, ◌∙◌, sym, ap, ap₂, arith, subst, List, [], ◌∷◌, ◌++◌, length, take, drop, get_or, pos, neg_ℤ, append_assoc, append-nil, length-drop, length-take-le, take-add}
+use Rattle.std.proofs.lemmas.List.{take_more}
 use Rattle.std.proofs.lemmas.Int.{ints}
 use Rattle.std.proofs.lemmas.Bool.Decides.{nat_tests}
 use Rattle.std.specs.Char.{digit_value}
@@ -9,15 +9,16 @@ use Rattle.fractions.specs.Rational.{decimal_value}
 use Rattle.exact_numbers.specs.Decimal.{signed}
 use Rattle.exact_numbers.specs.Text.{begins_minus, after_sign, IsDecText, text_value}
 use Rattle.exact_numbers.specs.declared.dec.Dec.{Dec}
-use Rattle.exact_numbers.specs.Values.{IsDecOf}
+use Rattle.exact_numbers.specs.Values.{dec_value}
 use Rattle.exact_numbers.specs.Numbers.{IsUnmarked, dec_of, whole_of}
 use Rattle.exact_numbers.proofs.Texts.{after-append, digit_byte}
 use Rattle.exact_numbers.proofs.NumberLemmas.{dec_of-some, whole_of-some}
 use Rattle.exact_numbers.proofs.Reading.{cut_plain, cut_point, reading}
 
--- what is read of such a text: a size with so many places after the point
-abbrev pub IsPlain : List ℕ → ℕ → ℕ → Type 0
-IsPlain text size places = IsDecText text × (places ≤ 40) × (text_value text ≡ decimal_value (signed (begins_minus text) size) (neg_ℤ (pos places))) × (0 < length text) × IsUnmarked text
+-- what is read at the front of such a text: a sign and a size with so many places after the point, in so many bytes
+abbrev pub IsPlain : List ℕ → Bool → ℕ → ℕ → ℕ → Type 0
+IsPlain text s size places len =
+    (len ≤ length text) × (0 < len) × (len ≤ 40) × (places ≤ 18) × IsDecText (take len text) × (text_value (take len text) ≡ decimal_value (signed s size) (neg_ℤ (pos places))) × IsUnmarked (take len text)
 
 -- ---- bytes
 
@@ -44,55 +45,85 @@ sign_unmarked (b ∷ text) all = by (nat_eq b 43 || nat_eq b 45) refl all
     by true e h = (is_sign b e, h)
     by false e h = h
 
--- a text is no shorter than what follows its sign
-sign_some : (text : List ℕ) → 0 < length (after_sign text) → 0 < length text
-sign_some [] some = some
-sign_some (b ∷ text) some = omega arith
+-- ---- the front of a text
 
--- ---- texts
+-- what ends so many bytes after the sign: it has the same sign
+record Front (text : List ℕ) (n len : ℕ) : Type 0 where
+  within : len ≤ length text
+  some : 0 < len
+  few : len ≤ n + 1
+  sign : begins_minus (take len text) ≡ begins_minus text
+  rest : after_sign (take len text) ≡ take n (after_sign text)
+
+front_of : (text : List ℕ) (n len : ℕ) → 0 < n → n ≤ length (after_sign text) → len ≡ length text - length (after_sign text) + n → Front text n len
+front_of [] n len some within is = absurd (omega arith)
+front_of (b ∷ text) zero len some within is = absurd (omega arith)
+front_of (b ∷ text) (suc n) len some within is = by (nat_eq b 43 || nat_eq b 45) refl within is
+  where
+    by : (t : Bool) → (nat_eq b 43 || nat_eq b 45) ≡ t → suc n ≤ length (cond t text (b ∷ text)) → len ≡ suc (length text) - length (cond t text (b ∷ text)) + suc n → Front (b ∷ text) (suc n) len
+    by true e h l =
+        let whole : len ≡ suc (suc n) = omega arith in
+        record {
+          within = omega arith;
+          some = omega arith;
+          few = omega arith;
+          sign = ap (λ k. begins_minus (take k (b ∷ text))) whole;
+          rest = ap (λ k. after_sign (take k (b ∷ text))) whole ∙ ap (λ t. cond t (take (suc n) text) (b ∷ take (suc n) text)) e ∙ sym (ap (λ t. take (suc n) (cond t text (b ∷ text))) e);
+        }
+    by false e h l =
+        let whole : len ≡ suc n = omega arith in
+        record {
+          within = omega arith;
+          some = omega arith;
+          few = omega arith;
+          sign = ap (λ k. begins_minus (take k (b ∷ text))) whole;
+          rest = ap (λ k. after_sign (take k (b ∷ text))) whole ∙ ap (λ t. cond t (take n text) (b ∷ take n text)) e ∙ sym (ap (λ t. take (suc n) (cond t text (b ∷ text))) e);
+        }
 
 -- digits alone
-pub plain_digits : (text body : List ℕ) (n size : ℕ) → body ≡ after_sign text → n ≡ length body → n ≢ 0 → AllDigits 10 (take n body) → size ≡ digits_value_after 10 0 (take n body) → IsPlain text size 0
-plain_digits text body n size e l more d value =
-    let all : take n body ≡ body = take_all n body (omega arith) in
-    let digits : AllDigits 10 body = subst (λ xs. AllDigits 10 xs) all d in
-    let s = begins_minus text in
-    let number : digits_value 10 (body ++ []) ≡ size = ap (digits_value 10) (append-nil body ∙ sym all) ∙ sym value in
-    let r = reading text body [] [] s (signed s size) (pos 0) (cut_plain text body (sym e) digits) (λ i. s) digits tt (omega arith) tt
+pub plain_digits : (text body : List ℕ) (s : Bool) (n size len : ℕ) → body ≡ after_sign text → s ≡ begins_minus text → n ≢ 0 → n ≤ length body → n ≤ 18 → AllDigits 10 (take n body) → size ≡ digits_value_after 10 0 (take n body)
+    → len ≡ length text - length body + n → IsPlain text s size 0 len
+plain_digits text body s n size len e minus more within few d value is =
+    let f = front_of text n len (omega (arith, more)) (subst (λ xs. n ≤ length xs) e within) (is ∙ ap (λ xs. length text - length xs + n) e) in
+    let digits = take n body in
+    let rest : after_sign (take len text) ≡ digits = f.rest ∙ ap (take n) (sym e) in
+    let number : digits_value 10 (digits ++ []) ≡ size = ap (digits_value 10) (append-nil digits) ∙ sym value in
+    let long : length digits ≡ n = length-take-le n body within in
+    let r = reading (take len text) digits [] [] s (signed s size) (pos 0) (cut_plain (take len text) digits rest d) (f.sign ∙ sym minus) d tt (omega (arith, long, more)) tt
     (ap₂ (λ v x. decimal_value (signed s v) x) number (omega (arith, ints))) in
-    let some : 0 < length (after_sign text) = omega (arith, ap length e, l, more) in
-    (r.is, omega arith, r.value, sign_some text some, sign_unmarked text (subst IsUnmarked e (digits_unmarked body digits)))
+    (f.within, f.some, omega (arith, f.few, few), omega arith, r.is, r.value, sign_unmarked (take len text) (subst IsUnmarked (sym rest) (digits_unmarked digits d)))
+
+-- the digits before a point and those behind it
+cut_front : (body : List ℕ) (n k : ℕ) → n < length body → get_or body n 0 ≡ 46 → take (n + 1 + k) body ≡ take n body ++ 46 ∷ take k (drop (n + 1) body)
+cut_front body n k within point =
+    take-add (n + 1) k body ∙ ap (λ xs. xs ++ take k (drop (n + 1) body)) (take_more body n 0 within ∙ ap (λ b. take n body ++ b ∷ []) point)
+    ∙ append_assoc (take n body) (46 ∷ []) (take k (drop (n + 1) body))
 
 -- digits with a point behind the first n of them
-pub plain_point : (text body fraction : List ℕ) (n k front size : ℕ) → body ≡ after_sign text → n ≤ length body → n ≢ length body → n ≢ 0 → length body ≤ 40 → get_or body n 0 ≡ 46
-    → fraction ≡ take (length body - (n + 1)) (drop (n + 1) body) → k ≡ length fraction → AllDigits 10 (take n body) → front ≡ digits_value_after 10 0 (take n body)
-    → AllDigits 10 (take k fraction) → size ≡ digits_value_after 10 front (take k fraction) → IsPlain text size (length fraction)
-plain_point text body fraction n k front size e within more some short point f l d value df next =
+pub plain_point : (text body fraction : List ℕ) (s : Bool) (n k front size len : ℕ) → body ≡ after_sign text → s ≡ begins_minus text → n ≢ 0 → n < length body → get_or body n 0 ≡ 46 → fraction ≡ drop (n + 1) body → k ≤ length fraction
+    → n ≤ 18 → k ≤ 18 - n → AllDigits 10 (take n body) → front ≡ digits_value_after 10 0 (take n body) → AllDigits 10 (take k fraction) → size ≡ digits_value_after 10 front (take k fraction)
+    → len ≡ length text - length body + n + 1 + k → IsPlain text s size k len
+plain_point text body fraction s n k front size len e minus more within point behind fits few few_more d value df next is =
+    let room : k ≤ length body - (n + 1) = omega (arith, fits, ap length behind, length-drop (n + 1) body) in
+    let f = front_of text (n + 1 + k) len (omega arith) (subst (λ xs. n + 1 + k ≤ length xs) e (omega (arith, room, within))) (is ∙ ap (λ xs. length text - length xs + n + 1 + k) e ∙ omega arith) in
     let whole = take n body in
-    let rest : fraction ≡ drop (n + 1) body = f ∙ take_all (length body - (n + 1)) (drop (n + 1) body) (omega (arith, length-drop (n + 1) body)) in
-    let parts : body ≡ whole ++ 46 ∷ fraction =
-    sym (take-append-drop n body) ∙ ap (λ xs. whole ++ xs) (drop_more body n 0 (omega arith)) ∙ ap₂ (λ x xs. whole ++ x ∷ xs) point (sym rest) in
-    let all : take k fraction ≡ fraction = take_all k fraction (omega arith) in
-    let digits : AllDigits 10 fraction = subst (λ xs. AllDigits 10 xs) all df in
-    let s = begins_minus text in
-    let number : digits_value 10 (whole ++ fraction) ≡ size = after-append 0 whole fraction ∙ ap₂ (λ v xs. digits_value_after 10 v xs) (sym value) (sym all) ∙ sym next in
-    let long : length whole ≡ n = length-take-le n body within in
-    let r = reading text whole fraction [] s (signed s size) (neg_ℤ (pos (length fraction))) (cut_point text whole fraction (sym e ∙ parts) d digits) (λ i. s) d digits (omega (arith, long)) tt
-    (ap₂ (λ v x. decimal_value (signed s v) x) number (omega (arith, ints))) in
-    let bytes : IsUnmarked body = subst IsUnmarked (sym parts) (point_unmarked whole fraction d digits) in
-    let front : 0 < length (after_sign text) = omega (arith, ap length e, within, some) in
-    (r.is, omega (arith, ap length rest, length-drop (n + 1) body), r.value, sign_some text front, sign_unmarked text (subst IsUnmarked e bytes))
+    let places = take k fraction in
+    let rest : after_sign (take len text) ≡ whole ++ 46 ∷ places = f.rest ∙ ap (take (n + 1 + k)) (sym e) ∙ cut_front body n k within point ∙ ap (λ xs. whole ++ 46 ∷ take k xs) (sym behind) in
+    let long : length whole ≡ n = length-take-le n body (omega (arith, within)) in
+    let deep : length places ≡ k = length-take-le k fraction fits in
+    let number : digits_value 10 (whole ++ places) ≡ size = after-append 0 whole places ∙ ap (λ v. digits_value_after 10 v places) (sym value) ∙ sym next in
+    let r = reading (take len text) whole places [] s (signed s size) (neg_ℤ (pos k)) (cut_point (take len text) whole places rest d df) (f.sign ∙ sym minus) d df (omega (arith, long, more)) tt
+    (ap₂ (λ v x. decimal_value (signed s v) x) number (omega (arith, ints, deep))) in
+    (f.within, f.some, omega (arith, f.few, few, few_more), omega (arith, few_more), r.is, r.value, sign_unmarked (take len text) (subst IsUnmarked (sym rest) (point_unmarked whole places d df)))
 
 -- ---- words
 
 -- the Dec of what is read is that of the word
-pub plain_some : (r : Option Dec) (word : List ℕ) (size places : ℕ) → IsPlain word size places → IsDecOf r (decimal_value (signed (begins_minus word) size) (neg_ℤ (pos places)))
-    → IfSome r (λ d. (dec_of word ≡ Some d) × (0 < length word) × IsUnmarked word)
-plain_some None word size places h is = tt
-plain_some (Some d) word size places h is = (dec_of-some word d h.0 (is ∙ sym h.2), h.3, h.4)
+pub plain_dec : (text : List ℕ) (s : Bool) (size places len : ℕ) (d : Dec) → IsPlain text s size places len → dec_value d ≡ decimal_value (signed s size) (neg_ℤ (pos places)) → dec_of (take len text) ≡ Some d
+plain_dec text s size places len d h is = dec_of-some (take len text) d h.4 (is ∙ sym h.5)
 
-pub index_is : (text : List ℕ) (n size : ℕ) → n ≤ length text → n ≢ 0 → AllDigits 10 (take n text) → size ≡ digits_value 10 (take n text) → size < 2 ^ 31
-    → (n ≤ length text) × (0 < n) × (whole_of (take n text) ≡ Some size) × IsUnmarked (take n text)
-index_is text n size within more d value small =
+pub index_is : (text : List ℕ) (n size : ℕ) → n ≤ length text → n ≤ 18 → n ≢ 0 → AllDigits 10 (take n text) → size ≡ digits_value 10 (take n text) → size < 2 ^ 31
+    → (n ≤ length text) × (0 < n) × (whole_of (take n text) ≡ Some size) × IsUnmarked (take n text) × (n ≤ 18)
+index_is text n size within few more d value small =
     let some : 0 < length (take n text) = omega (arith, length-take-le n text within, more) in
-    (within, omega (arith, more), whole_of-some (take n text) size (some, d) value small, digits_unmarked (take n text) d)
+    (within, omega (arith, more), whole_of-some (take n text) size (some, d) value small, digits_unmarked (take n text) d, few)

@@ -1,15 +1,20 @@
 -- Zero and negative numbers, by their parts.
-use Rattle.std.proofs.Common.{◌≡◌, ℕ, ◌^◌, ◌↔◌, ◌∙◌, sym, ap, subst, ℤ, pos, ◌*ℤ◌, ◌<ℤ◌}
+use Rattle.std.proofs.Common.{◌≡◌, ℕ, ◌^◌, ◌↔◌, ◌∙◌, sym, ap, subst, Bool, true, false, ℤ, pos, neg_ℤ, ◌*ℤ◌, ◌<ℤ◌}
 use Rattle.std.proofs.Math.IntN.{zero-*ℤ, *ℤ-one}
 use borrow.Author.Differences.{up, down}
 use Rattle.fractions.specs.Rational.{ℚ, whole, zero_ℚ, ◌<ℚ◌, decimal_value}
 use Rattle.fractions.proofs.Signed.{times_lt, times_lt_cancel, times_cancel}
 use Rattle.fractions.proofs.Values.{HasValue, own_value, whole_value, same_value, equal_tops, lt_value, value_lt}
 use Rattle.fractions.proofs.Arithmetic.{zero_value}
+use Rattle.exact_numbers.specs.Decimal.{signed}
 use Rattle.exact_numbers.specs.Values.{frac_value}
 use Rattle.exact_numbers.specs.declared.frac.Frac.{Frac}
 use Rattle.exact_numbers.proofs.Tens.{ten-pos}
 use Rattle.exact_numbers.proofs.Bridge.{decimal_is, zero_decimal}
+
+pub signed_zero : (s : Bool) (n : ℕ) (e : ℤ) → n ≡ 0 → decimal_value (signed s n) e ≡ zero_ℚ
+signed_zero true n e h = ap (λ k. decimal_value (neg_ℤ (pos k)) e) h ∙ zero_decimal e
+signed_zero false n e h = ap (λ k. decimal_value (pos k) e) h ∙ zero_decimal e
 
 -- a value is below 0 where its numerator is
 below_link : (x : ℚ) (p : ℤ) (q : ℕ) → HasValue x p q → (p <ℤ pos 0) ↔ (x <ℚ zero_ℚ)

@@ -1,6 +1,6 @@
 -- Numbers times powers of ten.
 use Rattle.std.proofs.Common.{◌≡◌, ◌≢◌, ℕ, suc, ◌+◌, ◌-◌, ◌*◌, ◌/◌, ◌%◌, ◌^◌, ◌<◌, ◌≤◌, ◌∙◌, sym, ap, add-one, arith, ⊎_elim, pow-add, pow-suc, mul_assoc, mul_comm, le_antisymm, le-mul_of_pos_right, lit<}
-use Rattle.std.proofs.Math.Nat.{one-le-pow, pow-le-pow_right, eq_of_mul-eq-mul_right, mul-mod_left, div-add-mod'}
+use Rattle.std.proofs.Math.Nat.{one-le-pow, pow-le-pow_right, eq_of_mul-eq-mul_right, mul-le-mul_right, mul-mod_left, div-add-mod'}
 use Rattle.std.proofs.lemmas.Bool.{cases_lt}
 
 pub ten-pos : (k : ℕ) → 0 < 10 ^ k
@@ -39,3 +39,17 @@ few_zeros n r z k p e small = ⊎_elim (λ l. l) (λ g. absurd (tall g)) (cases_
         let up : 10 ^ k ≤ 10 ^ z = pow-le-pow_right (lit< tt) g in
         let wide : 10 ^ z ≤ 10 ^ z * r = le-mul_of_pos_right (10 ^ z) p in
         omega (arith, mul_comm r (10 ^ z))
+
+-- where a number has room for the digits from place i on, it has room for one, and then for those that follow
+one_less : (i most : ℕ) → i < most → 10 ^ (most - i) ≡ 10 ^ (most - (i + 1)) * 10
+one_less i most more = ap (λ k. 10 ^ k) (omega (arith, more)) ∙ pow-suc 10 (most - (i + 1))
+
+pub room_for_one : (n i most limit : ℕ) → i < most → (n + 1) * 10 ^ (most - i) ≤ limit → (n + 1) * 10 ≤ limit
+room_for_one n i most limit more room =
+    let wide : (n + 1) * 10 ≤ (n + 1) * 10 * 10 ^ (most - (i + 1)) = le-mul_of_pos_right ((n + 1) * 10) (ten-pos (most - (i + 1))) in
+    omega (arith, ap (λ p. (n + 1) * p) (one_less i most more))
+
+pub room_left : (n d i most limit : ℕ) → d < 10 → i < most → (n + 1) * 10 ^ (most - i) ≤ limit → (n * 10 + d + 1) * 10 ^ (most - (i + 1)) ≤ limit
+room_left n d i most limit digit more room =
+    let up : (n * 10 + d + 1) * 10 ^ (most - (i + 1)) ≤ (n + 1) * 10 * 10 ^ (most - (i + 1)) = mul-le-mul_right (10 ^ (most - (i + 1))) (omega arith) in
+    omega (arith, ap (λ p. (n + 1) * p) (one_less i most more))

@@ -21,5 +21,8 @@ pub use dec::Dec;
 pub use frac::Frac;
 pub use mantissa::MAXN;
 pub use num_text::NumText;
-pub use numbers::{PlainIndex, are_digits, dec_of, plain_dec, plain_index, signed_of, whole_of};
+pub use numbers::{
+    FrontDec, PlainIndex, are_digits, dec_of, front_dec, plain_dec, plain_index, signed_of,
+    whole_of,
+};
 pub use read::{NumFault, read_dec, read_whole};

@@ -1,4 +1,4 @@
-ghost use Rattle.std.specs.Prelude.{◌≡◌, ◌≢◌, ℕ, ◌+◌, ◌*◌, ◌%◌, ◌<◌, ◌≤◌, ◌^◌, MatchOption, SomeIff, unsigned_abs, neg_ℤ, IsTrue, ◌↔◌, ◌*ℤ◌};
+ghost use Rattle.std.specs.Prelude.{◌≡◌, ◌≢◌, ℕ, ◌+◌, ◌*◌, ◌%◌, ◌<◌, ◌≤◌, ◌^◌, MatchOption, SomeIff, unsigned_abs, neg_ℤ, pos, IsTrue, ◌↔◌, ◌*ℤ◌};
 ghost use Rattle.fractions.specs.Rational.{whole, zero_ℚ, ◌*ℚ◌, ◌<ℚ◌, neg_ℚ, decimal_value, IsWhole};
 ghost use Rattle.exact_numbers.specs.Decimal.{signed};
 ghost use Rattle.exact_numbers.specs.Values.{dec_value, exponent_of, mantissa_of, IsDecOf, IsInReach};
@@ -92,11 +92,24 @@ impl Dec {
     pub fn of_whole(n: i64) -> Dec
         ensures { dec_value result ≡ whole n }
     {
-        if n == 0 {
+        Dec::of_few(n < 0, n.unsigned_abs(), 0)
+    }
+
+    // The Dec of a size of 64 bits, with so many places after the point and a sign.
+    #[inline]
+    pub(crate) fn of_few(negative: bool, size: u64, places: u32) -> Dec
+        requires { places ≤ 40 }
+        ensures { dec_value result
+            ≡ decimal_value (signed negative size) (neg_ℤ (pos places)) }
+    {
+        if size == 0 {
             return Dec::zero();
         }
-        let stripped = strip_zeros(n.unsigned_abs() as u128);
-        Dec::of_parts(with_sign(n < 0, stripped.rest), stripped.zeros as i16)
+        let stripped = strip_few(size);
+        Dec::of_parts(
+            with_sign(negative, stripped.rest),
+            stripped.zeros as i16 - places as i16,
+        )
     }
 
     /// Whether this is 0.

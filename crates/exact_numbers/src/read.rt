@@ -22,6 +22,7 @@ pub enum NumFault {
 // Exponents are read up to this size, and larger ones as if they were it.
 const CAP: u128 = 0x1_0000_0000_0000_0000_0000;
 
+#[inline]
 fn has_minus(text: &[u8]) -> bool
     ensures { result ≡ begins_minus text.now }
 {
@@ -31,6 +32,7 @@ fn has_minus(text: &[u8]) -> bool
     }
 }
 
+#[inline]
 fn without_sign(text: &[u8]) -> &[u8]
     ensures { result.now ≡ after_sign text.now }
 {
@@ -204,11 +206,8 @@ fn dec_of_digits(negative: bool, whole: &[u8], fraction: &[u8], exponent: i128) 
     Dec::new(with_sign(negative, size), place as i32)
 }
 
-// A number is summed in 64 bits while it is below this, so that it has at most 18 digits.
-const ROOM: u64 = 100_000_000_000_000_000;
-
-// The common form is no longer than this.
-const COMMON: usize = 40;
+// So many digits fit in 64 bits.
+pub(crate) const MOST_DIGITS: usize = 18;
 
 // The digits that a text begins with, as many as there is room for.
 #[derive(Clone, Copy)]
@@ -217,17 +216,20 @@ pub(crate) struct Front {
     pub(crate) len: usize,
 }
 
-// Sums the digits that a text begins with onto a number.
-pub(crate) fn sum_front(text: &[u8], start: u64) -> Front
-    requires { start < 10 ^ 18 }
+// Sums the digits that a text begins with onto a number, at most so many.
+#[inline]
+pub(crate) fn sum_front(text: &[u8], start: u64, most: usize) -> Front
+    requires { (start + 1) * 10 ^ most ≤ 10 ^ 18 }
     ensures within { result.len ≤ length text.now }
-    ensures small { result.number < 10 ^ 18 }
+    ensures few { result.len ≤ most }
+    ensures small { (result.number + 1) * 10 ^ (most - result.len) ≤ 10 ^ 18 }
     ensures digits { AllDigits 10 (take result.len text.now) }
     ensures number { result.number ≡ digits_value_after 10 start (take result.len text.now) }
 {
+    let end = text.len().min(most);
     let mut number = start;
     let mut len = 0;
-    'digits: while len < text.len() && number < ROOM {
+    'digits: while len < end {
         let byte = text[len];
         if !byte.is_ascii_digit() {
             return Front { number, len };
@@ -238,41 +240,46 @@ pub(crate) fn sum_front(text: &[u8], start: u64) -> Front
     Front { number, len }
 }
 
-// A size with this many places after the point.
+// A size with this many places after the point, and how many bytes say so.
 #[derive(Clone, Copy)]
 pub(crate) struct Plain {
-    size: u64,
-    places: u32,
+    pub(crate) negative: bool,
+    pub(crate) size: u64,
+    pub(crate) places: u32,
+    pub(crate) len: usize,
 }
 
-// A number of the common form: digits with one point among them or none. Each byte is read once.
-pub(crate) fn read_plain(text: &[u8]) -> Option<Plain>
-    ensures { IfSome result (λ p. IsDecText text.now × (p.places ≤ 40) × (text_value text.now
-        ≡ decimal_value (signed (begins_minus text.now) p.size) (neg_ℤ (pos p.places)))
-        × (0 < length text.now) × IsUnmarked text.now) }
+// A number of the common form that a text begins with: digits with one point among them or none.
+// Each byte is read once.
+#[inline]
+pub(crate) fn front_plain(text: &[u8]) -> Option<Plain>
+    ensures { IfSome result (λ p. (p.len ≤ length text.now) × (0 < p.len) × (p.len ≤ 40)
+        × (p.places ≤ 18) × IsDecText (take p.len text.now) × (text_value (take p.len text.now)
+        ≡ decimal_value (signed p.negative p.size) (neg_ℤ (pos p.places)))
+        × IsUnmarked (take p.len text.now)) }
 {
     let body = without_sign(text);
-    let whole = sum_front(body, 0);
-    if whole.len == 0 || body.len() > COMMON {
+    let sign = text.len() - body.len();
+    let negative = has_minus(text);
+    let whole = sum_front(body, 0, MOST_DIGITS);
+    if whole.len == 0 {
         return None;
     }
-    if whole.len == body.len() {
+    if whole.len >= body.len() || body[whole.len] != b'.' {
         return Some(Plain {
+            negative,
             size: whole.number,
             places: 0,
+            len: sign + whole.len,
         });
     }
-    if body[whole.len] != b'.' {
-        return None;
-    }
-    let fraction = &body[whole.len + 1..];
-    let front = sum_front(fraction, whole.number);
-    if front.len != fraction.len() {
-        return None;
-    }
+    let fraction = body.split_at(whole.len + 1).1;
+    let front = sum_front(fraction, whole.number, MOST_DIGITS - whole.len);
     Some(Plain {
+        negative,
         size: front.number,
-        places: fraction.len() as u32,
+        places: front.len as u32,
+        len: sign + whole.len + 1 + front.len,
     })
 }
 
@@ -281,25 +288,13 @@ pub fn read_dec(text: &[u8]) -> Result<Dec, NumFault>
     ensures { MatchResult result (λ d. IsDecText text.now × (dec_value d ≡ text_value text.now))
         (λ f. DecFault f text.now) }
 {
-    let Some(plain) = read_plain(text) else {
+    let Some(plain) = front_plain(text) else {
         return read_any(text);
     };
-    let Some(number) = dec_of_plain(text, plain) else {
-        return Err(NumFault::TooWide);
-    };
-    Ok(number)
-}
-
-// The Dec of a size with places after the point and the sign of its text.
-pub(crate) fn dec_of_plain(text: &[u8], plain: Plain) -> Option<Dec>
-    requires { plain.places ≤ 40 }
-    ensures { IsDecOf result (decimal_value (signed (begins_minus text.now) plain.size)
-        (neg_ℤ (pos plain.places))) }
-{
-    Dec::new(
-        with_sign(has_minus(text), plain.size as u128),
-        -(plain.places as i32),
-    )
+    if plain.len < text.len() {
+        return read_any(text);
+    }
+    Ok(Dec::of_few(plain.negative, plain.size, plain.places))
 }
 
 // A number of any form.
@@ -334,7 +329,7 @@ pub fn read_whole(text: &[u8]) -> Result<u32, NumFault>
         (λ n. IsWholeText text.now × (n ≡ digits_value 10 text.now) × (n < 2 ^ 31))
         (λ f. WholeFault f text.now) }
 {
-    let front = sum_front(text, 0);
+    let front = sum_front(text, 0, MOST_DIGITS);
     if front.len == 0 || front.len < text.len() {
         return read_any_whole(text);
     }

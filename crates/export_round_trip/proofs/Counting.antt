@@ -1,11 +1,11 @@
 -- How many entries the program of a file has: at most as many as its linear program has coefficients, with some more.
-use Rattle.std.proofs.Common.{◌≡◌, ◌∙◌, ℕ, zero, suc, ◌+◌, ◌<◌, ◌≤◌, Bool, true, false, cond, if◌then◌else◌, nat_lt, List, [], ◌∷◌, ◌++◌, length, Option, Some, None, ℤ, pos, negsuc, refl, sym, ap, ap₂, arith}
+use Rattle.std.proofs.Common.{◌≡◌, ◌∙◌, ℕ, zero, suc, ◌+◌, ◌<◌, ◌≤◌, Bool, true, false, cond, if◌then◌else◌, nat_lt, List, [], ◌∷◌, ◌++◌, length, Option, Some, None, pos, refl, sym, ap, ap₂, arith}
 use Rattle.std.proofs.lemmas.Bool.{ltb-false}
 use Rattle.std.proofs.lemmas.List.Sums.{sum_by-cons}
-use Rattle.fractions.specs.Rational.{ℚ, zero_ℚ, whole, ◌*ℚ◌, unless_zero}
-use Rattle.fractions.specs.Functions.{is_zero, is_pos_zero}
-use Rattle.fractions.proofs.Arithmetic.{*ℚ_zero, zero_top}
-use Rattle.fractions.proofs.Tests.{option_or-none}
+use Rattle.fractions.specs.Rational.{ℚ, zero_ℚ, whole, ◌*ℚ◌}
+use Rattle.fractions.specs.Functions.{is_zero}
+use Rattle.fractions.proofs.Arithmetic.{*ℚ_zero}
+use Rattle.fractions.proofs.Tests.{is_zero-true, option_or-none}
 use Rattle.linear_programs.specs.Linear.{Form, Row, Variable}
 use Rattle.mps_model.specs.Mps.{Entry, Column}
 use Rattle.mps_model.specs.Valid.{entry_count}
@@ -42,10 +42,6 @@ range_last c j zero = let here : c (j + 0) ≡ c j = ap c (omega arith) in omega
 range_last c j (suc n) =
     let step : c (suc j + n) ≡ c (j + suc n) = ap c (omega arith) in
     omega (arith, range_last c (suc j) n, step)
-
-pub range_less : (c d : ℕ → ℕ) (j n : ℕ) → ((i : ℕ) → c i ≤ d i) → range_sum c j n ≤ range_sum d j n
-range_less c d j zero h = omega arith
-range_less c d j (suc n) h = omega (arith, h j, range_less c d (suc j) n h)
 
 pub range_ones : (c : ℕ → ℕ) (j n : ℕ) → ((i : ℕ) → c i ≤ 1) → range_sum c j n ≤ n
 range_ones c j zero h = omega arith
@@ -108,35 +104,17 @@ in_columns objective rows j (suc n) (v ∷ vs) e =
 abbrev pub none_zero : ℚ → ℕ
 none_zero x = if is_zero x then 0 else 1
 
-counted_none : (x : ℚ) → is_there (nonzero x) ≡ none_zero x
-counted_none x = elim x.top as (λ t. is_there (unless_zero t x) ≡ (if is_pos_zero t then 0 else 1)) [
-  | pos n ↦ by n
-  | negsuc n ↦ refl
-]
-  where
-    by : (n : ℕ) → is_there (unless_zero (pos n) x) ≡ (if is_pos_zero (pos n) then 0 else 1)
-    by zero = refl
-    by (suc n) = refl
-
-zero_is : (x : ℚ) → is_zero x ≡ true → x ≡ zero_ℚ
-zero_is x e = zero_top x (by x.top e)
-  where
-    by : (t : ℤ) → is_pos_zero t ≡ true → t ≡ pos 0
-    by (pos zero) h = refl
-    by (pos (suc n)) h = absurd cc
-    by (negsuc n) h = absurd cc
-
 no_zero : is_there (nonzero zero_ℚ) ≡ 0
 unfolding whole
 no_zero = refl
 
--- a multiple of 0 is 0
-scaled_less : (k x : ℚ) → is_there (nonzero (k *ℚ x)) ≤ none_zero x
-scaled_less k x = by (is_zero x) refl
+-- y is 0 where x is
+less : (x y : ℚ) → (x ≡ zero_ℚ → y ≡ zero_ℚ) → is_there (nonzero y) ≤ none_zero x
+less x y h = by (is_zero x) refl
   where
-    by : (b : Bool) → is_zero x ≡ b → is_there (nonzero (k *ℚ x)) ≤ (if b then 0 else 1)
-    by true e = let none : is_there (nonzero (k *ℚ x)) ≡ 0 = ap (λ (y : ℚ). is_there (nonzero y)) (ap (λ (z : ℚ). k *ℚ z) (zero_is x e) ∙ *ℚ_zero k) ∙ no_zero in omega (arith, none)
-    by false e = there_or_not (nonzero (k *ℚ x))
+    by : (b : Bool) → is_zero x ≡ b → is_there (nonzero y) ≤ (if b then 0 else 1)
+    by true e = let none : is_there (nonzero y) ≡ 0 = ap (λ (z : ℚ). is_there (nonzero z)) (h (is_zero-true x e)) ∙ no_zero in omega (arith, none)
+    by false e = there_or_not (nonzero y)
 
 -- the count of a line's coefficients, from the front
 pub line_count : (l : Line) (n : ℕ) → range_sum (λ j. none_zero (l.coef j)) 0 n ≡ coefficient_count n l
@@ -149,45 +127,36 @@ line_count l (suc n) =
 abbrev pub form_count : ℕ → Form → ℕ
 form_count n f = range_sum (λ j. none_zero (f.coefficient j)) 0 n
 
-pub plain_form : (f : Form) (n : ℕ) → range_sum (counted f.coefficient) 0 n ≤ form_count n f
-plain_form f n = range_less (counted f.coefficient) (λ j. none_zero (f.coefficient j)) 0 n (λ j. omega (arith, counted_none (f.coefficient j)))
-
-pub scaled_form : (k : ℕ) (c : ℕ → ℚ) (f : Form) (n : ℕ) → ((j : ℕ) → j < n → c j ≡ whole (pos k) *ℚ f.coefficient j) → range_sum (counted c) 0 n ≤ form_count n f
-scaled_form k c f n h = from 0 n (λ j le lt. h j (omega (arith, lt)))
+-- coefficients that are 0 where those of the form are
+pub form_less : (c : ℕ → ℚ) (f : Form) (n : ℕ) → ((j : ℕ) → j < n → f.coefficient j ≡ zero_ℚ → c j ≡ zero_ℚ) → range_sum (counted c) 0 n ≤ form_count n f
+form_less c f n h = from 0 n (λ j lt. h j (omega (arith, lt)))
   where
-    from : (j m : ℕ) → ((i : ℕ) → j ≤ i → i < j + m → c i ≡ whole (pos k) *ℚ f.coefficient i) → range_sum (counted c) j m ≤ range_sum (λ i. none_zero (f.coefficient i)) j m
+    from : (j m : ℕ) → ((i : ℕ) → i < j + m → f.coefficient i ≡ zero_ℚ → c i ≡ zero_ℚ) → range_sum (counted c) j m ≤ range_sum (λ i. none_zero (f.coefficient i)) j m
     from j zero g = omega arith
-    from j (suc m) g =
-        let same : counted c j ≡ is_there (nonzero (whole (pos k) *ℚ f.coefficient j)) = ap (λ (x : ℚ). is_there (nonzero x)) (g j (omega arith) (omega arith)) in
-        omega (arith, same, scaled_less (whole (pos k)) (f.coefficient j), from (suc j) m (λ i le lt. g i (omega (arith, le)) (omega (arith, lt))))
+    from j (suc m) g = omega (arith, less (f.coefficient j) (c j) (g j (omega arith)), from (suc j) m (λ i lt. g i (omega (arith, lt))))
 
 -- of exported rows
-pub exported_count : (factor : ℕ → ℕ) (n i : ℕ) (rows : List Row) → sums (λ r. range_sum (counted r.coefficient) 0 n) (exported_rows factor i rows) ≤ sums (λ r. form_count n r.body) rows
+exported_sums : (size : ScaledRow → ℕ) (own : Row → ℕ) → ((k : ℕ) (r : Row) → size (scaled_row k r) ≤ own r) → (factor : ℕ → ℕ) (i : ℕ) (rows : List Row) → sums size (exported_rows factor i rows) ≤ sums own rows
 unfolding exported_rows
-exported_count factor n i [] = omega arith
-exported_count factor n i (r ∷ rows) = by (has_side r.side.lower r.side.upper) (exported_count factor n (suc i) rows)
+exported_sums size own less factor i [] = omega arith
+exported_sums size own less factor i (r ∷ rows) = by (has_side r.side.lower r.side.upper) (exported_sums size own less factor (suc i) rows)
   where
     rest : List ScaledRow
     rest = exported_rows factor (suc i) rows
 
-    size : ScaledRow → ℕ
-    size s = range_sum (counted s.coefficient) 0 n
-
-    by : (there : Bool) → sums size rest ≤ sums (λ r. form_count n r.body) rows → sums size (cond there (scaled_row (factor i) r ∷ rest) rest) ≤ form_count n r.body + sums (λ r. form_count n r.body) rows
-    by true h = omega (arith, h, scaled_form (factor i) (scaled_row (factor i) r).coefficient r.body n (λ j lt. refl))
+    by : (there : Bool) → sums size rest ≤ sums own rows → sums size (cond there (scaled_row (factor i) r ∷ rest) rest) ≤ own r + sums own rows
+    by true h = omega (arith, h, less (factor i) r)
     by false h = omega (arith, h)
+
+pub exported_count : (factor : ℕ → ℕ) (n i : ℕ) (rows : List Row) → sums (λ r. range_sum (counted r.coefficient) 0 n) (exported_rows factor i rows) ≤ sums (λ r. form_count n r.body) rows
+exported_count factor n i rows = exported_sums (λ r. range_sum (counted r.coefficient) 0 n) (λ r. form_count n r.body) (λ k r. form_less (scaled_row k r).coefficient r.body n (λ j lt none. ap (λ (x : ℚ). whole (pos k) *ℚ x) none ∙ *ℚ_zero (whole (pos k)))) factor i rows
+
+sums_ones : {A : Type 0} (xs : List A) → sums (λ x. 1) xs ≡ length xs
+sums_ones [] = refl
+sums_ones (x ∷ xs) = omega (arith, sums_ones xs)
 
 pub exported_rows_count : (factor : ℕ → ℕ) (i : ℕ) (rows : List Row) → length (exported_rows factor i rows) ≤ length rows
-unfolding exported_rows
-exported_rows_count factor i [] = omega arith
-exported_rows_count factor i (r ∷ rows) = by (has_side r.side.lower r.side.upper) (exported_rows_count factor (suc i) rows)
-  where
-    rest : List ScaledRow
-    rest = exported_rows factor (suc i) rows
-
-    by : (there : Bool) → length rest ≤ length rows → length (cond there (scaled_row (factor i) r ∷ rest) rest) ≤ suc (length rows)
-    by true h = omega (arith, h)
-    by false h = omega (arith, h)
+exported_rows_count factor i rows = omega (arith, exported_sums (λ r. 1) (λ r. 1) (λ k r. omega arith) factor i rows, sums_ones (exported_rows factor i rows), sums_ones rows)
 
 -- ---- a file that folds
 

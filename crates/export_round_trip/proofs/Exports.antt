@@ -1,10 +1,10 @@
 -- The program that a file is exported as is a whole decimal program.
-use Rattle.std.proofs.Common.{◌≡◌, ◌≢◌, ◌∙◌, ⊎_elim, ℕ, zero, suc, ◌+◌, ◌<◌, ◌≤◌, ◌^◌, Bool, true, false, cond, nat_eq, List, [], ◌∷◌, ◌++◌, length, get_or, Option, Some, None, ℤ, pos, negsuc, IsTrue, refl, sym, ap, subst, arith}
+use Rattle.std.proofs.Common.{◌≡◌, ◌≢◌, ◌∙◌, ⊎_elim, ℕ, zero, suc, ◌<◌, ◌≤◌, ◌^◌, Bool, true, false, cond, nat_eq, List, [], ◌∷◌, ◌++◌, get_or, Option, Some, None, ℤ, pos, negsuc, IsTrue, refl, sym, ap, subst, arith}
 use Rattle.std.specs.Prelude.{All, IfSome, option_map}
 use Rattle.std.proofs.Math.ListN.{get_or-append}
 use Rattle.std.proofs.lemmas.Bool.{cases_lt, eq-eqb}
 use Rattle.std.proofs.lemmas.List.{length-append}
-use Rattle.std.proofs.lemmas.List.Elements.{All-nil, All-cons, All-head, All-tail}
+use Rattle.std.proofs.lemmas.List.Elements.{All-head, All-tail}
 use Rattle.fractions.specs.Rational.{ℚ, zero_ℚ, one_ℚ, whole, neg_ℚ, ◌-ℚ◌, ◌*ℚ◌, unless_zero}
 use Rattle.fractions.proofs.Arithmetic.{*ℚ_zero, *ℚ_one, *ℚ-neg, +ℚ-neg, -ℚ_lem}
 use Rattle.fractions.proofs.Ring.{ring, v, num, ◌⊖◌, ◌⊗◌, opp}
@@ -14,7 +14,7 @@ use Rattle.linear_programs.specs.Linear.{Form, Interval, Row, Variable, no_row}
 use Rattle.mps_model.specs.declared.kinds.RowKind.TheVariants.{N}
 use Rattle.exported_program.specs.Export.{IfBoth, IfSide, RangeFits, RowFits, ScaledFits, SideFits}
 use Rattle.exported_program.specs.Factor.{coefficients_below, objective_numbers}
-use Rattle.exported_program.specs.Program.{ScaledRow, exported_rows, has_side, kind_of, nonzero, range_of, rhs_of, scaled_row, scaled_side, tie, two_sided, z_form, z_variable}
+use Rattle.exported_program.specs.Program.{exported_rows, has_side, kind_of_row, nonzero, range_of, rhs_of, scaled_row, scaled_side, tie, two_sided, z_form, z_variable}
 use Rattle.exported_program.specs.Return.{is_exported}
 use Rattle.linear_program.specs.declared.interval.Interval.{Interval as Sides}
 use Rattle.nl_model.specs.File.{File}
@@ -23,8 +23,8 @@ use Rattle.file_meaning.specs.LinearFile.{linear_variable}
 use Rattle.linear_program.specs.Intervals.{interval_of, no_sides}
 use Rattle.linear_programs.proofs.Elements.{all_elements}
 use Rattle.export_round_trip.proofs.Fitting.{dec_fits, neg_fits, one_fits, whole_fits, zero_fits}
-use Rattle.export_round_trip.proofs.ProgramParts.{HasDecimalBounds}
-use Rattle.export_round_trip.proofs.Whole.{IfFits}
+use Rattle.export_round_trip.proofs.ProgramParts.{HasDecimalBounds, exported_all}
+use Rattle.export_round_trip.proofs.Whole.{IfFits, IsWritten}
 
 -- ---- numbers
 
@@ -58,13 +58,6 @@ below_fits P c (suc n) h j l =
 
 -- ---- rows
 
--- a row that is exported, of which the first m coefficients count
-pub record IsWritten (m : ℕ) (r : ScaledRow) : Type 0 where
-  pub coefficients : (j : ℕ) → j < m → IfFits (nonzero (r.coefficient j))
-  pub right : IfFits (nonzero (rhs_of r.side.lower r.side.upper))
-  pub range : IfFits (range_of r.side.lower r.side.upper)
-  pub sided : kind_of r.side.lower r.side.upper ≢ N
-
 scaled_fits : (k : ℕ) (constant : ℚ) (o : Option ℚ) → IfSide (SideFits k constant) o → IfSide FitsDec (scaled_side (whole (pos k)) constant o)
 scaled_fits k constant None h = tt
 scaled_fits k constant (Some s) h = h.scaled.dec
@@ -88,15 +81,15 @@ both_fit (Some l) (Some u) h = by (nonzero (u -ℚ l)) h
     by None g = tt
     by (Some r) g = g.dec
 
-sides_kept : (k constant : ℚ) (l u : Option ℚ) → IsTrue (has_side l u) → kind_of (scaled_side k constant l) (scaled_side k constant u) ≢ N
+two_not_none : (o : Option ℚ) → two_sided o ≢ N
+two_not_none None same = absurd cc
+two_not_none (Some r) same = absurd cc
+
+sides_kept : (k constant : ℚ) (l u : Option ℚ) → IsTrue (has_side l u) → kind_of_row (scaled_side k constant l) (scaled_side k constant u) ≢ N
 sides_kept k constant None None h e = absurd cc
 sides_kept k constant None (Some u) h e = absurd cc
 sides_kept k constant (Some l) None h e = absurd cc
-sides_kept k constant (Some l) (Some u) h e = by (nonzero ((k *ℚ (u -ℚ constant)) -ℚ (k *ℚ (l -ℚ constant)))) e
-  where
-    by : (o : Option ℚ) → two_sided o ≢ N
-    by None same = absurd cc
-    by (Some r) same = absurd cc
+sides_kept k constant (Some l) (Some u) h e = two_not_none (nonzero ((k *ℚ (u -ℚ constant)) -ℚ (k *ℚ (l -ℚ constant)))) e
 
 -- a row of a file with its factor
 row_written : (n m k : ℕ) (r : Row) → ((j : ℕ) → n ≤ j → r.body.coefficient j ≡ zero_ℚ) → IsTrue (is_exported r) → RowFits n r k → IsWritten m (scaled_row k r)
@@ -116,23 +109,11 @@ row_written n m k r past exported fits =
       sided = sides_kept q r.body.constant r.side.lower r.side.upper exported;
     }
 
--- the rows of a file, of which the first is row i
-pub rows_written : (n m i : ℕ) (factor : ℕ → ℕ) (rs : List Row) → All (λ r. (j : ℕ) → n ≤ j → r.body.coefficient j ≡ zero_ℚ) rs
-    → ((j : ℕ) → j < length rs → IsTrue (is_exported (get_or rs j no_row)) → RowFits n (get_or rs j no_row) (factor (i + j))) → All (IsWritten m) (exported_rows factor i rs)
-unfolding exported_rows
-rows_written n m i factor [] past fits = All-nil (IsWritten m)
-rows_written n m i factor (r ∷ rs) past fits = by (has_side r.side.lower r.side.upper) refl
-    (rows_written n m (suc i) factor rs (All-tail (λ r. (j : ℕ) → n ≤ j → r.body.coefficient j ≡ zero_ℚ) r rs past) (λ j lt is. subst (λ (k : ℕ). RowFits n (get_or rs j no_row) (factor k)) (omega arith) (fits (suc j) (omega (arith, lt)) is)))
-  where
-    rest : List ScaledRow
-    rest = exported_rows factor (suc i) rs
-
-    by : (there : Bool) → has_side r.side.lower r.side.upper ≡ there → All (IsWritten m) rest → All (IsWritten m) (cond there (scaled_row (factor i) r ∷ rest) rest)
-    by true e h =
-        let is : IsTrue (is_exported r) = e in
-        let here : RowFits n r (factor i) = subst (λ (k : ℕ). RowFits n r (factor k)) (omega arith) (fits 0 (omega arith) is) in
-        All-cons (IsWritten m) (scaled_row (factor i) r) rest (row_written n m (factor i) r (All-head (λ r. (j : ℕ) → n ≤ j → r.body.coefficient j ≡ zero_ℚ) r rs past) is here) h
-    by false e h = h
+-- the rows of a file
+pub rows_written : (n m : ℕ) (factor : ℕ → ℕ) (rs : List Row) → All (λ r. (j : ℕ) → n ≤ j → r.body.coefficient j ≡ zero_ℚ) rs
+    → ((j : ℕ) → IsTrue (is_exported (get_or rs j no_row)) → RowFits n (get_or rs j no_row) (factor j)) → All (IsWritten m) (exported_rows factor 0 rs)
+rows_written n m factor rs past fits = exported_all (IsWritten m) factor 0 rs (λ j k e lt is. let same : j ≡ k = omega (arith, e) in
+    row_written n m (factor k) (get_or rs j no_row) (past j no_row lt) is (subst (λ i. RowFits n (get_or rs j no_row) (factor i)) same (fits j is)))
 
 -- ---- a tied objective
 
@@ -146,7 +127,7 @@ tie_one g = *ℚ-neg (whole (pos g)) one_ℚ ∙ ap neg_ℚ (*ℚ_one (whole (po
 same_less : (x : ℚ) → x -ℚ x ≡ zero_ℚ
 same_less x = -ℚ_lem x x ∙ +ℚ-neg x
 
-pub tie_written : (n g : ℕ) (objective : Form) → g < 2 ^ 127 → All (ScaledFits g) (objective_numbers n objective) → IsWritten (n + 1) (scaled_row g (tie n objective))
+pub tie_written : (n g : ℕ) (objective : Form) → g < 2 ^ 127 → All (ScaledFits g) (objective_numbers n objective) → IsWritten (suc n) (scaled_row g (tie n objective))
 tie_written n g objective few parts =
     let q = whole (pos g) in
     let side : FitsDec (q *ℚ (zero_ℚ -ℚ objective.constant)) = subst FitsDec (sym (tie_side g objective.constant)) (neg_fits (q *ℚ objective.constant) (All-head (ScaledFits g) objective.constant (coefficients_below objective.coefficient n) parts).dec) in
@@ -156,21 +137,14 @@ tie_written n g objective few parts =
       coefficients = λ j lt. at j lt (nat_eq j n) refl costs;
       right = nonzero_fits s side;
       range = nonzero_fits (s -ℚ s) (subst FitsDec (sym (same_less s)) zero_fits);
-      sided = equal_sides s;
+      sided = two_not_none (nonzero (s -ℚ s));
     }
   where
-    at : (j : ℕ) → j < n + 1 → (b : Bool) → nat_eq j n ≡ b → All (ScaledFits g) (coefficients_below objective.coefficient n) → IfFits (nonzero (whole (pos g) *ℚ cond b (neg_ℚ one_ℚ) (objective.coefficient j)))
+    at : (j : ℕ) → j < suc n → (b : Bool) → nat_eq j n ≡ b → All (ScaledFits g) (coefficients_below objective.coefficient n) → IfFits (nonzero (whole (pos g) *ℚ cond b (neg_ℚ one_ℚ) (objective.coefficient j)))
     at j lt true e costs = nonzero_fits (whole (pos g) *ℚ neg_ℚ one_ℚ) (subst FitsDec (sym (tie_one g)) (neg_fits (whole (pos g)) (whole_fits (pos g) few)))
     at j lt false e costs =
         let other : j ≢ n = λ same. absurd (let is = eq-eqb j n same in cc) in
         nonzero_fits (whole (pos g) *ℚ objective.coefficient j) (below_fits (ScaledFits g) objective.coefficient n costs j (omega (arith, lt, other))).dec
-
-    equal_sides : (s : ℚ) → kind_of (Some s) (Some s) ≢ N
-    equal_sides s e = by (nonzero (s -ℚ s)) e
-      where
-        by : (o : Option ℚ) → two_sided o ≢ N
-        by None same = absurd cc
-        by (Some r) same = absurd cc
 
 pub z_costs : (n j : ℕ) → IfFits (nonzero ((z_form n).coefficient j))
 z_costs n j = by (nat_eq j n)

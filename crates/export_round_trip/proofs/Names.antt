@@ -1,17 +1,18 @@
 -- The names of an exported program have at most eight bytes.
-use Rattle.std.proofs.Common.{ℕ, suc, ◌<◌, ◌≤◌, ◌^◌, Bool, true, false, cond, List, [], ◌∷◌, length, map, arith}
+use Rattle.std.proofs.Common.{ℕ, ◌<◌, ◌≤◌, ◌^◌, Bool, List, ◌∷◌, length, map, arith}
 use Rattle.std.specs.Prelude.{All}
 use Rattle.std.specs.Fmt.{decimal}
 use Rattle.std.proofs.lemmas.Fmt.{length-decimal-le}
-use Rattle.std.proofs.lemmas.List.Elements.{All-nil, All-cons, All-head, All-tail, All-map}
+use Rattle.std.proofs.lemmas.List.Elements.{All-cons, All-map}
 use Rattle.fractions.specs.Rational.{ℚ}
-use Rattle.linear_programs.specs.Linear.{Form, Row, Variable}
-use Rattle.exported_program.specs.Program.{ScaledRow, scaled_row, has_side, exported_rows, mps_row, obj_name, column_entries, columns_of, program_of}
+use Rattle.linear_programs.specs.Linear.{Form, Row, Variable, no_row}
+use Rattle.exported_program.specs.Program.{ScaledRow, exported_rows, mps_row, obj_name, program_of}
 use Rattle.file_meaning.specs.LinearFile.{linear_row, linear_variable, linear_of}
 use Rattle.linear_programs.proofs.Elements.{all_elements}
-use Rattle.mps_model.specs.Mps.{MpsRow, Column}
+use Rattle.mps_model.specs.Mps.{MpsRow, Column, Mps}
 use Rattle.mps_model.specs.declared.kinds.RowKind.TheVariants.{N}
 use Rattle.nl_model.specs.File.{File}
+use Rattle.export_round_trip.proofs.ProgramParts.{columns_all, exported_all}
 
 -- ---- of a file
 
@@ -38,34 +39,20 @@ variables_of_file f k few = all_elements (linear_variable f) ShortVariable f.cou
 abbrev pub ShortScaled : ScaledRow → Type 0
 ShortScaled r = length r.name ≤ 8
 
-abbrev pub ShortMpsRow : MpsRow → Type 0
-ShortMpsRow r = length r.name ≤ 8
-
 abbrev pub ShortColumn : (V : Type 0) → Column V → Type 0
 ShortColumn V c = length c.name ≤ 8
 
 pub rows_exported : (factor : ℕ → ℕ) (i : ℕ) (rs : List Row) → All ShortRow rs → All ShortScaled (exported_rows factor i rs)
-unfolding exported_rows
-rows_exported factor i [] h = All-nil ShortScaled
-rows_exported factor i (r ∷ rs) h = by (has_side r.side.lower r.side.upper) (rows_exported factor (suc i) rs (All-tail ShortRow r rs h))
-  where
-    by : (b : Bool) → All ShortScaled (exported_rows factor (suc i) rs)
-        → All ShortScaled (cond b (scaled_row (factor i) r ∷ exported_rows factor (suc i) rs) (exported_rows factor (suc i) rs))
-    by true more = All-cons ShortScaled (scaled_row (factor i) r) (exported_rows factor (suc i) rs) (All-head ShortRow r rs h) more
-    by false more = more
+rows_exported factor i rs h = exported_all ShortScaled factor i rs (λ j k e lt is. h j no_row lt)
 
-columns_exported : (objective : Form) (rows : List ScaledRow) (j : ℕ) (vs : List Variable) → All ShortVariable vs → All (ShortColumn ℚ) (columns_of objective rows j vs)
-unfolding columns_of
-columns_exported objective rows j [] h = All-nil (ShortColumn ℚ)
-columns_exported objective rows j (v ∷ vs) h =
-    All-cons (ShortColumn ℚ) (record { name = v.name; marked = v.whole; entries = column_entries objective rows j }) (columns_of objective rows (suc j) vs)
-    (All-head ShortVariable v vs h) (columns_exported objective rows (suc j) vs (All-tail ShortVariable v vs h))
+-- a program with short names
+pub record IsShort (m : Mps ℚ) : Type 0 where
+  pub rows : All (λ r. length r.name ≤ 8) m.rows
+  pub columns : All (ShortColumn ℚ) m.columns
 
-pub rows_of_program : (rows : List ScaledRow) (objective : Form) (vs : List Variable) (maximise : Bool) → All ShortScaled rows → All ShortMpsRow (program_of rows objective vs maximise).rows
+pub short_program : (rows : List ScaledRow) (objective : Form) (vs : List Variable) (maximise : Bool) → All ShortScaled rows → All ShortVariable vs → IsShort (program_of rows objective vs maximise)
 unfolding program_of
-rows_of_program rows objective vs maximise h =
-    All-cons ShortMpsRow (record { name = obj_name; kind = N }) (map mps_row rows) (omega arith) (All-map ShortMpsRow mps_row rows h)
-
-pub columns_of_program : (rows : List ScaledRow) (objective : Form) (vs : List Variable) (maximise : Bool) → All ShortVariable vs → All (ShortColumn ℚ) (program_of rows objective vs maximise).columns
-unfolding program_of
-columns_of_program rows objective vs maximise h = columns_exported objective rows 0 vs h
+short_program rows objective vs maximise named short_vs = record {
+  rows = All-cons (λ (r : MpsRow). length r.name ≤ 8) (record { name = obj_name; kind = N }) (map mps_row rows) (omega arith) (All-map (λ (r : MpsRow). length r.name ≤ 8) mps_row rows named);
+  columns = columns_all (ShortColumn ℚ) ShortVariable objective rows 0 vs (λ k v lt short. short) short_vs;
+}

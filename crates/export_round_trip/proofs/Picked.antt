@@ -1,5 +1,5 @@
 -- A whole program whose numbers are decimals is the program of the values of a whole decimal program.
-use Rattle.std.proofs.Common.{◌≡◌, ◌≢◌, ◌∙◌, ℕ, ◌+◌, ◌<◌, List, [], ◌∷◌, length, map, get_or, refl, sym, ap₂, subst, arith}
+use Rattle.std.proofs.Common.{◌≡◌, ◌≢◌, ◌∙◌, ℕ, ◌+◌, ◌<◌, List, [], ◌∷◌, length, map, get_or, refl, sym, ap, ap₂, subst, arith}
 use Rattle.std.specs.Prelude.{All}
 use Rattle.std.specs.List.{AllPairs}
 use Rattle.std.proofs.lemmas.List.{length-map, get_or-map}
@@ -24,23 +24,18 @@ pub record IsDecimalProgram (m : Mps ℚ) : Type 0 where
 
 -- ---- the values are the same
 
+map_back : {X Y : Type 0} (g : Y → X) (f : X → Y) (P : X → Type 0) → ((x : X) → P x → g (f x) ≡ x) → (xs : List X) → All P xs → map g (map f xs) ≡ xs
+map_back g f P own [] h = refl
+map_back g f P own (x ∷ xs) h = ap₂ (λ y ys. y ∷ ys) (own x (All-head P x xs h)) (map_back g f P own xs (All-tail P x xs h))
+
 entries_back : (es : List (Entry ℚ)) → AreDecimal es → map (entry_with dec_value) (map (entry_with picked) es) ≡ es
-entries_back [] h = refl
-entries_back (e ∷ es) h =
-    let own = picked_value e.value (All-head (λ (e : Entry ℚ). FitsDec e.value) e es h) in
-    ap₂ (λ (v : ℚ) (more : List (Entry ℚ)). record { row = e.row; value = v } ∷ more) own (entries_back es (All-tail (λ (e : Entry ℚ). FitsDec e.value) e es h))
+entries_back = map_back (entry_with dec_value) (entry_with picked) (λ e. FitsDec e.value) (λ e own. ap (λ (v : ℚ). record { row = e.row; value = v }) (picked_value e.value own))
 
 columns_back : (cs : List (Column ℚ)) → All (λ (c : Column ℚ). AreDecimal c.entries) cs → map (column_with dec_value) (map (column_with picked) cs) ≡ cs
-columns_back [] h = refl
-columns_back (c ∷ cs) h =
-    ap₂ (λ (es : List (Entry ℚ)) (more : List (Column ℚ)). record { name = c.name; marked = c.marked; entries = es } ∷ more)
-    (entries_back c.entries (All-head (λ (c : Column ℚ). AreDecimal c.entries) c cs h)) (columns_back cs (All-tail (λ (c : Column ℚ). AreDecimal c.entries) c cs h))
+columns_back = map_back (column_with dec_value) (column_with picked) (λ c. AreDecimal c.entries) (λ c own. ap (λ (es : List (Entry ℚ)). record { name = c.name; marked = c.marked; entries = es }) (entries_back c.entries own))
 
 bounds_back : (bs : List (Bound ℚ)) → All (λ (b : Bound ℚ). FitsDec b.value) bs → map (bound_with dec_value) (map (bound_with picked) bs) ≡ bs
-bounds_back [] h = refl
-bounds_back (b ∷ bs) h =
-    let own = picked_value b.value (All-head (λ (b : Bound ℚ). FitsDec b.value) b bs h) in
-    ap₂ (λ (v : ℚ) (more : List (Bound ℚ)). record { kind = b.kind; column = b.column; value = v } ∷ more) own (bounds_back bs (All-tail (λ (b : Bound ℚ). FitsDec b.value) b bs h))
+bounds_back = map_back (bound_with dec_value) (bound_with picked) (λ b. FitsDec b.value) (λ b own. ap (λ (v : ℚ). record { kind = b.kind; column = b.column; value = v }) (picked_value b.value own))
 
 pub values_back : (m : Mps ℚ) → IsDecimalProgram m → with_values dec_value (with_values picked m) ≡ m
 unfolding with_values
@@ -56,7 +51,7 @@ values_back m h = λ i. record {
 
 -- ---- it is whole
 
-pairs_mapped : {X Y : Type 0} (R : Y → Y → Type 0) (f : X → Y) (xs : List X) → AllPairs (λ x y. R (f x) (f y)) xs → AllPairs R (map f xs)
+pub pairs_mapped : {X Y : Type 0} (R : Y → Y → Type 0) (f : X → Y) (xs : List X) → AllPairs (λ x y. R (f x) (f y)) xs → AllPairs R (map f xs)
 pairs_mapped R f [] h i j d lt within = absurd (omega (arith, within))
 pairs_mapped R f (x ∷ xs) h i j d lt within =
     let inside : j < length (x ∷ xs) = omega (arith, within, length-map (x ∷ xs) f) in

@@ -1,5 +1,5 @@
 -- The rows and columns of the program of a file have names, no two the same.
-use Rattle.std.proofs.Common.{◌≡◌, ◌≢◌, ◌∙◌, ℕ, zero, suc, ◌+◌, ◌<◌, ◌≤◌, ◌^◌, Bool, true, false, cond, List, [], ◌∷◌, ◌++◌, refl, sym, arith}
+use Rattle.std.proofs.Common.{◌≡◌, ◌≢◌, ◌∙◌, ℕ, zero, suc, ◌+◌, ◌<◌, ◌≤◌, ◌^◌, Bool, true, false, cond, List, [], ◌∷◌, ◌++◌, get_or, refl, sym, ap, arith}
 use Rattle.std.specs.Prelude.{All}
 use Rattle.std.specs.List.{AllPairs}
 use Rattle.std.proofs.lemmas.List.Elements.{All-nil, All-cons, All-weaker, All-push}
@@ -12,6 +12,7 @@ use Rattle.mps_model.specs.Valid.{marker_word}
 use Rattle.exported_program.specs.Program.{ScaledRow, exported_rows, scaled_row, has_side, obj_name, z_name, zdef_name, z_variable}
 use Rattle.exported_program.proofs.Names.{constraint_is_name, variable_is_name, z_is_name, zdef_is_name, constraints_apart, variables_apart, constraint_not_obj, constraint_not_zdef, constraint_not_marker, obj_not_zdef, zdef_not_marker, variable_not_z}
 use Rattle.linear_programs.specs.Elements.{elements_from}
+use Rattle.linear_programs.proofs.Elements.{all_elements, elements_at, elements_length}
 use Rattle.file_meaning.specs.LinearFile.{linear_row, linear_variable}
 use Rattle.nl_model.specs.File.{File}
 
@@ -19,22 +20,12 @@ use Rattle.nl_model.specs.File.{File}
 abbrev pub IsRowFrom : ℕ → ScaledRow → Type 0
 IsRowFrom i r = (k : ℕ) × (i ≤ k) × (k < 2 ^ 32) × (r.name ≡ row_name k)
 
-abbrev pub IsVariableFrom : ℕ → Variable → Type 0
-IsVariableFrom j v = (k : ℕ) × (j ≤ k) × (k < 2 ^ 32) × (v.name ≡ variable_name k)
-
 abbrev pub AreApart : List ScaledRow → Type 0
 AreApart rs = AllPairs (λ r s. r.name ≢ s.name) rs
-
-abbrev pub AreVariablesApart : List Variable → Type 0
-AreVariablesApart vs = AllPairs (λ v w. v.name ≢ w.name) vs
 
 record RowsFrom (i : ℕ) (rs : List ScaledRow) : Type 0 where
   named : All (IsRowFrom i) rs
   apart : AreApart rs
-
-record VariablesFrom (j : ℕ) (vs : List Variable) : Type 0 where
-  named : All (IsVariableFrom j) vs
-  apart : AreVariablesApart vs
 
 later : (i : ℕ) (r : ScaledRow) → IsRowFrom (suc i) r → IsRowFrom i r
 later i r h = (h.0, omega (arith, h.1), h.2, h.3)
@@ -69,14 +60,11 @@ pub record AreNamedRows (rs : List ScaledRow) : Type 0 where
 
 pub record AreNamedVariables (vs : List Variable) : Type 0 where
   pub named : All (λ v. IsName v.name) vs
-  pub apart : AreVariablesApart vs
-
-row_is_name : (r : ScaledRow) → IsRowFrom 0 r → IsName r.name
-row_is_name r h = rw h.3 (constraint_is_name h.0 h.2)
+  pub apart : AllPairs (λ v w. v.name ≢ w.name) vs
 
 named_rows : (rs : List ScaledRow) → RowsFrom 0 rs → AreNamedRows rs
 named_rows rs h = record {
-  named = All-weaker (IsRowFrom 0) (λ r. IsName r.name) row_is_name rs h.named;
+  named = All-weaker (IsRowFrom 0) (λ r. IsName r.name) (λ r k. rw k.3 (constraint_is_name k.0 k.2)) rs h.named;
   apart = h.apart;
   not_obj = All-weaker (IsRowFrom 0) (λ r. r.name ≢ obj_name) (λ r k e. constraint_not_obj k.0 (sym k.3 ∙ e)) rs h.named;
   no_marker = All-weaker (IsRowFrom 0) (λ r. r.name ≢ marker_word) (λ r k e. constraint_not_marker k.0 (sym k.3 ∙ e)) rs h.named;
@@ -99,45 +87,26 @@ tied_named factor f n r le e =
       no_marker = All-push (λ (s : ScaledRow). s.name ≢ marker_word) rs r h.no_marker (λ same. zdef_not_marker (sym e ∙ same));
     }
 
-variables_from : (f : File) (j n : ℕ) → j + n ≤ 2 ^ 32 → VariablesFrom j (elements_from (linear_variable f) j n)
-unfolding elements_from
-variables_from f j zero le = record { named = All-nil (IsVariableFrom j); apart = λ a b d lt within. absurd (omega arith) }
-variables_from f j (suc n) le = by (variables_from f (suc j) n (omega arith))
-  where
-    v : Variable
-    v = linear_variable f j
-
-    rest : List Variable
-    rest = elements_from (linear_variable f) (suc j) n
-
-    lt : j < 2 ^ 32
-    lt = omega (arith, le)
-
-    other : (w : Variable) → IsVariableFrom (suc j) w → v.name ≢ w.name
-    other w from same = absurd (omega (arith, from.1, variables_apart j from.0 lt from.2 (same ∙ from.3)))
-
-    by : VariablesFrom (suc j) rest → VariablesFrom j (v ∷ rest)
-    by h = record {
-      named = All-cons (IsVariableFrom j) v rest (j, omega arith, lt, refl) (All-weaker (IsVariableFrom (suc j)) (IsVariableFrom j) (λ w k. (k.0, omega (arith, k.1), k.2, k.3)) rest h.named);
-      apart = AllPairs-cons (λ (x y : Variable). x.name ≢ y.name) v rest (All-weaker (IsVariableFrom (suc j)) (λ w. v.name ≢ w.name) other rest h.named) h.apart;
-    }
-
-variable_is : (v : Variable) → IsVariableFrom 0 v → IsName v.name
-variable_is v h = rw h.3 (variable_is_name h.0 h.2)
-
 pub variables_named : (f : File) (n : ℕ) → n ≤ 2 ^ 32 → AreNamedVariables (elements_from (linear_variable f) 0 n)
-variables_named f n le =
-    let vs = elements_from (linear_variable f) 0 n in
-    let h = variables_from f 0 n (omega (arith, le)) in
-    record { named = All-weaker (IsVariableFrom 0) (λ v. IsName v.name) variable_is vs h.named; apart = h.apart }
+variables_named f n le = record {
+  named = all_elements (linear_variable f) (λ v. IsName v.name) n (λ j lt. variable_is_name j (omega (arith, lt, le)));
+  apart = apart;
+}
+  where
+    name_at : (j : ℕ) (d : Variable) → j < n → (get_or (elements_from (linear_variable f) 0 n) j d).name ≡ variable_name j
+    name_at j d lt = ap (λ (v : Variable). v.name) (elements_at (linear_variable f) 0 n j d lt) ∙ ap variable_name (omega arith)
+
+    apart : AllPairs (λ v w. v.name ≢ w.name) (elements_from (linear_variable f) 0 n)
+    apart a b d lt within same =
+        let below : b < n = omega (arith, within, elements_length (linear_variable f) 0 n) in
+        omega (arith, lt, variables_apart a b (omega (arith, lt, below, le)) (omega (arith, below, le)) (sym (name_at a d (omega (arith, lt, below))) ∙ same ∙ name_at b d below))
 
 -- z as the last variable
 pub tied_variables_named : (f : File) (n : ℕ) → n ≤ 2 ^ 32 → AreNamedVariables (elements_from (linear_variable f) 0 n ++ z_variable ∷ [])
 tied_variables_named f n le =
     let vs = elements_from (linear_variable f) 0 n in
-    let from = variables_from f 0 n (omega (arith, le)) in
     let h = variables_named f n le in
     record {
       named = All-push (λ (v : Variable). IsName v.name) vs z_variable h.named z_is_name;
-      apart = all_pairs_push (λ (v w : Variable). v.name ≢ w.name) vs z_variable h.apart (All-weaker (IsVariableFrom 0) (λ v. v.name ≢ z_name) (λ v k same. variable_not_z k.0 (sym k.3 ∙ same)) vs from.named);
+      apart = all_pairs_push (λ (v w : Variable). v.name ≢ w.name) vs z_variable h.apart (all_elements (linear_variable f) (λ v. v.name ≢ z_name) n (λ j lt. variable_not_z j));
     }

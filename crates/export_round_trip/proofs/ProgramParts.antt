@@ -1,16 +1,17 @@
 -- The entries, ranges and bounds of a program stand in its rows and columns, none of them twice.
-use Rattle.std.proofs.Common.{◌≡◌, ◌≢◌, ℕ, suc, ◌+◌, ◌<◌, ◌≤◌, List, [], ◌∷◌, ◌++◌, length, Option, Some, None, refl, arith}
+use Rattle.std.proofs.Common.{◌≡◌, ◌≢◌, ℕ, suc, ◌+◌, ◌<◌, ◌≤◌, Bool, true, false, cond, IsTrue, List, [], ◌∷◌, ◌++◌, length, get_or, Option, Some, None, refl, arith}
 use Rattle.std.specs.Prelude.{All, IfSome}
 use Rattle.std.specs.List.{AllPairs}
 use Rattle.std.proofs.lemmas.List.Elements.{All-nil, All-cons, All-weaker, All-head, All-tail}
 use Rattle.std.proofs.lemmas.List.Kept.{AllPairs-cons}
 use Rattle.fractions.specs.Rational.{ℚ, zero_ℚ, ◌-ℚ◌}
 use Rattle.exact_numbers.specs.Values.{FitsDec}
-use Rattle.linear_programs.specs.Linear.{Form, Variable}
+use Rattle.linear_programs.specs.Linear.{Form, Row, Variable, no_row}
 use Rattle.mps_model.specs.declared.kinds.BoundKind.TheVariants.{Lo, Up, Fx, Fr, Mi, Pl}
-use Rattle.mps_model.specs.Mps.{Entry, Bound}
+use Rattle.mps_model.specs.Mps.{Entry, Column, Bound}
 use Rattle.mps_model.specs.Valid.{AreEntries, IsOtherBound, IsWithoutNumber, SetOtherSides}
-use Rattle.exported_program.specs.Program.{ScaledRow, nonzero, with_entry, entries_of, or_obj_zero, column_entries, bound_record, fixed_or_both, column_bounds, bounds_of}
+use Rattle.exported_program.specs.Program.{ScaledRow, nonzero, with_entry, entries_of, or_obj_zero, column_entries, columns_of, exported_rows, scaled_row, bound_record, fixed_or_both, column_bounds, bounds_of}
+use Rattle.exported_program.specs.Return.{is_exported}
 use Rattle.export_round_trip.proofs.Fitting.{zero_fits}
 
 -- ---- entries
@@ -33,7 +34,7 @@ entries_from g i n (r ∷ rows) e = by (g r) (entries_from g (suc i) n rows (ome
     by None h = from_less i (suc i) n (entries_of g (suc i) rows) (omega arith) h
     by (Some v) h = (omega arith, omega (arith, e), h)
 
-all_from : (i n : ℕ) (es : List (Entry ℚ)) → AreFrom i n es → All (λ e. (i ≤ e.row) × (e.row < n)) es
+pub all_from : (i n : ℕ) (es : List (Entry ℚ)) → AreFrom i n es → All (λ e. (i ≤ e.row) × (e.row < n)) es
 all_from i n [] h = All-nil (λ e. (i ≤ e.row) × (e.row < n))
 all_from i n (e ∷ es) h =
     All-cons (λ e. (i ≤ e.row) × (e.row < n)) e es (h.0, h.1)
@@ -52,10 +53,6 @@ are_entries i n es h = record {
   apart = from_apart i n es h;
 }
 
--- each from row 1 on
-pub from_one : (n : ℕ) (es : List (Entry ℚ)) → AreFrom 1 n es → All (λ e. (1 ≤ e.row) × (e.row < n)) es
-from_one n es h = all_from 1 n es h
-
 -- an entry of the objective before those of the rows
 pub objective_first : (o : Option ℚ) (g : ScaledRow → Option ℚ) (rows : List ScaledRow) → AreFrom 0 (1 + length rows) (with_entry 0 o (entries_of g 1 rows))
 objective_first None g rows = from_less 0 1 (1 + length rows) (entries_of g 1 rows) (omega arith) (entries_from g 1 (1 + length rows) rows refl)
@@ -73,6 +70,31 @@ column_from objective rows j =
 pub some_entry : (es : List (Entry ℚ)) → 0 < length (or_obj_zero es)
 some_entry [] = omega arith
 some_entry (e ∷ es) = omega arith
+
+-- ---- columns and rows
+
+-- columns of variables with Q, of which the first is column j
+pub columns_all : (P : Column ℚ → Type 0) (Q : Variable → Type 0) (objective : Form) (rows : List ScaledRow) (j : ℕ) (vs : List Variable)
+    → ((k : ℕ) (v : Variable) → k < j + length vs → Q v → P (record { name = v.name; marked = v.whole; entries = column_entries objective rows k })) → All Q vs → All P (columns_of objective rows j vs)
+unfolding columns_of
+columns_all P Q objective rows j [] h all = All-nil P
+columns_all P Q objective rows j (v ∷ vs) h all =
+    All-cons P (record { name = v.name; marked = v.whole; entries = column_entries objective rows j }) (columns_of objective rows (suc j) vs) (h j v (omega arith) (All-head Q v vs all))
+    (columns_all P Q objective rows (suc j) vs (λ k w lt. h k w (omega (arith, lt))) (All-tail Q v vs all))
+
+-- exported rows of a file, of which the first is row i
+pub exported_all : (P : ScaledRow → Type 0) (factor : ℕ → ℕ) (i : ℕ) (rs : List Row)
+    → ((j k : ℕ) → k ≡ i + j → j < length rs → IsTrue (is_exported (get_or rs j no_row)) → P (scaled_row (factor k) (get_or rs j no_row))) → All P (exported_rows factor i rs)
+unfolding exported_rows
+exported_all P factor i [] h = All-nil P
+exported_all P factor i (r ∷ rs) h = by (is_exported r) refl (exported_all P factor (suc i) rs (λ j k e lt is. h (suc j) k (omega (arith, e)) (omega (arith, lt)) is))
+  where
+    rest : List ScaledRow
+    rest = exported_rows factor (suc i) rs
+
+    by : (there : Bool) → is_exported r ≡ there → All P rest → All P (cond there (scaled_row (factor i) r ∷ rest) rest)
+    by true e more = All-cons P (scaled_row (factor i) r) rest (h 0 i (omega arith) (omega arith) e) more
+    by false e more = more
 
 -- ---- bounds
 

@@ -1,7 +1,8 @@
 -- What is exported is read as what was exported.
-use Rattle.std.proofs.Common.{◌≡◌, ◌∙◌, inl, inr, ◌⊎◌, ℕ, Bool, true, false, List, [], ◌∷◌, ◌++◌, map, refl, sym, ap, subst, arith}
+use Rattle.std.proofs.Common.{◌≡◌, ◌∙◌, inl, inr, ◌⊎◌, ℕ, ◌<◌, length, Bool, true, false, List, [], ◌∷◌, ◌++◌, map, refl, sym, ap, subst, arith}
 use Rattle.std.specs.Prelude.{All}
-use Rattle.std.proofs.lemmas.List.Elements.{All-nil, All-cons, All-head, All-tail, All-append}
+use Rattle.std.proofs.lemmas.List.{length-map, get_or-map}
+use Rattle.std.proofs.lemmas.List.Elements.{All-nil, All-cons, All-head, All-tail, All-push}
 use Rattle.fractions.specs.Rational.{ℚ}
 use Rattle.linear_programs.specs.Linear.{Linear, variable_count}
 use Rattle.exact_numbers.specs.declared.dec.Dec.{Dec}
@@ -9,7 +10,7 @@ use Rattle.exact_numbers.specs.Values.{dec_value, value_text, FitsDec, fits_dec,
 use Rattle.exact_numbers.proofs.Spelling.{fits_dec_in, fits_dec_out, value_text-decimal}
 use Rattle.exported_program.specs.Export.{IsDecimal, IsProgramOf, factor_of_row, factor_of_objective}
 use Rattle.exported_program.specs.Factor.{objective_numbers}
-use Rattle.exported_program.specs.Program.{ScaledRow, program, tied_program, exported_rows, scaled_row, tie, z_form, z_variable}
+use Rattle.exported_program.specs.Program.{program, tied_program, exported_rows, scaled_row, tie, z_form, z_variable}
 use Rattle.file_meaning.specs.LinearFile.{linear_of}
 use Rattle.mps_model.specs.Mps.{Column, Mps, column_with, with_values}
 use Rattle.mps_model.specs.Text.{mps_text_by}
@@ -23,7 +24,7 @@ use Rattle.nl_model.specs.File.{File}
 use Rattle.nl_model.specs.Rules.{IsFile}
 use Rattle.nl_model.proofs.Headers.{counts_of_header}
 use Rattle.export_round_trip.specs.ReadAs.{IsReadAs}
-use Rattle.export_round_trip.proofs.Names.{ShortRow, ShortVariable, ShortScaled, ShortMpsRow, ShortColumn, rows_of_file, variables_of_file, rows_exported, rows_of_program, columns_of_program}
+use Rattle.export_round_trip.proofs.Names.{IsShort, ShortRow, ShortVariable, ShortScaled, ShortColumn, rows_of_file, variables_of_file, rows_exported, short_program}
 
 -- ---- whether the objective is decimal
 
@@ -48,36 +49,20 @@ is_decimal l = all_fit (objective_numbers (variable_count l) l.objective)
 
 -- ---- names
 
--- a program with short names
-record IsShort (m : Mps ℚ) : Type 0 where
-  rows : All ShortMpsRow m.rows
-  columns : All (ShortColumn ℚ) m.columns
-
 plain_short : (f : Linear) (factor : ℕ → ℕ) → All ShortRow f.rows → All ShortVariable f.variables → IsShort (program f factor)
-plain_short f factor rows vs =
-    let exported = exported_rows factor 0 f.rows in
-    record {
-      rows = rows_of_program exported f.objective f.variables f.maximise (rows_exported factor 0 f.rows rows);
-      columns = columns_of_program exported f.objective f.variables f.maximise vs;
-    }
+plain_short f factor rows vs = short_program (exported_rows factor 0 f.rows) f.objective f.variables f.maximise (rows_exported factor 0 f.rows rows) vs
 
 tied_short : (f : Linear) (factor : ℕ → ℕ) (g : ℕ) → All ShortRow f.rows → All ShortVariable f.variables → IsShort (tied_program f factor g)
 tied_short f factor g rows vs =
     let n = variable_count f in
     let exported = exported_rows factor 0 f.rows in
-    let last : List ScaledRow = scaled_row g (tie n f.objective) ∷ [] in
-    let last_row : All ShortScaled last = All-cons ShortScaled (scaled_row g (tie n f.objective)) [] (omega arith) (All-nil ShortScaled) in
-    let last_column : All ShortVariable (z_variable ∷ []) = All-cons ShortVariable z_variable [] (omega arith) (All-nil ShortVariable) in
-    record {
-      rows = rows_of_program (exported ++ last) (z_form n) (f.variables ++ z_variable ∷ []) f.maximise (All-append ShortScaled exported last (rows_exported factor 0 f.rows rows) last_row);
-      columns = columns_of_program (exported ++ last) (z_form n) (f.variables ++ z_variable ∷ []) f.maximise (All-append ShortVariable f.variables (z_variable ∷ []) vs last_column);
-    }
+    let last = scaled_row g (tie n f.objective) in
+    short_program (exported ++ last ∷ []) (z_form n) (f.variables ++ z_variable ∷ []) f.maximise
+    (All-push ShortScaled exported last (rows_exported factor 0 f.rows rows) (omega arith)) (All-push ShortVariable f.variables z_variable vs (omega arith))
 
 columns_named : (cs : List (Column Dec)) → All (ShortColumn ℚ) (map (column_with dec_value) cs) → All (ShortColumn Dec) cs
-columns_named [] h = All-nil (ShortColumn Dec)
-columns_named (c ∷ cs) h =
-    All-cons (ShortColumn Dec) c cs (All-head (ShortColumn ℚ) (column_with dec_value c) (map (column_with dec_value) cs) h)
-    (columns_named cs (All-tail (ShortColumn ℚ) (column_with dec_value c) (map (column_with dec_value) cs) h))
+columns_named cs h i d lt = let inside : i < length (map (column_with dec_value) cs) = omega (arith, lt, length-map cs (column_with dec_value)) in
+    subst (ShortColumn ℚ) (get_or-map (column_with dec_value) cs i d (column_with dec_value d) lt) (h i (column_with dec_value d) inside)
 
 of_values : (m : Mps Dec) → IsShort (with_values dec_value m) → HasShortNames m
 unfolding with_values

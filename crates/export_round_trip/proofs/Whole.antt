@@ -1,8 +1,8 @@
 -- A program of rows, an objective and variables is a whole decimal program where its parts are named and its numbers are decimals.
-use Rattle.std.proofs.Common.{◌≡◌, ◌≢◌, ◌∙◌, ℕ, zero, suc, ◌+◌, ◌<◌, ◌≤◌, ◌^◌, Bool, List, [], ◌∷◌, length, map, Option, Some, None, refl, sym, ap, subst, arith}
+use Rattle.std.proofs.Common.{◌≡◌, ◌≢◌, ℕ, zero, suc, ◌+◌, ◌<◌, ◌≤◌, ◌^◌, Bool, List, [], ◌∷◌, length, map, Option, Some, None, refl, sym, subst, arith}
 use Rattle.std.specs.Prelude.{All, IfSome}
 use Rattle.std.specs.List.{AllPairs}
-use Rattle.std.proofs.lemmas.List.{length-map, get_or-map}
+use Rattle.std.proofs.lemmas.List.{length-map}
 use Rattle.std.proofs.lemmas.List.Elements.{All-nil, All-cons, All-head, All-tail, All-weaker, All-map}
 use Rattle.std.proofs.lemmas.List.Kept.{AllPairs-cons}
 use Rattle.texts.specs.Names.{IsName}
@@ -12,12 +12,13 @@ use Rattle.linear_programs.specs.Linear.{Form, Variable}
 use Rattle.mps_model.specs.declared.kinds.RowKind.TheVariants.{N}
 use Rattle.mps_model.specs.Mps.{MpsRow, Entry, Column, Bound, no_mps_row, objective_row}
 use Rattle.mps_model.specs.Valid.{AreRows, AreEntries, AreRanges, IsPartOfMps, IsMps, IsBounded, IsOtherRow, HasEntries, marker_word, entry_count}
-use Rattle.exported_program.specs.Program.{ScaledRow, nonzero, with_entry, entries_of, or_obj_zero, column_entries, columns_of, kind_of, mps_row, obj_name, program_of, range_of, rhs_of, bounds_of}
+use Rattle.exported_program.specs.Program.{ScaledRow, nonzero, with_entry, entries_of, or_obj_zero, column_entries, columns_of, kind_of_row, mps_row, obj_name, program_of, range_of, rhs_of, bounds_of}
+use Rattle.exported_program.proofs.Entries.{columns_length}
 use Rattle.exported_program.proofs.Names.{nl_is_name, obj_is_name, obj_not_marker}
 use Rattle.export_round_trip.proofs.Fitting.{zero_fits}
-use Rattle.export_round_trip.proofs.Picked.{AreDecimal, IsDecimalProgram}
+use Rattle.export_round_trip.proofs.Picked.{AreDecimal, IsDecimalProgram, pairs_mapped}
 use Rattle.export_round_trip.proofs.ProgramNames.{AreNamedRows, AreNamedVariables}
-use Rattle.export_round_trip.proofs.ProgramParts.{entries_from, are_entries, objective_first, column_from, some_entry, from_one, AreBoundsFrom, HasDecimalBounds, bounds_from}
+use Rattle.export_round_trip.proofs.ProgramParts.{columns_all, entries_from, are_entries, objective_first, column_from, some_entry, all_from, AreBoundsFrom, HasDecimalBounds, bounds_from}
 
 -- ---- numbers that are decimals
 
@@ -43,6 +44,13 @@ objective_first_row rs = omega arith
 
 -- ---- the parts
 
+-- a row that is exported, of which the first m coefficients count
+pub record IsWritten (m : ℕ) (r : ScaledRow) : Type 0 where
+  pub coefficients : (j : ℕ) → j < m → IfFits (nonzero (r.coefficient j))
+  pub right : IfFits (nonzero (rhs_of r.side.lower r.side.upper))
+  pub range : IfFits (range_of r.side.lower r.side.upper)
+  pub sided : kind_of_row r.side.lower r.side.upper ≢ N
+
 -- what a program is made of can be written: n is the number of variables
 pub record CanBeWritten (rows : List ScaledRow) (objective : Form) (vs : List Variable) : Type 0 where
   pub named : AreNamedRows rows
@@ -50,12 +58,9 @@ pub record CanBeWritten (rows : List ScaledRow) (objective : Form) (vs : List Va
   pub few_rows : 1 + length rows ≤ 2 ^ 21
   pub few_variables : length vs ≤ 2 ^ 21
   pub few_entries : entry_count (columns_of objective rows 0 vs) ≤ 2 ^ 24
-  pub sided : All (λ r. kind_of r.side.lower r.side.upper ≢ N) rows
+  pub written : All (IsWritten (length vs)) rows
   pub costs : (j : ℕ) → j < length vs → IfFits (nonzero (objective.coefficient j))
   pub constant : IfFits (nonzero (neg_ℚ objective.constant))
-  pub coefficients : (j : ℕ) → j < length vs → All (λ r. IfFits (nonzero (r.coefficient j))) rows
-  pub right : All (λ r. IfFits (nonzero (rhs_of r.side.lower r.side.upper))) rows
-  pub ranges : All (λ r. IfFits (range_of r.side.lower r.side.upper)) rows
   pub bounds : All HasDecimalBounds vs
 
 module _ (rows : List ScaledRow) (objective : Form) (vs : List Variable) (maximise : Bool) (can : CanBeWritten rows objective vs) where
@@ -65,57 +70,23 @@ module _ (rows : List ScaledRow) (objective : Form) (vs : List Variable) (maximi
   height : length (record { name = obj_name; kind = N } ∷ map mps_row rows) ≡ 1 + length rows
   height = omega (arith, length-map rows mps_row)
 
-  pairs_mapped : (xs : List ScaledRow) → AllPairs (λ r s. r.name ≢ s.name) xs → AllPairs (λ (r s : MpsRow). r.name ≢ s.name) (map mps_row xs)
-  pairs_mapped [] h i j d lt within = absurd (omega (arith, within))
-  pairs_mapped (x ∷ xs) h i j d lt within =
-      let inside : j < length (x ∷ xs) = omega (arith, within, length-map (x ∷ xs) mps_row) in
-      let first = get_or-map mps_row (x ∷ xs) i x d (omega (arith, lt, inside)) in
-      let second = get_or-map mps_row (x ∷ xs) j x d inside in
-      λ same. h i j x lt inside (ap (λ (r : MpsRow). r.name) (sym first) ∙ same ∙ ap (λ (r : MpsRow). r.name) second)
-
   rows_are : AreRows (record { name = obj_name; kind = N } ∷ map mps_row rows)
   unfolding obj_row
   rows_are = record {
     few = omega (arith, height, can.few_rows);
     named = All-cons (λ (r : MpsRow). IsName r.name) obj_row (map mps_row rows) obj_is_name (All-map (λ (r : MpsRow). IsName r.name) mps_row rows can.named.named);
-    apart = AllPairs-cons (λ (r s : MpsRow). r.name ≢ s.name) obj_row (map mps_row rows) (All-map (λ (s : MpsRow). obj_name ≢ s.name) mps_row rows (All-weaker (λ r. r.name ≢ obj_name) (λ r. obj_name ≢ r.name) (λ r other same. other (sym same)) rows can.named.not_obj)) (pairs_mapped rows can.named.apart);
+    apart = AllPairs-cons (λ (r s : MpsRow). r.name ≢ s.name) obj_row (map mps_row rows) (All-map (λ (s : MpsRow). obj_name ≢ s.name) mps_row rows (All-weaker (λ r. r.name ≢ obj_name) (λ r. obj_name ≢ r.name) (λ r other same. other (sym same)) rows can.named.not_obj)) (pairs_mapped (λ (r s : MpsRow). r.name ≢ s.name) mps_row rows can.named.apart);
     no_marker = All-cons (IsOtherRow marker_word) obj_row (map mps_row rows) obj_not_marker (All-map (IsOtherRow marker_word) mps_row rows can.named.no_marker);
   }
-
-  -- columns of variables, of which the first is variable j
-  record ColumnsFrom (j : ℕ) (own : List Variable) : Type 0 where
-    named : All (λ (c : Column ℚ). IsName c.name) (columns_of objective rows j own)
-    entries : All (λ (c : Column ℚ). AreEntries (1 + length rows) c.entries) (columns_of objective rows j own)
-    filled : All HasEntries (columns_of objective rows j own)
-    decimal : All (λ (c : Column ℚ). AreDecimal c.entries) (columns_of objective rows j own)
-    count : length (columns_of objective rows j own) ≡ length own
 
   column_fits : (j : ℕ) → j < length vs → AreDecimal (column_entries objective rows j)
   column_fits j lt =
       or_zero_fits (with_entry 0 (nonzero (objective.coefficient j)) (entries_of (λ r. nonzero (r.coefficient j)) 1 rows))
-      (with_fits 0 (nonzero (objective.coefficient j)) (entries_of (λ r. nonzero (r.coefficient j)) 1 rows) (can.costs j lt) (entries_fit (λ r. nonzero (r.coefficient j)) 1 rows (can.coefficients j lt)))
+      (with_fits 0 (nonzero (objective.coefficient j)) (entries_of (λ r. nonzero (r.coefficient j)) 1 rows) (can.costs j lt) (entries_fit (λ r. nonzero (r.coefficient j)) 1 rows (All-weaker (IsWritten (length vs)) (λ r. IfFits (nonzero (r.coefficient j))) (λ r w. w.coefficients j lt) rows can.written)))
 
-  columns_from : (j : ℕ) (own : List Variable) → j + length own ≡ length vs → All (λ v. IsName v.name) own → ColumnsFrom j own
-  unfolding columns_of
-  columns_from j [] e h = record {
-    named = All-nil (λ (c : Column ℚ). IsName c.name);
-    entries = All-nil (λ (c : Column ℚ). AreEntries (1 + length rows) c.entries);
-    filled = All-nil HasEntries;
-    decimal = All-nil (λ (c : Column ℚ). AreDecimal c.entries);
-    count = refl;
-  }
-  columns_from j (v ∷ own) e h =
-      let c : Column ℚ = record { name = v.name; marked = v.whole; entries = column_entries objective rows j } in
-      let rest = columns_of objective rows (suc j) own in
-      let more = columns_from (suc j) own (omega (arith, e)) (All-tail (λ v. IsName v.name) v own h) in
-      let entries = entries_of (λ r. nonzero (r.coefficient j)) 1 rows in
-      record {
-        named = All-cons (λ (c : Column ℚ). IsName c.name) c rest (All-head (λ v. IsName v.name) v own h) more.named;
-        entries = All-cons (λ (c : Column ℚ). AreEntries (1 + length rows) c.entries) c rest (are_entries 0 (1 + length rows) (column_entries objective rows j) (column_from objective rows j)) more.entries;
-        filled = All-cons HasEntries c rest (some_entry (with_entry 0 (nonzero (objective.coefficient j)) entries)) more.filled;
-        decimal = All-cons (λ (c : Column ℚ). AreDecimal c.entries) c rest (column_fits j (omega (arith, e))) more.decimal;
-        count = omega (arith, more.count);
-      }
+  -- a property of every column
+  each_column : (P : Column ℚ → Type 0) → ((j : ℕ) (v : Variable) → j < length vs → IsName v.name → P (record { name = v.name; marked = v.whole; entries = column_entries objective rows j })) → All P (columns_of objective rows 0 vs)
+  each_column P h = columns_all P (λ v. IsName v.name) objective rows 0 vs (λ j v lt. h j v (omega (arith, lt))) can.variables.named
 
   -- the name of a column is that of its variable
   columns_apart : (j : ℕ) (own : List Variable) → AllPairs (λ v w. v.name ≢ w.name) own → AllPairs (λ (c d : Column ℚ). c.name ≢ d.name) (columns_of objective rows j own)
@@ -123,21 +94,15 @@ module _ (rows : List ScaledRow) (objective : Form) (vs : List Variable) (maximi
   columns_apart j [] h = λ a b d lt within. absurd (omega arith)
   columns_apart j (v ∷ own) h =
       AllPairs-cons (λ (c d : Column ℚ). c.name ≢ d.name) (record { name = v.name; marked = v.whole; entries = column_entries objective rows j }) (columns_of objective rows (suc j) own)
-      (others (suc j) own (λ k d within. h zero (suc k) d (omega arith) (omega (arith, within))))
+      (columns_all (λ (c : Column ℚ). v.name ≢ c.name) (λ w. v.name ≢ w.name) objective rows (suc j) own (λ k w lt other. other) (λ k d within. h zero (suc k) d (omega arith) (omega (arith, within))))
       (columns_apart (suc j) own (λ a b d lt within. h (suc a) (suc b) d (omega (arith, lt)) (omega (arith, within))))
-    where
-      others : (i : ℕ) (ws : List Variable) → All (λ w. v.name ≢ w.name) ws → All (λ (c : Column ℚ). v.name ≢ c.name) (columns_of objective rows i ws)
-      others i [] g = All-nil (λ (c : Column ℚ). v.name ≢ c.name)
-      others i (w ∷ ws) g =
-          All-cons (λ (c : Column ℚ). v.name ≢ c.name) (record { name = w.name; marked = w.whole; entries = column_entries objective rows i }) (columns_of objective rows (suc i) ws)
-          (All-head (λ w. v.name ≢ w.name) w ws g) (others (suc i) ws (All-tail (λ w. v.name ≢ w.name) w ws g))
 
   -- a range is in a row with a side
   bounded_at : (i : ℕ) → 1 ≤ i → i < 1 + length rows → IsBounded (record { name = obj_name; kind = N } ∷ map mps_row rows) i
   bounded_at zero le lt = absurd (omega arith)
   bounded_at (suc i) le lt =
       let inside : i < length (map mps_row rows) = omega (arith, lt, length-map rows mps_row) in
-      All-map (λ (r : MpsRow). r.kind ≢ N) mps_row rows can.sided i no_mps_row inside
+      All-map (λ (r : MpsRow). r.kind ≢ N) mps_row rows (All-weaker (IsWritten (length vs)) (λ r. kind_of_row r.side.lower r.side.upper ≢ N) (λ r w. w.sided) rows can.written) i no_mps_row inside
 
   ranges_are : AreRanges (record { name = obj_name; kind = N } ∷ map mps_row rows) (entries_of (λ r. range_of r.side.lower r.side.upper) 1 rows)
   ranges_are =
@@ -145,17 +110,11 @@ module _ (rows : List ScaledRow) (objective : Form) (vs : List Variable) (maximi
       let from = entries_from (λ r. range_of r.side.lower r.side.upper) 1 (1 + length rows) rows refl in
       record {
         entries = subst (λ (n : ℕ). AreEntries n es) (sym height) (are_entries 1 (1 + length rows) es from);
-        bounded = All-weaker (λ (e : Entry ℚ). (1 ≤ e.row) × (e.row < 1 + length rows)) (λ e. IsBounded (record { name = obj_name; kind = N } ∷ map mps_row rows) e.row) (λ e k. bounded_at e.row k.0 k.1) es (from_one (1 + length rows) es from);
+        bounded = All-weaker (λ (e : Entry ℚ). (1 ≤ e.row) × (e.row < 1 + length rows)) (λ e. IsBounded (record { name = obj_name; kind = N } ∷ map mps_row rows) e.row) (λ e k. bounded_at e.row k.0 k.1) es (all_from 1 (1 + length rows) es from);
       }
 
   bounds_are : AreBoundsFrom 0 (length vs) (bounds_of 0 vs)
   bounds_are = bounds_from 0 (length vs) vs (omega arith) can.bounds
-
-  columns_are : ColumnsFrom 0 vs
-  columns_are = columns_from 0 vs (omega arith) can.variables.named
-
-  right_sides : List (Entry ℚ)
-  right_sides = with_entry 0 (nonzero (neg_ℚ objective.constant)) (entries_of (λ r. nonzero (rhs_of r.side.lower r.side.upper)) 1 rows)
 
   program_part : IsPartOfMps (λ x. x) (program_of rows objective vs maximise)
   unfolding program_of
@@ -166,16 +125,16 @@ module _ (rows : List ScaledRow) (objective : Form) (vs : List Variable) (maximi
         name = nl_is_name;
         rows = rows_are;
         columns = record {
-          few = omega (arith, columns_are.count, can.few_variables);
+          few = omega (arith, columns_length objective rows 0 vs, can.few_variables);
           few_entries = can.few_entries;
-          named = columns_are.named;
+          named = each_column (λ (c : Column ℚ). IsName c.name) (λ j v lt named. named);
           apart = columns_apart 0 vs can.variables.apart;
-          entries = subst (λ (n : ℕ). All (λ (c : Column ℚ). AreEntries n c.entries) cs) (sym height) columns_are.entries;
+          entries = subst (λ (n : ℕ). All (λ (c : Column ℚ). AreEntries n c.entries) cs) (sym height) (each_column (λ (c : Column ℚ). AreEntries (1 + length rows) c.entries) (λ j v lt named. are_entries 0 (1 + length rows) (column_entries objective rows j) (column_from objective rows j)));
         };
         rhs = subst (λ (n : ℕ). AreEntries n es) (sym height) (are_entries 0 (1 + length rows) es (objective_first (nonzero (neg_ℚ objective.constant)) (λ r. nonzero (rhs_of r.side.lower r.side.upper)) rows));
         ranges = ranges_are;
         bounds = record {
-          within = All-weaker (λ (b : Bound ℚ). (0 ≤ b.column) × (b.column < length vs)) (λ b. b.column < length cs) (λ b k. omega (arith, k.1, columns_are.count)) (bounds_of 0 vs) bounds_are.within;
+          within = All-weaker (λ (b : Bound ℚ). (0 ≤ b.column) × (b.column < length vs)) (λ b. b.column < length cs) (λ b k. omega (arith, k.1, columns_length objective rows 0 vs)) (bounds_of 0 vs) bounds_are.within;
           apart = bounds_are.apart;
           zeros = bounds_are.zeros;
         };
@@ -183,13 +142,13 @@ module _ (rows : List ScaledRow) (objective : Form) (vs : List Variable) (maximi
 
   pub program_is_whole : IsMps (λ x. x) (program_of rows objective vs maximise)
   unfolding program_of
-  program_is_whole = record { part = program_part; complete = record { objective = objective_first_row (map mps_row rows); filled = columns_are.filled } }
+  program_is_whole = record { part = program_part; complete = record { objective = objective_first_row (map mps_row rows); filled = each_column HasEntries (λ j v lt named. some_entry (with_entry 0 (nonzero (objective.coefficient j)) (entries_of (λ r. nonzero (r.coefficient j)) 1 rows))) } }
 
   pub program_is_decimal : IsDecimalProgram (program_of rows objective vs maximise)
   unfolding program_of
   program_is_decimal = record {
-    columns = columns_are.decimal;
-    rhs = with_fits 0 (nonzero (neg_ℚ objective.constant)) (entries_of (λ r. nonzero (rhs_of r.side.lower r.side.upper)) 1 rows) can.constant (entries_fit (λ r. nonzero (rhs_of r.side.lower r.side.upper)) 1 rows can.right);
-    ranges = entries_fit (λ r. range_of r.side.lower r.side.upper) 1 rows can.ranges;
+    columns = each_column (λ (c : Column ℚ). AreDecimal c.entries) (λ j v lt named. column_fits j lt);
+    rhs = with_fits 0 (nonzero (neg_ℚ objective.constant)) (entries_of (λ r. nonzero (rhs_of r.side.lower r.side.upper)) 1 rows) can.constant (entries_fit (λ r. nonzero (rhs_of r.side.lower r.side.upper)) 1 rows (All-weaker (IsWritten (length vs)) (λ r. IfFits (nonzero (rhs_of r.side.lower r.side.upper))) (λ r w. w.right) rows can.written));
+    ranges = entries_fit (λ r. range_of r.side.lower r.side.upper) 1 rows (All-weaker (IsWritten (length vs)) (λ r. IfFits (range_of r.side.lower r.side.upper)) (λ r w. w.range) rows can.written);
     bounds = bounds_are.decimal;
   }

@@ -16,6 +16,7 @@ ghost use Rattle.nl_model.specs.Rules.{IsFile};
 ghost use Rattle.export_round_trip.specs.ReadAs.{IsReadAs};
 
 /// The rows and columns of an exported program have names of at most eight bytes.
+#[tactic(auto, using(crate::proofs::Reading::short_names))]
 pub fn exported_names_are_short()
     ensures { (f : File) (k : ℕ) (m : Mps Dec) → IsFile f → IsProgramOf (linear_of f k) m
         → HasShortNames m }

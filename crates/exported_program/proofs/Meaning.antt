@@ -8,7 +8,7 @@ use Rattle.fractions.proofs.Arithmetic.{+ℚ_comm, neg-neg, -ℚ_lem}
 use Rattle.fractions.proofs.Adding.{sum_below_same}
 use Rattle.linear_programs.specs.Linear.{IsInside, Form, Variable, form_value, linear_part, value_at, unbounded, no_variable}
 use Rattle.mps_model.specs.Mps.{Column, at_row, or_zero, part_of_row, row_value, row_sides, row_interval, column_at, column_interval, is_whole_column, has_whole_record, IsMpsFeasible, mps_objective, objective_row}
-use Rattle.exported_program.specs.Program.{ScaledRow, nonzero, range_of, rhs_of, kind_of, mps_row, with_entry, entries_of, column_entries, program_of}
+use Rattle.exported_program.specs.Program.{ScaledRow, nonzero, range_of, rhs_of, kind_of_row, mps_row, with_entry, entries_of, column_entries, program_of}
 use Rattle.exported_program.proofs.Entries.{nonzero_back, at_row_same, at_row_other, at_row_before, at_row_there, column_objective, column_row, columns_length, column_there}
 use Rattle.exported_program.proofs.Sides.{row_sides_back, column_sides_back, never_whole}
 use Rattle.exported_program.proofs.Scaling.{ScaledHolds, ScaledIsOrdered}
@@ -50,7 +50,7 @@ module _ (rows : List ScaledRow) (objective : Form) (vs : List Variable) (maximi
       let rhs = ap or_zero (at_row_other (suc k) 0 (nonzero (neg_ℚ objective.constant)) (entries_of g 1 rows) (λ e. omega arith) ∙ at_row_there g rows (suc k) 1 k no_scaled (omega arith) h) ∙ nonzero_back (rhs_of r.side.lower r.side.upper) in
       let range = at_row_there (λ r. range_of r.side.lower r.side.upper) rows (suc k) 1 k no_scaled (omega arith) h in
       ap (λ t. row_sides t (or_zero (at_row (suc k) (with_entry 0 (nonzero (neg_ℚ objective.constant)) (entries_of g 1 rows)))) (at_row (suc k) (entries_of (λ r. range_of r.side.lower r.side.upper) 1 rows))) kind
-      ∙ ap₂ (row_sides (kind_of r.side.lower r.side.upper)) rhs range
+      ∙ ap₂ (row_sides (kind_of_row r.side.lower r.side.upper)) rhs range
       ∙ row_sides_back r.side.lower r.side.upper o
 
   pub objective_is : (xs : List ℚ) → mps_objective (program_of rows objective vs maximise) xs ≡ form_value objective (length vs) xs

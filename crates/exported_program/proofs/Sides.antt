@@ -9,7 +9,7 @@ use Rattle.linear_programs.specs.Linear.{Interval, AreOrdered, Variable}
 use Rattle.mps_model.specs.declared.kinds.BoundKind.{BoundKind}
 use Rattle.mps_model.specs.Mps.{row_sides, is_negative, size_of, Bound, side_set, lower_set, upper_set, usual_lower, or_usual, has_whole_record, is_below_zero}
 use Rattle.mps_model.specs.declared.kinds.BoundKind.TheVariants.{Lo, Up, Fx, Fr, Mi, Pl}
-use Rattle.exported_program.specs.Program.{nonzero, range_of, rhs_of, kind_of, two_sided, column_bounds, fixed_or_both, bound_record, bounds_of}
+use Rattle.exported_program.specs.Program.{nonzero, range_of, rhs_of, kind_of_row, two_sided, column_bounds, fixed_or_both, bound_record, bounds_of}
 
 abbrev sides : Option ℚ → Option ℚ → Interval
 sides l u = record { lower = l; upper = u }
@@ -39,7 +39,7 @@ nonzero_cases x = elim x.top as (λ t. x.top ≡ t → ((unless_zero t x ≡ Non
     from_pos (suc n) e = ◌⊎◌.inr refl
 
 -- a row's kind, right side and range say its sides
-pub row_sides_back : (l u : Option ℚ) → AreOrdered l u → row_sides (kind_of l u) (rhs_of l u) (range_of l u) ≡ sides l u
+pub row_sides_back : (l u : Option ℚ) → AreOrdered l u → row_sides (kind_of_row l u) (rhs_of l u) (range_of l u) ≡ sides l u
 row_sides_back None None h = refl
 row_sides_back None (Some u) h = refl
 row_sides_back (Some l) None h = refl

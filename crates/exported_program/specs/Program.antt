@@ -65,15 +65,15 @@ two_sided None = E
 two_sided (Some r) = G
 
 -- E where the sides are equal, G with a lower side, L with an upper one alone
-abbrev pub kind_of : Option ℚ → Option ℚ → RowKind
-kind_of None None = N
-kind_of None (Some u) = L
-kind_of (Some l) None = G
-kind_of (Some l) (Some u) = two_sided (nonzero (u -ℚ l))
+abbrev pub kind_of_row : Option ℚ → Option ℚ → RowKind
+kind_of_row None None = N
+kind_of_row None (Some u) = L
+kind_of_row (Some l) None = G
+kind_of_row (Some l) (Some u) = two_sided (nonzero (u -ℚ l))
 
 -- name and kind of a row
 abbrev pub mps_row : ScaledRow → MpsRow
-mps_row r = record { name = r.name; kind = kind_of r.side.lower r.side.upper }
+mps_row r = record { name = r.name; kind = kind_of_row r.side.lower r.side.upper }
 
 -- with an entry in row i in front, where there is a value
 abbrev pub with_entry : ℕ → Option ℚ → List (Entry ℚ) → List (Entry ℚ)

@@ -8,7 +8,8 @@ use Rattle.fractions.specs.Sums.{sum_below}
 use Rattle.linear_programs.specs.Lines.{line_by, Point}
 use Rattle.nl_meaning.specs.Parts.{IsLinearTree, IsPart, IsPartOfOne}
 use Rattle.nl_meaning.specs.Trees.{Tree, number, variable, defined, operator, Trees, none, more, Known, Definition as Meant, with_value, operator_value, tree_value, trees_values, expression_value, values_after, nothing_known, val}
-use Rattle.nl_model.specs.File.{Definition, File}
+use Rattle.nl_model.specs.File.{File}
+use Rattle.nl_model.specs.declared.definition.Def.{Def as Definition}
 use Rattle.nl_model.specs.HeaderRules.{defined_count}
 use Rattle.nl_model.specs.Rules.{is_defined, IsTreeWithin, AreTreesWithin, AreDefinitions, IsFile}
 use Rattle.file_meaning.specs.Expressions.{definition_of, definitions_of}

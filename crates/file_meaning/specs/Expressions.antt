@@ -2,7 +2,9 @@
 use Rattle.std.specs.Prelude.{ℕ, pos, Bool, false, List, [], map, get_or, Option, Some, None}
 use Rattle.exact_numbers.specs.Values.{dec_value}
 use Rattle.nl_meaning.specs.Trees.{Tree, number, LinearTerm, Expression, Definition}
-use Rattle.nl_model.specs.File.{Term, Objective, Definition as FileDefinition, File}
+use Rattle.nl_model.specs.File.{Term, File}
+use Rattle.nl_model.specs.declared.objective.Objective.{Objective}
+use Rattle.nl_model.specs.declared.definition.Def.{Def as FileDefinition}
 
 -- a variable and its factor
 abbrev pub linear_term : Term → LinearTerm
@@ -26,7 +28,8 @@ abbrev pub tree_or_zero : Option Tree → Tree
 tree_or_zero None = zero_tree
 tree_or_zero (Some t) = t
 
--- body i: the C expression, 0 where none was given, and the J terms
+-- body i: its expression (segment C of the text), 0 where none was given, and its linear terms
+-- (segment J)
 abbrev pub body_of : File → ℕ → Expression
 body_of f i =
     record {

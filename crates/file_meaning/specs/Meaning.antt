@@ -5,7 +5,7 @@ use Rattle.fractions.specs.Rational.{ℚ, ◌<ℚ◌, IsWhole}
 use Rattle.linear_programs.specs.Linear.{Interval, IsInside, value_at}
 use Rattle.nl_meaning.specs.Trees.{expression_val}
 use Rattle.nl_model.specs.File.{File}
-use Rattle.nl_model.specs.Kinds.{kind_of}
+use Rattle.nl_model.specs.Kinds.{variable_kind}
 use Rattle.file_meaning.specs.Expressions.{definitions_of, body_of, objective_of, maximises}
 use Rattle.linear_program.specs.Intervals.{interval_of, no_sides, is_whole_kind}
 
@@ -28,7 +28,7 @@ bound_of f j = interval_of (get_or f.bounds j no_sides)
 
 -- variable j is binary or integer
 abbrev pub is_whole_variable : File → ℕ → Bool
-is_whole_variable f j = is_whole_kind (kind_of f.counts j)
+is_whole_variable f j = is_whole_kind (variable_kind f.counts j)
 
 -- ---- feasible assignments
 -- there is a value, and it is within the sides
@@ -47,7 +47,8 @@ pub record IsFeasible (f : File) (xs : List ℚ) : Type 0 where
   pub whole : (j : ℕ) → j < f.counts.n_var → IsTrue (is_whole_variable f j)
       → IsWhole (value_at xs j)
 
--- a value is better than another where it is greater when maximising, and smaller when minimising
+-- a value is better than another where it is greater when maximising, and smaller when minimising;
+-- a missing value is neither better nor worse
 abbrev pub IsBetterValue : Bool → Option ℚ → Option ℚ → Type 0
 IsBetterValue true (Some v) (Some w) = w <ℚ v
 IsBetterValue false (Some v) (Some w) = v <ℚ w

@@ -5,7 +5,7 @@ use Rattle.std.proofs.lemmas.Int.{ints}
 use Rattle.std.proofs.lemmas.Nat.{div-add-mod'}
 use Rattle.std.proofs.Math.Nat.{mod-lt}
 use Rattle.std.proofs.lemmas.List.Elements.{All-nil, All-cons}
-use Rattle.fractions.specs.Functions.{power_of, is_below, lesser_of, greater_of, least_of, greatest_of, floor_of, ceiling_of, without_sign, absolute_of}
+use Rattle.fractions.specs.Functions.{power_of, is_smaller, lesser_of, greater_of, least_of, greatest_of, floor_of, ceiling_of, without_sign, absolute_of}
 use Rattle.fractions.specs.Rational.{ℚ, whole, zero_ℚ, one_ℚ, ◌+ℚ◌, ◌-ℚ◌, ◌*ℚ◌, neg_ℚ, ◌≤ℚ◌, ◌<ℚ◌, IsWhole}
 use Rattle.fractions.proofs.Signed.{neg-*ℤ}
 use Rattle.fractions.proofs.Values.{HasValue, scaled_value, own_value, whole_value, value_le, value_lt}
@@ -34,17 +34,17 @@ pub record IsGreater (x y z : ℚ) : Type 0 where
 
 lesser_is : (x y : ℚ) → IsLesser x y (lesser_of x y)
 unfolding lesser_of
-lesser_is x y = by (is_below y x) refl
+lesser_is x y = by (is_smaller y x) refl
   where
-    by : (b : Bool) → is_below y x ≡ b → IsLesser x y (if b then y else x)
+    by : (b : Bool) → is_smaller y x ≡ b → IsLesser x y (if b then y else x)
     by true e = record { one = inr refl; first = record { crosswise = omega (arith, ints) }; second = ≤ℚ_refl y }
     by false e = record { one = inl refl; first = ≤ℚ_refl x; second = record { crosswise = omega (arith, ints) } }
 
 greater_is : (x y : ℚ) → IsGreater x y (greater_of x y)
 unfolding greater_of
-greater_is x y = by (is_below x y) refl
+greater_is x y = by (is_smaller x y) refl
   where
-    by : (b : Bool) → is_below x y ≡ b → IsGreater x y (if b then y else x)
+    by : (b : Bool) → is_smaller x y ≡ b → IsGreater x y (if b then y else x)
     by true e = record { one = inr refl; first = record { crosswise = omega (arith, ints) }; second = ≤ℚ_refl y }
     by false e = record { one = inl refl; first = ≤ℚ_refl x; second = record { crosswise = omega (arith, ints) } }
 

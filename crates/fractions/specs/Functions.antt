@@ -30,14 +30,14 @@ abbrev pub is_zero : ℚ → Bool
 is_zero x = is_pos_zero x.top
 
 -- x is below y
-abbrev pub is_below : ℚ → ℚ → Bool
-is_below x y = int_lt (x.top *ℤ pos y.bottom) (y.top *ℤ pos x.bottom)
+abbrev pub is_smaller : ℚ → ℚ → Bool
+is_smaller x y = int_lt (x.top *ℤ pos y.bottom) (y.top *ℤ pos x.bottom)
 
 unfoldable pub lesser_of : ℚ → ℚ → ℚ
-lesser_of x y = (if is_below y x then y else x)
+lesser_of x y = (if is_smaller y x then y else x)
 
 unfoldable pub greater_of : ℚ → ℚ → ℚ
-greater_of x y = (if is_below x y then y else x)
+greater_of x y = (if is_smaller x y then y else x)
 
 -- the least, and the greatest, of a number and those of a list
 unfoldable pub least_of : ℚ → List ℚ → ℚ

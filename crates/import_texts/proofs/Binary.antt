@@ -20,7 +20,7 @@ use Rattle.linear_program.specs.Intervals.{interval_of}
 use Rattle.linear_program.specs.declared.interval.Interval.{Interval as Sides}
 use Rattle.linear_program.specs.declared.kind.Kind.{Kind}
 use Rattle.linear_program.specs.declared.kind.Kind.TheVariants.{Continuous, Binary, Integer}
-use Rattle.nl_model.specs.Kinds.{Group, group_of, kind_among, kind_of}
+use Rattle.nl_model.specs.Kinds.{Group, group_of, kind_among, variable_kind}
 use Rattle.nl_lines.specs.Tests.{is_binary, is_within_unit}
 use Rattle.mps_model.specs.Mps.{Mps, column_interval, with_values}
 use Rattle.mps_import.specs.Decimals.{sides_from}
@@ -64,8 +64,8 @@ module _ (m : Mps Dec) (j : ℕ) where
   column = get_or (order_of_columns m) j 0
 
   -- the column of a binary variable has both sides, from 0 to 1
-  unit_column : is_binary (kind_of (import_counts m) j) ≡ true → is_zero_to_one m column ≡ true
-  unfolding kind_of import_counts order_of_columns
+  unit_column : is_binary (variable_kind (import_counts m) j) ≡ true → is_zero_to_one m column ≡ true
+  unfolding variable_kind import_counts order_of_columns
   unit_column e =
       let n = length m.columns in
       let w = is_whole m in
@@ -118,7 +118,7 @@ within_unit s e = by s.lo s.hi e
         let high = turned ((dec_value hi).top *ℤ pos one_ℚ.bottom) (one_ℚ.top *ℤ pos (dec_value hi).bottom) both.1 in
         ap₂ ◌&&◌ low high
 
-pub binary_within : (m : Mps Dec) (j : ℕ) (i : Sides) → j < (import_of m).counts.n_var → is_binary (kind_of (import_of m).counts j) ≡ true → is_within_unit (get_or (import_of m).bounds j i) ≡ true
+pub binary_within : (m : Mps Dec) (j : ℕ) (i : Sides) → j < (import_of m).counts.n_var → is_binary (variable_kind (import_of m).counts j) ≡ true → is_within_unit (get_or (import_of m).bounds j i) ≡ true
 unfolding import_of with_values import_counts
 binary_within m j i lt e =
     let k = get_or (order_of_columns m) j 0 in

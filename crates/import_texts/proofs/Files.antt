@@ -9,7 +9,8 @@ use Rattle.std.proofs.lemmas.List.Elements.{All-append, All-cons, All-map, All-n
 use Rattle.std.proofs.lemmas.List.Sums.{count_by-le-length}
 use Rattle.exact_numbers.specs.declared.dec.Dec.{Dec}
 use Rattle.nl_meaning.specs.Trees.{Tree}
-use Rattle.nl_model.specs.File.{Objective, Term}
+use Rattle.nl_model.specs.File.{Term}
+use Rattle.nl_model.specs.declared.objective.Objective.{Objective}
 use Rattle.nl_model.specs.Rules.{AreBodies, AreGuesses, AreObjectives, AreTerms, AreTermsBelow, IsFile, IsSuffix, IsTreeKnown, most_terms}
 use Rattle.linear_program.specs.Intervals.{IsOrdered}
 use Rattle.mps_model.specs.Mps.{Entry, Mps, column_interval, objective_row, row_interval}

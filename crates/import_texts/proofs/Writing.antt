@@ -12,7 +12,9 @@ use Rattle.exact_numbers.proofs.Spelling.{fits_dec_in}
 use Rattle.fractions.specs.Rational.{ℚ}
 use Rattle.nl_meaning.specs.Trees.{Tree, tree_size}
 use Rattle.nl_model.specs.declared.node.Node.TheVariants.{Num}
-use Rattle.nl_model.specs.File.{Definition, Objective, Term}
+use Rattle.nl_model.specs.File.{Term}
+use Rattle.nl_model.specs.declared.definition.Def.{Def as Definition}
+use Rattle.nl_model.specs.declared.objective.Objective.{Objective}
 use Rattle.nl_model.specs.Nodes.{a_number}
 use Rattle.nl_segments.specs.Grammar.{NlValue}
 use Rattle.nl_segments.specs.Reader.{IsNl}

@@ -5,7 +5,7 @@ use Rattle.std.specs.List.{range_with_len}
 use Rattle.std.proofs.lemmas.List.Elements.{All-nil, All-cons}
 use Rattle.std.proofs.lemmas.List.FromFn.{length-map-range_with_len, map-range_with_len_more}
 use Rattle.nl_meaning.specs.Trees.{number, defined}
-use Rattle.nl_model.specs.File.{Objective}
+use Rattle.nl_model.specs.declared.objective.Objective.{Objective}
 use Rattle.nl_model.specs.Nodes.{IsTreeFormed}
 use Rattle.nl_model.specs.Rules.{AreBodies, AreDefinitions, AreGuesses, AreObjectives, AreTerms, AreTermsBelow, IsDefinition, IsFile, IsSuffix, IsTreeKnown, IsTreeWithin, most_terms, term_count}
 use Rattle.linear_program.specs.Intervals.{IsOrdered}

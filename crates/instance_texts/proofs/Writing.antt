@@ -9,8 +9,10 @@ use Rattle.std.proofs.lemmas.List.FromFn.{length-map-range_with_len}
 use Rattle.std.proofs.lemmas.List.Sums.{sum_by-cons}
 use Rattle.nl_meaning.specs.Trees.{number, defined, tree_size}
 use Rattle.nl_model.specs.declared.node.Node.TheVariants.{Num, Defined}
-use Rattle.nl_model.specs.File.{Definition, Objective, Term}
-use Rattle.nl_model.specs.Kinds.{Group, groups, kind_among, kind_of}
+use Rattle.nl_model.specs.File.{Term}
+use Rattle.nl_model.specs.declared.definition.Def.{Def as Definition}
+use Rattle.nl_model.specs.declared.objective.Objective.{Objective}
+use Rattle.nl_model.specs.Kinds.{Group, groups, kind_among, variable_kind}
 use Rattle.nl_model.specs.Nodes.{a_number, a_defined}
 use Rattle.nl_writer.specs.Written.{nl_text}
 use Rattle.nl_round_trip.specs.Writable.{AreTreesWritable, HasNodes, IsText, IsWritable, IsWritableSuffix, linear_count, node_count}
@@ -80,8 +82,8 @@ none_among (g ∷ gs) j all = by (nat_lt j g.size) refl all.0 (none_among gs (j 
     by true e (inr none) more = absurd (let below = ltb-true j g.size e in omega (arith, below, none))
     by false e h more = more
 
-never_binary : (n j : ℕ) → is_binary (kind_of (counts_of n) j) ≡ false
-unfolding kind_of
+never_binary : (n j : ℕ) → is_binary (variable_kind (counts_of n) j) ≡ false
+unfolding variable_kind
 never_binary n j = none_among (groups (counts_of n)) j (inl refl, (inl refl, (inl refl, (inl refl, (inl refl, (inl refl, (inl refl, (inr refl, (inl refl, tt)))))))))
 
 -- ---- the laws

@@ -9,7 +9,9 @@ use Rattle.exact_numbers.specs.SpelledLemmas.{spelled_dec}
 use Rattle.nl_meaning.specs.Trees.{Tree, number, defined}
 use Rattle.nl_model.specs.declared.header_counts.Counts.{Counts}
 use Rattle.linear_program.specs.declared.interval.Interval.{Interval}
-use Rattle.nl_model.specs.File.{Term, Objective, Definition, File}
+use Rattle.nl_model.specs.File.{Term, File}
+use Rattle.nl_model.specs.declared.objective.Objective.{Objective}
+use Rattle.nl_model.specs.declared.definition.Def.{Def as Definition}
 use Rattle.instances.specs.Draws.{drawn_row}
 
 -- of the numbers below n, in order

@@ -1,10 +1,8 @@
 -- The operators that want constants.
-use Rattle.std.proofs.Common.{◌≡◌, ℕ, zero, suc, ◌+◌, ◌*◌, ◌/◌, ◌-◌, ◌^◌, ◌<◌, ◌≤◌, ◌∙◌, sym, ap, refl, subst, subst₂, arith, mul-pos, Bool, true, false, cond, ◌&&◌, ℤ, pos, negsuc, ◌*ℤ◌, ◌<ℤ◌, ◌≤ℤ◌, unsigned_abs, Some, None, option_and_then, List, [], ◌∷◌, map, if◌then◌else◌, lit<}
+use Rattle.std.proofs.Common.{◌≡◌, ℕ, zero, suc, ◌+◌, ◌*◌, ◌/◌, ◌-◌, ◌^◌, ◌<◌, ◌∙◌, sym, ap, refl, subst, subst₂, arith, mul-pos, Bool, true, false, cond, ◌&&◌, ℤ, pos, negsuc, ◌*ℤ◌, ◌<ℤ◌, ◌≤ℤ◌, unsigned_abs, Some, None, option_and_then, List, [], ◌∷◌, map, if◌then◌else◌, lit<}
 use Rattle.std.specs.Int.{int_div_euclid}
-use Rattle.std.specs.Prelude.{int_lt}
-use Rattle.std.specs.Ordering.{int_cmp}
 use Rattle.std.specs.declared.cmp.Ordering.TheVariants.{Less, Equal, Greater}
-use Rattle.std.proofs.Math.Nat.{pow-succ', pow-zero, zero-mul, div-le_self}
+use Rattle.std.proofs.Math.Nat.{pow-succ', pow-zero, zero-mul}
 use Rattle.std.proofs.lemmas.Bool.{ltb-true, and_from, and_parts, false_from_ne_true, lt-ltb}
 use Rattle.std.proofs.lemmas.Int.{ints, unsigned_abs-mul}
 use Rattle.exact_numbers.specs.declared.frac.Frac.{Frac}
@@ -12,7 +10,7 @@ use Rattle.exact_numbers.specs.Values.{frac_value, order_of}
 use Rattle.fractions.specs.Divisors.{AreCoprime}
 use Rattle.fractions.specs.LowestLemmas.{coprime-swap}
 use Rattle.fractions.specs.Fits.{fits}
-use Rattle.fractions.specs.Functions.{exponent_of, or_zero, power_of, is_below, lesser_of, greater_of, least_of, greatest_of, floor_of, ceiling_of, absolute_of, without_sign}
+use Rattle.fractions.specs.Functions.{exponent_of, or_zero, power_of, is_smaller, lesser_of, greater_of, least_of, greatest_of, floor_of, ceiling_of, absolute_of, without_sign}
 use lib.IntN.{*ℤ-one, zero-*ℤ}
 use Rattle.fractions.specs.Rational.{ℚ, whole, ◌<ℚ◌, over, zero_ℚ, one_ℚ, ◌*ℚ◌, neg_ℚ}
 use Rattle.fractions.proofs.Coprimes.{coprime-mul, coprime-pow}
@@ -20,16 +18,16 @@ use Rattle.fractions.proofs.Extremes.{power_of-zero, power_of-suc}
 use Rattle.fractions.proofs.Arithmetic.{over_lowest, over_parts}
 use Rattle.linear_programs.specs.Lines.{constant_line, Line, is_constant, are_constant, constants_of}
 use Rattle.nl_meaning.specs.Faults.{constants_line, nonlinear_unless, operator_fault, operator_line, power_fault, too_wide_unless}
-use Rattle.nl_meaning.specs.declared.Reason.TheVariants.{RefusedPower, TooWide}
+use Rattle.nl_meaning.specs.declared.Reason.TheVariants.{Nonlinear, RefusedPower, TooWide}
 use Rattle.nl_meaning.specs.Trees.{on_values}
 use Rattle.code_tables.specs.declared.class.OpClass.{OpClass}
-use Rattle.code_tables.specs.declared.class.OpClass.TheVariants.{Least, Greatest, Power}
+use Rattle.code_tables.specs.declared.class.OpClass.TheVariants.{Greatest, Least, Power}
 use Rattle.linear_fold.specs.declared.parts.Part.{Part}
-use Rattle.linear_fold.specs.InsideOperates.{AreOperands, AreUnbroken, IsOperand, IsUnbroken, IsValueOf, part_line}
+use Rattle.linear_fold.specs.InsideOperates.{AreOperands, AreUnbroken, IsOperand, IsUnbroken, IsValueOf, best_class, better_of, part_line}
 use Rattle.linear_fold.proofs.Operators.{fault_first}
 
 -- ---- signs
-top_under : (x : ℚ) → x <ℚ zero_ℚ → x.top <ℤ pos 0
+pub top_under : (x : ℚ) → x <ℚ zero_ℚ → x.top <ℤ pos 0
 unfolding whole lib.IntN.one
 top_under x h = let g = h.crosswise in let e : x.top *ℤ pos 1 ≡ x.top = *ℤ-one x.top in let f = zero-*ℤ (pos x.bottom) in subst₂ (λ a b. a <ℤ b) e f g
 
@@ -41,87 +39,68 @@ top_above x n = by x.top refl
     by (pos k) e = omega (arith, ints)
     by (negsuc k) e = absurd (n (record { crosswise = subst₂ (λ a b. a <ℤ b) (sym (*ℤ-one x.top)) (sym (zero-*ℤ (pos x.bottom))) (subst (λ t. t <ℤ pos 0) (sym e) (omega (arith, ints))) }))
 
-pub is_under : (r : Bool) (x : ℚ) → (r ≡ true → x <ℚ zero_ℚ) → r ≡ true → x.top <ℤ pos 0
-is_under r x f e = top_under x (f e)
-
 pub is_above : (r : Bool) (x : ℚ) → (x <ℚ zero_ℚ → r ≡ true) → r ≡ false → pos 0 ≤ℤ x.top
 is_above r x f e = top_above x (λ l. (let clash : true ≡ false = sym (f l) ∙ e in cc))
+
+-- what holds of all numbers below 0, and of all from 0 on
+under_case : (P : ℤ → Type 0) → ((n : ℕ) → P (negsuc n)) → (t : ℤ) → t <ℤ pos 0 → P t
+under_case P f (pos n) h = absurd (omega (arith, ints))
+under_case P f (negsuc n) h = f n
+
+above_case : (P : ℤ → Type 0) → ((n : ℕ) → P (pos n)) → (t : ℤ) → pos 0 ≤ℤ t → P t
+above_case P f (pos n) h = f n
+above_case P f (negsuc n) h = absurd (omega (arith, ints))
 
 -- ---- absolute values
 pub absolute_neg : (x : ℚ) → x.top <ℤ pos 0 → neg_ℚ x ≡ absolute_of x
 unfolding absolute_of
-absolute_neg x h = by x.top refl
-  where
-    by : (t : ℤ) → x.top ≡ t → neg_ℚ x ≡ without_sign t x
-    by (pos n) e = absurd (let g = subst (λ z. z <ℤ pos 0) e h in omega (arith, ints))
-    by (negsuc n) e = refl
+absolute_neg x h = under_case (λ t. neg_ℚ x ≡ without_sign t x) (λ n. refl) x.top h
 
 pub absolute_pos : (x : ℚ) → pos 0 ≤ℤ x.top → x ≡ absolute_of x
 unfolding absolute_of
-absolute_pos x h = by x.top refl
-  where
-    by : (t : ℤ) → x.top ≡ t → x ≡ without_sign t x
-    by (pos n) e = refl
-    by (negsuc n) e = absurd (let g = subst (λ z. pos 0 ≤ℤ z) e h in omega (arith, ints))
+absolute_pos x h = above_case (λ t. x ≡ without_sign t x) (λ n. refl) x.top h
 
 -- ---- order
-cond_less : (b d : Bool) → cond b Less (cond d Greater Equal) ≡ Less → b ≡ true
-cond_less true d e = refl
-cond_less false true e = cc
-cond_less false false e = cc
+first_where : (b d : Bool) (x y : ℚ) → cond b Less (cond d Greater Equal) ≡ Less → x ≡ (if b then x else y)
+first_where true d x y e = refl
+first_where false true x y e = cc
+first_where false false x y e = cc
 
-cond_other : (b d : Bool) → (cond b Less (cond d Greater Equal) ≡ Less → ⊥) → b ≡ false
-cond_other true d n = absurd (n refl)
-cond_other false d n = refl
-
-pub is_less : (p q : ℤ) → int_cmp p q ≡ Less → int_lt p q ≡ true
-is_less p q e = cond_less (int_lt p q) (int_lt q p) e
-
-pub is_not_less : (p q : ℤ) → (int_cmp p q ≡ Less → ⊥) → int_lt p q ≡ false
-is_not_less p q n = cond_other (int_lt p q) (int_lt q p) n
-
-chosen_true : (b : Bool) (x y : ℚ) → b ≡ true → x ≡ (if b then x else y)
-chosen_true true x y e = refl
-chosen_true false x y e = cc
-
-chosen_false : (b : Bool) (x y : ℚ) → b ≡ false → y ≡ (if b then x else y)
-chosen_false true x y e = cc
-chosen_false false x y e = refl
+second_where : (b d : Bool) (x y : ℚ) → (cond b Less (cond d Greater Equal) ≡ Less → ⊥) → y ≡ (if b then x else y)
+second_where true d x y n = absurd (n refl)
+second_where false d x y n = refl
 
 pub lesser_second : (x y : ℚ) → order_of y x ≡ Less → y ≡ lesser_of x y
 unfolding lesser_of
-lesser_second x y e = chosen_true (is_below y x) y x (is_less (y.top *ℤ pos x.bottom) (x.top *ℤ pos y.bottom) e)
+lesser_second x y e = first_where (is_smaller y x) (is_smaller x y) y x e
 
 pub lesser_first : (x y : ℚ) → (order_of y x ≡ Less → ⊥) → x ≡ lesser_of x y
 unfolding lesser_of
-lesser_first x y n = chosen_false (is_below y x) y x (is_not_less (y.top *ℤ pos x.bottom) (x.top *ℤ pos y.bottom) n)
+lesser_first x y n = second_where (is_smaller y x) (is_smaller x y) y x n
 
 pub greater_second : (x y : ℚ) → order_of x y ≡ Less → y ≡ greater_of x y
 unfolding greater_of
-greater_second x y e = chosen_true (is_below x y) y x (is_less (x.top *ℤ pos y.bottom) (y.top *ℤ pos x.bottom) e)
+greater_second x y e = first_where (is_smaller x y) (is_smaller y x) y x e
 
 pub greater_first : (x y : ℚ) → (order_of x y ≡ Less → ⊥) → x ≡ greater_of x y
 unfolding greater_of
-greater_first x y n = chosen_false (is_below x y) y x (is_not_less (x.top *ℤ pos y.bottom) (y.top *ℤ pos x.bottom) n)
+greater_first x y n = second_where (is_smaller x y) (is_smaller y x) y x n
 
 chosen_same : (b : Bool) (x : ℚ) → (if b then x else x) ≡ x
 chosen_same true x = refl
 chosen_same false x = refl
 
-pub lesser_same : (x : ℚ) → lesser_of x x ≡ x
-unfolding lesser_of
-lesser_same x = chosen_same (is_below x x) x
-
-pub greater_same : (x : ℚ) → greater_of x x ≡ x
-unfolding greater_of
-greater_same x = chosen_same (is_below x x) x
+better_same : (b : Bool) (x : ℚ) → better_of b x x ≡ x
+unfolding lesser_of greater_of
+better_same true x = chosen_same (is_smaller x x) x
+better_same false x = chosen_same (is_smaller x x) x
 
 -- ---- powers
-pub power_first : (x : ℚ) (f : Frac) → frac_value f ≡ one_ℚ → frac_value f ≡ power_of x 0
-power_first x f e = e ∙ sym (power_of-zero x)
+pub power_first : (x : ℚ) → power_of x 0 ≡ one_ℚ
+power_first x = power_of-zero x
 
-pub power_next : (x : ℚ) (n : ℕ) (p y : ℚ) → y ≡ power_of x n → p ≡ x *ℚ y → p ≡ power_of x (n + 1)
-power_next x n p y e f = f ∙ ap (λ z. x *ℚ z) e ∙ sym (power_of-suc x n) ∙ ap (power_of x) (omega arith)
+pub power_next : (x : ℚ) (n : ℕ) → power_of x (n + 1) ≡ x *ℚ power_of x n
+power_next x n = ap (power_of x) (omega arith) ∙ power_of-suc x n
 
 product_parts : (x y : ℚ) → AreCoprime (unsigned_abs x.top * unsigned_abs y.top) (x.bottom * y.bottom) → (unsigned_abs (x *ℚ y).top ≡ unsigned_abs x.top * unsigned_abs y.top) × ((x *ℚ y).bottom ≡ x.bottom * y.bottom)
 unfolding ◌*ℚ◌
@@ -195,109 +174,82 @@ whole_fits num z e small wide =
 
 pub floor_above : (x y : ℚ) → pos 0 ≤ℤ x.top → y ≡ whole (pos (unsigned_abs x.top / x.bottom)) → y ≡ floor_of x
 unfolding floor_of
-floor_above x y h e = e ∙ ap whole (by x.top h)
-  where
-    by : (t : ℤ) → pos 0 ≤ℤ t → pos (unsigned_abs t / x.bottom) ≡ int_div_euclid t (pos x.bottom)
-    by (pos n) g = refl
-    by (negsuc n) g = absurd (omega (arith, ints))
+floor_above x y h e = e ∙ ap whole (above_case (λ t. pos (unsigned_abs t / x.bottom) ≡ int_div_euclid t (pos x.bottom)) (λ n. refl) x.top h)
 
 pub floor_under : (x y : ℚ) → x.top <ℤ pos 0 → y ≡ whole (negsuc ((unsigned_abs x.top - 1) / x.bottom)) → y ≡ floor_of x
 unfolding floor_of
-floor_under x y h e = e ∙ ap whole (by x.top h)
-  where
-    by : (t : ℤ) → t <ℤ pos 0 → negsuc ((unsigned_abs t - 1) / x.bottom) ≡ int_div_euclid t (pos x.bottom)
-    by (pos n) g = absurd (omega (arith, ints))
-    by (negsuc n) g = ap (λ k. negsuc (k / x.bottom)) (omega arith)
+floor_under x y h e =
+    e ∙ ap whole (under_case (λ t. negsuc ((unsigned_abs t - 1) / x.bottom) ≡ int_div_euclid t (pos x.bottom)) (λ n. ap (λ k. negsuc (k / x.bottom)) (omega arith)) x.top h)
 
 -- ---- what constants come to
-pub made_of : (n : ℕ) (c : OpClass) (ls : List Line) (l : Line) (v : ℚ) → are_constant n ls ≡ true → on_values c (constants_of ls) ≡ Some v → l ≡ constant_line v → (nonlinear_unless (are_constant n ls) ≡ None) × (l ≡ constants_line c ls)
-made_of n c ls l v e f g = (ap nonlinear_unless e, g ∙ ap (λ o. constant_line (or_zero o)) (sym f))
+pub made_of : (n : ℕ) (c : OpClass) (ls : List Line) (v : ℚ) → are_constant n ls ≡ true → on_values c (constants_of ls) ≡ Some v → (nonlinear_unless (are_constant n ls) ≡ None) × (constant_line v ≡ constants_line c ls) × Unit {0}
+made_of n c ls v e f = (ap nonlinear_unless e, ap (λ o. constant_line (or_zero o)) (sym f), tt)
 
-pub one_constant : (n : ℕ) (l : Line) → is_constant n l ≡ true → are_constant n (l ∷ []) ≡ true
-one_constant n l e = and_from _ _ e refl
+pub best_made : (b : Bool) (n : ℕ) (ls : List Line) (v : ℚ) → are_constant n ls ≡ true → on_values (best_class b) (constants_of ls) ≡ Some v → (operator_fault n (best_class b) ls ≡ None) × (constant_line v ≡ operator_line n (best_class b) ls) × Unit {0}
+best_made true n ls v e f = made_of n Least ls v e f
+best_made false n ls v e f = made_of n Greatest ls v e f
 
--- ---- the best of many: how it is chosen is a pair of functions with their laws
-pub record Choice : Type 0 where
-  pub best : ℚ → List ℚ → ℚ
-  pub better : ℚ → ℚ → ℚ
-  pub none : (x : ℚ) → best x [] ≡ x
-  pub more : (x y : ℚ) (ys : List ℚ) → best x (y ∷ ys) ≡ best (better x y) ys
-  pub same : (x : ℚ) → better x x ≡ x
+pub best_varies : (b : Bool) (n : ℕ) (ls : List Line) → are_constant n ls ≡ false → operator_fault n (best_class b) ls ≡ Some Nonlinear
+best_varies true n ls e = ap nonlinear_unless e
+best_varies false n ls e = ap nonlinear_unless e
 
-pub least_none : (x : ℚ) → least_of x [] ≡ x
-unfolding least_of
-least_none x = refl
+pub one_made : (n : ℕ) (c : OpClass) (l : Line) (v : ℚ) → true ≡ is_constant n l → Some v ≡ on_values c (l.constant ∷ []) → (nonlinear_unless (are_constant n (l ∷ [])) ≡ None) × (constant_line v ≡ constants_line c (l ∷ [])) × Unit {0}
+one_made n c l v e f = made_of n c (l ∷ []) v (and_from _ _ (sym e) refl) (sym f)
 
-pub least_more : (x y : ℚ) (ys : List ℚ) → least_of x (y ∷ ys) ≡ least_of (lesser_of x y) ys
-unfolding least_of
-least_more x y ys = refl
+-- ---- the least of many, or the greatest
+abbrev pub best_of : Bool → ℚ → List ℚ → ℚ
+best_of least x ys = if least then least_of x ys else greatest_of x ys
 
-abbrev pub least_choice : Choice
-least_choice = record { best = least_of; better = lesser_of; none = least_none; more = least_more; same = lesser_same }
+best_none : (b : Bool) (x : ℚ) → best_of b x [] ≡ x
+unfolding least_of greatest_of
+best_none true x = refl
+best_none false x = refl
 
-pub greatest_none : (x : ℚ) → greatest_of x [] ≡ x
-unfolding greatest_of
-greatest_none x = refl
+best_more : (b : Bool) (x y : ℚ) (ys : List ℚ) → best_of b x (y ∷ ys) ≡ best_of b (better_of b x y) ys
+unfolding least_of greatest_of
+best_more true x y ys = refl
+best_more false x y ys = refl
 
-pub greatest_more : (x y : ℚ) (ys : List ℚ) → greatest_of x (y ∷ ys) ≡ greatest_of (greater_of x y) ys
-unfolding greatest_of
-greatest_more x y ys = refl
+best_value : (b : Bool) (x : ℚ) (ys : List ℚ) → on_values (best_class b) (x ∷ ys) ≡ Some (best_of b x ys)
+best_value true x ys = refl
+best_value false x ys = refl
 
-abbrev pub greatest_choice : Choice
-greatest_choice = record { best = greatest_of; better = greater_of; none = greatest_none; more = greatest_more; same = greater_same }
-
-pub record Choosing (c : Choice) (first cur : ℚ) (left all : List Part) : Type 0 where
-  pub value : c.best cur (constants_of (map part_line left)) ≡ c.best first (constants_of (map part_line all))
+pub record Choosing (b : Bool) (first cur : ℚ) (left all : List Part) : Type 0 where
+  pub value : best_of b cur (constants_of (map part_line left)) ≡ best_of b first (constants_of (map part_line all))
   pub tests : (n : ℕ) → AreOperands n all → (are_constant n (map part_line left) ≡ are_constant n (map part_line all)) × AreOperands n left
   pub unbroken : AreUnbroken left
 
-pub choosing_init : (c : Choice) (first : ℚ) (fs : List Part) → AreUnbroken fs → Choosing c first first fs fs
-choosing_init c first fs h = record { value = refl; tests = λ n z. (refl, z); unbroken = h }
+pub choosing_init : (b : Bool) (first : ℚ) (fs : List Part) → AreUnbroken fs → Choosing b first first fs fs
+choosing_init b first fs h = record { value = refl; tests = λ n z. (refl, z); unbroken = h }
 
-pub unbroken_here : (c : Choice) (first cur : ℚ) (x : Part) (left rest all : List Part) → left ≡ x ∷ rest → Choosing c first cur left all → IsUnbroken x
-unbroken_here c first cur x left rest all is h = (subst AreUnbroken is h.unbroken).0
+pub unbroken_here : (b : Bool) (first cur : ℚ) (x : Part) (left rest all : List Part) → left ≡ x ∷ rest → Choosing b first cur left all → IsUnbroken x
+unbroken_here b first cur x left rest all is h = (subst AreUnbroken is h.unbroken).0
 
-module _ (c : Choice) (first cur new : ℚ) (x : Part) (left rest all : List Part) (is : left ≡ x ∷ rest) (h : Choosing c first cur left all) where
-  here : Choosing c first cur (x ∷ rest) all
-  here = subst (λ l. Choosing c first cur l all) is h
+module _ (b : Bool) (first cur new : ℚ) (x : Part) (left rest all : List Part) (is : left ≡ x ∷ rest) (h : Choosing b first cur left all) where
+  here : Choosing b first cur (x ∷ rest) all
+  here = subst (λ l. Choosing b first cur l all) is h
 
-  pub choosing_more : (v : ℚ) → v ≡ (part_line x).constant → ((n : ℕ) → IsOperand n x → is_constant n (part_line x) ≡ true) → new ≡ c.better cur v → Choosing c first new rest all
+  pub choosing_more : (v : ℚ) → v ≡ (part_line x).constant → ((n : ℕ) → IsOperand n x → is_constant n (part_line x) ≡ true) → new ≡ better_of b cur v → Choosing b first new rest all
   choosing_more v is_v t e =
       let o = here in
       record {
-        value = ap (λ y. c.best y (constants_of (map part_line rest))) (e ∙ ap (c.better cur) is_v) ∙ sym (c.more cur (part_line x).constant (constants_of (map part_line rest))) ∙ o.value;
-        tests = λ n z. let r = o.tests n z in (ap (λ b. b && are_constant n (map part_line rest)) (sym (t n r.1.0)) ∙ r.0, r.1.1);
+        value = ap (λ y. best_of b y (constants_of (map part_line rest))) (e ∙ ap (better_of b cur) is_v) ∙ sym (best_more b cur (part_line x).constant (constants_of (map part_line rest))) ∙ o.value;
+        tests = λ n z. let r = o.tests n z in (ap (λ q. q && are_constant n (map part_line rest)) (sym (t n r.1.0)) ∙ r.0, r.1.1);
         unbroken = o.unbroken.1;
       }
 
   pub choosing_stop : ((n : ℕ) → IsOperand n x → is_constant n (part_line x) ≡ false) → (n : ℕ) → AreOperands n all → are_constant n (map part_line all) ≡ false
   choosing_stop t n z =
       let r = here.tests n z in
-      sym r.0 ∙ ap (λ b. b && are_constant n (map part_line rest)) (t n r.1.0)
+      sym r.0 ∙ ap (λ q. q && are_constant n (map part_line rest)) (t n r.1.0)
 
-module _ (c : Choice) (first cur : ℚ) (x : Part) (left fs all : List Part) (none : left ≡ []) (is : all ≡ x ∷ fs) (start : first ≡ (part_line x).constant) (h : Choosing c first cur left all) where
-  choosing_value : cur ≡ c.best (part_line x).constant (constants_of (map part_line fs))
-  choosing_value =
-      let o : Choosing c first cur [] (x ∷ fs) = subst (λ l. Choosing c first cur l (x ∷ fs)) none (subst (λ a. Choosing c first cur left a) is h) in
-      sym (c.none cur) ∙ o.value ∙ c.more first (part_line x).constant (constants_of (map part_line fs))
-      ∙ ap (λ y. c.best y (constants_of (map part_line fs))) (ap (λ y. c.better y (part_line x).constant) start ∙ c.same (part_line x).constant)
-
-  pub choosing_tests : (n : ℕ) → AreOperands n all → are_constant n (map part_line all) ≡ true
-  choosing_tests n z =
-      let o : Choosing c first cur [] all = subst (λ l. Choosing c first cur l all) none h in
-      sym (o.tests n z).0
-
-  pub choosing_end : constants_of (map part_line all) ≡ (part_line x).constant ∷ constants_of (map part_line fs)
-  choosing_end = ap (λ a. constants_of (map part_line a)) is
-
-  pub choosing_best : cur ≡ c.best (part_line x).constant (constants_of (map part_line fs))
-  choosing_best = choosing_value
-
-pub least_found : (n : ℕ) (x : Part) (fs all : List Part) (v : Frac) → all ≡ x ∷ fs → are_constant n (map part_line all) ≡ true → frac_value v ≡ least_of (part_line x).constant (constants_of (map part_line fs)) → IsValueOf n Least all (Some v)
-least_found n x fs all v is t e = (t, ap (λ a. on_values Least (constants_of (map part_line a))) is ∙ ap Some (sym e))
-
-pub greatest_found : (n : ℕ) (x : Part) (fs all : List Part) (v : Frac) → all ≡ x ∷ fs → are_constant n (map part_line all) ≡ true → frac_value v ≡ greatest_of (part_line x).constant (constants_of (map part_line fs)) → IsValueOf n Greatest all (Some v)
-greatest_found n x fs all v is t e = (t, ap (λ a. on_values Greatest (constants_of (map part_line a))) is ∙ ap Some (sym e))
+pub best_found : (b : Bool) (first : ℚ) (v : Frac) (x : Part) (left fs all : List Part) → left ≡ [] → all ≡ x ∷ fs → first ≡ (part_line x).constant → Choosing b first (frac_value v) left all → (n : ℕ) → AreOperands n all → IsValueOf n (best_class b) all (Some v)
+best_found b first v x left fs all none is start h n z =
+    let k = (part_line x).constant in
+    let ks = constants_of (map part_line fs) in
+    let o : Choosing b first (frac_value v) [] (x ∷ fs) = subst₂ (Choosing b first (frac_value v)) none is h in
+    let value : frac_value v ≡ best_of b k ks = sym (best_none b (frac_value v)) ∙ o.value ∙ best_more b first k ks ∙ ap (λ y. best_of b y ks) (ap (λ y. better_of b y k) start ∙ better_same b k) in
+    subst (λ a. IsValueOf n (best_class b) a (Some v)) (sym is) (sym (o.tests n (subst (AreOperands n) is z)).0, best_value b k ks ∙ ap Some (sym value))
 
 pub first_varies : (n : ℕ) (x : Part) (fs all : List Part) → all ≡ x ∷ fs → AreOperands n all → ((m : ℕ) → IsOperand m x → is_constant m (part_line x) ≡ false) → are_constant n (map part_line all) ≡ false
 first_varies n x fs all is z t =
@@ -308,11 +260,7 @@ unbroken_first x fs all is h = (subst AreUnbroken is h).0
 
 -- a size below 0 is above 0
 pub some_size : (x : ℚ) → x.top <ℤ pos 0 → 0 < unsigned_abs x.top
-some_size x h = by x.top h
-  where
-    by : (t : ℤ) → t <ℤ pos 0 → 0 < unsigned_abs t
-    by (pos n) g = absurd (omega (arith, ints))
-    by (negsuc n) g = omega arith
+some_size x h = under_case (λ t. 0 < unsigned_abs t) (λ n. omega arith) x.top h
 
 pub ceiling_is : (x : ℚ) → neg_ℚ (floor_of (neg_ℚ x)) ≡ ceiling_of x
 unfolding ceiling_of
@@ -330,8 +278,9 @@ module _ (n : ℕ) (a b : Line) (ca : is_constant n a ≡ true) (cb : is_constan
   power_too_wide x y k d e g w =
       fault_first _ _ _ both ∙ ap (power_fault a.constant) (ap exponent_of (sym e) ∙ g) ∙ ap too_wide_unless (ap (λ z. fits (power_of z k)) (sym d) ∙ w)
 
-  pub power_made : (l : Line) (x y v : ℚ) (k : ℕ) → x ≡ a.constant → y ≡ b.constant → exponent_of y ≡ Some k → fits (power_of x k) ≡ true → v ≡ power_of x k → l ≡ constant_line v → (operator_fault n Power (a ∷ b ∷ []) ≡ None) × (l ≡ operator_line n Power (a ∷ b ∷ []))
-  power_made l x y v k d e g w is line = (
+  pub power_made : (x y v : ℚ) (k : ℕ) → x ≡ a.constant → y ≡ b.constant → exponent_of y ≡ Some k → fits (power_of x k) ≡ true → v ≡ power_of x k → (operator_fault n Power (a ∷ b ∷ []) ≡ None) × (constant_line v ≡ operator_line n Power (a ∷ b ∷ [])) × Unit {0}
+  power_made x y v k d e g w is = (
     fault_first _ _ _ both ∙ ap (power_fault a.constant) (ap exponent_of (sym e) ∙ g) ∙ ap too_wide_unless (ap (λ z. fits (power_of z k)) (sym d) ∙ w),
-    line ∙ ap constant_line (is ∙ ap (λ z. power_of z k) d) ∙ ap (λ o. constant_line (or_zero o)) (ap (option_and_then (λ m. Some (power_of a.constant m))) (sym g ∙ ap exponent_of e)),
+    ap constant_line (is ∙ ap (λ z. power_of z k) d) ∙ ap (λ o. constant_line (or_zero o)) (ap (option_and_then (λ m. Some (power_of a.constant m))) (sym g ∙ ap exponent_of e)),
+    tt,
   )

@@ -1,7 +1,8 @@
--- What the entries of a fold come to.
-use Rattle.std.proofs.Common.{◌≡◌, ℕ, zero, suc, ◌+◌, ◌<◌, ◌≤◌, ◌∙◌, sym, ap, ap₂, refl, subst, Bool, true, false, None, Some, Option, List, [], ◌∷◌, length, ⊎_elim, arith, option_and_then, if◌then◌else◌, get_or}
+-- What the entries of a fold come to, and stacks with the top at the end.
+use Rattle.std.proofs.Common.{◌≡◌, ℕ, zero, suc, ◌+◌, ◌<◌, ◌≤◌, ◌∙◌, sym, ap, ap₂, refl, subst, Bool, true, false, None, Some, Option, List, [], ◌∷◌, length, ⊎_elim, arith, option_and_then, if◌then◌else◌, get_or, ◌-◌, ◌*◌, subst₂, ◌++◌, reverse, take, drop, length-drop, drop-cons}
 use Rattle.std.specs.Option.{option_or}
 use Rattle.std.proofs.lemmas.Bool.{cases_lt}
+use Rattle.std.proofs.lemmas.List.{get_or_default, length-map, reverse-append, length-reverse}
 use Rattle.code_tables.specs.declared.class.OpClass.{OpClass}
 use Rattle.code_tables.specs.declared.class.OpClass.TheVariants.{Sum, Difference, Product, Quotient, Negation, List as SumOfAll, Power, Least, Greatest, Floor, Ceiling, Absolute, Refused}
 use Rattle.exact_numbers.specs.declared.frac.Frac.{Frac}
@@ -11,8 +12,8 @@ use Rattle.fractions.proofs.Arithmetic.{*ℚ_zero, +ℚ_zero, neg_zero}
 use Rattle.nl_meaning.specs.declared.Fault.{Fault}
 use Rattle.nl_meaning.specs.declared.Reason.{Reason}
 use Rattle.linear_programs.specs.Lines.{Line, some_values, line_value, line_by, is_constant, line_with, line_sum, line_scaled, line_neg, running_line, constant_line, Point}
-use Rattle.nl_meaning.specs.Faults.{operator_fault, operator_line, fault_at, trees_lines, tree_fault}
-use Rattle.nl_meaning.specs.Trees.{Known, Tree, operator, Trees, none, more, on_values, operator_value, tree_value, trees_values, HasCount}
+use Rattle.nl_meaning.specs.Faults.{operator_fault, operator_line, fault_at, trees_lines, tree_fault, trees_fault}
+use Rattle.nl_meaning.specs.Trees.{Known, Tree, operator, Trees, none, more, on_values, operator_value, tree_value, trees_values, HasCount, tree_size, trees_size, first_trees}
 use Rattle.linear_programs.proofs.LineLemmas.{same_constant, same_coef, no_coef}
 use Rattle.nl_meaning.proofs.Linear.{all_there-some, constant_value, variable_value, operator_has_line}
 use Rattle.linear_fold.specs.declared.entries.Entry.{Entry}
@@ -22,16 +23,18 @@ use Rattle.linear_fold.specs.declared.parts.Part.{Part}
 use Rattle.linear_fold.specs.declared.parts.Part.TheVariants.{Number, Variable, Linear, Broken}
 use Rattle.linear_program.specs.Forms.{form_line, IsWithin, IsZeroFrom}
 use Rattle.linear_fold.specs.InsideOperates.{IsOperand, IsSound, AreOperands, lines_of_parts, part_line}
-use Rattle.linear_fold.specs.InsideFolds.{HasLine, HasLineOf, IsLined, AreLinesOf, AreOperandsOf, ArePartsWithin, ComesToLine, IsEntryOf, IsEntryWithin, IsFolded, IsPartFolded, IsPartWithin, first_broken}
-use Rattle.linear_fold.proofs.PartLemmas.{multiple_zero_from}
+use Rattle.linear_fold.specs.InsideFolds.{HasLine, HasLineOf, IsLined, AreLinesOf, AreOperandsOf, ArePartsWithin, ComesToLine, IsEntryOf, IsEntryWithin, IsFolded, IsPartFolded, IsPartWithin, first_broken, AreNodesWithin, ArePartsFolded, IsNodeWithin, NodeFinds}
+use Rattle.linear_fold.proofs.Operators.{multiple_zero_from}
 use Rattle.linear_program.proofs.Scaled.{same_line}
+use Rattle.std.proofs.Math.Nat.{mul-le-mul_left}
+use Rattle.code_tables.specs.Opcodes.{class_of}
+use Rattle.nl_model.specs.declared.node.Node.{Node}
+use Rattle.nl_model.specs.declared.node.Node.TheVariants.{Num, Var, Defined, Op}
+use Rattle.nl_model.specs.Nodes.{AreNodesFormed, trees_of, with_node}
 
 -- a function of points that has the values of a line
 pub same_values : (n : ℕ) (f : Point → Option ℚ) (a l : Line) → a ≡ l → HasLine n f l → HasLine n f a
 same_values n f a l e h at = h at ∙ ap (λ m. Some (line_value n m at)) (sym e)
-
-pub same_form : (n : ℕ) (f : Point → Option ℚ) (a : Form) (l : Line) → form_line a ≡ l → ((at : Point) → f at ≡ Some (line_value n l at)) → HasLineOf n f a
-same_form n f a l e h at = h at ∙ ap (λ m. Some (line_value n m at)) (sym e)
 
 pub constant_lined : (n : ℕ) (k : ℚ) (at : Point) → Some k ≡ Some (line_value n (constant_line k) at)
 constant_lined n k at = ap Some (sym (constant_value n k at))
@@ -71,19 +74,13 @@ AreZeroLines n (l ∷ ls) = IsZeroFrom n l × AreZeroLines n ls
 module _ (known : Point → Known) (n : ℕ) where
   lines_are : (ts : Trees) (ls : List Line) → AreZeroLines n ls → AreLinesOf known n ts ls → ls ≡ trees_lines known ts
   lines_are none [] w h = refl
-  lines_are none (l ∷ ls) w h = absurd h
-  lines_are (more t ts) [] w h = absurd h
   lines_are (more t ts) (l ∷ ls) w h = ap₂ ◌∷◌ (is_line_by n (λ at. tree_value (known at) at t) l w.0 h.0) (lines_are ts ls w.1 h.1)
+  lines_are ts ls w h = absurd h
 
   values_are : (ts : Trees) (ls : List Line) → AreLinesOf known n ts ls → (at : Point) → trees_values (known at) at ts ≡ some_values n at ls
   values_are none [] h at = refl
-  values_are none (l ∷ ls) h at = absurd h
-  values_are (more t ts) [] h at = absurd h
   values_are (more t ts) (l ∷ ls) h at = ap₂ ◌∷◌ (h.0 at) (values_are ts ls h.1 at)
-
-pub length-parts : (ps : List Part) → length (lines_of_parts ps) ≡ length ps
-length-parts [] = refl
-length-parts (p ∷ ps) = ap suc (length-parts ps)
+  values_are ts ls h at = absurd h
 
 lines_zero : (n : ℕ) (ps : List Part) → AreOperands n ps → AreZeroLines n (lines_of_parts ps)
 lines_zero n [] w = tt
@@ -107,26 +104,11 @@ chosen_zero n true x y p q = p
 chosen_zero n false x y p q = q
 
 pub operator_zero : (n : ℕ) (c : OpClass) (ls : List Line) → HasCount c (length ls) → AreZeroLines n ls → IsZeroFrom n (operator_line n c ls)
-operator_zero n Sum [] h z = absurd (omega arith)
-operator_zero n Sum (a ∷ []) h z = absurd (omega arith)
 operator_zero n Sum (a ∷ b ∷ []) h z = sum_zero n a b z.0 z.1.0
-operator_zero n Sum (a ∷ b ∷ d ∷ ls) h z = absurd (omega arith)
-operator_zero n Difference [] h z = absurd (omega arith)
-operator_zero n Difference (a ∷ []) h z = absurd (omega arith)
 operator_zero n Difference (a ∷ b ∷ []) h z = sum_zero n a (line_neg b) z.0 (neg_zero_from n b z.1.0)
-operator_zero n Difference (a ∷ b ∷ d ∷ ls) h z = absurd (omega arith)
-operator_zero n Product [] h z = absurd (omega arith)
-operator_zero n Product (a ∷ []) h z = absurd (omega arith)
 operator_zero n Product (a ∷ b ∷ []) h z = chosen_zero n (is_constant n a) _ _ (scaled_zero n a.constant b z.1.0) (scaled_zero n b.constant a z.0)
-operator_zero n Product (a ∷ b ∷ d ∷ ls) h z = absurd (omega arith)
-operator_zero n Quotient [] h z = absurd (omega arith)
-operator_zero n Quotient (a ∷ []) h z = absurd (omega arith)
 operator_zero n Quotient (a ∷ b ∷ []) h z = scaled_zero n (inverse_of b.constant) a z.0
-operator_zero n Quotient (a ∷ b ∷ d ∷ ls) h z = absurd (omega arith)
-operator_zero n Negation [] h z = absurd (omega arith)
 operator_zero n Negation (a ∷ []) h z = neg_zero_from n a z.0
-operator_zero n Negation (a ∷ b ∷ ls) h z = absurd (omega arith)
-operator_zero n SumOfAll [] h z = absurd (omega arith)
 operator_zero n SumOfAll (a ∷ ls) h z = running_zero n a ls z.0 z.1
 operator_zero n Power ls h z = λ j g. refl
 operator_zero n Least ls h z = λ j g. refl
@@ -135,21 +117,26 @@ operator_zero n Floor ls h z = λ j g. refl
 operator_zero n Ceiling ls h z = λ j g. refl
 operator_zero n Absolute ls h z = λ j g. refl
 operator_zero n Refused ls h z = absurd h
+operator_zero n c ls h z = absurd (omega arith)
 
 -- ---- an operator
 pub operator_within : (n : ℕ) (c : OpClass) (ps : List Part) (p : Part) → HasCount c (length ps) → AreOperands n ps → part_line p ≡ operator_line n c (lines_of_parts ps) → IsSound n p → IsOperand n p
 operator_within n c ps p count w e sound =
     record {
       sound = sound;
-      zero_from = λ j g. ap (λ l. l.coef j) e ∙ operator_zero n c (lines_of_parts ps) (subst (HasCount c) (sym (length-parts ps)) count) (lines_zero n ps w) j g;
+      zero_from = λ j g. ap (λ l. l.coef j) e ∙ operator_zero n c (lines_of_parts ps) (subst (HasCount c) (sym (length-map ps part_line)) count) (lines_zero n ps w) j g;
     }
 
 module _ (known : Point → Known) (n i : ℕ) (c : OpClass) (ts : Trees) (ps : List Part) (whole_one : first_broken ps ≡ None) (count : HasCount c (length ps)) (within : AreOperands n ps) (operands : AreOperandsOf known n (i + 1) ts ps) where
+  fault_here : (r : Option Reason) → operator_fault n c (lines_of_parts ps) ≡ r → tree_fault known n i (operator c ts) ≡ fault_at i r
+  fault_here r h =
+      ap₂ option_or (sym operands.fault ∙ whole_one) (ap (λ ls. fault_at i (operator_fault n c ls)) (sym (lines_are known n ts (lines_of_parts ps) (lines_zero n ps within) (operands.lines whole_one))) ∙ ap (fault_at i) h)
+
   operator_lined : (l : Line) → operator_fault n c (lines_of_parts ps) ≡ None → l ≡ operator_line n c (lines_of_parts ps) → IsLined known n i (operator c ts) l
   operator_lined l clean line =
       let lines = operands.lines whole_one in
-      let many : HasCount c (length (lines_of_parts ps)) = subst (HasCount c) (sym (length-parts ps)) count in (
-        ap₂ option_or (sym operands.fault ∙ whole_one) (ap (λ ls. fault_at i (operator_fault n c ls)) (sym (lines_are known n ts (lines_of_parts ps) (lines_zero n ps within) lines)) ∙ ap (fault_at i) clean),
+      let many : HasCount c (length (lines_of_parts ps)) = subst (HasCount c) (sym (length-map ps part_line)) count in (
+        fault_here None clean,
         same_values n _ l _ line
             (λ at.
             ap (operator_value c) (values_are known n ts (lines_of_parts ps) lines at) ∙ ap (option_and_then (on_values c)) (all_there-some n at (lines_of_parts ps))
@@ -157,32 +144,24 @@ module _ (known : Point → Known) (n i : ℕ) (c : OpClass) (ts : Trees) (ps : 
       )
 
   pub operator_broken : (x : Reason) → operator_fault n c (lines_of_parts ps) ≡ Some x → tree_fault known n i (operator c ts) ≡ Some (record { place = i; reason = x })
-  operator_broken x h =
-      let lines = operands.lines whole_one in
-      ap₂ option_or (sym operands.fault ∙ whole_one) (ap (λ ls. fault_at i (operator_fault n c ls)) (sym (lines_are known n ts (lines_of_parts ps) (lines_zero n ps within) lines)) ∙ ap (fault_at i) h)
+  operator_broken x h = fault_here (Some x) h
 
   pub operator_folded : (p : Part) → operator_fault n c (lines_of_parts ps) ≡ None → part_line p ≡ operator_line n c (lines_of_parts ps) → IsSound n p → IsPartFolded known n i (operator c ts) p
-  operator_folded (Number k) clean line sound = operator_lined (part_line (Number k)) clean line
-  operator_folded (Variable j k) clean line sound = operator_lined (part_line (Variable j k)) clean line
-  operator_folded (Linear f) clean line sound = operator_lined (form_line f) clean line
   operator_folded (Broken x) clean line sound = absurd sound
+  operator_folded p clean line sound = operator_lined (part_line p) clean line
 
 pub faulty_operands : (known : Point → Known) (n i : ℕ) (c : OpClass) (ts : Trees) (ps : List Part) → AreOperandsOf known n (i + 1) ts ps → (x : Fault) → first_broken ps ≡ Some x → tree_fault known n i (operator c ts) ≡ Some x
 faulty_operands known n i c ts ps operands x e = ap (λ o. option_or o (fault_at i (operator_fault n c (trees_lines known ts)))) (sym operands.fault ∙ e)
 
 pub operand_within : (n : ℕ) (p : Part) → IsOperand n p → IsPartWithin n p
-operand_within n (Number k) w = w
-operand_within n (Variable j k) w = w
-operand_within n (Linear f) w = w
 operand_within n (Broken x) w = tt
+operand_within n p w = w
 
 -- where no operand has a fault
 pub all_operands : (n : ℕ) (ps : List Part) → ArePartsWithin n ps → first_broken ps ≡ None → AreOperands n ps
 all_operands n [] w e = tt
-all_operands n (Number k ∷ ps) w e = (w.0, all_operands n ps w.1 e)
-all_operands n (Variable j k ∷ ps) w e = (w.0, all_operands n ps w.1 e)
-all_operands n (Linear f ∷ ps) w e = (w.0, all_operands n ps w.1 e)
 all_operands n (Broken x ∷ ps) w e = cc
+all_operands n (p ∷ ps) w e = (w.0, all_operands n ps w.1 e)
 
 -- ---- the whole tree
 module _ (known : Point → Known) (n : ℕ) (t : Tree) where
@@ -191,22 +170,131 @@ module _ (known : Point → Known) (n : ℕ) (t : Tree) where
   entry_lined l (Faulty x) h is = absurd is
 
   pub entry_folded : (p : Part) (e : Entry) → IsEntryOf p e → IsPartFolded known n 0 t p → IsFolded known n 0 t e
-  entry_folded (Number k) e is h = entry_lined (part_line (Number k)) e h is
-  entry_folded (Variable j k) e is h = entry_lined (part_line (Variable j k)) e h is
   entry_folded (Linear f) e is h = subst (IsFolded known n 0 t) (sym is) h
   entry_folded (Broken x) e is h = subst (IsFolded known n 0 t) (sym is) h
+  entry_folded p e is h = entry_lined (part_line p) e h is
 
 entry_of_line : (n : ℕ) (l : Line) (e : Entry) → IsZeroFrom n l → ComesToLine l e → IsEntryWithin n e
 entry_of_line n l (Whole f) z is = λ j g. ap (λ m. m.coef j) is ∙ z j g
 entry_of_line n l (Faulty x) z is = absurd is
 
 pub entry_is_within : (n : ℕ) (p : Part) (e : Entry) → IsEntryOf p e → IsPartWithin n p → IsEntryWithin n e
-entry_is_within n (Number k) e is w = entry_of_line n (part_line (Number k)) e w.zero_from is
-entry_is_within n (Variable j k) e is w = entry_of_line n (part_line (Variable j k)) e w.zero_from is
 entry_is_within n (Linear f) e is w = subst (IsEntryWithin n) (sym is) w.zero_from
 entry_is_within n (Broken x) e is w = subst (IsEntryWithin n) (sym is) tt
+entry_is_within n p e is w = entry_of_line n (part_line p) e w.zero_from is
 
 pub slot_at : (slots : List (Option Form)) (k : ℕ) (x : Option Form) → k < length slots → x ≡ get_or slots k x → get_or slots k None ≡ x
-slot_at [] k x h e = absurd (omega arith)
-slot_at (y ∷ ys) zero x h e = sym e
-slot_at (y ∷ ys) (suc k) x h e = slot_at ys k x (omega arith) e
+slot_at slots k x h e = get_or_default slots k None x h ∙ sym e
+
+pub top_first : {A : Type 0} (stack new : List A) (x : A) → stack ≡ new ++ x ∷ [] → reverse stack ≡ x ∷ reverse new
+top_first stack new x e = ap reverse e ∙ reverse-append new (x ∷ [])
+
+-- ---- the operands of an operator
+module _ (known : Point → Known) (n : ℕ) where
+  clean_first : (i k : ℕ) (t : Tree) (l : Line) (ts : List Tree) (ps : List Part) → IsLined known n i t l → AreOperandsOf known n (i + tree_size t) (first_trees k ts) ps → (first_broken ps ≡ trees_fault known n i (first_trees (suc k) (t ∷ ts))) × (first_broken ps ≡ None → AreLinesOf known n (first_trees (suc k) (t ∷ ts)) (l ∷ lines_of_parts ps))
+  clean_first i k t l ts ps f r = (
+    r.fault ∙ ap (λ o. option_or o (trees_fault known n (i + tree_size t) (first_trees k ts))) (sym f.0),
+    λ e. (f.1, r.lines e),
+  )
+
+  pub operands_are : (i k : ℕ) (ts : List Tree) (ps : List Part) → k ≤ length ps → ArePartsFolded known n i ts ps → AreOperandsOf known n i (first_trees k ts) (take k ps)
+  operands_are i zero ts ps h f = record { fault = refl; lines = λ e. tt }
+  operands_are i (suc k) ts [] h f = absurd (omega arith)
+  operands_are i (suc k) [] (p ∷ ps) h f = absurd f
+  operands_are i (suc k) (t ∷ ts) (Broken x ∷ ps) h f =
+      record {
+        fault = ap (λ o. option_or o (trees_fault known n (i + tree_size t) (first_trees k ts))) (sym f.0);
+        lines = λ e. cc;
+      }
+  operands_are i (suc k) (t ∷ ts) (p ∷ ps) h f =
+      let r = clean_first i k t (part_line p) ts (take k ps) f.0 (operands_are (i + tree_size t) k ts ps (omega arith) f.1) in
+      record { fault = r.0; lines = r.1 }
+
+  pub rest_are : (i k : ℕ) (ts : List Tree) (ps : List Part) → k ≤ length ps → ArePartsFolded known n i ts ps → ArePartsFolded known n (i + trees_size (first_trees k ts)) (drop k ts) (drop k ps)
+  rest_are i zero ts ps h f = subst (λ j. ArePartsFolded known n j ts ps) (omega arith) f
+  rest_are i (suc k) ts [] h f = absurd (omega arith)
+  rest_are i (suc k) [] (p ∷ ps) h f = absurd f
+  rest_are i (suc k) (t ∷ ts) (p ∷ ps) h f =
+      subst (λ j. ArePartsFolded known n j (drop k ts) (drop k ps)) (omega arith) (rest_are (i + tree_size t) k ts ps (omega arith) f.1)
+
+-- an operator's part in place of its operands'
+pub operator_step : (known : Point → Known) (n place : ℕ) (o : ℕ) (k : ℕ) (trees : List Tree) (ps rest operands : List Part) (p : Part) → k ≤ length ps → operands ≡ take k ps → rest ≡ drop k ps → ((ts : Trees) → AreOperandsOf known n (place + 1) ts operands → IsPartFolded known n place (operator (class_of o) ts) p) → ArePartsFolded known n (place + 1) trees ps → ArePartsFolded known n place (with_node (Op o k) trees) (p ∷ rest)
+operator_step known n place o k trees ps rest operands p room are is_rest h folded =
+    let ts = first_trees k trees in (
+      h ts (subst (AreOperandsOf known n (place + 1) ts) (sym are) (operands_are known n (place + 1) k trees ps room folded)),
+      subst₂ (λ j qs. ArePartsFolded known n j (drop k trees) qs) (omega arith) (sym is_rest) (rest_are known n (place + 1) k trees ps room folded),
+    )
+
+pub operator_size : (o : ℕ) (k : ℕ) (trees : List Tree) (stack new : List Part) → k ≤ length stack → length trees ≡ length stack → reverse new ≡ drop k (reverse stack) → length (with_node (Op o k) trees) ≡ 1 + length new
+operator_size o k trees stack new room same rest =
+    let fewer : length (reverse new) ≡ length (drop k (reverse stack)) = ap length rest in
+    omega (arith, fewer, length-reverse new, length-reverse stack, length-drop k (reverse stack), length-drop k trees)
+
+-- ---- nodes from the last
+pub node_at : (nodes : List Node) (place : ℕ) (x : Node) → 0 < place → place ≤ length nodes → x ≡ get_or nodes (place - 1) x → drop (place - 1) nodes ≡ x ∷ drop place nodes
+node_at nodes place x some within e =
+    let one : suc (place - 1) ≡ place = omega arith in
+    drop-cons nodes (place - 1) x (omega arith) ∙ ap₂ (λ y k. y ∷ drop k nodes) (sym e) one
+
+formed_drop : (p : ℕ) (ns : List Node) → AreNodesFormed ns → AreNodesFormed (drop p ns)
+formed_drop zero ns h = h
+formed_drop (suc p) [] h = h
+formed_drop (suc p) (Op o k ∷ ns) h = formed_drop p ns h.2
+formed_drop (suc p) (x ∷ ns) h = formed_drop p ns h
+
+module _ (n : ℕ) (slots : List (Option Form)) where
+  within_drop : (p : ℕ) (ns : List Node) → AreNodesWithin n slots ns → AreNodesWithin n slots (drop p ns)
+  within_drop zero ns h = h
+  within_drop (suc p) [] h = h
+  within_drop (suc p) (x ∷ ns) h = within_drop p ns h.1
+
+  finds_head : (x : Node) (ns : List Node) → AreNodesFormed (x ∷ ns) → IsNodeWithin n slots x → NodeFinds n slots (length (trees_of ns)) x
+  finds_head (Num d) ns f h = tt
+  finds_head (Var j) ns f h = h
+  finds_head (Defined i) ns f h = h
+  finds_head (Op o k) ns f h = (f.0, f.1)
+
+  pub finds_at : (nodes rest : List Node) (p : ℕ) (x : Node) → AreNodesFormed nodes → AreNodesWithin n slots nodes → drop p nodes ≡ x ∷ rest → NodeFinds n slots (length (trees_of rest)) x
+  finds_at nodes rest p x f h e = finds_head x rest (subst AreNodesFormed e (formed_drop p nodes f)) (subst (AreNodesWithin n slots) e (within_drop p nodes h)).0
+
+pub top_folded : (known : Point → Known) (n place : ℕ) (nodes : List Node) (tree : Tree) (stack new : List Part) (p : Part) → place ≡ 0 → trees_of nodes ≡ tree ∷ [] → ArePartsFolded known n place (trees_of (drop place nodes)) (reverse stack) → stack ≡ new ++ p ∷ [] → IsPartFolded known n 0 tree p
+top_folded known n place nodes tree stack new p is one folded top =
+    let a : ArePartsFolded known n 0 (trees_of nodes) (reverse stack) = subst (λ q. ArePartsFolded known n q (trees_of (drop q nodes)) (reverse stack)) is folded in
+    let b : ArePartsFolded known n 0 (tree ∷ []) (p ∷ reverse new) = subst₂ (ArePartsFolded known n 0) one (top_first stack new p top) a in
+    b.0
+
+-- ---- parts within n variables
+pub within_take : (n k : ℕ) (ps : List Part) → ArePartsWithin n ps → ArePartsWithin n (take k ps)
+within_take n zero ps a = tt
+within_take n (suc k) [] a = tt
+within_take n (suc k) (p ∷ ps) a = (a.0, within_take n k ps a.1)
+
+pub within_parts_drop : (n k : ℕ) (ps : List Part) → ArePartsWithin n ps → ArePartsWithin n (drop k ps)
+within_parts_drop n zero ps a = a
+within_parts_drop n (suc k) [] a = tt
+within_parts_drop n (suc k) (p ∷ ps) a = within_parts_drop n k ps a.1
+
+-- ---- steps
+pub entry_steps : (w from to m new old : ℕ) → to ≤ from + w * m → new + m ≤ old → to + w * new ≤ from + w * old + w
+entry_steps w from to m new old a b =
+    let most : w * (new + m) ≤ w * old = mul-le-mul_left w b in
+    let split : w * (new + m) ≡ w * new + w * m = omega arith in
+    omega arith
+
+-- one node more, of those before place p
+pub tree_steps : (w total p start from to old new : ℕ) → 0 < p → p ≤ total → from + w * old ≤ start + 2 * w * (total - p) → to + w * new ≤ from + w * old + w → to + w * (new + 1) ≤ start + 2 * w * (total - (p - 1))
+tree_steps w total p start from to old new some within a b =
+    let one : total - (p - 1) ≡ total - p + 1 = omega arith in
+    subst (λ k. to + w * (new + 1) ≤ start + 2 * w * k) (sym one)
+    (let e : 2 * w * (total - p + 1) ≡ 2 * w * (total - p) + 2 * w = omega arith in
+    let f : w * (new + 1) ≡ w * new + w = omega arith in
+    omega arith)
+
+pub some_node : (nodes : List Node) → length (trees_of nodes) ≡ 1 → 0 < length nodes
+some_node [] e = absurd (omega arith)
+some_node (x ∷ ns) e = omega arith
+
+pub no_step : (w start nodes : ℕ) → 0 < nodes → start + w ≤ start + 2 * w * nodes
+no_step w start nodes some =
+    let most : 2 * w * 1 ≤ 2 * w * nodes = mul-le-mul_left (2 * w) some in
+    omega arith

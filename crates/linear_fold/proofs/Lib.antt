@@ -1,13 +1,7 @@
-pub mod Listing
 pub mod BodyLemmas
 pub mod ConstantLemmas
 pub mod CountLemmas
-pub mod DefinitionLemmas
 pub mod Expressions
 pub mod Folding
 pub mod Operators
 pub mod OwnerLemmas
-pub mod PartLemmas
-pub mod ProgramLemmas
-pub mod Stacks
-pub mod ValueLemmas

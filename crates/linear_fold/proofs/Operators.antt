@@ -1,32 +1,189 @@
--- What the operators on forms come to.
-use Rattle.std.proofs.Common.{◌≡◌, ℕ, ◌+◌, ◌*◌, ◌<◌, ◌≤◌, ◌∙◌, sym, ap, ap₂, refl, subst, subst₂, Bool, true, false, ◌&&◌, Option, Some, Result, Ok, Err, IfOk, List, [], ◌∷◌, map, get_or, length, reverse, ⊎_elim, arith, ◌-◌, if◌then◌else◌}
-use Rattle.std.proofs.lemmas.Bool.{cases_lt, and_from, and_parts, false_from_ne_true}
-use Rattle.std.proofs.Math.Nat.{mul-le-mul_left}
+-- The parts of a tree, and what the operators on them come to.
+use Rattle.std.proofs.Common.{◌≡◌, ◌≢◌, ℕ, ◌+◌, ◌-◌, ◌<◌, ◌≤◌, ◌==◌, ◌∙◌, sym, ap, ap₂, refl, subst, Bool, true, false, ◌&&◌, Result, Ok, Err, List, [], ◌∷◌, ◌++◌, take, drop, reverse, length, get_or, length-drop, arith, ⊎_elim, ◌*◌, subst₂, Option, Some, IfOk, map, if◌then◌else◌}
+use Rattle.std.proofs.Math.Bool.{and-false, and-true}
+use Rattle.std.proofs.lemmas.Bool.{cases_eq, eq-eqb, and_from, and_parts, false_from_ne_true, cases_lt}
+use Rattle.std.proofs.lemmas.List.{length-reverse, reverse-append, take_all, take_more, take-append-drop}
+use Rattle.std.proofs.Math.Seq.{take-append_seam, drop-append_seam}
 use Rattle.texts.specs.declared.stop.Stop.{Stop}
-use Rattle.texts.specs.declared.stop.Stop.TheVariants.{Fault, Memory}
-use Rattle.code_tables.specs.declared.class.OpClass.{OpClass}
-use Rattle.code_tables.specs.declared.class.OpClass.TheVariants.{Sum, Difference, Quotient, Negation, List as SumOfAll}
+use Rattle.texts.specs.declared.stop.Stop.TheVariants.{Fault as Stopped, Memory, Fault}
+use Rattle.exact_numbers.specs.declared.frac.Frac.{Frac}
+use Rattle.exact_numbers.specs.Values.{frac_value}
+use Rattle.exact_numbers.proofs.Bridge.{frac_fits_lem}
 use Rattle.fractions.specs.Fits.{fits, sum_fits}
-use Rattle.fractions.specs.Rational.{ℚ, zero_ℚ, one_ℚ, ◌+ℚ◌, ◌*ℚ◌, neg_ℚ, inverse_of}
-use Rattle.fractions.proofs.Arithmetic.{one-*ℚ, neg-*ℚ, *ℚ_zero, zero-+ℚ, +ℚ_zero}
+use Rattle.fractions.specs.Rational.{ℚ, zero_ℚ, ◌+ℚ◌, ◌*ℚ◌, one_ℚ, neg_ℚ, inverse_of}
+use Rattle.fractions.proofs.Arithmetic.{*ℚ_one, *ℚ_zero, +ℚ_zero, zero-+ℚ, one-*ℚ, neg-*ℚ}
+use Rattle.linear_programs.specs.Lines.{constant_line, line_scaled, line_sum, products_fit, Line, is_zero, is_constant, one_if, line_neg, sums_fit, running_sums_fit, running_line, all_below}
+use Rattle.linear_programs.proofs.LineLemmas.{all_below-true, apart-eqb}
+use Rattle.linear_program.specs.declared.form.Form.{Form}
+use Rattle.linear_program.specs.declared.sum.Sum.{Sum}
+use Rattle.linear_fold.specs.declared.parts.Part.{Part}
+use Rattle.linear_fold.specs.declared.parts.Part.TheVariants.{Number, Variable, Linear, Broken}
+use Rattle.linear_program.specs.declared.too_wide.Wide.{Wide}
+use Rattle.linear_program.specs.Coefs.{AddsAt, coef_in, value_or_zero, AreAscending}
+use Rattle.linear_program.specs.Forms.{form_line, sum_line, AddsScaled, IsWithin, IsZeroFrom, ScaledSumFits, kept_constant, form_terms}
+use Rattle.linear_fold.specs.InsideOperates.{AreOperands, AreUnbroken, IsOperand, IsSound, IsUnbroken, multiple_line, part_line, zero_line, SumsTo, ComesTo, Operates}
+use Rattle.linear_program.proofs.CoefLemmas.{adds_at, found_apart, found_same}
+use Rattle.exact_numbers.proofs.Zeros.{fits_zero, sum_fits_zero, zero_sum_fits}
+use Rattle.linear_program.proofs.FracLemmas.{coef_fits, place_fits, zero_test, fits_neg}
+use Rattle.linear_program.proofs.Scaled.{all_below-false, all_below-intro, same_line, few_terms}
+use Rattle.std.proofs.Math.Nat.{mul-le-mul_left}
+use Rattle.std.specs.declared.alloc.AllocError.{AllocError}
+use Rattle.code_tables.specs.declared.class.OpClass.{OpClass}
+use Rattle.code_tables.specs.declared.class.OpClass.TheVariants.{Sum as SumOfTwo, Difference, Quotient, Negation, List as SumOfAll}
 use Rattle.nl_meaning.specs.declared.Reason.{Reason}
 use Rattle.nl_meaning.specs.declared.Reason.TheVariants.{DivideByZero}
-use Rattle.linear_programs.specs.Lines.{line_sum, line_scaled, line_neg, sums_fit, products_fit, running_sums_fit, running_line, Line, is_zero, is_constant}
 use Rattle.nl_meaning.specs.Faults.{too_wide_unless, operator_fault}
-use Rattle.linear_programs.proofs.LineLemmas.{all_below-true}
-use Rattle.linear_program.specs.declared.form.Form.{Form}
-use Rattle.linear_fold.specs.declared.parts.Part.{Part}
 use Rattle.linear_fold.specs.declared.operate.Outcome.{Outcome}
-use Rattle.linear_fold.specs.declared.operate.Outcome.TheVariants.{Linear, Refused}
-use Rattle.linear_program.specs.declared.too_wide.Wide.{Wide}
-use Rattle.linear_program.specs.Coefs.{AreAscending}
-use Rattle.linear_program.specs.Forms.{form_terms, IsWithin, IsZeroFrom, ScaledSumFits, AddsScaled}
-use Rattle.linear_fold.specs.InsideOperates.{zero_line, IsOperand, AreOperands, SumsTo, ComesTo, Operates, part_line}
-use Rattle.exact_numbers.proofs.Zeros.{fits_zero, sum_fits_zero, zero_sum_fits}
-use Rattle.linear_program.proofs.FracLemmas.{fits_neg}
-pub use Rattle.linear_fold.proofs.PartLemmas.{FitsLine, form_fits}
-use Rattle.linear_fold.proofs.PartLemmas.{part_fits}
-use Rattle.linear_program.proofs.Scaled.{same_line, few_terms, all_below-intro}
+use Rattle.linear_fold.specs.declared.operate.Outcome.TheVariants.{Linear as Made, Refused}
+
+pub record FitsLine (l : Line) : Type 0 where
+  pub constant : fits l.constant ≡ true
+  pub coefs : (j : ℕ) → fits (l.coef j) ≡ true
+
+pub form_fits : (f : Form) → FitsLine (form_line f)
+form_fits f = record { constant = frac_fits_lem (kept_constant f.kept); coefs = coef_fits (form_terms f) }
+
+pub total_fits : (s : Sum) → FitsLine (sum_line s)
+total_fits s = record { constant = frac_fits_lem s.constant; coefs = place_fits s.accumulator.value }
+
+-- ---- the coefficients of a multiple
+multiple_at : (i j : ℕ) (k : ℚ) → i ≡ j → (multiple_line j k).coef i ≡ k
+multiple_at i j k e = zero-+ℚ (k *ℚ one_if (i == j)) ∙ ap (λ b. k *ℚ one_if b) (eq-eqb i j e) ∙ *ℚ_one k
+
+multiple_apart : (i j : ℕ) (k : ℚ) → i ≢ j → (multiple_line j k).coef i ≡ zero_ℚ
+multiple_apart i j k n = zero-+ℚ (k *ℚ one_if (i == j)) ∙ ap (λ x. k *ℚ x) (apart-eqb i j n) ∙ *ℚ_zero k
+
+-- what holds of k and of 0 holds of each coefficient
+each_of : (P : ℚ → Type 0) (j : ℕ) (k : ℚ) → P k → P zero_ℚ → (i : ℕ) → P ((multiple_line j k).coef i)
+each_of P j k a b i = ⊎_elim (λ (e : i ≡ j). subst P (sym (multiple_at i j k e)) a) (λ (n : i ≢ j). subst P (sym (multiple_apart i j k n)) b) (cases_eq i j)
+
+pub multiple_zero_from : (n j : ℕ) (k : ℚ) → j < n → IsZeroFrom n (multiple_line j k)
+multiple_zero_from n j k l i g = multiple_apart i j k (omega arith)
+
+-- the line of 0 times a variable is that of 0
+pub multiple_of_zero : (j : ℕ) (k c : ℚ) → k ≡ zero_ℚ → c ≡ zero_ℚ → constant_line c ≡ multiple_line j k
+multiple_of_zero j k c e f = same_line (constant_line c) (multiple_line j k) f (λ i. sym (each_of (λ x. x ≡ zero_ℚ) j k e refl i))
+
+-- one term alone
+pub multiple_term : (k : Frac) (j : ℕ) (c : ℚ) → c ≡ zero_ℚ → (record { constant = c; coef = coef_in ((j, k) ∷ []) }) ≡ multiple_line j (frac_value k)
+multiple_term k j c e =
+    same_line (record { constant = c; coef = coef_in ((j, k) ∷ []) }) (multiple_line j (frac_value k)) e
+    (adds_at (λ i. zero_ℚ) (coef_in ((j, k) ∷ [])) j (frac_value k) (ap value_or_zero (found_same (j, k) [] j refl) ∙ sym (zero-+ℚ (frac_value k))) (λ i n. ap value_or_zero (found_apart (j, k) [] i n)))
+
+-- ---- k times a number, and k times a multiple
+module _ (n : ℕ) (k x : ℚ) where
+  pub number_fits : products_fit n k (constant_line x) ≡ fits (k *ℚ x)
+  number_fits = ap (λ b. fits (k *ℚ x) && b) (all_below-intro (λ j. fits (k *ℚ zero_ℚ)) n (λ j l. ap fits (*ℚ_zero k) ∙ fits_zero)) ∙ and-true (fits (k *ℚ x))
+
+  pub number_scaled : (y : ℚ) → y ≡ k *ℚ x → constant_line y ≡ line_scaled k (constant_line x)
+  number_scaled y e = same_line (constant_line y) (line_scaled k (constant_line x)) e (λ j. sym (*ℚ_zero k))
+
+  each_fits : (j : ℕ) → fits (k *ℚ x) ≡ true → (i : ℕ) → fits (k *ℚ (multiple_line j x).coef i) ≡ true
+  each_fits j e i = each_of (λ y. fits (k *ℚ y) ≡ true) j x e (ap fits (*ℚ_zero k) ∙ fits_zero) i
+
+  pub multiple_fits : (j : ℕ) → j < n → products_fit n k (multiple_line j x) ≡ fits (k *ℚ x)
+  multiple_fits j l = by (fits (k *ℚ x)) refl
+    where
+      by : (b : Bool) → fits (k *ℚ x) ≡ b → products_fit n k (multiple_line j x) ≡ b
+      by true e = and_from _ _ (ap fits (*ℚ_zero k) ∙ fits_zero) (all_below-intro (λ i. fits (k *ℚ (multiple_line j x).coef i)) n (λ i p. each_fits j e i))
+      by false e =
+          ap (λ b. fits (k *ℚ zero_ℚ) && b) (all_below-false (λ i. fits (k *ℚ (multiple_line j x).coef i)) n j l (ap (λ y. fits (k *ℚ y)) (multiple_at j j x refl) ∙ e))
+          ∙ and-false (fits (k *ℚ zero_ℚ))
+
+  pub multiple_scaled : (j : ℕ) (y : ℚ) → y ≡ k *ℚ x → multiple_line j y ≡ line_scaled k (multiple_line j x)
+  multiple_scaled j y e =
+      same_line (multiple_line j y) (line_scaled k (multiple_line j x)) (sym (*ℚ_zero k))
+      (λ i. ⊎_elim (λ (s : i ≡ j). multiple_at i j y s ∙ e ∙ ap (λ z. k *ℚ z) (sym (multiple_at i j x s)))
+      (λ (a : i ≢ j). multiple_apart i j y a ∙ sym (*ℚ_zero k) ∙ ap (λ z. k *ℚ z) (sym (multiple_apart i j x a)))
+      (cases_eq i j))
+
+-- ---- k times a multiple is added to a line
+module _ (a : Line) (k x : ℚ) (j : ℕ) (small : FitsLine a) where
+  pub wide_multiple : fits (k *ℚ x) ≡ false → ¬ ScaledSumFits a k (multiple_line j x)
+  wide_multiple e s = (let clash : true ≡ false = sym (s.products j) ∙ ap (λ y. fits (k *ℚ y)) (multiple_at j j x refl) ∙ e in cc)
+
+  multiple_stop : (m : ℚ) (w : Wide) → m ≡ k *ℚ x → sum_fits (a.coef j) m ≡ false → ¬ ScaledSumFits a k (multiple_line j x)
+  multiple_stop m w is h =
+      λ s. (let clash : true ≡ false = sym (s.sums j) ∙ ap (λ q. sum_fits (a.coef j) (k *ℚ q)) (multiple_at j j x refl) ∙ ap (sum_fits (a.coef j)) (sym is) ∙ h in cc)
+
+  pub adds_multiple : (new : Line) (m : ℚ) → fits (k *ℚ x) ≡ true → m ≡ k *ℚ x → new.constant ≡ a.constant → AddsAt a.coef j m new.coef (Ok tt) → AddsScaled a k (multiple_line j x) new (Ok tt)
+  adds_multiple new m fit is c h =
+      let none : k *ℚ zero_ℚ ≡ zero_ℚ = *ℚ_zero k in
+      let start : sum_fits a.constant (k *ℚ zero_ℚ) ≡ true = ap (sum_fits a.constant) none ∙ sum_fits_zero a.constant small.constant in (
+        record {
+          product = ap fits none ∙ fits_zero;
+          sum = start;
+          products = each_fits 0 k x j fit;
+          sums = λ i.
+              ⊎_elim
+              (λ (s : i ≡ j). ap₂ (λ p q. sum_fits (a.coef p) (k *ℚ q)) s (multiple_at i j x s) ∙ ap (sum_fits (a.coef j)) (sym is) ∙ h.0)
+              (λ (d : i ≢ j). ap (λ q. sum_fits (a.coef i) (k *ℚ q)) (multiple_apart i j x d) ∙ ap (sum_fits (a.coef i)) none ∙ sum_fits_zero (a.coef i) (small.coefs i))
+              (cases_eq i j);
+        },
+        same_line new (line_sum a (line_scaled k (multiple_line j x))) (c ∙ sym (ap (λ z. a.constant +ℚ z) none ∙ +ℚ_zero a.constant))
+            (λ i. h.1 i ∙ ap (λ z. a.coef i +ℚ z) (sym (zero-+ℚ (m *ℚ one_if (i == j))) ∙ ap (λ l. l.coef i) (multiple_scaled 0 k x j m is))),
+      )
+
+  pub stops_multiple : (new other : Line) (m : ℚ) (s : Stop Wide) → m ≡ k *ℚ x → AddsAt a.coef j m new.coef (Err s) → AddsScaled a k (multiple_line j x) other (Err s)
+  stops_multiple new other m (Stopped w) is h = multiple_stop m w is h
+  stops_multiple new other m Memory is h = tt
+
+-- ---- tests
+pub number_constant : (n : ℕ) (x : ℚ) → true ≡ is_constant n (constant_line x)
+number_constant n x = sym (all_below-intro (λ j. is_zero zero_ℚ) n (λ j l. zero_test zero_ℚ refl))
+
+pub multiple_constant : (n j : ℕ) (x : ℚ) → j < n → is_zero x ≡ is_constant n (multiple_line j x)
+multiple_constant n j x l = by (is_zero x) refl
+  where
+    by : (b : Bool) → is_zero x ≡ b → b ≡ is_constant n (multiple_line j x)
+    by true e = sym (all_below-intro (λ i. is_zero ((multiple_line j x).coef i)) n (λ i p. each_of (λ y. is_zero y ≡ true) j x e (zero_test zero_ℚ refl) i))
+    by false e = sym (all_below-false (λ i. is_zero ((multiple_line j x).coef i)) n j l (ap is_zero (multiple_at j j x refl) ∙ e))
+
+-- ---- operands
+pub sound_unbroken : (n : ℕ) (p : Part) → IsSound n p → IsUnbroken p
+sound_unbroken n (Broken x) h = h
+sound_unbroken n p h = tt
+
+pub unbroken_of : (n : ℕ) (ps : List Part) → AreOperands n ps → AreUnbroken ps
+unbroken_of n [] w = tt
+unbroken_of n (p ∷ ps) w = (sound_unbroken n p w.0.sound, unbroken_of n ps w.1)
+
+pub part_fits : (p : Part) → FitsLine (part_line p)
+part_fits (Number k) = record { constant = frac_fits_lem k; coefs = λ j. fits_zero }
+part_fits (Variable j k) = record { constant = fits_zero; coefs = each_of (λ x. fits x ≡ true) j (frac_value k) (frac_fits_lem k) fits_zero }
+part_fits (Linear f) = form_fits f
+part_fits (Broken x) = record { constant = fits_zero; coefs = λ j. fits_zero }
+
+-- ---- the operands lie at the end of the stack, the first of them last
+module _ {A : Type 0} where
+  pub one_more : (xs : List A) (i : ℕ) (x : A) → i < length xs → x ≡ get_or xs i x → reverse (take (i + 1) xs) ≡ x ∷ reverse (take i xs)
+  one_more xs i x within e =
+      ap reverse (take_more xs i x within ∙ ap (λ y. take i xs ++ y ∷ []) (sym e)) ∙ reverse-append (take i xs) (x ∷ [])
+
+  pub last_first : (xs : List A) (p : ℕ) (x : A) → 0 < p → p ≤ length xs → x ≡ get_or xs (p - 1) x → reverse (take p xs) ≡ x ∷ reverse (take (p - 1) xs)
+  last_first xs p x some within e =
+      let one : p - 1 + 1 ≡ p = omega arith in
+      ap (λ k. reverse (take k xs)) (sym one) ∙ one_more xs (p - 1) x (omega arith) e
+
+  pub first_of_all : (xs : List A) (x : A) → 0 < length xs → x ≡ get_or xs (length xs - 1) x → reverse xs ≡ x ∷ reverse (take (length xs - 1) xs)
+  first_of_all xs x some e = ap reverse (sym (take_all (length xs) xs (omega arith))) ∙ last_first xs (length xs) x some (omega arith) e
+
+  pub take_none : (xs : List A) (i : ℕ) → i ≡ 0 → take i xs ≡ []
+  take_none xs i e = ap (λ k. take k xs) e
+
+  halves : (xs : List A) (r : ℕ) → reverse xs ≡ reverse (drop r xs) ++ reverse (take r xs)
+  halves xs r = ap reverse (sym (take-append-drop r xs)) ∙ reverse-append (take r xs) (drop r xs)
+
+  back_size : (xs : List A) (r k : ℕ) → k + r ≡ length xs → length (reverse (drop r xs)) ≡ k
+  back_size xs r k e = length-reverse (drop r xs) ∙ length-drop r xs ∙ omega arith
+
+  pub back_is : (xs : List A) (r k : ℕ) → k + r ≡ length xs → reverse (drop r xs) ≡ take k (reverse xs)
+  back_is xs r k e =
+      sym (ap (take k) (halves xs r) ∙ ap (λ i. take i (reverse (drop r xs) ++ reverse (take r xs))) (sym (back_size xs r k e)) ∙ take-append_seam (reverse (drop r xs)) (reverse (take r xs)))
+
+  pub front_is : (xs : List A) (r k : ℕ) → k + r ≡ length xs → reverse (take r xs) ≡ drop k (reverse xs)
+  front_is xs r k e =
+      sym (ap (drop k) (halves xs r) ∙ ap (λ i. drop i (reverse (drop r xs) ++ reverse (take r xs))) (sym (back_size xs r k e)) ∙ drop-append_seam (reverse (drop r xs)) (reverse (take r xs)))
 
 pub neg_fits : (l : Line) → FitsLine l → FitsLine (line_neg l)
 neg_fits l h = record { constant = fits_neg l.constant ∙ h.constant; coefs = λ j. fits_neg (l.coef j) ∙ h.coefs j }
@@ -50,6 +207,10 @@ scaled_by_minus k x b e f =
 zero_line_sum : (a : Line) → line_sum zero_line a ≡ a
 zero_line_sum a = same_line _ _ (zero-+ℚ a.constant) (λ j. zero-+ℚ (a.coef j))
 
+-- a test that holds below n, and from n on, holds everywhere
+each_below : (p : ℕ → Bool) (n : ℕ) → all_below p n ≡ true → ((j : ℕ) → n ≤ j → p j ≡ true) → (j : ℕ) → p j ≡ true
+each_below p n h above j = ⊎_elim (λ (l : j < n). all_below-true p n h j l) (λ (g : n ≤ j). above j g) (cases_lt j n)
+
 -- ---- sums
 module _ (a b : Line) (k : ℚ) (kb : Line) (is : line_scaled k b ≡ kb) (small : FitsLine kb) (n : ℕ) (za : IsZeroFrom n a) (zb : IsZeroFrom n b) where
   sum_ok : (l : Line) → ScaledSumFits a k b × (l ≡ line_sum a (line_scaled k b)) → (sums_fit n a kb ≡ true) × (l ≡ line_sum a kb)
@@ -65,11 +226,7 @@ module _ (a b : Line) (k : ℚ) (kb : Line) (is : line_scaled k b ≡ kb) (small
         product = parts.constant;
         sum = both.0;
         products = parts.coefs;
-        sums = λ j.
-            ⊎_elim
-            (λ (l : j < n). all_below-true (λ i. sum_fits (a.coef i) (k *ℚ b.coef i)) n both.1 j l)
-            (λ (g : n ≤ j). ap₂ (λ x y. sum_fits x (k *ℚ y)) (za j g) (zb j g) ∙ ap (sum_fits zero_ℚ) (*ℚ_zero k) ∙ sum_fits_zero zero_ℚ fits_zero)
-            (cases_lt j n);
+        sums = each_below (λ i. sum_fits (a.coef i) (k *ℚ b.coef i)) n both.1 (λ j g. ap₂ (λ x y. sum_fits x (k *ℚ y)) (za j g) (zb j g) ∙ ap (sum_fits zero_ℚ) (*ℚ_zero k) ∙ sum_fits_zero zero_ℚ fits_zero);
       }))
 
   pub added : (new : Line) (r : Result (Unit {0}) (Stop Wide)) → AddsScaled a k b new r → SumsTo (sums_fit n a kb) (line_sum a kb) new r
@@ -89,11 +246,7 @@ module _ (z : Line) (empty : z ≡ zero_line) (a : Line) (k : ℚ) (n : ℕ) (za
   scaled_wide wide =
       false_from_ne_true _ (λ t.
       let both = and_parts _ _ t in
-      let each : (j : ℕ) → fits (k *ℚ a.coef j) ≡ true = λ j.
-      ⊎_elim
-      (λ (l : j < n). all_below-true (λ i. fits (k *ℚ a.coef i)) n both.1 j l)
-      (λ (g : n ≤ j). ap (λ x. fits (k *ℚ x)) (za j g) ∙ ap fits (*ℚ_zero k) ∙ fits_zero)
-      (cases_lt j n) in
+      let each = each_below (λ i. fits (k *ℚ a.coef i)) n both.1 (λ j g. ap (λ x. fits (k *ℚ x)) (za j g) ∙ ap fits (*ℚ_zero k) ∙ fits_zero) in
       wide (subst (λ y. ScaledSumFits y k a) (sym empty)
       (record {
         product = both.0;
@@ -108,21 +261,23 @@ module _ (z : Line) (empty : z ≡ zero_line) (a : Line) (k : ℚ) (n : ℕ) (za
   multiplied new (Err Memory) h = tt
 
 -- ---- differences
-module _ (z a b : Line) (empty : z ≡ zero_line) (k m x : ℚ) (one : k ≡ one_ℚ) (is_neg : m ≡ neg_ℚ x) (x_one : x ≡ one_ℚ) (fa : FitsLine a) (fb : FitsLine b) (n : ℕ) (za : IsZeroFrom n a) (zb : IsZeroFrom n b) where
+module _ (z a : Line) (empty : z ≡ zero_line) (k : ℚ) (one : k ≡ one_ℚ) (fa : FitsLine a) where
   first_fits : ScaledSumFits z k a
   first_fits =
+      let parts : FitsLine (line_scaled k a) = subst FitsLine (sym (scaled_by_one k a one)) fa in
       subst (λ y. ScaledSumFits y k a) (sym empty)
       (record {
-        product = ap fits (ap (λ y. y *ℚ a.constant) one ∙ one-*ℚ a.constant) ∙ fa.constant;
-        sum = zero_sum_fits (k *ℚ a.constant) (ap fits (ap (λ y. y *ℚ a.constant) one ∙ one-*ℚ a.constant) ∙ fa.constant);
-        products = λ j. ap fits (ap (λ y. y *ℚ a.coef j) one ∙ one-*ℚ (a.coef j)) ∙ fa.coefs j;
-        sums = λ j. zero_sum_fits (k *ℚ a.coef j) (ap fits (ap (λ y. y *ℚ a.coef j) one ∙ one-*ℚ (a.coef j)) ∙ fa.coefs j);
+        product = parts.constant;
+        sum = zero_sum_fits (k *ℚ a.constant) parts.constant;
+        products = parts.coefs;
+        sums = λ j. zero_sum_fits (k *ℚ a.coef j) (parts.coefs j);
       })
 
-  pub first_stop : (mid new : Line) (stop : Stop Wide) → AddsScaled z k a mid (Err stop) → SumsTo (sums_fit n a (line_neg b)) (line_sum a (line_neg b)) new (Err stop)
-  first_stop mid new (Fault w) h = absurd (h first_fits)
-  first_stop mid new Memory h = tt
+  pub first_stop : (n : ℕ) (b mid new : Line) (stop : Stop Wide) → AddsScaled z k a mid (Err stop) → SumsTo (sums_fit n a (line_neg b)) (line_sum a (line_neg b)) new (Err stop)
+  first_stop n b mid new (Fault w) h = absurd (h first_fits)
+  first_stop n b mid new Memory h = tt
 
+module _ (z a b : Line) (empty : z ≡ zero_line) (k m x : ℚ) (one : k ≡ one_ℚ) (is_neg : m ≡ neg_ℚ x) (x_one : x ≡ one_ℚ) (fb : FitsLine b) (n : ℕ) (za : IsZeroFrom n a) (zb : IsZeroFrom n b) where
   pub difference_done : (mid new : Line) (r : Result (Unit {0}) (Stop Wide)) → ScaledSumFits z k a × (mid ≡ line_sum z (line_scaled k a)) → AddsScaled mid m b new r → SumsTo (sums_fit n a (line_neg b)) (line_sum a (line_neg b)) new r
   difference_done mid new r first second =
       let same : mid ≡ a = first.1 ∙ ap (λ y. line_sum y (line_scaled k a)) empty ∙ zero_line_sum (line_scaled k a) ∙ scaled_by_one k a one in
@@ -182,7 +337,7 @@ if_ok (Ok x) P Q f h = f x h
 if_ok (Err e) P Q f h = h
 
 pub difference_comes : (n : ℕ) (a b : Line) (o : Outcome) → ComesTo n (sums_fit n a (line_neg b)) (line_sum a (line_neg b)) o → Operates n Difference (a ∷ b ∷ []) o
-difference_comes n a b (Linear f) h = (ap too_wide_unless h.0, h.1, h.2)
+difference_comes n a b (Made f) h = (ap too_wide_unless h.0, h.1, h.2)
 difference_comes n a b (Refused r) h = ap too_wide_unless h.0 ∙ ap Some (sym h.1)
 
 pub fault_first : (p : Bool) (x y : Option Reason) → p ≡ true → (if p then x else y) ≡ x
@@ -197,19 +352,20 @@ pub quotient_zero : (n : ℕ) (a b : Line) → is_constant n b ≡ true → is_z
 quotient_zero n a b t z = fault_first _ _ _ t ∙ fault_first _ _ _ z
 
 pub quotient_comes : (n : ℕ) (a b : Line) (o : Outcome) (k : ℚ) → k ≡ inverse_of b.constant → is_constant n b ≡ true → is_zero b.constant ≡ false → ComesTo n (products_fit n k a) (line_scaled k a) o → Operates n Quotient (a ∷ b ∷ []) o
-quotient_comes n a b (Linear f) k is t z h = (
+quotient_comes n a b (Made f) k is t z h = (
   fault_first _ _ _ t ∙ fault_second _ _ _ z ∙ ap too_wide_unless (ap (λ x. products_fit n x a) (sym is) ∙ h.0),
   h.1 ∙ ap (λ x. line_scaled x a) is,
   h.2,
 )
 quotient_comes n a b (Refused r) k is t z h = fault_first _ _ _ t ∙ fault_second _ _ _ z ∙ ap too_wide_unless (ap (λ x. products_fit n x a) (sym is) ∙ h.0) ∙ ap Some (sym h.1)
 
+scaled_fits : (n : ℕ) (k : ℚ) (a : Line) → FitsLine (line_scaled k a) → products_fit n k a ≡ true
+scaled_fits n k a h = and_from _ _ h.constant (all_below-intro (λ j. fits (k *ℚ a.coef j)) n (λ j p. h.coefs j))
+
 pub negation_comes : (n : ℕ) (a : Line) (o : Outcome) (k : ℚ) → line_scaled k a ≡ line_neg a → FitsLine a → ComesTo n (products_fit n k a) (line_scaled k a) o → Operates n Negation (a ∷ []) o
-negation_comes n a (Linear f) k is small h = (refl, h.1 ∙ is, h.2)
+negation_comes n a (Made f) k is small h = (refl, h.1 ∙ is, h.2)
 negation_comes n a (Refused r) k is small h =
-    let parts : FitsLine (line_scaled k a) = subst FitsLine (sym is) (neg_fits a small) in
-    let good : products_fit n k a ≡ true = and_from _ _ parts.constant (all_below-intro (λ j. fits (k *ℚ a.coef j)) n (λ j p. parts.coefs j)) in
-    let clash : true ≡ false = sym good ∙ h.0 in
+    let clash : true ≡ false = sym (scaled_fits n k a (subst FitsLine (sym is) (neg_fits a small))) ∙ h.0 in
     cc
 
 -- the sum from 0 is the sum from the first
@@ -221,28 +377,22 @@ from_first n a ls h = ap₂ (λ b c. b && running_sums_fit n c ls) (zero_sums_fi
 
 pub sum_of_all_comes : (n : ℕ) (fs : List Part) (o : Outcome) → 0 < length fs → ComesTo n (running_sums_fit n zero_line (map part_line fs)) (running_line zero_line (map part_line fs)) o → Operates n SumOfAll (map part_line fs) o
 sum_of_all_comes n [] o some h = absurd (omega arith)
-sum_of_all_comes n (f ∷ fs) (Linear g) some h = (
+sum_of_all_comes n (f ∷ fs) (Made g) some h = (
   ap too_wide_unless (sym (from_first n (part_line f) (map part_line fs) (part_fits f)) ∙ h.0),
   h.1 ∙ ap (λ c. running_line c (map part_line fs)) (zero_line_sum (part_line f)),
   h.2,
 )
 sum_of_all_comes n (f ∷ fs) (Refused r) some h = ap too_wide_unless (sym (from_first n (part_line f) (map part_line fs) (part_fits f)) ∙ h.0) ∙ ap Some (sym h.1)
 
-and_true_right : (b : Bool) → b && true ≡ b
-and_true_right true = refl
-and_true_right false = refl
-
-pub sum_comes : (n : ℕ) (fs : List Part) (o : Outcome) → length fs ≡ 2 → ComesTo n (running_sums_fit n zero_line (map part_line fs)) (running_line zero_line (map part_line fs)) o → Operates n Sum (map part_line fs) o
-sum_comes n [] o two h = absurd (omega arith)
-sum_comes n (f ∷ []) o two h = absurd (omega arith)
-sum_comes n (f ∷ g ∷ x ∷ fs) o two h = absurd (omega arith)
-sum_comes n (f ∷ g ∷ []) (Linear r) two h = (
-  ap too_wide_unless (sym (and_true_right (sums_fit n (part_line f) (part_line g))) ∙ sym (from_first n (part_line f) (part_line g ∷ []) (part_fits f)) ∙ h.0),
+pub sum_comes : (n : ℕ) (fs : List Part) (o : Outcome) → length fs ≡ 2 → ComesTo n (running_sums_fit n zero_line (map part_line fs)) (running_line zero_line (map part_line fs)) o → Operates n SumOfTwo (map part_line fs) o
+sum_comes n (f ∷ g ∷ []) (Made r) two h = (
+  ap too_wide_unless (sym (and-true (sums_fit n (part_line f) (part_line g))) ∙ sym (from_first n (part_line f) (part_line g ∷ []) (part_fits f)) ∙ h.0),
   h.1 ∙ ap (λ c. line_sum c (part_line g)) (zero_line_sum (part_line f)),
   h.2,
 )
 sum_comes n (f ∷ g ∷ []) (Refused r) two h =
-    ap too_wide_unless (sym (and_true_right (sums_fit n (part_line f) (part_line g))) ∙ sym (from_first n (part_line f) (part_line g ∷ []) (part_fits f)) ∙ h.0) ∙ ap Some (sym h.1)
+    ap too_wide_unless (sym (and-true (sums_fit n (part_line f) (part_line g))) ∙ sym (from_first n (part_line f) (part_line g ∷ []) (part_fits f)) ∙ h.0) ∙ ap Some (sym h.1)
+sum_comes n fs o two h = absurd (omega arith)
 
 -- ---- steps
 pub one_done : (n p total from old new : ℕ) → 0 < p → p ≤ total → old ≤ from + (n + 1) * (total - p) → new ≤ old + (n + 1) → new ≤ from + (n + 1) * (total - (p - 1))
@@ -260,27 +410,31 @@ done_within n p total from old new some within a b =
     omega arith
 
 pub copy_fits : (n : ℕ) (k : ℚ) (a : Line) → k ≡ one_ℚ → FitsLine a → products_fit n k a ≡ true
-copy_fits n k a e small =
-    let parts : FitsLine (line_scaled k a) = subst FitsLine (sym (scaled_by_one k a e)) small in
-    and_from _ _ parts.constant (all_below-intro (λ j. fits (k *ℚ a.coef j)) n (λ j p. parts.coefs j))
+copy_fits n k a e small = scaled_fits n k a (subst FitsLine (sym (scaled_by_one k a e)) small)
 
 -- ---- two operands, the first of them last
 pub pair_of : (ps : List Part) (a b : Part) → length ps ≡ 2 → a ≡ get_or ps 1 a → b ≡ get_or ps 0 b → reverse ps ≡ a ∷ b ∷ []
-pair_of [] a b two e f = absurd (omega arith)
-pair_of (x ∷ []) a b two e f = absurd (omega arith)
-pair_of (x ∷ y ∷ z ∷ ps) a b two e f = absurd (omega arith)
 pair_of (x ∷ y ∷ []) a b two e f = ap₂ (λ p q. p ∷ q ∷ []) (sym e) (sym f)
+pair_of ps a b two e f = absurd (omega arith)
 
 pub single_of : (ps : List Part) (a : Part) → length ps ≡ 1 → a ≡ get_or ps 0 a → reverse ps ≡ a ∷ []
-single_of [] a one e = absurd (omega arith)
-single_of (x ∷ y ∷ ps) a one e = absurd (omega arith)
 single_of (x ∷ []) a one e = ap (λ p. p ∷ []) (sym e)
+single_of ps a one e = absurd (omega arith)
 
-pub two_within : (n : ℕ) (ps : List Part) (a b : Part) → ps ≡ a ∷ b ∷ [] → AreOperands n ps → IsOperand n a × IsOperand n b
-two_within n ps a b e w = let h = subst (AreOperands n) e w in (h.0, h.1.0)
+pub first_within : (n : ℕ) (ps : List Part) (a b : Part) → ps ≡ a ∷ b ∷ [] → AreOperands n ps → IsOperand n a
+first_within n ps a b e w = (subst (AreOperands n) e w).0
+
+pub second_within : (n : ℕ) (ps : List Part) (a b : Part) → ps ≡ a ∷ b ∷ [] → AreOperands n ps → IsOperand n b
+second_within n ps a b e w = (subst (AreOperands n) e w).1.0
 
 pub one_within : (n : ℕ) (ps : List Part) (a : Part) → ps ≡ a ∷ [] → AreOperands n ps → IsOperand n a
 one_within n ps a e w = (subst (AreOperands n) e w).0
 
+pub operand_unbroken : (n : ℕ) (p : Part) → IsOperand n p → IsUnbroken p
+operand_unbroken n p w = sound_unbroken n p w.sound
+
 pub as_operands : (n : ℕ) (c d : OpClass) (ps qs : List Part) (o : Outcome) → c ≡ d → ps ≡ qs → Operates n d (map part_line qs) o → Operates n c (map part_line ps) o
 as_operands n c d ps qs o e f h = subst₂ (λ k rs. Operates n k (map part_line rs) o) (sym e) (sym f) h
+
+pub as_result : (n : ℕ) (c d : OpClass) (ps qs : List Part) (r : Result Outcome AllocError) → c ≡ d → ps ≡ qs → IfOk r (λ o. Operates n d (map part_line qs) o) → IfOk r (λ o. Operates n c (map part_line ps) o)
+as_result n c d ps qs r e f h = subst₂ (λ k rs. IfOk r (λ o. Operates n k (map part_line rs) o)) (sym e) (sym f) h

@@ -2,13 +2,14 @@
 use Rattle.std.proofs.Common.{◌≡◌, ◌⊎◌, inl, inr, ℕ, zero, suc, ◌+◌, ◌-◌, ◌^◌, ◌<◌, ◌≤◌, ◌∙◌, sym, ap, refl, subst, subst₂, arith, ⊎_elim, Bool, true, false, nat_lt, ◌==◌, not, ◌&&◌, ◌||◌, IsTrue, is_some, pos, if◌then◌else◌, Option, Some, None, IfSome, option_map, option_and_then, List, [], ◌∷◌, ◌++◌, length, take, get_or, slice_get, All, append_assoc, append-nil}
 use Rattle.std.specs.Option.{option_or, option_map_or}
 use Rattle.std.proofs.lemmas.Bool.{lt-ltb, le-ltb}
+use Rattle.std.proofs.lemmas.Option.{get_or_from_slice_get, slice_get_within}
 use Rattle.std.proofs.lemmas.List.Sums.{get_or-le-sum_by}
 use Rattle.fractions.specs.Rational.{decimal_value}
 use Rattle.fractions.specs.Fits.{fits, sum_fits}
 use Rattle.exact_numbers.proofs.Bridge.{zero_decimal}
 use Rattle.nl_meaning.specs.declared.Fault.{Fault}
 use Rattle.nl_meaning.specs.declared.Reason.{Reason}
-use Rattle.nl_meaning.specs.declared.Reason.TheVariants.{Nonlinear as IsNonlinear, DivideByZero as DividesByZero, TooWide as IsTooWide, RefusedPower as HasRefusedPower}
+use Rattle.nl_meaning.specs.declared.Reason.TheVariants.{Nonlinear as IsNonlinear}
 use Rattle.linear_programs.specs.Lines.{Line, constant_line, line_with, Point}
 use Rattle.nl_meaning.specs.Faults.{fault_at, too_wide_unless, tree_fault, trees_fault, terms_fault, expression_fault, tree_line, trees_lines, operator_fault}
 use Rattle.nl_meaning.specs.Trees.{Known, Tree, number, variable, defined, operator, Trees, none, more, Expression, expression_value, tree_size, trees_size}
@@ -18,7 +19,8 @@ use Rattle.nl_model.specs.declared.at.At.{At}
 use Rattle.nl_model.specs.declared.at.At.TheVariants.{Node, Term as TermOf, Head}
 use Rattle.nl_model.specs.declared.at.Owner.{Owner}
 use Rattle.nl_model.specs.declared.at.Owner.TheVariants.{Def, Con, Obj}
-use Rattle.nl_model.specs.File.{Term, Definition, File}
+use Rattle.nl_model.specs.File.{Term, File}
+use Rattle.nl_model.specs.declared.definition.Def.{Def as Definition}
 use Rattle.nl_model.specs.FilePlaces.{HasPlace, terms_at, tree_at}
 use Rattle.nl_model.specs.HeaderRules.{defined_count}
 use Rattle.nl_model.specs.Rules.{AreDefinitions, AreTermsBelow, AreTreesWithin, IsDefinition, IsFile, IsTreeKnown, IsTreeWithin, is_defined, most_terms}
@@ -52,9 +54,7 @@ there (x ∷ xs) zero h = (x, refl)
 there (x ∷ xs) (suc i) h = there xs i (omega arith)
 
 pub found_here : {A : Type 0} → (xs : List A) (i : ℕ) (x : A) → slice_get xs i ≡ Some x → (i < length xs) × (get_or xs i x ≡ x)
-found_here [] i x f = cc
-found_here (y ∷ ys) zero x f = (omega arith, ap (λ o. option_map_or (λ z. z) o y) f)
-found_here (y ∷ ys) (suc i) x f = let r = found_here ys i x f in (omega (arith, r.0), r.1)
+found_here xs i x f = (slice_get_within xs i x f, get_or_from_slice_get xs i x x f)
 
 pub all_at : {A : Type 0} → (P : A → Type 0) (xs : List A) (i : ℕ) (x : A) → slice_get xs i ≡ Some x → All P xs → (i < length xs) × (get_or xs i x ≡ x) × P x
 all_at P xs i x e all =
@@ -105,9 +105,9 @@ owner_terms f file (Obj k) has =
     (file.terms.slopes_below k [] here, file.terms.few_slopes k [] here)
 
 -- ---- the place of a fault
-option_or_some : (f g : Option Fault) (x : Fault) → option_or f g ≡ Some x → (f ≡ Some x) ⊎ (g ≡ Some x)
-option_or_some None g x e = inr e
-option_or_some (Some y) g x e = inl e
+either_fault : {P : Type 0} (f g : Option Fault) (x : Fault) → (f ≡ Some x → P) → (g ≡ Some x → P) → option_or f g ≡ Some x → P
+either_fault None g x first second e = second e
+either_fault (Some y) g x first second e = first e
 
 fault_at_place : (i : ℕ) (r : Option Reason) (x : Fault) → fault_at i r ≡ Some x → i ≡ x.place
 fault_at_place i None x e = cc
@@ -120,28 +120,25 @@ module _ (known : Point → Known) (n : ℕ) where
     tree_place i (variable j) x h = cc
     tree_place i (defined j) x h = cc
     tree_place i (operator c ts) x h =
-        ⊎_elim
-        (λ (e : trees_fault known n (i + 1) ts ≡ Some x). let r = trees_place (i + 1) ts x e in (omega (arith, r.0), omega (arith, r.1)))
-        (λ (e : fault_at i (operator_fault n c (trees_lines known ts)) ≡ Some x). let p = fault_at_place i (operator_fault n c (trees_lines known ts)) x e in (omega arith, omega arith))
-        (option_or_some (trees_fault known n (i + 1) ts) (fault_at i (operator_fault n c (trees_lines known ts))) x h)
+        either_fault (trees_fault known n (i + 1) ts) (fault_at i (operator_fault n c (trees_lines known ts))) x
+        (λ e. let r = trees_place (i + 1) ts x e in (omega (arith, r.0), omega (arith, r.1)))
+        (λ e. let p = fault_at_place i (operator_fault n c (trees_lines known ts)) x e in (omega arith, omega arith)) h
 
     trees_place : (i : ℕ) (ts : Trees) (x : Fault) → trees_fault known n i ts ≡ Some x → (i ≤ x.place) × (x.place < i + trees_size ts)
     trees_place i none x h = cc
     trees_place i (more t ts) x h =
-        ⊎_elim
-        (λ (e : tree_fault known n i t ≡ Some x). let r = tree_place i t x e in (omega (arith, r.0), omega (arith, r.1)))
-        (λ (e : trees_fault known n (i + tree_size t) ts ≡ Some x). let r = trees_place (i + tree_size t) ts x e in (omega (arith, r.0), omega (arith, r.1)))
-        (option_or_some (tree_fault known n i t) (trees_fault known n (i + tree_size t) ts) x h)
+        either_fault (tree_fault known n i t) (trees_fault known n (i + tree_size t) ts) x
+        (λ e. let r = tree_place i t x e in (omega (arith, r.0), omega (arith, r.1)))
+        (λ e. let r = trees_place (i + tree_size t) ts x e in (omega (arith, r.0), omega (arith, r.1))) h
 
 terms_place : (i : ℕ) (ts : List Term) (a : Line) (x : Fault) → terms_fault a i (linear_terms ts) ≡ Some x → (i ≤ x.place) × (x.place < i + length ts)
 terms_place i [] a x h = cc
 terms_place i (t ∷ ts) a x h =
-    let first = fault_at i (too_wide_unless (fits (linear_term t).factor && sum_fits (a.coef t.0) (linear_term t).factor)) in
+    let wide = too_wide_unless (fits (linear_term t).factor && sum_fits (a.coef t.0) (linear_term t).factor) in
     let next = line_with a t.0 (linear_term t).factor in
-    ⊎_elim
-    (λ (e : first ≡ Some x). let p = fault_at_place i (too_wide_unless (fits (linear_term t).factor && sum_fits (a.coef t.0) (linear_term t).factor)) x e in (omega arith, omega arith))
-    (λ (e : terms_fault next (i + 1) (linear_terms ts) ≡ Some x). let r = terms_place (i + 1) ts next x e in (omega (arith, r.0), omega (arith, r.1)))
-    (option_or_some first (terms_fault next (i + 1) (linear_terms ts)) x h)
+    either_fault (fault_at i wide) (terms_fault next (i + 1) (linear_terms ts)) x
+    (λ e. let p = fault_at_place i wide x e in (omega arith, omega arith))
+    (λ e. let r = terms_place (i + 1) ts next x e in (omega (arith, r.0), omega (arith, r.1))) h
 
 -- at a node that was given, or at a term
 abbrev IsAmong : Option Tree → List Term → ℕ → Type 0
@@ -153,12 +150,9 @@ node_among known n (Some t) x h = let r = tree_place known n 0 t x h in (omega (
 
 pub expression_among : (known : Point → Known) (n : ℕ) (t : Option Tree) (ts : List Term) (x : Fault) → expression_fault known n (record { tree = tree_or_zero t; terms = linear_terms ts }) ≡ Some x → IsAmong t ts x.place
 expression_among known n t ts x h =
-    ⊎_elim
-    (λ (e : tree_fault known n 0 (tree_or_zero t) ≡ Some x). inl (node_among known n t x e))
-    (λ (e : terms_fault (tree_line known (tree_or_zero t)) (tree_size (tree_or_zero t)) (linear_terms ts) ≡ Some x).
-    let r = terms_place (tree_size (tree_or_zero t)) ts (tree_line known (tree_or_zero t)) x e in
-    inr (r.0, omega (arith, r.0, r.1), r.1))
-    (option_or_some (tree_fault known n 0 (tree_or_zero t)) (terms_fault (tree_line known (tree_or_zero t)) (tree_size (tree_or_zero t)) (linear_terms ts)) x h)
+    let size = tree_size (tree_or_zero t) in
+    either_fault (tree_fault known n 0 (tree_or_zero t)) (terms_fault (tree_line known (tree_or_zero t)) size (linear_terms ts)) x (λ e. inl (node_among known n t x e))
+    (λ e. let r = terms_place size ts (tree_line known (tree_or_zero t)) x e in inr (r.0, omega (arith, r.0, r.1), r.1)) h
 
 pub place_bound : (t : Option Tree) (ts : List Term) (p : ℕ) → IsAmong t ts p → tree_size (tree_or_zero t) ≤ 2 ^ 22 → length ts ≤ most_terms → p < 2 ^ 32
 place_bound t ts p among few short =
@@ -168,9 +162,7 @@ place_bound t ts p among few short =
 
 fault_placed : (f : File) (r : Reason) (at : At) → HasPlace f at → HasFaultPlace f (fault_for r at)
 fault_placed f IsNonlinear at h = h
-fault_placed f DividesByZero at h = h
-fault_placed f IsTooWide at h = h
-fault_placed f HasRefusedPower at h = h
+fault_placed f r at h = h
 
 chosen : {A : Type 0} → (P : A → Type 0) (b c : Bool) (x y : A) → b ≡ c → P (if c then x else y) → P (if b then x else y)
 chosen P b c x y e h = subst (λ d. P (if d then x else y)) (sym e) h
@@ -185,8 +177,7 @@ owner_place f o r p among =
 
 pub owner_is : (o : Owner) → owner_of (fold_owner_of o) ≡ o
 owner_is (Def i) = refl
-owner_is (Con i) = refl
-owner_is (Obj k) = refl
+owner_is o = refl
 
 -- ---- what the fold of an expression says of an owner
 module _ (f : File) (o : Owner) (v : ℕ) (t : Option Tree) (ts : List Term) (slots seen : List (Option Form)) (count : v ≡ f.counts.n_var) (tree : t ≡ tree_at f o) (terms : ts ≡ terms_at f o) (view : seen ≡ slots) (s : AreSlotsOf f (definitions_before f o) slots) where

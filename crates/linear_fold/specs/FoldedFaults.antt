@@ -56,8 +56,8 @@ HasFaultPlace f (NoSuchObjective k) = Unit {0}
 -- ---- steps
 
 -- the nodes of all expressions
-abbrev pub node_total : File → ℕ
-node_total f =
+abbrev pub nodes_in_all : File → ℕ
+nodes_in_all f =
     sum_by (λ d. tree_size d.tree) f.definitions
     + sum_by (λ b. option_map_or tree_size b 0) f.bodies
     + sum_by (λ o. tree_size o.tree) f.objectives
@@ -69,4 +69,4 @@ term_total f = sum_by (λ d. length d.terms) f.definitions + sum_by length f.ter
 
 -- folding takes at most so many steps
 abbrev pub step_bound : File → ℕ
-step_bound f = 2 * (node_total f + term_total f) * (f.counts.n_var + 1)
+step_bound f = 2 * (nodes_in_all f + term_total f) * (f.counts.n_var + 1)

@@ -1,8 +1,10 @@
 -- The parts of a tree, and what an operator makes of them.
-use Rattle.std.specs.Prelude.{◌≡◌, ℕ, ◌<◌, Bool, true, false, List, [], ◌∷◌, map, Option, Some, None, Result, Ok, Err}
+use Rattle.std.specs.Prelude.{◌≡◌, ℕ, ◌<◌, Bool, true, false, List, [], ◌∷◌, map, Option, Some, None, Result, Ok, Err, if◌then◌else◌}
 use Rattle.texts.specs.declared.stop.Stop.{Stop}
 use Rattle.texts.specs.declared.stop.Stop.TheVariants.{Fault, Memory}
 use Rattle.code_tables.specs.declared.class.OpClass.{OpClass}
+use Rattle.code_tables.specs.declared.class.OpClass.TheVariants.{Least, Greatest}
+use Rattle.fractions.specs.Functions.{lesser_of, greater_of}
 use Rattle.fractions.specs.Rational.{ℚ, zero_ℚ}
 use Rattle.nl_meaning.specs.declared.Reason.TheVariants.{TooWide}
 use Rattle.linear_programs.specs.Lines.{constant_line, line_with, Line, are_constant, constants_of}
@@ -77,6 +79,13 @@ IsValueOf n c ps None = are_constant n (lines_of_parts ps) ≡ false
 IsValueOf n c ps (Some v) =
     (are_constant n (lines_of_parts ps) ≡ true)
     × (on_values c (constants_of (lines_of_parts ps)) ≡ Some (frac_value v))
+
+-- the least, or the greatest
+abbrev pub best_class : Bool → OpClass
+best_class least = if least then Least else Greatest
+
+abbrev pub better_of : Bool → ℚ → ℚ → ℚ
+better_of least x y = if least then lesser_of x y else greater_of x y
 
 -- a sum that fits exactly where a test says so
 abbrev pub SumsTo : Bool → Line → Line → Result (Unit {0}) (Stop Wide) → Type 0

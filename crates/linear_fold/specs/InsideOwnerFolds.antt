@@ -7,7 +7,8 @@ use Rattle.linear_programs.specs.Lines.{Point}
 use Rattle.nl_meaning.specs.Trees.{Known, Tree, Expression, expression_value, known_values, tree_size}
 use Rattle.nl_model.specs.declared.at.Owner.{Owner}
 use Rattle.nl_model.specs.declared.at.Owner.TheVariants.{Def, Con, Obj}
-use Rattle.nl_model.specs.File.{Term, Definition, File}
+use Rattle.nl_model.specs.File.{Term, File}
+use Rattle.nl_model.specs.declared.definition.Def.{Def as Definition}
 use Rattle.nl_model.specs.FilePlaces.{tree_at, terms_at, node_count}
 use Rattle.nl_model.specs.HeaderRules.{defined_count}
 use Rattle.nl_model.specs.Rules.{is_defined}

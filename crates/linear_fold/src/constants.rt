@@ -1,11 +1,11 @@
 // The operators that want constants.
 ghost use Rattle.std.specs.Prelude.{◌≡◌, ℕ, ◌+◌, ◌<◌, ◌^◌, pos, negsuc, [], ◌∷◌, false, true, length, reverse, unsigned_abs, MatchOption};
-ghost use Rattle.code_tables.specs.declared.class.OpClass.TheVariants.{Absolute, Ceiling, Floor, Greatest, Least, Power};
+ghost use Rattle.code_tables.specs.declared.class.OpClass.TheVariants.{Absolute, Ceiling, Floor, Power};
 ghost use Rattle.exact_numbers.specs.Values.{frac_value};
 ghost use Rattle.fractions.specs.Fits.{fits};
 ghost use Rattle.fractions.specs.Functions.{absolute_of as absolute_in, exponent_of as exponent_in, floor_of as floor_in, greater_of, lesser_of, power_of as power_in};
 ghost use Rattle.fractions.specs.Rational.{whole as whole_number};
-ghost use Rattle.linear_fold.specs.InsideOperates.{AreOperands, AreUnbroken, IsOperand, IsUnbroken, IsValueOf, Operates, lines_of_parts, part_line};
+ghost use Rattle.linear_fold.specs.InsideOperates.{AreOperands, AreUnbroken, IsOperand, IsUnbroken, IsValueOf, Operates, best_class, better_of, lines_of_parts, part_line};
 
 use crate::operate::Outcome;
 use crate::parts::Part;
@@ -24,6 +24,7 @@ fn exponent_of(x: Frac) -> Option<u32>
 }
 
 // x to the n, where it fits.
+#[tactic(auto, using(crate::proofs::ConstantLemmas::power_first, crate::proofs::ConstantLemmas::power_next, exact_numbers::proofs::Bridge::frac_fits_lem))]
 fn power_of(x: Frac, n: u32) -> Option<Frac>
     ensures { MatchOption result (fits (power_in (frac_value x) n) ≡ false)
         (λ f. (fits (power_in (frac_value x) n) ≡ true)
@@ -60,6 +61,7 @@ pub(crate) fn power(a: &Part, b: &Part) -> Outcome
     }
 }
 
+#[tactic(auto, using(crate::proofs::ConstantLemmas::lesser_first, crate::proofs::ConstantLemmas::lesser_second))]
 fn lesser(a: Frac, b: Frac) -> Frac
     ensures { frac_value result ≡ lesser_of (frac_value a) (frac_value b) }
 {
@@ -69,6 +71,7 @@ fn lesser(a: Frac, b: Frac) -> Frac
     }
 }
 
+#[tactic(auto, using(crate::proofs::ConstantLemmas::greater_first, crate::proofs::ConstantLemmas::greater_second))]
 fn greater(a: Frac, b: Frac) -> Frac
     ensures { frac_value result ≡ greater_of (frac_value a) (frac_value b) }
 {
@@ -78,65 +81,39 @@ fn greater(a: Frac, b: Frac) -> Frac
     }
 }
 
-// The least of constant forms; none where one is not constant.
-fn least_value(operands: &[Part]) -> Option<Frac>
+fn better(least: bool, a: Frac, b: Frac) -> Frac
+    ensures { frac_value result ≡ better_of least (frac_value a) (frac_value b) }
+{
+    if least { lesser(a, b) } else { greater(a, b) }
+}
+
+// The least of constant forms, or the greatest; none where one is not constant.
+fn best_value(operands: &[Part], least: bool) -> Option<Frac>
     requires some { 0 < length operands.now }
     requires unbroken { AreUnbroken (reverse operands.now) }
     ensures { (n : ℕ) → AreOperands n (reverse operands.now)
-        → IsValueOf n Least (reverse operands.now) result }
+        → IsValueOf n (best_class least) (reverse operands.now) result }
 {
     let last = operands.len() - 1;
-    let Some(mut least) = operands[last].constant() else {
+    let Some(mut best) = operands[last].constant() else {
         return None;
     };
     for place in (0..operands.len()).rev() {
         let Some(value) = operands[place].constant() else {
             return None;
         };
-        least = lesser(least, value);
+        best = better(least, best, value);
     }
-    Some(least)
+    Some(best)
 }
 
-// The greatest of constant forms; none where one is not constant.
-fn greatest_value(operands: &[Part]) -> Option<Frac>
+pub(crate) fn best(operands: &[Part], least: bool) -> Outcome
     requires some { 0 < length operands.now }
     requires unbroken { AreUnbroken (reverse operands.now) }
     ensures { (n : ℕ) → AreOperands n (reverse operands.now)
-        → IsValueOf n Greatest (reverse operands.now) result }
+        → Operates n (best_class least) (lines_of_parts (reverse operands.now)) result }
 {
-    let last = operands.len() - 1;
-    let Some(mut greatest) = operands[last].constant() else {
-        return None;
-    };
-    for place in (0..operands.len()).rev() {
-        let Some(value) = operands[place].constant() else {
-            return None;
-        };
-        greatest = greater(greatest, value);
-    }
-    Some(greatest)
-}
-
-pub(crate) fn least(operands: &[Part]) -> Outcome
-    requires some { 0 < length operands.now }
-    requires unbroken { AreUnbroken (reverse operands.now) }
-    ensures { (n : ℕ) → AreOperands n (reverse operands.now)
-        → Operates n Least (lines_of_parts (reverse operands.now)) result }
-{
-    match least_value(operands) {
-        Some(value) => Outcome::Linear(Part::Number(value)),
-        None => Outcome::Refused(Reason::Nonlinear),
-    }
-}
-
-pub(crate) fn greatest(operands: &[Part]) -> Outcome
-    requires some { 0 < length operands.now }
-    requires unbroken { AreUnbroken (reverse operands.now) }
-    ensures { (n : ℕ) → AreOperands n (reverse operands.now)
-        → Operates n Greatest (lines_of_parts (reverse operands.now)) result }
-{
-    match greatest_value(operands) {
+    match best_value(operands, least) {
         Some(value) => Outcome::Linear(Part::Number(value)),
         None => Outcome::Refused(Reason::Nonlinear),
     }

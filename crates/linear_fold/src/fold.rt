@@ -21,6 +21,7 @@ use texts::{Ledger, Steps};
 // A stack has room for so many parts at first.
 const MOST_AT_FIRST: usize = 16;
 
+#[tactic(auto, using(crate::proofs::Folding::number_within))]
 fn number_part(value: Dec, place: usize) -> Part
     ensures part { (n : ℕ) (known : Point → Known)
         → IsPartFolded known n place (number value.m value.e) result }

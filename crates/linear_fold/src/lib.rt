@@ -16,4 +16,4 @@ mod program;
 
 pub use fold_fault::FoldFault;
 pub use linear_program::{Form, FormTerms, Linear, Pad, Wide};
-pub use program::fold_all;
+pub use program::{fold_all, fold_file};

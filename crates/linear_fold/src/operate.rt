@@ -25,6 +25,7 @@ pub enum Outcome {
 
 // Adds k times a factor times a variable to a sum; a step for the constant, which is 0, and
 // for the term.
+#[tactic(auto, using(crate::proofs::Operators::stops_multiple, crate::proofs::Operators::total_fits))]
 fn add_variable<L: Ledger>(
     total: &mut Sum,
     variable: u32,
@@ -106,6 +107,7 @@ fn add_all<L: Ledger>(
 }
 
 // Adds a difference to a sum that is 0.
+#[tactic(auto, using(crate::proofs::Operators::difference_done, crate::proofs::Operators::part_fits))]
 fn add_difference<L: Ledger>(
     alloc: Global,
     total: &mut Sum,
@@ -131,6 +133,7 @@ fn add_difference<L: Ledger>(
 }
 
 // Adds k times a form to a sum that is 0.
+#[tactic(auto, using(crate::proofs::Operators::multiplied))]
 fn add_multiple<L: Ledger>(
     total: &mut Sum,
     a: &Form,
@@ -243,6 +246,7 @@ fn scaled_form<L: Ledger>(
 }
 
 // k times a number.
+#[tactic(auto, using(crate::proofs::Operators::number_fits, crate::proofs::Operators::number_scaled))]
 fn scaled_number(number: Frac, k: Frac) -> Outcome
     ensures { (n : ℕ) → ComesTo n
         (products_fit n (frac_value k) (constant_line (frac_value number)))
@@ -255,6 +259,7 @@ fn scaled_number(number: Frac, k: Frac) -> Outcome
 }
 
 // k times a factor times a variable.
+#[tactic(auto, using(crate::proofs::Operators::multiple_fits))]
 fn scaled_multiple(variable: u32, factor: Frac, k: Frac) -> Outcome
     ensures { (n : ℕ) → variable < n → ComesTo n
         (products_fit n (frac_value k) (multiple_line variable (frac_value factor)))
@@ -368,6 +373,7 @@ fn quotient<L: Ledger>(
 }
 
 // Two operands, the first of them last in the list.
+#[tactic(auto, using(crate::proofs::Operators::pair_of))]
 fn two_of(operands: &[Part]) -> (&Part, &Part)
     requires { length operands.now ≡ 2 }
     ensures { reverse operands.now ≡ result.0.now ∷ result.1.now ∷ [] }
@@ -375,6 +381,7 @@ fn two_of(operands: &[Part]) -> (&Part, &Part)
     (&operands[1], &operands[0])
 }
 
+#[tactic(auto, using(crate::proofs::Operators::single_of))]
 fn one_of(operands: &[Part]) -> &Part
     requires { length operands.now ≡ 1 }
     ensures { reverse operands.now ≡ result.now ∷ [] }
@@ -383,6 +390,7 @@ fn one_of(operands: &[Part]) -> &Part
 }
 
 /// The form or the fault of an operator.
+#[tactic(auto, using(crate::proofs::Operators::first_within, crate::proofs::Operators::second_within, crate::proofs::Operators::one_within, crate::proofs::Operators::operand_unbroken, crate::proofs::Operators::as_result, crate::proofs::Operators::unbroken_of))]
 pub(crate) fn operate<L: Ledger>(
     alloc: Global,
     class: OpClass,
@@ -419,8 +427,8 @@ pub(crate) fn operate<L: Ledger>(
             let (a, b) = two_of(operands);
             Ok(constants::power(a, b))
         }
-        OpClass::Least => Ok(constants::least(operands)),
-        OpClass::Greatest => Ok(constants::greatest(operands)),
+        OpClass::Least => Ok(constants::best(operands, true)),
+        OpClass::Greatest => Ok(constants::best(operands, false)),
         OpClass::Floor => Ok(constants::floor(one_of(operands))),
         OpClass::Ceiling => Ok(constants::ceiling(one_of(operands))),
         OpClass::Absolute => Ok(constants::absolute(one_of(operands))),

@@ -36,6 +36,7 @@ fn fault_before(part: &Part, after: Option<Fault>) -> Option<Fault>
 }
 
 /// The first fault among operands, of which the first is the last of the list.
+#[tactic(auto, using(crate::proofs::Operators::one_more, std::proofs::lemmas::List::take_all))]
 pub(crate) fn first_fault(operands: &[Part]) -> Option<Fault>
     ensures { result ≡ first_broken (reverse operands.now) }
 {
@@ -81,6 +82,7 @@ fn form_of_multiple(alloc: Global, variable: u32, factor: Frac) -> Result<Form, 
 
 impl Part {
     /// The value of a part that is constant.
+    #[tactic(auto, using(crate::proofs::Operators::number_constant))]
     pub(crate) fn constant(&self) -> Option<Frac>
         requires { IsUnbroken self.now }
         ensures value { IfSome result (λ f. frac_value f ≡ (part_line self.now).constant) }

@@ -41,6 +41,7 @@ fn is_maximised(file: &NlFile, objective: u32) -> bool
 }
 
 // The sides of all constraints.
+#[tactic(auto, using(crate::proofs::BodyLemmas::next_taken))]
 fn sides_of(alloc: Global, file: &NlFile) -> Result<Vec<Interval>, AllocError>
     requires { IsFile file.now }
     ensures { IfOk result (λ v. v.items ≡ file.now.sides) }
@@ -56,6 +57,7 @@ fn sides_of(alloc: Global, file: &NlFile) -> Result<Vec<Interval>, AllocError>
 }
 
 // The bounds of all variables.
+#[tactic(auto, using(crate::proofs::BodyLemmas::next_taken))]
 fn bounds_of(alloc: Global, file: &NlFile) -> Result<Vec<Interval>, AllocError>
     requires { IsFile file.now }
     ensures { IfOk result (λ v. v.items ≡ file.now.bounds) }
@@ -107,6 +109,61 @@ fn assemble(
     Ok(Linear::of_parts(bodies, form, objective, maximise, sides, bounds, kinds))
 }
 
+// The folded file of the forms of its bodies and of an objective; its sides and bounds are handed
+// on, and the rest of it is let go.
+fn assemble_file(
+    alloc: Global,
+    file: NlFile,
+    objective: u32,
+    bodies: Vec<Form>,
+    form: Form,
+) -> Result<Linear, AllocError>
+    requires file { IsFile file }
+    requires counts { AreCounts file.counts }
+    requires forms { AreFormsOf file objective bodies.items form }
+    ensures linear { IfOk result (λ l. linear_value l ≡ linear_of file objective) }
+    ensures number { IfOk result (λ l. l.number ≡ objective) }
+    ensures sides { IfOk result (λ l. l.sides ≡ file.sides) }
+    ensures bounds { IfOk result (λ l. l.bounds ≡ file.bounds) }
+    ensures kinds { IfOk result (λ l. l.kinds ≡ kinds_in file) }
+{
+    let maximise = is_maximised(&file, objective);
+    let listed = all_kinds(alloc, &file);
+    let (sides, bounds) = file.into_intervals();
+    let kinds = listed?;
+    Ok(Linear::of_parts(bodies, form, objective, maximise, sides, bounds, kinds))
+}
+
+// The forms of the bodies of a file and of one of its objectives, or its first fault.
+fn forms_of<L: Ledger>(
+    alloc: Global,
+    file: &NlFile,
+    objective: u32,
+    steps: &mut Steps<L>,
+) -> Result<(Vec<Form>, Form), Stop<FoldFault>>
+    ensures forms { IfOk result (λ r. AreFormsOf file.now objective r.0.items r.1) }
+    ensures file { IsFile file.now }
+    ensures counts { AreCounts file.now.counts }
+    ensures fine { OnOk result (fold_fault file.now objective ≡ None) }
+    ensures values { OnOk result (HasLines file.now objective) }
+    ensures fault { IfErr result
+        (λ stop. IfFault stop (λ fault. first_fold_fault file.now objective ≡ Some fault)) }
+    ensures place { IfErr result (λ stop. IfFault stop (λ fault. HasFaultPlace file.now fault)) }
+    ensures above { steps.old ≤ steps.new }
+    ensures below { steps.new ≤ steps.old + step_bound file.now }
+    ensures none { has_objective file.now objective ≡ false → steps.new ≡ steps.old }
+{
+    if !has_objective(file.header().counts(), objective) {
+        return Err(Stop::Fault(FoldFault::NoSuchObjective(objective)));
+    }
+    let mut folder = empty_folder(alloc, file)?;
+    let forms = match fold_forms(alloc, file, objective, &mut folder, steps) {
+        Ok(forms) => forms,
+        Err(stop) => return Err(stop),
+    };
+    Ok(forms)
+}
+
 /// Folds a file with one of its objectives: its linear program, or its first fault.
 pub fn fold_all<L: Ledger>(
     alloc: Global,
@@ -136,14 +193,51 @@ pub fn fold_all<L: Ledger>(
     ensures below { steps.new ≤ steps.old + step_bound file.now }
     ensures none { has_objective file.now objective ≡ false → steps.new ≡ steps.old }
 {
-    if !has_objective(file.header().counts(), objective) {
-        return Err(Stop::Fault(FoldFault::NoSuchObjective(objective)));
-    }
-    let mut folder = empty_folder(alloc, file)?;
-    let (bodies, form) = match fold_forms(alloc, file, objective, &mut folder, steps) {
+    let (bodies, form) = match forms_of(alloc, file, objective, steps) {
         Ok(forms) => forms,
         Err(stop) => return Err(stop),
     };
     let linear = assemble(alloc, file, objective, bodies, form)?;
+    Ok(linear)
+}
+
+/// The same of a file that is let go: its sides and bounds are handed on.
+pub fn fold_file<L: Ledger>(
+    alloc: Global,
+    file: NlFile,
+    objective: u32,
+    steps: &mut Steps<L>,
+) -> Result<Linear, Stop<FoldFault>>
+    // The linear program of the file, which has no fault; sides, bounds and kinds are the file's
+    // own.
+    ensures linear { IfOk result (λ l. linear_value l ≡ linear_of file objective) }
+    ensures number { IfOk result (λ l. l.number ≡ objective) }
+    ensures sides { IfOk result (λ l. l.sides ≡ file.sides) }
+    ensures bounds { IfOk result (λ l. l.bounds ≡ file.bounds) }
+    ensures kinds { IfOk result (λ l. l.kinds ≡ kinds_in file) }
+    ensures fine { OnOk result (fold_fault file objective ≡ None) }
+
+    // At every assignment each body and the objective have the values of their forms.
+    ensures values { OnOk result (HasLines file objective) }
+
+    // The first fault, at a place of the file.
+    ensures fault { IfErr result
+        (λ stop. IfFault stop (λ fault. first_fold_fault file objective ≡ Some fault)) }
+    ensures place { IfErr result (λ stop. IfFault stop (λ fault. HasFaultPlace file fault)) }
+
+    // No step is counted where there is no such objective.
+    ensures above { steps.old ≤ steps.new }
+    ensures below { steps.new ≤ steps.old + step_bound file }
+    ensures none { has_objective file objective ≡ false → steps.new ≡ steps.old }
+{
+    let forms = forms_of(alloc, &file, objective, steps);
+    let (bodies, form) = match forms {
+        Ok(forms) => forms,
+        Err(stop) => {
+            drop(file);
+            return Err(stop);
+        }
+    };
+    let linear = assemble_file(alloc, file, objective, bodies, form)?;
     Ok(linear)
 }

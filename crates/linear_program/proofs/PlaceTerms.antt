@@ -77,10 +77,10 @@ same_terms n (x ∷ xs) (y ∷ ys) a b h =
 pub no_terms : (ps : List Frac) → ((j : ℕ) → place_in ps j ≡ zero_ℚ) → terms_from 0 ps ≡ []
 no_terms ps z = same_terms 0 (terms_from 0 ps) [] (terms_ascend 0 ps) tt (λ j. terms_coef ps j ∙ z j)
 
-pub open_line : (s : Sum) → parts_line (frac_value s.constant) (terms_from 0 s.accumulator) ≡ sum_line s
-open_line s = same_line (parts_line (frac_value s.constant) (terms_from 0 s.accumulator)) (sum_line s) refl (terms_coef s.accumulator)
+pub open_line : (s : Sum) → parts_line (frac_value s.constant) (terms_from 0 s.accumulator.value) ≡ sum_line s
+open_line s = same_line (parts_line (frac_value s.constant) (terms_from 0 s.accumulator.value)) (sum_line s) refl (terms_coef s.accumulator.value)
 
-pub lines_after : {A E : Type 0} (s : Sum) (r : Result A E) (l : Line) → OnErr r (sum_line s ≡ l) → OnErr r (parts_line (frac_value s.constant) (terms_from 0 s.accumulator) ≡ l)
+pub lines_after : {A E : Type 0} (s : Sum) (r : Result A E) (l : Line) → OnErr r (sum_line s ≡ l) → OnErr r (parts_line (frac_value s.constant) (terms_from 0 s.accumulator.value) ≡ l)
 lines_after s (Ok a) l h = tt
 lines_after s (Err e) l h = open_line s ∙ h
 

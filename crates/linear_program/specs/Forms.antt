@@ -20,12 +20,12 @@ use Rattle.linear_program.specs.Decimals.{fraction_terms}
 use Rattle.linear_program.specs.Places.{place_in, terms_from}
 
 abbrev pub kept_constant : Kept → Frac
-kept_constant (Closed k ts) = k
+kept_constant (Closed ts k) = k
 kept_constant (Open s) = s.constant
 
 abbrev pub kept_terms : Kept → List Term
-kept_terms (Closed k ts) = ts
-kept_terms (Open s) = terms_from 0 s.accumulator
+kept_terms (Closed ts k) = ts
+kept_terms (Open s) = terms_from 0 s.accumulator.value
 
 -- its terms, which ascend by variable
 abbrev pub form_terms : Form → List Term
@@ -40,7 +40,7 @@ abbrev pub form_line : Form → Line
 form_line f = parts_line (frac_value (kept_constant f.kept)) (form_terms f)
 
 abbrev pub is_kept_open : Kept → Bool
-is_kept_open (Closed k ts) = false
+is_kept_open (Closed ts k) = false
 is_kept_open (Open s) = true
 
 -- it lies on a pad
@@ -48,8 +48,8 @@ abbrev pub is_open : Form → Bool
 is_open f = is_kept_open f.kept
 
 abbrev pub kept_places : Kept → ℕ
-kept_places (Closed k ts) = 0
-kept_places (Open s) = length s.accumulator
+kept_places (Closed ts k) = 0
+kept_places (Open s) = length s.accumulator.value
 
 -- how many places the pad of an open form has
 abbrev pub pad_places : Form → ℕ
@@ -57,11 +57,11 @@ pad_places f = kept_places f.kept
 
 -- the constant of a sum, and the coefficients at its places
 abbrev pub sum_line : Sum → Line
-sum_line s = record { constant = frac_value s.constant; coef = place_in s.accumulator }
+sum_line s = record { constant = frac_value s.constant; coef = place_in s.accumulator.value }
 
 -- how many places a sum has
 abbrev pub place_count : Sum → ℕ
-place_count s = length s.accumulator
+place_count s = length s.accumulator.value
 
 -- the terms from a number on: in a list that of a term, of places that of a place
 abbrev pub source_from : TermSource → ℕ → List Term

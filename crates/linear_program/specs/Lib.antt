@@ -1,5 +1,6 @@
 pub mod Coefs
 pub mod Decimals
+pub mod Fews
 pub mod Forms
 pub mod Intervals
 pub mod Places

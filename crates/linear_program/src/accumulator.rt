@@ -1,5 +1,5 @@
 // A sparse accumulator: the coefficients of a sum, each at the place of its variable.
-ghost use Rattle.std.specs.Prelude.{◌≡◌, ◌≢◌, ◌<◌, ℕ, [], length, IfOk, true};
+ghost use Rattle.std.specs.Prelude.{◌≡◌, ◌≢◌, ◌<◌, ℕ, [], length, IfOk, OnOk, true};
 ghost use Rattle.exact_numbers.specs.Values.{frac_value};
 ghost use Rattle.linear_program.specs.Coefs.{AddsAt, AreAscending, AreBelow, coef_in};
 ghost use Rattle.linear_program.specs.Forms.{terms_left};
@@ -37,17 +37,6 @@ impl Model for Accumulator {
 }
 
 impl Accumulator {
-    /// No places.
-    pub(crate) fn without_places(alloc: Global) -> Accumulator
-        ensures { AreZeros result }
-    {
-        Accumulator {
-            alloc,
-            places: MarkedPlaces::without_places(alloc),
-            listed: FractionTerms::new(alloc),
-        }
-    }
-
     /// So many places, which hold 0.
     pub(crate) fn new(alloc: Global, count: u32) -> Result<Accumulator, AllocError>
         ensures zeros { IfOk result (λ w. AreZeros w) }
@@ -122,21 +111,23 @@ impl Accumulator {
         }
     }
 
-    // The coefficients in order, and the places, which hold 0 again.
-    pub(crate) fn close(self) -> Result<(Coefficients, Accumulator), AllocError>
-        ensures coefficients { IfOk result (λ r. (j : ℕ) → coef_in r.0 j ≡ place_in self j) }
-        ensures zeros { IfOk result (λ r. AreZeros r.1) }
-        ensures count { IfOk result (λ r. length r.1 ≡ length self) }
+    pub(crate) fn allocator(&self) -> Global {
+        self.alloc
+    }
+
+    // The coefficients in order; the places hold 0 again.
+    pub(crate) fn take(&mut self, alloc: Global) -> Result<Coefficients, AllocError>
+        ensures coefficients { IfOk result
+            (λ r. (j : ℕ) → coef_in r j ≡ place_in self.old j) }
+        ensures zeros { OnOk result (AreZeros self.new) }
+        ensures count { OnOk result (length self.new ≡ length self.old) }
     {
-        let Accumulator {
-            alloc,
-            places,
-            listed,
-        } = self;
-        if listed.items().is_empty() {
-            return close_places(alloc, places, listed);
+        if self.listed.items().is_empty() {
+            return self.places.take(alloc);
         }
-        close_listed(alloc, places, listed)
+        let terms = FractionTerms::of_slice(alloc, self.listed.items())?;
+        self.listed.clear();
+        Ok(Coefficients::of_fractions(terms))
     }
 }
 
@@ -152,45 +143,4 @@ fn comes_last(listed: &FractionTerms, places: &MarkedPlaces, variable: u32) -> b
         return places.are_untouched();
     }
     listed.comes_last(variable)
-}
-
-// The coefficients at the places, where nothing is listed.
-fn close_places(
-    alloc: Global,
-    places: MarkedPlaces,
-    listed: FractionTerms,
-) -> Result<(Coefficients, Accumulator), AllocError>
-    requires { listed ≡ [] }
-    ensures coefficients { IfOk result (λ r. (j : ℕ) → coef_in r.0 j ≡ place_in places j) }
-    ensures zeros { IfOk result (λ r. AreZeros r.1) }
-    ensures count { IfOk result (λ r. length r.1 ≡ length places) }
-{
-    let (coefficients, places) = places.close()?;
-    let accumulator = Accumulator {
-        alloc,
-        places,
-        listed,
-    };
-    Ok((coefficients, accumulator))
-}
-
-// A copy of the listed terms, which has room for no more, where no place holds anything but 0.
-fn close_listed(
-    alloc: Global,
-    places: MarkedPlaces,
-    mut listed: FractionTerms,
-) -> Result<(Coefficients, Accumulator), AllocError>
-    requires { AreZeros places }
-    ensures coefficients { IfOk result (λ r. r.0 ≡ listed) }
-    ensures zeros { IfOk result (λ r. AreZeros r.1) }
-    ensures count { IfOk result (λ r. length r.1 ≡ length places) }
-{
-    let terms = FractionTerms::of_slice(alloc, listed.items())?;
-    listed.clear();
-    let accumulator = Accumulator {
-        alloc,
-        places,
-        listed,
-    };
-    Ok((Coefficients::of_fractions(terms), accumulator))
 }

@@ -2,6 +2,7 @@
 ghost use Rattle.std.specs.Prelude.{◌≡◌, ◌<◌, IfOk, get_or, length};
 ghost use Rattle.linear_program.specs.Decimals.{AreDecimals, fraction_terms};
 
+use crate::few::Few;
 use exact_numbers::{Dec, Frac};
 use std::alloc::{AllocError, Global};
 use std::marker::Model;
@@ -9,19 +10,20 @@ use std::marker::Model;
 /// Coefficients that are not 0, ascending by variable, as decimals that have fractions.
 #[derive(Drop)]
 pub struct DecimalTerms {
-    items: Vec<(u32, Dec)>,
+    items: Few<(u32, Dec)>,
 }
 
 impl Model for DecimalTerms {
     ghost use Rattle.std.specs.Prelude.{List, ℕ};
     ghost use Rattle.exact_numbers.specs.declared.dec.Dec.{Dec as DecFields};
     ghost use Rattle.linear_program.specs.Decimals.{AreDecimals};
+    ghost use Rattle.linear_program.specs.Fews.{few_items};
 
     ghost Value = { List (ℕ × DecFields) };
 
-    ghost view = { λ c. c.items.items };
+    ghost view = { λ c. few_items c.items };
 
-    ghost invariant = { λ c. AreDecimals 0 c.items.items };
+    ghost invariant = { λ c. AreDecimals 0 (few_items c.items) };
 }
 
 impl DecimalTerms {
@@ -30,20 +32,19 @@ impl DecimalTerms {
         requires { AreDecimals 0 terms.now }
         ensures { IfOk result (λ c. c ≡ terms.now) }
     {
-        let mut items = Vec::with_capacity(alloc, terms.len())?;
-        items.extend_from_slice(terms)?;
+        let items = Few::of_slice(alloc, terms)?;
         Ok(DecimalTerms { items })
     }
 
     pub(crate) fn allocator(&self) -> Global {
-        *self.items.allocator()
+        self.items.allocator()
     }
 
     pub(crate) fn items(&self) -> &[(u32, Dec)]
         ensures items { result.now ≡ self.now }
         ensures decimals { AreDecimals 0 self.now }
     {
-        &self.items
+        self.items.items()
     }
 
     // The term at a place, with a fraction.
@@ -51,9 +52,10 @@ impl DecimalTerms {
         requires { place < length self.now }
         ensures { result ≡ get_or (fraction_terms self.now) place result }
     {
-        let (variable, factor) = self.items[place];
-        match Frac::of_dec(factor) {
-            Some(fraction) => (variable, fraction),
+        let items = self.items();
+        let term = items[place];
+        match Frac::of_dec(term.1) {
+            Some(fraction) => (term.0, fraction),
             None => unreachable!(),
         }
     }

@@ -15,12 +15,18 @@ use crate::sum::Sum;
 use crate::too_wide::Wide;
 use exact_numbers::{Dec, Frac};
 use std::alloc::{AllocError, Global};
+use std::mem::size_of;
 use texts::{Ledger, Steps, Stop};
+
+// A form takes at most so many bytes: a folded file has a list of them.
+const MOST_BYTES: usize = 80;
+
+const _: () = prove!(size_of::<Form>() <= MOST_BYTES);
 
 /// Where a form is kept: a closed one as a constant and a list, an open one as a sum on a pad.
 #[derive(Drop)]
 pub enum Kept {
-    Closed(Frac, Coefficients),
+    Closed(Coefficients, Frac),
     Open(Sum),
 }
 
@@ -116,7 +122,7 @@ impl Form {
         ensures closed { is_open result ≡ false }
     {
         Form {
-            kept: Kept::Closed(constant, coefficients),
+            kept: Kept::Closed(coefficients, constant),
         }
     }
 
@@ -155,7 +161,7 @@ impl Form {
         ensures { frac_value result ≡ (form_line self.now).constant }
     {
         match &self.kept {
-            Kept::Closed(constant, _) => *constant,
+            Kept::Closed(_, constant) => *constant,
             Kept::Open(sum) => sum.constant(),
         }
     }
@@ -166,7 +172,7 @@ impl Form {
         ensures ascending { AreAscending 0 (form_terms self.now) }
     {
         match &self.kept {
-            Kept::Closed(_, coefficients) => coefficients.terms(),
+            Kept::Closed(coefficients, _) => coefficients.terms(),
             Kept::Open(sum) => sum.terms(),
         }
     }
@@ -176,7 +182,7 @@ impl Form {
         ensures { IfSome result (λ ds. AreDecimalsOf ds.now (form_terms self.now)) }
     {
         match &self.kept {
-            Kept::Closed(_, coefficients) => coefficients.decimals(),
+            Kept::Closed(coefficients, _) => coefficients.decimals(),
             Kept::Open(_) => None,
         }
     }
@@ -188,7 +194,7 @@ impl Form {
         ensures ascending { AreAscending 0 (form_terms self.now) }
     {
         match &self.kept {
-            Kept::Closed(_, coefficients) => coefficients.ordered().len(),
+            Kept::Closed(coefficients, _) => coefficients.ordered().len(),
             Kept::Open(sum) => count_of(sum.terms()),
         }
     }
@@ -198,7 +204,7 @@ impl Form {
         ensures { IfOk result (λ f. form_line f ≡ form_line self.now) }
     {
         let coefficients = match &self.kept {
-            Kept::Closed(_, coefficients) => coefficients.copied(alloc)?,
+            Kept::Closed(coefficients, _) => coefficients.copied(alloc)?,
             Kept::Open(sum) => {
                 let items = list_of(alloc, sum.terms())?;
                 Coefficients::of_items(items)
@@ -268,7 +274,7 @@ impl Form {
     {
         match &mut self.kept {
             Kept::Open(sum) => sum.add_scaled(other, k, steps),
-            Kept::Closed(constant, coefficients) => {
+            Kept::Closed(coefficients, constant) => {
                 add_to_closed(constant, coefficients, other, k, steps)
             }
         }

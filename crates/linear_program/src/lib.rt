@@ -4,6 +4,7 @@
 mod accumulator;
 mod coefficients;
 mod decimal_terms;
+mod few;
 mod form;
 mod form_terms;
 mod fraction_terms;
@@ -18,6 +19,7 @@ mod terms;
 mod too_wide;
 
 pub use coefficients::Coefficients;
+pub use few::Few;
 pub use form::Form;
 pub use form_terms::FormTerms;
 pub use interval::Interval;

@@ -9,6 +9,7 @@ use crate::too_wide::Wide;
 use exact_numbers::Frac;
 use std::alloc::{AllocError, Global};
 use std::marker::Model;
+use std::mem;
 use texts::Stop;
 
 /// A place for each variable, and the touched places: those that may hold anything but 0.
@@ -141,7 +142,7 @@ impl MarkedPlaces {
     }
 
     // The coefficients in order, and the places, which hold 0 again.
-    pub(crate) fn close(self) -> Result<(Coefficients, MarkedPlaces), AllocError>
+    fn close(self) -> Result<(Coefficients, MarkedPlaces), AllocError>
         ensures coefficients { IfOk result (λ r. (j : ℕ) → coef_in r.0 j ≡ place_in self j) }
         ensures zeros { IfOk result (λ r. AreZeros r.1) }
         ensures count { IfOk result (λ r. length r.1 ≡ length self) }
@@ -167,5 +168,19 @@ impl MarkedPlaces {
             touched,
         };
         Ok((Coefficients::of_items(items), marked))
+    }
+
+    // The coefficients in order; the places hold 0 again.
+    pub(crate) fn take(&mut self, alloc: Global) -> Result<Coefficients, AllocError>
+        ensures coefficients { IfOk result
+            (λ r. (j : ℕ) → coef_in r j ≡ place_in self.old j) }
+        ensures zeros { OnOk result (AreZeros self.new) }
+        ensures count { OnOk result (length self.new ≡ length self.old) }
+    {
+        let none = MarkedPlaces::without_places(alloc);
+        let full = mem::replace(self, none);
+        let (coefficients, empty) = full.close()?;
+        *self = empty;
+        Ok(coefficients)
     }
 }

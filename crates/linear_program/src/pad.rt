@@ -9,7 +9,7 @@ use std::marker::Model;
 /// A working area: an empty sparse accumulator with a place for each variable.
 #[derive(Drop)]
 pub struct Pad {
-    accumulator: Accumulator,
+    accumulator: Box<Accumulator>,
 }
 
 impl Model for Pad {
@@ -18,9 +18,9 @@ impl Model for Pad {
 
     ghost Value = { ℕ };
 
-    ghost view = { λ p. length p.accumulator };
+    ghost view = { λ p. length p.accumulator.value };
 
-    ghost invariant = { λ p. AreZeros p.accumulator };
+    ghost invariant = { λ p. AreZeros p.accumulator.value };
 }
 
 impl Pad {
@@ -29,19 +29,20 @@ impl Pad {
         ensures { IfOk result (λ p. p ≡ n_var) }
     {
         let accumulator = Accumulator::new(alloc, n_var)?;
+        let accumulator = Box::new(alloc, accumulator)?;
         Ok(Pad { accumulator })
     }
 
-    pub(crate) fn of_accumulator(accumulator: Accumulator) -> Pad
-        requires { AreZeros accumulator }
-        ensures { result ≡ length accumulator }
+    pub(crate) fn of_accumulator(accumulator: Box<Accumulator>) -> Pad
+        requires { AreZeros accumulator.value }
+        ensures { result ≡ length accumulator.value }
     {
         Pad { accumulator }
     }
 
-    pub(crate) fn into_accumulator(self) -> Accumulator
-        ensures zeros { AreZeros result }
-        ensures count { length result ≡ self }
+    pub(crate) fn into_accumulator(self) -> Box<Accumulator>
+        ensures zeros { AreZeros result.value }
+        ensures count { length result.value ≡ self }
     {
         let Pad { accumulator } = self;
         accumulator

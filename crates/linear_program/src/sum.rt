@@ -14,14 +14,13 @@ use crate::pad::Pad;
 use crate::too_wide::Wide;
 use exact_numbers::Frac;
 use std::alloc::{AllocError, Global};
-use std::mem;
 use texts::{Ledger, Steps, Stop};
 
 /// What is added to: a constant, and a sparse accumulator of coefficients.
 #[derive(Drop)]
 pub struct Sum {
     constant: Frac,
-    accumulator: Accumulator,
+    accumulator: Box<Accumulator>,
 }
 
 impl Sum {
@@ -45,8 +44,8 @@ impl Sum {
 
     /// The terms of the variables whose coefficient is not 0, ascending by variable.
     pub(crate) fn terms(&self) -> FormTerms<'_>
-        ensures terms { terms_left result ≡ terms_from 0 self.now.accumulator }
-        ensures ascending { AreAscending 0 (terms_from 0 self.now.accumulator) }
+        ensures terms { terms_left result ≡ terms_from 0 self.now.accumulator.value }
+        ensures ascending { AreAscending 0 (terms_from 0 self.now.accumulator.value) }
     {
         self.accumulator.terms()
     }
@@ -161,28 +160,27 @@ impl Sum {
         ensures zero { OnOk result (sum_line self.new ≡ constant_line zero_ℚ) }
         ensures places { OnOk result (place_count self.new ≡ place_count self.old) }
     {
-        let full = mem::replace(&mut self.accumulator, Accumulator::without_places(alloc));
-        let (coefficients, empty) = full.close()?;
+        let coefficients = self.accumulator.take(alloc)?;
         let form = Form::of_parts(self.constant, coefficients);
         self.constant = Frac::zero();
-        self.accumulator = empty;
         Ok(form)
     }
 
     /// The closed form of the sum, and the empty pad.
     pub(crate) fn close(self) -> Result<(Form, Pad), AllocError>
         ensures line { IfOk result (λ r. form_line r.0 ≡ sum_line self) }
-        ensures terms { IfOk result (λ r. form_terms r.0 ≡ terms_from 0 self.accumulator) }
+        ensures terms { IfOk result (λ r. form_terms r.0 ≡ terms_from 0 self.accumulator.value) }
         ensures closed { IfOk result (λ r. is_open r.0 ≡ false) }
         ensures places { IfOk result (λ r. r.1 ≡ place_count self) }
     {
         let Sum {
             constant,
-            accumulator,
+            mut accumulator,
         } = self;
-        let (coefficients, empty) = accumulator.close()?;
+        let alloc = accumulator.allocator();
+        let coefficients = accumulator.take(alloc)?;
         let _ascending = coefficients.ordered();
         let form = Form::of_parts(constant, coefficients);
-        Ok((form, Pad::of_accumulator(empty)))
+        Ok((form, Pad::of_accumulator(accumulator)))
     }
 }

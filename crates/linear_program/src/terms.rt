@@ -1,6 +1,7 @@
 // Lists of terms.
 ghost use Rattle.std.specs.Prelude.{◌≡◌, ◌<◌, ◌++◌, ◌∷◌, [], length, IfOk, OnOk, OnErr, Some, slice_get};
 
+use crate::few::Few;
 use exact_numbers::Dec;
 use std::alloc::{AllocError, Global};
 use std::marker::Model;
@@ -8,7 +9,7 @@ use std::marker::Model;
 /// Indices with their values, in file order.
 #[derive(Drop)]
 pub struct Terms {
-    items: Vec<(u32, Dec)>,
+    items: Few<(u32, Dec)>,
 }
 
 impl Model for Terms {
@@ -17,7 +18,9 @@ impl Model for Terms {
 
     ghost Value = { List (ℕ × DecValue) };
 
-    ghost view = { λ t. t.items.items };
+    ghost use Rattle.linear_program.specs.Fews.{few_items};
+
+    ghost view = { λ t. few_items t.items };
 }
 
 impl Terms {
@@ -26,7 +29,7 @@ impl Terms {
         ensures { result ≡ [] }
     {
         Terms {
-            items: Vec::new(alloc),
+            items: Few::new(alloc),
         }
     }
 
@@ -34,7 +37,7 @@ impl Terms {
     pub fn of_slice(alloc: Global, terms: &[(u32, Dec)]) -> Result<Self, AllocError>
         ensures { IfOk result (λ new. new ≡ terms.now) }
     {
-        let items = Vec::from_slice(alloc, terms)?;
+        let items = Few::of_slice(alloc, terms)?;
         Ok(Terms { items })
     }
 
@@ -43,22 +46,21 @@ impl Terms {
         ensures ok { OnOk result (self.new ≡ self.old ++ term ∷ []) }
         ensures err { OnErr result (self.new ≡ self.old) }
     {
-        self.items.push(term)?;
-        Ok(())
+        self.items.push(term)
     }
 
     /// Makes room for so many terms more.
     pub fn make_room(&mut self, count: usize) -> Result<(), AllocError>
         ensures { self.new ≡ self.old }
     {
-        self.items.reserve_exact(count)
+        self.items.make_room(count)
     }
 
     /// How many terms there are.
     pub fn len(&self) -> usize
         ensures { result ≡ length self.now }
     {
-        self.items.len()
+        self.items.items().len()
     }
 
     /// The term at i, counted from 0.
@@ -66,13 +68,13 @@ impl Terms {
         requires { i < length self.now }
         ensures { slice_get self.now i ≡ Some result }
     {
-        self.items[i]
+        self.items.items()[i]
     }
 
     /// All terms in order.
     pub fn items(&self) -> &[(u32, Dec)]
         ensures { result.now ≡ self.now }
     {
-        &self.items
+        self.items.items()
     }
 }

@@ -1,5 +1,5 @@
 -- The file that is made of the parts of a program.
-use Rattle.std.proofs.Common.{◌≡◌, ℕ, zero, suc, ◌+◌, ◌<◌, ◌≤◌, ◌^◌, ◌∙◌, sym, ap, ap₂, refl, subst, arith, Bool, false, nat_lt, ◌||◌, List, [], ◌∷◌, ◌++◌, length, get_or, map, Some, All, replicate, nat_eq, IsSome, slice_set, Result, Ok, Err, IfErr, IsErrAnd}
+use Rattle.std.proofs.Common.{◌≡◌, ℕ, suc, ◌+◌, ◌<◌, ◌≤◌, ◌^◌, ◌∙◌, sym, ap, ap₂, refl, subst, arith, Bool, false, nat_lt, ◌||◌, List, [], ◌∷◌, ◌++◌, length, get_or, map, Some, All, replicate, nat_eq, IsSome, slice_set, Result, Ok, Err, IfErr, IsErrAnd}
 use Rattle.std.proofs.lemmas.List.{length-map, get_or-map}
 use Rattle.std.specs.Ordering.{is_gt}
 use Rattle.std.specs.Option.{option_map}
@@ -32,6 +32,7 @@ use Rattle.mps_import.proofs.PartLemmas.{wide_fault, not_wide, not_empty, all_co
 use Rattle.mps_import.proofs.PlaceLemmas.{all_places}
 use Rattle.mps_import.proofs.SideLemmas.{sides_back, column_fits}
 use Rattle.mps_import.proofs.TermLemmas.{hits_in_same, all_constraint_terms, all_objective_terms, constraint_at, objective_at}
+use Rattle.std.proofs.lemmas.List.Elements.{All-cons, All-nil}
 
 pub large_is : (m : Mps Dec) (r c : ℕ) (b : Bool) → r ≡ length (constraints m) → c ≡ length m.columns → b ≡ nat_lt (2 ^ 20) r || nat_lt (2 ^ 20) c → nat_lt (2 ^ 20) (length (constraints m)) || nat_lt (2 ^ 20) (length m.columns) ≡ b
 large_is m r c b e f h = sym (h ∙ ap₂ (λ x y. nat_lt (2 ^ 20) x || nat_lt (2 ^ 20) y) e f)
@@ -138,42 +139,26 @@ module _ (m : Mps Dec) (p : Parts) (are : ArePartsOf m p) where
       room_for_bounds = subst (λ (x : Draft). length x.bounds + length p.variables.columns.items ≤ x.counts.n_var) (sym b_is) (omega (arith, order_size))
 
       module _ (third_step : c ≡ record b { bounds = b.bounds ++ map (λ j. get_or p.bounds.items j no_sides) p.variables.columns.items }) where
-        pub c_is : c ≡ bounded
+        c_is : c ≡ bounded
         c_is = third_step ∙ ap (λ (x : Draft). record x { bounds = x.bounds ++ map (λ j. get_or p.bounds.items j no_sides) p.variables.columns.items }) b_is
 
-        pub c_counts : c.counts ≡ import_counts m
-        c_counts = ap (λ (x : Draft). x.counts) c_is
-
-        pub c_terms : c.terms ≡ replicate (length (constraints m)) []
+        pub bounded_is : (c.counts ≡ import_counts m) × (c.terms ≡ replicate (length (constraints m)) []) × (c.slopes ≡ [] ∷ [])
         unfolding import_counts
-        c_terms = ap (λ (x : Draft). x.terms) c_is
-
-        pub c_slopes : c.slopes ≡ [] ∷ []
-        unfolding import_counts
-        c_slopes = ap (λ (x : Draft). x.slopes) c_is
+        bounded_is = (ap (λ (x : Draft). x.counts) c_is, ap (λ (x : Draft). x.terms) c_is, ap (λ (x : Draft). x.slopes) c_is)
 
         module _ (fourth_step : d ≡ record c { terms = constraint_terms m; slopes = objective_terms m ∷ [] }) where
           d_is : d ≡ full
           d_is = fourth_step ∙ ap (λ (x : Draft). record x { terms = constraint_terms m; slopes = objective_terms m ∷ [] }) c_is
 
           pub all_given : All IsSome d.objectives
-          all_given = subst (λ (x : Draft). All IsSome x.objectives) (sym d_is) one
-            where
-              one : All IsSome (Some (import_objective m) ∷ [])
-              one zero e lt = refl
-              one (suc k) e lt = absurd (omega (arith, lt))
+          all_given = subst (λ (x : Draft). All IsSome x.objectives) (sym d_is) (All-cons IsSome (Some (import_objective m)) [] refl (All-nil IsSome))
 
-          pub all_sides : length d.sides ≡ d.counts.n_con
+          -- as many as are announced
+          pub all_counts : (length d.sides ≡ d.counts.n_con) × (length d.bounds ≡ d.counts.n_var) × (term_count d.terms ≡ d.counts.nzc)
           unfolding import_counts
-          all_sides = subst (λ (x : Draft). length x.sides ≡ x.counts.n_con) (sym d_is) (sides_count m p are)
-
-          pub all_bounds : length d.bounds ≡ d.counts.n_var
-          unfolding import_counts
-          all_bounds = subst (λ (x : Draft). length x.bounds ≡ x.counts.n_var) (sym d_is) (length-map p.variables.columns.items (λ j. get_or p.bounds.items j no_sides) ∙ order_size)
-
-          pub all_terms : term_count d.terms ≡ d.counts.nzc
-          unfolding import_counts
-          all_terms = subst (λ (x : Draft). term_count x.terms ≡ x.counts.nzc) (sym d_is) refl
+          all_counts =
+              subst (λ (x : Draft). (length x.sides ≡ x.counts.n_con) × (length x.bounds ≡ x.counts.n_var) × (term_count x.terms ≡ x.counts.nzc)) (sym d_is)
+              (sides_count m p are, length-map p.variables.columns.items (λ j. get_or p.bounds.items j no_sides) ∙ order_size, refl)
 
           pub file_is : file_of d ≡ import_of m
           unfolding import_of import_counts

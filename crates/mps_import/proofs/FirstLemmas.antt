@@ -1,21 +1,14 @@
 -- Lists by place, and the first place that passes a test.
-use Rattle.std.proofs.Common.{◌≡◌, ℕ, zero, suc, ◌+◌, ◌<◌, ◌≤◌, ◌∙◌, sym, ap, ap₂, refl, arith, Bool, true, false, cond, List, [], ◌∷◌, ◌++◌, length, get_or, Some, ⊎_elim}
+use Rattle.std.proofs.Common.{◌≡◌, ℕ, zero, suc, ◌+◌, ◌<◌, ◌≤◌, ◌∙◌, sym, ap, ap₂, refl, arith, Bool, true, false, cond, List, [], ◌∷◌, ◌++◌, length, get_or, Some, ⊎_elim, add-one}
 use Rattle.std.proofs.lemmas.Bool.{cases_lt}
 use Rattle.std.proofs.lemmas.List.{length-append, get_or_append_left, get_or-append-add}
 use Rattle.mps_import.specs.Places.{places, first, listed}
 use Rattle.mps_import.proofs.PlaceLemmas.{one_where, places_more}
 
-one_up : (k : ℕ) → k + 1 ≡ suc k
-one_up k = omega arith
-
 module _ {A : Type 0} (f : ℕ → A) where
-  pub listed_none : listed f 0 ≡ []
-  unfolding listed
-  listed_none = refl
-
   pub listed_more : (n : ℕ) → listed f (n + 1) ≡ listed f n ++ f n ∷ []
   unfolding listed
-  listed_more n = ap (listed f) (one_up n)
+  listed_more n = ap (listed f) (add-one n)
 
   pub listed_push : (n : ℕ) (xs : List A) (x : A) → xs ≡ listed f n → x ≡ f n → xs ++ x ∷ [] ≡ listed f (n + 1)
   listed_push n xs x h e = ap₂ (λ ys y. ys ++ y ∷ []) h e ∙ sym (listed_more n)
@@ -74,7 +67,7 @@ module _ (test : ℕ → Bool) where
       one_length false = refl
 
   before_suc : (i : ℕ) → before (suc i) ≡ before i + cond (test i) 1 0
-  before_suc i = ap before (sym (one_up i)) ∙ before_more i
+  before_suc i = ap before (sym (add-one i)) ∙ before_more i
 
   before_le : (i n : ℕ) → i ≤ n → before i ≤ before n
   before_le i zero le = let same : i ≡ 0 = omega arith in omega (arith, ap before same)

@@ -1,6 +1,6 @@
 -- What the loops over rows, columns and bounds have still to do.
-use Rattle.std.proofs.Common.{◌≡◌, ◌≢◌, ℕ, suc, ◌+◌, ◌<◌, ◌≤◌, ◌∙◌, sym, ap, ap₂, refl, subst, arith, Bool, true, false, cond, nat_eq, ◌&&◌, ◌||◌, List, [], ◌∷◌, ◌++◌, length, get_or, map, take, drop, set, Option, Some, None, All, add-one}
-use Rattle.std.proofs.Math.Seq.{drop-cons, take-suc}
+use Rattle.std.proofs.Common.{◌≡◌, ◌≢◌, ℕ, suc, ◌+◌, ◌<◌, ◌≤◌, ◌∙◌, sym, ap, ap₂, refl, subst, arith, Bool, true, false, cond, nat_eq, ◌&&◌, ◌||◌, List, [], ◌∷◌, length, get_or, map, drop, set, Option, Some, None, All, add-one}
+use Rattle.std.proofs.Math.Seq.{drop-cons}
 use Rattle.std.proofs.Math.ListN.{drop_of_length-le}
 use Rattle.std.proofs.lemmas.Bool.{eqb-true}
 use Rattle.std.proofs.lemmas.Bool.Decides.{nat_tests}
@@ -10,10 +10,10 @@ use Rattle.fractions.specs.Rational.{ℚ}
 use Rattle.exact_numbers.specs.declared.dec.Dec.{Dec}
 use Rattle.exact_numbers.specs.Values.{dec_value}
 use Rattle.mps_model.specs.Built.{entry_of}
-use Rattle.mps_model.specs.Mps.{MpsRow, Entry, Bound, at_row, bound_with, side_set, lower_set, upper_set, is_whole_kind, has_whole_record, objective_row}
+use Rattle.mps_model.specs.Mps.{MpsRow, Entry, Bound, at_row, bound_with, side_set, lower_set, upper_set, makes_whole, has_whole_record, objective_row}
 use Rattle.mps_model.specs.declared.kinds.BoundKind.{BoundKind}
 use Rattle.mps_model.specs.declared.kinds.RowKind.{RowKind}
-use Rattle.mps_model.specs.declared.kinds.RowKind.TheVariants.{N, L, G, E}
+use Rattle.mps_model.specs.declared.kinds.RowKind.TheVariants.{N}
 use Rattle.mps_import.specs.declared.columns.ColumnSides.{ColumnSides}
 use Rattle.mps_import.specs.InsideColumns.{none_set, set_value, with_sets}
 use Rattle.mps_import.specs.Import.{is_bounded_kind, is_constraint}
@@ -21,9 +21,6 @@ use Rattle.mps_import.specs.Import.{is_bounded_kind, is_constraint}
 module _ {A : Type 0} (xs : List A) (k : ℕ) (t : A) (lt : k < length xs) (is : t ≡ get_or xs k t) where
   pub drop_is : drop k xs ≡ t ∷ drop (k + 1) xs
   drop_is = drop-cons xs k t lt ∙ ap₂ (λ y n. y ∷ drop n xs) (sym is) (sym (add-one k))
-
-  pub take_is : take (k + 1) xs ≡ take k xs ++ t ∷ []
-  take_is = ap (λ n. take n xs) (add-one k) ∙ take-suc xs k t lt ∙ ap (λ y. take k xs ++ y ∷ []) (sym is)
 
   -- a fact of all is one of the one that was read
   pub fact_is : (P : A → Type 0) → All P xs → P t
@@ -81,7 +78,7 @@ number_kept xs r v old new lt is made i rest within = by (nat_eq r i) refl
     by false e = ap₂ (λ o b. option_or o (cond b (Some v) (at_row i rest))) (get_or-set_other xs r i new None (not_eq r i e)) (sym e)
 
 -- ---- the records of a column
-module _ (c n : ColumnSides) (k : BoundKind) (v : Dec) (lower : set_value n.lower ≡ option_or (set_value c.lower) (lower_set k (dec_value v))) (upper : set_value n.upper ≡ option_or (set_value c.upper) (upper_set k (dec_value v))) (whole : n.whole ≡ c.whole || is_whole_kind k) where
+module _ (c n : ColumnSides) (k : BoundKind) (v : Dec) (lower : set_value n.lower ≡ option_or (set_value c.lower) (lower_set k (dec_value v))) (upper : set_value n.upper ≡ option_or (set_value c.upper) (upper_set k (dec_value v))) (whole : n.whole ≡ c.whole || makes_whole k) where
   record_here : (r j : ℕ) (rest : List (Bound Dec)) → nat_eq r j ≡ true → with_sets n j rest ≡ with_sets c j (record { kind = k; column = r; value = v } ∷ rest)
   unfolding side_set has_whole_record
   record_here r j rest e =
@@ -92,14 +89,14 @@ module _ (c n : ColumnSides) (k : BoundKind) (v : Dec) (lower : set_value n.lowe
       ∙ ap (λ b. option_or (set_value c.lower) (option_or (cond b (lower_set k (dec_value v)) None) (side_set lower_set j values))) (sym e))
       (ap (λ o. option_or o (side_set upper_set j values)) upper ∙ or_assoc (set_value c.upper) (upper_set k (dec_value v)) (side_set upper_set j values)
       ∙ ap (λ b. option_or (set_value c.upper) (option_or (cond b (upper_set k (dec_value v)) None) (side_set upper_set j values))) (sym e)))
-      (ap (λ b. b || has_whole_record j values) whole ∙ bool_or_assoc c.whole (is_whole_kind k) (has_whole_record j values)
-      ∙ ap (λ b. c.whole || ((b && is_whole_kind k) || has_whole_record j values)) (sym e))
+      (ap (λ b. b || has_whole_record j values) whole ∙ bool_or_assoc c.whole (makes_whole k) (has_whole_record j values)
+      ∙ ap (λ b. c.whole || ((b && makes_whole k) || has_whole_record j values)) (sym e))
 
   record_other : (r j : ℕ) (rest : List (Bound Dec)) (d : ColumnSides) → nat_eq r j ≡ false → with_sets d j rest ≡ with_sets d j (record { kind = k; column = r; value = v } ∷ rest)
   unfolding side_set has_whole_record
   record_other r j rest d e =
       let values = map (bound_with dec_value) rest in
-      ap (λ b. record { lower = option_or (set_value d.lower) (option_or (cond b (lower_set k (dec_value v)) None) (side_set lower_set j values)); upper = option_or (set_value d.upper) (option_or (cond b (upper_set k (dec_value v)) None) (side_set upper_set j values)); whole = d.whole || ((b && is_whole_kind k) || has_whole_record j values) }) (sym e)
+      ap (λ b. record { lower = option_or (set_value d.lower) (option_or (cond b (lower_set k (dec_value v)) None) (side_set lower_set j values)); upper = option_or (set_value d.upper) (option_or (cond b (upper_set k (dec_value v)) None) (side_set upper_set j values)); whole = d.whole || ((b && makes_whole k) || has_whole_record j values) }) (sym e)
 
   pub record_kept : (xs : List ColumnSides) (r : ℕ) → r < length xs → c ≡ get_or xs r c → (j : ℕ) (rest : List (Bound Dec)) → j < length xs → with_sets (get_or (set xs r n) j none_set) j rest ≡ with_sets (get_or xs j none_set) j (record { kind = k; column = r; value = v } ∷ rest)
   record_kept xs r lt is j rest within = by (nat_eq r j) refl
@@ -131,9 +128,7 @@ module _ (rows : List MpsRow) (k : ℕ) (r : MpsRow) (lt : k < length rows) (is 
     where
       by : (kind : RowKind) → r.kind ≡ kind → is_bounded_kind kind ≡ false → objective_row (r ∷ drop (k + 1) rows) ≡ 0
       by N h e = rw h refl
-      by L h e = absurd (let t = e in cc)
-      by G h e = absurd (let t = e in cc)
-      by E h e = absurd (let t = e in cc)
+      by k h e = absurd (let t = e in cc)
 
   pub row_bounded : is_bounded_kind r.kind ≡ true → objective_row (drop k rows) ≡ suc (objective_row (drop (k + 1) rows))
   unfolding objective_row
@@ -141,9 +136,7 @@ module _ (rows : List MpsRow) (k : ℕ) (r : MpsRow) (lt : k < length rows) (is 
     where
       by : (kind : RowKind) → r.kind ≡ kind → is_bounded_kind kind ≡ true → objective_row (r ∷ drop (k + 1) rows) ≡ suc (objective_row (drop (k + 1) rows))
       by N h e = absurd (let t = e in cc)
-      by L h e = rw h refl
-      by G h e = rw h refl
-      by E h e = rw h refl
+      by k h e = rw h refl
 
 pub no_row_left : (rows : List MpsRow) (k : ℕ) → length rows ≤ k → objective_row (drop k rows) ≡ 0
 unfolding objective_row
@@ -157,6 +150,4 @@ objective_free (r ∷ rows) = by r.kind refl (objective_free rows)
   where
     by : (k : RowKind) → r.kind ≡ k → is_constraint rows (objective_row rows) ≡ false → is_constraint (r ∷ rows) (objective_row (r ∷ rows)) ≡ false
     by N e more = rw e refl
-    by L e more = rw e more
-    by G e more = rw e more
-    by E e more = rw e more
+    by k e more = rw e more

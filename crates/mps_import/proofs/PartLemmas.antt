@@ -1,7 +1,7 @@
 -- What the parts of a program are, and which fault it has.
-use Rattle.std.proofs.Common.{◌≡◌, ◌≢◌, ℕ, suc, ◌+◌, ◌<◌, ◌≤◌, ◌^◌, ◌∙◌, sym, ap, ap₂, refl, subst, arith, Bool, true, false, IsTrue, cond, not, nat_eq, nat_lt, nat_le, ◌&&◌, ◌||◌, if◌then◌else◌, pos, List, [], ◌∷◌, ◌++◌, length, get_or, map, drop, Option, Some, None, MatchOption, ◌↔◌, All}
-use Rattle.std.proofs.lemmas.Bool.{lt-ltb, le-ltb}
-use Rattle.std.proofs.lemmas.Bool.Decides.{nat_tests, Decides-int_eq}
+use Rattle.std.proofs.Common.{◌≡◌, ℕ, suc, ◌+◌, ◌<◌, ◌≤◌, ◌^◌, ◌∙◌, sym, ap, ap₂, refl, subst, arith, Bool, true, false, IsTrue, cond, not, nat_eq, nat_lt, ◌&&◌, ◌||◌, if◌then◌else◌, pos, List, [], ◌∷◌, ◌++◌, length, get_or, map, drop, Option, Some, None, MatchOption, ◌↔◌, All}
+use Rattle.std.proofs.lemmas.Bool.{lt-ltb, le-ltb, ltb-false, or_parts, le-leb}
+use Rattle.std.proofs.lemmas.Bool.Decides.{Decides-int_eq}
 use Rattle.std.proofs.lemmas.List.{length-map, get_or-map, map-append, get_or_default}
 use Rattle.std.proofs.lemmas.List.Sums.{count_by-le-length, sum_by-cons}
 use Rattle.std.proofs.Math.ListN.{get_or-map as get_or-map-any}
@@ -48,9 +48,6 @@ use Rattle.mps_import.proofs.TermLemmas.{few_terms}
 use Rattle.mps_import.proofs.SideLemmas.{sides_of, sides_back, row_fits, rhs_fits}
 
 -- ---- tests
-pub apart : (a b : ℕ) → a ≢ b → nat_eq a b ≡ false
-apart a b h = grind (arith, nat_tests)
-
 pub choose_equal : (wanted r : Bool) (o : Ordering) → wanted ≡ true → r ≡ is_eq o → r ≡ cond wanted is_eq is_ne o
 choose_equal wanted r o e h = h ∙ ap (λ w. cond w is_eq is_ne o) (sym e)
 
@@ -169,30 +166,20 @@ module _ (m : Mps Dec) (kinds : List Kind) (are : kinds ≡ listed (column_kind 
       ap (places (λ j. is_kind kind (get_or kinds j Continuous))) kinds_length
       ∙ places_same (λ j. is_kind kind (get_or kinds j Continuous)) test (length m.columns) (λ j lt. ap (is_kind kind) (kind_at j lt) ∙ h j)
 
-  continuous_test : (w z : Bool) → is_kind Continuous (kind_by w z) ≡ not w
-  continuous_test true true = refl
-  continuous_test true false = refl
-  continuous_test false z = refl
-
-  binary_test : (w z : Bool) → is_kind Binary (kind_by w z) ≡ (w && z)
-  binary_test true true = refl
-  binary_test true false = refl
-  binary_test false z = refl
-
-  integer_test : (w z : Bool) → is_kind Integer (kind_by w z) ≡ (w && not z)
-  integer_test true true = refl
-  integer_test true false = refl
-  integer_test false z = refl
+  kind_test : (w z : Bool) → (is_kind Continuous (kind_by w z) ≡ not w) × (is_kind Binary (kind_by w z) ≡ (w && z)) × (is_kind Integer (kind_by w z) ≡ (w && not z))
+  kind_test true true = (refl, refl, refl)
+  kind_test true false = (refl, refl, refl)
+  kind_test false z = (refl, refl, refl)
 
   pub binary_places : of_kind Binary kinds ≡ columns_that is_binary m
-  binary_places = kind_places Binary (is_binary m) (λ j. binary_test (is_whole m j) (is_zero_to_one m j))
+  binary_places = kind_places Binary (is_binary m) (λ j. (kind_test (is_whole m j) (is_zero_to_one m j)).1)
 
   pub integer_places : of_kind Integer kinds ≡ columns_that is_integer m
-  integer_places = kind_places Integer (is_integer m) (λ j. integer_test (is_whole m j) (is_zero_to_one m j))
+  integer_places = kind_places Integer (is_integer m) (λ j. (kind_test (is_whole m j) (is_zero_to_one m j)).2)
 
   pub order_is : of_kind Continuous kinds ++ (of_kind Binary kinds ++ of_kind Integer kinds) ≡ order_of_columns m
   unfolding order_of_columns
-  order_is = ap₂ ◌++◌ (kind_places Continuous (is_continuous m) (λ j. continuous_test (is_whole m j) (is_zero_to_one m j))) (ap₂ ◌++◌ binary_places integer_places)
+  order_is = ap₂ ◌++◌ (kind_places Continuous (is_continuous m) (λ j. (kind_test (is_whole m j) (is_zero_to_one m j)).0)) (ap₂ ◌++◌ binary_places integer_places)
 
 pub kind_few : (kind : Kind) (kinds : List Kind) → length (of_kind kind kinds) ≤ length kinds
 kind_few kind kinds = before_small (λ j. is_kind kind (get_or kinds j Continuous)) (length kinds)
@@ -239,46 +226,30 @@ module _ (m : Mps Dec) where
     split false (Some i) e h = let r = h in cc
     split false None (Some j) h = let r = h in cc
 
+    none_of_them : (is_too_large m ≡ false) × (first_wide m ≡ None) × (first_empty m ≡ None)
+    unfolding import_fault
+    none_of_them = split (is_too_large m) (first_wide m) (first_empty m) clean
+
     pub clean_large : is_too_large m ≡ false
-    unfolding import_fault
-    clean_large = (split (is_too_large m) (first_wide m) (first_empty m) clean).0
-
-    clean_wide : first_wide m ≡ None
-    unfolding import_fault
-    clean_wide = (split (is_too_large m) (first_wide m) (first_empty m) clean).1
-
-    clean_empty : first_empty m ≡ None
-    unfolding import_fault
-    clean_empty = (split (is_too_large m) (first_wide m) (first_empty m) clean).2
+    clean_large = none_of_them.0
 
     pub not_wide : (i : ℕ) → i < length m.rows → is_row_wide m i ≡ false
-    not_wide i lt = none_passes (is_row_wide m) (length m.rows) clean_wide i lt
+    not_wide i lt = none_passes (is_row_wide m) (length m.rows) none_of_them.1 i lt
 
     pub not_empty : (j : ℕ) → j < length m.columns → is_column_empty m j ≡ false
-    not_empty j lt = none_passes (is_column_empty m) (length m.columns) clean_empty j lt
-
-    sizes : (a b c : Bool) → (a || b || c) ≡ false → (a ≡ false) × (b ≡ false)
-    sizes false false c h = (refl, refl)
-    sizes true b c h = let r = h in cc
-    sizes false true c h = let r = h in cc
-
-    le_by : (a b : ℕ) → nat_lt a b ≡ false → b ≤ a
-    le_by a b e = grind (arith, nat_tests)
+    not_empty j lt = none_passes (is_column_empty m) (length m.columns) none_of_them.2 j lt
 
     both_few : (nat_lt (2 ^ 20) (length (constraints m)) ≡ false) × (nat_lt (2 ^ 20) (length m.columns) ≡ false)
     unfolding is_too_large
-    both_few = sizes (nat_lt (2 ^ 20) (length (constraints m))) (nat_lt (2 ^ 20) (length m.columns)) (nat_lt (2 ^ 22) (term_count (constraint_terms m) + length (objective_terms m))) clean_large
+    both_few = or_parts (nat_lt (2 ^ 20) (length (constraints m))) (nat_lt (2 ^ 20) (length m.columns)) (or_parts (nat_lt (2 ^ 20) (length (constraints m)) || nat_lt (2 ^ 20) (length m.columns)) _ clean_large).0
 
     pub few_constraints : length (constraints m) ≤ 2 ^ 20
-    few_constraints = le_by (2 ^ 20) (length (constraints m)) both_few.0
+    few_constraints = ltb-false (2 ^ 20) (length (constraints m)) both_few.0
 
     pub few_columns : length m.columns ≤ 2 ^ 20
-    few_columns = le_by (2 ^ 20) (length m.columns) both_few.1
+    few_columns = ltb-false (2 ^ 20) (length m.columns) both_few.1
 
 -- ---- the header
-le_in : (a b : ℕ) → a ≤ b → nat_le a b ≡ true
-le_in a b h = grind (arith, nat_tests)
-
 pub header_fits : (n c r e b i z o : ℕ) → n ≤ 2 ^ 20 → c ≤ 2 ^ 20 → r ≤ 2 ^ 20 → e ≤ 2 ^ 20 → b + i ≤ n → z + o ≤ 2 ^ 22 → is_header import_options (counts_with n c r e b i z o) ≡ true
 unfolding is_header
 header_fits n c r e b i z o hn hc hr he hb hz =
@@ -291,10 +262,10 @@ header_fits n c r e b i z o hn hc hr he hb hz =
       lt-ltb i (2 ^ 31) (omega (arith, hn, hb)),
       lt-ltb z (2 ^ 31) (omega (arith, hz)),
       lt-ltb o (2 ^ 31) (omega (arith, hz)),
-      le_in n (2 ^ 20) hn,
-      le_in c (2 ^ 20) hc,
-      le_in z (2 ^ 22) (omega (arith, hz)),
-      le_in (0 + b + i) n (omega (arith, hb)),
+      le-leb n (2 ^ 20) hn,
+      le-leb c (2 ^ 20) hc,
+      le-leb z (2 ^ 22) (omega (arith, hz)),
+      le-leb (0 + b + i) n (omega (arith, hb)),
     )
     refl
 
@@ -304,11 +275,11 @@ count_along f s t (i ∷ is) h =
     sum_by-cons (λ x. cond (s x) 1 0) (f i) (map f is)
     ∙ omega (arith, ap (λ b. cond {A = ℕ} b 1 0) (h 0 i (omega arith)), count_along f s t is (λ k d lt. h (suc k) d (omega (arith, lt))), sum_by-cons (λ x. cond (t x) 1 0) i is)
 
-module _ (m : Mps Dec) (p : Parts) (are : ArePartsOf m p) where
-  row_below : All (λ i. i < length m.rows) (constraints m)
-  unfolding constraints
-  row_below = all_places (λ j. j < length m.rows) (is_constraint m.rows) (length m.rows) (λ j h e. h)
+pub row_below : (m : Mps Dec) → All (λ i. i < length m.rows) (constraints m)
+unfolding constraints
+row_below m = all_places (λ j. j < length m.rows) (is_constraint m.rows) (length m.rows) (λ j h e. h)
 
+module _ (m : Mps Dec) (p : Parts) (are : ArePartsOf m p) where
   pub row_back : (i : ℕ) → i < length m.rows → interval_of (sides_from (row_interval (values_of m) i)) ≡ row_interval (values_of m) i
   unfolding with_values
   row_back i lt = sides_back (row_interval (values_of m) i) (row_fits (get_or m.rows i no_mps_row).kind (rhs_at (values_of m) i) (at_row i (values_of m).ranges) (rhs_fits i m.rhs) (not_wide m are.clean i lt))
@@ -317,7 +288,7 @@ module _ (m : Mps Dec) (p : Parts) (are : ArePartsOf m p) where
   counted_sides equal =
       ap (count_by (side_test equal)) are.sides
       ∙ count_along (λ i. sides_from (row_interval (values_of m) i)) (side_test equal) (has_sides (cond equal is_eq is_ne) m) (constraints m)
-      (λ k d lt. ap (λ (s : Interval). both_sides (cond equal is_eq is_ne) s.lower s.upper) (row_back (get_or (constraints m) k d) (row_below k d lt)))
+      (λ k d lt. ap (λ (s : Interval). both_sides (cond equal is_eq is_ne) s.lower s.upper) (row_back (get_or (constraints m) k d) (row_below m k d lt)))
 
   pub sides_count : length p.sides.items ≡ length (constraints m)
   sides_count = ap length are.sides ∙ length-map (constraints m) (λ i. sides_from (row_interval (values_of m) i))

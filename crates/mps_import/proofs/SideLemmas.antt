@@ -1,6 +1,6 @@
 -- The sides of rows and columns are decimals.
 use Rattle.std.proofs.Common.{◌≡◌, ℕ, ◌<◌, ◌∙◌, sym, ap, ap₂, refl, subst, arith, Bool, true, false, ◌&&◌, cond, nat_eq, ◌%◌, ◌^◌, ℤ, pos, neg_ℤ, unsigned_abs, List, [], ◌∷◌, map, Option, Some, None, MatchOption}
-use Rattle.std.proofs.lemmas.Bool.{not-false}
+use Rattle.std.proofs.lemmas.Bool.{not-false, and_parts}
 use Rattle.std.proofs.lemmas.Int.{ints}
 use Rattle.std.specs.Option.{option_map, option_or}
 use Rattle.std.specs.Prelude.{option_and_then}
@@ -17,7 +17,7 @@ use Rattle.linear_program.specs.declared.interval.Interval.{Interval as Sides}
 use Rattle.mps_model.specs.declared.kinds.RowKind.{RowKind}
 use Rattle.mps_model.specs.declared.kinds.RowKind.TheVariants.{N, L, G, E}
 use Rattle.mps_model.specs.declared.kinds.BoundKind.{BoundKind}
-use Rattle.mps_model.specs.declared.kinds.BoundKind.TheVariants.{Lo, Up, Fx, Fr, Mi, Pl, Bv, Li, Ui}
+use Rattle.mps_model.specs.declared.kinds.BoundKind.TheVariants.{Lo, Up, Fx, Bv, Li, Ui}
 use Rattle.mps_model.specs.Mps.{Entry, Bound, entry_with, bound_with, at_row, or_zero, row_sides, is_negative, size_of, lower_set, upper_set, side_set, usual_lower, or_usual}
 use Rattle.linear_program.specs.Intervals.{interval_of}
 use Rattle.exact_numbers.specs.Numbers.{dec_from}
@@ -107,13 +107,7 @@ pub rhs_fits : (i : ℕ) (es : List (Entry Dec)) → FitsDec (or_zero (at_row i 
 rhs_fits i es = or_zero_fits (at_row i (map (entry_with dec_value) es)) (at_row_fits i es)
 
 sum_in : (kind : RowKind) (b r : ℚ) → is_range_wide kind b (Some r) ≡ false → FitsDec (b +ℚ range_step kind r)
-sum_in kind b r e = fits_dec_out (b +ℚ range_step kind r) (last (fits b) (fits r) (sum_fits b (range_step kind r)) (fits_dec (b +ℚ range_step kind r)) (not-false (is_in_reach kind b r) e))
-  where
-    last : (p q s t : Bool) → p && q && s && t ≡ true → t ≡ true
-    last true true true t h = h
-    last true true false t h = let r = h in cc
-    last true false s t h = let r = h in cc
-    last false q s t h = let r = h in cc
+sum_in kind b r e = fits_dec_out (b +ℚ range_step kind r) (and_parts (fits b && fits r && sum_fits b (range_step kind r)) (fits_dec (b +ℚ range_step kind r)) (not-false (is_in_reach kind b r) e)).1
 
 pub row_fits : (kind : RowKind) (b : ℚ) (range : Option ℚ) → FitsDec b → is_range_wide kind b range ≡ false → AreDecimalSides (row_sides kind b range)
 row_fits N b range f e = record { lower = tt; upper = tt }
@@ -137,23 +131,15 @@ lower_fits : (k : BoundKind) (x : ℚ) → FitsDec x → IsDecimalSet (lower_set
 lower_fits Lo x f = f
 lower_fits Li x f = f
 lower_fits Fx x f = f
-lower_fits Fr x f = tt
-lower_fits Mi x f = tt
 lower_fits Bv x f = zero_fits
-lower_fits Up x f = tt
-lower_fits Ui x f = tt
-lower_fits Pl x f = tt
+lower_fits k x f = tt
 
 upper_fits : (k : BoundKind) (x : ℚ) → FitsDec x → IsDecimalSet (upper_set k x)
 upper_fits Up x f = f
 upper_fits Ui x f = f
 upper_fits Fx x f = f
-upper_fits Fr x f = tt
-upper_fits Pl x f = tt
 upper_fits Bv x f = one_fits
-upper_fits Lo x f = tt
-upper_fits Li x f = tt
-upper_fits Mi x f = tt
+upper_fits k x f = tt
 
 either_fits : (a b : Option (Option ℚ)) → IsDecimalSet a → IsDecimalSet b → IsDecimalSet (option_or a b)
 either_fits None b f g = g

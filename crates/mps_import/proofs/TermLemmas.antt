@@ -1,6 +1,6 @@
 -- The terms of the constraints and of the objective: how many there are, and those that are still to come.
 use Rattle.std.proofs.Common.{◌≡◌, ℕ, zero, suc, ◌+◌, ◌<◌, ◌≤◌, ◌^◌, ◌∙◌, sym, ap, ap₂, refl, subst, arith, Bool, true, false, cond, not, nat_eq, nat_lt, ◌&&◌, ◌||◌, if◌then◌else◌, List, [], ◌∷◌, ◌++◌, length, get_or, map, drop, set, replicate, Some, None, ⊎_elim, add-one, append_assoc, append-nil}
-use Rattle.std.proofs.lemmas.Bool.{cases_lt, eqb-true, eq-eqb, lt-ltb}
+use Rattle.std.proofs.lemmas.Bool.{cases_lt, eqb-true, eq-eqb, ne_eqb, ltb-false, or_parts}
 use Rattle.std.proofs.lemmas.List.{length-append, length-map, length-set, get_or-map, get_or-set_same, get_or-set_other, get_or-replicate, get_or_past, ext_get_or, length-replicate}
 use Rattle.std.proofs.lemmas.List.Sums.{sum_by-append, sum_by-cons}
 use Rattle.std.specs.List.{sum_by, filter_map, cons_option}
@@ -45,11 +45,7 @@ module _ (test : ℕ → Bool) (r : ℕ) (z : Bool) where
   none_below (suc n) le = sum_by-append hit (places test n) (one_where (test n) n) ∙ omega (arith, none_below n (omega (arith, le)), here (test n))
     where
       here : (b : Bool) → sum_by hit (one_where b n) ≡ 0
-      here true = ap (λ t. 0 + one_if (t && z)) (other (nat_eq r n) refl)
-        where
-          other : (t : Bool) → nat_eq r n ≡ t → nat_eq r n ≡ false
-          other true e = absurd (omega (arith, eqb-true r n e, le))
-          other false e = e
+      here true = ap (λ t. 0 + one_if (t && z)) (ne_eqb r n (λ same. omega (arith, same, le)))
       here false = refl
 
   pub counted_once : (n : ℕ) → r < n → sum_by hit (places test n) ≡ one_if (test r && z)
@@ -179,12 +175,8 @@ module _ (m : Mps Dec) where
     objective_at some r =
         ⊎_elim
         (λ (lt : r < length m.rows). ap is_objective_use (use_at r Unused lt) ∙ objective_is r)
-        (λ (ge : length m.rows ≤ r). ap is_objective_use (use_past r ge) ∙ sym (apart (nat_eq r obj) refl ge))
+        (λ (ge : length m.rows ≤ r). ap is_objective_use (use_past r ge) ∙ sym (ne_eqb r obj (λ same. omega (arith, same, ge, some))))
         (cases_lt r (length m.rows))
-      where
-        apart : (b : Bool) → nat_eq r obj ≡ b → length m.rows ≤ r → nat_eq r obj ≡ false
-        apart true e ge = absurd (omega (arith, eqb-true r obj e, ge, some))
-        apart false e ge = e
 
   -- ---- constraints and their rows
   abbrev row : ℕ → ℕ
@@ -195,11 +187,7 @@ module _ (m : Mps Dec) where
   row_passes c lt = all_places (λ j. test j ≡ true) test (length m.rows) (λ j h e. e) c 0 lt
 
   other_row : (r c : ℕ) → test r ≡ false → c < length (constraints m) → nat_eq r (row c) ≡ false
-  other_row r c e lt = by (nat_eq r (row c)) refl
-    where
-      by : (b : Bool) → nat_eq r (row c) ≡ b → nat_eq r (row c) ≡ false
-      by true f = absurd (not_both_ways (test r) (ap test (eqb-true r (row c) f) ∙ row_passes c lt) e)
-      by false f = f
+  other_row r c e lt = ne_eqb r (row c) (λ same. not_both_ways (test r) (ap test same ∙ row_passes c lt) e)
 
   same_row : (r c : ℕ) → test r ≡ true → r < length m.rows → c < length (constraints m) → nat_eq r (row c) ≡ nat_eq c (rank m.rows r)
   unfolding constraints
@@ -327,20 +315,7 @@ module _ (m : Mps Dec) where
   -- ---- there is room for a term
   pub few_terms : is_too_large m ≡ false → term_count (constraint_terms m) + length (objective_terms m) ≤ most_terms
   unfolding is_too_large
-  few_terms e = by (nat_lt (2 ^ 22) (term_count (constraint_terms m) + length (objective_terms m))) refl (last (nat_lt (2 ^ 20) (length (constraints m))) (nat_lt (2 ^ 20) (length m.columns)) (nat_lt (2 ^ 22) (term_count (constraint_terms m) + length (objective_terms m))) e)
-    where
-      last : (a b c : Bool) → (a || b || c) ≡ false → c ≡ false
-      last false false c h = h
-      last true b c h = let r = h in cc
-      last false true c h = let r = h in cc
-
-      by : (b : Bool) → nat_lt (2 ^ 22) (term_count (constraint_terms m) + length (objective_terms m)) ≡ b → b ≡ false → term_count (constraint_terms m) + length (objective_terms m) ≤ 2 ^ 22
-      by true h f = let r = f in cc
-      by false h f =
-          ⊎_elim
-          (λ (lt : 2 ^ 22 < term_count (constraint_terms m) + length (objective_terms m)). absurd (not_both_ways (nat_lt (2 ^ 22) (term_count (constraint_terms m) + length (objective_terms m))) (lt-ltb (2 ^ 22) (term_count (constraint_terms m) + length (objective_terms m)) lt) h))
-          (λ (le : term_count (constraint_terms m) + length (objective_terms m) ≤ 2 ^ 22). le)
-          (cases_lt (2 ^ 22) (term_count (constraint_terms m) + length (objective_terms m)))
+  few_terms e = ltb-false (2 ^ 22) (term_count (constraint_terms m) + length (objective_terms m)) (or_parts (nat_lt (2 ^ 20) (length (constraints m)) || nat_lt (2 ^ 20) (length m.columns)) _ e).1
 
 -- lists that are no longer than others, and one of which is shorter
 sum_le : (xs ys : List (List Term)) → length xs ≡ length ys → ((c : ℕ) → c < length xs → length (get_or xs c []) ≤ length (get_or ys c [])) → term_count xs ≤ term_count ys

@@ -7,7 +7,8 @@ use Rattle.fractions.specs.Rational.{ℚ, neg_ℚ}
 use Rattle.exact_numbers.specs.Values.{order_of}
 use Rattle.exact_numbers.specs.declared.dec.Dec.{Dec}
 use Rattle.nl_model.specs.declared.header_counts.Counts.{Counts}
-use Rattle.nl_model.specs.File.{Term, Objective, File}
+use Rattle.nl_model.specs.File.{Term, File}
+use Rattle.nl_model.specs.declared.objective.Objective.{Objective}
 use Rattle.nl_model.specs.Rules.{term_count}
 use Rattle.mps_model.specs.Mps.{MpsRow, Entry, Mps, no_mps_row, no_column, row_interval, column_interval, rhs_at, objective_row}
 use Rattle.mps_model.specs.declared.kinds.RowKind.{RowKind}

@@ -5,7 +5,7 @@ ghost use Rattle.exact_numbers.specs.Values.{dec_value};
 ghost use Rattle.exact_numbers.specs.declared.dec.Dec.{Dec as DecValue};
 ghost use Rattle.linear_program.specs.Intervals.{interval_of};
 ghost use Rattle.mps_model.specs.Built.{bound_of};
-ghost use Rattle.mps_model.specs.Mps.{Bound, column_interval, or_usual, is_whole_kind, lower_set, upper_set, usual_lower};
+ghost use Rattle.mps_model.specs.Mps.{Bound, column_interval, or_usual, makes_whole, lower_set, upper_set, usual_lower};
 ghost use Rattle.mps_import.specs.InsideColumns.{column_kind, none_set, set_value, sets_of, with_sets};
 ghost use Rattle.mps_import.specs.Decimals.{sides_from};
 ghost use Rattle.mps_import.specs.Places.{listed};
@@ -50,7 +50,7 @@ fn upper_set(kind: BoundKind, value: Dec) -> Option<Option<Dec>>
 }
 
 fn is_whole_kind(kind: BoundKind) -> bool
-    ensures { result ≡ is_whole_kind kind }
+    ensures { result ≡ makes_whole kind }
 {
     match kind {
         BoundKind::Bv | BoundKind::Li | BoundKind::Ui => true,
@@ -120,7 +120,7 @@ fn with_record(column: ColumnSides, kind: BoundKind, value: Dec) -> ColumnSides
         ≡ option_or (set_value column.lower) (lower_set kind (dec_value value)) }
     ensures upper { set_value result.upper
         ≡ option_or (set_value column.upper) (upper_set kind (dec_value value)) }
-    ensures whole { result.whole ≡ column.whole || is_whole_kind kind }
+    ensures whole { result.whole ≡ column.whole || makes_whole kind }
 {
     ColumnSides {
         lower: first_set(column.lower, lower_set(kind, value)),

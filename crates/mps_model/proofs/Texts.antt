@@ -1,6 +1,6 @@
 -- The text of a program is that of the program of its values.
 use Rattle.std.proofs.Common.{◌≡◌, ℕ, zero, suc, ◌∙◌, ap, ap₂, refl, Bool, false, codes, List, [], ◌∷◌, ◌++◌, map, get_or}
-use Rattle.written_texts.specs.Lines.{Line, indented, unless_empty, lines_text}
+use Rattle.written_texts.specs.Lines.{WordLine, indented, unless_empty, lines_text}
 use Rattle.mps_model.specs.Mps.{MpsRow, Entry, Column, Bound, Mps, entry_with, column_with, bound_with, with_values, no_column}
 use Rattle.mps_model.specs.Text.{section, bound_text, value_words, name_lines, sense_lines, row_line, entry_line, entry_lines, column_lines, change_lines, markers_after, bound_line, mps_lines, mps_text_by}
 
@@ -28,7 +28,7 @@ module _ {V W : Type 0} (text : W → List ℕ) (value : V → W) where
   same_bounds cs (b ∷ bs) =
       ap₂ (λ x y. indented (bound_text b.kind ∷ codes "BND" ∷ x ∷ value_words b.kind (text (value b.value))) ∷ y) (column_name_kept cs b.column) (same_bounds cs bs)
 
-  unless_map : {A B : Type 0} (f : A → B) (xs : List A) (lines : List Line) → unless_empty (map f xs) lines ≡ unless_empty xs lines
+  unless_map : {A B : Type 0} (f : A → B) (xs : List A) (lines : List WordLine) → unless_empty (map f xs) lines ≡ unless_empty xs lines
   unless_map f [] lines = refl
   unless_map f (x ∷ xs) lines = refl
 

@@ -176,16 +176,16 @@ column_interval m j =
     }
 
 -- a record of this kind makes its column whole
-abbrev pub is_whole_kind : BoundKind → Bool
-is_whole_kind Bv = true
-is_whole_kind Li = true
-is_whole_kind Ui = true
-is_whole_kind _ = false
+abbrev pub makes_whole : BoundKind → Bool
+makes_whole Bv = true
+makes_whole Li = true
+makes_whole Ui = true
+makes_whole _ = false
 
 -- column j has a record that makes it whole
 unfoldable pub has_whole_record : ℕ → List (Bound ℚ) → Bool
 has_whole_record j [] = false
-has_whole_record j (b ∷ bs) = (nat_eq b.column j && is_whole_kind b.kind) || has_whole_record j bs
+has_whole_record j (b ∷ bs) = (nat_eq b.column j && makes_whole b.kind) || has_whole_record j bs
 
 -- column j is marked, or a record makes it whole
 abbrev pub is_whole_column : Mps ℚ → ℕ → Bool

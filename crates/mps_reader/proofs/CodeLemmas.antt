@@ -1,18 +1,18 @@
 -- Names by their codes.
-use Rattle.std.proofs.Common.{◌≡◌, ◌≢◌, ◌∙◌, ℕ, ◌+◌, ◌-◌, ◌*◌, ◌<◌, ◌≤◌, ◌^◌, List, [], ◌∷◌, ◌++◌, Bool, true, false, length, get_or, Some, None, refl, sym, ap, ap₂, arith, subst, Fits, w8}
-use Rattle.std.specs.Prelude.{All, AllPairs, nat_le}
+use Rattle.std.proofs.Common.{◌≡◌, ◌≢◌, ◌∙◌, ℕ, ◌+◌, ◌-◌, ◌*◌, ◌<◌, ◌≤◌, ◌^◌, List, [], ◌∷◌, ◌++◌, true, false, length, get_or, Some, None, refl, sym, ap, ap₂, arith, subst, Fits, w8, not, ◌&&◌, ◌==◌, inl, inr}
+use Rattle.std.specs.Prelude.{All, nat_le}
 use Rattle.std.specs.Str.{bytes_eq}
 use Rattle.std.proofs.Math.Nat.{pow-le-pow_right}
-use Rattle.std.proofs.Math.ListN.{get_or-append}
-use Rattle.std.proofs.Math.Seq.{get_or-append_seam}
 use Rattle.std.proofs.lemmas.Bool.Decides.{nat_tests}
 use Rattle.std.proofs.lemmas.Grind.{pow_more, get_or_default_zero}
 use Rattle.std.proofs.lemmas.List.{length-map, map-append, get_or-map, length-append}
 use Rattle.std.proofs.lemmas.List.Elements.{All-head, All-tail, All-push}
-use Rattle.texts.specs.Names.{IsName, is_name}
+use Rattle.texts.specs.Names.{IsName, is_name, has_name_bytes}
 use Rattle.mps_reader.specs.InsideCodes.{bytes_code, code_of, AreBytes, HaveCodes}
 use Rattle.mps_reader.specs.Saying.{place_of, last_name}
 use Rattle.texts.proofs.NamePlaces.{place_at, place_none, bytes_differ, bytes_same}
+use Rattle.std.proofs.lemmas.List.Quantifiers.{all_pairs_push}
+use Rattle.std.proofs.lemmas.Bool.{and_parts, leb-true, cases_Bool}
 
 -- ---- sizes
 
@@ -67,11 +67,10 @@ unfolding code_of
 long_code name e = rw e refl
 
 short : (name : List ℕ) → 0 < code_of name → nat_le (length name) 7 ≡ true
-short name some = by (nat_le (length name) 7) refl
-  where
-    by : (t : Bool) → nat_le (length name) 7 ≡ t → nat_le (length name) 7 ≡ true
-    by true e = e
-    by false e = let none = long_code name e in absurd (omega (arith, some, none))
+short name some = elim (cases_Bool (nat_le (length name) 7)) [
+  | inl e ↦ e
+  | inr e ↦ let none = long_code name e in absurd (omega (arith, some, none))
+]
 
 pub same_name : (xs ys : List ℕ) → AreBytes xs → AreBytes ys → code_of xs ≡ code_of ys → 0 < code_of ys → xs ≡ ys
 same_name xs ys hx hy e some =
@@ -80,8 +79,14 @@ same_name xs ys hx hy e some =
 
 -- ---- names
 
-is_name-true : (name : List ℕ) → IsName name → is_name name ≡ true
-is_name-true name h = rw h.each (grind (arith, nat_tests, h.some, h.most))
+pub name_is : (name : List ℕ) → IsName name → is_name name ≡ true
+name_is name h = rw h.each (grind (arith, nat_tests, h.some, h.most))
+
+pub named : (n : List ℕ) → is_name n ≡ true → IsName n
+named n e =
+    let first = and_parts (not (length n == 0) && nat_le (length n) 255) (has_name_bytes n) e in
+    let size = and_parts (not (length n == 0)) (nat_le (length n) 255) first.0 in
+    record { some = grind (arith, nat_tests, size.0); most = leb-true (length n) 255 size.1; each = first.1 }
 
 pub last_is_name : (names : List (List ℕ)) (name : List ℕ) → All (λ n. is_name n ≡ true) names → bytes_eq name (last_name names) ≡ true → 0 < length name → is_name name ≡ true
 unfolding last_name
@@ -100,30 +105,11 @@ place_by_code names codes name p h bytes within e some =
     let same : get_or names p [] ≡ name = same_name (get_or names p []) name (h.bytes p [] lt) bytes code some in
     sym (ap (place_of names) same) ∙ place_at names p [] h.apart lt
 
-none_apart : (names : List (List ℕ)) (name : List ℕ) → AllPairs (λ m n. m ≢ n) names → All (λ n. bytes_eq name n ≡ false) names → AllPairs (λ m n. m ≢ n) (names ++ name ∷ [])
-none_apart names name apart other = λ i j d below within. by i j d below (omega (arith, within, length-append names (name ∷ [])))
-  where
-    at : (i j : ℕ) (d : List ℕ) → i < j → j ≤ length names → (t : Bool) → nat_le (length names) j ≡ t → get_or (names ++ name ∷ []) i d ≢ get_or (names ++ name ∷ []) j d
-    at i j d below le true e =
-        let last : j ≡ length names = grind (arith, nat_tests, le, e) in
-        let new : get_or (names ++ name ∷ []) j d ≡ name = ap (λ (k : ℕ). get_or (names ++ name ∷ []) k d) last ∙ get_or-append_seam names name [] d in
-        let old : get_or (names ++ name ∷ []) i d ≡ get_or names i d = get_or-append names (name ∷ []) d i (omega (arith, last, below)) in
-        let differ = bytes_differ name (get_or names i d) (other i d (omega (arith, last, below))) in
-        λ same. differ (sym new ∙ sym same ∙ old)
-    at i j d below le false e =
-        let lt : j < length names = grind (arith, nat_tests, e) in
-        let later : get_or (names ++ name ∷ []) j d ≡ get_or names j d = get_or-append names (name ∷ []) d j lt in
-        let old : get_or (names ++ name ∷ []) i d ≡ get_or names i d = get_or-append names (name ∷ []) d i (omega (arith, lt, below)) in
-        λ same. apart i j d below lt (sym old ∙ same ∙ later)
-
-    by : (i j : ℕ) (d : List ℕ) → i < j → j ≤ length names → get_or (names ++ name ∷ []) i d ≢ get_or (names ++ name ∷ []) j d
-    by i j d below le = at i j d below le (nat_le (length names) j) refl
-
 pub one_more_code : (names : List (List ℕ)) (codes name : List ℕ) → HaveCodes names codes → AreBytes name → IsName name → place_of names name ≡ None → length names < 2 ^ 21 → HaveCodes (names ++ name ∷ []) (codes ++ code_of name ∷ [])
 one_more_code names codes name h bytes named new room = record {
   few = omega (arith, room, length-append names (name ∷ []));
   bytes = All-push AreBytes names name h.bytes bytes;
-  named = All-push (λ n. is_name n ≡ true) names name h.named (is_name-true name named);
-  apart = none_apart names name h.apart (place_none names name new);
+  named = All-push (λ n. is_name n ≡ true) names name h.named (name_is name named);
+  apart = all_pairs_push (λ m n. m ≢ n) names name h.apart (λ k d lt same. bytes_differ name (get_or names k d) (place_none names name new k d lt) (sym same));
   coded = ap (λ (cs : List ℕ). cs ++ code_of name ∷ []) h.coded ∙ sym (map-append code_of names (name ∷ []));
 }

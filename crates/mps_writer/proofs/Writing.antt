@@ -11,7 +11,7 @@ use Rattle.exact_numbers.proofs.Spelling.{value_text-decimal}
 use Rattle.exact_numbers.specs.declared.dec.Dec.{Dec}
 use Rattle.mps_model.specs.Built.{bound_of, entry_of}
 use Rattle.mps_model.specs.Valid.{AreColumns}
-use Rattle.written_texts.specs.Lines.{Line, indented, line_text, lines_text, unless_empty}
+use Rattle.written_texts.specs.Lines.{WordLine, indented, line_text, lines_text, unless_empty}
 use Rattle.written_texts.proofs.Writing.{line_after, lines_after, rest_written}
 
 pub markers_more : (b m : Bool) (i : ℕ) → markers_after b m i ≤ i + 1
@@ -36,7 +36,7 @@ entry_written rows names word row ts i t out0 out1 out2 h is same found first se
     let inside : t.0 < length rows = omega (arith, slice_get_within (map (λ (r : MpsRow). r.name) rows) t.0 row at, length-map rows (λ (r : MpsRow). r.name)) in
     let name : row ≡ (get_or rows t.0 no_mps_row).name =
     sym (get_or_from_slice_get (map (λ (r : MpsRow). r.name) rows) t.0 row [] at) ∙ get_or-map (λ (r : MpsRow). r.name) rows t.0 no_mps_row [] inside in
-    let line : Entry Dec → Line = entry_line text_of rows word in
+    let line : Entry Dec → WordLine = entry_line text_of rows word in
     let now : out2 ≡ out1 ++ line_text (line (entry_of t)) = second ∙ ap (λ r. out1 ++ line_text (indented (word ∷ r ∷ text_of t.1 ∷ []))) name in
     let more : map line (map entry_of (take (i + 1) ts)) ≡ map line (map entry_of (take i ts)) ++ line (entry_of t) ∷ [] =
     ap (λ xs. map line (map entry_of xs)) (take_more ts i t h ∙ ap (λ x. take i ts ++ x ∷ []) (sym is))
@@ -77,7 +77,7 @@ bounds_in_columns n ts bs e h = λ k d l.
     let m : k < length bs = subst (λ es. k < length es) e (omega (arith, length-map ts bound_of)) in
     subst (λ (x : Bound Dec). x.column < n) (ap (λ es. get_or es k (bound_of d)) (sym e) ∙ get_or-map bound_of ts k d (bound_of d) l) (h k (bound_of d) m)
 
-pub unless_map : {A B : Type 0} (f : A → B) (xs : List A) (ys : List B) (text : List Line) → map f xs ≡ ys → unless_empty xs text ≡ unless_empty ys text
+pub unless_map : {A B : Type 0} (f : A → B) (xs : List A) (ys : List B) (text : List WordLine) → map f xs ≡ ys → unless_empty xs text ≡ unless_empty ys text
 unless_map f [] ys text e = ap (λ ys. unless_empty ys text) e
 unless_map f (x ∷ xs) ys text e = ap (λ ys. unless_empty ys text) e
 

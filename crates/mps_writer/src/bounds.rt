@@ -29,7 +29,7 @@ fn bound_front(kind: BoundKind) -> &'static [u8]
 }
 
 // Writes the column's name in front, and the value behind it where the kind has one.
-fn put_tail(line: &mut LineText, column: &[u8], kind: BoundKind, value: Dec)
+fn put_tail(line: &mut LineText<128>, column: &[u8], kind: BoundKind, value: Dec)
     requires name { length column.now ≤ 32 }
     requires room { length line.old ≤ 1 }
     ensures text { line.new
@@ -81,7 +81,7 @@ pub fn put_bound(
     if column.len() > 32 {
         return put_long_bound(out, column, kind, value);
     }
-    let mut line = LineText::new();
+    let mut line = LineText::<128>::new();
     line.put_byte(b'\n');
     put_tail(&mut line, column, kind, value);
     line.put_word(bound_front(kind));

@@ -74,7 +74,7 @@ pub fn put_row(out: &mut Vec<u8>, name: &[u8], kind: RowKind) -> Result<(), Allo
     if name.len() > 64 {
         return put_long_row(out, name, kind);
     }
-    let mut line = LineText::new();
+    let mut line = LineText::<128>::new();
     line.put_byte(b'\n');
     line.put_word(name);
     line.put_word(row_front(kind));

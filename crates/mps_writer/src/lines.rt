@@ -30,7 +30,7 @@ pub fn put_entry(out: &mut Vec<u8>, word: &[u8], row: &[u8], value: Dec) -> Resu
     if word.len() > 32 || row.len() > 32 {
         return put_long_entry(out, word, row, value);
     }
-    let mut line = LineText::new();
+    let mut line = LineText::<128>::new();
     line.put_byte(b'\n');
     line.put_dec(value);
     line.put_byte(b' ');

@@ -1,31 +1,22 @@
 -- When a part of a program may be added, the parts before it being those of a program.
-use Rattle.std.proofs.Common.{◌≡◌, ◌≢◌, ◌∙◌, ℕ, zero, suc, ◌+◌, ◌<◌, ◌≤◌, ◌^◌, Bool, List, [], ◌∷◌, ◌++◌, length, map, take, get_or, All, refl, sym, ap, subst, arith, length-append, length-take-le}
+use Rattle.std.proofs.Common.{◌≡◌, ◌≢◌, ◌∙◌, ℕ, zero, ◌+◌, ◌<◌, List, [], ◌∷◌, ◌++◌, length, map, take, get_or, All, refl, sym, ap, subst, arith, length-append, length-take, length-take-le}
 use Rattle.std.specs.List.{AllPairs}
 use Rattle.std.proofs.lemmas.List.{length-map, get_or-map, get_or-take, get_or_default, take_more, take-map, map-append}
+use Rattle.std.proofs.Math.ListN.{get_or-append}
+use Rattle.std.proofs.Math.Seq.{get_or-append_seam}
 use Rattle.std.proofs.lemmas.List.Elements.{All-take}
 use Rattle.std.proofs.lemmas.List.Sums.{sum_by-cons, sum_by-append, sum_by-take-le}
 use Rattle.fractions.specs.Rational.{zero_ℚ}
 use Rattle.texts.specs.Names.{IsName}
 use Rattle.exact_numbers.specs.declared.dec.Dec.{Dec}
 use Rattle.exact_numbers.specs.Values.{dec_value}
-use Rattle.mps_model.specs.declared.kinds.BoundKind.{BoundKind}
 use Rattle.mps_model.specs.declared.kinds.RowKind.{RowKind}
 use Rattle.mps_model.specs.Mps.{MpsRow, Entry, Column, Bound, Mps}
 use Rattle.mps_model.specs.Valid.{AreRows, AreColumns, AreEntries, AreRanges, AreBounds, IsOtherRow, IsOtherColumn, IsOtherEntry, IsOtherBound, IsBounded, IsWithoutNumber, entry_count}
-use Rattle.name_files.specs.Renamed.{named_row, named_column, named_rows, named_columns, named, with_names}
-use Rattle.mps_model.specs.Built.{CanAddRow, CanAddColumn, CanAddEntries, CanAddRhs, CanAddRange, CanAddBound, entry_of, bound_of}
+use Rattle.name_files.specs.Renamed.{named_row, named_column, named}
+use Rattle.mps_model.specs.Built.{CanAddRow, CanAddColumn, CanAddEntries, CanAddRhs, CanAddRange, CanAddBound, entry_of}
 
 -- ---- the first elements of a list
-
-few_taken : {X : Type 0} (i : ℕ) (xs : List X) → length (take i xs) ≤ i
-few_taken zero xs = omega arith
-few_taken (suc i) [] = omega arith
-few_taken (suc i) (x ∷ xs) = omega (arith, few_taken i xs)
-
-no_more_taken : {X : Type 0} (i : ℕ) (xs : List X) → length (take i xs) ≤ length xs
-no_more_taken zero xs = omega arith
-no_more_taken (suc i) [] = omega arith
-no_more_taken (suc i) (x ∷ xs) = omega (arith, no_more_taken i xs)
 
 module _ {X : Type 0} (R : X → X → Type 0) where
   -- what holds of each two holds of an element and those before it
@@ -38,8 +29,8 @@ module _ {X : Type 0} (R : X → X → Type 0) where
 
   pairs_taken : (xs : List X) (i : ℕ) → AllPairs R xs → AllPairs R (take i xs)
   pairs_taken xs i pairs j k d lt within =
-      let inside : k < i = omega (arith, within, few_taken i xs) in
-      let inner : k < length xs = omega (arith, within, no_more_taken i xs) in
+      let inside : k < i = omega (arith, within, length-take i xs) in
+      let inner : k < length xs = omega (arith, within, length-take i xs) in
       subst (λ y. R y (get_or (take i xs) k d)) (sym (get_or-take i xs j d (omega (arith, lt, inside)))) (subst (λ y. R (get_or xs j d) y) (sym (get_or-take i xs k d inside)) (pairs j k d lt inner))
 
 module _ {X Y : Type 0} (f : X → Y) (xs : List X) (i : ℕ) (x : X) (lt : i < length xs) (is : x ≡ get_or xs i x) where
@@ -93,21 +84,12 @@ can_add_bound bs i b m a lt is same =
 pub columns_taken : (n i : ℕ) (columns : List (Column Dec)) → AreColumns n columns → AreColumns n (take i columns)
 columns_taken n i columns a =
     record {
-      few = omega (arith, a.few, no_more_taken i columns);
+      few = omega (arith, a.few, length-take i columns);
       few_entries = omega (arith, a.few_entries, sum_by-take-le (λ (c : Column Dec). length c.entries) columns i);
       named = All-take (λ (c : Column Dec). IsName c.name) i columns a.named;
       apart = pairs_taken (λ (c d : Column Dec). c.name ≢ d.name) columns i a.apart;
       entries = All-take (λ (c : Column Dec). AreEntries n c.entries) i columns a.entries;
     }
-
-last_at : (done : List (Column Dec)) (c d : Column Dec) → get_or (done ++ c ∷ []) (length done) d ≡ c
-last_at [] c d = refl
-last_at (x ∷ done) c d = last_at done c d
-
-first_at : (done : List (Column Dec)) (c d : Column Dec) (k : ℕ) → k < length done → get_or (done ++ c ∷ []) k d ≡ get_or done k d
-first_at [] c d k lt = absurd (omega (arith, lt))
-first_at (x ∷ done) c d zero lt = refl
-first_at (x ∷ done) c d (suc k) lt = first_at done c d k (omega (arith, lt))
 
 count_last : (done : List (Column Dec)) (c : Column Dec) → entry_count (done ++ c ∷ []) ≡ entry_count done + length c.entries
 count_last done c =
@@ -120,12 +102,12 @@ module _ (n : ℕ) (done : List (Column Dec)) (c : Column Dec) (a : AreColumns n
   can_add_column m same =
       let more : length (done ++ c ∷ []) ≡ length done + 1 = length-append done (c ∷ []) in
       let others : All (IsOtherColumn c.name) done = λ k d lt.
-      subst (λ (x : Column Dec). x.name ≢ c.name) (first_at done c d k lt)
-      (subst (λ (x : Column Dec). (get_or (done ++ c ∷ []) k d).name ≢ x.name) (last_at done c d) (a.apart k (length done) d lt (omega (arith, more)))) in
+      subst (λ (x : Column Dec). x.name ≢ c.name) (get_or-append done (c ∷ []) d k lt)
+      (subst (λ (x : Column Dec). (get_or (done ++ c ∷ []) k d).name ≢ x.name) (get_or-append_seam done c [] d) (a.apart k (length done) d lt (omega (arith, more)))) in
       record { few = omega (arith, a.few, more, ap length same); new = subst (All (IsOtherColumn c.name)) (sym same) others }
 
   are_entries : AreEntries n c.entries
-  are_entries = subst (λ (x : Column Dec). AreEntries n x.entries) (last_at done c c) (a.entries (length done) c (omega (arith, length-append done (c ∷ []))))
+  are_entries = subst (λ (x : Column Dec). AreEntries n x.entries) (get_or-append_seam done c [] c) (a.entries (length done) c (omega (arith, length-append done (c ∷ []))))
 
   pub can_add_entries : (m : Mps Dec) → m.columns ≡ done → length m.rows ≡ n → (ts : List (ℕ × Dec)) → map entry_of ts ≡ c.entries → CanAddEntries m ts
   can_add_entries m same rows ts is =
@@ -141,11 +123,7 @@ pub row_put : (f : List ℕ → List ℕ) (xs : List MpsRow) (i : ℕ) (r : MpsR
     (old m new : Mps Dec) → m ≡ record old { rows = map (named_row f) (take i xs) } → new ≡ record m { rows = m.rows ++ record { name = name; kind = kind } ∷ [] } →
     new ≡ record old { rows = map (named_row f) (take (i + 1) xs) }
 row_put f xs i r lt is name kind called same old m new first second =
-    second
-    ∙ ap (λ y. record m { rows = m.rows ++ record { name = y; kind = kind } ∷ [] }) called
-    ∙ ap (λ y. record m { rows = m.rows ++ record { name = f r.name; kind = y } ∷ [] }) same
-    ∙ ap (λ (b : Mps Dec). record b { rows = b.rows ++ named_row f r ∷ [] }) first
-    ∙ ap (λ rs. record old { rows = rs }) (one_more (named_row f) xs i r lt is)
+    rw (second, called, same, first, ← one_more (named_row f) xs i r lt is) refl
 
 -- ---- columns with other names
 
@@ -160,54 +138,4 @@ module _ (f : List ℕ → List ℕ) (xs : List (Column Dec)) (i : ℕ) (x : Col
   pub column_put : (old m new : Mps Dec) → m ≡ record old { columns = map (named_column f) (take i xs) } → new ≡ record m { columns = m.columns ++ record x { name = name } ∷ [] } →
       new ≡ record old { columns = map (named_column f) (take (i + 1) xs) }
   column_put old m new first second =
-      second
-      ∙ ap (λ y. record m { columns = m.columns ++ record x { name = y } ∷ [] }) called
-      ∙ ap (λ (b : Mps Dec). record b { columns = b.columns ++ named_column f x ∷ [] }) first
-      ∙ ap (λ cs. record old { columns = cs }) (one_more (named_column f) xs i x lt is)
-
--- ---- the whole program
-
-made : List ℕ → Bool → List MpsRow → List (Column Dec) → List (Entry Dec) → List (Entry Dec) → List (Bound Dec) → Mps Dec
-made n x rs cs hs gs bs = record { name = n; maximise = x; rows = rs; columns = cs; rhs = hs; ranges = gs; bounds = bs }
-
-module _ (m : Mps Dec) (row_names column_names : List (List ℕ)) (n : List ℕ) (x : Bool) (rs : List MpsRow) (cs : List (Column Dec)) (hs gs : List (Entry Dec)) (bs : List (Bound Dec)) where
-  -- what was made of these is made of the program
-  pub record AreOf : Type 0 where
-    pub name : n ≡ m.name
-    pub maximise : x ≡ m.maximise
-    pub rows : rs ≡ m.rows
-    pub columns : cs ≡ m.columns
-    pub rhs : hs ≡ m.rhs
-    pub ranges : gs ≡ m.ranges
-    pub bounds : bs ≡ m.bounds
-
-  all_named : AreOf → made n x (named_rows row_names rs) (named_columns column_names cs) hs gs bs ≡ named m row_names column_names
-  unfolding with_names made
-  all_named of =
-      ap (λ y. made y x (named_rows row_names rs) (named_columns column_names cs) hs gs bs) of.name
-      ∙ ap (λ y. made m.name y (named_rows row_names rs) (named_columns column_names cs) hs gs bs) of.maximise
-      ∙ ap (λ y. made m.name m.maximise (named_rows row_names y) (named_columns column_names cs) hs gs bs) of.rows
-      ∙ ap (λ y. made m.name m.maximise (named_rows row_names m.rows) (named_columns column_names y) hs gs bs) of.columns
-      ∙ ap (λ y. made m.name m.maximise (named_rows row_names m.rows) (named_columns column_names m.columns) y gs bs) of.rhs
-      ∙ ap (λ y. made m.name m.maximise (named_rows row_names m.rows) (named_columns column_names m.columns) m.rhs y bs) of.ranges
-      ∙ ap (λ y. made m.name m.maximise (named_rows row_names m.rows) (named_columns column_names m.columns) m.rhs m.ranges y) of.bounds
-
-  -- each part was added to what stood
-  pub record AreAdded (b0 b1 b2 b3 b4 b5 : Mps Dec) : Type 0 where
-    pub start : b0 ≡ record { name = n; maximise = x; rows = []; columns = []; rhs = []; ranges = []; bounds = [] }
-    pub rows : b1 ≡ record b0 { rows = named_rows row_names rs }
-    pub columns : b2 ≡ record b1 { columns = named_columns column_names cs }
-    pub rhs : b3 ≡ record b2 { rhs = hs }
-    pub ranges : b4 ≡ record b3 { ranges = gs }
-    pub bounds : b5 ≡ record b4 { bounds = bs }
-
-  pub built : (b0 b1 b2 b3 b4 b5 : Mps Dec) → AreOf → AreAdded b0 b1 b2 b3 b4 b5 → b5 ≡ named m row_names column_names
-  unfolding made
-  built b0 b1 b2 b3 b4 b5 of added =
-      added.bounds
-      ∙ ap (λ (b : Mps Dec). record b { bounds = bs })
-      (added.ranges ∙ ap (λ (b : Mps Dec). record b { ranges = gs })
-      (added.rhs ∙ ap (λ (b : Mps Dec). record b { rhs = hs })
-      (added.columns ∙ ap (λ (b : Mps Dec). record b { columns = named_columns column_names cs })
-      (added.rows ∙ ap (λ (b : Mps Dec). record b { rows = named_rows row_names rs }) added.start))))
-      ∙ all_named of
+      rw (second, called, first, ← one_more (named_column f) xs i x lt is) refl

@@ -1,16 +1,14 @@
 -- An exported program has the names that are renamed.
-use Rattle.std.proofs.Common.{inl, inr, ℕ, zero, suc, Bool, true, false, cond, List, [], ◌∷◌, ◌++◌, length, map, refl, arith, All}
+use Rattle.std.proofs.Common.{inl, inr, ℕ, zero, suc, List, [], ◌∷◌, ◌++◌, length, map, refl, arith, All}
 use Rattle.std.specs.List.{AllByRecursion}
+use Rattle.std.proofs.lemmas.Bool.{cond_both}
+use Rattle.std.proofs.lemmas.List.Elements.{All-cons, recursion_from_All}
 use Rattle.linear_programs.specs.Linear.{Form, Row, Variable, Linear}
 use Rattle.linear_programs.specs.Names.{row_name, variable_name}
 use Rattle.mps_model.specs.Mps.{MpsRow, Column}
 use Rattle.fractions.specs.Rational.{ℚ}
 use Rattle.exported_program.specs.Program.{ScaledRow, has_side, scaled_row, exported_rows, mps_row, columns_of, program_of, program, tied_program, tie, z_form, z_variable}
 use Rattle.name_files.specs.Renamed.{IsExportedName, HasExportedNames, IsNamedLinear}
-
-each : {X : Type 0} (P : X → Type 0) (xs : List X) → All P xs → AllByRecursion P xs
-each P [] all = tt
-each P (x ∷ xs) all = (all 0 x (omega arith), each P xs (λ k d lt. all (suc k) d (omega arith)))
 
 with_last : {X : Type 0} (P : X → Type 0) (xs : List X) (x : X) → AllByRecursion P xs → P x → AllByRecursion P (xs ++ x ∷ [])
 with_last P [] x all here = (here, tt)
@@ -20,21 +18,14 @@ module _ (P : List ℕ → Type 0) where
   exported : (factor : ℕ → ℕ) (i : ℕ) (rows : List Row) → AllByRecursion (λ (r : Row). P r.name) rows → AllByRecursion (λ (r : ScaledRow). P r.name) (exported_rows factor i rows)
   unfolding exported_rows
   exported factor i [] all = tt
-  exported factor i (r ∷ rows) all = by (has_side r.side.lower r.side.upper) (exported factor (suc i) rows all.1)
-    where
-      by : (b : Bool) → AllByRecursion (λ (r : ScaledRow). P r.name) (exported_rows factor (suc i) rows)
-          → AllByRecursion (λ (r : ScaledRow). P r.name) (cond b (scaled_row (factor i) r ∷ exported_rows factor (suc i) rows) (exported_rows factor (suc i) rows))
-      by true rest = (all.0, rest)
-      by false rest = rest
+  exported factor i (r ∷ rows) all =
+      let rest = exported factor (suc i) rows all.1 in
+      cond_both (has_side r.side.lower r.side.upper) _ _ (AllByRecursion (λ (r : ScaledRow). P r.name)) (λ e. (all.0, rest)) (λ e. rest)
 
   rows_named : (rows : List ScaledRow) → AllByRecursion (λ (r : ScaledRow). P r.name) rows → All P (map (λ (r : MpsRow). r.name) (map mps_row rows))
   rows_named [] all k d lt = absurd (omega arith)
   rows_named (r ∷ rows) all zero d lt = all.0
   rows_named (r ∷ rows) all (suc k) d lt = rows_named rows all.1 k d (omega arith)
-
-  after_first : (name : List ℕ) (names : List (List ℕ)) → P name → All P names → All P (name ∷ names)
-  after_first name names here all zero d lt = here
-  after_first name names here all (suc k) d lt = all k d (omega arith)
 
   columns_named : (objective : Form) (rows : List ScaledRow) (j : ℕ) (variables : List Variable) → AllByRecursion (λ (v : Variable). P v.name) variables → All P (map (λ (c : Column ℚ). c.name) (columns_of objective rows j variables))
   unfolding columns_of
@@ -51,18 +42,18 @@ module _ (f : Linear) (factor : ℕ → ℕ) (is : IsNamedLinear f) where
 
   row_names : AllByRecursion (λ (r : Row). RowName r.name) f.rows
   unfolding RowName
-  row_names = each (λ (r : Row). RowName r.name) f.rows (λ k d lt. inr (is.rows k d lt))
+  row_names = recursion_from_All (λ (r : Row). RowName r.name) f.rows (λ k d lt. inr (is.rows k d lt))
 
   variable_names : AllByRecursion (λ (v : Variable). VariableName v.name) f.variables
   unfolding VariableName
-  variable_names = each (λ (v : Variable). VariableName v.name) f.variables (λ k d lt. inr (is.variables k d lt))
+  variable_names = recursion_from_All (λ (v : Variable). VariableName v.name) f.variables (λ k d lt. inr (is.variables k d lt))
 
   pub plain_names : HasExportedNames (length f.rows) (length f.variables) (program f factor)
   unfolding program_of RowName VariableName
   plain_names = record {
     rows = record {
       few = is.few_rows;
-      each = after_first RowName _ _ (inl (inl refl)) (rows_named RowName (exported_rows factor 0 f.rows) (exported RowName factor 0 f.rows row_names));
+      each = All-cons RowName _ _ (inl (inl refl)) (rows_named RowName (exported_rows factor 0 f.rows) (exported RowName factor 0 f.rows row_names));
     };
     columns = record { few = is.few_variables; each = columns_named VariableName f.objective (exported_rows factor 0 f.rows) 0 f.variables variable_names };
   }
@@ -75,7 +66,7 @@ module _ (f : Linear) (factor : ℕ → ℕ) (is : IsNamedLinear f) where
       record {
         rows = record {
           few = is.few_rows;
-          each = after_first RowName _ _ (inl (inl refl)) (rows_named RowName (exported_rows factor 0 f.rows ++ last ∷ []) rows);
+          each = All-cons RowName _ _ (inl (inl refl)) (rows_named RowName (exported_rows factor 0 f.rows ++ last ∷ []) rows);
         };
         columns = record {
           few = is.few_variables;

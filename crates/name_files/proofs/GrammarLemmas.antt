@@ -1,7 +1,9 @@
 -- A line, as the grammar takes it.
-use Rattle.std.proofs.Common.{◌≡◌, ◌∙◌, ℕ, zero, suc, ◌+◌, ◌==◌, Bool, true, false, List, [], ◌∷◌, ◌++◌, length, take, Bor, refl, sym, ap, OnOk, IfErr, Some, None, arith, length-append}
+use Rattle.std.proofs.Common.{◌≡◌, ◌∙◌, ℕ, zero, suc, ◌+◌, ◌==◌, true, false, List, [], ◌∷◌, ◌++◌, length, take, Bor, refl, sym, ap, OnOk, IfErr, Some, None, arith, length-append}
 use Rattle.std.specs.Prelude.{Result, Ok, Err, nat_lt, if◌then◌else◌}
-use Rattle.std.proofs.lemmas.List.{length-map}
+use Rattle.std.proofs.lemmas.Bool.{eqb-true}
+use Rattle.std.proofs.lemmas.Bool.Decides.{nat_tests}
+use Rattle.std.proofs.lemmas.List.{append-nil, length-map, take_all}
 use Rattle.std.proofs.lemmas.Grind.{flat_map-append}
 use Rattle.texts.specs.Judged.{first_reason, Takes}
 use Rattle.texts.specs.Stopped.{IfFault}
@@ -11,20 +13,14 @@ use Rattle.texts.specs.declared.stop.Stop.TheVariants.{Fault, Memory}
 use Rattle.name_files.specs.declared.fault.NameReason.{NameReason}
 use Rattle.name_files.specs.Names.{Counts, Standing, standing, names_of, name_tests, line_reason, with_name}
 
-some_are : (n : ℕ) → (suc n == 0) ≡ false
-some_are n = grind arith
-
-more_are : (n : ℕ) → (suc (suc n) == 1) ≡ false
-more_are n = grind arith
-
 row_begins : (words : List (List ℕ)) → (length (take 12 words) == 0) ≡ (length words == 0)
 row_begins [] = refl
-row_begins (word ∷ words) = cc (some_are (length (take 11 words)), some_are (length words))
+row_begins (word ∷ words) = grind arith
 
 row_is_one : (words : List (List ℕ)) → (length (take 12 words) == 1) ≡ (length words == 1)
 row_is_one [] = refl
 row_is_one (word ∷ []) = refl
-row_is_one (word ∷ next ∷ words) = cc (more_are (length (take 10 words)), more_are (length words))
+row_is_one (word ∷ next ∷ words) = grind arith
 
 first_of_row : (words : List (List ℕ)) → word_at (take 12 words) 0 ≡ word_at words 0
 first_of_row [] = refl
@@ -38,27 +34,13 @@ tests_of_row c s words = rw (row_is_one words, first_of_row words) refl
 pub no_words : (line : List ℕ) (words : List (Bor (List ℕ))) → texts words ≡ row_of line → (length words == 0) ≡ (length (words_of line) == 0)
 no_words line words e = ap (λ (n : ℕ). n == 0) (sym (length-map words (λ x. x.now)) ∙ ap (length {A = List ℕ}) e) ∙ row_begins (words_of line)
 
-take_none : (n : ℕ) → take n (◌++◌ {A = List ℕ} [] []) ≡ []
-take_none zero = refl
-take_none (suc n) = refl
-
 -- ---- one name more
-
-push_at : (b : Bool) (x : List ℕ) (xs ys : List (List ℕ)) → x ∷ (if b then xs ++ ys else xs) ≡ (if b then (x ∷ xs) ++ ys else x ∷ xs)
-push_at true x xs ys = refl
-push_at false x xs ys = refl
-
-first_fits : (n : ℕ) → nat_lt 0 (suc n) ≡ true
-first_fits n = grind arith
-
-next_fits : (a n : ℕ) → nat_lt (suc a) (suc n) ≡ nat_lt a n
-next_fits a n = grind arith
 
 take_more : (n : ℕ) (xs : List (List ℕ)) (x : List ℕ) → take n (xs ++ x ∷ []) ≡ (if nat_lt (length (take n xs)) n then take n xs ++ x ∷ [] else take n xs)
 take_more zero [] x = refl
 take_more zero (y ∷ xs) x = refl
-take_more (suc n) [] x = rw (first_fits n) (ap (λ (l : List (List ℕ)). x ∷ l) (take_none n))
-take_more (suc n) (y ∷ xs) x = rw (next_fits (length (take n xs)) n) (ap (λ (l : List (List ℕ)). y ∷ l) (take_more n xs x) ∙ push_at (nat_lt (length (take n xs)) n) y (take n xs) (x ∷ []))
+take_more (suc n) [] x = rw (take_all {A = List ℕ} n [] (omega arith)) (grind (arith, nat_tests))
+take_more (suc n) (y ∷ xs) x = grind (arith, nat_tests, take_more n xs x)
 
 names_more : (lines : List (List ℕ)) (line : List ℕ) → names_of (lines ++ line ∷ []) ≡ names_of lines ++ (take 1 (words_of line) ++ [])
 unfolding names_of
@@ -68,25 +50,15 @@ one_word : (words : List (List ℕ)) → (length words == 0) ≡ false → take 
 one_word [] e = absurd cc
 one_word (word ∷ words) e = refl
 
-of_names : (c : Counts) (names more : List (List ℕ)) → names ≡ more → ◌≡◌ {A = Standing} (record { count = length names; names = take c.used names }) (record { count = length more; names = take c.used more })
-of_names c names more e = ap (λ (n : List (List ℕ)). record { count = length n; names = take c.used n }) e
-
-with_more : (c : Counts) (names : List (List ℕ)) (name : List ℕ) → ◌≡◌ {A = Standing} (record { count = length (names ++ name ∷ []); names = take c.used (names ++ name ∷ []) }) (with_name c (record { count = length names; names = take c.used names }) name)
-with_more c names name = ap (λ (n : ℕ). record { count = n; names = take c.used (names ++ name ∷ []) }) (length-append names (name ∷ [])) ∙ ap (λ (l : List (List ℕ)). record { count = length names + 1; names = l }) (take_more c.used names name)
-
 pub standing-more : (c : Counts) (lines : List (List ℕ)) (line : List ℕ) → (length (words_of line) == 0) ≡ false → standing c (lines ++ line ∷ []) ≡ with_name c (standing c lines) (word_at (words_of line) 0)
-standing-more c lines line e = of_names c (names_of (lines ++ line ∷ [])) (names_of lines ++ word_at (words_of line) 0 ∷ []) (names_more lines line ∙ ap (λ (l : List (List ℕ)). names_of lines ++ l) (one_word (words_of line) e)) ∙ with_more c (names_of lines) (word_at (words_of line) 0)
+standing-more c lines line e = rw (names_more lines line, one_word (words_of line) e, length-append (names_of lines) (word_at (words_of line) 0 ∷ []), take_more c.used (names_of lines) (word_at (words_of line) 0)) refl
 
 none_taken : (words : List (List ℕ)) → (length words == 0) ≡ true → take 1 words ++ [] ≡ []
 none_taken [] e = refl
-none_taken (word ∷ words) e = absurd (let none = some_are (length words) in cc)
-
-nothing_more : (xs : List (List ℕ)) → xs ++ [] ≡ xs
-nothing_more [] = refl
-nothing_more (x ∷ xs) = ap (λ (l : List (List ℕ)). x ∷ l) (nothing_more xs)
+none_taken (word ∷ words) e = absurd (omega (arith, eqb-true (length (word ∷ words)) 0 e))
 
 pub standing-same : (c : Counts) (lines : List (List ℕ)) (line : List ℕ) → (length (words_of line) == 0) ≡ true → standing c (lines ++ line ∷ []) ≡ standing c lines
-standing-same c lines line e = of_names c (names_of (lines ++ line ∷ [])) (names_of lines) (names_more lines line ∙ ap (λ (l : List (List ℕ)). names_of lines ++ l) (none_taken (words_of line) e) ∙ nothing_more (names_of lines))
+standing-same c lines line e = rw (names_more lines line, none_taken (words_of line) e, append-nil (names_of lines)) refl
 
 pub left_out : (c : Counts) (s : Standing) (line : List ℕ) → (length (words_of line) == 0) ≡ true → line_reason c s (words_of line) ≡ None
 unfolding line_reason
@@ -96,23 +68,17 @@ judged : (c : Counts) (s : Standing) (line : List ℕ) (row : List (List ℕ)) �
 unfolding line_reason
 judged c s line row e is = rw e (sym (ap (λ ws. first_reason (name_tests c s ws)) is ∙ tests_of_row c s (words_of line)))
 
-pub line_taken : (c d : Counts) (old new : Standing) (line : List ℕ) (row : List (List ℕ)) (n : ℕ) (r : Result (Unit {0}) (Stop NameReason)) → (length (words_of line) == 0) ≡ false → row ≡ row_of line → d ≡ c
+-- what taking a line that has words says
+pub line_done : (c d : Counts) (old new : Standing) (line : List ℕ) (row : List (List ℕ)) (n : ℕ) (r : Result (Unit {0}) (Stop NameReason)) → (length (words_of line) == 0) ≡ false → row ≡ row_of line → d ≡ c
     → Takes (name_tests c old row) (with_name c old (word_at row 0)) r new
     → OnOk r ((lines : List (List ℕ)) → n ≡ length lines + 1 → old ≡ standing c lines → new ≡ standing d (lines ++ line ∷ []))
-line_taken c d old new line row n (Ok u) some is same t = λ lines e h.
-    t.1 ∙ ap (λ s. with_name c s (word_at row 0)) h ∙ ap (λ w. with_name c (standing c lines) w) (ap (λ ws. word_at ws 0) is ∙ first_of_row (words_of line))
-    ∙ sym (standing-more c lines line some) ∙ ap (λ k. standing k (lines ++ line ∷ [])) (sym same)
-line_taken c d old new line row n (Err stop) some is same t = tt
-
-pub line_fine : (c : Counts) (old new : Standing) (line : List ℕ) (row : List (List ℕ)) (n : ℕ) (r : Result (Unit {0}) (Stop NameReason)) → (length (words_of line) == 0) ≡ false → row ≡ row_of line
-    → Takes (name_tests c old row) (with_name c old (word_at row 0)) r new
-    → OnOk r ((lines : List (List ℕ)) → n ≡ length lines + 1 → old ≡ standing c lines → line_reason c (standing c lines) (words_of line) ≡ None)
-line_fine c old new line row n (Ok u) some is t = λ lines e h. ap (λ s. line_reason c s (words_of line)) (sym h) ∙ judged c old line row some is ∙ t.0
-line_fine c old new line row n (Err stop) some is t = tt
-
-pub line_fault : (c : Counts) (old new : Standing) (line : List ℕ) (row : List (List ℕ)) (n : ℕ) (r : Result (Unit {0}) (Stop NameReason)) → (length (words_of line) == 0) ≡ false → row ≡ row_of line
-    → Takes (name_tests c old row) (with_name c old (word_at row 0)) r new
-    → IfErr r (λ stop. IfFault stop (λ reason. (lines : List (List ℕ)) → n ≡ length lines + 1 → old ≡ standing c lines → line_reason c (standing c lines) (words_of line) ≡ Some reason))
-line_fault c old new line row n (Ok u) some is t = tt
-line_fault c old new line row n (Err (Fault f)) some is t = λ lines e h. ap (λ s. line_reason c s (words_of line)) (sym h) ∙ judged c old line row some is ∙ t
-line_fault c old new line row n (Err Memory) some is t = tt
+    × OnOk r ((lines : List (List ℕ)) → n ≡ length lines + 1 → old ≡ standing c lines → line_reason c (standing c lines) (words_of line) ≡ None)
+    × IfErr r (λ stop. IfFault stop (λ reason. (lines : List (List ℕ)) → n ≡ length lines + 1 → old ≡ standing c lines → line_reason c (standing c lines) (words_of line) ≡ Some reason))
+line_done c d old new line row n (Ok u) some is same t = (
+  λ lines e h. t.1 ∙ ap (λ s. with_name c s (word_at row 0)) h ∙ ap (λ w. with_name c (standing c lines) w) (ap (λ ws. word_at ws 0) is ∙ first_of_row (words_of line))
+      ∙ sym (standing-more c lines line some) ∙ ap (λ k. standing k (lines ++ line ∷ [])) (sym same),
+  λ lines e h. ap (λ s. line_reason c s (words_of line)) (sym h) ∙ judged c old line row some is ∙ t.0,
+  tt,
+)
+line_done c d old new line row n (Err (Fault f)) some is same t = (tt, tt, λ lines e h. ap (λ s. line_reason c s (words_of line)) (sym h) ∙ judged c old line row some is ∙ t)
+line_done c d old new line row n (Err Memory) some is same t = (tt, tt, tt)

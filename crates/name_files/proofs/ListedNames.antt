@@ -1,7 +1,7 @@
 -- The names that a text lists can be the names of a program.
-use Rattle.std.proofs.Common.{◌≡◌, ◌∙◌, ℕ, ◌+◌, ◌==◌, ◌<◌, ◌≤◌, ◌^◌, Bool, true, false, not, ◌&&◌, List, [], ◌∷◌, ◌++◌, length, take, Option, Some, None, All, refl, sym, ap, subst, arith, append_assoc, length-append, length-take}
+use Rattle.std.proofs.Common.{◌≡◌, ◌∙◌, ℕ, ◌+◌, ◌==◌, ◌<◌, ◌^◌, Bool, true, false, not, List, [], ◌∷◌, ◌++◌, length, Option, Some, None, refl, sym, subst, arith, append_assoc, length-append}
 use Rattle.std.specs.Prelude.{is_some, nat_le, nat_lt, if◌then◌else◌}
-use Rattle.std.proofs.lemmas.Bool.{eqb-false, leb-true, ltb-true}
+use Rattle.std.proofs.lemmas.Bool.{eqb-false, leb-true, ltb-true, not-false, not-true}
 use Rattle.std.proofs.lemmas.List.{append-nil, take_all}
 use Rattle.std.proofs.lemmas.List.Elements.{All-nil}
 use Rattle.std.proofs.Math.Seq.{take_at, drop_at}
@@ -15,18 +15,10 @@ use Rattle.name_files.specs.declared.fault.NameReason.TheVariants.{BadName, Othe
 use Rattle.name_files.proofs.GrammarLemmas.{standing-more, standing-same}
 use Rattle.name_files.proofs.NameLemmas.{names_more}
 
-not_false : (b : Bool) → not b ≡ false → b ≡ true
-not_false true e = refl
-not_false false e = absurd cc
-
-not_true : (b : Bool) → not b ≡ true → b ≡ false
-not_true true e = absurd cc
-not_true false e = refl
-
 is_a_name : (word : List ℕ) → is_name word ≡ true → IsName word
 is_a_name word e =
     let sizes = first_of_both _ _ e in
-    let some = eqb-false (length word) 0 (not_true _ (first_of_both _ _ sizes)) in
+    let some = eqb-false (length word) 0 (not-true _ (first_of_both _ _ sizes)) in
     record { some = omega (arith, some); most = leb-true (length word) 255 (second_of_both _ _ sizes); each = second_of_both _ _ e }
 
 none_there : (o : Option ℕ) → is_some o ≡ false → o ≡ None
@@ -40,7 +32,7 @@ with_more c s words room are fine =
     let last : Tests = tests_if (is_used c s) (used_tests s (word_at words 0)) in
     let after = none_head (nat_le (c.used + c.further) s.count) OtherCount ((not (is_sole_name words), BadName) ∷ last) fine in
     let sole = none_head (not (is_sole_name words)) BadName last after.1 in
-    by (is_used c s) refl (not_false (is_sole_name words) sole.0) sole.1
+    by (is_used c s) refl (not-false (is_sole_name words) sole.0) sole.1
   where
     by : (used : Bool) → nat_lt (length s.names) c.used ≡ used → is_sole_name words ≡ true → first_reason (tests_if used (used_tests s (word_at words 0))) ≡ None
         → AreNames (if used then s.names ++ word_at words 0 ∷ [] else s.names)
@@ -78,10 +70,7 @@ all_lines c before (line ∷ rest) last room clean are =
 
 no_names : (c : Counts) → AreNames (standing c []).names
 unfolding names_of
-no_names c = subst AreNames (sym (none c.used)) (record { few = omega arith; named = All-nil IsName; apart = λ i j d lt within. absurd (omega arith); free = All-nil (λ n. is_reserved n ≡ false) })
-  where
-    none : (n : ℕ) → take {A = List ℕ} n [] ≡ []
-    none n = take_all n [] (omega arith)
+no_names c = subst AreNames (sym (take_all c.used [] (omega arith))) (record { few = omega arith; named = All-nil IsName; apart = λ i j d lt within. absurd (omega arith); free = All-nil (λ n. is_reserved n ≡ false) })
 
 -- lines that have no fault list names
 pub listed_names : (c : Counts) (lines : List (List ℕ)) (last : Last) → c.used < 2 ^ 32 → IsClean (name_rules c) lines last → AreNames (used_names c lines)

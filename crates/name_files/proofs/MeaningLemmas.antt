@@ -25,13 +25,7 @@ kept_at h k d e (x ∷ xs) (suc i) = kept_at h k d e xs i
 pub same_objective_row : (name : Naming) (rows : List MpsRow) → objective_row (map (named_row name) rows) ≡ objective_row rows
 unfolding objective_row
 same_objective_row name [] = refl
-same_objective_row name (r ∷ rows) = by r.kind (objective_row (map (named_row name) rows)) (objective_row rows) (same_objective_row name rows)
-  where
-    by : (k : RowKind) (i j : ℕ) → i ≡ j → ◌≡◌ {A = ℕ} (elim k [ N ↦ 0 | L ↦ suc i | G ↦ suc i | E ↦ suc i ]) (elim k [ N ↦ 0 | L ↦ suc j | G ↦ suc j | E ↦ suc j ])
-    by N i j e = refl
-    by L i j e = ap suc e
-    by G i j e = ap suc e
-    by E i j e = ap suc e
+same_objective_row name (r ∷ rows) = ap (λ (j : ℕ). elim r.kind [ N ↦ 0 | L ↦ suc j | G ↦ suc j | E ↦ suc j ]) (same_objective_row name rows)
 
 -- values of a renamed program are those of the program, renamed
 columns_valued : (name : Naming) (columns : List (Column Dec)) → map (column_with dec_value) (map (named_column name) columns) ≡ map (named_column name) (map (column_with dec_value) columns)
@@ -70,10 +64,6 @@ feasible m n xs s f =
       whole = λ j lt is. f.whole j (subst (λ (k : ℕ). j < k) (sym s.columns) lt) (subst (λ (b : Bool). IsTrue b) (sym (s.whole j)) is);
     }
 
-interval_kept : (row column : Naming) (m : Mps ℚ) (i : ℕ) → row_interval (with_names row column m) i ≡ row_interval m i
-unfolding with_names
-interval_kept row column m i = ap (λ (k : RowKind). row_sides k (rhs_at m i) (at_row i m.ranges)) (kept_at (named_row row) (λ (r : MpsRow). r.kind) no_mps_row (λ r. refl) m.rows i)
-
 entries_kept : (column : Naming) (columns : List (Column ℚ)) (j : ℕ) → (get_or (map (named_column column) columns) j no_column).entries ≡ (get_or columns j no_column).entries
 entries_kept column columns j = kept_at (named_column column) (λ (c : Column ℚ). c.entries) no_column (λ c. refl) columns j
 
@@ -84,57 +74,29 @@ value_kept row column m xs i =
     ∙ sum_below_same (λ j. part_of_row i (get_or (map (named_column column) m.columns) j no_column).entries (value_at xs j)) (λ j. part_of_row i (column_at m j).entries (value_at xs j)) (length m.columns)
     (λ j lt. ap (λ (es : List (Entry ℚ)). part_of_row i es (value_at xs j)) (entries_kept column m.columns j))
 
-whole_kept : (row column : Naming) (m : Mps ℚ) (j : ℕ) → is_whole_column (with_names row column m) j ≡ is_whole_column m j
-unfolding with_names
-whole_kept row column m j = ap (λ (b : Bool). b || has_whole_record j m.bounds) (kept_at (named_column column) (λ (c : Column ℚ). c.marked) no_column (λ c. refl) m.columns j)
-
-row_count : (row column : Naming) (m : Mps ℚ) → length (with_names row column m).rows ≡ length m.rows
-unfolding with_names
-row_count row column m = length-map m.rows (named_row row)
-
-column_count : (row column : Naming) (m : Mps ℚ) → length (with_names row column m).columns ≡ length m.columns
-unfolding with_names
-column_count row column m = length-map m.columns (named_column column)
-
-bounds_kept : (row column : Naming) (m : Mps ℚ) (j : ℕ) → column_interval (with_names row column m) j ≡ column_interval m j
-unfolding with_names
-bounds_kept row column m j = refl
-
 look_alike : (row column : Naming) (m : Mps ℚ) → LookAlike (with_names row column m) m
+unfolding with_names
 look_alike row column m =
     record {
-      rows = row_count row column m;
-      columns = column_count row column m;
-      interval = interval_kept row column m;
+      rows = length-map m.rows (named_row row);
+      columns = length-map m.columns (named_column column);
+      interval = λ i. ap (λ (k : RowKind). row_sides k (rhs_at m i) (at_row i m.ranges)) (kept_at (named_row row) (λ (r : MpsRow). r.kind) no_mps_row (λ r. refl) m.rows i);
       value = value_kept row column m;
-      bounds = bounds_kept row column m;
-      whole = whole_kept row column m;
+      bounds = λ j. refl;
+      whole = λ j. ap (λ (b : Bool). b || has_whole_record j m.bounds) (kept_at (named_column column) (λ (c : Column ℚ). c.marked) no_column (λ c. refl) m.columns j);
     }
 
-objective_row_kept : (row column : Naming) (m : Mps ℚ) → objective_row (with_names row column m).rows ≡ objective_row m.rows
-unfolding with_names
-objective_row_kept row column m = same_objective_row row m.rows
-
-rhs_kept : (row column : Naming) (m : Mps ℚ) (i : ℕ) → rhs_at (with_names row column m) i ≡ rhs_at m i
-unfolding with_names
-rhs_kept row column m i = refl
-
-sense_kept : (row column : Naming) (m : Mps ℚ) → (with_names row column m).maximise ≡ m.maximise
-unfolding with_names
-sense_kept row column m = refl
-
 objective_kept : (row column : Naming) (m : Mps ℚ) (xs : List ℚ) → mps_objective (with_names row column m) xs ≡ mps_objective m xs
-objective_kept row column m xs =
-    ap (λ (i : ℕ). row_value (with_names row column m) xs i -ℚ rhs_at (with_names row column m) i) (objective_row_kept row column m)
-    ∙ ap (λ (v : ℚ). v -ℚ rhs_at (with_names row column m) (objective_row m.rows)) (value_kept row column m xs (objective_row m.rows))
-    ∙ ap (λ (b : ℚ). row_value m xs (objective_row m.rows) -ℚ b) (rhs_kept row column m (objective_row m.rows))
+unfolding with_names
+objective_kept row column m xs = rw (same_objective_row row m.rows) (ap (λ (v : ℚ). v -ℚ rhs_at m (objective_row m.rows)) (value_kept row column m xs (objective_row m.rows)))
 
 one_meaning : (row column : Naming) (m : Mps ℚ) → HaveOneMeaning (with_names row column m) m
+unfolding with_names
 one_meaning row column m =
     record {
       points = λ xs. (feasible (with_names row column m) m xs (look_alike row column m), feasible m (with_names row column m) xs (turned (with_names row column m) m (look_alike row column m)));
       objective = objective_kept row column m;
-      sense = sense_kept row column m;
+      sense = refl;
     }
 
 pub same_meaning : (row column : Naming) (m : Mps Dec) → HaveOneMeaning (with_values dec_value (with_names row column m)) (with_values dec_value m)

@@ -2,10 +2,11 @@
 use Rattle.std.proofs.Common.{◌≡◌, ◌≢◌, ◌∙◌, ℕ, zero, suc, ◌+◌, ◌<◌, ◌≤◌, ◌^◌, Bool, true, false, ◌&&◌, cond, ltb, List, [], ◌∷◌, length, get_or, drop, Option, Some, None, refl, sym, ap, subst, arith}
 use Rattle.std.specs.Prelude.{option_map, position, MatchOption}
 use Rattle.std.specs.Fmt.{decimal}
-use Rattle.std.specs.List.{position_or_len, range_with_len}
+use Rattle.std.specs.List.{range_with_len}
 use Rattle.std.specs.Str.{bytes_eq}
 use Rattle.std.specs.Str.Parse.{AllDigits, digits_value}
-use Rattle.std.proofs.lemmas.Bool.{lt-ltb, le-ltb, ltb-true, ltb-false}
+use Rattle.std.proofs.lemmas.Bool.{lt-ltb, ltb-true}
+use Rattle.std.proofs.lemmas.Bool.Decides.{nat_tests}
 use Rattle.std.proofs.lemmas.Fmt.{decimal_is_IsNumeral, decimal_digit, decimal_injective, decimal-digits_value, first_decimal}
 use Rattle.std.proofs.lemmas.List.FromFn.{length-range_with_len, get_or-range_with_len}
 use Rattle.std.proofs.lemmas.List.Quantifiers.{position-Some}
@@ -13,6 +14,7 @@ use Rattle.std.proofs.lemmas.Slice.Eq.{bytes_eq-Decides}
 use Rattle.std.proofs.lemmas.Str.Parse.{IsNumeralModel}
 use Rattle.exact_numbers.specs.Numbers.{are_digits, whole_of}
 use Rattle.exact_numbers.proofs.NumberLemmas.{first_of_both, second_of_both, digits_are, are_digits-some, are_digits-all}
+use Rattle.texts.proofs.NamePlaces.{bytes_other}
 use Rattle.name_files.specs.Renamed.{index_named}
 
 -- ---- numbers without zeros in front
@@ -23,9 +25,6 @@ own = record { to = λ ds p. p; from = λ ds p. p; same = λ ds p. refl }
 pub zeros_in_front : (ds : List ℕ) → 1 < length ds → get_or ds 0 0 ≡ 48 → (n : ℕ) → n < 2 ^ 31 → decimal n ≢ ds
 zeros_in_front ds long first zero h e = absurd (omega (arith, long, ap length (sym (decimal_digit 0 (omega arith)) ∙ e)))
 zeros_in_front ds long first (suc n) h e = absurd (omega (arith, first, first_decimal (suc n) (omega arith) (omega (arith, h)), ap (λ (t : List ℕ). get_or t 0 0) e))
-
-clash : false ≡ true → ⊥
-clash e = absurd cc
 
 abbrev pub IsNumber : List ℕ → Option ℕ → Type 0
 IsNumber ds o = MatchOption o ((n : ℕ) → n < 2 ^ 31 → decimal n ≢ ds) (λ n. (n < 2 ^ 31) × (decimal n ≡ ds))
@@ -44,55 +43,38 @@ is_number ds front = by (are_digits ds && ltb (digits_value 10 ds) (2 ^ 31)) ref
         let digits : are_digits ds ≡ true = subst (λ (t : List ℕ). are_digits t ≡ true) same (digits_are (decimal n) numeral.0.0 numeral.0.1) in
         let value : digits_value 10 ds ≡ n = subst (λ (t : List ℕ). digits_value 10 t ≡ n) same numeral.1 in
         let small : ltb (digits_value 10 ds) (2 ^ 31) ≡ true = lt-ltb _ _ (omega (arith, value, h)) in
-        absurd (clash (sym e ∙ ap (λ (b : Bool). b && ltb (digits_value 10 ds) (2 ^ 31)) digits ∙ small))
+        absurd (cc (e, digits, small))
 
 -- ---- places of names
 
-shifted : (k n : ℕ) (b : Bool) → ltb k n ≡ b → cond (ltb (1 + k) (suc n)) (Some (1 + k)) None ≡ option_map suc (cond b (Some k) None)
-shifted k n true e = rw (lt-ltb (1 + k) (suc n) (omega (arith, ltb-true k n e))) (ap Some (omega arith))
-shifted k n false e = rw (le-ltb (1 + k) (suc n) (omega (arith, ltb-false k n e))) refl
-
-first_place : {X : Type 0} (p : X → Bool) (x : X) (xs : List X) (b : Bool) → p x ≡ b → position p (x ∷ xs) ≡ cond b (Some 0) (option_map suc (position p xs))
-first_place p x xs true e = rw e (rw (lt-ltb 0 (suc (length xs)) (omega arith)) refl)
-first_place p x xs false e = rw e (shifted (position_or_len p xs) (length xs) (ltb (position_or_len p xs) (length xs)) refl)
-
 pub position-cons : {X : Type 0} (p : X → Bool) (x : X) (xs : List X) → position p (x ∷ xs) ≡ cond (p x) (Some 0) (option_map suc (position p xs))
-position-cons p x xs = first_place p x xs (p x) refl
+position-cons p x xs = grind (arith, nat_tests)
 
 pub place_first : (p : ℕ → Bool) (n a k : ℕ) → k < n → p (a + k) ≡ true → ((j : ℕ) → j < k → p (a + j) ≡ false) → position p (range_with_len a n) ≡ Some k
 place_first p zero a k h here before = absurd (omega arith)
-place_first p (suc n) a zero h here before = position-cons p a (range_with_len (a + 1) n) ∙ ap (λ b. cond b (Some 0) (option_map suc (position p (range_with_len (a + 1) n)))) (ap p (omega arith) ∙ here)
+place_first p (suc n) a zero h here before = let now : p a ≡ true = ap p (omega arith) ∙ here in rw (position-cons p a (range_with_len (a + 1) n), now) refl
 place_first p (suc n) a (suc k) h here before =
-    position-cons p a (range_with_len (a + 1) n)
-    ∙ ap (λ b. cond b (Some 0) (option_map suc (position p (range_with_len (a + 1) n)))) (ap p (omega arith) ∙ before 0 (omega arith))
-    ∙ ap (option_map suc) (place_first p n (a + 1) k (omega arith) (ap p (omega arith) ∙ here) (λ j less. ap p (omega arith) ∙ before (suc j) (omega arith)))
+    let not_yet : p a ≡ false = ap p (omega arith) ∙ before 0 (omega arith) in
+    rw (position-cons p a (range_with_len (a + 1) n), not_yet, place_first p n (a + 1) k (omega arith) (ap p (omega arith) ∙ here) (λ j less. ap p (omega arith) ∙ before (suc j) (omega arith))) refl
 
 pub place_none : (p : ℕ → Bool) (n a : ℕ) → ((j : ℕ) → j < n → p (a + j) ≡ false) → position p (range_with_len a n) ≡ None
 place_none p zero a none = refl
 place_none p (suc n) a none =
-    position-cons p a (range_with_len (a + 1) n)
-    ∙ ap (λ b. cond b (Some 0) (option_map suc (position p (range_with_len (a + 1) n)))) (ap p (omega arith) ∙ none 0 (omega arith))
-    ∙ ap (option_map suc) (place_none p n (a + 1) (λ j less. ap p (omega arith) ∙ none (suc j) (omega arith)))
-
-differ : (a b : List ℕ) → a ≢ b → bytes_eq a b ≡ false
-differ a b ne = by (bytes_eq a b) refl
-  where
-    by : (t : Bool) → bytes_eq a b ≡ t → bytes_eq a b ≡ false
-    by true e = absurd (ne ((bytes_eq-Decides a b).0 e))
-    by false e = e
+    let not_here : p a ≡ false = ap p (omega arith) ∙ none 0 (omega arith) in
+    rw (position-cons p a (range_with_len (a + 1) n), not_here, place_none p n (a + 1) (λ j less. ap p (omega arith) ∙ none (suc j) (omega arith))) refl
 
 pub index_of : (letter n k : ℕ) (text : List ℕ) → n ≤ 2 ^ 31 → k < n → letter ∷ decimal k ≡ text → index_named (λ j. letter ∷ decimal j) n text ≡ Some k
 unfolding index_named
 index_of letter n k text few h e =
     place_first (λ j. bytes_eq (letter ∷ decimal j) text) n 0 k h
     ((bytes_eq-Decides (letter ∷ decimal (0 + k)) text).1 (ap (λ i. letter ∷ decimal i) (omega arith) ∙ e))
-    (λ j less. differ (letter ∷ decimal (0 + j)) text (λ same.
+    (λ j less. bytes_other (letter ∷ decimal (0 + j)) text (λ same.
     let equal : 0 + j ≡ k = decimal_injective (0 + j) k (omega (arith, less, h, few)) (omega (arith, h, few)) (ap (drop 1) (same ∙ sym e)) in
     omega (arith, equal, less)))
 
 pub no_index : (letter n : ℕ) (text : List ℕ) → ((j : ℕ) → j < n → letter ∷ decimal j ≢ text) → index_named (λ j. letter ∷ decimal j) n text ≡ None
 unfolding index_named
-no_index letter n text none = place_none (λ j. bytes_eq (letter ∷ decimal j) text) n 0 (λ j less. differ (letter ∷ decimal (0 + j)) text (λ same. none j less (ap (λ i. letter ∷ decimal i) (omega arith) ∙ same)))
+no_index letter n text none = place_none (λ j. bytes_eq (letter ∷ decimal j) text) n 0 (λ j less. bytes_other (letter ∷ decimal (0 + j)) text (λ same. none j less (ap (λ i. letter ∷ decimal i) (omega arith) ∙ same)))
 
 pub one_zero : (ds : List ℕ) → length ds ≤ 1 → get_or ds 0 0 ≡ 48 → length ds ≡ 1
 one_zero [] short first = absurd (omega (arith, first))

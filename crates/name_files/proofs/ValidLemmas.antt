@@ -1,5 +1,5 @@
 -- A program with other names is a program.
-use Rattle.std.proofs.Common.{◌≡◌, ◌≢◌, ◌∙◌, ◌⊎◌, inl, inr, ℕ, zero, suc, ◌+◌, ◌<◌, ◌≤◌, ◌^◌, Bool, false, List, [], ◌∷◌, length, map, get_or, Option, Some, None, All, refl, sym, ap, subst, arith}
+use Rattle.std.proofs.Common.{◌≡◌, ◌≢◌, ◌∙◌, ◌⊎◌, inl, inr, ℕ, ◌+◌, ◌<◌, ◌≤◌, ◌^◌, false, List, [], ◌∷◌, length, map, get_or, Option, Some, None, All, refl, sym, ap, subst, arith}
 use Rattle.std.specs.List.{AllPairs}
 use Rattle.std.specs.Fmt.{decimal}
 use Rattle.std.proofs.lemmas.Bool.{cases_order}
@@ -11,8 +11,8 @@ use Rattle.texts.specs.Names.{IsName}
 use Rattle.exact_numbers.specs.declared.dec.Dec.{Dec}
 use Rattle.exact_numbers.specs.Values.{dec_value}
 use Rattle.linear_programs.specs.Names.{row_name, variable_name}
-use Rattle.mps_model.specs.Mps.{MpsRow, Entry, Column, Bound, Mps, no_mps_row, objective_row}
-use Rattle.mps_model.specs.Valid.{AreRows, AreColumns, AreEntries, AreRanges, AreBounds, IsPartOfMps, IsComplete, IsMps, IsBounded, IsOtherRow, HasEntries, IsNameOrEmpty, marker_word, entry_count}
+use Rattle.mps_model.specs.Mps.{MpsRow, Column, Mps, no_mps_row}
+use Rattle.mps_model.specs.Valid.{AreRows, AreColumns, AreEntries, AreRanges, AreBounds, IsPartOfMps, IsComplete, IsMps, IsOtherRow, HasEntries, IsNameOrEmpty, marker_word, entry_count}
 use Rattle.name_files.specs.Names.{AreNames, is_reserved}
 use Rattle.name_files.specs.Renamed.{index_named, marked, named_at, new_name, named_row, named_column, named_rows, named_columns, named, with_names, IsExportedName, AreExportedNames, HasExportedNames}
 use Rattle.name_files.proofs.NumeralLemmas.{named_so}

@@ -12,6 +12,7 @@ ghost use Rattle.exported_program.specs.Program.{program, tied_program};
 ghost use Rattle.name_files.specs.Renamed.{named, HasExportedNames, HaveOneMeaning, IsNamedLinear};
 
 /// Each text is free of faults or has one first fault, and what it says is one list of names.
+#[tactic(auto, using(texts::proofs::JudgedLemmas::one_outcome))]
 pub fn one_reading()
     ensures outcome { (counts : Counts) (text : List ℕ)
         → HasOneOutcome (name_rules counts) (lines_of text) (last_of text) }
@@ -20,12 +21,14 @@ pub fn one_reading()
 {}
 
 /// A program with other names has the same points and the same objective.
+#[tactic(auto, using(crate::proofs::MeaningLemmas::same_meaning))]
 pub fn names_mean_nothing()
     ensures { (m : Mps Dec) (rows columns : List (List ℕ))
         → HaveOneMeaning (with_values dec_value (named m rows columns)) (with_values dec_value m) }
 {}
 
 /// A program that is exported, and has other names, is a program.
+#[tactic(auto, using(crate::proofs::ValidLemmas::program_named))]
 pub fn named_is_a_program()
     ensures { (m : Mps Dec) (rows columns : List (List ℕ)) → IsMps dec_value m
         → AreNames rows → AreNames columns → HasExportedNames (length rows) (length columns) m
@@ -33,6 +36,7 @@ pub fn named_is_a_program()
 {}
 
 /// The values of a program with other names are those of the program, with these names.
+#[tactic(auto, using(crate::proofs::MeaningLemmas::valued))]
 pub fn names_keep_values()
     ensures { (m : Mps Dec) (rows columns : List (List ℕ))
         → with_values dec_value (named m rows columns)
@@ -48,6 +52,7 @@ pub fn exported_names()
 {}
 
 /// The names that a text lists are names, no two the same, and none of them reserved.
+#[tactic(auto, using(crate::proofs::ListedNames::listed_names))]
 pub fn listed_names_are_names()
     ensures { (counts : Counts) (text : List ℕ) (names : List (List ℕ)) → counts.used < 2 ^ 32
         → IsRead (name_rules counts) (SaysNames counts) text names → AreNames names }

@@ -21,6 +21,7 @@ fn marked(alloc: Global, old: &[u8]) -> Result<Name, AllocError>
 }
 
 /// The name of the number after this letter, or else the old name marked.
+#[tactic(auto, using(crate::proofs::NumeralLemmas::named_so))]
 pub(crate) fn new_name(
     alloc: Global,
     letter: u8,

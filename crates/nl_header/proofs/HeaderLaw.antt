@@ -18,7 +18,7 @@ use Rattle.nl_header.specs.declared.fault.HeadFault.{HeadFault}
 use Rattle.nl_header.specs.declared.fault.HeadFault.TheVariants.{BadHeaderNumber, BinaryFile, BadFirstLine, Options, RefusedCount, TooLarge, CountsDisagree}
 use Rattle.exact_numbers.specs.Numbers.{whole_of, are_digits}
 use Rattle.std.specs.Str.Parse.{digits_value}
-use Rattle.nl_header.specs.Head.{number_in, header_number, header_line, words_fault, word_tests, number_tests, limit_of, limit_of_row, begins_with, lacks_number, rule_tests, number_line_fault, header_line_fault, first_line_tests, options_in, options_of, counts_in, counts_by, has_options, option_count}
+use Rattle.nl_header.specs.Head.{number_in, header_number, header_line, words_fault, word_tests, field_tests, limit_of, limit_of_row, begins_with, lacks_number, rule_tests, number_line_fault, header_line_fault, first_line_tests, options_in, options_of, counts_in, counts_by, has_options, option_count}
 use Rattle.nl_header.specs.Reading.{AreClean, last_rule}
 use Rattle.exact_numbers.proofs.NumberLemmas.{both, first_of_both, second_of_both}
 
@@ -44,8 +44,8 @@ not-false false e = sym e
 nothing_below : (n : ℕ) → nat_lt n 0 ≡ false
 nothing_below n = le-ltb n 0 (omega arith)
 
-zero-number : (field : Option Field) → first_reason (number_tests field 0) ≡ None
-unfolding number_tests
+zero-number : (field : Option Field) → first_reason (field_tests field 0) ≡ None
+unfolding field_tests
 zero-number None = refl
 zero-number (Some f) = by f.zero
   where
@@ -53,29 +53,29 @@ zero-number (Some f) = by f.zero
     by true = ap (λ t. cond t (Some TooLarge) None) (nothing_below (limit_of (Some f)))
     by false = ap (λ t. cond t (Some TooLarge) None) (nothing_below (limit_of (Some f)))
 
-word-number : (field : Option Field) (word : List ℕ) → first_reason (word_tests field word) ≡ None → first_reason (number_tests field (unwrap_or (whole_of word) 0)) ≡ None
+word-number : (field : Option Field) (word : List ℕ) → first_reason (word_tests field word) ≡ None → first_reason (field_tests field (unwrap_or (whole_of word) 0)) ≡ None
 unfolding word_tests
-word-number field word clean = (none_head (is_none (whole_of word)) BadHeaderNumber (number_tests field (unwrap_or (whole_of word) 0)) clean).1
+word-number field word clean = (none_head (is_none (whole_of word)) BadHeaderNumber (field_tests field (unwrap_or (whole_of word) 0)) clean).1
 
 whole_of-nil : whole_of [] ≡ None
 unfolding whole_of
 whole_of-nil = refl
 
 -- each number of a line without a fault keeps the rules of its field; `shift` is the place of the first word less 1
-numbers-from : (line start i : ℕ) (ws : List (List ℕ)) → words_fault line start ws ≡ None → first_reason (number_tests (field_at line (start + i)) (unwrap_or (whole_of (get_or ws i [])) 0)) ≡ None
+numbers-from : (line start i : ℕ) (ws : List (List ℕ)) → words_fault line start ws ≡ None → first_reason (field_tests (field_at line (start + i)) (unwrap_or (whole_of (get_or ws i [])) 0)) ≡ None
 unfolding words_fault
-numbers-from line start i [] clean = ap (λ o. first_reason (number_tests (field_at line (start + i)) (unwrap_or o 0))) whole_of-nil ∙ zero-number (field_at line (start + i))
+numbers-from line start i [] clean = ap (λ o. first_reason (field_tests (field_at line (start + i)) (unwrap_or o 0))) whole_of-nil ∙ zero-number (field_at line (start + i))
 numbers-from line start zero (w ∷ ws) clean =
     let same : start + 0 ≡ start = omega arith in
-    ap (λ p. first_reason (number_tests (field_at line p) (unwrap_or (whole_of w) 0))) same ∙ word-number (field_at line start) w (else-first _ _ clean)
+    ap (λ p. first_reason (field_tests (field_at line p) (unwrap_or (whole_of w) 0))) same ∙ word-number (field_at line start) w (else-first _ _ clean)
 numbers-from line start (suc i) (w ∷ ws) clean =
     let same : start + suc i ≡ start + 1 + i = omega arith in
-    ap (λ p. first_reason (number_tests (field_at line p) (unwrap_or (whole_of (get_or ws i [])) 0))) same ∙ numbers-from line (start + 1) i ws (else-second _ _ clean)
+    ap (λ p. first_reason (field_tests (field_at line p) (unwrap_or (whole_of (get_or ws i [])) 0))) same ∙ numbers-from line (start + 1) i ws (else-second _ _ clean)
 
-number-clean : (line place : ℕ) (ws : List (List ℕ)) → 0 < place → words_fault line 1 ws ≡ None → first_reason (number_tests (field_at line place) (number_in ws place)) ≡ None
+number-clean : (line place : ℕ) (ws : List (List ℕ)) → 0 < place → words_fault line 1 ws ≡ None → first_reason (field_tests (field_at line place) (number_in ws place)) ≡ None
 number-clean line place ws some clean =
     let same : place ≡ 1 + (place - 1) = omega (arith, some) in
-    ap (λ p. first_reason (number_tests (field_at line p) (number_in ws place))) same ∙ numbers-from line 1 (place - 1) ws clean
+    ap (λ p. first_reason (field_tests (field_at line p) (number_in ws place))) same ∙ numbers-from line 1 (place - 1) ws clean
 
 -- ---- Lines of which the first nine have no fault.
 
@@ -114,17 +114,17 @@ unfolding number_line_fault
 rules-clean line counts ws clean = (none_head (lacks_number header_rows line (length ws)) BadHeaderNumber (rule_tests line counts) (else-second _ _ clean)).1
 
 -- the number at a place of a line that is not the first
-number-of : (lines : Lines) (n place : ℕ) → 0 < n → n < 9 → 0 < place → AreNineClean lines → first_reason (number_tests (field_at (n + 1) place) (header_number lines (n + 1) place)) ≡ None
+number-of : (lines : Lines) (n place : ℕ) → 0 < n → n < 9 → 0 < place → AreNineClean lines → first_reason (field_tests (field_at (n + 1) place) (header_number lines (n + 1) place)) ≡ None
 number-of lines n place some lt here clean = number-clean (n + 1) place (header_line lines (n + 1)) here (words-clean _ _ _ (line-of lines n some lt clean))
 
 -- ---- The rules, one after the other.
 
-is-zero : (row : ℕ) (required : Bool) (n : ℕ) → first_reason (number_tests (Some (record { row = row; required = required; zero = true })) n) ≡ None → (n == 0) ≡ true
-unfolding number_tests
+is-zero : (row : ℕ) (required : Bool) (n : ℕ) → first_reason (field_tests (Some (record { row = row; required = required; zero = true })) n) ≡ None → (n == 0) ≡ true
+unfolding field_tests
 is-zero row required n clean = not-false (n == 0) (none_head (not (n == 0)) RefusedCount ((nat_lt (limit_of_row row) n, TooLarge) ∷ []) clean).0
 
-is-within : (row limit : ℕ) (required : Bool) (n : ℕ) → limit_of (Some (record { row = row; required = required; zero = false })) ≡ limit → first_reason (number_tests (Some (record { row = row; required = required; zero = false })) n) ≡ None → nat_le n limit ≡ true
-unfolding number_tests
+is-within : (row limit : ℕ) (required : Bool) (n : ℕ) → limit_of (Some (record { row = row; required = required; zero = false })) ≡ limit → first_reason (field_tests (Some (record { row = row; required = required; zero = false })) n) ≡ None → nat_le n limit ≡ true
+unfolding field_tests
 is-within row limit required n same clean =
     let few : nat_lt (limit_of_row row) n ≡ false = (none_head (nat_lt (limit_of_row row) n) TooLarge [] clean).0 in
     le-leb n limit (omega (arith, same, ltb-false (limit_of_row row) n few))

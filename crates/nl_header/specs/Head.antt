@@ -126,15 +126,15 @@ must_be_zero field = option_map_or (λ f. f.zero) field true
 abbrev pub limit_of : Option Field → ℕ
 limit_of field = option_map_or (λ f. limit_of_row f.row) field 0
 
-unfoldable pub number_tests : Option Field → ℕ → List (Bool × HeadFault)
-number_tests field number =
+unfoldable pub field_tests : Option Field → ℕ → List (Bool × HeadFault)
+field_tests field number =
     (must_be_zero field && not (number == 0), RefusedCount)
     ∷ (nat_lt (limit_of field) number, TooLarge) ∷ []
 
 -- of one word where a field stands
 unfoldable pub word_tests : Option Field → List ℕ → List (Bool × HeadFault)
 word_tests field word =
-    (is_none (whole_of word), BadHeaderNumber) ∷ number_tests field (unwrap_or (whole_of word) 0)
+    (is_none (whole_of word), BadHeaderNumber) ∷ field_tests field (unwrap_or (whole_of word) 0)
 
 -- the first fault of the words of a line from a place on
 unfoldable pub words_fault : ℕ → ℕ → List (List ℕ) → Option HeadFault

@@ -1,7 +1,7 @@
 // The kinds of variables, by the groups in which they stand.
 ghost use Rattle.std.specs.Prelude.{◌≡◌, ◌<◌};
 ghost use Rattle.nl_model.specs.HeaderWords.{header_counts};
-ghost use Rattle.nl_model.specs.Kinds.{kind_of};
+ghost use Rattle.nl_model.specs.Kinds.{variable_kind};
 
 use nl_model::{Header, Kind};
 
@@ -20,10 +20,10 @@ macro_rules! kind_at {
 
 /// The kind of a variable: nonlinear in constraints and objectives, in constraints only, in
 /// objectives only; then linear, binary, integer.
-#[tactic(auto, unfolding(nl_model::specs::Kinds::kind_of))]
+#[tactic(auto, unfolding(nl_model::specs::Kinds::variable_kind))]
 pub fn kinds_of(header: &Header, var: u32) -> Kind
     requires { var < (header_counts header.now).n_var }
-    ensures { result ≡ kind_of (header_counts header.now) var }
+    ensures { result ≡ variable_kind (header_counts header.now) var }
 {
     let counts = header.counts();
     let mut place = var;

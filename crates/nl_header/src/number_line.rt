@@ -2,7 +2,7 @@
 ghost use Rattle.std.specs.Prelude.{◌≡◌, ℕ, ◌<◌, ◌≤◌, ◌==◌, ◌+◌, min, length, slice_index, slice_index_or, if◌then◌else◌, None};
 ghost use Rattle.texts.specs.Judged.{first_reason};
 ghost use Rattle.texts.specs.Words.{words_of, texts};
-ghost use Rattle.nl_header.specs.Head.{Judges, number_in, limit_of_row, number_tests, word_tests, words_fault, lacks_number, no_field_row, number_after};
+ghost use Rattle.nl_header.specs.Head.{Judges, number_in, limit_of_row, field_tests, word_tests, words_fault, lacks_number, no_field_row, number_after};
 ghost use Rattle.nl_header.specs.Reading.{put_in};
 
 use crate::fault::HeadFault;
@@ -26,9 +26,9 @@ fn limit_of_row(row: u32) -> u32
 }
 
 // Judges a number where a field stands.
-#[tactic(auto, unfolding(crate::specs::Head::number_tests))]
+#[tactic(auto, unfolding(crate::specs::Head::field_tests))]
 fn judge_number(field: Option<Field>, number: u32) -> Result<(), HeadFault>
-    ensures { Judges (first_reason (number_tests field number)) None result }
+    ensures { Judges (first_reason (field_tests field number)) None result }
 {
     let Some(field) = field else {
         if number != 0 {

@@ -10,7 +10,7 @@ use Rattle.nl_model.specs.File.{Term}
 use Rattle.nl_model.specs.Draft.{Draft, empty_draft}
 use Rattle.nl_lines.specs.declared.head.Head.{Head}
 use Rattle.nl_lines.specs.declared.head.Head.TheVariants.{Body, Objective, Definition, DualGuesses, PrimalGuesses, Sides, Bounds, ColumnCounts, Terms, Slopes, Suffix}
-use Rattle.nl_lines.specs.Rows.{Row, row_words}
+use Rattle.nl_lines.specs.Rows.{NumberedRow, row_words}
 use Rattle.nl_lines.specs.Pieces.{Piece, is_complete, piece_pairs, piece_intervals, pair_in, interval_in}
 use Rattle.nl_lines.specs.Saying.{if_complete, piece_tree, said_by, with_piece, draft_of}
 use Rattle.nl_lines.proofs.PieceLemmas.{longer, draft-append}
@@ -47,7 +47,7 @@ by_head : (o : List ℤ) (c : Counts) (before : List Piece) (p : Piece) (h : Hea
 by_head o c before p h e = draft-append o c before p ∙ ap (said_by (draft_of o c before) p) e
 
 -- a change of the draft of the last piece
-changed : (o : List ℤ) (c : Counts) (before : List Piece) (p : Piece) (row : Row) (h : Head) (change : Draft → Draft) → p.head ≡ h
+changed : (o : List ℤ) (c : Counts) (before : List Piece) (p : Piece) (row : NumberedRow) (h : Head) (change : Draft → Draft) → p.head ≡ h
     → said_by (draft_of o c before) (longer p row) h ≡ change (said_by (draft_of o c before) p h)
     → draft_of o c (before ++ longer p row ∷ []) ≡ change (draft_of o c (before ++ p ∷ []))
 changed o c before p row h change e step = by_head o c before (longer p row) h e ∙ step ∙ ap change (sym (by_head o c before p h e))
@@ -55,14 +55,14 @@ changed o c before p row h change e step = by_head o c before (longer p row) h e
 one_more : {A : Type 0} (xs ys zs : List A) (x : A) → zs ≡ ys ++ x ∷ [] → xs ++ zs ≡ (xs ++ ys) ++ x ∷ []
 one_more xs ys zs x e = ap (λ zs. xs ++ zs) e ∙ sym (append_assoc xs ys (x ∷ []))
 
-pub with_dual : (o : List ℤ) (c : Counts) (before : List Piece) (p : Piece) (row : Row) (n : ℕ) (t : Term) → p.head ≡ DualGuesses n → length p.rows < n → pair_in (row_words row) ≡ Some t
+pub with_dual : (o : List ℤ) (c : Counts) (before : List Piece) (p : Piece) (row : NumberedRow) (n : ℕ) (t : Term) → p.head ≡ DualGuesses n → length p.rows < n → pair_in (row_words row) ≡ Some t
     → draft_of o c (before ++ longer p row ∷ []) ≡ record (draft_of o c (before ++ p ∷ [])) { dual_guesses = (draft_of o c (before ++ p ∷ [])).dual_guesses ++ t ∷ [] }
 with_dual o c before p row n t e early is =
     let d = draft_of o c before in
     let q = one_more d.dual_guesses (piece_pairs p) (piece_pairs (longer p row)) t (early_pairs p row t (rw e early) is) in
     changed o c before p row (DualGuesses n) (λ x. record x { dual_guesses = x.dual_guesses ++ t ∷ [] }) e (λ i. record d { dual_guesses = q i })
 
-pub with_primal : (o : List ℤ) (c : Counts) (before : List Piece) (p : Piece) (row : Row) (n : ℕ) (t : Term) → p.head ≡ PrimalGuesses n → length p.rows < n → pair_in (row_words row) ≡ Some t
+pub with_primal : (o : List ℤ) (c : Counts) (before : List Piece) (p : Piece) (row : NumberedRow) (n : ℕ) (t : Term) → p.head ≡ PrimalGuesses n → length p.rows < n → pair_in (row_words row) ≡ Some t
     → draft_of o c (before ++ longer p row ∷ []) ≡ record (draft_of o c (before ++ p ∷ [])) { primal_guesses = (draft_of o c (before ++ p ∷ [])).primal_guesses ++ t ∷ [] }
 with_primal o c before p row n t e early is =
     let d = draft_of o c before in
@@ -70,17 +70,17 @@ with_primal o c before p row n t e early is =
     changed o c before p row (PrimalGuesses n) (λ x. record x { primal_guesses = x.primal_guesses ++ t ∷ [] }) e (λ i. record d { primal_guesses = q i })
 
 -- intervals
-more_intervals : (p : Piece) (row : Row) (i : Interval) → interval_in (row_words row) ≡ Some i → piece_intervals (longer p row) ≡ piece_intervals p ++ i ∷ []
+more_intervals : (p : Piece) (row : NumberedRow) (i : Interval) → interval_in (row_words row) ≡ Some i → piece_intervals (longer p row) ≡ piece_intervals p ++ i ∷ []
 more_intervals p row i is = filter_map-append (λ r. interval_in (row_words r)) p.rows (row ∷ []) ∙ ap (λ o. piece_intervals p ++ cons_option o []) is
 
-pub with_side : (o : List ℤ) (c : Counts) (before : List Piece) (p : Piece) (row : Row) (i : Interval) → p.head ≡ Sides → interval_in (row_words row) ≡ Some i
+pub with_side : (o : List ℤ) (c : Counts) (before : List Piece) (p : Piece) (row : NumberedRow) (i : Interval) → p.head ≡ Sides → interval_in (row_words row) ≡ Some i
     → draft_of o c (before ++ longer p row ∷ []) ≡ record (draft_of o c (before ++ p ∷ [])) { sides = (draft_of o c (before ++ p ∷ [])).sides ++ i ∷ [] }
 with_side o c before p row i e is =
     let d = draft_of o c before in
     let q = one_more d.sides (piece_intervals p) (piece_intervals (longer p row)) i (more_intervals p row i is) in
     changed o c before p row Sides (λ x. record x { sides = x.sides ++ i ∷ [] }) e (λ k. record d { sides = q k })
 
-pub with_bound : (o : List ℤ) (c : Counts) (before : List Piece) (p : Piece) (row : Row) (i : Interval) → p.head ≡ Bounds → interval_in (row_words row) ≡ Some i
+pub with_bound : (o : List ℤ) (c : Counts) (before : List Piece) (p : Piece) (row : NumberedRow) (i : Interval) → p.head ≡ Bounds → interval_in (row_words row) ≡ Some i
     → draft_of o c (before ++ longer p row ∷ []) ≡ record (draft_of o c (before ++ p ∷ [])) { bounds = (draft_of o c (before ++ p ∷ [])).bounds ++ i ∷ [] }
 with_bound o c before p row i e is =
     let d = draft_of o c before in
@@ -88,7 +88,7 @@ with_bound o c before p row i e is =
     changed o c before p row Bounds (λ x. record x { bounds = x.bounds ++ i ∷ [] }) e (λ k. record d { bounds = q k })
 
 -- a line of k says nothing
-pub with_column : (o : List ℤ) (c : Counts) (before : List Piece) (p : Piece) (row : Row) (n : ℕ) → p.head ≡ ColumnCounts n → draft_of o c (before ++ longer p row ∷ []) ≡ draft_of o c (before ++ p ∷ [])
+pub with_column : (o : List ℤ) (c : Counts) (before : List Piece) (p : Piece) (row : NumberedRow) (n : ℕ) → p.head ≡ ColumnCounts n → draft_of o c (before ++ longer p row ∷ []) ≡ draft_of o c (before ++ p ∷ [])
 with_column o c before p row n e = changed o c before p row (ColumnCounts n) (λ x. x) e refl
 
 -- ---- terms
@@ -110,7 +110,7 @@ more_terms rows i ys zs t lt e =
     ∙ sym (set_again rows i (get_or rows i [] ++ ys) ((get_or rows i [] ++ ys) ++ t ∷ []))
     ∙ ap (λ xs. slice_set (slice_set rows i (get_or rows i [] ++ ys)) i (xs ++ t ∷ [])) (sym (get_set rows i (get_or rows i [] ++ ys) [] lt))
 
-pub with_term : (o : List ℤ) (c : Counts) (before : List Piece) (p : Piece) (row : Row) (i n : ℕ) (t : Term) → p.head ≡ Terms i n → length p.rows < n → i < length (draft_of o c before).terms → pair_in (row_words row) ≡ Some t
+pub with_term : (o : List ℤ) (c : Counts) (before : List Piece) (p : Piece) (row : NumberedRow) (i n : ℕ) (t : Term) → p.head ≡ Terms i n → length p.rows < n → i < length (draft_of o c before).terms → pair_in (row_words row) ≡ Some t
     → draft_of o c (before ++ longer p row ∷ [])
     ≡ record (draft_of o c (before ++ p ∷ [])) { terms = slice_set (draft_of o c (before ++ p ∷ [])).terms i (get_or (draft_of o c (before ++ p ∷ [])).terms i [] ++ t ∷ []) }
 with_term o c before p row i n t e early within is =
@@ -118,7 +118,7 @@ with_term o c before p row i n t e early within is =
     let q = more_terms d.terms i (piece_pairs p) (piece_pairs (longer p row)) t within (early_pairs p row t (rw e early) is) in
     changed o c before p row (Terms i n) (λ x. record x { terms = slice_set x.terms i (get_or x.terms i [] ++ t ∷ []) }) e (λ k. record d { terms = q k })
 
-pub with_slope : (o : List ℤ) (c : Counts) (before : List Piece) (p : Piece) (row : Row) (i n : ℕ) (t : Term) → p.head ≡ Slopes i n → length p.rows < n → i < length (draft_of o c before).slopes → pair_in (row_words row) ≡ Some t
+pub with_slope : (o : List ℤ) (c : Counts) (before : List Piece) (p : Piece) (row : NumberedRow) (i n : ℕ) (t : Term) → p.head ≡ Slopes i n → length p.rows < n → i < length (draft_of o c before).slopes → pair_in (row_words row) ≡ Some t
     → draft_of o c (before ++ longer p row ∷ [])
     ≡ record (draft_of o c (before ++ p ∷ [])) { slopes = slice_set (draft_of o c (before ++ p ∷ [])).slopes i (get_or (draft_of o c (before ++ p ∷ [])).slopes i [] ++ t ∷ []) }
 with_slope o c before p row i n t e early within is =

@@ -10,7 +10,8 @@ use Rattle.nl_meaning.specs.Trees.{Tree, tree_size, trees_size, first_trees}
 use Rattle.nl_model.specs.declared.node.Node.{Node}
 use Rattle.nl_model.specs.declared.node.Node.TheVariants.{Num, Var, Defined, Op}
 use Rattle.nl_model.specs.Nodes.{tree_of, trees_of}
-use Rattle.nl_model.specs.File.{Term, Definition}
+use Rattle.nl_model.specs.File.{Term}
+use Rattle.nl_model.specs.declared.definition.Def.{Def as Definition}
 use Rattle.nl_lines.specs.Saying.{OwnerLines, no_lines, changed}
 
 -- ---- nodes

@@ -14,7 +14,7 @@ use Rattle.nl_lines.specs.declared.head.Head.{Head}
 use Rattle.exact_numbers.specs.Numbers.{dec_of, whole_of, is_whole}
 use Rattle.texts.specs.Words.{word_at}
 use Rattle.nl_lines.specs.Pieces.{Piece, pair_in, piece_pairs}
-use Rattle.nl_lines.specs.Tests.{Tests, has_index, holds_once, index_limit, is_below, is_full, pair_form_tests, pair_tests, wants_whole}
+use Rattle.nl_lines.specs.Tests.{Tests, has_index, holds_once, index_limit, is_some_below, is_full, pair_form_tests, pair_tests, wants_whole_values}
 use Rattle.nl_lines.specs.PairTests.{next_pair_tests, IsMarked}
 
 -- ---- reading a pair
@@ -31,7 +31,7 @@ index_of words t e = by (whole_of (word_at words 0)) (dec_of (word_at words 1)) 
 abbrev last_tests : Bool → Bool → Tests
 last_tests repeated full = (repeated, RepeatedIndex) ∷ (full, TooLarge) ∷ []
 
-module _ (c : Counts) (head : Head) (marks : List Bool) (full : Bool) (words : List (List ℕ)) (limit : ℕ) (whole : Bool) (limit_is : limit ≡ index_limit c head) (whole_is : whole ≡ wants_whole head) where
+module _ (c : Counts) (head : Head) (marks : List Bool) (full : Bool) (words : List (List ℕ)) (limit : ℕ) (whole : Bool) (limit_is : limit ≡ index_limit c head) (whole_is : whole ≡ wants_whole_values head) where
   abbrev form : Tests
   form = pair_form_tests limit whole words
 
@@ -64,7 +64,7 @@ pub record IsIndex (limit : ℕ) (o : Option ℕ) : Type 0 where
   pub is : o ≡ Some index
   pub below : index < limit
 
-pub below_limit : (limit : ℕ) (o : Option ℕ) → not (is_below limit o) ≡ false → IsIndex limit o
+pub below_limit : (limit : ℕ) (o : Option ℕ) → not (is_some_below limit o) ≡ false → IsIndex limit o
 below_limit limit None e = absurd cc
 below_limit limit (Some i) e = by (nat_lt i limit) refl
   where
@@ -99,11 +99,11 @@ pub same_pair_tests : (c : Counts) (pieces : List Piece) (p : Piece) (words : Li
     → first_reason (pair_tests c pieces p words) ≡ first_reason (next_pair_tests c p.head marks full words)
 unfolding pair_tests
 same_pair_tests c pieces p words marks full h full_is =
-    let form = pair_form_tests (index_limit c p.head) (wants_whole p.head) words in
+    let form = pair_form_tests (index_limit c p.head) (wants_whole_values p.head) words in
     let at : ℕ = unwrap_or (whole_of (word_at words 0)) 0 in
     same_reasons form form (last_tests (holds_once p.head && has_index (piece_pairs p) at) (is_full pieces p.head)) (last_tests (holds_once p.head && get_or marks at false) full) refl
     (λ e.
-    let i = pair_found (index_limit c p.head) (wants_whole p.head) words e in
+    let i = pair_found (index_limit c p.head) (wants_whole_values p.head) words e in
     let at_is : at ≡ i.term.0 = ap (λ o. unwrap_or o 0) (index_of words i.term i.says) in
     let same : (holds_once p.head && has_index (piece_pairs p) at) ≡ (holds_once p.head && get_or marks at false) =
     ap (λ k. holds_once p.head && has_index (piece_pairs p) k) at_is ∙ same_mark c marks p i.term.0 h i.below ∙ ap (λ k. holds_once p.head && get_or marks k false) (sym at_is) in

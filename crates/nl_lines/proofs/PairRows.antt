@@ -105,17 +105,19 @@ front_one text line more len parts is one =
       count = refl;
     }
 
-pub first_row : (text rest word : List ℕ) (n m i : ℕ) (d : Dec) → n < length text → get_or text n 0 ≡ 32 → rest ≡ drop (n + 1) text → m < length rest → get_or rest m 0 ≡ 10 → word ≡ take m rest → n ≤ 40 → m ≤ 40
-    → 0 < n → whole_of (take n text) ≡ Some i → IsUnmarked (take n text) → dec_of word ≡ Some d → 0 < length word → IsUnmarked word
+pub first_row : (text rest : List ℕ) (n m i : ℕ) (d : Dec) → n < length text → get_or text n 0 ≡ 32 → rest ≡ drop (n + 1) text → m < length rest → get_or rest m 0 ≡ 10 → n ≤ 40 → m ≤ 40
+    → 0 < n → whole_of (take n text) ≡ Some i → IsUnmarked (take n text) → dec_of (take m rest) ≡ Some d → 0 < m → IsUnmarked (take m rest)
     → IsFirstPair text (record { index = i; value = d; len = (n + m) + 2 })
-first_row text rest word n m i d within space behind ends lf cut few few_more some whole index dec word_some word_unmarked =
+first_row text rest n m i d within space behind ends lf few few_more some whole index dec more_some word_unmarked =
+    let word = take m rest in
     let front = take n text in
     let line = front ++ 32 ∷ word in
     let more = drop (m + 1) rest in
     let size : length front ≡ n = omega (arith, within, length-take n text) in
-    let word_size : length word ≡ m = omega (arith, ends, ap length cut, length-take m rest) in
+    let word_size : length word ≡ m = omega (arith, ends, length-take m rest) in
+    let word_some : 0 < length word = omega (arith, word_size, more_some) in
     let line_size : length line ≡ (n + m) + 1 = omega (arith, size, word_size, length-append front (32 ∷ word)) in
-    let last : rest ≡ word ++ 10 ∷ more = sym (take-append-drop m rest) ∙ ap₂ (λ (a b : List ℕ). a ++ b) (sym cut) (drop_more rest m 0 ends ∙ ap (λ b. b ∷ more) lf) in
+    let last : rest ≡ word ++ 10 ∷ more = sym (take-append-drop m rest) ∙ ap (λ xs. word ++ xs) (drop_more rest m 0 ends ∙ ap (λ b. b ∷ more) lf) in
     let first : text ≡ front ++ 32 ∷ rest = sym (take-append-drop n text) ∙ ap (λ bs. front ++ bs) (drop_more text n 0 within ∙ ap₂ (λ b bs. b ∷ bs) space (sym behind)) in
     let parts : text ≡ (line ++ 10 ∷ []) ++ more =
     first ∙ ap (λ bs. front ++ 32 ∷ bs) last ∙ sym (append_assoc front (32 ∷ word) (10 ∷ more)) ∙ sym (append_assoc line (10 ∷ []) more) in

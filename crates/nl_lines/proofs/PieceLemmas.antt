@@ -5,9 +5,9 @@ use Rattle.std.specs.Prelude.{ℤ, unwrap_or}
 use Rattle.std.proofs.lemmas.List.Sums.{fold-append}
 use Rattle.nl_model.specs.declared.header_counts.Counts.{Counts}
 use Rattle.nl_model.specs.Draft.{empty_draft}
-use Rattle.nl_lines.specs.Rows.{Row}
+use Rattle.nl_lines.specs.Rows.{NumberedRow}
 use Rattle.nl_lines.specs.Pieces.{Piece, extended, last_piece}
-use Rattle.nl_lines.specs.Saying.{with_piece, draft_of, lines_by, place_lines, empty_lines}
+use Rattle.nl_lines.specs.Saying.{with_piece, draft_of, more_lines, place_lines, empty_lines}
 
 -- the pieces before the last one
 pub record Split (pieces : List Piece) (p : Piece) : Type 0 where
@@ -30,20 +30,20 @@ last-append (q ∷ []) p = refl
 last-append (q ∷ r ∷ before) p = last-append (r ∷ before) p
 
 -- with a row more
-abbrev pub longer : Piece → Row → Piece
+abbrev pub longer : Piece → NumberedRow → Piece
 longer p row = record p { rows = p.rows ++ row ∷ [] }
 
-pub extended-append : (before : List Piece) (p : Piece) (row : Row) → extended (before ++ p ∷ []) row ≡ before ++ longer p row ∷ []
+pub extended-append : (before : List Piece) (p : Piece) (row : NumberedRow) → extended (before ++ p ∷ []) row ≡ before ++ longer p row ∷ []
 unfolding extended
 extended-append [] p row = refl
 extended-append (q ∷ []) p row = refl
 extended-append (q ∷ r ∷ before) p row = ap (λ ps. q ∷ ps) (extended-append (r ∷ before) p row)
 
 -- of no rows none are taken, and none are left
-pub take_none : (n : ℕ) → take {A = Row} n [] ≡ []
+pub take_none : (n : ℕ) → take {A = NumberedRow} n [] ≡ []
 take_none n = take_all n [] (omega arith)
 
-pub drop_none : (n : ℕ) → drop {A = Row} n [] ≡ []
+pub drop_none : (n : ℕ) → drop {A = NumberedRow} n [] ≡ []
 drop_none n = drop_all n [] (omega arith)
 
 pub some_are : (n : ℕ) → (suc n == 0) ≡ false
@@ -55,6 +55,6 @@ pub draft-append : (options : List ℤ) (c : Counts) (before : List Piece) (p : 
 unfolding draft_of
 draft-append options c before p = fold-append with_piece (empty_draft options c) before (p ∷ [])
 
-pub lines-append : (c : Counts) (before : List Piece) (p : Piece) → place_lines c (before ++ p ∷ []) ≡ lines_by c (place_lines c before) p p.head
+pub lines-append : (c : Counts) (before : List Piece) (p : Piece) → place_lines c (before ++ p ∷ []) ≡ more_lines c (place_lines c before) p p.head
 unfolding place_lines
-lines-append c before p = fold-append (λ l p. lines_by c l p p.head) (empty_lines c) before (p ∷ [])
+lines-append c before p = fold-append (λ l p. more_lines c l p p.head) (empty_lines c) before (p ∷ [])

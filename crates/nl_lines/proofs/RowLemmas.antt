@@ -7,13 +7,13 @@ use Rattle.nl_model.specs.declared.header_counts.Counts.{Counts}
 use Rattle.nl_model.specs.File.{Term}
 use Rattle.nl_lines.specs.declared.head.Head.{Head}
 use Rattle.nl_lines.specs.declared.head.Head.TheVariants.{Body, Objective, Definition, DualGuesses, Sides, Bounds, ColumnCounts}
-use Rattle.nl_lines.specs.Rows.{Row, row_words}
+use Rattle.nl_lines.specs.Rows.{NumberedRow, row_words}
 use Rattle.nl_lines.specs.Nodes.{Placed, Pending, pending_in, placed_in, with_operands, nodes_from, pending_from}
 use Rattle.nl_lines.specs.Pieces.{Piece, pair_count, line_count, has_tree, tree_rows, piece_pairs, pair_in}
 use Rattle.nl_lines.proofs.PieceLemmas.{longer}
 
 -- lines before an expression: the expression has not begun
-pub early_tree : (c : Counts) (p : Piece) (row : Row) → length p.rows < line_count c p.head → tree_rows (longer p row) ≡ tree_rows p
+pub early_tree : (c : Counts) (p : Piece) (row : NumberedRow) → length p.rows < line_count c p.head → tree_rows (longer p row) ≡ tree_rows p
 early_tree c p row early = by p.head refl
   where
     by : (h : Head) → p.head ≡ h → tree_rows (longer p row) ≡ tree_rows p
@@ -26,11 +26,11 @@ early_tree c p row early = by p.head refl
     by head e = rw e refl
 
 -- a row of the expression
-pub late_tree : (p : Piece) (row : Row) → has_tree p.head ≡ true → pair_count p.head ≤ length p.rows → tree_rows (longer p row) ≡ tree_rows p ++ row ∷ []
+pub late_tree : (p : Piece) (row : NumberedRow) → has_tree p.head ≡ true → pair_count p.head ≤ length p.rows → tree_rows (longer p row) ≡ tree_rows p ++ row ∷ []
 late_tree p row tree late = rw tree (drop-append-le (pair_count p.head) p.rows (row ∷ []) late)
 
 -- a pair
-pub early_pairs : (p : Piece) (row : Row) (t : Term) → length p.rows < pair_count p.head → pair_in (row_words row) ≡ Some t → piece_pairs (longer p row) ≡ piece_pairs p ++ t ∷ []
+pub early_pairs : (p : Piece) (row : NumberedRow) (t : Term) → length p.rows < pair_count p.head → pair_in (row_words row) ≡ Some t → piece_pairs (longer p row) ≡ piece_pairs p ++ t ∷ []
 early_pairs p row t early e =
     let whole : take (pair_count p.head) p.rows ≡ p.rows = take_all (pair_count p.head) p.rows (omega arith) in
     let more : take (pair_count p.head) (p.rows ++ row ∷ []) ≡ p.rows ++ row ∷ [] = take_all (pair_count p.head) (p.rows ++ row ∷ []) (omega (arith, length-append p.rows (row ∷ []))) in
@@ -39,17 +39,17 @@ early_pairs p row t early e =
     ∙ ap₂ (λ rs o. filter_map (λ r. pair_in (row_words r)) rs ++ cons_option o []) (sym whole) e
 
 -- no pair
-pub late_pairs : (p : Piece) (row : Row) → pair_count p.head ≤ length p.rows → piece_pairs (longer p row) ≡ piece_pairs p
+pub late_pairs : (p : Piece) (row : NumberedRow) → pair_count p.head ≤ length p.rows → piece_pairs (longer p row) ≡ piece_pairs p
 late_pairs p row late = ap (filter_map (λ r. pair_in (row_words r))) (take-append-le (pair_count p.head) p.rows (row ∷ []) late)
 
 -- ---- nodes of rows
 
 -- the nodes of a row after which nothing more is known, where an opcode may be pending
-abbrev pub last_nodes : ℕ → Option Pending → Row → List Placed
+abbrev pub last_nodes : ℕ → Option Pending → NumberedRow → List Placed
 last_nodes n None row = cons_option (placed_in n row) []
 last_nodes n (Some p) row = with_operands p row ∷ []
 
-abbrev pub last_pending : Option Pending → Row → Option Pending
+abbrev pub last_pending : Option Pending → NumberedRow → Option Pending
 last_pending None row = pending_in row
 last_pending (Some p) row = None
 
@@ -57,14 +57,14 @@ cons_option-append : {A : Type 0} (o : Option A) (xs ys : List A) → cons_optio
 cons_option-append None xs ys = refl
 cons_option-append (Some x) xs ys = refl
 
-pub nodes-more : (n : ℕ) (pending : Option Pending) (rows : List Row) (row : Row) → nodes_from n pending (rows ++ row ∷ []) ≡ nodes_from n pending rows ++ last_nodes n (pending_from pending rows) row
+pub nodes-more : (n : ℕ) (pending : Option Pending) (rows : List NumberedRow) (row : NumberedRow) → nodes_from n pending (rows ++ row ∷ []) ≡ nodes_from n pending rows ++ last_nodes n (pending_from pending rows) row
 unfolding nodes_from pending_from
 nodes-more n None [] row = refl
 nodes-more n (Some p) [] row = refl
 nodes-more n None (r ∷ rows) row = ap (cons_option (placed_in n r)) (nodes-more n (pending_in r) rows row) ∙ cons_option-append (placed_in n r) _ _
 nodes-more n (Some p) (r ∷ rows) row = ap (λ ps. with_operands p r ∷ ps) (nodes-more n None rows row)
 
-pub pending-more : (pending : Option Pending) (rows : List Row) (row : Row) → pending_from pending (rows ++ row ∷ []) ≡ last_pending (pending_from pending rows) row
+pub pending-more : (pending : Option Pending) (rows : List NumberedRow) (row : NumberedRow) → pending_from pending (rows ++ row ∷ []) ≡ last_pending (pending_from pending rows) row
 unfolding pending_from
 pending-more None [] row = refl
 pending-more (Some p) [] row = refl

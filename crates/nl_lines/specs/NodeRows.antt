@@ -4,7 +4,7 @@ use Rattle.code_tables.specs.Opcodes.{operands_of}
 use Rattle.code_tables.specs.declared.class.Operands.TheVariants.{Counted as OnNextLine}
 use Rattle.nl_model.specs.declared.node.Node.{Node}
 use Rattle.nl_model.specs.declared.node.Node.TheVariants.{Num, Var, Defined, Op}
-use Rattle.nl_model.specs.File.{Definition}
+use Rattle.nl_model.specs.declared.definition.Def.{Def as Definition}
 use Rattle.nl_model.specs.Nodes.{IsNode}
 use Rattle.nl_model.specs.Rules.{is_defined}
 use Rattle.nl_lines.specs.declared.node_row.NodeRow.{NodeRow}

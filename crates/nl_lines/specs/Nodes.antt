@@ -10,7 +10,7 @@ pub use Rattle.nl_lines.specs.declared.pending.Pending.{Pending}
 use Rattle.fractions.specs.Rational.{whole}
 use Rattle.exact_numbers.specs.declared.dec.Dec.{Dec}
 use Rattle.exact_numbers.specs.Numbers.{whole_of, signed_of, dec_from, dec_of}
-use Rattle.nl_lines.specs.Rows.{Row, row_words}
+use Rattle.nl_lines.specs.Rows.{NumberedRow, row_words}
 use Rattle.texts.specs.Words.{word_at}
 use Rattle.nl_lines.specs.Heads.{letter_of, own_number}
 
@@ -61,16 +61,16 @@ opcode_in words =
     else None
 
 -- an opcode awaits its number of operands
-abbrev pub pending_in : Row → Option Pending
+abbrev pub pending_in : NumberedRow → Option Pending
 pending_in row =
     option_map (λ o. record { opcode = o; line = row.line }) (opcode_in (row_words row))
 
-abbrev pub placed_in : ℕ → Row → Option Placed
+abbrev pub placed_in : ℕ → NumberedRow → Option Placed
 placed_in n row =
     option_map (λ node. record { node = node; line = row.line }) (node_in n (row_words row))
 
 -- a pending opcode with the number of operands that a row says stands at the opcode's line
-abbrev pub with_operands : Pending → Row → Placed
+abbrev pub with_operands : Pending → NumberedRow → Placed
 with_operands p row =
     record {
       node = Op p.opcode
@@ -79,23 +79,23 @@ with_operands p row =
     }
 
 -- the nodes of rows, before which an opcode may be pending
-unfoldable pub nodes_from : ℕ → Option Pending → List Row → List Placed
+unfoldable pub nodes_from : ℕ → Option Pending → List NumberedRow → List Placed
 nodes_from n pending [] = []
 nodes_from n None (row ∷ rows) = cons_option (placed_in n row) (nodes_from n (pending_in row) rows)
 nodes_from n (Some p) (row ∷ rows) = with_operands p row ∷ nodes_from n None rows
 
 -- the opcode that is pending after rows
-unfoldable pub pending_from : Option Pending → List Row → Option Pending
+unfoldable pub pending_from : Option Pending → List NumberedRow → Option Pending
 pending_from pending [] = pending
 pending_from None (row ∷ rows) = pending_from (pending_in row) rows
 pending_from (Some p) (row ∷ rows) = pending_from None rows
 
 -- the rows of one expression: their nodes, and whether an opcode awaits its number of operands
 -- after them
-abbrev pub nodes_of : ℕ → List Row → List Placed
+abbrev pub nodes_of : ℕ → List NumberedRow → List Placed
 nodes_of n rows = nodes_from n None rows
 
-abbrev pub pending_of : List Row → Option Pending
+abbrev pub pending_of : List NumberedRow → Option Pending
 pending_of rows = pending_from None rows
 
 abbrev pub only_nodes : List Placed → List Node

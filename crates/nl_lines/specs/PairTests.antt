@@ -9,7 +9,7 @@ use Rattle.nl_lines.specs.declared.head.Head.{Head}
 use Rattle.exact_numbers.specs.Numbers.{whole_of, is_whole}
 use Rattle.texts.specs.Words.{word_at}
 use Rattle.nl_lines.specs.Pieces.{Piece, pair_in, piece_pairs}
-use Rattle.nl_lines.specs.Tests.{Tests, has_index, holds_once, index_limit, is_linear, is_suffix, pair_form_tests, wants_whole}
+use Rattle.nl_lines.specs.Tests.{Tests, has_index, holds_once, index_limit, is_linear, is_suffix, pair_form_tests, wants_whole_values}
 
 -- the indices of a piece are marked, where they come once
 abbrev pub IsMarked : Counts → List Bool → Piece → Type 0
@@ -24,7 +24,7 @@ is_full_at head linear values =
 -- the tests of a pair by the marks of the indices that came
 abbrev pub next_pair_tests : Counts → Head → List Bool → Bool → List (List ℕ) → Tests
 next_pair_tests c head marks full words =
-    pair_form_tests (index_limit c head) (wants_whole head) words
+    pair_form_tests (index_limit c head) (wants_whole_values head) words
     ++ (
       holds_once head
           && get_or marks (unwrap_or (whole_of (word_at words 0)) 0) false,
@@ -52,6 +52,6 @@ pub record IsPairRow (words : List (List ℕ)) (t : Term) : Type 0 where
 abbrev pub known_pair_tests : Counts → Head → List Bool → Bool → Term → Tests
 known_pair_tests c head marks full t =
     (not (nat_lt t.0 (index_limit c head)), IndexOut)
-    ∷ (wants_whole head && not (is_whole t.1), BadNumber)
+    ∷ (wants_whole_values head && not (is_whole t.1), BadNumber)
     ∷ (holds_once head && get_or marks t.0 false, RepeatedIndex)
     ∷ (full, TooLarge) ∷ []

@@ -13,7 +13,7 @@ use Rattle.nl_lines.specs.declared.awaited.Awaited.{Awaited}
 use Rattle.nl_lines.specs.declared.awaited.Awaited.TheVariants.{Nothing, Node as NodeLine, OperandCount}
 use Rattle.nl_lines.specs.declared.head.Head.{Head}
 use Rattle.exact_numbers.specs.Numbers.{whole_of, dec_of}
-use Rattle.nl_lines.specs.Rows.{Row, row_words}
+use Rattle.nl_lines.specs.Rows.{NumberedRow, row_words}
 use Rattle.texts.specs.Words.{word_at}
 use Rattle.nl_lines.specs.Segment.{kind_in, lines_in, pairs_in, segment_of}
 use Rattle.nl_lines.specs.Heads.{is_head, head_of, name_in}
@@ -24,10 +24,10 @@ pub record Piece : Type 0 where
   pub head : Head
   pub name : List ℕ
   pub line : ℕ
-  pub rows : List Row
+  pub rows : List NumberedRow
 
 -- a head begins a piece; one of a wrong form, after which nothing is asked, begins none
-abbrev pub with_head : List Piece → Row → Option Head → List Piece
+abbrev pub with_head : List Piece → NumberedRow → Option Head → List Piece
 with_head pieces row None = pieces
 with_head pieces row (Some head) =
     pieces ++ record {
@@ -38,18 +38,18 @@ with_head pieces row (Some head) =
     } ∷ []
 
 -- with a row more in the last piece
-unfoldable pub extended : List Piece → Row → List Piece
+unfoldable pub extended : List Piece → NumberedRow → List Piece
 extended [] row = []
 extended (p ∷ []) row = record p { rows = p.rows ++ row ∷ [] } ∷ []
 extended (p ∷ q ∷ pieces) row = p ∷ extended (q ∷ pieces) row
 
-abbrev pub with_row : Counts → List Piece → Row → List Piece
+abbrev pub with_row : Counts → List Piece → NumberedRow → List Piece
 with_row c pieces row =
     if is_head (row_words row)
     then with_head pieces row (head_of c (row_words row))
     else extended pieces row
 
-unfoldable pub pieces_of : Counts → List Row → List Piece
+unfoldable pub pieces_of : Counts → List NumberedRow → List Piece
 pieces_of c rows = fold (with_row c) [] rows
 
 -- the piece that was begun last
@@ -81,7 +81,7 @@ abbrev pub has_tree : Head → Bool
 has_tree head = (segment_of head).has_tree
 
 -- the rows of the expression of a piece, its nodes, and the opcode that is pending after them
-abbrev pub tree_rows : Piece → List Row
+abbrev pub tree_rows : Piece → List NumberedRow
 tree_rows p = if has_tree p.head then drop (pair_count p.head) p.rows else []
 
 abbrev pub piece_nodes : Counts → Piece → List Placed

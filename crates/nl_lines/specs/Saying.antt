@@ -118,22 +118,24 @@ with_slope_lines p o = record o { terms = term_lines p }
 abbrev pub changed : (OwnerLines → OwnerLines) → List OwnerLines → ℕ → List OwnerLines
 changed change owners i = slice_set owners i (change (get_or owners i no_lines))
 
-abbrev pub lines_by : Counts → PlaceLines → Piece → Head → PlaceLines
-lines_by c l p (Body i) = record l { constraints = changed (with_tree_lines c p) l.constraints i }
-lines_by c l p (Objective k maximise) =
+abbrev pub more_lines : Counts → PlaceLines → Piece → Head → PlaceLines
+more_lines c l p (Body i) = record l { constraints = changed (with_tree_lines c p) l.constraints i }
+more_lines c l p (Objective k maximise) =
     record l { objectives = changed (with_tree_lines c p) l.objectives k }
-lines_by c l p (Definition i j usage) =
+more_lines c l p (Definition i j usage) =
     record l {
       definitions = l.definitions
           ++ record { head = Some p.line; nodes = node_lines c p; terms = term_lines p } ∷ [];
     }
-lines_by c l p (Terms i n) = record l { constraints = changed (with_term_lines p) l.constraints i }
-lines_by c l p (Slopes k n) = record l { objectives = changed (with_slope_lines p) l.objectives k }
-lines_by c l p head = l
+more_lines c l p (Terms i n) =
+    record l { constraints = changed (with_term_lines p) l.constraints i }
+more_lines c l p (Slopes k n) =
+    record l { objectives = changed (with_slope_lines p) l.objectives k }
+more_lines c l p head = l
 
 -- the lines that pieces have in a text
 unfoldable pub place_lines : Counts → List Piece → PlaceLines
-place_lines c pieces = fold (λ l p. lines_by c l p p.head) (empty_lines c) pieces
+place_lines c pieces = fold (λ l p. more_lines c l p p.head) (empty_lines c) pieces
 
 -- the lines of one owner
 abbrev pub owner_lines : PlaceLines → Owner → Option OwnerLines

@@ -16,7 +16,7 @@ use Rattle.linear_program.specs.declared.kind.Kind.TheVariants.{Continuous, Bina
 use Rattle.nl_model.specs.Draft.{Draft}
 use Rattle.nl_model.specs.File.{Term}
 use Rattle.nl_model.specs.HeaderRules.{defined_count}
-use Rattle.nl_model.specs.Kinds.{kind_of}
+use Rattle.nl_model.specs.Kinds.{variable_kind}
 use Rattle.nl_model.specs.Rules.{is_defined, most_terms, term_count}
 use Rattle.nl_model.specs.UseCounts.{terms_up_to}
 use Rattle.nl_lines.specs.declared.awaited.Awaited.{Awaited}
@@ -36,8 +36,8 @@ abbrev pub Tests : Type 0
 Tests = List (Bool × NlReason)
 
 -- the number is there and below a limit
-abbrev pub is_below : ℕ → Option ℕ → Bool
-is_below limit number = option_map_or (λ n. nat_lt n limit) number Bool.false
+abbrev pub is_some_below : ℕ → Option ℕ → Bool
+is_some_below limit number = option_map_or (λ n. nat_lt n limit) number Bool.false
 
 -- ---- How much there is in all pieces so far.
 
@@ -101,8 +101,8 @@ abbrev pub index_limit : Counts → Head → ℕ
 index_limit c head = limit_in c (segment_of head).indices
 
 -- each value of a suffix is whole unless the bit of value 4 is there
-abbrev pub wants_whole : Head → Bool
-wants_whole head = are_whole (segment_of head).indices
+abbrev pub wants_whole_values : Head → Bool
+wants_whole_values head = are_whole (segment_of head).indices
 
 -- an index comes once in a piece
 abbrev pub holds_once : Head → Bool
@@ -122,7 +122,7 @@ unfoldable pub pair_form_tests : ℕ → Bool → List (List ℕ) → Tests
 pair_form_tests limit whole_only words =
     let value = dec_of (word_at words 1) in
     (not (length words == 2 && are_digits (word_at words 0)), BadLine)
-    ∷ (not (is_below limit (whole_of (word_at words 0))), IndexOut)
+    ∷ (not (is_some_below limit (whole_of (word_at words 0))), IndexOut)
     ∷ (
       is_none value
           || (whole_only && not (option_map_or is_whole value Bool.true)),
@@ -131,7 +131,7 @@ pair_form_tests limit whole_only words =
 
 unfoldable pub pair_tests : Counts → List Piece → Piece → List (List ℕ) → Tests
 pair_tests c pieces p words =
-    pair_form_tests (index_limit c p.head) (wants_whole p.head) words
+    pair_form_tests (index_limit c p.head) (wants_whole_values p.head) words
     ++ (
       holds_once p.head
           && has_index (piece_pairs p) (unwrap_or (whole_of (word_at words 0)) 0),
@@ -187,7 +187,7 @@ is_sides head = are_sides (segment_of head).lines
 
 -- the interval of the next variable, which is binary
 abbrev pub wants_unit : Counts → Piece → Bool
-wants_unit c p = not (is_sides p.head) && is_binary (kind_of c (length p.rows))
+wants_unit c p = not (is_sides p.head) && is_binary (variable_kind c (length p.rows))
 
 -- the words say this interval, which is not empty
 pub record SaysInterval (words : List (List ℕ)) (i : Interval) : Type 0 where
@@ -224,7 +224,7 @@ number_tests value = (is_none value, BadNumber) ∷ []
 
 abbrev pub variable_tests : Counts → Draft → Option ℕ → Tests
 variable_tests c d index =
-    (not (is_below (c.n_var + defined_count c) index), IndexOut)
+    (not (is_some_below (c.n_var + defined_count c) index), IndexOut)
     ∷ (is_undefined c d (unwrap_or index 0), Undefined) ∷ []
 
 abbrev pub opcode_tests : Option ℕ → Tests
@@ -265,7 +265,7 @@ operand_tests words =
     let count = whole_of (word_at words 0) in
     (not (length words == 1 && are_digits (word_at words 0)), BadLine)
     ∷ (not (nat_lt 0 (unwrap_or count 1)), BadNumber)
-    ∷ (not (is_below (2 ^ 22 + 1) count), TooLarge) ∷ []
+    ∷ (not (is_some_below (2 ^ 22 + 1) count), TooLarge) ∷ []
 
 -- ---- Any row.
 
@@ -292,8 +292,8 @@ row_tests c d pieces words =
 -- ---- The end.
 
 -- an objective, or an interval of a constraint or a variable, was not given
-abbrev pub is_short : Draft → Bool
-is_short d = not (list_all is_some d.objectives) || nat_lt (length d.sides) d.counts.n_con
+abbrev pub lacks_part : Draft → Bool
+lacks_part d = not (list_all is_some d.objectives) || nat_lt (length d.sides) d.counts.n_con
     || nat_lt (length d.bounds) d.counts.n_var
 
 -- the numbers of the piece of columns, if it is there
@@ -312,6 +312,6 @@ are_column_counts rows j (n ∷ ns) = (n == terms_up_to rows j) && are_column_co
 unfoldable pub end_tests : Counts → Draft → List Piece → Tests
 end_tests c d pieces =
     (not (is_nothing (awaited_of c pieces)), ShortSegment)
-    ∷ (is_short d, Missing)
+    ∷ (lacks_part d, Missing)
     ∷ (not (term_count d.terms == c.nzc), NonzeroCount)
     ∷ (not (are_column_counts d.terms 0 (all_column_counts pieces)), BadColumnCount) ∷ []

@@ -4,7 +4,7 @@ ghost use Rattle.nl_lines.specs.Pieces.{has_tree, keeps_pairs, line_count, line_
 ghost use Rattle.nl_lines.specs.PairTests.{is_full_at};
 ghost use Rattle.nl_lines.specs.SeenSegments.{mark_of, letters, most_indices};
 ghost use Rattle.nl_lines.specs.Segment.{index_of};
-ghost use Rattle.nl_lines.specs.Tests.{holds_once, index_limit, is_linear, is_sides, is_suffix, wants_whole};
+ghost use Rattle.nl_lines.specs.Tests.{holds_once, index_limit, is_linear, is_sides, is_suffix, wants_whole_values};
 
 use crate::awaited::Awaited;
 use crate::head::Head;
@@ -31,7 +31,7 @@ pub fn index_limit(counts: &Counts, head: Head) -> u32
 
 /// Whether values must be whole.
 pub fn wants_whole(head: Head) -> bool
-    ensures { result ≡ wants_whole head }
+    ensures { result ≡ wants_whole_values head }
 {
     match segment_of(head).indices {
         Indices::Objects(kind) => nl_model::wants_whole(kind),

@@ -4,10 +4,7 @@ ghost use Rattle.texts.specs.Words.{row_of, without_comment};
 ghost use Rattle.nl_lines.specs.FirstPairs.{IsFirstPair};
 ghost use Rattle.nl_lines.specs.PairTests.{IsPairRow};
 
-use exact_numbers::{Dec, plain_dec, plain_index};
-
-// A word of the common form is no longer than this.
-const COMMON: usize = 40;
+use exact_numbers::{Dec, front_dec, plain_dec, plain_index};
 
 /// The pair of a line that is digits, a space and a number of the common form.
 pub fn pair_of_line(line: &[u8]) -> Option<(u32, Dec)>
@@ -33,20 +30,6 @@ pub struct FirstPair {
     pub len: usize,
 }
 
-// The place of an LF behind a word of the common form.
-fn end_of_word(text: &[u8]) -> Option<usize>
-    ensures { IfSome result
-        (λ n. (n < length text.now) × (get_or text.now n 0 ≡ 10) × (n ≤ 40)) }
-{
-    let most = text.len().min(COMMON + 1);
-    'bytes: for place in 0..most {
-        if text[place] == b'\n' {
-            return Some(place);
-        }
-    }
-    None
-}
-
 /// The pair of the line that a text begins with, where that is digits, a space and a number of the
 /// common form, and ends.
 pub fn first_pair(text: &[u8]) -> Option<FirstPair>
@@ -55,19 +38,19 @@ pub fn first_pair(text: &[u8]) -> Option<FirstPair>
     let Some(index) = plain_index(text) else {
         return None;
     };
-    if index.len > COMMON || index.len >= text.len() || text[index.len] != b' ' {
+    if index.len >= text.len() || text[index.len] != b' ' {
         return None;
     }
     let rest = text.split_at(index.len + 1).1;
-    let Some(end) = end_of_word(rest) else {
+    let Some(value) = front_dec(rest) else {
         return None;
     };
-    match plain_dec(rest.split_at(end).0) {
-        Some(value) => Some(FirstPair {
-            index: index.number,
-            value,
-            len: index.len + end + 2,
-        }),
-        None => None,
+    if value.len >= rest.len() || rest[value.len] != b'\n' {
+        return None;
     }
+    Some(FirstPair {
+        index: index.number,
+        value: value.value,
+        len: index.len + value.len + 2,
+    })
 }

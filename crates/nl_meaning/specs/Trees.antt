@@ -67,8 +67,8 @@ all_there (Some x ∷ vs) = option_and_then (λ xs. Some (x ∷ xs)) (all_there 
 abbrev pub power_by : ℚ → ℚ → Option ℚ
 power_by x y = option_and_then (λ n. Some (power_of x n)) (exponent_of y)
 
--- what an operator makes of its operands' values; a quotient by 0 and a power with another exponent
--- are missing
+-- what an operator makes of its operands' values; a quotient by 0, a power with another exponent,
+-- a wrong number of operands and a refused operator have none
 abbrev pub on_values : OpClass → List ℚ → Option ℚ
 on_values Sum (x ∷ y ∷ []) = Some (x +ℚ y)
 on_values Difference (x ∷ y ∷ []) = Some (x -ℚ y)
@@ -87,7 +87,8 @@ on_values _ _ = None
 abbrev pub operator_value : OpClass → List (Option ℚ) → Option ℚ
 operator_value c vs = option_and_then (on_values c) (all_there vs)
 
--- the values of the defined variables, by their index in the file
+-- the values of the defined variables, by their index in the file: indices go on from those of the
+-- variables
 abbrev pub Known : Type 0
 Known = ℕ → Option ℚ
 

@@ -4,7 +4,8 @@ use Rattle.std.proofs.Math.ListN.{length-set}
 use Rattle.std.proofs.lemmas.List.{length_push, get_or_default}
 use Rattle.std.proofs.lemmas.List.Elements.{All-push, All-set, All-get_or, All-head, All-tail, All-cons, All-nil}
 use Rattle.std.proofs.lemmas.List.Sums.{sum_by-set}
-use Rattle.nl_model.specs.File.{Term, Objective}
+use Rattle.nl_model.specs.File.{Term}
+use Rattle.nl_model.specs.declared.objective.Objective.{Objective}
 use Rattle.nl_model.specs.Rules.{AreTerms, AreTermsBelow, term_count, most_terms, IsTreeKnown, IsFile}
 use Rattle.linear_program.specs.Intervals.{IsOrdered}
 use Rattle.linear_program.specs.declared.interval.Interval.{Interval}

@@ -5,7 +5,8 @@ use Rattle.std.proofs.lemmas.List.Elements.{All-push}
 use Rattle.std.proofs.lemmas.List.Folds.{list_any_at}
 use Rattle.std.proofs.lemmas.List.Quantifiers.{all_pairs_push}
 use Rattle.nl_model.specs.declared.header_counts.Counts.{Counts}
-use Rattle.nl_model.specs.File.{Term, Suffix}
+use Rattle.nl_model.specs.File.{Term}
+use Rattle.nl_model.specs.declared.suffix.Suffix.{Suffix}
 use Rattle.nl_model.specs.Rules.{AreGuesses, AreSuffixes, IsSuffix, has_suffix, is_suffix_of}
 use Rattle.nl_model.specs.Draft.{Draft}
 use Rattle.nl_model.specs.InsideBuilt.{IsKept}

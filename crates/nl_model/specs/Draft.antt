@@ -3,7 +3,10 @@ use Rattle.std.specs.Prelude.{◌≡◌, ℕ, ℤ, ◌≤◌, IsTrue, List, [], 
 use Rattle.nl_meaning.specs.Trees.{Tree}
 use Rattle.nl_model.specs.declared.header_counts.Counts.{Counts}
 use Rattle.linear_program.specs.declared.interval.Interval.{Interval}
-use Rattle.nl_model.specs.File.{Term, Objective, Definition, Suffix, File}
+use Rattle.nl_model.specs.File.{Term, File}
+use Rattle.nl_model.specs.declared.objective.Objective.{Objective}
+use Rattle.nl_model.specs.declared.definition.Def.{Def as Definition}
+use Rattle.nl_model.specs.declared.suffix.Suffix.{Suffix}
 use Rattle.nl_model.specs.HeaderRules.{is_header, defined_count}
 use Rattle.nl_model.specs.Rules.{IsTreeKnown, AreDefinitions, AreBodies, AreTerms, AreGuesses, AreSuffixes}
 use Rattle.linear_program.specs.Intervals.{IsOrdered}

@@ -10,7 +10,10 @@ use Rattle.nl_model.specs.contracts.suffix.Suffix.{the_row as suffix_row}
 use Rattle.linear_program.specs.contracts.terms.Terms.{the_row as terms_row}
 use Rattle.nl_model.specs.declared.header_counts.Counts.{Counts}
 use Rattle.linear_program.specs.declared.interval.Interval.{Interval}
-use Rattle.nl_model.specs.File.{Term, Objective, Definition, Suffix, File}
+use Rattle.nl_model.specs.File.{Term, File}
+use Rattle.nl_model.specs.declared.objective.Objective.{Objective}
+use Rattle.nl_model.specs.declared.definition.Def.{Def as Definition}
+use Rattle.nl_model.specs.declared.suffix.Suffix.{Suffix}
 use Rattle.nl_model.specs.Draft.{Draft}
 use Rattle.nl_model.specs.InsideTreeCode.{tree_code}
 

@@ -13,8 +13,11 @@ pub record Group : Type 0 where
 abbrev pub group_of : ℕ → Kind → Group
 group_of n k = record { size = n; kind = k }
 
--- nonlinear in constraints and objectives, in constraints only, in objectives only; then linear,
--- binary, integer
+-- Nonlinear in constraints and objectives, in constraints only, in objectives only; then linear,
+-- binary, integer. `nlvc`, `nlvo`, `nlvb` count the variables that are nonlinear in constraints, in
+-- objectives, in both, and with a last `i` the whole ones among them, `nlvci` and `nlvoi` those in
+-- constraints alone and in objectives alone; `nbv` and `niv` are linear. `nlvo - nlvc` stops at 0
+-- where no variable is nonlinear in objectives alone: that group is empty.
 abbrev pub groups : Counts → List Group
 groups c =
     group_of (c.nlvb - c.nlvbi) Continuous
@@ -33,5 +36,5 @@ abbrev pub kind_among : List Group → ℕ → Kind
 kind_among [] j = Continuous
 kind_among (g ∷ gs) j = (if nat_lt j g.size then g.kind else kind_among gs (j - g.size))
 
-unfoldable pub kind_of : Counts → ℕ → Kind
-kind_of c j = kind_among (groups c) j
+unfoldable pub variable_kind : Counts → ℕ → Kind
+variable_kind c j = kind_among (groups c) j

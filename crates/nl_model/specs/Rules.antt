@@ -5,7 +5,10 @@ use Rattle.std.specs.List.{list_any}
 use Rattle.std.specs.Str.{bytes_eq}
 use Rattle.nl_meaning.specs.Trees.{Tree, number, variable, defined, operator, Trees, none, more}
 use Rattle.nl_model.specs.declared.header_counts.Counts.{Counts}
-use Rattle.nl_model.specs.File.{Term, Objective, Definition, Suffix, File}
+use Rattle.nl_model.specs.File.{Term, File}
+use Rattle.nl_model.specs.declared.objective.Objective.{Objective}
+use Rattle.nl_model.specs.declared.definition.Def.{Def as Definition}
+use Rattle.nl_model.specs.declared.suffix.Suffix.{Suffix}
 use Rattle.nl_model.specs.HeaderRules.{is_header, defined_count}
 use Rattle.nl_model.specs.Nodes.{IsTreeFormed}
 use Rattle.nl_model.specs.SuffixKinds.{has_same_objects, object_limit}

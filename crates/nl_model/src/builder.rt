@@ -205,6 +205,7 @@ impl NlBuilder {
     }
 
     /// Adds a term to a constraint.
+    #[inline(always)]
     pub fn term(&mut self, con: u32, var: u32, value: Dec) -> Result<(), AllocError>
         requires con { con < self.old.counts.n_con }
         requires var { var < self.old.counts.n_var }
@@ -223,6 +224,7 @@ impl NlBuilder {
     }
 
     /// Adds a term to objective k.
+    #[inline]
     pub fn slope(&mut self, k: u32, var: u32, value: Dec) -> Result<(), AllocError>
         requires k { k < self.old.counts.n_obj }
         requires var { var < self.old.counts.n_var }

@@ -1,14 +1,16 @@
 // Expressions: nodes in prefix form, seen as a tree.
 ghost use Rattle.std.specs.Prelude.{◌≡◌};
+ghost use Rattle.linear_program.specs.Fews.{few_items};
 ghost use Rattle.nl_model.specs.Nodes.{tree_of, AreNodesOf};
 
 use crate::node::Node;
+use linear_program::Few;
 use std::marker::Model;
 
 /// An expression tree.
 #[derive(Drop)]
 pub struct Expr {
-    nodes: Vec<Node>,
+    nodes: Few<Node>,
 }
 
 impl Model for Expr {
@@ -19,18 +21,19 @@ impl Model for Expr {
 
     ghost coded = { tree_code };
 
+    ghost use Rattle.linear_program.specs.Fews.{few_items};
     ghost use Rattle.nl_model.specs.Nodes.{tree_of, AreNodesOf};
 
-    ghost view = { λ x. tree_of x.nodes.items };
+    ghost view = { λ x. tree_of (few_items x.nodes) };
 
-    ghost invariant = { λ x. AreNodesOf (tree_of x.nodes.items) x.nodes.items };
+    ghost invariant = { λ x. AreNodesOf (tree_of (few_items x.nodes)) (few_items x.nodes) };
 }
 
 impl Expr {
     // The expression of the nodes of one tree.
-    pub(crate) fn of_nodes(nodes: Vec<Node>) -> Expr
-        requires { AreNodesOf (tree_of nodes.items) nodes.items }
-        ensures { result ≡ tree_of nodes.items }
+    pub(crate) fn of_nodes(nodes: Few<Node>) -> Expr
+        requires { AreNodesOf (tree_of (few_items nodes)) (few_items nodes) }
+        ensures { result ≡ tree_of (few_items nodes) }
     {
         Expr { nodes }
     }
@@ -39,6 +42,6 @@ impl Expr {
     pub fn nodes(&self) -> &[Node]
         ensures { AreNodesOf self.now result.now }
     {
-        &self.nodes
+        self.nodes.items()
     }
 }

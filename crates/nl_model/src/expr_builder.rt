@@ -4,13 +4,14 @@ ghost use Rattle.nl_model.specs.Nodes.{awaited, operand_count, tree_of, IsNode, 
 
 use crate::expr::Expr;
 use crate::node::Node;
+use linear_program::Few;
 use std::alloc::{AllocError, Global};
 use std::marker::Model;
 
 /// The nodes of an expression so far, in prefix form.
 #[derive(Drop)]
 pub struct ExprBuilder {
-    nodes: Vec<Node>,
+    nodes: Few<Node>,
     wants: u64,
 }
 
@@ -20,11 +21,12 @@ impl Model for ExprBuilder {
 
     ghost Value = { List NodeValue };
 
+    ghost use Rattle.linear_program.specs.Fews.{few_items};
     ghost use Rattle.nl_model.specs.Nodes.{AreNodesBegun};
 
-    ghost view = { λ b. b.nodes.items };
+    ghost view = { λ b. few_items b.nodes };
 
-    ghost invariant = { λ b. AreNodesBegun b.nodes.items b.wants };
+    ghost invariant = { λ b. AreNodesBegun (few_items b.nodes) b.wants };
 }
 
 // How many operands follow a node.
@@ -37,23 +39,13 @@ fn operand_count(node: Node) -> u32
     }
 }
 
-// Makes room for a node alone, where it is the whole expression: most constraints have one number.
-fn make_room(nodes: &mut Vec<Node>, node: Node) -> Result<(), AllocError>
-    ensures { nodes.new.items ≡ nodes.old.items }
-{
-    if nodes.is_empty() && operand_count(node) == 0 {
-        return nodes.reserve_exact(1);
-    }
-    Ok(())
-}
-
 impl ExprBuilder {
     /// No nodes.
     pub fn new(alloc: Global) -> ExprBuilder
         ensures { result ≡ [] }
     {
         ExprBuilder {
-            nodes: Vec::new(alloc),
+            nodes: Few::new(alloc),
             wants: 1,
         }
     }
@@ -74,9 +66,7 @@ impl ExprBuilder {
         ensures ok { OnOk result (self.new ≡ self.old ++ node ∷ []) }
         ensures err { OnErr result (self.new ≡ self.old) }
     {
-        let kept = node;
         let pushed = node;
-        make_room(&mut self.nodes, kept)?;
         self.nodes.push(pushed)?;
         self.wants = self.wants - 1 + operand_count(node) as u64;
         Ok(())

@@ -135,6 +135,14 @@ impl NlFile {
         self.bounds[var as usize]
     }
 
+    /// The intervals of all constraints and of all variables; the rest is let go.
+    pub fn into_intervals(self) -> (Vec<Interval>, Vec<Interval>)
+        ensures sides { result.0.items ≡ self.sides }
+        ensures bounds { result.1.items ≡ self.bounds }
+    {
+        (self.sides, self.bounds)
+    }
+
     /// The guesses of dual values of constraints in file order.
     pub fn dual_guesses(&self) -> &Terms
         ensures { result.now ≡ self.now.dual_guesses }

@@ -1,9 +1,6 @@
-pub mod Words
 pub mod Heads
 pub mod Rows
 pub mod Texts
-pub mod Said
-pub mod Trees
 pub mod Parts
 pub mod Room
 pub mod TextRoom

@@ -1,18 +1,16 @@
 -- The laws of .nl files that were read.
-use Rattle.std.proofs.Common.{◌≡◌, ◌∙◌, ℕ, ◌+◌, ◌≤◌, ◌^◌, true, ℤ, List, [], ◌∷◌, length, refl, sym, subst, arith, Option, Some, None, All}
-use Rattle.std.specs.Prelude.{IfSome, IsSome, IsTrue, sum_by}
-use Rattle.std.specs.List.{list_all}
+use Rattle.std.proofs.Common.{◌≡◌, ◌∙◌, ℕ, ◌+◌, ◌≤◌, ◌^◌, ℤ, List, [], ◌∷◌, length, refl, sym, subst, arith, Option, Some, None, All}
+use Rattle.std.specs.Prelude.{IfSome, IsSome, sum_by}
 use Rattle.std.specs.Option.{option_map_or}
 use Rattle.std.proofs.lemmas.List.Elements.{All-cons, All-head, All-nil, All-tail}
 use Rattle.std.proofs.lemmas.List.Sums.{get_or-le-sum_by, sum_by-cons}
 use Rattle.texts.specs.Reading.{lines_of}
-use Rattle.exact_numbers.specs.Numbers.{has_31_bits}
 use Rattle.nl_header.specs.Head.{options_in}
 use Rattle.nl_meaning.specs.Trees.{tree_size}
 use Rattle.nl_model.specs.declared.header_counts.Counts.{Counts}
 use Rattle.nl_model.specs.Draft.{Draft, file_of, those_given}
-use Rattle.nl_model.specs.File.{Objective, Term}
-use Rattle.nl_model.specs.HeaderRules.{is_header}
+use Rattle.nl_model.specs.File.{Term}
+use Rattle.nl_model.specs.declared.objective.Objective.{Objective}
 use Rattle.nl_model.specs.Rules.{IsFile, IsTreeKnown, term_count}
 use Rattle.nl_segments.specs.Grammar.{NlValue, counts_of, standing}
 use Rattle.nl_lines.specs.Pieces.{Piece}
@@ -22,12 +20,10 @@ use Rattle.nl_lines.proofs.DraftLemmas.{draft_counts}
 use Rattle.nl_writer.specs.Written.{nl_text}
 use Rattle.nl_round_trip.specs.Writable.{HasNodes, IsText, IsWritable}
 use Rattle.nl_round_trip.proofs.WholeLaw.{written_is_read}
-use Rattle.nl_rewritten.proofs.Parts.{AreGuessesKept, AreIntervalsKept, AreSuffixesKept, AreTermsKept, guesses_kept, intervals_kept, options_stay, suffixes_kept, terms_kept}
+use Rattle.nl_rewritten.proofs.Parts.{AreGuessesKept, AreIntervalsKept, AreSuffixesKept, AreTermsKept, guesses_kept, intervals_kept, options_stay, suffixes_kept, terms_kept, AreTreesKept, objective_size, trees_kept}
 use Rattle.nl_rewritten.proofs.Room.{IsModest, lines_short}
-use Rattle.nl_rewritten.proofs.Rows.{AreFew}
 use Rattle.nl_rewritten.proofs.TextRoom.{HasFew, text_fits}
 use Rattle.nl_rewritten.proofs.Texts.{IsWhole, whole_text}
-use Rattle.nl_rewritten.proofs.Trees.{AreTreesKept, objective_size, trees_kept}
 
 -- ---- objectives that were those_given
 
@@ -49,57 +45,51 @@ given_sizes (Some o ∷ os) = let more = given_sizes os in omega (arith, more, s
 -- ---- all that is known of what was said
 
 record IsAllKept (o : List ℤ) (c : Counts) (pieces : List Piece) (d : Draft) : Type 0 where
-  ruled : IsTrue (is_header o c)
-  options : list_all has_31_bits o ≡ true
+  whole : IsWhole o c pieces d
   trees : AreTreesKept c pieces d.definitions d.bodies d.objectives
   terms : AreTermsKept c pieces d.definitions d.terms d.slopes
   intervals : AreIntervalsKept c d.sides d.bounds
   guesses : AreGuessesKept c d.dual_guesses d.primal_guesses
   suffixes : AreSuffixesKept c pieces d.suffixes
-  few : AreFew c pieces
-  objectives : All IsSome d.objectives
-  sides : c.n_con ≤ length d.sides
-  bounds : c.n_var ≤ length d.bounds
-  nonzeros : term_count d.terms ≡ c.nzc
 
 is_file : (pieces : List Piece) (d : Draft) → IsAllKept d.options d.counts pieces d → IsFile (file_of d)
 is_file pieces d k =
-    let linear : sum_by (λ x. length x.terms) d.definitions + term_count d.terms + term_count d.slopes ≤ 2 ^ 22 = omega (arith, k.terms.few, k.few.linear) in
+    let linear : sum_by (λ x. length x.terms) d.definitions + term_count d.terms + term_count d.slopes ≤ 2 ^ 22 = omega (arith, k.terms.few, k.whole.kept.few.linear) in
     record {
-      ruled = k.ruled;
-      definitions = k.trees.definitions;
-      bodies = record { count = k.trees.body_count; known = k.trees.bodies_known };
+      ruled = k.whole.ruled;
+      definitions = k.trees.definitions.are;
+      bodies = record { count = k.trees.bodies_are.count; known = k.trees.bodies_are.known };
       objectives = record {
-        count = given_length d.objectives k.objectives ∙ k.trees.objective_count;
-        known = given_each (λ o. IsTreeKnown d.counts.n_var d.definitions o.tree) d.objectives k.trees.objectives_known;
+        count = given_length d.objectives k.whole.objectives ∙ k.trees.objectives.count;
+        known = given_each (λ o. IsTreeKnown d.counts.n_var d.definitions o.tree) d.objectives k.trees.objectives.known;
       };
       terms = record {
-        rows = k.terms.rows;
-        costs = k.terms.costs;
-        terms_below = k.terms.terms_below;
-        slopes_below = k.terms.slopes_below;
+        rows = k.terms.rows.count;
+        costs = k.terms.costs.count;
+        terms_below = k.terms.rows.below;
+        slopes_below = k.terms.costs.below;
         few_terms = omega (arith, linear);
         few_slopes = λ i ts lt. let one = get_or-le-sum_by (length {A = Term}) d.slopes i ts lt in omega (arith, one, linear);
       };
-      all_terms = k.nonzeros;
-      side_count = omega (arith, k.sides, k.intervals.side_most);
-      sides = k.intervals.sides_ordered;
-      bound_count = omega (arith, k.bounds, k.intervals.bound_most);
-      bounds = k.intervals.bounds_ordered;
-      dual_guesses = k.guesses.dual;
-      primal_guesses = k.guesses.primal;
+      all_terms = k.whole.nonzeros;
+      side_count = omega (arith, k.whole.sides, k.intervals.sides_are.most);
+      sides = k.intervals.sides_are.ordered;
+      bound_count = omega (arith, k.whole.bounds, k.intervals.bounds_are.most);
+      bounds = k.intervals.bounds_are.ordered;
+      dual_guesses = k.guesses.dual.are;
+      primal_guesses = k.guesses.primal.are;
       suffixes = k.suffixes.suffixes;
     }
 
 is_modest : (pieces : List Piece) (d : Draft) → IsAllKept d.options d.counts pieces d → IsModest (file_of d)
 is_modest pieces d k =
-    let nodes : sum_by (λ x. tree_size x.tree) d.definitions + sum_by (λ b. option_map_or tree_size b 0) d.bodies + sum_by objective_size d.objectives ≤ 2 ^ 22 = omega (arith, k.trees.few, k.few.nodes) in
+    let nodes : sum_by (λ x. tree_size x.tree) d.definitions + sum_by (λ b. option_map_or tree_size b 0) d.bodies + sum_by objective_size d.objectives ≤ 2 ^ 22 = omega (arith, k.trees.few, k.whole.kept.few.nodes) in
     record {
-      options = k.options;
-      trees = record { definitions = k.trees.definition_nodes; bodies = k.trees.body_nodes; objectives = given_each (λ o. HasNodes o.tree) d.objectives k.trees.objective_nodes };
-      usages = k.trees.usages;
-      dual_guesses = k.guesses.few_duals;
-      primal_guesses = k.guesses.few_primals;
+      options = k.whole.options;
+      trees = record { definitions = k.trees.definitions.nodes; bodies = k.trees.bodies_are.nodes; objectives = given_each (λ o. HasNodes o.tree) d.objectives k.trees.objectives.nodes };
+      usages = k.trees.definitions.usages;
+      dual_guesses = k.guesses.dual.few;
+      primal_guesses = k.guesses.primal.few;
       suffixes = k.suffixes.writable;
       few_nodes = omega (arith, nodes, given_sizes d.objectives);
     }
@@ -109,9 +99,9 @@ is_writable pieces d k =
     let file = is_file pieces d k in
     let modest = is_modest pieces d k in
     let few : HasFew (file_of d) = record {
-      suffixes = omega (arith, k.suffixes.few, k.few.suffixes);
-      values = omega (arith, k.suffixes.few_values, k.few.values);
-      terms = omega (arith, k.terms.few, k.few.linear);
+      suffixes = omega (arith, k.suffixes.few, k.whole.kept.few.suffixes);
+      values = omega (arith, k.suffixes.few_values, k.whole.kept.few.values);
+      terms = omega (arith, k.terms.few, k.whole.kept.few.linear);
       nodes = modest.few_nodes;
     } in
     record {
@@ -126,30 +116,23 @@ is_writable pieces d k =
       few_values = few.values;
       few_terms = few.terms;
       few_nodes = few.nodes;
-      binary = λ j i lt b. k.intervals.units j i (omega (arith, lt, k.bounds)) b;
+      binary = λ j i lt b. k.intervals.units j i (omega (arith, lt, k.whole.bounds)) b;
       room = record { lines = lines_short (file_of d) file modest; text = text_fits (file_of d) file modest few };
     }
 
 -- ---- the laws
 
-whole_kept : (o : List ℤ) (c : Counts) (pieces : List Piece) → IsWhole o c pieces → IsAllKept o c pieces (draft_of o c pieces)
-whole_kept o c pieces w =
-    record {
-      ruled = w.ruled;
-      options = w.options;
-      trees = trees_kept o c pieces w.steps_are;
-      terms = terms_kept o c pieces w.steps_are;
-      intervals = intervals_kept o c pieces w.steps_are;
-      guesses = guesses_kept o c pieces w.steps_are;
-      suffixes = suffixes_kept o c pieces w.steps_are;
-      few = w.kept.few;
-      objectives = w.objectives;
-      sides = w.sides;
-      bounds = w.bounds;
-      nonzeros = w.nonzeros;
-    }
+whole_kept : (o : List ℤ) (c : Counts) (pieces : List Piece) → IsWhole o c pieces (draft_of o c pieces) → IsAllKept o c pieces (draft_of o c pieces)
+whole_kept o c pieces w = record {
+  whole = w;
+  trees = trees_kept o c pieces w.steps_are;
+  terms = terms_kept o c pieces w.steps_are;
+  intervals = intervals_kept o c pieces w.steps_are;
+  guesses = guesses_kept o c pieces w.steps_are;
+  suffixes = suffixes_kept o c pieces w.steps_are;
+}
 
-whole_writable : (o : List ℤ) (c : Counts) (pieces : List Piece) → IsWhole o c pieces → IsWritable (file_of (draft_of o c pieces))
+whole_writable : (o : List ℤ) (c : Counts) (pieces : List Piece) → IsWhole o c pieces (draft_of o c pieces) → IsWritable (file_of (draft_of o c pieces))
 whole_writable o c pieces w =
     let d = draft_of o c pieces in
     let all = whole_kept o c pieces w in

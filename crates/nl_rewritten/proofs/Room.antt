@@ -1,196 +1,233 @@
--- No written line of a file that keeps the rules of values is too long.
-use Rattle.std.proofs.Common.{◌≡◌, ℕ, zero, suc, ◌+◌, ◌%◌, ◌^◌, ◌<◌, ◌≤◌, ◌==◌, Bool, true, false, not, ◌&&◌, cond, ℤ, List, [], ◌∷◌, ◌++◌, length, map, filter, All, refl, subst, arith, Option, Some, None, nat_le, lt_trans, lit<}
+-- No written line of a file that keeps the rules of values is too long, and its text has room for what it says.
+use Rattle.std.proofs.Common.{◌≡◌, ◌≢◌, ◌∙◌, ℕ, zero, suc, ◌+◌, ◌*◌, ◌^◌, ◌<◌, ◌≤◌, Bool, true, false, cond, eqb, not, ◌&&◌, ◌==◌, ℤ, List, [], ◌∷◌, ◌++◌, length, get_or, map, All, AllPairs, refl, sym, subst, arith, Option, Some, None, nat_le, lt_trans, lit<, length-append}
 use Rattle.std.specs.Prelude.{IfSome, IsTrue, codes, sum_by}
-use Rattle.std.specs.List.{AllByRecursion, list_all, flat_map}
+use Rattle.std.specs.List.{AllByRecursion, list_all, list_any, flat_map}
 use Rattle.std.specs.Fmt.{decimal, signed_decimal}
 use Rattle.std.specs.Option.{option_map_or}
-use Rattle.std.proofs.lemmas.Bool.{leb-true}
-use Rattle.std.proofs.lemmas.List.{length-map}
-use Rattle.std.proofs.lemmas.List.Elements.{recursion_from_All, All-from_recursion}
-use Rattle.std.proofs.lemmas.List.Sums.{sum_by-cons}
+use Rattle.std.proofs.lemmas.Bool.{eqb-true, leb-true}
+use Rattle.std.proofs.lemmas.Bool.Decides.{Decides-eqb}
+use Rattle.std.proofs.lemmas.List.{get_or-map, length-map}
+use Rattle.std.proofs.lemmas.List.Elements.{All-tail, All-from_recursion, recursion_from_All}
+use Rattle.std.proofs.lemmas.List.Sums.{get_or-le-sum_by, sum_by-cons}
+use Rattle.std.proofs.lemmas.Map.Made.{IsDistinct-from_AllPairs}
+use Rattle.std.proofs.lemmas.Map.Steps.{length-le_from_distinct_below}
 use Rattle.texts.specs.Names.{is_name, has_name_bytes}
 use Rattle.exact_numbers.specs.declared.dec.Dec.{Dec}
 use Rattle.exact_numbers.specs.Numbers.{has_31_bits}
 use Rattle.exact_numbers.proofs.Bridge.{and_true}
-use Rattle.code_tables.specs.Opcodes.{class_of, operands_of}
-use Rattle.code_tables.specs.declared.class.OpClass.{OpClass}
-use Rattle.code_tables.specs.declared.class.OpClass.TheVariants.{Sum, Refused}
-use Rattle.nl_meaning.specs.Trees.{Tree, tree_size, HasCount}
+use Rattle.code_tables.specs.Opcodes.{operands_of}
+use Rattle.nl_meaning.specs.Trees.{Tree, number, variable, defined, operator, tree_size}
 use Rattle.nl_model.specs.declared.header_counts.Counts.{Counts}
 use Rattle.linear_program.specs.declared.interval.Interval.{Interval}
 use Rattle.nl_model.specs.declared.node.Node.{Node}
 use Rattle.nl_model.specs.declared.node.Node.TheVariants.{Num, Var, Defined, Op}
-use Rattle.nl_model.specs.File.{Term, Objective, Definition, Suffix, File}
-use Rattle.nl_model.specs.HeaderRules.{is_header, are_options, are_counts, are_numbers, has_no_refused, are_sizes_within, are_shared_within, are_whole_within, are_definitions_within, has_second_three, defined_count, AreCounts}
-use Rattle.nl_model.specs.Nodes.{opcode_of}
-use Rattle.nl_model.specs.Rules.{AreTermsBelow, AreDefinitions, IsTreeKnown, IsFile, IsSuffix, object_count, term_count, most_terms}
-use Rattle.nl_model.specs.UseCounts.{terms_up_to}
+use Rattle.nl_model.specs.File.{Term, File}
+use Rattle.nl_model.specs.declared.objective.Objective.{Objective}
+use Rattle.nl_model.specs.declared.definition.Def.{Def as Definition}
+use Rattle.nl_model.specs.declared.suffix.Suffix.{Suffix}
+use Rattle.nl_model.specs.HeaderRules.{is_header, defined_count, AreCounts}
+use Rattle.nl_model.specs.Rules.{AreTermsBelow, IsDefinition, AreDefinitions, AreGuesses, AreIndicesApart, IsTreeKnown, IsFile, IsSuffix, object_count, term_count, most_terms}
 use Rattle.nl_model.proofs.Headers.{counts_of_header}
-use Rattle.nl_model.proofs.Opcodes.{opcode_of-known}
-use Rattle.written_texts.specs.Lines.{Line, spaced, text_of, unless_empty}
+use Rattle.nl_model.specs.UseCounts.{terms_up_to}
+use Rattle.written_texts.specs.Lines.{WordLine, line_text, lines_text, spaced, text_of}
 use Rattle.written_texts.proofs.Lengths.{decimal-length, signed_31-length, text-length}
 use Rattle.written_texts.proofs.LineLemmas.{spaced-length}
 use Rattle.nl_writer.specs.Trees.{is_counted, tree_lines, node_lines}
-use Rattle.nl_writer.specs.Written.{numbers, options_line, header_lines, lettered, term_line, term_lines, by_number, suffix_piece, definition_piece, body_piece, sense_word, objective_piece, guess_piece, is_same, sides_line, interval_line, interval_piece, column_lines, column_piece, term_piece, body_lines, nl_lines}
+use Rattle.nl_writer.specs.Written.{numbers, options_line, header_lines, lettered, term_line, term_lines, by_number, suffix_piece, definition_piece, body_piece, sense_word, objective_piece, guess_piece, is_same, sides_line, interval_line, interval_piece, column_lines, column_piece, term_piece, nl_lines}
 use Rattle.nl_writer.proofs.Writing.{node_lines-prefix}
-use Rattle.nl_round_trip.specs.Writable.{HasNodes, IsWritableSuffix, AreTreesWritable, node_count}
-use Rattle.nl_round_trip.proofs.HeaderLines.{IsSmall, all_small, AreSmall, small_counts}
-use Rattle.nl_round_trip.proofs.NodesTaken.{IsNodeFine}
+use Rattle.nl_round_trip.specs.Writable.{HasNodes, IsWritableSuffix, AreTreesWritable, linear_count, node_count, value_count}
+use Rattle.nl_round_trip.proofs.LineSections.{up_to_most}
+use Rattle.nl_round_trip.proofs.TreesTaken.{range_more}
+use Rattle.nl_round_trip.proofs.HeaderSaid.{IsSmall, header_ready, header_each}
+use Rattle.nl_round_trip.proofs.NodesTaken.{IsNodeFine, opcode_small, AreInRange, definitions_in_range, nodes_fine, nodes-size}
+use Rattle.nl_round_trip.proofs.PairSections.{few_objects}
 use Rattle.nl_round_trip.proofs.TakenLemmas.{all_append}
-use Rattle.nl_round_trip.proofs.TreeNodes.{AreInRange, definitions_in_range, nodes_fine, nodes-size}
 
--- ---- lines of short words
+-- ---- lines
 
-abbrev pub IsShort : Line → Type 0
+abbrev pub IsShort : WordLine → Type 0
 IsShort line = length (spaced line) ≤ 65536
 
-abbrev pub AreShort : List Line → Type 0
-AreShort lines = AllByRecursion IsShort lines
+-- no line is too long, and the text of the lines has at most so many bytes
+pub record Fits (most : ℕ) (lines : List WordLine) : Type 0 where
+  pub each : AllByRecursion IsShort lines
+  pub size : length (lines_text lines) ≤ most
 
-abbrev pub IsBrief : List ℕ → Type 0
-IsBrief word = length word ≤ 300
+none_fit : {most : ℕ} → Fits most []
+none_fit = record { each = tt; size = omega arith }
 
-brief_line : (words : Line) → length words ≤ 12 → AllByRecursion IsBrief words → IsShort words
-brief_line words few all = let most = spaced-length 300 words all in omega (arith, few, most)
+more_room : {a b : ℕ} {lines : List WordLine} → Fits a lines → a ≤ b → Fits b lines
+more_room h le = record { each = h.each; size = omega (arith, h.size, le) }
 
-pub number_brief : (n : ℕ) → n < 2 ^ 32 → length (decimal n) ≤ 10
+-- one line more, of fewer bytes
+one_more : {rest all : ℕ} {lines : List WordLine} (most : ℕ) (line : WordLine) → length (spaced line) < most → most ≤ 65537 → Fits rest lines → most + rest ≤ all → Fits all (line ∷ lines)
+one_more {lines = lines} most line here short more le = record {
+  each = (omega arith, more.each);
+  size = omega (arith, more.size, length-append (line_text line) (lines_text lines), length-append (spaced line) (10 ∷ []));
+}
+
+one_line : {all : ℕ} (most : ℕ) (line : WordLine) → length (spaced line) < most → most ≤ 65537 → most ≤ all → Fits all (line ∷ [])
+one_line most line here short le = one_more {rest = 0} most line here short none_fit (omega arith)
+
+text-append : (xs ys : List WordLine) → length (lines_text (xs ++ ys)) ≡ length (lines_text xs) + length (lines_text ys)
+text-append [] ys = omega arith
+text-append (x ∷ xs) ys =
+    omega (arith, text-append xs ys, length-append (line_text x) (lines_text (xs ++ ys)), length-append (line_text x) (lines_text xs))
+
+both : {a b : ℕ} {xs ys : List WordLine} → Fits a xs → Fits b ys → Fits (a + b) (xs ++ ys)
+both {xs = xs} {ys = ys} h k = record { each = all_append IsShort xs ys h.each k.each; size = omega (arith, h.size, k.size, text-append xs ys) }
+
+mapped : {X : Type 0} (most : ℕ) (f : X → WordLine) (xs : List X) → most ≤ 65537 → All (λ x. length (spaced (f x)) < most) xs → Fits (most * length xs) (map f xs)
+mapped most f [] short all = none_fit
+mapped most f (x ∷ xs) short all = one_more most (f x) (all 0 x (omega arith)) short (mapped most f xs short (All-tail (λ x. length (spaced (f x)) < most) x xs all)) (omega arith)
+
+numbered : {X : Type 0} (w : X → ℕ) (piece : ℕ → X → List WordLine) (i : ℕ) (xs : List X) → ((j : ℕ) → j < 2 ^ 20 → All (λ x. Fits (96 * w x) (piece j x)) xs) → i + length xs ≤ 2 ^ 20 → Fits (96 * sum_by w xs) (by_number piece i xs)
+numbered w piece i [] each few = none_fit
+numbered w piece i (x ∷ xs) each few =
+    more_room (both (each i (omega arith) 0 x (omega arith)) (numbered w piece (i + 1) xs (λ j lt. All-tail (λ x. Fits (96 * w x) (piece j x)) x xs (each j lt)) (omega arith)))
+    (omega (arith, sum_by-cons w x xs))
+
+number_brief : (n : ℕ) → n < 2 ^ 32 → length (decimal n) ≤ 10
 number_brief n small = decimal-length n (lt_trans small (lit< tt))
-
-brief : (n : ℕ) → n < 2 ^ 32 → IsBrief (decimal n)
-brief n small = let most = number_brief n small in omega (arith, most)
-
-lettered_brief : (b n : ℕ) → n < 2 ^ 32 → IsBrief (b ∷ decimal n)
-lettered_brief b n small = let most = number_brief n small in omega (arith, most)
-
-text_brief : (d : Dec) → IsBrief (text_of d)
-text_brief d = let most = text-length d in omega (arith, most)
-
--- ---- lists of lines
-
-mapped : {X : Type 0} (P : X → Type 0) (f : X → Line) (xs : List X) → ((x : X) → P x → IsShort (f x)) → AllByRecursion P xs → AreShort (map f xs)
-mapped P f [] each all = tt
-mapped P f (x ∷ xs) each all = (each x all.0, mapped P f xs each all.1)
-
-joined : {X : Type 0} (P : X → Type 0) (f : X → List Line) (xs : List X) → ((x : X) → P x → AreShort (f x)) → AllByRecursion P xs → AreShort (flat_map f xs)
-joined P f [] each all = tt
-joined P f (x ∷ xs) each all = all_append IsShort (f x) (flat_map f xs) (each x all.0) (joined P f xs each all.1)
-
-numbered : {X : Type 0} (P : X → Type 0) (f : ℕ → X → List Line) (limit i : ℕ) (xs : List X) → ((j : ℕ) (x : X) → j < limit → P x → AreShort (f j x)) → i + length xs ≤ limit → AllByRecursion P xs
-    → AreShort (by_number f i xs)
-numbered P f limit i [] each few all = tt
-numbered P f limit i (x ∷ xs) each few all =
-    all_append IsShort (f i x) (by_number f (i + 1) xs) (each i x (omega (arith, few)) all.0) (numbered P f limit (i + 1) xs each (omega (arith, few)) all.1)
-
-filled : {X : Type 0} (xs : List X) (lines : List Line) → AreShort lines → AreShort (unless_empty xs lines)
-filled [] lines h = tt
-filled (x ∷ xs) lines h = h
 
 -- ---- the header
 
+abbrev IsBrief : List ℕ → Type 0
+IsBrief word = length word ≤ 11
+
+brief_line : (words : WordLine) → length words ≤ 12 → AllByRecursion IsBrief words → IsShort words
+brief_line words few all = let most = spaced-length 11 words all in omega (arith, few, most)
+
 briefly : (ns : List ℕ) → AllByRecursion (λ n. n < 2 ^ 31) ns → AllByRecursion IsBrief (numbers ns)
 briefly [] all = tt
-briefly (n ∷ ns) all = (brief n (lt_trans all.0 (lit< tt)), briefly ns all.1)
-
-numbers_short : (ns : List ℕ) → length ns ≤ 12 → AllByRecursion (λ n. n < 2 ^ 31) ns → IsShort (numbers ns)
-numbers_short ns few all = brief_line (numbers ns) (omega (arith, few, length-map ns decimal)) (briefly ns all)
+briefly (n ∷ ns) all = (let most = number_brief n (lt_trans all.0 (lit< tt)) in omega (arith, most), briefly ns all.1)
 
 signed_brief : (zs : List ℤ) → AllByRecursion IsSmall zs → AllByRecursion IsBrief (map signed_decimal zs)
 signed_brief [] all = tt
-signed_brief (z ∷ zs) all = (let most = signed_31-length z all.0 in omega (arith, most), signed_brief zs all.1)
+signed_brief (z ∷ zs) all = (signed_31-length z all.0, signed_brief zs all.1)
 
 options_short : (os : List ℤ) → length os ≤ 4 → AllByRecursion IsSmall os → IsShort (options_line os)
 options_short os few all =
-    let small : length os < 2 ^ 32 = omega (arith, few) in
-    brief_line (options_line os) (omega (arith, few, length-map os signed_decimal)) (lettered_brief 103 (length os) small, signed_brief os all)
+    let count = number_brief (length os) (omega (arith, few)) in
+    brief_line (options_line os) (omega (arith, few, length-map os signed_decimal)) (omega (arith, count), signed_brief os all)
 
-numbers_of_header : (os : List ℤ) (c : Counts) → IsTrue (is_header os c) → (length os ≤ 4) × AreSmall c
-unfolding is_header
-numbers_of_header os c h =
-    let all = and_true (are_options os) (are_counts c) h in
-    let p5 = and_true (are_numbers c && has_no_refused c && are_sizes_within c && are_shared_within c && are_whole_within c) (are_definitions_within c) all.1 in
-    let p4 = and_true (are_numbers c && has_no_refused c && are_sizes_within c && are_shared_within c) (are_whole_within c) p5.0 in
-    let p3 = and_true (are_numbers c && has_no_refused c && are_sizes_within c) (are_shared_within c) p4.0 in
-    let p2 = and_true (are_numbers c && has_no_refused c) (are_sizes_within c) p3.0 in
-    let p1 = and_true (are_numbers c) (has_no_refused c) p2.0 in
-    (leb-true (length os) 4 (and_true (nat_le (length os) 4) (not (has_second_three os)) all.0).0, small_counts c p1.0)
+short_lines : (lines : List WordLine) → AllByRecursion IsShort lines → Fits (65537 * length lines) lines
+short_lines [] all = none_fit
+short_lines (line ∷ lines) all = let here : length (spaced line) ≤ 65536 = all.0 in one_more 65537 line (omega (arith, here)) (omega arith) (short_lines lines all.1) (omega arith)
 
-pub header_short : (os : List ℤ) (c : Counts) → IsTrue (is_header os c) → list_all has_31_bits os ≡ true → AreShort (header_lines os c)
-header_short os c h small =
-    let ruled = numbers_of_header os c h in
-    let m = ruled.1 in (
-      options_short os ruled.0 (all_small os small),
-      (
-        numbers_short (c.n_var ∷ c.n_con ∷ c.n_obj ∷ c.n_ranges ∷ c.n_eqns ∷ []) (omega arith) (m.n_var, (m.n_con, (m.n_obj, (m.n_ranges, (m.n_eqns, tt))))),
-        (
-          numbers_short (c.nlc ∷ c.nlo ∷ []) (omega arith) (m.nlc, (m.nlo, tt)),
-          (
-            numbers_short (c.nlnc ∷ c.lnc ∷ []) (omega arith) (m.nlnc, (m.lnc, tt)),
-            (
-              numbers_short (c.nlvc ∷ c.nlvo ∷ c.nlvb ∷ []) (omega arith) (m.nlvc, (m.nlvo, (m.nlvb, tt))),
-              (
-                numbers_short (c.nwv ∷ c.nfunc ∷ c.arith ∷ c.flags ∷ []) (omega arith) (m.nwv, (m.nfunc, (m.arith, (m.flags, tt)))),
-                (
-                  numbers_short (c.nbv ∷ c.niv ∷ c.nlvbi ∷ c.nlvci ∷ c.nlvoi ∷ []) (omega arith) (m.nbv, (m.niv, (m.nlvbi, (m.nlvci, (m.nlvoi, tt))))),
-                  (
-                    numbers_short (c.nzc ∷ c.nzo ∷ []) (omega arith) (m.nzc, (m.nzo, tt)),
-                    (
-                      numbers_short (c.row_name_len ∷ c.col_name_len ∷ []) (omega arith) (m.row_name_len, (m.col_name_len, tt)),
-                      (numbers_short (c.comb ∷ c.comc ∷ c.como ∷ c.comc1 ∷ c.como1 ∷ []) (omega arith) (m.comb, (m.comc, (m.como, (m.comc1, (m.como1, tt))))), tt),
-                    ),
-                  ),
-                ),
-              ),
-            ),
-          ),
-        ),
-      ),
-    )
+header_fits : (os : List ℤ) (c : Counts) → IsTrue (is_header os c) → list_all has_31_bits os ≡ true → Fits (65537 * 10) (header_lines os c)
+header_fits os c h small =
+    let ready = header_ready os c h small in
+    short_lines (header_lines os c)
+    (header_each IsShort os c ready (options_short os ready.few ready.all_small) (λ ns some few all. brief_line (numbers ns) (omega (arith, few, length-map ns decimal)) (briefly ns all)))
 
 -- ---- terms
 
-terms_short : (n : ℕ) (ts : List Term) → n ≤ 2 ^ 20 → AreTermsBelow n ts → AreShort (term_lines ts)
-terms_short n ts few below =
-    mapped (λ t. t.0 < n) term_line ts
-    (λ t lt. brief_line (term_line t) (omega arith) (brief t.0 (omega (arith, lt, few)), (text_brief t.1, tt)))
-    (recursion_from_All (λ t. t.0 < n) ts below)
+terms_fit : (n : ℕ) (ts : List Term) → n ≤ 2 ^ 20 → AreTermsBelow n ts → Fits (72 * length ts) (term_lines ts)
+terms_fit n ts few below = mapped 72 term_line ts (omega arith) (λ k t lt. short (get_or ts k t) (below k t lt))
+  where
+    short : (t : Term) → t.0 < n → length (spaced (term_line t)) < 72
+    short t low =
+        let index = number_brief t.0 (omega (arith, low, few)) in
+        let value = text-length t.1 in
+        omega (arith, index, value, length-append (decimal t.0) (32 ∷ text_of t.1))
+
+-- the terms of a row, with its head
+row_fits : (b n i : ℕ) (ts : List Term) → n ≤ 2 ^ 20 → i < 2 ^ 20 → AreTermsBelow n ts → length ts ≤ most_terms → Fits (96 * length ts) (term_piece (b ∷ []) i ts)
+row_fits b n i [] le lt below few = none_fit
+row_fits b n i (t ∷ ts) le lt below few =
+    let place = number_brief i (omega (arith, lt)) in
+    let count = number_brief (length (t ∷ ts)) (omega (arith, few)) in
+    one_more 24 ((b ∷ decimal i) ∷ decimal (length (t ∷ ts)) ∷ []) (omega (arith, place, count, length-append (b ∷ decimal i) (32 ∷ decimal (length (t ∷ ts))))) (omega arith)
+    (terms_fit n (t ∷ ts) le below) (omega arith)
+
+-- ---- indices that are apart and below n are at most n
+
+below_all : (n : ℕ) (ts : List Term) (q : ℕ) → AllByRecursion (λ t. t.0 < n) ts → list_any (eqb q) (map (λ t. t.0) ts) ≡ true → q < n
+below_all n [] q all e = absurd cc
+below_all n (t ∷ ts) q all e = by (eqb q t.0) refl (below_all n ts q all.1)
+  where
+    by : (b : Bool) → eqb q t.0 ≡ b → (list_any (eqb q) (map (λ t. t.0) ts) ≡ true → q < n) → q < n
+    by true s later = let same : q ≡ t.0 = eqb-true q t.0 s in let low : t.0 < n = all.0 in omega (arith, same, low)
+    by false s later = later (rw s at e)
+
+few_terms : (n : ℕ) (ts : List Term) → AreTermsBelow n ts → AreIndicesApart ts → length ts ≤ n
+few_terms n [] below apart = omega arith
+few_terms n (t ∷ ts) below apart =
+    let index : Term → ℕ = λ t. t.0 in
+    let same = length-map (t ∷ ts) index in
+    let different : AllPairs (λ x y. x ≢ y) (map index (t ∷ ts)) = λ i j d lt inside e.
+    let in_j : j < length (t ∷ ts) = omega (arith, inside, same) in
+    let in_i : i < length (t ∷ ts) = omega (arith, in_j, lt) in
+    apart i j t lt in_j (sym (get_or-map index (t ∷ ts) i t d in_i) ∙ e ∙ get_or-map index (t ∷ ts) j t d in_j) in
+    let all = length-le_from_distinct_below (map index (t ∷ ts)) n (IsDistinct-from_AllPairs Decides-eqb (map index (t ∷ ts)) different)
+    (λ q e. below_all n (t ∷ ts) q (recursion_from_All (λ t. t.0 < n) (t ∷ ts) below) e) in
+    omega (arith, same, all)
+
+guesses_fit : (b n : ℕ) (ts : List Term) → n ≤ 2 ^ 20 → AreGuesses n ts → Fits (2 ^ 27) (guess_piece (b ∷ []) ts)
+guesses_fit b n [] le h = none_fit
+guesses_fit b n (t ∷ ts) le h =
+    let most = few_terms n (t ∷ ts) h.below h.apart in
+    let count = number_brief (length (t ∷ ts)) (omega (arith, most, le)) in
+    one_more 12 ((b ∷ decimal (length (t ∷ ts))) ∷ []) (omega (arith, count)) (omega arith) (terms_fit n (t ∷ ts) le h.below) (omega (arith, most, le))
 
 -- ---- expressions
 
-opcode_small : (c : OpClass) (k : ℕ) → HasCount c k → opcode_of c ≤ 54
-opcode_small Sum k h = omega arith
-opcode_small Refused k h = absurd h
-opcode_small c k h = omega arith
-
-pub known_small : (o k : ℕ) → HasCount (class_of o) k → o ≤ 54
-known_small o k h = subst (λ p. p ≤ 54) (opcode_of-known o (λ e. subst (λ c. HasCount c k) e h)) (opcode_small (class_of o) k h)
-
-node_short : (c : Counts) (ds : List Definition) (m : Node) → AreCounts c → IsNodeFine c ds m → AreShort (node_lines m)
-node_short c ds (Num d) k h = (brief_line ((codes "n" ++ text_of d) ∷ []) (omega arith) (let most = text-length d in omega (arith, most), tt), tt)
-node_short c ds (Var j) k h = (brief_line ((codes "v" ++ decimal j) ∷ []) (omega arith) (lettered_brief 118 j (omega (arith, h, k.variables)), tt), tt)
-node_short c ds (Defined i) k h = (brief_line ((codes "v" ++ decimal i) ∷ []) (omega arith) (lettered_brief 118 i (omega (arith, h.1, k.variables, k.defined)), tt), tt)
-node_short c ds (Op o n) k h = by (is_counted (operands_of o))
+node_fits : (c : Counts) (ds : List Definition) (m : Node) → AreCounts c → IsNodeFine c ds m → Fits 62 (node_lines m)
+node_fits c ds (Num d) k h = let value = text-length d in one_line 62 ((codes "n" ++ text_of d) ∷ []) (omega (arith, value)) (omega arith) (omega arith)
+node_fits c ds (Var j) k h = let index = number_brief j (omega (arith, h, k.variables)) in one_line 62 ((codes "v" ++ decimal j) ∷ []) (omega (arith, index)) (omega arith) (omega arith)
+node_fits c ds (Defined i) k h =
+    let index = number_brief i (omega (arith, h.1, k.variables, k.defined)) in one_line 62 ((codes "v" ++ decimal i) ∷ []) (omega (arith, index)) (omega arith) (omega arith)
+node_fits c ds (Op o n) k h = by (is_counted (operands_of o))
   where
-    first : IsShort ((codes "o" ++ decimal o) ∷ [])
-    first = brief_line ((codes "o" ++ decimal o) ∷ []) (omega arith) (lettered_brief 111 o (let most = known_small o n h.0 in omega (arith, most)), tt)
+    opcode : length (spaced ((codes "o" ++ decimal o) ∷ [])) < 20
+    opcode = let most = opcode_small o n h.0 in let word = number_brief o (omega (arith, most)) in omega (arith, word)
 
-    by : (b : Bool) → AreShort (cond b (((codes "o" ++ decimal o) ∷ []) ∷ (decimal n ∷ []) ∷ []) (((codes "o" ++ decimal o) ∷ []) ∷ []))
-    by true = (first, (brief_line (decimal n ∷ []) (omega arith) (brief n (omega (arith, h.1)), tt), tt))
-    by false = (first, tt)
+    count : Fits 20 ((decimal n ∷ []) ∷ [])
+    count = let word = number_brief n (omega (arith, h.1)) in one_line 20 (decimal n ∷ []) (omega (arith, word)) (omega arith) (omega arith)
 
-tree_short : (c : Counts) (ds : List Definition) (t : Tree) → AreCounts c → AreInRange c.n_var (defined_count c) ds → HasNodes t → IsTreeKnown c.n_var ds t → tree_size t ≤ 2 ^ 22 → AreShort (tree_lines t)
-tree_short c ds t k range h is few =
+    by : (b : Bool) → Fits 62 (cond b (((codes "o" ++ decimal o) ∷ []) ∷ (decimal n ∷ []) ∷ []) (((codes "o" ++ decimal o) ∷ []) ∷ []))
+    by true = one_more 20 ((codes "o" ++ decimal o) ∷ []) opcode (omega arith) count (omega arith)
+    by false = one_line 20 ((codes "o" ++ decimal o) ∷ []) opcode (omega arith) (omega arith)
+
+nodes_fit : (c : Counts) (ds : List Definition) (ms : List Node) → AreCounts c → AllByRecursion (IsNodeFine c ds) ms → Fits (62 * length ms) (flat_map node_lines ms)
+nodes_fit c ds [] k all = none_fit
+nodes_fit c ds (m ∷ ms) k all = more_room (both (node_fits c ds m k all.0) (nodes_fit c ds ms k all.1)) (omega arith)
+
+-- trees that may stand after these definitions
+pub record HasTrees (c : Counts) (ds : List Definition) : Type 0 where
+  pub counts : AreCounts c
+  pub range : AreInRange c.n_var (defined_count c) ds
+
+tree_fits : (c : Counts) (ds : List Definition) (t : Tree) → HasTrees c ds → HasNodes t → IsTreeKnown c.n_var ds t → tree_size t ≤ 2 ^ 22 → Fits (62 * tree_size t) (tree_lines t)
+tree_fits c ds t k h is few =
     let size = nodes-size t h.nodes h.prefix in
-    let fine = nodes_fine t h.nodes h.prefix c ds range is.within (omega (arith, size, few)) in
-    subst AreShort (node_lines-prefix t h.nodes h.prefix) (joined (IsNodeFine c ds) node_lines h.nodes (λ m fine. node_short c ds m k fine) fine)
+    let fine = nodes_fine t h.nodes h.prefix c ds k.range is.within (omega (arith, size, few)) in
+    subst (Fits (62 * tree_size t)) (node_lines-prefix t h.nodes h.prefix) (more_room (nodes_fit c ds h.nodes k.counts fine) (omega (arith, size)))
 
--- each of some numbers is at most their sum
-pub each_within : {X : Type 0} (f : X → ℕ) (xs : List X) (most : ℕ) → sum_by f xs ≤ most → AllByRecursion (λ x. f x ≤ most) xs
-each_within f [] most le = tt
-each_within f (x ∷ xs) most le = let sum = sum_by-cons f x xs in (omega (arith, sum, le), each_within f xs most (omega (arith, sum, le)))
+some_node : (t : Tree) → 1 ≤ tree_size t
+some_node (number m e) = omega arith
+some_node (variable j) = omega arith
+some_node (defined i) = omega arith
+some_node (operator c ts) = omega arith
 
-pub two : {X : Type 0} (P Q : X → Type 0) (xs : List X) → AllByRecursion P xs → AllByRecursion Q xs → AllByRecursion (λ x. P x × Q x) xs
-two P Q [] p q = tt
-two P Q (x ∷ xs) p q = ((p.0, q.0), two P Q xs p.1 q.1)
+-- a tree with its head
+headed : (c : Counts) (ds : List Definition) (t : Tree) (head : WordLine) → HasTrees c ds → HasNodes t → IsTreeKnown c.n_var ds t → tree_size t ≤ 2 ^ 22 → length (spaced head) < 34 → Fits (96 * tree_size t) (head ∷ tree_lines t)
+headed c ds t head k h is few line = let some = some_node t in one_more 34 head line (omega arith) (tree_fits c ds t k h is few) (omega (arith, some))
+
+body_fits : (c : Counts) (ds : List Definition) (i : ℕ) (b : Option Tree) → HasTrees c ds → i < 2 ^ 20 → IfSome b HasNodes → IfSome b (IsTreeKnown c.n_var ds) → option_map_or tree_size b 0 ≤ 2 ^ 22 → Fits (96 * option_map_or tree_size b 0) (body_piece i b)
+body_fits c ds i None k lt nodes is few = none_fit
+body_fits c ds i (Some t) k lt nodes is few = let word = number_brief i (omega (arith, lt)) in headed c ds t (lettered (codes "C") i ∷ []) k nodes is few (omega (arith, word))
+
+sense_word-length : (b : Bool) → length (sense_word b) ≡ 1
+sense_word-length true = refl
+sense_word-length false = refl
+
+objective_fits : (c : Counts) (ds : List Definition) (i : ℕ) (o : Objective) → HasTrees c ds → i < 2 ^ 20 → HasNodes o.tree → IsTreeKnown c.n_var ds o.tree → tree_size o.tree ≤ 2 ^ 22 → Fits (96 * tree_size o.tree) (objective_piece i o)
+objective_fits c ds i o k lt nodes is few =
+    let word = number_brief i (omega (arith, lt)) in
+    let sense = sense_word-length o.maximise in
+    headed c ds o.tree (lettered (codes "O") i ∷ sense_word o.maximise ∷ []) k nodes is few (omega (arith, word, sense, length-append (lettered (codes "O") i) (32 ∷ sense_word o.maximise)))
 
 -- ---- definitions
 
@@ -199,116 +236,73 @@ pub record IsPlainDefinition (c : Counts) (d : Definition) : Type 0 where
   pub nodes : HasNodes d.tree
   pub size : tree_size d.tree ≤ 2 ^ 22
 
-definition_short : (c : Counts) (known : List Definition) (d : Definition) → AreCounts c → AreInRange c.n_var (defined_count c) known → IsPlainDefinition c d → d.index < c.n_var + defined_count c → AreTermsBelow c.n_var d.terms → length d.terms ≤ most_terms
-    → IsTreeKnown c.n_var known d.tree → AreShort (definition_piece d)
-definition_short c known d k range h below terms few tree = (
-  brief_line (lettered (codes "V") d.index ∷ decimal (length d.terms) ∷ decimal d.usage ∷ []) (omega arith)
-      (lettered_brief 86 d.index (omega (arith, below, k.variables, k.defined)), (brief (length d.terms) (omega (arith, few)), (brief d.usage (lt_trans h.usage (lit< tt)), tt))),
-  all_append IsShort (term_lines d.terms) (tree_lines d.tree) (terms_short c.n_var d.terms k.variables terms) (tree_short c known d.tree k range h.nodes tree h.size),
-)
+definition_fits : (c : Counts) (known : List Definition) (d : Definition) → HasTrees c known → IsPlainDefinition c d → IsDefinition c.n_var (defined_count c) known d → Fits (96 * tree_size d.tree + 72 * length d.terms) (definition_piece d)
+definition_fits c known d k h is =
+    let index = number_brief d.index (omega (arith, is.below, k.counts.variables, k.counts.defined)) in
+    let count = number_brief (length d.terms) (omega (arith, is.few)) in
+    let usage = number_brief d.usage (lt_trans h.usage (lit< tt)) in
+    let first = lettered (codes "V") d.index in
+    let some = some_node d.tree in
+    one_more 34 (first ∷ decimal (length d.terms) ∷ decimal d.usage ∷ [])
+    (omega (arith, index, count, usage, length-append first (32 ∷ decimal (length d.terms) ++ 32 ∷ decimal d.usage), length-append (decimal (length d.terms)) (32 ∷ decimal d.usage))) (omega arith)
+    (both (terms_fit c.n_var d.terms k.counts.variables is.terms) (tree_fits c known d.tree k h.nodes is.tree h.size)) (omega (arith, some))
 
-pub range_more : (n k : ℕ) (known : List Definition) (d : Definition) → AreInRange n k known → n ≤ d.index → d.index < n + k → AreInRange n k (known ++ d ∷ [])
-range_more n k known d range from below = all_append (λ d. (n ≤ d.index) × (d.index < n + k)) known (d ∷ []) range ((from, below), tt)
-
-definitions_short : (c : Counts) (known ds : List Definition) → AreCounts c → AreInRange c.n_var (defined_count c) known → AreDefinitions c.n_var (defined_count c) known ds → AllByRecursion (IsPlainDefinition c) ds → AreShort (flat_map definition_piece ds)
-definitions_short c known [] k range are plain = tt
-definitions_short c known (d ∷ ds) k range are plain =
-    let is = are.0 in
-    all_append IsShort (definition_piece d) (flat_map definition_piece ds)
-    (definition_short c known d k range plain.0 is.below is.terms is.few is.tree)
-    (definitions_short c (known ++ d ∷ []) ds k (range_more c.n_var (defined_count c) known d range is.from is.below) are.1 plain.1)
-
-pub plain_definitions : (c : Counts) (ds : List Definition) → AllByRecursion (λ d. d.usage < 2 ^ 31) ds → AllByRecursion (λ d. HasNodes d.tree) ds → AllByRecursion (λ d. tree_size d.tree ≤ 2 ^ 22) ds → AllByRecursion (IsPlainDefinition c) ds
-plain_definitions c [] u n s = tt
-plain_definitions c (d ∷ ds) u n s = (record { usage = u.0; nodes = n.0; size = s.0 }, plain_definitions c ds u.1 n.1 s.1)
+definitions_fit : (c : Counts) (known ds : List Definition) → HasTrees c known → AreDefinitions c.n_var (defined_count c) known ds → AllByRecursion (IsPlainDefinition c) ds
+    → Fits (96 * sum_by (λ d. tree_size d.tree) ds + 72 * sum_by (λ d. length d.terms) ds) (flat_map definition_piece ds)
+definitions_fit c known [] k are plain = none_fit
+definitions_fit c known (d ∷ ds) k are plain =
+    let next : HasTrees c (known ++ d ∷ []) = record { counts = k.counts; range = range_more c.n_var (defined_count c) known d k.range are.0.from are.0.below } in
+    more_room (both (definition_fits c known d k plain.0 are.0) (definitions_fit c (known ++ d ∷ []) ds next are.1 plain.1)) (omega (arith, sum_by-cons (λ d. tree_size d.tree) d ds, sum_by-cons (λ d. length d.terms) d ds))
 
 -- ---- suffixes
 
-pub few_objects : (c : Counts) (kind : ℕ) → AreCounts c → object_count c kind ≤ 2 ^ 20
-few_objects c kind k = by (kind % 4 == 0) (kind % 4 == 1) (kind % 4 == 2)
-  where
-    by : (p q r : Bool) → cond p c.n_var (cond q c.n_con (cond r c.n_obj 1)) ≤ 2 ^ 20
-    by true q r = k.variables
-    by false true r = k.constraints
-    by false false true = omega (arith, k.objectives)
-    by false false false = omega arith
-
-pub name_brief : (name : List ℕ) → is_name name ≡ true → IsBrief name
+name_brief : (name : List ℕ) → is_name name ≡ true → length name ≤ 255
 name_brief name e =
     let front = and_true (not (length name == 0) && nat_le (length name) 255) (has_name_bytes name) e in
-    let most = leb-true (length name) 255 (and_true (not (length name == 0)) (nat_le (length name) 255) front.0).1 in
-    omega (arith, most)
+    leb-true (length name) 255 (and_true (not (length name == 0)) (nat_le (length name) 255) front.0).1
 
-suffix_short : (c : Counts) (s : Suffix) → AreCounts c → IsWritableSuffix s × IsSuffix c s → AreShort (suffix_piece s)
-suffix_short c s k h = (
-  brief_line (lettered (codes "S") s.kind ∷ decimal (length s.values) ∷ s.name ∷ []) (omega arith)
-      (lettered_brief 83 s.kind (omega (arith, h.0.kind)), (brief (length s.values) (lt_trans h.0.count (lit< tt)), (name_brief s.name h.0.name, tt))),
-  terms_short (object_count c s.kind) s.values (few_objects c s.kind k) h.1.below,
-)
+suffix_fits : (c : Counts) (s : Suffix) → AreCounts c → IsWritableSuffix s × IsSuffix c s → Fits (340 + 72 * length s.values) (suffix_piece s)
+suffix_fits c s k h =
+    let kind = number_brief s.kind (omega (arith, h.0.kind)) in
+    let count = number_brief (length s.values) (lt_trans h.0.count (lit< tt)) in
+    let name = name_brief s.name h.0.name in
+    let first = lettered (codes "S") s.kind in
+    one_more 340 (first ∷ decimal (length s.values) ∷ s.name ∷ [])
+    (omega (arith, kind, count, name, length-append first (32 ∷ decimal (length s.values) ++ 32 ∷ s.name), length-append (decimal (length s.values)) (32 ∷ s.name))) (omega arith)
+    (terms_fit (object_count c s.kind) s.values (few_objects c s.kind k) h.1.below) (omega arith)
 
--- ---- bodies and objectives
+suffixes_fit : (c : Counts) (ss : List Suffix) → AreCounts c → AllByRecursion (λ s. IsWritableSuffix s × IsSuffix c s) ss → Fits (340 * length ss + 72 * sum_by (λ s. length s.values) ss) (flat_map suffix_piece ss)
+suffixes_fit c [] k h = none_fit
+suffixes_fit c (s ∷ ss) k h = more_room (both (suffix_fits c s k h.0) (suffixes_fit c ss k h.1)) (omega (arith, sum_by-cons (λ s. length s.values) s ss))
 
-body_short : (c : Counts) (ds : List Definition) (i : ℕ) (b : Option Tree) → AreCounts c → AreInRange c.n_var (defined_count c) ds → i < 2 ^ 20 → IfSome b HasNodes → IfSome b (IsTreeKnown c.n_var ds) → option_map_or tree_size b 0 ≤ 2 ^ 22 → AreShort (body_piece i b)
-body_short c ds i None k range lt nodes is few = tt
-body_short c ds i (Some t) k range lt nodes is few = (brief_line (lettered (codes "C") i ∷ []) (omega arith) (lettered_brief 67 i (omega (arith, lt)), tt), tree_short c ds t k range nodes is few)
+-- ---- intervals and columns
 
-sense_brief : (b : Bool) → IsBrief (sense_word b)
-sense_brief true = omega arith
-sense_brief false = omega arith
-
-objective_short : (c : Counts) (ds : List Definition) (i : ℕ) (o : Objective) → AreCounts c → AreInRange c.n_var (defined_count c) ds → i < 2 ^ 20 → HasNodes o.tree → IsTreeKnown c.n_var ds o.tree → tree_size o.tree ≤ 2 ^ 22 → AreShort (objective_piece i o)
-objective_short c ds i o k range lt nodes is few = (brief_line (lettered (codes "O") i ∷ sense_word o.maximise ∷ []) (omega arith) (lettered_brief 79 i (omega (arith, lt)), (sense_brief o.maximise, tt)), tree_short c ds o.tree k range nodes is few)
-
--- ---- guesses, intervals, columns and terms
-
-guesses_short : (b n : ℕ) (ts : List Term) → length ts < 2 ^ 31 → n ≤ 2 ^ 20 → AreTermsBelow n ts → AreShort (guess_piece (b ∷ []) ts)
-guesses_short b n ts few le below =
-    filled ts _ (brief_line ((b ∷ decimal (length ts)) ∷ []) (omega arith) (lettered_brief b (length ts) (lt_trans few (lit< tt)), tt), terms_short n ts le below)
-
-sides_short : (lo hi : Option Dec) → IsShort (sides_line lo hi)
-sides_short None None = brief_line (codes "3" ∷ []) (omega arith) (omega arith, tt)
-sides_short None (Some hi) = brief_line (codes "1" ∷ text_of hi ∷ []) (omega arith) (omega arith, (text_brief hi, tt))
-sides_short (Some lo) None = brief_line (codes "2" ∷ text_of lo ∷ []) (omega arith) (omega arith, (text_brief lo, tt))
-sides_short (Some lo) (Some hi) = by (is_same lo hi)
+side_short : (lo hi : Option Dec) → length (spaced (sides_line lo hi)) < 124
+side_short None None = omega arith
+side_short None (Some hi) = let top = text-length hi in omega (arith, top)
+side_short (Some lo) None = let low = text-length lo in omega (arith, low)
+side_short (Some lo) (Some hi) = by (is_same lo hi)
   where
-    by : (b : Bool) → IsShort (cond b (codes "4" ∷ text_of lo ∷ []) (codes "0" ∷ text_of lo ∷ text_of hi ∷ []))
-    by true = brief_line (codes "4" ∷ text_of lo ∷ []) (omega arith) (omega arith, (text_brief lo, tt))
-    by false = brief_line (codes "0" ∷ text_of lo ∷ text_of hi ∷ []) (omega arith) (omega arith, (text_brief lo, (text_brief hi, tt)))
+    by : (b : Bool) → length (spaced (cond b (codes "4" ∷ text_of lo ∷ []) (codes "0" ∷ text_of lo ∷ text_of hi ∷ []))) < 124
+    by true = let low = text-length lo in omega (arith, low)
+    by false = let low = text-length lo in let top = text-length hi in omega (arith, low, top, length-append (text_of lo) (32 ∷ text_of hi))
 
-all_sides : (is : List Interval) → AreShort (map interval_line is)
-all_sides [] = tt
-all_sides (i ∷ is) = (sides_short i.lo i.hi, all_sides is)
+intervals_fit : (b n : ℕ) (is : List Interval) → n ≤ 2 ^ 20 → length is ≡ n → Fits (2 ^ 27) (interval_piece (b ∷ []) is)
+intervals_fit b n [] le count = none_fit
+intervals_fit b n (i ∷ is) le count =
+    one_more 2 ((b ∷ []) ∷ []) (omega arith) (omega arith) (mapped 124 interval_line (i ∷ is) (omega arith) (λ k j lt. side_short (get_or (i ∷ is) k j).lo (get_or (i ∷ is) k j).hi)) (omega (arith, le, count))
 
-intervals_short : (b : ℕ) (is : List Interval) → AreShort (interval_piece (b ∷ []) is)
-intervals_short b is = filled is _ (brief_line ((b ∷ []) ∷ []) (omega arith) (omega arith, tt), all_sides is)
+columns_fit : (rows : List (List Term)) (j n : ℕ) → term_count rows ≤ most_terms → Fits (11 * n) (column_lines rows j n)
+columns_fit rows j zero few = none_fit
+columns_fit rows j (suc n) few =
+    let word = number_brief (terms_up_to rows j) (omega (arith, up_to_most rows j, few)) in
+    one_more 11 (decimal (terms_up_to rows j) ∷ []) (omega (arith, word)) (omega arith) (columns_fit rows (j + 1) n few) (omega arith)
 
-kept_most : (f : Term → Bool) (ts : List Term) → length (filter f ts) ≤ length ts
-kept_most f [] = omega arith
-kept_most f (t ∷ ts) = by (f t) refl (kept_most f ts)
-  where
-    by : (b : Bool) → f t ≡ b → length (filter f ts) ≤ length ts → length (filter f (t ∷ ts)) ≤ length (t ∷ ts)
-    by true e more = rw e (omega (arith, more))
-    by false e more = rw e (omega (arith, more))
-
-pub up_to_most : (rows : List (List Term)) (j : ℕ) → terms_up_to rows j ≤ term_count rows
-up_to_most [] j = omega arith
-up_to_most (ts ∷ rows) j =
-    let a = kept_most (λ t. nat_le t.0 j) ts in
-    let b = up_to_most rows j in
-    omega (arith, sum_by-cons (λ terms. length (filter (λ t. nat_le t.0 j) terms)) ts rows, sum_by-cons (length {A = Term}) ts rows, a, b)
-
-columns_short : (rows : List (List Term)) (j n : ℕ) → term_count rows ≤ most_terms → AreShort (column_lines rows j n)
-columns_short rows j zero few = tt
-columns_short rows j (suc n) few =
-    (brief_line (decimal (terms_up_to rows j) ∷ []) (omega arith) (brief (terms_up_to rows j) (omega (arith, up_to_most rows j, few)), tt), columns_short rows (j + 1) n few)
-
-column_short : (n : ℕ) (rows : List (List Term)) → n ≤ 2 ^ 20 → term_count rows ≤ most_terms → AreShort (column_piece n rows)
-column_short zero rows le few = tt
-column_short (suc n) rows le few = (brief_line (lettered (codes "k") n ∷ []) (omega arith) (lettered_brief 107 n (omega (arith, le)), tt), columns_short rows 0 n few)
-
-row_short : (b n i : ℕ) (ts : List Term) → n ≤ 2 ^ 20 → i < 2 ^ 20 → AreTermsBelow n ts × (length ts ≤ most_terms) → AreShort (term_piece (b ∷ []) i ts)
-row_short b n i ts le lt h =
-    filled ts _ (brief_line ((b ∷ decimal i) ∷ decimal (length ts) ∷ []) (omega arith) (lettered_brief b i (omega (arith, lt)), (brief (length ts) (omega (arith, h.1)), tt)), terms_short n ts le h.0)
+column_fits : (n : ℕ) (rows : List (List Term)) → n ≤ 2 ^ 20 → term_count rows ≤ most_terms → Fits (2 ^ 24) (column_piece n rows)
+column_fits zero rows le few = none_fit
+column_fits (suc n) rows le few =
+    let word = number_brief n (omega (arith, le)) in
+    one_more 12 (lettered (codes "k") n ∷ []) (omega (arith, word)) (omega arith) (columns_fit rows 0 n few) (omega (arith, le))
 
 -- ---- the file
 
@@ -322,44 +316,36 @@ pub record IsModest (f : File) : Type 0 where
   pub suffixes : All IsWritableSuffix f.suffixes
   pub few_nodes : node_count f ≤ 2 ^ 22
 
-body_lines_short : (f : File) → IsFile f → IsModest f → AreShort (body_lines f)
-body_lines_short f file m =
+pub lines_fit : (f : File) → IsFile f → IsModest f → Fits (655370 + 340 * length f.suffixes + 72 * value_count f + 96 * node_count f + 96 * linear_count f + 2 ^ 29 + 2 ^ 24) (nl_lines f)
+lines_fit f file m =
     let c = f.counts in
     let k = counts_of_header f.options c file.ruled in
-    let range = definitions_in_range c.n_var (defined_count c) [] f.definitions file.definitions in
+    let n = c.n_var in
     let nodes : sum_by (λ d. tree_size d.tree) f.definitions + sum_by (λ b. option_map_or tree_size b 0) f.bodies + sum_by (λ o. tree_size o.tree) f.objectives ≤ 2 ^ 22 = m.few_nodes in
-    let suffixes = joined (λ s. IsWritableSuffix s × IsSuffix c s) suffix_piece f.suffixes (λ s h. suffix_short c s k h)
-    (two IsWritableSuffix (IsSuffix c) f.suffixes (recursion_from_All IsWritableSuffix f.suffixes m.suffixes) (recursion_from_All (IsSuffix c) f.suffixes file.suffixes.each)) in
-    let definitions = definitions_short c [] f.definitions k tt file.definitions
-    (plain_definitions c f.definitions (recursion_from_All (λ d. d.usage < 2 ^ 31) f.definitions m.usages) (recursion_from_All (λ d. HasNodes d.tree) f.definitions m.trees.definitions)
-    (each_within (λ d. tree_size d.tree) f.definitions (2 ^ 22) (omega (arith, nodes)))) in
-    let bodies = numbered (λ b. (IfSome b HasNodes × IfSome b (IsTreeKnown c.n_var f.definitions)) × (option_map_or tree_size b 0 ≤ 2 ^ 22)) body_piece (2 ^ 20) 0 f.bodies
-    (λ i b lt h. body_short c f.definitions i b k range lt h.0.0 h.0.1 h.1) (omega (arith, file.bodies.count, k.constraints))
-    (two (λ b. IfSome b HasNodes × IfSome b (IsTreeKnown c.n_var f.definitions)) (λ b. option_map_or tree_size b 0 ≤ 2 ^ 22) f.bodies
-    (two (λ b. IfSome b HasNodes) (λ b. IfSome b (IsTreeKnown c.n_var f.definitions)) f.bodies (recursion_from_All (λ b. IfSome b HasNodes) f.bodies m.trees.bodies) (recursion_from_All (λ b. IfSome b (IsTreeKnown c.n_var f.definitions)) f.bodies file.bodies.known))
-    (each_within (λ b. option_map_or tree_size b 0) f.bodies (2 ^ 22) (omega (arith, nodes)))) in
-    let objectives = numbered (λ (o : Objective). (HasNodes o.tree × IsTreeKnown c.n_var f.definitions o.tree) × (tree_size o.tree ≤ 2 ^ 22)) objective_piece (2 ^ 20) 0 f.objectives
-    (λ i o lt h. objective_short c f.definitions i o k range lt h.0.0 h.0.1 h.1) (omega (arith, file.objectives.count, k.objectives))
-    (two (λ (o : Objective). HasNodes o.tree × IsTreeKnown c.n_var f.definitions o.tree) (λ (o : Objective). tree_size o.tree ≤ 2 ^ 22) f.objectives
-    (two (λ (o : Objective). HasNodes o.tree) (λ (o : Objective). IsTreeKnown c.n_var f.definitions o.tree) f.objectives (recursion_from_All (λ (o : Objective). HasNodes o.tree) f.objectives m.trees.objectives)
-    (recursion_from_All (λ (o : Objective). IsTreeKnown c.n_var f.definitions o.tree) f.objectives file.objectives.known))
-    (each_within (λ (o : Objective). tree_size o.tree) f.objectives (2 ^ 22) (omega (arith, nodes)))) in
-    let terms = numbered (λ ts. AreTermsBelow c.n_var ts × (length ts ≤ most_terms)) (term_piece (codes "J")) (2 ^ 20) 0 f.terms (λ i ts lt h. row_short 74 c.n_var i ts k.variables lt h) (omega (arith, file.terms.rows, k.constraints))
-    (two (AreTermsBelow c.n_var) (λ ts. length ts ≤ most_terms) f.terms (recursion_from_All (AreTermsBelow c.n_var) f.terms file.terms.terms_below) (each_within (length {A = Term}) f.terms most_terms file.terms.few_terms)) in
-    let slopes = numbered (λ ts. AreTermsBelow c.n_var ts × (length ts ≤ most_terms)) (term_piece (codes "G")) (2 ^ 20) 0 f.slopes (λ i ts lt h. row_short 71 c.n_var i ts k.variables lt h) (omega (arith, file.terms.costs, k.objectives))
-    (two (AreTermsBelow c.n_var) (λ ts. length ts ≤ most_terms) f.slopes (recursion_from_All (AreTermsBelow c.n_var) f.slopes file.terms.slopes_below) (recursion_from_All (λ ts. length ts ≤ most_terms) f.slopes file.terms.few_slopes)) in
-    let a1 = all_append IsShort _ _ suffixes definitions in
-    let a2 = all_append IsShort _ _ a1 bodies in
-    let a3 = all_append IsShort _ _ a2 objectives in
-    let a4 = all_append IsShort _ (guess_piece (codes "d") f.dual_guesses) a3 (guesses_short 100 c.n_con f.dual_guesses m.dual_guesses k.constraints file.dual_guesses.below) in
-    let a5 = all_append IsShort _ (guess_piece (codes "x") f.primal_guesses) a4 (guesses_short 120 c.n_var f.primal_guesses m.primal_guesses k.variables file.primal_guesses.below) in
-    let a6 = all_append IsShort _ (interval_piece (codes "r") f.sides) a5 (intervals_short 114 f.sides) in
-    let a7 = all_append IsShort _ (interval_piece (codes "b") f.bounds) a6 (intervals_short 98 f.bounds) in
-    let a8 = all_append IsShort _ (column_piece c.n_var f.terms) a7 (column_short c.n_var f.terms k.variables file.terms.few_terms) in
-    let a9 = all_append IsShort _ _ a8 terms in
-    all_append IsShort _ _ a9 slopes
+    let trees : HasTrees c f.definitions = record { counts = k; range = definitions_in_range n (defined_count c) [] f.definitions file.definitions } in
+    let suffixes = suffixes_fit c f.suffixes k (recursion_from_All (λ s. IsWritableSuffix s × IsSuffix c s) f.suffixes (λ i s lt. (m.suffixes i s lt, file.suffixes.each i s lt))) in
+    let plain : All (IsPlainDefinition c) f.definitions = λ i d lt.
+    let size = get_or-le-sum_by (λ (d : Definition). tree_size d.tree) f.definitions i d lt in
+    record { usage = m.usages i d lt; nodes = m.trees.definitions i d lt; size = omega (arith, nodes, size) } in
+    let definitions = definitions_fit c [] f.definitions (record { counts = k; range = tt }) file.definitions (recursion_from_All (IsPlainDefinition c) f.definitions plain) in
+    let bodies = numbered (λ b. option_map_or tree_size b 0) body_piece 0 f.bodies (λ j small i b lt.
+    let size = get_or-le-sum_by (λ b. option_map_or tree_size b 0) f.bodies i b lt in
+    body_fits c f.definitions j (get_or f.bodies i b) trees small (m.trees.bodies i b lt) (file.bodies.known i b lt) (omega (arith, nodes, size))) (omega (arith, file.bodies.count, k.constraints)) in
+    let objectives = numbered (λ (o : Objective). tree_size o.tree) objective_piece 0 f.objectives (λ j small i o lt.
+    let size = get_or-le-sum_by (λ (o : Objective). tree_size o.tree) f.objectives i o lt in
+    objective_fits c f.definitions j (get_or f.objectives i o) trees small (m.trees.objectives i o lt) (file.objectives.known i o lt) (omega (arith, nodes, size))) (omega (arith, file.objectives.count, k.objectives)) in
+    let duals = guesses_fit 100 c.n_con f.dual_guesses k.constraints file.dual_guesses in
+    let primals = guesses_fit 120 n f.primal_guesses k.variables file.primal_guesses in
+    let sides = intervals_fit 114 c.n_con f.sides k.constraints file.side_count in
+    let bounds = intervals_fit 98 n f.bounds k.variables file.bound_count in
+    let columns = column_fits n f.terms k.variables file.terms.few_terms in
+    let terms = numbered (length {A = Term}) (term_piece (codes "J")) 0 f.terms (λ j small i ts lt.
+    let size = get_or-le-sum_by (length {A = Term}) f.terms i ts lt in
+    row_fits 74 n j (get_or f.terms i ts) k.variables small (file.terms.terms_below i ts lt) (omega (arith, size, file.terms.few_terms))) (omega (arith, file.terms.rows, k.constraints)) in
+    let slopes = numbered (length {A = Term}) (term_piece (codes "G")) 0 f.slopes
+    (λ j small i ts lt. row_fits 71 n j (get_or f.slopes i ts) k.variables small (file.terms.slopes_below i ts lt) (file.terms.few_slopes i ts lt)) (omega (arith, file.terms.costs, k.objectives)) in
+    let body = both (both (both (both (both (both (both (both (both (both suffixes definitions) bodies) objectives) duals) primals) sides) bounds) columns) terms) slopes in
+    more_room (both (header_fits f.options c file.ruled m.options) body) (omega arith)
 
 pub lines_short : (f : File) → IsFile f → IsModest f → All (λ line. length (spaced line) ≤ 65536) (nl_lines f)
-lines_short f file m =
-    All-from_recursion IsShort (nl_lines f)
-    (all_append IsShort (header_lines f.options f.counts) (body_lines f) (header_short f.options f.counts file.ruled m.options) (body_lines_short f file m))
+lines_short f file m = All-from_recursion IsShort (nl_lines f) (lines_fit f file m).each

@@ -23,10 +23,11 @@ use Rattle.nl_header.specs.Reading.{AreClean as IsCleanHeader}
 use Rattle.nl_header.proofs.HeaderLaw.{AreNineClean, header-rule}
 use Rattle.nl_header.proofs.ReaderLemmas.{clean-more}
 use Rattle.nl_model.specs.declared.header_counts.Counts.{Counts}
+use Rattle.nl_model.specs.Draft.{Draft}
 use Rattle.nl_model.specs.HeaderRules.{are_definitions_within, is_header}
 use Rattle.nl_model.specs.Rules.{term_count}
 use Rattle.nl_lines.specs.declared.head.Head.{Head}
-use Rattle.nl_lines.specs.Rows.{Row, holds_words, rows_from}
+use Rattle.nl_lines.specs.Rows.{NumberedRow, holds_words, rows_from}
 use Rattle.nl_lines.specs.Pieces.{Piece, is_complete, piece_pairs, pieces_of}
 use Rattle.nl_lines.specs.Saying.{draft_of}
 use Rattle.nl_lines.specs.Tests.{end_tests, is_linear, is_same_piece, pair_total}
@@ -40,7 +41,7 @@ use Rattle.nl_lines.proofs.FreshLaw.{none_before}
 use Rattle.nl_segments.proofs.HeadLaw.{all_complete}
 use Rattle.nl_segments.proofs.PairHeld.{never}
 use Rattle.nl_segments.proofs.StandingLemmas.{standing-more}
-use Rattle.nl_rewritten.proofs.Words.{no_mark, options_small}
+use Rattle.nl_rewritten.proofs.Heads.{no_mark, options_small}
 use Rattle.nl_rewritten.proofs.Rows.{AreGood, AreKept, IsGoodPiece, kept_none, kept_row}
 
 -- ---- lines without a fault
@@ -76,7 +77,7 @@ step s n line h fine = by (holds_words line) (is_in_header s) refl refl
           kept = subst (AreKept _ _) (sym (h.none q)) (kept_none _ _);
         })
     by true false e q =
-        let row : Row = record { line = n; text = without_comment line } in
+        let row : NumberedRow = record { line = n; text = without_comment line } in
         rw (e, q) (record {
           header = h.header;
           few = h.few;
@@ -201,17 +202,17 @@ steps o c before (p ∷ rest) sound running complete few good =
 
 -- ---- what the whole text means
 
-pub record IsWhole (o : List ℤ) (c : Counts) (pieces : List Piece) : Type 0 where
+pub record IsWhole (o : List ℤ) (c : Counts) (pieces : List Piece) (d : Draft) : Type 0 where
   pub ruled : IsTrue (is_header o c)
   pub options : list_all has_31_bits o ≡ true
   pub steps_are : AreSteps o c [] pieces
   pub kept : AreKept o c pieces
-  pub objectives : All IsSome (draft_of o c pieces).objectives
-  pub sides : c.n_con ≤ length (draft_of o c pieces).sides
-  pub bounds : c.n_var ≤ length (draft_of o c pieces).bounds
-  pub nonzeros : term_count (draft_of o c pieces).terms ≡ c.nzc
+  pub objectives : All IsSome d.objectives
+  pub sides : c.n_con ≤ length d.sides
+  pub bounds : c.n_var ≤ length d.bounds
+  pub nonzeros : term_count d.terms ≡ c.nzc
 
-whole_by : (s : Standing) → IsKeptStanding s → end_refusal s ≡ None → IsWhole (options_in s.header) (counts_of s) s.pieces
+whole_by : (s : Standing) → IsKeptStanding s → end_refusal s ≡ None → IsWhole (options_in s.header) (counts_of s) s.pieces (said s)
 unfolding end_refusal end_tests
 whole_by s h e = by (is_in_header s) refl
   where
@@ -221,7 +222,7 @@ whole_by s h e = by (is_in_header s) refl
     c : Counts
     c = counts_of s
 
-    by : (t : Bool) → is_in_header s ≡ t → IsWhole (options_in s.header) (counts_of s) s.pieces
+    by : (t : Bool) → is_in_header s ≡ t → IsWhole (options_in s.header) (counts_of s) s.pieces (said s)
     by true q = absurd (let some = rw q at e in cc)
     by false q =
         let none = none_each (end_tests c (said s) s.pieces) (rw q at e) in
@@ -240,5 +241,5 @@ whole_by s h e = by (is_in_header s) refl
           nonzeros = eqb-true (term_count (said s).terms) c.nzc (not-false _ none.1.1.0);
         }
 
-pub whole_text : (text : List ℕ) → IsClean nl_rules (lines_of text) (last_line text) → IsWhole (options_in (standing (lines_of text)).header) (counts_of (standing (lines_of text))) (standing (lines_of text)).pieces
+pub whole_text : (text : List ℕ) → IsClean nl_rules (lines_of text) (last_line text) → IsWhole (options_in (standing (lines_of text)).header) (counts_of (standing (lines_of text))) (standing (lines_of text)).pieces (said (standing (lines_of text)))
 whole_text text c = whole_by (standing (lines_of text)) (all_lines [] (lines_of text) (last_line text) c start) (at_end text (end_none (lines_of text) (last_line text) c))

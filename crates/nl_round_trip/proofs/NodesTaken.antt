@@ -1,7 +1,7 @@
 -- Written expressions are taken, node by node.
-use Rattle.std.proofs.Common.{◌≡◌, ◌∙◌, ℕ, ◌+◌, ◌-◌, ◌^◌, ◌<◌, ◌≤◌, ◌==◌, true, false, ℤ, List, [], ◌∷◌, ◌++◌, length, refl, sym, ap, ap₂, subst, arith, nat_lt, nat_le, Option, Some, None, length-append, append_assoc, append-nil, lt_trans, lit<}
+use Rattle.std.proofs.Common.{◌≡◌, ◌∙◌, ℕ, ◌+◌, ◌-◌, ◌^◌, ◌<◌, ◌≤◌, ◌==◌, true, false, ℤ, List, [], ◌∷◌, ◌++◌, length, refl, sym, ap, ap₂, subst, arith, nat_lt, nat_le, Option, Some, None, length-append, append_assoc, append-nil, lt_trans, lit<, Bool}
 use Rattle.std.specs.Prelude.{codes, if◌then◌else◌}
-use Rattle.std.proofs.lemmas.Bool.{lt-ltb, le-leb}
+use Rattle.std.proofs.lemmas.Bool.{lt-ltb, le-leb, lt-leb, le-ltb, eqb-true}
 use Rattle.std.proofs.lemmas.Bool.Decides.{nat_tests}
 use Rattle.std.proofs.lemmas.List.{length-map, map-append}
 use Rattle.std.specs.Fmt.{decimal}
@@ -9,29 +9,29 @@ use Rattle.std.specs.List.{AllByRecursion, flat_map}
 use Rattle.texts.specs.Judged.{first_reason}
 use Rattle.code_tables.specs.Opcodes.{class_of, operands_of}
 use Rattle.code_tables.specs.declared.class.OpClass.{OpClass}
-use Rattle.code_tables.specs.declared.class.OpClass.TheVariants.{Sum, Difference, Product, Quotient, Negation, List as ListOf, Power, Least, Greatest, Floor, Ceiling, Absolute, Refused}
+use Rattle.code_tables.specs.declared.class.OpClass.TheVariants.{Refused}
 use Rattle.code_tables.specs.declared.class.Operands.{Operands}
 use Rattle.code_tables.specs.declared.class.Operands.TheVariants.{One, Two, Counted as OnNextLine}
 use Rattle.exact_numbers.specs.declared.dec.Dec.{Dec}
-use Rattle.nl_meaning.specs.Trees.{HasCount}
+use Rattle.nl_meaning.specs.Trees.{HasCount, Tree, Trees, count_of, tree_size, trees_size}
 use Rattle.nl_model.specs.declared.header_counts.Counts.{Counts}
 use Rattle.nl_model.specs.declared.node.Node.{Node}
 use Rattle.nl_model.specs.declared.node.Node.TheVariants.{Num, Var, Defined, Op}
 use Rattle.nl_model.specs.Draft.{Draft}
-use Rattle.nl_model.specs.File.{Definition}
+use Rattle.nl_model.specs.declared.definition.Def.{Def as Definition}
 use Rattle.nl_model.specs.HeaderRules.{defined_count}
-use Rattle.nl_model.specs.Nodes.{opcode_of, awaited, operand_count}
-use Rattle.nl_model.specs.Rules.{is_defined}
+use Rattle.nl_model.specs.Nodes.{opcode_of, awaited, operand_count, IsPrefix, a_number, a_variable, a_defined, an_operation, ArePrefixes, no_tree, one_more}
+use Rattle.nl_model.specs.Rules.{is_defined, IsTreeWithin, AreTreesWithin, AreDefinitions}
 use Rattle.nl_model.proofs.Opcodes.{opcode_of-known}
 use Rattle.nl_model.proofs.Prefixes.{awaited-push}
 use Rattle.nl_lines.specs.declared.awaited.Awaited.TheVariants.{Nothing, Node as NodeLine, OperandCount}
 use Rattle.nl_lines.specs.declared.head.Head.{Head}
-use Rattle.nl_lines.specs.declared.head.Head.TheVariants.{Body, Objective, Definition as DefinitionHead, DualGuesses, PrimalGuesses, Sides, Bounds, ColumnCounts, Terms, Slopes, Suffix}
+use Rattle.nl_lines.specs.declared.head.Head.TheVariants.{Body, Objective, Definition as DefinitionHead}
 use Rattle.nl_lines.specs.Heads.{is_head}
 use Rattle.nl_lines.specs.declared.pending.Pending.{Pending}
 use Rattle.nl_lines.specs.Nodes.{node_in, opcode_in, fixed_node, counted_opcode, variable_node, only_nodes, nodes_from, pending_from}
 use Rattle.nl_lines.specs.Pieces.{Piece, awaited_in, tree_awaits, line_kind, line_count, pair_count, has_tree, tree_rows, piece_nodes, piece_pending, is_complete}
-use Rattle.nl_lines.specs.Rows.{Row}
+use Rattle.nl_lines.specs.Rows.{NumberedRow}
 use Rattle.nl_lines.specs.Saying.{draft_of, with_piece, said_by, if_complete}
 use Rattle.nl_lines.specs.Tests.{node_form_tests, node_tests, operand_tests, node_total}
 use Rattle.nl_lines.specs.declared.fault.NlReason.TheVariants.{TooLarge}
@@ -40,17 +40,16 @@ use Rattle.texts.proofs.FirstReasons.{reason_after}
 use Rattle.nl_lines.proofs.NodeLemmas.{not_large}
 use Rattle.nl_lines.proofs.PieceLemmas.{longer, draft-append}
 use Rattle.exact_numbers.specs.Values.{text_of}
-use Rattle.written_texts.specs.Lines.{Line}
+use Rattle.written_texts.specs.Lines.{WordLine}
 use Rattle.nl_writer.specs.Trees.{operator_lines, node_lines}
 use Rattle.written_texts.specs.Words.{IsWritten}
 use Rattle.written_texts.proofs.WordLemmas.{row-written}
 use Rattle.written_texts.proofs.WrittenWords.{word-lettered, word-number, word-decimal, written-one}
 use Rattle.nl_round_trip.specs.InsideTaking.{row_at, rows_at, IsTaken}
 use Rattle.written_texts.proofs.NumbersRead.{whole_of-decimal, are_digits-decimal, dec_of-text}
-use Rattle.nl_round_trip.proofs.LinesTaken.{with_lines}
-use Rattle.nl_round_trip.proofs.PairsTaken.{decimal_no_head}
-use Rattle.nl_round_trip.proofs.StandingMore.{node_total-append}
-use Rattle.nl_round_trip.proofs.TakenLemmas.{taken_none, taken_then, IsLineFine, line_taken}
+use Rattle.nl_round_trip.proofs.TakenLemmas.{with_lines, taken_none, taken_then, IsLineFine, line_taken, all_append}
+use Rattle.nl_round_trip.proofs.PairPieces.{decimal_no_head}
+use Rattle.nl_lines.proofs.TotalLemmas.{nodes-append}
 
 -- ---- operators
 
@@ -63,19 +62,8 @@ FitsOperands (Some OnNextLine) k = 1 ≤ k
 
 operands_of-class : (c : OpClass) (k : ℕ) → HasCount c k → FitsOperands (operands_of (opcode_of c)) k × (opcode_of c ≤ 54)
 unfolding operands_of
-operands_of-class Sum k h = (h, omega arith)
-operands_of-class Difference k h = (h, omega arith)
-operands_of-class Product k h = (h, omega arith)
-operands_of-class Quotient k h = (h, omega arith)
-operands_of-class Negation k h = (h, omega arith)
-operands_of-class ListOf k h = (h, omega arith)
-operands_of-class Power k h = (h, omega arith)
-operands_of-class Least k h = (h, omega arith)
-operands_of-class Greatest k h = (h, omega arith)
-operands_of-class Floor k h = (h, omega arith)
-operands_of-class Ceiling k h = (h, omega arith)
-operands_of-class Absolute k h = (h, omega arith)
 operands_of-class Refused k h = absurd h
+operands_of-class c k h = (h, omega arith)
 
 known : (o k : ℕ) → HasCount (class_of o) k → class_of o ≡ Refused → ⊥
 known o k h e = subst (λ c. HasCount c k) e h
@@ -83,10 +71,13 @@ known o k h e = subst (λ c. HasCount c k) e h
 operands_known : (o k : ℕ) → HasCount (class_of o) k → FitsOperands (operands_of o) k × (o ≤ 54)
 operands_known o k h = subst (λ p. FitsOperands (operands_of p) k × (p ≤ 54)) (opcode_of-known o (known o k h)) (operands_of-class (class_of o) k h)
 
+pub opcode_small : (o k : ℕ) → HasCount (class_of o) k → o ≤ 54
+opcode_small o k h = let is = operands_known o k h in is.1
+
 -- ---- the lines of nodes
 
 -- the words of a node; of an operator, its opcode
-abbrev pub node_words : Node → Line
+abbrev pub node_words : Node → WordLine
 node_words (Num d) = (codes "n" ++ text_of d) ∷ []
 node_words (Var j) = (codes "v" ++ decimal j) ∷ []
 node_words (Defined i) = (codes "v" ++ decimal i) ∷ []
@@ -103,12 +94,6 @@ pub record HasFewIndices (c : Counts) : Type 0 where
   pub variables : c.n_var ≤ 2 ^ 20
   pub definitions : defined_count c ≤ 2 ^ 20
 
-le-false : (a b : ℕ) → b < a → nat_le a b ≡ false
-le-false a b lt = grind (arith, nat_tests)
-
-lt-false : (a b : ℕ) → b ≤ a → nat_lt a b ≡ false
-lt-false a b le = grind (arith, nat_tests)
-
 words_written : (c : Counts) (ds : List Definition) (m : Node) → HasFewIndices c → IsNodeFine c ds m → IsWritten (node_words m)
 words_written c ds (Num d) few h = written-one (codes "n" ++ text_of d) (word-number 110 d (omega arith))
 words_written c ds (Var j) few h = let small : j < 2 ^ 31 = omega arith in written-one (codes "v" ++ decimal j) (word-lettered 118 j (omega arith) (lt_trans small (lit< tt)))
@@ -120,16 +105,14 @@ words_written c ds (Op o k) few h =
 
 no_head : (m : Node) → is_head (node_words m) ≡ false
 no_head (Num d) = refl
-no_head (Var j) = refl
-no_head (Defined i) = refl
-no_head (Op o k) = refl
+no_head m = refl
 
 form_fine : (c : Counts) (d : Draft) (m : Node) → HasFewIndices c → IsNodeFine c d.definitions m → first_reason (node_form_tests c d (node_words m)) ≡ None
 unfolding node_form_tests
 form_fine c d (Num x) few h = rw (dec_of-text x) refl
 form_fine c d (Var j) few h =
     let small : j < 2 ^ 31 = omega arith in
-    rw (are_digits-decimal j small, whole_of-decimal j small, lt-ltb j (c.n_var + defined_count c) (omega arith), le-false c.n_var j h) refl
+    rw (are_digits-decimal j small, whole_of-decimal j small, lt-ltb j (c.n_var + defined_count c) (omega arith), lt-leb c.n_var j h) refl
 form_fine c d (Defined i) few h =
     let small : i < 2 ^ 31 = omega arith in
     rw (are_digits-decimal i small, whole_of-decimal i small, lt-ltb i (c.n_var + defined_count c) h.1, le-leb c.n_var i h.0, h.2) refl
@@ -150,9 +133,9 @@ pub record IsInTree (c : Counts) (p : Piece) (ns : List Node) (pending : Option 
   pub nodes : only_nodes (piece_nodes c p) ≡ ns
   pub pend : piece_pending p ≡ pending
 
-pub in_tree-more : (c : Counts) (p : Piece) (ns : List Node) (pending : Option Pending) (row : Row) → IsInTree c p ns pending
-    → IsInTree c (longer p row) (ns ++ only_nodes (last_nodes c.n_var pending row)) (last_pending pending row)
-in_tree-more c p ns pending row h =
+-- with a row that adds these nodes, and leaves this opcode pending
+in_tree-more : {c : Counts} {p : Piece} {ns ms : List Node} {pending next : Option Pending} (row : NumberedRow) → only_nodes (last_nodes c.n_var pending row) ≡ ms → last_pending pending row ≡ next → IsInTree c p ns pending → IsInTree c (longer p row) (ns ++ ms) next
+in_tree-more {c = c} {p = p} {ns = ns} {pending = pending} row new after h =
     let rows = late_tree p row h.tree h.late in
     let pend : pending_from None (tree_rows p) ≡ pending = h.pend in
     record {
@@ -161,14 +144,15 @@ in_tree-more c p ns pending row h =
       nodes = ap (λ rs. only_nodes (nodes_from c.n_var None rs)) rows
           ∙ ap only_nodes (nodes-more c.n_var None (tree_rows p) row)
           ∙ map-append (λ n. n.node) (piece_nodes c p) (last_nodes c.n_var (pending_from None (tree_rows p)) row)
-          ∙ ap₂ (λ xs o. xs ++ only_nodes (last_nodes c.n_var o row)) h.nodes pend;
-      pend = ap (pending_from None) rows ∙ pending-more None (tree_rows p) row ∙ ap (λ o. last_pending o row) pend;
+          ∙ ap₂ (λ xs o. xs ++ only_nodes (last_nodes c.n_var o row)) h.nodes pend
+          ∙ ap (λ ms. ns ++ ms) new;
+      pend = ap (pending_from None) rows ∙ pending-more None (tree_rows p) row ∙ ap (λ o. last_pending o row) pend ∙ after;
     }
 
 pub tree_awaited : (c : Counts) (p : Piece) (ns : List Node) (pending : Option Pending) → IsInTree c p ns pending → awaited_in c p ≡ tree_awaits (piece_nodes c p) pending
 unfolding awaited_in
 tree_awaited c p ns pending h =
-    let past : nat_lt (length p.rows) (line_count c p.head) ≡ false = lt-false (length p.rows) (line_count c p.head) (omega (arith, h.late, tree_count c p.head h.tree)) in
+    let past : nat_lt (length p.rows) (line_count c p.head) ≡ false = le-ltb (length p.rows) (line_count c p.head) (omega (arith, h.late, tree_count c p.head h.tree)) in
     ap₂ (λ b t. if b then line_kind p.head else (if t then tree_awaits (piece_nodes c p) (piece_pending p) else Nothing)) past h.tree
     ∙ ap (tree_awaits (piece_nodes c p)) h.pend
 
@@ -199,14 +183,7 @@ unsaid d p tree e = by p.head tree
     by (Body i) t = not_said d _ p e
     by (Objective k m) t = not_said d _ p e
     by (DefinitionHead i j u) t = not_said d _ p e
-    by (DualGuesses n) t = absurd cc
-    by (PrimalGuesses n) t = absurd cc
-    by Sides t = absurd cc
-    by Bounds t = absurd cc
-    by (ColumnCounts n) t = absurd cc
-    by (Terms i n) t = absurd cc
-    by (Slopes k n) t = absurd cc
-    by (Suffix k n) t = absurd cc
+    by h t = absurd cc
 
 -- the pieces before say the draft d, of a file with these counts
 pub record SaysBefore (o : List ℤ) (c : Counts) (before : List Piece) (d : Draft) : Type 0 where
@@ -221,7 +198,7 @@ said_within o c before d p ns s h some =
 node_room : (c : Counts) (before : List Piece) (p : Piece) (ns : List Node) (pending : Option Pending) → IsInTree c p ns pending → node_total c before + length ns < 2 ^ 22 → node_total c (before ++ p ∷ []) < 2 ^ 22
 node_room c before p ns pending h room =
     let size : length (piece_nodes c p) ≡ length ns = sym (length-map (piece_nodes c p) (λ n. n.node)) ∙ ap (length {A = Node}) h.nodes in
-    omega (arith, node_total-append c before p, size, room)
+    omega (arith, nodes-append c before p, size, room)
 
 -- ---- the row of a node
 
@@ -239,7 +216,7 @@ node_line o c before d p ns m few s h some fine room =
     }
 
 -- what a row says after no pending opcode
-abbrev IsRead : ℕ → Line → Option Node → Option ℕ → Type 0
+abbrev IsRead : ℕ → WordLine → Option Node → Option ℕ → Type 0
 IsRead n words node opcode = (node_in n words ≡ node) × (opcode_in words ≡ opcode)
 
 number_read : (n : ℕ) (d : Dec) → IsRead n (node_words (Num d)) (Some (Num d)) None
@@ -255,17 +232,11 @@ unfolding node_in opcode_in
 operator_read n o k x small e f = (rw (whole_of-decimal o small, e) refl, rw (whole_of-decimal o small, e) refl)
 
 -- the piece with the row of a node alone
-alone_in : (c : Counts) (p : Piece) (ns : List Node) (m : Node) (n : ℕ) (words : Line) → IsInTree c p ns None → IsWritten words → IsRead c.n_var words (Some m) None → IsInTree c (longer p (row_at n words)) (ns ++ m ∷ []) None
-alone_in c p ns m n words h w r =
-    let row = row_at n words in
-    let more = in_tree-more c p ns None row h in
-    let words_is = row-written words w in
-    let nodes : only_nodes (last_nodes c.n_var None row) ≡ m ∷ [] = rw (words_is, r.0) refl in
-    let pend : last_pending None row ≡ None = rw (words_is, r.1) refl in
-    record { tree = more.tree; late = more.late; nodes = more.nodes ∙ ap (λ xs. ns ++ xs) nodes; pend = more.pend ∙ pend }
+alone_in : (c : Counts) (p : Piece) (ns : List Node) (m : Node) (n : ℕ) (words : WordLine) → IsInTree c p ns None → IsWritten words → IsRead c.n_var words (Some m) None → IsInTree c (longer p (row_at n words)) (ns ++ m ∷ []) None
+alone_in c p ns m n words h w r = in_tree-more (row_at n words) (rw (row-written words w, r.0) refl) (rw (row-written words w, r.1) refl) h
 
 -- lines that are taken within an expression, and the nodes after them
-pub record TakesNodes (o : List ℤ) (c : Counts) (before : List Piece) (p : Piece) (n : ℕ) (lines : List Line) (ns : List Node) : Type 0 where
+pub record TakesNodes (o : List ℤ) (c : Counts) (before : List Piece) (p : Piece) (n : ℕ) (lines : List WordLine) (ns : List Node) : Type 0 where
   pub taken : IsTaken o c (before ++ p ∷ []) n lines (before ++ with_lines p n lines ∷ [])
   pub within : IsInTree c (with_lines p n lines) ns None
 
@@ -281,14 +252,9 @@ one_row o c before d p ns m r n few s h some fine room read = record {
 opcode_in_tree : (c : Counts) (p : Piece) (ns : List Node) (n o : ℕ) → o < 2 ^ 31 → operands_of o ≡ Some OnNextLine → IsWritten ((codes "o" ++ decimal o) ∷ []) → IsInTree c p ns None
     → IsInTree c (longer p (row_at n ((codes "o" ++ decimal o) ∷ []))) ns (Some (record { opcode = o; line = n }))
 opcode_in_tree c p ns n o small e w h =
-    let words : Line = (codes "o" ++ decimal o) ∷ [] in
-    let row = row_at n words in
-    let more = in_tree-more c p ns None row h in
+    let words : WordLine = (codes "o" ++ decimal o) ∷ [] in
     let read = operator_read c.n_var o 1 OnNextLine small e (omega arith) in
-    let words_is = row-written words w in
-    let nodes : only_nodes (last_nodes c.n_var None row) ≡ [] = rw (words_is, read.0) refl in
-    let pend : last_pending None row ≡ Some (record { opcode = o; line = n }) = rw (words_is, read.1) refl in
-    record { tree = more.tree; late = more.late; nodes = more.nodes ∙ ap (λ xs. ns ++ xs) nodes ∙ append-nil ns; pend = more.pend ∙ pend }
+    subst (λ ms. IsInTree c (longer p (row_at n words)) ms (Some (record { opcode = o; line = n }))) (append-nil ns) (in_tree-more {ms = []} {pending = None} (row_at n words) (rw (row-written words w, read.0) refl) (rw (row-written words w, read.1) refl) h)
 
 count_fine : (k : ℕ) → 1 ≤ k → k ≤ 2 ^ 22 → first_reason (operand_tests (decimal k ∷ [])) ≡ None
 unfolding operand_tests
@@ -308,28 +274,24 @@ count_line o c before p ns q k some few h =
 
 count_in_tree : (c : Counts) (p : Piece) (ns : List Node) (q : Pending) (n k : ℕ) → k < 2 ^ 31 → IsInTree c p ns (Some q) → IsInTree c (longer p (row_at n (decimal k ∷ []))) (ns ++ Op q.opcode k ∷ []) None
 count_in_tree c p ns q n k small h =
-    let words : Line = decimal k ∷ [] in
-    let row = row_at n words in
-    let more = in_tree-more c p ns (Some q) row h in
-    let words_is = row-written words (written-one (decimal k) (word-decimal k (lt_trans small (lit< tt)))) in
-    let nodes : only_nodes (last_nodes c.n_var (Some q) row) ≡ Op q.opcode k ∷ [] = rw (words_is, whole_of-decimal k small) refl in
-    record { tree = more.tree; late = more.late; nodes = more.nodes ∙ ap (λ xs. ns ++ xs) nodes; pend = more.pend }
+    let words : WordLine = decimal k ∷ [] in
+    in_tree-more {ms = Op q.opcode k ∷ []} {pending = Some q} (row_at n words) (rw (row-written words (written-one (decimal k) (word-decimal k (lt_trans small (lit< tt)))), whole_of-decimal k small) refl) refl h
 
-rows_at-append : (n : ℕ) (xs ys : List Line) → rows_at n (xs ++ ys) ≡ rows_at n xs ++ rows_at (n + length xs) ys
+rows_at-append : (n : ℕ) (xs ys : List WordLine) → rows_at n (xs ++ ys) ≡ rows_at n xs ++ rows_at (n + length xs) ys
 rows_at-append n [] ys = ap (λ k. rows_at k ys) (omega arith)
 rows_at-append n (x ∷ xs) ys = ap (λ rs. row_at n x ∷ rs) (rows_at-append (n + 1) xs ys ∙ ap (λ k. rows_at (n + 1) xs ++ rows_at k ys) (omega arith))
 
-pub with_lines-append : (p : Piece) (n m : ℕ) (xs ys : List Line) → m ≡ n + length xs → with_lines (with_lines p n xs) m ys ≡ with_lines p n (xs ++ ys)
+pub with_lines-append : (p : Piece) (n m : ℕ) (xs ys : List WordLine) → m ≡ n + length xs → with_lines (with_lines p n xs) m ys ≡ with_lines p n (xs ++ ys)
 with_lines-append p n m xs ys e =
     ap (λ rs. record p { rows = rs }) (append_assoc p.rows (rows_at n xs) (rows_at m ys) ∙ ap (λ rs. p.rows ++ rs) (ap (λ k. rows_at n xs ++ rows_at k ys) e ∙ sym (rows_at-append n xs ys)))
 
-takes_then : (o : List ℤ) (c : Counts) (before : List Piece) (p : Piece) (n m : ℕ) (xs ys : List Line) (ns ms : List Node) → m ≡ n + length xs → TakesNodes o c before p n xs ns → TakesNodes o c before (with_lines p n xs) m ys ms
+takes_then : (o : List ℤ) (c : Counts) (before : List Piece) (p : Piece) (n m : ℕ) (xs ys : List WordLine) (ns ms : List Node) → m ≡ n + length xs → TakesNodes o c before p n xs ns → TakesNodes o c before (with_lines p n xs) m ys ms
     → TakesNodes o c before p n (xs ++ ys) ms
 takes_then o c before p n m xs ys ns ms e f g =
     let same = with_lines-append p n m xs ys e in
     record {
       taken = subst (λ q. IsTaken o c (before ++ p ∷ []) n (xs ++ ys) (before ++ q ∷ [])) same
-          (taken_then o c (before ++ p ∷ []) (before ++ with_lines p n xs ∷ []) (before ++ with_lines (with_lines p n xs) m ys ∷ []) n m xs ys f.taken e g.taken);
+          (taken_then f.taken e g.taken);
       within = subst (λ q. IsInTree c q ms None) same g.within;
     }
 
@@ -337,8 +299,8 @@ counted_rows : (o : List ℤ) (c : Counts) (before : List Piece) (d : Draft) (p 
     → IsNodeFine c d.definitions (Op opcode k) → node_total c before + length ns < 2 ^ 22 → operands_of opcode ≡ Some OnNextLine → opcode < 2 ^ 31 → 1 ≤ k
     → TakesNodes o c before p n (((codes "o" ++ decimal opcode) ∷ []) ∷ (decimal k ∷ []) ∷ []) (ns ++ Op opcode k ∷ [])
 counted_rows o c before d p ns opcode k n few s h some fine room e small more =
-    let words : Line = (codes "o" ++ decimal opcode) ∷ [] in
-    let count : Line = decimal k ∷ [] in
+    let words : WordLine = (codes "o" ++ decimal opcode) ∷ [] in
+    let count : WordLine = decimal k ∷ [] in
     let q : Pending = record { opcode = opcode; line = n } in
     let first = longer p (row_at n words) in
     let least : k < 2 ^ 31 = omega (arith, fine.1) in
@@ -349,7 +311,7 @@ counted_rows o c before d p ns opcode k n few s h some fine room e small more =
     let same = with_lines-append p n (n + 1) (words ∷ []) (count ∷ []) refl in
     record {
       taken = subst (λ q. IsTaken o c (before ++ p ∷ []) n (words ∷ count ∷ []) (before ++ q ∷ [])) same
-          (taken_then o c (before ++ p ∷ []) (before ++ first ∷ []) (before ++ longer first (row_at (n + 1) count) ∷ []) n (n + 1) (words ∷ []) (count ∷ []) one refl two);
+          (taken_then one refl two);
       within = subst (λ q. IsInTree c q (ns ++ Op opcode k ∷ []) None) same in_second;
     }
 
@@ -364,7 +326,7 @@ node_taken o c before d p ns (Var j) n few s h some fine room =
     one_row o c before d p ns (Var j) (Var j) n few s h some fine room (read.0 ∙ ap Some same, read.1)
 node_taken o c before d p ns (Defined i) n few s h some fine room =
     let read = variable_read c.n_var i (omega (arith, fine.0, fine.1)) in
-    let same : variable_node c.n_var i ≡ Defined i = rw (lt-false i c.n_var fine.0) refl in
+    let same : variable_node c.n_var i ≡ Defined i = rw (le-ltb i c.n_var fine.0) refl in
     one_row o c before d p ns (Defined i) (Defined i) n few s h some fine room (read.0 ∙ ap Some same, read.1)
 node_taken o c before d p ns (Op opcode k) n few s h some fine room =
     let is = operands_known opcode k fine.0 in
@@ -392,7 +354,7 @@ pub nodes_taken : (o : List ℤ) (c : Counts) (before : List Piece) (d : Draft) 
 nodes_taken o c before d p ns [] n few s h w fine room =
     let same : with_lines p n [] ≡ p = ap (λ rs. record p { rows = rs }) (append-nil p.rows) in
     record {
-      taken = subst (λ q. IsTaken o c (before ++ p ∷ []) n [] (before ++ q ∷ [])) (sym same) (taken_none o c (before ++ p ∷ []) n);
+      taken = subst (λ q. IsTaken o c (before ++ p ∷ []) n [] (before ++ q ∷ [])) (sym same) taken_none;
       within = subst (λ q. IsInTree c q (ns ++ []) None) (sym same) (subst (λ xs. IsInTree c p xs None) (sym (append-nil ns)) h);
     }
 nodes_taken o c before d p ns (m ∷ ms) n few s h w fine room =
@@ -402,3 +364,58 @@ nodes_taken o c before d p ns (m ∷ ms) n few s h w fine room =
     let more = nodes_taken o c before d (with_lines p n (node_lines m)) next ms (n + length (node_lines m)) few s one.within waits fine.1 (omega (arith, room, length-append ns (m ∷ []))) in
     let all = takes_then o c before p n (n + length (node_lines m)) (node_lines m) (flat_map node_lines ms) next (next ++ ms) refl one more in
     subst (λ xs. TakesNodes o c before p n (flat_map node_lines (m ∷ ms)) xs) (append_assoc ns (m ∷ []) ms) all
+
+-- ---- the nodes of a tree that may stand in a file
+
+mutual
+  size_prefix : {t : Tree} {ns : List Node} → IsPrefix t ns → (length ns ≡ tree_size t) × (0 < length ns)
+  size_prefix (a_number d) = (refl, omega arith)
+  size_prefix (a_variable j) = (refl, omega arith)
+  size_prefix (a_defined i) = (refl, omega arith)
+  size_prefix (an_operation o ts ns k h) = let more = size_prefixes h in (omega (arith, more.0), omega arith)
+
+  size_prefixes : {ts : Trees} {ns : List Node} → ArePrefixes ts ns → (length ns ≡ trees_size ts) × (count_of ts ≤ length ns)
+  size_prefixes no_tree = (refl, omega arith)
+  size_prefixes (one_more t ns ts ms h k) =
+      let one = size_prefix h in
+      let more = size_prefixes k in
+      (omega (arith, length-append ns ms, one.0, more.0), omega (arith, length-append ns ms, one.1, more.1))
+
+pub nodes-size : (t : Tree) (ns : List Node) → IsPrefix t ns → length ns ≡ tree_size t
+nodes-size t ns h = let s = size_prefix h in s.0
+
+-- the indices of defined variables are those of the file
+abbrev pub AreInRange : ℕ → ℕ → List Definition → Type 0
+AreInRange n k ds = AllByRecursion (λ d. (n ≤ d.index) × (d.index < n + k)) ds
+
+pub definitions_in_range : (n k : ℕ) (known ds : List Definition) → AreDefinitions n k known ds → AreInRange n k ds
+definitions_in_range n k known [] h = tt
+definitions_in_range n k known (d ∷ ds) h = ((h.0.from, h.0.below), definitions_in_range n k (known ++ d ∷ []) ds h.1)
+
+pub defined_in_range : (n k : ℕ) (ds : List Definition) (i : ℕ) → AreInRange n k ds → is_defined ds i ≡ true → (n ≤ i) × (i < n + k)
+defined_in_range n k [] i h e = absurd cc
+defined_in_range n k (d ∷ ds) i h e = by (d.index == i) refl e (defined_in_range n k ds i h.1)
+  where
+    by : (b : Bool) → (d.index == i) ≡ b → is_defined (d ∷ ds) i ≡ true → (is_defined ds i ≡ true → (n ≤ i) × (i < n + k)) → (n ≤ i) × (i < n + k)
+    by true p e more = subst (λ j. (n ≤ j) × (j < n + k)) (eqb-true d.index i p) h.0
+    by false p e more = more (rw p at e)
+
+mutual
+  fine_prefix : {t : Tree} {ns : List Node} → IsPrefix t ns → (c : Counts) (ds : List Definition) → AreInRange c.n_var (defined_count c) ds → IsTreeWithin c.n_var ds t → length ns ≤ 2 ^ 22 → AllByRecursion (IsNodeFine c ds) ns
+  fine_prefix (a_number d) c ds r w few = (tt, tt)
+  fine_prefix (a_variable j) c ds r w few = (w, tt)
+  fine_prefix (a_defined i) c ds r w few =
+      let within = defined_in_range c.n_var (defined_count c) ds i r w in
+      ((within.0, within.1, w), tt)
+  fine_prefix (an_operation o ts ns k h) c ds r w few =
+      let sizes = size_prefixes h in
+      ((k, omega (arith, sizes.1)), fine_prefixes h c ds r w (omega arith))
+
+  fine_prefixes : {ts : Trees} {ns : List Node} → ArePrefixes ts ns → (c : Counts) (ds : List Definition) → AreInRange c.n_var (defined_count c) ds → AreTreesWithin c.n_var ds ts → length ns ≤ 2 ^ 22 → AllByRecursion (IsNodeFine c ds) ns
+  fine_prefixes no_tree c ds r w few = tt
+  fine_prefixes (one_more t ns ts ms h k) c ds r w few =
+      let size = length-append ns ms in
+      all_append (IsNodeFine c ds) ns ms (fine_prefix h c ds r w.0 (omega (arith, size))) (fine_prefixes k c ds r w.1 (omega (arith, size)))
+
+pub nodes_fine : (t : Tree) (ns : List Node) → IsPrefix t ns → (c : Counts) (ds : List Definition) → AreInRange c.n_var (defined_count c) ds → IsTreeWithin c.n_var ds t → length ns ≤ 2 ^ 22 → AllByRecursion (IsNodeFine c ds) ns
+nodes_fine t ns h c ds r w few = fine_prefix h c ds r w few

@@ -1,48 +1,108 @@
 -- Written pieces of a head and pairs are taken.
-use Rattle.std.proofs.Common.{◌≡◌, ◌∙◌, ℕ, suc, ◌+◌, ◌^◌, ◌<◌, ◌≤◌, Bool, true, false, not, ◌&&◌, ◌||◌, ℤ, List, [], ◌∷◌, ◌++◌, length, filter, sum_by, refl, sym, ap, subst, arith, nat_lt, nat_le, length-append}
-use Rattle.std.proofs.lemmas.Bool.Decides.{nat_tests}
-use Rattle.std.proofs.lemmas.List.{take_all}
-use Rattle.std.proofs.lemmas.List.Elements.{filter-append}
-use Rattle.std.proofs.lemmas.List.Sums.{sum_by-append, sum_by-cons}
-use Rattle.std.specs.List.{AllByRecursion, filter_map}
-use Rattle.nl_model.specs.declared.header_counts.Counts.{Counts}
+use Rattle.std.proofs.Common.{◌^◌, ◌<◌, arith, ◌≡◌, ℕ, ◌≤◌, false, not, ◌&&◌, ℤ, List, [], ◌∷◌, ◌++◌, length, refl, Some, None, lt_trans, lit<, ◌∙◌, suc, ◌+◌, Bool, true, ◌||◌, cond, sym, ap, subst, nat_le, length-append}
+use Rattle.written_texts.specs.Words.{IsWritten}
+use Rattle.written_texts.proofs.WrittenWords.{word-decimal, word-text}
 use Rattle.nl_model.specs.File.{Term}
-use Rattle.nl_model.specs.Rules.{most_terms}
-use Rattle.nl_lines.specs.declared.awaited.Awaited.TheVariants.{Nothing, Pair}
-use Rattle.nl_lines.specs.declared.head.Head.{Head}
-use Rattle.nl_lines.specs.Nodes.{nodes_from}
-use Rattle.nl_lines.specs.Pieces.{Piece, awaited_in, line_kind, line_count, pair_count, has_tree, piece_nodes, piece_pairs, pair_in}
+use Rattle.nl_writer.specs.Written.{term_line, term_lines}
+use Rattle.std.proofs.lemmas.Bool.{lt-ltb}
+use Rattle.std.proofs.lemmas.Bool.Decides.{nat_tests}
+use Rattle.std.proofs.lemmas.Fmt.{decimal_is_IsNumeral_wide}
+use Rattle.std.specs.Fmt.{decimal}
+use Rattle.std.specs.Str.Parse.{AllDigits}
+use Rattle.texts.specs.Judged.{first_reason}
+use Rattle.exact_numbers.proofs.Texts.{digit_byte}
+use Rattle.nl_model.specs.declared.header_counts.Counts.{Counts}
+use Rattle.nl_lines.specs.declared.awaited.Awaited.TheVariants.{Pair}
+use Rattle.nl_lines.specs.Heads.{is_head, is_ascii_letter}
+use Rattle.nl_lines.specs.Pieces.{Piece, awaited_in, piece_pairs, pair_in, line_kind, line_count, pair_count, has_tree}
 use Rattle.nl_lines.specs.Rows.{row_words}
-use Rattle.nl_lines.specs.Tests.{index_limit, wants_whole, holds_once, has_index, is_linear, is_suffix, pair_total}
+use Rattle.nl_lines.specs.Tests.{index_limit, wants_whole_values, holds_once, has_index, is_full, pair_form_tests, pair_tests, is_linear, is_suffix, pair_total, column_counts}
 use Rattle.exact_numbers.specs.Numbers.{is_whole}
+use Rattle.exact_numbers.specs.Values.{text_of}
+use Rattle.written_texts.specs.Lines.{WordLine}
+use Rattle.written_texts.proofs.WordLemmas.{row-written}
+use Rattle.nl_round_trip.specs.InsideTaking.{row_at, IsTaken, rows_at}
+use Rattle.written_texts.proofs.NumbersRead.{whole_of-decimal, are_digits-decimal, dec_of-text}
+use Rattle.nl_round_trip.proofs.TakenLemmas.{IsLineFine, AwaitsLines, with_lines, AreLinesFine, lines_taken, taken_then, begun_piece, IsHeadFine, head_taken, line_rows_size}
+use Rattle.std.proofs.lemmas.List.{take_all}
+use Rattle.std.specs.List.{AllByRecursion, filter_map}
+use Rattle.nl_model.specs.Rules.{most_terms}
+use Rattle.nl_lines.specs.declared.head.Head.{Head}
 use Rattle.nl_lines.proofs.RowLemmas.{early_pairs}
 use Rattle.nl_lines.proofs.PieceLemmas.{longer}
-use Rattle.written_texts.specs.Lines.{Line}
-use Rattle.nl_writer.specs.Written.{term_line, term_lines}
-use Rattle.nl_round_trip.specs.InsideTaking.{row_at, rows_at, IsTaken}
-use Rattle.nl_round_trip.proofs.TakenLemmas.{taken_then, begun_piece, IsHeadFine, head_taken}
-use Rattle.nl_round_trip.proofs.LinesTaken.{with_lines}
-use Rattle.nl_round_trip.proofs.PairsTaken.{IsPairFine, pair_read, ArePairsFine, pairs_taken}
+use Rattle.nl_lines.proofs.TotalLemmas.{pairs-append, pairs-other}
+
+pub written-term : (t : Term) → t.0 < 10 ^ 64 → IsWritten (term_line t)
+written-term t small = record { some = omega arith; few = omega arith; each = (word-decimal t.0 small, (word-text t.1, tt)) }
+
+-- ---- a row of digits is no head
+
+no_letter : (b : ℕ) → 48 ≤ b → b ≤ 57 → is_ascii_letter b ≡ false
+no_letter b low high = grind (arith, nat_tests)
+
+digits_no_head : (word : List ℕ) (rest : WordLine) → 0 < length word → AllDigits 10 word → is_head (word ∷ rest) ≡ false
+digits_no_head [] rest some d = absurd (omega arith)
+digits_no_head (b ∷ word) rest some d = let byte = digit_byte b d.0 in rw (no_letter b byte.0 byte.1) refl
+
+pub decimal_no_head : (n : ℕ) (rest : WordLine) → n < 2 ^ 31 → is_head (decimal n ∷ rest) ≡ false
+decimal_no_head n rest small = let numeral = decimal_is_IsNumeral_wide n (lt_trans small (lit< tt)) in digits_no_head (decimal n) rest numeral.0.0 numeral.0.1
+
+-- ---- one pair
+
+-- the pair may come next in the piece p, which was begun after these pieces
+pub record IsPairFine (c : Counts) (before : List Piece) (p : Piece) (t : Term) : Type 0 where
+  pub small : t.0 < 2 ^ 31
+  pub below : t.0 < index_limit c p.head
+  pub whole : (wants_whole_values p.head && not (is_whole t.1)) ≡ false
+  pub once : (holds_once p.head && has_index (piece_pairs p) t.0) ≡ false
+  pub room : is_full (before ++ p ∷ []) p.head ≡ false
+
+pair_fine : (c : Counts) (before : List Piece) (p : Piece) (t : Term) → IsPairFine c before p t → first_reason (pair_tests c (before ++ p ∷ []) p (term_line t)) ≡ None
+unfolding pair_tests pair_form_tests
+pair_fine c before p t h = rw (are_digits-decimal t.0 h.small, whole_of-decimal t.0 h.small, dec_of-text t.1, lt-ltb t.0 (index_limit c p.head) h.below, h.whole, h.once, h.room) refl
+
+pub pair_read : (n : ℕ) (t : Term) → t.0 < 2 ^ 31 → pair_in (row_words (row_at n (term_line t))) ≡ Some t
+unfolding pair_in
+pair_read n t small = rw (row-written (term_line t) (written-term t (lt_trans small (lit< tt))), whole_of-decimal t.0 small, dec_of-text t.1) refl
+
+-- ---- pairs
+
+pair_line : (o : List ℤ) (c : Counts) (before : List Piece) (p : Piece) (t : Term) → IsPairFine c before p t → awaited_in c p ≡ Pair → IsLineFine o c before p (term_line t) Pair
+pair_line o c before p t h awaited = record {
+  written = written-term t (lt_trans h.small (lit< tt));
+  is = decimal_no_head t.0 (text_of t.1 ∷ []) h.small;
+  awaited = awaited;
+  fine = pair_fine c before p t h;
+}
+
+abbrev pub ArePairsFine : Counts → List Piece → Piece → ℕ → List Term → Type 0
+ArePairsFine c before p n terms = AreLinesFine term_line (IsPairFine c before) p n terms
+
+pub pairs_taken : (o : List ℤ) (c : Counts) (before : List Piece) (p : Piece) (n : ℕ) (terms : List Term) → AwaitsLines c p Pair (length terms) → ArePairsFine c before p n terms
+    → IsTaken o c (before ++ p ∷ []) n (term_lines terms) (before ++ with_lines p n (term_lines terms) ∷ [])
+pairs_taken o c before p n terms a h = lines_taken o c before term_line Pair (IsPairFine c before) (pair_line o c before) p n terms a h
 
 -- ---- totals
 
 -- what one piece adds to a total of pairs
 abbrev pub pairs_more : (Head → Bool) → Piece → ℕ
-pairs_more counts p = if_counted (counts p.head) (length (piece_pairs p))
-  where
-    if_counted : Bool → ℕ → ℕ
-    if_counted true n = n
-    if_counted false n = 0
+pairs_more counts p = cond (counts p.head) (length (piece_pairs p)) 0
+
+pub all_more : (counts : Head → Bool) (p : Piece) → counts p.head ≡ true → pairs_more counts p ≡ length (piece_pairs p)
+all_more counts p e = rw e refl
+
+pub none_more : (counts : Head → Bool) (p : Piece) → counts p.head ≡ false → pairs_more counts p ≡ 0
+none_more counts p e = rw e refl
+
+pub uncounted : (counts : Head → Bool) (p : Piece) → counts p.head ≡ false → (total : ℕ) → total + pairs_more counts p ≡ total
+uncounted counts p e total = omega (arith, none_more counts p e)
 
 pub pair_total-append : (counts : Head → Bool) (before : List Piece) (p : Piece) → pair_total counts (before ++ p ∷ []) ≡ pair_total counts before + pairs_more counts p
-pair_total-append counts before p =
-    ap (sum_by (λ p. length (piece_pairs p))) (filter-append (λ p. counts p.head) before (p ∷ []))
-    ∙ sum_by-append (λ p. length (piece_pairs p)) (filter (λ p. counts p.head) before) (filter (λ p. counts p.head) (p ∷ []))
-    ∙ ap (λ n. pair_total counts before + n) (by (counts p.head) refl)
+pair_total-append counts before p = by (counts p.head) refl
   where
-    by : (b : Bool) → counts p.head ≡ b → sum_by (λ p. length (piece_pairs p)) (filter (λ p. counts p.head) (p ∷ [])) ≡ pairs_more counts p
-    by true e = rw e (sum_by-cons (λ p. length (piece_pairs p)) p [] ∙ omega arith)
-    by false e = rw e refl
+    by : (b : Bool) → counts p.head ≡ b → pair_total counts (before ++ p ∷ []) ≡ pair_total counts before + pairs_more counts p
+    by true e = omega (arith, pairs-append counts before p e, all_more counts p e)
+    by false e = omega (arith, pairs-other counts before p e, none_more counts p e)
 
 full_none : (l s : Bool) (a b : ℕ) → (l ≡ true → a < most_terms) → (s ≡ true → b < most_terms) → ((l && nat_le most_terms a) || (s && nat_le most_terms b)) ≡ false
 full_none true true a b f g = let x = f refl in let y = g refl in grind (arith, nat_tests)
@@ -61,7 +121,7 @@ AreFresh once seen (t ∷ terms) = ((once && has_index seen t.0) ≡ false) × A
 pub record IsTermFine (c : Counts) (head : Head) (t : Term) : Type 0 where
   pub small : t.0 < 2 ^ 31
   pub below : t.0 < index_limit c head
-  pub whole : (wants_whole head && not (is_whole t.1)) ≡ false
+  pub whole : (wants_whole_values head && not (is_whole t.1)) ≡ false
 
 -- the terms may follow in the piece p after these pieces
 pub record MayTake (c : Counts) (before : List Piece) (p : Piece) (terms : List Term) : Type 0 where
@@ -70,12 +130,9 @@ pub record MayTake (c : Counts) (before : List Piece) (p : Piece) (terms : List 
   pub linear : is_linear p.head ≡ true → pair_total is_linear before + length (piece_pairs p) + length terms ≤ most_terms
   pub values : is_suffix p.head ≡ true → pair_total is_suffix before + length (piece_pairs p) + length terms ≤ most_terms
 
-more_of : (counts : Head → Bool) (p : Piece) → counts p.head ≡ true → pairs_more counts p ≡ length (piece_pairs p)
-more_of counts p e = rw e refl
-
 room_left : (counts : Head → Bool) (before : List Piece) (p : Piece) (k : ℕ) → (counts p.head ≡ true → pair_total counts before + length (piece_pairs p) + suc k ≤ most_terms)
     → counts p.head ≡ true → pair_total counts (before ++ p ∷ []) < most_terms
-room_left counts before p k h e = let room = h e in omega (arith, pair_total-append counts before p, more_of counts p e, room)
+room_left counts before p k h e = let room = h e in omega (arith, pair_total-append counts before p, all_more counts p e, room)
 
 pub pairs_fine : (c : Counts) (before : List Piece) (p : Piece) (n : ℕ) (terms : List Term) → length p.rows + length terms ≤ pair_count p.head → MayTake c before p terms → ArePairsFine c before p n terms
 pairs_fine c before p n [] lacks h = tt
@@ -107,47 +164,30 @@ pub record IsPairHead (c : Counts) (head : Head) : Type 0 where
   pub kind : line_kind head ≡ Pair
   pub count : line_count c head ≡ pair_count head
   pub alone : has_tree head ≡ false
+  pub columns : (p : Piece) → column_counts p head ≡ []
 
 -- the piece of a head and the rows of these terms
-abbrev pub pair_piece : ℕ → Line → Head → List Term → Piece
+abbrev pub pair_piece : ℕ → WordLine → Head → List Term → Piece
 pair_piece n words head terms = with_lines (begun_piece n words head) (n + 1) (term_lines terms)
 
-pub pair_piece_taken : (o : List ℤ) (c : Counts) (before : List Piece) (n : ℕ) (words : Line) (head : Head) (terms : List Term) → IsHeadFine c before words head → IsPairHead c head → pair_count head ≡ length terms
+pub pair_piece_taken : {o : List ℤ} {c : Counts} {before : List Piece} {n : ℕ} {words : WordLine} {head : Head} {terms : List Term} → IsHeadFine c before words head → IsPairHead c head → pair_count head ≡ length terms
     → MayTake c before (begun_piece n words head) terms → IsTaken o c before n (words ∷ term_lines terms) (before ++ pair_piece n words head terms ∷ [])
-pair_piece_taken o c before n words head terms h k size may =
+pair_piece_taken {o = o} {c = c} {before = before} {n = n} {words = words} {head = head} {terms = terms} h k size may =
     let p = begun_piece n words head in
     let fine = pairs_fine c before p (n + 1) terms (omega (arith, size)) may in
-    taken_then o c before (before ++ p ∷ []) (before ++ pair_piece n words head terms ∷ []) n (n + 1) (words ∷ []) (term_lines terms) (head_taken o c before n words head h) refl
+    taken_then (head_taken h) refl
     (pairs_taken o c before p (n + 1) terms (record { kind = k.kind; lacks = omega (arith, size, k.count) }) fine)
 
 -- what its rows say
-pub term_rows_size : (n : ℕ) (terms : List Term) → length (rows_at n (term_lines terms)) ≡ length terms
-term_rows_size n [] = refl
-term_rows_size n (t ∷ terms) = let more = term_rows_size (n + 1) terms in omega arith
-
 read_pairs : (n : ℕ) (terms : List Term) → AllByRecursion (λ t. t.0 < 2 ^ 31) terms → filter_map (λ r. pair_in (row_words r)) (rows_at n (term_lines terms)) ≡ terms
 read_pairs n [] small = refl
 read_pairs n (t ∷ terms) small = rw (pair_read n t small.0) (ap (λ ts. t ∷ ts) (read_pairs (n + 1) terms small.1))
 
-pub pair_piece-pairs : (n : ℕ) (words : Line) (head : Head) (terms : List Term) → pair_count head ≡ length terms → AllByRecursion (λ t. t.0 < 2 ^ 31) terms → piece_pairs (pair_piece n words head terms) ≡ terms
+pub pair_piece-pairs : (n : ℕ) (words : WordLine) (head : Head) (terms : List Term) → pair_count head ≡ length terms → AllByRecursion (λ t. t.0 < 2 ^ 31) terms → piece_pairs (pair_piece n words head terms) ≡ terms
 pair_piece-pairs n words head terms size small =
     let rows = rows_at (n + 1) (term_lines terms) in
-    ap (filter_map (λ r. pair_in (row_words r))) (take_all (pair_count head) rows (omega (arith, size, term_rows_size (n + 1) terms)))
+    ap (filter_map (λ r. pair_in (row_words r))) (take_all (pair_count head) rows (omega (arith, size, line_rows_size (n + 1) term_line terms)))
     ∙ read_pairs (n + 1) terms small
-
-pub pair_piece-done : (c : Counts) (n : ℕ) (words : Line) (head : Head) (terms : List Term) → IsPairHead c head → pair_count head ≡ length terms → awaited_in c (pair_piece n words head terms) ≡ Nothing
-unfolding awaited_in
-pair_piece-done c n words head terms k size =
-    let rows = rows_at (n + 1) (term_lines terms) in
-    let whole : nat_lt (length rows) (line_count c head) ≡ false = not_below (length rows) (line_count c head) (omega (arith, k.count, size, term_rows_size (n + 1) terms)) in
-    rw (whole, k.alone) refl
-  where
-    not_below : (a b : ℕ) → b ≤ a → nat_lt a b ≡ false
-    not_below a b le = grind (arith, nat_tests)
-
-pub pair_piece-nodes : (c : Counts) (n : ℕ) (words : Line) (head : Head) (terms : List Term) → IsPairHead c head → piece_nodes c (pair_piece n words head terms) ≡ []
-unfolding nodes_from
-pair_piece-nodes c n words head terms k = rw k.alone refl
 
 -- ---- indices below a limit
 

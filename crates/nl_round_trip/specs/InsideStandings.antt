@@ -9,7 +9,7 @@ use Rattle.nl_lines.specs.declared.head.Head.TheVariants.{Body, Objective, Defin
 use Rattle.nl_lines.specs.Pieces.{Piece, awaited_of}
 use Rattle.nl_lines.specs.Saying.{draft_of}
 use Rattle.nl_lines.specs.Tests.{is_linear, is_suffix, pair_total, node_total, suffix_count, all_column_counts}
-use Rattle.written_texts.specs.Lines.{Line}
+use Rattle.written_texts.specs.Lines.{WordLine}
 use Rattle.nl_round_trip.specs.InsideTaking.{IsTaken}
 
 -- sections one after the other, and within some the pieces by their numbers
@@ -40,7 +40,7 @@ pub record IsStanding (o : List ℤ) (c : Counts) (before : List Piece) (d : Dra
 
 -- written lines that are taken, none of them a number of columns, and what the pieces mean after
 -- them
-pub record Reaches (o : List ℤ) (c : Counts) (before : List Piece) (n : ℕ) (lines : List Line)
+pub record Reaches (o : List ℤ) (c : Counts) (before : List Piece) (n : ℕ) (lines : List WordLine)
     (d : Draft) (next linear values nodes suffixes : ℕ) : Type 0 where
   pub after : List Piece
   pub taken : IsTaken o c before n lines after

@@ -9,8 +9,9 @@ use Rattle.exact_numbers.specs.Numbers.{has_31_bits, is_whole}
 use Rattle.nl_meaning.specs.Trees.{Tree, tree_size}
 use Rattle.linear_program.specs.declared.interval.Interval.{Interval}
 use Rattle.nl_model.specs.declared.node.Node.{Node}
-use Rattle.nl_model.specs.File.{Suffix, File}
-use Rattle.nl_model.specs.Kinds.{kind_of}
+use Rattle.nl_model.specs.File.{File}
+use Rattle.nl_model.specs.declared.suffix.Suffix.{Suffix}
+use Rattle.nl_model.specs.Kinds.{variable_kind}
 use Rattle.nl_model.specs.Nodes.{IsPrefix}
 use Rattle.nl_model.specs.Rules.{IsFile, term_count}
 use Rattle.nl_model.specs.SuffixKinds.{wants_whole}
@@ -72,7 +73,7 @@ pub record IsWritable (f : File) : Type 0 where
   pub few_terms : linear_count f ≤ 2 ^ 22
   pub few_nodes : node_count f ≤ 2 ^ 22
   pub binary : (j : ℕ) (i : Interval) → j < f.counts.n_var →
-      is_binary (kind_of f.counts j) ≡ true → is_within_unit (get_or f.bounds j i) ≡ true
+      is_binary (variable_kind f.counts j) ≡ true → is_within_unit (get_or f.bounds j i) ≡ true
   pub room : HasRoom f
 
 -- the text says the file, at some places

@@ -1,7 +1,7 @@
 -- Rows without a fault: the pieces that they say are sound, and a node of each expression was awaited where it came.
 use Rattle.std.proofs.Common.{◌≡◌, ◌∙◌, ℕ, ◌+◌, ◌<◌, ◌^◌, ◌==◌, Bool, true, false, not, ◌&&◌, List, [], ◌∷◌, ◌++◌, length, refl, sym, ap, subst, arith, nat_lt, Option, Some, None, All, append-nil}
 use Rattle.std.specs.Prelude.{IfSome, is_none, unwrap_or, if◌then◌else◌}
-use Rattle.std.proofs.lemmas.Bool.{ltb-true, ltb-false, eqb-false, not-false}
+use Rattle.std.proofs.lemmas.Bool.{ltb-true, ltb-false, not-false, cond_both}
 use Rattle.std.proofs.lemmas.List.{map-append}
 use Rattle.std.proofs.lemmas.List.Elements.{All-push}
 use Rattle.texts.specs.Judged.{first_reason}
@@ -16,37 +16,31 @@ use Rattle.nl_model.proofs.Prefixes.{IsRun-push}
 use Rattle.nl_lines.specs.declared.awaited.Awaited.{Awaited}
 use Rattle.nl_lines.specs.declared.awaited.Awaited.TheVariants.{Nothing, Pair, ColumnCount, Interval as IntervalLine, Node as NodeLine, OperandCount}
 use Rattle.nl_lines.specs.declared.head.Head.{Head}
-use Rattle.nl_lines.specs.declared.head.Head.TheVariants.{Sides, Bounds, ColumnCounts}
 use Rattle.nl_lines.specs.declared.fault.NlReason.TheVariants.{ShortSegment, RepeatedIndex, TooLarge}
 use Rattle.exact_numbers.specs.Numbers.{whole_of}
-use Rattle.nl_lines.specs.Rows.{Row, row_words}
+use Rattle.nl_lines.specs.Rows.{NumberedRow, row_words}
 use Rattle.texts.specs.Words.{word_at}
 use Rattle.nl_lines.specs.Heads.{is_head, head_of, name_in}
 use Rattle.nl_lines.specs.declared.pending.Pending.{Pending}
 use Rattle.nl_lines.specs.Nodes.{Placed, node_in, opcode_in, pending_in, nodes_of, pending_from, only_nodes}
-use Rattle.nl_lines.specs.Pieces.{Piece, awaited_in, awaited_of, has_tree, is_nothing, last_piece, line_count, line_kind, pair_count, piece_nodes, piece_pairs, piece_pending, extended, tree_awaits, tree_rows, with_row}
-use Rattle.nl_lines.specs.Tests.{Tests, is_full, awaited_tests, formed_head_tests, has_index, head_form_tests, head_tests, holds_once, index_limit, operand_tests, pair_form_tests, pair_tests, row_tests, wants_whole}
+use Rattle.nl_lines.specs.Pieces.{Piece, awaited_in, awaited_of, has_tree, is_nothing, last_piece, line_count, line_kind, piece_nodes, piece_pairs, piece_pending, extended, tree_awaits, tree_rows, with_row}
+use Rattle.nl_lines.specs.Tests.{Tests, is_full, awaited_tests, formed_head_tests, has_index, head_form_tests, head_tests, holds_once, index_limit, operand_tests, pair_form_tests, pair_tests, row_tests, wants_whole_values}
 use Rattle.nl_segments.specs.Current.{IsPending}
 use Rattle.nl_segments.specs.Held.{AreSound, IsSoundPiece}
 use Rattle.nl_lines.proofs.RowLemmas.{early_tree, last_nodes, last_pending, late_tree, pending-more, tree_count}
 use Rattle.nl_segments.proofs.CurrentLemmas.{begun}
-use Rattle.nl_segments.proofs.BodyStart.{no_piece_sound}
+use Rattle.nl_segments.proofs.HeadLaw.{no_piece_sound, all_complete, sound_begun}
 use Rattle.nl_segments.proofs.HeadBegun.{new_piece}
-use Rattle.nl_segments.proofs.HeadLaw.{all_complete, sound_begun}
 use Rattle.nl_lines.proofs.NodeLemmas.{node_formed, opcode_counted}
-use Rattle.nl_segments.proofs.NodeSteps.{in_tree, lines_before, IsInTree, tree_nodes}
+use Rattle.nl_segments.proofs.NodeSteps.{in_tree, lines_before, IsInTree, tree_nodes, node_wanted}
 use Rattle.nl_lines.proofs.OpcodeLemmas.{counted_fit}
-use Rattle.nl_segments.proofs.PairHeld.{IsBefore, before_lines, is_line_kind, never, none_within, sound_kept}
+use Rattle.nl_segments.proofs.PairHeld.{IsBefore, before_lines, never, none_within, sound_kept, plain_lines}
 use Rattle.nl_lines.proofs.PairJudging.{IsIndex, below_limit, index_of, pair_found}
 use Rattle.nl_segments.proofs.PairLines.{awaited-last, other_last, last_of, last_sound, sound_longer}
 use Rattle.nl_segments.proofs.PairPiece.{IsNextPair, sound_pair}
 use Rattle.nl_lines.proofs.PieceLemmas.{split, longer, extended-append}
 
 -- ---- what a piece awaits
-
-abbrev is_pair : Awaited → Bool
-is_pair Pair = true
-is_pair kind = false
 
 -- after them, it awaits a row of its expression
 record IsInside (c : Counts) (p : Piece) (kind : Awaited) : Type 0 where
@@ -80,7 +74,7 @@ running_begun c head name line =
       pending = subst (λ o. IfSome o (IsPending (only_nodes (piece_nodes c (new_piece head name line))))) none.pending tt;
     }
 
-running_line : (c : Counts) (p : Piece) (row : Row) → length p.rows < line_count c p.head → IsRunning c p → IsRunning c (longer p row)
+running_line : (c : Counts) (p : Piece) (row : NumberedRow) → length p.rows < line_count c p.head → IsRunning c p → IsRunning c (longer p row)
 running_line c p row within h =
     let same = sym (early_tree c p row within) in
     record {
@@ -89,7 +83,7 @@ running_line c p row within h =
     }
 
 -- with a row of the expression
-running_row : (c : Counts) (p : Piece) (row : Row) (o : Option Pending) → IsInTree c p → piece_pending p ≡ o
+running_row : (c : Counts) (p : Piece) (row : NumberedRow) (o : Option Pending) → IsInTree c p → piece_pending p ≡ o
     → IsRun 1 (only_nodes (piece_nodes c p) ++ only_nodes (last_nodes c.n_var o row)) → IfSome (last_pending o row) (IsPending (only_nodes (piece_nodes c p) ++ only_nodes (last_nodes c.n_var o row)))
     → IsRunning c (longer p row)
 running_row c p row o place e run pending =
@@ -103,11 +97,11 @@ running_row c p row o place e run pending =
     }
 
 -- a node, or an opcode whose number of operands is on the next row
-record IsNodeRun (c : Counts) (ns : List Node) (row : Row) : Type 0 where
+record IsNodeRun (c : Counts) (ns : List Node) (row : NumberedRow) : Type 0 where
   run : IsRun 1 (ns ++ only_nodes (last_nodes c.n_var None row))
   pending : IfSome (pending_in row) (IsPending (ns ++ only_nodes (last_nodes c.n_var None row)))
 
-node_run : (c : Counts) (ns : List Node) (row : Row) → IsRun 1 ns → 0 < awaited ns → IsNodeRun c ns row
+node_run : (c : Counts) (ns : List Node) (row : NumberedRow) → IsRun 1 ns → 0 < awaited ns → IsNodeRun c ns row
 node_run c ns row run wanted = by (node_in c.n_var (row_words row)) (opcode_in (row_words row)) refl refl
   where
     by : (n : Option Node) (o : Option ℕ) → node_in c.n_var (row_words row) ≡ n → opcode_in (row_words row) ≡ o → IsNodeRun c ns row
@@ -116,34 +110,21 @@ node_run c ns row run wanted = by (node_in c.n_var (row_words row)) (opcode_in (
     by (Some n) None p q = record { run = rw p (IsRun-push 1 ns n run wanted (node_formed c (row_words row) n p)); pending = rw q tt }
     by (Some n) (Some o) p q = absurd (let none = (opcode_counted c.n_var (row_words row) o q).none in cc)
 
--- a node is awaited, and no opcode awaits its number of operands
-record IsNodeAwaited (ns : List Node) (q : Option Pending) : Type 0 where
-  none : q ≡ None
-  wanted : 0 < awaited ns
-
-node_awaited : (ns : List Placed) (q : Option Pending) → tree_awaits ns q ≡ NodeLine → IsNodeAwaited (only_nodes ns) q
+node_awaited : (ns : List Placed) (q : Option Pending) → tree_awaits ns q ≡ NodeLine → (q ≡ None) × (0 < awaited (only_nodes ns))
 node_awaited ns (Some q) e = absurd cc
-node_awaited ns None e = by (awaited (only_nodes ns) == 0) refl
-  where
-    by : (t : Bool) → (awaited (only_nodes ns) == 0) ≡ t → IsNodeAwaited (only_nodes ns) None
-    by true s = absurd (let is : Nothing ≡ NodeLine = rw s at e in cc)
-    by false s = record { none = refl; wanted = let some = eqb-false (awaited (only_nodes ns)) 0 s in omega arith }
+node_awaited ns None e = node_wanted (only_nodes ns) None e
 
-running_node : (c : Counts) (p : Piece) (row : Row) → IsInside c p NodeLine → IsRunning c p → IsRunning c (longer p row)
+running_node : (c : Counts) (p : Piece) (row : NumberedRow) → IsInside c p NodeLine → IsRunning c p → IsRunning c (longer p row)
 running_node c p row i h =
     let a = node_awaited (piece_nodes c p) (piece_pending p) i.awaits in
-    let r = node_run c (only_nodes (piece_nodes c p)) row h.run a.wanted in
-    running_row c p row None i.place a.none r.run r.pending
+    let r = node_run c (only_nodes (piece_nodes c p)) row h.run a.1 in
+    running_row c p row None i.place a.0 r.run r.pending
 
 -- the number of operands of the opcode that awaits it
 no_count : (ns : List Placed) → tree_awaits ns None ≡ OperandCount → ⊥
-no_count ns e = by (awaited (only_nodes ns) == 0) refl
-  where
-    by : (t : Bool) → (awaited (only_nodes ns) == 0) ≡ t → ⊥
-    by true s = let is : Nothing ≡ OperandCount = rw s at e in cc
-    by false s = let is : NodeLine ≡ OperandCount = rw s at e in cc
+no_count ns e = cond_both (awaited (only_nodes ns) == 0) Nothing NodeLine (λ a. a ≡ OperandCount → ⊥) (λ q is. cc) (λ q is. cc) e
 
-running_count : (c : Counts) (p : Piece) (row : Row) → IsInside c p OperandCount → first_reason (operand_tests (row_words row)) ≡ None → IsRunning c p → IsRunning c (longer p row)
+running_count : (c : Counts) (p : Piece) (row : NumberedRow) → IsInside c p OperandCount → first_reason (operand_tests (row_words row)) ≡ None → IsRunning c p → IsRunning c (longer p row)
 unfolding operand_tests
 running_count c p row i fine h =
     let none = none_each (operand_tests (row_words row)) fine in
@@ -168,12 +149,12 @@ pub record AreClean (c : Counts) (pieces : List Piece) : Type 0 where
 pub clean_none : (c : Counts) → AreClean c []
 clean_none c = record { sound = no_piece_sound c; running = λ k d lt. absurd (omega (arith, lt)) }
 
-clean_longer : (c : Counts) (before : List Piece) (p : Piece) (row : Row) → AreClean c (before ++ p ∷ []) → IsSoundPiece c (longer p row) → IsRunning c (longer p row) → AreClean c (before ++ longer p row ∷ [])
+clean_longer : (c : Counts) (before : List Piece) (p : Piece) (row : NumberedRow) → AreClean c (before ++ p ∷ []) → IsSoundPiece c (longer p row) → IsRunning c (longer p row) → AreClean c (before ++ longer p row ∷ [])
 clean_longer c before p row h sound running =
     record { sound = sound_longer c before p row h.sound sound; running = other_last (IsRunning c) before p (longer p row) h.running running }
 
 -- a head
-clean_head : (c : Counts) (pieces : List Piece) (row : Row) → AreClean c pieces → is_head (row_words row) ≡ true → first_reason (head_tests c pieces (row_words row)) ≡ None → AreClean c (with_row c pieces row)
+clean_head : (c : Counts) (pieces : List Piece) (row : NumberedRow) → AreClean c pieces → is_head (row_words row) ≡ true → first_reason (head_tests c pieces (row_words row)) ≡ None → AreClean c (with_row c pieces row)
 unfolding head_tests head_form_tests
 clean_head c pieces row h is fine =
     let words = row_words row in
@@ -195,13 +176,13 @@ clean_head c pieces row h is fine =
         })
 
 -- a pair
-next_pair : (c : Counts) (pieces : List Piece) (p : Piece) (row : Row) → IsBefore c p Pair → first_reason (pair_tests c pieces p (row_words row)) ≡ None → (t : Term) × IsNextPair c p row t
+next_pair : (c : Counts) (pieces : List Piece) (p : Piece) (row : NumberedRow) → IsBefore c p Pair → first_reason (pair_tests c pieces p (row_words row)) ≡ None → (t : Term) × IsNextPair c p row t
 unfolding pair_tests
 next_pair c pieces p row b fine =
     let words = row_words row in
-    let form = pair_form_tests (index_limit c p.head) (wants_whole p.head) words in
+    let form = pair_form_tests (index_limit c p.head) (wants_whole_values p.head) words in
     let rest : Tests = (holds_once p.head && has_index (piece_pairs p) (unwrap_or (whole_of (word_at words 0)) 0), RepeatedIndex) ∷ (is_full pieces p.head, TooLarge) ∷ [] in
-    let pair = pair_found (index_limit c p.head) (wants_whole p.head) words (none_first form rest fine) in
+    let pair = pair_found (index_limit c p.head) (wants_whole_values p.head) words (none_first form rest fine) in
     let once = none_each rest (none_second form rest fine) in (
       pair.term,
       record {
@@ -213,18 +194,8 @@ next_pair c pieces p row b fine =
       },
     )
 
--- such a piece has no pairs
-no_pairs_in : (h : Head) (kind : Awaited) → line_kind h ≡ kind → is_line_kind kind ≡ true → is_pair kind ≡ false → pair_count h ≡ 0
-no_pairs_in h kind e line other = of_head h (ap is_line_kind e ∙ line) (ap is_pair e ∙ other)
-  where
-    of_head : (h : Head) → is_line_kind (line_kind h) ≡ true → is_pair (line_kind h) ≡ false → pair_count h ≡ 0
-    of_head Sides l o = refl
-    of_head Bounds l o = refl
-    of_head (ColumnCounts n) l o = refl
-    of_head head l o = absurd cc
-
 -- a row that the last piece awaits
-clean_line : (c : Counts) (d : Draft) (pieces before : List Piece) (p : Piece) (row : Row) (kind : Awaited) → AreClean c (before ++ p ∷ []) → awaited_in c p ≡ kind
+clean_line : (c : Counts) (d : Draft) (pieces before : List Piece) (p : Piece) (row : NumberedRow) (kind : Awaited) → AreClean c (before ++ p ∷ []) → awaited_in c p ≡ kind
     → first_reason (awaited_tests c d pieces p (row_words row) kind) ≡ None → AreClean c (before ++ longer p row ∷ [])
 clean_line c d pieces before p row Nothing h e fine = absurd cc
 clean_line c d pieces before p row Pair h e fine =
@@ -233,10 +204,10 @@ clean_line c d pieces before p row Pair h e fine =
     clean_longer c before p row h (sound_pair c p row next.0 next.1 (last_sound c before p h.sound)) (running_line c p row b.within (last_of (IsRunning c) before p h.running))
 clean_line c d pieces before p row ColumnCount h e fine =
     let b = before_lines c p ColumnCount e refl in
-    clean_longer c before p row h (sound_kept c p row (none_within p (no_pairs_in p.head ColumnCount b.same_kind refl refl)) (last_sound c before p h.sound)) (running_line c p row b.within (last_of (IsRunning c) before p h.running))
+    clean_longer c before p row h (sound_kept c p row (none_within p (plain_lines p.head ColumnCount b.same_kind refl refl).0) (last_sound c before p h.sound)) (running_line c p row b.within (last_of (IsRunning c) before p h.running))
 clean_line c d pieces before p row IntervalLine h e fine =
     let b = before_lines c p IntervalLine e refl in
-    clean_longer c before p row h (sound_kept c p row (none_within p (no_pairs_in p.head IntervalLine b.same_kind refl refl)) (last_sound c before p h.sound)) (running_line c p row b.within (last_of (IsRunning c) before p h.running))
+    clean_longer c before p row h (sound_kept c p row (none_within p (plain_lines p.head IntervalLine b.same_kind refl refl).0) (last_sound c before p h.sound)) (running_line c p row b.within (last_of (IsRunning c) before p h.running))
 clean_line c d pieces before p row NodeLine h e fine =
     let i = inside_tree c p NodeLine e refl in
     clean_longer c before p row h (sound_kept c p row i.place.early (last_sound c before p h.sound)) (running_node c p row i (last_of (IsRunning c) before p h.running))
@@ -245,7 +216,7 @@ clean_line c d pieces before p row OperandCount h e fine =
     clean_longer c before p row h (sound_kept c p row i.place.early (last_sound c before p h.sound)) (running_count c p row i fine (last_of (IsRunning c) before p h.running))
 
 -- any row
-pub clean_row : (c : Counts) (d : Draft) (pieces : List Piece) (row : Row) → AreClean c pieces → first_reason (row_tests c d pieces (row_words row)) ≡ None → AreClean c (with_row c pieces row)
+pub clean_row : (c : Counts) (d : Draft) (pieces : List Piece) (row : NumberedRow) → AreClean c pieces → first_reason (row_tests c d pieces (row_words row)) ≡ None → AreClean c (with_row c pieces row)
 unfolding row_tests
 clean_row c d pieces row h fine = by (is_head (row_words row)) (last_piece pieces) refl refl
   where

@@ -1,33 +1,31 @@
 -- What is missing at the end, by what the reader of the body holds.
-use Rattle.std.proofs.Common.{◌≡◌, ◌∙◌, ℕ, zero, suc, ◌+◌, ◌<◌, ◌≤◌, Bool, true, false, not, ◌&&◌, ◌==◌, List, [], ◌∷◌, length, get_or, All, nat_lt, refl, sym, ap, ap₂, subst, arith, add-one, Option, Some, None, Err}
-use Rattle.std.proofs.lemmas.Bool.{ltb-true, ltb-false, eqb-true}
+use Rattle.std.proofs.Common.{◌≡◌, ◌∙◌, ℕ, zero, suc, ◌+◌, ◌<◌, ◌≤◌, Bool, true, false, not, ◌&&◌, ◌==◌, List, [], ◌∷◌, length, get_or, All, nat_lt, refl, sym, ap, ap₂, subst, arith, add-one, Option, Some, None}
+use Rattle.std.proofs.lemmas.Bool.{ltb-true, ltb-false, eqb-true, not-false, true_from_ne_false, both_ways, or_parts}
 use Rattle.std.proofs.lemmas.Bool.Decides.{nat_tests}
 use Rattle.std.proofs.lemmas.List.{get_or_past}
 use Rattle.std.proofs.lemmas.List.Sums.{sum_by-cons}
 use Rattle.std.specs.Prelude.{IsSome, is_some, drop, ◌||◌}
 use Rattle.std.specs.List.{list_all}
 use Rattle.texts.specs.Judged.{first_reason}
-use Rattle.texts.specs.Stopped.{IfFault}
-use Rattle.texts.specs.declared.stop.Stop.{Stop}
-use Rattle.texts.specs.declared.stop.Stop.TheVariants.{Fault, Memory}
 use Rattle.nl_model.specs.declared.header_counts.Counts.{Counts}
 use Rattle.nl_model.specs.Draft.{Draft, IsDraft, is_given, file_of}
-use Rattle.nl_model.specs.File.{Term, Objective, File}
+use Rattle.nl_model.specs.File.{Term, File}
+use Rattle.nl_model.specs.declared.objective.Objective.{Objective}
 use Rattle.nl_model.specs.Rules.{AreTermsBelow, term_count}
 use Rattle.nl_model.specs.UseCounts.{terms_up_to, use_count, uses_in}
 use Rattle.nl_model.proofs.UseLemmas.{below, split_rows, next_rows, nothing_below}
 use Rattle.nl_lines.specs.declared.fault.NlReason.{NlReason}
-use Rattle.nl_lines.specs.declared.fault.NlReason.TheVariants.{ShortSegment, Missing, NonzeroCount, ColumnCount as BadColumnCount}
 use Rattle.nl_lines.specs.Saying.{place_lines}
 use Rattle.std.proofs.lemmas.List.Folds.{list_all_at}
 use Rattle.nl_lines.specs.Pieces.{Piece, last_piece, is_nothing, awaited_of}
 use Rattle.nl_segments.specs.Current.{Current}
-use Rattle.nl_lines.specs.Tests.{are_column_counts, is_short, end_tests}
+use Rattle.nl_lines.specs.Tests.{are_column_counts, lacks_part, end_tests}
 use Rattle.nl_segments.specs.Grammar.{Standing, counts_of, said}
-use Rattle.nl_segments.specs.Held.{Body, Finishes, IsHeld, IsLast, end_refusal_of}
+use Rattle.nl_segments.specs.Held.{Body, IsHeld, IsLast, end_refusal_of}
 use Rattle.nl_segments.specs.InsideTaking.{body_awaits}
 use Rattle.nl_segments.specs.InsideEnding.{are_sums, body_end_tests, IsReady}
 use Rattle.nl_segments.proofs.CurrentLemmas.{awaits}
+use Rattle.texts.proofs.FirstReasons.{none_each}
 
 -- ---- the numbers of columns
 
@@ -87,66 +85,38 @@ end_by s b d h =
     let columns : are_sums b.uses 0 0 b.columns ≡ are_column_counts b.draft.terms 0 b.columns = are_sums_counts b.uses b.draft.terms uses b.columns 0 0 (sym (nothing_below b.draft.terms)) in
     same_first _ _ _ _ _ _ _ _ _ _ _ _
     (last_awaits (counts_of s) b.draft b.name s.pieces (last_piece s.pieces) b.current refl h.last)
-    (ap is_short (sym h.draft))
+    (ap lacks_part (sym h.draft))
     (ap₂ (λ (e : Draft) (c : Counts). term_count e.terms == c.nzc) (sym h.draft) (sym h.counts))
     (ap₂ (λ (e : Draft) ns. are_column_counts e.terms 0 ns) (sym h.draft) (sym h.columns) ∙ sym columns)
 
 -- ---- objectives
 
-list_step : {A : Type 0} (f : A → Bool) (x : A) (xs : List A) → list_all f (x ∷ xs) ≡ (f x && list_all f xs)
-list_step f x xs = refl
-
 pub given_at : (os : List (Option Objective)) (k : ℕ) → k < length os → list_all is_some (drop k os) ≡ (is_given os k && list_all is_some (drop (suc k) os))
 given_at [] k lt = absurd (omega (arith, lt))
-given_at (o ∷ os) zero lt = list_step is_some o os
+given_at (o ∷ os) zero lt = refl
 given_at (o ∷ os) (suc k) lt = given_at os k (omega (arith, lt))
 
 -- ---- what holds where nothing is missing
 
-four : (A B C D : NlReason) (p q r t : Bool) → first_reason ((not p, A) ∷ (q, B) ∷ (not r, C) ∷ (not t, D) ∷ []) ≡ None → (p ≡ true) × (q ≡ false) × (r ≡ true)
-four A B C D false q r t e = absurd cc
-four A B C D true true r t e = absurd cc
-four A B C D true false false t e = absurd cc
-four A B C D true false true t e = (refl, refl, refl)
-
-three : (p q r : Bool) → (not p || q || r) ≡ false → (p ≡ true) × (q ≡ false) × (r ≡ false)
-three false q r e = absurd cc
-three true true r e = absurd cc
-three true false true e = absurd cc
-three true false false e = (refl, refl, refl)
-
-some_there : (o : Option Objective) → is_some o ≡ true → IsSome o
-some_there None e = absurd cc
-some_there (Some x) e = refl
-
 pub all_given : (os : List (Option Objective)) → list_all is_some os ≡ true → All IsSome os
-all_given os e k d lt = by (is_some (get_or os k d)) refl
-  where
-    by : (t : Bool) → is_some (get_or os k d) ≡ t → IsSome (get_or os k d)
-    by true q = some_there (get_or os k d) q
-    by false q = absurd (let wrong : list_all is_some os ≡ false = list_all_at is_some os k d lt q in cc)
+all_given os e k d lt = true_from_ne_false (is_some (get_or os k d)) (λ q. both_ways (list_all is_some os) (list_all_at is_some os k d lt q) e)
 
--- each test but the last
-parts_of : (b : Body) → first_reason (body_end_tests b) ≡ None → (is_nothing (body_awaits b.current) ≡ true) × (is_short b.draft ≡ false) × ((term_count b.draft.terms == b.draft.counts.nzc) ≡ true)
-parts_of b e =
-    four ShortSegment Missing NonzeroCount BadColumnCount
-    (is_nothing (body_awaits b.current)) (is_short b.draft) (term_count b.draft.terms == b.draft.counts.nzc) (are_sums b.uses 0 0 b.columns) e
-
-pub short_parts : (d : Draft) → is_short d ≡ false → (list_all is_some d.objectives ≡ true) × (nat_lt (length d.sides) d.counts.n_con ≡ false) × (nat_lt (length d.bounds) d.counts.n_var ≡ false)
-short_parts d e = three (list_all is_some d.objectives) (nat_lt (length d.sides) d.counts.n_con) (nat_lt (length d.bounds) d.counts.n_var) e
+pub short_parts : (d : Draft) → lacks_part d ≡ false → (list_all is_some d.objectives ≡ true) × (nat_lt (length d.sides) d.counts.n_con ≡ false) × (nat_lt (length d.bounds) d.counts.n_var ≡ false)
+short_parts d e =
+    let first = or_parts (not (list_all is_some d.objectives) || nat_lt (length d.sides) d.counts.n_con) (nat_lt (length d.bounds) d.counts.n_var) e in
+    let rest = or_parts (not (list_all is_some d.objectives)) (nat_lt (length d.sides) d.counts.n_con) first.0 in
+    (not-false (list_all is_some d.objectives) rest.0, rest.1, first.1)
 
 pub is_ready : (b : Body) → IsDraft b.draft → first_reason (body_end_tests b) ≡ None → IsReady b.draft
 is_ready b d e =
-    let short = short_parts b.draft (parts_of b e).1 in
+    let none = none_each (body_end_tests b) e in
+    let short = short_parts b.draft none.1.0 in
     record {
       objectives = all_given b.draft.objectives short.0;
       sides = (let a = ltb-false (length b.draft.sides) b.draft.counts.n_con short.1 in omega (arith, d.side_count));
       bounds = (let a = ltb-false (length b.draft.bounds) b.draft.counts.n_var short.2 in omega (arith, d.bound_count));
-      terms = eqb-true (term_count b.draft.terms) b.draft.counts.nzc (parts_of b e).2;
+      terms = eqb-true (term_count b.draft.terms) b.draft.counts.nzc (not-false _ none.1.1.0);
     }
-
-pub nothing_left : (b : Body) → first_reason (body_end_tests b) ≡ None → is_nothing (body_awaits b.current) ≡ true
-nothing_left b e = (parts_of b e).0
 
 pub given_next : (os : List (Option Objective)) (k : ℕ) → k < length os → is_given os k ≡ true → list_all is_some (drop (k + 1) os) ≡ list_all is_some (drop k os)
 given_next os k lt g = rw add-one (sym (given_at os k lt ∙ rw g refl))
@@ -156,15 +126,9 @@ not_given os k lt g = given_at os k lt ∙ rw g refl
 
 -- ---- what the end answers
 
-pub missing : (b same : Body) → b ≡ same → IsDraft b.draft → (r : NlReason) → first_reason (body_end_tests b) ≡ Some r → (s : Standing) → IsHeld s same → end_refusal_of s ≡ Some r
-missing b same e d r f s h = end_by s b d (subst (IsHeld s) (sym e) h) ∙ f
+pub missing : (b : Body) → IsDraft b.draft → (r : NlReason) → first_reason (body_end_tests b) ≡ Some r → (s : Standing) → IsHeld s b → end_refusal_of s ≡ Some r
+missing b d r f s h = end_by s b d h ∙ f
 
-pub stopped : (b : Body) → IsDraft b.draft → (stop : Stop NlReason) → IfFault stop (λ r. first_reason (body_end_tests b) ≡ Some r) → Finishes b (Err stop)
-stopped b d (Fault r) f = missing b b refl d r f
-stopped b d Memory f = tt
-
-pub finished : (b same : Body) → b ≡ same → IsDraft b.draft → first_reason (body_end_tests b) ≡ None → (f : File) → f ≡ file_of b.draft
-    → (s : Standing) → IsHeld s same → (end_refusal_of s ≡ None) × (f ≡ file_of (said s)) × (b.places ≡ place_lines (counts_of s) s.pieces)
-finished b same e d fine f is s h =
-    let held = subst (IsHeld s) (sym e) h in
-    (end_by s b d held ∙ fine, is ∙ ap file_of held.draft, held.places)
+pub finished : (b : Body) → IsDraft b.draft → first_reason (body_end_tests b) ≡ None → (f : File) → f ≡ file_of b.draft
+    → (s : Standing) → IsHeld s b → (end_refusal_of s ≡ None) × (f ≡ file_of (said s)) × (b.places ≡ place_lines (counts_of s) s.pieces)
+finished b d fine f is s held = (end_by s b d held ∙ fine, is ∙ ap file_of held.draft, held.places)

@@ -1,34 +1,28 @@
 -- What a piece without rows says.
-use Rattle.std.proofs.Common.{◌≡◌, ◌∙◌, ℕ, zero, suc, Bool, true, false, ◌||◌, List, [], ◌∷◌, ◌++◌, length, filter, refl, sym, ap, arith, nat_lt, get_or, slice_set, None}
+use Rattle.std.proofs.Common.{◌≡◌, ◌∙◌, ℕ, zero, suc, Bool, true, false, ◌||◌, List, [], ◌∷◌, ◌++◌, length, refl, sym, ap, arith, nat_lt, get_or, slice_set, None, ◌+◌, replicate}
 use Rattle.std.specs.Prelude.{ℤ, not, if◌then◌else◌}
 use Rattle.std.proofs.lemmas.Bool.{lt-ltb}
-use Rattle.std.proofs.lemmas.List.{append-nil, length-append, set-get_or}
-use Rattle.std.proofs.lemmas.List.Elements.{filter-append}
+use Rattle.std.proofs.lemmas.List.{append-nil, set-get_or}
 use Rattle.std.proofs.lemmas.Grind.{flat_map-append}
 use Rattle.nl_model.specs.declared.header_counts.Counts.{Counts}
 use Rattle.nl_model.specs.Draft.{Draft}
 use Rattle.nl_lines.specs.declared.head.Head.{Head}
 use Rattle.nl_lines.specs.declared.head.Head.TheVariants.{Body, Objective, Definition, DualGuesses, PrimalGuesses, Sides, Bounds, ColumnCounts, Terms, Slopes, Suffix}
 use Rattle.nl_lines.specs.Nodes.{nodes_from, pending_from}
-use Rattle.nl_lines.specs.Pieces.{Piece, awaited_in, is_nothing, is_complete, line_kind, line_count, has_tree, pair_count, tree_rows, piece_nodes, piece_pairs, piece_pending}
+use Rattle.nl_lines.specs.Pieces.{Piece, awaited_in, is_nothing, is_complete, line_kind, line_count, has_tree, pair_count, piece_nodes, piece_pairs, piece_pending}
 use Rattle.nl_lines.specs.Saying.{if_complete, said_by, draft_of}
 use Rattle.nl_lines.specs.Tests.{node_total, pair_total, suffix_count, all_column_counts, column_counts, is_suffix}
 use Rattle.nl_segments.specs.InsideHeadSteps.{begun_draft, begun_count}
-use Rattle.nl_lines.proofs.PieceLemmas.{draft-append, drop_none, some_are, take_none}
-use Rattle.nl_lines.proofs.TotalLemmas.{nodes-append, pairs-append, pairs-other}
+use Rattle.nl_lines.proofs.PieceLemmas.{draft-append, some_are, take_none}
+use Rattle.nl_lines.proofs.TotalLemmas.{nodes-append}
+use Rattle.nl_segments.proofs.PairLines.{pairs_with, suffixes_with}
+use Rattle.nl_segments.proofs.CurrentLemmas.{no_rows}
 
 abbrev pub new_piece : Head → List ℕ → ℕ → Piece
 new_piece head name line = record { head = head; name = name; line = line; rows = [] }
 
 pub no_pairs : (head : Head) (name : List ℕ) (line : ℕ) → piece_pairs (new_piece head name line) ≡ []
 no_pairs head name line = rw (take_none (pair_count head)) refl
-
-no_rows : (head : Head) (name : List ℕ) (line : ℕ) → tree_rows (new_piece head name line) ≡ []
-no_rows head name line = by (has_tree head) refl
-  where
-    by : (t : Bool) → has_tree head ≡ t → tree_rows (new_piece head name line) ≡ []
-    by true e = rw e (drop_none (pair_count head))
-    by false e = rw e refl
 
 pub no_nodes : (c : Counts) (head : Head) (name : List ℕ) (line : ℕ) → piece_nodes c (new_piece head name line) ≡ []
 unfolding nodes_from
@@ -37,6 +31,11 @@ no_nodes c head name line = ap (nodes_from c.n_var None) (no_rows head name line
 no_pending : (head : Head) (name : List ℕ) (line : ℕ) → piece_pending (new_piece head name line) ≡ None
 unfolding pending_from
 no_pending head name line = ap (pending_from None) (no_rows head name line)
+
+pub always : {A : Type 0} (n j : ℕ) (x : A) → get_or (replicate n x) j x ≡ x
+always zero j x = refl
+always (suc n) zero x = refl
+always (suc n) (suc j) x = always n j x
 
 -- ---- whether it is complete
 
@@ -87,18 +86,9 @@ draft_begun o c pieces head name line = draft-append o c pieces (new_piece head 
 
 -- terms of constraints stay
 pub terms_begun : (d : Draft) (head : Head) (name : List ℕ) → (begun_draft d head name).terms ≡ d.terms
-terms_begun d (Body i) name = refl
-terms_begun d (Objective k m) name = refl
-terms_begun d (Definition i j u) name = refl
-terms_begun d (DualGuesses n) name = refl
-terms_begun d (PrimalGuesses n) name = refl
-terms_begun d Sides name = refl
-terms_begun d Bounds name = refl
-terms_begun d (ColumnCounts n) name = refl
-terms_begun d (Terms i n) name = refl
-terms_begun d (Slopes k n) name = refl
 terms_begun d (Suffix k zero) name = refl
 terms_begun d (Suffix k (suc n)) name = ap (λ b. (if b then record d { suffixes = d.suffixes ++ record { kind = k; name = name; values = [] } ∷ [] } else d).terms) (some_are n)
+terms_begun d head name = refl
 
 -- ---- how much there is
 
@@ -109,24 +99,18 @@ nodes_begun c pieces head name line =
     omega (arith, few, more)
 
 pub pairs_begun : (counts : Head → Bool) (pieces : List Piece) (head : Head) (name : List ℕ) (line : ℕ) → pair_total counts pieces ≡ pair_total counts (pieces ++ new_piece head name line ∷ [])
-pairs_begun counts pieces head name line = by (counts head) refl
+pairs_begun counts pieces head name line = by (counts head) (pairs_with counts pieces (new_piece head name line) ∙ ap (λ ts. pair_total counts pieces + (if counts head then length ts else 0)) (no_pairs head name line))
   where
-    by : (t : Bool) → counts head ≡ t → pair_total counts pieces ≡ pair_total counts (pieces ++ new_piece head name line ∷ [])
-    by true e =
-        let few = ap (λ ts. length ts) (no_pairs head name line) in
-        let more = pairs-append counts pieces (new_piece head name line) e in
-        omega (arith, few, more)
-    by false e = sym (pairs-other counts pieces (new_piece head name line) e)
+    by : (t : Bool) → pair_total counts (pieces ++ new_piece head name line ∷ []) ≡ pair_total counts pieces + (if t then 0 else 0) → pair_total counts pieces ≡ pair_total counts (pieces ++ new_piece head name line ∷ [])
+    by true e = omega (arith, e)
+    by false e = omega (arith, e)
 
 pub count_begun : (pieces : List Piece) (head : Head) (name : List ℕ) (line : ℕ) → begun_count head (suffix_count pieces) ≡ suffix_count (pieces ++ new_piece head name line ∷ [])
-count_begun pieces head name line = by (is_suffix head) refl
+count_begun pieces head name line = by (is_suffix head) ∙ sym (suffixes_with pieces (new_piece head name line))
   where
-    all : filter (λ p. is_suffix p.head) (pieces ++ new_piece head name line ∷ []) ≡ filter (λ p. is_suffix p.head) pieces ++ filter (λ p. is_suffix p.head) (new_piece head name line ∷ [])
-    all = filter-append (λ p. is_suffix p.head) pieces (new_piece head name line ∷ [])
-
-    by : (t : Bool) → is_suffix head ≡ t → begun_count head (suffix_count pieces) ≡ suffix_count (pieces ++ new_piece head name line ∷ [])
-    by true e = rw (all, e) (omega (arith, length-append (filter (λ p. is_suffix p.head) pieces) (new_piece head name line ∷ [])))
-    by false e = rw (all, e) (ap (λ ps. length ps) (sym (append-nil (filter (λ p. is_suffix p.head) pieces))))
+    by : (t : Bool) → (if t then suffix_count pieces + 1 else suffix_count pieces) ≡ suffix_count pieces + (if t then 1 else 0)
+    by true = refl
+    by false = omega arith
 
 no_columns : (head : Head) (name : List ℕ) (line : ℕ) → column_counts (new_piece head name line) head ≡ []
 no_columns (Body i) name line = refl

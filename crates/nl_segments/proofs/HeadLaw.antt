@@ -1,44 +1,263 @@
--- What is held, with a head more.
-use Rattle.std.proofs.Common.{◌≡◌, ◌∙◌, ℕ, zero, suc, ◌<◌, ◌≤◌, Bool, true, false, ◌||◌, List, [], ◌∷◌, ◌++◌, length, replicate, refl, sym, ap, ap₂, arith, subst, nat_lt, get_or, Option, Some, None}
-use Rattle.std.specs.Prelude.{not, IsTrue, IfSome, All, is_some}
+-- What is held before any row and with a head more, which segments came, the name in a head, and what is wrong with a head by what is held.
+use Rattle.std.proofs.Common.{◌≡◌, ◌∙◌, ℕ, zero, suc, ◌*◌, ◌≤◌, true, false, List, [], ◌∷◌, length, replicate, refl, sym, ap, subst, arith, Option, Some, None, nat_lt, ◌==◌, Bool, ◌&&◌, ◌||◌, ◌++◌, ap₂, ◌<◌, get_or}
+use Rattle.std.specs.Prelude.{ℤ, not, if◌then◌else◌, ◌+◌, nat_le, option_map, option_and_then, IfSome, All, is_some, Ok}
+use Rattle.std.proofs.lemmas.List.{length-replicate, get_or-replicate, length-append, length-set}
+use Rattle.texts.specs.Judged.{first_reason}
+use Rattle.nl_model.specs.declared.header_counts.Counts.{Counts}
+use Rattle.nl_model.specs.Draft.{Draft, empty_draft}
+use Rattle.nl_header.specs.Head.{options_in, counts_in}
+use Rattle.nl_lines.specs.declared.awaited.Awaited.{Awaited}
+use Rattle.nl_lines.specs.declared.awaited.Awaited.TheVariants.{Nothing}
+use Rattle.nl_lines.specs.declared.fault.NlReason.TheVariants.{ExtraLine, ShortSegment}
+use Rattle.nl_lines.specs.declared.head.Head.{Head}
+use Rattle.nl_lines.specs.Heads.{is_head, head_of, name_in, numbered_head, counted_head, bare_head, objective_head, definition_head, column_head, suffix_head, with_sense, letter_of, own_number, number_at, is_in_range, of_kind}
+use Rattle.nl_lines.specs.Pieces.{Piece, last_piece, is_nothing, awaited_of, is_complete, has_tree, line_count, pair_count, with_row}
+use Rattle.nl_lines.specs.Saying.{empty_lines, draft_of, place_lines}
+use Rattle.nl_lines.specs.SeenSegments.{letters, mark_of, most_indices, no_segments, Segments, with_segment, IsSeenIn}
+use Rattle.nl_lines.proofs.SeenLemmas.{mark_few, marked}
+use Rattle.nl_lines.specs.Tests.{index_limit, awaited_tests, line_tests, row_tests, is_suffix, is_same_head, is_same_piece, head_form_tests, is_linear, is_repeated, has_index, formed_head_tests, head_tests}
+use Rattle.nl_segments.specs.Grammar.{Standing, counts_of, said}
+use Rattle.nl_model.specs.UseCounts.{use_count}
+use Rattle.nl_segments.specs.Held.{Body, IsHeld, IsHeaderOf, AreSeen, AreSound, only_header, words_refusal, IsSoundPiece, IsOpen, IsLast, IsNodeLeft, HoldsSome, IsRowOf, TakesRow}
+use Rattle.nl_segments.specs.InsideTaking.{body_awaits}
+use Rattle.nl_segments.proofs.EndLemmas.{last_awaits}
 use Rattle.std.specs.List.{list_any}
-use Rattle.std.proofs.lemmas.List.{length-replicate}
+use Rattle.std.proofs.lemmas.List.Folds.{list_any-append, list_any_at}
+use Rattle.texts.specs.Names.{IsName, is_name, has_name_bytes}
+use Rattle.nl_lines.specs.declared.head.Head.TheVariants.{Body as BodyHead, Objective, Definition, DualGuesses, PrimalGuesses, Sides, Bounds, ColumnCounts, Terms, Slopes, Suffix}
+use Rattle.texts.specs.Words.{word_at}
+use Rattle.nl_segments.proofs.HeadBegun.{new_piece, no_pairs, whole_at_once, draft_begun, terms_begun, nodes_begun, pairs_begun, count_begun, columns_begun, always}
+use Rattle.std.proofs.lemmas.Bool.{and_parts, not-false, leb-false, cond_both, false_from_ne_true, both_ways}
+use Rattle.texts.proofs.FirstReasons.{none_head, none_first, reason_before, reason_after, none_each, same_reasons}
+use Rattle.nl_model.specs.declared.suffix.Suffix.{Suffix as SuffixValue}
+use Rattle.nl_lines.specs.declared.fault.NlReason.{NlReason}
+use Rattle.nl_segments.specs.InsideHeadSteps.{has_come, held_head_tests, formed_tests, new_head_tests, has_come_suffix, begun_current, begun_name, begun_count, begun_draft, with_begun_head}
 use Rattle.std.proofs.lemmas.List.Elements.{All-push}
 use Rattle.std.proofs.lemmas.List.Quantifiers.{all_pairs_push}
-use Rattle.texts.specs.Judged.{first_reason}
-use Rattle.texts.proofs.FirstReasons.{same_reasons}
-use Rattle.nl_header.specs.Head.{options_in}
-use Rattle.nl_model.specs.declared.header_counts.Counts.{Counts}
-use Rattle.nl_model.specs.Draft.{Draft}
-use Rattle.nl_model.specs.File.{Suffix as SuffixValue}
 use Rattle.nl_model.specs.Rules.{has_suffix}
-use Rattle.nl_lines.specs.declared.fault.NlReason.TheVariants.{ShortSegment}
-use Rattle.nl_lines.specs.declared.head.Head.{Head}
-use Rattle.nl_lines.specs.declared.head.Head.TheVariants.{Suffix}
-use Rattle.nl_lines.specs.Heads.{is_head, head_of, name_in, is_in_range}
-use Rattle.nl_lines.specs.Rows.{Row, row_words}
-use Rattle.nl_lines.specs.Pieces.{Piece, last_piece, awaited_of, is_complete, is_nothing, has_tree, line_count, pair_count, with_row}
-use Rattle.nl_lines.specs.Saying.{place_lines}
-use Rattle.nl_lines.specs.SeenSegments.{Segments, IsSeenIn, with_segment}
+use Rattle.nl_lines.specs.Rows.{NumberedRow, row_words}
 use Rattle.nl_segments.specs.Current.{Current, new_current}
 use Rattle.nl_segments.specs.InsidePlaceSteps.{with_begun, HasOwner}
-use Rattle.nl_segments.specs.Grammar.{Standing, counts_of, said}
 use Rattle.nl_segments.specs.Steps.{after_body_row}
-use Rattle.nl_lines.specs.Tests.{is_suffix, is_linear, is_same_piece, is_repeated, index_limit, has_index, head_form_tests, formed_head_tests, head_tests, row_tests}
-use Rattle.nl_model.specs.UseCounts.{use_count}
 use Rattle.nl_lines.specs.PairTests.{IsMarked}
-use Rattle.nl_segments.specs.Held.{Body, IsSoundPiece, AreSound, IsOpen, IsLast, IsNodeLeft, IsHeld, HoldsSome, IsRowOf, HasRow, words_refusal}
-use Rattle.nl_segments.specs.InsideHeadSteps.{has_come, has_come_suffix, held_head_tests, formed_tests, new_head_tests, begun_current, begun_name, begun_count, begun_draft, with_begun_head}
 use Rattle.nl_lines.proofs.PieceLemmas.{split, last-append, lines-append, take_none}
 use Rattle.nl_lines.proofs.DraftLemmas.{draft_counts}
-use Rattle.nl_segments.proofs.PlaceLemmas.{owner_there, place_begun}
-use Rattle.nl_segments.specs.InsideTaking.{body_awaits}
+use Rattle.nl_segments.proofs.PairLines.{owner_there, place_begun, front, front-append}
 use Rattle.nl_segments.proofs.CurrentLemmas.{begun}
-use Rattle.nl_segments.proofs.EndLemmas.{last_awaits}
 use Rattle.nl_lines.proofs.HeadSuffixes.{suffixes_come}
-use Rattle.nl_segments.proofs.HeadSeen.{seen_begun, any_name}
-use Rattle.nl_segments.proofs.HeadBegun.{new_piece, no_pairs, whole_at_once, draft_begun, terms_begun, nodes_begun, pairs_begun, count_begun, columns_begun}
-use Rattle.nl_segments.proofs.HeadRefusal.{IsNew, is_new}
+use Rattle.std.proofs.lemmas.Bool.Decides.{nat_tests}
+
+-- ---- no rows
+
+pub no_piece_sound : (c : Counts) → AreSound c []
+no_piece_sound c =
+    record {
+      each = λ k d lt. absurd (omega (arith, lt));
+      apart = λ i j d lt within. absurd (omega (arith, within));
+      complete = λ before p e. absurd (omega (arith, ap (length {A = Piece}) e, length-append before (p ∷ [])));
+    }
+
+seen_none : (c : Counts) → AreSeen c (no_segments c) []
+seen_none c head range =
+    let few = mark_few c head range in (
+      rw (length-replicate (letters * most_indices c) false) few,
+      λ plain. get_or-replicate (letters * most_indices c) (mark_of head) false false few,
+    )
+
+no_use : (n j : ℕ) → use_count (replicate n []) j ≡ 0
+no_use zero j = refl
+no_use (suc n) j = no_use n j
+
+-- what was made for a header
+pub record IsMade (o : List ℤ) (c : Counts) (b : Body) : Type 0 where
+  pub draft : b.draft ≡ empty_draft o c
+  pub current : b.current ≡ None
+  pub room : (head : Head) → index_limit c head ≤ length b.marks
+  pub seen : b.seen ≡ no_segments c
+  pub nodes : b.nodes ≡ 0
+  pub linear : b.linear ≡ 0
+  pub values : b.values ≡ 0
+  pub suffixes : b.suffixes ≡ 0
+  pub columns : b.columns ≡ []
+  pub uses : b.uses ≡ replicate c.n_var 0
+  pub places : b.places ≡ empty_lines c
+
+pub start_held : (rows : List (List (List ℕ))) (o : List ℤ) (c : Counts) (b : Body) → IsHeaderOf rows o c → IsMade o c b → IsHeld (only_header rows) b
+unfolding draft_of place_lines last_piece
+start_held rows o c b h made =
+    let new : IsMade (options_in rows) (counts_in rows) b = subst (λ o. IsMade o (counts_in rows) b) (sym h.same_options) (subst (λ c. IsMade o c b) (sym h.same_counts) made) in
+    let c = counts_in rows in
+    record {
+      body = h.whole;
+      sound = no_piece_sound c;
+      draft = new.draft;
+      counts = ap (λ (d : Draft). d.counts) new.draft;
+      last = rw new.current tt;
+      marks = tt;
+      room = λ head r. new.room head;
+      seen = rw new.seen (seen_none c);
+      nodes = new.nodes;
+      linear = new.linear;
+      values = new.values;
+      suffixes = new.suffixes;
+      columns = new.columns;
+      uses = λ j lt. rw (new.uses, ap (λ (d : Draft). d.terms) new.draft) (get_or-replicate c.n_var j 0 0 lt ∙ sym (no_use c.n_con j));
+      users = rw new.uses (length-replicate c.n_var 0);
+      places = new.places;
+      few = rw new.current tt;
+      few_terms = rw new.linear (omega arith);
+    }
+
+-- ---- the row that is awaited
+
+only_nothing : (a : Awaited) → is_nothing a ≡ true → a ≡ Nothing
+only_nothing Nothing e = refl
+only_nothing kind e = absurd cc
+
+pub extra_line : (s : Standing) (b : Body) (words : List (List ℕ)) → is_head words ≡ false → body_awaits b.current ≡ Nothing → IsHeld s b → words_refusal s words ≡ Some ExtraLine
+unfolding row_tests
+extra_line s b words plain e h = rw plain (by (last_piece s.pieces))
+  where
+    by : (o : Option Piece) → first_reason (line_tests (counts_of s) (said s) s.pieces words o) ≡ Some ExtraLine
+    by None = refl
+    by (Some p) = ap (λ a. first_reason (awaited_tests (counts_of s) (said s) s.pieces p words a)) (only_nothing (awaited_of (counts_of s) s.pieces) (last_awaits (counts_of s) b.draft b.name s.pieces (last_piece s.pieces) b.current refl h.last ∙ ap is_nothing e))
+
+-- ---- marks
+
+same_name : (head g : Head) (name : List ℕ) (line : ℕ) → is_suffix head ≡ false → list_any (is_same_piece head []) (new_piece g name line ∷ []) ≡ is_same_head head g
+same_name head g name line f = by (is_same_head head g) refl
+  where
+    by : (t : Bool) → is_same_head head g ≡ t → list_any (is_same_piece head []) (new_piece g name line ∷ []) ≡ is_same_head head g
+    by true e = rw (e, f) refl
+    by false e = rw e refl
+
+pub seen_begun : (c : Counts) (s : Segments) (pieces : List Piece) (g : Head) (name : List ℕ) (line : ℕ) → AreSeen c s pieces → AreSeen c (with_segment s g) (pieces ++ new_piece g name line ∷ [])
+seen_begun c s pieces g name line seen head range =
+    let before = seen head range in (
+      rw (length-set s (mark_of g) true) before.0,
+      λ plain. marked s g head before.0
+          ∙ ap₂ (λ a b. a || b) (before.1 plain) (sym (same_name head g name line plain))
+          ∙ sym (list_any-append (is_same_piece head []) pieces (new_piece g name line ∷ [])),
+    )
+
+-- no name is asked but that of a suffix
+pub any_name : (head : Head) (name : List ℕ) (pieces : List Piece) → is_suffix head ≡ false → list_any (is_same_piece head []) pieces ≡ list_any (is_same_piece head name) pieces
+any_name head name [] f = refl
+any_name head name (p ∷ pieces) f = rw f (ap (λ b. (is_same_head head p.head && true) || b) (any_name head name pieces f))
+
+-- ---- names
+
+-- no head of a suffix
+abbrev is_plain : Option Head → Bool
+is_plain None = true
+is_plain (Some h) = not (is_suffix h)
+
+plain_if : (b : Bool) (o p : Option Head) → is_plain o ≡ true → is_plain p ≡ true → is_plain (if b then o else p) ≡ true
+plain_if true o p f g = f
+plain_if false o p f g = g
+
+plain_map : (make : ℕ → Head) (o : Option ℕ) → ((n : ℕ) → is_plain (Some (make n)) ≡ true) → is_plain (option_map make o) ≡ true
+plain_map make None f = refl
+plain_map make (Some n) f = f n
+
+plain_then : (make : ℕ → Option Head) (o : Option ℕ) → ((n : ℕ) → is_plain (make n) ≡ true) → is_plain (option_and_then make o) ≡ true
+plain_then make None f = refl
+plain_then make (Some n) f = f n
+
+suffix_name : (words : List (List ℕ)) (head : Head) → suffix_head words ≡ Some head → is_name (name_in words) ≡ true
+suffix_name words head e =
+    cond_both (length words == 3 && is_name (name_in words)) (option_and_then (λ kind. option_and_then (of_kind kind) (number_at words 1)) (own_number words)) None
+    (λ o. o ≡ Some head → is_name (name_in words) ≡ true) (λ f is. (and_parts (length words == 3) (is_name (name_in words)) f).1) (λ f is. absurd cc) e
+
+named_by : (c : Counts) (words : List (List ℕ)) (head : Head) (b : Bool) → (letter_of words == 83) ≡ b → (if b then suffix_head words else None) ≡ Some head → is_name (name_in words) ≡ true
+named_by c words head true f e = suffix_name words head e
+named_by c words head false f e = absurd cc
+
+is_named : (text : List ℕ) → is_name text ≡ true → IsName text
+is_named text e =
+    let parts = and_parts (not (length text == 0) && nat_le (length text) 255) (has_name_bytes text) e in
+    let sizes = and_parts (not (length text == 0)) (nat_le (length text) 255) parts.0 in
+    record { some = grind (arith, nat_tests, sizes.0); most = grind (arith, nat_tests, sizes.1); each = parts.1 }
+
+-- ---- the name of a head
+
+other_letter : (b : Bool) (o p : Option Head) (head : Head) → is_plain o ≡ true → is_suffix head ≡ true → (if b then o else p) ≡ Some head → p ≡ Some head
+other_letter true o p head f s e = absurd (let wrong : false ≡ true = sym (ap is_plain e ∙ ap not s) ∙ f in cc)
+other_letter false o p head f s e = e
+
+plain_sense : (words : List (List ℕ)) → is_plain (objective_head words) ≡ true
+plain_sense words =
+    plain_if (length words == 2) _ None
+    (plain_then (λ k. option_and_then (with_sense k) (number_at words 1)) (own_number words) (λ k. plain_then (with_sense k) (number_at words 1) (λ n. plain_if (nat_le n 1) (Some (Objective k (n == 1))) None refl refl))) refl
+
+plain_definition : (words : List (List ℕ)) → is_plain (definition_head words) ≡ true
+plain_definition words =
+    plain_if (length words == 3) _ None
+    (plain_then (λ i. option_and_then (λ j. option_map (Definition i j) (number_at words 2)) (number_at words 1)) (own_number words)
+    (λ i. plain_then (λ j. option_map (Definition i j) (number_at words 2)) (number_at words 1) (λ j. plain_map (Definition i j) (number_at words 2) (λ n. refl)))) refl
+
+plain_column : (c : Counts) (words : List (List ℕ)) → is_plain (column_head c words) ≡ true
+plain_column c words =
+    plain_if (length words == 1) _ None
+    (plain_then (λ n. if n + 1 == c.n_var then Some (ColumnCounts n) else None) (own_number words) (λ n. plain_if (n + 1 == c.n_var) (Some (ColumnCounts n)) None refl refl)) refl
+
+plain_numbered : (make : ℕ → Head) (words : List (List ℕ)) → ((n : ℕ) → is_plain (Some (make n)) ≡ true) → is_plain (numbered_head make words) ≡ true
+plain_numbered make words f = plain_if (length words == 1) (option_map make (own_number words)) None (plain_map make (own_number words) f) refl
+
+plain_counted : (make : ℕ → ℕ → Head) (words : List (List ℕ)) → ((i n : ℕ) → is_plain (Some (make i n)) ≡ true) → is_plain (counted_head make words) ≡ true
+plain_counted make words f = plain_if (length words == 2) _ None (plain_then (λ i. option_map (make i) (number_at words 1)) (own_number words) (λ i. plain_map (make i) (number_at words 1) (f i))) refl
+
+plain_bare : (head : Head) (words : List (List ℕ)) → is_plain (Some head) ≡ true → is_plain (bare_head head words) ≡ true
+plain_bare head words f = plain_if (length words == 1 && (length (word_at words 0) == 1)) (Some head) None f refl
+
+pub suffix_named : (c : Counts) (words : List (List ℕ)) (head : Head) → head_of c words ≡ Some head → is_suffix head ≡ true → IsName (name_in words)
+unfolding head_of
+suffix_named c words head e s =
+    let l = letter_of words in
+    let e1 = other_letter (l == 67) _ _ head (plain_numbered BodyHead words (λ n. refl)) s e in
+    let e2 = other_letter (l == 79) _ _ head (plain_sense words) s e1 in
+    let e3 = other_letter (l == 86) _ _ head (plain_definition words) s e2 in
+    let e4 = other_letter (l == 100) _ _ head (plain_numbered DualGuesses words (λ n. refl)) s e3 in
+    let e5 = other_letter (l == 120) _ _ head (plain_numbered PrimalGuesses words (λ n. refl)) s e4 in
+    let e6 = other_letter (l == 114) _ _ head (plain_bare Sides words refl) s e5 in
+    let e7 = other_letter (l == 98) _ _ head (plain_bare Bounds words refl) s e6 in
+    let e8 = other_letter (l == 107) _ _ head (plain_column c words) s e7 in
+    let e9 = other_letter (l == 74) _ _ head (plain_counted Terms words (λ i n. refl)) s e8 in
+    let e10 = other_letter (l == 71) _ _ head (plain_counted Slopes words (λ i n. refl)) s e9 in
+    is_named (name_in words) (named_by c words head (l == 83) refl e10)
+
+-- ---- the head of words
+
+pub form_fault : (c : Counts) (is_open : Bool) (seen : Segments) (suffixes : List SuffixValue) (count : ℕ) (words : List (List ℕ)) (r : NlReason)
+    → is_open ≡ false → first_reason (head_form_tests c words) ≡ Some r → first_reason (new_head_tests c is_open seen suffixes count words) ≡ Some r
+form_fault c is_open seen suffixes count words r f e = rw f (reason_before (head_form_tests c words) (formed_tests c seen suffixes count (name_in words) (head_of c words)) r e)
+
+pub form_fine : (c : Counts) (is_open : Bool) (seen : Segments) (suffixes : List SuffixValue) (count : ℕ) (words : List (List ℕ)) (head : Head)
+    → is_open ≡ false → first_reason (head_form_tests c words) ≡ None → head_of c words ≡ Some head
+    → first_reason (new_head_tests c is_open seen suffixes count words) ≡ first_reason (held_head_tests c seen suffixes count (name_in words) head)
+form_fine c is_open seen suffixes count words head f e is =
+    rw f (reason_after (head_form_tests c words) (formed_tests c seen suffixes count (name_in words) (head_of c words)) e ∙ ap (λ o. first_reason (formed_tests c seen suffixes count (name_in words) o)) is)
+
+-- a head that nothing is wrong with
+pub record IsNew (c : Counts) (is_open : Bool) (seen : Segments) (suffixes : List SuffixValue) (count : ℕ) (name : List ℕ) (head : Head) : Type 0 where
+  pub closed : is_open ≡ false
+  pub range : is_in_range c head ≡ true
+  pub fresh : has_come seen suffixes head name ≡ false
+  pub few : is_suffix head ≡ true → count < 1024
+
+pub is_new : (c : Counts) (is_open : Bool) (seen : Segments) (suffixes : List SuffixValue) (count : ℕ) (words : List (List ℕ)) (head : Head)
+    → head_of c words ≡ Some head → first_reason (new_head_tests c is_open seen suffixes count words) ≡ None → IsNew c is_open seen suffixes count (name_in words) head
+is_new c is_open seen suffixes count words head is e =
+    let first = none_head is_open ShortSegment (head_form_tests c words ++ formed_tests c seen suffixes count (name_in words) (head_of c words)) e in
+    let fine = none_first (head_form_tests c words) (formed_tests c seen suffixes count (name_in words) (head_of c words)) first.1 in
+    let tests : first_reason (held_head_tests c seen suffixes count (name_in words) head) ≡ None = sym (form_fine c is_open seen suffixes count words head first.0 fine is) ∙ e in
+    let none = none_each (held_head_tests c seen suffixes count (name_in words) head) tests in
+    record {
+      closed = first.0;
+      range = not-false (is_in_range c head) none.0;
+      fresh = none.1.1.0;
+      few = λ is. leb-false 1024 count (rw is at none.1.1.1.0);
+    }
 
 -- ---- no piece is open
 
@@ -79,19 +298,15 @@ come_repeated s b head name h closed range = by (is_suffix head) refl
 
 -- ---- what is wrong
 
-same_tests : (s : Standing) (b : Body) (head : Head) (name : List ℕ) → IsHeld s b → b.current ≡ None
-    → first_reason (formed_head_tests (counts_of s) s.pieces name (Some head)) ≡ first_reason (held_head_tests (counts_of s) b.seen b.draft.suffixes b.suffixes name head)
-same_tests s b head name h closed = by (is_in_range (counts_of s) head) refl
+same_formed : (s : Standing) (b : Body) (o : Option Head) (name : List ℕ) → IsHeld s b → b.current ≡ None
+    → first_reason (formed_head_tests (counts_of s) s.pieces name o) ≡ first_reason (formed_tests (counts_of s) b.seen b.draft.suffixes b.suffixes name o)
+same_formed s b None name h closed = refl
+same_formed s b (Some head) name h closed = by (is_in_range (counts_of s) head) refl
   where
     by : (t : Bool) → is_in_range (counts_of s) head ≡ t
         → first_reason (formed_head_tests (counts_of s) s.pieces name (Some head)) ≡ first_reason (held_head_tests (counts_of s) b.seen b.draft.suffixes b.suffixes name head)
     by false e = rw e refl
     by true e = rw (come_repeated s b head name h closed e, h.suffixes) refl
-
-same_formed : (s : Standing) (b : Body) (o : Option Head) (name : List ℕ) → IsHeld s b → b.current ≡ None
-    → first_reason (formed_head_tests (counts_of s) s.pieces name o) ≡ first_reason (formed_tests (counts_of s) b.seen b.draft.suffixes b.suffixes name o)
-same_formed s b None name h closed = refl
-same_formed s b (Some head) name h closed = same_tests s b head name h closed
 
 -- a piece is open where one is held
 awaits_by : (c : Counts) (pieces : List Piece) (d : Draft) (name : Option (List ℕ)) (l : Option Piece) (o : Option Current) → last_piece pieces ≡ l → IsLast c d name l o → not (is_nothing (awaited_of c pieces)) ≡ is_some o
@@ -105,7 +320,7 @@ head_reasons : (s : Standing) (words : List (List ℕ)) → is_head words ≡ tr
 unfolding row_tests head_tests
 head_reasons s words first = rw first refl
 
-pub same_refusal : (s : Standing) (b : Body) (words : List (List ℕ)) → IsHeld s b → is_head words ≡ true
+same_refusal : (s : Standing) (b : Body) (words : List (List ℕ)) → IsHeld s b → is_head words ≡ true
     → words_refusal s words ≡ first_reason (new_head_tests b.draft.counts (is_some b.current) b.seen b.draft.suffixes b.suffixes words)
 same_refusal s b words h first =
     head_reasons s words first
@@ -120,26 +335,15 @@ same_refusal s b words h first =
         refl (λ none. same_formed s b (head_of (counts_of s) words) (name_in words) h e))
     by (Some cur) e = rw e refl
 
+pub head_refused : (b : Body) (is_open : Bool) (words : List (List ℕ)) (r : Option NlReason) → is_open ≡ is_some b.current → is_head words ≡ true → first_reason (new_head_tests b.draft.counts is_open b.seen b.draft.suffixes b.suffixes words) ≡ r
+    → (s : Standing) → IsHeld s b → words_refusal s words ≡ r
+head_refused b is_open words r e first fault s h =
+    same_refusal s b words h first ∙ ap (λ o. first_reason (new_head_tests b.draft.counts o b.seen b.draft.suffixes b.suffixes words)) (sym e) ∙ fault
+
 -- ---- the pieces with a head more
 
-abbrev front : List Piece → List Piece
-front [] = []
-front (p ∷ []) = []
-front (p ∷ q ∷ pieces) = p ∷ front (q ∷ pieces)
-
-front-append : (before : List Piece) (p : Piece) → front (before ++ p ∷ []) ≡ before
-front-append [] p = refl
-front-append (q ∷ []) p = refl
-front-append (q ∷ r ∷ before) p = ap (λ ps. q ∷ ps) (front-append (r ∷ before) p)
-
 none_of : (test : Piece → Bool) (pieces : List Piece) → list_any test pieces ≡ false → All (λ q. test q ≡ false) pieces
-none_of test [] e k d lt = absurd (omega (arith, lt))
-none_of test (q ∷ pieces) e k d lt = by (test q) refl (none_of test pieces) k lt
-  where
-    by : (t : Bool) → test q ≡ t → (list_any test pieces ≡ false → All (λ q. test q ≡ false) pieces) → (k : ℕ) → k < length (q ∷ pieces) → test (get_or (q ∷ pieces) k d) ≡ false
-    by true s rest k lt = absurd (let wrong : true ≡ false = rw s at e in cc)
-    by false s rest zero lt = s
-    by false s rest (suc k) lt = rest (rw s at e) k d (omega (arith, lt))
+none_of test pieces e k d lt = false_from_ne_true (test (get_or pieces k d)) (λ s. let is = list_any_at test pieces k d lt s in both_ways (list_any test pieces) e is)
 
 -- a piece without rows
 sound_piece : (c : Counts) (head : Head) (name : List ℕ) (line : ℕ) → is_in_range c head ≡ true → IsSoundPiece c (new_piece head name line)
@@ -169,36 +373,22 @@ opened c d head name line e =
       current = begun c head name line;
       pairs = λ t. sym (no_pairs head name line);
       known = λ k x lt. absurd (omega (arith, lt));
-      named = λ t. by (is_suffix head) refl t;
+      named = λ t. ap (λ b. if b then Some name else None) t;
     }
-  where
-    by : (t : Bool) → is_suffix head ≡ t → IsTrue (is_suffix head) → begun_name head name ≡ Some name
-    by true s t = rw s refl
-    by false s t = let wrong : IsTrue false = rw s at t in absurd cc
 
 last_begun : (c : Counts) (d : Draft) (pieces : List Piece) (head : Head) (name : List ℕ) (line : ℕ)
     → IsLast c d (begun_name head name) (last_piece (pieces ++ new_piece head name line ∷ [])) (begun_current c head line)
-last_begun c d pieces head name line = rw (last-append pieces (new_piece head name line)) (by (has_tree head || nat_lt 0 (line_count c head)) refl)
-  where
-    by : (t : Bool) → (has_tree head || nat_lt 0 (line_count c head)) ≡ t → IsLast c d (begun_name head name) (Some (new_piece head name line)) (begun_current c head line)
-    by true e = rw e (opened c d head name line (whole_at_once c head name line ∙ ap not e))
-    by false e = rw e (whole_at_once c head name line ∙ ap not e)
-
-no_mark : (n i : ℕ) → get_or (replicate n false) i false ≡ false
-no_mark zero i = refl
-no_mark (suc n) zero = refl
-no_mark (suc n) (suc i) = no_mark n i
+last_begun c d pieces head name line =
+    rw (last-append pieces (new_piece head name line))
+    (cond_both (has_tree head || nat_lt 0 (line_count c head)) (Some (new_current head line (line_count c head))) None (IsLast c d (begun_name head name) (Some (new_piece head name line)))
+    (λ e. opened c d head name line (whole_at_once c head name line ∙ ap not e)) (λ e. whole_at_once c head name line ∙ ap not e))
 
 marks_begun : (c : Counts) (n : ℕ) (pieces : List Piece) (head : Head) (name : List ℕ) (line : ℕ) → IfSome (last_piece (pieces ++ new_piece head name line ∷ [])) (IsMarked c (replicate n false))
 marks_begun c n pieces head name line =
-    rw (last-append pieces (new_piece head name line)) (λ t i lt. no_mark n i ∙ sym (ap (λ ts. has_index ts i) (no_pairs head name line)))
+    rw (last-append pieces (new_piece head name line)) (λ t i lt. always n i false ∙ sym (ap (λ ts. has_index ts i) (no_pairs head name line)))
 
 node_left : (c : Counts) (head : Head) (line n : ℕ) → IsNodeLeft (begun_current c head line) n
-node_left c head line n = by (has_tree head || nat_lt 0 (line_count c head)) refl
-  where
-    by : (t : Bool) → (has_tree head || nat_lt 0 (line_count c head)) ≡ t → IsNodeLeft (begun_current c head line) n
-    by true e = rw e tt
-    by false e = rw e tt
+node_left c head line n = cond_both (has_tree head || nat_lt 0 (line_count c head)) (Some (new_current head line (line_count c head))) None (λ o. IsNodeLeft o n) (λ e. tt) (λ e. tt)
 
 -- ---- all
 
@@ -233,7 +423,7 @@ held_begun s b head name line h closed range fresh =
     }
 
 -- a row that is a head begins a piece
-after_head : (s : Standing) (row : Row) (words : List (List ℕ)) (line : ℕ) (head : Head) → IsRowOf row words line → is_head words ≡ true → head_of (counts_of s) words ≡ Some head
+after_head : (s : Standing) (row : NumberedRow) (words : List (List ℕ)) (line : ℕ) (head : Head) → IsRowOf row words line → is_head words ≡ true → head_of (counts_of s) words ≡ Some head
     → after_body_row s row ≡ with_new s head (name_in words) line
 after_head s row words line head is first e =
     let one : is_head (row_words row) ≡ true = ap is_head is.same_words ∙ first in
@@ -244,16 +434,6 @@ after_head s row words line head is first e =
 closed_by : (o : Option Current) → is_some o ≡ false → o ≡ None
 closed_by None e = refl
 closed_by (Some cur) e = absurd cc
-
--- the head that nothing is wrong with is not repeated
-pub taken_head : (s : Standing) (b : Body) (row : Row) (words : List (List ℕ)) (line : ℕ) (head : Head) → IsRowOf row words line → is_head words ≡ true → head_of b.draft.counts words ≡ Some head
-    → IsNew b.draft.counts (is_some b.current) b.seen b.draft.suffixes b.suffixes (name_in words) head
-    → IsHeld s b → IsHeld (after_body_row s row) (with_begun_head b head (name_in words) line)
-taken_head s b row words line head is first e new h =
-    let closed = closed_by b.current new.closed in
-    let range : is_in_range (counts_of s) head ≡ true = ap (λ c. is_in_range c head) (sym h.counts) ∙ new.range in
-    subst (λ t. IsHeld t (with_begun_head b head (name_in words) line)) (sym (after_head s row words line head is first (ap (λ c. head_of c words) (sym h.counts) ∙ e)))
-    (held_begun s b head (name_in words) line h closed range (sym (come_repeated s b head (name_in words) h closed range) ∙ new.fresh))
 
 -- ---- for the row of a head
 
@@ -276,24 +456,15 @@ pub fresh_suffix : (seen : Segments) (suffixes : List SuffixValue) (head : Head)
 fresh_suffix seen suffixes (Suffix kind n) name e = e
 fresh_suffix seen suffixes head name e = refl
 
-pub taken_some : (b : Body) (words : List (List ℕ)) (line : ℕ) (head : Head) → HasRow words line → is_head words ≡ true → head_of b.draft.counts words ≡ Some head → IsNewOf b words head
-    → HoldsSome b → HoldsSome (with_begun_head b head (name_in words) line)
-taken_some b words line head of first e new h = (after_body_row h.0 of.0, taken_head h.0 b of.0 words line head of.1 first e new h.1)
-
-pub begun_is : (b n : Body) (head : Head) (name : List ℕ) (line : ℕ) → n.draft ≡ begun_draft b.draft head name → n.current ≡ begun_current b.draft.counts head line → n.name ≡ begun_name head name
-    → n.marks ≡ replicate (length b.marks) false → n.seen ≡ with_segment b.seen head → n.nodes ≡ b.nodes → n.linear ≡ b.linear → n.values ≡ b.values → n.suffixes ≡ begun_count head b.suffixes
-    → n.columns ≡ b.columns → n.uses ≡ b.uses → n.places ≡ with_begun b.places line head → n ≡ with_begun_head b head name line
-begun_is b n head name line draft current named marks seen nodes linear values suffixes columns uses places = λ i. record {
-  draft = draft i;
-  current = current i;
-  name = named i;
-  marks = marks i;
-  seen = seen i;
-  nodes = nodes i;
-  linear = linear i;
-  values = values i;
-  suffixes = suffixes i;
-  columns = columns i;
-  uses = uses i;
-  places = places i;
-}
+-- a head that nothing is wrong with is taken
+pub head_step : (b new : Body) (is_open : Bool) (words : List (List ℕ)) (line : ℕ) (head : Head) → is_open ≡ is_some b.current → is_head words ≡ true → head_of b.draft.counts words ≡ Some head
+    → first_reason (new_head_tests b.draft.counts is_open b.seen b.draft.suffixes b.suffixes words) ≡ None → new ≡ with_begun_head b head (name_in words) line → TakesRow b words line (Ok tt) new
+head_step b new is_open words line head e first is none same s row of h =
+    let wanted = new_of b is_open words head e is none in
+    let closed = closed_by b.current wanted.closed in
+    let range : is_in_range (counts_of s) head ≡ true = ap (λ c. is_in_range c head) (sym h.counts) ∙ wanted.range in
+    let after = after_head s row words line head of first (ap (λ c. head_of c words) (sym h.counts) ∙ is) in (
+      head_refused b is_open words None e first none s h,
+      subst (IsHeld (after_body_row s row)) (sym same) (subst (λ t. IsHeld t (with_begun_head b head (name_in words) line)) (sym after)
+          (held_begun s b head (name_in words) line h closed range (sym (come_repeated s b head (name_in words) h closed range) ∙ wanted.fresh))),
+    )

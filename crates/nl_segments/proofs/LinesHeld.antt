@@ -1,26 +1,28 @@
 -- Each node, term and head has its line in what pieces say.
-use Rattle.std.proofs.Common.{◌≡◌, ◌∙◌, ℕ, zero, suc, ◌<◌, ◌≤◌, Bool, true, false, not, ◌&&◌, ◌||◌, ◌==◌, List, [], ◌∷◌, ◌++◌, length, take, replicate, get_or, refl, sym, ap, subst, arith, nat_lt, Option, Some, None, is_some, append_assoc}
+use Rattle.std.proofs.Common.{◌≡◌, ◌∙◌, ℕ, zero, suc, ◌<◌, ◌≤◌, Bool, true, false, not, ◌&&◌, ◌||◌, ◌==◌, List, [], ◌∷◌, ◌++◌, length, take, replicate, get_or, refl, sym, ap, subst, arith, nat_lt, Option, Some, None, is_some, append_assoc, drop}
 use Rattle.std.specs.Prelude.{if◌then◌else◌, ℤ, IfSome, IsSome, IsSomeAnd, slice_get, option_map, option_and_then, All, AllPairs}
 use Rattle.std.specs.Option.{option_map_or, option_or}
 use Rattle.std.specs.List.{list_any, cons_option}
-use Rattle.std.proofs.lemmas.List.{length-append, length-map, length-replicate, append-nil, get_or_append_left}
-use Rattle.std.proofs.lemmas.Bool.{ltb-true, ltb-false}
+use Rattle.std.proofs.lemmas.List.{length-map, length-replicate, append-nil}
+use Rattle.std.proofs.lemmas.Bool.{ltb-true, ltb-false, cond_both, both_ways, and_right}
 use Rattle.nl_meaning.specs.Trees.{Tree, tree_size}
 use Rattle.nl_model.specs.declared.header_counts.Counts.{Counts}
 use Rattle.nl_model.specs.Draft.{Draft, file_of, those_given}
-use Rattle.nl_model.specs.File.{Term, Definition, Objective}
+use Rattle.nl_model.specs.File.{Term}
+use Rattle.nl_model.specs.declared.definition.Def.{Def as Definition}
+use Rattle.nl_model.specs.declared.objective.Objective.{Objective}
 use Rattle.nl_model.specs.Nodes.{tree_of}
 use Rattle.nl_lines.specs.declared.awaited.Awaited.{Awaited}
 use Rattle.nl_lines.specs.declared.awaited.Awaited.TheVariants.{Nothing}
 use Rattle.nl_lines.specs.declared.head.Head.{Head}
-use Rattle.nl_lines.specs.declared.head.Head.TheVariants.{Body as BodyHead, Objective as ObjectiveHead, Definition as DefinitionHead, DualGuesses, PrimalGuesses, Sides, Bounds, ColumnCounts, Terms, Slopes, Suffix}
+use Rattle.nl_lines.specs.declared.head.Head.TheVariants.{Body as BodyHead, Objective as ObjectiveHead, Definition as DefinitionHead, Terms, Slopes, Suffix}
 use Rattle.nl_lines.specs.declared.pending.Pending.{Pending}
 use Rattle.nl_model.specs.declared.node.Node.{Node}
-use Rattle.nl_lines.specs.Rows.{Row, row_words}
+use Rattle.nl_lines.specs.Rows.{NumberedRow, row_words}
 use Rattle.nl_lines.specs.Heads.{is_in_range}
 use Rattle.nl_lines.specs.Nodes.{Placed, node_in, opcode_in, pending_in, nodes_from, only_nodes, only_lines}
 use Rattle.nl_lines.specs.Pieces.{Piece, awaited_in, has_tree, is_complete, is_nothing, line_count, line_kind, pair_count, piece_nodes, piece_pairs, piece_pending, tree_awaits, tree_rows}
-use Rattle.nl_lines.specs.Saying.{OwnerLines, PlaceLines, no_lines, said_by, draft_of, place_lines, lines_by, place_line, piece_tree, node_lines, term_lines, with_tree_lines, with_term_lines, with_slope_lines}
+use Rattle.nl_lines.specs.Saying.{OwnerLines, PlaceLines, no_lines, said_by, draft_of, place_lines, more_lines, place_line, piece_tree, node_lines, term_lines, with_tree_lines, with_term_lines, with_slope_lines}
 use Rattle.nl_model.specs.declared.at.At.{At}
 use Rattle.nl_model.specs.FilePlaces.{HasPlace}
 use Rattle.nl_model.specs.declared.at.At.TheVariants.{Node as NodeAt, Term as TermAt, Head as HeadAt}
@@ -30,8 +32,8 @@ use Rattle.nl_segments.specs.Held.{AreSound, IsSoundPiece}
 use Rattle.nl_lines.proofs.PieceLemmas.{draft-append, lines-append}
 use Rattle.nl_lines.proofs.DraftLemmas.{draft_counts}
 use Rattle.nl_segments.specs.InsidePlaceSteps.{HasOwner}
-use Rattle.nl_segments.proofs.HeadBegun.{some_line}
-use Rattle.nl_segments.proofs.PlaceLemmas.{owner_there}
+use Rattle.nl_segments.proofs.HeadBegun.{some_line, always}
+use Rattle.nl_segments.proofs.PairLines.{owner_there, Apart, front_apart}
 use Rattle.nl_lines.proofs.FreshLaw.{none_before, gave_none}
 use Rattle.std.proofs.lemmas.List.{get_or_past}
 use Rattle.std.proofs.lemmas.List.Elements.{All-cons, All-drop, All-map, All-take}
@@ -51,14 +53,13 @@ pub tree_part : (t : Bool) (a : Awaited) → t ≡ true → is_nothing (if t the
 tree_part true a e h = h
 tree_part false a e h = absurd cc
 
--- a whole expression has a line for each of its nodes
-whole_nodes : (c : Counts) (p : Piece) → has_tree p.head ≡ true → is_complete c p ≡ true → tree_size (piece_tree c p) ≤ length (node_lines c p)
+-- a whole expression awaits nothing
+pub tree_done : (c : Counts) (p : Piece) → has_tree p.head ≡ true → is_complete c p ≡ true → is_nothing (tree_awaits (piece_nodes c p) (piece_pending p)) ≡ true
 unfolding awaited_in
-whole_nodes c p t whole = by (nat_lt (length p.rows) (line_count c p.head)) refl
-  where
-    by : (l : Bool) → nat_lt (length p.rows) (line_count c p.head) ≡ l → tree_size (piece_tree c p) ≤ length (node_lines c p)
-    by true e = absurd (let done : is_nothing (line_kind p.head) ≡ true = rw e at whole in let none = some_line p.head in cc)
-    by false e = placed_nodes (piece_nodes c p) (piece_pending p) (tree_part (has_tree p.head) (tree_awaits (piece_nodes c p) (piece_pending p)) t (rw e at whole))
+tree_done c p t whole =
+    cond_both (nat_lt (length p.rows) (line_count c p.head)) (line_kind p.head) (if has_tree p.head then tree_awaits (piece_nodes c p) (piece_pending p) else Nothing)
+    (λ a. is_nothing a ≡ true → is_nothing (tree_awaits (piece_nodes c p) (piece_pending p)) ≡ true)
+    (λ q e. absurd (both_ways _ (some_line p.head) e)) (λ q e. tree_part (has_tree p.head) (tree_awaits (piece_nodes c p) (piece_pending p)) t e) whole
 
 -- its lines, and those of its nodes and terms, are such ones
 record ArePieceLines (P : ℕ → Type 0) (c : Counts) (p : Piece) : Type 0 where
@@ -82,7 +83,7 @@ pub record AreRowLines (P : ℕ → Type 0) (p : Piece) : Type 0 where
   pub line : P p.line
   pub rows : All (λ r. P r.line) p.rows
 
-lines_from : (P : ℕ → Type 0) (n : ℕ) (pending : Option Pending) (rows : List Row) → IfSome pending (λ q. P q.line) → All (λ r. P r.line) rows → All P (only_lines (nodes_from n pending rows))
+lines_from : (P : ℕ → Type 0) (n : ℕ) (pending : Option Pending) (rows : List NumberedRow) → IfSome pending (λ q. P q.line) → All (λ r. P r.line) rows → All P (only_lines (nodes_from n pending rows))
 unfolding nodes_from
 lines_from P n None [] h rows = λ k d lt. absurd (omega (arith, lt))
 lines_from P n (Some q) [] h rows = λ k d lt. absurd (omega (arith, lt))
@@ -102,11 +103,8 @@ lines_from P n None (row ∷ more) h rows =
     by (Some m) rest = All-cons P row.line (only_lines (nodes_from n (pending_in row) more)) here rest
 
 tree_lines : (P : ℕ → Type 0) (p : Piece) → All (λ r. P r.line) p.rows → All (λ r. P r.line) (tree_rows p)
-tree_lines P p h = by (has_tree p.head) refl
-  where
-    by : (t : Bool) → has_tree p.head ≡ t → All (λ r. P r.line) (tree_rows p)
-    by true e = rw e (All-drop (λ r. P r.line) (pair_count p.head) p.rows h)
-    by false e = rw e (λ k d lt. absurd (omega (arith, lt)))
+tree_lines P p h =
+    cond_both (has_tree p.head) (drop (pair_count p.head) p.rows) [] (All (λ r. P r.line)) (λ e. All-drop (λ r. P r.line) (pair_count p.head) p.rows h) (λ e k d lt. absurd (omega (arith, lt)))
 
 piece_lines : (P : ℕ → Type 0) (c : Counts) (p : Piece) → AreRowLines P p → ArePieceLines P c p
 piece_lines P c p h =
@@ -141,16 +139,16 @@ some_and : (P : ℕ → Type 0) (head : Option ℕ) → IsSome head → IfSome h
 some_and P None some h = absurd cc
 some_and P (Some n) some h = h
 
-step : (P : ℕ → Type 0) (c : Counts) (d : Draft) (l : PlaceLines) (p : Piece) (h : Head) → d.counts ≡ c → p.head ≡ h → IsWhole P c p → IsUnused d h → HasOwner l h → AreLined P d l → AreLined P (said_by d p h) (lines_by c l p h)
+step : (P : ℕ → Type 0) (c : Counts) (d : Draft) (l : PlaceLines) (p : Piece) (h : Head) → d.counts ≡ c → p.head ≡ h → IsWhole P c p → IsUnused d h → HasOwner l h → AreLined P d l → AreLined P (said_by d p h) (more_lines c l p h)
 step P c d l p (BodyHead i) n e w free place old =
-    let size = whole_nodes c p (rw e refl) w.whole in
+    let size = placed_nodes (piece_nodes c p) (piece_pending p) (tree_done c p (rw e refl) w.whole) in
     rw (n, w.whole) (record {
       definitions = old.definitions;
       constraints = with_tree_at P true (λ t. t) d.bodies d.terms l.constraints i (Some (piece_tree c p)) (with_tree_lines c p) place (λ ts o before. record { nodes = size; terms = before.terms; head = λ _. refl; lines = record { head = w.lines.line; nodes = w.lines.nodes; terms = before.lines.terms } }) old.constraints;
       objectives = old.objectives;
     })
 step P c d l p (ObjectiveHead k m) n e w free place old =
-    let size = whole_nodes c p (rw e refl) w.whole in
+    let size = placed_nodes (piece_nodes c p) (piece_pending p) (tree_done c p (rw e refl) w.whole) in
     rw (n, w.whole) (record {
       definitions = old.definitions;
       constraints = old.constraints;
@@ -158,18 +156,13 @@ step P c d l p (ObjectiveHead k m) n e w free place old =
           (λ ts o before. record { nodes = size; terms = before.terms; head = λ _. refl; lines = record { head = w.lines.line; nodes = w.lines.nodes; terms = before.lines.terms } }) old.objectives;
     })
 step P c d l p (DefinitionHead i j u) n e w free place old =
-    let size = whole_nodes c p (rw e refl) w.whole in
+    let size = placed_nodes (piece_nodes c p) (piece_pending p) (tree_done c p (rw e refl) w.whole) in
     rw (n, w.whole) (record {
       definitions = defs_push P d.definitions l.definitions (record { index = i; terms = piece_pairs p; usage = u; tree = piece_tree c p }) (record { head = Some p.line; nodes = node_lines c p; terms = term_lines p }) old.definitions
           (record { nodes = size; terms = pairs_lines P c p w; head = λ _. refl; lines = record { head = w.lines.line; nodes = w.lines.nodes; terms = w.lines.terms } });
       constraints = old.constraints;
       objectives = old.objectives;
     })
-step P c d l p (DualGuesses m) n e w free place old = record { definitions = old.definitions; constraints = old.constraints; objectives = old.objectives }
-step P c d l p (PrimalGuesses m) n e w free place old = record { definitions = old.definitions; constraints = old.constraints; objectives = old.objectives }
-step P c d l p Sides n e w free place old = record { definitions = old.definitions; constraints = old.constraints; objectives = old.objectives }
-step P c d l p Bounds n e w free place old = record { definitions = old.definitions; constraints = old.constraints; objectives = old.objectives }
-step P c d l p (ColumnCounts m) n e w free place old = old
 step P c d l p (Terms i m) n e w free place old =
     record {
       definitions = old.definitions;
@@ -185,22 +178,14 @@ step P c d l p (Slopes k m) n e w free place old =
           (λ t o before. record { nodes = before.nodes; terms = rw free (pairs_lines P c p w); head = before.head; lines = record { head = before.lines.head; nodes = before.lines.nodes; terms = w.lines.terms } }) old.objectives;
     }
 step P c d l p (Suffix a m) n e w free place old = rw (n, w.whole) (record { definitions = old.definitions; constraints = old.constraints; objectives = old.objectives })
+step P c d l p head n e w free place old = record { definitions = old.definitions; constraints = old.constraints; objectives = old.objectives }
 
 -- ---- all pieces
-
-abbrev Apart : Piece → Piece → Type 0
-Apart q r = is_same_piece r.head r.name q ≡ false
 
 -- no head of the rest came before it
 abbrev Follow : List Piece → List Piece → Type 0
 Follow before [] = Unit {0}
 Follow before (p ∷ rest) = (list_any (is_same_piece p.head p.name) before ≡ false) × Follow (before ++ p ∷ []) rest
-
-front_apart : (xs ys : List Piece) → AllPairs Apart (xs ++ ys) → AllPairs Apart xs
-front_apart xs ys h i j d lt within =
-    let early : i < length xs = omega arith in
-    subst (λ x. Apart x (get_or xs j d)) (get_or_append_left xs ys d i early)
-    (subst (λ y. Apart (get_or (xs ++ ys) i d) y) (get_or_append_left xs ys d j within) (h i j d lt (omega (arith, within, length-append xs ys))))
 
 follow : (before rest : List Piece) → AllPairs Apart (before ++ rest) → Follow before rest
 follow before [] h = tt
@@ -236,11 +221,6 @@ lined P o c before (p ∷ rest) h a w =
     (step P c (draft_of o c before) (place_lines c before) p p.head (draft_counts o c before) refl w.0 (unused o c before p.name p.head a.0) (owner_there c before p.head w.0.range) h) in
     subst (Lined P o c) (append_assoc before (p ∷ []) rest) (lined P o c (before ++ p ∷ []) rest next a.1 w.1)
 
-pub always : {A : Type 0} (n j : ℕ) (x : A) → get_or (replicate n x) j x ≡ x
-always zero j x = refl
-always (suc n) zero x = refl
-always (suc n) (suc j) x = always n j x
-
 none_lined : {A : Type 0} (P : ℕ → Type 0) (both : Bool) (tree : Option A → Option Tree) (n : ℕ) → tree None ≡ None → AllLined P both tree (replicate n None) (replicate n []) (replicate n no_lines)
 none_lined {A = A} P both tree n e =
     record {
@@ -253,8 +233,7 @@ none_lined {A = A} P both tree n e =
     no_line = record { head = tt; nodes = λ k d lt. absurd (omega (arith, lt)); terms = λ k d lt. absurd (omega (arith, lt)) }
 
     nothing : (both : Bool) → IsLined P both None [] no_lines
-    nothing true = record { nodes = omega arith; terms = omega arith; head = λ e. absurd cc; lines = no_line }
-    nothing false = record { nodes = omega arith; terms = omega arith; head = λ e. absurd cc; lines = no_line }
+    nothing both = record { nodes = omega arith; terms = omega arith; head = λ e. absurd (both_ways _ (and_right both false refl) e); lines = no_line }
 
 none_yet : (P : ℕ → Type 0) (o : List ℤ) (c : Counts) → Lined P o c []
 unfolding draft_of place_lines
@@ -271,8 +250,7 @@ owned : (P : ℕ → Type 0) (both : Bool) (tree : Option Tree) (ts : List Term)
 owned P both tree ts o h = record { nodes = λ k lt. node_there P both tree ts o k h lt; terms = λ k lt. term_there P both tree ts o k h lt; head = λ e. some_and P o.head (h.head e) h.lines.head }
 
 no_owner : (P : ℕ → Type 0) (both : Bool) → HasAll P both None [] None
-no_owner P true = record { nodes = λ k lt. absurd (omega (arith, lt)); terms = λ k lt. absurd (omega (arith, lt)); head = λ e. absurd cc }
-no_owner P false = record { nodes = λ k lt. absurd (omega (arith, lt)); terms = λ k lt. absurd (omega (arith, lt)); head = λ e. absurd cc }
+no_owner P both = record { nodes = λ k lt. absurd (omega (arith, lt)); terms = λ k lt. absurd (omega (arith, lt)); head = λ e. absurd (both_ways _ (and_right both false refl) e) }
 
 owner_at : {A : Type 0} (P : ℕ → Type 0) (both : Bool) (tree : Option A → Option Tree) (xs : List (Option A)) (rows : List (List Term)) (os : List OwnerLines) (i : ℕ) → tree None ≡ None → AllLined P both tree xs rows os
     → HasAll P both (tree (get_or xs i None)) (get_or rows i []) (slice_get os i)

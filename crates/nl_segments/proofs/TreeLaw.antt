@@ -1,7 +1,8 @@
 -- A tree whose nodes use what is there uses what is there.
 use Rattle.std.proofs.Common.{◌≡◌, ℕ, suc, List, [], ◌∷◌, ◌++◌, sym, subst, arith, All}
 use Rattle.nl_meaning.specs.Trees.{Tree, Trees}
-use Rattle.nl_model.specs.File.{Definition, Term}
+use Rattle.nl_model.specs.File.{Term}
+use Rattle.nl_model.specs.declared.definition.Def.{Def as Definition}
 use Rattle.nl_model.specs.declared.node.Node.{Node}
 use Rattle.nl_model.specs.Nodes.{IsPrefix, a_number, a_variable, a_defined, an_operation, ArePrefixes, no_tree, one_more, AreNodesOf}
 use Rattle.nl_model.specs.Draft.{Draft}

@@ -14,7 +14,7 @@ use Rattle.nl_lines.specs.declared.awaited.Awaited.{Awaited}
 use Rattle.nl_lines.specs.declared.fault.NlReason.{NlReason}
 use Rattle.nl_segments.specs.declared.nl_read.NlRead.{NlRead}
 use Rattle.nl_lines.specs.declared.head.Head.{Head}
-use Rattle.nl_lines.specs.Rows.{Row, row_words}
+use Rattle.nl_lines.specs.Rows.{NumberedRow, row_words}
 use Rattle.nl_lines.specs.Pieces.{Piece, last_piece, is_complete, pair_count, piece_pairs, keeps_pairs}
 use Rattle.nl_lines.specs.Tests.{all_column_counts, holds_once, index_limit, is_linear, is_same_piece, is_suffix, node_total, pair_total, row_tests, suffix_count, end_tests}
 use Rattle.nl_lines.specs.PairTests.{IsMarked}
@@ -22,6 +22,9 @@ use Rattle.nl_lines.specs.NodeRows.{IsNodeKnown}
 use Rattle.nl_lines.specs.Heads.{is_in_range}
 use Rattle.nl_lines.specs.Saying.{PlaceLines, place_lines}
 use Rattle.nl_lines.specs.SeenSegments.{Segments, IsSeenIn, has_segment}
+use Rattle.nl_segments.specs.declared.body.BodyReader.{BodyReader}
+use Rattle.nl_segments.specs.declared.stage.Stage.{Stage}
+use Rattle.nl_segments.specs.declared.stage.Stage.TheVariants.{Header as HeaderStage, Body as BodyStage}
 use Rattle.nl_segments.specs.Current.{Current, IsCurrent, current_awaits}
 use Rattle.nl_segments.specs.Grammar.{Standing, is_in_header, counts_of, said}
 use Rattle.nl_segments.specs.Steps.{after_body_row}
@@ -43,6 +46,22 @@ pub record Body : Type 0 where
   pub columns : List ℕ
   pub uses : List ℕ
   pub places : PlaceLines
+
+abbrev pub body_of : BodyReader → Body
+body_of b = record {
+  draft = b.builder;
+  current = b.current;
+  name = b.name;
+  marks = b.marks;
+  seen = b.seen;
+  nodes = b.nodes;
+  linear = b.linear;
+  values = b.values;
+  suffixes = b.suffixes;
+  columns = b.columns.items;
+  uses = b.uses.items;
+  places = b.places;
+}
 
 -- ---- What holds of pieces without a fault.
 
@@ -112,20 +131,20 @@ pub record IsHeld (s : Standing) (b : Body) : Type 0 where
   pub few : IsNodeLeft b.current b.nodes
   pub few_terms : b.linear ≤ most_terms
 
--- what holds of each reader of the body: it holds what some lines mean
+-- it holds what some lines mean
 abbrev pub HoldsSome : Body → Type 0
 HoldsSome b = (s : Standing) × IsHeld s b
 
 -- ---- What taking a row, or the end, answers.
 
 -- the row of these words in this line
-pub record IsRowOf (row : Row) (words : List (List ℕ)) (line : ℕ) : Type 0 where
+pub record IsRowOf (row : NumberedRow) (words : List (List ℕ)) (line : ℕ) : Type 0 where
   pub same_words : row_words row ≡ words
   pub same_line : row.line ≡ line
 
 -- there is such a row
 abbrev pub HasRow : List (List ℕ) → ℕ → Type 0
-HasRow words line = (row : Row) × IsRowOf row words line
+HasRow words line = (row : NumberedRow) × IsRowOf row words line
 
 -- what is wrong with a row of these words
 abbrev pub words_refusal : Standing → List (List ℕ) → Option NlReason
@@ -133,7 +152,7 @@ words_refusal s words = first_reason (row_tests (counts_of s) (said s) s.pieces 
 
 -- a row is taken where nothing is wrong with it; of want of memory nothing is said
 abbrev pub TakesRow : Body → List (List ℕ) → ℕ → Result (Unit {0}) (Stop NlReason) → Body → Type 0
-TakesRow old words line (Ok u) new = (s : Standing) (row : Row) → IsRowOf row words line
+TakesRow old words line (Ok u) new = (s : Standing) (row : NumberedRow) → IsRowOf row words line
     → IsHeld s old → (words_refusal s words ≡ None) × IsHeld (after_body_row s row) new
 TakesRow old words line (Err (Fault r)) new =
     (s : Standing) → IsHeld s old → words_refusal s words ≡ Some r
@@ -167,14 +186,23 @@ only_header rows = record { header = rows; pieces = [] }
 -- ---- The whole reader.
 
 -- the header's reader, and that of the body once the header is whole
-pub record Progress : Type 0 where
-  pub header : Taken
-  pub body : Option Body
+pub data Progress : Type 0 where
+  in_header : Taken → Progress
+  in_body : Body → Progress
 
-abbrev pub HoldsBy : Standing → Taken → Option Body → Type 0
-HoldsBy s header None = (is_in_header s ≡ true) × (s.pieces ≡ []) × IsReading header s.header
-HoldsBy s header (Some b) = IsHeld s b
+abbrev pub progress_of : Stage → Progress
+progress_of (HeaderStage header) = in_header header
+progress_of (BodyStage body) = in_body (body_of body)
 
 -- the reader holds what lines mean
 abbrev pub HoldsStanding : Standing → Progress → Type 0
-HoldsStanding s g = HoldsBy s g.header g.body
+HoldsStanding s (in_header t) = (is_in_header s ≡ true) × (s.pieces ≡ []) × IsReading t s.header
+HoldsStanding s (in_body b) = IsHeld s b
+
+abbrev pub IsInHeader : Progress → Type 0
+IsInHeader (in_header t) = Unit {0}
+IsInHeader (in_body b) = ⊥
+
+-- what holds of each reader: it holds what some lines mean
+abbrev pub HoldsSomeLines : Progress → Type 0
+HoldsSomeLines g = (s : Standing) × HoldsStanding s g

@@ -4,7 +4,7 @@ use Rattle.nl_model.specs.Draft.{Draft}
 use Rattle.nl_model.specs.Rules.{term_count}
 use Rattle.nl_lines.specs.declared.fault.NlReason.TheVariants.{ShortSegment, Missing, NonzeroCount, ColumnCount as BadColumnCount}
 use Rattle.nl_lines.specs.Pieces.{is_nothing}
-use Rattle.nl_lines.specs.Tests.{Tests, is_short}
+use Rattle.nl_lines.specs.Tests.{Tests, lacks_part}
 use Rattle.nl_segments.specs.Held.{Body}
 use Rattle.nl_segments.specs.InsideTaking.{body_awaits}
 
@@ -16,7 +16,7 @@ are_sums uses j before (n ∷ ns) = (n == before + get_or uses j 0) && are_sums 
 abbrev pub body_end_tests : Body → Tests
 body_end_tests b =
     (not (is_nothing (body_awaits b.current)), ShortSegment)
-    ∷ (is_short b.draft, Missing)
+    ∷ (lacks_part b.draft, Missing)
     ∷ (not (term_count b.draft.terms == b.draft.counts.nzc), NonzeroCount)
     ∷ (not (are_sums b.uses 0 0 b.columns), BadColumnCount) ∷ []
 

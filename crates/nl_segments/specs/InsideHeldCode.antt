@@ -1,6 +1,6 @@
 -- The codes of what readers hold, by which proofs tell them apart: those of their parts.
-use Rattle.std.specs.Prelude.{ℕ, Bool, List, Option, Some, None, refl, ◌≡◌}
-use Rattle.std.specs.Coded.{Coded, code_by, coded×, coded_ℕ, coded_bool, coded_list, coded_option}
+use Rattle.std.specs.Prelude.{ℕ, Bool, List, Option, Some, None, Result, Ok, Err, refl, ◌≡◌}
+use Rattle.std.specs.Coded.{Coded, code_by, coded×, coded_ℕ, coded_bool, coded_list, coded_option, coded_result}
 use Rattle.texts.specs.declared.stop.Stop.{Stop}
 use Rattle.texts.specs.declared.stop.Stop.TheVariants.{Fault, Memory}
 use Rattle.texts.specs.declared.fault.TextFault.{TextFault}
@@ -16,7 +16,7 @@ use Rattle.nl_lines.specs.declared.fault.NlReason.{NlReason}
 use Rattle.nl_segments.specs.Current.{Current}
 use Rattle.nl_lines.specs.SeenSegments.{Segments}
 use Rattle.nl_lines.specs.Saying.{PlaceLines}
-use Rattle.nl_segments.specs.Held.{Body, Progress}
+use Rattle.nl_segments.specs.Held.{Body, Progress, in_header, in_body}
 
 abbrev Parts : Type 0
 Parts =
@@ -54,10 +54,22 @@ body_code =
     })
     (λ _. refl)
 
+abbrev part_of : Progress → Result Taken Body
+part_of (in_header t) = Ok t
+part_of (in_body b) = Err b
+
+abbrev progress_from : Result Taken Body → Progress
+progress_from (Ok t) = in_header t
+progress_from (Err b) = in_body b
+
+abbrev progress_again : (g : Progress) → progress_from (part_of g) ≡ g
+progress_again (in_header t) = refl
+progress_again (in_body b) = refl
+
 abbrev pub progress_code : Coded Progress
 progress_code =
-    code_by (Taken × Option Body) (coded× header_row.coded (coded_option body_code))
-    (λ g. (g.header, g.body)) (λ p. record { header = p.0; body = p.1 }) (λ _. refl)
+    code_by (Result Taken Body) (coded_result header_row.coded body_code) part_of progress_from
+    progress_again
 
 -- the reason and the line of a fault; none for want of memory
 abbrev fault_parts : Stop (TextFault NlReason) → Option (NlReason × ℕ)

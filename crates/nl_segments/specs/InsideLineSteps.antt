@@ -3,7 +3,7 @@ use Rattle.std.specs.Prelude.{ℕ, ◌-◌, ◌<◌, ◌++◌, ◌∷◌, [], Bo
 use Rattle.nl_model.specs.declared.header_counts.Counts.{Counts}
 use Rattle.linear_program.specs.declared.interval.Interval.{Interval}
 use Rattle.nl_model.specs.Draft.{Draft}
-use Rattle.nl_model.specs.Kinds.{kind_of}
+use Rattle.nl_model.specs.Kinds.{variable_kind}
 use Rattle.nl_lines.specs.Pieces.{is_nothing}
 use Rattle.nl_lines.specs.Tests.{Tests, interval_form_tests, is_binary, is_sides}
 use Rattle.nl_segments.specs.Current.{Current, current_awaits}
@@ -27,4 +27,4 @@ HasRoom d false = length d.bounds < d.counts.n_var
 abbrev pub next_interval_tests : Counts → Current → List (List ℕ) → Tests
 next_interval_tests c cur words =
     interval_form_tests (is_sides cur.head)
-    (not (is_sides cur.head) && is_binary (kind_of c (c.n_var - cur.left))) words
+    (not (is_sides cur.head) && is_binary (variable_kind c (c.n_var - cur.left))) words

@@ -13,6 +13,5 @@ pub mod InsideTaking
 pub mod InsideTreeSteps
 pub mod InsideKnownPairs
 pub mod InsideKnownNodes
-pub mod InsideKnownColumns
 pub mod InsideLineRuns
 pub mod InsideTermRuns

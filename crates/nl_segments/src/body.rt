@@ -1,15 +1,14 @@
 // A reader of the rows after the header.
-ghost use Rattle.std.specs.Prelude.{◌≡◌, ◌≤◌, ℕ, List, IfOk, IfErr, OnOk, Some, None, replicate, false};
+ghost use Rattle.std.specs.Prelude.{◌≡◌, ◌≤◌, ℕ, List, IfOk, replicate, false};
 ghost use Rattle.texts.specs.Words.{texts};
 ghost use Rattle.nl_model.specs.Draft.{IsDraft};
 ghost use Rattle.nl_lines.specs.declared.head.Head.{Head};
 ghost use Rattle.nl_lines.specs.Heads.{is_head};
-ghost use Rattle.nl_segments.specs.Held.{IsHeld, IsHeaderOf, only_header, TakesRow, HasRow, Finishes};
+ghost use Rattle.nl_segments.specs.Held.{HasRow, HoldsSome, IsHeld, IsHeaderOf, Finishes, TakesRow, body_of, only_header};
 ghost use Rattle.nl_segments.specs.InsideTaking.{body_awaits};
 ghost use Rattle.nl_lines.specs.Tests.{index_limit};
 ghost use Rattle.nl_segments.specs.InsideEnding.{body_end_tests};
-ghost use Rattle.texts.specs.Judged.{Decides, first_reason};
-ghost use Rattle.texts.specs.Stopped.{IfFault};
+ghost use Rattle.texts.specs.Judged.{Decides};
 
 use crate::current::Current;
 use crate::ending::{are_sums, is_short};
@@ -19,7 +18,6 @@ use crate::seen::Seen;
 use nl_lines::{Awaited, NlReason, is_head};
 use nl_model::{Counts, Header, NlBuilder};
 use std::alloc::{AllocError, Global};
-use std::marker::Model;
 use texts::{Marks, Name, Stop};
 
 /// The rows of the body so far: the file, the last piece where it is not complete, and what judging
@@ -39,50 +37,6 @@ pub struct BodyReader {
     pub(crate) columns: Vec<u32>,
     pub(crate) uses: Vec<u32>,
     pub(crate) places: Places,
-    // half of a row was taken when memory was wanting
-    pub(crate) is_broken: bool,
-}
-
-impl Model for BodyReader {
-    ghost use Rattle.std.specs.Prelude.{◌≡◌, false};
-    ghost use Rattle.nl_segments.specs.Held.{Body, HoldsSome};
-
-    ghost Value = { Body };
-
-    ghost use Rattle.nl_segments.specs.InsideHeldCode.{body_code};
-
-    ghost coded = { body_code };
-
-    ghost view = { λ b. record {
-      draft = b.builder;
-      current = b.current;
-      name = b.name;
-      marks = b.marks;
-      seen = b.seen;
-      nodes = b.nodes;
-      linear = b.linear;
-      values = b.values;
-      suffixes = b.suffixes;
-      columns = b.columns.items;
-      uses = b.uses.items;
-      places = b.places;
-    } };
-
-    ghost invariant = { λ b. b.is_broken ≡ false
-        → HoldsSome (record {
-          draft = b.builder;
-          current = b.current;
-          name = b.name;
-          marks = b.marks;
-          seen = b.seen;
-          nodes = b.nodes;
-          linear = b.linear;
-          values = b.values;
-          suffixes = b.suffixes;
-          columns = b.columns.items;
-          uses = b.uses.items;
-          places = b.places;
-        }) };
 }
 
 // So many zeros.
@@ -103,10 +57,9 @@ fn most_indices(counts: &Counts) -> usize
 impl BodyReader {
     /// A reader of the rows after this header.
     pub(crate) fn new(alloc: Global, header: Header) -> Result<BodyReader, AllocError>
-        requires { (rows : List (List (List ℕ))) × IsHeaderOf rows header.options header.counts }
         ensures { IfOk result
             (λ b. (rows : List (List (List ℕ))) → IsHeaderOf rows header.options header.counts
-            → IsHeld (only_header rows) b) }
+            → IsHeld (only_header rows) (body_of b)) }
     {
         let counts = *header.counts();
         let marks = Marks::new(alloc, most_indices(&counts))?;
@@ -128,26 +81,27 @@ impl BodyReader {
             columns: Vec::new(alloc),
             uses,
             places,
-            is_broken: false,
         })
     }
 
     /// Takes the row of these words in this line.
     pub(crate) fn take(&mut self, words: &[&[u8]], line: u32) -> Result<(), Stop<NlReason>>
+        requires held { HoldsSome (body_of self.old) }
         requires exists { HasRow (texts words.now) line }
-        ensures { TakesRow self.old (texts words.now) line result self.new }
+        ensures { TakesRow (body_of self.old) (texts words.now) line result (body_of self.new) }
     {
         if is_head(words) {
             return self.take_head(words, line);
         }
-        self.take_line(words, line)
+        self.take_plain(words, line)
     }
 
     // Takes a row that is no head.
-    fn take_line(&mut self, words: &[&[u8]], line: u32) -> Result<(), Stop<NlReason>>
+    fn take_plain(&mut self, words: &[&[u8]], line: u32) -> Result<(), Stop<NlReason>>
         requires row { is_head (texts words.now) ≡ false }
+        requires held { HoldsSome (body_of self.old) }
         requires exists { HasRow (texts words.now) line }
-        ensures { TakesRow self.old (texts words.now) line result self.new }
+        ensures { TakesRow (body_of self.old) (texts words.now) line result (body_of self.new) }
     {
         match self.awaited() {
             Awaited::Pair => self.take_pair(words, line),
@@ -171,8 +125,8 @@ impl BodyReader {
 
     // What is missing at the end.
     fn judge_end(&self) -> Result<(), NlReason>
-        ensures draft { IsDraft self.now.draft }
-        ensures judged { Decides (body_end_tests self.now) (λ _. Unit {0}) result }
+        ensures draft { IsDraft self.now.builder }
+        ensures judged { Decides (body_end_tests (body_of self.now)) (λ _. Unit {0}) result }
     {
         let terms = self.builder.header().counts().nzc;
         if self.awaited() != Awaited::Nothing {
@@ -190,26 +144,9 @@ impl BodyReader {
         Ok(())
     }
 
-    // The same, or want of memory where half of a row was taken.
-    fn judge_whole(&self) -> Result<(), Stop<NlReason>>
-        ensures draft { IsDraft self.now.draft }
-        ensures fine { OnOk result (first_reason (body_end_tests self.now) ≡ None) }
-        ensures fault { IfErr result (λ stop. IfFault stop
-            (λ reason. first_reason (body_end_tests self.now) ≡ Some reason)) }
-    {
-        let judged = self.judge_end();
-        if self.is_broken {
-            return Err(Stop::Memory);
-        }
-        match judged {
-            Ok(()) => Ok(()),
-            Err(reason) => Err(Stop::Fault(reason)),
-        }
-    }
-
     // The file and the lines of its places alone.
     fn into_parts(self) -> (NlBuilder, Places)
-        ensures builder { result.0 ≡ self.draft }
+        ensures builder { result.0 ≡ self.builder }
         ensures places { result.1 ≡ self.places }
     {
         (self.builder, self.places)
@@ -217,16 +154,16 @@ impl BodyReader {
 
     /// The file and the lines of its places, at the end of the text.
     pub(crate) fn finish(self) -> Result<NlRead, Stop<NlReason>>
-        ensures { Finishes self result }
+        ensures { Finishes (body_of self) result }
     {
-        let judged = self.judge_whole();
+        let judged = self.judge_end();
         let (builder, places) = self.into_parts();
         match judged {
             Ok(()) => Ok(NlRead {
                 file: builder.finish(),
                 places,
             }),
-            Err(stop) => Err(stop),
+            Err(reason) => Err(Stop::Fault(reason)),
         }
     }
 }

@@ -3,9 +3,8 @@ ghost use Rattle.std.specs.Prelude.{◌≡◌, ℕ, List, false};
 ghost use Rattle.texts.specs.Words.{texts};
 ghost use Rattle.nl_lines.specs.declared.awaited.Awaited.TheVariants.{ColumnCount};
 ghost use Rattle.nl_lines.specs.Heads.{is_head};
-ghost use Rattle.nl_segments.specs.Held.{HasRow, TakesRow, IsAwaiting};
+ghost use Rattle.nl_segments.specs.Held.{IsAwaiting, TakesRow, body_of};
 ghost use Rattle.nl_lines.specs.WholeRows.{IsWholeRow};
-ghost use Rattle.nl_segments.specs.InsideKnownColumns.{HasWholeRow};
 
 use crate::body::BodyReader;
 use crate::closing::count_line;
@@ -15,14 +14,10 @@ use texts::Stop;
 impl BodyReader {
     /// A line with the number of a column.
     pub(crate) fn take_column(&mut self, words: &[&[u8]], line: u32) -> Result<(), Stop<NlReason>>
-        requires awaited { IsAwaiting ColumnCount self.old }
+        requires awaited { IsAwaiting ColumnCount (body_of self.old) }
         requires row { is_head (texts words.now) ≡ false }
-        requires exists { HasRow (texts words.now) line }
-        ensures { TakesRow self.old (texts words.now) line result self.new }
+        ensures { TakesRow (body_of self.old) (texts words.now) line result (body_of self.new) }
     {
-        if self.is_broken {
-            return Err(Stop::Memory);
-        }
         let number = match read_column(words) {
             Ok(number) => number,
             Err(reason) => return Err(Stop::Fault(reason)),
@@ -32,19 +27,13 @@ impl BodyReader {
 
     /// A line that is the number of a column alone.
     pub(crate) fn take_known_column(&mut self, number: u32, line: u32) -> Result<(), Stop<NlReason>>
-        requires awaited { IsAwaiting ColumnCount self.old }
-        requires exists { HasWholeRow number line }
+        requires awaited { IsAwaiting ColumnCount (body_of self.old) }
         ensures { (words : List (List ℕ)) → IsWholeRow words number
-            → TakesRow self.old words line result self.new }
+            → TakesRow (body_of self.old) words line result (body_of self.new) }
     {
         let _ = line;
-        if self.is_broken {
-            return Err(Stop::Memory);
-        }
-        self.is_broken = true;
         self.columns.push(number)?;
         count_line(&mut self.current);
-        self.is_broken = false;
         Ok(())
     }
 }

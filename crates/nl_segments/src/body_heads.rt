@@ -5,7 +5,7 @@ ghost use Rattle.texts.specs.Names.{IsName};
 ghost use Rattle.texts.specs.Words.{texts};
 ghost use Rattle.nl_lines.specs.Heads.{is_head, head_of, is_in_range, name_in};
 ghost use Rattle.nl_segments.specs.InsideHeadSteps.{has_come, has_come_suffix, held_head_tests, new_head_tests, begun_current, begun_name, begun_count, begun_draft};
-ghost use Rattle.nl_segments.specs.Held.{TakesRow, HasRow};
+ghost use Rattle.nl_segments.specs.Held.{HoldsSome, TakesRow, body_of};
 ghost use Rattle.nl_lines.specs.SeenSegments.{IsSeenIn};
 ghost use Rattle.nl_lines.specs.Tests.{is_suffix};
 
@@ -166,6 +166,7 @@ fn begun_count(head: Head, suffixes: u32) -> u32
 }
 
 // Makes room for the terms that a head announces, of which no more are expected than variables.
+#[tactic(auto, unfolding(nl_lines::specs::Heads::is_in_range))]
 fn make_room(builder: &mut NlBuilder, head: Head) -> Result<(), AllocError>
     requires { is_in_range builder.old.counts head ≡ true }
     ensures { builder.new ≡ builder.old }
@@ -181,18 +182,14 @@ impl BodyReader {
     /// A row that is a head.
     pub(crate) fn take_head(&mut self, words: &[&[u8]], line: u32) -> Result<(), Stop<NlReason>>
         requires row { is_head (texts words.now) ≡ true }
-        requires exists { HasRow (texts words.now) line }
-        ensures { TakesRow self.old (texts words.now) line result self.new }
+        requires held { HoldsSome (body_of self.old) }
+        ensures { TakesRow (body_of self.old) (texts words.now) line result (body_of self.new) }
     {
-        if self.is_broken {
-            return Err(Stop::Memory);
-        }
         let is_open = self.current.is_some();
         let head = match new_head(&self.builder, is_open, &self.seen, self.suffixes, words) {
             Ok(head) => head,
             Err(reason) => return Err(Stop::Fault(reason)),
         };
-        self.is_broken = true;
         let name = word_at(words, 2);
         self.current = begun_current(self.alloc, self.builder.header().counts(), head, line);
         self.marks.clear();
@@ -202,7 +199,6 @@ impl BodyReader {
         make_room(&mut self.builder, head)?;
         self.places.begin(self.alloc, head, line)?;
         give_empty_suffix(&mut self.builder, self.alloc, head, name)?;
-        self.is_broken = false;
         Ok(())
     }
 }

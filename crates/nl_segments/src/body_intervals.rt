@@ -2,11 +2,11 @@
 ghost use Rattle.std.specs.Prelude.{◌≡◌, ◌-◌, ◌<◌, ◌≤◌, ◌&&◌, not, false, Some, None, IfOk, IfErr, OnOk};
 ghost use Rattle.texts.specs.Judged.{Decides};
 ghost use Rattle.texts.specs.Words.{texts};
-ghost use Rattle.nl_model.specs.Kinds.{kind_of};
+ghost use Rattle.nl_model.specs.Kinds.{variable_kind};
 ghost use Rattle.linear_program.specs.Intervals.{IsOrdered};
 ghost use Rattle.nl_lines.specs.declared.awaited.Awaited.TheVariants.{Interval as IntervalLine};
 ghost use Rattle.nl_lines.specs.Heads.{is_head};
-ghost use Rattle.nl_segments.specs.Held.{HasRow, TakesRow, IsAwaiting};
+ghost use Rattle.nl_segments.specs.Held.{HoldsSome, IsAwaiting, TakesRow, body_of};
 ghost use Rattle.nl_segments.specs.InsideLineSteps.{HasRoom, next_interval_tests, with_interval};
 ghost use Rattle.nl_lines.specs.Tests.{SaysInterval, is_binary, is_sides};
 
@@ -35,7 +35,7 @@ fn wants_unit(header: &Header, of_constraint: bool, left: u32) -> bool
     requires most { of_constraint ≡ false → left ≤ header.now.counts.n_var }
     ensures { result
         ≡ (not of_constraint
-        && is_binary (kind_of header.now.counts (header.now.counts.n_var - left))) }
+        && is_binary (variable_kind header.now.counts (header.now.counts.n_var - left))) }
 {
     if of_constraint {
         return false;
@@ -74,15 +74,12 @@ fn add_interval(
 impl BodyReader {
     /// A line with the sides of a constraint or a variable.
     pub(crate) fn take_interval(&mut self, words: &[&[u8]], line: u32) -> Result<(), Stop<NlReason>>
-        requires awaited { IsAwaiting IntervalLine self.old }
+        requires awaited { IsAwaiting IntervalLine (body_of self.old) }
         requires row { is_head (texts words.now) ≡ false }
-        requires exists { HasRow (texts words.now) line }
-        ensures { TakesRow self.old (texts words.now) line result self.new }
+        requires held { HoldsSome (body_of self.old) }
+        ensures { TakesRow (body_of self.old) (texts words.now) line result (body_of self.new) }
     {
         let _ = line;
-        if self.is_broken {
-            return Err(Stop::Memory);
-        }
         let Some(current) = &self.current else {
             unreachable!()
         };
@@ -91,10 +88,8 @@ impl BodyReader {
             Ok(interval) => interval,
             Err(reason) => return Err(Stop::Fault(reason)),
         };
-        self.is_broken = true;
         add_interval(&mut self.builder, of_constraint, interval)?;
         count_line(&mut self.current);
-        self.is_broken = false;
         Ok(())
     }
 }

@@ -2,8 +2,7 @@
 ghost use Rattle.std.specs.Prelude.{List, ℕ};
 ghost use Rattle.texts.specs.Judged.{Decides};
 ghost use Rattle.nl_lines.specs.declared.awaited.Awaited.TheVariants.{Node};
-ghost use Rattle.nl_segments.specs.Held.{IsAwaiting, TakesRow};
-ghost use Rattle.nl_segments.specs.InsideKnownNodes.{HasLeafRow};
+ghost use Rattle.nl_segments.specs.Held.{HoldsSome, IsAwaiting, TakesRow, body_of};
 ghost use Rattle.nl_lines.specs.Leaves.{IsLeafRow};
 ghost use Rattle.nl_segments.specs.InsideTreeSteps.{IsNextRow, counted_node_tests};
 
@@ -14,6 +13,7 @@ use nl_model::NlBuilder;
 use texts::Stop;
 
 // A row of an expression, after so many nodes.
+#[tactic(auto, using(texts::proofs::FirstReasons::reason_after, nl_lines::proofs::NodeLemmas::too_large))]
 fn read_next(leaf: Leaf, builder: &NlBuilder, nodes: u32) -> Result<NodeRow, NlReason>
     ensures { (words : List (List ℕ)) → IsLeafRow words leaf
         → Decides (counted_node_tests builder.now.counts builder.now nodes words)
@@ -32,14 +32,12 @@ fn read_next(leaf: Leaf, builder: &NlBuilder, nodes: u32) -> Result<NodeRow, NlR
 impl BodyReader {
     /// A line that is a letter and a number alone, which say this.
     pub(crate) fn take_leaf(&mut self, leaf: Leaf, line: u32) -> Result<(), Stop<NlReason>>
-        requires awaited { IsAwaiting Node self.old }
-        requires exists { HasLeafRow leaf line }
+        requires awaited { IsAwaiting Node (body_of self.old) }
+        requires held { HoldsSome (body_of self.old) }
+        requires exists { (words : List (List ℕ)) × IsLeafRow words leaf }
         ensures { (words : List (List ℕ)) → IsLeafRow words leaf
-            → TakesRow self.old words line result self.new }
+            → TakesRow (body_of self.old) words line result (body_of self.new) }
     {
-        if self.is_broken {
-            return Err(Stop::Memory);
-        }
         let row = match read_next(leaf, &self.builder, self.nodes) {
             Ok(row) => row,
             Err(reason) => return Err(Stop::Fault(reason)),

@@ -7,7 +7,7 @@ ghost use Rattle.nl_lines.specs.declared.awaited.Awaited.TheVariants.{Node, Noth
 ghost use Rattle.nl_segments.specs.Current.{current_awaits, with_node_row};
 ghost use Rattle.nl_lines.specs.Heads.{is_head};
 ghost use Rattle.nl_lines.specs.NodeRows.{IsNodeKnown};
-ghost use Rattle.nl_segments.specs.Held.{TakesRow, IsAwaiting, HasRow};
+ghost use Rattle.nl_segments.specs.Held.{HoldsSome, IsAwaiting, TakesRow, body_of};
 ghost use Rattle.nl_segments.specs.InsideKnownNodes.{HasGoodNode, IsGoodNode};
 ghost use Rattle.nl_lines.specs.Pieces.{has_tree};
 ghost use Rattle.nl_segments.specs.InsidePlaceSteps.{HasOwner, HasBegun};
@@ -25,6 +25,7 @@ use texts::Stop;
 pub(crate) const MOST_NODES: u32 = 4_194_304;
 
 // A row of an expression, after so many nodes.
+#[tactic(auto, using(texts::proofs::FirstReasons::reason_after, nl_lines::proofs::NodeLemmas::too_large, nl_lines::proofs::NodeLemmas::not_large))]
 fn read_row(words: &[&[u8]], builder: &NlBuilder, nodes: u32) -> Result<NodeRow, NlReason>
     ensures { Decides (counted_node_tests builder.now.counts builder.now nodes (texts words.now))
         (IsNextRow builder.now.counts nodes (texts words.now)) result }
@@ -86,6 +87,7 @@ fn give_tree(
 }
 
 // Gives the expression of a piece that is complete to the file.
+#[tactic(auto, using(crate::proofs::TreeLaw::may_take))]
 fn give_whole(builder: &mut NlBuilder, whole: Current) -> Result<(), AllocError>
     requires complete { current_awaits whole ≡ Nothing }
     requires tree { has_tree whole.head ≡ true }
@@ -132,14 +134,11 @@ pub(crate) fn take_row(
 impl BodyReader {
     /// A line with a node.
     pub(crate) fn take_node(&mut self, words: &[&[u8]], line: u32) -> Result<(), Stop<NlReason>>
-        requires awaited { IsAwaiting Node self.old }
+        requires awaited { IsAwaiting Node (body_of self.old) }
         requires row { is_head (texts words.now) ≡ false }
-        requires exists { HasRow (texts words.now) line }
-        ensures { TakesRow self.old (texts words.now) line result self.new }
+        requires held { HoldsSome (body_of self.old) }
+        ensures { TakesRow (body_of self.old) (texts words.now) line result (body_of self.new) }
     {
-        if self.is_broken {
-            return Err(Stop::Memory);
-        }
         let row = match read_row(words, &self.builder, self.nodes) {
             Ok(row) => row,
             Err(reason) => return Err(Stop::Fault(reason)),
@@ -149,15 +148,12 @@ impl BodyReader {
 
     /// Keeps a row of an expression with which nothing is wrong.
     pub(crate) fn keep_node(&mut self, row: NodeRow, line: u32) -> Result<(), Stop<NlReason>>
-        requires awaited { IsAwaiting Node self.old }
-        requires good { HasGoodNode self.old row line }
-        ensures { (words : List (List ℕ)) → IsGoodNode self.old row words
-            → TakesRow self.old words line result self.new }
+        requires awaited { IsAwaiting Node (body_of self.old) }
+        requires held { HoldsSome (body_of self.old) }
+        requires good { HasGoodNode (body_of self.old) row }
+        ensures { (words : List (List ℕ)) → IsGoodNode (body_of self.old) row words
+            → TakesRow (body_of self.old) words line result (body_of self.new) }
     {
-        if self.is_broken {
-            return Err(Stop::Memory);
-        }
-        self.is_broken = true;
         let counted = row;
         self.nodes += row_count(counted);
         take_row(
@@ -167,7 +163,6 @@ impl BodyReader {
             row,
             line,
         )?;
-        self.is_broken = false;
         Ok(())
     }
 }

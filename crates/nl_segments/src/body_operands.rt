@@ -3,7 +3,7 @@ ghost use Rattle.std.specs.Prelude.{◌≡◌, false};
 ghost use Rattle.texts.specs.Words.{texts};
 ghost use Rattle.nl_lines.specs.declared.awaited.Awaited.TheVariants.{OperandCount};
 ghost use Rattle.nl_lines.specs.Heads.{is_head};
-ghost use Rattle.nl_segments.specs.Held.{TakesRow, IsAwaiting, HasRow};
+ghost use Rattle.nl_segments.specs.Held.{HoldsSome, IsAwaiting, TakesRow, body_of};
 
 use crate::body::BodyReader;
 use crate::body_nodes::take_row;
@@ -18,20 +18,16 @@ impl BodyReader {
         words: &[&[u8]],
         line: u32,
     ) -> Result<(), Stop<NlReason>>
-        requires awaited { IsAwaiting OperandCount self.old }
+        requires awaited { IsAwaiting OperandCount (body_of self.old) }
         requires row { is_head (texts words.now) ≡ false }
-        requires exists { HasRow (texts words.now) line }
-        ensures { TakesRow self.old (texts words.now) line result self.new }
+        requires held { HoldsSome (body_of self.old) }
+        ensures { TakesRow (body_of self.old) (texts words.now) line result (body_of self.new) }
     {
         let _ = line;
-        if self.is_broken {
-            return Err(Stop::Memory);
-        }
         let count = match read_operand_count(words) {
             Ok(count) => count,
             Err(reason) => return Err(Stop::Fault(reason)),
         };
-        self.is_broken = true;
         let Some(current) = &self.current else {
             unreachable!();
         };
@@ -47,7 +43,6 @@ impl BodyReader {
             row,
             pending.line,
         )?;
-        self.is_broken = false;
         Ok(())
     }
 }

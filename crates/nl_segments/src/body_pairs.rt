@@ -5,7 +5,7 @@ ghost use Rattle.nl_model.specs.Rules.{most_terms};
 ghost use Rattle.nl_lines.specs.declared.awaited.Awaited.TheVariants.{Pair};
 ghost use Rattle.nl_segments.specs.Current.{current_awaits};
 ghost use Rattle.nl_lines.specs.Heads.{is_head};
-ghost use Rattle.nl_segments.specs.Held.{HasRow, TakesRow, IsAwaiting};
+ghost use Rattle.nl_segments.specs.Held.{HasRow, HoldsSome, IsAwaiting, TakesRow, body_of};
 ghost use Rattle.nl_lines.specs.PairTests.{IsPairRow};
 ghost use Rattle.nl_segments.specs.InsideKnownPairs.{HasGoodPair, HasPairRow, IsGoodPair};
 ghost use Rattle.nl_segments.specs.InsideLineSteps.{unless_complete};
@@ -24,7 +24,7 @@ use std::alloc::AllocError;
 use texts::{Marks, Name, Stop};
 
 // Gives the file a pair that is not kept.
-#[inline]
+#[inline(always)]
 pub(crate) fn give_pair(
     builder: &mut NlBuilder,
     head: Head,
@@ -138,14 +138,12 @@ fn count(total: &mut u32, counts: bool)
 impl BodyReader {
     /// A line of an index and a value.
     pub(crate) fn take_pair(&mut self, words: &[&[u8]], line: u32) -> Result<(), Stop<NlReason>>
-        requires awaited { IsAwaiting Pair self.old }
+        requires awaited { IsAwaiting Pair (body_of self.old) }
         requires row { is_head (texts words.now) ≡ false }
+        requires held { HoldsSome (body_of self.old) }
         requires exists { HasRow (texts words.now) line }
-        ensures { TakesRow self.old (texts words.now) line result self.new }
+        ensures { TakesRow (body_of self.old) (texts words.now) line result (body_of self.new) }
     {
-        if self.is_broken {
-            return Err(Stop::Memory);
-        }
         let Some(current) = &self.current else {
             unreachable!()
         };
@@ -161,14 +159,12 @@ impl BodyReader {
 
     /// A line that is an index and a value alone, this pair.
     pub(crate) fn take_known(&mut self, pair: (u32, Dec), line: u32) -> Result<(), Stop<NlReason>>
-        requires awaited { IsAwaiting Pair self.old }
+        requires awaited { IsAwaiting Pair (body_of self.old) }
+        requires held { HoldsSome (body_of self.old) }
         requires exists { HasPairRow pair line }
         ensures { (words : List (List ℕ)) → IsPairRow words pair
-            → TakesRow self.old words line result self.new }
+            → TakesRow (body_of self.old) words line result (body_of self.new) }
     {
-        if self.is_broken {
-            return Err(Stop::Memory);
-        }
         let Some(current) = &self.current else {
             unreachable!()
         };
@@ -184,16 +180,13 @@ impl BodyReader {
 
     // Keeps a pair with which nothing is wrong, in a piece of this head.
     fn keep(&mut self, head: Head, pair: (u32, Dec), line: u32) -> Result<(), Stop<NlReason>>
-        requires awaited { IsAwaiting Pair self.old }
+        requires awaited { IsAwaiting Pair (body_of self.old) }
+        requires held { HoldsSome (body_of self.old) }
         requires head { IsSomeAnd self.old.current (λ c. head ≡ c.head) }
-        requires good { HasGoodPair self.old head pair line }
-        ensures { (words : List (List ℕ)) → IsGoodPair self.old head pair words
-            → TakesRow self.old words line result self.new }
+        requires good { HasGoodPair (body_of self.old) head pair line }
+        ensures { (words : List (List ℕ)) → IsGoodPair (body_of self.old) head pair words
+            → TakesRow (body_of self.old) words line result (body_of self.new) }
     {
-        if self.is_broken {
-            return Err(Stop::Memory);
-        }
-        self.is_broken = true;
         let index = pair.0;
         let given = pair;
         give_pair(&mut self.builder, head, given)?;
@@ -203,7 +196,6 @@ impl BodyReader {
         count_use(&mut self.uses, head, index);
         count(&mut self.linear, is_linear(head));
         count(&mut self.values, is_suffix(head));
-        self.is_broken = false;
         Ok(())
     }
 }

@@ -2,7 +2,7 @@
 ghost use Rattle.std.specs.Prelude.{◌≡◌, ◌≤◌, ◌+◌, ◌^◌, ℕ, length, true, None, Some, IsSomeAnd, IfSome, if◌then◌else◌};
 ghost use Rattle.nl_lines.specs.Pieces.{is_nothing};
 ghost use Rattle.nl_segments.specs.Current.{Current as CurrentValue, current_awaits, less_lines};
-ghost use Rattle.nl_segments.specs.Held.{Body};
+ghost use Rattle.nl_segments.specs.Held.{Body, HoldsSome, body_of};
 ghost use Rattle.nl_segments.specs.InsideLineSteps.{unless_complete};
 ghost use Rattle.nl_segments.specs.InsideTermRuns.{HasBodyOf, HasTerms, IsBodyOf, TakesLines, with_counted, with_parts};
 
@@ -70,11 +70,9 @@ fn pass_lines(current: &mut Option<Current>, name: &mut Option<Name>, count: u32
 impl BodyReader {
     // The head of the last piece and how many of its terms may be taken at once from this line on.
     fn awaited_terms(&self, line: u32) -> Option<(Head, u32)>
-        ensures { IfSome result (λ t. HasTerms self.now t.0 t.1 line) }
+        requires { HoldsSome (body_of self.now) }
+        ensures { IfSome result (λ t. HasTerms (body_of self.now) t.0 t.1 line) }
     {
-        if self.is_broken {
-            return None;
-        }
         let Some(current) = &self.current else {
             return None;
         };
@@ -92,18 +90,17 @@ impl BodyReader {
     /// Takes terms of a constraint or an objective, a line each, at the front of a piece, of which
     /// the first line has this number.
     pub(crate) fn take_front(&mut self, piece: &[u8], number: u32) -> Front
-        requires { number + length piece.now ≤ 2 ^ 31 + 1 }
-        ensures { TakesLines self.old piece.now number result self.new }
+        requires held { HoldsSome (body_of self.old) }
+        requires few { number + length piece.now ≤ 2 ^ 31 + 1 }
+        ensures { TakesLines (body_of self.old) piece.now number result (body_of self.new) }
     {
         let Some((head, most)) = self.awaited_terms(number) else {
             return Front { len: 0, lines: 0 };
         };
-        self.is_broken = true;
         let front = give_terms(&mut self.builder, &mut self.uses, head, most, piece);
         self.linear += front.lines;
         self.places.add_terms(head, number, front.lines);
         pass_lines(&mut self.current, &mut self.name, front.lines);
-        self.is_broken = false;
         front
     }
 }

@@ -2,7 +2,7 @@
 ghost use Rattle.std.specs.Prelude.{◌≡◌, is_some, get_or};
 ghost use Rattle.std.specs.List.{list_all};
 ghost use Rattle.nl_segments.specs.InsideEnding.{are_sums};
-ghost use Rattle.nl_lines.specs.Tests.{is_short};
+ghost use Rattle.nl_lines.specs.Tests.{lacks_part};
 
 use nl_model::NlBuilder;
 
@@ -31,6 +31,7 @@ pub(crate) fn are_sums(columns: &[u32], uses: &[u32]) -> bool
 }
 
 // Whether each objective was given.
+#[tactic(auto, using(crate::proofs::EndLemmas::given_next, crate::proofs::EndLemmas::not_given))]
 fn has_objectives(builder: &NlBuilder) -> bool
     ensures { result ≡ list_all is_some builder.now.objectives }
 {
@@ -45,7 +46,7 @@ fn has_objectives(builder: &NlBuilder) -> bool
 
 /// Whether an objective, or an interval of a constraint or a variable, was not given.
 pub(crate) fn is_short(builder: &NlBuilder) -> bool
-    ensures { result ≡ is_short builder.now }
+    ensures { result ≡ lacks_part builder.now }
 {
     let counts = builder.header().counts();
     if !has_objectives(builder) || builder.sides() < counts.n_con {

@@ -22,6 +22,7 @@ pub fn one_line_more()
 
 /// Each expression of the file of a text that is read has, in prefix form, the nodes that the rows
 /// of its piece are.
+#[tactic(auto, using(crate::proofs::CleanTexts::has_pieces))]
 pub fn trees_are_pieces()
     ensures { (text : List ℕ) (value : NlValue) → IsNl text value
         → HasPieces (standing (lines_of text)) value.file }
@@ -29,6 +30,7 @@ pub fn trees_are_pieces()
 
 /// Each node, term and head of the file of a text that is read has its line, which is one of the
 /// text's lines.
+#[tactic(auto, using(crate::proofs::CleanTexts::has_lines_up_to))]
 pub fn places_have_lines()
     ensures { (text : List ℕ) (value : NlValue) → IsNl text value
         → HasLinesUpTo (length (lines_of text)) value }

@@ -6,6 +6,7 @@ mod body_columns;
 mod body_heads;
 mod body_intervals;
 mod body_leaves;
+mod body_lines;
 mod body_nodes;
 mod body_operands;
 mod body_pairs;
@@ -21,6 +22,7 @@ mod nl_reader;
 mod owner_lines;
 mod places;
 mod seen;
+mod stage;
 
 pub use nl_lines::{NlFault, NlReason};
 pub use nl_read::NlRead;

@@ -42,6 +42,7 @@ fn no_run() -> LineRun
 }
 
 // The line at a place of a run, or the place in what follows the run.
+#[tactic(auto, using(crate::proofs::StandingLemmas::in_run, crate::proofs::StandingLemmas::after_run))]
 fn line_in(run: LineRun, place: u32) -> Result<u32, u32>
     ensures { MatchResult result
         (λ line. (rest : List ℕ) → slice_get (lines_in run ++ rest) place ≡ Some line)
@@ -97,6 +98,7 @@ impl LineRuns {
 
     /// Whether a line follows these, or is the first.
     #[inline]
+    #[tactic(auto, using(crate::proofs::StandingLemmas::follows_last, crate::proofs::StandingLemmas::just_after, crate::proofs::StandingLemmas::none_there, crate::proofs::StandingLemmas::not_after))]
     pub(crate) fn follows(&self, line: u32) -> bool
         ensures { result ≡ follows self.now line }
     {
@@ -108,6 +110,7 @@ impl LineRuns {
 
     /// Adds so many lines that follow these, from this one on.
     #[inline]
+    #[tactic(auto, using(crate::proofs::StandingLemmas::next_after))]
     pub(crate) fn grow(&mut self, line: u32, count: u32)
         requires next { follows self.old line ≡ true }
         requires room { line + count ≤ 2 ^ 32 }

@@ -120,6 +120,7 @@ impl NlReader {
 }
 
 /// Reads a whole text.
+#[tactic(auto, using(crate::proofs::CleanTexts::has_lines))]
 pub fn read_nl(alloc: Global, text: &[u8]) -> Result<NlRead, Stop<NlFault>>
     ensures reads { ReadsNl text.now result }
     ensures lines { IfOk result HasLines }

@@ -5,7 +5,7 @@ use Rattle.std.specs.Prelude.{codes}
 use Rattle.std.proofs.lemmas.List.{length-take-le, get_or-take, drop_all, take_all}
 use Rattle.std.specs.Fmt.{decimal}
 use Rattle.nl_model.specs.File.{Term}
-use Rattle.written_texts.specs.Lines.{Line, lines_text}
+use Rattle.written_texts.specs.Lines.{WordLine, lines_text}
 use Rattle.nl_model.specs.UseCounts.{terms_up_to, use_count}
 use Rattle.nl_model.proofs.UseLemmas.{below, split_rows, next_rows, nothing_below}
 use Rattle.nl_writer.specs.Written.{lettered, column_lines, column_piece}
@@ -18,7 +18,7 @@ sums_from rows j before [] h e = refl
 sums_from rows j before (n ∷ ns) h e =
     let here : n ≡ use_count rows j = h 0 (omega arith) ∙ ap (use_count rows) (omega arith) in
     let now : before + n ≡ terms_up_to rows j = ap₂ (λ a b. a + b) e here ∙ sym (split_rows rows j) in
-    ap₂ (λ (x : ℕ) (ls : List Line). (decimal x ∷ []) ∷ ls) now
+    ap₂ (λ (x : ℕ) (ls : List WordLine). (decimal x ∷ []) ∷ ls) now
     (sums_from rows (j + 1) (before + n) ns (λ i lt. h (suc i) (omega (arith, lt)) ∙ ap (use_count rows) (omega arith)) (now ∙ sym (next_rows rows j)))
 
 -- the lines of all variables but the last

@@ -4,7 +4,7 @@ use Rattle.std.specs.Prelude.{ℤ, Bool, Option, None, unwrap_or}
 use Rattle.std.specs.Option.{option_map}
 use Rattle.std.proofs.lemmas.Grind.{flat_map-append}
 use Rattle.nl_model.specs.declared.header_counts.Counts.{Counts}
-use Rattle.nl_model.specs.File.{Objective}
+use Rattle.nl_model.specs.declared.objective.Objective.{Objective}
 use Rattle.std.proofs.lemmas.List.{drop_all}
 use Rattle.std.proofs.lemmas.Option.{slice_get_within, get_or_from_slice_get}
 use Rattle.std.specs.List.{flat_map, slice_get}
@@ -14,13 +14,13 @@ use Rattle.nl_meaning.specs.Trees.{Tree, Trees, count_of, HasCount}
 use Rattle.nl_model.specs.declared.node.Node.{Node}
 use Rattle.nl_model.specs.Nodes.{IsPrefix, a_number, a_variable, a_defined, an_operation, ArePrefixes, no_tree, one_more}
 use Rattle.nl_model.proofs.Opcodes.{opcode_of-known}
-use Rattle.written_texts.specs.Lines.{Line, line_text, lines_text}
+use Rattle.written_texts.specs.Lines.{WordLine, line_text, lines_text}
 use Rattle.written_texts.proofs.Writing.{lines_after, rest_written}
 use Rattle.nl_writer.specs.Trees.{operator_lines, tree_lines, trees_lines, node_lines}
 use Rattle.nl_writer.specs.Written.{by_number, options_line, size_lines, part_lines, header_lines}
 
 -- the piece of the next number is written
-pub piece_written : {A : Type 0} (piece : ℕ → A → List Line) (xs : List A) (i : ℕ) (x : A) (out0 out1 total : List ℕ) → slice_get xs i ≡ Some x →
+pub piece_written : {A : Type 0} (piece : ℕ → A → List WordLine) (xs : List A) (i : ℕ) (x : A) (out0 out1 total : List ℕ) → slice_get xs i ≡ Some x →
     out0 ++ lines_text (by_number piece i (drop i xs)) ≡ total → out1 ≡ out0 ++ lines_text (piece i x) →
     out1 ++ lines_text (by_number piece (i + 1) (drop (i + 1) xs)) ≡ total
 piece_written piece xs i x out0 out1 total at start now =

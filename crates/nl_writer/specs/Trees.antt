@@ -10,7 +10,7 @@ use Rattle.nl_model.specs.Nodes.{opcode_of}
 use Rattle.nl_model.specs.declared.node.Node.{Node}
 use Rattle.nl_model.specs.declared.node.Node.TheVariants.{Num, Var, Defined, Op}
 use Rattle.exact_numbers.specs.Values.{text_of}
-use Rattle.written_texts.specs.Lines.{Line}
+use Rattle.written_texts.specs.Lines.{WordLine}
 
 -- the number of operands stands on the next line
 abbrev pub is_counted : Option Operands → Bool
@@ -20,7 +20,7 @@ is_counted (Some Two) = false
 is_counted (Some Counted) = true
 
 -- an opcode with k operands, which follow
-abbrev pub operator_lines : ℕ → ℕ → List Line
+abbrev pub operator_lines : ℕ → ℕ → List WordLine
 operator_lines opcode k =
     if is_counted (operands_of opcode)
     then (((codes "o" ++ decimal opcode) ∷ []) ∷ (decimal k ∷ []) ∷ [])
@@ -28,18 +28,18 @@ operator_lines opcode k =
 
 -- the lines of a tree: a number, a variable by its index, or an opcode and after it its operands
 abbrev mutual
-  pub tree_lines : Tree → List Line
+  pub tree_lines : Tree → List WordLine
   tree_lines (number m e) = ((codes "n" ++ dec_text m e) ∷ []) ∷ []
   tree_lines (variable j) = ((codes "v" ++ decimal j) ∷ []) ∷ []
   tree_lines (defined i) = ((codes "v" ++ decimal i) ∷ []) ∷ []
   tree_lines (operator c ts) = operator_lines (opcode_of c) (count_of ts) ++ trees_lines ts
 
-  pub trees_lines : Trees → List Line
+  pub trees_lines : Trees → List WordLine
   trees_lines none = []
   trees_lines (more t ts) = tree_lines t ++ trees_lines ts
 
 -- the lines of one node
-abbrev pub node_lines : Node → List Line
+abbrev pub node_lines : Node → List WordLine
 node_lines (Num d) = ((codes "n" ++ text_of d) ∷ []) ∷ []
 node_lines (Var j) = ((codes "v" ++ decimal j) ∷ []) ∷ []
 node_lines (Defined i) = ((codes "v" ++ decimal i) ∷ []) ∷ []

@@ -9,24 +9,27 @@ use Rattle.exact_numbers.specs.declared.dec.Dec.{Dec}
 use Rattle.nl_meaning.specs.Trees.{Tree}
 use Rattle.nl_model.specs.declared.header_counts.Counts.{Counts}
 use Rattle.linear_program.specs.declared.interval.Interval.{Interval}
-use Rattle.nl_model.specs.File.{Term, Objective, Definition, Suffix, File}
+use Rattle.nl_model.specs.File.{Term, File}
+use Rattle.nl_model.specs.declared.objective.Objective.{Objective}
+use Rattle.nl_model.specs.declared.definition.Def.{Def as Definition}
+use Rattle.nl_model.specs.declared.suffix.Suffix.{Suffix}
 use Rattle.nl_model.specs.UseCounts.{terms_up_to}
 use Rattle.exact_numbers.specs.Values.{text_of}
-use Rattle.written_texts.specs.Lines.{Line, unless_empty, lines_text}
+use Rattle.written_texts.specs.Lines.{WordLine, unless_empty, lines_text}
 use Rattle.nl_writer.specs.Trees.{tree_lines}
 
 -- ---- The header.
 
-abbrev pub numbers : List ℕ → Line
+abbrev pub numbers : List ℕ → WordLine
 numbers ns = map decimal ns
 
 -- `g` and the number of options, and the options
-abbrev pub options_line : List ℤ → Line
+abbrev pub options_line : List ℤ → WordLine
 options_line options = (codes "g" ++ decimal (length options)) ∷ map signed_decimal options
 
 -- lines 2 to 6: sizes, of which the second line has those up to the number of equations,
 -- and the nonlinear and network parts
-abbrev pub size_lines : Counts → List Line
+abbrev pub size_lines : Counts → List WordLine
 size_lines c =
     numbers (c.n_var ∷ c.n_con ∷ c.n_obj ∷ c.n_ranges ∷ c.n_eqns ∷ [])
     ∷ numbers (c.nlc ∷ c.nlo ∷ [])
@@ -36,7 +39,7 @@ size_lines c =
     ∷ []
 
 -- lines 7 to 10: whole variables, terms, lengths of names, and defined variables
-abbrev pub part_lines : Counts → List Line
+abbrev pub part_lines : Counts → List WordLine
 part_lines c =
     numbers (c.nbv ∷ c.niv ∷ c.nlvbi ∷ c.nlvci ∷ c.nlvoi ∷ [])
     ∷ numbers (c.nzc ∷ c.nzo ∷ [])
@@ -44,7 +47,7 @@ part_lines c =
     ∷ numbers (c.comb ∷ c.comc ∷ c.como ∷ c.comc1 ∷ c.como1 ∷ [])
     ∷ []
 
-abbrev pub header_lines : List ℤ → Counts → List Line
+abbrev pub header_lines : List ℤ → Counts → List WordLine
 header_lines options c = options_line options ∷ (size_lines c ++ part_lines c)
 
 -- ---- Pieces.
@@ -54,30 +57,30 @@ abbrev pub lettered : List ℕ → ℕ → List ℕ
 lettered letter n = letter ++ decimal n
 
 -- an index and a value
-abbrev pub term_line : Term → Line
+abbrev pub term_line : Term → WordLine
 term_line t = decimal t.0 ∷ text_of t.1 ∷ []
 
-abbrev pub term_lines : List Term → List Line
+abbrev pub term_lines : List Term → List WordLine
 term_lines terms = map term_line terms
 
 -- the pieces of a list by number, of which the first has the number i
-abbrev pub by_number : {A : Type 0} → (ℕ → A → List Line) → ℕ → List A → List Line
+abbrev pub by_number : {A : Type 0} → (ℕ → A → List WordLine) → ℕ → List A → List WordLine
 by_number piece i [] = []
 by_number piece i (x ∷ xs) = piece i x ++ by_number piece (i + 1) xs
 
 -- `S0 2 name`
-abbrev pub suffix_piece : Suffix → List Line
+abbrev pub suffix_piece : Suffix → List WordLine
 suffix_piece s =
     (lettered (codes "S") s.kind ∷ decimal (length s.values) ∷ s.name ∷ []) ∷ term_lines s.values
 
 -- `V4 1 0`: the linear terms stand before the expression
-abbrev pub definition_piece : Definition → List Line
+abbrev pub definition_piece : Definition → List WordLine
 definition_piece d =
     (lettered (codes "V") d.index ∷ decimal (length d.terms) ∷ decimal d.usage ∷ [])
     ∷ (term_lines d.terms ++ tree_lines d.tree)
 
 -- `C0`, where a body was given
-abbrev pub body_piece : ℕ → Option Tree → List Line
+abbrev pub body_piece : ℕ → Option Tree → List WordLine
 body_piece i None = []
 body_piece i (Some t) = (lettered (codes "C") i ∷ []) ∷ tree_lines t
 
@@ -87,12 +90,12 @@ sense_word false = codes "0"
 sense_word true = codes "1"
 
 -- `O0 1`
-abbrev pub objective_piece : ℕ → Objective → List Line
+abbrev pub objective_piece : ℕ → Objective → List WordLine
 objective_piece k o =
     (lettered (codes "O") k ∷ sense_word o.maximise ∷ []) ∷ tree_lines o.tree
 
 -- `d1` and `x1`, where there is a guess
-abbrev pub guess_piece : List ℕ → List Term → List Line
+abbrev pub guess_piece : List ℕ → List Term → List WordLine
 guess_piece letter guesses =
     unless_empty guesses ((lettered letter (length guesses) ∷ []) ∷ term_lines guesses)
 
@@ -101,7 +104,7 @@ abbrev pub is_same : Dec → Dec → Bool
 is_same a b = int_eq a.m b.m && int_eq a.e b.e
 
 -- `3`, `1 hi`, `2 lo`, `4 value` or `0 lo hi`
-abbrev pub sides_line : Option Dec → Option Dec → Line
+abbrev pub sides_line : Option Dec → Option Dec → WordLine
 sides_line None None = codes "3" ∷ []
 sides_line None (Some hi) = codes "1" ∷ text_of hi ∷ []
 sides_line (Some lo) None = codes "2" ∷ text_of lo ∷ []
@@ -110,33 +113,33 @@ sides_line (Some lo) (Some hi) =
     then (codes "4" ∷ text_of lo ∷ [])
     else (codes "0" ∷ text_of lo ∷ text_of hi ∷ [])
 
-abbrev pub interval_line : Interval → Line
+abbrev pub interval_line : Interval → WordLine
 interval_line i = sides_line i.lo i.hi
 
 -- `r` and `b`, where there is a constraint or a variable
-abbrev pub interval_piece : List ℕ → List Interval → List Line
+abbrev pub interval_piece : List ℕ → List Interval → List WordLine
 interval_piece letter intervals =
     unless_empty intervals ((letter ∷ []) ∷ map interval_line intervals)
 
 -- the counts of n variables from j on
-abbrev pub column_lines : List (List Term) → ℕ → ℕ → List Line
+abbrev pub column_lines : List (List Term) → ℕ → ℕ → List WordLine
 column_lines rows j zero = []
 column_lines rows j (suc n) = (decimal (terms_up_to rows j) ∷ []) ∷ column_lines rows (j + 1) n
 
 -- `k1`, where there is a variable: a line for each variable but the last
-abbrev pub column_piece : ℕ → List (List Term) → List Line
+abbrev pub column_piece : ℕ → List (List Term) → List WordLine
 column_piece zero rows = []
 column_piece (suc n) rows = (lettered (codes "k") n ∷ []) ∷ column_lines rows 0 n
 
 -- `J0 3` and `G0 3`, where there is a term
-abbrev pub term_piece : List ℕ → ℕ → List Term → List Line
+abbrev pub term_piece : List ℕ → ℕ → List Term → List WordLine
 term_piece letter i terms =
     unless_empty terms ((lettered letter i ∷ decimal (length terms) ∷ []) ∷ term_lines terms)
 
 -- ---- The whole.
 
 -- the lines of the pieces of a file
-abbrev pub body_lines : File → List Line
+abbrev pub body_lines : File → List WordLine
 body_lines f =
     flat_map suffix_piece f.suffixes
     ++ flat_map definition_piece f.definitions
@@ -150,7 +153,7 @@ body_lines f =
     ++ by_number (term_piece (codes "J")) 0 f.terms
     ++ by_number (term_piece (codes "G")) 0 f.slopes
 
-abbrev pub nl_lines : File → List Line
+abbrev pub nl_lines : File → List WordLine
 nl_lines f = header_lines f.options f.counts ++ body_lines f
 
 -- the one written text of a file

@@ -1,5 +1,5 @@
 -- A row says one thing at most, by its first word: the claim, a node, or a pair.
-use Rattle.std.proofs.Common.{◌≡◌, ◌∙◌, ℕ, zero, suc, ◌<◌, ◌≤◌, ◌==◌, Bool, true, false, not, ◌&&◌, ◌||◌, nat_lt, List, ◌++◌, length, codes, Option, Some, None, is_none, Result, Ok, Err, refl, sym, ap, subst, arith, append-nil}
+use Rattle.std.proofs.Common.{◌≡◌, ◌∙◌, ◌⊎◌, ⊎_elim, inl, inr, ℕ, zero, suc, ◌<◌, ◌≤◌, ◌==◌, Bool, true, false, not, ◌&&◌, ◌||◌, nat_lt, List, ◌++◌, length, codes, Option, Some, None, is_none, Result, Ok, Err, refl, sym, ap, subst, arith, append-nil}
 use Rattle.std.proofs.lemmas.Bool.{and_parts, lt-ltb, not-false}
 use Rattle.std.specs.Option.{option_or}
 use Rattle.std.specs.Prelude.{option_to_list}
@@ -88,33 +88,29 @@ pair_says words some =
 
 -- ---- by the tests
 
+either : (a b : Bool) → (a || b) ≡ true → (a ≡ true) ⊎ (b ≡ true)
+either true b e = inl refl
+either false b e = inr e
+
 pub claim_row_says : (words : Row) → first_reason (claim_tests words) ≡ None → Says words (claim_in words) None None
 unfolding claim_tests whole_of
-claim_row_says words none = infeasible (is_row (codes "infeasible") 1 words) refl (not-false (is_claim_row words) (none_each (claim_tests words) none).0)
-  where
-    value : (b : Bool) → is_row (codes "value") 3 words ≡ b → b ≡ true → Says words (claim_in words) None None
-    value true e h = claim_says words (codes "value") (word_is words (codes "value") 3 e) refl refl refl refl
-    value false e h = absurd cc
-
-    infeasible : (b : Bool) → is_row (codes "infeasible") 1 words ≡ b → (b || is_row (codes "value") 3 words) ≡ true → Says words (claim_in words) None None
-    infeasible true e h = claim_says words (codes "infeasible") (word_is words (codes "infeasible") 1 e) refl refl refl refl
-    infeasible false e h = value (is_row (codes "value") 3 words) refl h
+claim_row_says words none =
+    ⊎_elim
+    (λ (e : is_row (codes "infeasible") 1 words ≡ true). claim_says words (codes "infeasible") (word_is words (codes "infeasible") 1 e) refl refl refl refl)
+    (λ (e : is_row (codes "value") 3 words ≡ true). claim_says words (codes "value") (word_is words (codes "value") 3 e) refl refl refl refl)
+    (either (is_row (codes "infeasible") 1 words) (is_row (codes "value") 3 words) (not-false (is_claim_row words) (none_each (claim_tests words) none).0))
 
 node_row_by : (c : Option Claim) (words : Row) → is_node_row c words ≡ true → Says words None (node_in words) None
 unfolding whole_of
-node_row_by c words is = weights (is_row (codes "weights") 2 words) refl is
-  where
-    split : (b : Bool) → is_row (codes "split") 3 words ≡ b → b ≡ true → Says words None (node_in words) None
-    split true e h = node_says words (codes "split") (word_is words (codes "split") 3 e) refl refl refl
-    split false e h = absurd cc
-
-    duals : (b : Bool) → is_row (codes "duals") 2 words ≡ b → (b || is_row (codes "split") 3 words) ≡ true → Says words None (node_in words) None
-    duals true e h = node_says words (codes "duals") (word_is words (codes "duals") 2 e) refl refl refl
-    duals false e h = split (is_row (codes "split") 3 words) refl h
-
-    weights : (b : Bool) → is_row (codes "weights") 2 words ≡ b → (b || (not (is_alone c) && (is_row (codes "duals") 2 words || is_row (codes "split") 3 words))) ≡ true → Says words None (node_in words) None
-    weights true e h = node_says words (codes "weights") (word_is words (codes "weights") 2 e) refl refl refl
-    weights false e h = duals (is_row (codes "duals") 2 words) refl (and_parts (not (is_alone c)) (is_row (codes "duals") 2 words || is_row (codes "split") 3 words) h).1
+node_row_by c words is =
+    let others : Bool = is_row (codes "duals") 2 words || is_row (codes "split") 3 words in
+    ⊎_elim
+    (λ (e : is_row (codes "weights") 2 words ≡ true). node_says words (codes "weights") (word_is words (codes "weights") 2 e) refl refl refl)
+    (λ (e : (not (is_alone c) && others) ≡ true). ⊎_elim
+    (λ (d : is_row (codes "duals") 2 words ≡ true). node_says words (codes "duals") (word_is words (codes "duals") 2 d) refl refl refl)
+    (λ (d : is_row (codes "split") 3 words ≡ true). node_says words (codes "split") (word_is words (codes "split") 3 d) refl refl refl)
+    (either (is_row (codes "duals") 2 words) (is_row (codes "split") 3 words) (and_parts (not (is_alone c)) others e).1))
+    (either (is_row (codes "weights") 2 words) (not (is_alone c) && others) is)
 
 pub node_row_says : (s : Setting) (st : Standing) (words : Row) → first_reason (node_tests s st words) ≡ None → Says words None (node_in words) None
 unfolding node_tests

@@ -19,7 +19,7 @@ use Rattle.texts.specs.Words.{begins, row_of, word_at}
 use Rattle.texts.proofs.FirstReasons.{none_each}
 use Rattle.texts.proofs.NamePlaces.{bytes_same}
 use Rattle.nl_model.specs.File.{File}
-use Rattle.nl_model.specs.Kinds.{kind_of}
+use Rattle.nl_model.specs.Kinds.{variable_kind}
 use Rattle.linear_program.specs.declared.kind.Kind.TheVariants.{Continuous}
 use Rattle.linear_program.specs.Intervals.{is_whole_kind}
 use Rattle.linear_programs.specs.Elements.{elements_from}
@@ -28,7 +28,7 @@ use Rattle.file_meaning.specs.Meaning.{is_whole_variable}
 use Rattle.proof_text.specs.declared.proof.Claim.{Claim}
 use Rattle.proof_text.specs.declared.proof.Claim.TheVariants.{Value, Infeasible}
 use Rattle.proof_text.specs.declared.proof.ProofNode.{ProofNode}
-use Rattle.proof_text.specs.declared.proof.ProofNode.TheVariants.{Split, Duals, Weights}
+use Rattle.proof_text.specs.declared.proof.ProofNode.TheVariants.{Split, Weights}
 use Rattle.proof_text.specs.declared.fault.ProofReason.TheVariants.{Extra}
 use Rattle.proof_text.specs.Proofs.{Pair, claim_value}
 use Rattle.proof_text.specs.Setting.{Setting, setting_of}
@@ -50,18 +50,15 @@ pub data Piece : Type 0 where
 
 abbrev pub as_claim : Piece → Option Claim
 as_claim (claim_row c) = Some c
-as_claim (node_row n) = None
-as_claim (pair_row p) = None
+as_claim p = None
 
 abbrev pub as_node : Piece → Option ProofNode
-as_node (claim_row c) = None
 as_node (node_row n) = Some n
-as_node (pair_row p) = None
+as_node p = None
 
 abbrev pub as_pair : Piece → Option Pair
-as_pair (claim_row c) = None
-as_pair (node_row n) = None
 as_pair (pair_row p) = Some p
+as_pair q = None
 
 abbrev pub with_piece : Standing → Piece → Standing
 with_piece st (claim_row c) = with_claim st (Some c)
@@ -73,14 +70,12 @@ Is words p = Says words (as_claim p) (as_node p) (as_pair p)
 
 -- under `infeasible` there is one leaf with weights
 abbrev pub MayStand : Option Claim → ProofNode → Type 0
-MayStand c (Split j t) = is_alone c ≡ false
-MayStand c (Duals n) = is_alone c ≡ false
 MayStand c (Weights n) = Unit {0}
+MayStand c n = is_alone c ≡ false
 
 abbrev pub FitsNode : File → ProofNode → Type 0
 FitsNode f (Split j t) = (j < f.counts.n_var) × IsTrue (is_whole_variable f j)
-FitsNode f (Duals n) = Unit {0}
-FitsNode f (Weights n) = Unit {0}
+FitsNode f n = Unit {0}
 
 abbrev pub MayCome : File → Standing → Piece → Type 0
 MayCome f st (claim_row c) = (is_none st.claim ≡ true) × (fits (claim_value c) ≡ true)
@@ -162,9 +157,8 @@ weights_stand c None n e = absurd cc
 weights_stand c (Some k) n e = (let same : Weights k ≡ n = cc in subst (MayStand c) same tt)
 
 other_stand : (c : Option Claim) (n : ProofNode) → is_alone c ≡ false → MayStand c n
-other_stand c (Split j t) e = e
-other_stand c (Duals n) e = e
 other_stand c (Weights n) e = tt
+other_stand c n e = e
 
 not_true : (b : Bool) → not b ≡ true → b ≡ false
 not_true true e = absurd cc
@@ -180,13 +174,12 @@ may_stand c words n is row = by (is_row (codes "weights") 2 words) refl row
 -- the variable of a split that is no fault
 fits_node : (f : File) (n : ProofNode) → is_split_out (setting_of f).kinds (Some n) ≡ false → is_split_continuous (setting_of f).kinds (Some n) ≡ false → FitsNode f n
 fits_node f (Split j t) out continuous =
-    let kind = kind_of f.counts in
+    let kind = variable_kind f.counts in
     let n = f.counts.n_var in
     let below : j < n = subst (λ m. j < m) (elements_length kind 0 n) (le_false (length (elements_from kind 0 n)) j out) in
     let here : 0 + j ≡ j = omega arith in
     (below, ap (λ (i : ℕ). is_whole_kind (kind i)) (sym here) ∙ ap is_whole_kind (sym (elements_at kind 0 n j Continuous below)) ∙ not-false (is_whole_kind (get_or (elements_from kind 0 n) j Continuous)) continuous)
-fits_node f (Duals n) out continuous = tt
-fits_node f (Weights n) out continuous = tt
+fits_node f n out continuous = tt
 
 -- ---- a row
 

@@ -1,9 +1,10 @@
 -- A text without faults is a proof: its rows give one tree. The walk goes over the pieces that are
 -- left, and gives the subtrees and pairs that were awaited before them.
-use Rattle.std.proofs.Common.{◌≡◌, ◌∙◌, ℕ, zero, suc, ◌+◌, ◌-◌, ◌<◌, ◌≤◌, ◌^◌, ◌==◌, ℤ, true, List, [], ◌∷◌, ◌++◌, length, Some, All, refl, sym, ap, ap₂, subst, arith, append-nil, append_assoc, length-append}
-use Rattle.std.specs.Prelude.{count_by, slice_get, sum_by}
+use Rattle.std.proofs.Common.{◌≡◌, ◌∙◌, ℕ, suc, ◌+◌, ◌-◌, ◌<◌, ◌≤◌, ◌^◌, ◌==◌, ℤ, true, List, [], ◌∷◌, ◌++◌, length, Some, All, refl, sym, ap, ap₂, subst, arith, append-nil, append_assoc, length-append}
+use Rattle.std.specs.Prelude.{count_by, flat_map, slice_get, sum_by}
 use Rattle.std.specs.List.{filter_map}
 use Rattle.std.proofs.lemmas.Bool.{and_parts, eqb-true}
+use Rattle.std.proofs.lemmas.List.Elements.{All-cons}
 use Rattle.fractions.specs.Fits.{fits}
 use Rattle.texts.specs.Reading.{lines_of}
 use Rattle.nl_model.specs.File.{File}
@@ -23,14 +24,6 @@ use Rattle.proof_text.proofs.Runs.{FitsNode, IsRun, MayStand, Piece, Runs, as_cl
 
 -- ---- what the pieces that are left give
 
-nodes_in : List ProofTree → List ProofNode
-nodes_in [] = []
-nodes_in (tree ∷ trees) = nodes_of tree ++ nodes_in trees
-
-pairs_in : List ProofTree → List Pair
-pairs_in [] = []
-pairs_in (tree ∷ trees) = pairs_of tree ++ pairs_in trees
-
 AreTrees : File → Claim → List ProofTree → Type 0
 AreTrees f c [] = Unit {0}
 AreTrees f c (tree ∷ trees) = IsTreeIn f tree × IsAlone c tree × AreTrees f c trees
@@ -47,8 +40,8 @@ record Grows (f : File) (c : Claim) (nodes : List ProofNode) (subtrees left : �
   tree_count : length trees ≡ subtrees
   within : All (λ (p : Pair). p.0 < f.counts.n_con) own
   fine : AreTrees f c trees
-  nodes_are : filter_map as_node ps ≡ nodes_in trees
-  pairs_are : filter_map as_pair ps ≡ own ++ pairs_in trees
+  nodes_are : filter_map as_node ps ≡ flat_map nodes_of trees
+  pairs_are : filter_map as_pair ps ≡ own ++ flat_map pairs_of trees
   few_nodes : length nodes + length (filter_map as_node ps) ≤ 2 ^ 16
   no_claim : filter_map as_claim ps ≡ []
 
@@ -64,7 +57,7 @@ some_left : (n m k : ℕ) → n + m ≡ k → 0 < k - m → 0 < n
 some_left n m k e z = omega (arith, e, z)
 
 end_grows : (f : File) (c : Claim) → GoOn f c []
-unfolding IsRun nodes_in pairs_in AreTrees
+unfolding IsRun AreTrees
 end_grows f c nodes pairs subtrees left h few run =
     let st = claimed c nodes pairs in
     let whole = and_parts (pairs_left st == 0) (subtrees_left st == 0) run in
@@ -83,10 +76,6 @@ end_grows f c nodes pairs subtrees left h few run =
 
 -- ---- a pair
 
-one_more : (f : File) (p : Pair) (own : List Pair) → p.0 < f.counts.n_con → All (λ (q : Pair). q.0 < f.counts.n_con) own → All (λ (q : Pair). q.0 < f.counts.n_con) (p ∷ own)
-one_more f p own h all zero d lt = h
-one_more f p own h all (suc k) d lt = all k d (omega (arith, lt))
-
 pair_first : (f : File) (c : Claim) (p : Pair) (ps : List Piece) (nodes : List ProofNode) (subtrees left : ℕ) → 0 < left → p.0 < f.counts.n_con → Grows f c nodes subtrees (left - 1) ps → Grows f c nodes subtrees left (pair_row p ∷ ps)
 pair_first f c p ps nodes subtrees left some below g =
     record {
@@ -94,7 +83,7 @@ pair_first f c p ps nodes subtrees left some below g =
       trees = g.trees;
       own_count = (let n = g.own_count in omega (arith, n, some));
       tree_count = g.tree_count;
-      within = one_more f p g.own below g.within;
+      within = All-cons (λ (q : Pair). q.0 < f.counts.n_con) p g.own below g.within;
       fine = g.fine;
       nodes_are = g.nodes_are;
       pairs_are = ap (λ l. p ∷ l) g.pairs_are;
@@ -134,7 +123,7 @@ leaf_grows : (f : File) (c : Claim) (nodes : List ProofNode) (subtrees n : ℕ) 
     → (tree : List Pair → ProofTree) → ((own : List Pair) → length own ≡ n → nodes_of (tree own) ≡ node ∷ []) → ((own : List Pair) → pairs_of (tree own) ≡ own)
     → ((own : List Pair) → All (λ (p : Pair). p.0 < f.counts.n_con) own → IsTreeIn f (tree own)) → ((own : List Pair) → IsAlone c (tree own))
     → Grows f c (nodes ++ node ∷ []) (subtrees - 1) n ps → Grows f c nodes subtrees 0 (node_row node ∷ ps)
-unfolding nodes_in pairs_in AreTrees
+unfolding AreTrees
 leaf_grows f c nodes subtrees n node ps some tree its_nodes its_pairs its_tree its_alone g =
     record {
       own = [];
@@ -143,8 +132,8 @@ leaf_grows f c nodes subtrees n node ps some tree its_nodes its_pairs its_tree i
       tree_count = (let m = g.tree_count in omega (arith, m, some));
       within = λ k d lt. absurd (omega (arith, lt));
       fine = (its_tree g.own g.within, its_alone g.own, g.fine);
-      nodes_are = ap (λ l. node ∷ l) g.nodes_are ∙ ap (λ l. l ++ nodes_in g.trees) (sym (its_nodes g.own g.own_count));
-      pairs_are = g.pairs_are ∙ ap (λ l. l ++ pairs_in g.trees) (sym (its_pairs g.own));
+      nodes_are = ap (λ l. node ∷ l) g.nodes_are ∙ ap (λ l. l ++ flat_map nodes_of g.trees) (sym (its_nodes g.own g.own_count));
+      pairs_are = g.pairs_are ∙ ap (λ l. l ++ flat_map pairs_of g.trees) (sym (its_pairs g.own));
       few_nodes = (let few = g.few_nodes in omega (arith, few, length-append nodes (node ∷ [])));
       no_claim = g.no_claim;
     }
@@ -152,7 +141,7 @@ leaf_grows f c nodes subtrees n node ps some tree its_nodes its_pairs its_tree i
 -- a split joins the first two subtrees that come
 split_grows : (f : File) (c : Claim) (nodes : List ProofNode) (subtrees : ℕ) (j : ℕ) (t : ℤ) (ps : List Piece) → 0 < subtrees → FitsNode f (Split j t) → MayStand (Some c) (Split j t)
     → (g : Grows f c (nodes ++ Split j t ∷ []) (suc subtrees) 0 ps) → (trees : List ProofTree) → g.trees ≡ trees → Grows f c nodes subtrees 0 (node_row (Split j t) ∷ ps)
-unfolding nodes_in pairs_in AreTrees nodes_of pairs_of IsTreeIn
+unfolding AreTrees nodes_of pairs_of IsTreeIn
 split_grows f c nodes subtrees j t ps some fit may g [] e = absurd (let n = g.tree_count in let m = ap (λ (l : List ProofTree). length l) e in omega (arith, n, m))
 split_grows f c nodes subtrees j t ps some fit may g (low ∷ []) e = absurd (let n = g.tree_count in let m = ap (λ (l : List ProofTree). length l) e in omega (arith, n, m, some))
 split_grows f c nodes subtrees j t ps some fit may g (low ∷ high ∷ rest) e =
@@ -165,8 +154,8 @@ split_grows f c nodes subtrees j t ps some fit may g (low ∷ high ∷ rest) e =
       tree_count = (let n = g.tree_count in let m = ap (λ (l : List ProofTree). length l) e in omega (arith, n, m));
       within = λ k d lt. absurd (omega (arith, lt));
       fine = ((fit.0, fit.1, fine.0, fine.2.0), split_alone c j t low high may, fine.2.2);
-      nodes_are = ap (λ l. Split j t ∷ l) (g.nodes_are ∙ ap nodes_in e ∙ sym (append_assoc (nodes_of low) (nodes_of high) (nodes_in rest)));
-      pairs_are = g.pairs_are ∙ ap₂ (λ own ts. own ++ pairs_in ts) none e ∙ sym (append_assoc (pairs_of low) (pairs_of high) (pairs_in rest));
+      nodes_are = ap (λ l. Split j t ∷ l) (g.nodes_are ∙ ap (flat_map nodes_of) e ∙ sym (append_assoc (nodes_of low) (nodes_of high) (flat_map nodes_of rest)));
+      pairs_are = g.pairs_are ∙ ap₂ (λ own ts. own ++ flat_map pairs_of ts) none e ∙ sym (append_assoc (pairs_of low) (pairs_of high) (flat_map pairs_of rest));
       few_nodes = (let few = g.few_nodes in omega (arith, few, length-append nodes (Split j t ∷ [])));
       no_claim = g.no_claim;
     }
@@ -202,7 +191,7 @@ grows f c (pair_row p ∷ ps) = pair_grows f c p ps (grows f c ps)
 
 tree_ends : (f : File) (c : Claim) (rows : List Row) (ps : List Piece) (p : ProofValue) → fits (claim_value c) ≡ true → filter_map claim_in rows ≡ c ∷ filter_map as_claim ps → filter_map node_in rows ≡ filter_map as_node ps
     → filter_map pair_in rows ≡ filter_map as_pair ps → (g : Grows f c [] 1 0 ps) → (trees : List ProofTree) → g.trees ≡ trees → IsSaid (standing rows) p → IsProofIn f p
-unfolding nodes_in pairs_in AreTrees
+unfolding AreTrees
 tree_ends f c rows ps p fit claims nodes pairs g [] e said = absurd (let n = g.tree_count in let m = ap (λ (l : List ProofTree). length l) e in omega (arith, n, m))
 tree_ends f c rows ps p fit claims nodes pairs g (tree ∷ other ∷ rest) e said = absurd (let n = g.tree_count in let m = ap (λ (l : List ProofTree). length l) e in omega (arith, n, m))
 tree_ends f c rows ps p fit claims nodes pairs g (tree ∷ []) e said =
@@ -211,8 +200,8 @@ tree_ends f c rows ps p fit claims nodes pairs g (tree ∷ []) e said =
     let none : g.own ≡ [] = no_pairs g.own g.own_count in
     record {
       tree = tree;
-      nodes = sym (said.nodes ∙ nodes ∙ g.nodes_are ∙ ap nodes_in e ∙ append-nil (nodes_of tree));
-      pairs = sym (said.pairs ∙ pairs ∙ g.pairs_are ∙ ap₂ (λ own ts. own ++ pairs_in ts) none e ∙ append-nil (pairs_of tree));
+      nodes = sym (said.nodes ∙ nodes ∙ g.nodes_are ∙ ap (flat_map nodes_of) e ∙ append-nil (nodes_of tree));
+      pairs = sym (said.pairs ∙ pairs ∙ g.pairs_are ∙ ap₂ (λ own ts. own ++ flat_map pairs_of ts) none e ∙ append-nil (pairs_of tree));
       fine = fine.0;
       alone = subst (λ (d : Claim). IsAlone d tree) same fine.1;
       value = subst (λ (d : Claim). fits (claim_value d) ≡ true) same fit;
@@ -222,12 +211,11 @@ tree_ends f c rows ps p fit claims nodes pairs g (tree ∷ []) e said =
 runs_end : (f : File) (rows : List Row) (p : ProofValue) (r : Runs f begun_only rows) (ps : List Piece) → r.pieces ≡ ps → IsSaid (standing rows) p → IsProofIn f p
 unfolding IsRun
 runs_end f rows p r [] e said = absurd (let run = subst (IsRun f begun_only) e r.run in cc)
-runs_end f rows p r (node_row n ∷ ps) e said = absurd (let there = (subst (IsRun f begun_only) e r.run).0.0 in cc)
-runs_end f rows p r (pair_row q ∷ ps) e said = absurd (let there = (subst (IsRun f begun_only) e r.run).0.0 in cc)
 runs_end f rows p r (claim_row c ∷ ps) e said =
     let run = subst (IsRun f begun_only) e r.run in
     let g = grows f c ps [] [] 1 0 none_awaited (omega arith) run.1 in
     tree_ends f c rows ps p run.0.1 (r.claims ∙ ap (filter_map as_claim) e) (r.nodes ∙ ap (filter_map as_node) e) (r.pairs ∙ ap (filter_map as_pair) e) g g.trees refl said
+runs_end f rows p r (q ∷ ps) e said = absurd (let there = (subst (IsRun f begun_only) e r.run).0.0 in cc)
 
 pub text_is_proof : (f : File) (text : List ℕ) (p : ProofValue) → IsProofText (setting_of f) text p → IsProofIn f p
 text_is_proof f text p h = (let runs = text_runs f text h.clean in runs_end f (rows_in (lines_of text)) p runs runs.pieces refl h.said)

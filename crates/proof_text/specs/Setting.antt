@@ -1,7 +1,7 @@
 -- What proofs of a file are judged by.
 use Rattle.std.specs.Prelude.{ℕ, List}
 use Rattle.nl_model.specs.File.{File}
-use Rattle.nl_model.specs.Kinds.{kind_of}
+use Rattle.nl_model.specs.Kinds.{variable_kind}
 use Rattle.linear_program.specs.declared.kind.Kind.{Kind}
 use Rattle.linear_programs.specs.Elements.{elements_from}
 
@@ -13,5 +13,5 @@ pub record Setting : Type 0 where
 abbrev pub setting_of : File → Setting
 setting_of f = record {
   rows = f.counts.n_con;
-  kinds = elements_from (kind_of f.counts) 0 f.counts.n_var;
+  kinds = elements_from (variable_kind f.counts) 0 f.counts.n_var;
 }

@@ -2,7 +2,7 @@
 ghost use Rattle.std.specs.Prelude.{◌≡◌, ◌<◌, ◌^◌, ◌+◌, ◌∷◌, count_by, List, ℕ, [], Some, is_some, IfOk, OnOk, true};
 ghost use Rattle.texts.specs.Judged.{DecidesOrStops, Takes};
 ghost use Rattle.texts.specs.Words.{texts};
-ghost use Rattle.nl_model.specs.Kinds.{kind_of};
+ghost use Rattle.nl_model.specs.Kinds.{variable_kind};
 ghost use Rattle.linear_programs.specs.Elements.{elements_from};
 ghost use Rattle.proof_text.specs.Grammar.{SaysProof, proof_rules};
 ghost use Rattle.proof_text.specs.Rows.{claim_in, node_in, pair_in, rows_in};
@@ -99,7 +99,7 @@ impl Grammar for ProofGrammar {
 // The kinds of all variables.
 fn all_kinds(alloc: Global, file: &NlFile) -> Result<Vec<Kind>, AllocError>
     ensures { IfOk result (λ v. v.items
-        ≡ elements_from (kind_of file.now.counts) 0 file.now.counts.n_var) }
+        ≡ elements_from (variable_kind file.now.counts) 0 file.now.counts.n_var) }
 {
     let header = file.header();
     let counts = header.counts();

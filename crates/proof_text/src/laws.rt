@@ -13,6 +13,7 @@ pub fn one_reading()
 
 /// What is read for a file is a proof of the file: its nodes are those of one tree, in prefix
 /// order, whose splits are on whole variables and whose pairs are of constraints.
+#[tactic(auto, using(crate::proofs::TextTrees::text_is_proof))]
 pub fn texts_are_proofs()
     ensures { (f : File) (text : List ℕ) (p : ProofValue)
         → IsProofText (setting_of f) text p → IsProofIn f p }

@@ -1,13 +1,5 @@
 pub mod AddLemmas
 pub mod BatchLemmas
 pub mod ColumnLemmas
-pub mod ColumnsLeft
-pub mod FillLemmas
 pub mod LineLemmas
 pub mod NumberLemmas
-pub mod ProgramLemmas
-pub mod RowLemmas
-pub mod SectionLemmas
-pub mod TieLemmas
-pub mod VariableLemmas
-pub mod WholeLemmas

@@ -1,26 +1,19 @@
-use Rattle.std.proofs.Common.{◌≡◌, ◌^◌, ◌∙◌, sym, ap, refl, arith, subst, ⊎_elim, ℤ, pos, ◌*ℤ◌, Some, None, mul-one}
+use Rattle.std.proofs.Common.{◌≡◌, ◌^◌, ◌∙◌, sym, ap, arith, subst, ⊎_elim, ℤ, pos, ◌*ℤ◌, Some, None, mul-one}
 use Rattle.std.proofs.lemmas.Int.{ints}
-use Rattle.fractions.specs.Rational.{zero_ℚ, one_ℚ, decimal_value, above_zero, below_zero}
+use Rattle.fractions.specs.Rational.{zero_ℚ, decimal_value, above_zero, below_zero}
 use Rattle.fractions.proofs.Signed.{times_cancel, times_twice}
-use Rattle.fractions.proofs.Values.{HasValue, equal_tops, same_value, whole_value}
+use Rattle.fractions.proofs.Values.{HasValue, equal_tops, whole_value}
 use Rattle.fractions.proofs.Arithmetic.{decimal_value_lem}
 use Rattle.exported_program.specs.Program.{nonzero}
 use Rattle.exported_program.proofs.Sides.{nonzero_cases}
 use Rattle.exact_numbers.specs.declared.dec.Dec.{Dec}
-use Rattle.exact_numbers.specs.Values.{dec_value, FitsDec}
+use Rattle.exact_numbers.specs.Values.{dec_value}
 use Rattle.exact_numbers.proofs.Tens.{ten-pos}
 use Rattle.exact_numbers.proofs.Bridge.{decimal_zero}
-use Rattle.scaling.proofs.SharedLemmas.{zero_left_out}
 use Rattle.scaling.proofs.SharedLemmas.{zero_left_out, zero_decimal}
 
 zero_times : (k : ℤ) → pos 0 *ℤ k ≡ pos 0
 zero_times k = omega (arith, ints)
-
-pub one_decimal : decimal_value (pos 1) (pos 0) ≡ one_ℚ
-one_decimal = same_value (decimal_value_lem (pos 1) (pos 0)) (whole_value (pos 1)) refl
-
-pub one_fits : FitsDec (decimal_value (pos 1) (pos 0))
-one_fits = record { m = pos 1; e = pos 0; dec = record { mantissa = omega arith; exponent = omega arith; shortest = λ h. absurd (omega (arith, h)) }; same = refl }
 
 pub value_of_zero : (m e : ℤ) → m ≡ pos 0 → decimal_value m e ≡ zero_ℚ
 value_of_zero m e h = sym (decimal_zero m e (pos 0) h) ∙ zero_decimal

@@ -6,7 +6,7 @@ use Rattle.exported_program.specs.Program.{columns_of}
 use Rattle.exact_numbers.specs.declared.dec.Dec.{Dec}
 use Rattle.exact_numbers.specs.Values.{dec_value}
 use Rattle.scaling.specs.Scaled.{ScaledValue}
-use Rattle.row_scaling.specs.InsideColumns.{column_count}
+use Rattle.scaling.specs.Parts.{column_count}
 use Rattle.scaling.specs.Exported.{program_objective, program_rows, program_variables}
 
 -- the columns of the program, each with an entry

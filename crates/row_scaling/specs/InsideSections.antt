@@ -2,7 +2,7 @@
 use Rattle.std.specs.Prelude.{ℕ, Bool, List, [], ◌∷◌, drop, map, codes, Option, Some, None}
 use Rattle.fractions.specs.Rational.{ℚ, neg_ℚ}
 use Rattle.exact_numbers.specs.Values.{value_text}
-use Rattle.written_texts.specs.Lines.{Line, indented}
+use Rattle.written_texts.specs.Lines.{WordLine, indented}
 use Rattle.mps_model.specs.Mps.{MpsRow, Entry, Column, Bound}
 use Rattle.mps_model.specs.declared.kinds.RowKind.TheVariants.{N}
 use Rattle.mps_model.specs.Text.{bound_text, column_lines, row_line, value_words}
@@ -35,27 +35,27 @@ all_bounds s = bounds_of 0 (program_variables s)
 
 -- ---- lines by name
 -- the line of a row
-abbrev pub row_lines : ScaledRow → List Line
+abbrev pub row_lines : ScaledRow → List WordLine
 row_lines r = row_line (mps_row r) ∷ []
 
 -- the line of a value at a name, where there is one
-abbrev pub value_lines : List ℕ → List ℕ → Option ℚ → List Line
+abbrev pub value_lines : List ℕ → List ℕ → Option ℚ → List WordLine
 value_lines word name None = []
 value_lines word name (Some v) = indented (word ∷ name ∷ value_text v ∷ []) ∷ []
 
 -- the line of a row's right side, where it has one
-abbrev pub side_lines : ScaledRow → List Line
+abbrev pub side_lines : ScaledRow → List WordLine
 side_lines r = value_lines (codes "RHS") r.name (right_side_of r)
 
 -- the line of a row's range, where it has one
-abbrev pub range_lines : ScaledRow → List Line
+abbrev pub range_lines : ScaledRow → List WordLine
 range_lines r = value_lines (codes "RNG") r.name (range_in r)
 
 -- the line of a bound of the column of this name
-abbrev pub named_bound : List ℕ → Bound ℚ → Line
+abbrev pub named_bound : List ℕ → Bound ℚ → WordLine
 named_bound name b =
     indented (bound_text b.kind ∷ codes "BND" ∷ name ∷ value_words b.kind (value_text b.value))
 
 -- the lines of the columns from column j on, with i marker lines before them
-abbrev pub lines_from : ScaledValue → Bool → ℕ → ℕ → List Line
+abbrev pub lines_from : ScaledValue → Bool → ℕ → ℕ → List WordLine
 lines_from s before i j = column_lines value_text (all_rows s) before i (drop j (all_columns s))

@@ -1,8 +1,8 @@
 -- Right sides and ranges of a program, added row by row.
-use Rattle.std.specs.Prelude.{◌≡◌, ℕ, ◌+◌, ◌<◌, List, [], ◌++◌, length, map, Option, All}
+use Rattle.std.specs.Prelude.{◌≡◌, ℕ, ◌+◌, ◌<◌, List, [], ◌++◌, map, Option, All}
 use Rattle.fractions.specs.Rational.{ℚ}
 use Rattle.mps_model.specs.Mps.{Entry, entry_with}
-use Rattle.exported_program.specs.Program.{ScaledRow, entries_of, nonzero, range_of, rhs_of, with_entry}
+use Rattle.exported_program.specs.Program.{ScaledRow, nonzero, range_of, rhs_of, with_entry}
 use Rattle.exact_numbers.specs.declared.dec.Dec.{Dec}
 use Rattle.exact_numbers.specs.Values.{dec_value}
 
@@ -18,9 +18,3 @@ range_in r = range_of r.side.lower r.side.upper
 pub record IsEntryAdded (p : ℕ) (o : Option ℚ) (old now : List (Entry Dec)) : Type 0 where
   pub value : map (entry_with dec_value) now ≡ map (entry_with dec_value) old ++ with_entry p o []
   pub before : All (λ e. e.row < p + 1) now
-
--- what g gives for rows is added, the first being row p
-pub record AreEntriesAdded (g : ScaledRow → Option ℚ) (p : ℕ) (rows : List ScaledRow)
-    (old now : List (Entry Dec)) : Type 0 where
-  pub value : map (entry_with dec_value) now ≡ map (entry_with dec_value) old ++ entries_of g p rows
-  pub before : All (λ e. e.row < p + length rows) now

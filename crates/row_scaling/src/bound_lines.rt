@@ -1,14 +1,13 @@
 // The lines of the bounds.
-ghost use Rattle.std.specs.Prelude.{◌≡◌, ℕ, ◌++◌, ◌∷◌, length, map, codes, OnOk};
+ghost use Rattle.std.specs.Prelude.{◌≡◌, ℕ, ◌++◌, ◌∷◌, map, codes, OnOk};
 ghost use Rattle.exact_numbers.specs.Values.{value_text};
-ghost use Rattle.exported_program.specs.Program.{bounds_of, column_bounds};
+ghost use Rattle.exported_program.specs.Program.{column_bounds};
 ghost use Rattle.mps_model.specs.Text.{bound_line, section};
-ghost use Rattle.scaling.specs.Exported.{tied_variables};
 ghost use Rattle.scaling.specs.Rows.{side_value};
 ghost use Rattle.written_texts.specs.Lines.{lines_text, unless_empty};
 ghost use Rattle.row_scaling.specs.InsideSections.{all_bounds, all_columns, named_bound};
 
-use crate::names::ShortName;
+use crate::names::column_name;
 use crate::numbers::{same_value, zero};
 use linear_program::Interval;
 use mps_model::BoundKind;
@@ -50,39 +49,32 @@ fn put_column_bounds(out: &mut Vec<u8>, column: &[u8], side: Interval) -> Result
     }
 }
 
-// The bounds of the variables; that of z is left.
-fn put_variable_bounds(out: &mut Vec<u8>, scaled: &Scaled) -> Result<(), AllocError>
-    ensures { OnOk result (out.new.items ++ lines_text
-        (map (bound_line value_text (all_columns scaled.now))
-        (bounds_of (length scaled.now.bounds) (tied_variables scaled.now.tie)))
-        ≡ out.old.items ++ lines_text
+// The bounds of the columns.
+fn put_listed_bounds(out: &mut Vec<u8>, scaled: &Scaled) -> Result<(), AllocError>
+    ensures { OnOk result (out.new.items ≡ out.old.items ++ lines_text
         (map (bound_line value_text (all_columns scaled.now)) (all_bounds scaled.now))) }
 {
-    let bounds = scaled.bounds();
+    let n = scaled.variables();
+    let bounds = scaled.program_bounds();
     for (j, side) in bounds.iter().enumerate() {
-        let name = ShortName::numbered(b'x', j as u32);
+        let name = column_name(n, j as u32);
         put_column_bounds(out, name.bytes(), *side)?;
     }
     Ok(())
 }
 
 /// Writes the bounds; nothing where there is no column.
+#[tactic(auto, using(crate::proofs::LineLemmas::all_bounds_written, crate::proofs::LineLemmas::no_bounds_written))]
 pub(crate) fn put_bounds(out: &mut Vec<u8>, scaled: &Scaled) -> Result<(), AllocError>
     ensures { OnOk result (out.new.items ≡ out.old.items ++ lines_text
         (unless_empty (all_bounds scaled.now) (section (codes "BOUNDS")
         ∷ map (bound_line value_text (all_columns scaled.now)) (all_bounds scaled.now)))) }
 {
-    let bounds = scaled.bounds();
-    let Some(_tie) = scaled.tie() else {
-        if bounds.is_empty() {
-            return Ok(());
-        }
-        put_line(out, b"BOUNDS")?;
-        put_variable_bounds(out, scaled)?;
+    let bounds = scaled.program_bounds();
+    if bounds.is_empty() {
         return Ok(());
-    };
+    }
     put_line(out, b"BOUNDS")?;
-    put_variable_bounds(out, scaled)?;
-    put_bound(out, b"z", BoundKind::Fr, zero())?;
+    put_listed_bounds(out, scaled)?;
     Ok(())
 }

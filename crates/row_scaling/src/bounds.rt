@@ -5,8 +5,8 @@ ghost use Rattle.exact_numbers.specs.Values.{dec_value};
 ghost use Rattle.mps_model.specs.Mps.{bound_with};
 ghost use Rattle.mps_model.specs.Valid.{IsWithoutNumber, SetOtherSides};
 ghost use Rattle.exported_program.specs.Program.{bounds_of, column_bounds};
-ghost use Rattle.row_scaling.specs.InsideColumns.{column_count};
-ghost use Rattle.scaling.specs.Exported.{program_variables, tied_variables};
+ghost use Rattle.scaling.specs.Parts.{column_count};
+ghost use Rattle.scaling.specs.Exported.{program_variables};
 ghost use Rattle.row_scaling.specs.InsideFilling.{AreBoundsAdded};
 ghost use Rattle.scaling.specs.Rows.{side_value};
 
@@ -86,25 +86,8 @@ fn add_column_bounds(builder: &mut MpsBuilder, j: u32, side: Interval) -> Result
     }
 }
 
-// Adds the bound of column z, where there is one: it has no sides.
-fn add_tied_bound(builder: &mut MpsBuilder, scaled: &Scaled) -> Result<(), AllocError>
-    requires count { length builder.old.columns ≡ column_count scaled.now }
-    requires before { All (λ b. b.column < length scaled.now.bounds) builder.old.bounds }
-    ensures only { OnOk result (builder.new ≡ record builder.old { bounds = builder.new.bounds }) }
-    ensures value { OnOk result
-        (map (bound_with dec_value) builder.new.bounds
-        ≡ map (bound_with dec_value) builder.old.bounds
-        ++ bounds_of (length scaled.now.bounds) (tied_variables scaled.now.tie)) }
-{
-    let Some(_tie) = scaled.tie() else {
-        return Ok(());
-    };
-    let bounds = scaled.bounds();
-    add_one(builder, bounds.len() as u32, BoundKind::Fr, zero())?;
-    Ok(())
-}
-
 // Adds all bounds, column by column.
+#[tactic(auto, using(crate::proofs::AddLemmas::column_bounds_put, crate::proofs::AddLemmas::all_bounds_put, crate::proofs::AddLemmas::bounds_only))]
 pub(crate) fn add_bounds(builder: &mut MpsBuilder, scaled: &Scaled) -> Result<(), AllocError>
     requires count { length builder.old.columns ≡ column_count scaled.now }
     requires empty { builder.old.bounds ≡ [] }
@@ -113,10 +96,9 @@ pub(crate) fn add_bounds(builder: &mut MpsBuilder, scaled: &Scaled) -> Result<()
         (map (bound_with dec_value) builder.new.bounds
         ≡ bounds_of 0 (program_variables scaled.now)) }
 {
-    let bounds = scaled.bounds();
+    let bounds = scaled.program_bounds();
     for (j, side) in bounds.iter().enumerate() {
         add_column_bounds(builder, j as u32, *side)?;
     }
-    add_tied_bound(builder, scaled)?;
     Ok(())
 }

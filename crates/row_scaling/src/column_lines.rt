@@ -1,25 +1,26 @@
 // The lines of the columns.
-ghost use Rattle.std.specs.Prelude.{◌≡◌, ℕ, ◌+◌, ◌<◌, ◌≤◌, ◌^◌, ◌++◌, ◌∷◌, length, map, codes, IfOk, OnOk, All, get_or, false};
+ghost use Rattle.std.specs.Prelude.{◌≡◌, ℕ, ◌+◌, ◌<◌, ◌≤◌, ◌^◌, ◌++◌, ◌∷◌, List, length, map, codes, IfOk, OnOk, get_or, false};
 ghost use Rattle.exact_numbers.specs.Values.{value_text};
-ghost use Rattle.exported_program.specs.Program.{or_obj_zero, z_variable};
+ghost use Rattle.exported_program.specs.Program.{z_variable};
 ghost use Rattle.linear_programs.specs.Names.{row_name as numbered_row};
-ghost use Rattle.mps_model.specs.Text.{column_lines, entry_lines, row_name, section};
+ghost use Rattle.mps_model.specs.Text.{column_lines, section};
 ghost use Rattle.scaling.specs.Exported.{exported_from, program_variables};
+ghost use Rattle.scaling.specs.Parts.{column_count, rows_in};
 ghost use Rattle.scaling.specs.Scaled.{IsScaled};
 ghost use Rattle.written_texts.specs.Lines.{lines_text};
-ghost use Rattle.row_scaling.specs.InsideColumns.{AreColumns, column_count, entries_in_column, entry_value};
+ghost use Rattle.row_scaling.specs.InsideColumns.{AreColumns, entries_in_column};
 ghost use Rattle.row_scaling.specs.InsideSections.{all_columns, all_rows, lines_from};
 
 use crate::batches::{Batches, part_end};
 use crate::columns::{column_sizes, in_batches};
-use crate::names::ShortName;
-use crate::numbers::zero;
+use crate::entry_lines::put_column;
+use crate::names::{ShortName, column_name};
 use crate::program_columns::is_whole;
 use exact_numbers::Dec;
-use mps_writer::{put_change, put_entry};
+use mps_writer::put_change;
 use scaling::{FactoredRow, Scaled};
 use std::alloc::{AllocError, Global};
-use written_texts::put_line;
+use written_texts::{LineText, put_line};
 
 // Where a column stands: whether the one before it is marked, and how many marker lines are before.
 #[derive(Clone, Copy)]
@@ -31,8 +32,8 @@ struct Place {
 // The constraints of the exported rows.
 fn exported_numbers(alloc: Global, rows: &[Option<FactoredRow>]) -> Result<Vec<u32>, AllocError>
     requires { length rows.now ≤ 2 ^ 20 }
-    ensures { IfOk result (λ v. map numbered_row v.items
-        ≡ map (λ r. r.name) (exported_from 0 rows.now)) }
+    ensures { (name : ℕ → List ℕ) → IfOk result
+        (λ v. map name v.items ≡ map (λ r. r.name) (rows_in name 0 rows.now)) }
 {
     let mut numbers = Vec::with_capacity(alloc, rows.len())?;
     for (i, row) in rows.iter().enumerate() {
@@ -44,72 +45,27 @@ fn exported_numbers(alloc: Global, rows: &[Option<FactoredRow>]) -> Result<Vec<u
     Ok(numbers)
 }
 
-// The name of a row of the program, by the constraints of the exported rows.
-fn name_of_row(_scaled: &Scaled, numbers: &[u32], row: u32) -> ShortName
-    requires numbers { map numbered_row numbers.now
-        ≡ map (λ r. r.name) (exported_from 0 _scaled.now.rows) }
-    requires within { row < length (all_rows _scaled.now) }
-    ensures { result ≡ row_name (all_rows _scaled.now) row }
-{
-    if row == 0 {
-        return ShortName::word(b"obj");
-    }
-    match numbers.get((row - 1) as usize) {
-        Some(number) => ShortName::numbered(b'c', *number),
-        None => ShortName::word(b"zdef"),
-    }
-}
-
-// The entries of a column, with a 0 in the objective where there are none.
-fn put_column(
-    out: &mut Vec<u8>,
-    scaled: &Scaled,
-    numbers: &[u32],
-    column: &[u8],
-    entries: &[(u32, Dec)],
-) -> Result<(), AllocError>
-    requires numbers { map numbered_row numbers.now
-        ≡ map (λ r. r.name) (exported_from 0 scaled.now.rows) }
-    requires within { All (λ t. t.0 < length (all_rows scaled.now)) entries.now }
-    ensures { OnOk result (out.new.items ≡ out.old.items ++ lines_text
-        (entry_lines value_text (all_rows scaled.now) column.now
-        (or_obj_zero (map entry_value entries.now)))) }
-{
-    if entries.is_empty() {
-        put_entry(out, column, b"obj", zero())?;
-        return Ok(());
-    }
-    for entry in entries {
-        let row = name_of_row(scaled, numbers, entry.0);
-        put_entry(out, column, row.bytes(), entry.1)?;
-    }
-    Ok(())
-}
-
-// Whether column j is marked; z is not.
+// Whether column j is marked.
+#[tactic(auto, using(crate::proofs::AddLemmas::variable_at))]
 fn is_marked(scaled: &Scaled, j: u32) -> bool
+    requires { j < column_count scaled.now }
     ensures { result ≡ (get_or (program_variables scaled.now) j z_variable).whole }
 {
-    let kinds = scaled.kinds();
-    match kinds.get(j as usize) {
-        Some(kind) => is_whole(*kind),
-        None => false,
-    }
+    let kinds = scaled.program_kinds();
+    is_whole(kinds[j as usize])
 }
 
-// The name of column j; z comes after the others.
+// The name of column j.
+#[tactic(auto, using(crate::proofs::AddLemmas::variable_at))]
 fn name_of_column(scaled: &Scaled, j: u32) -> ShortName
+    requires { j < column_count scaled.now }
     ensures { result ≡ (get_or (program_variables scaled.now) j z_variable).name }
 {
-    let kinds = scaled.kinds();
-    if (j as usize) < kinds.len() {
-        ShortName::numbered(b'x', j)
-    } else {
-        ShortName::word(b"z")
-    }
+    column_name(scaled.variables(), j)
 }
 
 // The columns from column `first` on.
+#[tactic(auto, using(crate::proofs::LineLemmas::entries_within))]
 fn put_part(
     out: &mut Vec<u8>,
     scaled: &Scaled,
@@ -131,6 +87,7 @@ fn put_part(
         (lines_from scaled.now to.marked to.markers (first + length columns.now))
         ≡ out.old.items ++ lines_text (lines_from scaled.now from.marked from.markers first)) }
 {
+    let mut lines = LineText::<2048>::new();
     let mut marked = from.marked;
     let mut markers = from.markers;
     for (k, column) in columns.iter().enumerate() {
@@ -139,12 +96,13 @@ fn put_part(
         markers = put_change(out, marked, now, markers)?;
         marked = now;
         let name = name_of_column(scaled, j);
-        put_column(out, scaled, numbers, name.bytes(), column)?;
+        put_column(out, &mut lines, scaled, numbers, &name, column)?;
     }
     Ok(Place { marked, markers })
 }
 
 // All columns, batch by batch.
+#[tactic(auto, using(crate::proofs::BatchLemmas::next_part, crate::proofs::LineLemmas::part_columns))]
 fn put_parts(
     out: &mut Vec<u8>,
     alloc: Global,

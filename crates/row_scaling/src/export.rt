@@ -18,13 +18,14 @@ use std::alloc::{AllocError, Global};
 fn make_room(builder: &mut MpsBuilder, scaled: &Scaled) -> Result<(), AllocError>
     ensures { builder.new ≡ builder.old }
 {
-    let rows = scaled.rows().len().saturating_add(2);
-    let columns = scaled.bounds().len().saturating_add(1);
+    let rows = scaled.program_rows().len().saturating_add(1);
+    let columns = scaled.program_bounds().len();
     builder.make_room(rows, columns, columns.saturating_mul(2))
 }
 
 /// The exported program: its rows are the scaled ones, its objective is as it is or tied to a
 /// column of its own.
+#[tactic(auto, using(crate::proofs::AddLemmas::complete, crate::proofs::AddLemmas::whole_program))]
 pub fn program(alloc: Global, scaled: &Scaled) -> Result<Mps, AllocError>
     ensures { IfOk result (λ m. with_values dec_value m ≡ exported_as scaled.now) }
 {

@@ -6,6 +6,7 @@ mod bound_lines;
 mod bounds;
 mod column_lines;
 mod columns;
+mod entry_lines;
 mod export;
 mod names;
 mod numbers;

@@ -1,12 +1,15 @@
 // The names of rows and columns.
-ghost use Rattle.std.specs.Prelude.{◌≡◌, ◌≤◌, ◌∷◌, length, IfOk};
+ghost use Rattle.std.specs.Prelude.{◌≡◌, ◌+◌, ◌≤◌, ◌++◌, ◌∷◌, length, IfOk};
 ghost use Rattle.std.specs.Fmt.{decimal};
 ghost use Rattle.texts.specs.Names.{IsName};
+ghost use Rattle.row_scaling.specs.InsideColumns.{column_in};
+ghost use Rattle.scaling.specs.Parts.{name_in};
 
 use itoa::write_digits;
 use std::alloc::{AllocError, Global};
 use std::marker::Model;
 use texts::Name;
+use written_texts::LineText;
 
 // A letter and the digits of 32 bits have no more bytes.
 const LONGEST: usize = 11;
@@ -56,6 +59,15 @@ impl ShortName {
     {
         &self.bytes[self.start..]
     }
+
+    /// Writes the name in front of a text.
+    pub(crate) fn put_before(&self, text: &mut LineText<2048>)
+        requires { length text.old + 11 ≤ 2048 }
+        ensures written { text.new ≡ self.now ++ text.old }
+        ensures short { length text.new ≤ length text.old + 11 }
+    {
+        text.put_word(&self.bytes[self.start..]);
+    }
 }
 
 // The name with these bytes.
@@ -66,11 +78,24 @@ pub(crate) fn name_of(alloc: Global, text: &[u8]) -> Result<Name, AllocError>
     Name::tested(alloc, text)
 }
 
-// The name of a letter and a number.
-pub(crate) fn numbered_name(alloc: Global, letter: u8, number: u32) -> Result<Name, AllocError>
-    requires { 33 ≤ letter }
-    ensures { IfOk result (λ name. name ≡ letter ∷ decimal number) }
+// The name of row i, where the row after those of n constraints is that of a tie.
+pub(crate) fn row_name(n: usize, i: u32) -> ShortName
+    ensures { result ≡ name_in n i }
 {
-    let name = ShortName::numbered(letter, number);
-    Name::tested(alloc, name.bytes())
+    if i as usize == n {
+        ShortName::word(b"zdef")
+    } else {
+        ShortName::numbered(b'c', i)
+    }
+}
+
+// The name of column j, where the column after n variables is that of a tie.
+pub(crate) fn column_name(n: usize, j: u32) -> ShortName
+    ensures { result ≡ column_in n j }
+{
+    if j as usize == n {
+        ShortName::word(b"z")
+    } else {
+        ShortName::numbered(b'x', j)
+    }
 }

@@ -1,7 +1,7 @@
 // Tests and values of decimal numbers.
 ghost use Rattle.std.specs.Prelude.{◌≡◌, ◌↔◌, IsTrue};
 ghost use Rattle.std.specs.Option.{option_map};
-ghost use Rattle.fractions.specs.Rational.{zero_ℚ, one_ℚ, neg_ℚ};
+ghost use Rattle.fractions.specs.Rational.{zero_ℚ, neg_ℚ};
 ghost use Rattle.exact_numbers.specs.Values.{dec_value};
 ghost use Rattle.exported_program.specs.Program.{nonzero};
 
@@ -9,6 +9,7 @@ use exact_numbers::Dec;
 use std::cmp::Ordering;
 
 // The number, but none where it is 0.
+#[tactic(auto, using(crate::proofs::NumberLemmas::none_at_zero, crate::proofs::NumberLemmas::some_at_other))]
 pub(crate) fn nonzero(d: Dec) -> Option<Dec>
     ensures { option_map dec_value result ≡ nonzero (dec_value d) }
 {
@@ -21,25 +22,18 @@ pub(crate) fn negated(d: Dec) -> Dec
     d.neg()
 }
 
+#[tactic(auto, using(scaling::proofs::SharedLemmas::by_order))]
 pub(crate) fn same_value(a: Dec, b: Dec) -> bool
     ensures { IsTrue result ↔ (dec_value a ≡ dec_value b) }
 {
     a.order(b) == Ordering::Equal
 }
 
+#[tactic(auto, using(scaling::proofs::SharedLemmas::zero_decimal, scaling::proofs::SharedLemmas::zero_fits))]
 pub(crate) fn zero() -> Dec
     ensures { dec_value result ≡ zero_ℚ }
 {
     match Dec::new(0, 0) {
-        Some(d) => d,
-        None => unreachable!(),
-    }
-}
-
-pub(crate) fn one() -> Dec
-    ensures { dec_value result ≡ one_ℚ }
-{
-    match Dec::new(1, 0) {
         Some(d) => d,
         None => unreachable!(),
     }

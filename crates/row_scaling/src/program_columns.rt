@@ -3,13 +3,14 @@ ghost use Rattle.std.specs.Prelude.{◌≡◌, ℕ, ◌+◌, ◌<◌, ◌≤◌,
 ghost use Rattle.mps_model.specs.Built.{CanAddColumn};
 ghost use Rattle.mps_model.specs.Valid.{entry_count};
 ghost use Rattle.linear_program.specs.Intervals.{is_whole_kind};
-ghost use Rattle.row_scaling.specs.InsideColumns.{AreColumns, column_count, entries_in_column, total_of};
+ghost use Rattle.row_scaling.specs.InsideColumns.{AreColumns, entries_in_column, total_of};
 ghost use Rattle.scaling.specs.Exported.{program_rows};
+ghost use Rattle.scaling.specs.Parts.{column_count};
 ghost use Rattle.row_scaling.specs.InsideFilled.{AreFilled};
 ghost use Rattle.row_scaling.specs.InsideFilling.{AreRising, column_from, or_first, with_column};
 ghost use Rattle.scaling.specs.Scaled.{term_count};
 
-use crate::names::{name_of, numbered_name};
+use crate::names::{column_name, name_of};
 use crate::numbers::zero;
 use exact_numbers::Dec;
 use linear_program::Kind;
@@ -41,6 +42,7 @@ fn or_zero(entries: Vec<(u32, Dec)>, zero: Dec) -> Result<Vec<(u32, Dec)>, Alloc
 }
 
 // Adds a column, with the number zero in row 0 where it has no entries.
+#[tactic(auto, using(crate::proofs::AddLemmas::can_add, crate::proofs::AddLemmas::filled_column))]
 fn add_column(
     builder: &mut MpsBuilder,
     name: Name,
@@ -60,7 +62,8 @@ fn add_column(
     Ok(())
 }
 
-// Adds all columns: those of the variables, and then z where there is one.
+// Adds all columns.
+#[tactic(auto, using(crate::proofs::AddLemmas::count_within, crate::proofs::AddLemmas::all_filled, crate::proofs::AddLemmas::one_is_name, exported_program::proofs::Names::variable_is_name, exported_program::proofs::Names::z_is_name))]
 pub(crate) fn add_columns(
     builder: &mut MpsBuilder,
     alloc: Global,
@@ -77,22 +80,16 @@ pub(crate) fn add_columns(
     }) }
     ensures whole { OnOk result (AreFilled scaled.now builder.new.columns) }
 {
-    let kinds = scaled.kinds();
+    let n = scaled.variables();
+    let kinds = scaled.program_kinds();
     let mut rest = columns.into_iter();
     for (j, kind) in kinds.iter().enumerate() {
-        let name = numbered_name(alloc, b'x', j as u32)?;
+        let name = column_name(n, j as u32);
         let Some(entries) = rest.next() else {
             unreachable!()
         };
+        let name = name_of(alloc, name.bytes())?;
         add_column(builder, name, is_whole(*kind), entries, zero())?;
     }
-    let Some(_tie) = scaled.tie() else {
-        return Ok(());
-    };
-    let name = name_of(alloc, b"z")?;
-    let Some(entries) = rest.next() else {
-        unreachable!()
-    };
-    add_column(builder, name, false, entries, zero())?;
     Ok(())
 }

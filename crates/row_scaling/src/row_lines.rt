@@ -1,12 +1,12 @@
 // The lines of the rows.
-ghost use Rattle.std.specs.Prelude.{◌≡◌, ◌≤◌, ◌^◌, ◌++◌, ◌∷◌, length, map, codes, OnOk};
+ghost use Rattle.std.specs.Prelude.{◌≡◌, ◌+◌, ◌≤◌, ◌^◌, ◌++◌, ◌∷◌, length, map, codes, OnOk};
 ghost use Rattle.std.specs.List.{flat_map};
 ghost use Rattle.mps_model.specs.Text.{row_line, section};
-ghost use Rattle.scaling.specs.Exported.{exported_from};
+ghost use Rattle.scaling.specs.Parts.{name_in, rows_in};
 ghost use Rattle.written_texts.specs.Lines.{lines_text};
 ghost use Rattle.row_scaling.specs.InsideSections.{all_rows, row_lines};
 
-use crate::names::ShortName;
+use crate::names::row_name;
 use crate::rows::kind_of;
 use mps_model::RowKind;
 use mps_writer::put_row;
@@ -14,16 +14,20 @@ use scaling::{FactoredRow, Scaled};
 use std::alloc::AllocError;
 use written_texts::put_line;
 
-fn put_exported_rows(out: &mut Vec<u8>, rows: &[Option<FactoredRow>]) -> Result<(), AllocError>
-    requires { length rows.now ≤ 2 ^ 20 }
+fn put_listed_rows(
+    out: &mut Vec<u8>,
+    rows: &[Option<FactoredRow>],
+    n: usize,
+) -> Result<(), AllocError>
+    requires { length rows.now ≤ 2 ^ 20 + 1 }
     ensures { OnOk result (out.new.items
-        ≡ out.old.items ++ lines_text (flat_map row_lines (exported_from 0 rows.now))) }
+        ≡ out.old.items ++ lines_text (flat_map row_lines (rows_in (name_in n) 0 rows.now))) }
 {
     for (i, row) in rows.iter().enumerate() {
         let Some(factored) = row else {
             continue;
         };
-        let name = ShortName::numbered(b'c', i as u32);
+        let name = row_name(n, i as u32);
         put_row(out, name.bytes(), kind_of(&factored.row))?;
     }
     Ok(())
@@ -36,10 +40,6 @@ pub(crate) fn put_rows(out: &mut Vec<u8>, scaled: &Scaled) -> Result<(), AllocEr
 {
     put_line(out, b"ROWS")?;
     put_row(out, b"obj", RowKind::N)?;
-    put_exported_rows(out, scaled.rows())?;
-    let Some(_tie) = scaled.tie() else {
-        return Ok(());
-    };
-    put_row(out, b"zdef", RowKind::E)?;
+    put_listed_rows(out, scaled.program_rows(), scaled.constraints())?;
     Ok(())
 }

@@ -2,19 +2,19 @@
 ghost use Rattle.std.specs.Prelude.{◌≡◌, ℕ, ◌+◌, ◌<◌, ◌≤◌, ◌^◌, ◌++◌, ◌∷◌, [], length, OnOk, All, map};
 ghost use Rattle.mps_model.specs.Valid.{IsOtherRow};
 ghost use Rattle.mps_model.specs.declared.kinds.RowKind.TheVariants.{N};
-ghost use Rattle.exported_program.specs.Program.{kind_of, mps_row, obj_name, zdef_name};
-ghost use Rattle.linear_programs.specs.Names.{row_name};
-ghost use Rattle.scaling.specs.Exported.{exported_from, program_rows, tied_rows};
+ghost use Rattle.exported_program.specs.Program.{kind_of_row, mps_row, obj_name};
+ghost use Rattle.scaling.specs.Exported.{program_rows};
+ghost use Rattle.scaling.specs.Parts.{name_in, rows_in};
 ghost use Rattle.scaling.specs.Rows.{side_value};
 
-use crate::names::{name_of, numbered_name};
+use crate::names::{name_of, row_name};
 use mps_model::{MpsBuilder, RowKind};
 use scaling::{FactoredRow, Scaled, ScaledRow};
 use std::alloc::{AllocError, Global};
 
 // E where both sides are there and do not differ, G with a range where they do.
 pub(crate) fn kind_of(row: &ScaledRow) -> RowKind
-    ensures { result ≡ kind_of (side_value row.now.side.lo) (side_value row.now.side.hi) }
+    ensures { result ≡ kind_of_row (side_value row.now.side.lo) (side_value row.now.side.hi) }
 {
     match (row.side.lo, row.side.hi) {
         (None, None) => RowKind::N,
@@ -27,42 +27,30 @@ pub(crate) fn kind_of(row: &ScaledRow) -> RowKind
     }
 }
 
-// Adds the exported rows.
-fn add_exported_rows(
+// Adds the rows of a list that are there, row n being that of a tie.
+#[tactic(auto, using(exported_program::proofs::Names::constraint_is_name, exported_program::proofs::Names::zdef_is_name, crate::proofs::AddLemmas::one_is_name))]
+fn add_listed_rows(
     builder: &mut MpsBuilder,
     alloc: Global,
     rows: &[Option<FactoredRow>],
+    n: usize,
 ) -> Result<(), AllocError>
     requires few { length builder.old.rows + length rows.now < 2 ^ 21 }
-    requires other { (k : ℕ) → k < 2 ^ 32 → All (IsOtherRow (row_name k)) builder.old.rows }
+    requires short { length rows.now ≤ n + 1 }
+    requires small { n ≤ 2 ^ 20 }
+    requires other { (k : ℕ) → All (IsOtherRow (name_in n k)) builder.old.rows }
     ensures { OnOk result (builder.new ≡ record builder.old {
-      rows = builder.old.rows ++ map mps_row (exported_from 0 rows.now);
+      rows = builder.old.rows ++ map mps_row (rows_in (name_in n) 0 rows.now);
     }) }
 {
     for (i, row) in rows.iter().enumerate() {
         let Some(factored) = row else {
             continue;
         };
-        let name = numbered_name(alloc, b'c', i as u32)?;
+        let name = row_name(n, i as u32);
         let kind = kind_of(&factored.row);
-        builder.add_row(name, kind)?;
+        builder.add_row(name_of(alloc, name.bytes())?, kind)?;
     }
-    Ok(())
-}
-
-// Adds the row of a tied objective, where there is one.
-fn add_tied_row(builder: &mut MpsBuilder, alloc: Global, scaled: &Scaled) -> Result<(), AllocError>
-    requires few { length builder.old.rows < 2 ^ 21 }
-    requires other { All (IsOtherRow zdef_name) builder.old.rows }
-    ensures { OnOk result (builder.new ≡ record builder.old {
-      rows = builder.old.rows ++ map mps_row (tied_rows scaled.now.tie scaled.now);
-    }) }
-{
-    let Some(_tie) = scaled.tie() else {
-        return Ok(());
-    };
-    let name = name_of(alloc, b"zdef")?;
-    builder.add_row(name, RowKind::E)?;
     Ok(())
 }
 
@@ -79,7 +67,6 @@ pub(crate) fn add_rows(
 {
     let name = name_of(alloc, b"obj")?;
     builder.add_row(name, RowKind::N)?;
-    add_exported_rows(builder, alloc, scaled.rows())?;
-    add_tied_row(builder, alloc, scaled)?;
+    add_listed_rows(builder, alloc, scaled.program_rows(), scaled.constraints())?;
     Ok(())
 }

@@ -16,10 +16,10 @@ use written_texts::{put, put_line};
 // Room for the text, at 24 bytes a line. It only spares copies: the text grows where it does not
 // suffice.
 fn text_room(scaled: &Scaled) -> usize {
-    let objective = scaled.objective();
-    let mut lines = scaled.bounds().len().saturating_mul(2);
+    let objective = scaled.program_objective();
+    let mut lines = scaled.program_bounds().len().saturating_mul(2);
     lines = lines.saturating_add(objective.terms.items().len());
-    for row in scaled.rows() {
+    for row in scaled.program_rows() {
         if let Some(factored) = row {
             let scaled = &factored.row;
             lines = lines

@@ -1,15 +1,5 @@
-pub mod DecimalLemmas
-pub mod DifferenceLemmas
-pub mod FactorLemmas
-pub mod FactoredLemmas
 pub mod FitLemmas
-pub mod KeptDecimals
-pub mod LawLemmas
 pub mod LinearLemmas
 pub mod NumberLemmas
-pub mod ObjectiveLemmas
-pub mod RowFitLemmas
-pub mod ScaleLemmas
 pub mod SharedLemmas
-pub mod TermLemmas
-pub mod WholeDecimals
+pub mod TieLemmas

@@ -1,5 +1,6 @@
 -- Scaled rows as data, and their values.
-use Rattle.std.specs.Prelude.{◌≡◌, ◌≢◌, ℕ, suc, ◌<◌, ◌≤◌, IsTrue, List, [], ◌∷◌, Option, All}
+use Rattle.std.specs.Prelude.{◌≡◌, ◌≢◌, ℕ, suc, ◌<◌, ◌≤◌, IsTrue, List, [], ◌∷◌, Option, Box, All}
+use Rattle.std.specs.Global.{Global}
 use Rattle.std.specs.Option.{option_map}
 use Rattle.fractions.specs.Rational.{ℚ, zero_ℚ}
 use Rattle.exported_program.specs.Program.{has_side, range_of}
@@ -20,6 +21,10 @@ IsBelow n ts = All (λ t. t.0 < n) ts
 -- the value of a side
 abbrev pub side_value : Option Dec → Option ℚ
 side_value s = option_map dec_value s
+
+-- a number that may be missing, out of its box
+abbrev pub unboxed : Option (Box Dec Global) → Option Dec
+unboxed number = option_map (λ b. b.value) number
 
 -- a row times its factor: its coefficients, its sides less the constant, and their difference where
 -- both are there and differ

@@ -46,6 +46,7 @@ fn with_side(factor: i128, side: Option<Frac>) -> Option<i128>
 }
 
 // The same with the coefficients of a form, one by one.
+#[tactic(auto, using(crate::proofs::NumberLemmas::running, crate::proofs::NumberLemmas::running_end, crate::proofs::NumberLemmas::back_to))]
 fn with_fractions(start: i128, form: &Form) -> Option<i128>
     requires { pos 0 <ℤ start }
     ensures ascending { AreAscending 0 (form_terms form.now) }
@@ -64,6 +65,7 @@ fn with_fractions(start: i128, form: &Form) -> Option<i128>
 }
 
 // The same with the coefficients of a form; those that are kept as decimals add nothing.
+#[tactic(auto, using(crate::proofs::NumberLemmas::factor_same))]
 fn with_terms(start: i128, form: &Form) -> Option<i128>
     requires { pos 0 <ℤ start }
     ensures ascending { AreAscending 0 (form_terms form.now) }
@@ -79,6 +81,7 @@ fn with_terms(start: i128, form: &Form) -> Option<i128>
 }
 
 // The least factor of a row's coefficients and sides; none where it is beyond the greatest size.
+#[tactic(auto, using(crate::proofs::NumberLemmas::no_factor, crate::proofs::NumberLemmas::fewer_wide, crate::proofs::NumberLemmas::factor_positive))]
 pub(crate) fn factor_of_row(body: &Form, sides: &FractionSides) -> Option<i128>
     ensures ascending { AreAscending 0 (form_terms body.now) }
     ensures factor { MatchOption result

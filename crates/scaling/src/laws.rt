@@ -9,6 +9,7 @@ ghost use Rattle.scaling.specs.Exported.{exported_as, exported_from, form_of, ti
 ghost use Rattle.scaling.specs.Scaled.{ScaledValue};
 
 /// An objective that is not tied is written as it is.
+#[tactic(auto, using(crate::proofs::LinearLemmas::plain_as))]
 pub fn plain_program()
     ensures { (s : ScaledValue) → s.tie ≡ None
         → exported_as s

@@ -12,6 +12,7 @@ mod scale_fault;
 mod scaled;
 mod scaled_rows;
 mod scaled_terms;
+mod tied;
 
 pub use row::{FactoredRow, ScaledObjective, ScaledRow, Tie};
 pub use scale::scale_rows;

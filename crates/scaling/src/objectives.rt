@@ -63,6 +63,7 @@ pub(crate) struct TiedObjective {
 }
 
 // An objective times its least factor, tied. Wide exactly where a number does not fit.
+#[tactic(auto, using(crate::proofs::NumberLemmas::factor_positive))]
 fn tied_objective(alloc: Global, objective: &Form) -> Result<TiedObjective, Stop<Wide>>
     ensures scaled { IfOk result (λ o. IfSome o.tie (λ t. IsTiedTo objective.now o.objective t)) }
     ensures tied { IfOk result (λ o. o.tie ≢ None) }

@@ -1,8 +1,10 @@
 // Rows and an objective times their factors.
-ghost use Rattle.std.specs.Prelude.{◌≡◌};
+ghost use Rattle.std.specs.Prelude.{◌≡◌, IfOk};
+ghost use Rattle.scaling.specs.Rows.{unboxed};
 
 use exact_numbers::Dec;
 use linear_program::{Interval, Terms};
+use std::alloc::{AllocError, Global};
 use std::marker::Model;
 
 /// A row times its factor: its coefficients, and its sides less the body's constant.
@@ -10,22 +12,39 @@ use std::marker::Model;
 pub struct ScaledRow {
     pub terms: Terms,
     pub side: Interval,
-    // The upper side less the lower one, where both are there and differ.
-    range: Option<Dec>,
+    // The upper side less the lower one, where both are there and differ: few rows have it.
+    range: Option<Box<Dec>>,
 }
 
 impl Model for ScaledRow {
-    ghost use Rattle.scaling.specs.Rows.{RowValue, IsScaledRow};
+    ghost use Rattle.scaling.specs.Rows.{RowValue, IsScaledRow, unboxed};
 
     ghost Value = { RowValue };
 
-    ghost view = { λ r. record { terms = r.terms; side = r.side; range = r.range } };
+    ghost view = { λ r. record {
+      terms = r.terms;
+      side = r.side;
+      range = unboxed r.range;
+    } };
 
     ghost invariant = { λ r. IsScaledRow (record {
       terms = r.terms;
       side = r.side;
-      range = r.range;
+      range = unboxed r.range;
     }) };
+}
+
+// A number that may be missing, in a box.
+fn boxed(alloc: Global, number: Option<Dec>) -> Result<Option<Box<Dec>>, AllocError>
+    ensures { IfOk result (λ b. unboxed b ≡ number) }
+{
+    match number {
+        Some(number) => {
+            let number = Box::new(alloc, number)?;
+            Ok(Some(number))
+        }
+        None => Ok(None),
+    }
 }
 
 impl ScaledRow {
@@ -33,11 +52,17 @@ impl ScaledRow {
 
     /// The row of these coefficients and sides. `range` is the upper side less the lower one, where
     /// both are there and differ.
-    pub(crate) fn new(terms: Terms, side: Interval, range: Option<Dec>) -> ScaledRow
+    pub(crate) fn new(
+        alloc: Global,
+        terms: Terms,
+        side: Interval,
+        range: Option<Dec>,
+    ) -> Result<ScaledRow, AllocError>
         requires { IsScaledRow (record { terms = terms; side = side; range = range }) }
-        ensures { result ≡ record { terms = terms; side = side; range = range } }
+        ensures { IfOk result (λ r. r ≡ record { terms = terms; side = side; range = range }) }
     {
-        ScaledRow { terms, side, range }
+        let range = boxed(alloc, range)?;
+        Ok(ScaledRow { terms, side, range })
     }
 
     /// The upper side less the lower one, where both are there and differ.
@@ -45,7 +70,10 @@ impl ScaledRow {
         ensures value { result ≡ self.now.range }
         ensures row { IsScaledRow self.now }
     {
-        self.range
+        match &self.range {
+            Some(range) => Some(**range),
+            None => None,
+        }
     }
 }
 

@@ -49,5 +49,5 @@ pub fn scale_rows(alloc: Global, linear: &Linear) -> Result<Scaled, Stop<ScaleFa
     kinds.extend_from_slice(linear.kinds())?;
     let TiedObjective { objective, tie } = parts;
     let maximise = linear.maximise();
-    Ok(Scaled::new(rows, objective, tie, maximise, bounds, kinds))
+    Ok(Scaled::new(alloc, rows, objective, tie, maximise, bounds, kinds)?)
 }

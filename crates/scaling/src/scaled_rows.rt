@@ -26,6 +26,7 @@ use std::alloc::Global;
 use texts::Stop;
 
 // A whole number above 0 as a fraction.
+#[tactic(auto, using(crate::proofs::NumberLemmas::one_not_none, crate::proofs::NumberLemmas::over_one_is))]
 pub(crate) fn whole(number: i128) -> Frac
     requires { pos 0 <ℤ number }
     ensures { frac_value result ≡ whole number }
@@ -61,7 +62,7 @@ fn scale_row(alloc: Global, body: &Form, side: Interval) -> Result<FactoredRow, 
         Ok(terms) => terms,
         Err(stop) => return Err(stop),
     };
-    let row = ScaledRow::new(terms, sides.side, sides.range);
+    let row = ScaledRow::new(alloc, terms, sides.side, sides.range)?;
     Ok(FactoredRow { factor, row })
 }
 

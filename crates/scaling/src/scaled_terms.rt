@@ -15,6 +15,7 @@ use texts::Stop;
 
 // A number times the factor, as a decimal; none exactly where it does not fit.
 #[inline]
+#[tactic(auto, using(crate::proofs::NumberLemmas::plain_number))]
 pub(crate) fn scaled_number(number: Frac, factor: Frac) -> Option<Dec>
     ensures { MatchOption result (¬ NumberFits (frac_value factor) (frac_value number))
         (λ d. NumberFits (frac_value factor) (frac_value number)
@@ -41,6 +42,7 @@ fn term_count(form: &Form) -> usize
 }
 
 // The terms of a form times the factor, one by one. Wide exactly where a number does not fit.
+#[tactic(auto, using(crate::proofs::FitLemmas::all_added))]
 fn terms_times(alloc: Global, form: &Form, factor: Frac) -> Result<Terms, Stop<Wide>>
     ensures scaled { IfOk result
         (λ terms. AreTermsTimes (frac_value factor) (form_terms form.now) terms) }

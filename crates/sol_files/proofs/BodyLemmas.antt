@@ -1,5 +1,5 @@
 -- What a body means with a row of numbers more.
-use Rattle.std.proofs.Common.{◌≡◌, ◌∙◌, ℕ, ◌+◌, ◌-◌, ◌<◌, ◌≤◌, false, ℤ, List, [], ◌∷◌, ◌++◌, length, take, drop, Option, Some, None, refl, sym, ap, ap₂, arith}
+use Rattle.std.proofs.Common.{◌≡◌, ◌∙◌, ℕ, ◌+◌, ◌-◌, ◌<◌, ◌≤◌, false, ℤ, List, [], ◌∷◌, ◌++◌, length, take, drop, Option, Some, None, refl, sym, ap, ap₂, arith, cond, inl, inr, ◌==◌}
 use Rattle.std.specs.Prelude.{slice_get, codes}
 use Rattle.std.specs.List.{filter_map, sum_by}
 use Rattle.std.specs.Option.{option_map_or}
@@ -15,7 +15,8 @@ use Rattle.sol_files.specs.Saying.{option_rows, dual_rows, primal_rows, rows_pas
 use Rattle.sol_files.specs.Progress.{Progress}
 use Rattle.sol_files.specs.Steps.{listed, or_else, options_await, values_await, after_row}
 use Rattle.sol_files.proofs.RowLemmas.{number-at, number-other, part_none, part_past, part_more, rest_none, rest_more}
-use Rattle.sol_files.proofs.PlaceLemmas.{row_at, rows_left, body_left, Place, first, option, constraints, duals, variables, primals, dual, primal, past, place, after_first_row, after_option_row, after_constraints_row, after_duals_row, after_variables_row, after_primals_row, after_dual_row, after_primal_row, after_past_row}
+use Rattle.sol_files.proofs.PlaceLemmas.{row_at, rows_left, body_left, Place, first, option, constraints, duals, variables, primals, dual, primal, past, place, after_counts, after_option_row, after_dual_row, after_primal_row, after_past_row}
+use Rattle.std.proofs.lemmas.Bool.Decides.{eqb_tells}
 
 -- how many table lines suffixes announce together, and how many values they have so far
 abbrev pub table_total : List Piece → ℕ
@@ -214,7 +215,7 @@ module _ (message : List (List ℕ)) (rows : List Row) (row : Row) where
       λ j lt. count (option_count (rows ++ row ∷ []) + j) (λ e. omega (arith, e, lt)) ∙ none_yet rows (option_count (rows ++ row ∷ []) + j) z ∙ sym (none_yet rows (option_count rows + j) z) in
       becomes (record (numbers_of rows) { awaited = options_await (number_in row 0) })
       (same_numbers (numbers_of (rows ++ row ∷ [])) (record (numbers_of rows) { awaited = options_await (number_in row 0) })
-      (ap₂ (λ k i. row_at k (dual_count (rows ++ row ∷ [])) (primal_count (rows ++ row ∷ [])) i) options len ∙ after_first_row (number_in row 0) (dual_count (rows ++ row ∷ [])) (primal_count (rows ++ row ∷ [])))
+      (ap₂ (λ k i. row_at k (dual_count (rows ++ row ∷ [])) (primal_count (rows ++ row ∷ [])) i) options len ∙ (after_counts (number_in row 0) (dual_count (rows ++ row ∷ [])) (primal_count (rows ++ row ∷ []))).0)
       (part_none option_in (rows ++ row ∷ []) 1 (option_count (rows ++ row ∷ [])) (omega arith) ∙ sym (part_none option_in rows 1 (option_count rows) (omega arith)))
       (other 1 (omega arith))
       (part_none value_in (rows ++ row ∷ []) (option_count (rows ++ row ∷ []) + 5) (dual_count (rows ++ row ∷ [])) (omega arith) ∙ sym (part_none value_in rows (option_count rows + 5) (dual_count rows) (omega arith)))
@@ -226,22 +227,26 @@ module _ (message : List (List ℕ)) (rows : List Row) (row : Row) where
       (other 4 (omega arith)))
 
   module _ (begun : 0 < length rows) where
-    -- before the duals
-    early : (n : Numbers) (a : Awaited) → length rows < option_count rows + 5
-        → rows_left (rows ++ row ∷ []) ≡ n.awaited
-        → filter_map option_in (option_rows (rows ++ row ∷ [])) ≡ n.options
-        → constraint_count (rows ++ row ∷ []) ≡ n.n_con
-        → filter_map value_in (dual_rows rows) ≡ n.duals
-        → variable_count (rows ++ row ∷ []) ≡ n.n_var
-        → filter_map value_in (primal_rows rows) ≡ n.primals
-        → slice_get (filter_map objno_in (rows_past rows)) 0 ≡ n.objno
-        → dual_count (rows ++ row ∷ []) ≡ n.dual_count
-        → primal_count (rows ++ row ∷ []) ≡ n.primal_count
-        → met message (only_rows (rows ++ row ∷ [])) ≡ with_numbers message n
+    -- before the duals: number j is that of the row where the row is the one that gives it
+    abbrev number_after : ℕ → ℕ → ℕ
+    number_after i j = cond (j == i) (number_in row 0) (row_number rows (option_count rows + j))
+
+    numbered : (i j : ℕ) → (length rows ≡ option_count rows + j → j ≡ i) → (j ≡ i → length rows ≡ option_count rows + j) → row_number (rows ++ row ∷ []) (option_count (rows ++ row ∷ []) + j) ≡ number_after i j
+    numbered i j only there = elim (eqb_tells j i) [
+      | inl same ↦ rw same.0 (count_at rows row begun j (there same.1))
+      | inr other ↦ rw other.0 (count_other rows row begun j (λ e. other.1 (only e)))
+    ]
+
+    early : (i : ℕ) (a : Awaited) (options : List ℤ) → length rows < option_count rows + 5 → ((j : ℕ) → 0 < j → length rows ≡ option_count rows + j → j ≡ i) → (0 < i → length rows ≡ option_count rows + i)
+        → rows_left (rows ++ row ∷ []) ≡ a
+        → filter_map option_in (option_rows (rows ++ row ∷ [])) ≡ options
+        → met message (only_rows (rows ++ row ∷ []))
+        ≡ with_numbers message (record (numbers_of rows) { awaited = a; options = options; n_con = number_after i 1; n_var = number_after i 3; dual_count = number_after i 2; primal_count = number_after i 4 })
     unfolding numbers_of
-    early n a lt e1 e2 e3 e4 e5 e6 e7 e8 e9 =
-        becomes n
-        (same_numbers (numbers_of (rows ++ row ∷ [])) n e1 e2 e3 (duals_none rows row begun lt ∙ e4) e5 (primals_none rows row begun lt ∙ e6) (objno_none rows row begun lt ∙ e7) e8 e9)
+    early i a options lt only there e1 e2 =
+        let n : (j : ℕ) → 0 < j → row_number (rows ++ row ∷ []) (option_count (rows ++ row ∷ []) + j) ≡ number_after i j = λ j some. numbered i j (only j some) (λ e. rw e (there (omega (arith, some, e)))) in
+        becomes _
+        (same_numbers (numbers_of (rows ++ row ∷ [])) _ e1 e2 (n 1 (omega arith)) (duals_none rows row begun lt) (n 3 (omega arith)) (primals_none rows row begun lt) (objno_none rows row begun lt) (n 2 (omega arith)) (n 4 (omega arith)))
 
     -- the row that is awaited, by what the numbers become
     await_early : (k d p i : ℕ) → option_count rows ≡ k → length rows + 1 ≡ i → rows_left (rows ++ row ∷ []) ≡ row_at k (dual_count (rows ++ row ∷ [])) (primal_count (rows ++ row ∷ [])) i
@@ -250,110 +255,77 @@ module _ (message : List (List ℕ)) (rows : List Row) (row : Row) where
     option_next : length rows ≤ option_count rows → Meets (Options ((option_count rows + 1) - length rows))
     unfolding after_row with_numbers numbers_of met only_rows sol_of
     option_next le =
-        early (record (numbers_of rows) { awaited = options_await (((option_count rows + 1) - length rows) - 1); options = filter_map option_in (option_rows rows) ++ listed (option_in row) }) OptionCount (omega arith)
+        early 0 (options_await (((option_count rows + 1) - length rows) - 1)) (filter_map option_in (option_rows rows) ++ listed (option_in row)) (omega arith) (λ j some e. absurd (omega (arith, some, e))) (λ some. absurd (omega arith))
         (await_early (option_count rows) 0 0 (length rows + 1) refl refl ∙ after_option_row (option_count rows) (dual_count (rows ++ row ∷ [])) (primal_count (rows ++ row ∷ [])) (length rows) begun le)
         (options_more rows row begun le)
-        (count_other rows row begun 1 (λ e. omega (arith, e)))
-        refl
-        (count_other rows row begun 3 (λ e. omega (arith, e)))
-        refl refl
-        (count_other rows row begun 2 (λ e. omega (arith, e)))
-        (count_other rows row begun 4 (λ e. omega (arith, e)))
 
     constraints_next : length rows ≡ option_count rows + 1 → Meets Constraints
     unfolding after_row with_numbers numbers_of met only_rows sol_of
     constraints_next at =
-        early (record (numbers_of rows) { awaited = DualCount; n_con = number_in row 0 }) OptionCount (omega arith)
-        (await_early (option_count rows) 0 0 (option_count rows + 2) refl (omega arith) ∙ after_constraints_row (option_count rows) (dual_count (rows ++ row ∷ [])) (primal_count (rows ++ row ∷ [])))
+        early 1 DualCount (filter_map option_in (option_rows rows)) (omega arith) (λ j some e. omega (arith, e)) (λ some. at)
+        (await_early (option_count rows) 0 0 (option_count rows + 2) refl (omega arith) ∙ (after_counts (option_count rows) (dual_count (rows ++ row ∷ [])) (primal_count (rows ++ row ∷ []))).1)
         (options_same rows row begun (omega arith))
-        (count_at rows row begun 1 at)
-        refl
-        (count_other rows row begun 3 (λ e. omega (arith, e)))
-        refl refl
-        (count_other rows row begun 2 (λ e. omega (arith, e)))
-        (count_other rows row begun 4 (λ e. omega (arith, e)))
 
     duals_next : length rows ≡ option_count rows + 2 → Meets DualCount
     unfolding after_row with_numbers numbers_of met only_rows sol_of
     duals_next at =
-        early (record (numbers_of rows) { awaited = Variables; dual_count = number_in row 0 }) OptionCount (omega arith)
-        (await_early (option_count rows) 0 0 (option_count rows + 3) refl (omega arith) ∙ after_duals_row (option_count rows) (dual_count (rows ++ row ∷ [])) (primal_count (rows ++ row ∷ [])))
+        early 2 Variables (filter_map option_in (option_rows rows)) (omega arith) (λ j some e. omega (arith, e)) (λ some. at)
+        (await_early (option_count rows) 0 0 (option_count rows + 3) refl (omega arith) ∙ (after_counts (option_count rows) (dual_count (rows ++ row ∷ [])) (primal_count (rows ++ row ∷ []))).2)
         (options_same rows row begun (omega arith))
-        (count_other rows row begun 1 (λ e. omega (arith, e)))
-        refl
-        (count_other rows row begun 3 (λ e. omega (arith, e)))
-        refl refl
-        (count_at rows row begun 2 at)
-        (count_other rows row begun 4 (λ e. omega (arith, e)))
 
     variables_next : length rows ≡ option_count rows + 3 → Meets Variables
     unfolding after_row with_numbers numbers_of met only_rows sol_of
     variables_next at =
-        early (record (numbers_of rows) { awaited = PrimalCount; n_var = number_in row 0 }) OptionCount (omega arith)
-        (await_early (option_count rows) 0 0 (option_count rows + 4) refl (omega arith) ∙ after_variables_row (option_count rows) (dual_count (rows ++ row ∷ [])) (primal_count (rows ++ row ∷ [])))
+        early 3 PrimalCount (filter_map option_in (option_rows rows)) (omega arith) (λ j some e. omega (arith, e)) (λ some. at)
+        (await_early (option_count rows) 0 0 (option_count rows + 4) refl (omega arith) ∙ (after_counts (option_count rows) (dual_count (rows ++ row ∷ [])) (primal_count (rows ++ row ∷ []))).3)
         (options_same rows row begun (omega arith))
-        (count_other rows row begun 1 (λ e. omega (arith, e)))
-        refl
-        (count_at rows row begun 3 at)
-        refl refl
-        (count_other rows row begun 2 (λ e. omega (arith, e)))
-        (count_other rows row begun 4 (λ e. omega (arith, e)))
 
     primals_next : length rows ≡ option_count rows + 4 → Meets PrimalCount
     unfolding after_row with_numbers numbers_of met only_rows sol_of
     primals_next at =
         let duals : dual_count (rows ++ row ∷ []) ≡ dual_count rows = count_other rows row begun 2 (λ e. omega (arith, e)) in
         let primals : primal_count (rows ++ row ∷ []) ≡ number_in row 0 = count_at rows row begun 4 at in
-        early (record (numbers_of rows) { awaited = values_await (dual_count rows) (number_in row 0); primal_count = number_in row 0 }) OptionCount (omega arith)
-        (await_early (option_count rows) 0 0 (option_count rows + 5) refl (omega arith) ∙ after_primals_row (option_count rows) (dual_count (rows ++ row ∷ [])) (primal_count (rows ++ row ∷ [])) ∙ ap₂ values_await duals primals)
+        early 4 (values_await (dual_count rows) (number_in row 0)) (filter_map option_in (option_rows rows)) (omega arith) (λ j some e. omega (arith, e)) (λ some. at)
+        (await_early (option_count rows) 0 0 (option_count rows + 5) refl (omega arith) ∙ (after_counts (option_count rows) (dual_count (rows ++ row ∷ [])) (primal_count (rows ++ row ∷ []))).4 ∙ ap₂ values_await duals primals)
         (options_same rows row begun (omega arith))
-        (count_other rows row begun 1 (λ e. omega (arith, e)))
-        refl
-        (count_other rows row begun 3 (λ e. omega (arith, e)))
-        refl refl duals primals
 
     -- among the values
-    late_next : (n : Numbers) → (late : option_count rows + 5 ≤ length rows)
-        → row_at (option_count rows) (dual_count rows) (primal_count rows) (length rows + 1) ≡ n.awaited
-        → filter_map option_in (option_rows rows) ≡ n.options
-        → constraint_count rows ≡ n.n_con
-        → filter_map value_in (dual_rows (rows ++ row ∷ [])) ≡ n.duals
-        → variable_count rows ≡ n.n_var
-        → filter_map value_in (primal_rows (rows ++ row ∷ [])) ≡ n.primals
-        → slice_get (filter_map objno_in (rows_past (rows ++ row ∷ []))) 0 ≡ n.objno
-        → dual_count rows ≡ n.dual_count
-        → primal_count rows ≡ n.primal_count
-        → met message (only_rows (rows ++ row ∷ [])) ≡ with_numbers message n
+    late_next : (a : Awaited) (ds ps : List Dec) (objno : Option (ℤ × ℤ)) → (late : option_count rows + 5 ≤ length rows)
+        → row_at (option_count rows) (dual_count rows) (primal_count rows) (length rows + 1) ≡ a
+        → filter_map value_in (dual_rows (rows ++ row ∷ [])) ≡ ds
+        → filter_map value_in (primal_rows (rows ++ row ∷ [])) ≡ ps
+        → slice_get (filter_map objno_in (rows_past (rows ++ row ∷ []))) 0 ≡ objno
+        → met message (only_rows (rows ++ row ∷ [])) ≡ with_numbers message (record (numbers_of rows) { awaited = a; duals = ds; primals = ps; objno = objno })
     unfolding numbers_of
-    late_next n late e1 e2 e3 e4 e5 e6 e7 e8 e9 =
-        becomes n
-        (same_numbers (numbers_of (rows ++ row ∷ [])) n (await_part rows row begun late ∙ e1) (options_same rows row begun (omega arith) ∙ e2)
-        (count_other rows row begun 1 (λ e. omega (arith, e)) ∙ e3) e4 (count_other rows row begun 3 (λ e. omega (arith, e)) ∙ e5) e6 e7
-        (dual_count_kept rows row begun late ∙ e8) (primal_count_kept rows row begun late ∙ e9))
+    late_next a ds ps objno late e1 e2 e3 e4 =
+        becomes _
+        (same_numbers (numbers_of (rows ++ row ∷ [])) _ (await_part rows row begun late ∙ e1) (options_same rows row begun (omega arith))
+        (count_other rows row begun 1 (λ e. omega (arith, e))) e2 (count_other rows row begun 3 (λ e. omega (arith, e))) e3 e4
+        (dual_count_kept rows row begun late) (primal_count_kept rows row begun late))
 
     dual_next : option_count rows + 5 ≤ length rows → length rows < option_count rows + 5 + dual_count rows → Meets (Duals ((option_count rows + 5 + dual_count rows) - length rows))
     unfolding after_row with_numbers numbers_of met only_rows sol_of
     dual_next late lt =
-        late_next (record (numbers_of rows) { awaited = values_await (((option_count rows + 5 + dual_count rows) - length rows) - 1) (primal_count rows); duals = filter_map value_in (dual_rows rows) ++ listed (value_in row) }) late
+        late_next (values_await (((option_count rows + 5 + dual_count rows) - length rows) - 1) (primal_count rows)) (filter_map value_in (dual_rows rows) ++ listed (value_in row)) _ _ late
         (after_dual_row (option_count rows) (dual_count rows) (primal_count rows) (length rows) late lt)
-        refl refl (duals_more rows row begun late lt) refl (primals_later rows row begun late lt) (objno_later rows row begun late (omega arith)) refl refl
+        (duals_more rows row begun late lt) (primals_later rows row begun late lt) (objno_later rows row begun late (omega arith))
 
     primal_next : option_count rows + 5 + dual_count rows ≤ length rows → length rows < option_count rows + 5 + dual_count rows + primal_count rows → Meets (Primals ((option_count rows + 5 + dual_count rows + primal_count rows) - length rows))
     unfolding after_row with_numbers numbers_of met only_rows sol_of
     primal_next le lt =
         let late : option_count rows + 5 ≤ length rows = omega arith in
-        late_next (record (numbers_of rows) { awaited = values_await 0 (((option_count rows + 5 + dual_count rows + primal_count rows) - length rows) - 1); primals = filter_map value_in (primal_rows rows) ++ listed (value_in row) }) late
+        late_next (values_await 0 (((option_count rows + 5 + dual_count rows + primal_count rows) - length rows) - 1)) _ (filter_map value_in (primal_rows rows) ++ listed (value_in row)) _ late
         (after_primal_row (option_count rows) (dual_count rows) (primal_count rows) (length rows) le lt)
-        refl refl (duals_same rows row begun late le) refl (primals_more rows row begun late le lt) (objno_later rows row begun late lt) refl refl
+        (duals_same rows row begun late le) (primals_more rows row begun late le lt) (objno_later rows row begun late lt)
 
     past_next : rows_left rows ≡ Tail → begins row (codes "suffix") ≡ false → option_count rows + 5 + dual_count rows + primal_count rows ≤ length rows → Meets Tail
     unfolding after_row with_numbers numbers_of met only_rows sol_of
     past_next tail other le =
         let late : option_count rows + 5 ≤ length rows = omega arith in
         rw other
-        (late_next (record (numbers_of rows) { awaited = rows_left rows; objno = or_else (slice_get (filter_map objno_in (rows_past rows)) 0) (objno_in row) }) late
+        (late_next (rows_left rows) _ _ (or_else (slice_get (filter_map objno_in (rows_past rows)) 0) (objno_in row)) late
         (after_past_row (option_count rows) (dual_count rows) (primal_count rows) (length rows) le ∙ sym tail)
-        refl refl (duals_same rows row begun late (omega arith)) refl (primals_same rows row begun late le) (objno_more rows row begun late le) refl refl)
+        (duals_same rows row begun late (omega arith)) (primals_same rows row begun late le) (objno_more rows row begun late le))
 
   -- a row without a piece before it
   by_place : (a : Awaited) → rows_left rows ≡ a → (a ≡ Tail → begins row (codes "suffix") ≡ false) → Place (option_count rows) (dual_count rows) (primal_count rows) (length rows) a → Meets a

@@ -23,9 +23,9 @@ third_first : (t1 t2 t3 t4 a b c : Bool) (r1 r2 r3 r4 r5 r6 : Refusal) → (t3 �
 third_first t1 t2 true t4 a b c r1 r2 r3 r4 r5 r6 h = refl
 third_first t1 t2 false t4 a b c r1 r2 r3 r4 r5 r6 h = rw (h refl) refl
 
-below_by : (limit : ℕ) (o : Option ℕ) → is_below limit o ≡ true → unwrap_or o 0 < limit
-below_by limit None e = absurd cc
-below_by limit (Some n) e = ltb-true n limit e
+pub is_number : (limit : ℕ) (o : Option ℕ) → is_below limit o ≡ true → unwrap_or o 0 < limit
+is_number limit None e = absurd cc
+is_number limit (Some n) e = ltb-true n limit e
 
 pub judged : (s : Standing) (m : List Bool) (limit : ℕ) (whole_only : Bool) (count : ℕ) (words : Row) → AreMarked s.sol m → limit ≡ index_limit s.sol → whole_only ≡ wants_whole (last_kind s.sol.suffixes) → count ≡ s.value_count
     → first_reason (marked_value_tests limit whole_only m count words) ≡ first_reason (value_tests s words)
@@ -36,7 +36,7 @@ judged s m limit whole_only count words h e f g =
     (is_none value || (wants_whole (last_kind s.sol.suffixes) && not (option_map_or is_whole value true)))
     (get_or m (number_in words 0) false) (has_index (last_values s.sol.suffixes) (number_in words 0)) (nat_le (2 ^ 22) s.value_count)
     (Here BadLine) (Here BadNumber) (Here IndexOut) (Here BadNumber) (Here RepeatedIndex) (Here TooLarge)
-    (λ fine. h.each (number_in words 0) (below_by (index_limit s.sol) (whole_of (word_at words 0)) (not-false _ fine))))
+    (λ fine. h.each (number_in words 0) (is_number (index_limit s.sol) (whole_of (word_at words 0)) (not-false _ fine))))
 
 -- what is said of one list of tests holds of another with the same first reason
 pub judged_ok : {A : Type 0} (r : Result A SolReason) (xs ys : Tests) → first_reason xs ≡ first_reason ys → OnOk r (first_reason xs ≡ None) → OnOk r (first_reason ys ≡ None)

@@ -5,7 +5,7 @@ use Rattle.std.specs.List.{AllByRecursion, sum_by}
 use Rattle.exact_numbers.specs.Numbers.{has_31_bits}
 use Rattle.nl_model.specs.HeaderRules.{has_second_three}
 use Rattle.sol_files.specs.declared.awaited.Awaited.{Awaited}
-use Rattle.sol_files.specs.declared.awaited.Awaited.TheVariants.{Message, OptionCount, Options, Constraints, DualCount, Variables, PrimalCount, Duals, Primals, Tail, Name, Table, Values}
+use Rattle.sol_files.specs.declared.awaited.Awaited.TheVariants.{Message, OptionCount, Options, Variables, PrimalCount, Duals, Primals, Tail, Name, Table, Values}
 use Rattle.sol_files.specs.declared.awaited.SuffixHead.{SuffixHead}
 use Rattle.sol_files.specs.declared.suffix.SolSuffix.{SolSuffix}
 use Rattle.sol_files.specs.Sol.{Sol}
@@ -61,11 +61,7 @@ abbrev pub Late : ℕ → ℕ → Progress → Type 0
 Late heads rows s = Given s.sol × HasSuffixes heads rows s.sol.n_var s.sol.n_con s.sol.suffixes s.suffix_count s.table_count s.value_count
 
 unfoldable pub KeptAt : Awaited → Progress → Type 0
-KeptAt Message s = HasNoValues s.sol × NoneBegun s
-KeptAt OptionCount s = HasNoValues s.sol × NoneBegun s
 KeptAt (Options left) s = (0 < left) × (HasNoValues s.sol × NoneBegun s)
-KeptAt Constraints s = HasNoValues s.sol × NoneBegun s
-KeptAt DualCount s = HasNoValues s.sol × NoneBegun s
 KeptAt Variables s = HasDualCount s × NoneBegun s
 KeptAt PrimalCount s = HasDualCount s × NoneBegun s
 KeptAt (Duals left) s = AwaitsDuals s left × NoneBegun s
@@ -74,6 +70,7 @@ KeptAt Tail s = Late 0 0 s
 KeptAt (Name head) s = FitsHead head × Late 1 head.table_lines s
 KeptAt (Table tables values) s = (0 < tables) × Late 0 tables s
 KeptAt (Values left) s = Late 0 0 s
+KeptAt a s = HasNoValues s.sol × NoneBegun s
 
 abbrev pub options_left : Awaited → ℕ
 options_left Message = 9

@@ -1,8 +1,7 @@
 -- What is kept by rows of numbers.
 use Rattle.std.proofs.Common.{◌≡◌, ℕ, ◌+◌, ◌-◌, ◌<◌, ◌≤◌, ◌^◌, ℤ, pos, Bool, true, false, not, ◌&&◌, ◌||◌, cond, List, [], ◌∷◌, ◌++◌, length, Option, Some, None, inl, inr, refl, subst, arith, ◌==◌, nat_lt}
-use Rattle.std.specs.Prelude.{IfSome, is_none, unwrap_or}
+use Rattle.std.specs.Prelude.{IfSome, is_none}
 use Rattle.std.specs.Ordering.{int_eq}
-use Rattle.std.specs.List.{AllByRecursion}
 use Rattle.std.proofs.lemmas.Bool.{ltb-true, ltb-false, eqb-true, not-false}
 use Rattle.std.proofs.lemmas.List.{length_push}
 use Rattle.exact_numbers.specs.Numbers.{are_digits, dec_of, has_31_bits, signed_of, whole_of}
@@ -24,16 +23,14 @@ use Rattle.sol_files.specs.Steps.{after_row, options_await, values_await}
 use Rattle.sol_files.specs.InsideHeld.{HasNoValues, IsReadyAt}
 use Rattle.sol_files.proofs.ReadyLemmas.{ready_counts, ready_dual, ready_primal}
 use Rattle.sol_files.proofs.Kept.{Speaks, HasOptions, HasNoSuffixes, HasSuffixes, NoneBegun, KeptAt, KeepsAt, Keeps}
+use Rattle.sol_files.proofs.JudgingLemmas.{is_number}
+use Rattle.sol_files.proofs.LastLemmas.{all_push}
 
 -- ---- tests without a reason
 
 pub fine_next : (b : Bool) (r : Refusal) (o : Option Refusal) → cond b (Some r) o ≡ None → (b ≡ false) × (o ≡ None)
 fine_next true r o e = absurd cc
 fine_next false r o e = (refl, e)
-
-pub is_number : (limit : ℕ) (o : Option ℕ) → is_below limit o ≡ true → unwrap_or o 0 < limit
-is_number limit None e = absurd cc
-is_number limit (Some n) e = ltb-true n limit e
 
 pub record IsThere {A : Type 0} (o : Option A) : Type 0 where
   pub value : A
@@ -84,10 +81,6 @@ second_kept : (os : List ℤ) (z : ℤ) → has_second_three os ≡ false → ((
 second_kept [] z h e = refl
 second_kept (a ∷ []) z h e = e
 second_kept (a ∷ b ∷ os) z h e = h
-
-pub all_push : {A : Type 0} (P : A → Type 0) (xs : List A) (x : A) → AllByRecursion P xs → P x → AllByRecursion P (xs ++ x ∷ [])
-all_push P [] x all h = (h, tt)
-all_push P (y ∷ xs) x all h = (all.0, all_push P xs x all.1 h)
 
 pub kept_option : (s : Progress) (left : ℕ) (words : Row) → KeepsAt (Options left) s → first_reason (row_tests (kind_of (Options left)) (seen s) words) ≡ None → Keeps (after_row (Options left) s words)
 unfolding row_tests after_row KeptAt

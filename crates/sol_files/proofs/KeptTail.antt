@@ -5,9 +5,9 @@ use Rattle.std.specs.Option.{option_map_or}
 use Rattle.std.proofs.lemmas.Slice.Eq.{bytes_eq-Decides}
 use Rattle.std.specs.Str.Parse.{digits_value}
 use Rattle.std.specs.List.{AllByRecursion, sum_by}
-use Rattle.std.proofs.lemmas.Bool.{and_from, and_parts, ltb-true, leb-true, leb-false, eqb-false, not-false}
+use Rattle.std.proofs.lemmas.Bool.{and_from, and_parts, ltb-true, leb-true, leb-false, eqb-false, not-false, or_parts}
 use Rattle.std.proofs.lemmas.List.{length_push, length-append, append-nil}
-use Rattle.std.proofs.lemmas.List.Sums.{sum_by-cons}
+use Rattle.std.proofs.lemmas.List.Sums.{sum_by-cons, sum_by_push}
 use Rattle.exact_numbers.specs.declared.dec.Dec.{Dec}
 use Rattle.exact_numbers.specs.Numbers.{are_digits, dec_of, is_whole, signed_of, whole_of}
 use Rattle.nl_model.specs.SuffixKinds.{object_limit, wants_whole}
@@ -31,7 +31,9 @@ use Rattle.sol_files.specs.Steps.{after_message, after_row, after_name, after_ta
 use Rattle.sol_files.specs.Written.{IsSaidLine, IsSignedPair, IsWritableSuffix, are_values}
 use Rattle.sol_files.proofs.ShortWords.{row-line}
 use Rattle.sol_files.proofs.Kept.{Speaks, HasOptions, Late, KeptAt, KeepsAt, Keeps}
-use Rattle.sol_files.proofs.KeptRows.{IsThere, all_push, fine_next, is_number, is_there, signed_of-fits}
+use Rattle.sol_files.proofs.KeptRows.{IsThere, fine_next, is_there, signed_of-fits}
+use Rattle.sol_files.proofs.JudgingLemmas.{is_number}
+use Rattle.sol_files.proofs.LastLemmas.{length_changed, all_push}
 
 -- ---- the message
 
@@ -93,10 +95,6 @@ kept_message s line text is h f = by (is_options line) refl
 
 -- ---- the number of the objective
 
-or_each : (f g : Bool) → (f || g) ≡ false → (f ≡ false) × (g ≡ false)
-or_each true g e = absurd cc
-or_each false g e = (refl, e)
-
 objno_fits : (words : Row) → is_none (signed_of (word_at words 1)) ≡ false → is_none (signed_of (word_at words 2)) ≡ false → IfSome (both (signed_of (word_at words 1)) (signed_of (word_at words 2))) IsSignedPair
 objno_fits words e f =
     let number = is_there (signed_of (word_at words 1)) e in
@@ -133,10 +131,7 @@ kept_head s words h f =
     let kind = is_number 256 (whole_of (word_at words 1)) (and_parts _ _ (and_parts _ _ (and_parts _ _ numbers).0).0).0 in
     let room = leb-false 1024 s.suffix_count all.1.1.1.0 in
     let tables = has_room s.table_count (whole_of (word_at words 5)) (not-false (has_table_room s.table_count (whole_of (word_at words 5))) all.1.1.1.1.0) in
-    let given = h.rest.0 in
     let old = h.rest.1 in
-    let begun = old.begun in
-    let rows = old.tables in
     record {
       said = h.said;
       options = h.options;
@@ -146,12 +141,12 @@ kept_head s words h f =
       rest = (
         record { kind = kind; name_len = number_in_31 words 3; table_len = number_in_31 words 4 },
         (
-          record { duals_given = given.duals_given; primals_given = given.primals_given },
+          h.rest.0,
           record {
             each = old.each;
-            begun = omega (arith, begun);
+            begun = omega (arith, old.begun);
             begun_room = omega (arith, room);
-            tables = omega (arith, rows);
+            tables = omega (arith, old.tables);
             table_room = omega (arith, tables);
             values = old.values;
             value_room = old.value_room;
@@ -164,16 +159,14 @@ kept_objno : (s : Progress) (words : Row) → begins words (codes "objno") ≡ t
 unfolding KeptAt
 kept_objno s words b h f =
     let all = none_each (objno_tests (is_some s.sol.objno || nat_lt 0 s.suffix_count) words) f in
-    let two = or_each (is_none (signed_of (word_at words 1))) (is_none (signed_of (word_at words 2))) all.1.1.0 in
-    let given = h.rest.0 in
-    let old = h.rest.1 in
+    let two = or_parts (is_none (signed_of (word_at words 1))) (is_none (signed_of (word_at words 2))) all.1.1.0 in
     record {
       said = h.said;
       options = h.options;
       n_con = h.n_con;
       n_var = h.n_var;
       objno = objno_kept s.sol.objno (objno_in words) h.objno (objno_in_fits words b two.0 two.1);
-      rest = (record { duals_given = given.duals_given; primals_given = given.primals_given }, record { each = old.each; begun = old.begun; begun_room = old.begun_room; tables = old.tables; table_room = old.table_room; values = old.values; value_room = old.value_room });
+      rest = h.rest;
     }
 
 not_both : (words : Row) → begins words (codes "suffix") ≡ true → begins words (codes "objno") ≡ true → ⊥
@@ -204,8 +197,7 @@ kept_tail s words is h f = by (begins words (codes "suffix")) (begins words (cod
 less_rows : (s : Progress) (rows : ℕ) → Late 0 rows s → Late 0 0 s
 less_rows s rows h =
     let old = h.1 in
-    let tables = old.tables in
-    (h.0, record { each = old.each; begun = old.begun; begun_room = old.begun_room; tables = omega (arith, tables); table_room = old.table_room; values = old.values; value_room = old.value_room })
+    (h.0, record { each = old.each; begun = old.begun; begun_room = old.begun_room; tables = omega (arith, old.tables); table_room = old.table_room; values = old.values; value_room = old.value_room })
 
 await_rest : (s : Progress) (t v : ℕ) → Speaks s.sol.message s.is_held_back → HasOptions 0 s.sol.options → s.sol.n_con ≤ 2 ^ 20 → s.sol.n_var ≤ 2 ^ 20 → IfSome s.sol.objno IsSignedPair → Late 0 t s → KeepsAt (rest_awaits t v) s
 unfolding KeptAt
@@ -216,10 +208,6 @@ await_rest s t v said options con var objno late = by (nat_lt 0 t) (nat_lt 0 v) 
     by false true e g = rw (e, g) (record { said = said; options = options; n_con = con; n_var = var; objno = objno; rest = less_rows s t late })
     by false false e g = rw (e, g) (record { said = said; options = options; n_con = con; n_var = var; objno = objno; rest = less_rows s t late })
 
-sum_push : {A : Type 0} (g : A → ℕ) (xs : List A) (x : A) → sum_by g (xs ++ x ∷ []) ≡ sum_by g xs + g x
-sum_push g [] x = omega (arith, sum_by-cons g x [])
-sum_push g (y ∷ xs) x = omega (arith, sum_push g xs x, sum_by-cons g y (xs ++ x ∷ []), sum_by-cons g y xs)
-
 pub kept_name : (s : Progress) (head : SuffixHead) (words : Row) → KeepsAt (Name head) s → first_reason (name_tests words) ≡ None → Keeps (after_name s head words)
 unfolding KeptAt are_values
 kept_name s head words h f =
@@ -228,20 +216,16 @@ kept_name s head words h f =
     let x = named_suffix head (word_at words 0) in
     let next = after_name s head words in
     let fits = h.rest.0 in
-    let given = h.rest.1.0 in
     let old = h.rest.1.1 in
-    let begun = old.begun in
-    let rows = old.tables in
-    let values = old.values in
     await_rest next head.table_lines head.value_count h.said h.options h.n_con h.n_var h.objno (
-      record { duals_given = given.duals_given; primals_given = given.primals_given },
+      h.rest.1.0,
       record {
         each = all_push (IsWritableSuffix s.sol.n_var s.sol.n_con) s.sol.suffixes x old.each (record { kind = fits.kind; name = (and_parts _ _ is).1; name_len = fits.name_len; table_len = fits.table_len; table = tt; values = refl });
-        begun = omega (arith, begun, length_push s.sol.suffixes x);
+        begun = omega (arith, old.begun, length_push s.sol.suffixes x);
         begun_room = old.begun_room;
-        tables = omega (arith, rows, sum_push (λ (y : SolSuffix). length y.table) s.sol.suffixes x);
+        tables = omega (arith, old.tables, sum_by_push (λ (y : SolSuffix). length y.table) s.sol.suffixes x);
         table_room = old.table_room;
-        values = omega (arith, values, sum_push (λ (y : SolSuffix). length y.values) s.sol.suffixes x);
+        values = omega (arith, old.values, sum_by_push (λ (y : SolSuffix). length y.values) s.sol.suffixes x);
         value_room = old.value_room;
       },
     )
@@ -254,12 +238,6 @@ all_changed P f [] kept all = tt
 all_changed P f (x ∷ []) kept all = (kept x all.0, tt)
 all_changed P f (x ∷ y ∷ xs) kept all = (all.0, all_changed P f (y ∷ xs) kept all.1)
 
-length_changed : {A : Type 0} (f : A → A) (xs : List A) → length (change_last f xs) ≡ length xs
-unfolding change_last
-length_changed f [] = refl
-length_changed f (x ∷ []) = refl
-length_changed f (x ∷ y ∷ xs) = ap suc (length_changed f (y ∷ xs))
-
 sum_changed : {A : Type 0} (g : A → ℕ) (f : A → A) (k : ℕ) (xs : List A) → ((x : A) → g (f x) ≤ g x + k) → sum_by g (change_last f xs) ≤ sum_by g xs + k
 unfolding change_last
 sum_changed g f k [] more = omega arith
@@ -270,23 +248,18 @@ pub kept_table : (s : Progress) (tables values : ℕ) (line : List ℕ) → IsTe
 unfolding KeptAt
 kept_table s tables values line text h =
     let f = with_table_line line in
-    let some = h.rest.0 in
-    let given = h.rest.1.0 in
     let old = h.rest.1.1 in
-    let begun = old.begun in
-    let rows = old.tables in
-    let sums = old.values in
     let kept : (x : SolSuffix) → IsWritableSuffix s.sol.n_var s.sol.n_con x → IsWritableSuffix s.sol.n_var s.sol.n_con (f x) =
     λ x w. record { kind = w.kind; name = w.name; name_len = w.name_len; table_len = w.table_len; table = all_push IsTextLine x.table line w.table text; values = w.values } in
     await_rest (after_table s tables values line) (tables - 1) values h.said h.options h.n_con h.n_var h.objno (
-      record { duals_given = given.duals_given; primals_given = given.primals_given },
+      h.rest.1.0,
       record {
         each = all_changed (IsWritableSuffix s.sol.n_var s.sol.n_con) f s.sol.suffixes kept old.each;
-        begun = omega (arith, begun, length_changed f s.sol.suffixes);
+        begun = omega (arith, old.begun, length_changed f s.sol.suffixes);
         begun_room = old.begun_room;
-        tables = omega (arith, some, rows, sum_changed (λ (y : SolSuffix). length y.table) f 1 s.sol.suffixes (λ x. omega (arith, length_push x.table line)));
+        tables = omega (arith, h.rest.0, old.tables, sum_changed (λ (y : SolSuffix). length y.table) f 1 s.sol.suffixes (λ x. omega (arith, length_push x.table line)));
         table_room = old.table_room;
-        values = omega (arith, sums, sum_changed (λ (y : SolSuffix). length y.values) f 0 s.sol.suffixes (λ x. omega arith));
+        values = omega (arith, old.values, sum_changed (λ (y : SolSuffix). length y.values) f 0 s.sol.suffixes (λ x. omega arith));
         value_room = old.value_room;
       },
     )
@@ -338,29 +311,25 @@ kept_value s left words h f =
     let all = none_each (value_tests (seen s) words) f in
     let inside = not-false (is_below (index_limit s.sol) (whole_of (word_at words 0))) all.1.1.0 in
     let index = index_there (index_limit s.sol) (whole_of (word_at words 0)) inside in
-    let number = is_there (dec_of (word_at words 1)) (or_each _ _ all.1.1.1.0).0 in
+    let number = is_there (dec_of (word_at words 1)) (or_parts _ _ all.1.1.1.0).0 in
     let whole = wide_whole (wants_whole (last_kind s.sol.suffixes)) (dec_of (word_at words 1)) number.value number.is all.1.1.1.0 in
     let below : nat_lt index.value (index_limit s.sol) ≡ true = rw index.is at inside in
     let fresh : has_index (last_values s.sol.suffixes) index.value ≡ false = rw index.is at all.1.1.1.1.0 in
     let room = leb-false (2 ^ 22) s.value_count all.1.1.1.1.1.0 in
     let t : ℕ × Dec = (index.value, number.value) in
     let g = with_values (t ∷ []) in
-    let given = h.rest.0 in
     let old = h.rest.1 in
-    let begun = old.begun in
-    let rows = old.tables in
-    let sums = old.values in
     let next : Progress = record s { awaited = rest_awaits 0 (left - 1); sol = record s.sol { suffixes = change_last g s.sol.suffixes }; value_count = s.value_count + 1 } in
     subst (λ o. Keeps (record s { awaited = rest_awaits 0 (left - 1); sol = record s.sol { suffixes = change_last (with_values (listed o)) s.sol.suffixes }; value_count = s.value_count + length (listed o) })) (sym (pair_there words index.value number.value index.is number.is))
     (await_rest next 0 (left - 1) h.said h.options h.n_con h.n_var h.objno (
-      record { duals_given = given.duals_given; primals_given = given.primals_given },
+      h.rest.0,
       record {
         each = each_value s.sol.n_var s.sol.n_con t s.sol.suffixes old.each below fresh whole;
-        begun = omega (arith, begun, length_changed g s.sol.suffixes);
+        begun = omega (arith, old.begun, length_changed g s.sol.suffixes);
         begun_room = old.begun_room;
-        tables = omega (arith, rows, sum_changed (λ (y : SolSuffix). length y.table) g 0 s.sol.suffixes (λ x. omega arith));
+        tables = omega (arith, old.tables, sum_changed (λ (y : SolSuffix). length y.table) g 0 s.sol.suffixes (λ x. omega arith));
         table_room = old.table_room;
-        values = omega (arith, sums, sum_changed (λ (y : SolSuffix). length y.values) g 1 s.sol.suffixes (λ x. omega (arith, length_push x.values t)));
+        values = omega (arith, old.values, sum_changed (λ (y : SolSuffix). length y.values) g 1 s.sol.suffixes (λ x. omega (arith, length_push x.values t)));
         value_room = omega (arith, room);
       },
     ))

@@ -1,5 +1,5 @@
 -- A value that was read keeps the rules of values.
-use Rattle.std.proofs.Common.{◌≡◌, ◌∙◌, ℕ, zero, suc, ◌<◌, ◌≤◌, Bool, true, false, cond, List, [], ◌∷◌, ◌++◌, length, take, drop, Option, Some, None, refl, sym, ap, subst, arith, ◌==◌}
+use Rattle.std.proofs.Common.{◌≡◌, ◌∙◌, ℕ, zero, suc, ◌≤◌, Bool, true, false, cond, List, [], ◌∷◌, length, take, drop, Option, Some, None, refl, sym, ap, subst, arith, ◌==◌, get_or, drop-cons}
 use Rattle.std.proofs.lemmas.Bool.{not-false}
 use Rattle.std.specs.List.{AllByRecursion}
 use Rattle.std.proofs.lemmas.List.{take_all, drop_all}
@@ -27,12 +27,13 @@ use Rattle.sol_files.proofs.StandingLemmas.{standing-read, read-more, read-none,
 use Rattle.sol_files.proofs.Kept.{KeptAt, KeepsAt, Keeps}
 use Rattle.sol_files.proofs.KeptRows.{kept_count, kept_option, kept_constraints, kept_dual_count, kept_variables, kept_primal_count, kept_dual, kept_primal}
 use Rattle.sol_files.proofs.KeptTail.{kept_message, kept_tail, kept_name, kept_table, kept_value}
+use Rattle.std.proofs.lemmas.List.Elements.{All-from_recursion}
+use Rattle.std.proofs.Math.Seq.{take-suc}
 
 -- ---- a line more
 
 row_kept : (a : Awaited) (s : Progress) (words : Row) → s.awaited ≡ a → KeepsAt a s → first_reason (row_tests (kind_of a) (seen s) words) ≡ None → Keeps (after_row a s words)
 unfolding after_row
-row_kept Message s words is h f = subst (λ x. KeepsAt x s) (sym is) h
 row_kept OptionCount s words is h f = kept_count s words h f
 row_kept (Options left) s words is h f = kept_option s left words h f
 row_kept Constraints s words is h f = kept_constraints s words h f
@@ -42,9 +43,8 @@ row_kept PrimalCount s words is h f = kept_primal_count s words h f
 row_kept (Duals left) s words is h f = kept_dual s left words h f
 row_kept (Primals left) s words is h f = kept_primal s left words h f
 row_kept Tail s words is h f = kept_tail s words is h f
-row_kept (Name head) s words is h f = subst (λ x. KeepsAt x s) (sym is) h
-row_kept (Table tables values) s words is h f = subst (λ x. KeepsAt x s) (sym is) h
 row_kept (Values left) s words is h f = kept_value s left words h f
+row_kept a s words is h f = subst (λ x. KeepsAt x s) (sym is) h
 
 row_line_kept : (a : Awaited) (s : Progress) (words : Row) → s.awaited ≡ a → KeepsAt a s → first_reason (row_line_tests (kind_of a) (seen s) words) ≡ None → Keeps (after_row_line a s words)
 row_line_kept a s words is h f = by (length words == 0) f
@@ -76,60 +76,36 @@ none_kept = subst Keeps (sym read-none) first
       rest = (record { duals = refl; primals = refl }, record { none = refl; begun = refl; tables = refl; values = refl });
     }
 
-take_next : {A : Type 0} (i : ℕ) (xs : List A) (x : A) (rest : List A) → drop i xs ≡ x ∷ rest → (take (suc i) xs ≡ take i xs ++ x ∷ []) × (drop (suc i) xs ≡ rest)
-take_next zero [] x rest e = absurd cc
-take_next zero (y ∷ xs) x rest e = (ap (λ l. take 1 l) e, ap (drop 1) e)
-take_next (suc i) [] x rest e = absurd cc
-take_next (suc i) (y ∷ xs) x rest e = let more = take_next i xs x rest e in (ap (λ l. y ∷ l) more.0, more.1)
-
-rest_lines : (i : ℕ) (lines : List (List ℕ)) (line : List ℕ) (rest : List (List ℕ)) → drop i lines ≡ line ∷ rest → AllByRecursion IsTextLine lines → IsTextLine line
-rest_lines zero [] line rest e all = absurd cc
-rest_lines zero (l ∷ lines) line rest e all = subst IsTextLine (let same : l ≡ line = cc in same) all.0
-rest_lines (suc i) [] line rest e all = absurd cc
-rest_lines (suc i) (l ∷ lines) line rest e all = rest_lines i lines line rest e all.1
-
-some_left : {A : Type 0} (i : ℕ) (xs : List A) → i < length xs → (x : A) × (rest : List A) × (drop i xs ≡ x ∷ rest)
-some_left i [] lt = absurd (omega arith)
-some_left zero (x ∷ xs) lt = (x, xs, refl)
-some_left (suc i) (x ∷ xs) lt = some_left i xs (omega arith)
-
 front_kept : (lines : List (List ℕ)) (last : Last) → AllByRecursion IsTextLine lines → IsClean sol_rules lines last → (i : ℕ) → i ≤ length lines → Keeps (read (take i lines))
 front_kept lines last all clean zero le = none_kept
 front_kept lines last all clean (suc i) le =
-    let left = some_left i lines (omega arith) in
-    let line = left.0 in
+    let line = get_or lines i [] in
     let s = read (take i lines) in
     let before : Keeps s = front_kept lines last all clean i (omega arith) in
-    let fine : first_reason (line_tests (seen s) line) ≡ None = ap (λ (x : Standing). first_reason (line_tests x line)) (sym (standing-read (take i lines))) ∙ ap (reason_after sol_rules last (take i lines)) (sym left.2) ∙ clean.clean i (omega arith) in
-    let next : Keeps (after s line) = line_kept s.awaited s line (rest_lines i lines line left.1 left.2 all) refl before fine in
-    subst Keeps (sym (read-more (take i lines) line) ∙ ap read (sym (take_next i lines line left.1 left.2).0)) next
+    let here : drop i lines ≡ line ∷ drop (suc i) lines = drop-cons lines i [] le in
+    let fine : first_reason (line_tests (seen s) line) ≡ None = ap (λ (x : Standing). first_reason (line_tests x line)) (sym (standing-read (take i lines))) ∙ ap (reason_after sol_rules last (take i lines)) (sym here) ∙ clean.clean i (omega arith) in
+    let next : Keeps (after s line) = line_kept s.awaited s line (All-from_recursion IsTextLine lines all i [] le) refl before fine in
+    subst Keeps (sym (read-more (take i lines) line) ∙ ap read (sym (take-suc lines i [] le))) next
 
 rules_kept : (s : Progress) → KeepsAt Tail s → KeepsRules s.sol
 unfolding KeptAt
 rules_kept s h =
     let given = h.rest.0 in
     let old = h.rest.1 in
-    let options = h.options.room in
-    let begun = old.begun in
-    let begun_room = old.begun_room in
-    let tables = old.tables in
-    let table_room = old.table_room in
-    let values = old.values in
-    let value_room = old.value_room in
     record {
       message = h.said.each;
       message_room = h.said.room;
       options = h.options.each;
-      option_room = omega (arith, options);
+      option_room = omega (arith, h.options.room);
       second = h.options.second;
       n_con = h.n_con;
       n_var = h.n_var;
       given = record { duals = given.duals_given; primals = given.primals_given };
       objno = h.objno;
       suffixes = old.each;
-      suffix_room = omega (arith, begun, begun_room);
-      table_room = omega (arith, tables, table_room);
-      value_room = omega (arith, values, value_room);
+      suffix_room = omega (arith, old.begun, old.begun_room);
+      table_room = omega (arith, old.tables, old.table_room);
+      value_room = omega (arith, old.values, old.value_room);
     }
 
 last_fine : (fault : Option LineFault) (lines : List (List ℕ)) → last_reason sol_rules lines (last_by fault End) ≡ None → first_reason (end_tests (standing lines)) ≡ None

@@ -4,7 +4,7 @@ use Rattle.std.specs.Prelude.{slice_set, ◌||◌, ◌==◌, option_map, IsSome}
 use Rattle.std.specs.Option.{option_map_or}
 use Rattle.std.proofs.lemmas.List.{length_push, length-set, get_or-set_same, get_or-set_other}
 use Rattle.std.proofs.lemmas.List.Folds.{list_any-append}
-use Rattle.std.proofs.lemmas.Bool.{eq-eqb, ne_eqb, cases_eq}
+use Rattle.std.proofs.lemmas.Bool.{eq-eqb, ne_eqb, cases_eq, or_right}
 use Rattle.exact_numbers.specs.declared.dec.Dec.{Dec}
 use Rattle.sol_files.specs.declared.suffix.SolSuffix.{SolSuffix}
 use Rattle.sol_files.specs.Sol.{Sol}
@@ -13,7 +13,7 @@ use Rattle.sol_files.specs.Built.{AreGiven, with_suffix, with_table_line, with_v
 use Rattle.sol_files.specs.Tests.{has_index, index_limit, last_kind, last_values}
 use Rattle.nl_model.specs.SuffixKinds.{object_limit}
 use Rattle.sol_files.specs.InsideHeld.{AreMarked, AwaitsSuffix}
-use Rattle.sol_files.proofs.LastLemmas.{Ends, ends_with, change_last-end, last_of-end}
+use Rattle.sol_files.proofs.LastLemmas.{Ends, ends_with, change_last-end, last_of-end, length_changed}
 
 -- the last one of a list that is not empty
 ends_of : {A : Type 0} (xs : List A) → 0 < length xs → Ends xs
@@ -25,19 +25,10 @@ last_of-changed f xs lt =
     let e = ends_of xs lt in
     rw e.whole (ap last_of (change_last-end f e.front e.end) ∙ last_of-end e.front (f e.end) ∙ ap (option_map f) (sym (last_of-end e.front e.end)))
 
-length-changed : {A : Type 0} (f : A → A) (xs : List A) → 0 < length xs → length (change_last f xs) ≡ length xs
-length-changed f xs lt =
-    let e = ends_of xs lt in
-    rw e.whole (ap length (change_last-end f e.front e.end) ∙ length_push e.front (f e.end) ∙ sym (length_push e.front e.end))
-
--- the kind of a last suffix that was changed in other parts
-kind_by : (f : SolSuffix → SolSuffix) → ((x : SolSuffix) → (f x).kind ≡ x.kind) → (o : Option SolSuffix) → option_map_or (λ s. s.kind) (option_map f o) 0 ≡ option_map_or (λ s. s.kind) o 0
-kind_by f same None = refl
-kind_by f same (Some x) = same x
-
-values_by : (f : SolSuffix → SolSuffix) → ((x : SolSuffix) → (f x).values ≡ x.values) → (o : Option SolSuffix) → option_map_or (λ s. s.values) (option_map f o) [] ≡ option_map_or (λ s. s.values) o []
-values_by f same None = refl
-values_by f same (Some x) = same x
+-- a part of a last suffix that was changed in other parts
+part_by : {B : Type 0} (g : SolSuffix → B) (d : B) (f : SolSuffix → SolSuffix) → ((x : SolSuffix) → g (f x) ≡ g x) → (o : Option SolSuffix) → option_map_or g (option_map f o) d ≡ option_map_or g o d
+part_by g d f same None = refl
+part_by g d f same (Some x) = same x
 
 -- ---- a table line more
 
@@ -45,14 +36,12 @@ pub table_line_kept : (s t : Sol) (m : List Bool) (left : ℕ) (line : List ℕ)
 table_line_kept s t m left line e h =
     let given : AreGiven s = rw e (record { duals = h.given.duals; primals = h.given.primals }) in
     let last = last_of-changed (with_table_line line) t.suffixes h.marked.some in
-    let kind : last_kind (change_last (with_table_line line) t.suffixes) ≡ last_kind t.suffixes = ap (λ o. option_map_or (λ x. x.kind) o 0) last ∙ kind_by (with_table_line line) (λ x. refl) (last_of t.suffixes) in
-    let values : last_values (change_last (with_table_line line) t.suffixes) ≡ last_values t.suffixes = ap (λ o. option_map_or (λ x. x.values) o []) last ∙ values_by (with_table_line line) (λ x. refl) (last_of t.suffixes) in
+    let kind : last_kind (change_last (with_table_line line) t.suffixes) ≡ last_kind t.suffixes = ap (λ o. option_map_or (λ x. x.kind) o 0) last ∙ part_by (λ s. s.kind) 0 (with_table_line line) (λ x. refl) (last_of t.suffixes) in
+    let values : last_values (change_last (with_table_line line) t.suffixes) ≡ last_values t.suffixes = ap (λ o. option_map_or (λ x. x.values) o []) last ∙ part_by (λ s. s.values) [] (with_table_line line) (λ x. refl) (last_of t.suffixes) in
     let limit : index_limit s ≡ index_limit t = ap index_limit e ∙ ap (object_limit t.n_var t.n_con 256) kind in
     let same : last_values s.suffixes ≡ last_values t.suffixes = ap (λ (x : Sol). last_values x.suffixes) e ∙ values in
-    let some : length s.suffixes ≡ length t.suffixes = ap (λ (x : Sol). length x.suffixes) e ∙ length-changed (with_table_line line) t.suffixes h.marked.some in
-    let first = h.marked.some in
-    let room = h.marked.room in
-    let marked : AreMarked s m = record { some = omega arith; room = omega arith; each = λ i lt. rw same (h.marked.each i (omega arith)) } in
+    let some : length s.suffixes ≡ length t.suffixes = ap (λ (x : Sol). length x.suffixes) e ∙ length_changed (with_table_line line) t.suffixes in
+    let marked : AreMarked s m = record { some = omega (arith, some, h.marked.some); room = omega (arith, limit, h.marked.room); each = λ i lt. rw same (h.marked.each i (omega arith)) } in
     (given, λ n lt. record { some = lt; given = given; marked = marked })
 
 -- ---- a value more
@@ -60,17 +49,13 @@ table_line_kept s t m left line e h =
 index_more : (values : List (ℕ × Dec)) (t : ℕ × Dec) (i : ℕ) → has_index (values ++ t ∷ []) i ≡ (has_index values i || ((t.0 == i) || false))
 index_more values t i = list_any-append (λ (x : ℕ × Dec). x.0 == i) values (t ∷ [])
 
-or_true : (b : Bool) → (b || true) ≡ true
-or_true true = refl
-or_true false = refl
-
 or_false : (b : Bool) → (b || false) ≡ b
 or_false true = refl
 or_false false = refl
 
 marked_more : (m : List Bool) (values : List (ℕ × Dec)) (t : ℕ × Dec) (limit : ℕ) → t.0 < length m → ((i : ℕ) → i < limit → get_or m i false ≡ has_index values i) → (i : ℕ) → i < limit → get_or (set m t.0 true) i false ≡ has_index (values ++ t ∷ []) i
 marked_more m values t limit within each i lt = elim (cases_eq i t.0) [
-  | inl same ↦ rw (same, index_more values t t.0, eq-eqb t.0 t.0 refl) (get_or-set_same m t.0 true false within ∙ sym (or_true (has_index values t.0)))
+  | inl same ↦ rw (same, index_more values t t.0, eq-eqb t.0 t.0 refl) (get_or-set_same m t.0 true false within ∙ sym (or_right (has_index values t.0) true refl))
   | inr other ↦ rw (index_more values t i, ne_eqb t.0 i (λ e. other (sym e))) (get_or-set_other m t.0 i true false other ∙ each i lt ∙ sym (or_false (has_index values i)))
 ]
 
@@ -85,18 +70,16 @@ pub value_kept : (s t : Sol) (m m' : List Bool) (left : ℕ) (pair : ℕ × Dec)
 value_kept s t m m' left pair e f below h =
     let given : AreGiven s = rw e (record { duals = h.given.duals; primals = h.given.primals }) in
     let last = last_of-changed (with_value pair) t.suffixes h.marked.some in
-    let kind : last_kind (change_last (with_value pair) t.suffixes) ≡ last_kind t.suffixes = ap (λ o. option_map_or (λ x. x.kind) o 0) last ∙ kind_by (with_value pair) (λ x. refl) (last_of t.suffixes) in
+    let kind : last_kind (change_last (with_value pair) t.suffixes) ≡ last_kind t.suffixes = ap (λ o. option_map_or (λ x. x.kind) o 0) last ∙ part_by (λ s. s.kind) 0 (with_value pair) (λ x. refl) (last_of t.suffixes) in
     let values : last_values (change_last (with_value pair) t.suffixes) ≡ last_values t.suffixes ++ pair ∷ [] = ap (λ o. option_map_or (λ x. x.values) o []) last ∙ values_more_by pair (last_of t.suffixes) (last_is t.suffixes h.marked.some) in
     let limit : index_limit s ≡ index_limit t = ap index_limit e ∙ ap (object_limit t.n_var t.n_con 256) kind in
     let same : last_values s.suffixes ≡ last_values t.suffixes ++ pair ∷ [] = ap (λ (x : Sol). last_values x.suffixes) e ∙ values in
-    let some : length s.suffixes ≡ length t.suffixes = ap (λ (x : Sol). length x.suffixes) e ∙ length-changed (with_value pair) t.suffixes h.marked.some in
+    let some : length s.suffixes ≡ length t.suffixes = ap (λ (x : Sol). length x.suffixes) e ∙ length_changed (with_value pair) t.suffixes in
     let marks : length m' ≡ length m = ap length f ∙ length-set m pair.0 true in
-    let first = h.marked.some in
-    let room = h.marked.room in
     let marked : AreMarked s m' = record {
-      some = omega arith;
-      room = omega arith;
-      each = λ i lt. rw (same, f) (marked_more m (last_values t.suffixes) pair (index_limit t) (omega arith) h.marked.each i (omega arith));
+      some = omega (arith, some, h.marked.some);
+      room = omega (arith, limit, marks, h.marked.room);
+      each = λ i lt. rw (same, f) (marked_more m (last_values t.suffixes) pair (index_limit t) (omega (arith, below, h.marked.room)) h.marked.each i (omega arith));
     } in
     (given, λ n lt. record { some = lt; given = given; marked = marked })
 

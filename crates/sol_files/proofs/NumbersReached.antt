@@ -1,5 +1,5 @@
 -- The written lines of options, sizes and values are read back.
-use Rattle.std.proofs.Common.{◌≡◌, ℕ, suc, ◌+◌, ◌-◌, ◌<◌, ◌≤◌, ◌^◌, ℤ, pos, Bool, true, false, ◌&&◌, ◌||◌, List, [], ◌∷◌, ◌++◌, length, map, Option, Some, None, inl, inr, refl, sym, ap, subst, arith, ◌==◌}
+use Rattle.std.proofs.Common.{◌≡◌, ℕ, suc, ◌+◌, ◌-◌, ◌<◌, ◌≤◌, ◌^◌, ℤ, pos, Bool, true, false, ◌&&◌, ◌||◌, List, [], ◌∷◌, ◌++◌, length, map, Option, Some, None, inl, inr, refl, sym, ap, subst, arith, ◌==◌, nat_lt}
 use Rattle.std.specs.Prelude.{codes, IfSome}
 use Rattle.std.specs.List.{AllByRecursion}
 use Rattle.std.specs.Ordering.{int_eq}
@@ -7,7 +7,7 @@ use Rattle.std.specs.Fmt.{decimal, signed_decimal}
 use Rattle.std.proofs.lemmas.Bool.{lt-ltb, eq-eqb, ne_eqb}
 use Rattle.std.proofs.lemmas.List.{append-nil, append_assoc}
 use Rattle.exact_numbers.specs.declared.dec.Dec.{Dec}
-use Rattle.exact_numbers.specs.Numbers.{has_31_bits}
+use Rattle.exact_numbers.specs.Numbers.{has_31_bits, are_digits, whole_of}
 use Rattle.exact_numbers.proofs.NumberLemmas.{signed_of-signed_decimal}
 use Rattle.nl_model.specs.HeaderRules.{has_second_three}
 use Rattle.sol_files.specs.declared.awaited.Awaited.TheVariants.{OptionCount, Options, Constraints, DualCount, Variables, PrimalCount, Duals, Primals, Tail}
@@ -20,6 +20,9 @@ use Rattle.written_texts.specs.Lines.{text_of}
 use Rattle.sol_files.proofs.ShortWords.{IsShortWord, word-decimal, word-signed, word-text}
 use Rattle.written_texts.proofs.NumbersRead.{whole_of-decimal, are_digits-decimal, dec_of-text}
 use Rattle.sol_files.proofs.Reached.{IsReached, AreWords, also, at, reached_row}
+use Rattle.sol_files.proofs.StandingLemmas.{is_plain}
+use Rattle.sol_files.specs.Progress.{Progress, kind_of, seen}
+use Rattle.texts.specs.Judged.{first_reason}
 
 pub one_word : (word : List ℕ) → IsShortWord word → AreWords (word ∷ [])
 one_word word w = record { some = omega arith; few = omega arith; each = (w, tt) }
@@ -72,44 +75,30 @@ given_is full n (inr e) = by (n == 0)
     by true = refl
     by false = eq-eqb n full e
 
-most : ℕ
-most = 2 ^ 20
+-- a row of one number
+number_reached : (lines : List (List ℕ)) (s t : Progress) (n : ℕ) → n ≤ 2 ^ 20 → IsReached lines s → is_plain s.awaited ≡ true
+    → (are_digits (decimal n) ≡ true → whole_of (decimal n) ≡ Some n → nat_lt n (2 ^ 20 + 1) ≡ true → (first_reason (row_tests (kind_of s.awaited) (seen s) (decimal n ∷ [])) ≡ None) × (after_row s.awaited s (decimal n ∷ []) ≡ t))
+    → IsReached (lines ++ decimal n ∷ []) t
+number_reached lines s t n le h plain given =
+    let small : n < 2 ^ 31 = omega arith in
+    let fine = given (are_digits-decimal n small) (whole_of-decimal n small) (lt-ltb n (2 ^ 20 + 1) (omega arith)) in
+    reached_row lines s t (decimal n ∷ []) h plain (one_word (decimal n) (word-decimal n (omega arith))) fine.0 fine.1
 
 pub con_reached : (lines : List (List ℕ)) (s : Sol) (n : ℕ) → n ≤ 2 ^ 20 → IsReached lines (at Constraints s 0 0 0 0 0) → IsReached (lines ++ decimal n ∷ []) (at DualCount (record s { n_con = n }) 0 0 0 0 0)
 unfolding row_tests after_row
-con_reached lines s n le h =
-    let small : n < 2 ^ 31 = omega arith in
-    let below : n < 2 ^ 20 + 1 = omega arith in
-    reached_row lines (at Constraints s 0 0 0 0 0) (at DualCount (record s { n_con = n }) 0 0 0 0 0) (decimal n ∷ []) h refl (one_word (decimal n) (word-decimal n (omega arith)))
-    (rw (are_digits-decimal n small, whole_of-decimal n small, lt-ltb n (2 ^ 20 + 1) below) refl)
-    (rw (whole_of-decimal n small) refl)
+con_reached lines s n le h = number_reached lines (at Constraints s 0 0 0 0 0) (at DualCount (record s { n_con = n }) 0 0 0 0 0) n le h refl (λ digits whole below. (rw (digits, whole, below) refl, rw whole refl))
 
 pub dual_count_reached : (lines : List (List ℕ)) (s : Sol) (n : ℕ) → n ≤ 2 ^ 20 → IsEmptyOrFull s.n_con n → IsReached lines (at DualCount s 0 0 0 0 0) → IsReached (lines ++ decimal n ∷ []) (at Variables s n 0 0 0 0)
 unfolding row_tests after_row
-dual_count_reached lines s n le given h =
-    let small : n < 2 ^ 31 = omega arith in
-    let below : n < 2 ^ 20 + 1 = omega arith in
-    reached_row lines (at DualCount s 0 0 0 0 0) (at Variables s n 0 0 0 0) (decimal n ∷ []) h refl (one_word (decimal n) (word-decimal n (omega arith)))
-    (rw (are_digits-decimal n small, whole_of-decimal n small, lt-ltb n (2 ^ 20 + 1) below, given_is s.n_con n given) refl)
-    (rw (whole_of-decimal n small) refl)
+dual_count_reached lines s n le given h = number_reached lines (at DualCount s 0 0 0 0 0) (at Variables s n 0 0 0 0) n le h refl (λ digits whole below. (rw (digits, whole, below, given_is s.n_con n given) refl, rw whole refl))
 
 pub var_reached : (lines : List (List ℕ)) (s : Sol) (d n : ℕ) → n ≤ 2 ^ 20 → IsReached lines (at Variables s d 0 0 0 0) → IsReached (lines ++ decimal n ∷ []) (at PrimalCount (record s { n_var = n }) d 0 0 0 0)
 unfolding row_tests after_row
-var_reached lines s d n le h =
-    let small : n < 2 ^ 31 = omega arith in
-    let below : n < 2 ^ 20 + 1 = omega arith in
-    reached_row lines (at Variables s d 0 0 0 0) (at PrimalCount (record s { n_var = n }) d 0 0 0 0) (decimal n ∷ []) h refl (one_word (decimal n) (word-decimal n (omega arith)))
-    (rw (are_digits-decimal n small, whole_of-decimal n small, lt-ltb n (2 ^ 20 + 1) below) refl)
-    (rw (whole_of-decimal n small) refl)
+var_reached lines s d n le h = number_reached lines (at Variables s d 0 0 0 0) (at PrimalCount (record s { n_var = n }) d 0 0 0 0) n le h refl (λ digits whole below. (rw (digits, whole, below) refl, rw whole refl))
 
 pub primal_count_reached : (lines : List (List ℕ)) (s : Sol) (d n : ℕ) → n ≤ 2 ^ 20 → IsEmptyOrFull s.n_var n → IsReached lines (at PrimalCount s d 0 0 0 0) → IsReached (lines ++ decimal n ∷ []) (at (values_await d n) s d n 0 0 0)
 unfolding row_tests after_row
-primal_count_reached lines s d n le given h =
-    let small : n < 2 ^ 31 = omega arith in
-    let below : n < 2 ^ 20 + 1 = omega arith in
-    reached_row lines (at PrimalCount s d 0 0 0 0) (at (values_await d n) s d n 0 0 0) (decimal n ∷ []) h refl (one_word (decimal n) (word-decimal n (omega arith)))
-    (rw (are_digits-decimal n small, whole_of-decimal n small, lt-ltb n (2 ^ 20 + 1) below, given_is s.n_var n given) refl)
-    (rw (whole_of-decimal n small) refl)
+primal_count_reached lines s d n le given h = number_reached lines (at PrimalCount s d 0 0 0 0) (at (values_await d n) s d n 0 0 0) n le h refl (λ digits whole below. (rw (digits, whole, below, given_is s.n_var n given) refl, rw whole refl))
 
 -- ---- values
 

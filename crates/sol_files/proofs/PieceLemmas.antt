@@ -1,7 +1,7 @@
 -- What a body means with a line more of a suffix.
-use Rattle.std.proofs.Common.{◌≡◌, ◌∙◌, ℕ, zero, suc, ◌+◌, ◌-◌, ◌<◌, ◌≤◌, false, List, [], ◌∷◌, ◌++◌, length, take, drop, refl, sym, ap, ap₂, arith}
+use Rattle.std.proofs.Common.{◌≡◌, ◌∙◌, ℕ, ◌+◌, ◌-◌, ◌<◌, ◌≤◌, false, List, [], ◌∷◌, ◌++◌, length, take, refl, sym, ap, ap₂, arith, Option}
 use Rattle.std.specs.List.{filter_map}
-use Rattle.std.proofs.lemmas.List.{append-nil, length-append, length_push, drop_all, take_all, take-append-le, drop-append-le, length-drop}
+use Rattle.std.proofs.lemmas.List.{append-nil, length-append, length_push, take_all, take-append-le}
 use Rattle.std.proofs.lemmas.List.Elements.{filter_map-append}
 use Rattle.std.proofs.lemmas.List.Sums.{sum_by_push}
 use Rattle.exact_numbers.specs.declared.dec.Dec.{Dec}
@@ -18,31 +18,13 @@ use Rattle.sol_files.specs.Steps.{listed, head_in, rest_awaits, named_suffix, wi
 use Rattle.sol_files.proofs.LastLemmas.{change_last-end, last_of-end}
 use Rattle.sol_files.proofs.PlaceLemmas.{line_at, left_after, later_awaits, over_awaits}
 use Rattle.sol_files.proofs.BodyLemmas.{met, table_total, value_count_in, value_total}
+use Rattle.sol_files.proofs.RowLemmas.{take_nil, part_none, part_more, part_past}
 
 -- ---- the table and the values with a line more
 
-take_nil : {A : Type 0} (n : ℕ) → take {A = A} n [] ≡ []
-take_nil zero = refl
-take_nil (suc n) = refl
-
-values_none : (tables values : ℕ) (lines : List (List ℕ)) → length lines ≤ tables → values_in tables values lines ≡ []
-values_none tables values lines le =
-    ap (λ ls. filter_map (λ line. pair_in (row_of line)) (take values ls)) (drop_all tables lines le) ∙ ap (filter_map (λ line. pair_in (row_of line))) (take_nil values)
-
-values_more : (tables values : ℕ) (lines : List (List ℕ)) (line : List ℕ) → tables ≤ length lines → length lines < tables + values → values_in tables values (lines ++ line ∷ []) ≡ values_in tables values lines ++ listed (pair_in (row_of line))
-values_more tables values lines line le lt =
-    let len = length-drop tables lines in
-    let all : take values (drop tables lines ++ line ∷ []) ≡ drop tables lines ++ line ∷ [] = take_all values (drop tables lines ++ line ∷ []) (omega (arith, length_push (drop tables lines) line)) in
-    let same : take values (drop tables lines) ≡ drop tables lines = take_all values (drop tables lines) (omega arith) in
-    ap (λ ls. filter_map (λ l. pair_in (row_of l)) (take values ls)) (drop-append-le tables lines (line ∷ []) le)
-    ∙ ap (filter_map (λ l. pair_in (row_of l))) all ∙ filter_map-append (λ l. pair_in (row_of l)) (drop tables lines) (line ∷ [])
-    ∙ ap (λ ls. filter_map (λ l. pair_in (row_of l)) ls ++ listed (pair_in (row_of line))) (sym same)
-
-values_past : (tables values : ℕ) (lines : List (List ℕ)) (line : List ℕ) → tables + values ≤ length lines → values_in tables values (lines ++ line ∷ []) ≡ values_in tables values lines
-values_past tables values lines line le =
-    let within : values ≤ length (drop tables lines) = omega (arith, length-drop tables lines) in
-    ap (λ ls. filter_map (λ l. pair_in (row_of l)) (take values ls)) (drop-append-le tables lines (line ∷ []) (omega arith))
-    ∙ ap (filter_map (λ l. pair_in (row_of l))) (take-append-le values (drop tables lines) (line ∷ []) within)
+-- the value of a line
+abbrev read_pair : List ℕ → Option (ℕ × Dec)
+read_pair line = pair_in (row_of line)
 
 table_more : (tables : ℕ) (lines : List (List ℕ)) (line : List ℕ) → length lines < tables → take tables (lines ++ line ∷ []) ≡ take tables lines ++ line ∷ []
 table_more tables lines line lt =
@@ -119,7 +101,7 @@ module _ (message : List (List ℕ)) (rows : List Row) where
     named =
         let tables = (head_in row).table_lines in
         let values = (head_in row).value_count in
-        let none : values_in tables values [] ≡ [] = values_none tables values [] (omega arith) in
+        let none : values_in tables values [] ≡ [] = part_none read_pair [] tables values (omega arith) in
         let left : (tables + 1) - 1 ≡ tables = omega arith in
         let values_left : values - (1 - (tables + 1)) ≡ values = omega arith in
         let rest : line_at (head_in row) 1 ≡ rest_awaits tables values = ap₂ rest_awaits left values_left in
@@ -153,8 +135,8 @@ module _ (message : List (List ℕ)) (rows : List Row) where
       pub tabled : length (first ∷ lines) ≤ (head_in row).table_lines → (left rest : ℕ) → left ≡ ((head_in row).table_lines + 1) - length (first ∷ lines) → rest ≡ (head_in row).value_count - (length (first ∷ lines) - ((head_in row).table_lines + 1)) → grown (first ∷ lines) ≡ after_table (before (first ∷ lines)) left rest line
       unfolding suffix
       tabled le left rest e f =
-          let none : values_in (head_in row).table_lines (head_in row).value_count lines ≡ [] = values_none (head_in row).table_lines (head_in row).value_count lines (omega arith) in
-          let still : values_in (head_in row).table_lines (head_in row).value_count (lines ++ line ∷ []) ≡ [] = values_none (head_in row).table_lines (head_in row).value_count (lines ++ line ∷ []) (omega (arith, length_push lines line)) in
+          let none : values_in (head_in row).table_lines (head_in row).value_count lines ≡ [] = part_none read_pair lines (head_in row).table_lines (head_in row).value_count (omega arith) in
+          let still : values_in (head_in row).table_lines (head_in row).value_count (lines ++ line ∷ []) ≡ [] = part_none read_pair (lines ++ line ∷ []) (head_in row).table_lines (head_in row).value_count (omega (arith, length_push lines line)) in
           let next : ((head_in row).table_lines + 1) - (length (first ∷ lines) + 1) ≡ left - 1 = omega arith in
           let rest_next : (head_in row).value_count - ((length (first ∷ lines) + 1) - ((head_in row).table_lines + 1)) ≡ rest = omega arith in
           changed (rest_awaits (left - 1) rest) (with_table_line line) 0
@@ -167,7 +149,7 @@ module _ (message : List (List ℕ)) (rows : List Row) where
       pub valued : (head_in row).table_lines < length (first ∷ lines) → length (first ∷ lines) < (head_in row).table_lines + 1 + (head_in row).value_count → (left : ℕ) → left ≡ (head_in row).value_count - (length (first ∷ lines) - ((head_in row).table_lines + 1)) → grown (first ∷ lines) ≡ after_value (before (first ∷ lines)) left (row_of line)
       unfolding suffix
       valued lt less left e =
-          let more = values_more (head_in row).table_lines (head_in row).value_count lines line (omega arith) (omega arith) in
+          let more = part_more read_pair lines line (head_in row).table_lines (head_in row).value_count (omega arith) (omega arith) in
           let none : ((head_in row).table_lines + 1) - (length (first ∷ lines) + 1) ≡ 0 = omega arith in
           let next : (head_in row).value_count - ((length (first ∷ lines) + 1) - ((head_in row).table_lines + 1)) ≡ left - 1 = omega arith in
           changed (rest_awaits 0 (left - 1)) (with_values (listed (pair_in (row_of line)))) (length (listed (pair_in (row_of line))))
@@ -182,6 +164,6 @@ module _ (message : List (List ℕ)) (rows : List Row) where
           ∙ same_made _ (line_at (head_in row) (length (first ∷ lines))) _ _ _ _ _ _ _ _
           (over_awaits (head_in row) (length (first ∷ lines)) (omega arith) le)
           (ap (λ s. filter_map suffix_of front ++ s ∷ [])
-          (ap₂ (made_suffix (head_in row) (word_at (row_of first) 0)) (take-append-le (head_in row).table_lines lines (line ∷ []) (omega arith)) (values_past (head_in row).table_lines (head_in row).value_count lines line (omega arith))))
-          refl refl (ap (λ (vs : List (ℕ × Dec)). value_total front + length vs) (values_past (head_in row).table_lines (head_in row).value_count lines line (omega arith)))
+          (ap₂ (made_suffix (head_in row) (word_at (row_of first) 0)) (take-append-le (head_in row).table_lines lines (line ∷ []) (omega arith)) (part_past read_pair lines line (head_in row).table_lines (head_in row).value_count (omega arith))))
+          refl refl (ap (λ (vs : List (ℕ × Dec)). value_total front + length vs) (part_past read_pair lines line (head_in row).table_lines (head_in row).value_count (omega arith)))
           ∙ sym (with_lines (first ∷ lines))

@@ -66,23 +66,11 @@ place k d p i = by (i == 0) refl (nat_le i k) refl (i == k + 1) refl (i == k + 2
 
 -- the row after it
 
-pub after_first_row : (k d p : ℕ) → row_at k d p 1 ≡ options_await k
-after_first_row k d p = grind (arith, nat_tests)
+pub after_counts : (k d p : ℕ) → (row_at k d p 1 ≡ options_await k) × (row_at k d p (k + 2) ≡ DualCount) × (row_at k d p (k + 3) ≡ Variables) × (row_at k d p (k + 4) ≡ PrimalCount) × (row_at k d p (k + 5) ≡ values_await d p)
+after_counts k d p = (grind (arith, nat_tests), grind (arith, nat_tests), grind (arith, nat_tests), grind (arith, nat_tests), grind (arith, nat_tests))
 
 pub after_option_row : (k d p i : ℕ) → 0 < i → i ≤ k → row_at k d p (i + 1) ≡ options_await (((k + 1) - i) - 1)
 after_option_row k d p i lt le = grind (arith, nat_tests)
-
-pub after_constraints_row : (k d p : ℕ) → row_at k d p (k + 2) ≡ DualCount
-after_constraints_row k d p = grind (arith, nat_tests)
-
-pub after_duals_row : (k d p : ℕ) → row_at k d p (k + 3) ≡ Variables
-after_duals_row k d p = grind (arith, nat_tests)
-
-pub after_variables_row : (k d p : ℕ) → row_at k d p (k + 4) ≡ PrimalCount
-after_variables_row k d p = grind (arith, nat_tests)
-
-pub after_primals_row : (k d p : ℕ) → row_at k d p (k + 5) ≡ values_await d p
-after_primals_row k d p = grind (arith, nat_tests)
 
 pub after_dual_row : (k d p i : ℕ) → k + 5 ≤ i → i < k + 5 + d → row_at k d p (i + 1) ≡ values_await (((k + 5 + d) - i) - 1) p
 after_dual_row k d p i le lt = grind (arith, nat_tests)

@@ -8,7 +8,7 @@ use Rattle.texts.specs.Words.{row_of}
 use Rattle.texts.specs.Cut.{IsTextLine}
 use Rattle.texts.proofs.JudgedLemmas.{clean_none, clean_last, clean_more}
 use Rattle.sol_files.specs.declared.awaited.Awaited.{Awaited}
-use Rattle.sol_files.specs.declared.awaited.Awaited.TheVariants.{Message, OptionCount, Name, Table}
+use Rattle.sol_files.specs.declared.awaited.Awaited.TheVariants.{Message, OptionCount}
 use Rattle.std.specs.Prelude.{codes}
 use Rattle.exact_numbers.specs.Numbers.{whole_of}
 use Rattle.sol_files.specs.Sol.{Sol}
@@ -27,16 +27,13 @@ use Rattle.sol_files.proofs.MessageLemmas.{held_back, without_blank_end-more}
 use Rattle.sol_files.proofs.StandingLemmas.{standing-read, read-more, read-none, is_plain, plain_after, spoken, spoken_more}
 use Rattle.sol_files.proofs.ShortWords.{IsShortWord, are_words, row-line}
 use Rattle.written_texts.proofs.WordLemmas.{row-spaced}
+use Rattle.sol_files.proofs.LastLemmas.{all_push}
 
 -- the lines have no fault, mean this, and each of them is a line of a text
 pub record IsReached (lines : List (List ℕ)) (s : Progress) : Type 0 where
   pub clean : IsClean sol_rules lines Open
   pub here : read lines ≡ s
   pub ones : AllByRecursion IsTextLine lines
-
-ones-append : (xs ys : List (List ℕ)) → AllByRecursion IsTextLine xs → AllByRecursion IsTextLine ys → AllByRecursion IsTextLine (xs ++ ys)
-ones-append [] ys h g = g
-ones-append (x ∷ xs) ys h g = (h.0, ones-append xs ys h.1 g)
 
 pub reached_none : IsReached [] start
 reached_none = record { clean = clean_none sol_rules; here = read-none; ones = tt }
@@ -46,7 +43,7 @@ reached_more lines s t line h one fine e =
     record {
       clean = clean_more sol_rules lines line h.clean (ap (λ (x : Standing). first_reason (line_tests x line)) (standing-read lines ∙ ap seen h.here) ∙ fine);
       here = read-more lines line ∙ ap (λ (x : Progress). after x line) h.here ∙ e;
-      ones = ones-append lines (line ∷ []) h.ones (one, tt);
+      ones = all_push IsTextLine lines line h.ones one;
     }
 
 pub reached_end : (lines : List (List ℕ)) (s : Progress) → IsReached lines s → first_reason (end_tests (seen s)) ≡ None → IsClean sol_rules lines End
@@ -65,10 +62,8 @@ pub record AreWords (words : Row) : Type 0 where
 
 pub plain_tests : (a : Awaited) (s : Standing) (line : List ℕ) → is_plain a ≡ true → row_line_tests (kind_of a) s (row_of line) ≡ line_tests_at (kind_of a) s line
 unfolding line_tests_at
-plain_tests Message s line e = absurd cc
-plain_tests (Name head) s line e = absurd cc
-plain_tests (Table tables values) s line e = absurd cc
-plain_tests a s line e = refl
+plain_tests Message s line e = cc
+plain_tests a s line e = cc
 
 pub reached_row : (lines : List (List ℕ)) (s t : Progress) (words : Row) → IsReached lines s → is_plain s.awaited ≡ true → AreWords words → first_reason (row_tests (kind_of s.awaited) (seen s) words) ≡ None → after_row s.awaited s words ≡ t
     → IsReached (lines ++ spaced words ∷ []) t

@@ -5,7 +5,7 @@ use Rattle.std.specs.Fmt.{decimal, signed_decimal}
 use Rattle.texts.specs.Cut.{IsTextLine}
 use Rattle.exact_numbers.specs.Numbers.{has_31_bits}
 use Rattle.exact_numbers.specs.declared.dec.Dec.{Dec}
-use Rattle.written_texts.specs.Lines.{Line, spaced, text_of}
+use Rattle.written_texts.specs.Lines.{WordLine, spaced, text_of}
 use Rattle.written_texts.specs.Words.{IsWord}
 use Rattle.written_texts.proofs.Lengths.{decimal-length, signed_31-length, text-length}
 use Rattle.written_texts.proofs.LineLemmas.{one-spaced, spaced-length, text-line}
@@ -28,16 +28,16 @@ word-signed z fits =
 pub word-text : (d : Dec) → IsShortWord (text_of d)
 word-text d = record { is = (written.word-text d).is; short = text-length d }
 
-pub are_words : (words : Line) → AllByRecursion IsShortWord words → AllByRecursion IsWord words
+pub are_words : (words : WordLine) → AllByRecursion IsShortWord words → AllByRecursion IsWord words
 are_words [] all = tt
 are_words (word ∷ words) all = (all.0.is, are_words words all.1)
 
-are_short : (words : Line) → AllByRecursion IsShortWord words → AllByRecursion (λ word. length word ≤ 60) words
+are_short : (words : WordLine) → AllByRecursion IsShortWord words → AllByRecursion (λ word. length word ≤ 60) words
 are_short [] all = tt
 are_short (word ∷ words) all = (all.0.short, are_short words all.1)
 
 -- a row of short words is a line of a text
-pub row-line : (words : Line) → length words ≤ 12 → AllByRecursion IsShortWord words → IsTextLine (spaced words)
+pub row-line : (words : WordLine) → length words ≤ 12 → AllByRecursion IsShortWord words → IsTextLine (spaced words)
 row-line words few all =
     let most = spaced-length 60 words (are_short words all) in
     text-line words (one-spaced words (are_words words all) (omega (arith, few, most)))

@@ -21,7 +21,7 @@ use Rattle.sol_files.specs.Standing.{standing}
 use Rattle.sol_files.specs.Progress.{Progress, kind_of, seen, start}
 use Rattle.sol_files.specs.Steps.{after, after_at, after_row, after_row_line, after_suffix_head, head_in, lines_with, held_lines, read}
 use Rattle.sol_files.proofs.LastLemmas.{ends_with, last_of-end}
-use Rattle.sol_files.proofs.MessageLemmas.{inside_before, first_before, first_after, past_before, past_after, none_after, ends_blank-more, held_back, without_blank_end-more}
+use Rattle.sol_files.proofs.MessageLemmas.{before_more, after_more, none_after, ends_blank-more, held_back, without_blank_end-more}
 use Rattle.sol_files.proofs.BodyLemmas.{met, value_count_in, value_total, row_more}
 use Rattle.sol_files.proofs.PlaceLemmas.{rows_left, Place, place, line_at, LinePlace, at_name, at_table, at_value, at_end, line_place, left_after, body_left, rows_kind, body_kind}
 use Rattle.sol_files.proofs.PieceLemmas.{piece_begun, named, tabled, valued, over}
@@ -50,16 +50,12 @@ is_plain a = true
 
 pub plain_after : (a : Awaited) (s : Progress) (line : List ℕ) → is_plain a ≡ true → after_row_line a s (row_of line) ≡ after_at a s line
 unfolding after_at
-plain_after Message s line e = absurd cc
-plain_after (Name head) s line e = absurd cc
-plain_after (Table tables values) s line e = absurd cc
-plain_after a s line e = refl
+plain_after Message s line e = cc
+plain_after a s line e = cc
 
 plain_raw : (a : Awaited) → is_plain a ≡ true → is_raw (kind_of a) ≡ false
-plain_raw Message e = refl
-plain_raw (Name head) e = absurd cc
-plain_raw (Table tables values) e = absurd cc
-plain_raw a e = refl
+plain_raw Message e = cc
+plain_raw a e = cc
 
 pub tail_is : (a : Awaited) → is_tail (kind_of a) ≡ true → a ≡ Tail
 tail_is Tail e = refl
@@ -204,7 +200,7 @@ spoken_more said line other =
 message_line : (lines : List (List ℕ)) (line : List ℕ) → list_any is_options lines ≡ false → is_options line ≡ false → counted (lines ++ line ∷ []) ≡ after (counted lines) line
 message_line lines line none other =
     let still : list_any is_options (lines ++ line ∷ []) ≡ false = rw (options_more lines line, none, other) refl in
-    in_message (lines ++ line ∷ []) still ∙ ap spoken (inside_before is_options lines line none other)
+    in_message (lines ++ line ∷ []) still ∙ ap spoken (rw (none, other) at (before_more is_options lines line))
     ∙ sym (spoken_more (message_lines lines) line other) ∙ ap (λ (s : Progress). after s line) (sym (in_message lines none))
 
 -- the line `Options`
@@ -213,9 +209,9 @@ unfolding after_at spoken met sol_of body_of
 options_line lines line none is =
     let said = message_lines lines in
     let now : list_any is_options (lines ++ line ∷ []) ≡ true = rw (options_more lines line, none, is) refl in
-    let begun : body_of (lines ++ line ∷ []) ≡ no_body = ap (fold with_line no_body) (first_after is_options lines line none is) ∙ no_body_yet lines none in
+    let begun : body_of (lines ++ line ∷ []) ≡ no_body = ap (fold with_line no_body) (rw (none, append-nil) at (after_more is_options lines line)) ∙ no_body_yet lines none in
     let becomes : after (spoken said) line ≡ met (without_blank_end said) no_body = rw is refl in
-    past_message (lines ++ line ∷ []) now ∙ ap₂ (λ ls b. met (without_blank_end ls) b) (first_before is_options lines line none is) begun
+    past_message (lines ++ line ∷ []) now ∙ ap₂ (λ ls b. met (without_blank_end ls) b) (rw (none, is, append-nil) at (before_more is_options lines line)) begun
     ∙ sym becomes ∙ ap (λ (s : Progress). after s line) (sym (in_message lines none))
 
 -- a line after it
@@ -223,8 +219,8 @@ body_line : (lines : List (List ℕ)) (line : List ℕ) → list_any is_options 
 unfolding body_of
 body_line lines line some =
     let still : list_any is_options (lines ++ line ∷ []) ≡ true = rw (options_more lines line, some) refl in
-    let more : body_of (lines ++ line ∷ []) ≡ with_line (body_of lines) line = ap (fold with_line no_body) (past_after is_options lines line some) ∙ fold_push with_line no_body (after_first is_options lines) line in
-    past_message (lines ++ line ∷ []) still ∙ ap₂ (λ ls b. met (without_blank_end ls) b) (past_before is_options lines line some) more
+    let more : body_of (lines ++ line ∷ []) ≡ with_line (body_of lines) line = ap (fold with_line no_body) (rw some at (after_more is_options lines line)) ∙ fold_push with_line no_body (after_first is_options lines) line in
+    past_message (lines ++ line ∷ []) still ∙ ap₂ (λ ls b. met (without_blank_end ls) b) (rw (some, append-nil) at (before_more is_options lines line)) more
     ∙ body_step (without_blank_end (message_lines lines)) (body_of lines) line ∙ ap (λ (s : Progress). after s line) (sym (past_message lines some))
 
 counted-more : (lines : List (List ℕ)) (line : List ℕ) → counted (lines ++ line ∷ []) ≡ after (counted lines) line

@@ -3,14 +3,13 @@ use Rattle.std.proofs.Common.{◌≡◌, ◌∙◌, ℕ, suc, ◌+◌, ◌-◌, 
 use Rattle.std.specs.Prelude.{codes}
 use Rattle.std.specs.List.{AllByRecursion, flat_map, sum_by}
 use Rattle.std.specs.Fmt.{decimal}
-use Rattle.std.proofs.lemmas.Bool.{lt-ltb, le-leb, leb-true, ltb-true, and_parts}
+use Rattle.std.proofs.lemmas.Bool.{lt-ltb, le-leb, leb-true, ltb-true, and_parts, lt-leb, not-true}
 use Rattle.std.proofs.lemmas.Bool.Decides.{nat_tests}
 use Rattle.std.proofs.lemmas.List.{append-nil, append_assoc}
 use Rattle.std.proofs.lemmas.List.Sums.{sum_by-cons}
 use Rattle.texts.specs.Names.{is_name}
 use Rattle.texts.specs.Words.{row_of}
 use Rattle.exact_numbers.specs.declared.dec.Dec.{Dec}
-use Rattle.sol_files.specs.declared.awaited.Awaited.{Awaited}
 use Rattle.sol_files.specs.declared.awaited.Awaited.TheVariants.{Tail, Name, Table, Values}
 use Rattle.sol_files.specs.declared.awaited.SuffixHead.{SuffixHead}
 use Rattle.sol_files.specs.declared.suffix.SolSuffix.{SolSuffix}
@@ -53,12 +52,6 @@ record HasNumbers (x : SolSuffix) : Type 0 where
   pub table_len : x.table_len < 2 ^ 31
   pub table : length x.table < 2 ^ 31
 
-below : (m n : ℕ) → n < m → nat_le m n ≡ false
-below m n h = grind (arith, nat_tests)
-
-head_words : SolSuffix → List (List ℕ)
-head_words x = codes "suffix" ∷ decimal x.kind ∷ decimal (length x.values) ∷ decimal x.name_len ∷ decimal x.table_len ∷ decimal (length x.table) ∷ []
-
 small_kind : (x : SolSuffix) → HasNumbers x → x.kind < 2 ^ 31
 small_kind x h = let k = h.kind in omega arith
 
@@ -90,7 +83,7 @@ head_reached lines s d p c t v x h room tables g =
       whole_of-decimal x.table_len h.table_len,
       whole_of-decimal (length x.table) h.table,
       lt-ltb x.kind 256 h.kind,
-      below 1024 c room,
+      lt-leb 1024 c room,
       le-leb (t + length x.table) 65536 tables,
     ) refl)
     (rw (whole_of-decimal x.kind kind, whole_of-decimal (length x.values) h.values, whole_of-decimal x.name_len h.name_len, whole_of-decimal x.table_len h.table_len, whole_of-decimal (length x.table) h.table) refl)
@@ -100,12 +93,8 @@ head_reached lines s d p c t v x h room tables g =
 word_name : (word : List ℕ) → is_name word ≡ true → IsWord word
 word_name word h =
     let parts = and_parts _ _ h in
-    let sizes = and_parts _ _ parts.0 in
-    record { some = some word sizes.0; bytes = parts.1 }
-  where
-    some : (word : List ℕ) → not (length word == 0) ≡ true → 0 < length word
-    some [] e = absurd cc
-    some (b ∷ word) e = omega arith
+    let sizes = and_parts (not (length word == 0)) (nat_le (length word) 255) parts.0 in
+    record { some = grind (arith, nat_tests, sizes.0); bytes = parts.1 }
 
 name_short : (word : List ℕ) → is_name word ≡ true → length word ≤ 65536
 name_short word h =
@@ -135,10 +124,6 @@ tables_some k n = rw (lt-ltb 0 (suc k) (omega arith)) refl
 
 values_some : (n : ℕ) → rest_awaits 0 (suc n) ≡ Values (suc n)
 values_some n = rw (lt-ltb 0 (suc n) (omega arith)) refl
-
--- the lines were read, with this as the last suffix
-abbrev Last : List (List ℕ) → Awaited → Sol → SolSuffix → ℕ → ℕ → ℕ → ℕ → ℕ → Type 0
-Last lines a s x d p c t v = IsReached lines (at a (with_suffix s x) d p c t v)
 
 table_reached : (lines : List (List ℕ)) (s : Sol) (d p c t v n : ℕ) (x : SolSuffix) (rest : List (List ℕ)) → AllByRecursion IsTextLine rest → IsReached lines (at (rest_awaits (length rest) n) (with_suffix s x) d p c t v)
     → IsReached (lines ++ rest) (at (rest_awaits 0 n) (with_suffix s (with_table x rest)) d p c t v)
@@ -172,12 +157,8 @@ is_value s x t more h =
     let two = and_parts _ _ h in
     let one = and_parts _ _ two.0 in
     let place = and_parts _ _ one.0 in
-    (record { below = place.0; fresh = was_not (has_index x.values t.0) place.1; whole = or_else (wants_whole x.kind) (is_whole t.1) one.1 }, two.1)
+    (record { below = place.0; fresh = not-true (has_index x.values t.0) place.1; whole = or_else (wants_whole x.kind) (is_whole t.1) one.1 }, two.1)
   where
-    was_not : (b : Bool) → not b ≡ true → b ≡ false
-    was_not true e = absurd cc
-    was_not false e = refl
-
     or_else : (a b : Bool) → (not a || b) ≡ true → (a && not b) ≡ false
     or_else false b e = refl
     or_else true true e = refl
@@ -191,7 +172,7 @@ value_reached lines s d p c t v n x pair fits small room g =
     let last = last_of-end s.suffixes x in
     reached_row lines (at (Values (suc n)) (with_suffix s x) d p c t v) (at (rest_awaits 0 n) (with_suffix s (with_more x (pair ∷ []))) d p c t (v + 1)) (decimal pair.0 ∷ text_of pair.1 ∷ []) g refl
     (record { some = omega arith; few = omega arith; each = (word-decimal pair.0 (omega arith), (word-text pair.1, tt)) })
-    (rw (last, are_digits-decimal pair.0 small, whole_of-decimal pair.0 small, dec_of-text pair.1, fits.below, fits.fresh, fits.whole, below (2 ^ 22) v room) refl)
+    (rw (last, are_digits-decimal pair.0 small, whole_of-decimal pair.0 small, dec_of-text pair.1, fits.below, fits.fresh, fits.whole, lt-leb (2 ^ 22) v room) refl)
     (rw (whole_of-decimal pair.0 small, dec_of-text pair.1, less, change_last-end (λ y. with_more y (pair ∷ [])) s.suffixes x) refl)
 
 values_reached : (lines : List (List ℕ)) (s : Sol) (d p c t v : ℕ) (x : SolSuffix) (rest : List (ℕ × Dec)) → are_values (limit_of s x) (wants_whole x.kind) x.values rest ≡ true → limit_of s x ≤ 2 ^ 20 → v + length rest ≤ 2 ^ 22

@@ -13,7 +13,7 @@ use Rattle.texts.specs.Judged.{End}
 use Rattle.texts.specs.Lines.{trimmed}
 use Rattle.texts.specs.Names.{has_name_bytes}
 use Rattle.texts.specs.Reading.{lines_of, last_of}
-use Rattle.written_texts.specs.Lines.{Line, indented, spaced, lines_text}
+use Rattle.written_texts.specs.Lines.{WordLine, indented, spaced, lines_text}
 use Rattle.written_texts.specs.Words.{IsWord, IsWordLine}
 
 -- spaces and bytes of words
@@ -33,10 +33,10 @@ clear-word (b ∷ word) h =
     (omega arith, clear-word word two.1)
 
 -- words that may be empty
-abbrev AreBytes : Line → Type 0
+abbrev AreBytes : WordLine → Type 0
 AreBytes words = AllByRecursion (λ word. has_name_bytes word ≡ true) words
 
-clear-spaced : (words : Line) → AreBytes words → IsClear (spaced words)
+clear-spaced : (words : WordLine) → AreBytes words → IsClear (spaced words)
 clear-spaced [] all = tt
 clear-spaced (word ∷ []) all = clear-word word all.0
 clear-spaced (word ∷ next ∷ words) all = clear-append word (32 ∷ spaced (next ∷ words)) (clear-word word all.0) (omega arith, clear-spaced (next ∷ words) all.1)
@@ -61,23 +61,23 @@ trimmed-clear bytes h =
 
 -- ---- one line
 
-pub text-line : (words : Line) → IsWordLine words → IsTextLine (spaced words)
+pub text-line : (words : WordLine) → IsWordLine words → IsTextLine (spaced words)
 text-line words one =
     let clear = clear-spaced words one.bytes in
     record { one = record { no_end = clear-end (spaced words) clear; no_cr = trimmed-clear (spaced words) clear }; short = one.short }
 
-pub bytes_of : (words : Line) → AllByRecursion IsWord words → AreBytes words
+pub bytes_of : (words : WordLine) → AllByRecursion IsWord words → AreBytes words
 bytes_of [] all = tt
 bytes_of (word ∷ words) all = (all.0.bytes, bytes_of words all.1)
 
-pub one-spaced : (words : Line) → AllByRecursion IsWord words → length (spaced words) ≤ 65536 → IsWordLine words
+pub one-spaced : (words : WordLine) → AllByRecursion IsWord words → length (spaced words) ≤ 65536 → IsWordLine words
 one-spaced words all short = record { bytes = bytes_of words all; short = short }
 
-pub one-indented : (words : Line) → AllByRecursion IsWord words → length (spaced (indented words)) ≤ 65536 → IsWordLine (indented words)
+pub one-indented : (words : WordLine) → AllByRecursion IsWord words → length (spaced (indented words)) ≤ 65536 → IsWordLine (indented words)
 one-indented words all short = record { bytes = (refl, bytes_of words all); short = short }
 
 -- words of at most k bytes
-pub spaced-length : (k : ℕ) (words : Line) → AllByRecursion (λ word. length word ≤ k) words → length (spaced words) ≤ (k + 1) * length words
+pub spaced-length : (k : ℕ) (words : WordLine) → AllByRecursion (λ word. length word ≤ k) words → length (spaced words) ≤ (k + 1) * length words
 spaced-length k [] all = omega arith
 spaced-length k (word ∷ []) all = let most : length word ≤ k = all.0 in omega arith
 spaced-length k (word ∷ next ∷ words) all =
@@ -87,14 +87,14 @@ spaced-length k (word ∷ next ∷ words) all =
 
 -- ---- lines one after the other
 
-pub text-lines : (lines : List Line) → AllByRecursion IsWordLine lines → AllByRecursion IsTextLine (map spaced lines)
+pub text-lines : (lines : List WordLine) → AllByRecursion IsWordLine lines → AllByRecursion IsTextLine (map spaced lines)
 text-lines [] all = tt
 text-lines (words ∷ lines) all = (text-line words all.0, text-lines lines all.1)
 
-lines_text-spaced : (lines : List Line) → texts.lines_text (map spaced lines) ≡ lines_text lines
+lines_text-spaced : (lines : List WordLine) → texts.lines_text (map spaced lines) ≡ lines_text lines
 lines_text-spaced lines = flat_map-map (λ line. line ++ 10 ∷ []) spaced lines
 
-pub lines-read : (lines : List Line) → AllByRecursion IsWordLine lines → length (lines_text lines) ≤ 2 ^ 31 → (lines_of (lines_text lines) ≡ map spaced lines) × (last_of (lines_text lines) ≡ End)
+pub lines-read : (lines : List WordLine) → AllByRecursion IsWordLine lines → length (lines_text lines) ≤ 2 ^ 31 → (lines_of (lines_text lines) ≡ map spaced lines) × (last_of (lines_text lines) ≡ End)
 lines-read lines all room =
     let text = lines_text-spaced lines in
     let both = written_lines (map spaced lines) (text-lines lines all) (subst (λ (t : List ℕ). length t ≤ 2 ^ 31) (sym text) room) in

@@ -6,7 +6,7 @@ use Rattle.std.proofs.lemmas.List.{take_all, append-nil}
 use Rattle.std.specs.List.{AllByRecursion}
 use Rattle.texts.specs.Names.{has_name_bytes}
 use Rattle.texts.specs.Words.{is_blank, onto_word, ends_word, words_of, row_of, up_to_comment, without_comment}
-use Rattle.written_texts.specs.Lines.{Line, indented, spaced}
+use Rattle.written_texts.specs.Lines.{WordLine, indented, spaced}
 use Rattle.written_texts.specs.Words.{IsWord, IsKeptWord, IsWritten}
 
 -- ---- bytes of words
@@ -44,7 +44,7 @@ word_read : (word rest : List ℕ) → IsWord word → EndsWord rest → words_o
 word_read [] rest w ends = absurd (let n : 0 < 0 = w.some in omega arith)
 word_read (b ∷ word) rest w ends = words-word b word rest w.bytes ends
 
-pub words-spaced : (words : Line) → AllByRecursion IsWord words → words_of (spaced words) ≡ words
+pub words-spaced : (words : WordLine) → AllByRecursion IsWord words → words_of (spaced words) ≡ words
 words-spaced [] all = refl
 words-spaced (word ∷ []) all = ap words_of (sym (append-nil word)) ∙ word_read word [] all.0 refl
 words-spaced (word ∷ next ∷ words) all = word_read word (32 ∷ spaced (next ∷ words)) all.0 refl ∙ ap (λ ws. word ∷ ws) (words-spaced (next ∷ words) all.1)
@@ -63,33 +63,33 @@ word_kept (b ∷ word) rest w =
     let two = bytes-cons b word w.is.bytes in
     rw (w.front, not_blank b two.0) (ap (λ bs. b ∷ bs) (no_comment word rest two.1))
 
-pub kept-spaced : (words : Line) → AllByRecursion IsKeptWord words → without_comment (spaced words) ≡ spaced words
+pub kept-spaced : (words : WordLine) → AllByRecursion IsKeptWord words → without_comment (spaced words) ≡ spaced words
 kept-spaced [] all = refl
 kept-spaced (word ∷ []) all = ap without_comment (sym (append-nil word)) ∙ word_kept word [] all.0 ∙ append-nil word
 kept-spaced (word ∷ next ∷ words) all = word_kept word (32 ∷ spaced (next ∷ words)) all.0 ∙ ap (λ bs. word ++ 32 ∷ bs) (kept-spaced (next ∷ words) all.1)
 
 -- ---- lines that begin with a space, rows, and lines without a comment
 
-pub words-indented : (words : Line) → AllByRecursion IsWord words → words_of (spaced (indented words)) ≡ words
+pub words-indented : (words : WordLine) → AllByRecursion IsWord words → words_of (spaced (indented words)) ≡ words
 words-indented [] all = refl
 words-indented (word ∷ words) all = words-spaced (word ∷ words) all
 
-pub row-spaced : (words : Line) → length words ≤ 12 → AllByRecursion IsWord words → row_of (spaced words) ≡ words
+pub row-spaced : (words : WordLine) → length words ≤ 12 → AllByRecursion IsWord words → row_of (spaced words) ≡ words
 row-spaced words few all = rw (words-spaced words all) (take_all 12 words few)
 
-pub row-indented : (words : Line) → length words ≤ 12 → AllByRecursion IsWord words → row_of (spaced (indented words)) ≡ words
+pub row-indented : (words : WordLine) → length words ≤ 12 → AllByRecursion IsWord words → row_of (spaced (indented words)) ≡ words
 row-indented words few all = rw (words-indented words all) (take_all 12 words few)
 
-pub are_words : (words : Line) → AllByRecursion IsKeptWord words → AllByRecursion IsWord words
+pub are_words : (words : WordLine) → AllByRecursion IsKeptWord words → AllByRecursion IsWord words
 are_words [] all = tt
 are_words (word ∷ words) all = (all.0.is, are_words words all.1)
 
-pub row-written : (words : Line) → IsWritten words → row_of (spaced words) ≡ words
+pub row-written : (words : WordLine) → IsWritten words → row_of (spaced words) ≡ words
 row-written words w = row-spaced words w.few (are_words words w.each)
 
 -- the line holds a word, as a reader of rows asks
-pub some-written : (words : Line) → IsWritten words → not (length (words_of (without_comment (spaced words))) == 0) ≡ true
+pub some-written : (words : WordLine) → IsWritten words → not (length (words_of (without_comment (spaced words))) == 0) ≡ true
 some-written words w = rw (kept-spaced words w.each, words-spaced words (are_words words w.each)) (some words w.some)
   where
-    some : (words : Line) → 0 < length words → not (length words == 0) ≡ true
+    some : (words : WordLine) → 0 < length words → not (length words == 0) ≡ true
     some words lt = let no : (length words == 0) ≡ false = grind (arith, nat_tests) in ap not no

@@ -4,18 +4,18 @@ use Rattle.std.proofs.lemmas.Grind.{flat_map-append}
 use Rattle.std.proofs.lemmas.List.Folds.{flat_map-map}
 use Rattle.std.proofs.lemmas.Option.{slice_get_within, get_or_from_slice_get}
 use Rattle.std.specs.List.{flat_map, slice_get}
-use Rattle.written_texts.specs.Lines.{Line, line_text, lines_text, spaced}
+use Rattle.written_texts.specs.Lines.{WordLine, line_text, lines_text, spaced}
 
 -- lines, and after them further ones
-pub lines_after : (before lines more : List ℕ) (a b : List Line) → lines ≡ before ++ lines_text a → more ≡ lines ++ lines_text b → more ≡ before ++ lines_text (a ++ b)
+pub lines_after : (before lines more : List ℕ) (a b : List WordLine) → lines ≡ before ++ lines_text a → more ≡ lines ++ lines_text b → more ≡ before ++ lines_text (a ++ b)
 lines_after before lines more a b p q =
     q ∙ ap (λ x. x ++ lines_text b) p ∙ append_assoc before (lines_text a) (lines_text b) ∙ ap (λ x. before ++ x) (sym (flat_map-append line_text a b))
 
-pub line_after : (before lines more : List ℕ) (a : List Line) (line : Line) → lines ≡ before ++ lines_text a → more ≡ lines ++ line_text line → more ≡ before ++ lines_text (a ++ line ∷ [])
+pub line_after : (before lines more : List ℕ) (a : List WordLine) (line : WordLine) → lines ≡ before ++ lines_text a → more ≡ lines ++ line_text line → more ≡ before ++ lines_text (a ++ line ∷ [])
 line_after before lines more a line p q = lines_after before lines more a (line ∷ []) p (q ∙ ap (λ x. lines ++ x) (sym (append-nil (line_text line))))
 
 -- of lines that are to follow, some are written
-pub rest_written : (out0 out1 total : List ℕ) (lines rest : List Line) → out0 ++ lines_text (lines ++ rest) ≡ total → out1 ≡ out0 ++ lines_text lines → out1 ++ lines_text rest ≡ total
+pub rest_written : (out0 out1 total : List ℕ) (lines rest : List WordLine) → out0 ++ lines_text (lines ++ rest) ≡ total → out1 ≡ out0 ++ lines_text lines → out1 ++ lines_text rest ≡ total
 rest_written out0 out1 total lines rest start now =
     ap (λ x. x ++ lines_text rest) now ∙ append_assoc out0 (lines_text lines) (lines_text rest) ∙ ap (λ x. out0 ++ x) (sym (flat_map-append line_text lines rest)) ∙ start
 
@@ -25,7 +25,7 @@ spaced-cons word [] = sym (append-nil word)
 spaced-cons word (next ∷ words) = ap (λ x. word ++ 32 ∷ x) (spaced-cons next words)
 
 -- the line of the next one is written
-pub line_written : {A : Type 0} (line : A → Line) (xs : List A) (i : ℕ) (x : A) (out0 out1 total : List ℕ) → slice_get xs i ≡ Some x →
+pub line_written : {A : Type 0} (line : A → WordLine) (xs : List A) (i : ℕ) (x : A) (out0 out1 total : List ℕ) → slice_get xs i ≡ Some x →
     out0 ++ lines_text (map line (drop i xs)) ≡ total → out1 ≡ out0 ++ line_text (line x) →
     out1 ++ lines_text (map line (drop (i + 1) xs)) ≡ total
 line_written line xs i x out0 out1 total at start now =

@@ -2,7 +2,7 @@
 use Rattle.std.specs.Prelude.{◌≡◌, ℕ, ◌<◌, ◌≤◌, ◌==◌, false, true, List, length, slice_index}
 use Rattle.std.specs.List.{AllByRecursion}
 use Rattle.texts.specs.Names.{has_name_bytes}
-use Rattle.written_texts.specs.Lines.{Line, spaced}
+use Rattle.written_texts.specs.Lines.{WordLine, spaced}
 
 -- some bytes, none of which is a blank or ends a line
 pub record IsWord (word : List ℕ) : Type 0 where
@@ -15,12 +15,12 @@ pub record IsKeptWord (word : List ℕ) : Type 0 where
   pub front : (slice_index word 0 == 35) ≡ false
 
 -- a line of one to twelve words and without a comment
-pub record IsWritten (words : Line) : Type 0 where
+pub record IsWritten (words : WordLine) : Type 0 where
   pub some : 0 < length words
   pub few : length words ≤ 12
   pub each : AllByRecursion IsKeptWord words
 
 -- a line within the limit of lines; words may be empty
-pub record IsWordLine (words : Line) : Type 0 where
+pub record IsWordLine (words : WordLine) : Type 0 where
   pub bytes : AllByRecursion (λ word. has_name_bytes word ≡ true) words
   pub short : length (spaced words) ≤ 65536

@@ -8,16 +8,17 @@ ghost use Rattle.texts.specs.Words.{words_of, without_comment};
 ghost use Rattle.exact_numbers.specs.declared.dec.Dec.{Dec};
 ghost use Rattle.exact_numbers.specs.Numbers.{dec_of, has_31_bits, signed_of, whole_of};
 ghost use Rattle.exact_numbers.specs.Values.{text_of};
-ghost use Rattle.written_texts.specs.Lines.{Line, indented, lines_text, spaced};
+ghost use Rattle.written_texts.specs.Lines.{WordLine, indented, lines_text, spaced};
 ghost use Rattle.written_texts.specs.Words.{IsWord, IsKeptWord, IsWordLine};
 
 /// Words with a space between them, or a space before each, are read as themselves, and as no
 /// comment.
 pub fn words_are_read()
-    ensures words { (words : Line) → AllByRecursion IsWord words → words_of (spaced words) ≡ words }
-    ensures indented { (words : Line)
+    ensures words { (words : WordLine)
+        → AllByRecursion IsWord words → words_of (spaced words) ≡ words }
+    ensures indented { (words : WordLine)
         → AllByRecursion IsWord words → words_of (spaced (indented words)) ≡ words }
-    ensures comments { (words : Line)
+    ensures comments { (words : WordLine)
         → AllByRecursion IsKeptWord words → without_comment (spaced words) ≡ spaced words }
 {}
 
@@ -37,10 +38,10 @@ pub fn numbers_are_read()
 
 /// The lines of a written text are the lines that were written.
 pub fn lines_are_read()
-    ensures lines { (lines : List Line)
+    ensures lines { (lines : List WordLine)
         → AllByRecursion IsWordLine lines → length (lines_text lines) ≤ 2 ^ 31
         → lines_of (lines_text lines) ≡ map spaced lines }
-    ensures end { (lines : List Line)
+    ensures end { (lines : List WordLine)
         → AllByRecursion IsWordLine lines → length (lines_text lines) ≤ 2 ^ 31
         → last_of (lines_text lines) ≡ End }
 {}

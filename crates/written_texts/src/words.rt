@@ -38,7 +38,7 @@ pub fn put_signed(out: &mut Vec<u8>, number: i32) -> Result<(), AllocError>
 pub fn put_dec(out: &mut Vec<u8>, value: Dec) -> Result<(), AllocError>
     ensures { OnOk result (out.new.items ≡ out.old.items ++ text_of value) }
 {
-    let mut text = LineText::new();
+    let mut text = LineText::<128>::new();
     text.put_dec(value);
     put(out, text.bytes())
 }
@@ -82,7 +82,7 @@ pub fn put_next_signed(out: &mut Vec<u8>, number: i32) -> Result<(), AllocError>
 pub fn put_next_dec(out: &mut Vec<u8>, value: Dec) -> Result<(), AllocError>
     ensures { OnOk result (out.new.items ≡ out.old.items ++ 32 ∷ text_of value) }
 {
-    let mut text = LineText::new();
+    let mut text = LineText::<128>::new();
     text.put_dec(value);
     text.put_byte(b' ');
     put(out, text.bytes())

@@ -6,12 +6,12 @@ use Rattle.bridge_tool.proofs.command.plain_number.Goals as goal
 pub returns-then-has_plus : goal.returns-then-has_plus
 returns-then-has_plus c =
     let is : nat_eq (get_or c.args.word.now 0 0) 43 ≡ true = rw (← c.as_bytes-bytes.ensures.value) (sym c.has_plus.ensures ∙ c.if-has_plus.true) in
-    sym (plus_is_none c.args.word.now is)
+    plus_is_none c.args.word.now is
 
 pub returns-then-has_front_zero : goal.returns-then-has_front_zero
 returns-then-has_front_zero c =
     let is : has_front_zero c.args.word.now ≡ true = rw (← c.as_bytes-bytes.ensures.value) (sym c.has_front_zero.ensures ∙ c.if-has_front_zero.true) in
-    sym (zero_is_none c.args.word.now is)
+    zero_is_none c.args.word.now is
 
 pub returns-in-Ok : goal.returns-in-Ok
 returns-in-Ok c =

@@ -1,4 +1,4 @@
-use Rattle.bridge_tool.proofs.Meaning.{exports_back}
+use Rattle.bridge_tool.proofs.Exporting.{exports_back}
 use Rattle.bridge_tool.proofs.laws.exports_are_read_back.Goals as goal
 
 pub returns : goal.returns

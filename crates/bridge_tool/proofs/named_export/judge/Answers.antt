@@ -2,9 +2,8 @@ use Rattle.std.proofs.Common.{sym, subst}
 use Rattle.nl_segments.specs.Reader.{value_of}
 use Rattle.scaling.specs.Exported.{exported_as}
 use Rattle.bridge_tool.specs.NamedExport.{AreNamedMeant, IsNamedExport, Named}
-use Rattle.bridge_tool.proofs.NamedExporting.{written_so}
-use Rattle.bridge_tool.proofs.NamedProgram.{export_named, named_meant}
-use Rattle.bridge_tool.proofs.Staging.{exports_so}
+use Rattle.bridge_tool.proofs.NamedExporting.{written_so, export_named, named_meant}
+use Rattle.bridge_tool.proofs.Exporting.{exports_so}
 use Rattle.bridge_tool.proofs.named_export.judge.Goals as goal
 
 pub write_named-requires : goal.write_named-requires

@@ -1,6 +1,6 @@
 use Rattle.std.proofs.Common.{length, sym, subst}
 use Rattle.name_files.specs.Renamed.{HasExportedNames}
-use Rattle.bridge_tool.proofs.NamedProgram.{decimal_names, named_text}
+use Rattle.bridge_tool.proofs.NamedExporting.{decimal_names, named_text}
 use Rattle.bridge_tool.proofs.named_export.write_named.Goals as goal
 
 pub renamed-requires : goal.renamed-requires

@@ -1,7 +1,7 @@
 use Rattle.std.proofs.Common.{◌∙◌, ap, sym}
 use Rattle.std.specs.List.{count_by}
 use Rattle.bridge_tool.specs.Make.{has_finite_side}
-use Rattle.bridge_tool.proofs.Summing.{sides_count}
+use Rattle.bridge_tool.proofs.Making.{sides_count}
 use Rattle.bridge_tool.proofs.summary.exported_count.Goals as goal
 
 pub returns : goal.returns

@@ -1,5 +1,5 @@
 use Rattle.std.proofs.Common.{arith}
-use Rattle.bridge_tool.proofs.Summing.{column_fits, next_column}
+use Rattle.bridge_tool.proofs.Making.{column_fits, next_column}
 use Rattle.bridge_tool.proofs.summary.sum_columns.Goals as goal
 
 pub overflow_add-total : goal.overflow_add-total

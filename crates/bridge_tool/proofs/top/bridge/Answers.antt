@@ -1,6 +1,5 @@
-use Rattle.bridge_tool.proofs.Headline.{at_command}
+use Rattle.bridge_tool.proofs.Headline.{at_command, answered}
 use Rattle.bridge_tool.proofs.Making.{leaves_told}
-use Rattle.bridge_tool.proofs.Working.{answered}
 use Rattle.bridge_tool.proofs.top.bridge.Goals as goal
 
 pub returns-clause-headline : goal.returns-clause-headline

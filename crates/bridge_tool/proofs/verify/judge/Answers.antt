@@ -1,25 +1,21 @@
-use Rattle.std.proofs.Common.{◌∙◌, ap}
 use Rattle.nl_segments.specs.Reader.{value_of}
-use Rattle.certificates.specs.Certificates.{objective_of}
-use Rattle.bridge_tool.proofs.Verifying.{bound_fits, certificate_so, done_so, folded_so, verified_so}
+use Rattle.bridge_tool.proofs.Verdicts.{bound_fits, certificate_so, claim_done, verified_so}
+use Rattle.bridge_tool.proofs.Exporting.{folded_at}
 use Rattle.bridge_tool.proofs.verify.judge.Goals as goal
 
 pub outcome_on-outcome-requires : goal.outcome_on-outcome-requires
 outcome_on-outcome-requires g c =
-    let same = c.objective_of-objective.ensures ∙ ap objective_of c.claim.ensures in
-    let folds = folded_so (value_of c.args.read.now) c.args.certificate.now c.objective_of-objective.result c.in_ok-linear.linear same c.in_ok-linear.ensures.folds in
+    let folds = folded_at _ _ _ _ c.objective_of-objective.ensures c.in_ok-linear.ensures.folds in
     certificate_so (value_of c.args.read.now) c.args.certificate.now c.requires.certificate c.in_ok-linear.linear folds
 
 pub returns-clause-comes : goal.returns-clause-comes
 returns-clause-comes g c =
-    let same = c.objective_of-objective.ensures ∙ ap objective_of c.claim.ensures in
-    let folds = folded_so (value_of c.args.read.now) c.args.certificate.now c.objective_of-objective.result c.in_ok-linear.linear same c.in_ok-linear.ensures.folds in
-    done_so (value_of c.args.read.now) c.args.certificate.now c.requires.certificate c.in_ok-linear.linear _ _ _ folds c.in_ok-outcome.ensures c.in_ok-told.ensures.holds c.in_ok-told.ensures.line
+    let folds = folded_at _ _ _ _ c.objective_of-objective.ensures c.in_ok-linear.ensures.folds in
+    claim_done (value_of c.args.read.now) c.args.certificate.now c.requires.certificate c.in_ok-linear.linear _ _ _ folds c.in_ok-outcome.ensures c.in_ok-told.ensures.holds c.in_ok-told.ensures.line
 
 pub returns-clause-means : goal.returns-clause-means
 returns-clause-means g c = λ holding.
-    let same = c.objective_of-objective.ensures ∙ ap objective_of c.claim.ensures in
-    let folds = folded_so (value_of c.args.read.now) c.args.certificate.now c.objective_of-objective.result c.in_ok-linear.linear same c.in_ok-linear.ensures.folds in
+    let folds = folded_at _ _ _ _ c.objective_of-objective.ensures c.in_ok-linear.ensures.folds in
     verified_so (value_of c.args.read.now) c.args.certificate.now c.requires.certificate c.in_ok-linear.linear _ _ _ c.in_ok-linear.ensures.file folds c.in_ok-outcome.ensures c.in_ok-told.ensures.holds c.in_ok-told.ensures.line holding
 
 pub told_outcome-requires : goal.told_outcome-requires

@@ -1,21 +1,13 @@
-use Rattle.std.proofs.Common.{◌∙◌, ap, length, sym}
+use Rattle.std.proofs.Common.{◌∙◌, ap, length}
 use Rattle.linear_programs.specs.Linear.{Form, row_count, value_at}
-use Rattle.duality.specs.Verdict.{row_side_missing}
 use Rattle.exact_numbers.specs.Values.{frac_value}
 use Rattle.certificates.specs.Certificates.{spread}
 use Rattle.certificate_check.specs.Answers.{bound_answer_of}
 use Rattle.certificate_check.specs.Programs.{bounds_in}
 use Rattle.certificate_check.specs.Sums.{cost_count, cost_in, sum_at, sum_value}
 use Rattle.certificate_check.specs.Terms.{value_found}
-use Rattle.certificate_check.proofs.LeafLemmas.{bound_is, by_parts, side_lacks}
-use Rattle.certificate_check.proofs.Rows.{variables_counted}
+use Rattle.certificate_check.proofs.LeafLemmas.{bound_is, by_parts}
 use Rattle.certificate_check.proofs.leaf.bound_of_goal.Goals as goal
-
-pub begin-requires-clause-count : goal.begin-requires-clause-count
-begin-requires-clause-count c = c.requires.count ∙ sym (variables_counted c.args.columns.now) ∙ sym c.n_var.ensures
-
-pub returns-in-Some-clause-exact : goal.returns-in-Some-clause-exact
-returns-in-Some-clause-exact c f held goal = side_lacks f (bounds_in c.args.lo.now c.args.hi.now) (spread (row_count f) c.args.pairs.now) (row_side_missing c.in-Some.row) (c.in-Some.ensures f held goal.sense)
 
 pub returns-clause-exact : goal.returns-clause-exact
 returns-clause-exact c f held goal =

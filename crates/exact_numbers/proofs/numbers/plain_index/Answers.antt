@@ -5,4 +5,4 @@ use Rattle.exact_numbers.proofs.numbers.plain_index.Goals as goal
 pub returns : goal.returns
 returns c =
     let front = c.sum_front-front.ensures in
-    index_is _ _ _ front.within c.if-front-eq0.false front.digits front.number (omega (arith, c.if-front-gt-LARGEST.false))
+    index_is _ _ _ front.within front.few c.if-front-eq0.false front.digits front.number (omega (arith, c.if-front-gt-LARGEST.false))

@@ -1,4 +1,4 @@
-use Rattle.std.proofs.Common.{◌≡◌, ◌<◌, ◌≤◌, ◌-◌, ◌^◌, length, take}
+use Rattle.std.proofs.Common.{◌≡◌, ◌≤◌, ◌+◌, ◌-◌, ◌*◌, ◌^◌, length, take}
 use Rattle.std.specs.Str.Parse.{AllDigits, digits_value_after}
 use Rattle.exact_numbers.proofs.read.sum_front.Given as goal
 
@@ -6,7 +6,8 @@ use Rattle.exact_numbers.proofs.read.sum_front.Given as goal
 abbrev pub invariant-digits : goal.invariant-digits
 invariant-digits l = record {
   within : l.len ≤ length l.text;
-  small : l.number < 10 ^ 18;
+  few : l.len ≤ l.most;
+  small : (l.number + 1) * 10 ^ (l.most - l.len) ≤ 10 ^ 18;
   digits : AllDigits 10 (take l.len l.text);
   number : l.number ≡ digits_value_after 10 l.start (take l.len l.text);
 }

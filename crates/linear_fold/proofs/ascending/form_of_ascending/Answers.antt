@@ -1,4 +1,5 @@
 use Rattle.std.proofs.Common.{◌≡◌, ◌∙◌, ◌+◌, ◌++◌, ◌∷◌, [], List, sym, subst, arith, drop, take, true}
+use Rattle.std.proofs.lemmas.List.{drop_all}
 use Rattle.exact_numbers.specs.Values.{dec_value}
 use Rattle.fractions.specs.Fits.{fits}
 use Rattle.file_meaning.specs.Expressions.{linear_term, linear_terms}
@@ -6,8 +7,7 @@ use Rattle.linear_program.specs.Coefs.{Term}
 use Rattle.linear_program.specs.Decimals.{frac_of, fraction_terms}
 use Rattle.linear_program.specs.Forms.{form_line}
 use Rattle.linear_program.proofs.DecimalLemmas.{AllFit, fit_more, frac_of-value, one_fraction_more}
-use Rattle.linear_fold.proofs.Listing.{are_decimals, IsListed, one_listed}
-use Rattle.linear_fold.proofs.Expressions.{no_terms_left, term_at}
+use Rattle.linear_fold.proofs.Expressions.{are_decimals, IsListed, one_listed, term_at}
 use Rattle.linear_fold.proofs.ascending.form_of_ascending.Goals as goal
 
 pub loop-index-preserved : goal.loop-index-preserved
@@ -33,4 +33,4 @@ loop-index-preserved g c =
 pub of_decimals-requires : goal.of_decimals-requires
 of_decimals-requires g c =
     are_decimals 0 c.args.terms.now c.requires.ascending
-    (c.loop-index.invariant.fit (subst AllFit (sym (no_terms_left c.args.terms.now c.loop-index.index c.loop-index-test.false)) tt))
+    (c.loop-index.invariant.fit (subst AllFit (sym (drop_all c.loop-index.index c.args.terms.now c.loop-index-test.false)) tt))

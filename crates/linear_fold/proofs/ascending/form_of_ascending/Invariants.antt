@@ -3,7 +3,7 @@ use Rattle.file_meaning.specs.Expressions.{linear_terms}
 use Rattle.linear_program.specs.Decimals.{fraction_terms}
 use Rattle.linear_program.specs.Forms.{form_line}
 use Rattle.linear_program.proofs.DecimalLemmas.{AllFit}
-use Rattle.linear_fold.proofs.Listing.{IsListed}
+use Rattle.linear_fold.proofs.Expressions.{IsListed}
 use Rattle.linear_fold.proofs.ascending.form_of_ascending.Given as goal
 
 abbrev pub invariant-loop-index : goal.invariant-loop-index

@@ -2,8 +2,7 @@ use Rattle.std.proofs.Common.{◌≡◌, ◌∙◌, ◌+◌, ◌<◌, ◌≤◌,
 use Rattle.nl_model.specs.declared.at.Owner.TheVariants.{Con as OfConstraint}
 use Rattle.linear_fold.specs.InsideOwnerFolds.{AreBodiesOf, IsFormOf, bodies_size, coefficients_of, owned_at, owner_size}
 use Rattle.linear_program.specs.Forms.{form_terms}
-use Rattle.linear_fold.proofs.BodyLemmas.{bodies_size_le, body_size, one_more_body, one_more_count}
-use Rattle.linear_fold.proofs.DefinitionLemmas.{left_end, left_more, left_stop, steps_more, steps_within}
+use Rattle.linear_fold.proofs.BodyLemmas.{bodies_size_le, body_size, one_more_body, one_more_count, left_end, left_more, left_stop, steps_more, steps_within}
 use Rattle.linear_fold.proofs.bodies.fold_bodies.Goals as goal
 
 pub loop-con-preserved : goal.loop-con-preserved

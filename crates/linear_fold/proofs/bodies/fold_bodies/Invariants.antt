@@ -1,7 +1,7 @@
 use Rattle.std.proofs.Common.{◌≡◌, ◌≤◌, ◌+◌, ◌*◌, length, take}
 use Rattle.nl_model.specs.declared.at.Owner.TheVariants.{Con as OfConstraint}
 use Rattle.linear_fold.specs.InsideOwnerFolds.{AreBodiesOf, HasFolded, bodies_size, coefficients_of, owned_at}
-use Rattle.linear_fold.proofs.DefinitionLemmas.{LeftOwners}
+use Rattle.linear_fold.proofs.BodyLemmas.{LeftOwners}
 use Rattle.linear_fold.proofs.bodies.fold_bodies.Given as goal
 
 abbrev pub invariant-loop-con : goal.invariant-loop-con

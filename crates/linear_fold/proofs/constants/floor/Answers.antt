@@ -1,14 +1,9 @@
-use Rattle.std.proofs.Common.{◌∙◌, ap, Some, refl, sym, [], ◌∷◌}
-use Rattle.exact_numbers.specs.Values.{frac_value}
-use Rattle.linear_programs.specs.Lines.{constant_line}
+use Rattle.std.proofs.Common.{◌∙◌, ap, Some}
 use Rattle.code_tables.specs.declared.class.OpClass.TheVariants.{Floor}
 use Rattle.fractions.specs.Functions.{floor_of}
 use Rattle.linear_fold.specs.InsideOperates.{part_line}
-use Rattle.linear_fold.proofs.ConstantLemmas.{made_of, one_constant}
+use Rattle.linear_fold.proofs.ConstantLemmas.{one_made}
 use Rattle.linear_fold.proofs.constants.floor.Goals as goal
 
 pub returns-in-Some : goal.returns-in-Some
-returns-in-Some c n z =
-    let r = made_of n Floor (part_line c.args.a.now ∷ []) (constant_line (frac_value c.floor_of.result)) (frac_value c.floor_of.result) (one_constant n (part_line c.args.a.now) (sym (c.in-Some.ensures.test n z)))
-    (ap Some (sym (c.floor_of.ensures ∙ ap floor_of c.in-Some.ensures.value))) refl in
-    (r.0, r.1, tt)
+returns-in-Some c n z = one_made n Floor (part_line c.args.a.now) _ (c.in-Some.ensures.test n z) (ap Some (c.floor_of.ensures ∙ ap floor_of c.in-Some.ensures.value))

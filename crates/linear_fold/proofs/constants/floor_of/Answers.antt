@@ -1,12 +1,12 @@
 use Rattle.std.proofs.Common.{◌∙◌, ap₂, pos, negsuc, ◌/◌, ◌-◌, sym, subst, ◌<◌}
 use Rattle.exact_numbers.specs.Values.{frac_value}
 use Rattle.fractions.specs.Rational.{whole}
-use Rattle.linear_fold.proofs.ConstantLemmas.{floor_above, floor_under, is_above, is_under, some_size}
+use Rattle.linear_fold.proofs.ConstantLemmas.{floor_above, floor_under, is_above, some_size, top_under}
 use Rattle.linear_fold.proofs.constants.floor_of.Goals as goal
 
 pub returns-then-is_negative : goal.returns-then-is_negative
 returns-then-is_negative c =
-    floor_under (frac_value c.args.x) (frac_value c.whole_under.result) (is_under c.is_negative.result (frac_value c.args.x) c.is_negative.ensures.0 c.if-is_negative.true)
+    floor_under (frac_value c.args.x) (frac_value c.whole_under.result) (top_under (frac_value c.args.x) (c.is_negative.ensures.0 c.if-is_negative.true))
     (c.whole_under.ensures ∙ ap₂ (λ s p. whole (negsuc ((s - 1) / p))) c.numerator_size-size.ensures.value c.denominator_of-denominator.ensures)
 
 pub returns : goal.returns
@@ -16,4 +16,4 @@ returns c =
 
 pub overflow_sub-size : goal.overflow_sub-size
 overflow_sub-size c =
-    subst (λ k. 0 < k) (sym c.numerator_size-size.ensures.value) (some_size (frac_value c.args.x) (is_under c.is_negative.result (frac_value c.args.x) c.is_negative.ensures.0 c.if-is_negative.true))
+    subst (λ k. 0 < k) (sym c.numerator_size-size.ensures.value) (some_size (frac_value c.args.x) (top_under (frac_value c.args.x) (c.is_negative.ensures.0 c.if-is_negative.true)))

@@ -1,6 +1,5 @@
-use Rattle.std.proofs.Common.{◌-◌, ◌+◌, take, Some, set, sym, subst, arith}
-use Rattle.linear_fold.specs.InsideOwnerFolds.{AreSlotsOf}
-use Rattle.linear_fold.proofs.DefinitionLemmas.{definition_folded, definition_here}
+use Rattle.std.proofs.Common.{arith}
+use Rattle.linear_fold.proofs.BodyLemmas.{definition_folded, definition_here}
 use Rattle.linear_fold.proofs.definitions.fold_definition.Goals as goal
 
 pub overflow_sub-slot : goal.overflow_sub-slot
@@ -28,7 +27,5 @@ returns-clause-folder g c =
       places = h.places;
       blank = h.blank;
       few = h.few;
-      slots =
-          subst (λ n. AreSlotsOf c.args.file.now (take (c.args.index + 1) c.args.file.now.definitions) (set c.fold_owner.new.folder.slots.items (c.args.definition.now.index - n) (Some c.in_ok-form.form))) (sym h.variables)
-          (definition_folded c.args.file.now c.requires.file c.args.index c.args.definition.now c.requires.at c.fold_owner.new.folder.slots.items c.in_ok-form.form h.slots c.in_ok-form.ensures.form);
+      slots = rw h.variables (definition_folded c.args.file.now c.requires.file c.args.index c.args.definition.now c.requires.at c.fold_owner.new.folder.slots.items c.in_ok-form.form h.slots c.in_ok-form.ensures.form);
     }

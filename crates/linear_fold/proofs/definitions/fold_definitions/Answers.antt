@@ -2,7 +2,7 @@ use Rattle.std.proofs.Common.{◌+◌, ◌<◌, ◌≤◌, ◌*◌, sym, subst, 
 use Rattle.nl_meaning.specs.Trees.{tree_size}
 use Rattle.nl_model.specs.declared.at.Owner.TheVariants.{Def as OfDefinition}
 use Rattle.linear_fold.specs.InsideOwnerFolds.{definitions_size, owned_at}
-use Rattle.linear_fold.proofs.DefinitionLemmas.{at_position, definition_size, definitions_size_le, left_end, left_more, left_stop, position_small, steps_more, steps_within}
+use Rattle.linear_fold.proofs.BodyLemmas.{at_position, definition_size, definitions_size_le, left_end, left_more, left_stop, position_small, steps_more, steps_within}
 use Rattle.linear_fold.proofs.definitions.fold_definitions.Goals as goal
 
 pub overflow_cast-index : goal.overflow_cast-index

@@ -1,7 +1,7 @@
 use Rattle.std.proofs.Common.{◌≤◌, ◌+◌, ◌*◌, length, take}
 use Rattle.nl_model.specs.declared.at.Owner.TheVariants.{Def as OfDefinition}
 use Rattle.linear_fold.specs.InsideOwnerFolds.{HasFolded, definitions_size, owned_at}
-use Rattle.linear_fold.proofs.DefinitionLemmas.{LeftOwners}
+use Rattle.linear_fold.proofs.BodyLemmas.{LeftOwners}
 use Rattle.linear_fold.proofs.definitions.fold_definitions.Given as goal
 
 abbrev pub invariant-loop-index : goal.invariant-loop-index

@@ -2,10 +2,9 @@ use Rattle.std.proofs.Common.{subst, arith, length}
 use Rattle.file_meaning.specs.Expressions.{linear_terms}
 use Rattle.linear_fold.specs.InsideFolds.{IsEntryWithin, IsFolded}
 use Rattle.linear_program.specs.Forms.{IsWithin, form_line}
-use Rattle.linear_fold.proofs.Listing.{nothing_listed, some_term}
+use Rattle.linear_fold.proofs.Expressions.{nothing_listed, some_term, entry_within, some_terms, sum_bound, terms_formed}
 use Rattle.linear_fold.proofs.Operators.{form_fits, if_ok}
 use Rattle.linear_fold.specs.declared.entries.Entry.TheVariants.{Linear}
-use Rattle.linear_fold.proofs.Expressions.{entry_within, some_terms, sum_bound, terms_formed}
 use Rattle.linear_fold.proofs.expression.sum_entry.Goals as goal
 
 pub returns-then-are_zero-clause-entry : goal.returns-then-are_zero-clause-entry

@@ -1,10 +1,7 @@
-use Rattle.std.proofs.Common.{◌≤◌, ◌+◌, ◌*◌, IfSome, length, option_copied, subst, sym}
-use Rattle.std.specs.Option.{option_map_or}
+use Rattle.std.proofs.Common.{IfSome, length, option_copied, subst}
 use Rattle.fractions.specs.Rational.{zero_ℚ}
 use Rattle.nl_meaning.specs.Trees.{tree_size}
-use Rattle.file_meaning.specs.Expressions.{tree_or_zero}
-use Rattle.linear_fold.specs.declared.entries.Entry.TheVariants.{Linear}
-use Rattle.linear_fold.specs.InsideFolds.{IsFolded, IsTreeGiven}
+use Rattle.linear_fold.specs.InsideFolds.{IsTreeGiven}
 use Rattle.linear_fold.proofs.Expressions.{prefix_size, prefix_within, same_bound, zero_folded}
 use Rattle.linear_fold.proofs.Folding.{constant_within}
 use Rattle.linear_fold.proofs.expression.tree_entry.Goals as goal
@@ -15,12 +12,10 @@ fold_tree-requires-clause-within g c =
 
 pub returns-in-Some-clause-below : goal.returns-in-Some-clause-below
 returns-in-Some-clause-below g c =
-    subst (λ t. c.fold_tree.new.steps ≤ c.args.steps.now + 2 * (c.args.variables + 1) * option_map_or tree_size (option_copied t) 0) (sym c.in-Some.is)
-    (same_bound c.args.variables c.fold_tree.new.steps c.args.steps.now (length c.nodes.result.now) (tree_size c.in-Some.expr.now) (prefix_size c.nodes.ensures.prefix) c.fold_tree.ensures.below)
+    rw c.in-Some.is (same_bound c.args.variables c.fold_tree.new.steps c.args.steps.now (length c.nodes.result.now) (tree_size c.in-Some.expr.now) (prefix_size c.nodes.ensures.prefix) c.fold_tree.ensures.below)
 
 pub returns-in-None-clause-entry : goal.returns-in-None-clause-entry
-returns-in-None-clause-entry g c known are =
-    subst (λ t. IsFolded known c.args.variables 0 (tree_or_zero (option_copied t)) (Linear c.new.result)) (sym c.in-None.is) (zero_folded known c.args.variables c.new.result c.new.ensures.line)
+returns-in-None-clause-entry g c known are = rw c.in-None.is (zero_folded known c.args.variables c.new.result c.new.ensures.line)
 
 pub returns-in-None-clause-within : goal.returns-in-None-clause-within
 returns-in-None-clause-within g c = constant_within c.args.variables c.new.result zero_ℚ c.new.ensures.line

@@ -1,9 +1,8 @@
 use Rattle.std.proofs.Common.{◌≡◌, ◌∷◌, [], ◌-◌, ◌+◌, ◌*◌, ◌≤◌, length, reverse, drop, sym, ap, subst, subst₂, arith, ◌∙◌, length-append}
 use Rattle.nl_model.specs.Nodes.{trees_of, with_node}
 use Rattle.linear_fold.specs.InsideFolds.{ArePartsFolded, ArePartsWithin, NodeFinds}
-use Rattle.linear_fold.proofs.Folding.{entry_folded, entry_is_within}
+use Rattle.linear_fold.proofs.Folding.{entry_folded, entry_is_within, no_step, some_node, node_at, finds_at, top_first, top_folded, tree_steps}
 use Rattle.linear_fold.proofs.Operators.{if_ok}
-use Rattle.linear_fold.proofs.Stacks.{no_step, some_node, node_at, finds_at, top_first, top_folded, tree_steps}
 use Rattle.linear_fold.proofs.fold.fold_tree.Goals as goal
 
 pub returns-in_err-stack-clause-below : goal.returns-in_err-stack-clause-below

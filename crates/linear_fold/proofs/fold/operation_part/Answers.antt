@@ -1,12 +1,18 @@
-use Rattle.std.proofs.Common.{◌≡◌, ◌∙◌, None, length, reverse, subst, sym}
+use Rattle.std.proofs.Common.{◌≡◌, ◌∙◌, ℕ, None, length, reverse, subst, subst₂, sym}
 use Rattle.std.proofs.lemmas.List.{length-reverse}
 use Rattle.nl_meaning.specs.Trees.{HasCount}
-use Rattle.linear_fold.specs.declared.operate.Outcome.TheVariants.{Linear, Refused}
+use Rattle.linear_fold.specs.declared.operate.Outcome.{Outcome}
 use Rattle.linear_fold.specs.InsideFolds.{first_broken}
-use Rattle.linear_program.specs.Forms.{place_count}
 use Rattle.linear_fold.specs.InsideOperates.{AreOperands, Operates, lines_of_parts}
 use Rattle.linear_fold.proofs.Folding.{all_operands, operand_within, operator_broken, operator_folded, operator_within, faulty_operands}
 use Rattle.linear_fold.proofs.fold.operation_part.Goals as goal
+use Rattle.linear_fold.proofs.fold.operation_part.Goals.{After-operate}
+
+-- no operand has a fault
+sound : (g : _) (c : After-operate g) → (first_broken (reverse c.args.operands.now) ≡ None) × HasCount c.args.class (length (reverse c.args.operands.now)) × AreOperands c.args.variables (reverse c.args.operands.now)
+sound g c =
+    let clean = sym c.first_fault.ensures ∙ c.in_default.is in
+    (clean, subst (HasCount c.args.class) (sym (length-reverse c.args.operands.now)) c.requires.count, all_operands c.args.variables (reverse c.args.operands.now) c.requires.within clean)
 
 pub returns-in-Some-clause-part : goal.returns-in-Some-clause-part
 returns-in-Some-clause-part g c known ts operands = faulty_operands known c.args.variables c.args.place c.args.class ts (reverse c.args.operands.now) operands c.in-Some.fault (sym c.first_fault.ensures ∙ c.in-Some.is)
@@ -18,30 +24,18 @@ operate-requires-clause-within g c =
 
 pub returns-in-Ok-Linear-clause-part : goal.returns-in-Ok-Linear-clause-part
 returns-in-Ok-Linear-clause-part g c known ts operands =
-    let ps = reverse c.args.operands.now in
-    let clean : first_broken ps ≡ None = sym c.first_fault.ensures ∙ c.in_default.is in
-    let count : HasCount c.args.class (length ps) = subst (HasCount c.args.class) (sym (length-reverse c.args.operands.now)) c.requires.count in
-    let within = all_operands c.args.variables ps c.requires.within clean in
-    let got : Operates c.args.variables c.args.class (lines_of_parts ps) (Linear c.in-Ok-Linear.part) =
-    subst (λ n. Operates n c.args.class (lines_of_parts ps) (Linear c.in-Ok-Linear.part)) c.requires.places (subst (Operates (place_count c.args.total.now) c.args.class (lines_of_parts ps)) c.in-Ok-Linear.field-0-is c.in-Ok-Linear.ensures.outcome) in
-    operator_folded known c.args.variables c.args.place c.args.class ts ps clean count within operands c.in-Ok-Linear.part got.0 got.1 got.2
+    let s = sound g (goal.at.returns-in-Ok-Linear-clause-part g c).After-operate in
+    let got = subst₂ (λ (n : ℕ) (o : Outcome). Operates n c.args.class (lines_of_parts (reverse c.args.operands.now)) o) c.requires.places c.in-Ok-Linear.field-0-is c.in-Ok-Linear.ensures.outcome in
+    operator_folded known c.args.variables c.args.place c.args.class ts (reverse c.args.operands.now) s.0 s.1 s.2 operands c.in-Ok-Linear.part got.0 got.1 got.2
 
 pub returns-in-Ok-Linear-clause-within : goal.returns-in-Ok-Linear-clause-within
 returns-in-Ok-Linear-clause-within g c =
-    let ps = reverse c.args.operands.now in
-    let clean : first_broken ps ≡ None = sym c.first_fault.ensures ∙ c.in_default.is in
-    let count : HasCount c.args.class (length ps) = subst (HasCount c.args.class) (sym (length-reverse c.args.operands.now)) c.requires.count in
-    let within = all_operands c.args.variables ps c.requires.within clean in
-    let got : Operates c.args.variables c.args.class (lines_of_parts ps) (Linear c.in-Ok-Linear.part) =
-    subst (λ n. Operates n c.args.class (lines_of_parts ps) (Linear c.in-Ok-Linear.part)) c.requires.places (subst (Operates (place_count c.args.total.now) c.args.class (lines_of_parts ps)) c.in-Ok-Linear.field-0-is c.in-Ok-Linear.ensures.outcome) in
-    operand_within c.args.variables c.in-Ok-Linear.part (operator_within c.args.variables c.args.class ps c.in-Ok-Linear.part count within got.1 got.2)
+    let s = sound g (goal.at.returns-in-Ok-Linear-clause-within g c).After-operate in
+    let got = subst₂ (λ (n : ℕ) (o : Outcome). Operates n c.args.class (lines_of_parts (reverse c.args.operands.now)) o) c.requires.places c.in-Ok-Linear.field-0-is c.in-Ok-Linear.ensures.outcome in
+    operand_within c.args.variables c.in-Ok-Linear.part (operator_within c.args.variables c.args.class (reverse c.args.operands.now) c.in-Ok-Linear.part s.1 s.2 got.1 got.2)
 
 pub returns-in-Ok-Refused-clause-part : goal.returns-in-Ok-Refused-clause-part
 returns-in-Ok-Refused-clause-part g c known ts operands =
-    let ps = reverse c.args.operands.now in
-    let clean : first_broken ps ≡ None = sym c.first_fault.ensures ∙ c.in_default.is in
-    let count : HasCount c.args.class (length ps) = subst (HasCount c.args.class) (sym (length-reverse c.args.operands.now)) c.requires.count in
-    let within = all_operands c.args.variables ps c.requires.within clean in
-    let got : Operates c.args.variables c.args.class (lines_of_parts ps) (Refused c.in-Ok-Refused.reason) =
-    subst (λ n. Operates n c.args.class (lines_of_parts ps) (Refused c.in-Ok-Refused.reason)) c.requires.places (subst (Operates (place_count c.args.total.now) c.args.class (lines_of_parts ps)) c.in-Ok-Refused.field-0-is c.in-Ok-Refused.ensures.outcome) in
-    operator_broken known c.args.variables c.args.place c.args.class ts ps clean count within operands c.in-Ok-Refused.reason got
+    let s = sound g (goal.at.returns-in-Ok-Refused-clause-part g c).After-operate in
+    let got = subst₂ (λ (n : ℕ) (o : Outcome). Operates n c.args.class (lines_of_parts (reverse c.args.operands.now)) o) c.requires.places c.in-Ok-Refused.field-0-is c.in-Ok-Refused.ensures.outcome in
+    operator_broken known c.args.variables c.args.place c.args.class ts (reverse c.args.operands.now) s.0 s.1 s.2 operands c.in-Ok-Refused.reason got

@@ -2,15 +2,15 @@ use Rattle.std.proofs.Common.{◌∙◌, ◌≤◌, ap, arith, refl, ◌+◌, �
 use Rattle.exact_numbers.specs.Values.{frac_value}
 use Rattle.linear_program.specs.Forms.{place_count, sum_line}
 use Rattle.linear_fold.specs.InsideOperates.{IsOperand}
-use Rattle.linear_fold.proofs.Operators.{Running, here_within, running_init, running_more, running_stop, running_end, one_done, done_within}
-use Rattle.linear_fold.proofs.PartLemmas.{last_first, take_all, take_none}
+use Rattle.linear_fold.proofs.Operators.{Running, here_within, running_init, running_more, running_stop, running_end, one_done, done_within, last_first, take_none}
+use Rattle.std.proofs.lemmas.List.{take_all}
 use Rattle.linear_fold.proofs.operate.add_all.Goals as goal
 
 pub loop-place-init : goal.loop-place-init
 loop-place-init g c =
     record {
       running =
-          subst (λ ps. Running (place_count c.args.total.now) (sum_line c.args.total.now) (reverse ps) (reverse c.args.operands.now)) (sym (take_all c.args.operands.now (length c.args.operands.now) (omega arith)))
+          subst (λ ps. Running (place_count c.args.total.now) (sum_line c.args.total.now) (reverse ps) (reverse c.args.operands.now)) (sym (take_all (length c.args.operands.now) c.args.operands.now (omega arith)))
           (running_init (place_count c.args.total.now) (sum_line c.args.total.now) (reverse c.args.operands.now) c.requires.blank c.requires.within);
       places = refl;
       above = omega arith;

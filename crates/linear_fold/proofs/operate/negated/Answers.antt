@@ -1,8 +1,7 @@
 use Rattle.exact_numbers.specs.Values.{frac_value}
 use Rattle.linear_program.specs.Forms.{place_count}
 use Rattle.linear_fold.specs.InsideOperates.{part_line}
-use Rattle.linear_fold.proofs.Operators.{if_ok, negation_comes, scaled_by_minus}
-use Rattle.linear_fold.proofs.PartLemmas.{part_fits}
+use Rattle.linear_fold.proofs.Operators.{if_ok, negation_comes, part_fits, scaled_by_minus}
 use Rattle.linear_fold.proofs.operate.negated.Goals as goal
 
 pub returns-clause-outcome : goal.returns-clause-outcome

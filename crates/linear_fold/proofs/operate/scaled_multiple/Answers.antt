@@ -1,6 +1,6 @@
-use Rattle.std.proofs.Common.{◌∙◌, refl}
+use Rattle.std.proofs.Common.{◌∙◌}
 use Rattle.exact_numbers.specs.Values.{frac_value}
-use Rattle.linear_fold.proofs.PartLemmas.{multiple_fits, multiple_scaled}
+use Rattle.linear_fold.proofs.Operators.{multiple_fits, multiple_scaled}
 use Rattle.linear_fold.proofs.operate.scaled_multiple.Goals as goal
 
 pub returns-in-Some : goal.returns-in-Some
@@ -9,6 +9,3 @@ returns-in-Some c n below = (
   multiple_scaled n (frac_value c.args.k) (frac_value c.args.factor) c.args.variable _ c.in-Some.ensures.1,
   below,
 )
-
-pub returns-in-None : goal.returns-in-None
-returns-in-None c n below = (multiple_fits n (frac_value c.args.k) (frac_value c.args.factor) c.args.variable below ∙ c.in-None.ensures, refl)

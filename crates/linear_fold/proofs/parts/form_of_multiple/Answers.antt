@@ -3,7 +3,7 @@ use Rattle.exact_numbers.specs.Values.{frac_value}
 use Rattle.linear_programs.specs.Lines.{Line}
 use Rattle.linear_program.specs.Coefs.{coef_in}
 use Rattle.linear_program.specs.Forms.{form_line}
-use Rattle.linear_fold.proofs.PartLemmas.{multiple_of_zero, multiple_term}
+use Rattle.linear_fold.proofs.Operators.{multiple_of_zero, multiple_term}
 use Rattle.linear_fold.proofs.parts.form_of_multiple.Goals as goal
 
 pub returns-then-is_zero : goal.returns-then-is_zero

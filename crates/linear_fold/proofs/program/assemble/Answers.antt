@@ -1,6 +1,6 @@
 use Rattle.std.proofs.Common.{◌∙◌, ap}
 use Rattle.linear_program.specs.Programs.{LinearValue, linear_value}
-use Rattle.linear_fold.proofs.ProgramLemmas.{is_linear, is_program}
+use Rattle.linear_fold.proofs.BodyLemmas.{is_linear, is_program}
 use Rattle.linear_fold.proofs.program.assemble.Goals as goal
 
 pub of_parts-requires : goal.of_parts-requires

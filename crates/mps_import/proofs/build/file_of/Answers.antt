@@ -1,7 +1,7 @@
 use Rattle.std.proofs.Common.{ℕ, ◌+◌, ◌<◌, ◌≤◌, ◌∙◌, sym, ap, ap₂, subst, List, ◌++◌, map, length, get_or, All}
 use Rattle.linear_program.specs.Intervals.{no_sides, IsOrdered}
 use Rattle.linear_program.specs.declared.interval.Interval.{Interval as Sides}
-use Rattle.mps_import.proofs.FileLemmas.{room_for_sides, sides_ordered, room_for_bounds, bounds_ordered, order_within, c_counts, c_terms, c_slopes, all_given, all_sides, all_bounds, all_terms, file_is}
+use Rattle.mps_import.proofs.FileLemmas.{room_for_sides, sides_ordered, room_for_bounds, bounds_ordered, order_within, bounded_is, all_given, all_counts, file_is}
 use Rattle.mps_import.proofs.PartLemmas.{clean_large}
 use Rattle.mps_import.proofs.build.file_of.Goals as goal
 
@@ -30,25 +30,25 @@ pub add_terms-requires-clause-clean : goal.add_terms-requires-clause-clean
 add_terms-requires-clause-clean c = clean_large c.args.mps.now c.requires.clean
 
 pub add_terms-requires-clause-counts : goal.add_terms-requires-clause-counts
-add_terms-requires-clause-counts c = c_counts c.args.mps.now c.args.parts.now c.requires c.in_ok-builder.builder c.add_sides.new.builder c.add_bounds.new.builder c.add_bounds.new.builder c.in_ok-builder.ensures (c.in_ok-add_sides.ensures ∙ ap (λ ss. record c.in_ok-builder.builder { sides = c.in_ok-builder.builder.sides ++ ss }) c.deref.ensures.value) (c.in_ok-add_bounds.ensures ∙ ap₂ (λ bs os. record c.add_sides.new.builder { bounds = c.add_sides.new.builder.bounds ++ map (λ j. get_or bs j no_sides) os }) c.deref-2.ensures.value c.deref-3.ensures.value)
+add_terms-requires-clause-counts c = (bounded_is c.args.mps.now c.args.parts.now c.requires c.in_ok-builder.builder c.add_sides.new.builder c.add_bounds.new.builder c.add_bounds.new.builder c.in_ok-builder.ensures (c.in_ok-add_sides.ensures ∙ ap (λ ss. record c.in_ok-builder.builder { sides = c.in_ok-builder.builder.sides ++ ss }) c.deref.ensures.value) (c.in_ok-add_bounds.ensures ∙ ap₂ (λ bs os. record c.add_sides.new.builder { bounds = c.add_sides.new.builder.bounds ++ map (λ j. get_or bs j no_sides) os }) c.deref-2.ensures.value c.deref-3.ensures.value)).0
 
 pub add_terms-requires-clause-terms : goal.add_terms-requires-clause-terms
-add_terms-requires-clause-terms c = c_terms c.args.mps.now c.args.parts.now c.requires c.in_ok-builder.builder c.add_sides.new.builder c.add_bounds.new.builder c.add_bounds.new.builder c.in_ok-builder.ensures (c.in_ok-add_sides.ensures ∙ ap (λ ss. record c.in_ok-builder.builder { sides = c.in_ok-builder.builder.sides ++ ss }) c.deref.ensures.value) (c.in_ok-add_bounds.ensures ∙ ap₂ (λ bs os. record c.add_sides.new.builder { bounds = c.add_sides.new.builder.bounds ++ map (λ j. get_or bs j no_sides) os }) c.deref-2.ensures.value c.deref-3.ensures.value)
+add_terms-requires-clause-terms c = (bounded_is c.args.mps.now c.args.parts.now c.requires c.in_ok-builder.builder c.add_sides.new.builder c.add_bounds.new.builder c.add_bounds.new.builder c.in_ok-builder.ensures (c.in_ok-add_sides.ensures ∙ ap (λ ss. record c.in_ok-builder.builder { sides = c.in_ok-builder.builder.sides ++ ss }) c.deref.ensures.value) (c.in_ok-add_bounds.ensures ∙ ap₂ (λ bs os. record c.add_sides.new.builder { bounds = c.add_sides.new.builder.bounds ++ map (λ j. get_or bs j no_sides) os }) c.deref-2.ensures.value c.deref-3.ensures.value)).1
 
 pub add_terms-requires-clause-slopes : goal.add_terms-requires-clause-slopes
-add_terms-requires-clause-slopes c = c_slopes c.args.mps.now c.args.parts.now c.requires c.in_ok-builder.builder c.add_sides.new.builder c.add_bounds.new.builder c.add_bounds.new.builder c.in_ok-builder.ensures (c.in_ok-add_sides.ensures ∙ ap (λ ss. record c.in_ok-builder.builder { sides = c.in_ok-builder.builder.sides ++ ss }) c.deref.ensures.value) (c.in_ok-add_bounds.ensures ∙ ap₂ (λ bs os. record c.add_sides.new.builder { bounds = c.add_sides.new.builder.bounds ++ map (λ j. get_or bs j no_sides) os }) c.deref-2.ensures.value c.deref-3.ensures.value)
+add_terms-requires-clause-slopes c = (bounded_is c.args.mps.now c.args.parts.now c.requires c.in_ok-builder.builder c.add_sides.new.builder c.add_bounds.new.builder c.add_bounds.new.builder c.in_ok-builder.ensures (c.in_ok-add_sides.ensures ∙ ap (λ ss. record c.in_ok-builder.builder { sides = c.in_ok-builder.builder.sides ++ ss }) c.deref.ensures.value) (c.in_ok-add_bounds.ensures ∙ ap₂ (λ bs os. record c.add_sides.new.builder { bounds = c.add_sides.new.builder.bounds ++ map (λ j. get_or bs j no_sides) os }) c.deref-2.ensures.value c.deref-3.ensures.value)).2
 
 pub finish-requires-clause-objectives : goal.finish-requires-clause-objectives
 finish-requires-clause-objectives c = all_given c.args.mps.now c.args.parts.now c.requires c.in_ok-builder.builder c.add_sides.new.builder c.add_bounds.new.builder c.add_terms.new.builder c.in_ok-builder.ensures (c.in_ok-add_sides.ensures ∙ ap (λ ss. record c.in_ok-builder.builder { sides = c.in_ok-builder.builder.sides ++ ss }) c.deref.ensures.value) (c.in_ok-add_bounds.ensures ∙ ap₂ (λ bs os. record c.add_sides.new.builder { bounds = c.add_sides.new.builder.bounds ++ map (λ j. get_or bs j no_sides) os }) c.deref-2.ensures.value c.deref-3.ensures.value) c.in_ok-add_terms.ensures
 
 pub finish-requires-clause-sides : goal.finish-requires-clause-sides
-finish-requires-clause-sides c = all_sides c.args.mps.now c.args.parts.now c.requires c.in_ok-builder.builder c.add_sides.new.builder c.add_bounds.new.builder c.add_terms.new.builder c.in_ok-builder.ensures (c.in_ok-add_sides.ensures ∙ ap (λ ss. record c.in_ok-builder.builder { sides = c.in_ok-builder.builder.sides ++ ss }) c.deref.ensures.value) (c.in_ok-add_bounds.ensures ∙ ap₂ (λ bs os. record c.add_sides.new.builder { bounds = c.add_sides.new.builder.bounds ++ map (λ j. get_or bs j no_sides) os }) c.deref-2.ensures.value c.deref-3.ensures.value) c.in_ok-add_terms.ensures
+finish-requires-clause-sides c = (all_counts c.args.mps.now c.args.parts.now c.requires c.in_ok-builder.builder c.add_sides.new.builder c.add_bounds.new.builder c.add_terms.new.builder c.in_ok-builder.ensures (c.in_ok-add_sides.ensures ∙ ap (λ ss. record c.in_ok-builder.builder { sides = c.in_ok-builder.builder.sides ++ ss }) c.deref.ensures.value) (c.in_ok-add_bounds.ensures ∙ ap₂ (λ bs os. record c.add_sides.new.builder { bounds = c.add_sides.new.builder.bounds ++ map (λ j. get_or bs j no_sides) os }) c.deref-2.ensures.value c.deref-3.ensures.value) c.in_ok-add_terms.ensures).0
 
 pub finish-requires-clause-bounds : goal.finish-requires-clause-bounds
-finish-requires-clause-bounds c = all_bounds c.args.mps.now c.args.parts.now c.requires c.in_ok-builder.builder c.add_sides.new.builder c.add_bounds.new.builder c.add_terms.new.builder c.in_ok-builder.ensures (c.in_ok-add_sides.ensures ∙ ap (λ ss. record c.in_ok-builder.builder { sides = c.in_ok-builder.builder.sides ++ ss }) c.deref.ensures.value) (c.in_ok-add_bounds.ensures ∙ ap₂ (λ bs os. record c.add_sides.new.builder { bounds = c.add_sides.new.builder.bounds ++ map (λ j. get_or bs j no_sides) os }) c.deref-2.ensures.value c.deref-3.ensures.value) c.in_ok-add_terms.ensures
+finish-requires-clause-bounds c = (all_counts c.args.mps.now c.args.parts.now c.requires c.in_ok-builder.builder c.add_sides.new.builder c.add_bounds.new.builder c.add_terms.new.builder c.in_ok-builder.ensures (c.in_ok-add_sides.ensures ∙ ap (λ ss. record c.in_ok-builder.builder { sides = c.in_ok-builder.builder.sides ++ ss }) c.deref.ensures.value) (c.in_ok-add_bounds.ensures ∙ ap₂ (λ bs os. record c.add_sides.new.builder { bounds = c.add_sides.new.builder.bounds ++ map (λ j. get_or bs j no_sides) os }) c.deref-2.ensures.value c.deref-3.ensures.value) c.in_ok-add_terms.ensures).1
 
 pub finish-requires-clause-terms : goal.finish-requires-clause-terms
-finish-requires-clause-terms c = all_terms c.args.mps.now c.args.parts.now c.requires c.in_ok-builder.builder c.add_sides.new.builder c.add_bounds.new.builder c.add_terms.new.builder c.in_ok-builder.ensures (c.in_ok-add_sides.ensures ∙ ap (λ ss. record c.in_ok-builder.builder { sides = c.in_ok-builder.builder.sides ++ ss }) c.deref.ensures.value) (c.in_ok-add_bounds.ensures ∙ ap₂ (λ bs os. record c.add_sides.new.builder { bounds = c.add_sides.new.builder.bounds ++ map (λ j. get_or bs j no_sides) os }) c.deref-2.ensures.value c.deref-3.ensures.value) c.in_ok-add_terms.ensures
+finish-requires-clause-terms c = (all_counts c.args.mps.now c.args.parts.now c.requires c.in_ok-builder.builder c.add_sides.new.builder c.add_bounds.new.builder c.add_terms.new.builder c.in_ok-builder.ensures (c.in_ok-add_sides.ensures ∙ ap (λ ss. record c.in_ok-builder.builder { sides = c.in_ok-builder.builder.sides ++ ss }) c.deref.ensures.value) (c.in_ok-add_bounds.ensures ∙ ap₂ (λ bs os. record c.add_sides.new.builder { bounds = c.add_sides.new.builder.bounds ++ map (λ j. get_or bs j no_sides) os }) c.deref-2.ensures.value c.deref-3.ensures.value) c.in_ok-add_terms.ensures).2
 
 pub returns : goal.returns
 returns c = c.finish.ensures ∙ file_is c.args.mps.now c.args.parts.now c.requires c.in_ok-builder.builder c.add_sides.new.builder c.add_bounds.new.builder c.add_terms.new.builder c.in_ok-builder.ensures (c.in_ok-add_sides.ensures ∙ ap (λ ss. record c.in_ok-builder.builder { sides = c.in_ok-builder.builder.sides ++ ss }) c.deref.ensures.value) (c.in_ok-add_bounds.ensures ∙ ap₂ (λ bs os. record c.add_sides.new.builder { bounds = c.add_sides.new.builder.bounds ++ map (λ j. get_or bs j no_sides) os }) c.deref-2.ensures.value c.deref-3.ensures.value) c.in_ok-add_terms.ensures

@@ -1,4 +1,4 @@
-use Rattle.std.proofs.Common.{◌≡◌, ◌∙◌, ap, sym, refl, map}
+use Rattle.std.proofs.Common.{◌∙◌, ap, refl, map}
 use Rattle.mps_model.specs.Built.{entry_of}
 use Rattle.name_files.proofs.BuildLemmas.{can_add_column, can_add_entries}
 use Rattle.name_files.proofs.renaming.add_column.Goals as goal

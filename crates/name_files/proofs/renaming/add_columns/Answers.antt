@@ -1,4 +1,4 @@
-use Rattle.std.proofs.Common.{◌≡◌, ◌∙◌, ap, sym, subst, arith, length, List, ℕ}
+use Rattle.std.proofs.Common.{◌∙◌, ap, sym, subst, arith, length, List, ℕ}
 use Rattle.linear_programs.specs.Names.{variable_name}
 use Rattle.texts.specs.Names.{IsName}
 use Rattle.mps_model.specs.Mps.{Mps, Column}

@@ -1,4 +1,4 @@
-use Rattle.std.proofs.Common.{◌≡◌, ◌∙◌, ap, sym, subst, arith, List, ℕ}
+use Rattle.std.proofs.Common.{◌∙◌, ap, sym, subst, arith, List, ℕ}
 use Rattle.std.proofs.lemmas.List.{take-map}
 use Rattle.linear_programs.specs.Names.{row_name}
 use Rattle.texts.specs.Names.{IsName}

@@ -4,7 +4,7 @@ use Rattle.texts.specs.Words.{texts}
 use Rattle.nl_segments.specs.InsideHeadSteps.{held_head_tests}
 use Rattle.nl_lines.specs.Heads.{head_of}
 use Rattle.nl_lines.specs.Tests.{head_form_tests}
-use Rattle.nl_segments.proofs.HeadRefusal.{form_fault, form_fine}
+use Rattle.nl_segments.proofs.HeadLaw.{form_fault, form_fine}
 use Rattle.nl_segments.proofs.body_heads.new_head.Goals as goal
 
 pub returns-in-Err : goal.returns-in-Err

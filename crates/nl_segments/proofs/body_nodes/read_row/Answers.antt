@@ -1,22 +1,9 @@
-use Rattle.std.proofs.Common.{◌∙◌, ◌^◌, [], ◌∷◌, nat_le}
+use Rattle.std.proofs.Common.{◌^◌, [], ◌∷◌, nat_le}
 use Rattle.texts.specs.Words.{texts}
 use Rattle.nl_lines.specs.declared.fault.NlReason.TheVariants.{TooLarge}
 use Rattle.nl_lines.specs.Tests.{node_form_tests}
-use Rattle.nl_lines.proofs.NodeLemmas.{too_large, not_large}
-use Rattle.texts.proofs.FirstReasons.{reason_before, reason_after}
+use Rattle.texts.proofs.FirstReasons.{reason_before}
 use Rattle.nl_segments.proofs.body_nodes.read_row.Goals as goal
 
 pub returns-in-Err : goal.returns-in-Err
 returns-in-Err c = reason_before (node_form_tests c.args.builder.now.counts c.args.builder.now (texts c.args.words.now)) ((nat_le (2 ^ 22) c.args.nodes, TooLarge) ∷ []) c.in-Err.reason c.in-Err.ensures
-
-pub returns-then-nodes-ge-MOST_NODES : goal.returns-then-nodes-ge-MOST_NODES
-returns-then-nodes-ge-MOST_NODES c =
-    reason_after (node_form_tests c.args.builder.now.counts c.args.builder.now (texts c.args.words.now)) ((nat_le (2 ^ 22) c.args.nodes, TooLarge) ∷ []) c.in-Ok.ensures.0
-    ∙ too_large c.args.nodes c.if-nodes-ge-MOST_NODES.true
-
-pub returns : goal.returns
-returns c = (
-  reason_after (node_form_tests c.args.builder.now.counts c.args.builder.now (texts c.args.words.now)) ((nat_le (2 ^ 22) c.args.nodes, TooLarge) ∷ []) c.in-Ok.ensures.0
-      ∙ not_large c.args.nodes c.if-nodes-ge-MOST_NODES.false,
-  record { read = c.in-Ok.ensures.1; few = c.if-nodes-ge-MOST_NODES.false },
-)

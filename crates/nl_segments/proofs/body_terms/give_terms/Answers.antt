@@ -2,7 +2,7 @@ use Rattle.std.proofs.Common.{◌∙◌, ◌<◌, ap, arith, drop, subst}
 use Rattle.std.proofs.lemmas.Bool.Decides.{nat_tests}
 use Rattle.std.proofs.lemmas.List.{length-drop}
 use Rattle.nl_lines.specs.FirstPairs.{IsFirstPair}
-use Rattle.nl_segments.proofs.TermRuns.{can_term, none_counted, still_below, term_taken}
+use Rattle.nl_segments.proofs.StandingLemmas.{can_term, none_counted, still_below, term_taken}
 use Rattle.nl_segments.proofs.body_terms.give_terms.Goals as goal
 
 pub lines-init : goal.lines-init

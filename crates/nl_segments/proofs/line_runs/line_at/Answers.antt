@@ -1,7 +1,7 @@
 use Rattle.std.proofs.Common.{◌∙◌, ◌+◌, ◌≡◌, [], arith, refl, suc, sym}
 use Rattle.nl_segments.specs.declared.line_runs.LineRun.{LineRun}
 use Rattle.nl_segments.specs.InsideLineRuns.{lines_in}
-use Rattle.nl_segments.proofs.LineRunLemmas.{found_after, found_in, nothing_there, only_last}
+use Rattle.nl_segments.proofs.StandingLemmas.{found_after, found_in, nothing_there, only_last}
 use Rattle.nl_segments.proofs.line_runs.line_at.Goals as goal
 
 pub returns-in-Ok : goal.returns-in-Ok

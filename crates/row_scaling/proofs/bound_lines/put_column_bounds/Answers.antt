@@ -4,7 +4,7 @@ use Rattle.mps_model.specs.declared.kinds.BoundKind.TheVariants.{Lo, Up, Fx, Mi,
 use Rattle.exported_program.specs.Program.{column_bounds}
 use Rattle.scaling.specs.Rows.{side_value}
 use Rattle.row_scaling.proofs.LineLemmas.{bound_written, one_bound, two_bounds}
-use Rattle.row_scaling.proofs.VariableLemmas.{both_bounds, fixed_bounds}
+use Rattle.row_scaling.proofs.AddLemmas.{both_bounds, fixed_bounds}
 use Rattle.row_scaling.proofs.bound_lines.put_column_bounds.Goals as goal
 
 pub returns-then-same_value : goal.returns-then-same_value

@@ -1,5 +1,5 @@
 use Rattle.std.proofs.Common.{◌≡◌}
-use Rattle.row_scaling.proofs.VariableLemmas.{AreBoundsLeft}
+use Rattle.row_scaling.proofs.AddLemmas.{AreBoundsLeft}
 use Rattle.row_scaling.proofs.bounds.add_bounds.Given as goal
 
 abbrev pub invariant-loop-j : goal.invariant-loop-j

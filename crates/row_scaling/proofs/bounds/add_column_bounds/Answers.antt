@@ -1,7 +1,7 @@
 use Rattle.std.proofs.Common.{◌∙◌, sym, ap, ap₂, refl}
 use Rattle.scaling.specs.Rows.{side_value}
 use Rattle.exported_program.specs.Program.{column_bounds}
-use Rattle.row_scaling.proofs.VariableLemmas.{one_put, two_put, fixed_bounds, both_bounds}
+use Rattle.row_scaling.proofs.AddLemmas.{one_put, two_put, fixed_bounds, both_bounds}
 use Rattle.row_scaling.proofs.bounds.add_column_bounds.Goals as goal
 
 pub returns-then-same_value-clause-added : goal.returns-then-same_value-clause-added

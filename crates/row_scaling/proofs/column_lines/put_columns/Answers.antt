@@ -1,5 +1,5 @@
-use Rattle.row_scaling.proofs.LineLemmas.{columns_written}
 use Rattle.std.proofs.Common.{◌∙◌, ap, length}
+use Rattle.row_scaling.proofs.LineLemmas.{columns_written}
 use Rattle.row_scaling.proofs.column_lines.put_columns.Goals as goal
 
 pub returns : goal.returns

@@ -1,17 +1,11 @@
 use Rattle.std.proofs.Common.{◌≡◌, ◌+◌, ◌<◌, ◌∙◌, ◌++◌, ap, arith, map, subst}
 use Rattle.written_texts.specs.Lines.{lines_text}
 use Rattle.mps_writer.proofs.Writing.{markers_more}
-use Rattle.row_scaling.specs.InsideColumns.{column_count, entries_in_column, entry_value}
+use Rattle.scaling.specs.Parts.{column_count}
+use Rattle.row_scaling.specs.InsideColumns.{entries_in_column, entry_value}
 use Rattle.row_scaling.specs.InsideSections.{lines_from}
-use Rattle.row_scaling.proofs.LineLemmas.{entries_within, part_written}
+use Rattle.row_scaling.proofs.LineLemmas.{part_written}
 use Rattle.row_scaling.proofs.column_lines.put_part.Goals as goal
-
-pub put_column-requires-clause-within : goal.put_column-requires-clause-within
-put_column-requires-clause-within c =
-    let k = c.loop-k.k in
-    let column = c.index-columns-k.result in
-    let terms : map entry_value column.items ≡ entries_in_column c.args.scaled.now (c.args.first + k) = ap (λ v. map entry_value v.items) c.index-columns-k.is ∙ c.requires.columns.terms k column (omega arith) in
-    entries_within c.args.scaled.now (c.args.first + k) c.deref.result.now (ap (map entry_value) c.deref.ensures.value ∙ terms)
 
 pub loop-k-preserved : goal.loop-k-preserved
 loop-k-preserved c =
@@ -24,6 +18,6 @@ loop-k-preserved c =
     record {
       few = omega (arith, c.in_ok-markers.ensures.0, markers_more c.loop-k.marked c.is_marked-now.result c.loop-k.markers, c.loop-k.invariant.few);
       text = subst (λ m. c.put_column.new.out.items ++ lines_text (lines_from s c.is_marked-now.result c.in_ok-markers.markers m) ≡ c.args.out.now.items ++ lines_text (lines_from s c.args.from.marked c.args.from.markers c.args.first)) next
-          (part_written s c.requires.scaled (c.args.first + k) c.loop-k.marked c.is_marked-now.result c.loop-k.markers c.in_ok-markers.markers c.loop-k.out.items c.put_change.new.out.items c.put_column.new.out.items _ c.bytes.result.now c.deref.result.now
-          inside c.loop-k.invariant.text c.is_marked-now.ensures (c.bytes.ensures ∙ c.name_of_column-name.ensures) (ap (map entry_value) c.deref.ensures.value ∙ terms) c.in_ok-markers.ensures.0 c.in_ok-markers.ensures.1 c.in_ok-put_column.ensures);
+          (part_written s c.requires.scaled (c.args.first + k) c.loop-k.marked c.is_marked-now.result c.loop-k.markers c.in_ok-markers.markers c.loop-k.out.items c.put_change.new.out.items c.put_column.new.out.items _ c.name_of_column-name.result c.deref.result.now
+          inside c.loop-k.invariant.text c.is_marked-now.ensures c.name_of_column-name.ensures (ap (map entry_value) c.deref.ensures.value ∙ terms) c.in_ok-markers.ensures.0 c.in_ok-markers.ensures.1 c.in_ok-put_column.ensures);
     }

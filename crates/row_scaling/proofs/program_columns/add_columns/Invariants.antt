@@ -1,6 +1,6 @@
 use Rattle.std.proofs.Common.{◌≡◌, length, drop}
 use Rattle.std.specs.Vec.Iter.{into_iter_items, into_iter_len}
-use Rattle.row_scaling.proofs.ColumnsLeft.{AreColumnsLeft}
+use Rattle.row_scaling.proofs.AddLemmas.{AreColumnsLeft}
 use Rattle.row_scaling.proofs.program_columns.add_columns.Given as goal
 
 abbrev pub invariant-loop-j : goal.invariant-loop-j

@@ -1,13 +1,9 @@
-use Rattle.std.proofs.Common.{◌∙◌, sym}
-use Rattle.row_scaling.proofs.SectionLemmas.{plain_rows_written, tied_rows_written}
+use Rattle.std.proofs.Common.{◌∙◌, ap}
+use Rattle.scaling.specs.Parts.{name_in, rows_in}
+use Rattle.row_scaling.proofs.LineLemmas.{rows_written}
 use Rattle.row_scaling.proofs.row_lines.put_rows.Goals as goal
-
-pub returns-in_default : goal.returns-in_default
-returns-in_default c =
-    plain_rows_written c.args.scaled.now c.rows.result.now c.args.out.now.items c.put_line.new.out.items c.put_row.new.out.items c.put_exported_rows.new.out.items c.rows.ensures.value
-    c.in_ok-put_line.ensures c.in_ok-put_row.ensures c.in_ok-put_exported_rows.ensures (sym c.tie.ensures ∙ c.in_default.is)
 
 pub returns : goal.returns
 returns c =
-    tied_rows_written c.args.scaled.now c.rows.result.now c.args.out.now.items c.put_line.new.out.items c.put_row.new.out.items c.put_exported_rows.new.out.items c.rows.ensures.value
-    c.in_ok-put_line.ensures c.in_ok-put_row.ensures c.in_ok-put_exported_rows.ensures c.in-Some._tie c.put_row-2.new.out.items (sym c.tie.ensures ∙ c.in-Some.is) c.in_ok-put_row-2.ensures
+    rows_written c.args.scaled.now _ c.args.out.now.items c.put_line.new.out.items c.put_row.new.out.items c.put_listed_rows.new.out.items
+    (ap (λ n. rows_in (name_in n) 0 c.program_rows.result.now) c.constraints.ensures.value ∙ c.program_rows.ensures.rows.named) c.in_ok-put_line.ensures c.in_ok-put_row.ensures c.in_ok-put_listed_rows.ensures

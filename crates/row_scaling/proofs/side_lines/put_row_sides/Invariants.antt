@@ -1,10 +1,10 @@
 use Rattle.std.proofs.Common.{◌≡◌, ◌++◌}
 use Rattle.std.specs.List.{flat_map}
-use Rattle.scaling.specs.Exported.{exported_from}
+use Rattle.scaling.specs.Parts.{name_in}
 use Rattle.written_texts.specs.Lines.{lines_text}
 use Rattle.row_scaling.specs.InsideSections.{side_lines}
-use Rattle.row_scaling.proofs.RowLemmas.{left}
+use Rattle.row_scaling.proofs.ColumnLemmas.{left}
 use Rattle.row_scaling.proofs.side_lines.put_row_sides.Given as goal
 
 abbrev pub invariant-loop-i : goal.invariant-loop-i
-invariant-loop-i l = l.out.items ++ lines_text (flat_map side_lines (left l.rows l.i)) ≡ l.initial.out.items ++ lines_text (flat_map side_lines (exported_from 0 l.rows))
+invariant-loop-i l = l.out.items ++ lines_text (flat_map side_lines (left (name_in l.fn.n) l.rows l.i)) ≡ l.initial.out.items ++ lines_text (flat_map side_lines (left (name_in l.fn.n) l.rows 0))

@@ -1,5 +1,5 @@
 use Rattle.exact_numbers.specs.Values.{frac_value}
-use Rattle.scaling.proofs.DecimalLemmas.{no_cofactor}
+use Rattle.scaling.proofs.NumberLemmas.{no_cofactor}
 use Rattle.scaling.proofs.decimals.has_few_places.Goals as goal
 
 pub returns-in-Some : goal.returns-in-Some

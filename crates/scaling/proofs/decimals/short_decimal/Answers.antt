@@ -1,7 +1,7 @@
 use Rattle.std.proofs.Common.{rules, ◌≡◌, ◌≤◌, ◌^◌, ◌∙◌, ap₂, pos, ◌*ℤ◌, to_z, of_z, to_z-of_z}
 use Rattle.std.specs.Int.{w32, w64, w128}
 use Rattle.exact_numbers.specs.Values.{frac_value}
-use Rattle.scaling.proofs.DecimalLemmas.{short_is}
+use Rattle.scaling.proofs.NumberLemmas.{short_is}
 use Rattle.scaling.proofs.decimals.short_decimal.Goals as goal
 
 pub returns : goal.returns

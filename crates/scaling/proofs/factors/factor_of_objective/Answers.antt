@@ -3,7 +3,7 @@ use Rattle.std.specs.Int.{w128}
 use Rattle.exact_numbers.specs.Values.{frac_value}
 use Rattle.linear_program.specs.Forms.{form_line, form_terms}
 use Rattle.scaling.specs.Fitting.{coefficients_in}
-use Rattle.scaling.proofs.FactorLemmas.{first_number, fewer_wide, factor_positive}
+use Rattle.scaling.proofs.NumberLemmas.{first_number, fewer_wide, factor_positive}
 use Rattle.scaling.proofs.factors.factor_of_objective.Goals as goal
 
 pub returns-in_default : goal.returns-in_default

@@ -1,7 +1,7 @@
 use Rattle.std.proofs.Common.{rules, ◌≡◌, ◌∙◌, sym, ap, unsigned_abs, to_z, of_z}
 use Rattle.std.specs.Int.{w128}
 use Rattle.linear_program.specs.Forms.{form_terms, terms_left}
-use Rattle.scaling.proofs.FactorLemmas.{running, running_end, running_wide, next_above, size_above, back_to}
+use Rattle.scaling.proofs.NumberLemmas.{running, running_end, running_wide, next_above, size_above}
 use Rattle.scaling.proofs.factors.with_fractions.Goals as goal
 
 pub loop-term-preserved : goal.loop-term-preserved
@@ -20,10 +20,3 @@ returns-in_default-clause-factor c = λ xs e.
     let back : to_z w128 (of_z w128 c.args.start) ≡ c.args.start = search rules in
     let i = c.loop-term.invariant in
     running_wide _ _ c.in-Some.term (terms_left c.next.new.self) (terms_left c.loop-term.term-iterator) (size_above _ i.3) c.in-Some.ensures.steps (i.2 ∙ running_end _ xs (form_terms c.args.form.now) (back ∙ e)) c.in_default.ensures
-
-pub returns-clause-factor : goal.returns-clause-factor
-returns-clause-factor c = λ xs e.
-    let back : to_z w128 (of_z w128 c.args.start) ≡ c.args.start = search rules in
-    let i = c.loop-term.invariant in
-    let k = unsigned_abs (to_z w128 c.loop-term.factor-bits) in
-    back_to _ _ i.3 (sym (ap (running k) c.in-None.ensures.steps.0) ∙ i.2 ∙ running_end _ xs (form_terms c.args.form.now) (back ∙ e))

@@ -1,6 +1,6 @@
 use Rattle.std.proofs.Common.{◌≡◌, pos, unsigned_abs, ◌<ℤ◌}
 use Rattle.linear_program.specs.Forms.{form_terms, terms_left}
-use Rattle.scaling.proofs.FactorLemmas.{running}
+use Rattle.scaling.proofs.NumberLemmas.{running}
 use Rattle.scaling.proofs.factors.with_fractions.Given as goal
 
 abbrev pub invariant-loop-term : goal.invariant-loop-term

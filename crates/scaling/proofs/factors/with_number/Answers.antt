@@ -2,7 +2,7 @@ use Rattle.std.proofs.Common.{rules, ◌≡◌, ℕ, ◌<◌, ◌≤◌, ◌^◌
 use Rattle.std.specs.Int.{w128}
 use Rattle.std.proofs.lemmas.Int.{ints}
 use Rattle.exact_numbers.specs.Fraction.{IsLcm}
-use Rattle.scaling.proofs.FactorLemmas.{by_lcm, cofactor_is, with_none, with_one}
+use Rattle.scaling.proofs.NumberLemmas.{by_lcm, cofactor_is, with_none, with_one}
 use Rattle.scaling.proofs.factors.with_number.Goals as goal
 
 pub returns-then-has_few_places : goal.returns-then-has_few_places

@@ -4,7 +4,7 @@ use Rattle.exact_numbers.specs.Values.{frac_value}
 use Rattle.exported_program.specs.Factor.{cofactor_of, least_factor}
 use Rattle.fractions.specs.Fits.{least_multiple}
 use Rattle.scaling.specs.Fitting.{frac_side, listed}
-use Rattle.scaling.proofs.FactorLemmas.{one_more}
+use Rattle.scaling.proofs.NumberLemmas.{one_more}
 use Rattle.scaling.proofs.factors.with_side.Goals as goal
 
 pub returns-in-Some : goal.returns-in-Some

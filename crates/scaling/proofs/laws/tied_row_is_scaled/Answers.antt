@@ -1,4 +1,4 @@
-use Rattle.scaling.proofs.LawLemmas.{tied_as_scaled}
+use Rattle.scaling.proofs.LinearLemmas.{tied_as_scaled}
 use Rattle.scaling.proofs.laws.tied_row_is_scaled.Goals as goal
 
 pub returns : goal.returns

@@ -2,7 +2,7 @@ use Rattle.std.proofs.lemmas.List.Elements.{All-tail}
 use Rattle.exact_numbers.specs.Values.{frac_value}
 use Rattle.linear_program.specs.Forms.{form_line, form_terms}
 use Rattle.scaling.specs.Fitting.{coefficients_in, NumberFits}
-use Rattle.scaling.proofs.FactoredLemmas.{fault_map}
+use Rattle.scaling.proofs.FitLemmas.{fault_map}
 use Rattle.scaling.proofs.objectives.objective_times.Goals as goal
 
 pub returns-in-Err-clause-wide : goal.returns-in-Err-clause-wide

@@ -3,7 +3,7 @@ use Rattle.exact_numbers.specs.Values.{frac_value}
 use Rattle.texts.specs.Stopped.{IfFault}
 use Rattle.scaling.specs.Factored.{numbers_of}
 use Rattle.scaling.specs.Fitting.{NumberFits}
-use Rattle.scaling.proofs.ObjectiveLemmas.{both_wide}
+use Rattle.scaling.proofs.LinearLemmas.{both_wide}
 use Rattle.scaling.proofs.objectives.scaled_objective.Goals as goal
 
 pub returns-in-Err-Fault-clause-wide : goal.returns-in-Err-Fault-clause-wide

@@ -1,7 +1,7 @@
 use Rattle.std.proofs.Common.{rules, ◌≡◌, ◌∙◌, ap, to_z, of_z}
 use Rattle.std.specs.Int.{w128}
 use Rattle.fractions.specs.Rational.{whole}
-use Rattle.scaling.proofs.WholeDecimals.{fraction_decimal}
+use Rattle.scaling.proofs.NumberLemmas.{fraction_decimal}
 use Rattle.scaling.proofs.objectives.tie.Goals as goal
 
 pub unreachable-requires : goal.unreachable-requires

@@ -1,13 +1,8 @@
 use Rattle.std.proofs.Common.{rules, ◌≡◌, ◌∙◌, to_z, of_z}
 use Rattle.std.specs.Int.{w128}
 use Rattle.scaling.specs.Factored.{numbers_of}
-use Rattle.scaling.proofs.FactorLemmas.{factor_positive}
+use Rattle.scaling.proofs.NumberLemmas.{factor_positive}
 use Rattle.scaling.proofs.objectives.tied_objective.Goals as goal
-
-pub whole-requires : goal.whole-requires
-whole-requires c =
-    let back : to_z w128 (of_z w128 c.in-Some.factor) ≡ c.in-Some.factor = search rules in
-    factor_positive _ (numbers_of c.args.objective.now) (back ∙ c.in-Some.ensures)
 
 pub tie-requires : goal.tie-requires
 tie-requires c =

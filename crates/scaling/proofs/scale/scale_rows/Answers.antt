@@ -6,7 +6,7 @@ use Rattle.linear_program.specs.Programs.{linear_value}
 use Rattle.scaling.specs.Factored.{IsTiedOrPlain, IsTooWide}
 use Rattle.scaling.specs.Scaled.{IsScaled}
 use Rattle.scaling.specs.Scaling.{IsScaledOf}
-use Rattle.scaling.proofs.ScaleLemmas.{same_value_of, is_scaled_program, is_scaled_of, no_fault, objective_fault}
+use Rattle.scaling.proofs.LinearLemmas.{same_value_of, is_scaled_program, is_scaled_of, no_fault, objective_fault}
 use Rattle.scaling.proofs.scale.scale_rows.Goals as goal
 
 pub returns-in-Err-Fault-clause-fault : goal.returns-in-Err-Fault-clause-fault
@@ -36,7 +36,7 @@ returns-clause-scaled c =
     let h = subst (λ b. IsTiedOrPlain b o t) c.objective.ensures.objective c.in-Ok-scaled_objective.ensures.scaled in
     let bounds = c.in_ok-extend_from_slice.ensures.items ∙ ap (λ xs. xs ++ c.bounds.result.now) c.new-bounds.ensures.items ∙ c.bounds.ensures in
     let kinds = c.in_ok-extend_from_slice-2.ensures.items ∙ ap (λ xs. xs ++ c.kinds.result.now) c.new-kinds.ensures.items ∙ c.kinds.ensures in
-    subst (IsScaledOf (linear_value l)) (sym (c.new.ensures ∙ same_value_of l c.in-Ok.rows.items o t c.maximise-maximise.result c.extend_from_slice.new.self.items c.extend_from_slice-2.new.self.items c.maximise-maximise.ensures bounds kinds))
+    subst (IsScaledOf (linear_value l)) (sym (c.in_ok-new.ensures ∙ same_value_of l c.in-Ok.rows.items o t c.maximise-maximise.result c.extend_from_slice.new.self.items c.extend_from_slice-2.new.self.items c.maximise-maximise.ensures bounds kinds))
     (is_scaled_of l c.objective.ensures.folded up c.in-Ok.rows.items c.in-Ok.ensures.scaled o t h)
 
 pub returns-clause-fine : goal.returns-clause-fine

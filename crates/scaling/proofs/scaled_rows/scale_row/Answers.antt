@@ -7,10 +7,8 @@ use Rattle.scaling.specs.Factored.{IsFactored, row_for}
 use Rattle.scaling.specs.Fitting.{coefficients_in, frac_side, listed, less_side, LessFits}
 use Rattle.exported_program.specs.Export.{IfSide}
 use Rattle.scaling.specs.Rows.{RowValue, IsScaledRow, side_value}
-use Rattle.scaling.proofs.FactorLemmas.{factor_positive}
-use Rattle.scaling.proofs.FactoredLemmas.{multiplier_some, is_scaled, factored, fault_map}
-use Rattle.scaling.proofs.RowFitLemmas.{no_factor_fits, no_scaled_fit, no_terms_fit}
-use Rattle.scaling.proofs.TermLemmas.{times_length}
+use Rattle.scaling.proofs.NumberLemmas.{factor_positive}
+use Rattle.scaling.proofs.FitLemmas.{multiplier_some, is_scaled, factored, fault_map, no_factor_fits, no_scaled_fit, no_terms_fit, times_length}
 use Rattle.scaling.proofs.scaled_rows.scale_row.Goals as goal
 
 pub returns-in_default-factor_of_row-clause-wide : goal.returns-in_default-factor_of_row-clause-wide
@@ -34,8 +32,8 @@ returns-in_default-scaled_sides-clause-wide c = λ n i below.
     (s.2 ∙ ap (λ x. less_side x (side_value c.args.side.lo)) con) (s.3 ∙ ap (λ x. less_side x (side_value c.args.side.hi)) con)
     (frac_value c.whole-multiplier.result) (c.whole-multiplier.ensures ∙ ap whole (back ∙ c.in-Some.ensures.factor)) c.in_default-scaled_sides.ensures
 
-pub new-row-requires : goal.new-row-requires
-new-row-requires c =
+pub new-requires : goal.new-requires
+new-requires c =
     let back : to_z w128 (of_z w128 c.in-Some.factor) ≡ c.in-Some.factor = search rules in
     let s = c.in-Ok.ensures in
     let p = c.in-Ok-scaled_sides.ensures in
@@ -69,7 +67,7 @@ returns-clause-scaled c = λ n i below.
     _ c.in-Ok-scaled_sides.sides.side c.in-Ok-scaled_sides.sides.range s.2 s.3
     (multiplier_some _ xs (c.whole-multiplier.ensures ∙ ap whole (back ∙ c.in-Some.ensures.factor)))
     c.in-Some.ensures.ascending c.requires c.in-Ok-scaled_terms.ensures.scaled p.1 p.2 p.3 in
-    subst (λ w. IsFactored n i (row_for i b c.args.side) (record { factor = to_z w128 (of_z w128 c.in-Some.factor); row = w })) (sym c.new-row.ensures)
+    subst (λ w. IsFactored n i (row_for i b c.args.side) (record { factor = to_z w128 (of_z w128 c.in-Some.factor); row = w })) (sym c.in_ok-row.ensures)
     (factored n i b c.args.side c.in-Some.ensures.ascending below (frac_side c.in-Ok.less.lo) (frac_side c.in-Ok.less.hi)
     (s.2 ∙ ap (λ x. less_side x (side_value c.args.side.lo)) con) (s.3 ∙ ap (λ x. less_side x (side_value c.args.side.hi)) con)
     (frac_value c.whole-multiplier.result) (c.whole-multiplier.ensures ∙ ap whole (back ∙ c.in-Some.ensures.factor))
@@ -78,4 +76,4 @@ returns-clause-scaled c = λ n i below.
     c.in-Ok-scaled_terms.ensures.scaled p.1 p.2)
 
 pub returns-clause-few : goal.returns-clause-few
-returns-clause-few c = ap (λ v. length v.terms) c.new-row.ensures ∙ times_length _ (form_terms c.args.body.now) _ c.in-Ok-scaled_terms.ensures.scaled
+returns-clause-few c = ap (λ v. length v.terms) c.in_ok-row.ensures ∙ times_length _ (form_terms c.args.body.now) _ c.in-Ok-scaled_terms.ensures.scaled

@@ -1,6 +1,6 @@
 use Rattle.exact_numbers.specs.Values.{frac_value}
 use Rattle.linear_program.specs.Forms.{form_terms}
-use Rattle.scaling.proofs.KeptDecimals.{plain_if_some}
+use Rattle.scaling.proofs.NumberLemmas.{plain_if_some}
 use Rattle.scaling.proofs.scaled_terms.decimals_at_one.Goals as goal
 
 pub returns : goal.returns

@@ -1,6 +1,6 @@
 use Rattle.exact_numbers.specs.Values.{frac_value}
 use Rattle.linear_program.specs.Forms.{form_terms, terms_left}
-use Rattle.scaling.proofs.TermLemmas.{first_fits, others_fit, one_added, all_added}
+use Rattle.scaling.proofs.FitLemmas.{first_fits, others_fit, one_added}
 use Rattle.scaling.proofs.scaled_terms.terms_times.Goals as goal
 
 pub returns-in_default-clause-wide : goal.returns-in_default-clause-wide
@@ -16,6 +16,3 @@ loop-term-preserved c =
           c.loop-term.terms c.push.new.self us c.in-Some-scaled_number.value c.in_ok-push.ensures.ok c.in-Some-scaled_number.ensures.0 c.in-Some-scaled_number.ensures.1 i.2 h,
       λ h. others_fit q (form_terms c.args.form.now) c.in-Some.term (terms_left c.loop-term.term-iterator) (terms_left c.next.new.self) c.in-Some.ensures.steps (i.3 h),
     )
-
-pub returns-clause-scaled : goal.returns-clause-scaled
-returns-clause-scaled c = all_added _ (form_terms c.args.form.now) (terms_left c.loop-term.term-iterator) c.loop-term.terms c.in-None.ensures.steps.0 c.loop-term.invariant.2

@@ -3,11 +3,7 @@ use Rattle.exact_numbers.specs.Values.{dec_value}
 use Rattle.certificate_check.specs.Sums.{sum_value}
 use Rattle.certificate_check.specs.Terms.{side_value}
 use Rattle.certificate_check.proofs.CostLemmas.{fault_of_side, no_fault_of_side, value_there}
-use Rattle.certificate_check.proofs.Sweeps.{no_fault_at_zero}
 use Rattle.certificate_check.proofs.sums.Sum.fault.Goals as goal
-
-pub returns-then-is_zero : goal.returns-then-is_zero
-returns-then-is_zero c max i needs = sym (no_fault_at_zero max i c.args.number (sum_value c.args.self.now) (c.is_zero.ensures.0 c.if-is_zero.true))
 
 pub returns-in-Some : goal.returns-in-Some
 returns-in-Some c max i needs =

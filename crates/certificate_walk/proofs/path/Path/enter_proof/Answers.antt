@@ -2,13 +2,8 @@ use Rattle.std.proofs.Common.{refl}
 use Rattle.duality.specs.Parts.{lemma}
 use Rattle.certificate_walk.specs.InsidePaths.{sides_of, to_first}
 use Rattle.certificate_walk.specs.declared.path.Step.TheVariants.{Showing}
-use Rattle.certificate_walk.proofs.PathLemmas.{one_lemma, path_lemma, stepped}
+use Rattle.certificate_walk.proofs.PathLemmas.{one_lemma, stepped}
 use Rattle.certificate_walk.proofs.path.Path.enter_proof.Goals as goal
-
-pub returns-clause-path : goal.returns-clause-path
-returns-clause-path c n w p =
-    path_lemma n c.args.self.now (record { lo = c.args.self.now.lo; hi = c.args.self.now.hi; added = c.args.self.now.added; lemmas = c.push.new.self; steps = c.push-2.new.self })
-    Showing c.args.shown p tt w refl refl refl c.in_ok-push.ensures.items c.in_ok-push-2.ensures.items
 
 pub returns-clause-at : goal.returns-clause-at
 returns-clause-at c base turns form t is h =

@@ -5,10 +5,13 @@ use Rattle.linear_program.proofs.decimal_terms.DecimalTerms.at.Goals as goal
 
 pub unreachable-requires : goal.unreachable-requires
 unreachable-requires c =
-    let clash : true ≡ false = sym (fits_at c.self.inside.items.items c.args.place c.index.result.now (subst (λ ds. c.args.place < length ds) (sym c.self.view_is) c.requires) c.index.ensures c.self.invariant) ∙ c.in-None.ensures in
+    let t = c.index-items-place.result in
+    let there : t ≡ get_or c.args.self.now c.args.place t = subst (λ ds. t ≡ get_or ds c.args.place t) c.items-items.ensures.items c.index-items-place.is in
+    let clash : true ≡ false = sym (fits_at c.args.self.now c.args.place t c.requires there c.items-items.ensures.decimals) ∙ c.in-None.ensures in
     cc
 
 pub returns : goal.returns
 returns c =
-    subst (λ ds. (c.index.result.now.0, c.in-Some.fraction) ≡ get_or (fraction_terms ds) c.args.place (c.index.result.now.0, c.in-Some.fraction)) c.self.view_is
-    (fraction_at c.self.inside.items.items c.args.place c.index.result.now (subst (λ ds. c.args.place < length ds) (sym c.self.view_is) c.requires) c.index.ensures c.self.invariant c.in-Some.fraction c.in-Some.ensures.1)
+    let t = c.index-items-place.result in
+    let there : t ≡ get_or c.args.self.now c.args.place t = subst (λ ds. t ≡ get_or ds c.args.place t) c.items-items.ensures.items c.index-items-place.is in
+    fraction_at c.args.self.now c.args.place t c.requires there c.items-items.ensures.decimals c.in-Some.fraction c.in-Some.ensures.1

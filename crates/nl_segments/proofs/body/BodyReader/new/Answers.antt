@@ -3,9 +3,9 @@ use Rattle.std.proofs.lemmas.List.{length-replicate}
 use Rattle.nl_model.specs.declared.header_counts.Counts.{Counts}
 use Rattle.nl_lines.specs.Saying.{empty_lines}
 use Rattle.nl_lines.specs.SeenSegments.{no_segments}
-use Rattle.nl_segments.specs.Held.{Body, only_header}
+use Rattle.nl_segments.specs.Held.{Body}
 use Rattle.nl_lines.specs.Tests.{index_limit}
-use Rattle.nl_segments.proofs.BodyStart.{IsNew, start_held}
+use Rattle.nl_segments.proofs.HeadLaw.{IsMade, start_held}
 use Rattle.nl_segments.proofs.body.BodyReader.new.Goals as goal
 use Rattle.nl_segments.proofs.body.BodyReader.new.Goals.{After-new-5}
 
@@ -26,7 +26,7 @@ made c =
       places = c.in_ok-places.places;
     }
 
-is_new : (c : After-new-5) → IsNew c.args.header.options c.args.header.counts (made c)
+is_new : (c : After-new-5) → IsMade c.args.header.options c.args.header.counts (made c)
 is_new c =
     record {
       draft = c.in_ok-builder.ensures;
@@ -41,9 +41,6 @@ is_new c =
       uses = c.in_ok-uses.ensures ∙ ap (λ (k : Counts). replicate k.n_var 0) c.counts.ensures.value;
       places = c.in_ok-places.ensures ∙ ap empty_lines c.counts.ensures.value;
     }
-
-pub invariant_of-result : goal.invariant_of-result
-invariant_of-result c = λ _. (only_header c.requires.0, start_held c.requires.0 c.args.header.options c.args.header.counts (made c) c.requires.1 (is_new c))
 
 pub returns : goal.returns
 returns c = λ rows h. start_held rows c.args.header.options c.args.header.counts (made c) h (is_new c)

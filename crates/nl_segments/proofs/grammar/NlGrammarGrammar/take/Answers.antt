@@ -1,11 +1,12 @@
-use Rattle.nl_segments.proofs.GrammarLemmas.{line_fault, line_fine, line_taken}
+use Rattle.std.proofs.Common.{subst, sym}
+use Rattle.nl_segments.specs.Grammar.{standing}
+use Rattle.nl_segments.specs.Held.{HoldsStanding}
+use Rattle.nl_segments.specs.Steps.{after}
+use Rattle.nl_segments.proofs.StandingLemmas.{line_taken}
 use Rattle.nl_segments.proofs.grammar.NlGrammarGrammar.take.Goals as goal
 
-pub returns-clause-taken : goal.returns-clause-taken
-returns-clause-taken c = line_taken c.args.self.now c.take_line.new.self c.args.line.now c.args.number c.take_line.result c.take_line.ensures
+pub invariant_of-self : goal.invariant_of-self
+invariant_of-self c = (after c.self.invariant.0 c.args.number c.args.line.now, (c.in-Ok.ensures c.self.invariant.0 c.self.invariant.1).1)
 
-pub returns-clause-fine : goal.returns-clause-fine
-returns-clause-fine c = line_fine c.args.self.now c.take_line.new.self c.args.line.now c.args.number c.take_line.result c.take_line.ensures
-
-pub returns-clause-fault : goal.returns-clause-fault
-returns-clause-fault c = line_fault c.args.self.now c.take_line.new.self c.args.line.now c.args.number c.take_line.result c.take_line.ensures
+pub returns-in-Ok-clause-taken : goal.returns-in-Ok-clause-taken
+returns-in-Ok-clause-taken c = λ lines e h. line_taken _ _ c.args.line.now c.args.number c.in-Ok.ensures lines e (subst (HoldsStanding (standing lines)) (sym c.self.view_is) h)

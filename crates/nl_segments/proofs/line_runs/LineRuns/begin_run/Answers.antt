@@ -1,5 +1,5 @@
 use Rattle.std.proofs.Common.{refl}
-use Rattle.nl_segments.proofs.LineRunLemmas.{begun}
+use Rattle.nl_segments.proofs.StandingLemmas.{begun}
 use Rattle.nl_segments.proofs.line_runs.LineRuns.begin_run.Goals as goal
 
 pub returns : goal.returns

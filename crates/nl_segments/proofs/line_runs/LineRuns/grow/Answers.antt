@@ -1,13 +1,7 @@
 use Rattle.std.proofs.Common.{◌≡◌, ◌+◌, ◌-◌, ◌≤◌, arith, refl}
 use Rattle.std.proofs.lemmas.Bool.Decides.{nat_tests}
-use Rattle.nl_segments.proofs.LineRunLemmas.{grown, next_after}
+use Rattle.nl_segments.proofs.StandingLemmas.{grown}
 use Rattle.nl_segments.proofs.line_runs.LineRuns.grow.Goals as goal
-
-pub invariant_of-self-2 : goal.invariant_of-self-2
-invariant_of-self-2 c = λ empty.
-    let some : c.self.inside.last.first ≤ c.self.inside.last.last = grind (arith, nat_tests, c.if-self.false) in
-    let next = next_after c.args.self.now c.self.inside.earlier.items c.self.inside.last c.args.line c.self.view_is c.requires.next some in
-    absurd (omega (arith, empty, next, some))
 
 pub returns : goal.returns
 returns c =

@@ -1,6 +1,6 @@
 use Rattle.std.proofs.Common.{◌++◌, sym, subst}
 use Rattle.nl_segments.specs.Reader.{IsFed}
-use Rattle.nl_segments.proofs.StopLemmas.{answered_so_far}
+use Rattle.nl_segments.proofs.StandingLemmas.{answered_so_far}
 use Rattle.nl_segments.proofs.nl_reader.NlReader.feed.Goals as goal
 
 pub invariant_of-self : goal.invariant_of-self

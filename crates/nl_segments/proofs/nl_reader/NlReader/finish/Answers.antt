@@ -3,7 +3,7 @@ use Rattle.texts.specs.Reading.{Reads}
 use Rattle.nl_segments.specs.Grammar.{nl_rules, SaysFile}
 use Rattle.nl_segments.specs.Reader.{IsFed, value_of}
 use Rattle.nl_segments.proofs.CleanTexts.{has_lines}
-use Rattle.nl_segments.proofs.StopLemmas.{answered}
+use Rattle.nl_segments.proofs.StandingLemmas.{answered}
 use Rattle.nl_segments.proofs.nl_reader.NlReader.finish.Goals as goal
 
 pub returns-in-Ok-clause-lines : goal.returns-in-Ok-clause-lines

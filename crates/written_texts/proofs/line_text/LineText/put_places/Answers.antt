@@ -6,7 +6,7 @@ use Rattle.written_texts.proofs.Points.{one-place, no-place}
 use Rattle.written_texts.proofs.line_text.LineText.put_places.Goals as goal
 
 pub loop-preserved : goal.loop-preserved
-loop-preserved c =
+loop-preserved g c =
     let left = c.loop.left in
     let small : left < 10 ^ 64 = omega (arith, c.loop.auto.left-fits) in
     let k = c.args.places - (c.loop.counter + 1) in
@@ -18,12 +18,12 @@ loop-preserved c =
     }
 
 pub put_number-requires : goal.put_number-requires
-put_number-requires c =
+put_number-requires g c =
     let small : c.loop.left < 2 ^ 64 = omega (arith, c.loop.auto.left-fits) in
     omega (arith, c.requires.places, c.requires.room, c.loop.auto.counter-end, ap length c.put_byte-2.ensures, c.loop.invariant.size, length-decimal-le 20 c.loop.left (omega arith) (omega arith) small)
 
 pub returns : goal.returns
-returns c =
+returns g c =
     let left = c.loop.left in
     let small : left < 2 ^ 64 = omega (arith, c.loop.auto.left-fits) in
     let none : c.args.places - c.loop.counter ≡ 0 = omega (arith, c.loop-test.false) in

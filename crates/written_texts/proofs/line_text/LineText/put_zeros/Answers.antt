@@ -5,7 +5,7 @@ use Rattle.exact_numbers.specs.Written.{zeros}
 use Rattle.written_texts.proofs.line_text.LineText.put_zeros.Goals as goal
 
 pub put_number-requires : goal.put_number-requires
-put_number-requires c =
+put_number-requires g c =
     let small : c.args.number < 2 ^ 64 = omega (arith, c.ranges.number.fits) in
     omega (
       arith,

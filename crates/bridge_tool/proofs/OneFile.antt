@@ -1,0 +1,208 @@
+-- Commands of one file that write what it says, or what it is imported as; and what each comes to, by its text.
+use Rattle.std.proofs.Common.{◌≡◌, inl, true, false, refl, ℕ, List, ap, Bool, Option, Some, None, Result, Ok, Err, inr, ◌⊎◌, ◌↔◌, ◌+◌, ◌≤◌, take, sym, subst}
+use Rattle.std.specs.Prelude.{map, IfOk}
+use Rattle.exact_numbers.specs.Values.{dec_value}
+use Rattle.exact_numbers.specs.declared.dec.Dec.{Dec}
+use Rattle.mps_model.specs.Mps.{Mps}
+use Rattle.mps_model.specs.Valid.{IsMps}
+use Rattle.mps_reader.specs.Grammar.{SaysMps, mps_rules, standing}
+use Rattle.mps_reader.specs.Reader.{IsMpsText}
+use Rattle.mps_reader.specs.Written.{mps_text}
+use Rattle.mps_reader.proofs.RoundTrip.{written_again}
+use Rattle.fixed_mps.specs.Fields.{free}
+use Rattle.fixed_mps.specs.Grammar.{SaysFixed, fixed_rules}
+use Rattle.fixed_mps.specs.Reader.{IsFixedText}
+use Rattle.bridge_tool.specs.Mps.{IsMpsMeant, IsMpsRefused, mps_told}
+use Rattle.bridge_tool.specs.Fixed.{IsFixedRefused, fixed_told}
+use Rattle.bridge_tool.specs.MpsTold.{mps_line}
+use Rattle.bridge_tool.specs.Outcome.{Done, Outcome, Refused}
+use Rattle.bridge_tool.specs.Promise.{Promise}
+use Rattle.bridge_tool.proofs.SeveralFiles.{AreRead, read_by, same_one, IsLast, read_so, IsPlain, one_refused, one_said, writes_last}
+use Rattle.sol_files.specs.Reader.{HasSolFault, IsSol}
+use Rattle.sol_files.specs.Sol.{Sol}
+use Rattle.sol_files.specs.Written.{sol_text}
+use Rattle.sol_files.proofs.KeptTexts.{read_keeps}
+use Rattle.sol_files.proofs.ReadingLemmas.{one_reading}
+use Rattle.sol_files.proofs.RoundTrip.{is_read_back}
+use Rattle.bridge_tool.specs.Sol.{IsSolMeant, IsSolRefused, sol_told}
+use Rattle.bridge_tool.specs.SolTold.{sol_line}
+use Rattle.nl_round_trip.specs.Writable.{IsText}
+use Rattle.nl_rewritten.proofs.Rewriting.{written_again as nl_again}
+use Rattle.nl_segments.specs.Grammar.{NlValue}
+use Rattle.nl_segments.specs.Reader.{IsNl}
+use Rattle.nl_writer.specs.Written.{nl_text}
+use Rattle.bridge_tool.specs.Refusal.{HasTextRefusal}
+use Rattle.bridge_tool.proofs.Exporting.{nl_read}
+use Rattle.std.specs.Global.{Vec}
+use Rattle.mps_import.proofs.LawLemmas.{feasible_lem, objective_lem, sense_lem}
+use Rattle.mps_import.specs.declared.import_fault.ImportFault.{ImportFault}
+use Rattle.mps_import.specs.Faults.{import_fault}
+use Rattle.texts.specs.declared.stop.Stop.{Stop}
+use Rattle.bridge_tool.specs.Import.{MeansTheProgram, by_fault, import_outcome, CannotBeImported, IsImportedAs, import_told}
+use Rattle.bridge_tool.specs.SeveralFiles.{Comes, after_file, ends, writes}
+use Rattle.bridge_tool.specs.declared.refusal.Refusal.{Refusal}
+use Rattle.desk.specs.Desk.{Texts}
+use Rattle.mps_import.specs.Import.{import_of}
+use Rattle.bridge_tool.specs.ByText.{IsByText, IsWritingByText}
+use Rattle.bridge_tool.specs.Export.{ExportsAs, IsExportMeant, IsExported, export_told}
+use Rattle.bridge_tool.specs.ImportTold.{import_line}
+use Rattle.bridge_tool.specs.Nl.{nl_told}
+use Rattle.bridge_tool.specs.Stages.{CannotBeExported, fold_steps}
+use Rattle.bridge_tool.specs.declared.transfer.TheConstants.{LIMIT}
+
+-- ---- reading
+
+pub mps_read : AreRead IsMpsText IsMpsRefused
+mps_read = read_by mps_rules SaysMps (mps_line 1) (λ lines. (standing lines).draft.mps) (λ lines m h. h) (λ lines. refl)
+
+pub fixed_read : AreRead IsFixedText IsFixedRefused
+fixed_read = read_by fixed_rules SaysFixed (mps_line 1) (λ lines. (standing (map free lines)).draft.mps) (λ lines m h. h) (λ lines. refl)
+
+-- ---- writing
+
+pub mps_last : IsLast false IsMpsText IsMpsRefused (λ m outcome. outcome ≡ Done true (mps_text m)) (λ m old new. new ≡ old)
+mps_last = writes_last mps_read mps_text
+
+pub fixed_last : IsLast false IsFixedText IsFixedRefused (λ m outcome. outcome ≡ Done true (mps_text m)) (λ m old new. new ≡ old)
+fixed_last = writes_last fixed_read mps_text
+
+-- a whole program is written as a text that is read as itself
+pub mps_meant : (m : Mps Dec) → IsMps dec_value m → IsMpsMeant m
+mps_meant m valid = λ le. written_again m (record { valid = valid; room = le })
+
+-- each text says one value, or is refused with one line
+pub sol_read : (file : ℕ) → AreRead IsSol (IsSolRefused file)
+sol_read file =
+    read_so IsSol HasSolFault (sol_line file)
+    (λ text. (one_reading text).one_value) (λ text a b h k. ap (sol_line file) ((one_reading text).one_fault a b h k)) (λ text. (one_reading text).some) (λ text. (one_reading text).not_both)
+
+pub sol_last : IsLast false IsSol (IsSolRefused 1) (λ sol outcome. outcome ≡ Done true (sol_text sol)) (λ sol old new. new ≡ old)
+sol_last = writes_last (sol_read 1) sol_text
+
+-- what was read keeps the rules of values, so that its written text is read as itself
+pub sol_meant : (text : List ℕ) (sol : Sol) → IsSol text sol → IsSolMeant sol
+sol_meant text sol read = λ le. is_read_back sol (record { rules = read_keeps text sol read; text = le })
+
+pub nl_last : IsLast false IsNl HasTextRefusal (λ nl outcome. outcome ≡ Done true (nl_text nl.file)) (λ nl old new. new ≡ old)
+nl_last = writes_last nl_read (λ nl. nl_text nl.file)
+
+-- what was read is writable, so that its written text says the same file
+pub nl_meant : (text : List ℕ) (nl : NlValue) → IsNl text nl → IsText nl.file (nl_text nl.file)
+nl_meant text nl read = nl_again text nl read
+
+module _ (m : Mps Dec) where
+  plain : (o : Option ImportFault) → IsPlain (by_fault m o)
+  plain None = tt
+  plain (Some fault) = tt
+
+  yes_by : (o : Option ImportFault) (holds : Bool) (bytes : List ℕ) → Done holds bytes ≡ by_fault m o → holds ≡ true
+  yes_by None holds bytes e = cc
+  yes_by (Some fault) holds bytes e = absurd cc
+
+  clean_by : (o : Option ImportFault) (holds : Bool) (bytes : List ℕ) → Done holds bytes ≡ by_fault m o → o ≡ None
+  clean_by None holds bytes e = refl
+  clean_by (Some fault) holds bytes e = absurd cc
+
+  -- what is written means what the program means
+  import_meant : (holds : Bool) (bytes : List ℕ) → Done holds bytes ≡ import_outcome m → MeansTheProgram m
+  import_meant holds bytes e =
+      let clean = clean_by (import_fault m) holds bytes e in
+      record { feasible = λ xs. feasible_lem m clean xs; objective = λ xs. objective_lem m xs; sense = sense_lem m }
+
+pub meant_so : (m : Mps Dec) (judged : Result (Bool × Vec ℕ) (Stop Refusal)) → Comes (λ outcome. outcome ≡ import_outcome m) judged → IfOk judged (λ t. t.0 ≡ true → MeansTheProgram m)
+meant_so m (Ok t) h = λ e. import_meant m t.0 t.1.items h
+meant_so m (Err stop) h = tt
+
+pub import_last : IsLast false IsMpsText IsMpsRefused (λ m outcome. outcome ≡ import_outcome m) (λ m old new. new ≡ old)
+import_last = record {
+  read = mps_read;
+  one = λ m. same_one (import_outcome m) (plain m (import_fault m));
+  idle = λ m n. refl;
+  verdict = λ m holds bytes e. inl (yes_by m (import_fault m) holds bytes e);
+}
+
+done_same : (a b : List ℕ) → Done true a ≡ Done true b → a ≡ b
+done_same a b e = cc
+
+refused_same : (a b : List ℕ) → Refused a ≡ Refused b → a ≡ b
+refused_same a b e = cc
+
+-- any command of one file
+module _ {V : Type 0} (reads : List ℕ → V → Type 0) (refuses : List ℕ → List ℕ → Type 0) (read : AreRead reads refuses)
+    (comes : V → Outcome → Type 0) (counts : V → ℕ → ℕ → Type 0) (means : V → Type 0) (accepts denies : V → List ℕ → Type 0)
+    (yes : (value : V) (bytes : List ℕ) → comes value (Done true bytes) ↔ accepts value bytes)
+    (no : (value : V) (line : List ℕ) → comes value (Refused line) ↔ denies value line)
+    (texts : Texts) (file text : List ℕ) (is : texts file ≡ Some text) where
+  abbrev first : List ℕ
+  first = take LIMIT text
+
+  abbrev told : Promise
+  told = after_file reads refuses texts file (λ value. ends texts file (comes value) (counts value) (means value))
+
+  done_by : (bytes : List ℕ) → told.comes (Done true bytes) ↔ ((value : V) × (reads first value × accepts value bytes))
+  done_by bytes = (
+    λ h. let there = rw is at h in elim there [
+      | inl r ↦ (let e = r.1.1 in absurd cc)
+      | inr said ↦ (said.0, (said.1.0, (yes said.0 bytes).0 said.1.1))
+    ],
+    λ h. rw is (inr (h.0, (h.1.0, (yes h.0 bytes).1 h.1.1))),
+  )
+
+  refused_by : (line : List ℕ) → told.comes (Refused line) ↔ (refuses first line ⊎ ((value : V) × (reads first value × denies value line)))
+  refused_by line = (
+    λ h. let there = rw is at h in elim there [
+      | inl r ↦ inl (subst (refuses first) (sym (refused_same line r.0 r.1.1)) r.1.0)
+      | inr said ↦ inr (said.0, (said.1.0, (no said.0 line).0 said.1.1))
+    ],
+    λ h. rw is (elim h [ inl r ↦ inl (line, (r, refl)) | inr said ↦ inr (said.0, (said.1.0, (no said.0 line).1 said.1.1)) ]),
+  )
+
+  pub by_text : IsByText reads refuses accepts denies counts means first told
+  by_text = record {
+    done = done_by;
+    refused = refused_by;
+    steps = λ old new h value said. one_said reads refuses read first value said (λ line. new ≡ old) (λ value. counts value old new) (rw is at h);
+    unread = λ old new h line r. one_refused reads refuses read first line r (λ line. new ≡ old) (λ value. counts value old new) (rw is at h);
+    means = λ h value said. one_said reads refuses read first value said (λ line. ⊥) means (rw is at h);
+  }
+
+-- a command that writes one text of each value
+module _ {V : Type 0} (reads : List ℕ → V → Type 0) (refuses : List ℕ → List ℕ → Type 0) (read : AreRead reads refuses) (write : V → List ℕ) (means : V → Type 0)
+    (texts : Texts) (file text : List ℕ) (is : texts file ≡ Some text) where
+  writing_by_text : IsWritingByText reads refuses write means (take LIMIT text) (after_file reads refuses texts file (λ value. writes texts file (write value) (means value)))
+  writing_by_text = by_text reads refuses read (λ value outcome. outcome ≡ Done true (write value)) (λ value old new. new ≡ old) means (λ value bytes. bytes ≡ write value) (λ value line. ⊥)
+      (λ value bytes. (done_same bytes (write value), λ e. cc)) (λ value line. (λ e. absurd cc, λ e. absurd e)) texts file text is
+
+module _ (texts : Texts) (file text : List ℕ) (is : texts file ≡ Some text) where
+  pub export_by_text : (k : ℕ) → IsByText IsNl HasTextRefusal (λ nl. IsExported nl k) (λ nl. CannotBeExported nl k) (λ nl old new. new ≤ old + fold_steps nl k) (λ nl. IsExportMeant nl k) (take LIMIT text) (export_told file k texts)
+  export_by_text k = by_text IsNl HasTextRefusal nl_read (λ nl. ExportsAs nl k) (λ nl old new. new ≤ old + fold_steps nl k) (λ nl. IsExportMeant nl k) (λ nl. IsExported nl k) (λ nl. CannotBeExported nl k)
+      (λ nl bytes. (λ h. h, λ h. h)) (λ nl line. (λ h. h, λ h. h)) texts file text is
+
+  pub nl_by_text : IsWritingByText IsNl HasTextRefusal (λ nl. nl_text nl.file) (λ nl. IsText nl.file (nl_text nl.file)) (take LIMIT text) (nl_told file texts)
+  nl_by_text = writing_by_text IsNl HasTextRefusal nl_read (λ nl. nl_text nl.file) (λ nl. IsText nl.file (nl_text nl.file)) texts file text is
+
+  pub mps_by_text : IsWritingByText IsMpsText IsMpsRefused mps_text IsMpsMeant (take LIMIT text) (mps_told file texts)
+  mps_by_text = writing_by_text IsMpsText IsMpsRefused mps_read mps_text IsMpsMeant texts file text is
+
+  pub fixed_by_text : IsWritingByText IsFixedText IsFixedRefused mps_text IsMpsMeant (take LIMIT text) (fixed_told file texts)
+  fixed_by_text = writing_by_text IsFixedText IsFixedRefused fixed_read mps_text IsMpsMeant texts file text is
+
+  pub sol_by_text : IsWritingByText IsSol (IsSolRefused 1) sol_text IsSolMeant (take LIMIT text) (sol_told file texts)
+  sol_by_text = writing_by_text IsSol (IsSolRefused 1) (sol_read 1) sol_text IsSolMeant texts file text is
+
+-- ---- import
+
+module _ (m : Mps Dec) where
+  imported_by : (o : Option ImportFault) (bytes : List ℕ) → Done true bytes ≡ by_fault m o ↔ ((o ≡ None) × (bytes ≡ nl_text (import_of m)))
+  imported_by None bytes = (λ e. (refl, done_same bytes (nl_text (import_of m)) e), λ h. (let e = h.1 in cc))
+  imported_by (Some fault) bytes = (λ e. absurd cc, λ h. (let e = h.0 in absurd cc))
+
+  denied_by : (o : Option ImportFault) (line : List ℕ) → Refused line ≡ by_fault m o ↔ ((fault : ImportFault) × (o ≡ Some fault) × (line ≡ import_line fault))
+  denied_by None line = (λ e. absurd cc, λ h. (let e = h.1 in absurd cc))
+  denied_by (Some fault) line = (λ e. (fault, refl, refused_same line (import_line fault) e), λ h. (let e = h.1 in let told = h.2 in cc))
+
+pub import_by_text : (texts : Texts) (file text : List ℕ) → texts file ≡ Some text
+    → IsByText IsMpsText IsMpsRefused IsImportedAs CannotBeImported (λ m old new. new ≡ old) MeansTheProgram (take LIMIT text) (import_told file texts)
+import_by_text texts file text is = by_text IsMpsText IsMpsRefused mps_read (λ m outcome. outcome ≡ import_outcome m) (λ m old new. new ≡ old) MeansTheProgram
+    IsImportedAs CannotBeImported
+    (λ m bytes. imported_by m (import_fault m) bytes) (λ m line. denied_by m (import_fault m) line) texts file text is

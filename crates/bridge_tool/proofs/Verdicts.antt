@@ -1,0 +1,341 @@
+-- What a .sol text, a proof text and a certificate show of an .nl text: one outcome, and what a yes means.
+use Rattle.std.proofs.Common.{◌≡◌, ◌∙◌, inl, inr, ℕ, ◌+◌, ◌≤◌, ◌==◌, ℤ, pos, negsuc, Bool, true, false, List, length, if◌then◌else◌, Option, Some, None, Result, Ok, Err, refl, sym, ap, ap₂, subst, arith, is_none}
+use Rattle.std.specs.Prelude.{◌&&◌, ◌<ℤ◌, nat_lt, option_map, IfOk}
+use Rattle.std.specs.Global.{Vec}
+use Rattle.std.proofs.lemmas.Bool.{eqb-true, ltb-false, and_parts}
+use Rattle.std.proofs.lemmas.Int.{ints}
+use Rattle.fractions.specs.Rational.{ℚ}
+use Rattle.duality.specs.Verdict.{Verdict, verdict, yes, gap, refused}
+use Rattle.linear_programs.specs.Linear.{row_count, variable_count, Linear}
+use Rattle.exact_numbers.specs.declared.dec.Dec.{Dec}
+use Rattle.texts.specs.declared.stop.Stop.{Stop}
+use Rattle.texts.specs.declared.stop.Stop.TheVariants.{Fault, Memory}
+use Rattle.certificate_check.specs.Terms.{values_of}
+use Rattle.certificate_check.specs.declared.fitting.FitFault.{FitFault}
+use Rattle.certificate_check.specs.declared.fitting.FitFault.TheVariants.{OtherCounts, NoPrimal, NoDual}
+use Rattle.certificate_check.proofs.Files.{certificates}
+use Rattle.file_meaning.specs.FoldFaults.{fold_fault, FoldFault as FileFault}
+use Rattle.file_meaning.specs.LinearFile.{linear_of, linear_row}
+use Rattle.linear_programs.proofs.Elements.{elements_length}
+use Rattle.file_meaning.proofs.Files.{count_lem}
+use Rattle.linear_fold.specs.FoldedFaults.{first_fold_fault, named_fault}
+use Rattle.linear_program.specs.Programs.{LinearValue, linear_value}
+use Rattle.linear_fold.specs.declared.fold_fault.FoldFault.{FoldFault}
+use Rattle.nl_model.specs.File.{File}
+use Rattle.nl_model.specs.Rules.{IsFile}
+use Rattle.nl_segments.specs.Grammar.{NlValue}
+use Rattle.sol_files.specs.Built.{IsEmptyOrFull}
+use Rattle.sol_files.specs.Reader.{IsSol}
+use Rattle.sol_files.specs.Sol.{Sol}
+use Rattle.bridge_tool.specs.Check.{IsCertified, by_fit, by_fold, by_number, by_verdict, check_outcome, most_steps, objective_number, shown, steps_by_fit, steps_by_number, unfit}
+use Rattle.bridge_tool.specs.Outcome.{Refused, Done}
+use Rattle.bridge_tool.specs.Sol.{IsSolRefused}
+use Rattle.bridge_tool.specs.SeveralFiles.{Comes}
+use Rattle.bridge_tool.specs.Stages.{Folds, HasFolded, fold_steps}
+use Rattle.bridge_tool.specs.VerdictTold.{fit_line, is_yes, negative_line, verdict_line}
+use Rattle.bridge_tool.proofs.SeveralFiles.{IsPlain, IsLast, verdict_last, AreRead, read_so}
+use Rattle.bridge_tool.proofs.OneFile.{sol_read}
+use Rattle.bridge_tool.specs.declared.refusal.Refusal.{Refusal}
+use Rattle.duality.specs.Branch.{proof_fault}
+use Rattle.branch_proof.specs.declared.leaf.ProofVerdict.{ProofVerdict}
+use Rattle.branch_proof.specs.declared.leaf.ProofVerdict.TheVariants.{Yes}
+use Rattle.branch_proof.specs.Files.{IsProofIn}
+use Rattle.branch_proof.specs.Leaves.{IsProved, IsVerdictOn, fault_of}
+use Rattle.branch_proof.specs.Proofs.{IsProofOf, ProofTree, ProofValue, claim_value, tree_over}
+use Rattle.branch_proof.specs.Trees.{tree_in}
+use Rattle.branch_proof.proofs.BranchFiles.{claim_true as proof_true, proof_of}
+use Rattle.branch_proof.proofs.TreeReading.{tree_back}
+use Rattle.proof_text.specs.Reader.{HasProofFault, IsProofText}
+use Rattle.proof_text.specs.Setting.{Setting as ProofSetting, setting_of as proof_setting}
+use Rattle.proof_text.proofs.ReadingLemmas.{one_reading as one_proof}
+use Rattle.bridge_tool.specs.ProofTold.{leaf_line, proof_line}
+use Rattle.bridge_tool.specs.Prove.{IsProofRefused, IsProvedOf, by_fold as by_proof_fold, by_leaf, claimed_objective, open_leaf, prove_outcome}
+use Rattle.duality.specs.Certificate.{Outcome as ClaimOutcome, holds, fails}
+use Rattle.certificates.specs.Certificates.{CertificateValue, Given, IsAskedFor, IsCertificateIn, IsCertificateOf, claim_outcome, objective_of, spread}
+use Rattle.certificates.specs.Reading.{given_in}
+use Rattle.certificates.specs.Says.{IsTrueOf}
+use Rattle.certificates.specs.declared.certificate.Claim.{Claim}
+use Rattle.certificates.specs.declared.certificate.Claim.TheVariants.{Within}
+use Rattle.certificates.proofs.Given.{certificate_of, claim_true}
+use Rattle.certificates.proofs.Reading.{given_back}
+use Rattle.certificate_text.specs.Reader.{HasCertificateFault, IsCertificateText}
+use Rattle.certificate_text.specs.Setting.{Setting as CertificateSetting, setting_of as certificate_setting}
+use Rattle.certificate_text.proofs.ReadingLemmas.{one_reading as one_certificate}
+use Rattle.bridge_tool.specs.CertificateTold.{HasFittingBound, certificate_line, is_held, outcome_line}
+use Rattle.bridge_tool.specs.Verify.{IsCertificateRefused, IsVerified, by_claim, by_fold as by_claim_fold, claim_shown, verify_outcome}
+
+-- ---- one outcome
+
+module _ (nl : NlValue) (s : Sol) where
+  plain_check : (k : ℕ) (o : Option FoldFault) → IsPlain (by_fold nl s k o)
+  plain_check k None = tt
+  plain_check k (Some fault) = tt
+
+  plain_number : (z : ℤ) → IsPlain (by_number nl s z)
+  plain_number (pos k) = plain_check k (first_fold_fault nl.file k)
+  plain_number (negsuc n) = tt
+
+  plain_fit : (o : Option FitFault) → IsPlain (by_fit nl s o)
+  plain_fit None = plain_number (objective_number s)
+  plain_fit (Some fault) = tt
+
+-- ---- a solution that fits
+
+same_counts : (a b c : Bool) → (if a then (if b then Some NoPrimal else (if c then Some NoDual else None)) else Some OtherCounts) ≡ None → (a ≡ true) × (b ≡ false) × (c ≡ false)
+same_counts true false false e = (refl, refl, refl)
+same_counts true false true e = absurd cc
+same_counts true true c e = absurd cc
+same_counts false b c e = absurd cc
+
+full : (n given : ℕ) → IsEmptyOrFull n given → nat_lt given n ≡ false → given ≡ n
+full n given (inl empty) e = let le : n ≤ given = ltb-false given n e in omega (arith, le, empty)
+full n given (inr is) e = is
+
+module _ (nl : NlValue) (s : Sol) (fits : unfit nl s ≡ None) where
+  tests : (((nl.file.counts.n_con == s.n_con) && (nl.file.counts.n_var == s.n_var)) ≡ true) × (nat_lt (length s.primals) nl.file.counts.n_var ≡ false) × (nat_lt (length s.duals) nl.file.counts.n_con ≡ false)
+  tests = same_counts _ _ _ fits
+
+  same : (nl.file.counts.n_con ≡ s.n_con) × (nl.file.counts.n_var ≡ s.n_var)
+  same = let t = and_parts _ _ tests.0 in (eqb-true _ _ t.0, eqb-true _ _ t.1)
+
+  pub all_primals : (k : ℕ) → IsEmptyOrFull s.n_var (length s.primals) → length s.primals ≡ variable_count (linear_of nl.file k)
+  all_primals k given = full nl.file.counts.n_var (length s.primals) (subst (λ (n : ℕ). IsEmptyOrFull n (length s.primals)) (sym same.1) given) tests.1 ∙ sym (count_lem nl.file k)
+
+  rows_counted : (k : ℕ) → row_count (linear_of nl.file k) ≡ nl.file.counts.n_con
+  unfolding linear_of
+  rows_counted k = elements_length (linear_row nl.file) 0 nl.file.counts.n_con
+
+  pub all_duals : (k : ℕ) → IsEmptyOrFull s.n_con (length s.duals) → length s.duals ≡ row_count (linear_of nl.file k)
+  all_duals k given = full nl.file.counts.n_con (length s.duals) (subst (λ (n : ℕ). IsEmptyOrFull n (length s.duals)) (sym same.0) given) tests.2 ∙ sym (rows_counted k)
+
+-- ---- a yes
+
+no_fault : (f : File) (o : Option FileFault) → option_map (named_fault f) o ≡ None → o ≡ None
+no_fault f None e = refl
+no_fault f (Some x) e = absurd cc
+
+-- the value of a verdict that is yes
+yes_value : (v : Verdict) (bytes : List ℕ) → by_verdict v ≡ Done true bytes → (x : ℚ) × (v ≡ yes x)
+yes_value (yes x) bytes e = (x, refl)
+yes_value (gap x b) bytes e = absurd cc
+yes_value (refused cause) bytes e = absurd cc
+
+module _ (nl : NlValue) (s : Sol) (file : IsFile nl.file) (bytes : List ℕ) where
+  by_yes : (k : ℕ) → unfit nl s ≡ None → objective_number s ≡ pos k → first_fold_fault nl.file k ≡ None → by_verdict (shown nl s k) ≡ Done true bytes → IsCertified nl s
+  by_yes k fits number folds e =
+      let found = yes_value (shown nl s k) bytes e in
+      let fine = no_fault nl.file (fold_fault nl.file k) folds in
+      record {
+        number = k;
+        value = found.0;
+        objective = number;
+        folds = fine;
+        line = ap (by_fit nl s) fits ∙ ap (by_number nl s) number ∙ ap (by_fold nl s k) folds ∙ ap by_verdict found.1;
+        best = certificates nl.file k file fine (values_of s.primals) (values_of s.duals) found.0 found.1;
+      }
+
+  by_folding : (k : ℕ) (o : Option FoldFault) → unfit nl s ≡ None → objective_number s ≡ pos k → first_fold_fault nl.file k ≡ o → by_fold nl s k o ≡ Done true bytes → IsCertified nl s
+  by_folding k None fits number folds e = by_yes k fits number folds e
+  by_folding k (Some fault) fits number folds e = absurd cc
+
+  by_objective : (z : ℤ) → unfit nl s ≡ None → objective_number s ≡ z → by_number nl s z ≡ Done true bytes → IsCertified nl s
+  by_objective (pos k) fits number e = by_folding k (first_fold_fault nl.file k) fits number refl e
+  by_objective (negsuc n) fits number e = absurd cc
+
+  by_fitting : (o : Option FitFault) → unfit nl s ≡ o → by_fit nl s o ≡ Done true bytes → IsCertified nl s
+  by_fitting None fits e = by_objective (objective_number s) fits refl e
+  by_fitting (Some fault) fits e = absurd cc
+
+  -- what a yes means
+  pub certified_by : check_outcome nl s ≡ Done true bytes → IsCertified nl s
+  certified_by e = by_fitting (unfit nl s) refl e
+
+-- ---- what the code answers
+
+module _ (nl : NlValue) (s : Sol) (k : ℕ) where
+  -- the file folds, and the verdict is told
+  pub check_done : (l : LinearValue) (xs ys : List Dec) (v : Verdict) (held : Bool) (bytes : List ℕ) → HasFolded nl k l → xs ≡ s.primals → ys ≡ s.duals
+      → v ≡ verdict (linear_value l) (values_of xs) (values_of ys) → held ≡ is_yes v → bytes ≡ verdict_line v
+      → Done held bytes ≡ by_fold nl s k (first_fold_fault nl.file k)
+  check_done l xs ys v held bytes folds x y is h b =
+      let same : v ≡ shown nl s k = is ∙ ap₂ (λ f ps. verdict f (values_of ps) (values_of ys)) folds.linear x ∙ ap (λ ps. verdict (linear_of nl.file k) (values_of s.primals) (values_of ps)) y in
+      ap₂ Done h b ∙ ap by_verdict same ∙ sym (ap (by_fold nl s k) (ap (option_map (named_fault nl.file)) folds.fine))
+
+  -- the fold stopped
+  pub check_stopped : (stop : Stop Refusal) → Folds nl k (Err stop) → Comes (λ outcome. outcome ≡ by_fold nl s k (first_fold_fault nl.file k)) (Err stop)
+  check_stopped (Fault refusal) h = ap Refused h.told ∙ sym (ap (by_fold nl s k) h.first)
+  check_stopped Memory h = tt
+
+module _ (nl : NlValue) (s : Sol) where
+  pub unfit_so : (fault : FitFault) (line : List ℕ) → unfit nl s ≡ Some fault → line ≡ fit_line fault → Refused line ≡ check_outcome nl s
+  unfit_so fault line fits told = ap Refused told ∙ sym (ap (by_fit nl s) fits)
+
+  negative : (z : ℤ) → z <ℤ pos 0 → Refused (negative_line z) ≡ by_number nl s z
+  negative (pos k) lt = absurd (omega (arith, ints, lt))
+  negative (negsuc n) lt = refl
+
+  pub negative_so : (z : ℤ) (line : List ℕ) → unfit nl s ≡ None → z ≡ objective_number s → z <ℤ pos 0 → line ≡ negative_line z → Refused line ≡ check_outcome nl s
+  negative_so z line fits number lt told = ap Refused told ∙ negative z lt ∙ ap (by_number nl s) number ∙ sym (ap (by_fit nl s) fits)
+
+  outcome_at : (z : ℤ) (k : ℕ) → unfit nl s ≡ None → z ≡ objective_number s → z ≡ pos k → by_fold nl s k (first_fold_fault nl.file k) ≡ check_outcome nl s
+  outcome_at z k fits number is = ap (by_number nl s) (sym is ∙ number) ∙ sym (ap (by_fit nl s) fits)
+
+  pub comes_so : (z : ℤ) (k : ℕ) (r : Result (Bool × Vec ℕ) (Stop Refusal)) → unfit nl s ≡ None → z ≡ objective_number s → z ≡ pos k
+      → Comes (λ outcome. outcome ≡ by_fold nl s k (first_fold_fault nl.file k)) r → Comes (λ outcome. outcome ≡ check_outcome nl s) r
+  comes_so z k (Ok t) fits number is h = h ∙ outcome_at z k fits number is
+  comes_so z k (Err (Fault refusal)) fits number is h = h ∙ outcome_at z k fits number is
+  comes_so z k (Err Memory) fits number is h = tt
+
+  pub most_so : (z : ℤ) (k : ℕ) → unfit nl s ≡ None → z ≡ objective_number s → z ≡ pos k → steps_by_number nl (pos k) ≡ most_steps nl s
+  most_so z k fits number is = ap (steps_by_number nl) (sym is ∙ number) ∙ sym (ap (steps_by_fit nl s) fits)
+
+  -- a verdict that is yes means what it should
+  pub meant_so : (r : Result (Bool × Vec ℕ) (Stop Refusal)) → IsFile nl.file → Comes (λ outcome. outcome ≡ check_outcome nl s) r → IfOk r (λ t. t.0 ≡ true → IsCertified nl s)
+  meant_so (Ok t) file h = λ e. certified_by nl s file t.1.items (sym h ∙ ap (λ b. Done b t.1.items) e)
+  meant_so (Err stop) file h = tt
+
+-- ---- the command
+
+pub check_last : (nl : NlValue) → IsLast true IsSol (IsSolRefused 2) (λ s outcome. outcome ≡ check_outcome nl s) (λ s old new. new ≤ old + most_steps nl s)
+check_last nl = verdict_last (sol_read 2) (check_outcome nl) (most_steps nl) (λ s. plain_fit nl s (unfit nl s))
+
+-- ---- one outcome
+
+-- each text says one proof, or is refused with one line
+pub proof_read : (s : ProofSetting) (file : ℕ) → AreRead (IsProofText s) (IsProofRefused s file)
+proof_read s file =
+    read_so (IsProofText s) (HasProofFault s) (proof_line file)
+    (λ text. (one_proof s text).one_value) (λ text a b h claimed. ap (proof_line file) ((one_proof s text).one_fault a b h claimed)) (λ text. (one_proof s text).some) (λ text. (one_proof s text).not_both)
+
+module _ (nl : NlValue) (p : ProofValue) where
+  plain_proof : (o : Option FoldFault) → IsPlain (by_proof_fold nl p o)
+  plain_proof None = tt
+  plain_proof (Some fault) = tt
+
+pub prove_last : (nl : NlValue) → IsLast true (IsProofText (proof_setting nl.file)) (IsProofRefused (proof_setting nl.file) 2) (λ p outcome. outcome ≡ prove_outcome nl p) (λ p old new. new ≤ old + fold_steps nl (claimed_objective p.claim))
+prove_last nl =
+    verdict_last (proof_read (proof_setting nl.file) 2) (prove_outcome nl) (λ p. fold_steps nl (claimed_objective p.claim)) (λ p. plain_proof nl p (first_fold_fault nl.file (claimed_objective p.claim)))
+
+-- ---- what the code answers
+
+yes_of : (v : ProofVerdict) → is_none (fault_of v) ≡ true → v ≡ Yes
+yes_of Yes e = refl
+yes_of other e = absurd cc
+
+module _ (nl : NlValue) (p : ProofValue) (given : IsProofIn nl.file p) where
+  abbrev claimed : ℕ
+  claimed = claimed_objective p.claim
+
+  abbrev folded : Linear
+  folded = linear_of nl.file claimed
+
+  -- the proof is one of the folded program
+  pub proof_so : (l : LinearValue) → HasFolded nl claimed l → IsProofOf (linear_value l) p
+  proof_so l folds = subst (λ (g : Linear). IsProofOf g p) (sym folds.linear) (proof_of nl.file claimed p given)
+
+  tree_so : (h : IsProofOf folded p) → h.tree ≡ tree_in p
+  tree_so h = sym (tree_back p h.tree h.nodes h.pairs)
+
+  leaf_so : (l : LinearValue) (v : ProofVerdict) → HasFolded nl claimed l → IsVerdictOn (linear_value l) p v → fault_of v ≡ open_leaf nl p
+  leaf_so l v folds exact =
+      let h = proof_of nl.file claimed p given in
+      let on : IsVerdictOn folded p v = subst (λ (g : Linear). IsVerdictOn g p v) folds.linear exact in
+      on h ∙ ap (λ (tree : ProofTree). proof_fault folded (claim_value p.claim) (tree_over (row_count folded) tree)) (tree_so h)
+
+  -- the file folds, and the verdict is told
+  pub proof_done : (l : LinearValue) (v : ProofVerdict) (held : Bool) (bytes : List ℕ) → HasFolded nl claimed l → IsVerdictOn (linear_value l) p v → held ≡ is_none (fault_of v) → bytes ≡ leaf_line (fault_of v)
+      → Done held bytes ≡ prove_outcome nl p
+  proof_done l v held bytes folds exact h b =
+      ap₂ Done h b ∙ ap by_leaf (leaf_so l v folds exact) ∙ sym (ap (by_proof_fold nl p) (ap (option_map (named_fault nl.file)) folds.fine))
+
+  -- the fold stopped
+  pub proof_stopped : (stop : Stop Refusal) → Folds nl claimed (Err stop) → Comes (λ outcome. outcome ≡ prove_outcome nl p) (Err stop)
+  proof_stopped (Fault line) h = ap Refused h.told ∙ sym (ap (by_proof_fold nl p) h.first)
+  proof_stopped Memory h = tt
+
+  -- a yes means what it should
+  pub proved_so : (l : LinearValue) (v : ProofVerdict) (held : Bool) → IsFile nl.file → HasFolded nl claimed l → IsProved (linear_value l) p.claim v → held ≡ is_none (fault_of v) → held ≡ true → IsProvedOf nl p
+  proved_so l v held file folds proved h holding =
+      let is : v ≡ Yes = yes_of v (sym h ∙ holding) in
+      let shown : IsProved folded p.claim Yes = subst (λ (w : ProofVerdict). IsProved folded p.claim w) is (subst (λ (g : Linear). IsProved g p.claim v) folds.linear proved) in
+      record { folds = folds.fine; true_of = proof_true nl.file claimed file folds.fine p.claim shown }
+
+-- ---- one outcome
+
+-- each text says one certificate, or is refused with one line
+pub certificate_read : (s : CertificateSetting) (file : ℕ) → AreRead (IsCertificateText s) (IsCertificateRefused s file)
+certificate_read s file =
+    read_so (IsCertificateText s) (HasCertificateFault s) (certificate_line file)
+    (λ text. (one_certificate s text).one_value) (λ text a b h k. ap (certificate_line file) ((one_certificate s text).one_fault a b h k)) (λ text. (one_certificate s text).some) (λ text. (one_certificate s text).not_both)
+
+module _ (nl : NlValue) (c : CertificateValue) where
+  plain_claim : (o : Option FoldFault) → IsPlain (by_claim_fold nl c o)
+  plain_claim None = tt
+  plain_claim (Some fault) = tt
+
+pub verify_last : (nl : NlValue) → IsLast true (IsCertificateText (certificate_setting nl.file)) (IsCertificateRefused (certificate_setting nl.file) 2) (λ c outcome. outcome ≡ verify_outcome nl c) (λ c old new. new ≤ old + fold_steps nl (objective_of c.claim))
+verify_last nl =
+    verdict_last (certificate_read (certificate_setting nl.file) 2) (verify_outcome nl) (λ c. fold_steps nl (objective_of c.claim)) (λ c. plain_claim nl c (first_fold_fault nl.file (objective_of c.claim)))
+
+-- ---- what the code answers
+
+-- a claim that holds has a value, if any
+held_with : (o : ClaimOutcome) → is_held o ≡ true → (value : Option ℚ) × (o ≡ holds value)
+held_with (holds value) e = (value, refl)
+held_with (fails cause) e = absurd cc
+
+asked_fits : (claim : Claim) (g : Given) → IsAskedFor claim g → HasFittingBound claim
+asked_fits (Within k b) g h = h.2
+asked_fits other g h = tt
+
+-- the bound of the claim that was read can be written
+pub bound_fits : (f : File) (c : CertificateValue) → IsCertificateIn f c → HasFittingBound c.claim
+bound_fits f c given = asked_fits c.claim given.given given.asked
+
+module _ (nl : NlValue) (c : CertificateValue) (given : IsCertificateIn nl.file c) where
+  abbrev k : ℕ
+  k = objective_of c.claim
+
+  abbrev f : Linear
+  f = linear_of nl.file k
+
+  -- what is given is read back
+  given_so : given_in c ≡ given.given
+  given_so = given_back c given.given given.point given.ray given.nodes given.pairs
+
+  -- the certificate is one of the folded program
+  pub certificate_so : (l : LinearValue) → HasFolded nl k l → IsCertificateOf (linear_value l) c
+  certificate_so l folds = subst (λ (g : Linear). IsCertificateOf g c) (sym folds.linear) (certificate_of nl.file k c given)
+
+  shown_so : (l : LinearValue) (o : ClaimOutcome) → HasFolded nl k l → ((h : IsCertificateOf (linear_value l) c) → o ≡ claim_outcome (linear_value l) c.claim h.given) → o ≡ claim_shown nl c
+  shown_so l o folds exact =
+      let h = certificate_so l folds in
+      exact h
+      ∙ ap (λ (g : Given). claim_outcome (linear_value l) c.claim g) (sym (given_back c h.given h.point h.ray h.nodes h.pairs))
+      ∙ ap (λ (g : Linear). claim_outcome g c.claim (given_in c)) folds.linear
+
+  -- the file folds, and the verdict is told
+  pub claim_done : (l : LinearValue) (o : ClaimOutcome) (held : Bool) (bytes : List ℕ) → HasFolded nl k l → ((h : IsCertificateOf (linear_value l) c) → o ≡ claim_outcome (linear_value l) c.claim h.given)
+      → held ≡ is_held o → bytes ≡ outcome_line c.claim o → Done held bytes ≡ verify_outcome nl c
+  claim_done l o held bytes folds exact h b =
+      ap₂ Done h b ∙ ap (by_claim c.claim) (shown_so l o folds exact) ∙ sym (ap (by_claim_fold nl c) (ap (option_map (named_fault nl.file)) folds.fine))
+
+  -- the fold stopped
+  pub claim_stopped : (stop : Stop Refusal) → Folds nl k (Err stop) → Comes (λ outcome. outcome ≡ verify_outcome nl c) (Err stop)
+  claim_stopped (Fault line) h = ap Refused h.told ∙ sym (ap (by_claim_fold nl c) h.first)
+  claim_stopped Memory h = tt
+
+  -- a yes means what it should
+  pub verified_so : (l : LinearValue) (o : ClaimOutcome) (held : Bool) (bytes : List ℕ) → IsFile nl.file → HasFolded nl k l → ((h : IsCertificateOf (linear_value l) c) → o ≡ claim_outcome (linear_value l) c.claim h.given)
+      → held ≡ is_held o → bytes ≡ outcome_line c.claim o → held ≡ true → IsVerified nl c
+  verified_so l o held bytes file folds exact h b holding =
+      let found = held_with o (sym h ∙ holding) in
+      let shown : claim_shown nl c ≡ holds found.0 = sym (shown_so l o folds exact) ∙ found.1 in
+      let outcome : claim_outcome f c.claim given.given ≡ holds found.0 = ap (λ (g : Given). claim_outcome f c.claim g) (sym given_so) ∙ shown in
+      let true_so : IsTrueOf nl.file c.claim (spread nl.file.counts.n_var given.given.point) found.0 = claim_true nl.file c file folds.fine given found.0 outcome in
+      record {
+        value = found.0;
+        folds = folds.fine;
+        line = sym (claim_done l o held bytes folds exact h b) ∙ ap₂ Done holding (b ∙ ap (outcome_line c.claim) found.1);
+        true_of = subst (λ (g : Given). IsTrueOf nl.file c.claim (spread nl.file.counts.n_var g.point) found.0) (sym given_so) true_so;
+      }

@@ -1,8 +1,0 @@
-use Rattle.bridge_tool.proofs.Outcomes.{some_outcome, one_outcome}
-use Rattle.bridge_tool.proofs.laws.one_outcome.Goals as goal
-
-pub returns-clause-some : goal.returns-clause-some
-returns-clause-some c = some_outcome
-
-pub returns-clause-one : goal.returns-clause-one
-returns-clause-one c = one_outcome

@@ -1,0 +1,20 @@
+use Rattle.std.proofs.Common.{◌≡◌, ◌∙◌, [], ◌∷◌, ◌++◌, ap, length, subst, sym}
+use Rattle.std.specs.Prelude.{OnOk}
+use Rattle.std.proofs.lemmas.Bool.{eqb-false, eqb-true}
+use Rattle.exact_numbers.specs.Values.{text_of, value_text}
+use Rattle.exported_program.specs.Program.{obj_name}
+use Rattle.mps_model.specs.Text.{entry_lines}
+use Rattle.written_texts.specs.Lines.{indented, line_text, lines_text}
+use Rattle.row_scaling.specs.InsideSections.{all_rows}
+use Rattle.row_scaling.proofs.LineLemmas.{no_entries_written, some_entries}
+use Rattle.row_scaling.proofs.entry_lines.put_column.Goals as goal
+
+pub returns-then-is_empty : goal.returns-then-is_empty
+returns-then-is_empty c =
+    no_entries_written c.args.scaled.now c.args.column.now c.args.entries.now c.zero.result c.args.out.now.items c.put_entry.new.out.items (eqb-true (length c.args.entries.now) 0 (sym c.is_empty.ensures ∙ c.if-is_empty.true)) c.zero.ensures
+    (c.in_ok-put_entry.ensures ∙ ap (λ w. c.args.out.now.items ++ line_text (indented (w ∷ obj_name ∷ text_of c.zero.result ∷ []))) c.bytes.ensures)
+
+pub returns : goal.returns
+returns c =
+    let some = eqb-false (length c.args.entries.now) 0 (sym c.is_empty.ensures ∙ c.if-is_empty.false) in
+    subst (λ es. OnOk c.put_entries.result (c.put_entries.new.out.items ≡ c.args.out.now.items ++ lines_text (entry_lines value_text (all_rows c.args.scaled.now) c.args.column.now es))) (sym (some_entries c.args.entries.now some)) c.put_entries.ensures
