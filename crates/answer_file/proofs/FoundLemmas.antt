@@ -3,13 +3,14 @@ use Rattle.std.proofs.Common.{◌≡◌, ◌∙◌, ℕ, ◌<◌, false, cond, L
 use Rattle.std.specs.Prelude.{option_map, option_and_then}
 use Rattle.std.specs.Str.{bytes_eq}
 use Rattle.std.proofs.lemmas.List.{length-map}
+use Rattle.linear_program.specs.Intervals.{is_sided}
 use Rattle.nl_model.specs.File.{File}
 use Rattle.name_files.specs.Names.{AreNames, is_reserved}
 use Rattle.name_files.specs.Renamed.{index_named}
 use Rattle.texts.proofs.NamePlaces.{bytes_other, bytes_self}
 use Rattle.name_files.proofs.NumeralLemmas.{place_first}
 use Rattle.answer_file.specs.declared.target.Target.TheVariants.{Tied, Place}
-use Rattle.answer_file.specs.Names.{named_setting, has_side, if_exported, column_target, row_target}
+use Rattle.answer_file.specs.Names.{named_setting, if_exported, column_target, row_target}
 
 -- no name of a list begins with `@`
 unmarked : (names : List (List ℕ)) (j : ℕ) (rest : List ℕ) → AreNames names → j < length names → bytes_eq (get_or names j []) (64 ∷ rest) ≡ false
@@ -29,7 +30,7 @@ column_found f rows columns j are all within =
     ap (λ b. cond b (Some Tied) (option_map Place (index_named (λ i. get_or columns i []) f.counts.n_var (get_or columns j [])))) (unmarked columns j (122 ∷ []) are within)
     ∙ ap (option_map Place) (own_place columns f.counts.n_var j are all within)
 
-pub row_found : (f : File) (rows columns : List (List ℕ)) (i : ℕ) → AreNames rows → length rows ≡ length f.sides → i < length rows → row_target (named_setting f rows columns) (get_or rows i []) ≡ if_exported (map has_side f.sides) i
+pub row_found : (f : File) (rows columns : List (List ℕ)) (i : ℕ) → AreNames rows → length rows ≡ length f.sides → i < length rows → row_target (named_setting f rows columns) (get_or rows i []) ≡ if_exported (map is_sided f.sides) i
 row_found f rows columns i are all within =
-    ap (λ b. cond b (Some Tied) (option_and_then (if_exported (map has_side f.sides)) (index_named (λ k. get_or rows k []) (length (map has_side f.sides)) (get_or rows i [])))) (unmarked rows i (122 ∷ 100 ∷ 101 ∷ 102 ∷ []) are within)
-    ∙ ap (option_and_then (if_exported (map has_side f.sides))) (own_place rows (length (map has_side f.sides)) i are (all ∙ sym (length-map f.sides has_side)) within)
+    ap (λ b. cond b (Some Tied) (option_and_then (if_exported (map is_sided f.sides)) (index_named (λ k. get_or rows k []) (length (map is_sided f.sides)) (get_or rows i [])))) (unmarked rows i (122 ∷ 100 ∷ 101 ∷ 102 ∷ []) are within)
+    ∙ ap (option_and_then (if_exported (map is_sided f.sides))) (own_place rows (length (map is_sided f.sides)) i are (all ∙ sym (length-map f.sides is_sided)) within)

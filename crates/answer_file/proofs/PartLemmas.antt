@@ -8,6 +8,7 @@ use Rattle.texts.specs.declared.stop.Stop.TheVariants.{Fault, Memory}
 use Rattle.exact_numbers.specs.declared.dec.Dec.{Dec}
 use Rattle.exact_numbers.specs.Numbers.{dec_of}
 use Rattle.nl_model.specs.declared.suffix.Suffix.{Suffix}
+use Rattle.nl_model.specs.SuffixKinds.{objects_of}
 use Rattle.std.proofs.lemmas.Bool.{eq-eqb}
 use Rattle.answer_file.specs.declared.fault.AnswerReason.{AnswerReason}
 use Rattle.answer_file.specs.declared.keyword.Keyword.{Keyword}
@@ -34,19 +35,19 @@ unfolding suffix_tests
 tests-left s suffixes words kind five named is = rw (eq-eqb (length words) 5 five, named, is) refl
 
 object-taken : (s : Setting) (st : Standing) (words : List (List ℕ)) (kind : ℕ) (r : Result (Unit {0}) (Stop AnswerReason)) (table : List Suffix) → length words ≡ 5 → is_name (word_at words 2) ≡ true → kind_in words ≡ Some kind
-    → Takes (kind_tests s st.suffixes words (Some kind)) (with_object st.suffixes kind (word_at words 2) (object_target s kind (word_at words 3)) (dec_of (word_at words 4))) r table
+    → Takes (kind_tests s st.suffixes words (Some kind)) (with_object st.suffixes kind (word_at words 2) (object_target s (objects_of kind) (word_at words 3)) (dec_of (word_at words 4))) r table
     → Takes (suffix_tests s st.suffixes words) (with_said st (suffix_in s words (kind_in words))) r (record st { suffixes = table })
 object-taken s st words kind (Ok u) table five named is h = (
   tests-left s st.suffixes words kind five named is ∙ h.0,
   ap (λ ss. record st { suffixes = ss }) h.1
-      ∙ said-object st kind (word_at words 2) (object_target s kind (word_at words 3)) (dec_of (word_at words 4))
+      ∙ said-object st kind (word_at words 2) (object_target s (objects_of kind) (word_at words 3)) (dec_of (word_at words 4))
       ∙ ap (λ k. with_said st (suffix_in s words k)) (sym is),
 )
 object-taken s st words kind (Err (Fault reason)) table five named is h = tests-left s st.suffixes words kind five named is ∙ h
 object-taken s st words kind (Err Memory) table five named is h = tt
 
 pub suffix-taken : (s : Setting) (view st : Standing) (words : List (List ℕ)) (name : List ℕ) (kind : ℕ) (target : Option Target) (value : Option Dec) (r : Result (Unit {0}) (Stop AnswerReason)) (table : List Suffix)
-    → view ≡ st → length words ≡ 5 → name ≡ word_at words 2 → is_name name ≡ true → kind_in words ≡ Some kind → target ≡ object_target s kind (word_at words 3) → value ≡ dec_of (word_at words 4)
+    → view ≡ st → length words ≡ 5 → name ≡ word_at words 2 → is_name name ≡ true → kind_in words ≡ Some kind → target ≡ object_target s (objects_of kind) (word_at words 3) → value ≡ dec_of (word_at words 4)
     → Takes (object_tests view.suffixes kind (suffix_named view.suffixes kind name) target value) (with_object view.suffixes kind name target value) r table
     → Takes (suffix_tests s st.suffixes words) (with_said st (suffix_in s words (kind_in words))) r (record view { suffixes = table })
 suffix-taken s view st words name kind target value r table same five second named is object third h =

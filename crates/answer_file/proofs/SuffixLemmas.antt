@@ -1,33 +1,35 @@
 -- A line more of suffixes.
-use Rattle.std.proofs.Common.{arith, ◌≡◌, ◌∙◌, ◌%◌, Bool, true, false, ◌&&◌, not, cond, eqb, List, [], ◌∷◌, ◌++◌, map, refl, sym, ap}
+use Rattle.std.proofs.Common.{arith, ◌≡◌, ◌∙◌, Bool, true, false, ◌&&◌, not, cond, List, [], ◌∷◌, ◌++◌, map, refl, sym, ap}
 use Rattle.std.specs.Prelude.{filter}
 use Rattle.std.specs.List.{list_any}
 use Rattle.std.specs.Str.{bytes_eq}
-use Rattle.std.proofs.lemmas.Bool.{cond_both, eqb-true, eq-eqb, not-true, or_parts}
+use Rattle.std.proofs.lemmas.Bool.{cond_both, not-true, or_parts}
 use Rattle.std.proofs.lemmas.List.{append-nil, map-append}
 use Rattle.std.proofs.lemmas.List.Elements.{filter-append}
 use Rattle.std.proofs.lemmas.Slice.Eq.{bytes_eq-Decides}
 use Rattle.exact_numbers.proofs.NumberLemmas.{first_of_both, second_of_both}
 use Rattle.nl_model.specs.File.{Term}
 use Rattle.nl_model.specs.declared.suffix.Suffix.{Suffix}
+use Rattle.nl_model.specs.SuffixKinds.{has_same_objects}
 use Rattle.answer_file.specs.Entries.{SuffixLine}
 use Rattle.answer_file.specs.Suffixes.{is_same_suffix, first_lines, values_like, suffix_like, suffixes_of}
 use Rattle.answer_file.specs.Steps.{new_suffix, with_line, with_suffix_line}
-use Rattle.answer_file.proofs.PlaceLemmas.{bytes_eq-comm, eqb-comm}
+use Rattle.nl_model.proofs.ObjectLemmas.{same_objects-class, same_objects-comm, same_objects-self}
+use Rattle.answer_file.proofs.PlaceLemmas.{bytes_eq-comm}
 
 -- ---- lines of one suffix
 
 same-comm : (a b : SuffixLine) → is_same_suffix a b ≡ is_same_suffix b a
-same-comm a b = ap (λ t. t && bytes_eq a.name b.name) (eqb-comm (a.kind % 4) (b.kind % 4)) ∙ ap (λ t. eqb (b.kind % 4) (a.kind % 4) && t) (bytes_eq-comm a.name b.name)
+same-comm a b = ap (λ t. t && bytes_eq a.name b.name) (same_objects-comm a.kind b.kind) ∙ ap (λ t. has_same_objects b.kind a.kind && t) (bytes_eq-comm a.name b.name)
 
 same-self : (a : SuffixLine) → is_same_suffix a a ≡ true
-same-self a = rw (eq-eqb (a.kind % 4) (a.kind % 4) refl) ((bytes_eq-Decides a.name a.name).1 refl)
+same-self a = rw (same_objects-self a.kind) ((bytes_eq-Decides a.name a.name).1 refl)
 
 -- lines of one suffix are alike to every other
 same-class : (a b c : SuffixLine) → is_same_suffix a b ≡ true → is_same_suffix a c ≡ is_same_suffix b c
 same-class a b c e =
-    ap (λ k. eqb k (c.kind % 4) && bytes_eq a.name c.name) (eqb-true _ _ (first_of_both _ _ e))
-    ∙ ap (λ n. eqb (b.kind % 4) (c.kind % 4) && bytes_eq n c.name) ((bytes_eq-Decides a.name b.name).0 (second_of_both (eqb (a.kind % 4) (b.kind % 4)) _ e))
+    ap (λ t. t && bytes_eq a.name c.name) (same_objects-class a.kind b.kind c.kind (first_of_both _ _ e))
+    ∙ ap (λ n. has_same_objects b.kind c.kind && bytes_eq n c.name) ((bytes_eq-Decides a.name b.name).0 (second_of_both (has_same_objects a.kind b.kind) _ e))
 
 -- no line of these is of the suffix of x
 AreOthers : SuffixLine → List SuffixLine → Type 0

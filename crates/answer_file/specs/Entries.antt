@@ -5,6 +5,7 @@ use Rattle.std.specs.Str.{bytes_eq}
 use Rattle.texts.specs.Words.{row_of, without_blanks, word_at}
 use Rattle.exact_numbers.specs.declared.dec.Dec.{Dec}
 use Rattle.exact_numbers.specs.Numbers.{whole_of, dec_of}
+use Rattle.nl_model.specs.SuffixKinds.{objects_of}
 use Rattle.answer_file.specs.declared.keyword.Keyword.{Keyword}
 use Rattle.answer_file.specs.declared.keyword.Keyword.TheVariants.{Status, Message, Sign, Objno, Col, Row, Suffix}
 use Rattle.answer_file.specs.declared.target.Target.{Target}
@@ -86,7 +87,7 @@ suffix_entry kind name place value = SuffixValue (record {
 abbrev pub suffix_in : Setting → List (List ℕ) → Option ℕ → Option Entry
 suffix_in s words None = None
 suffix_in s words (Some kind) = at_place (suffix_entry kind (word_at words 2))
-    (object_target s kind (word_at words 3)) (dec_of (word_at words 4))
+    (object_target s (objects_of kind) (word_at words 3)) (dec_of (word_at words 4))
 
 abbrev pub entry_by : Setting → List ℕ → List (List ℕ) → Option Keyword → Option Entry
 entry_by s line words None = None

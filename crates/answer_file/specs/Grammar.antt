@@ -12,7 +12,7 @@ use Rattle.texts.specs.declared.lines.LineFault.TheVariants.{LineTooLong as Long
 use Rattle.exact_numbers.specs.declared.dec.Dec.{Dec}
 use Rattle.exact_numbers.specs.Numbers.{dec_of, is_whole}
 use Rattle.nl_model.specs.declared.suffix.Suffix.{Suffix as SuffixOf}
-use Rattle.nl_model.specs.SuffixKinds.{wants_whole}
+use Rattle.nl_model.specs.SuffixKinds.{objects_of, wants_whole}
 use Rattle.answer_file.specs.declared.keyword.Keyword.{Keyword}
 use Rattle.answer_file.specs.declared.keyword.Keyword.TheVariants.{Status, Message, Sign, Objno, Col, Row, Suffix}
 use Rattle.answer_file.specs.declared.fault.AnswerReason.{AnswerReason}
@@ -170,7 +170,7 @@ abbrev pub kind_tests : Setting → List SuffixOf → List (List ℕ) → Option
 kind_tests s suffixes words None = (true, BadNumber) ∷ []
 kind_tests s suffixes words (Some kind) =
     object_tests suffixes kind (suffix_named suffixes kind (word_at words 2))
-    (object_target s kind (word_at words 3)) (dec_of (word_at words 4))
+    (object_target s (objects_of kind) (word_at words 3)) (dec_of (word_at words 4))
 
 unfoldable pub suffix_tests : Setting → List SuffixOf → List (List ℕ) → Tests
 suffix_tests s suffixes words =

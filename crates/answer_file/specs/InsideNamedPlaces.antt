@@ -1,8 +1,11 @@
 -- The places of suffixes by name.
-use Rattle.std.specs.Prelude.{◌≡◌, ℕ, ◌≤◌, ◌^◌, ◌%◌, ◌==◌, List, [], ◌∷◌, ◌++◌, length, map, Option, Some, None, if◌then◌else◌}
+use Rattle.std.specs.Prelude.{◌≡◌, ℕ, ◌≤◌, ◌^◌, List, [], ◌∷◌, ◌++◌, length, map, Option, Some, None, if◌then◌else◌}
 use Rattle.std.specs.Global.{Vec}
 use Rattle.std.specs.Str.{bytes_eq}
 use Rattle.nl_model.specs.declared.suffix.Suffix.{Suffix}
+use Rattle.nl_model.specs.declared.suffix_kinds.Objects.{Objects}
+use Rattle.nl_model.specs.declared.suffix_kinds.Objects.TheVariants.{Variables, Constraints, Objectives, Problem}
+use Rattle.nl_model.specs.SuffixKinds.{objects_of}
 use Rattle.answer_file.specs.Suffixes.{place_named, value_count}
 
 -- what stands beside the first entry of a name
@@ -25,26 +28,25 @@ pub record Places : Type 0 where
 abbrev pub no_places : Places
 no_places = record { columns = []; rows = []; objectives = []; problem = [] }
 
--- those for the low two bits of a kind
-abbrev pub places_by : Places → ℕ → List (List ℕ × ℕ)
-places_by p r =
-    if r == 0 then p.columns else
-    if r == 1 then p.rows else
-    if r == 2 then p.objectives else
-    p.problem
+-- those of suffixes for such objects
+abbrev pub places_by : Places → Objects → List (List ℕ × ℕ)
+places_by p Variables = p.columns
+places_by p Constraints = p.rows
+places_by p Objectives = p.objectives
+places_by p Problem = p.problem
 
 abbrev pub places_for : Places → ℕ → List (List ℕ × ℕ)
-places_for p kind = places_by p (kind % 4)
+places_for p kind = places_by p (objects_of kind)
 
-abbrev pub with_place_by : Places → ℕ → List ℕ → ℕ → Places
-with_place_by p r name place =
-    if r == 0 then record p { columns = p.columns ++ (name, place) ∷ [] } else
-    if r == 1 then record p { rows = p.rows ++ (name, place) ∷ [] } else
-    if r == 2 then record p { objectives = p.objectives ++ (name, place) ∷ [] } else
-    record p { problem = p.problem ++ (name, place) ∷ [] }
+-- one name more among those
+abbrev pub with_place_by : Places → Objects → List ℕ → ℕ → Places
+with_place_by p Variables name place = record p { columns = p.columns ++ (name, place) ∷ [] }
+with_place_by p Constraints name place = record p { rows = p.rows ++ (name, place) ∷ [] }
+with_place_by p Objectives name place = record p { objectives = p.objectives ++ (name, place) ∷ [] }
+with_place_by p Problem name place = record p { problem = p.problem ++ (name, place) ∷ [] }
 
 abbrev pub with_place : Places → ℕ → List ℕ → ℕ → Places
-with_place p kind name place = with_place_by p (kind % 4) name place
+with_place p kind name place = with_place_by p (objects_of kind) name place
 
 -- what is kept beside suffixes: how many values they have, and where each stands
 pub record IsTable (suffixes : List Suffix) (values : ℕ) (places : Places) : Type 0 where

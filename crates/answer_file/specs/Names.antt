@@ -1,9 +1,11 @@
 -- The names by which an answer names columns, rows and objects: own profile.
-use Rattle.std.specs.Prelude.{◌≡◌, ℕ, ◌%◌, ◌==◌, Bool, false, ◌||◌, is_some, List, [], ◌∷◌, length, map, count_by, get_or, Option, Some, None, option_map, option_and_then, if◌then◌else◌, codes}
+use Rattle.std.specs.Prelude.{◌≡◌, ℕ, Bool, false, List, [], ◌∷◌, length, map, count_by, get_or, Option, Some, None, option_map, option_and_then, if◌then◌else◌, codes}
 use Rattle.std.specs.Fmt.{decimal}
 use Rattle.std.specs.Str.{bytes_eq}
-use Rattle.linear_program.specs.declared.interval.Interval.{Interval}
+use Rattle.linear_program.specs.Intervals.{is_sided}
 use Rattle.nl_model.specs.File.{File}
+use Rattle.nl_model.specs.declared.suffix_kinds.Objects.{Objects}
+use Rattle.nl_model.specs.declared.suffix_kinds.Objects.TheVariants.{Variables, Constraints, Objectives, Problem}
 use Rattle.name_files.specs.Renamed.{index_named}
 use Rattle.answer_file.specs.declared.naming.Naming.{Naming}
 use Rattle.answer_file.specs.declared.naming.Naming.TheVariants.{Numbered, Listed}
@@ -11,22 +13,18 @@ use Rattle.answer_file.specs.declared.target.Target.{Target}
 use Rattle.answer_file.specs.declared.target.Target.TheVariants.{Tied, Place}
 
 -- what of a file an answer is judged by: how its columns and rows are named, how many columns it
--- has, and which of its rows are exported
+-- has, and which of its rows are exported: those with a side
 pub record Setting : Type 0 where
   pub naming : Naming
   pub columns : ℕ
   pub exported : List Bool
-
--- a row is exported where it has a finite side
-abbrev pub has_side : Interval → Bool
-has_side side = is_some side.lo || is_some side.hi
 
 -- an answer for the file that names its columns and rows so
 abbrev pub setting_by : Naming → File → Setting
 setting_by naming f = record {
   naming = naming;
   columns = f.counts.n_var;
-  exported = map has_side f.sides;
+  exported = map is_sided f.sides;
 }
 
 -- by numbers
@@ -89,14 +87,13 @@ row_target s text =
 abbrev pub only : List ℕ → List ℕ → Option Target
 only name text = if bytes_eq text name then Some (Place 0) else None
 
--- the object of a suffix, by the low two bits of its kind; of objectives there is one, whose number
--- is known at the end
-abbrev pub object_target : Setting → ℕ → List ℕ → Option Target
-object_target s kind text =
-    if kind % 4 == 0 then column_target s text else
-    if kind % 4 == 1 then row_target s text else
-    if kind % 4 == 2 then only (codes "obj") text else
-    only (codes "problem") text
+-- the object of a suffix for such objects; of objectives there is one, whose number is known at the
+-- end
+abbrev pub object_target : Setting → Objects → List ℕ → Option Target
+object_target s Variables text = column_target s text
+object_target s Constraints text = row_target s text
+object_target s Objectives text = only (codes "obj") text
+object_target s Problem text = only (codes "problem") text
 
 -- how many rows are exported
 abbrev pub exported_count : Setting → ℕ

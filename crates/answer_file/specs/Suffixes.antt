@@ -1,11 +1,12 @@
 -- Values by place, and suffixes by their lines.
-use Rattle.std.specs.Prelude.{◌≡◌, ℕ, ◌%◌, ◌==◌, Bool, not, ◌&&◌, List, [], ◌∷◌, map, filter, find, length, nat_eq, position, sum_by, slice_get, Option, option_map, option_and_then, if◌then◌else◌}
+use Rattle.std.specs.Prelude.{◌≡◌, ℕ, ◌==◌, Bool, not, ◌&&◌, List, [], ◌∷◌, map, filter, find, length, nat_eq, position, sum_by, slice_get, Option, option_map, option_and_then, if◌then◌else◌}
 use Rattle.std.specs.List.{list_any, range_with_len}
 use Rattle.std.specs.Str.{bytes_eq}
 use Rattle.exact_numbers.specs.declared.dec.Dec.{Dec}
 use Rattle.nl_model.specs.File.{Term}
 use Rattle.nl_model.specs.declared.suffix.Suffix.{Suffix}
 use Rattle.nl_model.specs.Rules.{is_suffix_of}
+use Rattle.nl_model.specs.SuffixKinds.{has_same_objects, is_for_objectives}
 use Rattle.answer_file.specs.Entries.{SuffixLine}
 
 -- ---- values
@@ -23,9 +24,9 @@ has_place terms i = list_any (λ t. t.0 == i) terms
 
 -- ---- suffixes
 
--- lines of one suffix: the name is the same, and so are the low two bits of the kind
+-- lines of one suffix: the same name for the same objects
 abbrev pub is_same_suffix : SuffixLine → SuffixLine → Bool
-is_same_suffix a b = (a.kind % 4 == b.kind % 4) && bytes_eq a.name b.name
+is_same_suffix a b = has_same_objects a.kind b.kind && bytes_eq a.name b.name
 
 -- the first line of each suffix, in order
 unfoldable pub first_lines : List SuffixLine → List SuffixLine
@@ -64,9 +65,9 @@ suffix_named suffixes kind name = suffix_at suffixes (place_named suffixes kind 
 abbrev pub value_count : List Suffix → ℕ
 value_count suffixes = sum_by (λ s. length s.values) suffixes
 
--- the suffix with its objective's number, where its object is the objective
+-- the suffix with its objective's number, where it is for the objectives
 abbrev pub with_objective : ℕ → Suffix → Suffix
-with_objective k s = if s.kind % 4 == 2 then record {
+with_objective k s = if is_for_objectives s.kind then record {
   kind = s.kind;
   name = s.name;
   values = map (λ t. (k, t.1)) s.values;

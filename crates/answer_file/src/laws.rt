@@ -1,11 +1,12 @@
 // Laws of answers.
 ghost use Rattle.std.specs.Prelude.{◌≡◌, ◌<◌, List, ℕ, ◌++◌, ◌∷◌, [], length, map, get_or, Some};
+ghost use Rattle.linear_program.specs.Intervals.{is_sided};
 ghost use Rattle.texts.specs.Judged.{HasOneOutcome};
 ghost use Rattle.texts.specs.Reading.{lines_of, last_of};
 ghost use Rattle.nl_model.specs.File.{File};
 ghost use Rattle.name_files.specs.Names.{AreNames};
 ghost use Rattle.answer_file.specs.declared.target.Target.TheVariants.{Place};
-ghost use Rattle.answer_file.specs.Names.{Setting, named_setting, has_side, column_target, row_target, if_exported};
+ghost use Rattle.answer_file.specs.Names.{Setting, named_setting, column_target, row_target, if_exported};
 ghost use Rattle.answer_file.specs.Grammar.{AnswerValue, SaysAnswer, answer_rules, standing};
 ghost use Rattle.answer_file.specs.Steps.{after};
 
@@ -35,5 +36,5 @@ pub fn names_of_lists()
     ensures rows { (f : File) (rows columns : List (List ℕ)) (i : ℕ) → AreNames rows
         → length rows ≡ length f.sides → i < length rows
         → row_target (named_setting f rows columns) (get_or rows i [])
-        ≡ if_exported (map has_side f.sides) i }
+        ≡ if_exported (map is_sided f.sides) i }
 {}

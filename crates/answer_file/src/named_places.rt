@@ -3,6 +3,7 @@ ghost use Rattle.std.specs.Prelude.{◌≡◌, ◌++◌, ◌∷◌, [], None, On
 ghost use Rattle.answer_file.specs.InsideNamedPlaces.{lookup_name, no_places, places_for, with_place};
 
 use indexmap::IndexMap;
+use nl_model::{Objects, objects_of};
 use std::alloc::{AllocError, Global};
 use std::marker::Model;
 
@@ -90,11 +91,11 @@ impl NamedPlaces {
     pub(crate) fn get(&self, kind: u8, name: &[u8]) -> Option<u32>
         ensures { result ≡ lookup_name (places_for self.now kind) name.now }
     {
-        match kind % 4 {
-            0 => self.columns.get(name),
-            1 => self.rows.get(name),
-            2 => self.objectives.get(name),
-            _ => self.problem.get(name),
+        match objects_of(kind) {
+            Objects::Variables => self.columns.get(name),
+            Objects::Constraints => self.rows.get(name),
+            Objects::Objectives => self.objectives.get(name),
+            Objects::Problem => self.problem.get(name),
         }
     }
 
@@ -110,11 +111,11 @@ impl NamedPlaces {
         ensures ok { OnOk result (self.new ≡ with_place self.old kind name.now place) }
         ensures err { OnErr result (self.new ≡ self.old) }
     {
-        match kind % 4 {
-            0 => self.columns.add(alloc, name, place),
-            1 => self.rows.add(alloc, name, place),
-            2 => self.objectives.add(alloc, name, place),
-            _ => self.problem.add(alloc, name, place),
+        match objects_of(kind) {
+            Objects::Variables => self.columns.add(alloc, name, place),
+            Objects::Constraints => self.rows.add(alloc, name, place),
+            Objects::Objectives => self.objectives.add(alloc, name, place),
+            Objects::Problem => self.problem.add(alloc, name, place),
         }
     }
 }

@@ -20,6 +20,7 @@ use crate::target::Target;
 use crate::values::Values;
 use crate::words::{kind_in, message_in, objective_in, sign_in, status_in};
 use exact_numbers::{Dec, dec_of};
+use nl_model::objects_of;
 use std::alloc::{AllocError, Global};
 use std::marker::Model;
 use texts::{Row, Stop, TextLines, is_name, word_at};
@@ -245,7 +246,8 @@ impl Parts {
         let Some(kind) = kind_in(words) else {
             return Err(Stop::Fault(AnswerReason::BadNumber));
         };
-        let target = scope.object_target(kind, word_at(words, 3));
+        let objects = objects_of(kind as u8);
+        let target = scope.object_target(objects, word_at(words, 3));
         take_object(
             &mut self.suffixes,
             alloc,

@@ -1,11 +1,12 @@
 // What of a file an answer is judged by.
 ghost use Rattle.std.specs.Prelude.{◌≡◌, length, map, get_or, IfOk};
-ghost use Rattle.answer_file.specs.Names.{NamesColumns, NamesRows, setting_by, setting_of, named_setting, has_side, column_target, row_target, object_target, only, if_exported, exported_count};
+ghost use Rattle.linear_program.specs.Intervals.{is_sided};
+ghost use Rattle.answer_file.specs.Names.{NamesColumns, NamesRows, setting_by, setting_of, named_setting, column_target, row_target, object_target, only, if_exported, exported_count};
 
 use crate::naming::Naming;
 use crate::target::Target;
 use name_files::NameList;
-use nl_model::{Interval, NlFile};
+use nl_model::{NlFile, Objects};
 use std::alloc::{AllocError, Global};
 use std::marker::Model;
 
@@ -33,21 +34,14 @@ impl Model for Scope {
         × NamesColumns s.naming s.columns × NamesRows s.naming (length s.exported.items) };
 }
 
-// Whether an interval has a finite side.
-fn has_side(side: Interval) -> bool
-    ensures { result ≡ has_side side }
-{
-    side.lo.is_some() || side.hi.is_some()
-}
-
 // Which constraints are exported.
 #[tactic(auto, using(crate::proofs::MapLemmas::one_mapped))]
 fn exported_of(alloc: Global, file: &NlFile) -> Result<Vec<bool>, AllocError>
-    ensures { IfOk result (λ v. v.items ≡ map has_side file.now.sides) }
+    ensures { IfOk result (λ v. v.items ≡ map is_sided file.now.sides) }
 {
     let mut exported = Vec::new(alloc);
     'constraints: for con in 0..file.header().counts().n_con {
-        exported.push(has_side(file.side(con)))?;
+        exported.push(file.side(con).has_side())?;
     }
     Ok(exported)
 }
@@ -157,15 +151,15 @@ impl Scope {
         }
     }
 
-    /// The object of a suffix of this kind.
-    pub(crate) fn object_target(&self, kind: u32, text: &[u8]) -> Option<Target>
-        ensures { result ≡ object_target self.now kind text.now }
+    /// The object of this name of a suffix for such objects.
+    pub(crate) fn object_target(&self, objects: Objects, text: &[u8]) -> Option<Target>
+        ensures { result ≡ object_target self.now objects text.now }
     {
-        match kind % 4 {
-            0 => self.column_target(text),
-            1 => self.row_target(text),
-            2 => only(b"obj".as_slice(), text),
-            _ => only(b"problem".as_slice(), text),
+        match objects {
+            Objects::Variables => self.column_target(text),
+            Objects::Constraints => self.row_target(text),
+            Objects::Objectives => only(b"obj".as_slice(), text),
+            Objects::Problem => only(b"problem".as_slice(), text),
         }
     }
 }

@@ -10,7 +10,7 @@ ghost use Rattle.answer_file.specs.Steps.{new_suffix, with_line, with_suffix_lin
 use crate::group::Group;
 use crate::named_places::NamedPlaces;
 use exact_numbers::Dec;
-use nl_model::{Suffix, Terms};
+use nl_model::{Suffix, Terms, is_for_objectives};
 use std::alloc::{AllocError, Global};
 use std::marker::Model;
 use texts::Name;
@@ -68,7 +68,7 @@ fn first_group(alloc: Global, name: &[u8], new: NewValue) -> Result<Group, Alloc
 fn with_objective(alloc: Global, objective: u32, suffix: Suffix) -> Result<Suffix, AllocError>
     ensures { IfOk result (λ s. s ≡ with_objective objective suffix) }
 {
-    if suffix.kind % 4 != 2 {
+    if !is_for_objectives(suffix.kind) {
         return Ok(suffix);
     }
     let mut values = Terms::new(alloc);

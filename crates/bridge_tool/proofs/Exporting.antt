@@ -49,7 +49,7 @@ use Rattle.file_meaning.proofs.Files.{count_lem, same_feasible, same_objective a
 use Rattle.file_meaning.proofs.Folding.{clean_has_lines}
 use Rattle.file_meaning.proofs.Formed.{file_formed}
 use Rattle.nl_model.specs.Rules.{IsFile}
-use Rattle.nl_rewritten.proofs.Rewriting.{writable}
+use Rattle.nl_round_trip.proofs.Rewriting.{writable}
 
 -- P holds, or not
 abbrev pub IsDecided : Type 0 → Type 0

@@ -33,12 +33,11 @@ use Rattle.texts.proofs.JudgedLemmas.{fault_line}
 use Rattle.answer_file.specs.Grammar.{answer_rules}
 use Rattle.answer_file.specs.Names.{Setting as AnswerSetting}
 use Rattle.certificate_text.specs.Grammar.{certificate_rules}
-use Rattle.certificate_text.specs.Setting.{Setting as CertificateSetting}
+use Rattle.file_certificates.specs.Setting.{Setting as CertificateSetting}
 use Rattle.fixed_mps.specs.Grammar.{fixed_rules}
 use Rattle.mps_reader.specs.Grammar.{mps_rules}
 use Rattle.name_files.specs.Names.{Counts, name_rules}
 use Rattle.proof_text.specs.Grammar.{proof_rules}
-use Rattle.proof_text.specs.Setting.{Setting as ProofSetting}
 use Rattle.nl_model.specs.declared.at.At.{At}
 use Rattle.linear_fold.specs.declared.fold_fault.FoldFault.TheVariants.{Nonlinear, DivideByZero, TooWide, RefusedPower, FoldTooLarge, NoSuchObjective}
 use Rattle.scaling.specs.declared.scale_fault.ScaleFault.{ScaleFault}
@@ -212,7 +211,7 @@ answer_told s text told r = told_so (answer_rules s) answer_reason_text 2 text t
 pub names_told : (counts : Counts) (file : ℕ) (text told : List ℕ) → IsListRefused counts file text told → TellsLine file text told
 names_told counts file text told r = told_so (name_rules counts) name_reason_text file text told r.fault r.first r.told
 
-pub proof_told : (s : ProofSetting) (file : ℕ) (text told : List ℕ) → IsProofRefused s file text told → TellsLine file text told
+pub proof_told : (s : CertificateSetting) (file : ℕ) (text told : List ℕ) → IsProofRefused s file text told → TellsLine file text told
 proof_told s file text told r = told_so (proof_rules s) proof_reason_text file text told r.fault r.first r.told
 
 pub certificate_told : (s : CertificateSetting) (file : ℕ) (text told : List ℕ) → IsCertificateRefused s file text told → TellsLine file text told

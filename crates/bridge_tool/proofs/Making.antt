@@ -1,5 +1,5 @@
 -- An instance is summed up in one line, or its written text is refused with one line.
-use Rattle.std.proofs.Common.{◌≡◌, ◌∙◌, ℕ, suc, ◌+◌, ◌<◌, ◌≤◌, ◌^◌, ◌||◌, Bool, List, [], ◌∷◌, map, length, get_or, drop, Option, Some, None, cond, refl, sym, ap, ap₂, arith, is_some, inl, inr, true, false, if◌then◌else◌, Result, Ok, Err, subst}
+use Rattle.std.proofs.Common.{◌≡◌, ◌∙◌, ℕ, suc, ◌+◌, ◌<◌, ◌≤◌, ◌^◌, Bool, List, [], ◌∷◌, map, length, get_or, drop, Option, Some, None, cond, refl, sym, ap, ap₂, arith, inl, inr, true, false, if◌then◌else◌, Result, Ok, Err, subst}
 use Rattle.std.specs.List.{count_by, sum_by}
 use Rattle.std.proofs.lemmas.List.Sums.{count_by-le-length, sum_by-cons, sum_by-drop_more, sum_by-le-sum_by}
 use Rattle.exact_numbers.specs.declared.dec.Dec.{Dec}
@@ -8,15 +8,13 @@ use Rattle.exported_program.specs.Return.{is_exported}
 use Rattle.linear_program.specs.declared.form.Form.{Form}
 use Rattle.linear_program.specs.Programs.{LinearValue, form_of, linear_value, rows_from}
 use Rattle.linear_programs.specs.Names.{row_name}
-use Rattle.exported_program.specs.Program.{has_side}
-use Rattle.linear_program.specs.Intervals.{interval_of}
-use Rattle.std.specs.Prelude.{option_map}
+use Rattle.linear_program.specs.Intervals.{interval_of, is_sided}
 use Rattle.mps_model.specs.Built.{entry_of}
 use Rattle.mps_model.specs.Mps.{Column, Mps, column_with, with_values}
 use Rattle.mps_model.specs.Valid.{entry_count}
 use Rattle.linear_program.specs.declared.interval.Interval.{Interval}
 use Rattle.fractions.specs.Rational.{ℚ}
-use Rattle.bridge_tool.specs.Make.{coefficient_count, exported_count, has_finite_side, is_coefficient, of_column, IsInstanceSummedUp, IsMade, IsSummedUp, LeavesInput, MakesAs, made_text, make_promise, summary_line, summary_of}
+use Rattle.bridge_tool.specs.Make.{coefficient_count, exported_count, is_coefficient, of_column, IsInstanceSummedUp, IsMade, IsSummedUp, LeavesInput, MakesAs, made_text, make_promise, summary_line, summary_of}
 use Rattle.std.specs.Global.{Vec}
 use Rattle.file_meaning.specs.FoldFaults.{has_objective}
 use Rattle.file_meaning.specs.LinearFile.{linear_of}
@@ -87,27 +85,16 @@ coefficients_same r m p same =
 
 -- ---- rows
 
-abbrev is_exported_side : Interval → Bool
-is_exported_side s = has_side (option_map dec_value s.lo) (option_map dec_value s.hi)
-
-sides_exported : (i : Interval) → is_exported_side i ≡ has_finite_side i
-sides_exported i = by i.lo i.hi
-  where
-    by : (lo hi : Option Dec) → has_side (option_map dec_value lo) (option_map dec_value hi) ≡ (is_some lo || is_some hi)
-    by None None = refl
-    by None (Some u) = refl
-    by (Some l) u = refl
-
-rows_exported : (i : ℕ) (bodies : List Form) (sides : List Interval) → length sides ≡ length bodies → count_by is_exported (rows_from i bodies sides) ≡ count_by has_finite_side sides
+rows_exported : (i : ℕ) (bodies : List Form) (sides : List Interval) → length sides ≡ length bodies → count_by is_exported (rows_from i bodies sides) ≡ count_by is_sided sides
 rows_exported i [] [] same = refl
 rows_exported i [] (s ∷ sides) same = absurd (omega (arith, same))
 rows_exported i (b ∷ bodies) [] same = absurd (omega (arith, same))
 rows_exported i (b ∷ bodies) (s ∷ sides) same =
     sum_by-cons (λ r. cond (is_exported r) 1 0) (record { name = row_name i; body = form_of b; side = interval_of s }) (rows_from (suc i) bodies sides)
-    ∙ ap₂ (λ t n. cond t 1 0 + n) (sides_exported s) (rows_exported (suc i) bodies sides (omega (arith, same)))
-    ∙ sym (sum_by-cons (λ s. cond (has_finite_side s) 1 0) s sides)
+    ∙ ap₂ (λ t n. cond t 1 0 + n) refl (rows_exported (suc i) bodies sides (omega (arith, same)))
+    ∙ sym (sum_by-cons (λ s. cond (is_sided s) 1 0) s sides)
 
-pub sides_count : (l : LinearValue) → length l.sides ≡ length l.bodies → exported_count (linear_value l) ≡ count_by has_finite_side l.sides
+pub sides_count : (l : LinearValue) → length l.sides ≡ length l.bodies → exported_count (linear_value l) ≡ count_by is_sided l.sides
 unfolding linear_value
 sides_count l same = rows_exported 0 l.bodies l.sides same
 

@@ -42,7 +42,7 @@ use Rattle.nl_model.specs.Rules.{IsFile}
 use Rattle.nl_model.proofs.Headers.{counts_of_header}
 use Rattle.nl_segments.specs.Reader.{IsNl}
 use Rattle.scaling.specs.Scaling.{IsExportOf}
-use Rattle.export_round_trip.proofs.Fitting.{picked}
+use Rattle.exact_numbers.proofs.Fitting.{picked}
 use Rattle.export_round_trip.proofs.Picked.{values_back, whole_picked}
 use Rattle.export_round_trip.proofs.ReadBack.{program_whole}
 use Rattle.export_round_trip.proofs.Reading.{text_of_values}

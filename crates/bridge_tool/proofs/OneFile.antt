@@ -27,7 +27,7 @@ use Rattle.sol_files.proofs.RoundTrip.{is_read_back}
 use Rattle.bridge_tool.specs.Sol.{IsSolMeant, IsSolRefused, sol_told}
 use Rattle.bridge_tool.specs.SolTold.{sol_line}
 use Rattle.nl_round_trip.specs.Writable.{IsText}
-use Rattle.nl_rewritten.proofs.Rewriting.{written_again as nl_again}
+use Rattle.nl_round_trip.proofs.Rewriting.{written_again as nl_again}
 use Rattle.nl_segments.specs.Grammar.{NlValue}
 use Rattle.nl_segments.specs.Reader.{IsNl}
 use Rattle.nl_writer.specs.Written.{nl_text}

@@ -10,10 +10,10 @@ use Rattle.linear_programs.specs.Linear.{row_count, variable_count, Linear}
 use Rattle.exact_numbers.specs.declared.dec.Dec.{Dec}
 use Rattle.texts.specs.declared.stop.Stop.{Stop}
 use Rattle.texts.specs.declared.stop.Stop.TheVariants.{Fault, Memory}
-use Rattle.certificate_check.specs.Terms.{values_of}
+use Rattle.dual_bounds.specs.Terms.{values_of}
 use Rattle.certificate_check.specs.declared.fitting.FitFault.{FitFault}
 use Rattle.certificate_check.specs.declared.fitting.FitFault.TheVariants.{OtherCounts, NoPrimal, NoDual}
-use Rattle.certificate_check.proofs.Files.{certificates}
+use Rattle.file_certificates.proofs.Best.{certificates}
 use Rattle.file_meaning.specs.FoldFaults.{fold_fault, FoldFault as FileFault}
 use Rattle.file_meaning.specs.LinearFile.{linear_of, linear_row}
 use Rattle.linear_programs.proofs.Elements.{elements_length}
@@ -37,29 +37,30 @@ use Rattle.bridge_tool.proofs.SeveralFiles.{IsPlain, IsLast, verdict_last, AreRe
 use Rattle.bridge_tool.proofs.OneFile.{sol_read}
 use Rattle.bridge_tool.specs.declared.refusal.Refusal.{Refusal}
 use Rattle.duality.specs.Branch.{proof_fault}
-use Rattle.branch_proof.specs.declared.leaf.ProofVerdict.{ProofVerdict}
-use Rattle.branch_proof.specs.declared.leaf.ProofVerdict.TheVariants.{Yes}
-use Rattle.branch_proof.specs.Files.{IsProofIn}
-use Rattle.branch_proof.specs.Leaves.{IsProved, IsVerdictOn, fault_of}
-use Rattle.branch_proof.specs.Proofs.{IsProofOf, ProofTree, ProofValue, claim_value, tree_over}
-use Rattle.branch_proof.specs.Trees.{tree_in}
-use Rattle.branch_proof.proofs.BranchFiles.{claim_true as proof_true, proof_of}
-use Rattle.branch_proof.proofs.TreeReading.{tree_back}
+use Rattle.branch_check.specs.declared.leaf.ProofVerdict.{ProofVerdict}
+use Rattle.branch_check.specs.declared.leaf.ProofVerdict.TheVariants.{Yes}
+use Rattle.file_certificates.specs.Files.{IsProofIn, IsCertificateIn}
+use Rattle.branch_check.specs.Leaves.{IsProved, IsVerdictOn, fault_of}
+use Rattle.certificates.specs.Proofs.{IsProofOf, ProofTree, ProofValue, claim_value, tree_over}
+use Rattle.certificates.specs.ProofReading.{tree_in}
+use Rattle.branch_proof.proofs.Files.{claim_true as proof_true}
+use Rattle.file_certificates.proofs.ProofFiles.{proof_of}
+use Rattle.certificates.proofs.ProofReading.{tree_back}
 use Rattle.proof_text.specs.Reader.{HasProofFault, IsProofText}
-use Rattle.proof_text.specs.Setting.{Setting as ProofSetting, setting_of as proof_setting}
+use Rattle.file_certificates.specs.Setting.{Setting as CertificateSetting, setting_of as certificate_setting}
 use Rattle.proof_text.proofs.ReadingLemmas.{one_reading as one_proof}
 use Rattle.bridge_tool.specs.ProofTold.{leaf_line, proof_line}
 use Rattle.bridge_tool.specs.Prove.{IsProofRefused, IsProvedOf, by_fold as by_proof_fold, by_leaf, claimed_objective, open_leaf, prove_outcome}
 use Rattle.duality.specs.Certificate.{Outcome as ClaimOutcome, holds, fails}
-use Rattle.certificates.specs.Certificates.{CertificateValue, Given, IsAskedFor, IsCertificateIn, IsCertificateOf, claim_outcome, objective_of, spread}
+use Rattle.certificates.specs.Certificates.{CertificateValue, Given, IsAskedFor, IsCertificateOf, claim_outcome, objective_of}
+use Rattle.linear_program.specs.Numbers.{spread}
 use Rattle.certificates.specs.Reading.{given_in}
-use Rattle.certificates.specs.Says.{IsTrueOf}
+use Rattle.file_certificates.specs.Says.{IsTrueOf}
 use Rattle.certificates.specs.declared.certificate.Claim.{Claim}
 use Rattle.certificates.specs.declared.certificate.Claim.TheVariants.{Within}
-use Rattle.certificates.proofs.Given.{certificate_of, claim_true}
+use Rattle.file_certificates.proofs.Given.{certificate_of, claim_true}
 use Rattle.certificates.proofs.Reading.{given_back}
 use Rattle.certificate_text.specs.Reader.{HasCertificateFault, IsCertificateText}
-use Rattle.certificate_text.specs.Setting.{Setting as CertificateSetting, setting_of as certificate_setting}
 use Rattle.certificate_text.proofs.ReadingLemmas.{one_reading as one_certificate}
 use Rattle.bridge_tool.specs.CertificateTold.{HasFittingBound, certificate_line, is_held, outcome_line}
 use Rattle.bridge_tool.specs.Verify.{IsCertificateRefused, IsVerified, by_claim, by_fold as by_claim_fold, claim_shown, verify_outcome}
@@ -202,7 +203,7 @@ check_last nl = verdict_last (sol_read 2) (check_outcome nl) (most_steps nl) (λ
 -- ---- one outcome
 
 -- each text says one proof, or is refused with one line
-pub proof_read : (s : ProofSetting) (file : ℕ) → AreRead (IsProofText s) (IsProofRefused s file)
+pub proof_read : (s : CertificateSetting) (file : ℕ) → AreRead (IsProofText s) (IsProofRefused s file)
 proof_read s file =
     read_so (IsProofText s) (HasProofFault s) (proof_line file)
     (λ text. (one_proof s text).one_value) (λ text a b h claimed. ap (proof_line file) ((one_proof s text).one_fault a b h claimed)) (λ text. (one_proof s text).some) (λ text. (one_proof s text).not_both)
@@ -212,9 +213,9 @@ module _ (nl : NlValue) (p : ProofValue) where
   plain_proof None = tt
   plain_proof (Some fault) = tt
 
-pub prove_last : (nl : NlValue) → IsLast true (IsProofText (proof_setting nl.file)) (IsProofRefused (proof_setting nl.file) 2) (λ p outcome. outcome ≡ prove_outcome nl p) (λ p old new. new ≤ old + fold_steps nl (claimed_objective p.claim))
+pub prove_last : (nl : NlValue) → IsLast true (IsProofText (certificate_setting nl.file)) (IsProofRefused (certificate_setting nl.file) 2) (λ p outcome. outcome ≡ prove_outcome nl p) (λ p old new. new ≤ old + fold_steps nl (claimed_objective p.claim))
 prove_last nl =
-    verdict_last (proof_read (proof_setting nl.file) 2) (prove_outcome nl) (λ p. fold_steps nl (claimed_objective p.claim)) (λ p. plain_proof nl p (first_fold_fault nl.file (claimed_objective p.claim)))
+    verdict_last (proof_read (certificate_setting nl.file) 2) (prove_outcome nl) (λ p. fold_steps nl (claimed_objective p.claim)) (λ p. plain_proof nl p (first_fold_fault nl.file (claimed_objective p.claim)))
 
 -- ---- what the code answers
 

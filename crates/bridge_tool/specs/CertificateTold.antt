@@ -6,7 +6,7 @@ use Rattle.fractions.specs.Rational.{ℚ}
 use Rattle.duality.specs.Certificate.{Cause, at_point, not_whole, objective_wide, at_ray, at_leaf, Outcome, holds, fails}
 use Rattle.duality.specs.Ray.{RayFault, ray_row_wide, ray_row_broken, ray_bound_broken, ray_objective_wide, ray_no_better}
 use Rattle.texts.specs.declared.fault.TextFault.{TextFault}
-use Rattle.certificates.specs.Numbers.{number_value}
+use Rattle.linear_program.specs.Numbers.{number_value}
 use Rattle.certificates.specs.declared.certificate.Claim.{Claim}
 use Rattle.certificates.specs.declared.certificate.Claim.TheVariants.{Optimal, Within, Bound, Feasible, Infeasible, Unbounded}
 use Rattle.certificate_text.specs.declared.fault.CertificateReason.{CertificateReason}

@@ -14,9 +14,9 @@ use Rattle.nl_segments.specs.Grammar.{NlValue}
 use Rattle.nl_segments.specs.Reader.{IsNl}
 use Rattle.sol_files.specs.Reader.{IsSol}
 use Rattle.sol_files.specs.Sol.{Sol}
-use Rattle.certificate_check.specs.Best.{IsBestRelaxed}
+use Rattle.file_certificates.specs.Best.{IsBestRelaxed}
 use Rattle.certificate_check.specs.Fits.{fit_fault, given_by}
-use Rattle.certificate_check.specs.Terms.{values_of}
+use Rattle.dual_bounds.specs.Terms.{values_of}
 use Rattle.certificate_check.specs.declared.fitting.FitFault.{FitFault}
 use Rattle.bridge_tool.specs.NlTold.{fold_line}
 use Rattle.bridge_tool.specs.Outcome.{Outcome, Refused, Done}

@@ -1,5 +1,5 @@
 -- The command make: the summary of the exported program of the instance of a seed and a size.
-use Rattle.std.specs.Prelude.{◌≡◌, ◌≢◌, ◌&&◌, ◌||◌, Bool, is_some, ℕ, ◌+◌, ◌≤◌, List, ◌++◌, nat_le, length, codes}
+use Rattle.std.specs.Prelude.{◌≡◌, ◌≢◌, ◌&&◌, Bool, ℕ, ◌+◌, ◌≤◌, List, ◌++◌, nat_le, length, codes}
 use Rattle.std.specs.Fmt.{decimal}
 use Rattle.std.specs.List.{count_by, sum_by}
 use Rattle.fractions.specs.Rational.{ℚ}
@@ -12,7 +12,6 @@ use Rattle.nl_round_trip.specs.Writable.{IsText}
 use Rattle.exact_numbers.specs.Values.{value_text}
 use Rattle.mps_model.specs.Mps.{Mps, Entry, Column}
 use Rattle.mps_model.specs.Text.{mps_text_by}
-use Rattle.linear_program.specs.declared.interval.Interval.{Interval}
 use Rattle.nl_model.specs.File.{File}
 use Rattle.nl_segments.specs.Grammar.{NlValue}
 use Rattle.nl_segments.specs.Reader.{IsNl}
@@ -30,10 +29,6 @@ abbrev pub made_text : ℕ → ℕ → List ℕ
 made_text seed size = nl_text (instance seed size)
 
 -- ---- the summary
-
--- one of the sides is there
-abbrev pub has_finite_side : Interval → Bool
-has_finite_side s = is_some s.lo || is_some s.hi
 
 -- how many rows are exported
 abbrev pub exported_count : Linear → ℕ

@@ -11,13 +11,13 @@ use Rattle.linear_fold.specs.FoldedFaults.{first_fold_fault}
 use Rattle.linear_fold.specs.declared.fold_fault.FoldFault.{FoldFault}
 use Rattle.nl_segments.specs.Grammar.{NlValue}
 use Rattle.nl_segments.specs.Reader.{IsNl}
-use Rattle.proof_text.specs.declared.proof.Claim.{Claim}
-use Rattle.proof_text.specs.declared.proof.Claim.TheVariants.{Value, Infeasible}
-use Rattle.branch_proof.specs.Files.{IsProvedTrueOf}
-use Rattle.branch_proof.specs.Proofs.{ProofValue, claim_value, tree_over}
-use Rattle.branch_proof.specs.Trees.{tree_in}
+use Rattle.certificates.specs.declared.proof.Claim.{Claim}
+use Rattle.certificates.specs.declared.proof.Claim.TheVariants.{Value, Infeasible}
+use Rattle.file_certificates.specs.ProofSays.{IsProvedTrueOf}
+use Rattle.certificates.specs.Proofs.{ProofValue, claim_value, tree_over}
+use Rattle.certificates.specs.ProofReading.{tree_in}
 use Rattle.proof_text.specs.Reader.{HasProofFault, IsProofText}
-use Rattle.proof_text.specs.Setting.{Setting, setting_of}
+use Rattle.file_certificates.specs.Setting.{Setting, setting_of}
 use Rattle.bridge_tool.specs.NlTold.{fold_line}
 use Rattle.bridge_tool.specs.Outcome.{Outcome, Refused, Done}
 use Rattle.bridge_tool.specs.Promise.{Promise}

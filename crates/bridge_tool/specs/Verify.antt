@@ -11,12 +11,13 @@ use Rattle.linear_fold.specs.FoldedFaults.{first_fold_fault}
 use Rattle.linear_fold.specs.declared.fold_fault.FoldFault.{FoldFault}
 use Rattle.nl_segments.specs.Grammar.{NlValue}
 use Rattle.nl_segments.specs.Reader.{IsNl}
-use Rattle.certificates.specs.Certificates.{CertificateValue, claim_outcome, objective_of, spread}
+use Rattle.certificates.specs.Certificates.{CertificateValue, claim_outcome, objective_of}
+use Rattle.linear_program.specs.Numbers.{spread}
 use Rattle.certificates.specs.Reading.{given_in}
-use Rattle.certificates.specs.Says.{IsTrueOf}
+use Rattle.file_certificates.specs.Says.{IsTrueOf}
 use Rattle.certificates.specs.declared.certificate.Claim.{Claim}
 use Rattle.certificate_text.specs.Reader.{HasCertificateFault, IsCertificateText}
-use Rattle.certificate_text.specs.Setting.{Setting, setting_of}
+use Rattle.file_certificates.specs.Setting.{Setting, setting_of}
 use Rattle.bridge_tool.specs.CertificateTold.{certificate_line, is_held, outcome_line}
 use Rattle.bridge_tool.specs.NlTold.{fold_line}
 use Rattle.bridge_tool.specs.Outcome.{Outcome, Refused, Done}

@@ -1,10 +1,10 @@
 // Reading and judging the text of a certificate.
 ghost use Rattle.std.specs.Prelude.{◌≡◌, ◌≢◌, List, ℕ, IfErr, IfOk, Err, IfSome};
 ghost use Rattle.desk.specs.Desk.{IsUnknown, OnlyInput};
-ghost use Rattle.certificates.specs.Certificates.{IsCertificateIn};
+ghost use Rattle.file_certificates.specs.Files.{IsCertificateIn};
 ghost use Rattle.nl_model.specs.File.{File};
 ghost use Rattle.certificate_text.specs.Reader.{IsFed, IsCertificateText};
-ghost use Rattle.certificate_text.specs.Setting.{setting_of};
+ghost use Rattle.file_certificates.specs.Setting.{setting_of};
 ghost use Rattle.bridge_tool.specs.InsideAnswer.{status_of};
 ghost use Rattle.bridge_tool.specs.Verify.{IsCertificateRefused};
 ghost use Rattle.bridge_tool.specs.InsideRefusal.{refused_by};
@@ -24,7 +24,7 @@ use text_base::{Desk, Stop};
 
 impl Feed for CertificateReader {
     ghost use Rattle.certificate_text.specs.Reader.{IsFed};
-    ghost use Rattle.certificate_text.specs.Setting.{Setting};
+    ghost use Rattle.file_certificates.specs.Setting.{Setting};
 
     ghost Setting = { Setting };
 

@@ -2,8 +2,8 @@
 ghost use Rattle.std.specs.Prelude.{◌≡◌, ◌≤◌, ◌++◌, codes, length, IfOk, OnOk, true};
 ghost use Rattle.std.specs.Fmt.{decimal};
 ghost use Rattle.fractions.specs.Fits.{fits};
-ghost use Rattle.certificates.specs.Numbers.{number_value};
-ghost use Rattle.certificate_check.specs.Terms.{value_found};
+ghost use Rattle.linear_program.specs.Numbers.{number_value};
+ghost use Rattle.dual_bounds.specs.Terms.{value_found};
 ghost use Rattle.certificate_walk.specs.Outcomes.{cause_of, leaf_fault_of, outcome_of, point_fault_of, ray_fault_of};
 ghost use Rattle.bridge_tool.specs.CertificateTold.{certificate_reason_text, claim_text, failed_text, HasFittingBound, is_held, outcome_line, outcome_text, ray_text, value_text};
 ghost use Rattle.bridge_tool.specs.LeafTold.{leaf_text};
@@ -14,8 +14,9 @@ use crate::leaf_told::{put_gap, put_side, put_wide};
 use crate::told::{put, put_decimal, put_frac, put_index};
 use certificate_text::CertificateReason;
 use certificate_walk::{Cause, LeafFault, Outcome, PointFault, RayFault};
-use certificates::{Claim, Number};
+use certificates::Claim;
 use exact_numbers::Frac;
+use linear_program::Number;
 use std::alloc::{AllocError, Global};
 
 /// What is said of a fault of a certificate's text.

@@ -8,8 +8,8 @@ ghost use Rattle.linear_fold.specs.FoldedFaults.{first_fold_fault};
 ghost use Rattle.linear_program.specs.Programs.{linear_value};
 ghost use Rattle.nl_model.specs.Rules.{IsFile};
 ghost use Rattle.nl_segments.specs.Reader.{HasLines, value_of};
-ghost use Rattle.certificate_check.specs.Answers.{answer_of};
-ghost use Rattle.certificate_check.specs.Terms.{values_of};
+ghost use Rattle.dual_bounds.specs.Answers.{answer_of};
+ghost use Rattle.dual_bounds.specs.Terms.{values_of};
 ghost use Rattle.bridge_tool.specs.InsideAnswer.{IsCounted};
 ghost use Rattle.bridge_tool.specs.Check.{IsCertified, by_fold, check_outcome, check_promise, most_steps, objective_number, steps_by_number, unfit};
 ghost use Rattle.bridge_tool.specs.SeveralFiles.{Comes};
@@ -106,7 +106,7 @@ fn certified<L: Ledger>(
 }
 
 // The verdict of a file and a solution, or why it is refused.
-fn judge<L: Ledger>(
+fn to_verdict<L: Ledger>(
     alloc: Global,
     read: &NlRead,
     sol: &Sol,
@@ -152,7 +152,7 @@ pub(crate) fn check<D: Desk, L: Ledger>(
             return answer;
         }
     };
-    let judged = judge(alloc, &read, &solution, steps);
+    let judged = to_verdict(alloc, &read, &solution, steps);
     drop(read);
     drop(solution);
     end(desk, judged)

@@ -27,7 +27,7 @@ fn write_program(alloc: Global, scaled: Scaled) -> Result<Vec<u8>, AllocError>
 }
 
 // The bytes to write for a file, or why it is refused.
-fn judge<L: Ledger>(
+fn to_output<L: Ledger>(
     alloc: Global,
     read: NlRead,
     objective: u32,
@@ -60,6 +60,6 @@ pub(crate) fn export<D: Desk, L: Ledger>(
         Ok(read) => read,
         Err(ended) => return ended,
     };
-    let judged = judge(alloc, read, objective, steps);
+    let judged = to_output(alloc, read, objective, steps);
     end(desk, judged)
 }

@@ -4,7 +4,7 @@ ghost use Rattle.bridge_tool.specs.InsideAnswer.{IsAtRest};
 ghost use Rattle.bridge_tool.specs.Fixed.{fixed_promise};
 
 use crate::answer::Answer;
-use crate::mps::judge;
+use crate::mps::to_output;
 use crate::mps_input::open_fixed;
 use crate::one_file::end;
 use std::alloc::Global;
@@ -20,7 +20,7 @@ pub(crate) fn rewrite<D: Desk>(alloc: Global, file: &str, desk: &mut D) -> Answe
         Ok(mps) => mps,
         Err(ended) => return ended,
     };
-    let judged = judge(alloc, &mps);
+    let judged = to_output(alloc, &mps);
     drop(mps);
     end(desk, judged)
 }

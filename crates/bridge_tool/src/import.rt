@@ -16,7 +16,7 @@ use std::alloc::Global;
 use text_base::{Desk, Stop};
 
 // The bytes to write for a program, or why it is refused.
-fn judge(alloc: Global, mps: &Mps) -> Result<(bool, Vec<u8>), Stop<Refusal>>
+fn to_output(alloc: Global, mps: &Mps) -> Result<(bool, Vec<u8>), Stop<Refusal>>
     ensures { Comes (λ outcome. outcome ≡ import_outcome mps.now) result }
 {
     match import(alloc, mps) {
@@ -37,7 +37,7 @@ pub(crate) fn import_file<D: Desk>(alloc: Global, file: &str, desk: &mut D) -> A
         Ok(mps) => mps,
         Err(ended) => return ended,
     };
-    let judged = judge(alloc, &mps);
+    let judged = to_output(alloc, &mps);
     drop(mps);
     end(desk, judged)
 }

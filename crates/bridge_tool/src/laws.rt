@@ -1,7 +1,7 @@
 // Each law is proved by a function with an empty body.
-ghost use Rattle.std.specs.Prelude.{◌≡◌, ◌↔◌, ◌+◌, ◌≤◌, ◌^◌, List, ℕ, Option, Some, length, take};
+ghost use Rattle.std.specs.Prelude.{◌≡◌, ◌↔◌, ◌+◌, ◌≤◌, ◌^◌, List, ℕ, None, Option, Some, length, take};
 ghost use Rattle.answer_file.specs.Names.{Setting as AnswerSetting};
-ghost use Rattle.certificate_text.specs.Setting.{Setting as CertificateSetting};
+ghost use Rattle.file_certificates.specs.Setting.{Setting as CertificateSetting};
 ghost use Rattle.export_round_trip.specs.ReadAs.{IsReadAs};
 ghost use Rattle.linear_fold.specs.FoldedFaults.{HasFaultPlace};
 ghost use Rattle.linear_fold.specs.declared.fold_fault.FoldFault.{FoldFault};
@@ -17,7 +17,6 @@ ghost use Rattle.nl_segments.specs.Reader.{IsNl};
 ghost use Rattle.nl_writer.specs.Written.{nl_text};
 ghost use Rattle.sol_files.specs.Reader.{IsSol};
 ghost use Rattle.sol_files.specs.Written.{sol_text};
-ghost use Rattle.proof_text.specs.Setting.{Setting as ProofSetting};
 ghost use Rattle.desk.specs.Desk.{Texts};
 ghost use Rattle.texts.specs.Reading.{lines_of};
 ghost use Rattle.bridge_tool.specs.Commands.{ComesTo};
@@ -109,7 +108,7 @@ pub fn told_lines_are_lines()
         → TellsLine 2 text told }
     ensures names { (counts : Counts) (file : ℕ) (text told : List ℕ)
         → IsListRefused counts file text told → TellsLine file text told }
-    ensures proof { (s : ProofSetting) (file : ℕ) (text told : List ℕ)
+    ensures proof { (s : CertificateSetting) (file : ℕ) (text told : List ℕ)
         → IsProofRefused s file text told → TellsLine file text told }
     ensures certificate { (s : CertificateSetting) (file : ℕ) (text told : List ℕ)
         → IsCertificateRefused s file text told → TellsLine file text told }

@@ -66,7 +66,7 @@ fn instance_text(alloc: Global, seed: u32, size: u32) -> Result<Vec<u8>, AllocEr
 }
 
 // The summary of the written text of an instance, or why it is refused.
-fn judge<L: Ledger>(
+fn to_output<L: Ledger>(
     alloc: Global,
     seed: u32,
     size: u32,
@@ -101,6 +101,6 @@ pub(crate) fn make<D: Desk, L: Ledger>(
     ensures above { steps.old ≤ steps.new }
     ensures counts { steps.new ≤ steps.old + step_bound (instance seed size) }
 {
-    let judged = judge(alloc, seed, size, steps);
+    let judged = to_output(alloc, seed, size, steps);
     end(desk, judged)
 }

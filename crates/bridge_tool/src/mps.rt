@@ -17,7 +17,7 @@ use std::alloc::Global;
 use text_base::{Desk, Stop};
 
 /// The bytes to write for a program.
-pub(crate) fn judge(alloc: Global, mps: &Mps) -> Result<(bool, Vec<u8>), Stop<Refusal>>
+pub(crate) fn to_output(alloc: Global, mps: &Mps) -> Result<(bool, Vec<u8>), Stop<Refusal>>
     ensures comes { Comes (λ outcome. outcome ≡ Done true (mps_text mps.now)) result }
     ensures means { IfOk result (λ t. IsMpsMeant mps.now) }
 {
@@ -35,7 +35,7 @@ pub(crate) fn rewrite<D: Desk>(alloc: Global, file: &str, desk: &mut D) -> Answe
         Ok(mps) => mps,
         Err(ended) => return ended,
     };
-    let judged = judge(alloc, &mps);
+    let judged = to_output(alloc, &mps);
     drop(mps);
     end(desk, judged)
 }

@@ -56,7 +56,7 @@ fn write_named(
 }
 
 // The bytes to write for a file with names, or why it is refused.
-fn judge<L: Ledger>(
+fn to_output<L: Ledger>(
     alloc: Global,
     read: NlRead,
     objective: u32,
@@ -127,7 +127,7 @@ pub(crate) fn export_named<D: Desk, L: Ledger>(
             return ended;
         }
     };
-    let judged = judge(alloc, read, objective, &row_names, &column_names, steps);
+    let judged = to_output(alloc, read, objective, &row_names, &column_names, steps);
     drop(row_names);
     drop(column_names);
     end(desk, judged)

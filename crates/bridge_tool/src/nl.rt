@@ -16,7 +16,7 @@ use std::alloc::Global;
 use text_base::{Desk, Stop};
 
 // The bytes to write for a file.
-fn judge(alloc: Global, read: NlRead) -> Result<(bool, Vec<u8>), Stop<Refusal>>
+fn to_output(alloc: Global, read: NlRead) -> Result<(bool, Vec<u8>), Stop<Refusal>>
     ensures { Comes (λ outcome. outcome ≡ Done true (nl_text read.file)) result }
 {
     let out = write_nl(alloc, &read.file);
@@ -33,6 +33,6 @@ pub(crate) fn rewrite<D: Desk>(alloc: Global, file: &str, desk: &mut D) -> Answe
         Ok(read) => read,
         Err(ended) => return ended,
     };
-    let judged = judge(alloc, read);
+    let judged = to_output(alloc, read);
     end(desk, judged)
 }

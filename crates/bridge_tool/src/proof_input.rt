@@ -1,10 +1,10 @@
 // Reading and judging a proof text.
 ghost use Rattle.std.specs.Prelude.{◌≡◌, ◌≢◌, List, ℕ, IfErr, IfOk, Err, IfSome};
 ghost use Rattle.desk.specs.Desk.{IsUnknown, OnlyInput};
-ghost use Rattle.branch_proof.specs.Files.{IsProofIn};
+ghost use Rattle.file_certificates.specs.Files.{IsProofIn};
 ghost use Rattle.nl_model.specs.File.{File};
 ghost use Rattle.proof_text.specs.Reader.{IsFed, IsProofText};
-ghost use Rattle.proof_text.specs.Setting.{setting_of};
+ghost use Rattle.file_certificates.specs.Setting.{setting_of};
 ghost use Rattle.bridge_tool.specs.InsideAnswer.{status_of};
 ghost use Rattle.bridge_tool.specs.Prove.{IsProofRefused};
 ghost use Rattle.bridge_tool.specs.InsideRefusal.{refused_by};
@@ -24,7 +24,7 @@ use text_base::{Desk, Stop};
 
 impl Feed for ProofReader {
     ghost use Rattle.proof_text.specs.Reader.{IsFed};
-    ghost use Rattle.proof_text.specs.Setting.{Setting};
+    ghost use Rattle.file_certificates.specs.Setting.{Setting};
 
     ghost Setting = { Setting };
 

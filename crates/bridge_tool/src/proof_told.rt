@@ -1,6 +1,6 @@
 // What is told of faults of proof texts, and the lines of verdicts on proofs.
 ghost use Rattle.std.specs.Prelude.{◌≡◌, ◌≤◌, ◌++◌, codes, length, IfOk, OnOk};
-ghost use Rattle.branch_proof.specs.Leaves.{fault_of};
+ghost use Rattle.branch_check.specs.Leaves.{fault_of};
 ghost use Rattle.bridge_tool.specs.ProofTold.{leaf_line, proof_reason_text};
 
 use crate::leaf_told::{put_gap, put_side, put_wide};

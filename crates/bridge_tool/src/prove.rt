@@ -3,9 +3,9 @@
 ghost use Rattle.std.specs.Prelude.{◌≡◌, ◌+◌, ◌≤◌, true, is_none, IfOk};
 ghost use Rattle.linear_program.specs.Programs.{linear_value};
 ghost use Rattle.nl_segments.specs.Reader.{HasLines, value_of};
-ghost use Rattle.branch_proof.specs.Files.{IsProofIn};
-ghost use Rattle.branch_proof.specs.Leaves.{IsProved, IsVerdictOn, fault_of};
-ghost use Rattle.branch_proof.specs.Proofs.{IsProofOf};
+ghost use Rattle.file_certificates.specs.Files.{IsProofIn};
+ghost use Rattle.branch_check.specs.Leaves.{IsProved, IsVerdictOn, fault_of};
+ghost use Rattle.certificates.specs.Proofs.{IsProofOf};
 ghost use Rattle.bridge_tool.specs.InsideAnswer.{IsCounted};
 ghost use Rattle.bridge_tool.specs.Prove.{IsProvedOf, claimed_objective, prove_outcome, prove_promise};
 ghost use Rattle.bridge_tool.specs.ProofTold.{leaf_line};
@@ -63,7 +63,7 @@ fn told_verdict(alloc: Global, verdict: ProofVerdict) -> Result<(bool, Vec<u8>),
 }
 
 // The verdict on a proof of a file, or the first fault of the fold.
-fn judge<L: Ledger>(
+fn to_verdict<L: Ledger>(
     alloc: Global,
     read: &NlRead,
     proof: &Proof,
@@ -109,7 +109,7 @@ pub(crate) fn prove<D: Desk, L: Ledger>(
             return answer;
         }
     };
-    let judged = judge(alloc, &read, &given, steps);
+    let judged = to_verdict(alloc, &read, &given, steps);
     drop(read);
     drop(given);
     end(desk, judged)

@@ -57,7 +57,7 @@ fn make<L: Ledger>(
 }
 
 // The bytes to write for an answer for a file, or why it is refused.
-fn judge<L: Ledger>(
+fn to_output<L: Ledger>(
     alloc: Global,
     read: &NlRead,
     given: &Given,
@@ -99,7 +99,7 @@ pub(crate) fn return_answer<D: Desk, L: Ledger>(
             return ended;
         }
     };
-    let judged = judge(alloc, &read, &given, steps);
+    let judged = to_output(alloc, &read, &given, steps);
     drop(read);
     drop(given);
     end(desk, judged)
@@ -146,7 +146,7 @@ pub(crate) fn return_named<D: Desk, L: Ledger>(
             return ended;
         }
     };
-    let judged = judge(alloc, &read, &given, steps);
+    let judged = to_output(alloc, &read, &given, steps);
     drop(read);
     drop(given);
     end(desk, judged)

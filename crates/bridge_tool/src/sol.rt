@@ -16,7 +16,7 @@ use std::alloc::Global;
 use text_base::{Desk, Stop};
 
 // The bytes to write for a value.
-fn judge(alloc: Global, sol: &Sol) -> Result<(bool, Vec<u8>), Stop<Refusal>>
+fn to_output(alloc: Global, sol: &Sol) -> Result<(bool, Vec<u8>), Stop<Refusal>>
     ensures { Comes (λ outcome. outcome ≡ Done true (sol_text sol.now)) result }
 {
     let out = write_sol(alloc, sol)?;
@@ -32,7 +32,7 @@ pub(crate) fn rewrite<D: Desk>(alloc: Global, file: &str, desk: &mut D) -> Answe
         Ok(sol) => sol,
         Err(ended) => return ended,
     };
-    let judged = judge(alloc, &sol);
+    let judged = to_output(alloc, &sol);
     drop(sol);
     end(desk, judged)
 }

@@ -2,10 +2,11 @@
 ghost use Rattle.std.specs.Prelude.{◌≡◌, ◌++◌, ◌+◌, ◌≤◌, ◌^◌, IfOk, OnOk, codes, length};
 ghost use Rattle.std.specs.Fmt.{decimal};
 ghost use Rattle.std.specs.List.{count_by, sum_by};
+ghost use Rattle.linear_program.specs.Intervals.{is_sided};
 ghost use Rattle.linear_program.specs.Programs.{linear_value};
 ghost use Rattle.mps_model.specs.Built.{entry_of};
 ghost use Rattle.mps_model.specs.Valid.{entry_count};
-ghost use Rattle.bridge_tool.specs.Make.{coefficient_count, exported_count, has_finite_side, is_coefficient, of_column, summary_line};
+ghost use Rattle.bridge_tool.specs.Make.{coefficient_count, exported_count, is_coefficient, of_column, summary_line};
 
 use crate::told::put;
 use exact_numbers::Dec;
@@ -15,16 +16,10 @@ use mps_model::{Mps, MpsColumn};
 use nl_model::Interval;
 use std::alloc::{AllocError, Global};
 
-fn has_side(side: &Interval) -> bool
-    ensures { result ≡ has_finite_side side.now }
-{
-    side.lo.is_some() || side.hi.is_some()
-}
-
 fn count_sides(sides: &[Interval]) -> usize
-    ensures { result ≡ count_by has_finite_side sides.now }
+    ensures { result ≡ count_by is_sided sides.now }
 {
-    sides.iter().filter(|side| has_side(side)).count()
+    sides.iter().filter(|side| side.has_side()).count()
 }
 
 /// How many rows are exported.

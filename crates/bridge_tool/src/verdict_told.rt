@@ -1,7 +1,7 @@
 // The lines of verdicts, and of faults of solutions that do not fit their file.
 ghost use Rattle.std.specs.Prelude.{◌≡◌, ◌≤◌, ◌++◌, length, IfOk, OnOk};
-ghost use Rattle.certificate_check.specs.Answers.{answer_of, place_of};
-ghost use Rattle.certificate_check.specs.declared.verdict.Verdict.TheVariants.{Gap, TooWide, Yes};
+ghost use Rattle.dual_bounds.specs.Answers.{answer_of, place_of};
+ghost use Rattle.dual_bounds.specs.declared.verdict.Verdict.TheVariants.{Gap, TooWide, Yes};
 ghost use Rattle.bridge_tool.specs.VerdictTold.{fit_line, fit_text, is_yes, negative_line, place_text, verdict_line, verdict_text};
 
 use crate::told::{fixed, put, put_frac, put_index, put_signed};

@@ -3,7 +3,8 @@
 ghost use Rattle.std.specs.Prelude.{◌≡◌, ◌+◌, ◌≤◌, true, IfOk};
 ghost use Rattle.linear_program.specs.Programs.{linear_value};
 ghost use Rattle.nl_segments.specs.Reader.{HasLines, value_of};
-ghost use Rattle.certificates.specs.Certificates.{IsCertificateIn, IsCertificateOf, claim_outcome, objective_of};
+ghost use Rattle.certificates.specs.Certificates.{IsCertificateOf, claim_outcome, objective_of};
+ghost use Rattle.file_certificates.specs.Files.{IsCertificateIn};
 ghost use Rattle.certificate_walk.specs.Outcomes.{outcome_of};
 ghost use Rattle.bridge_tool.specs.InsideAnswer.{IsCounted};
 ghost use Rattle.bridge_tool.specs.CertificateTold.{HasFittingBound, is_held, outcome_line};
@@ -71,7 +72,7 @@ fn told_outcome(
 }
 
 // The verdict on a certificate for a file, or the first fault of the fold.
-fn judge<L: Ledger>(
+fn to_verdict<L: Ledger>(
     alloc: Global,
     read: &NlRead,
     certificate: &Certificate,
@@ -118,7 +119,7 @@ pub(crate) fn verify<D: Desk, L: Ledger>(
             return answer;
         }
     };
-    let judged = judge(alloc, &read, &given, steps);
+    let judged = to_verdict(alloc, &read, &given, steps);
     drop(read);
     drop(given);
     end(desk, judged)

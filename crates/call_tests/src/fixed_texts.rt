@@ -1,10 +1,10 @@
 // An MPS text of fixed columns that comes in pieces.
 
+use crate::programs::is_program;
 use example_texts::mps_texts::{FIXED, FIXED_WRITTEN};
 use fixed_mps::FixedReader;
 use mps_model::Mps;
 use mps_reader::MpsFault;
-use mps_writer::write_mps;
 use std::alloc::Global;
 use text_base::Stop;
 
@@ -20,20 +20,10 @@ fn read_in_pieces(alloc: Global, text: &[u8], len: usize) -> Result<Mps, Stop<Mp
     reader.finish()
 }
 
-fn is_written(alloc: Global, len: usize) -> bool {
-    match read_in_pieces(alloc, FIXED.as_bytes(), len) {
-        Ok(mps) => {
-            let out = write_mps(alloc, &mps);
-            drop(mps);
-            out.is_ok_and(|out| out.as_slice() == FIXED_WRITTEN.as_bytes())
-        }
-        Err(_) => false,
-    }
-}
-
 #[test]
 fn fixed_columns_in_pieces(rt: HostRuntime) {
     for len in [1, 2, 3, 7] {
-        assert!(rt; is_written(rt.alloc(), len), "in pieces of {len}");
+        let mps = read_in_pieces(rt.alloc(), FIXED.as_bytes(), len).expect(&rt, "a program");
+        assert!(rt; is_program(&rt, rt.alloc(), mps, FIXED_WRITTEN));
     }
 }

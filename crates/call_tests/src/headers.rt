@@ -36,7 +36,7 @@ fn faults_of_header_lines(rt: HostRuntime) {
         ),
     ];
     for (text, reason, line) in cases {
-        assert_eq!(rt; fault_of(rt.alloc(), text), Some((reason, line)));
+        assert!(rt; fault_of(rt.alloc(), text) == Some((reason, line)));
     }
 }
 
@@ -54,11 +54,9 @@ fn kind_at(header: &Header, var: u32) -> Option<Kind> {
 
 #[test]
 fn kinds_by_groups(rt: HostRuntime) {
-    let Ok(read) = read_nl(rt.alloc(), GROUPS) else {
-        panic!(rt; "refused");
-    };
+    let read = read_nl(rt.alloc(), GROUPS).expect(&rt, "refused");
     let header = read.file.header();
-    assert_eq!(rt; header.options().items(), [1, 1, 0].as_slice());
+    assert!(rt; header.options().items() == [1, 1, 0].as_slice());
     let kinds = [
         Kind::Continuous,
         Kind::Integer,
@@ -70,8 +68,8 @@ fn kinds_by_groups(rt: HostRuntime) {
         Kind::Integer,
     ];
     for (var, kind) in kinds.iter().enumerate() {
-        assert_eq!(rt; kind_at(header, var as u32), Some(*kind));
+        assert!(rt; kind_at(header, var as u32) == Some(*kind));
     }
-    assert_eq!(rt; kind_at(header, 8), None);
+    assert!(rt; kind_at(header, 8) == None);
     drop(read);
 }

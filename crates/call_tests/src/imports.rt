@@ -4,21 +4,19 @@ ghost use Rattle.std.specs.Prelude.{◌≡◌, length};
 use mps_import::{ImportFault, Imported, Order, import};
 use mps_reader::MpsReader;
 use nl_writer::write_nl;
-use std::alloc::{AllocError, Global};
-use std::test::Fail;
+use std::alloc::Global;
+use std::process::Abort;
 use text_base::Stop;
 
-// What the import of the program of a text answers; none where the text says no program.
-fn imported(alloc: Global, text: &str) -> Option<Result<Imported, Stop<ImportFault>>> {
-    let Ok(mut reader) = MpsReader::new(alloc) else {
-        return None;
-    };
+// What the import of the program of a text answers.
+fn imported(rt: &impl Abort, alloc: Global, text: &str) -> Result<Imported, Stop<ImportFault>> {
+    let mut reader = MpsReader::new(alloc).expect(rt, "memory");
     // The reader keeps an error, and answers it at the end.
     let _ = reader.feed(text.as_bytes());
-    match reader.finish() {
-        Ok(mps) => Some(import(alloc, &mps)),
-        Err(_) => None,
-    }
+    let mps = reader.finish().expect(rt, "a program");
+    let answer = import(alloc, &mps);
+    drop(mps);
+    answer
 }
 
 fn is_order(order: &Order, wanted: &[u32]) -> bool {
@@ -40,34 +38,21 @@ const KINDS: &str =
 const KINDS_IMPORTED: &str =
     "g3 1 1 0\n3 1 1 1 0\n0 0\n0 0\n0 0 0\n0 0 0 1\n1 1 0 0 0\n2 2\n0 0\n0 0 0 0 0\nO0 1\nn5\nr\n0 1 4\nb\n2 0\n0 0 1\n2 0\nk2\n0\n1\nJ0 2\n1 1\n2 1\nG0 2\n0 1\n2 2\n";
 
-// Whether the text is imported as this text, with the columns in this order.
-fn is_imported_as(
-    alloc: Global,
-    text: &str,
-    written: &str,
-    columns: &[u32],
-) -> Result<bool, AllocError> {
-    match imported(alloc, text) {
-        Some(Ok(file)) => {
-            let out = write_nl(alloc, &file.file);
-            let is_ordered = is_order(&file.order, columns);
-            drop(file);
-            Ok(out?.as_slice() == written.as_bytes() && is_ordered)
-        }
-        _ => Ok(false),
-    }
-}
-
+// The columns stand in this order.
 #[test]
-fn columns_come_by_their_kinds(rt: HostRuntime) -> Result<(), Fail> {
-    assert!(rt; is_imported_as(rt.alloc(), KINDS, KINDS_IMPORTED, &[2, 1, 0])?);
-    Ok(())
+fn columns_come_by_their_kinds(rt: HostRuntime) {
+    let file = imported(&rt, rt.alloc(), KINDS).expect(&rt, "a file");
+    let text = write_nl(rt.alloc(), &file.file).expect(&rt, "memory");
+    assert!(rt; text.as_slice() == KINDS_IMPORTED.as_bytes());
+    assert!(rt; is_order(&file.order, &[2, 1, 0]));
+    drop(text);
+    drop(file);
 }
 
-// Whether a program was read, and this is the fault of its import.
-fn is_fault<T: Drop>(answer: Option<Result<T, Stop<ImportFault>>>, wanted: ImportFault) -> bool {
+// Whether this is the fault of an import.
+fn is_fault<T: Drop>(answer: Result<T, Stop<ImportFault>>, wanted: ImportFault) -> bool {
     match answer {
-        Some(Err(Stop::Fault(fault))) => fault == wanted,
+        Err(Stop::Fault(fault)) => fault == wanted,
         _ => false,
     }
 }
@@ -85,6 +70,6 @@ fn the_first_fault_is_answered(rt: HostRuntime) {
         ),
     ];
     for (text, fault) in cases {
-        assert!(rt; is_fault(imported(rt.alloc(), text), fault), "at {text}");
+        assert!(rt; is_fault(imported(&rt, rt.alloc(), text), fault));
     }
 }

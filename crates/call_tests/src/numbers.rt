@@ -23,7 +23,7 @@ fn texts_are_read(rt: HostRuntime) {
     ];
     for (text, m, e) in cases {
         let number = read_dec(text).expect(&rt, "a number");
-        assert_eq!(rt; (number.m(), number.e()), (m, e));
+        assert!(rt; (number.m(), number.e()) == (m, e));
     }
 }
 
@@ -36,7 +36,7 @@ fn a_long_text_is_read(rt: HostRuntime) {
     text[60002] = b'-';
     text[60003] = b'6';
     let one = read_dec(&text).expect(&rt, "a number");
-    assert_eq!(rt; (one.m(), one.e()), (1, 0));
+    assert!(rt; (one.m(), one.e()) == (1, 0));
 }
 
 #[test]
@@ -54,12 +54,12 @@ fn numbers_are_written(rt: HostRuntime) {
         let mut out = NumText::new();
         let number = Dec::new(m, e).expect(&rt, "a number");
         number.write_to(&mut out);
-        assert_eq!(rt; out.bytes(), wanted);
+        assert!(rt; out.bytes() == wanted);
     }
     let mut out = NumText::new();
     let fraction = Frac::new(2, -12).expect(&rt, "a fraction");
     fraction.write_to(&mut out);
-    assert_eq!(rt; out.bytes(), b"-1/6".as_slice());
+    assert!(rt; out.bytes() == b"-1/6".as_slice());
 }
 
 #[test]
@@ -77,7 +77,7 @@ fn texts_that_are_no_numbers(rt: HostRuntime) {
         (b"1e-401", NumFault::TooWide),
     ];
     for (text, fault) in cases {
-        assert_eq!(rt; read_dec(text), Err(fault));
+        assert!(rt; read_dec(text) == Err(fault));
     }
     let wholes: [(&[u8], Result<u32, NumFault>); 3] = [
         (b"2147483647", Ok(2147483647)),
@@ -85,7 +85,7 @@ fn texts_that_are_no_numbers(rt: HostRuntime) {
         (b"+1", Err(NumFault::NotNumber)),
     ];
     for (text, wanted) in wholes {
-        assert_eq!(rt; read_whole(text), wanted);
+        assert!(rt; read_whole(text) == wanted);
     }
 }
 
@@ -150,7 +150,7 @@ fn words_that_are_numbers(rt: HostRuntime) {
         (b"+7", None),
     ];
     for (word, wanted) in wholes {
-        assert_eq!(rt; whole_of(word), wanted);
+        assert!(rt; whole_of(word) == wanted);
     }
     assert!(rt; are_digits(b"99999999999"));
     assert!(rt; signed_of(b"-2147483648") == Some(-2_147_483_648));
@@ -161,7 +161,7 @@ fn words_that_are_numbers(rt: HostRuntime) {
         (b".", None),
     ];
     for (word, wanted) in decimals {
-        assert_eq!(rt; dec_of(word), wanted);
+        assert!(rt; dec_of(word) == wanted);
     }
 }
 
@@ -174,7 +174,7 @@ fn plain_words_are_taken(rt: HostRuntime) {
         (b"1e5", None),
     ];
     for (word, wanted) in decimals {
-        assert_eq!(rt; plain_dec(word), wanted);
+        assert!(rt; plain_dec(word) == wanted);
     }
     let index = plain_index(b"120 3.5").expect(&rt, "an index");
     assert!(rt; index.number == 120 && index.len == 3);

@@ -1,14 +1,13 @@
 // The parts of a file, given one by one.
-ghost use Rattle.std.specs.Prelude.{◌≡◌, IfOk};
+ghost use Rattle.std.specs.Prelude.{◌≡◌};
 ghost use Rattle.nl_meaning.specs.Trees.{number};
 
 use exact_numbers::Dec;
 use nl_model::{
     Counts, Decs, Def, Expr, ExprBuilder, Header, Interval, NlBuilder, Node, Options, Suffix, Terms,
 };
-use std::alloc::{AllocError, Global};
+use std::alloc::Global;
 use std::process::Abort;
-use std::test::Fail;
 use text_base::Name;
 
 // Two variables, one constraint, one objective, one term, and one defined variable.
@@ -73,125 +72,119 @@ fn headers_keep_the_rules(rt: HostRuntime) {
     }
 }
 
-fn started(alloc: Global) -> Result<NlBuilder, Fail> {
-    let header = Header::new(Options::new(), COUNTS).ok_or("refused")?;
-    let builder = NlBuilder::new(alloc, header)?;
-    Ok(builder)
+fn started(rt: &impl Abort, alloc: Global) -> NlBuilder {
+    let header = Header::new(Options::new(), COUNTS).expect(rt, "a header");
+    NlBuilder::new(alloc, header).expect(rt, "memory")
 }
 
 // Adds an interval of a constraint and one of a variable.
-fn add_sides(builder: &mut NlBuilder) -> Result<(), AllocError> {
+fn add_sides(rt: &impl Abort, builder: &mut NlBuilder) {
     if builder.sides() < builder.header().counts().n_con {
-        builder.side(Interval { lo: None, hi: None })?;
+        builder
+            .side(Interval { lo: None, hi: None })
+            .expect(rt, "memory");
     }
     if builder.bounds() < builder.header().counts().n_var {
-        builder.bound(Interval { lo: None, hi: None })?;
+        builder
+            .bound(Interval { lo: None, hi: None })
+            .expect(rt, "memory");
     }
-    Ok(())
 }
 
 // Adds a term of constraint 0.
-fn add_term(builder: &mut NlBuilder, value: Dec) -> Result<(), AllocError> {
+fn add_term(rt: &impl Abort, builder: &mut NlBuilder, value: Dec) {
     let counts = *builder.header().counts();
     if counts.n_con > 0 && counts.n_var > 0 && builder.terms() < 10 {
-        builder.term(0, 0, value)?;
+        builder.term(0, 0, value).expect(rt, "memory");
     }
-    Ok(())
 }
 
 #[test]
-fn a_builder_takes_sides_and_terms(rt: HostRuntime) -> Result<(), Fail> {
-    let mut builder = started(rt.alloc())?;
-    assert!(rt; add_sides(&mut builder).is_ok());
+fn a_builder_takes_sides_and_terms(rt: HostRuntime) {
+    let mut builder = started(&rt, rt.alloc());
+    add_sides(&rt, &mut builder);
     assert!(rt; builder.sides() == 1);
     assert!(rt; builder.bounds() == 1);
-    assert!(rt; add_term(&mut builder, Dec::of_whole(5)).is_ok());
+    add_term(&rt, &mut builder, Dec::of_whole(5));
     assert!(rt; builder.terms() == 1);
     drop(builder);
-    Ok(())
 }
 
 // A builder with a slope and two guesses.
-fn guessed(
-    rt: &impl Abort,
-    alloc: Global,
-    header: Header,
-    value: Dec,
-) -> Result<NlBuilder, AllocError> {
+fn guessed(rt: &impl Abort, alloc: Global, header: Header, value: Dec) -> NlBuilder {
     let counts = *header.counts();
-    let mut builder = NlBuilder::new(alloc, header)?;
+    let mut builder = NlBuilder::new(alloc, header).expect(rt, "memory");
     if counts.n_con > 0 && counts.n_var > 0 && counts.n_obj > 0 {
         builder.slope(0, 0, value).expect(rt, "memory");
         builder.dual_guess(0, value).expect(rt, "memory");
         builder.primal_guess(0, value).expect(rt, "memory");
     }
-    Ok(builder)
+    builder
 }
 
 #[test]
-fn a_builder_takes_guesses(rt: HostRuntime) -> Result<(), Fail> {
-    let header = Header::new(Options::new(), COUNTS).ok_or("refused")?;
-    let builder = guessed(&rt, rt.alloc(), header, Dec::of_whole(5))?;
+fn a_builder_takes_guesses(rt: HostRuntime) {
+    let header = Header::new(Options::new(), COUNTS).expect(&rt, "a header");
+    let builder = guessed(&rt, rt.alloc(), header, Dec::of_whole(5));
     assert!(rt; !builder.has_body(0));
     drop(builder);
-    Ok(())
 }
 
 // The expression of one number.
-fn number(alloc: Global, value: Dec) -> Result<Expr, AllocError>
-    ensures { IfOk result (λ x. x ≡ number value.m value.e) }
+fn number(rt: &impl Abort, alloc: Global, value: Dec) -> Expr
+    ensures { result ≡ number value.m value.e }
 {
     let mut builder = ExprBuilder::new(alloc);
-    builder.push(Node::Num(value))?;
-    Ok(builder.finish())
+    builder.push(Node::Num(value)).expect(rt, "memory");
+    builder.finish()
 }
 
 // Gives the first defined variable.
-fn add_definition(builder: &mut NlBuilder, alloc: Global, value: Dec) -> Result<(), AllocError> {
-    let tree = number(alloc, value)?;
+fn add_definition(rt: &impl Abort, builder: &mut NlBuilder, alloc: Global, value: Dec) {
+    let tree = number(rt, alloc, value);
     let counts = *builder.header().counts();
     if counts.comb > 0 && !builder.has_def(counts.n_var) {
-        builder.define(Def {
-            index: counts.n_var,
-            terms: Terms::new(alloc),
-            usage: 0,
-            tree,
-        })?;
+        builder
+            .define(Def {
+                index: counts.n_var,
+                terms: Terms::new(alloc),
+                usage: 0,
+                tree,
+            })
+            .expect(rt, "memory");
     }
-    Ok(())
 }
 
 #[test]
-fn a_builder_takes_a_definition(rt: HostRuntime) -> Result<(), Fail> {
-    let mut builder = started(rt.alloc())?;
-    assert!(rt; add_definition(&mut builder, rt.alloc(), Dec::of_whole(5)).is_ok());
+fn a_builder_takes_a_definition(rt: HostRuntime) {
+    let mut builder = started(&rt, rt.alloc());
+    add_definition(&rt, &mut builder, rt.alloc(), Dec::of_whole(5));
     assert!(rt; builder.has_def(2));
     assert!(rt; !builder.has_def(3));
     drop(builder);
-    Ok(())
 }
 
 // Adds a suffix without values.
-fn add_suffix(builder: &mut NlBuilder, alloc: Global, name: Name) -> Result<(), AllocError> {
+fn add_suffix(rt: &impl Abort, builder: &mut NlBuilder, alloc: Global, name: Name) {
     if !builder.has_suffix(4, name.bytes()) {
-        builder.suffix(Suffix {
-            kind: 4,
-            name,
-            values: Terms::new(alloc),
-        })?;
+        builder
+            .suffix(Suffix {
+                kind: 4,
+                name,
+                values: Terms::new(alloc),
+            })
+            .expect(rt, "memory");
     }
-    Ok(())
 }
 
 #[test]
-fn a_builder_takes_a_suffix(rt: HostRuntime) -> Result<(), Fail> {
-    let mut builder = started(rt.alloc())?;
+fn a_builder_takes_a_suffix(rt: HostRuntime) {
+    let mut builder = started(&rt, rt.alloc());
     let name = Name::of(rt.alloc(), b"a").expect(&rt, "a name");
-    assert!(rt; add_suffix(&mut builder, rt.alloc(), name).is_ok());
+    add_suffix(&rt, &mut builder, rt.alloc(), name);
     assert!(rt; builder.has_suffix(8, b"a"));
     assert!(rt; !builder.has_suffix(1, b"a"));
     drop(builder);
-    Ok(())
 }
 
 #[test]

@@ -2,7 +2,8 @@
 ghost use Rattle.std.specs.Prelude.{◌≡◌, ◌<◌};
 
 use certificate_check::{
-    BoundVerdict, Columns, FitFault, Given, Goal, Spot, Verdict, certify, dual_bound, fit_counts,
+    BoundVerdict, Columns, FitFault, Goal, SolutionCounts, Spot, Verdict, certify, dual_bound,
+    fit_counts,
 };
 use exact_numbers::{Dec, Frac};
 use example_texts::nl_texts::{one_row, text_of};
@@ -11,30 +12,27 @@ use nl_model::NlFile;
 use nl_segments::read_nl;
 use std::alloc::Global;
 use std::marker::Brand;
-use std::test::Fail;
+use std::process::Abort;
 use text_base::{Blank, Ledger, Steps};
 
 // 2 x0 is at least 3, and x0 is at most 1.
-fn small_file(alloc: Global) -> Result<NlFile, Fail> {
-    let text = text_of(alloc, &one_row(), "r\n2 3\nb\n1 1\nJ0 1\n0 2\n")?;
-    let Ok(read) = read_nl(alloc, text.as_bytes()) else {
-        return Err(Fail::from("refused"));
-    };
-    Ok(read.file)
+fn small_file(rt: &impl Abort, alloc: Global) -> NlFile {
+    let text = text_of(alloc, &one_row(), "r\n2 3\nb\n1 1\nJ0 1\n0 2\n").expect(rt, "memory");
+    let read = read_nl(alloc, text.as_bytes());
+    drop(text);
+    read.expect(rt, "a file").file
 }
 
-fn columns_of<L: Ledger>(alloc: Global, file: &NlFile, blank: Blank) -> Result<Columns, Fail>
+fn columns_of<L: Ledger>(rt: &impl Abort, alloc: Global, file: &NlFile, blank: Blank) -> Columns
     requires name { blank.name ≡ L.name }
     requires parts { blank.parts ≡ L.parts }
     requires some { 0 < blank.parts }
 {
     let mut steps = Steps::<L>::new(blank);
-    let Ok(linear) = fold_all(alloc, file, 0, &mut steps) else {
-        return Err(Fail::from("fold"));
-    };
+    let linear = fold_all(alloc, file, 0, &mut steps).expect(rt, "a program");
     let columns = Columns::of(alloc, &linear);
     drop(linear);
-    Ok(columns?)
+    columns.expect(rt, "memory")
 }
 
 // The verdict, where the lists have the lengths of the columns.
@@ -62,12 +60,11 @@ fn bound_on(
 }
 
 #[test]
-fn a_file_is_judged(rt: HostRuntime) -> Result<(), Fail> {
-    let file = small_file(rt.alloc())?;
-    let made = columns_of::<Brand>(rt.alloc(), &file, Blank::new(1));
+fn a_file_is_judged(rt: HostRuntime) {
+    let file = small_file(&rt, rt.alloc());
+    let columns = columns_of::<Brand>(&rt, rt.alloc(), &file, Blank::new(1));
     drop(file);
     let tiny = Dec::new(1, -400).expect(&rt, "a number");
-    let columns = made?;
     let one = Dec::of_whole(1);
     let points = [
         (one, Verdict::RowBroken(0)),
@@ -75,23 +72,22 @@ fn a_file_is_judged(rt: HostRuntime) -> Result<(), Fail> {
         (tiny, Verdict::TooWide(Spot::Row(0))),
     ];
     for (x, wanted) in points {
-        assert_eq!(rt; verdict_on(&columns, &[x], &[one]), Some(wanted));
+        assert!(rt; verdict_on(&columns, &[x], &[one]) == Some(wanted));
     }
     let bounds = [
         (None, Some(one), BoundVerdict::Bound(Frac::one())),
         (Some(one), None, BoundVerdict::BoundSideMissing(0)),
     ];
     for (lo, hi, wanted) in bounds {
-        assert_eq!(rt; bound_on(&columns, &[lo], &[hi], &[one]), Some(wanted));
+        assert!(rt; bound_on(&columns, &[lo], &[hi], &[one]) == Some(wanted));
     }
     drop(columns);
-    Ok(())
 }
 
 #[test]
-fn counts_come_first(rt: HostRuntime) -> Result<(), Fail> {
-    let file = small_file(rt.alloc())?;
-    let full = Given {
+fn counts_come_first(rt: HostRuntime) {
+    let file = small_file(&rt, rt.alloc());
+    let full = SolutionCounts {
         n_con: 1,
         n_var: 1,
         duals: 1,
@@ -100,7 +96,7 @@ fn counts_come_first(rt: HostRuntime) -> Result<(), Fail> {
     let cases = [
         (full, Ok(())),
         (
-            Given {
+            SolutionCounts {
                 n_var: 3,
                 primals: 0,
                 ..full
@@ -108,18 +104,17 @@ fn counts_come_first(rt: HostRuntime) -> Result<(), Fail> {
             Err(FitFault::OtherCounts),
         ),
         (
-            Given {
+            SolutionCounts {
                 duals: 0,
                 primals: 0,
                 ..full
             },
             Err(FitFault::NoPrimal),
         ),
-        (Given { duals: 0, ..full }, Err(FitFault::NoDual)),
+        (SolutionCounts { duals: 0, ..full }, Err(FitFault::NoDual)),
     ];
     for (given, wanted) in cases {
-        assert_eq!(rt; fit_counts(&file, given), wanted);
+        assert!(rt; fit_counts(&file, given) == wanted);
     }
     drop(file);
-    Ok(())
 }

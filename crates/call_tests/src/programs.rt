@@ -5,7 +5,7 @@ use mps_model::Mps;
 use mps_reader::{MpsFault, MpsReader, MpsReason};
 use mps_writer::write_mps;
 use std::alloc::Global;
-use std::test::Fail;
+use std::process::Abort;
 use text_base::Stop;
 
 fn read_in_pieces(alloc: Global, text: &[u8], len: usize) -> Result<Mps, Stop<MpsFault>> {
@@ -20,23 +20,26 @@ fn read_in_pieces(alloc: Global, text: &[u8], len: usize) -> Result<Mps, Stop<Mp
     reader.finish()
 }
 
+/// Whether the program is written so.
+pub(crate) fn is_program(rt: &impl Abort, alloc: Global, mps: Mps, written: &str) -> bool {
+    let text = write_mps(alloc, &mps).expect(rt, "memory");
+    drop(mps);
+    let is_wanted = text.as_slice() == written.as_bytes();
+    drop(text);
+    is_wanted
+}
+
 // The text, without its last line end, is read in pieces of this length and written so.
-fn is_written_as(alloc: Global, text: &[u8], len: usize, written: &str) -> bool {
-    let (text, _) = text.split_at(text.len().saturating_sub(1));
-    match read_in_pieces(alloc, text, len) {
-        Ok(mps) => {
-            let out = write_mps(alloc, &mps);
-            drop(mps);
-            out.is_ok_and(|out| out.as_slice() == written.as_bytes())
-        }
-        Err(_) => false,
-    }
+fn is_written_as(rt: &impl Abort, alloc: Global, text: &str, len: usize, written: &str) -> bool {
+    let (text, _) = text.as_bytes().split_at(text.len().saturating_sub(1));
+    let mps = read_in_pieces(alloc, text, len).expect(rt, "a program");
+    is_program(rt, alloc, mps, written)
 }
 
 #[test]
 fn a_program_in_pieces(rt: HostRuntime) {
     for len in [1, 2, 3, 7, 1000] {
-        assert!(rt; is_written_as(rt.alloc(), PAIRS.as_bytes(), len, PAIRS_WRITTEN));
+        assert!(rt; is_written_as(&rt, rt.alloc(), PAIRS, len, PAIRS_WRITTEN));
     }
 }
 
@@ -49,21 +52,22 @@ const MARKED_WRITTEN: &str =
 
 #[test]
 fn columns_of_a_marked_stretch(rt: HostRuntime) {
-    assert!(rt; is_written_as(rt.alloc(), MARKED.as_bytes(), 4, MARKED_WRITTEN));
+    assert!(rt; is_written_as(&rt, rt.alloc(), MARKED, 4, MARKED_WRITTEN));
+}
+
+fn is_fault<T: Drop>(answer: Result<T, Stop<MpsFault>>, reason: MpsReason, line: u32) -> bool {
+    match answer {
+        Err(Stop::Fault(fault)) => fault.reason == reason && fault.line == line,
+        _ => false,
+    }
 }
 
 // A fault is answered once its line has ended, and again.
 #[test]
-fn a_fault_stays(rt: HostRuntime) -> Result<(), Fail> {
-    let mut reader = MpsReader::new(rt.alloc())?;
+fn a_fault_stays(rt: HostRuntime) {
+    let mut reader = MpsReader::new(rt.alloc()).expect(&rt, "memory");
     assert!(rt; reader.feed(b"ROWS\n X c0").is_ok());
     assert!(rt; reader.feed(b"\n").is_err());
     assert!(rt; reader.feed(b" N c1\n").is_err());
-    match reader.finish() {
-        Err(Stop::Fault(fault)) => {
-            assert_eq!(rt; (fault.reason, fault.line), (MpsReason::BadLine, 2));
-        }
-        _ => panic!(rt; "the line is bad"),
-    }
-    Ok(())
+    assert!(rt; is_fault(reader.finish(), MpsReason::BadLine, 2));
 }

@@ -3,43 +3,48 @@
 use example_texts::nl_texts::{KNAPSACK, Sizes, header, one_row, text_of};
 use nl_segments::read_nl;
 use nl_writer::write_nl;
-use std::alloc::{AllocError, Global};
-use std::test::Fail;
+use std::alloc::Global;
+use std::process::Abort;
 
-// What is written of the file of a text; nothing where the text is refused.
-fn rewritten(alloc: Global, text: &[u8]) -> Result<Vec<u8>, AllocError> {
-    match read_nl(alloc, text) {
-        Ok(read) => {
-            let written = write_nl(alloc, &read.file);
-            drop(read);
-            written
-        }
-        Err(_) => Ok(Vec::new(alloc)),
-    }
+// What is written of the file of a text.
+fn rewritten(rt: &impl Abort, alloc: Global, text: &[u8]) -> Vec<u8> {
+    let read = read_nl(alloc, text).expect(rt, "a file");
+    let written = write_nl(alloc, &read.file);
+    drop(read);
+    written.expect(rt, "memory")
 }
 
 // The text is written so, and what is written is written again unchanged.
-fn is_written_as(alloc: Global, text: &str, written: &str) -> Result<bool, AllocError> {
-    let first = rewritten(alloc, text.as_bytes())?;
-    let second = rewritten(alloc, &first)?;
-    Ok(first.as_slice() == written.as_bytes() && second.as_slice() == written.as_bytes())
+fn is_written_as(rt: &impl Abort, alloc: Global, text: &str, written: &str) -> bool {
+    let first = rewritten(rt, alloc, text.as_bytes());
+    let second = rewritten(rt, alloc, &first);
+    let are_right = [
+        first.as_slice() == written.as_bytes(),
+        second.as_slice() == written.as_bytes(),
+    ];
+    drop(first);
+    drop(second);
+    are_right == [true, true]
 }
 
 // The same, of a body after its header.
 fn is_body_written_as(
+    rt: &impl Abort,
     alloc: Global,
     sizes: &Sizes,
     body: &str,
     written: &str,
-) -> Result<bool, AllocError> {
-    let text = text_of(alloc, sizes, body)?;
-    let wanted = text_of(alloc, sizes, written)?;
-    is_written_as(alloc, text.as_str(), wanted.as_str())
+) -> bool {
+    let text = text_of(alloc, sizes, body).expect(rt, "memory");
+    let wanted = text_of(alloc, sizes, written).expect(rt, "memory");
+    let is_right = is_written_as(rt, alloc, text.as_str(), wanted.as_str());
+    drop(text);
+    drop(wanted);
+    is_right
 }
 
 #[test]
-fn segments_in_their_order(rt: HostRuntime) -> Result<(), Fail> {
-    let alloc = rt.alloc();
+fn segments_in_their_order(rt: HostRuntime) {
     let cases = [
         (
             header("1 0 1", "0 1", "0"),
@@ -80,11 +85,10 @@ fn segments_in_their_order(rt: HostRuntime) -> Result<(), Fail> {
     ];
     for (sizes, body, written) in cases {
         assert!(rt;
-            is_body_written_as(alloc, &sizes, body, written)?,
+            is_body_written_as(&rt, rt.alloc(), &sizes, body, written),
             "at {body}"
         );
     }
-    Ok(())
 }
 
 // No options.
@@ -95,8 +99,7 @@ const KNAPSACK_KEPT: &str =
     "g3 1 1 0\n3 1 1 0 0\n0 0\n0 0\n0 0 0\n0 0 0 1\n3 0 0 0 0\n3 3\n0 0\n0 0 0 0 0\nC0\nn0\nO0 1\nn0\nr\n1 10\nb\n0 0 1\n0 0 1\n0 0 1\nk2\n1\n2\nJ0 3\n0 5\n1 4\n2 6.5\nG0 3\n0 10\n1 7\n2 12\n";
 
 #[test]
-fn whole_texts(rt: HostRuntime) -> Result<(), Fail> {
-    assert!(rt; is_written_as(rt.alloc(), ONE_GUESS, ONE_GUESS)?);
-    assert!(rt; is_written_as(rt.alloc(), KNAPSACK, KNAPSACK_KEPT)?);
-    Ok(())
+fn whole_texts(rt: HostRuntime) {
+    assert!(rt; is_written_as(&rt, rt.alloc(), ONE_GUESS, ONE_GUESS));
+    assert!(rt; is_written_as(&rt, rt.alloc(), KNAPSACK, KNAPSACK_KEPT));
 }

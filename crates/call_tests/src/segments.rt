@@ -4,8 +4,8 @@ use exact_numbers::Dec;
 use example_texts::nl_texts::{Sizes, header, text_of};
 use nl_model::{Def, Interval, NlFile, Suffix, Terms};
 use nl_segments::{NlFault, NlReader, NlReason, read_nl};
-use std::alloc::{AllocError, Global};
-use std::test::Fail;
+use std::alloc::Global;
+use std::process::Abort;
 use text_base::Stop;
 
 // The fault that was answered, and its line.
@@ -21,18 +21,26 @@ pub(crate) fn fault_of(alloc: Global, text: &[u8]) -> Option<(NlReason, u32)> {
     fault_in(read_nl(alloc, text))
 }
 
-// The same, of a body after its header.
+/// The file of a text.
+pub(crate) fn file_of(rt: &impl Abort, alloc: Global, text: &str) -> NlFile {
+    read_nl(alloc, text.as_bytes()).expect(rt, "a file").file
+}
+
+// The first fault of a body after its header, and its line.
 fn fault_of_body(
+    rt: &impl Abort,
     alloc: Global,
     sizes: &Sizes,
     body: &str,
-) -> Result<Option<(NlReason, u32)>, AllocError> {
-    let text = text_of(alloc, sizes, body)?;
-    Ok(fault_of(alloc, text.as_bytes()))
+) -> Option<(NlReason, u32)> {
+    let text = text_of(alloc, sizes, body).expect(rt, "memory");
+    let fault = fault_of(alloc, text.as_bytes());
+    drop(text);
+    fault
 }
 
 #[test]
-fn faults_of_segments(rt: HostRuntime) -> Result<(), Fail> {
+fn faults_of_segments(rt: HostRuntime) {
     let sizes = header("2 1 1", "2 2", "0");
     let cases = [
         ("O00 01\n", NlReason::ShortSegment, 12),
@@ -52,13 +60,11 @@ fn faults_of_segments(rt: HostRuntime) -> Result<(), Fail> {
         ("C0\nv2\n", NlReason::IndexOut, 12),
     ];
     for (body, reason, line) in cases {
-        assert_eq!(rt;
-            fault_of_body(rt.alloc(), &sizes, body)?,
-            Some((reason, line)),
+        assert!(rt;
+            fault_of_body(&rt, rt.alloc(), &sizes, body) == Some((reason, line)),
             "at {body}"
         );
     }
-    Ok(())
 }
 
 // Each segment once.
@@ -130,29 +136,25 @@ fn holds_body(file: &NlFile) -> Option<bool> {
 }
 
 #[test]
-fn each_segment_is_read(rt: HostRuntime) -> Result<(), Fail> {
-    let text = text_of(rt.alloc(), &header("2 1 1", "2 2", "1"), BODY)?;
-    let Ok(read) = read_nl(rt.alloc(), text.as_bytes()) else {
-        panic!(rt; "refused");
-    };
-    assert_eq!(rt; holds_body(&read.file), Some(true));
+fn each_segment_is_read(rt: HostRuntime) {
+    let text = text_of(rt.alloc(), &header("2 1 1", "2 2", "1"), BODY).expect(&rt, "memory");
+    let read = read_nl(rt.alloc(), text.as_bytes()).expect(&rt, "refused");
+    assert!(rt; holds_body(&read.file) == Some(true));
     drop(read);
-    Ok(())
+    drop(text);
 }
 
 #[test]
-fn a_text_is_read_in_bytes(rt: HostRuntime) -> Result<(), Fail> {
-    let text = text_of(rt.alloc(), &header("2 1 1", "2 2", "1"), BODY)?;
+fn a_text_is_read_in_bytes(rt: HostRuntime) {
+    let text = text_of(rt.alloc(), &header("2 1 1", "2 2", "1"), BODY).expect(&rt, "memory");
     let mut reader = NlReader::new(rt.alloc()).expect(&rt, "memory");
     for byte in text.as_bytes() {
         assert!(rt; reader.feed(&[*byte]).is_ok());
     }
-    let Ok(read) = reader.finish() else {
-        panic!(rt; "refused");
-    };
-    assert_eq!(rt; holds_body(&read.file), Some(true));
+    let read = reader.finish().expect(&rt, "refused");
+    assert!(rt; holds_body(&read.file) == Some(true));
     drop(read);
-    Ok(())
+    drop(text);
 }
 
 // Whether this is the fault of line 1 for this reason.
@@ -161,34 +163,36 @@ fn is_fault<T: Drop>(answer: Result<T, Stop<NlFault>>, reason: NlReason) -> bool
 }
 
 #[test]
-fn a_reader_keeps_its_fault(rt: HostRuntime) -> Result<(), Fail> {
-    let mut reader = NlReader::new(rt.alloc())?;
+fn a_reader_keeps_its_fault(rt: HostRuntime) {
+    let mut reader = NlReader::new(rt.alloc()).expect(&rt, "memory");
     assert!(rt; reader.feed(b"b3 1 1 0").is_ok());
     assert!(rt; is_fault(reader.feed(b"\n"), NlReason::BinaryFile));
     assert!(rt; is_fault(reader.feed(b"\n"), NlReason::BinaryFile));
     assert!(rt; is_fault(reader.finish(), NlReason::BinaryFile));
-    Ok(())
 }
 
 // The fault of a piece that comes after a text without faults.
 fn fault_after(
+    rt: &impl Abort,
     alloc: Global,
     text: &[u8],
     piece: &[u8],
-) -> Result<Option<(NlReason, u32)>, AllocError> {
-    let mut reader = NlReader::new(alloc)?;
-    let begun = reader.feed(text);
+) -> Option<(NlReason, u32)> {
+    let mut reader = NlReader::new(alloc).expect(rt, "memory");
+    assert!(*rt; reader.feed(text).is_ok());
     let fault = fault_in(reader.feed(piece));
     drop(reader);
-    Ok(if begun.is_ok() { fault } else { None })
+    fault
 }
 
 #[test]
-fn a_line_has_65536_bytes(rt: HostRuntime) -> Result<(), Fail> {
-    let long = vec![in rt.alloc(); b'x'; 65_537]?;
+fn a_line_has_65536_bytes(rt: HostRuntime) {
+    let long = vec![in rt.alloc(); b'x'; 65_537].expect(&rt, "memory");
     let fronts: [(&[u8], u32); 2] = [(b"", 1), (b"g3 1 1 0\n1 1 1 0 0\n", 3)];
     for (front, line) in fronts {
-        assert!(rt; fault_after(rt.alloc(), front, &long)? == Some((NlReason::LineTooLong, line)));
+        assert!(rt;
+            fault_after(&rt, rt.alloc(), front, &long) == Some((NlReason::LineTooLong, line))
+        );
     }
-    Ok(())
+    drop(long);
 }

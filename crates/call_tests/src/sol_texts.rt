@@ -1,12 +1,11 @@
 // .sol texts that come in pieces, and a value that is built and written.
-ghost use Rattle.std.specs.Prelude.{◌≡◌, [], IfOk};
+ghost use Rattle.std.specs.Prelude.{◌≡◌, []};
 
 use exact_numbers::Dec;
 use nl_model::{Options, Terms};
 use sol_files::{Sol, SolBuilder, SolFault, SolReader, SolReason, SolSuffix, write_sol};
-use std::alloc::{AllocError, Global};
+use std::alloc::Global;
 use std::process::Abort;
-use std::test::Fail;
 use text_base::{Name, Stop, TextLines};
 
 // Without a last line end.
@@ -28,10 +27,10 @@ fn read_in_pieces(alloc: Global, text: &[u8], len: usize) -> Result<Sol, Stop<So
     reader.finish()
 }
 
-fn reason_of(read: Result<Sol, Stop<SolFault>>) -> Option<(SolReason, u32)> {
+fn is_fault<T: Drop>(read: Result<T, Stop<SolFault>>, reason: SolReason, line: u32) -> bool {
     match read {
-        Err(Stop::Fault(fault)) => Some((fault.reason, fault.line)),
-        _ => None,
+        Err(Stop::Fault(fault)) => fault.reason == reason && fault.line == line,
+        _ => false,
     }
 }
 
@@ -49,61 +48,58 @@ fn is_solved(sol: &Sol) -> bool {
 #[test]
 fn a_solved_file_in_pieces(rt: HostRuntime) {
     for len in [1, 2, 3, 7, 1000] {
-        match read_in_pieces(rt.alloc(), SOLVED, len) {
-            Ok(sol) => {
-                assert!(rt; is_solved(&sol));
-                drop(sol);
-            }
-            Err(_) => panic!(rt; "the text is right"),
-        }
+        let sol = read_in_pieces(rt.alloc(), SOLVED, len).expect(&rt, "a solution");
+        assert!(rt; is_solved(&sol));
+        drop(sol);
     }
 }
 
-fn is_written(alloc: Global, sol: Sol, text: &[u8]) -> Result<bool, AllocError> {
-    let written = write_sol(alloc, &sol);
+// Whether the solution is written so.
+fn is_written(rt: &impl Abort, alloc: Global, sol: Sol, wanted: &[u8]) -> bool {
+    let text = write_sol(alloc, &sol).expect(rt, "memory");
     drop(sol);
-    Ok(written?.as_slice() == text)
+    let is_wanted = text.as_slice() == wanted;
+    drop(text);
+    is_wanted
 }
 
 #[test]
-fn a_solved_file_is_written(rt: HostRuntime) -> Result<(), Fail> {
-    match read_in_pieces(rt.alloc(), SOLVED, 1000) {
-        Ok(sol) => assert!(rt; is_written(rt.alloc(), sol, WRITTEN)?),
-        Err(_) => panic!(rt; "the text is right"),
-    }
-    Ok(())
+fn a_solved_file_is_written(rt: HostRuntime) {
+    let sol = read_in_pieces(rt.alloc(), SOLVED, 1000).expect(&rt, "a solution");
+    assert!(rt; is_written(&rt, rt.alloc(), sol, WRITTEN));
 }
 
 // A fault is answered once its line has ended, and again.
 #[test]
 fn a_sol_fault_stays(rt: HostRuntime) {
-    let Ok(mut reader) = SolReader::new(rt.alloc()) else {
-        panic!(rt; "memory is wanting");
-    };
+    let mut reader = SolReader::new(rt.alloc()).expect(&rt, "memory is wanting");
     assert!(rt; reader.feed(b"Options\n10").is_ok());
     assert!(rt; reader.feed(b"\n").is_err());
     assert!(rt; reader.feed(b"0\n").is_err());
-    assert!(rt; reason_of(reader.finish()) == Some((SolReason::Options, 2)));
+    assert!(rt; is_fault(reader.finish(), SolReason::Options, 2));
 }
 
 // A suffix without a table.
-fn slack(rt: &impl Abort, alloc: Global, value: Dec) -> Result<SolSuffix, AllocError>
-    ensures { IfOk result (λ s. s.table ≡ []) }
+fn slack(rt: &impl Abort, alloc: Global, value: Dec) -> SolSuffix
+    ensures { result.table ≡ [] }
 {
     let mut values = Terms::new(alloc);
-    values.push((0, value))?;
-    Ok(SolSuffix {
+    values.push((0, value)).expect(rt, "memory");
+    SolSuffix {
         kind: 5,
         name: Name::of(alloc, b"slack").expect(rt, "a name"),
         name_len: 6,
         table_len: 0,
         table: TextLines::new(alloc),
         values,
-    })
+    }
 }
 
+const BUILT: &[u8] =
+    b"done\n\nOptions\n1\n-1\n1\n1\n1\n1\n0.5\n0.5\nobjno -1 7\nsuffix 5 1 6 0 0\nslack\n0 0.5\n";
+
 #[test]
-fn a_value_is_built(rt: HostRuntime) -> Result<(), Fail> {
+fn a_value_is_built(rt: HostRuntime) {
     let alloc = rt.alloc();
     let half = Dec::new(5, -1).expect(&rt, "a number");
     let mut options = Options::new();
@@ -113,14 +109,7 @@ fn a_value_is_built(rt: HostRuntime) -> Result<(), Fail> {
     built.dual(half).expect(&rt, "memory");
     built.primal(half).expect(&rt, "memory");
     built.set_objno(-1, 7);
-    let suffix = slack(&rt, alloc, half).expect(&rt, "memory");
+    let suffix = slack(&rt, alloc, half);
     built.suffix(suffix).expect(&rt, "memory");
-    let sol = built.finish();
-    let text = write_sol(alloc, &sol);
-    drop(sol);
-    assert_eq!(rt;
-        text?.as_slice(),
-        b"done\n\nOptions\n1\n-1\n1\n1\n1\n1\n0.5\n0.5\nobjno -1 7\nsuffix 5 1 6 0 0\nslack\n0 0.5\n".as_slice()
-    );
-    Ok(())
+    assert!(rt; is_written(&rt, alloc, built.finish(), BUILT));
 }

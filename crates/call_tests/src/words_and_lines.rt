@@ -1,25 +1,25 @@
 // The desk, lines, words, names and the reader of lines.
 ghost use Rattle.std.specs.Prelude.{◌≡◌, List, ℕ, length, None};
 
-use std::alloc::{AllocError, Global};
-use std::test::Fail;
+use std::alloc::Global;
+use std::process::Abort;
 use text_base::{
     BadName, Desk, Failed, Grammar, LineFault, Lines, Marks, MemoryDesk, Name, Row, Stop, Taken,
     TextFault, TextLines, is_name, read, read_pieces, strip_comment, words,
 };
 
 // Puts a text twice under one name, with a read of one byte, and a call that fails.
-fn fill(desk: &mut MemoryDesk) -> Result<(), AllocError> {
-    desk.put("a", b"older")?;
-    desk.put("a", b"abcd")?;
-    desk.cut(1)?;
-    desk.fail(2)
+fn fill(rt: &impl Abort, desk: &mut MemoryDesk) {
+    desk.put("a", b"older").expect(rt, "memory");
+    desk.put("a", b"abcd").expect(rt, "memory");
+    desk.cut(1).expect(rt, "memory");
+    desk.fail(2).expect(rt, "memory");
 }
 
 #[test]
-fn desk_gives_texts_in_cuts(rt: HostRuntime) -> Result<(), Fail> {
-    let mut desk = MemoryDesk::new(rt.alloc(), 0)?;
-    assert!(rt; fill(&mut desk).is_ok());
+fn desk_gives_texts_in_cuts(rt: HostRuntime) {
+    let mut desk = MemoryDesk::new(rt.alloc(), 0).expect(&rt, "memory");
+    fill(&rt, &mut desk);
     let mut buf = [0; 8];
     assert!(rt; desk.start("a") == Ok(()));
     assert!(rt; desk.read(&mut buf) == Ok(1));
@@ -29,17 +29,15 @@ fn desk_gives_texts_in_cuts(rt: HostRuntime) -> Result<(), Fail> {
     assert!(rt; desk.read(&mut buf) == Ok(0));
     assert!(rt; desk.start("b") == Err(Failed));
     drop(desk);
-    Ok(())
 }
 
 #[test]
-fn lines_lose_their_returns(rt: HostRuntime) -> Result<(), Fail> {
-    let mut lines = Lines::new(rt.alloc())?;
+fn lines_lose_their_returns(rt: HostRuntime) {
+    let mut lines = Lines::new(rt.alloc()).expect(&rt, "memory");
     assert!(rt; lines.take(b"a\rb\r\r\nc\r") == Taken::Line(6));
     assert!(rt; lines.line() == b"a\rb".as_slice());
     assert!(rt; lines.number() == 1);
     drop(lines);
-    Ok(())
 }
 
 // Whether so many pieces are a line each.
@@ -54,15 +52,14 @@ fn are_lines(lines: &mut Lines, piece: &[u8], count: u32) -> bool {
 
 // 32,768 lines of 65,536 bytes with their LF, and then one byte.
 #[test]
-fn an_input_has_2_to_the_31_bytes(rt: HostRuntime) -> Result<(), Fail> {
-    let mut piece = vec![in rt.alloc(); b'x'; 65_535]?;
-    piece.push(b'\n')?;
-    let mut lines = Lines::new(rt.alloc())?;
+fn an_input_has_2_to_the_31_bytes(rt: HostRuntime) {
+    let mut piece = vec![in rt.alloc(); b'x'; 65_535].expect(&rt, "memory");
+    piece.push(b'\n').expect(&rt, "memory");
+    let mut lines = Lines::new(rt.alloc()).expect(&rt, "memory");
     assert!(rt; are_lines(&mut lines, &piece, 32_768));
     assert!(rt; lines.take(b"x") == Taken::Fault(LineFault::InputTooLong));
     assert!(rt; lines.number() == 32_769);
     drop(lines);
-    Ok(())
 }
 
 // Whether the text is a name, and a copy of it the same name.
@@ -80,36 +77,38 @@ fn is_bad_name<T: Drop>(answer: Result<T, Stop<BadName>>) -> bool {
 }
 
 #[test]
-fn names_have_1_to_255_bytes(rt: HostRuntime) -> Result<(), Fail> {
+fn names_have_1_to_255_bytes(rt: HostRuntime) {
     let alloc = rt.alloc();
-    let bytes = vec![in alloc; b'!'; 256]?;
+    let bytes = vec![in alloc; b'!'; 256].expect(&rt, "memory");
     assert!(rt; is_copied(alloc, &bytes[..255]));
     for text in [bytes.as_slice(), b"".as_slice(), b"a b".as_slice()] {
         assert!(rt; is_bad_name(Name::of(alloc, text)));
     }
-    Ok(())
 }
 
-#[test]
-fn a_tested_name(rt: HostRuntime) -> Result<(), Fail> {
-    let text = b"x[1]".as_slice();
-    if is_name(text) {
-        let name = Name::tested(rt.alloc(), text)?;
-        assert_eq!(rt; name.bytes(), text);
-        return Ok(());
+// A copy of the text by its test, where it is a name.
+fn tested(alloc: Global, text: &[u8]) -> Option<Name> {
+    if !is_name(text) {
+        return None;
     }
-    panic!(rt; "the text is a name");
+    Name::tested(alloc, text).ok()
 }
 
 #[test]
-fn marks_are_taken_away_at_once(rt: HostRuntime) -> Result<(), Fail> {
-    let mut marks = Marks::new(rt.alloc(), 2)?;
+fn a_tested_name(rt: HostRuntime) {
+    let name = tested(rt.alloc(), b"x[1]").expect(&rt, "a name");
+    assert!(rt; name.bytes() == b"x[1]".as_slice());
+    drop(name);
+}
+
+#[test]
+fn marks_are_taken_away_at_once(rt: HostRuntime) {
+    let mut marks = Marks::new(rt.alloc(), 2).expect(&rt, "memory");
     marks.mark(1);
     assert!(rt; marks.is_marked(1));
     assert!(rt; !marks.is_marked(0));
-    marks.begin(rt.alloc(), 4)?;
+    marks.begin(rt.alloc(), 4).expect(&rt, "memory");
     assert!(rt; !marks.is_marked(1));
-    Ok(())
 }
 
 #[test]
@@ -126,13 +125,13 @@ fn text_lines_keep_each_line(rt: HostRuntime) {
 fn words_stand_between_blanks(rt: HostRuntime) {
     let mut rest = words(b" a\tbc#  ");
     for word in [Some(b"a".as_slice()), Some(b"bc#".as_slice()), None] {
-        assert_eq!(rt; rest.next(), word);
+        assert!(rt; rest.next() == word);
     }
     let row = Row::of(b"1 2 3 4 5 6 7 8 9 10 11 12 13");
     assert!(rt; row.words().len() == 12);
     let cases: [(&[u8], &[u8]); 2] = [(b"a#b #c", b"a#b "), (b"# a", b"")];
     for (line, wanted) in cases {
-        assert_eq!(rt; strip_comment(line), wanted);
+        assert!(rt; strip_comment(line) == wanted);
     }
 }
 
@@ -172,22 +171,18 @@ impl Grammar for LineCount {
 }
 
 #[test]
-fn a_reader_gives_each_line(rt: HostRuntime) -> Result<(), Fail> {
+fn a_reader_gives_each_line(rt: HostRuntime) {
     let alloc = rt.alloc();
-    assert_eq!(rt; read(alloc, LineCount { count: 0 }, b"a\n\nb"), Ok(3));
-    assert_eq!(rt; read(alloc, LineCount { count: 0 }, b"a\n"), Ok(1));
-    let most = vec![in alloc; b'x'; 65_536]?;
-    assert_eq!(rt; read(alloc, LineCount { count: 0 }, &most), Ok(1));
-    let ends = vec![in alloc; b'\n'; 2]?;
-    let long = vec![in alloc; b'x'; 65_537]?;
-    let pieces = vec![in alloc; ends, long]?;
+    assert!(rt; read(alloc, LineCount { count: 0 }, b"a\n\nb") == Ok(3));
+    assert!(rt; read(alloc, LineCount { count: 0 }, b"a\n") == Ok(1));
+    let most = vec![in alloc; b'x'; 65_536].expect(&rt, "memory");
+    assert!(rt; read(alloc, LineCount { count: 0 }, &most) == Ok(1));
+    let ends = vec![in alloc; b'\n'; 2].expect(&rt, "memory");
+    let long = vec![in alloc; b'x'; 65_537].expect(&rt, "memory");
+    let pieces = vec![in alloc; ends, long].expect(&rt, "memory");
     let fault = TextFault {
         reason: LineFault::LineTooLong,
         line: 3,
     };
-    assert_eq!(rt;
-        read_pieces(alloc, LineCount { count: 0 }, &pieces),
-        Err(Stop::Fault(fault))
-    );
-    Ok(())
+    assert!(rt; read_pieces(alloc, LineCount { count: 0 }, &pieces) == Err(Stop::Fault(fault)));
 }

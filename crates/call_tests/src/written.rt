@@ -1,12 +1,11 @@
 // A program that is built part by part, and its text.
 ghost use Rattle.std.specs.Prelude.{◌≡◌};
 
+use crate::programs::is_program;
 use exact_numbers::Dec;
 use mps_model::{BoundKind, MpsBuilder, RowKind};
-use mps_writer::write_mps;
-use std::alloc::{AllocError, Global};
+use std::alloc::Global;
 use std::process::Abort;
-use std::test::Fail;
 use text_base::Name;
 use written_texts::{
     put, put_dec, put_end, put_line, put_next, put_next_dec, put_next_number, put_next_numbers,
@@ -19,9 +18,12 @@ fn name(rt: &impl Abort, alloc: Global, text: &[u8]) -> Name
     Name::of(alloc, text).expect(rt, "a name")
 }
 
+const BUILT: &str =
+    "NAME nl\nOBJSENSE\n MAX\nROWS\n N obj\n G c0\nCOLUMNS\n M0 'MARKER' 'INTORG'\n x0 c0 -1.5\n M1 'MARKER' 'INTEND'\nRHS\n RHS c0 -1.5\nRANGES\n RNG c0 -1.5\nBOUNDS\n FR BND x0\nENDATA\n";
+
 // A row from below by -1 with a range of 7, and a free whole column.
 #[test]
-fn writes_a_program(rt: HostRuntime) -> Result<(), Fail> {
+fn writes_a_program(rt: HostRuntime) {
     let alloc = rt.alloc();
     let side = Dec::new(-15, -1).expect(&rt, "a side");
     let mut built = MpsBuilder::new(alloc, Some(name(&rt, alloc, b"nl")), false);
@@ -42,39 +44,32 @@ fn writes_a_program(rt: HostRuntime) -> Result<(), Fail> {
         .add_bound(BoundKind::Fr, 0, Dec::zero())
         .expect(&rt, "memory");
     let mps = built.finish();
-    let text = write_mps(alloc, &mps);
-    drop(mps);
-    assert_eq!(rt;
-        text?.as_slice(),
-        b"NAME nl\nOBJSENSE\n MAX\nROWS\n N obj\n G c0\nCOLUMNS\n M0 'MARKER' 'INTORG'\n x0 c0 -1.5\n M1 'MARKER' 'INTEND'\nRHS\n RHS c0 -1.5\nRANGES\n RNG c0 -1.5\nBOUNDS\n FR BND x0\nENDATA\n".as_slice()
-    );
-    Ok(())
+    assert!(rt; is_program(&rt, alloc, mps, BUILT));
 }
 
 // Each kind of word once.
-fn put_words(out: &mut Vec<u8>, half: Dec) -> Result<(), AllocError> {
-    put_line(out, b"ROWS")?;
-    put(out, b"g")?;
-    put_number(out, 3)?;
-    put_next(out, b"a")?;
-    put_next_number(out, 18_446_744_073_709_551_615)?;
-    put_next_numbers(out, &[0, 4_294_967_295])?;
-    put_next_signed(out, -2_147_483_648)?;
-    put_next_dec(out, half)?;
-    put_end(out)?;
-    put_signed(out, 7)?;
-    put_end(out)?;
-    put_dec(out, half.neg())
+fn put_words(rt: &impl Abort, out: &mut Vec<u8>, half: Dec) {
+    put_line(out, b"ROWS").expect(rt, "memory");
+    put(out, b"g").expect(rt, "memory");
+    put_number(out, 3).expect(rt, "memory");
+    put_next(out, b"a").expect(rt, "memory");
+    put_next_number(out, 18_446_744_073_709_551_615).expect(rt, "memory");
+    put_next_numbers(out, &[0, 4_294_967_295]).expect(rt, "memory");
+    put_next_signed(out, -2_147_483_648).expect(rt, "memory");
+    put_next_dec(out, half).expect(rt, "memory");
+    put_end(out).expect(rt, "memory");
+    put_signed(out, 7).expect(rt, "memory");
+    put_end(out).expect(rt, "memory");
+    put_dec(out, half.neg()).expect(rt, "memory");
 }
 
+const WORDS: &[u8] = b"ROWS\ng3 a 18446744073709551615 0 4294967295 -2147483648 0.5\n7\n-0.5";
+
 #[test]
-fn words_of_lines_are_written(rt: HostRuntime) -> Result<(), Fail> {
-    let half = Dec::new(5, -1).ok_or("half")?;
+fn words_of_lines_are_written(rt: HostRuntime) {
+    let half = Dec::new(5, -1).expect(&rt, "a number");
     let mut out = Vec::new(rt.alloc());
-    assert!(rt; put_words(&mut out, half).is_ok());
-    assert_eq!(rt;
-        out.as_slice(),
-        b"ROWS\ng3 a 18446744073709551615 0 4294967295 -2147483648 0.5\n7\n-0.5".as_slice()
-    );
-    Ok(())
+    put_words(&rt, &mut out, half);
+    assert!(rt; out.as_slice() == WORDS);
+    drop(out);
 }

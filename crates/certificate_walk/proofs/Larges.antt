@@ -17,7 +17,7 @@ use Rattle.exact_numbers.specs.Values.{dec_value}
 use Rattle.exact_numbers.proofs.Bridge.{decimal_is, small_of, whole_is}
 use Rattle.exact_numbers.proofs.Decimals.{whole_above}
 use Rattle.exact_numbers.proofs.Zeros.{fits_zero}
-use Rattle.certificate_check.specs.Terms.{side_value}
+use Rattle.dual_bounds.specs.Terms.{side_value}
 
 -- ---- the sign of a large number
 or_cases : (a b : Bool) → a || b ≡ true → (a ≡ true) ⊎ (b ≡ true)

@@ -7,13 +7,13 @@ use Rattle.duality.specs.Verdict.{BoundVerdict, dual_bound}
 use Rattle.exact_numbers.specs.declared.dec.Dec.{Dec}
 use Rattle.exact_numbers.specs.Values.{frac_value}
 use Rattle.linear_program.specs.Coefs.{Term, coef_in}
-use Rattle.certificates.specs.Certificates.{Pair, spread}
-use Rattle.certificate_check.specs.Leaves.{HasRows, IsOver}
-use Rattle.certificate_check.specs.Lists.{bounds_in, form_of}
-use Rattle.certificate_check.specs.Programs.{asked, program_of}
-use Rattle.certificate_check.specs.declared.columns.Columns.{Columns}
-use Rattle.certificate_check.specs.declared.form.Row.{Row}
-use Rattle.certificate_check.specs.declared.verdict.Goal.TheVariants.{Objective, Zero}
+use Rattle.linear_program.specs.Numbers.{Pair, spread}
+use Rattle.dual_bounds.specs.Leaves.{HasRows, IsOver}
+use Rattle.dual_bounds.specs.Lists.{bounds_in, form_of}
+use Rattle.dual_bounds.specs.Programs.{asked, program_of}
+use Rattle.dual_bounds.specs.declared.columns.Columns.{Columns}
+use Rattle.dual_bounds.specs.declared.form.Row.{Row}
+use Rattle.dual_bounds.specs.declared.verdict.Goal.TheVariants.{Objective, Zero}
 use Rattle.certificate_walk.specs.InsidePaths.{IsAt, IsPath, Turn, last_of, part_under, sides_of}
 use Rattle.certificate_walk.specs.Walks.{bound_in}
 use Rattle.certificate_walk.specs.declared.path.Lemma.{Lemma}

@@ -8,11 +8,11 @@ use Rattle.duality.specs.Branch.{LeafFault, proof_fault}
 use Rattle.duality.specs.Parts.{Part, bound, lemma, plane, whole_part}
 use Rattle.certificates.specs.declared.certificate.CertificateNode.{CertificateNode}
 use Rattle.certificates.specs.declared.certificate.CertificateNode.TheVariants.{Split, Plane, Lemma}
-use Rattle.certificates.specs.declared.number.Number.{Number}
-use Rattle.certificates.specs.Certificates.{AreNumbers, CertificateTree, IsCutNumber, Pair, number_form, tree_over, whole_form}
-use Rattle.certificates.specs.Numbers.{number_value}
-use Rattle.certificate_check.specs.Leaves.{AreIndices}
-use Rattle.certificate_check.specs.declared.verdict.Goal.{Goal}
+use Rattle.linear_program.specs.declared.number.Number.{Number}
+use Rattle.certificates.specs.Certificates.{AreNumbers, CertificateTree, IsCutNumber, number_form, tree_over, whole_form}
+use Rattle.linear_program.specs.Numbers.{Pair, number_value}
+use Rattle.dual_bounds.specs.Leaves.{AreIndices}
+use Rattle.dual_bounds.specs.declared.verdict.Goal.{Goal}
 use Rattle.certificate_walk.specs.Outcomes.{leaf_fault_of}
 use Rattle.certificate_walk.specs.InsidePaths.{IsAt, Turn, next_turns, part_under, to_first}
 use Rattle.certificate_walk.specs.Walks.{IsWritten, bound_in, leaf_check, leaf_node, pair_count}

@@ -2,13 +2,9 @@
 // are refused.
 
 use crate::commands::{comes_to, tell_in_turn};
-use example_texts::nl_texts::{Sizes, header, text_of};
-use std::alloc::{AllocError, Global};
-use std::test::Fail;
-
-fn sizes() -> Sizes {
-    header("2 1 1", "2 2", "0")
-}
+use example_texts::nl_texts::{header, text_of};
+use std::alloc::Global;
+use std::process::Abort;
 
 // Minimise 2 x0 + 3 x1, where x0 + x1 is at least 4, x0 is from 0 to 3 and x1 at least 0.
 const LEAST: &str = "O0 0\nn0\nr\n2 4\nb\n0 0 3\n2 0\nJ0 2\n0 1\n1 1\nG0 2\n0 2\n1 3\n";
@@ -16,93 +12,75 @@ const LEAST: &str = "O0 0\nn0\nr\n2 4\nb\n0 0 3\n2 0\nJ0 2\n0 1\n1 1\nG0 2\n0 2\
 // Maximise 2 x0 + 3 x1, where x0 + x1 is at most 4, x0 is from 0 to 3 and x1 at most 3.
 const MOST: &str = "O0 1\nn0\nr\n1 4\nb\n0 0 3\n1 3\nJ0 2\n0 1\n1 1\nG0 2\n0 2\n1 3\n";
 
-// What follows the options: the counts, the values and the objective's line.
-#[derive(Clone, Copy)]
-struct Case {
-    body: &'static str,
-    values: &'static str,
-    status: u8,
-    line: &'static str,
-}
-
-fn least(values: &'static str, status: u8, line: &'static str) -> Case {
-    Case {
-        body: LEAST,
-        values,
-        status,
-        line,
-    }
-}
-
-fn most(values: &'static str, status: u8, line: &'static str) -> Case {
-    Case {
-        body: MOST,
-        values,
-        status,
-        line,
-    }
-}
-
-// Whether the verdict, or the line told, is this.
-fn judges_so(alloc: Global, case: &Case) -> Result<bool, AllocError> {
-    let nl = text_of(alloc, &sizes(), case.body)?;
-    let mut sol = String::from_str(alloc, "done\n\nOptions\n0\n")?;
-    sol.push_str(case.values)?;
+// Whether the status is this, and the verdict or the line told, for a body and what follows the
+// options: the counts, the values and the objective's line.
+fn judges_so(rt: &impl Abort, alloc: Global, body: &str, values: &str, wanted: (u8, &str)) -> bool {
+    let nl = text_of(alloc, &header("2 1 1", "2 2", "0"), body).expect(rt, "memory");
+    let mut sol = String::from_str(alloc, "done\n\nOptions\n0\n").expect(rt, "memory");
+    sol.push_str(values).expect(rt, "memory");
     let texts = [("a.nl", nl.as_bytes()), ("a.sol", sol.as_bytes())];
     let words = ["check", "a.nl", "a.sol"];
-    comes_to(alloc, &texts, &words, case.status, case.line)
+    comes_to(rt, alloc, &texts, &words, wanted.0, wanted.1)
 }
 
 #[test]
-fn judges_solutions(rt: HostRuntime) -> Result<(), Fail> {
+fn judges_solutions(rt: HostRuntime) {
     let cases = [
-        least("1\n1\n2\n2\n3\n3\n1\n", 0, "yes 9\n"),
-        least("1\n1\n2\n2\n2.5\n3\n1\nobjno 0 0\n", 1, "gap 9 17/2\n"),
-        least("1\n1\n2\n2\n3\n0\n4\n", 1, "gap 12 9\n"),
-        least("1\n1\n2\n2\n3\n3\n0\n", 1, "row 0 broken\n"),
-        least("1\n1\n2\n2\n3\n4\n0\n", 1, "bound 0 broken\n"),
-        least("1\n1\n2\n2\n-1\n3\n1\n", 1, "row 0 has no side\n"),
-        least("1\n1\n2\n2\n4\n3\n1\n", 1, "bound 1 has no side\n"),
-        most("1\n1\n2\n2\n2\n1\n3\n", 0, "yes 11\n"),
+        (LEAST, "1\n1\n2\n2\n3\n3\n1\n", 0, "yes 9\n"),
+        (
+            LEAST,
+            "1\n1\n2\n2\n2.5\n3\n1\nobjno 0 0\n",
+            1,
+            "gap 9 17/2\n",
+        ),
+        (LEAST, "1\n1\n2\n2\n3\n0\n4\n", 1, "gap 12 9\n"),
+        (LEAST, "1\n1\n2\n2\n3\n3\n0\n", 1, "row 0 broken\n"),
+        (LEAST, "1\n1\n2\n2\n3\n4\n0\n", 1, "bound 0 broken\n"),
+        (LEAST, "1\n1\n2\n2\n-1\n3\n1\n", 1, "row 0 has no side\n"),
+        (LEAST, "1\n1\n2\n2\n4\n3\n1\n", 1, "bound 1 has no side\n"),
+        (MOST, "1\n1\n2\n2\n2\n1\n3\n", 0, "yes 11\n"),
     ];
-    for case in cases {
-        assert!(rt; judges_so(rt.alloc(), &case)?, "at {}", case.line);
+    for (body, values, status, line) in cases {
+        assert!(rt;
+            judges_so(&rt, rt.alloc(), body, values, (status, line)),
+            "at {line}"
+        );
     }
-    Ok(())
 }
 
 #[test]
-fn refuses_solutions_that_do_not_fit(rt: HostRuntime) -> Result<(), Fail> {
+fn refuses_solutions_that_do_not_fit(rt: HostRuntime) {
     let cases = [
-        least("1\n0\n2\n2\n3\n1\n", 2, "refused file 2: no dual values\n"),
-        least("1\n1\n2\n0\n3\n", 2, "refused file 2: no primal values\n"),
-        least("1\n1\n3\n0\n3\n", 2, "refused file 2: other counts\n"),
-        least("1\n1\n2\n", 2, "refused file 2 line 8: short file\n"),
-        least(
+        ("1\n0\n2\n2\n3\n1\n", 2, "refused file 2: no dual values\n"),
+        ("1\n1\n2\n0\n3\n", 2, "refused file 2: no primal values\n"),
+        ("1\n1\n3\n0\n3\n", 2, "refused file 2: other counts\n"),
+        ("1\n1\n2\n", 2, "refused file 2 line 8: short file\n"),
+        (
             "1\n1\n2\n2\n3\n3\n1\nobjno -1 0\n",
             2,
             "refused objective -1: no such objective\n",
         ),
-        least(
+        (
             "1\n1\n2\n2\n3\n3\n1\nobjno 1 0\n",
             2,
             "refused objective 1: no such objective\n",
         ),
     ];
-    for case in cases {
-        assert!(rt; judges_so(rt.alloc(), &case)?, "at {}", case.line);
+    for (values, status, line) in cases {
+        assert!(rt;
+            judges_so(&rt, rt.alloc(), LEAST, values, (status, line)),
+            "at {line}"
+        );
     }
-    Ok(())
 }
 
 #[test]
-fn the_first_file_comes_first(rt: HostRuntime) -> Result<(), Fail> {
+fn the_first_file_comes_first(rt: HostRuntime) {
     let runs: [(&[&str], u8); 3] = [
         (&["check", "a.nl", "none"], 2),
         (&["check", "none", "a.nl"], 4),
         (&["check", "a.nl"], 3),
     ];
     let told = "refused line 1: binary file\ninput fault\nbad words\n";
-    assert!(rt; tell_in_turn(rt.alloc(), ("a.nl", b"b3 1 1 0\n"), &runs, told)?);
-    Ok(())
+    assert!(rt; tell_in_turn(&rt, rt.alloc(), ("a.nl", b"b3 1 1 0\n"), &runs, told));
 }

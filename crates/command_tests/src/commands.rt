@@ -4,7 +4,7 @@ ghost use Rattle.std.specs.Prelude.{◌≡◌, ◌<◌};
 use bridge_tool::bridge;
 use std::alloc::{AllocError, Global};
 use std::marker::Brand;
-use std::test::Fail;
+use std::process::Abort;
 use text_base::{Blank, Desk, Ledger, MemoryDesk, Steps};
 
 fn run<D: Desk, L: Ledger>(alloc: Global, words: &[String], desk: &mut D, blank: Blank) -> u8
@@ -17,39 +17,37 @@ fn run<D: Desk, L: Ledger>(alloc: Global, words: &[String], desk: &mut D, blank:
 }
 
 /// Works the command of these words.
-pub(crate) fn command<D: Desk>(
-    alloc: Global,
-    desk: &mut D,
-    words: &[&str],
-) -> Result<u8, AllocError> {
+pub(crate) fn command<D: Desk>(rt: &impl Abort, alloc: Global, desk: &mut D, words: &[&str]) -> u8 {
     let mut all = Vec::new(alloc);
     for word in words {
-        all.push(String::from_str(alloc, *word)?)?;
+        all.push(String::from_str(alloc, *word).expect(rt, "memory"))
+            .expect(rt, "memory");
     }
-    Ok(run::<D, Brand>(alloc, &all, desk, Blank::new(1)))
+    run::<D, Brand>(alloc, &all, desk, Blank::new(1))
 }
 
 /// The first lines of a text.
-pub(crate) fn first_lines(alloc: Global, text: &str, count: usize) -> Result<String, AllocError> {
+pub(crate) fn first_lines(rt: &impl Abort, alloc: Global, text: &str, count: usize) -> String {
     let mut out = String::new(alloc);
     for line in text.lines().take(count) {
-        out.push_str(line)?;
-        out.push_str("\n")?;
+        out.push_str(line).expect(rt, "memory");
+        out.push_str("\n").expect(rt, "memory");
     }
-    Ok(out)
+    out
 }
 
 /// Puts these texts under their names, and works the command of these words.
 pub(crate) fn work(
+    rt: &impl Abort,
     alloc: Global,
     desk: &mut MemoryDesk,
     texts: &[(&str, &[u8])],
     words: &[&str],
-) -> Result<u8, AllocError> {
+) -> u8 {
     for (name, text) in texts {
-        desk.put(*name, *text)?;
+        desk.put(*name, *text).expect(rt, "memory");
     }
-    command(alloc, desk, words)
+    command(rt, alloc, desk, words)
 }
 
 // Whether this was written, or, from status 2 on, told, and nothing else.
@@ -63,99 +61,100 @@ fn is_out(desk: &MemoryDesk, status: u8, out: &str) -> bool {
 
 // Whether a command over this desk ended with this status, and this was written, or, from status
 // 2 on, told, and nothing else.
-fn ended_so(
-    desk: MemoryDesk,
-    ended: Result<u8, AllocError>,
-    status: u8,
-    out: &str,
-) -> Result<bool, AllocError> {
+fn ended_so(desk: MemoryDesk, ended: u8, status: u8, out: &str) -> bool {
     let is_right = is_out(&desk, status, out);
     drop(desk);
-    Ok(ended? == status && is_right)
+    ended == status && is_right
 }
 
 /// The same of the command of these words over a desk with these texts.
 pub(crate) fn comes_to(
+    rt: &impl Abort,
     alloc: Global,
     texts: &[(&str, &[u8])],
     words: &[&str],
     status: u8,
     out: &str,
-) -> Result<bool, AllocError> {
-    let mut desk = MemoryDesk::new(alloc, 4000)?;
-    let ended = work(alloc, &mut desk, texts, words);
+) -> bool {
+    let mut desk = MemoryDesk::new(alloc, 4000).expect(rt, "memory");
+    let ended = work(rt, alloc, &mut desk, texts, words);
     ended_so(desk, ended, status, out)
 }
 
 // Puts a text, of which each read gives at most so many bytes, and works the command.
 fn work_in_pieces(
+    rt: &impl Abort,
     alloc: Global,
     desk: &mut MemoryDesk,
     named: (&str, &[u8]),
     most: usize,
     words: &[&str],
-) -> Result<u8, AllocError> {
+) -> u8 {
     let (name, text) = named;
-    desk.put(name, text)?;
+    desk.put(name, text).expect(rt, "memory");
     for _ in 0..text.len() {
-        desk.cut(most.max(1))?;
+        desk.cut(most.max(1)).expect(rt, "memory");
     }
-    command(alloc, desk, words)
+    command(rt, alloc, desk, words)
 }
 
 /// Whether the command of these words writes this, where each read of the text of this name gives
 /// at most so many bytes.
 pub(crate) fn writes_in_pieces(
+    rt: &impl Abort,
     alloc: Global,
     named: (&str, &[u8]),
     most: usize,
     words: &[&str],
     written: &str,
-) -> Result<bool, AllocError> {
-    let mut desk = MemoryDesk::new(alloc, 4000)?;
-    let ended = work_in_pieces(alloc, &mut desk, named, most, words);
+) -> bool {
+    let mut desk = MemoryDesk::new(alloc, 4000).expect(rt, "memory");
+    let ended = work_in_pieces(rt, alloc, &mut desk, named, most, words);
     ended_so(desk, ended, 0, written)
 }
 
 // Whether commands, one after the other, end with these statuses.
-fn end_so(
-    alloc: Global,
-    desk: &mut MemoryDesk,
-    runs: &[(&[&str], u8)],
-) -> Result<bool, AllocError> {
+fn end_so(rt: &impl Abort, alloc: Global, desk: &mut MemoryDesk, runs: &[(&[&str], u8)]) -> bool {
     for (words, status) in runs {
-        if command(alloc, desk, *words)? != *status {
-            return Ok(false);
+        if command(rt, alloc, desk, *words) != *status {
+            return false;
         }
     }
-    Ok(true)
+    true
 }
 
 /// Whether commands, one after the other over one desk with this text, end with these statuses and
 /// tell these lines.
 pub(crate) fn tell_in_turn(
+    rt: &impl Abort,
     alloc: Global,
     named: (&str, &[u8]),
     runs: &[(&[&str], u8)],
     told: &str,
-) -> Result<bool, AllocError> {
+) -> bool {
     let (name, text) = named;
-    let mut desk = MemoryDesk::new(alloc, 4000)?;
-    let put = desk.put(name, text);
-    let ended = end_so(alloc, &mut desk, runs);
+    let mut desk = MemoryDesk::new(alloc, 4000).expect(rt, "memory");
+    desk.put(name, text).expect(rt, "memory");
+    let ended = end_so(rt, alloc, &mut desk, runs);
     let is_told = desk.told() == told.as_bytes();
     drop(desk);
-    put?;
-    Ok(ended? && is_told)
+    ended && is_told
 }
 
 // Whether words are bad, by status and line.
-fn are_bad(alloc: Global, words: &[&str]) -> Result<bool, AllocError> {
-    comes_to(alloc, &[("a.nl", b"g3 1 1 0\n")], words, 3, "bad words\n")
+fn are_bad(rt: &impl Abort, alloc: Global, words: &[&str]) -> bool {
+    comes_to(
+        rt,
+        alloc,
+        &[("a.nl", b"g3 1 1 0\n")],
+        words,
+        3,
+        "bad words\n",
+    )
 }
 
 #[test]
-fn tells_bad_words(rt: HostRuntime) -> Result<(), Fail> {
+fn tells_bad_words(rt: HostRuntime) {
     let cases: [&[&str]; 5] = [
         &[],
         &["export"],
@@ -164,13 +163,12 @@ fn tells_bad_words(rt: HostRuntime) -> Result<(), Fail> {
         &["export", "a.nl", "0", "0"],
     ];
     for words in cases {
-        assert!(rt; are_bad(rt.alloc(), words)?);
+        assert!(rt; are_bad(&rt, rt.alloc(), words));
     }
-    Ok(())
 }
 
 #[test]
-fn numbers_are_plain(rt: HostRuntime) -> Result<(), Fail> {
+fn numbers_are_plain(rt: HostRuntime) {
     let cases = [
         ("0", false),
         ("4294967295", false),
@@ -181,9 +179,8 @@ fn numbers_are_plain(rt: HostRuntime) -> Result<(), Fail> {
     ];
     for (word, is_bad) in cases {
         assert!(rt;
-            are_bad(rt.alloc(), &["export", "a.nl", word])? == is_bad,
+            are_bad(&rt, rt.alloc(), &["export", "a.nl", word]) == is_bad,
             "at {word}"
         );
     }
-    Ok(())
 }

@@ -4,73 +4,73 @@ ghost use Rattle.std.specs.Prelude.{◌<◌};
 use crate::commands::{comes_to, first_lines, work, writes_in_pieces};
 use example_texts::nl_texts::{KNAPSACK, KNAPSACK_WRITTEN, Sizes, header, one_row, text_of};
 use itoa::Buffer;
-use std::alloc::{AllocError, Global};
-use std::test::Fail;
+use std::alloc::Global;
+use std::process::Abort;
 use text_base::MemoryDesk;
 
 // Whether the text is exported as this.
-fn exports(alloc: Global, text: &str, written: &str) -> Result<bool, AllocError> {
+fn exports(rt: &impl Abort, alloc: Global, text: &str, written: &str) -> bool {
     let words = ["export", "a.nl"];
-    comes_to(alloc, &[("a.nl", text.as_bytes())], &words, 0, written)
+    comes_to(rt, alloc, &[("a.nl", text.as_bytes())], &words, 0, written)
 }
 
 // Whether the text is refused with this line.
-fn refuses(alloc: Global, text: &str, told: &str) -> Result<bool, AllocError> {
+fn refuses(rt: &impl Abort, alloc: Global, text: &str, told: &str) -> bool {
     let words = ["export", "a.nl"];
-    comes_to(alloc, &[("a.nl", text.as_bytes())], &words, 2, told)
+    comes_to(rt, alloc, &[("a.nl", text.as_bytes())], &words, 2, told)
 }
 
-fn writes(alloc: Global, sizes: &Sizes, body: &str, written: &str) -> Result<bool, AllocError> {
-    let text = text_of(alloc, sizes, body)?;
-    exports(alloc, text.as_str(), written)
+fn writes(rt: &impl Abort, alloc: Global, sizes: &Sizes, body: &str, written: &str) -> bool {
+    let text = text_of(alloc, sizes, body).expect(rt, "memory");
+    exports(rt, alloc, text.as_str(), written)
 }
 
-fn tells(alloc: Global, sizes: &Sizes, body: &str, told: &str) -> Result<bool, AllocError> {
-    let text = text_of(alloc, sizes, body)?;
-    refuses(alloc, text.as_str(), told)
+fn tells(rt: &impl Abort, alloc: Global, sizes: &Sizes, body: &str, told: &str) -> bool {
+    let text = text_of(alloc, sizes, body).expect(rt, "memory");
+    refuses(rt, alloc, text.as_str(), told)
 }
 
 // A text with other line ends: CR LF, and none at the end.
-fn with_other_ends(alloc: Global, text: &str) -> Result<Vec<u8>, AllocError> {
+fn with_other_ends(rt: &impl Abort, alloc: Global, text: &str) -> Vec<u8> {
     let mut out = Vec::new(alloc);
     for line in text.lines() {
         if !out.is_empty() {
-            out.extend_from_slice(b"\r\n")?;
+            out.extend_from_slice(b"\r\n").expect(rt, "memory");
         }
-        out.extend_from_slice(line.as_bytes())?;
+        out.extend_from_slice(line.as_bytes()).expect(rt, "memory");
     }
-    Ok(out)
+    out
 }
 
 // Whether the text is exported so where each read gives at most so many bytes.
 fn exports_in_pieces(
+    rt: &impl Abort,
     alloc: Global,
     text: &[u8],
     most: usize,
     written: &str,
-) -> Result<bool, AllocError> {
+) -> bool {
     let words = ["export", "a.nl", "0"];
-    writes_in_pieces(alloc, ("a.nl", text), most, &words, written)
+    writes_in_pieces(rt, alloc, ("a.nl", text), most, &words, written)
 }
 
 #[test]
-fn exports_a_knapsack(rt: HostRuntime) -> Result<(), Fail> {
-    let other = with_other_ends(rt.alloc(), KNAPSACK)?;
-    assert!(rt; exports(rt.alloc(), KNAPSACK, KNAPSACK_WRITTEN)?);
+fn exports_a_knapsack(rt: HostRuntime) {
+    let other = with_other_ends(&rt, rt.alloc(), KNAPSACK);
+    assert!(rt; exports(&rt, rt.alloc(), KNAPSACK, KNAPSACK_WRITTEN));
     for most in [1, 2, 3, 7] {
-        assert!(rt; exports_in_pieces(rt.alloc(), &other, most, KNAPSACK_WRITTEN)?);
+        assert!(rt; exports_in_pieces(&rt, rt.alloc(), &other, most, KNAPSACK_WRITTEN));
     }
-    Ok(())
 }
 
 // Whether the front of the knapsack is refused with this line.
-fn front_tells(alloc: Global, count: usize, told: &str) -> Result<bool, AllocError> {
-    let text = first_lines(alloc, KNAPSACK, count)?;
-    refuses(alloc, text.as_str(), told)
+fn front_tells(rt: &impl Abort, alloc: Global, count: usize, told: &str) -> bool {
+    let text = first_lines(rt, alloc, KNAPSACK, count);
+    refuses(rt, alloc, text.as_str(), told)
 }
 
 #[test]
-fn refuses_texts(rt: HostRuntime) -> Result<(), Fail> {
+fn refuses_texts(rt: HostRuntime) {
     let alloc = rt.alloc();
     let fronts = [
         (23, "refused line 24: nonzero count\n"),
@@ -78,9 +78,9 @@ fn refuses_texts(rt: HostRuntime) -> Result<(), Fail> {
         (5, "refused line 6: end in header\n"),
     ];
     for (count, told) in fronts {
-        assert!(rt; front_tells(alloc, count, told)?, "of {count} lines");
+        assert!(rt; front_tells(&rt, alloc, count, told), "of {count} lines");
     }
-    assert!(rt; refuses(alloc, "b3 1 1 0\n", "refused line 1: binary file\n")?);
+    assert!(rt; refuses(&rt, alloc, "b3 1 1 0\n", "refused line 1: binary file\n"));
     let three = header("3 1 0", "3 0", "0");
     let cases = [
         (
@@ -100,13 +100,12 @@ fn refuses_texts(rt: HostRuntime) -> Result<(), Fail> {
         ),
     ];
     for (sizes, body, told) in cases {
-        assert!(rt; tells(alloc, &sizes, body, told)?, "at {body}");
+        assert!(rt; tells(&rt, alloc, &sizes, body, told), "at {body}");
     }
-    Ok(())
 }
 
 #[test]
-fn refuses_texts_of_one_row(rt: HostRuntime) -> Result<(), Fail> {
+fn refuses_texts_of_one_row(rt: HostRuntime) {
     let cases = [
         ("r\n1 1\nb\n3\nJ0 1\n0 .\n", "refused line 16: bad number\n"),
         (
@@ -119,46 +118,45 @@ fn refuses_texts_of_one_row(rt: HostRuntime) -> Result<(), Fail> {
         ("C0\no43\nv0\n", "refused line 12: refused opcode 43\n"),
     ];
     for (body, told) in cases {
-        assert!(rt; tells(rt.alloc(), &one_row(), body, told)?, "at {body}");
+        assert!(rt; tells(&rt, rt.alloc(), &one_row(), body, told), "at {body}");
     }
-    Ok(())
 }
 
-fn put_number(text: &mut String, number: usize) -> Result<(), AllocError> {
+fn put_number(rt: &impl Abort, text: &mut String, number: usize) {
     let mut digits = Buffer::new();
-    text.push_str(digits.format(number))?;
-    Ok(())
+    text.push_str(digits.format(number)).expect(rt, "memory");
 }
 
 // A defined variable that is twice the one before it.
-fn put_double(text: &mut String, number: usize) -> Result<(), AllocError>
+fn put_double(rt: &impl Abort, text: &mut String, number: usize)
     requires { 0 < number }
 {
-    text.push_str("V")?;
-    put_number(text, number)?;
-    text.push_str(" 0 0\no0\nv")?;
-    put_number(text, number - 1)?;
-    text.push_str("\nv")?;
-    put_number(text, number - 1)?;
-    text.push_str("\n")?;
-    Ok(())
+    text.push_str("V").expect(rt, "memory");
+    put_number(rt, text, number);
+    text.push_str(" 0 0\no0\nv").expect(rt, "memory");
+    put_number(rt, text, number - 1);
+    text.push_str("\nv").expect(rt, "memory");
+    put_number(rt, text, number - 1);
+    text.push_str("\n").expect(rt, "memory");
 }
 
 // So many defined variables, each twice the one before it, and a row of the last.
-fn doubled(alloc: Global, count: usize) -> Result<String, AllocError> {
+fn doubled(rt: &impl Abort, alloc: Global, count: usize) -> String {
     let mut text = String::new(alloc);
     for number in 0..count {
-        put_double(&mut text, number + 1)?;
+        put_double(rt, &mut text, number + 1);
     }
-    text.push_str("C0\nv")?;
-    put_number(&mut text, count)?;
-    text.push_str("\nr\n1 1\nb\n3\nJ0 1\n0 0\n")?;
-    Ok(text)
+    text.push_str("C0\nv").expect(rt, "memory");
+    put_number(rt, &mut text, count);
+    text.push_str("\nr\n1 1\nb\n3\nJ0 1\n0 0\n")
+        .expect(rt, "memory");
+    text
 }
 
 // Whether the objective of this number is refused for a file with one objective.
-fn misses_objective(alloc: Global) -> Result<bool, AllocError> {
+fn misses_objective(rt: &impl Abort, alloc: Global) -> bool {
     comes_to(
+        rt,
         alloc,
         &[("a.nl", KNAPSACK.as_bytes())],
         &["export", "a.nl", "1"],
@@ -168,31 +166,32 @@ fn misses_objective(alloc: Global) -> Result<bool, AllocError> {
 }
 
 #[test]
-fn folds_definitions(rt: HostRuntime) -> Result<(), Fail> {
+fn folds_definitions(rt: HostRuntime) {
     let alloc = rt.alloc();
-    let many = doubled(alloc, 100)?;
-    let more = doubled(alloc, 130)?;
+    let many = doubled(&rt, alloc, 100);
+    let more = doubled(&rt, alloc, 130);
     assert!(rt;
         writes(
+            &rt,
             alloc,
             &header("1 1 0", "1 0", "100"),
             many.as_str(),
             "NAME nl\nROWS\n N obj\n L c0\nCOLUMNS\n x0 c0 1267650600228229401496703205376\nRHS\n RHS c0 1\nBOUNDS\n FR BND x0\nENDATA\n"
-        )?
+        )
     );
     assert!(rt;
         tells(
+            &rt,
             alloc,
             &header("1 1 0", "1 0", "130"),
             more.as_str(),
             "refused line 516: too wide\n"
-        )?
+        )
     );
-    Ok(())
 }
 
 #[test]
-fn refuses_expressions(rt: HostRuntime) -> Result<(), Fail> {
+fn refuses_expressions(rt: HostRuntime) {
     let row = one_row();
     let two = header("2 1 0", "2 0", "0");
     let cases = [
@@ -238,14 +237,13 @@ fn refuses_expressions(rt: HostRuntime) -> Result<(), Fail> {
         ),
     ];
     for (sizes, body, told) in cases {
-        assert!(rt; tells(rt.alloc(), &sizes, body, told)?, "at {body}");
+        assert!(rt; tells(&rt, rt.alloc(), &sizes, body, told), "at {body}");
     }
-    assert!(rt; misses_objective(rt.alloc())?);
-    Ok(())
+    assert!(rt; misses_objective(&rt, rt.alloc()));
 }
 
 #[test]
-fn exports_expressions(rt: HostRuntime) -> Result<(), Fail> {
+fn exports_expressions(rt: HostRuntime) {
     let row = one_row();
     let two = header("2 1 0", "2 0", "0");
     let cases = [
@@ -276,65 +274,62 @@ fn exports_expressions(rt: HostRuntime) -> Result<(), Fail> {
         ),
     ];
     for (sizes, body, written) in cases {
-        assert!(rt; writes(rt.alloc(), &sizes, body, written)?, "at {body}");
+        assert!(rt; writes(&rt, rt.alloc(), &sizes, body, written), "at {body}");
     }
-    Ok(())
 }
 
 // A line so many times.
-fn put_times(text: &mut String, line: &str, count: usize) -> Result<(), AllocError> {
+fn put_times(rt: &impl Abort, text: &mut String, line: &str, count: usize) {
     for _ in 0..count {
-        text.push_str(line)?;
+        text.push_str(line).expect(rt, "memory");
     }
-    Ok(())
 }
 
 // A row with a term of each of 1,000 variables.
-fn put_full_row(text: &mut String, row: usize) -> Result<(), AllocError> {
-    text.push_str("J")?;
-    put_number(text, row)?;
-    text.push_str(" 1000\n")?;
+fn put_full_row(rt: &impl Abort, text: &mut String, row: usize) {
+    text.push_str("J").expect(rt, "memory");
+    put_number(rt, text, row);
+    text.push_str(" 1000\n").expect(rt, "memory");
     for variable in 0..1000 {
-        put_number(text, variable)?;
-        text.push_str(" 1\n")?;
+        put_number(rt, text, variable);
+        text.push_str(" 1\n").expect(rt, "memory");
     }
-    Ok(())
 }
 
 // 1,000 rows with a term of each of 1,000 variables.
-fn full_rows(alloc: Global) -> Result<String, AllocError> {
-    let mut text = String::from_str(alloc, "r\n")?;
-    put_times(&mut text, "1 1\n", 1000)?;
-    text.push_str("b\n")?;
-    put_times(&mut text, "3\n", 1000)?;
+fn full_rows(rt: &impl Abort, alloc: Global) -> String {
+    let mut text = String::from_str(alloc, "r\n").expect(rt, "memory");
+    put_times(rt, &mut text, "1 1\n", 1000);
+    text.push_str("b\n").expect(rt, "memory");
+    put_times(rt, &mut text, "3\n", 1000);
     for row in 0..1000 {
-        put_full_row(&mut text, row)?;
+        put_full_row(rt, &mut text, row);
     }
-    Ok(text)
+    text
 }
 
 // Whether the text is exported as so many bytes, of which these are the last.
-fn exports_bytes(alloc: Global, text: &str, count: usize, end: &[u8]) -> Result<bool, AllocError> {
-    let mut desk = MemoryDesk::new(alloc, count)?;
+fn exports_bytes(rt: &impl Abort, alloc: Global, text: &str, count: usize, end: &[u8]) -> bool {
+    let mut desk = MemoryDesk::new(alloc, count).expect(rt, "memory");
     let texts = [("a.nl", text.as_bytes())];
-    let ended = work(alloc, &mut desk, &texts, &["export", "a.nl"]);
+    let ended = work(rt, alloc, &mut desk, &texts, &["export", "a.nl"]);
     let is_end = desk.written().len() == count && desk.written().ends_with(end);
     drop(desk);
-    Ok(ended? == 0 && is_end)
+    ended == 0 && is_end
 }
 
 // The numbers from 0 to 999 have 2,890 digits, and each line of a term has 7 bytes beside those of
 // its two numbers.
 #[test]
-fn exports_a_million_terms(rt: HostRuntime) -> Result<(), Fail> {
+fn exports_a_million_terms(rt: HostRuntime) {
     let alloc = rt.alloc();
-    let rows = full_rows(alloc)?;
+    let rows = full_rows(&rt, alloc);
     let text = text_of(
         alloc,
         &header("1000 1000 0", "1000000 0", "0"),
         rows.as_str(),
-    )?;
+    )
+    .expect(&rt, "memory");
     let end = b" FR BND x999\nENDATA\n";
-    assert!(rt; exports_bytes(alloc, text.as_str(), 12_812_716, end)?);
-    Ok(())
+    assert!(rt; exports_bytes(&rt, alloc, text.as_str(), 12_812_716, end));
 }

@@ -5,8 +5,8 @@ use crate::short_desk::{ShortDesk, front};
 use example_texts::mps_texts::{FIXED, PAIRS};
 use example_texts::nl_texts::KNAPSACK;
 use example_texts::proof_texts::{ONE_WHOLE, TWO_LEAVES};
-use std::alloc::{AllocError, Global};
-use std::test::Fail;
+use std::alloc::Global;
+use std::process::Abort;
 
 // Of ONE_WHOLE: an answer; one with the name `n` for its row and its column; the optimum of the
 // relaxed program; a point that is feasible, and not the best; the whole optimum with its tree.
@@ -76,42 +76,36 @@ struct Ended {
 }
 
 // Puts the texts of a case.
-fn put_texts(desk: &mut ShortDesk, case: &Case) -> Result<(), AllocError> {
+fn put_texts(rt: &impl Abort, desk: &mut ShortDesk, case: &Case) {
     if let Some(text) = case.first {
-        desk.put("a", text.as_bytes())?;
+        desk.put("a", text.as_bytes()).expect(rt, "memory");
     }
     if let Some(text) = case.second {
-        desk.put("b", text.as_bytes())?;
+        desk.put("b", text.as_bytes()).expect(rt, "memory");
     }
     if let Some(text) = case.lists {
-        desk.put("c", text.as_bytes())?;
-        desk.put("d", text.as_bytes())?;
+        desk.put("c", text.as_bytes()).expect(rt, "memory");
+        desk.put("d", text.as_bytes()).expect(rt, "memory");
     }
-    Ok(())
 }
 
 // Puts the texts of a case, and works its command.
-fn work(alloc: Global, desk: &mut ShortDesk, case: &Case) -> Result<u8, AllocError> {
-    put_texts(desk, case)?;
+fn work(rt: &impl Abort, alloc: Global, desk: &mut ShortDesk, case: &Case) -> u8 {
+    put_texts(rt, desk, case);
     match case.files {
-        0 => command(alloc, desk, &[case.command, "1", "1"]),
-        1 => command(alloc, desk, &[case.command, "a"]),
-        3 => command(alloc, desk, &[case.command, "a", "0", "c", "d"]),
-        4 => command(alloc, desk, &[case.command, "a", "b", "c", "d"]),
-        _ => command(alloc, desk, &[case.command, "a", "b"]),
+        0 => command(rt, alloc, desk, &[case.command, "1", "1"]),
+        1 => command(rt, alloc, desk, &[case.command, "a"]),
+        3 => command(rt, alloc, desk, &[case.command, "a", "0", "c", "d"]),
+        4 => command(rt, alloc, desk, &[case.command, "a", "b", "c", "d"]),
+        _ => command(rt, alloc, desk, &[case.command, "a", "b"]),
     }
 }
 
 // The run where each call moves at most so many bytes, and those of these numbers fail.
-fn run(alloc: Global, case: &Case, most: usize, failing: &[u64]) -> Result<Ended, AllocError> {
-    let mut desk = ShortDesk::new(alloc, most, failing)?;
-    match work(alloc, &mut desk, case) {
-        Ok(status) => Ok(Ended { status, desk }),
-        Err(fault) => {
-            drop(desk);
-            Err(fault)
-        }
-    }
+fn run(rt: &impl Abort, alloc: Global, case: &Case, most: usize, failing: &[u64]) -> Ended {
+    let mut desk = ShortDesk::new(rt, alloc, most, failing);
+    let status = work(rt, alloc, &mut desk, case);
+    Ended { status, desk }
 }
 
 // The calls that give a text: its start, its pieces and its end.
@@ -156,23 +150,24 @@ fn ends_untold(status: u8, other: &Ended) -> bool {
 
 // Whether all is well where call n fails, alone and with the next.
 fn fails_so(
+    rt: &impl Abort,
     alloc: Global,
     case: &Case,
     whole: &Ended,
     most: usize,
     n: usize,
-) -> Result<bool, AllocError> {
+) -> bool {
     let inputs = all_input_calls(case, most);
     let moved = n.saturating_sub(inputs).saturating_mul(most);
     let call = n as u64;
-    let one = run(alloc, case, most, &[call])?;
+    let one = run(rt, alloc, case, most, &[call]);
     let status = one.status;
     let is_well = ends_well(&one, whole, n < inputs, moved);
     drop(one);
-    let two = run(alloc, case, most, &[call, call.saturating_add(1)])?;
+    let two = run(rt, alloc, case, most, &[call, call.saturating_add(1)]);
     let is_untold = ends_untold(status, &two);
     drop(two);
-    Ok(is_well && is_untold)
+    is_well && is_untold
 }
 
 // How many calls a run makes.
@@ -185,51 +180,46 @@ fn call_count(case: &Case, whole: &Ended, most: usize) -> usize {
 
 // Whether all is well for each call that fails, and for none: then the run ends as it does in whole
 // pieces.
-fn each_fails_so(
-    alloc: Global,
-    case: &Case,
-    whole: &Ended,
-    most: usize,
-) -> Result<bool, AllocError> {
+fn each_fails_so(rt: &impl Abort, alloc: Global, case: &Case, whole: &Ended, most: usize) -> bool {
     if whole.status != case.status {
-        return Ok(false);
+        return false;
     }
     let calls = call_count(case, whole, most);
     for n in 0..calls.saturating_add(1) {
-        if !fails_so(alloc, case, whole, most, n)? {
-            return Ok(false);
+        if !fails_so(rt, alloc, case, whole, most, n) {
+            return false;
         }
     }
-    Ok(true)
+    true
 }
 
-fn each_call_may_fail(alloc: Global, case: &Case, most: usize) -> Result<bool, AllocError> {
-    let whole = run(alloc, case, 4000, &[])?;
-    let fail_so = each_fails_so(alloc, case, &whole, most);
+fn each_call_may_fail(rt: &impl Abort, alloc: Global, case: &Case, most: usize) -> bool {
+    let whole = run(rt, alloc, case, 4000, &[]);
+    let fail_so = each_fails_so(rt, alloc, case, &whole, most);
     drop(whole);
     fail_so
 }
 
 // Whether all is as in the whole run where each call moves one byte.
-fn ends_so_in_bytes(alloc: Global, case: &Case, whole: &Ended) -> Result<bool, AllocError> {
-    let bytes = run(alloc, case, 1, &[])?;
+fn ends_so_in_bytes(rt: &impl Abort, alloc: Global, case: &Case, whole: &Ended) -> bool {
+    let bytes = run(rt, alloc, case, 1, &[]);
     let is_the_same = bytes.status == case.status
         && whole.status == case.status
         && bytes.desk.written() == whole.desk.written()
         && bytes.desk.told() == whole.desk.told();
     drop(bytes);
-    Ok(is_the_same)
+    is_the_same
 }
 
-fn is_the_same_in_bytes(alloc: Global, case: &Case) -> Result<bool, AllocError> {
-    let whole = run(alloc, case, 4000, &[])?;
-    let is_the_same = ends_so_in_bytes(alloc, case, &whole);
+fn is_the_same_in_bytes(rt: &impl Abort, alloc: Global, case: &Case) -> bool {
+    let whole = run(rt, alloc, case, 4000, &[]);
+    let is_the_same = ends_so_in_bytes(rt, alloc, case, &whole);
     drop(whole);
     is_the_same
 }
 
 #[test]
-fn calls_of_commands_fail(rt: HostRuntime) -> Result<(), Fail> {
+fn calls_of_commands_fail(rt: HostRuntime) {
     let cases = [
         of_one("export", KNAPSACK, 0),
         of_one("nl", ONE_WHOLE, 0),
@@ -246,20 +236,19 @@ fn calls_of_commands_fail(rt: HostRuntime) -> Result<(), Fail> {
         of_two("verify", ONE_WHOLE, BEST_WHOLE, 0),
     ];
     for case in cases {
-        assert!(rt; is_the_same_in_bytes(rt.alloc(), &case)?);
+        assert!(rt; is_the_same_in_bytes(&rt, rt.alloc(), &case));
         for most in [7, 4000] {
             assert!(rt;
-                each_call_may_fail(rt.alloc(), &case, most)?,
+                each_call_may_fail(&rt, rt.alloc(), &case, most),
                 "at {}",
                 case.command
             );
         }
     }
-    Ok(())
 }
 
 #[test]
-fn calls_of_other_commands_fail(rt: HostRuntime) -> Result<(), Fail> {
+fn calls_of_other_commands_fail(rt: HostRuntime) {
     let cases = [
         of_first("make", 0, None, 0),
         of_first("none", 1, None, 3),
@@ -268,14 +257,13 @@ fn calls_of_other_commands_fail(rt: HostRuntime) -> Result<(), Fail> {
         of_two("return", ONE_WHOLE, TWO_LEAVES, 2),
     ];
     for case in cases {
-        assert!(rt; is_the_same_in_bytes(rt.alloc(), &case)?);
+        assert!(rt; is_the_same_in_bytes(&rt, rt.alloc(), &case));
         for most in [7, 4000] {
             assert!(rt;
-                each_call_may_fail(rt.alloc(), &case, most)?,
+                each_call_may_fail(&rt, rt.alloc(), &case, most),
                 "at {}",
                 case.command
             );
         }
     }
-    Ok(())
 }

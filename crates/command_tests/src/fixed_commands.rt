@@ -2,45 +2,46 @@
 
 use crate::commands::{comes_to, first_lines};
 use example_texts::mps_texts::{FIXED, FIXED_WRITTEN};
-use std::alloc::{AllocError, Global};
-use std::test::Fail;
+use std::alloc::Global;
+use std::process::Abort;
 
 // Whether the text is written so.
-fn writes(alloc: Global, text: &str, written: &str) -> Result<bool, AllocError> {
+fn writes(rt: &impl Abort, alloc: Global, text: &str, written: &str) -> bool {
     let words = ["fixed", "m.mps"];
-    comes_to(alloc, &[("m.mps", text.as_bytes())], &words, 0, written)
+    comes_to(rt, alloc, &[("m.mps", text.as_bytes())], &words, 0, written)
 }
 
 // Whether the text is refused with this line.
-fn refuses(alloc: Global, text: &str, told: &str) -> Result<bool, AllocError> {
+fn refuses(rt: &impl Abort, alloc: Global, text: &str, told: &str) -> bool {
     let words = ["fixed", "m.mps"];
-    comes_to(alloc, &[("m.mps", text.as_bytes())], &words, 2, told)
+    comes_to(rt, alloc, &[("m.mps", text.as_bytes())], &words, 2, told)
 }
 
 // The example with another line 7.
-fn with_line(alloc: Global, line: &str) -> Result<String, AllocError> {
+fn with_line(rt: &impl Abort, alloc: Global, line: &str) -> String {
     let mut text = String::new(alloc);
     for (i, each) in FIXED.lines().enumerate() {
-        text.push_str(if i == 6 { line } else { each })?;
-        text.push_str("\n")?;
+        text.push_str(if i == 6 { line } else { each })
+            .expect(rt, "memory");
+        text.push_str("\n").expect(rt, "memory");
     }
-    Ok(text)
+    text
 }
 
 // Whether the example with this line 7 is written.
-fn writes_line(alloc: Global, line: &str) -> Result<bool, AllocError> {
-    let text = with_line(alloc, line)?;
-    writes(alloc, text.as_str(), FIXED_WRITTEN)
+fn writes_line(rt: &impl Abort, alloc: Global, line: &str) -> bool {
+    let text = with_line(rt, alloc, line);
+    writes(rt, alloc, text.as_str(), FIXED_WRITTEN)
 }
 
 // Whether the example with this line 7 is refused at it.
-fn refuses_line(alloc: Global, line: &str) -> Result<bool, AllocError> {
-    let text = with_line(alloc, line)?;
-    refuses(alloc, text.as_str(), "refused line 7: bad line\n")
+fn refuses_line(rt: &impl Abort, alloc: Global, line: &str) -> bool {
+    let text = with_line(rt, alloc, line);
+    refuses(rt, alloc, text.as_str(), "refused line 7: bad line\n")
 }
 
 #[test]
-fn keeps_to_the_fields(rt: HostRuntime) -> Result<(), Fail> {
+fn keeps_to_the_fields(rt: HostRuntime) {
     let cases = [
         // Nothing counts after column 61, and CRs end no word.
         "    X         COST               1.0   LIM1               2.0",
@@ -49,13 +50,12 @@ fn keeps_to_the_fields(rt: HostRuntime) -> Result<(), Fail> {
         "    X         COST       1.0           LIM1      2.0",
     ];
     for line in cases {
-        assert!(rt; writes_line(rt.alloc(), line)?, "at {line}");
+        assert!(rt; writes_line(&rt, rt.alloc(), line), "at {line}");
     }
-    Ok(())
 }
 
 #[test]
-fn tells_a_line_that_leaves_the_fields(rt: HostRuntime) -> Result<(), Fail> {
+fn tells_a_line_that_leaves_the_fields(rt: HostRuntime) {
     let cases = [
         "    X         COST               1.0  LIM1                2.0",
         "    X         COST               1.0   LIM1\t              2.0",
@@ -63,14 +63,12 @@ fn tells_a_line_that_leaves_the_fields(rt: HostRuntime) -> Result<(), Fail> {
         "    X       x COST               1.0   LIM1               2.0",
     ];
     for line in cases {
-        assert!(rt; refuses_line(rt.alloc(), line)?, "at {line}");
+        assert!(rt; refuses_line(&rt, rt.alloc(), line), "at {line}");
     }
-    Ok(())
 }
 
 #[test]
-fn tells_that_fixed_columns_have_no_end(rt: HostRuntime) -> Result<(), Fail> {
-    let text = first_lines(rt.alloc(), FIXED, 13)?;
-    assert!(rt; refuses(rt.alloc(), text.as_str(), "refused line 14: no end\n")?);
-    Ok(())
+fn tells_that_fixed_columns_have_no_end(rt: HostRuntime) {
+    let text = first_lines(&rt, rt.alloc(), FIXED, 13);
+    assert!(rt; refuses(&rt, rt.alloc(), text.as_str(), "refused line 14: no end\n"));
 }

@@ -5,24 +5,24 @@ use crate::commands::{comes_to, first_lines, tell_in_turn, work, writes_in_piece
 use example_texts::mps_texts::{PAIRS, PAIRS_WRITTEN};
 use example_texts::nl_texts::KNAPSACK_WRITTEN;
 use itoa::Buffer;
-use std::alloc::{AllocError, Global};
-use std::test::Fail;
+use std::alloc::Global;
+use std::process::Abort;
 use text_base::MemoryDesk;
 
 // Whether the text is written so where each read gives at most so many bytes.
-fn writes(alloc: Global, text: &str, most: usize, written: &str) -> Result<bool, AllocError> {
+fn writes(rt: &impl Abort, alloc: Global, text: &str, most: usize, written: &str) -> bool {
     let named = ("m.mps", text.as_bytes());
-    writes_in_pieces(alloc, named, most, &["mps", "m.mps"], written)
+    writes_in_pieces(rt, alloc, named, most, &["mps", "m.mps"], written)
 }
 
 // Whether the text is refused with this line.
-fn refuses(alloc: Global, text: &str, told: &str) -> Result<bool, AllocError> {
+fn refuses(rt: &impl Abort, alloc: Global, text: &str, told: &str) -> bool {
     let words = ["mps", "m.mps"];
-    comes_to(alloc, &[("m.mps", text.as_bytes())], &words, 2, told)
+    comes_to(rt, alloc, &[("m.mps", text.as_bytes())], &words, 2, told)
 }
 
 #[test]
-fn writes_a_program_again(rt: HostRuntime) -> Result<(), Fail> {
+fn writes_a_program_again(rt: HostRuntime) {
     let cases = [
         (PAIRS, 4000, PAIRS_WRITTEN),
         (PAIRS_WRITTEN, 4000, PAIRS_WRITTEN),
@@ -34,35 +34,33 @@ fn writes_a_program_again(rt: HostRuntime) -> Result<(), Fail> {
     ];
     for (text, most, written) in cases {
         assert!(rt;
-            writes(rt.alloc(), text, most, written)?,
+            writes(&rt, rt.alloc(), text, most, written),
             "in reads of {most}"
         );
     }
-    Ok(())
 }
 
 // The line that tells that the text ends too soon.
-fn no_end(alloc: Global, line: u32) -> Result<String, AllocError> {
+fn no_end(rt: &impl Abort, alloc: Global, line: u32) -> String {
     let mut digits = Buffer::new();
-    let mut told = String::from_str(alloc, "refused line ")?;
-    told.push_str(digits.format(line))?;
-    told.push_str(": no end\n")?;
-    Ok(told)
+    let mut told = String::from_str(alloc, "refused line ").expect(rt, "memory");
+    told.push_str(digits.format(line)).expect(rt, "memory");
+    told.push_str(": no end\n").expect(rt, "memory");
+    told
 }
 
 // Whether the text of so many lines is refused at the line after them.
-fn ends_too_soon(alloc: Global, lines: u8) -> Result<bool, AllocError> {
-    let front = first_lines(alloc, PAIRS, usize::from(lines))?;
-    let told = no_end(alloc, u32::from(lines) + 1)?;
-    refuses(alloc, front.as_str(), told.as_str())
+fn ends_too_soon(rt: &impl Abort, alloc: Global, lines: u8) -> bool {
+    let front = first_lines(rt, alloc, PAIRS, usize::from(lines));
+    let told = no_end(rt, alloc, u32::from(lines) + 1);
+    refuses(rt, alloc, front.as_str(), told.as_str())
 }
 
 #[test]
-fn a_text_cut_after_a_line_has_no_end(rt: HostRuntime) -> Result<(), Fail> {
+fn a_text_cut_after_a_line_has_no_end(rt: HostRuntime) {
     for lines in 0..17_u8 {
-        assert!(rt; ends_too_soon(rt.alloc(), lines)?);
+        assert!(rt; ends_too_soon(&rt, rt.alloc(), lines));
     }
-    Ok(())
 }
 
 // Whether the text was written, or refused with a line and nothing written.
@@ -74,26 +72,25 @@ fn is_written_or_refused(desk: &MemoryDesk, status: u8) -> bool {
 }
 
 // The same of so many bytes of the text.
-fn is_judged(alloc: Global, bytes: usize) -> Result<bool, AllocError> {
+fn is_judged(rt: &impl Abort, alloc: Global, bytes: usize) -> bool {
     let text = PAIRS.as_bytes();
     let (front, _) = text.split_at(bytes.min(text.len()));
-    let mut desk = MemoryDesk::new(alloc, 4000)?;
-    let ended = work(alloc, &mut desk, &[("m.mps", front)], &["mps", "m.mps"]);
-    let judged = ended.map(|status| is_written_or_refused(&desk, status));
+    let mut desk = MemoryDesk::new(alloc, 4000).expect(rt, "memory");
+    let ended = work(rt, alloc, &mut desk, &[("m.mps", front)], &["mps", "m.mps"]);
+    let judged = is_written_or_refused(&desk, ended);
     drop(desk);
     judged
 }
 
 #[test]
-fn a_text_cut_after_a_byte_is_written_or_refused(rt: HostRuntime) -> Result<(), Fail> {
+fn a_text_cut_after_a_byte_is_written_or_refused(rt: HostRuntime) {
     for bytes in 0..PAIRS.len() {
-        assert!(rt; is_judged(rt.alloc(), bytes)?);
+        assert!(rt; is_judged(&rt, rt.alloc(), bytes));
     }
-    Ok(())
 }
 
 #[test]
-fn tells_the_first_fault_of_sections(rt: HostRuntime) -> Result<(), Fail> {
+fn tells_the_first_fault_of_sections(rt: HostRuntime) {
     let cases = [
         ("ROW\n", "refused line 1: bad section\n"),
         ("COLUMNS x\n", "refused line 1: bad section\n"),
@@ -103,29 +100,29 @@ fn tells_the_first_fault_of_sections(rt: HostRuntime) -> Result<(), Fail> {
         ("ROWS\n N C\n N C\n", "refused line 3: repeated row\n"),
     ];
     for (text, told) in cases {
-        assert!(rt; refuses(rt.alloc(), text, told)?, "at {text}");
+        assert!(rt; refuses(&rt, rt.alloc(), text, told), "at {text}");
     }
-    Ok(())
 }
 
 // A program of two columns, and after them these lines.
-fn with_end(alloc: Global, end: &str) -> Result<String, AllocError> {
+fn with_end(rt: &impl Abort, alloc: Global, end: &str) -> String {
     let mut text = String::from_str(
         alloc,
         "ROWS\n N C\n L R\n N F\nCOLUMNS\n X C 1 R 1\n Y R 1\n",
-    )?;
-    text.push_str(end)?;
-    Ok(text)
+    )
+    .expect(rt, "memory");
+    text.push_str(end).expect(rt, "memory");
+    text
 }
 
 // Whether that text is refused with this line.
-fn refuses_end(alloc: Global, end: &str, told: &str) -> Result<bool, AllocError> {
-    let text = with_end(alloc, end)?;
-    refuses(alloc, text.as_str(), told)
+fn refuses_end(rt: &impl Abort, alloc: Global, end: &str, told: &str) -> bool {
+    let text = with_end(rt, alloc, end);
+    refuses(rt, alloc, text.as_str(), told)
 }
 
 #[test]
-fn tells_the_first_fault_after_columns(rt: HostRuntime) -> Result<(), Fail> {
+fn tells_the_first_fault_after_columns(rt: HostRuntime) {
     let cases = [
         (" X R 2\n", "refused line 8: column again\n"),
         (" Y R 2\n", "refused line 8: repeated entry\n"),
@@ -147,19 +144,17 @@ fn tells_the_first_fault_after_columns(rt: HostRuntime) -> Result<(), Fail> {
         ),
     ];
     for (end, told) in cases {
-        assert!(rt; refuses_end(rt.alloc(), end, told)?, "at {end}");
+        assert!(rt; refuses_end(&rt, rt.alloc(), end, told), "at {end}");
     }
-    Ok(())
 }
 
 #[test]
-fn tells_bad_words_and_missing_files(rt: HostRuntime) -> Result<(), Fail> {
+fn tells_bad_words_and_missing_files(rt: HostRuntime) {
     let runs: [(&[&str], u8); 3] = [
         (&["mps", "m.mps"], 4),
         (&["mps"], 3),
         (&["mps", "m.mps", "0"], 3),
     ];
     let told = "input fault\nbad words\nbad words\n";
-    assert!(rt; tell_in_turn(rt.alloc(), ("other", b""), &runs, told)?);
-    Ok(())
+    assert!(rt; tell_in_turn(&rt, rt.alloc(), ("other", b""), &runs, told));
 }

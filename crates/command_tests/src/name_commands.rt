@@ -3,8 +3,8 @@
 
 use crate::commands::comes_to;
 use example_texts::nl_texts::{KNAPSACK, Sizes, header, text_of};
-use std::alloc::{AllocError, Global};
-use std::test::Fail;
+use std::alloc::Global;
+use std::process::Abort;
 
 // The knapsack with the names of lists.
 const NAMED: &str =
@@ -16,203 +16,153 @@ const MOST: &str = "O0 1\nn0\nr\n1 7\nb\n2 0\nJ0 1\n0 2\nG0 1\n0 3\n";
 // Minimise x / 3.
 const TIED: &str = "O0 0\no3\nv0\nn3\nb\n3\nG0 1\n0 0\n";
 
-// An export of the knapsack with objective k and these lists, its status, and what is written or
-// told.
-#[derive(Clone, Copy)]
-struct Exported {
-    k: &'static str,
-    rows: &'static str,
-    columns: &'static str,
-    status: u8,
-    out: &'static str,
-}
-
-fn knapsack(
-    k: &'static str,
-    rows: &'static str,
-    columns: &'static str,
-    status: u8,
-    out: &'static str,
-) -> Exported {
-    Exported {
-        k,
-        rows,
-        columns,
-        status,
-        out,
-    }
-}
-
-fn exports_so(alloc: Global, case: &Exported) -> Result<bool, AllocError> {
+// Whether an export of the knapsack with these words, the objective's number and the two lists,
+// comes to this status and this text.
+fn exports_so(rt: &impl Abort, alloc: Global, lists: [&str; 3], wanted: (u8, &str)) -> bool {
+    let [k, rows, columns] = lists;
     let texts = [
         ("a.nl", KNAPSACK.as_bytes()),
-        ("a.row", case.rows.as_bytes()),
-        ("a.col", case.columns.as_bytes()),
+        ("a.row", rows.as_bytes()),
+        ("a.col", columns.as_bytes()),
     ];
-    let words = ["export", "a.nl", case.k, "a.row", "a.col"];
-    comes_to(alloc, &texts, &words, case.status, case.out)
+    let words = ["export", "a.nl", k, "a.row", "a.col"];
+    comes_to(rt, alloc, &texts, &words, wanted.0, wanted.1)
 }
 
 #[test]
-fn exports_with_names(rt: HostRuntime) -> Result<(), Fail> {
+fn exports_with_names(rt: HostRuntime) {
     let cases = [
-        knapsack("0", "Cap\nProfit\n", "a\nb\nz\n", 0, NAMED),
-        knapsack("0", "\n  Cap\n\n", "a\nb\n\nz", 0, NAMED),
-        knapsack(
-            "0",
-            "Cap\n",
-            "a\nb\na\n",
+        (["0", "Cap\nProfit\n", "a\nb\nz\n"], 0, NAMED),
+        (["0", "\n  Cap\n\n", "a\nb\n\nz"], 0, NAMED),
+        (
+            ["0", "Cap\n", "a\nb\na\n"],
             2,
             "refused file 3 line 3: repeated name\n",
         ),
-        knapsack(
-            "0",
-            "Cap\nProfit\nx\n",
-            "a\n",
+        (
+            ["0", "Cap\nProfit\nx\n", "a\n"],
             2,
             "refused file 2 line 3: other count\n",
         ),
-        knapsack(
-            "0",
-            "",
-            "a\nb\nz\n",
+        (
+            ["0", "", "a\nb\nz\n"],
             2,
             "refused file 2 line 1: other count\n",
         ),
-        knapsack(
-            "0",
-            "@Cap\n",
-            "",
+        (
+            ["0", "@Cap\n", ""],
             2,
             "refused file 2 line 1: reserved name\n",
         ),
-        knapsack(
-            "0",
-            "Cap\n",
-            "a\nb c\n",
+        (
+            ["0", "Cap\n", "a\nb c\n"],
             2,
             "refused file 3 line 2: bad name\n",
         ),
-        knapsack(
-            "1",
-            "Cap\n",
-            "a\nb\na\n",
+        (
+            ["1", "Cap\n", "a\nb\na\n"],
             2,
             "refused file 3 line 3: repeated name\n",
         ),
-        knapsack(
-            "1",
-            "Cap\n",
-            "a\nb\nz\n",
+        (
+            ["1", "Cap\n", "a\nb\nz\n"],
             2,
             "refused objective 1: no such objective\n",
         ),
     ];
-    for case in cases {
+    for (lists, status, out) in cases {
         assert!(rt;
-            exports_so(rt.alloc(), &case)?,
+            exports_so(&rt, rt.alloc(), lists, (status, out)),
             "at {} {}",
-            case.rows,
-            case.columns
+            lists[1],
+            lists[2]
         );
     }
-    Ok(())
 }
 
-// An answer for a file, whose one column is named `v`, with what comes to it.
-#[derive(Clone, Copy)]
-struct Returned {
-    counts: &'static str,
-    nonzeros: &'static str,
-    body: &'static str,
-    rows: &'static str,
-    answer: &'static str,
-    status: u8,
-    out: &'static str,
-}
-
-impl Returned {
-    fn sizes(&self) -> Sizes {
-        header(self.counts, self.nonzeros, "0")
-    }
-}
-
-fn most(rows: &'static str, answer: &'static str, status: u8, out: &'static str) -> Returned {
-    Returned {
-        counts: "1 1 1",
-        nonzeros: "1 1",
-        body: MOST,
-        rows,
-        answer,
-        status,
-        out,
-    }
-}
-
-fn tied(answer: &'static str, out: &'static str) -> Returned {
-    Returned {
-        counts: "1 0 1",
-        nonzeros: "0 1",
-        body: TIED,
-        rows: "",
-        answer,
-        status: 0,
-        out,
-    }
-}
-
-fn returns_of(alloc: Global, nl: &str, case: &Returned) -> Result<bool, AllocError> {
+// Whether an answer for this file, whose one column is named `v`, with these names of rows comes to
+// this status and this text.
+fn returns_of<'a>(
+    rt: &impl Abort,
+    alloc: Global,
+    nl: &'a str,
+    lists: (&'a str, &'a str),
+    wanted: (u8, &str),
+) -> bool {
+    let (rows, answer) = lists;
     let texts = [
         ("a.nl", nl.as_bytes()),
-        ("a.answer", case.answer.as_bytes()),
-        ("a.row", case.rows.as_bytes()),
+        ("a.answer", answer.as_bytes()),
+        ("a.row", rows.as_bytes()),
         ("a.col", b"v\n"),
     ];
     let words = ["return", "a.nl", "a.answer", "a.row", "a.col"];
-    comes_to(alloc, &texts, &words, case.status, case.out)
+    comes_to(rt, alloc, &texts, &words, wanted.0, wanted.1)
 }
 
-fn returns_so(alloc: Global, case: &Returned) -> Result<bool, AllocError> {
-    let nl = text_of(alloc, &case.sizes(), case.body)?;
-    returns_of(alloc, nl.as_str(), case)
+// The same, of the file of a body after its header.
+fn returns_so(
+    rt: &impl Abort,
+    alloc: Global,
+    file: (Sizes, &str),
+    lists: (&str, &str),
+    wanted: (u8, &str),
+) -> bool {
+    let nl = text_of(alloc, &file.0, file.1).expect(rt, "memory");
+    returns_of(rt, alloc, &nl, lists, wanted)
 }
 
 #[test]
-fn returns_with_names(rt: HostRuntime) -> Result<(), Fail> {
+fn returns_with_names(rt: HostRuntime) {
+    let most = (header("1 1 1", "1 1", "0"), MOST);
+    let tied = (header("1 0 1", "0 1", "0"), TIED);
     let cases = [
-        most(
+        (
+            most,
             "r\n",
             "answer 1\nstatus 0\nmessage done\nsign min\ncol v 3.5\nrow r -1.5\n",
             0,
             "done\n\nOptions\n3\n1\n1\n0\n1\n1\n1\n1\n1.5\n3.5\nobjno 0 0\n",
         ),
-        tied(
+        (
+            tied,
+            "",
             "answer 1\nstatus 0\ncol v 0\ncol @z 0\nrow @zdef 0.5\n",
+            0,
             "\nOptions\n3\n1\n1\n0\n0\n0\n1\n1\n0\nobjno 0 0\n",
         ),
-        most(
+        (
+            most,
             "r\n",
             "answer 1\ncol x0 1\n",
             2,
             "refused file 2 line 2: unknown name\n",
         ),
-        most("r s\n", "none", 2, "refused file 3 line 1: bad name\n"),
+        (
+            most,
+            "r s\n",
+            "none",
+            2,
+            "refused file 3 line 1: bad name\n",
+        ),
     ];
-    for case in cases {
-        assert!(rt; returns_so(rt.alloc(), &case)?, "at {}", case.answer);
+    for (file, rows, answer, status, out) in cases {
+        assert!(rt;
+            returns_so(&rt, rt.alloc(), file, (rows, answer), (status, out)),
+            "at {answer}"
+        );
     }
-    Ok(())
 }
 
 // Whether these words end with this status and tell this, at a desk with the knapsack and a binary
 // file.
-fn tells(alloc: Global, words: &[&str], status: u8, line: &str) -> Result<bool, AllocError> {
+fn tells(rt: &impl Abort, alloc: Global, words: &[&str], status: u8, line: &str) -> bool {
     let texts = [("a.nl", KNAPSACK.as_bytes()), ("b", b"b3 1 1 0\n")];
-    comes_to(alloc, &texts, words, status, line)
+    comes_to(rt, alloc, &texts, words, status, line)
 }
 
 #[test]
-fn lists_come_after_the_file(rt: HostRuntime) -> Result<(), Fail> {
+fn lists_come_after_the_file(rt: HostRuntime) {
     let cases: [(&[&str], u8, &str); 5] = [
         (
             &["export", "b", "0", "none", "none"],
@@ -229,7 +179,6 @@ fn lists_come_after_the_file(rt: HostRuntime) -> Result<(), Fail> {
         (&["return", "a.nl", "b", "b"], 3, "bad words\n"),
     ];
     for (words, status, line) in cases {
-        assert!(rt; tells(rt.alloc(), words, status, line)?, "at {line}");
+        assert!(rt; tells(&rt, rt.alloc(), words, status, line), "at {line}");
     }
-    Ok(())
 }

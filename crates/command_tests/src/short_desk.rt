@@ -2,6 +2,7 @@
 ghost use Rattle.std.specs.Prelude.{◌≡◌, length, min, take};
 
 use std::alloc::{AllocError, Global};
+use std::process::Abort;
 use text_base::{Desk, Failed, MemoryDesk};
 
 /// A desk in memory, each call of which moves at most so many bytes.
@@ -13,16 +14,12 @@ pub(crate) struct ShortDesk {
 
 impl ShortDesk {
     /// A desk with room for 4,000 bytes, of which the calls of these numbers fail.
-    pub(crate) fn new(
-        alloc: Global,
-        most: usize,
-        failing: &[u64],
-    ) -> Result<ShortDesk, AllocError> {
-        let mut inner = MemoryDesk::new(alloc, 4000)?;
+    pub(crate) fn new(rt: &impl Abort, alloc: Global, most: usize, failing: &[u64]) -> ShortDesk {
+        let mut inner = MemoryDesk::new(alloc, 4000).expect(rt, "memory");
         for call in failing {
-            inner.fail(*call)?;
+            inner.fail(*call).expect(rt, "memory");
         }
-        Ok(ShortDesk { inner, most })
+        ShortDesk { inner, most }
     }
 
     /// Stores a text.

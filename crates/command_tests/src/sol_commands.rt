@@ -1,8 +1,8 @@
 // The command sol over a desk in memory: what is written or told for whole texts.
 
 use crate::commands::{comes_to, first_lines};
-use std::alloc::{AllocError, Global};
-use std::test::Fail;
+use std::alloc::Global;
+use std::process::Abort;
 
 // A solution with a value of small size and a suffix with a table.
 const SMALL: &str =
@@ -13,35 +13,33 @@ const SMALL_WRITTEN: &str =
     "\nsolver: done\n\nOptions\n3\n1\n1\n0\n1\n0\n2\n2\n11102230246251565e-48\n2\nobjno 0 0\nsuffix 0 2 8 0 0\nsstatus\n0 1\n1 3\n";
 
 // Whether the text is written so.
-fn writes(alloc: Global, text: &str, written: &str) -> Result<bool, AllocError> {
+fn writes(rt: &impl Abort, alloc: Global, text: &str, written: &str) -> bool {
     let words = ["sol", "a.sol"];
-    comes_to(alloc, &[("a.sol", text.as_bytes())], &words, 0, written)
+    comes_to(rt, alloc, &[("a.sol", text.as_bytes())], &words, 0, written)
 }
 
 // Whether the text is refused with this line.
-fn refuses(alloc: Global, text: &str, told: &str) -> Result<bool, AllocError> {
+fn refuses(rt: &impl Abort, alloc: Global, text: &str, told: &str) -> bool {
     let words = ["sol", "a.sol"];
-    comes_to(alloc, &[("a.sol", text.as_bytes())], &words, 2, told)
+    comes_to(rt, alloc, &[("a.sol", text.as_bytes())], &words, 2, told)
 }
 
 #[test]
-fn writes_a_solution_again(rt: HostRuntime) -> Result<(), Fail> {
-    assert!(rt; writes(rt.alloc(), SMALL, SMALL_WRITTEN)?);
-    assert!(rt; writes(rt.alloc(), SMALL_WRITTEN, SMALL_WRITTEN)?);
-    Ok(())
+fn writes_a_solution_again(rt: HostRuntime) {
+    assert!(rt; writes(&rt, rt.alloc(), SMALL, SMALL_WRITTEN));
+    assert!(rt; writes(&rt, rt.alloc(), SMALL_WRITTEN, SMALL_WRITTEN));
 }
 
 #[test]
-fn refuses_solutions(rt: HostRuntime) -> Result<(), Fail> {
+fn refuses_solutions(rt: HostRuntime) {
     let alloc = rt.alloc();
-    let front = first_lines(alloc, SMALL, 13)?;
+    let front = first_lines(&rt, alloc, SMALL, 13);
     let cases = [
         (front.as_str(), "refused line 14: short file\n"),
         ("done\n", "refused line 2: no options\n"),
         ("Options\n3\n1\n3\n0\n", "refused line 4: refused options\n"),
     ];
     for (text, told) in cases {
-        assert!(rt; refuses(alloc, text, told)?, "at {told}");
+        assert!(rt; refuses(&rt, alloc, text, told), "at {told}");
     }
-    Ok(())
 }

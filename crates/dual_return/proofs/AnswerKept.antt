@@ -29,11 +29,14 @@ use Rattle.std.specs.Str.Parse.{digits_value}
 use Rattle.std.proofs.lemmas.Bool.{cond_both, ltb-true, eqb-true, leb-false, not-false, and_parts, or_parts, lt-ltb}
 use Rattle.texts.specs.Names.{is_name}
 use Rattle.nl_model.specs.declared.suffix.Suffix.{Suffix as FileSuffix}
+use Rattle.nl_model.specs.declared.suffix_kinds.Objects.{Objects}
+use Rattle.nl_model.specs.declared.suffix_kinds.Objects.TheVariants.{Variables, Constraints, Objectives, Problem}
 use Rattle.nl_model.specs.Rules.{is_suffix_of}
-use Rattle.nl_model.specs.SuffixKinds.{object_limit, wants_whole}
+use Rattle.nl_model.specs.SuffixKinds.{has_same_objects, object_limit, objects_of, wants_whole, count_among}
 use Rattle.name_files.specs.Renamed.{index_named}
 use Rattle.name_files.proofs.NumeralLemmas.{position-cons, named_so}
 use Rattle.answer_file.specs.Suffixes.{has_place, place_named, suffix_at, suffix_named, value_count}
+use Rattle.nl_model.proofs.ObjectLemmas.{same_objects}
 use Rattle.answer_file.proofs.TableLemmas.{one_value_more}
 use Rattle.sol_files.specs.Tests.{has_index}
 use Rattle.sol_files.specs.Written.{IsSaidLine, are_values}
@@ -82,15 +85,15 @@ named-cons x xs kind name =
     by false (Some i) = refl
 
 -- kinds with the same objects and the same bit 4
-same_limit : (s : Setting) (a b : ℕ) → (a % 4 == b % 4) ≡ true → limit_of s a ≡ limit_of s b
-same_limit s a b e = ap (λ k. cond (k == 0) s.columns (cond (k == 1) (length s.exported) (cond (k == 2) 1 1))) (eqb-true (a % 4) (b % 4) e)
+same_limit : (s : Setting) (a b : ℕ) → has_same_objects a b ≡ true → limit_of s a ≡ limit_of s b
+same_limit s a b e = ap (count_among s.columns (length s.exported) 1) (same_objects a b e)
 
 same_wants : (x : FileSuffix) (kind : ℕ) → differs (Some x) kind ≡ false → wants_whole x.kind ≡ wants_whole kind
 same_wants x kind e = ap (λ k. k == 0) (eqb-true ((x.kind / 4) % 2) ((kind / 4) % 2) (not-false _ e))
 
 one_fine : (s : Setting) (x : FileSuffix) (line : SuffixLine) → IsFine s x → IsFineLine s line → is_suffix_of line.kind line.name x ≡ true → differs (Some x) line.kind ≡ false → has_place x.values line.place ≡ false → IsFine s (with_line x line)
 one_fine s x line h l same alike fresh =
-    let objects = (and_parts (x.kind % 4 == line.kind % 4) (bytes_eq x.name line.name) same).0 in
+    let objects = (and_parts (has_same_objects x.kind line.kind) (bytes_eq x.name line.name) same).0 in
     let limit = same_limit s x.kind line.kind objects in
     let wants = same_wants x line.kind alike in
     record {
@@ -186,14 +189,11 @@ row_below s text i e = by (bytes_eq text (tied_row s.naming)) e
 only_first : (name text : List ℕ) (i : ℕ) → only name text ≡ Some (Place i) → i < 1
 only_first name text i e = cond_both (bytes_eq text name) (Some (Place 0)) None (λ o. o ≡ Some (Place i) → i < 1) (λ f g. let same : 0 ≡ i = cc in omega (arith, same)) (λ f g. absurd cc) e
 
-object_below : (s : Setting) (kind : ℕ) (text : List ℕ) (i : ℕ) → object_target s kind text ≡ Some (Place i) → i < limit_of s kind
-object_below s kind text i e = by (kind % 4 == 0) (kind % 4 == 1) (kind % 4 == 2) e
-  where
-    by : (p q r : Bool) → cond p (column_target s text) (cond q (row_target s text) (cond r (only (codes "obj") text) (only (codes "problem") text))) ≡ Some (Place i) → i < cond p s.columns (cond q (length s.exported) (cond r 1 1))
-    by true q r e = column_below s text i e
-    by false true r e = row_below s text i e
-    by false false true e = only_first (codes "obj") text i e
-    by false false false e = only_first (codes "problem") text i e
+object_below : (s : Setting) (objects : Objects) (text : List ℕ) (i : ℕ) → object_target s objects text ≡ Some (Place i) → i < count_among s.columns (length s.exported) 1 objects
+object_below s Variables text i e = column_below s text i e
+object_below s Constraints text i e = row_below s text i e
+object_below s Objectives text i e = only_first (codes "obj") text i e
+object_below s Problem text i e = only_first (codes "problem") text i e
 
 -- ---- tests that do not hold
 
@@ -208,7 +208,7 @@ record IsTaken (s : Setting) (suffixes : List FileSuffix) (line : SuffixLine) : 
   fresh : is_given_in (suffix_named suffixes line.kind line.name) (Some (Place line.place)) ≡ false
   room : is_full suffixes (suffix_named suffixes line.kind line.name) ≡ false
 
-object_taken : (s : Setting) (suffixes : List FileSuffix) (kind : ℕ) (name text : List ℕ) (i : ℕ) (v : Dec) → kind < 8 → is_name name ≡ true → object_target s kind text ≡ Some (Place i)
+object_taken : (s : Setting) (suffixes : List FileSuffix) (kind : ℕ) (name text : List ℕ) (i : ℕ) (v : Dec) → kind < 8 → is_name name ≡ true → object_target s (objects_of kind) text ≡ Some (Place i)
     → first_reason (object_tests suffixes kind (suffix_named suffixes kind name) (Some (Place i)) (Some v)) ≡ None → IsTaken s suffixes (record { kind = kind; name = name; place = i; value = v })
 object_taken s suffixes kind name text i v small named at e =
     let found = suffix_named suffixes kind name in
@@ -221,7 +221,7 @@ object_taken s suffixes kind name text i v small named at e =
     let four = not_first (is_given_in found (Some (Place i))) Repeated last three.1 in
     let five = not_first (is_full suffixes found) TooLarge [] four.1 in
     record {
-      fine = record { kind = small; name = named; place = lt-ltb i (limit_of s kind) (object_below s kind text i at); fits = whole (wants_whole kind) (is_whole v) three.0 };
+      fine = record { kind = small; name = named; place = lt-ltb i (limit_of s kind) (object_below s (objects_of kind) text i at); fits = whole (wants_whole kind) (is_whole v) three.0 };
       alike = one.0;
       fresh = four.0;
       room = five.0;
@@ -303,7 +303,7 @@ placed_kept s st entry (Some (Place i)) (Some v) h step = step i v refl refl
 kind_kept : (s : Setting) (st : Standing) (words : List (List ℕ)) (kind : Option ℕ) → kind_in words ≡ kind → is_name (word_at words 2) ≡ true → first_reason (kind_tests s st.suffixes words kind) ≡ None → Kept s st → Kept s (with_said st (suffix_in s words kind))
 kind_kept s st words None same named e h = h
 kind_kept s st words (Some kind) same named e h =
-    placed_kept s st (suffix_entry kind (word_at words 2)) (object_target s kind (word_at words 3)) (dec_of (word_at words 4)) h (λ i v at is.
+    placed_kept s st (suffix_entry kind (word_at words 2)) (object_target s (objects_of kind) (word_at words 3)) (dec_of (word_at words 4)) h (λ i v at is.
     let taken = object_taken s st.suffixes kind (word_at words 2) (word_at words 3) i v (number_small 8 (word_at words 1) kind same) named at (rw (at, is) at e) in
     record { status = h.status; objective = h.objective; message = h.message; suffixes = taken_kept s st.suffixes (record { kind = kind; name = word_at words 2; place = i; value = v }) h.suffixes taken })
 

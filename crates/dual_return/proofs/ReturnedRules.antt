@@ -1,9 +1,9 @@
 -- What an answer is returned as keeps the rules of .sol values and the limits of their parts.
-use Rattle.std.proofs.Common.{◌≡◌, ◌∙◌, ℕ, ◌%◌, ◌<◌, ◌≤◌, ◌^◌, ◌==◌, Bool, true, false, not, ◌&&◌, ◌||◌, nat_le, nat_lt, cond, ℤ, pos, List, [], ◌∷◌, length, map, Option, Some, None, is_some, refl, sym, ap, arith}
+use Rattle.std.proofs.Common.{◌≡◌, ◌∙◌, ℕ, ◌<◌, ◌≤◌, ◌^◌, ◌==◌, Bool, true, false, not, ◌&&◌, ◌||◌, nat_le, nat_lt, cond, ℤ, pos, List, [], ◌∷◌, length, map, Option, Some, None, is_some, refl, sym, ap, arith}
 use Rattle.std.specs.Prelude.{IfSome, IsTrue, option_map, sum_by}
 use Rattle.std.specs.List.{AllByRecursion, list_all, list_any}
 use Rattle.std.proofs.lemmas.Bool.Decides.{nat_tests}
-use Rattle.std.proofs.lemmas.Bool.{cond_both, eq-eqb, eqb-true, leb-true, ltb-true, not-true, and_parts, lt-ltb}
+use Rattle.std.proofs.lemmas.Bool.{cond_both, eq-eqb, leb-true, ltb-true, not-true, and_parts, lt-ltb}
 use Rattle.std.proofs.lemmas.List.{length-map}
 use Rattle.std.proofs.lemmas.List.Sums.{sum_by-cons}
 use Rattle.texts.specs.Names.{has_name_bytes}
@@ -12,15 +12,18 @@ use Rattle.exact_numbers.specs.declared.dec.Dec.{Dec}
 use Rattle.exact_numbers.specs.Numbers.{has_31_bits, is_whole}
 use Rattle.nl_model.specs.File.{File}
 use Rattle.nl_model.specs.declared.suffix.Suffix.{Suffix as FileSuffix}
+use Rattle.nl_model.specs.declared.suffix_kinds.Objects.{Objects}
+use Rattle.nl_model.specs.declared.suffix_kinds.Objects.TheVariants.{Objectives}
 use Rattle.nl_model.specs.HeaderRules.{are_counts, are_options, has_second_three, is_header}
 use Rattle.nl_model.specs.Rules.{IsFile}
 use Rattle.nl_model.specs.declared.header_counts.Counts.{Counts}
 use Rattle.nl_model.proofs.Headers.{counts_of_header}
-use Rattle.nl_model.specs.SuffixKinds.{object_limit, wants_whole}
+use Rattle.nl_model.specs.SuffixKinds.{is_for_objectives, object_limit, objects_of, wants_whole, count_among}
 use Rattle.answer_file.specs.declared.naming.Naming.{Naming}
-use Rattle.answer_file.specs.Names.{Setting, has_side, setting_by}
+use Rattle.answer_file.specs.Names.{Setting, setting_by}
 use Rattle.answer_file.specs.Grammar.{AnswerValue, answer_of, standing}
 use Rattle.answer_file.specs.Suffixes.{value_count, with_objective}
+use Rattle.nl_model.proofs.ObjectLemmas.{for_objectives, for_others}
 use Rattle.file_meaning.specs.FoldFaults.{has_objective}
 use Rattle.sol_files.specs.Sol.{Sol}
 use Rattle.sol_files.specs.declared.suffix.SolSuffix.{SolSuffix}
@@ -49,15 +52,16 @@ one_value w k (t ∷ u ∷ ts) small all =
     clash : (a b : ℕ) → a < 1 → b < 1 → not (a == b || false) ≡ true → ⊥
     clash a b h k e = absurd (let same = eq-eqb a b (omega (arith, h, k)) in let no_more = rw same at e in cc)
 
--- a suffix of another kind has the places of a .sol text
-other_limit : (n m kind : ℕ) → (kind % 4 == 2) ≡ false → object_limit n m 256 kind ≡ object_limit n m 1 kind
-other_limit n m kind e = rw e refl
+-- a suffix for other objects has the places of a .sol text
+other_count : (n m : ℕ) (o : Objects) → (o ≡ Objectives → ⊥) → count_among n m 256 o ≡ count_among n m 1 o
+other_count n m Objectives other = absurd (other refl)
+other_count n m o other = refl
 
-objective_limit : (n m kind : ℕ) → (kind % 4 == 2) ≡ true → (object_limit n m 256 kind ≡ 256) × (object_limit n m 1 kind ≡ 1)
-objective_limit n m kind e = rw (eqb-true (kind % 4) 2 e) (refl, refl)
+objective_limit : (n m kind : ℕ) → is_for_objectives kind ≡ true → (object_limit n m 256 kind ≡ 256) × (object_limit n m 1 kind ≡ 1)
+objective_limit n m kind e = rw (for_objectives kind e) (refl, refl)
 
 suffix_writable : (s : Setting) (k : ℕ) (x : FileSuffix) → k < 256 → IsFine s x → IsWritableSuffix s.columns (length s.exported) (suffix_for (with_objective k x))
-suffix_writable s k x small h = by (x.kind % 4 == 2) refl
+suffix_writable s k x small h = by (is_for_objectives x.kind) refl
   where
     name_short : length x.name ≤ 255
     name_short =
@@ -75,18 +79,18 @@ suffix_writable s k x small h = by (x.kind % 4 == 2) refl
       values = all;
     }
 
-    by : (b : Bool) → (x.kind % 4 == 2) ≡ b → IsWritableSuffix s.columns (length s.exported) (suffix_for (cond b (record { kind = x.kind; name = x.name; values = map (λ t. (k, t.1)) x.values }) x))
+    by : (b : Bool) → is_for_objectives x.kind ≡ b → IsWritableSuffix s.columns (length s.exported) (suffix_for (cond b (record { kind = x.kind; name = x.name; values = map (λ t. (k, t.1)) x.values }) x))
     by true e =
         let limits = objective_limit s.columns (length s.exported) x.kind e in
         made (map (λ t. (k, t.1)) x.values) (rw limits.0 (one_value (wants_whole x.kind) k x.values small (rw limits.1 at h.values)))
-    by false e = made x.values (rw (other_limit s.columns (length s.exported) x.kind e) h.values)
+    by false e = made x.values (rw (other_count s.columns (length s.exported) (objects_of x.kind) (for_others x.kind e)) h.values)
 
 pub suffixes_writable : (s : Setting) (k : ℕ) (xs : List FileSuffix) → k < 256 → AllByRecursion (IsFine s) xs → AllByRecursion (IsWritableSuffix s.columns (length s.exported)) (map suffix_for (map (with_objective k) xs))
 suffixes_writable s k [] small all = tt
 suffixes_writable s k (x ∷ xs) small all = (suffix_writable s k x small all.0, suffixes_writable s k xs small all.1)
 
 same_count : (k : ℕ) (x : FileSuffix) → length (suffix_for (with_objective k x)).values ≡ length x.values
-same_count k x = cond_both (x.kind % 4 == 2) _ x (λ (y : FileSuffix). length (suffix_for y).values ≡ length x.values) (λ e. length-map x.values (λ t. (k, t.1))) (λ e. refl)
+same_count k x = cond_both (is_for_objectives x.kind) _ x (λ (y : FileSuffix). length (suffix_for y).values ≡ length x.values) (λ e. length-map x.values (λ t. (k, t.1))) (λ e. refl)
 
 no_table : (k : ℕ) (x : FileSuffix) → length (suffix_for (with_objective k x)).table ≡ 0
 no_table k x = refl
@@ -125,7 +129,7 @@ options_of_header os c h =
 
 -- a row for each constraint
 exported_count : (naming : Naming) (f : File) → IsFile f → length (setting_by naming f).exported ≡ f.counts.n_con
-exported_count naming f file = length-map f.sides has_side ∙ file.side_count
+exported_count naming f file = length-map f.sides _ ∙ file.side_count
 
 pub returned_rules : (f : File) (a : AnswerValue) (sol : Sol) → IsFile f → list_all has_31_bits f.options ≡ true → has_objective f a.objective ≡ true → IsAnswerFor f a → IsReturn f a sol → KeepsRules sol
 returned_rules f a sol file bits objective for r =

@@ -20,3 +20,4 @@ pub mod Plain
 pub mod Few
 pub mod Zeros
 pub mod PaddedLemmas
+pub mod Fitting

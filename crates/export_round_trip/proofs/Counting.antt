@@ -6,10 +6,10 @@ use Rattle.fractions.specs.Rational.{ℚ, zero_ℚ, whole, ◌*ℚ◌}
 use Rattle.fractions.specs.Functions.{is_zero}
 use Rattle.fractions.proofs.Arithmetic.{*ℚ_zero}
 use Rattle.fractions.proofs.Tests.{is_zero-true, option_or-none}
-use Rattle.linear_programs.specs.Linear.{Form, Row, Variable}
+use Rattle.linear_programs.specs.Linear.{Form, Row, Variable, has_side}
 use Rattle.mps_model.specs.Mps.{Entry, Column}
 use Rattle.mps_model.specs.Valid.{entry_count}
-use Rattle.exported_program.specs.Program.{ScaledRow, nonzero, with_entry, entries_of, or_obj_zero, column_entries, columns_of, exported_rows, scaled_row, has_side}
+use Rattle.exported_program.specs.Program.{ScaledRow, nonzero, with_entry, entries_of, or_obj_zero, column_entries, columns_of, exported_rows, scaled_row}
 use Rattle.linear_programs.specs.Lines.{Line}
 use Rattle.nl_meaning.specs.Trees.{nothing_known}
 use Rattle.nl_model.specs.File.{File}
@@ -139,7 +139,7 @@ form_less c f n h = from 0 n (λ j lt. h j (omega (arith, lt)))
 exported_sums : (size : ScaledRow → ℕ) (own : Row → ℕ) → ((k : ℕ) (r : Row) → size (scaled_row k r) ≤ own r) → (factor : ℕ → ℕ) (i : ℕ) (rows : List Row) → sums size (exported_rows factor i rows) ≤ sums own rows
 unfolding exported_rows
 exported_sums size own less factor i [] = omega arith
-exported_sums size own less factor i (r ∷ rows) = by (has_side r.side.lower r.side.upper) (exported_sums size own less factor (suc i) rows)
+exported_sums size own less factor i (r ∷ rows) = by (has_side r.side) (exported_sums size own less factor (suc i) rows)
   where
     rest : List ScaledRow
     rest = exported_rows factor (suc i) rows

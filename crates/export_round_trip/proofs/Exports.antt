@@ -1,6 +1,6 @@
 -- The program that a file is exported as is a whole decimal program.
 use Rattle.std.proofs.Common.{◌≡◌, ◌≢◌, ◌∙◌, ⊎_elim, ℕ, zero, suc, ◌<◌, ◌≤◌, ◌^◌, Bool, true, false, cond, nat_eq, List, [], ◌∷◌, ◌++◌, get_or, Option, Some, None, ℤ, pos, negsuc, IsTrue, refl, sym, ap, subst, arith}
-use Rattle.std.specs.Prelude.{All, IfSome, option_map}
+use Rattle.std.specs.Prelude.{All, IfSome, option_map, is_some, ◌||◌}
 use Rattle.std.proofs.Math.ListN.{get_or-append}
 use Rattle.std.proofs.lemmas.Bool.{cases_lt, eq-eqb}
 use Rattle.std.proofs.lemmas.List.{length-append}
@@ -14,7 +14,7 @@ use Rattle.linear_programs.specs.Linear.{Form, Interval, Row, Variable, no_row}
 use Rattle.mps_model.specs.declared.kinds.RowKind.TheVariants.{N}
 use Rattle.exported_program.specs.Export.{IfBoth, IfSide, RangeFits, RowFits, ScaledFits, SideFits}
 use Rattle.exported_program.specs.Factor.{coefficients_below, objective_numbers}
-use Rattle.exported_program.specs.Program.{exported_rows, has_side, kind_of_row, nonzero, range_of, rhs_of, scaled_row, scaled_side, tie, two_sided, z_form, z_variable}
+use Rattle.exported_program.specs.Program.{exported_rows, kind_of_row, nonzero, range_of, rhs_of, scaled_row, scaled_side, tie, two_sided, z_form, z_variable}
 use Rattle.exported_program.specs.Return.{is_exported}
 use Rattle.linear_program.specs.declared.interval.Interval.{Interval as Sides}
 use Rattle.nl_model.specs.File.{File}
@@ -22,7 +22,7 @@ use Rattle.linear_programs.specs.Elements.{elements_from}
 use Rattle.file_meaning.specs.LinearFile.{linear_variable}
 use Rattle.linear_program.specs.Intervals.{interval_of, no_sides}
 use Rattle.linear_programs.proofs.Elements.{all_elements}
-use Rattle.export_round_trip.proofs.Fitting.{dec_fits, neg_fits, one_fits, whole_fits, zero_fits}
+use Rattle.exact_numbers.proofs.Fitting.{dec_fits, neg_fits, one_fits, whole_fits, zero_fits}
 use Rattle.export_round_trip.proofs.ProgramParts.{HasDecimalBounds, exported_all}
 use Rattle.export_round_trip.proofs.Whole.{IfFits, IsWritten}
 
@@ -85,7 +85,7 @@ two_not_none : (o : Option ℚ) → two_sided o ≢ N
 two_not_none None same = absurd cc
 two_not_none (Some r) same = absurd cc
 
-sides_kept : (k constant : ℚ) (l u : Option ℚ) → IsTrue (has_side l u) → kind_of_row (scaled_side k constant l) (scaled_side k constant u) ≢ N
+sides_kept : (k constant : ℚ) (l u : Option ℚ) → IsTrue (is_some l || is_some u) → kind_of_row (scaled_side k constant l) (scaled_side k constant u) ≢ N
 sides_kept k constant None None h e = absurd cc
 sides_kept k constant None (Some u) h e = absurd cc
 sides_kept k constant (Some l) None h e = absurd cc

@@ -1,5 +1,4 @@
 mod Names
-pub mod Fitting
 mod ProgramNames
 mod ProgramParts
 mod Counting

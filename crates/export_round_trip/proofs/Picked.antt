@@ -11,7 +11,7 @@ use Rattle.exact_numbers.specs.declared.dec.Dec.{Dec}
 use Rattle.exact_numbers.specs.Values.{FitsDec, dec_value}
 use Rattle.mps_model.specs.Mps.{Entry, Column, Bound, Mps, entry_with, column_with, bound_with, with_values}
 use Rattle.mps_model.specs.Valid.{AreColumns, AreEntries, AreBounds, IsPartOfMps, IsMps, IsBounded, HasEntries, IsOtherBound, IsWithoutNumber, entry_count}
-use Rattle.export_round_trip.proofs.Fitting.{picked, picked_value}
+use Rattle.exact_numbers.proofs.Fitting.{picked, picked_value}
 
 abbrev pub AreDecimal : List (Entry ℚ) → Type 0
 AreDecimal es = All (λ e. FitsDec e.value) es

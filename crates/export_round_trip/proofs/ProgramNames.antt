@@ -6,10 +6,10 @@ use Rattle.std.proofs.lemmas.List.Elements.{All-nil, All-cons, All-weaker, All-p
 use Rattle.std.proofs.lemmas.List.Kept.{AllPairs-cons}
 use Rattle.std.proofs.lemmas.List.Quantifiers.{all_pairs_push}
 use Rattle.texts.specs.Names.{IsName}
-use Rattle.linear_programs.specs.Linear.{Variable}
+use Rattle.linear_programs.specs.Linear.{Variable, has_side}
 use Rattle.linear_programs.specs.Names.{row_name, variable_name}
 use Rattle.mps_model.specs.Valid.{marker_word}
-use Rattle.exported_program.specs.Program.{ScaledRow, exported_rows, scaled_row, has_side, obj_name, z_name, zdef_name, z_variable}
+use Rattle.exported_program.specs.Program.{ScaledRow, exported_rows, scaled_row, obj_name, z_name, zdef_name, z_variable}
 use Rattle.exported_program.proofs.Names.{constraint_is_name, variable_is_name, z_is_name, zdef_is_name, constraints_apart, variables_apart, constraint_not_obj, constraint_not_zdef, constraint_not_marker, obj_not_zdef, zdef_not_marker, variable_not_z}
 use Rattle.linear_programs.specs.Elements.{elements_from}
 use Rattle.linear_programs.proofs.Elements.{all_elements, elements_at, elements_length}
@@ -42,7 +42,7 @@ rows_more i r rs lt e h = record {
 exported_from : (factor : ℕ → ℕ) (f : File) (i n : ℕ) → i + n ≤ 2 ^ 32 → RowsFrom i (exported_rows factor i (elements_from (linear_row f) i n))
 unfolding exported_rows elements_from
 exported_from factor f i zero le = record { named = All-nil (IsRowFrom i); apart = λ a b d lt within. absurd (omega arith) }
-exported_from factor f i (suc n) le = by (has_side (linear_row f i).side.lower (linear_row f i).side.upper) (exported_from factor f (suc i) n (omega arith))
+exported_from factor f i (suc n) le = by (has_side (linear_row f i).side) (exported_from factor f (suc i) n (omega arith))
   where
     rest : List ScaledRow
     rest = exported_rows factor (suc i) (elements_from (linear_row f) (suc i) n)

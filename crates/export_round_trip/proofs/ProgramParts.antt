@@ -12,7 +12,7 @@ use Rattle.mps_model.specs.Mps.{Entry, Column, Bound}
 use Rattle.mps_model.specs.Valid.{AreEntries, IsOtherBound, IsWithoutNumber, SetOtherSides}
 use Rattle.exported_program.specs.Program.{ScaledRow, nonzero, with_entry, entries_of, or_obj_zero, column_entries, columns_of, exported_rows, scaled_row, bound_record, fixed_or_both, column_bounds, bounds_of}
 use Rattle.exported_program.specs.Return.{is_exported}
-use Rattle.export_round_trip.proofs.Fitting.{zero_fits}
+use Rattle.exact_numbers.proofs.Fitting.{zero_fits}
 
 -- ---- entries
 

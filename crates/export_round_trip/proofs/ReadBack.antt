@@ -27,7 +27,7 @@ use Rattle.file_meaning.proofs.Formed.{file_formed}
 use Rattle.export_round_trip.specs.ReadAs.{IsReadAs}
 use Rattle.export_round_trip.proofs.Counting.{counted, exported_count, exported_rows_count, few_coefficients, form_count, form_less, in_columns, most_entries, range_last, range_ones, range_sum, sums, sums-append, there_or_not}
 use Rattle.export_round_trip.proofs.Exports.{constant_fits, costs_fit, rows_written, tie_written, variables_decimal, z_constant, z_costs, z_decimal}
-use Rattle.export_round_trip.proofs.Fitting.{picked}
+use Rattle.exact_numbers.proofs.Fitting.{picked}
 use Rattle.export_round_trip.proofs.Picked.{IsDecimalProgram, values_back, whole_picked}
 use Rattle.export_round_trip.proofs.ProgramNames.{exported_named, tied_named, tied_variables_named, variables_named}
 use Rattle.export_round_trip.proofs.ProgramParts.{HasDecimalBounds}

@@ -1,12 +1,13 @@
 -- A row times a whole number above 0 holds at the same points.
 use Rattle.std.proofs.Common.{◌≡◌, ◌≢◌, ℕ, suc, ◌<◌, ◌∙◌, sym, ap, subst, refl, arith, true, false, cond, List, [], ◌∷◌, Option, Some, None, pos, ⊎_elim, ◌↔◌, All}
+use Rattle.std.specs.Prelude.{is_some, ◌||◌}
 use Rattle.std.proofs.lemmas.Int.{ints}
 use Rattle.std.proofs.lemmas.List.Elements.{All-nil, All-cons, All-head, All-tail}
 use Rattle.fractions.specs.Rational.{ℚ, zero_ℚ, whole, ◌+ℚ◌, ◌-ℚ◌, ◌*ℚ◌, neg_ℚ, ◌≤ℚ◌}
 use Rattle.fractions.proofs.Arithmetic.{+ℚ_comm, +ℚ_assoc, +ℚ_zero, +ℚ-neg, -ℚ_lem, +ℚ-≤ℚ, *ℚ_assoc, *ℚ_comm, *ℚ-≤ℚ, le_or_lt, ≤ℚ_antisymm, ≤ℚ_of_<ℚ, ≤ℚ_of_same, *ℚ_cancel, whole-≤ℚ, same_whole}
 use Rattle.fractions.proofs.Adding.{sum_below_same, sum_below-*ℚ}
-use Rattle.linear_programs.specs.Linear.{IsInside, AtLeast, AtMost, AreOrdered, Row, RowHolds, form_value, linear_part, value_at}
-use Rattle.exported_program.specs.Program.{ScaledRow, scaled_side, scaled_row, has_side, exported_rows}
+use Rattle.linear_programs.specs.Linear.{IsInside, AtLeast, AtMost, AreOrdered, Row, RowHolds, form_value, linear_part, value_at, has_side}
+use Rattle.exported_program.specs.Program.{ScaledRow, scaled_side, scaled_row, exported_rows}
 use Rattle.exported_program.proofs.Sides.{there_and_back}
 
 -- a row of the program at a point
@@ -80,7 +81,7 @@ row_same k n xs r h =
     )
 
 -- a row without sides holds everywhere
-no_sides : (l u : Option ℚ) (v : ℚ) → has_side l u ≡ false → AtLeast l v × AtMost u v
+no_sides : (l u : Option ℚ) (v : ℚ) → (is_some l || is_some u) ≡ false → AtLeast l v × AtMost u v
 no_sides None None v e = (tt, tt)
 no_sides None (Some u) v e = cc
 no_sides (Some l) u v e = cc
@@ -92,7 +93,7 @@ unfolding exported_rows
 exported_same factor n xs i [] h = (λ s. All-nil (RowHolds n xs), λ s. All-nil (ScaledHolds n xs))
 exported_same factor n xs i (r ∷ rs) h =
     let ih = exported_same factor n xs (suc i) rs h in
-    elim (has_side r.side.lower r.side.upper) as (λ b. has_side r.side.lower r.side.upper ≡ b →
+    elim (has_side r.side) as (λ b. has_side r.side ≡ b →
     All (ScaledHolds n xs) (cond b (scaled_row (factor i) r ∷ exported_rows factor (suc i) rs) (exported_rows factor (suc i) rs)) ↔ All (RowHolds n xs) (r ∷ rs)) [
       | true ↦ λ e. (
         λ s. All-cons (RowHolds n xs) r rs ((row_same (factor i) n xs r (h i)).0 (All-head (ScaledHolds n xs) (scaled_row (factor i) r) (exported_rows factor (suc i) rs) s)) (ih.0 (All-tail (ScaledHolds n xs) (scaled_row (factor i) r) (exported_rows factor (suc i) rs) s)),
@@ -127,7 +128,7 @@ unfolding exported_rows
 exported_ordered factor i [] h o = All-nil ScaledIsOrdered
 exported_ordered factor i (r ∷ rs) h o =
     let ih = exported_ordered factor (suc i) rs h (All-tail RowIsOrdered r rs o) in
-    elim (has_side r.side.lower r.side.upper) as (λ b. All ScaledIsOrdered (cond b (scaled_row (factor i) r ∷ exported_rows factor (suc i) rs) (exported_rows factor (suc i) rs))) [
+    elim (has_side r.side) as (λ b. All ScaledIsOrdered (cond b (scaled_row (factor i) r ∷ exported_rows factor (suc i) rs) (exported_rows factor (suc i) rs))) [
       | true ↦ All-cons ScaledIsOrdered (scaled_row (factor i) r) (exported_rows factor (suc i) rs) (scaled_row_ordered (factor i) r (h i) (All-head RowIsOrdered r rs o)) ih
       | false ↦ ih
     ]

@@ -1,7 +1,7 @@
 -- The MPS program of a linear program.
-use Rattle.std.specs.Prelude.{ℕ, suc, pos, nat_eq, Bool, true, false, cond, List, [], ◌∷◌, ◌++◌, map, Option, Some, None}
+use Rattle.std.specs.Prelude.{ℕ, suc, pos, nat_eq, Bool, false, cond, List, [], ◌∷◌, ◌++◌, map, Option, Some, None}
 use Rattle.fractions.specs.Rational.{ℚ, whole, unless_zero, zero_ℚ, one_ℚ, ◌-ℚ◌, ◌*ℚ◌, neg_ℚ}
-use Rattle.linear_programs.specs.Linear.{Interval, Form, Row, Variable, Linear, unbounded, variable_count}
+use Rattle.linear_programs.specs.Linear.{Interval, Form, Row, Variable, Linear, unbounded, variable_count, has_side}
 use Rattle.mps_model.specs.declared.kinds.RowKind.{RowKind}
 use Rattle.mps_model.specs.declared.kinds.BoundKind.{BoundKind}
 use Rattle.mps_model.specs.Mps.{MpsRow, Entry, Column, Bound, Mps}
@@ -31,16 +31,11 @@ scaled_row k r =
       };
     }
 
--- one of the sides is there
-abbrev pub has_side : Option ℚ → Option ℚ → Bool
-has_side None None = false
-has_side _ _ = true
-
 -- the rows with a finite side, in order, each times its factor; the first is row i of the file
 unfoldable pub exported_rows : (ℕ → ℕ) → ℕ → List Row → List ScaledRow
 exported_rows factor i [] = []
 exported_rows factor i (r ∷ rs) =
-    cond (has_side r.side.lower r.side.upper)
+    cond (has_side r.side)
     (scaled_row (factor i) r ∷ exported_rows factor (suc i) rs)
     (exported_rows factor (suc i) rs)
 

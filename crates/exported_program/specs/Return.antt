@@ -1,13 +1,12 @@
 -- Where an exported row stands in the program, and its dual.
 use Rattle.std.specs.Prelude.{ℕ, zero, suc, pos, Bool, cond, List, [], ◌∷◌}
 use Rattle.fractions.specs.Rational.{ℚ, whole, ◌*ℚ◌}
-use Rattle.linear_programs.specs.Linear.{Row, Linear}
+use Rattle.linear_programs.specs.Linear.{Row, Linear, has_side}
 pub use Rattle.linear_programs.specs.Linear.{row_at}
-use Rattle.exported_program.specs.Program.{has_side}
 
 -- the row has a finite side
 abbrev pub is_exported : Row → Bool
-is_exported r = has_side r.side.lower r.side.upper
+is_exported r = has_side r.side
 
 -- how many of the rows before row i are exported
 unfoldable pub place_of : List Row → ℕ → ℕ

@@ -13,7 +13,7 @@ unfoldable pub power_of : ℚ → ℕ → ℚ
 power_of x zero = one_ℚ
 power_of x (suc n) = x *ℚ power_of x n
 
--- the number as an exponent: whole, and from 0 to 127 (own profile)
+-- the number as an exponent: whole, and from 0 to 127, a bound of this project's own
 abbrev pub small_exponent : ℤ → Option ℕ
 small_exponent (pos n) = (if nat_lt n 128 then Some n else None)
 small_exponent (negsuc n) = None

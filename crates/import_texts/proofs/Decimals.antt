@@ -23,7 +23,8 @@ use Rattle.mps_import.specs.Decimals.{number_tree}
 use Rattle.mps_import.specs.Import.{entries_at, import_of, is_zero_dec, objective_constant, objective_terms, row_terms, term_of, terms_from}
 use Rattle.mps_import.specs.Variables.{order_of_columns, values_of}
 use Rattle.mps_import.proofs.PartLemmas.{all_columns}
-use Rattle.mps_import.proofs.SideLemmas.{dec_fits, neg_fits, rhs_fits, spelled_value, zero_fits}
+use Rattle.mps_import.proofs.SideLemmas.{rhs_fits, spelled_value}
+use Rattle.exact_numbers.proofs.Fitting.{dec_fits, neg_fits, zero_fits}
 use Rattle.import_texts.proofs.Files.{all_terms_from, column_terms}
 
 differ : (a b : ℕ) → a ≢ b → nat_eq a b ≡ false

@@ -19,17 +19,17 @@ use Rattle.nl_model.specs.Nodes.{a_number}
 use Rattle.nl_segments.specs.Grammar.{NlValue}
 use Rattle.nl_segments.specs.Reader.{IsNl}
 use Rattle.nl_writer.specs.Written.{nl_text}
-use Rattle.nl_round_trip.specs.Writable.{AreTreesWritable, HasNodes, IsText, IsWritable, IsWritableSuffix, linear_count, node_count}
+use Rattle.nl_round_trip.specs.Writable.{AreTreesWritable, HasNodes, IsText, IsWithinLimits, IsWritable, IsWritableSuffix, linear_count, node_count}
 use Rattle.nl_round_trip.proofs.WholeLaw.{written_is_read}
-use Rattle.nl_rewritten.proofs.Room.{IsModest, lines_short}
-use Rattle.nl_rewritten.proofs.TextRoom.{HasFew, text_fits}
+use Rattle.nl_round_trip.proofs.Room.{writable_by}
 use Rattle.mps_model.specs.Mps.{Mps, objective_row, rhs_at, with_values}
 use Rattle.mps_import.specs.Decimals.{number_tree}
 use Rattle.mps_import.specs.Faults.{import_fault}
 use Rattle.mps_import.specs.Import.{constraints, import_objective, import_of, objective_constant, objective_terms}
 use Rattle.mps_import.specs.Variables.{values_of}
 use Rattle.mps_import.proofs.PartLemmas.{clean_large, number_is}
-use Rattle.mps_import.proofs.SideLemmas.{neg_fits, rhs_fits}
+use Rattle.mps_import.proofs.SideLemmas.{rhs_fits}
+use Rattle.exact_numbers.proofs.Fitting.{neg_fits}
 use Rattle.mps_import.proofs.TermLemmas.{few_terms}
 use Rattle.import_texts.proofs.Binary.{binary_within}
 use Rattle.import_texts.proofs.Files.{is_file, one}
@@ -71,43 +71,24 @@ terms_few m clean = omega (arith, few_terms m (clean_large m clean), sum_by-cons
 
 -- ---- the laws
 
-modest : (m : Mps Dec) → IsModest (import_of m)
+limits : (m : Mps Dec) → import_fault m ≡ None → IsWithinLimits (import_of m)
 unfolding import_of
-modest m = record {
+limits m clean = record {
   options = refl;
   trees = trees_written m;
   usages = All-nil (λ (d : Definition). d.usage < 2 ^ 31);
   dual_guesses = omega arith;
   primal_guesses = omega arith;
   suffixes = All-nil IsWritableSuffix;
+  few_suffixes = omega arith;
+  few_values = omega arith;
+  few_terms = terms_few m clean;
   few_nodes = nodes_few m;
+  binary = binary_within m;
 }
 
-few : (m : Mps Dec) → import_fault m ≡ None → HasFew (import_of m)
-unfolding import_of
-few m clean = record { suffixes = omega arith; values = omega arith; terms = terms_few m clean; nodes = nodes_few m }
-
 pub writable : (m : Mps Dec) → import_fault m ≡ None → IsWritable (import_of m)
-writable m clean =
-    let f = import_of m in
-    let file = is_file m clean in
-    let known = modest m in
-    let limits = few m clean in
-    record {
-      file = file;
-      options = known.options;
-      trees = known.trees;
-      usages = known.usages;
-      dual_guesses = known.dual_guesses;
-      primal_guesses = known.primal_guesses;
-      suffixes = known.suffixes;
-      few_suffixes = limits.suffixes;
-      few_values = limits.values;
-      few_terms = limits.terms;
-      few_nodes = limits.nodes;
-      binary = binary_within m;
-      room = record { lines = lines_short f file known; text = text_fits f file known limits };
-    }
+writable m clean = writable_by (import_of m) (is_file m clean) (limits m clean)
 
 pub said : (m : Mps Dec) → import_fault m ≡ None → IsText (import_of m) (nl_text (import_of m))
 said m clean = written_is_read (import_of m) (writable m clean)

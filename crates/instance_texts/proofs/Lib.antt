@@ -1,5 +1,3 @@
 pub mod Numbers
 pub mod Files
-pub mod Lines
-pub mod Lengths
 pub mod Writing

@@ -15,12 +15,12 @@ use Rattle.nl_model.specs.declared.objective.Objective.{Objective}
 use Rattle.nl_model.specs.Kinds.{Group, groups, kind_among, variable_kind}
 use Rattle.nl_model.specs.Nodes.{a_number, a_defined}
 use Rattle.nl_writer.specs.Written.{nl_text}
-use Rattle.nl_round_trip.specs.Writable.{AreTreesWritable, HasNodes, IsText, IsWritable, IsWritableSuffix, linear_count, node_count}
+use Rattle.nl_round_trip.specs.Writable.{AreTreesWritable, HasNodes, IsText, IsWithinLimits, IsWritable, IsWritableSuffix, linear_count, node_count}
+use Rattle.nl_round_trip.proofs.Room.{writable_by}
 use Rattle.nl_round_trip.proofs.WholeLaw.{written_is_read}
 use Rattle.nl_lines.specs.Tests.{is_binary}
 use Rattle.instances.specs.Instance.{each, zero_dec, counts_of, definition_of, body_of, slope_of, goal_of, instance}
 use Rattle.instance_texts.proofs.Files.{all_each, is_file, term_total}
-use Rattle.instance_texts.proofs.Lengths.{instance_short}
 
 -- ---- trees
 
@@ -88,25 +88,24 @@ never_binary n j = none_among (groups (counts_of n)) j (inl refl, (inl refl, (in
 
 -- ---- the laws
 
-pub writable : (seed n : ℕ) → n ≤ 20000 → IsWritable (instance seed n)
+limits : (seed n : ℕ) → n ≤ 20000 → IsWithinLimits (instance seed n)
 unfolding instance
-writable seed n le =
-    let short = instance_short seed n le in
-    record {
-      file = is_file seed n le;
-      options = refl;
-      trees = trees_written seed n;
-      usages = all_each (λ (d : Definition). d.usage < 2 ^ 31) (definition_of seed n) n (λ k lt. omega arith);
-      dual_guesses = omega arith;
-      primal_guesses = omega arith;
-      suffixes = All-nil IsWritableSuffix;
-      few_suffixes = omega arith;
-      few_values = omega arith;
-      few_terms = terms_few seed n le;
-      few_nodes = nodes_few seed n le;
-      binary = λ j i lt h. absurd (let other = never_binary n j in cc);
-      room = record { lines = short.each; text = short.whole };
-    }
+limits seed n le = record {
+  options = refl;
+  trees = trees_written seed n;
+  usages = all_each (λ (d : Definition). d.usage < 2 ^ 31) (definition_of seed n) n (λ k lt. omega arith);
+  dual_guesses = omega arith;
+  primal_guesses = omega arith;
+  suffixes = All-nil IsWritableSuffix;
+  few_suffixes = omega arith;
+  few_values = omega arith;
+  few_terms = terms_few seed n le;
+  few_nodes = nodes_few seed n le;
+  binary = λ j i lt h. absurd (let other = never_binary n j in cc);
+}
+
+pub writable : (seed n : ℕ) → n ≤ 20000 → IsWritable (instance seed n)
+writable seed n le = writable_by (instance seed n) (is_file seed n le) (limits seed n le)
 
 pub said : (seed n : ℕ) → n ≤ 20000 → IsText (instance seed n) (nl_text (instance seed n))
 said seed n le = written_is_read (instance seed n) (writable seed n le)

@@ -1,5 +1,5 @@
 -- The numbers of an instance, and its header.
-use Rattle.std.proofs.Common.{◌≡◌, ◌∙◌, ℕ, ◌+◌, ◌≤◌, ◌^◌, max, ltb, Bool, true, ◌&&◌, pos, List, [], ◌∷◌, ◌++◌, refl, sym, ap, ap₂, subst, arith}
+use Rattle.std.proofs.Common.{◌≡◌, ◌∙◌, ℕ, ◌+◌, ◌≤◌, ◌^◌, max, ltb, true, pos, List, [], ◌∷◌, ◌++◌, refl, sym, ap, ap₂, subst, arith}
 use Rattle.std.proofs.lemmas.Int.{ints}
 use Rattle.std.proofs.lemmas.Bool.{lt-ltb, le-leb, and_from}
 use Rattle.fractions.specs.Rational.{whole, zero_ℚ, ◌≤ℚ◌}

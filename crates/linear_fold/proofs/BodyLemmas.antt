@@ -1,5 +1,5 @@
 -- Definitions with their forms, owners in order, the forms of bodies, and the program of a file.
-use Rattle.std.proofs.Common.{◌≡◌, ◌≢◌, ℕ, zero, suc, ◌+◌, ◌-◌, ◌*◌, ◌<◌, ◌≤◌, ◌∙◌, sym, ap, refl, subst, arith, ◌^◌, ⊎_elim, Bool, true, false, ◌||◌, ◌==◌, if◌then◌else◌, Option, Some, None, option_map, List, [], ◌∷◌, ◌++◌, map, length, take, set, get_or, slice_get, length-append, get_or-set_same, get_or-set_other, eq-eqb, ap₂, subst₂, option_and_then, drop, sum_by, drop-cons, All, append-nil, append_assoc}
+use Rattle.std.proofs.Common.{◌≡◌, ◌≢◌, ℕ, zero, suc, ◌+◌, ◌-◌, ◌*◌, ◌<◌, ◌≤◌, ◌∙◌, sym, ap, refl, subst, arith, ◌^◌, ⊎_elim, Bool, true, false, ◌||◌, ◌==◌, if◌then◌else◌, Option, Some, None, option_map, List, [], ◌∷◌, ◌++◌, map, length, take, set, get_or, slice_get, length-append, get_or-set_same, get_or-set_other, eq-eqb, ap₂, subst₂, option_and_then, drop, sum_by, drop-cons, All}
 use Rattle.std.specs.Option.{option_map_or}
 use Rattle.std.proofs.Math.Bool.{or-false as or_false}
 use Rattle.std.proofs.Math.ListN.{length-set}
@@ -176,6 +176,9 @@ module _ (f : File) (file : IsFile f) (i : ℕ) (d : Definition) (is : slice_get
       subst (λ ds. AreSlotsOf f ds (set slots (d.index - f.counts.n_var) (Some form))) (sym (take_next f.definitions i d is))
       (one_more_slot f (take i f.definitions) d slots form definition_here s h.within
       (subst (λ x. HasLineOf f.counts.n_var (λ at. expression_value (known_by (take i f.definitions) at) at (record { tree = tree_or_zero (option_map (λ y. y.tree) x); terms = linear_terms (option_map_or (λ y. y.terms) x []) })) form) is h.values))
+
+  pub definition_owner : owner_size f (Def i) ≡ tree_size d.tree + length d.terms
+  definition_owner = ap (λ x. option_map_or tree_size (option_map (λ y. y.tree) x) 0 + length (option_map_or (λ y. y.terms) x [])) is
 
   pub definition_size : definitions_size (take (i + 1) f.definitions) ≡ definitions_size (take i f.definitions) + (tree_size d.tree + length d.terms)
   definition_size =
@@ -403,21 +406,6 @@ module _ (f : File) (file : IsFile f) (k : ℕ) (form : Form) (past : f.counts.n
   zero_clean before few =
       let length_zero : length (form_terms form) ≡ 0 = ap length none in
       linear_folded f (Obj k) before (length (form_terms form)) before folded_here.0 (owner_count f (Obj k) form within_here (subst (AreAscending 0) (sym none) tt) folded_here.1) (omega arith) few
-
--- the elements so far, and those that are left
-pub more_elements : {A : Type 0} → (g : ℕ → A) (n i : ℕ) (done now : List A) → i < n → done ++ elements_from g i (n - i) ≡ elements_from g 0 n → now ≡ done ++ g i ∷ [] → now ++ elements_from g (i + 1) (n - (i + 1)) ≡ elements_from g 0 n
-unfolding elements_from
-more_elements g n i done now h e is =
-    let same : n - i ≡ suc (n - (i + 1)) = omega arith in
-    let next : suc i ≡ i + 1 = omega arith in
-    ap (λ xs. xs ++ elements_from g (i + 1) (n - (i + 1))) is ∙ append_assoc done (g i ∷ []) (elements_from g (i + 1) (n - (i + 1)))
-    ∙ ap (λ j. done ++ g i ∷ elements_from g j (n - (i + 1))) (sym next) ∙ ap (λ m. done ++ elements_from g i m) (sym same) ∙ e
-
-pub last_elements : {A : Type 0} → (g : ℕ → A) (n i : ℕ) (done : List A) → n ≤ i → done ++ elements_from g i (n - i) ≡ elements_from g 0 n → done ≡ elements_from g 0 n
-unfolding elements_from
-last_elements g n i done h e =
-    let none : n - i ≡ 0 = omega arith in
-    sym (append-nil done) ∙ ap (λ m. done ++ elements_from g i m) (sym none) ∙ e
 
 -- ---- rows and variables
 module _ (f : File) where

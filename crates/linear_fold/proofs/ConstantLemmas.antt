@@ -22,7 +22,7 @@ use Rattle.nl_meaning.specs.declared.Reason.TheVariants.{Nonlinear, RefusedPower
 use Rattle.nl_meaning.specs.Trees.{on_values}
 use Rattle.code_tables.specs.declared.class.OpClass.{OpClass}
 use Rattle.code_tables.specs.declared.class.OpClass.TheVariants.{Greatest, Least, Power}
-use Rattle.linear_fold.specs.declared.parts.Part.{Part}
+use Rattle.linear_fold.specs.declared.parts.PartialForm.{PartialForm}
 use Rattle.linear_fold.specs.InsideOperates.{AreOperands, AreUnbroken, IsOperand, IsUnbroken, IsValueOf, best_class, better_of, part_line}
 use Rattle.linear_fold.proofs.Operators.{fault_first}
 
@@ -214,18 +214,18 @@ best_value : (b : Bool) (x : ℚ) (ys : List ℚ) → on_values (best_class b) (
 best_value true x ys = refl
 best_value false x ys = refl
 
-pub record Choosing (b : Bool) (first cur : ℚ) (left all : List Part) : Type 0 where
+pub record Choosing (b : Bool) (first cur : ℚ) (left all : List PartialForm) : Type 0 where
   pub value : best_of b cur (constants_of (map part_line left)) ≡ best_of b first (constants_of (map part_line all))
   pub tests : (n : ℕ) → AreOperands n all → (are_constant n (map part_line left) ≡ are_constant n (map part_line all)) × AreOperands n left
   pub unbroken : AreUnbroken left
 
-pub choosing_init : (b : Bool) (first : ℚ) (fs : List Part) → AreUnbroken fs → Choosing b first first fs fs
+pub choosing_init : (b : Bool) (first : ℚ) (fs : List PartialForm) → AreUnbroken fs → Choosing b first first fs fs
 choosing_init b first fs h = record { value = refl; tests = λ n z. (refl, z); unbroken = h }
 
-pub unbroken_here : (b : Bool) (first cur : ℚ) (x : Part) (left rest all : List Part) → left ≡ x ∷ rest → Choosing b first cur left all → IsUnbroken x
+pub unbroken_here : (b : Bool) (first cur : ℚ) (x : PartialForm) (left rest all : List PartialForm) → left ≡ x ∷ rest → Choosing b first cur left all → IsUnbroken x
 unbroken_here b first cur x left rest all is h = (subst AreUnbroken is h.unbroken).0
 
-module _ (b : Bool) (first cur new : ℚ) (x : Part) (left rest all : List Part) (is : left ≡ x ∷ rest) (h : Choosing b first cur left all) where
+module _ (b : Bool) (first cur new : ℚ) (x : PartialForm) (left rest all : List PartialForm) (is : left ≡ x ∷ rest) (h : Choosing b first cur left all) where
   here : Choosing b first cur (x ∷ rest) all
   here = subst (λ l. Choosing b first cur l all) is h
 
@@ -243,7 +243,7 @@ module _ (b : Bool) (first cur new : ℚ) (x : Part) (left rest all : List Part)
       let r = here.tests n z in
       sym r.0 ∙ ap (λ q. q && are_constant n (map part_line rest)) (t n r.1.0)
 
-pub best_found : (b : Bool) (first : ℚ) (v : Frac) (x : Part) (left fs all : List Part) → left ≡ [] → all ≡ x ∷ fs → first ≡ (part_line x).constant → Choosing b first (frac_value v) left all → (n : ℕ) → AreOperands n all → IsValueOf n (best_class b) all (Some v)
+pub best_found : (b : Bool) (first : ℚ) (v : Frac) (x : PartialForm) (left fs all : List PartialForm) → left ≡ [] → all ≡ x ∷ fs → first ≡ (part_line x).constant → Choosing b first (frac_value v) left all → (n : ℕ) → AreOperands n all → IsValueOf n (best_class b) all (Some v)
 best_found b first v x left fs all none is start h n z =
     let k = (part_line x).constant in
     let ks = constants_of (map part_line fs) in
@@ -251,11 +251,11 @@ best_found b first v x left fs all none is start h n z =
     let value : frac_value v ≡ best_of b k ks = sym (best_none b (frac_value v)) ∙ o.value ∙ best_more b first k ks ∙ ap (λ y. best_of b y ks) (ap (λ y. better_of b y k) start ∙ better_same b k) in
     subst (λ a. IsValueOf n (best_class b) a (Some v)) (sym is) (sym (o.tests n (subst (AreOperands n) is z)).0, best_value b k ks ∙ ap Some (sym value))
 
-pub first_varies : (n : ℕ) (x : Part) (fs all : List Part) → all ≡ x ∷ fs → AreOperands n all → ((m : ℕ) → IsOperand m x → is_constant m (part_line x) ≡ false) → are_constant n (map part_line all) ≡ false
+pub first_varies : (n : ℕ) (x : PartialForm) (fs all : List PartialForm) → all ≡ x ∷ fs → AreOperands n all → ((m : ℕ) → IsOperand m x → is_constant m (part_line x) ≡ false) → are_constant n (map part_line all) ≡ false
 first_varies n x fs all is z t =
     ap (λ a. are_constant n (map part_line a)) is ∙ ap (λ b. b && are_constant n (map part_line fs)) (t n (subst (AreOperands n) is z).0)
 
-pub unbroken_first : (x : Part) (fs all : List Part) → all ≡ x ∷ fs → AreUnbroken all → IsUnbroken x
+pub unbroken_first : (x : PartialForm) (fs all : List PartialForm) → all ≡ x ∷ fs → AreUnbroken all → IsUnbroken x
 unbroken_first x fs all is h = (subst AreUnbroken is h).0
 
 -- a size below 0 is above 0

@@ -7,6 +7,7 @@ use Rattle.exact_numbers.specs.Values.{dec_value, frac_value}
 use Rattle.fractions.specs.Fits.{fits, sum_fits}
 use Rattle.fractions.specs.Rational.{ℚ, zero_ℚ, ◌+ℚ◌, one_ℚ, ◌*ℚ◌}
 use Rattle.fractions.proofs.Arithmetic.{zero-+ℚ, *ℚ_zero, +ℚ_zero}
+use Rattle.nl_meaning.specs.declared.Fault.{Fault}
 use Rattle.nl_meaning.specs.declared.Reason.TheVariants.{TooWide}
 use Rattle.nl_meaning.specs.Faults.{fault_at, too_wide_unless, line_with_terms, terms_fault, tree_fault}
 use Rattle.linear_programs.specs.Lines.{line_with, Line, line_value, constant_line, products_fit, Point}
@@ -225,3 +226,19 @@ same_bound n new from len size e h = subst (λ k. new ≤ from + 2 * (n + 1) * k
 pub sum_bound : (n new from len : ℕ) → 0 < len → new ≤ from + (n + 1) + len → new ≤ from + 2 * (n + 1) * len
 sum_bound n new from zero some h = absurd (omega arith)
 sum_bound n new from (suc k) some h = omega arith
+
+-- a term that was added
+first_none : (o rest : Option Fault) → option_or o None ≡ None → option_or o rest ≡ rest
+first_none None rest e = refl
+first_none (Some x) rest e = cc
+
+pub fault_past : (a new : Line) (i : ℕ) (t : LinearTerm) (ts : List LinearTerm) → (terms_fault a i (t ∷ []) ≡ None) × (new ≡ line_with_terms a (t ∷ [])) → terms_fault a i (t ∷ ts) ≡ terms_fault new (i + 1) ts
+fault_past a new i t ts h =
+    first_none (fault_at i (too_wide_unless (fits t.factor && sum_fits (a.coef t.variable) t.factor))) (terms_fault (line_with a t.variable t.factor) (i + 1) ts) h.0
+    ∙ ap (λ m. terms_fault m (i + 1) ts) (sym h.1)
+
+-- the steps of a tree, and then of its terms
+pub both_steps : (w a b from mid to : ℕ) → mid ≤ from + 2 * w * a → to ≤ mid + 2 * w * b → to ≤ from + 2 * w * (a + b)
+both_steps w a b from mid to h k =
+    let split : 2 * w * (a + b) ≡ 2 * w * a + 2 * w * b = omega arith in
+    omega arith

@@ -19,8 +19,8 @@ use Rattle.nl_meaning.proofs.Linear.{all_there-some, constant_value, variable_va
 use Rattle.linear_fold.specs.declared.entries.Entry.{Entry}
 use Rattle.linear_fold.specs.declared.entries.Entry.TheVariants.{Linear as Whole, Broken as Faulty}
 use Rattle.linear_program.specs.declared.form.Form.{Form}
-use Rattle.linear_fold.specs.declared.parts.Part.{Part}
-use Rattle.linear_fold.specs.declared.parts.Part.TheVariants.{Number, Variable, Linear, Broken}
+use Rattle.linear_fold.specs.declared.parts.PartialForm.{PartialForm}
+use Rattle.linear_fold.specs.declared.parts.PartialForm.TheVariants.{Number, Variable, Linear, Broken}
 use Rattle.linear_program.specs.Forms.{form_line, IsWithin, IsZeroFrom}
 use Rattle.linear_fold.specs.InsideOperates.{IsOperand, IsSound, AreOperands, lines_of_parts, part_line}
 use Rattle.linear_fold.specs.InsideFolds.{HasLine, HasLineOf, IsLined, AreLinesOf, AreOperandsOf, ArePartsWithin, ComesToLine, IsEntryOf, IsEntryWithin, IsFolded, IsPartFolded, IsPartWithin, first_broken, AreNodesWithin, ArePartsFolded, IsNodeWithin, NodeFinds}
@@ -82,7 +82,7 @@ module _ (known : Point → Known) (n : ℕ) where
   values_are (more t ts) (l ∷ ls) h at = ap₂ ◌∷◌ (h.0 at) (values_are ts ls h.1 at)
   values_are ts ls h at = absurd h
 
-lines_zero : (n : ℕ) (ps : List Part) → AreOperands n ps → AreZeroLines n (lines_of_parts ps)
+lines_zero : (n : ℕ) (ps : List PartialForm) → AreOperands n ps → AreZeroLines n (lines_of_parts ps)
 lines_zero n [] w = tt
 lines_zero n (p ∷ ps) w = (w.0.zero_from, lines_zero n ps w.1)
 
@@ -120,14 +120,14 @@ operator_zero n Refused ls h z = absurd h
 operator_zero n c ls h z = absurd (omega arith)
 
 -- ---- an operator
-pub operator_within : (n : ℕ) (c : OpClass) (ps : List Part) (p : Part) → HasCount c (length ps) → AreOperands n ps → part_line p ≡ operator_line n c (lines_of_parts ps) → IsSound n p → IsOperand n p
+pub operator_within : (n : ℕ) (c : OpClass) (ps : List PartialForm) (p : PartialForm) → HasCount c (length ps) → AreOperands n ps → part_line p ≡ operator_line n c (lines_of_parts ps) → IsSound n p → IsOperand n p
 operator_within n c ps p count w e sound =
     record {
       sound = sound;
       zero_from = λ j g. ap (λ l. l.coef j) e ∙ operator_zero n c (lines_of_parts ps) (subst (HasCount c) (sym (length-map ps part_line)) count) (lines_zero n ps w) j g;
     }
 
-module _ (known : Point → Known) (n i : ℕ) (c : OpClass) (ts : Trees) (ps : List Part) (whole_one : first_broken ps ≡ None) (count : HasCount c (length ps)) (within : AreOperands n ps) (operands : AreOperandsOf known n (i + 1) ts ps) where
+module _ (known : Point → Known) (n i : ℕ) (c : OpClass) (ts : Trees) (ps : List PartialForm) (whole_one : first_broken ps ≡ None) (count : HasCount c (length ps)) (within : AreOperands n ps) (operands : AreOperandsOf known n (i + 1) ts ps) where
   fault_here : (r : Option Reason) → operator_fault n c (lines_of_parts ps) ≡ r → tree_fault known n i (operator c ts) ≡ fault_at i r
   fault_here r h =
       ap₂ option_or (sym operands.fault ∙ whole_one) (ap (λ ls. fault_at i (operator_fault n c ls)) (sym (lines_are known n ts (lines_of_parts ps) (lines_zero n ps within) (operands.lines whole_one))) ∙ ap (fault_at i) h)
@@ -146,19 +146,19 @@ module _ (known : Point → Known) (n i : ℕ) (c : OpClass) (ts : Trees) (ps : 
   pub operator_broken : (x : Reason) → operator_fault n c (lines_of_parts ps) ≡ Some x → tree_fault known n i (operator c ts) ≡ Some (record { place = i; reason = x })
   operator_broken x h = fault_here (Some x) h
 
-  pub operator_folded : (p : Part) → operator_fault n c (lines_of_parts ps) ≡ None → part_line p ≡ operator_line n c (lines_of_parts ps) → IsSound n p → IsPartFolded known n i (operator c ts) p
+  pub operator_folded : (p : PartialForm) → operator_fault n c (lines_of_parts ps) ≡ None → part_line p ≡ operator_line n c (lines_of_parts ps) → IsSound n p → IsPartFolded known n i (operator c ts) p
   operator_folded (Broken x) clean line sound = absurd sound
   operator_folded p clean line sound = operator_lined (part_line p) clean line
 
-pub faulty_operands : (known : Point → Known) (n i : ℕ) (c : OpClass) (ts : Trees) (ps : List Part) → AreOperandsOf known n (i + 1) ts ps → (x : Fault) → first_broken ps ≡ Some x → tree_fault known n i (operator c ts) ≡ Some x
+pub faulty_operands : (known : Point → Known) (n i : ℕ) (c : OpClass) (ts : Trees) (ps : List PartialForm) → AreOperandsOf known n (i + 1) ts ps → (x : Fault) → first_broken ps ≡ Some x → tree_fault known n i (operator c ts) ≡ Some x
 faulty_operands known n i c ts ps operands x e = ap (λ o. option_or o (fault_at i (operator_fault n c (trees_lines known ts)))) (sym operands.fault ∙ e)
 
-pub operand_within : (n : ℕ) (p : Part) → IsOperand n p → IsPartWithin n p
+pub operand_within : (n : ℕ) (p : PartialForm) → IsOperand n p → IsPartWithin n p
 operand_within n (Broken x) w = tt
 operand_within n p w = w
 
 -- where no operand has a fault
-pub all_operands : (n : ℕ) (ps : List Part) → ArePartsWithin n ps → first_broken ps ≡ None → AreOperands n ps
+pub all_operands : (n : ℕ) (ps : List PartialForm) → ArePartsWithin n ps → first_broken ps ≡ None → AreOperands n ps
 all_operands n [] w e = tt
 all_operands n (Broken x ∷ ps) w e = cc
 all_operands n (p ∷ ps) w e = (w.0, all_operands n ps w.1 e)
@@ -169,7 +169,7 @@ module _ (known : Point → Known) (n : ℕ) (t : Tree) where
   entry_lined l (Whole f) h is = (h.0, same_values n _ (form_line f) l is h.1)
   entry_lined l (Faulty x) h is = absurd is
 
-  pub entry_folded : (p : Part) (e : Entry) → IsEntryOf p e → IsPartFolded known n 0 t p → IsFolded known n 0 t e
+  pub entry_folded : (p : PartialForm) (e : Entry) → IsEntryOf p e → IsPartFolded known n 0 t p → IsFolded known n 0 t e
   entry_folded (Linear f) e is h = subst (IsFolded known n 0 t) (sym is) h
   entry_folded (Broken x) e is h = subst (IsFolded known n 0 t) (sym is) h
   entry_folded p e is h = entry_lined (part_line p) e h is
@@ -178,7 +178,7 @@ entry_of_line : (n : ℕ) (l : Line) (e : Entry) → IsZeroFrom n l → ComesToL
 entry_of_line n l (Whole f) z is = λ j g. ap (λ m. m.coef j) is ∙ z j g
 entry_of_line n l (Faulty x) z is = absurd is
 
-pub entry_is_within : (n : ℕ) (p : Part) (e : Entry) → IsEntryOf p e → IsPartWithin n p → IsEntryWithin n e
+pub entry_is_within : (n : ℕ) (p : PartialForm) (e : Entry) → IsEntryOf p e → IsPartWithin n p → IsEntryWithin n e
 entry_is_within n (Linear f) e is w = subst (IsEntryWithin n) (sym is) w.zero_from
 entry_is_within n (Broken x) e is w = subst (IsEntryWithin n) (sym is) tt
 entry_is_within n p e is w = entry_of_line n (part_line p) e w.zero_from is
@@ -191,13 +191,13 @@ top_first stack new x e = ap reverse e ∙ reverse-append new (x ∷ [])
 
 -- ---- the operands of an operator
 module _ (known : Point → Known) (n : ℕ) where
-  clean_first : (i k : ℕ) (t : Tree) (l : Line) (ts : List Tree) (ps : List Part) → IsLined known n i t l → AreOperandsOf known n (i + tree_size t) (first_trees k ts) ps → (first_broken ps ≡ trees_fault known n i (first_trees (suc k) (t ∷ ts))) × (first_broken ps ≡ None → AreLinesOf known n (first_trees (suc k) (t ∷ ts)) (l ∷ lines_of_parts ps))
+  clean_first : (i k : ℕ) (t : Tree) (l : Line) (ts : List Tree) (ps : List PartialForm) → IsLined known n i t l → AreOperandsOf known n (i + tree_size t) (first_trees k ts) ps → (first_broken ps ≡ trees_fault known n i (first_trees (suc k) (t ∷ ts))) × (first_broken ps ≡ None → AreLinesOf known n (first_trees (suc k) (t ∷ ts)) (l ∷ lines_of_parts ps))
   clean_first i k t l ts ps f r = (
     r.fault ∙ ap (λ o. option_or o (trees_fault known n (i + tree_size t) (first_trees k ts))) (sym f.0),
     λ e. (f.1, r.lines e),
   )
 
-  pub operands_are : (i k : ℕ) (ts : List Tree) (ps : List Part) → k ≤ length ps → ArePartsFolded known n i ts ps → AreOperandsOf known n i (first_trees k ts) (take k ps)
+  pub operands_are : (i k : ℕ) (ts : List Tree) (ps : List PartialForm) → k ≤ length ps → ArePartsFolded known n i ts ps → AreOperandsOf known n i (first_trees k ts) (take k ps)
   operands_are i zero ts ps h f = record { fault = refl; lines = λ e. tt }
   operands_are i (suc k) ts [] h f = absurd (omega arith)
   operands_are i (suc k) [] (p ∷ ps) h f = absurd f
@@ -210,7 +210,7 @@ module _ (known : Point → Known) (n : ℕ) where
       let r = clean_first i k t (part_line p) ts (take k ps) f.0 (operands_are (i + tree_size t) k ts ps (omega arith) f.1) in
       record { fault = r.0; lines = r.1 }
 
-  pub rest_are : (i k : ℕ) (ts : List Tree) (ps : List Part) → k ≤ length ps → ArePartsFolded known n i ts ps → ArePartsFolded known n (i + trees_size (first_trees k ts)) (drop k ts) (drop k ps)
+  pub rest_are : (i k : ℕ) (ts : List Tree) (ps : List PartialForm) → k ≤ length ps → ArePartsFolded known n i ts ps → ArePartsFolded known n (i + trees_size (first_trees k ts)) (drop k ts) (drop k ps)
   rest_are i zero ts ps h f = subst (λ j. ArePartsFolded known n j ts ps) (omega arith) f
   rest_are i (suc k) ts [] h f = absurd (omega arith)
   rest_are i (suc k) [] (p ∷ ps) h f = absurd f
@@ -218,14 +218,14 @@ module _ (known : Point → Known) (n : ℕ) where
       subst (λ j. ArePartsFolded known n j (drop k ts) (drop k ps)) (omega arith) (rest_are (i + tree_size t) k ts ps (omega arith) f.1)
 
 -- an operator's part in place of its operands'
-pub operator_step : (known : Point → Known) (n place : ℕ) (o : ℕ) (k : ℕ) (trees : List Tree) (ps rest operands : List Part) (p : Part) → k ≤ length ps → operands ≡ take k ps → rest ≡ drop k ps → ((ts : Trees) → AreOperandsOf known n (place + 1) ts operands → IsPartFolded known n place (operator (class_of o) ts) p) → ArePartsFolded known n (place + 1) trees ps → ArePartsFolded known n place (with_node (Op o k) trees) (p ∷ rest)
+pub operator_step : (known : Point → Known) (n place : ℕ) (o : ℕ) (k : ℕ) (trees : List Tree) (ps rest operands : List PartialForm) (p : PartialForm) → k ≤ length ps → operands ≡ take k ps → rest ≡ drop k ps → ((ts : Trees) → AreOperandsOf known n (place + 1) ts operands → IsPartFolded known n place (operator (class_of o) ts) p) → ArePartsFolded known n (place + 1) trees ps → ArePartsFolded known n place (with_node (Op o k) trees) (p ∷ rest)
 operator_step known n place o k trees ps rest operands p room are is_rest h folded =
     let ts = first_trees k trees in (
       h ts (subst (AreOperandsOf known n (place + 1) ts) (sym are) (operands_are known n (place + 1) k trees ps room folded)),
       subst₂ (λ j qs. ArePartsFolded known n j (drop k trees) qs) (omega arith) (sym is_rest) (rest_are known n (place + 1) k trees ps room folded),
     )
 
-pub operator_size : (o : ℕ) (k : ℕ) (trees : List Tree) (stack new : List Part) → k ≤ length stack → length trees ≡ length stack → reverse new ≡ drop k (reverse stack) → length (with_node (Op o k) trees) ≡ 1 + length new
+pub operator_size : (o : ℕ) (k : ℕ) (trees : List Tree) (stack new : List PartialForm) → k ≤ length stack → length trees ≡ length stack → reverse new ≡ drop k (reverse stack) → length (with_node (Op o k) trees) ≡ 1 + length new
 operator_size o k trees stack new room same rest =
     let fewer : length (reverse new) ≡ length (drop k (reverse stack)) = ap length rest in
     omega (arith, fewer, length-reverse new, length-reverse stack, length-drop k (reverse stack), length-drop k trees)
@@ -257,19 +257,19 @@ module _ (n : ℕ) (slots : List (Option Form)) where
   pub finds_at : (nodes rest : List Node) (p : ℕ) (x : Node) → AreNodesFormed nodes → AreNodesWithin n slots nodes → drop p nodes ≡ x ∷ rest → NodeFinds n slots (length (trees_of rest)) x
   finds_at nodes rest p x f h e = finds_head x rest (subst AreNodesFormed e (formed_drop p nodes f)) (subst (AreNodesWithin n slots) e (within_drop p nodes h)).0
 
-pub top_folded : (known : Point → Known) (n place : ℕ) (nodes : List Node) (tree : Tree) (stack new : List Part) (p : Part) → place ≡ 0 → trees_of nodes ≡ tree ∷ [] → ArePartsFolded known n place (trees_of (drop place nodes)) (reverse stack) → stack ≡ new ++ p ∷ [] → IsPartFolded known n 0 tree p
+pub top_folded : (known : Point → Known) (n place : ℕ) (nodes : List Node) (tree : Tree) (stack new : List PartialForm) (p : PartialForm) → place ≡ 0 → trees_of nodes ≡ tree ∷ [] → ArePartsFolded known n place (trees_of (drop place nodes)) (reverse stack) → stack ≡ new ++ p ∷ [] → IsPartFolded known n 0 tree p
 top_folded known n place nodes tree stack new p is one folded top =
     let a : ArePartsFolded known n 0 (trees_of nodes) (reverse stack) = subst (λ q. ArePartsFolded known n q (trees_of (drop q nodes)) (reverse stack)) is folded in
     let b : ArePartsFolded known n 0 (tree ∷ []) (p ∷ reverse new) = subst₂ (ArePartsFolded known n 0) one (top_first stack new p top) a in
     b.0
 
 -- ---- parts within n variables
-pub within_take : (n k : ℕ) (ps : List Part) → ArePartsWithin n ps → ArePartsWithin n (take k ps)
+pub within_take : (n k : ℕ) (ps : List PartialForm) → ArePartsWithin n ps → ArePartsWithin n (take k ps)
 within_take n zero ps a = tt
 within_take n (suc k) [] a = tt
 within_take n (suc k) (p ∷ ps) a = (a.0, within_take n k ps a.1)
 
-pub within_parts_drop : (n k : ℕ) (ps : List Part) → ArePartsWithin n ps → ArePartsWithin n (drop k ps)
+pub within_parts_drop : (n k : ℕ) (ps : List PartialForm) → ArePartsWithin n ps → ArePartsWithin n (drop k ps)
 within_parts_drop n zero ps a = a
 within_parts_drop n (suc k) [] a = tt
 within_parts_drop n (suc k) (p ∷ ps) a = within_parts_drop n k ps a.1
@@ -298,3 +298,21 @@ pub no_step : (w start nodes : ℕ) → 0 < nodes → start + w ≤ start + 2 * 
 no_step w start nodes some =
     let most : 2 * w * 1 ≤ 2 * w * nodes = mul-le-mul_left (2 * w) some in
     omega arith
+
+-- the steps where a node is the last that is read, and those at the end
+pub stopped_steps : (w total p start from to old new : ℕ) → 0 < p → p ≤ total → from + w * old ≤ start + 2 * w * (total - p) → to + w * new ≤ from + w * old + w → to + w ≤ start + 2 * w * total
+stopped_steps w total p start from to old new some within a b =
+    let h = tree_steps w total p start from to old new some within a b in
+    let split : w * (new + 1) ≡ w * new + w = omega arith in
+    let most : 2 * w * (total - (p - 1)) ≤ 2 * w * total = mul-le-mul_left (2 * w) (omega arith) in
+    omega arith
+
+pub last_steps : (w total p start to old : ℕ) → 0 < old → to + w * old ≤ start + 2 * w * (total - p) → to + w ≤ start + 2 * w * total
+last_steps w total p start to old some a =
+    let least : w * 1 ≤ w * old = mul-le-mul_left w some in
+    let most : 2 * w * (total - p) ≤ 2 * w * total = mul-le-mul_left (2 * w) (omega arith) in
+    omega arith
+
+-- no step, where there is room for some
+pub from_start : (from m : ℕ) → from ≤ from + m
+from_start from m = omega arith

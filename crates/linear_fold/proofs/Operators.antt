@@ -16,8 +16,8 @@ use Rattle.linear_programs.specs.Lines.{constant_line, line_scaled, line_sum, pr
 use Rattle.linear_programs.proofs.LineLemmas.{all_below-true, apart-eqb}
 use Rattle.linear_program.specs.declared.form.Form.{Form}
 use Rattle.linear_program.specs.declared.sum.Sum.{Sum}
-use Rattle.linear_fold.specs.declared.parts.Part.{Part}
-use Rattle.linear_fold.specs.declared.parts.Part.TheVariants.{Number, Variable, Linear, Broken}
+use Rattle.linear_fold.specs.declared.parts.PartialForm.{PartialForm}
+use Rattle.linear_fold.specs.declared.parts.PartialForm.TheVariants.{Number, Variable, Linear, Broken}
 use Rattle.linear_program.specs.declared.too_wide.Wide.{Wide}
 use Rattle.linear_program.specs.Coefs.{AddsAt, coef_in, value_or_zero, AreAscending}
 use Rattle.linear_program.specs.Forms.{form_line, sum_line, AddsScaled, IsWithin, IsZeroFrom, ScaledSumFits, kept_constant, form_terms}
@@ -140,15 +140,15 @@ multiple_constant n j x l = by (is_zero x) refl
     by false e = sym (all_below-false (λ i. is_zero ((multiple_line j x).coef i)) n j l (ap is_zero (multiple_at j j x refl) ∙ e))
 
 -- ---- operands
-pub sound_unbroken : (n : ℕ) (p : Part) → IsSound n p → IsUnbroken p
+pub sound_unbroken : (n : ℕ) (p : PartialForm) → IsSound n p → IsUnbroken p
 sound_unbroken n (Broken x) h = h
 sound_unbroken n p h = tt
 
-pub unbroken_of : (n : ℕ) (ps : List Part) → AreOperands n ps → AreUnbroken ps
+pub unbroken_of : (n : ℕ) (ps : List PartialForm) → AreOperands n ps → AreUnbroken ps
 unbroken_of n [] w = tt
 unbroken_of n (p ∷ ps) w = (sound_unbroken n p w.0.sound, unbroken_of n ps w.1)
 
-pub part_fits : (p : Part) → FitsLine (part_line p)
+pub part_fits : (p : PartialForm) → FitsLine (part_line p)
 part_fits (Number k) = record { constant = frac_fits_lem k; coefs = λ j. fits_zero }
 part_fits (Variable j k) = record { constant = fits_zero; coefs = each_of (λ x. fits x ≡ true) j (frac_value k) (frac_fits_lem k) fits_zero }
 part_fits (Linear f) = form_fits f
@@ -284,13 +284,13 @@ module _ (z a b : Line) (empty : z ≡ zero_line) (k m x : ℚ) (one : k ≡ one
       added a b m (line_neg b) (scaled_by_minus m x b is_neg x_one) (neg_fits b fb) n za zb new r (subst (λ l. AddsScaled l m b new r) same second)
 
 -- ---- running sums
-pub record Running (n : ℕ) (total : Line) (left all : List Part) : Type 0 where
+pub record Running (n : ℕ) (total : Line) (left all : List PartialForm) : Type 0 where
   pub line : running_line total (map part_line left) ≡ running_line zero_line (map part_line all)
   pub fit : running_sums_fit n total (map part_line left) ≡ running_sums_fit n zero_line (map part_line all)
   pub zero_from : IsZeroFrom n total
   pub within : AreOperands n left
 
-pub running_init : (n : ℕ) (total : Line) (fs : List Part) → total ≡ zero_line → AreOperands n fs → Running n total fs fs
+pub running_init : (n : ℕ) (total : Line) (fs : List PartialForm) → total ≡ zero_line → AreOperands n fs → Running n total fs fs
 running_init n total fs e w =
     record {
       line = ap (λ c. running_line c (map part_line fs)) e;
@@ -299,7 +299,7 @@ running_init n total fs e w =
       within = w;
     }
 
-module _ (n : ℕ) (total : Line) (x : Part) (left rest all : List Part) (is : left ≡ x ∷ rest) (r : Running n total left all) (k : ℚ) (one : k ≡ one_ℚ) where
+module _ (n : ℕ) (total : Line) (x : PartialForm) (left rest all : List PartialForm) (is : left ≡ x ∷ rest) (r : Running n total left all) (k : ℚ) (one : k ≡ one_ℚ) where
   opened : Running n total (x ∷ rest) all
   opened = subst (λ l. Running n total l all) is r
 
@@ -326,7 +326,7 @@ module _ (n : ℕ) (total : Line) (x : Part) (left rest all : List Part) (is : l
       sym o.fit ∙ ap (λ b. b && running_sums_fit n (line_sum total (part_line x)) (map part_line rest)) (step new (Err (Fault w)) h)
   running_stop new other Memory h = tt
 
-pub running_end : (n : ℕ) (total : Line) (left all : List Part) → left ≡ [] → Running n total left all → (running_sums_fit n zero_line (map part_line all) ≡ true) × (total ≡ running_line zero_line (map part_line all))
+pub running_end : (n : ℕ) (total : Line) (left all : List PartialForm) → left ≡ [] → Running n total left all → (running_sums_fit n zero_line (map part_line all) ≡ true) × (total ≡ running_line zero_line (map part_line all))
 running_end n total left all is r =
     let o : Running n total [] all = subst (λ l. Running n total l all) is r in
     (sym o.fit, o.line)
@@ -375,7 +375,7 @@ zero_sums_fit n a h = and_from _ _ (zero_sum_fits a.constant h.constant) (all_be
 from_first : (n : ℕ) (a : Line) (ls : List Line) → FitsLine a → running_sums_fit n zero_line (a ∷ ls) ≡ running_sums_fit n a ls
 from_first n a ls h = ap₂ (λ b c. b && running_sums_fit n c ls) (zero_sums_fit n a h) (zero_line_sum a)
 
-pub sum_of_all_comes : (n : ℕ) (fs : List Part) (o : Outcome) → 0 < length fs → ComesTo n (running_sums_fit n zero_line (map part_line fs)) (running_line zero_line (map part_line fs)) o → Operates n SumOfAll (map part_line fs) o
+pub sum_of_all_comes : (n : ℕ) (fs : List PartialForm) (o : Outcome) → 0 < length fs → ComesTo n (running_sums_fit n zero_line (map part_line fs)) (running_line zero_line (map part_line fs)) o → Operates n SumOfAll (map part_line fs) o
 sum_of_all_comes n [] o some h = absurd (omega arith)
 sum_of_all_comes n (f ∷ fs) (Made g) some h = (
   ap too_wide_unless (sym (from_first n (part_line f) (map part_line fs) (part_fits f)) ∙ h.0),
@@ -384,7 +384,7 @@ sum_of_all_comes n (f ∷ fs) (Made g) some h = (
 )
 sum_of_all_comes n (f ∷ fs) (Refused r) some h = ap too_wide_unless (sym (from_first n (part_line f) (map part_line fs) (part_fits f)) ∙ h.0) ∙ ap Some (sym h.1)
 
-pub sum_comes : (n : ℕ) (fs : List Part) (o : Outcome) → length fs ≡ 2 → ComesTo n (running_sums_fit n zero_line (map part_line fs)) (running_line zero_line (map part_line fs)) o → Operates n SumOfTwo (map part_line fs) o
+pub sum_comes : (n : ℕ) (fs : List PartialForm) (o : Outcome) → length fs ≡ 2 → ComesTo n (running_sums_fit n zero_line (map part_line fs)) (running_line zero_line (map part_line fs)) o → Operates n SumOfTwo (map part_line fs) o
 sum_comes n (f ∷ g ∷ []) (Made r) two h = (
   ap too_wide_unless (sym (and-true (sums_fit n (part_line f) (part_line g))) ∙ sym (from_first n (part_line f) (part_line g ∷ []) (part_fits f)) ∙ h.0),
   h.1 ∙ ap (λ c. line_sum c (part_line g)) (zero_line_sum (part_line f)),
@@ -412,29 +412,34 @@ done_within n p total from old new some within a b =
 pub copy_fits : (n : ℕ) (k : ℚ) (a : Line) → k ≡ one_ℚ → FitsLine a → products_fit n k a ≡ true
 copy_fits n k a e small = scaled_fits n k a (subst FitsLine (sym (scaled_by_one k a e)) small)
 
+pub few_steps : (w k from to : ℕ) → 1 ≤ k → to ≤ from + w → to ≤ from + w * k
+few_steps w k from to some h =
+    let least : w * 1 ≤ w * k = mul-le-mul_left w some in
+    omega arith
+
 -- ---- two operands, the first of them last
-pub pair_of : (ps : List Part) (a b : Part) → length ps ≡ 2 → a ≡ get_or ps 1 a → b ≡ get_or ps 0 b → reverse ps ≡ a ∷ b ∷ []
+pub pair_of : (ps : List PartialForm) (a b : PartialForm) → length ps ≡ 2 → a ≡ get_or ps 1 a → b ≡ get_or ps 0 b → reverse ps ≡ a ∷ b ∷ []
 pair_of (x ∷ y ∷ []) a b two e f = ap₂ (λ p q. p ∷ q ∷ []) (sym e) (sym f)
 pair_of ps a b two e f = absurd (omega arith)
 
-pub single_of : (ps : List Part) (a : Part) → length ps ≡ 1 → a ≡ get_or ps 0 a → reverse ps ≡ a ∷ []
+pub single_of : (ps : List PartialForm) (a : PartialForm) → length ps ≡ 1 → a ≡ get_or ps 0 a → reverse ps ≡ a ∷ []
 single_of (x ∷ []) a one e = ap (λ p. p ∷ []) (sym e)
 single_of ps a one e = absurd (omega arith)
 
-pub first_within : (n : ℕ) (ps : List Part) (a b : Part) → ps ≡ a ∷ b ∷ [] → AreOperands n ps → IsOperand n a
+pub first_within : (n : ℕ) (ps : List PartialForm) (a b : PartialForm) → ps ≡ a ∷ b ∷ [] → AreOperands n ps → IsOperand n a
 first_within n ps a b e w = (subst (AreOperands n) e w).0
 
-pub second_within : (n : ℕ) (ps : List Part) (a b : Part) → ps ≡ a ∷ b ∷ [] → AreOperands n ps → IsOperand n b
+pub second_within : (n : ℕ) (ps : List PartialForm) (a b : PartialForm) → ps ≡ a ∷ b ∷ [] → AreOperands n ps → IsOperand n b
 second_within n ps a b e w = (subst (AreOperands n) e w).1.0
 
-pub one_within : (n : ℕ) (ps : List Part) (a : Part) → ps ≡ a ∷ [] → AreOperands n ps → IsOperand n a
+pub one_within : (n : ℕ) (ps : List PartialForm) (a : PartialForm) → ps ≡ a ∷ [] → AreOperands n ps → IsOperand n a
 one_within n ps a e w = (subst (AreOperands n) e w).0
 
-pub operand_unbroken : (n : ℕ) (p : Part) → IsOperand n p → IsUnbroken p
+pub operand_unbroken : (n : ℕ) (p : PartialForm) → IsOperand n p → IsUnbroken p
 operand_unbroken n p w = sound_unbroken n p w.sound
 
-pub as_operands : (n : ℕ) (c d : OpClass) (ps qs : List Part) (o : Outcome) → c ≡ d → ps ≡ qs → Operates n d (map part_line qs) o → Operates n c (map part_line ps) o
+pub as_operands : (n : ℕ) (c d : OpClass) (ps qs : List PartialForm) (o : Outcome) → c ≡ d → ps ≡ qs → Operates n d (map part_line qs) o → Operates n c (map part_line ps) o
 as_operands n c d ps qs o e f h = subst₂ (λ k rs. Operates n k (map part_line rs) o) (sym e) (sym f) h
 
-pub as_result : (n : ℕ) (c d : OpClass) (ps qs : List Part) (r : Result Outcome AllocError) → c ≡ d → ps ≡ qs → IfOk r (λ o. Operates n d (map part_line qs) o) → IfOk r (λ o. Operates n c (map part_line ps) o)
+pub as_result : (n : ℕ) (c d : OpClass) (ps qs : List PartialForm) (r : Result Outcome AllocError) → c ≡ d → ps ≡ qs → IfOk r (λ o. Operates n d (map part_line qs) o) → IfOk r (λ o. Operates n c (map part_line ps) o)
 as_result n c d ps qs r e f h = subst₂ (λ k rs. IfOk r (λ o. Operates n k (map part_line rs) o)) (sym e) (sym f) h

@@ -12,8 +12,8 @@ use Rattle.nl_model.specs.declared.node.Node.{Node}
 use Rattle.nl_model.specs.declared.node.Node.TheVariants.{Num, Var, Defined, Op}
 use Rattle.linear_fold.specs.declared.entries.Entry.{Entry}
 use Rattle.linear_fold.specs.declared.entries.Entry.TheVariants.{Linear, Broken}
-use Rattle.linear_fold.specs.declared.parts.Part.{Part}
-use Rattle.linear_fold.specs.declared.parts.Part.TheVariants.{Number as Constant, Variable as Multiple, Linear as Whole, Broken as Faulty}
+use Rattle.linear_fold.specs.declared.parts.PartialForm.{PartialForm}
+use Rattle.linear_fold.specs.declared.parts.PartialForm.TheVariants.{Number as Constant, Variable as Multiple, Linear as Whole, Broken as Faulty}
 use Rattle.linear_program.specs.declared.form.Form.{Form}
 use Rattle.linear_program.specs.Forms.{IsWithin, form_line}
 use Rattle.linear_fold.specs.InsideOperates.{IsOperand, lines_of_parts, part_line}
@@ -53,13 +53,13 @@ IsLined known n i t l =
     (tree_fault known n i t ≡ None) × HasLine n (λ at. tree_value (known at) at t) l
 
 -- what a part of a tree comes to
-abbrev pub IsPartFolded : (Point → Known) → ℕ → ℕ → Tree → Part → Type 0
+abbrev pub IsPartFolded : (Point → Known) → ℕ → ℕ → Tree → PartialForm → Type 0
 IsPartFolded known n i t (Constant k) = IsLined known n i t (part_line (Constant k))
 IsPartFolded known n i t (Multiple j k) = IsLined known n i t (part_line (Multiple j k))
 IsPartFolded known n i t (Whole f) = IsLined known n i t (form_line f)
 IsPartFolded known n i t (Faulty x) = tree_fault known n i t ≡ Some x
 
-abbrev pub ArePartsFolded : (Point → Known) → ℕ → ℕ → List Tree → List Part → Type 0
+abbrev pub ArePartsFolded : (Point → Known) → ℕ → ℕ → List Tree → List PartialForm → Type 0
 ArePartsFolded known n i [] [] = Unit {0}
 ArePartsFolded known n i [] (p ∷ ps) = ⊥
 ArePartsFolded known n i (t ∷ ts) [] = ⊥
@@ -73,7 +73,7 @@ IsExpressionFolded known n x (Linear form) =
 IsExpressionFolded known n x (Broken fault) = expression_fault known n x ≡ Some fault
 
 -- the first fault among parts
-abbrev pub first_broken : List Part → Option Fault
+abbrev pub first_broken : List PartialForm → Option Fault
 first_broken [] = None
 first_broken (Constant k ∷ ps) = first_broken ps
 first_broken (Multiple j k ∷ ps) = first_broken ps
@@ -81,13 +81,13 @@ first_broken (Whole f ∷ ps) = first_broken ps
 first_broken (Faulty x ∷ ps) = Some x
 
 -- a fault, or a part of n variables
-abbrev pub IsPartWithin : ℕ → Part → Type 0
+abbrev pub IsPartWithin : ℕ → PartialForm → Type 0
 IsPartWithin n (Constant k) = IsOperand n (Constant k)
 IsPartWithin n (Multiple j k) = IsOperand n (Multiple j k)
 IsPartWithin n (Whole f) = IsOperand n (Whole f)
 IsPartWithin n (Faulty x) = Unit {0}
 
-abbrev pub ArePartsWithin : ℕ → List Part → Type 0
+abbrev pub ArePartsWithin : ℕ → List PartialForm → Type 0
 ArePartsWithin n [] = Unit {0}
 ArePartsWithin n (p ∷ ps) = IsPartWithin n p × ArePartsWithin n ps
 
@@ -97,7 +97,7 @@ ComesToLine l (Linear f) = form_line f ≡ l
 ComesToLine l (Broken x) = ⊥
 
 -- a whole tree's part as a form, or its fault
-abbrev pub IsEntryOf : Part → Entry → Type 0
+abbrev pub IsEntryOf : PartialForm → Entry → Type 0
 IsEntryOf (Constant k) e = ComesToLine (part_line (Constant k)) e
 IsEntryOf (Multiple j k) e = ComesToLine (part_line (Multiple j k)) e
 IsEntryOf (Whole f) e = e ≡ Linear f
@@ -117,7 +117,7 @@ AreLinesOf known n (more t ts) (l ∷ ls) =
     HasLine n (λ at. tree_value (known at) at t) l × AreLinesOf known n ts ls
 
 -- operands have the first fault of their trees, or their lines; the first node has the number i
-pub record AreOperandsOf (known : Point → Known) (n i : ℕ) (ts : Trees) (ps : List Part) : Type 0
+pub record AreOperandsOf (known : Point → Known) (n i : ℕ) (ts : Trees) (ps : List PartialForm) : Type 0
   where
     pub fault : first_broken ps ≡ trees_fault known n i ts
     pub lines : first_broken ps ≡ None → AreLinesOf known n ts (lines_of_parts ps)

@@ -13,8 +13,8 @@ use Rattle.nl_meaning.specs.Trees.{on_values}
 use Rattle.exact_numbers.specs.declared.frac.Frac.{Frac}
 use Rattle.exact_numbers.specs.Values.{frac_value}
 use Rattle.linear_program.specs.declared.sum.Sum.{Sum}
-use Rattle.linear_fold.specs.declared.parts.Part.{Part}
-use Rattle.linear_fold.specs.declared.parts.Part.TheVariants.{Number, Variable, Linear as Whole, Broken}
+use Rattle.linear_fold.specs.declared.parts.PartialForm.{PartialForm}
+use Rattle.linear_fold.specs.declared.parts.PartialForm.TheVariants.{Number, Variable, Linear as Whole, Broken}
 use Rattle.linear_fold.specs.declared.operate.Outcome.{Outcome}
 use Rattle.linear_fold.specs.declared.operate.Outcome.TheVariants.{Linear, Refused}
 use Rattle.linear_program.specs.declared.too_wide.Wide.{Wide}
@@ -37,44 +37,44 @@ abbrev pub multiple_line : ℕ → ℚ → Line
 multiple_line j k = line_with zero_line j k
 
 -- the line of a part; a fault has none
-abbrev pub part_line : Part → Line
+abbrev pub part_line : PartialForm → Line
 part_line (Number k) = constant_line (frac_value k)
 part_line (Variable j k) = multiple_line j (frac_value k)
 part_line (Whole f) = form_line f
 part_line (Broken x) = zero_line
 
-abbrev pub lines_of_parts : List Part → List Line
+abbrev pub lines_of_parts : List PartialForm → List Line
 lines_of_parts ps = map part_line ps
 
 -- no fault
-abbrev pub IsUnbroken : Part → Type 0
+abbrev pub IsUnbroken : PartialForm → Type 0
 IsUnbroken (Number k) = Unit {0}
 IsUnbroken (Variable j k) = Unit {0}
 IsUnbroken (Whole f) = Unit {0}
 IsUnbroken (Broken x) = ⊥
 
-abbrev pub AreUnbroken : List Part → Type 0
+abbrev pub AreUnbroken : List PartialForm → Type 0
 AreUnbroken [] = Unit {0}
 AreUnbroken (p ∷ ps) = IsUnbroken p × AreUnbroken ps
 
 -- the same, and a variable is one of the first n
-abbrev pub IsSound : ℕ → Part → Type 0
+abbrev pub IsSound : ℕ → PartialForm → Type 0
 IsSound n (Number k) = Unit {0}
 IsSound n (Variable j k) = j < n
 IsSound n (Whole f) = Unit {0}
 IsSound n (Broken x) = ⊥
 
 -- such a part without coefficients from n on
-pub record IsOperand (n : ℕ) (p : Part) : Type 0 where
+pub record IsOperand (n : ℕ) (p : PartialForm) : Type 0 where
   pub sound : IsSound n p
   pub zero_from : IsZeroFrom n (part_line p)
 
-abbrev pub AreOperands : ℕ → List Part → Type 0
+abbrev pub AreOperands : ℕ → List PartialForm → Type 0
 AreOperands n [] = Unit {0}
 AreOperands n (p ∷ ps) = IsOperand n p × AreOperands n ps
 
 -- what a class makes of the constants of constant parts; none where one is not constant
-abbrev pub IsValueOf : ℕ → OpClass → List Part → Option Frac → Type 0
+abbrev pub IsValueOf : ℕ → OpClass → List PartialForm → Option Frac → Type 0
 IsValueOf n c ps None = are_constant n (lines_of_parts ps) ≡ false
 IsValueOf n c ps (Some v) =
     (are_constant n (lines_of_parts ps) ≡ true)

@@ -2,5 +2,4 @@ pub mod FoldedFaults
 pub mod InsideFolds
 pub mod InsideOperates
 pub mod InsideOwnerFolds
-pub mod Kinds
 pub mod InsideLinearTerms

@@ -8,7 +8,7 @@ ghost use Rattle.fractions.specs.Rational.{whole as whole_number};
 ghost use Rattle.linear_fold.specs.InsideOperates.{AreOperands, AreUnbroken, IsOperand, IsUnbroken, IsValueOf, Operates, best_class, better_of, lines_of_parts, part_line};
 
 use crate::operate::Outcome;
-use crate::parts::Part;
+use crate::parts::PartialForm;
 use exact_numbers::Frac;
 use nl_meaning::Reason;
 use std::cmp::Ordering;
@@ -40,7 +40,7 @@ fn power_of(x: Frac, n: u32) -> Option<Frac>
     Some(power)
 }
 
-pub(crate) fn power(a: &Part, b: &Part) -> Outcome
+pub(crate) fn power(a: &PartialForm, b: &PartialForm) -> Outcome
     requires first { IsUnbroken a.now }
     requires second { IsUnbroken b.now }
     ensures { (n : ℕ) → IsOperand n a.now → IsOperand n b.now
@@ -56,7 +56,7 @@ pub(crate) fn power(a: &Part, b: &Part) -> Outcome
         return Outcome::Refused(Reason::RefusedPower);
     };
     match power_of(base, times) {
-        Some(value) => Outcome::Linear(Part::Number(value)),
+        Some(value) => Outcome::Linear(PartialForm::Number(value)),
         None => Outcome::Refused(Reason::TooWide),
     }
 }
@@ -88,7 +88,7 @@ fn better(least: bool, a: Frac, b: Frac) -> Frac
 }
 
 // The least of constant forms, or the greatest; none where one is not constant.
-fn best_value(operands: &[Part], least: bool) -> Option<Frac>
+fn best_value(operands: &[PartialForm], least: bool) -> Option<Frac>
     requires some { 0 < length operands.now }
     requires unbroken { AreUnbroken (reverse operands.now) }
     ensures { (n : ℕ) → AreOperands n (reverse operands.now)
@@ -107,14 +107,14 @@ fn best_value(operands: &[Part], least: bool) -> Option<Frac>
     Some(best)
 }
 
-pub(crate) fn best(operands: &[Part], least: bool) -> Outcome
+pub(crate) fn best(operands: &[PartialForm], least: bool) -> Outcome
     requires some { 0 < length operands.now }
     requires unbroken { AreUnbroken (reverse operands.now) }
     ensures { (n : ℕ) → AreOperands n (reverse operands.now)
         → Operates n (best_class least) (lines_of_parts (reverse operands.now)) result }
 {
     match best_value(operands, least) {
-        Some(value) => Outcome::Linear(Part::Number(value)),
+        Some(value) => Outcome::Linear(PartialForm::Number(value)),
         None => Outcome::Refused(Reason::Nonlinear),
     }
 }
@@ -172,18 +172,18 @@ fn floor_of(x: Frac) -> Frac
     whole_above(size / denominator)
 }
 
-pub(crate) fn floor(a: &Part) -> Outcome
+pub(crate) fn floor(a: &PartialForm) -> Outcome
     requires { IsUnbroken a.now }
     ensures { (n : ℕ) → IsOperand n a.now
         → Operates n Floor (part_line a.now ∷ []) result }
 {
     match a.constant() {
-        Some(value) => Outcome::Linear(Part::Number(floor_of(value))),
+        Some(value) => Outcome::Linear(PartialForm::Number(floor_of(value))),
         None => Outcome::Refused(Reason::Nonlinear),
     }
 }
 
-pub(crate) fn ceiling(a: &Part) -> Outcome
+pub(crate) fn ceiling(a: &PartialForm) -> Outcome
     requires { IsUnbroken a.now }
     ensures { (n : ℕ) → IsOperand n a.now
         → Operates n Ceiling (part_line a.now ∷ []) result }
@@ -191,7 +191,7 @@ pub(crate) fn ceiling(a: &Part) -> Outcome
     match a.constant() {
         Some(value) => {
             let ceiling = floor_of(value.neg()).neg();
-            Outcome::Linear(Part::Number(ceiling))
+            Outcome::Linear(PartialForm::Number(ceiling))
         }
         None => Outcome::Refused(Reason::Nonlinear),
     }
@@ -207,13 +207,13 @@ fn absolute_of(x: Frac) -> Frac
     x
 }
 
-pub(crate) fn absolute(a: &Part) -> Outcome
+pub(crate) fn absolute(a: &PartialForm) -> Outcome
     requires { IsUnbroken a.now }
     ensures { (n : ℕ) → IsOperand n a.now
         → Operates n Absolute (part_line a.now ∷ []) result }
 {
     match a.constant() {
-        Some(value) => Outcome::Linear(Part::Number(absolute_of(value))),
+        Some(value) => Outcome::Linear(PartialForm::Number(absolute_of(value))),
         None => Outcome::Refused(Reason::Nonlinear),
     }
 }

@@ -9,7 +9,7 @@ ghost use Rattle.linear_fold.specs.InsideOperates.{IsBlank, StaysBlank};
 
 use crate::entries::Entry;
 use crate::operate::{self, Outcome};
-use crate::parts::{Part, first_fault};
+use crate::parts::{PartialForm, first_fault};
 use code_tables::{OpClass, class_of};
 use exact_numbers::{Dec, Frac};
 use linear_program::{Form, Sum};
@@ -22,26 +22,26 @@ use texts::{Ledger, Steps};
 const MOST_AT_FIRST: usize = 16;
 
 #[tactic(auto, using(crate::proofs::Folding::number_within))]
-fn number_part(value: Dec, place: usize) -> Part
+fn number_part(value: Dec, place: usize) -> PartialForm
     ensures part { (n : ℕ) (known : Point → Known)
         → IsPartFolded known n place (number value.m value.e) result }
     ensures within { (n : ℕ) → IsPartWithin n result }
 {
     match Frac::of_dec(value) {
-        Some(constant) => Part::Number(constant),
-        None => Part::Broken(Fault {
+        Some(constant) => PartialForm::Number(constant),
+        None => PartialForm::Broken(Fault {
             place,
             reason: Reason::TooWide,
         }),
     }
 }
 
-fn variable_part(index: u32) -> Part
+fn variable_part(index: u32) -> PartialForm
     ensures part { (n i : ℕ) (known : Point → Known) → index < n
         → IsPartFolded known n i (variable index) result }
     ensures within { (n : ℕ) → index < n → IsPartWithin n result }
 {
-    Part::Variable(index, Frac::one())
+    PartialForm::Variable(index, Frac::one())
 }
 
 // A copy of the form of a defined variable.
@@ -50,7 +50,7 @@ fn defined_part(
     slots: &[Option<Form>],
     index: u32,
     variables: u32,
-) -> Result<Part, AllocError>
+) -> Result<PartialForm, AllocError>
     requires given { IsGiven variables slots.now index }
     requires slots { AreSlotsWithin variables slots.now }
     ensures part { IfOk result
@@ -61,7 +61,7 @@ fn defined_part(
     match &slots[(index - variables) as usize] {
         Some(form) => {
             let copy = form.copied(alloc)?;
-            Ok(Part::Linear(copy))
+            Ok(PartialForm::Linear(copy))
         }
         None => unreachable!(),
     }
@@ -71,12 +71,12 @@ fn defined_part(
 fn operation_part<L: Ledger>(
     alloc: Global,
     class: OpClass,
-    operands: &[Part],
+    operands: &[PartialForm],
     place: usize,
     total: &mut Sum,
     steps: &mut Steps<L>,
     variables: u32,
-) -> Result<Part, AllocError>
+) -> Result<PartialForm, AllocError>
     requires count { HasCount class (length operands.now) }
     requires within { ArePartsWithin variables (reverse operands.now) }
     requires places { place_count total.old ≡ variables }
@@ -91,11 +91,11 @@ fn operation_part<L: Ledger>(
     ensures below { steps.new ≤ steps.old + (variables + 1) * length operands.now }
 {
     if let Some(fault) = first_fault(operands) {
-        return Ok(Part::Broken(fault));
+        return Ok(PartialForm::Broken(fault));
     }
     match operate::operate(alloc, class, operands, total, steps) {
         Ok(Outcome::Linear(part)) => Ok(part),
-        Ok(Outcome::Refused(reason)) => Ok(Part::Broken(Fault { place, reason })),
+        Ok(Outcome::Refused(reason)) => Ok(PartialForm::Broken(Fault { place, reason })),
         Err(error) => Err(error),
     }
 }
@@ -105,12 +105,12 @@ fn part_of<L: Ledger>(
     alloc: Global,
     node: Node,
     place: usize,
-    stack: &mut Vec<Part>,
+    stack: &mut Vec<PartialForm>,
     slots: &[Option<Form>],
     total: &mut Sum,
     steps: &mut Steps<L>,
     variables: u32,
-) -> Result<Part, AllocError>
+) -> Result<PartialForm, AllocError>
     requires finds { NodeFinds variables slots.now (vec_len stack.old) node }
     requires places { place_count total.old ≡ variables }
     requires blank { IsBlank total.old }
@@ -170,7 +170,7 @@ pub(crate) fn fold_tree<L: Ledger>(
     ensures below { steps.new + (variables + 1)
         ≤ steps.old + 2 * (variables + 1) * length nodes.now }
 {
-    let mut stack: Vec<Part> = Vec::with_capacity(alloc, nodes.len().min(MOST_AT_FIRST))?;
+    let mut stack: Vec<PartialForm> = Vec::with_capacity(alloc, nodes.len().min(MOST_AT_FIRST))?;
     for place in (0..nodes.len()).rev() {
         let part = part_of(
             alloc,

@@ -8,7 +8,7 @@ ghost use Rattle.linear_program.specs.Forms.{AddsScaled, IsWithin, form_line, pl
 ghost use Rattle.linear_fold.specs.InsideOperates.{AreOperands, ComesTo, IsBlank, IsOperand, IsSound, Operates, StaysBlank, SumsTo, lines_of_parts, multiple_line, part_line, zero_line};
 
 use crate::constants;
-use crate::parts::Part;
+use crate::parts::PartialForm;
 use code_tables::OpClass;
 use exact_numbers::Frac;
 use linear_program::{Form, Sum, Wide};
@@ -19,13 +19,12 @@ use texts::{Ledger, Steps, Stop};
 /// The form of an operator, or why it has none.
 #[derive(Drop)]
 pub enum Outcome {
-    Linear(Part),
+    Linear(PartialForm),
     Refused(Reason),
 }
 
 // Adds k times a factor times a variable to a sum; a step for the constant, which is 0, and
 // for the term.
-#[tactic(auto, using(crate::proofs::Operators::stops_multiple, crate::proofs::Operators::total_fits))]
 fn add_variable<L: Ledger>(
     total: &mut Sum,
     variable: u32,
@@ -59,7 +58,7 @@ fn add_variable<L: Ledger>(
 fn add_part<L: Ledger>(
     alloc: Global,
     total: &mut Sum,
-    part: &Part,
+    part: &PartialForm,
     k: Frac,
     steps: &mut Steps<L>,
 ) -> Result<(), Stop<Wide>>
@@ -72,10 +71,16 @@ fn add_part<L: Ledger>(
     ensures below { steps.new ≤ steps.old + (place_count total.old + 1) }
 {
     match part {
-        Part::Number(number) => total.add_scaled(&Form::of_constant(alloc, *number), k, steps),
-        Part::Variable(variable, factor) => add_variable(total, *variable, *factor, k, steps),
-        Part::Linear(form) => total.add_scaled(form, k, steps),
-        Part::Broken(_) => unreachable!(),
+        PartialForm::Number(number) => total.add_scaled(
+            &Form::of_constant(alloc, *number),
+            k,
+            steps,
+        ),
+        PartialForm::Variable(variable, factor) => add_variable(
+            total, *variable, *factor, k, steps,
+        ),
+        PartialForm::Linear(form) => total.add_scaled(form, k, steps),
+        PartialForm::Broken(_) => unreachable!(),
     }
 }
 
@@ -83,7 +88,7 @@ fn add_part<L: Ledger>(
 fn add_all<L: Ledger>(
     alloc: Global,
     total: &mut Sum,
-    operands: &[Part],
+    operands: &[PartialForm],
     steps: &mut Steps<L>,
 ) -> Result<(), Stop<Wide>>
     requires blank { IsBlank total.old }
@@ -111,8 +116,8 @@ fn add_all<L: Ledger>(
 fn add_difference<L: Ledger>(
     alloc: Global,
     total: &mut Sum,
-    a: &Part,
-    b: &Part,
+    a: &PartialForm,
+    b: &PartialForm,
     steps: &mut Steps<L>,
 ) -> Result<(), Stop<Wide>>
     requires blank { IsBlank total.old }
@@ -167,7 +172,7 @@ fn outcome_of(
     match summed {
         Ok(()) => {
             let form = total.take(alloc)?;
-            Ok(Outcome::Linear(Part::Linear(form)))
+            Ok(Outcome::Linear(PartialForm::Linear(form)))
         }
         Err(Stop::Fault(_)) => Ok(Outcome::Refused(Reason::TooWide)),
         Err(Stop::Memory) => Err(AllocError),
@@ -177,7 +182,7 @@ fn outcome_of(
 /// The running sum of forms from the left.
 pub(crate) fn sum_of_all<L: Ledger>(
     alloc: Global,
-    operands: &[Part],
+    operands: &[PartialForm],
     total: &mut Sum,
     steps: &mut Steps<L>,
 ) -> Result<Outcome, AllocError>
@@ -197,8 +202,8 @@ pub(crate) fn sum_of_all<L: Ledger>(
 
 fn difference<L: Ledger>(
     alloc: Global,
-    a: &Part,
-    b: &Part,
+    a: &PartialForm,
+    b: &PartialForm,
     total: &mut Sum,
     steps: &mut Steps<L>,
 ) -> Result<Outcome, AllocError>
@@ -239,7 +244,7 @@ fn scaled_form<L: Ledger>(
         return outcome_of(alloc, total, summed);
     }
     match a.times(alloc, k, steps) {
-        Ok(form) => Ok(Outcome::Linear(Part::Linear(form))),
+        Ok(form) => Ok(Outcome::Linear(PartialForm::Linear(form))),
         Err(Stop::Fault(_)) => Ok(Outcome::Refused(Reason::TooWide)),
         Err(Stop::Memory) => Err(AllocError),
     }
@@ -253,7 +258,7 @@ fn scaled_number(number: Frac, k: Frac) -> Outcome
         (line_scaled (frac_value k) (constant_line (frac_value number))) result }
 {
     match k.mul(number) {
-        Some(number) => Outcome::Linear(Part::Number(number)),
+        Some(number) => Outcome::Linear(PartialForm::Number(number)),
         None => Outcome::Refused(Reason::TooWide),
     }
 }
@@ -266,7 +271,7 @@ fn scaled_multiple(variable: u32, factor: Frac, k: Frac) -> Outcome
         (line_scaled (frac_value k) (multiple_line variable (frac_value factor))) result }
 {
     match k.mul(factor) {
-        Some(factor) => Outcome::Linear(Part::Variable(variable, factor)),
+        Some(factor) => Outcome::Linear(PartialForm::Variable(variable, factor)),
         None => Outcome::Refused(Reason::TooWide),
     }
 }
@@ -274,7 +279,7 @@ fn scaled_multiple(variable: u32, factor: Frac, k: Frac) -> Outcome
 /// k times an operand.
 pub(crate) fn scaled<L: Ledger>(
     alloc: Global,
-    a: &Part,
+    a: &PartialForm,
     k: Frac,
     total: &mut Sum,
     steps: &mut Steps<L>,
@@ -290,23 +295,23 @@ pub(crate) fn scaled<L: Ledger>(
     ensures below { steps.new ≤ steps.old + (place_count total.old + 1) }
 {
     match a {
-        Part::Number(number) => {
+        PartialForm::Number(number) => {
             steps.tick();
             Ok(scaled_number(*number, k))
         }
-        Part::Variable(variable, factor) => {
+        PartialForm::Variable(variable, factor) => {
             steps.tick();
             steps.tick();
             Ok(scaled_multiple(*variable, *factor, k))
         }
-        Part::Linear(form) => scaled_form(alloc, form, k, total, steps),
-        Part::Broken(_) => unreachable!(),
+        PartialForm::Linear(form) => scaled_form(alloc, form, k, total, steps),
+        PartialForm::Broken(_) => unreachable!(),
     }
 }
 
 fn negated<L: Ledger>(
     alloc: Global,
-    a: &Part,
+    a: &PartialForm,
     total: &mut Sum,
     steps: &mut Steps<L>,
 ) -> Result<Outcome, AllocError>
@@ -323,8 +328,8 @@ fn negated<L: Ledger>(
 
 fn product<L: Ledger>(
     alloc: Global,
-    a: &Part,
-    b: &Part,
+    a: &PartialForm,
+    b: &PartialForm,
     total: &mut Sum,
     steps: &mut Steps<L>,
 ) -> Result<Outcome, AllocError>
@@ -348,8 +353,8 @@ fn product<L: Ledger>(
 
 fn quotient<L: Ledger>(
     alloc: Global,
-    a: &Part,
-    b: &Part,
+    a: &PartialForm,
+    b: &PartialForm,
     total: &mut Sum,
     steps: &mut Steps<L>,
 ) -> Result<Outcome, AllocError>
@@ -374,7 +379,7 @@ fn quotient<L: Ledger>(
 
 // Two operands, the first of them last in the list.
 #[tactic(auto, using(crate::proofs::Operators::pair_of))]
-fn two_of(operands: &[Part]) -> (&Part, &Part)
+fn two_of(operands: &[PartialForm]) -> (&PartialForm, &PartialForm)
     requires { length operands.now ≡ 2 }
     ensures { reverse operands.now ≡ result.0.now ∷ result.1.now ∷ [] }
 {
@@ -382,7 +387,7 @@ fn two_of(operands: &[Part]) -> (&Part, &Part)
 }
 
 #[tactic(auto, using(crate::proofs::Operators::single_of))]
-fn one_of(operands: &[Part]) -> &Part
+fn one_of(operands: &[PartialForm]) -> &PartialForm
     requires { length operands.now ≡ 1 }
     ensures { reverse operands.now ≡ result.now ∷ [] }
 {
@@ -394,7 +399,7 @@ fn one_of(operands: &[Part]) -> &Part
 pub(crate) fn operate<L: Ledger>(
     alloc: Global,
     class: OpClass,
-    operands: &[Part],
+    operands: &[PartialForm],
     total: &mut Sum,
     steps: &mut Steps<L>,
 ) -> Result<Outcome, AllocError>

@@ -16,7 +16,7 @@ use std::alloc::{AllocError, Global};
 
 /// What a part of a tree came to: a number, a factor times a variable, a form, or a fault.
 #[derive(Drop)]
-pub enum Part {
+pub enum PartialForm {
     Number(Frac),
     Variable(u32, Frac),
     Linear(Form),
@@ -24,20 +24,20 @@ pub enum Part {
 }
 
 // The first fault of a part and of those after it, whose first fault is known.
-fn fault_before(part: &Part, after: Option<Fault>) -> Option<Fault>
-    ensures { (ps : List Part) → after ≡ first_broken ps → result ≡ first_broken (part.now ∷ ps) }
+fn fault_before(part: &PartialForm, after: Option<Fault>) -> Option<Fault>
+    ensures { (ps : List PartialForm) → after ≡ first_broken ps → result ≡ first_broken (part.now ∷ ps) }
 {
     match part {
-        Part::Number(_) => after,
-        Part::Variable(_, _) => after,
-        Part::Linear(_) => after,
-        Part::Broken(fault) => Some(*fault),
+        PartialForm::Number(_) => after,
+        PartialForm::Variable(_, _) => after,
+        PartialForm::Linear(_) => after,
+        PartialForm::Broken(fault) => Some(*fault),
     }
 }
 
 /// The first fault among operands, of which the first is the last of the list.
 #[tactic(auto, using(crate::proofs::Operators::one_more, std::proofs::lemmas::List::take_all))]
-pub(crate) fn first_fault(operands: &[Part]) -> Option<Fault>
+pub(crate) fn first_fault(operands: &[PartialForm]) -> Option<Fault>
     ensures { result ≡ first_broken (reverse operands.now) }
 {
     let mut broken = None;
@@ -80,7 +80,7 @@ fn form_of_multiple(alloc: Global, variable: u32, factor: Frac) -> Result<Form, 
     Ok(zero.with_coefficients(coefficients))
 }
 
-impl Part {
+impl PartialForm {
     /// The value of a part that is constant.
     #[tactic(auto, using(crate::proofs::Operators::number_constant))]
     pub(crate) fn constant(&self) -> Option<Frac>
@@ -90,10 +90,10 @@ impl Part {
             → is_some result ≡ is_constant n (part_line self.now) }
     {
         match self {
-            Part::Number(number) => Some(*number),
-            Part::Variable(_, factor) => constant_of_multiple(*factor),
-            Part::Linear(form) => constant_of(form),
-            Part::Broken(_) => unreachable!(),
+            PartialForm::Number(number) => Some(*number),
+            PartialForm::Variable(_, factor) => constant_of_multiple(*factor),
+            PartialForm::Linear(form) => constant_of(form),
+            PartialForm::Broken(_) => unreachable!(),
         }
     }
 
@@ -102,13 +102,13 @@ impl Part {
         ensures { IfOk result (λ e. IsEntryOf self e) }
     {
         match self {
-            Part::Number(number) => Ok(Entry::Linear(Form::of_constant(alloc, number))),
-            Part::Variable(variable, factor) => {
+            PartialForm::Number(number) => Ok(Entry::Linear(Form::of_constant(alloc, number))),
+            PartialForm::Variable(variable, factor) => {
                 let form = form_of_multiple(alloc, variable, factor)?;
                 Ok(Entry::Linear(form))
             }
-            Part::Linear(form) => Ok(Entry::Linear(form)),
-            Part::Broken(fault) => Ok(Entry::Broken(fault)),
+            PartialForm::Linear(form) => Ok(Entry::Linear(form)),
+            PartialForm::Broken(fault) => Ok(Entry::Broken(fault)),
         }
     }
 }

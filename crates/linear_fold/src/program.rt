@@ -8,15 +8,14 @@ ghost use Rattle.file_meaning.specs.FoldFaults.{fold_fault, has_objective};
 ghost use Rattle.file_meaning.specs.LinearFile.{linear_of, HasLines};
 ghost use Rattle.linear_fold.specs.FoldedFaults.{first_fold_fault, HasFaultPlace, step_bound};
 ghost use Rattle.linear_fold.specs.InsideOwnerFolds.{AreFormsOf};
-ghost use Rattle.linear_fold.specs.Kinds.{kinds_in};
+ghost use Rattle.nl_model.specs.Kinds.{kinds_in};
 ghost use Rattle.linear_program.specs.Programs.{linear_value};
 
 use crate::bodies::fold_forms;
 use crate::definitions::empty_folder;
 use crate::fold_fault::FoldFault;
-use linear_program::{Form, Interval, Kind, Linear};
-use nl_header::kinds_of;
-use nl_model::{Counts, NlFile};
+use linear_program::{Form, Interval, Linear};
+use nl_model::{Counts, NlFile, all_kinds};
 use std::alloc::{AllocError, Global};
 use texts::{Ledger, Steps, Stop};
 
@@ -41,7 +40,6 @@ fn is_maximised(file: &NlFile, objective: u32) -> bool
 }
 
 // The sides of all constraints.
-#[tactic(auto, using(crate::proofs::BodyLemmas::next_taken))]
 fn sides_of(alloc: Global, file: &NlFile) -> Result<Vec<Interval>, AllocError>
     requires { IsFile file.now }
     ensures { IfOk result (λ v. v.items ≡ file.now.sides) }
@@ -57,7 +55,6 @@ fn sides_of(alloc: Global, file: &NlFile) -> Result<Vec<Interval>, AllocError>
 }
 
 // The bounds of all variables.
-#[tactic(auto, using(crate::proofs::BodyLemmas::next_taken))]
 fn bounds_of(alloc: Global, file: &NlFile) -> Result<Vec<Interval>, AllocError>
     requires { IsFile file.now }
     ensures { IfOk result (λ v. v.items ≡ file.now.bounds) }
@@ -70,19 +67,6 @@ fn bounds_of(alloc: Global, file: &NlFile) -> Result<Vec<Interval>, AllocError>
         bounds.push(bound)?;
     }
     Ok(bounds)
-}
-
-// The kinds of all variables.
-fn all_kinds(alloc: Global, file: &NlFile) -> Result<Vec<Kind>, AllocError>
-    ensures { IfOk result (λ v. v.items ≡ kinds_in file.now) }
-{
-    let header = file.header();
-    let counts = header.counts();
-    let mut kinds = Vec::with_capacity(alloc, counts.n_var as usize)?;
-    for var in 0..counts.n_var {
-        kinds.push(kinds_of(header, var))?;
-    }
-    Ok(kinds)
 }
 
 // The folded file of the forms of its bodies and of an objective.

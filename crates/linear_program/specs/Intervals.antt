@@ -5,7 +5,7 @@ use Rattle.exact_numbers.specs.Values.{dec_value}
 use Rattle.exact_numbers.specs.declared.dec.Dec.{Dec}
 use Rattle.linear_program.specs.declared.interval.Interval.{Interval as Sides}
 use Rattle.std.specs.Option.{option_map}
-use Rattle.linear_programs.specs.Linear.{Interval}
+use Rattle.linear_programs.specs.Linear.{Interval, has_side}
 use Rattle.linear_program.specs.declared.kind.Kind.{Kind}
 use Rattle.linear_program.specs.declared.kind.Kind.TheVariants.{Continuous, Binary, Integer}
 
@@ -21,6 +21,10 @@ IsOrdered i = AreOrdered i.lo i.hi
 -- the sides as numbers
 abbrev pub interval_of : Sides → Interval
 interval_of s = record { lower = option_map dec_value s.lo; upper = option_map dec_value s.hi }
+
+-- one of the sides is there
+abbrev pub is_sided : Sides → Bool
+is_sided s = has_side (interval_of s)
 
 abbrev pub no_sides : Sides
 no_sides = record { lo = None; hi = None }

@@ -3,6 +3,7 @@ pub mod Decimals
 pub mod Fews
 pub mod Forms
 pub mod Intervals
+pub mod Numbers
 pub mod Places
 pub mod Programs
 pub mod InsideTermLists

@@ -2,6 +2,7 @@
 #![tactic(auto)]
 
 mod accumulator;
+mod by_column;
 mod coefficients;
 mod decimal_terms;
 mod few;
@@ -13,11 +14,13 @@ mod kind;
 mod linear;
 mod marked_places;
 mod merged;
+mod number;
 mod pad;
 mod sum;
 mod terms;
 mod too_wide;
 
+pub use by_column::{count_terms, empty_columns};
 pub use coefficients::Coefficients;
 pub use few::Few;
 pub use form::Form;
@@ -25,6 +28,7 @@ pub use form_terms::FormTerms;
 pub use interval::Interval;
 pub use kind::Kind;
 pub use linear::Linear;
+pub use number::Number;
 pub use pad::Pad;
 pub use sum::Sum;
 pub use terms::Terms;

@@ -7,7 +7,7 @@ use Rattle.fractions.specs.Sums.{sum_below}
 use Rattle.fractions.specs.Fits.{fits, sum_fits}
 use Rattle.linear_programs.specs.Linear.{Form}
 
--- a value of each variable
+-- a value of each variable: `at j` is that of variable j
 abbrev pub Point : Type 0
 Point = ℕ → ℚ
 

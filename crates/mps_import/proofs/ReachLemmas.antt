@@ -13,7 +13,7 @@ use Rattle.mps_model.specs.declared.kinds.RowKind.{RowKind}
 use Rattle.mps_model.specs.declared.kinds.RowKind.TheVariants.{L, E}
 use Rattle.mps_model.specs.Mps.{row_sides, is_negative, is_below_zero, size_of, usual_lower}
 use Rattle.mps_import.specs.Faults.{range_step, is_in_reach}
-use Rattle.mps_import.proofs.SideLemmas.{dec_fits}
+use Rattle.exact_numbers.proofs.Fitting.{dec_fits}
 
 -- where all but the last test pass, the sum is in reach exactly where it is a decimal
 reach_is : (kind : RowKind) (b w : ℚ) → fits b ≡ true → fits w ≡ true → sum_fits b (range_step kind w) ≡ true → is_in_reach kind b w ≡ fits_dec (b +ℚ range_step kind w)

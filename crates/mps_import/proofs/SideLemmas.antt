@@ -1,17 +1,15 @@
 -- The sides of rows and columns are decimals.
-use Rattle.std.proofs.Common.{◌≡◌, ℕ, ◌<◌, ◌∙◌, sym, ap, ap₂, refl, subst, arith, Bool, true, false, ◌&&◌, cond, nat_eq, ◌%◌, ◌^◌, ℤ, pos, neg_ℤ, unsigned_abs, List, [], ◌∷◌, map, Option, Some, None, MatchOption}
+use Rattle.std.proofs.Common.{◌≡◌, ℕ, ◌∙◌, sym, ap, ap₂, refl, subst, Bool, true, false, ◌&&◌, cond, nat_eq, List, [], ◌∷◌, map, Option, Some, None, MatchOption}
 use Rattle.std.proofs.lemmas.Bool.{not-false, and_parts}
-use Rattle.std.proofs.lemmas.Int.{ints}
 use Rattle.std.specs.Option.{option_map, option_or}
 use Rattle.std.specs.Prelude.{option_and_then}
-use Rattle.fractions.specs.Rational.{ℚ, zero_ℚ, one_ℚ, ◌+ℚ◌, neg_ℚ, decimal_value}
+use Rattle.fractions.specs.Rational.{ℚ, zero_ℚ, ◌+ℚ◌, decimal_value}
 use Rattle.fractions.specs.Fits.{fits, sum_fits}
 use Rattle.mps_import.proofs.MinusLemmas.{minus_is}
 use Rattle.linear_programs.specs.Linear.{Interval}
 use Rattle.exact_numbers.specs.Values.{dec_value, decimal_of, FitsDec, fits_dec}
 use Rattle.exact_numbers.specs.declared.dec.Dec.{Dec}
-use Rattle.exact_numbers.proofs.Bridge.{decimal-neg}
-use Rattle.exact_numbers.proofs.Signs.{decimal_whole}
+use Rattle.exact_numbers.proofs.Fitting.{dec_fits, one_fits, zero_fits}
 use Rattle.exact_numbers.proofs.Spelling.{decimal_of-decimal, fits_dec_in, fits_dec_out}
 use Rattle.linear_program.specs.declared.interval.Interval.{Interval as Sides}
 use Rattle.mps_model.specs.declared.kinds.RowKind.{RowKind}
@@ -26,31 +24,6 @@ use Rattle.mps_import.specs.Decimals.{sides_from}
 use Rattle.mps_import.specs.Faults.{range_step, is_in_reach, is_range_wide}
 
 -- ---- values of decimals
-pub dec_fits : (d : Dec) → FitsDec (dec_value d)
-dec_fits d = record { m = d.m; e = d.e; dec = d.spelled; same = refl }
-
-pub zero_fits : FitsDec zero_ℚ
-zero_fits = record { m = pos 0; e = pos 0; dec = record { mantissa = omega arith; exponent = omega arith; shortest = λ h. (refl, refl) }; same = decimal_whole (pos 0) }
-
-pub one_fits : FitsDec one_ℚ
-one_fits = record { m = pos 1; e = pos 0; dec = record { mantissa = omega arith; exponent = omega arith; shortest = λ h. absurd (omega (arith, h)) }; same = decimal_whole (pos 1) }
-
-abs_neg : (m : ℤ) → unsigned_abs (neg_ℤ m) ≡ unsigned_abs m
-abs_neg m = omega (arith, ints)
-
-pub neg_fits : (x : ℚ) → FitsDec x → FitsDec (neg_ℚ x)
-neg_fits x f =
-    record {
-      m = neg_ℤ f.m;
-      e = f.e;
-      dec = record {
-        mantissa = subst (λ n. n < 2 ^ 127) (sym (abs_neg f.m)) f.dec.mantissa;
-        exponent = f.dec.exponent;
-        shortest = λ h. let z = f.dec.shortest (ap (λ n. n % 10) (sym (abs_neg f.m)) ∙ h) in (ap neg_ℤ z.0, z.1);
-      };
-      same = decimal-neg f.m f.e ∙ ap neg_ℚ f.same;
-    }
-
 pub spelled_value : (x : ℚ) → FitsDec x → decimal_value (decimal_of x).mantissa (decimal_of x).exponent ≡ x
 spelled_value x f =
     ap (λ d. decimal_value d.mantissa d.exponent) (ap decimal_of (sym f.same) ∙ decimal_of-decimal f.m f.e f.dec) ∙ f.same

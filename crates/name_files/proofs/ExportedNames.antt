@@ -3,11 +3,11 @@ use Rattle.std.proofs.Common.{inl, inr, ℕ, zero, suc, List, [], ◌∷◌, ◌
 use Rattle.std.specs.List.{AllByRecursion}
 use Rattle.std.proofs.lemmas.Bool.{cond_both}
 use Rattle.std.proofs.lemmas.List.Elements.{All-cons, recursion_from_All}
-use Rattle.linear_programs.specs.Linear.{Form, Row, Variable, Linear}
+use Rattle.linear_programs.specs.Linear.{Form, Row, Variable, Linear, has_side}
 use Rattle.linear_programs.specs.Names.{row_name, variable_name}
 use Rattle.mps_model.specs.Mps.{MpsRow, Column}
 use Rattle.fractions.specs.Rational.{ℚ}
-use Rattle.exported_program.specs.Program.{ScaledRow, has_side, scaled_row, exported_rows, mps_row, columns_of, program_of, program, tied_program, tie, z_form, z_variable}
+use Rattle.exported_program.specs.Program.{ScaledRow, scaled_row, exported_rows, mps_row, columns_of, program_of, program, tied_program, tie, z_form, z_variable}
 use Rattle.name_files.specs.Renamed.{IsExportedName, HasExportedNames, IsNamedLinear}
 
 with_last : {X : Type 0} (P : X → Type 0) (xs : List X) (x : X) → AllByRecursion P xs → P x → AllByRecursion P (xs ++ x ∷ [])
@@ -20,7 +20,7 @@ module _ (P : List ℕ → Type 0) where
   exported factor i [] all = tt
   exported factor i (r ∷ rows) all =
       let rest = exported factor (suc i) rows all.1 in
-      cond_both (has_side r.side.lower r.side.upper) _ _ (AllByRecursion (λ (r : ScaledRow). P r.name)) (λ e. (all.0, rest)) (λ e. rest)
+      cond_both (has_side r.side) _ _ (AllByRecursion (λ (r : ScaledRow). P r.name)) (λ e. (all.0, rest)) (λ e. rest)
 
   rows_named : (rows : List ScaledRow) → AllByRecursion (λ (r : ScaledRow). P r.name) rows → All P (map (λ (r : MpsRow). r.name) (map mps_row rows))
   rows_named [] all k d lt = absurd (omega arith)

@@ -4,11 +4,10 @@
 
 mod fault;
 mod first_line;
-mod kinds;
 mod number_line;
 mod reader;
 mod rules;
 
 pub use fault::HeadFault;
-pub use kinds::kinds_of;
+pub use nl_model::kinds_of;
 pub use reader::HeaderReader;

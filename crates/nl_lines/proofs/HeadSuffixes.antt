@@ -1,14 +1,15 @@
 -- The suffixes of pieces that are all complete are those that came.
-use Rattle.std.proofs.Common.{◌≡◌, ◌∙◌, ℕ, suc, ◌%◌, ◌==◌, Bool, true, false, ◌&&◌, ◌||◌, List, [], ◌∷◌, refl, sym, ap, arith}
+use Rattle.std.proofs.Common.{◌≡◌, ◌∙◌, ℕ, suc, true, false, ◌&&◌, ◌||◌, List, [], ◌∷◌, refl, sym, ap, arith}
 use Rattle.std.specs.Prelude.{ℤ, All}
 use Rattle.std.specs.List.{fold, list_any}
 use Rattle.std.specs.Str.{bytes_eq}
 use Rattle.std.proofs.Math.Bool.{or_assoc}
-use Rattle.std.proofs.lemmas.Bool.{eqb-true, eqb-false, eq-eqb}
 use Rattle.std.proofs.lemmas.List.Folds.{list_any-append}
 use Rattle.nl_model.specs.declared.header_counts.Counts.{Counts}
 use Rattle.nl_model.specs.Draft.{Draft, empty_draft}
 use Rattle.nl_model.specs.Rules.{has_suffix, is_suffix_of}
+use Rattle.nl_model.specs.SuffixKinds.{has_same_objects}
+use Rattle.nl_model.proofs.ObjectLemmas.{same_objects-comm}
 use Rattle.nl_lines.specs.declared.head.Head.{Head}
 use Rattle.nl_lines.specs.declared.head.Head.TheVariants.{Body, Objective, Definition, Suffix}
 use Rattle.nl_lines.specs.Pieces.{Piece, is_complete}
@@ -18,17 +19,6 @@ use Rattle.nl_lines.proofs.DraftLemmas.{piece_counts}
 use Rattle.nl_lines.proofs.FreshLaw.{either}
 use Rattle.nl_lines.proofs.SeenLemmas.{or_false}
 
-swapped : (i k : ℕ) → (i == k) ≡ (k == i)
-swapped i k = by (i == k) refl
-  where
-    by : (t : Bool) → (i == k) ≡ t → (i == k) ≡ (k == i)
-    by true e = e ∙ sym (eq-eqb k i (sym (eqb-true i k e)))
-    by false e = e ∙ sym (other (k == i) refl)
-      where
-        other : (t : Bool) → (k == i) ≡ t → (k == i) ≡ false
-        other false s = s
-        other true s = absurd (eqb-false i k e (sym (eqb-true k i s)))
-
 -- with a piece more that is complete
 one_more : (kind n : ℕ) (name : List ℕ) (d : Draft) (p : Piece) (h : Head) → is_complete d.counts p ≡ true
     → has_suffix (said_by d p h).suffixes kind name ≡ (has_suffix d.suffixes kind name || (is_same_head (Suffix kind n) h && bytes_eq p.name name))
@@ -37,7 +27,7 @@ one_more kind n name d p (Objective k m) e = either (λ x. has_suffix x.suffixes
 one_more kind n name d p (Definition i j u) e = either (λ x. has_suffix x.suffixes kind name ≡ (has_suffix d.suffixes kind name || false)) d _ p (or_false _) (or_false _)
 one_more kind n name d p (Suffix k m) e =
     rw e (list_any-append (is_suffix_of kind name) d.suffixes _
-    ∙ ap (λ b. has_suffix d.suffixes kind name || b) (sym (or_false ((k % 4 == kind % 4) && bytes_eq p.name name)) ∙ ap (λ b. b && bytes_eq p.name name) (swapped (k % 4) (kind % 4))))
+    ∙ ap (λ b. has_suffix d.suffixes kind name || b) (sym (or_false (has_same_objects k kind && bytes_eq p.name name)) ∙ ap (λ b. b && bytes_eq p.name name) (same_objects-comm k kind)))
 one_more kind n name d p h e = or_false (has_suffix d.suffixes kind name)
 
 fold_suffixes : (c : Counts) (kind n : ℕ) (name : List ℕ) (pieces : List Piece) (d : Draft) → d.counts ≡ c → All (λ p. is_complete c p ≡ true) pieces

@@ -58,7 +58,8 @@ segment_of (Slopes k n) = record (plain 10 (OfObjective k) (Pairs n)) { total = 
 
 -- ---- What segments are of.
 
--- its index; suffixes of the same low two bits of the kind are for the same
+-- its index; that of suffixes is the number of their objects, so that kinds for the same objects have
+-- the same index
 abbrev pub index_of : Subject → ℕ
 index_of File = 0
 index_of (Constraint i) = i

@@ -12,7 +12,7 @@ use Rattle.exact_numbers.specs.Values.{dec_value, order_of}
 use Rattle.nl_model.specs.declared.header_counts.Counts.{Counts}
 use Rattle.linear_program.specs.declared.interval.Interval.{Interval}
 use Rattle.linear_program.specs.declared.kind.Kind.{Kind}
-use Rattle.linear_program.specs.declared.kind.Kind.TheVariants.{Continuous, Binary, Integer}
+use Rattle.linear_program.specs.declared.kind.Kind.TheVariants.{Binary}
 use Rattle.nl_model.specs.Draft.{Draft}
 use Rattle.nl_model.specs.File.{Term}
 use Rattle.nl_model.specs.HeaderRules.{defined_count}
@@ -60,7 +60,7 @@ suffix_count pieces = length (filter (λ p. is_suffix p.head) pieces)
 
 -- ---- A head.
 
--- the same letter and index; for suffixes, the same low two bits of the kind
+-- the same letter and index; suffixes, for the same objects
 abbrev pub is_same_head : Head → Head → Bool
 is_same_head a b = is_same_segment (segment_of a) (segment_of b)
 

@@ -133,6 +133,7 @@ fn index_of(subject: Subject) -> u32
         Subject::Constraint(i) => i,
         Subject::Objective(k) => k,
         Subject::Defined(i) => i,
+        // the number of its objects
         Subject::Suffixes(kind) => (kind % 4) as u32,
     }
 }

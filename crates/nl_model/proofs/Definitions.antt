@@ -29,7 +29,7 @@ mutual
   all_within_more n ds d none h = tt
   all_within_more n ds d (more t ts) h = (within_more n ds d t h.0, all_within_more n ds d ts h.1)
 
-known_more : (n : ℕ) (ds : List Definition) (d : Definition) (t : Tree) → IsTreeKnown n ds t → IsTreeKnown n (ds ++ d ∷ []) t
+pub known_more : (n : ℕ) (ds : List Definition) (d : Definition) (t : Tree) → IsTreeKnown n ds t → IsTreeKnown n (ds ++ d ∷ []) t
 known_more n ds d t h = record { formed = h.formed; within = within_more n ds d t h.within }
 
 body_more : (n : ℕ) (ds : List Definition) (d : Definition) (b : Option Tree) → IfSome b (IsTreeKnown n ds) → IfSome b (IsTreeKnown n (ds ++ d ∷ []))
@@ -41,7 +41,7 @@ objective_more : (n : ℕ) (ds : List Definition) (d : Definition) (o : Option O
 objective_more n ds d None h = h
 objective_more n ds d (Some o) h = known_more n ds d o.tree h
 
-definitions-push : (n k : ℕ) (known ds : List Definition) (x : Definition) → AreDefinitions n k known ds → IsDefinition n k (known ++ ds) x
+pub definitions-push : (n k : ℕ) (known ds : List Definition) (x : Definition) → AreDefinitions n k known ds → IsDefinition n k (known ++ ds) x
     → AreDefinitions n k known (ds ++ x ∷ [])
 definitions-push n k known [] x all fine = (subst (λ es. IsDefinition n k es x) (append-nil known) fine, tt)
 definitions-push n k known (d ∷ ds) x all fine =

@@ -97,7 +97,7 @@ given_length [] h = refl
 given_length (None ∷ os) h = let some = All-head IsSome None os h in cc
 given_length (Some o ∷ os) h = let same = given_length os (All-tail IsSome (Some o) os h) in omega arith
 
-given_known : (P : Objective → Type 0) (os : List (Option Objective)) → All (λ o. IfSome o P) os → All P (those_given os)
+pub given_known : (P : Objective → Type 0) (os : List (Option Objective)) → All (λ o. IfSome o P) os → All P (those_given os)
 given_known P [] h = All-nil P
 given_known P (None ∷ os) h = given_known P os (All-tail (λ o. IfSome o P) None os h)
 given_known P (Some o ∷ os) h =

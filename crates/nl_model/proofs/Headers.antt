@@ -1,5 +1,5 @@
 -- What the rules of headers say, as facts.
-use Rattle.std.proofs.Common.{◌≡◌, ◌+◌, ◌-◌, ◌^◌, max, Bool, true, false, ◌&&◌, leb, List, IsTrue, refl}
+use Rattle.std.proofs.Common.{◌+◌, ◌-◌, ◌^◌, max, ◌&&◌, leb, List, IsTrue}
 use Rattle.std.proofs.lemmas.Bool.{leb-true, and_parts}
 use Rattle.std.specs.Prelude.{ℤ}
 use Rattle.nl_model.specs.declared.header_counts.Counts.{Counts}

@@ -1,6 +1,7 @@
-mod Definitions
-mod Drafts
-mod Guesses
+pub mod Definitions
+pub mod Drafts
+pub mod Guesses
+pub mod ObjectLemmas
 pub mod Headers
 pub mod OneList
 pub mod Opcodes

@@ -39,7 +39,7 @@ nodes_are_tree t ns h = ap trees_of (sym (append-nil ns)) ∙ trees_of-prefix h 
 
 -- ---- a tree with these nodes is formed
 mutual
-  tree_formed : {t : Tree} {ns : List Node} → IsPrefix t ns → IsTreeFormed t
+  pub tree_formed : {t : Tree} {ns : List Node} → IsPrefix t ns → IsTreeFormed t
   tree_formed (a_number d) = tt
   tree_formed (a_variable j) = tt
   tree_formed (a_defined i) = tt

@@ -1,6 +1,8 @@
 -- The kinds of variables, by the groups in which they stand (Gay 2005, "Writing .nl Files", order
 -- of variables).
 use Rattle.std.specs.Prelude.{ℕ, ◌-◌, max, nat_lt, List, [], ◌∷◌, if◌then◌else◌}
+use Rattle.linear_programs.specs.Elements.{elements_from}
+use Rattle.nl_model.specs.File.{File}
 use Rattle.nl_model.specs.declared.header_counts.Counts.{Counts}
 use Rattle.linear_program.specs.declared.kind.Kind.{Kind}
 use Rattle.linear_program.specs.declared.kind.Kind.TheVariants.{Continuous, Binary, Integer}
@@ -38,3 +40,7 @@ kind_among (g ∷ gs) j = (if nat_lt j g.size then g.kind else kind_among gs (j 
 
 unfoldable pub variable_kind : Counts → ℕ → Kind
 variable_kind c j = kind_among (groups c) j
+
+-- the kinds of a file's variables, in order
+abbrev pub kinds_in : File → List Kind
+kinds_in f = elements_from (variable_kind f.counts) 0 f.counts.n_var

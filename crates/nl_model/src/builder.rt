@@ -53,7 +53,7 @@ impl Model for NlBuilder {
     ghost invariant = { IsBuilt };
 }
 
-// Whether the suffix has this name and a kind of the same low two bits.
+// Whether the suffix has this name and a kind for the same objects.
 fn is_suffix_of(suffix: &Suffix, kind: u8, name: &[u8]) -> bool
     ensures { result ≡ is_suffix_of kind name.now suffix.now }
 {
@@ -288,7 +288,7 @@ impl NlBuilder {
         self.defined[place]
     }
 
-    /// Whether a suffix of this name has a kind of the same low two bits.
+    /// Whether a suffix of this name has a kind for the same objects.
     pub fn has_suffix(&self, kind: u8, name: &[u8]) -> bool
         ensures { result ≡ has_suffix self.now.suffixes kind name.now }
     {

@@ -2,7 +2,7 @@
 use linear_program::Terms;
 use texts::Name;
 
-/// Values of a name for variables, constraints, objectives or the problem, by the low two bits of
+/// Values of a name for variables, constraints, objectives or the problem, by the objects of
 /// the kind (0 to 3).
 #[derive(Drop)]
 pub struct Suffix {

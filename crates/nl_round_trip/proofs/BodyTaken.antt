@@ -13,8 +13,7 @@ use Rattle.nl_model.specs.declared.header_counts.Counts.{Counts}
 use Rattle.linear_program.specs.declared.interval.Interval.{Interval}
 use Rattle.nl_model.specs.File.{Term, File}
 use Rattle.nl_model.specs.declared.objective.Objective.{Objective}
-use Rattle.nl_model.specs.declared.definition.Def.{Def as Definition}
-use Rattle.nl_model.specs.HeaderRules.{defined_count, AreCounts}
+use Rattle.nl_model.specs.HeaderRules.{defined_count}
 use Rattle.nl_model.specs.Kinds.{variable_kind}
 use Rattle.nl_model.specs.Rules.{AreTermsBelow, IsTreeKnown, IsSuffix, most_terms, term_count}
 use Rattle.linear_program.specs.Intervals.{AreOrdered, IsOrdered}
@@ -33,8 +32,8 @@ use Rattle.nl_writer.specs.Written.{body_lines}
 use Rattle.nl_round_trip.specs.InsideStandings.{rank, IsStanding}
 use Rattle.nl_round_trip.specs.InsideTaking.{IsTaken}
 use Rattle.nl_model.proofs.Headers.{counts_of_header}
-use Rattle.nl_round_trip.proofs.StandingMore.{not_repeated, standing_up, same_standing, standing_as, reaches_then}
-use Rattle.nl_round_trip.proofs.NodesTaken.{AreInRange, definitions_in_range}
+use Rattle.nl_round_trip.proofs.StandingMore.{not_repeated, ranks_up, standing_up, same_standing, standing_as, reaches_then}
+use Rattle.nl_round_trip.proofs.NodesTaken.{definitions_in_range}
 
 -- ---- lists
 
@@ -73,15 +72,15 @@ units_from c j (i ∷ intervals) h =
 pub bodies_ready : (f : File) → IsWritable f → (i : ℕ) (t : Tree) → slice_get f.bodies i ≡ Some (Some t) → IsTreeReady f.counts f.definitions t
 bodies_ready f w i t at =
     let known = IsTreeKnown f.counts.n_var f.definitions in
-    record { nodes = at_all (λ b. IfSome b HasNodes) f.bodies i (Some t) w.trees.bodies at; known = at_all (λ b. IfSome b known) f.bodies i (Some t) w.file.bodies.known at }
+    record { nodes = at_all (λ b. IfSome b HasNodes) f.bodies i (Some t) w.limits.trees.bodies at; known = at_all (λ b. IfSome b known) f.bodies i (Some t) w.file.bodies.known at }
 
 pub objectives_ready : (f : File) → IsWritable f → (k : ℕ) (x : Objective) → slice_get f.objectives k ≡ Some x → IsTreeReady f.counts f.definitions x.tree
 objectives_ready f w k x at =
     let known = IsTreeKnown f.counts.n_var f.definitions in
-    record { nodes = at_all (λ o. HasNodes o.tree) f.objectives k x w.trees.objectives at; known = at_all (λ o. known o.tree) f.objectives k x w.file.objectives.known at }
+    record { nodes = at_all (λ o. HasNodes o.tree) f.objectives k x w.limits.trees.objectives at; known = at_all (λ o. known o.tree) f.objectives k x w.file.objectives.known at }
 
 pub all_units : (f : File) → IsWritable f → AreUnits f.counts 0 f.bounds
-all_units f w = units_from f.counts 0 f.bounds (λ j i lt b. w.binary j i (omega (arith, lt, w.file.bound_count)) (subst (λ k. is_binary (variable_kind f.counts k) ≡ true) (omega arith) b))
+all_units f w = units_from f.counts 0 f.bounds (λ j i lt b. w.limits.binary j i (omega (arith, lt, w.file.bound_count)) (subst (λ k. is_binary (variable_kind f.counts k) ≡ true) (omega arith) b))
 
 pub rows_below : (n : ℕ) (rows : List (List Term)) → All (AreTermsBelow n) rows → (k : ℕ) (ts : List Term) → slice_get rows k ≡ Some ts → AllByRecursion (IsTermBelow n) ts
 rows_below n rows below k ts at = all_below n ts (at_all (AreTermsBelow n) rows k ts below at)
@@ -123,20 +122,11 @@ pub record BodySays (f : File) : Type 0 where
 parts : (a b c m : ℕ) → a + b + c ≤ m → (0 + a ≤ m) × (0 + a + b ≤ m) × (0 + a + b + c ≤ m) × (b ≤ m)
 parts a b c m h = (omega arith, omega arith, omega arith, omega arith)
 
-from_none : (a m : ℕ) → a ≤ m → 0 + a ≤ m
-from_none a m h = omega arith
-
-few_objectives : (n : ℕ) → n ≤ 256 → n ≤ 2 ^ 20
-few_objectives n h = omega arith
-
 later : (i j k : ℕ) → i ≡ j → j ≤ 2 ^ 20 → (k * 2 ^ 32 + i) ≤ ((k + 1) * 2 ^ 32 + 0)
 later i j k e h = omega arith
 
 to_bodies : rank (DefinitionHead 0 0 0) ≤ rank (Body 0)
 to_bodies = omega arith
-
-sized : (c : Counts) (ds : List Definition) → AreCounts c → AreInRange c.n_var (defined_count c) ds → IsSized c ds
-sized c ds k range = record { few = record { variables = k.variables; definitions = k.defined }; constraints = k.constraints; objectives = few_objectives c.n_obj k.objectives; range = range }
 
 pub body_says : (f : File) → IsWritable f → BodySays f
 body_says f w =
@@ -144,22 +134,22 @@ body_says f w =
     let c = f.counts in
     let file = w.file in
     let k = counts_of_header o c file.ruled in
-    let n_obj = few_objectives c.n_obj k.objectives in
-    let terms = parts (sum_by (λ x. length x.terms) f.definitions) (term_count f.terms) (term_count f.slopes) most_terms w.few_terms in
-    let nodes = parts (sum_by (λ x. tree_size x.tree) f.definitions) (sum_by body_size f.bodies) (sum_by objective_size f.objectives) (2 ^ 22) w.few_nodes in
-    let z = sized c f.definitions k (definitions_in_range c.n_var (defined_count c) [] f.definitions file.definitions) in
+    let n_obj : c.n_obj ≤ 2 ^ 20 = omega (arith, k.objectives) in
+    let terms = parts (sum_by (λ x. length x.terms) f.definitions) (term_count f.terms) (term_count f.slopes) most_terms w.limits.few_terms in
+    let nodes = parts (sum_by (λ x. tree_size x.tree) f.definitions) (sum_by body_size f.bodies) (sum_by objective_size f.objectives) (2 ^ 22) w.limits.few_nodes in
+    let z : IsSized c f.definitions = record { counts = k; range = definitions_in_range c.n_var (defined_count c) [] f.definitions file.definitions } in
     let no_slopes : Draft = record (whole_draft f) { slopes = replicate c.n_obj [] } in
-    let r1 = suffixes_reached {n = 11} [] f.suffixes refl refl (λ kind count name. refl) k
-    (recursion_from_All (λ s. IsWritableSuffix s × IsSuffix c s) f.suffixes (λ i s lt. (w.suffixes i s lt, file.suffixes.each i s lt))) file.suffixes.apart
-    (from_none (sum_by (λ x. length x.values) f.suffixes) most_terms w.few_values) (from_none (length f.suffixes) 1024 w.few_suffixes) (at_start o c) in
-    let r2 = reaches_then r1 (λ b s. definitions_reached [] f.definitions (sized c [] k tt) refl refl (λ i j usage name. not_repeated b (DefinitionHead i j usage) name s.ranks)
-    file.definitions (recursion_from_All IsPlainDefinition f.definitions (λ i d lt. record { usage = w.usages i d lt; nodes = w.trees.definitions i d lt })) terms.0 nodes.0 (standing_up s to_bodies)) in
+    let r1 = suffixes_reached {n = 11} {values = 0} {suffixes = 0} [] f.suffixes refl refl (λ kind count name. refl) k
+    (recursion_from_All (λ s. IsWritableSuffix s × IsSuffix c s) f.suffixes (λ i s lt. (w.limits.suffixes i s lt, file.suffixes.each i s lt))) file.suffixes.apart
+    (omega (arith, w.limits.few_values)) (omega (arith, w.limits.few_suffixes)) (at_start o c) in
+    let r2 = reaches_then r1 (λ b s. definitions_reached [] f.definitions (record { counts = k; range = tt }) refl refl (λ i j usage name. not_repeated b (DefinitionHead i j usage) name (ranks_up b (rank (DefinitionHead 0 0 0)) (rank (DefinitionHead i j usage)) s.ranks (omega arith)))
+    file.definitions (recursion_from_All IsPlainDefinition f.definitions (λ i d lt. record { usage = w.limits.usages i d lt; nodes = w.limits.trees.definitions i d lt })) terms.0 nodes.0 (standing_up s to_bodies)) in
     let r3 = reaches_then r2 (λ b. bodies_reached f.bodies z refl file.bodies.count (bodies_ready f w) terms.0 nodes.1 (ap (λ n. replicate n None) (sym file.bodies.count))) in
     let r4 = reaches_then r3 (λ b s. objectives_reached f.objectives z refl file.objectives.count (objectives_ready f w) terms.0 nodes.2 (ap (λ n. replicate n None) (sym file.objectives.count))
     (standing_up s (later (length f.bodies) c.n_con 2 file.bodies.count k.constraints))) in
-    let r5 = reaches_then r4 (λ b s. duals_reached f.dual_guesses k.constraints (all_below c.n_con f.dual_guesses file.dual_guesses.below) file.dual_guesses.apart w.dual_guesses terms.0 refl
+    let r5 = reaches_then r4 (λ b s. duals_reached f.dual_guesses k.constraints (all_below c.n_con f.dual_guesses file.dual_guesses.below) file.dual_guesses.apart w.limits.dual_guesses terms.0 refl
     (standing_up s (later (length f.objectives) c.n_obj 3 file.objectives.count n_obj))) in
-    let r6 = reaches_then r5 (λ b. primals_reached f.primal_guesses k.variables (all_below c.n_var f.primal_guesses file.primal_guesses.below) file.primal_guesses.apart w.primal_guesses terms.0 refl) in
+    let r6 = reaches_then r5 (λ b. primals_reached f.primal_guesses k.variables (all_below c.n_var f.primal_guesses file.primal_guesses.below) file.primal_guesses.apart w.limits.primal_guesses terms.0 refl) in
     let r7 = reaches_then r6 (λ b. sides_reached f.sides file.side_count (all_ordered f.sides file.sides) refl) in
     let r8 = reaches_then r7 (λ b. bounds_reached f.bounds file.bound_count (all_ordered f.bounds file.bounds) (all_units f w) refl) in
     let r9 = then_columns r8 (λ b. columns_reached c.n_var f.terms k.variables refl terms.3) in

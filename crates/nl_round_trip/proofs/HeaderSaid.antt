@@ -5,6 +5,7 @@ use Rattle.std.specs.List.{AllByRecursion, list_all, filter_map, flat_map}
 use Rattle.std.specs.Fmt.{decimal, signed_decimal}
 use Rattle.std.proofs.Math.Bool.{and-false}
 use Rattle.std.proofs.lemmas.Bool.{ltb-true, leb-true, le-leb, le-ltb, eqb-true, eq-eqb, not-true}
+use Rattle.std.proofs.lemmas.Bool.Decides.{nat_tests}
 use Rattle.std.proofs.lemmas.List.{length-map, map-append}
 use Rattle.texts.specs.Judged.{first_reason}
 use Rattle.texts.specs.Words.{word_at}
@@ -25,6 +26,8 @@ use Rattle.written_texts.proofs.NumbersRead.{whole_of-decimal}
 use Rattle.nl_round_trip.proofs.Reached.{AreHeadFine, header_reached, IsReached, in_body}
 use Rattle.nl_round_trip.proofs.TakenLemmas.{all_append}
 use Rattle.nl_lines.proofs.PieceLemmas.{some_are}
+use Rattle.nl_lines.specs.Pieces.{Piece}
+use Rattle.nl_segments.specs.Grammar.{is_in_header}
 
 -- ---- the first line
 
@@ -193,12 +196,13 @@ pub record AreNone (c : Counts) : Type 0 where
   pub nfunc : c.nfunc ≡ 0
 
 none_counts : (c : Counts) → has_no_refused c ≡ true → AreNone c
-none_counts c e =
-    let a = and_true ((c.n_lcon == 0) && (c.nlnc == 0) && (c.lnc == 0) && (c.nwv == 0)) (c.nfunc == 0) e in
-    let b = and_true ((c.n_lcon == 0) && (c.nlnc == 0) && (c.lnc == 0)) (c.nwv == 0) a.0 in
-    let d = and_true ((c.n_lcon == 0) && (c.nlnc == 0)) (c.lnc == 0) b.0 in
-    let f = and_true (c.n_lcon == 0) (c.nlnc == 0) d.0 in
-    record { n_lcon = eqb-true c.n_lcon 0 f.0; nlnc = eqb-true c.nlnc 0 f.1; lnc = eqb-true c.lnc 0 d.1; nwv = eqb-true c.nwv 0 b.1; nfunc = eqb-true c.nfunc 0 a.1 }
+none_counts c e = record {
+  n_lcon = grind (arith, nat_tests, e);
+  nlnc = grind (arith, nat_tests, e);
+  lnc = grind (arith, nat_tests, e);
+  nwv = grind (arith, nat_tests, e);
+  nfunc = grind (arith, nat_tests, e);
+}
 
 -- ---- the header
 
@@ -266,16 +270,19 @@ lines_fine options c h =
           (row (open_fields 10 1 (c.comb ∷ c.comc ∷ c.como ∷ c.comc1 ∷ c.como1 ∷ []) refl m.1.1.1.1.1.1.1.1.0) refl (rw (le-leb (c.comb + c.comc + c.como + c.comc1 + c.como1) (2 ^ 20) k.defined) refl) no_row))))))))),
     )
 
-pub record HeaderSays (options : List ℤ) (c : Counts) : Type 0 where
+-- the written header has these words, and is read as these options and counts
+pub record HeaderSays (options : List ℤ) (c : Counts) (header : List WordLine) : Type 0 where
   pub written : AllByRecursion IsWritten (header_lines options c)
-  pub reached : IsReached (map spaced (header_lines options c)) (in_body (header_lines options c) [])
-  pub options_are : options_in (header_lines options c) ≡ options
-  pub counts_are : counts_in (header_lines options c) ≡ c
+  pub reached : IsReached (map spaced (header_lines options c)) (in_body header [])
+  pub past : (ps : List Piece) → is_in_header (in_body header ps) ≡ false
+  pub options_are : options_in header ≡ options
+  pub counts_are : counts_in header ≡ c
 
-pub header_says : (options : List ℤ) (c : Counts) → IsHeaderReady options c → HeaderSays options c
+pub header_says : (options : List ℤ) (c : Counts) → IsHeaderReady options c → HeaderSays options c (header_lines options c)
 header_says options c h = record {
   written = lines_written options c h;
   reached = header_reached (header_lines options c) (omega arith) (lines_written options c h) (lines_fine options c h);
+  past = λ ps. refl;
   options_are = options_said options (map numbers (rows_of c)) h.all_small;
   counts_are = counts_said options c h;
 }

@@ -1,11 +1,17 @@
 pub mod BodyTaken
 pub mod HeaderSaid
+pub mod Heads
 pub mod LineSections
 pub mod NodesTaken
 pub mod PairPieces
 pub mod PairSections
+pub mod Parts
 pub mod Reached
+pub mod Rewriting
+pub mod Room
+pub mod Rows
 pub mod StandingMore
 pub mod TakenLemmas
+pub mod Texts
 pub mod TreesTaken
 pub mod WholeLaw

@@ -14,7 +14,7 @@ use Rattle.std.proofs.Math.Bool.{and-false}
 use Rattle.std.specs.List.{AllByRecursion, filter_map}
 use Rattle.nl_model.specs.Draft.{Draft}
 use Rattle.nl_model.specs.Kinds.{variable_kind}
-use Rattle.nl_lines.specs.declared.awaited.Awaited.TheVariants.{Nothing, Interval as IntervalLine, ColumnCount}
+use Rattle.nl_lines.specs.declared.awaited.Awaited.TheVariants.{Interval as IntervalLine, ColumnCount}
 use Rattle.nl_lines.specs.declared.head.Head.{Head}
 use Rattle.nl_lines.specs.declared.head.Head.TheVariants.{Sides, Bounds, ColumnCounts, Terms}
 use Rattle.nl_lines.specs.Heads.{is_head, head_of, is_in_range}
@@ -22,7 +22,7 @@ use Rattle.nl_lines.specs.Rows.{row_words}
 use Rattle.nl_lines.proofs.PieceLemmas.{longer}
 use Rattle.written_texts.proofs.WordLemmas.{row-written}
 use Rattle.exact_numbers.specs.Numbers.{dec_from, whole_of}
-use Rattle.nl_lines.specs.Pieces.{Piece, awaited_in, awaited_of, line_kind, line_count, has_tree, piece_intervals, interval_in}
+use Rattle.nl_lines.specs.Pieces.{Piece, awaited_in, line_kind, line_count, has_tree, piece_intervals, interval_in}
 use Rattle.nl_lines.specs.Saying.{with_piece}
 use Rattle.texts.specs.Words.{word_at}
 use Rattle.nl_lines.specs.Tests.{has_sides, is_empty, is_binary, is_within_unit, is_sides, is_linear, is_suffix, column_counts, wants_unit, interval_form_tests, interval_tests, column_tests, all_column_counts, are_column_counts}
@@ -31,14 +31,14 @@ use Rattle.exact_numbers.specs.Values.{text_of}
 use Rattle.written_texts.specs.Lines.{WordLine}
 use Rattle.written_texts.specs.Words.{IsKeptWord, IsWritten}
 use Rattle.nl_writer.specs.Written.{is_same, sides_line, interval_line, interval_piece, lettered, column_lines, column_piece}
-use Rattle.written_texts.proofs.WrittenWords.{word-text, plain-word, written-one, written-two, written-three, word-lettered, word-decimal}
-use Rattle.nl_round_trip.specs.InsideTaking.{row_at, rows_at, IsTaken}
+use Rattle.written_texts.proofs.WrittenWords.{word-text, plain-word, written-one, written-two, written-three, word-decimal}
+use Rattle.nl_round_trip.specs.InsideTaking.{row_at, rows_at, IsTaken, taken_none}
 use Rattle.written_texts.proofs.NumbersRead.{dec_of-text, whole_of-decimal, are_digits-decimal}
-use Rattle.nl_round_trip.proofs.TakenLemmas.{taken_then, begun_piece, IsHeadFine, head_taken, IsLineFine, AwaitsLines, with_lines, AreLinesFine, lines_taken, lines_done, lines_no_nodes, taken_none}
+use Rattle.nl_round_trip.proofs.TakenLemmas.{taken_then, begun_piece, IsHeadFine, head_taken, number_head, IsLineFine, with_lines, AreLinesFine, lines_taken, lines_done, lines_no_nodes}
 use Rattle.nl_round_trip.specs.InsideStandings.{rank, IsStanding, Reaches}
-use Rattle.nl_round_trip.proofs.StandingMore.{not_repeated, standing_as, piece_reached, reaches_none, standing_more, standing_up, same_standing}
+use Rattle.nl_round_trip.proofs.StandingMore.{added_reaches, not_repeated, standing_as, piece_added, reaches_none, standing_more, standing_up, same_standing}
 use Rattle.nl_round_trip.proofs.PairPieces.{uncounted, decimal_no_head}
-use Rattle.std.proofs.lemmas.Grind.{flat_map-append}
+use Rattle.nl_segments.proofs.PairHeld.{columns-append as columns_more}
 use Rattle.std.proofs.lemmas.Bool.{eq-eqb}
 use Rattle.std.proofs.lemmas.List.Sums.{sum_by-cons, length-filter, count_by-le-length}
 use Rattle.std.specs.Fmt.{decimal}
@@ -109,10 +109,6 @@ interval_fine o c before p i h awaited =
       fine = tests_fine (is_sides p.head) (wants_unit c p) (interval_line i) i r h.ordered h.unit;
     }
 
-intervals_taken : (o : List ℤ) (c : Counts) (before : List Piece) (p : Piece) (n : ℕ) (intervals : List Interval) → AwaitsLines c p IntervalLine (length intervals) → AreLinesFine interval_line (IsIntervalFine c) p n intervals
-    → IsTaken o c (before ++ p ∷ []) n (map interval_line intervals) (before ++ with_lines p n (map interval_line intervals) ∷ [])
-intervals_taken o c before p n intervals a h = lines_taken o c before interval_line IntervalLine (IsIntervalFine c) (interval_fine o c before) p n intervals a h
-
 -- ---- whole pieces of intervals
 
 interval_read : (n : ℕ) (i : Interval) → interval_in (row_words (row_at n (interval_line i))) ≡ Some i
@@ -135,14 +131,6 @@ pub record IsIntervalHead (c : Counts) (head : Head) (count : ℕ) : Type 0 wher
   pub no_suffix : is_suffix head ≡ false
   pub columns : (p : Piece) → column_counts p head ≡ []
 
-interval_piece_taken : (o : List ℤ) (c : Counts) (before : List Piece) (n : ℕ) (words : WordLine) (head : Head) (intervals : List Interval) → IsHeadFine c before words head → IsIntervalHead c head (length intervals)
-    → AreLinesFine interval_line (IsIntervalFine c) (begun_piece n words head) (n + 1) intervals
-    → IsTaken o c before n (words ∷ map interval_line intervals) (before ++ rows_of_intervals n words head intervals ∷ [])
-interval_piece_taken o c before n words head intervals h k fine =
-    let p = begun_piece n words head in
-    taken_then (head_taken h) refl
-    (intervals_taken o c before p (n + 1) intervals (record { kind = k.kind; lacks = omega (arith, k.size) }) fine)
-
 -- ---- a section of intervals
 
 intervals_reached : {o : List ℤ} {c : Counts} {before : List Piece} {d e : Draft} {n next after linear values nodes suffixes : ℕ} (words : WordLine) (head : Head) (intervals : List Interval) → IsHeadFine c before words head → IsIntervalHead c head (length intervals)
@@ -151,8 +139,10 @@ intervals_reached : {o : List ℤ} {c : Counts} {before : List Piece} {d e : Dra
     → IsStanding o c before d next linear values nodes suffixes → Reaches o c before n (words ∷ map interval_line intervals) e after linear values nodes suffixes
 intervals_reached {o = o} {c = c} {before = before} {n = n} {linear = linear} {values = values} {nodes = nodes} words head intervals h k fine up above said s =
     let p = rows_of_intervals n words head intervals in
-    piece_reached p (interval_piece_taken o c before n words head intervals h k fine) (lines_done c n words head interval_line intervals k.size k.alone) (k.columns p) up above (said (intervals_read (n + 1) intervals))
-    (uncounted is_linear p k.not_linear linear) (uncounted is_suffix p k.no_suffix values) (omega (arith, lines_no_nodes c n words head (map interval_line intervals) k.alone)) (rw k.no_suffix (omega arith)) s
+    let lines = lines_taken o c before interval_line IntervalLine (IsIntervalFine c) (interval_fine o c before) (begun_piece n words head) (n + 1) intervals (record { kind = k.kind; lacks = omega (arith, k.size) }) fine in
+    added_reaches p (k.columns p)
+    (piece_added p (taken_then (head_taken h) refl lines) (lines_done c n words head interval_line intervals k.size k.alone) up above (said (intervals_read (n + 1) intervals))
+    (uncounted is_linear p k.not_linear linear) (uncounted is_suffix p k.no_suffix values) (omega (arith, lines_no_nodes c n words head (map interval_line intervals) k.alone)) (rw k.no_suffix (omega arith)) s)
 
 -- ---- the intervals of constraints
 
@@ -160,16 +150,13 @@ sides_fine : (c : Counts) (p : Piece) (n : ℕ) (intervals : List Interval) → 
 sides_fine c p n [] e ordered = tt
 sides_fine c p n (i ∷ intervals) e ordered = (record { ordered = ordered.0; unit = rw e refl }, sides_fine c (longer p (row_at n (interval_line i))) (n + 1) intervals e ordered.1)
 
-sides_head : (c : Counts) (before : List Piece) → awaited_of c before ≡ Nothing → AllByRecursion (λ p. rank p.head < rank Sides) before → IsHeadFine c before (codes "r" ∷ []) Sides
-unfolding head_of is_in_range
-sides_head c before done ranks =
-    record { written = written-one (codes "r") (digit_word 114 (omega arith)); form = (refl, refl, refl); read = refl; done = done; fine = rw (not_repeated before Sides [] ranks) refl }
-
 pub sides_reached : {o : List ℤ} {c : Counts} {before : List Piece} {d : Draft} {n linear values nodes suffixes : ℕ} (intervals : List Interval) → length intervals ≡ c.n_con → AllByRecursion (λ i. is_empty i ≡ false) intervals → d.sides ≡ []
     → IsStanding o c before d (rank Sides) linear values nodes suffixes → Reaches o c before n (interval_piece (codes "r") intervals) (record d { sides = intervals }) (rank Bounds) linear values nodes suffixes
+unfolding head_of is_in_range
 sides_reached {d = d} [] size ordered none s = reaches_none (standing_as s (omega arith) (λ j. record d { sides = none j }) refl refl refl refl)
 sides_reached {c = c} {before = before} {d = d} {n = n} (i ∷ intervals) size ordered none s =
-    intervals_reached (codes "r" ∷ []) Sides (i ∷ intervals) (sides_head c before s.done s.ranks) (record { kind = refl; size = sym size; alone = refl; not_linear = refl; no_suffix = refl; columns = λ p. refl })
+    intervals_reached (codes "r" ∷ []) Sides (i ∷ intervals) (record { written = written-one (codes "r") (digit_word 114 (omega arith)); form = (refl, refl, refl); read = refl; done = s.done; fine = rw (not_repeated before Sides [] s.ranks) refl })
+    (record { kind = refl; size = sym size; alone = refl; not_linear = refl; no_suffix = refl; columns = λ p. refl })
     (sides_fine c (begun_piece n (codes "r" ∷ []) Sides) (n + 1) (i ∷ intervals) refl ordered) (omega arith) (omega arith) (λ all. ap₂ (λ xs ys. record d { sides = xs ++ ys }) none all) s
 
 -- ---- the intervals of variables
@@ -186,16 +173,13 @@ bounds_fine c p n j (i ∷ intervals) e k ordered units =
     let unit : (wants_unit c p && not (is_within_unit i)) ≡ false = rw (e, k) units.0 in
     (record { ordered = ordered.0; unit = unit }, bounds_fine c (longer p (row_at n (interval_line i))) (n + 1) (j + 1) intervals e (omega (arith, length-append p.rows (row_at n (interval_line i) ∷ []), k)) ordered.1 units.1)
 
-bounds_head : (c : Counts) (before : List Piece) → awaited_of c before ≡ Nothing → AllByRecursion (λ p. rank p.head < rank Bounds) before → IsHeadFine c before (codes "b" ∷ []) Bounds
-unfolding head_of is_in_range
-bounds_head c before done ranks =
-    record { written = written-one (codes "b") (digit_word 98 (omega arith)); form = (refl, refl, refl); read = refl; done = done; fine = rw (not_repeated before Bounds [] ranks) refl }
-
 pub bounds_reached : {o : List ℤ} {c : Counts} {before : List Piece} {d : Draft} {n linear values nodes suffixes : ℕ} (intervals : List Interval) → length intervals ≡ c.n_var → AllByRecursion (λ i. is_empty i ≡ false) intervals → AreUnits c 0 intervals → d.bounds ≡ []
     → IsStanding o c before d (rank Bounds) linear values nodes suffixes → Reaches o c before n (interval_piece (codes "b") intervals) (record d { bounds = intervals }) (rank (ColumnCounts 0)) linear values nodes suffixes
+unfolding head_of is_in_range
 bounds_reached {d = d} [] size ordered units none s = reaches_none (standing_as s (omega arith) (λ j. record d { bounds = none j }) refl refl refl refl)
 bounds_reached {c = c} {before = before} {d = d} {n = n} (i ∷ intervals) size ordered units none s =
-    intervals_reached (codes "b" ∷ []) Bounds (i ∷ intervals) (bounds_head c before s.done s.ranks) (record { kind = refl; size = sym size; alone = refl; not_linear = refl; no_suffix = refl; columns = λ p. refl })
+    intervals_reached (codes "b" ∷ []) Bounds (i ∷ intervals) (record { written = written-one (codes "b") (digit_word 98 (omega arith)); form = (refl, refl, refl); read = refl; done = s.done; fine = rw (not_repeated before Bounds [] s.ranks) refl })
+    (record { kind = refl; size = sym size; alone = refl; not_linear = refl; no_suffix = refl; columns = λ p. refl })
     (bounds_fine c (begun_piece n (codes "b" ∷ []) Bounds) (n + 1) 0 (i ∷ intervals) refl refl ordered units) (omega arith) (omega arith) (λ all. ap₂ (λ xs ys. record d { bounds = xs ++ ys }) none all) s
 
 -- ---- the numbers of columns, a line each
@@ -257,19 +241,6 @@ counts_read n (k ∷ ks) all =
 
 -- ---- the piece of columns
 
-columns_head : (c : Counts) (before : List Piece) (m : ℕ) → c.n_var ≤ 2 ^ 20 → c.n_var ≡ suc m → awaited_of c before ≡ Nothing → AllByRecursion (λ p. rank p.head < rank (ColumnCounts m)) before
-    → IsHeadFine c before (lettered (codes "k") m ∷ []) (ColumnCounts m)
-unfolding head_of is_in_range
-columns_head c before m most e done ranks =
-    let small : m < 2 ^ 31 = omega arith in
-    record {
-      written = written-one (lettered (codes "k") m) (word-lettered 107 m (omega arith) (lt_trans small (lit< tt)));
-      form = (refl, refl, refl);
-      read = rw (whole_of-decimal m small, eq-eqb (m + 1) c.n_var (omega (arith, e))) refl;
-      done = done;
-      fine = rw (not_repeated before (ColumnCounts m) [] ranks) refl;
-    }
-
 -- written lines that are taken and hold these numbers of columns
 pub record ReachesColumns (o : List ℤ) (c : Counts) (before : List Piece) (n : ℕ) (lines : List WordLine) (d : Draft) (next linear values nodes suffixes : ℕ) (counts : List ℕ) : Type 0 where
   pub after : List Piece
@@ -283,6 +254,7 @@ columns_of n m ks = with_lines (begun_piece n (lettered (codes "k") m ∷ []) (C
 columns_taken : (o : List ℤ) (c : Counts) (before : List Piece) (d : Draft) (n m linear values nodes suffixes : ℕ) (rows : List (List Term)) → c.n_var ≤ 2 ^ 20 → c.n_var ≡ suc m → term_count rows ≤ most_terms
     → IsStanding o c before d (rank (ColumnCounts 0)) linear values nodes suffixes
     → ReachesColumns o c before n (column_piece (suc m) rows) d (rank (Terms 0 0)) linear values nodes suffixes (counts_from rows 0 m)
+unfolding head_of is_in_range
 columns_taken o c before d n m linear values nodes suffixes rows most e few s =
     let ks = counts_from rows 0 m in
     let words : WordLine = lettered (codes "k") m ∷ [] in
@@ -292,14 +264,15 @@ columns_taken o c before d n m linear values nodes suffixes rows most e few s =
     let small = counts_small rows 0 m few in
     let size = counts_size rows 0 m in
     let lines = lines_taken o c before count_line ColumnCount (λ q k. IsSmall k) (number_line o c before) p0 (n + 1) ks (record { kind = refl; lacks = omega (arith, size) }) (all_lines_fine p0 (n + 1) ks small) in
-    let taken = taken_then (head_taken (columns_head c before m most e s.done s.ranks)) refl lines in
+    let low : m < 2 ^ 31 = omega (arith, most, e) in
+    let fine = number_head 107 m head (omega arith) low (refl, refl, refl) (rw (whole_of-decimal m low, eq-eqb (m + 1) c.n_var (omega (arith, e))) refl) s.done (rw (not_repeated before head [] s.ranks) refl) in
+    let taken = taken_then (head_taken fine) refl lines in
     let more = standing_more {after = rank (Terms 0 0)} p s (lines_done c n words head count_line ks (sym size) refl) (omega arith) (omega arith) in
     record {
       after = before ++ p ∷ [];
       taken = subst (λ ls. IsTaken o c before n (words ∷ ls) (before ++ p ∷ [])) (counts_lines rows 0 m) taken;
       stands = same_standing more refl (omega arith) (omega arith) (omega (arith, lines_no_nodes c n words head (map count_line ks) refl)) (omega arith);
-      columns = flat_map-append (λ p. column_counts p p.head) before (p ∷ [])
-          ∙ ap (λ xs. all_column_counts before ++ xs) (append-nil (column_counts p head) ∙ counts_read (n + 1) ks small);
+      columns = columns_more before p ∙ ap (λ xs. all_column_counts before ++ xs) (counts_read (n + 1) ks small);
     }
 
 -- the numbers of the piece of columns, which is there where there is a variable

@@ -19,35 +19,36 @@ use Rattle.nl_model.specs.declared.node.Node.{Node}
 use Rattle.nl_model.specs.declared.node.Node.TheVariants.{Num, Var, Defined, Op}
 use Rattle.nl_model.specs.Draft.{Draft}
 use Rattle.nl_model.specs.declared.definition.Def.{Def as Definition}
-use Rattle.nl_model.specs.HeaderRules.{defined_count}
+use Rattle.nl_model.specs.HeaderRules.{AreCounts, defined_count}
 use Rattle.nl_model.specs.Nodes.{opcode_of, awaited, operand_count, IsPrefix, a_number, a_variable, a_defined, an_operation, ArePrefixes, no_tree, one_more}
 use Rattle.nl_model.specs.Rules.{is_defined, IsTreeWithin, AreTreesWithin, AreDefinitions}
 use Rattle.nl_model.proofs.Opcodes.{opcode_of-known}
 use Rattle.nl_model.proofs.Prefixes.{awaited-push}
+use Rattle.nl_lines.specs.declared.awaited.Awaited.{Awaited}
 use Rattle.nl_lines.specs.declared.awaited.Awaited.TheVariants.{Nothing, Node as NodeLine, OperandCount}
-use Rattle.nl_lines.specs.declared.head.Head.{Head}
-use Rattle.nl_lines.specs.declared.head.Head.TheVariants.{Body, Objective, Definition as DefinitionHead}
 use Rattle.nl_lines.specs.Heads.{is_head}
 use Rattle.nl_lines.specs.declared.pending.Pending.{Pending}
 use Rattle.nl_lines.specs.Nodes.{node_in, opcode_in, fixed_node, counted_opcode, variable_node, only_nodes, nodes_from, pending_from}
-use Rattle.nl_lines.specs.Pieces.{Piece, awaited_in, tree_awaits, line_kind, line_count, pair_count, has_tree, tree_rows, piece_nodes, piece_pending, is_complete}
+use Rattle.nl_lines.specs.Pieces.{Piece, awaited_in, tree_awaits, line_kind, line_count, pair_count, has_tree, tree_rows, piece_nodes, piece_pending}
 use Rattle.nl_lines.specs.Rows.{NumberedRow}
-use Rattle.nl_lines.specs.Saying.{draft_of, with_piece, said_by, if_complete}
+use Rattle.nl_lines.specs.Saying.{draft_of}
 use Rattle.nl_lines.specs.Tests.{node_form_tests, node_tests, operand_tests, node_total}
 use Rattle.nl_lines.specs.declared.fault.NlReason.TheVariants.{TooLarge}
 use Rattle.nl_lines.proofs.RowLemmas.{tree_count, late_tree, last_nodes, last_pending, nodes-more, pending-more}
 use Rattle.texts.proofs.FirstReasons.{reason_after}
+use Rattle.nl_lines.proofs.DraftLemmas.{draft_before}
 use Rattle.nl_lines.proofs.NodeLemmas.{not_large}
-use Rattle.nl_lines.proofs.PieceLemmas.{longer, draft-append}
+use Rattle.nl_segments.proofs.NodeSteps.{tree_says}
+use Rattle.nl_lines.proofs.PieceLemmas.{longer}
 use Rattle.exact_numbers.specs.Values.{text_of}
 use Rattle.written_texts.specs.Lines.{WordLine}
 use Rattle.nl_writer.specs.Trees.{operator_lines, node_lines}
 use Rattle.written_texts.specs.Words.{IsWritten}
 use Rattle.written_texts.proofs.WordLemmas.{row-written}
 use Rattle.written_texts.proofs.WrittenWords.{word-lettered, word-number, word-decimal, written-one}
-use Rattle.nl_round_trip.specs.InsideTaking.{row_at, rows_at, IsTaken}
+use Rattle.nl_round_trip.specs.InsideTaking.{row_at, rows_at, IsTaken, taken_none}
 use Rattle.written_texts.proofs.NumbersRead.{whole_of-decimal, are_digits-decimal, dec_of-text}
-use Rattle.nl_round_trip.proofs.TakenLemmas.{with_lines, taken_none, taken_then, IsLineFine, line_taken, all_append}
+use Rattle.nl_round_trip.proofs.TakenLemmas.{with_lines, taken_then, IsLineFine, line_taken, all_append}
 use Rattle.nl_round_trip.proofs.PairPieces.{decimal_no_head}
 use Rattle.nl_lines.proofs.TotalLemmas.{nodes-append}
 
@@ -90,11 +91,7 @@ IsNodeFine c ds (Var j) = j < c.n_var
 IsNodeFine c ds (Defined i) = (c.n_var ≤ i) × (i < c.n_var + defined_count c) × (is_defined ds i ≡ true)
 IsNodeFine c ds (Op o k) = HasCount (class_of o) k × (k ≤ 2 ^ 22)
 
-pub record HasFewIndices (c : Counts) : Type 0 where
-  pub variables : c.n_var ≤ 2 ^ 20
-  pub definitions : defined_count c ≤ 2 ^ 20
-
-words_written : (c : Counts) (ds : List Definition) (m : Node) → HasFewIndices c → IsNodeFine c ds m → IsWritten (node_words m)
+words_written : (c : Counts) (ds : List Definition) (m : Node) → AreCounts c → IsNodeFine c ds m → IsWritten (node_words m)
 words_written c ds (Num d) few h = written-one (codes "n" ++ text_of d) (word-number 110 d (omega arith))
 words_written c ds (Var j) few h = let small : j < 2 ^ 31 = omega arith in written-one (codes "v" ++ decimal j) (word-lettered 118 j (omega arith) (lt_trans small (lit< tt)))
 words_written c ds (Defined i) few h = let small : i < 2 ^ 31 = omega arith in written-one (codes "v" ++ decimal i) (word-lettered 118 i (omega arith) (lt_trans small (lit< tt)))
@@ -107,7 +104,7 @@ no_head : (m : Node) → is_head (node_words m) ≡ false
 no_head (Num d) = refl
 no_head m = refl
 
-form_fine : (c : Counts) (d : Draft) (m : Node) → HasFewIndices c → IsNodeFine c d.definitions m → first_reason (node_form_tests c d (node_words m)) ≡ None
+form_fine : (c : Counts) (d : Draft) (m : Node) → AreCounts c → IsNodeFine c d.definitions m → first_reason (node_form_tests c d (node_words m)) ≡ None
 unfolding node_form_tests
 form_fine c d (Num x) few h = rw (dec_of-text x) refl
 form_fine c d (Var j) few h =
@@ -169,51 +166,10 @@ tree_done c p ns h none =
     let all : (awaited (only_nodes (piece_nodes c p)) == 0) ≡ true = rw (h.nodes, none) refl in
     tree_awaited c p ns None h ∙ rw all refl
 
-pub count_awaited : (c : Counts) (p : Piece) (ns : List Node) (q : Pending) → IsInTree c p ns (Some q) → awaited_in c p ≡ OperandCount
-count_awaited c p ns q h = tree_awaited c p ns (Some q) h
-
--- a piece that is not complete says nothing yet
-not_said : (d more : Draft) (p : Piece) → is_complete d.counts p ≡ false → if_complete d p more ≡ d
-not_said d more p e = rw e refl
-
-pub unsaid : (d : Draft) (p : Piece) → has_tree p.head ≡ true → is_complete d.counts p ≡ false → with_piece d p ≡ d
-unsaid d p tree e = by p.head tree
-  where
-    by : (h : Head) → has_tree h ≡ true → said_by d p h ≡ d
-    by (Body i) t = not_said d _ p e
-    by (Objective k m) t = not_said d _ p e
-    by (DefinitionHead i j u) t = not_said d _ p e
-    by h t = absurd cc
-
--- the pieces before say the draft d, of a file with these counts
-pub record SaysBefore (o : List ℤ) (c : Counts) (before : List Piece) (d : Draft) : Type 0 where
-  pub said : draft_of o c before ≡ d
-  pub counts : d.counts ≡ c
-
-said_within : (o : List ℤ) (c : Counts) (before : List Piece) (d : Draft) (p : Piece) (ns : List Node) → SaysBefore o c before d → IsInTree c p ns None → 0 < awaited ns → draft_of o c (before ++ p ∷ []) ≡ d
-said_within o c before d p ns s h some =
-    let incomplete : is_complete d.counts p ≡ false = rw (s.counts, node_awaited c p ns h some) refl in
-    draft-append o c before p ∙ ap (λ d. with_piece d p) s.said ∙ unsaid d p h.tree incomplete
-
 node_room : (c : Counts) (before : List Piece) (p : Piece) (ns : List Node) (pending : Option Pending) → IsInTree c p ns pending → node_total c before + length ns < 2 ^ 22 → node_total c (before ++ p ∷ []) < 2 ^ 22
 node_room c before p ns pending h room =
     let size : length (piece_nodes c p) ≡ length ns = sym (length-map (piece_nodes c p) (λ n. n.node)) ∙ ap (length {A = Node}) h.nodes in
     omega (arith, nodes-append c before p, size, room)
-
--- ---- the row of a node
-
-node_line : (o : List ℤ) (c : Counts) (before : List Piece) (d : Draft) (p : Piece) (ns : List Node) (m : Node) → HasFewIndices c → SaysBefore o c before d → IsInTree c p ns None → 0 < awaited ns
-    → IsNodeFine c d.definitions m → node_total c before + length ns < 2 ^ 22 → IsLineFine o c before p (node_words m) NodeLine
-unfolding node_tests
-node_line o c before d p ns m few s h some fine room =
-    let form : first_reason (node_form_tests c (draft_of o c (before ++ p ∷ [])) (node_words m)) ≡ None =
-    ap (λ e. first_reason (node_form_tests c e (node_words m))) (said_within o c before d p ns s h some) ∙ form_fine c d m few fine in
-    record {
-      written = words_written c d.definitions m few fine;
-      is = no_head m;
-      awaited = node_awaited c p ns h some;
-      fine = reason_after (node_form_tests c (draft_of o c (before ++ p ∷ [])) (node_words m)) ((nat_le (2 ^ 22) (node_total c (before ++ p ∷ [])), TooLarge) ∷ []) form ∙ not_large (node_total c (before ++ p ∷ [])) (node_room c before p ns None h room);
-    }
 
 -- what a row says after no pending opcode
 abbrev IsRead : ℕ → WordLine → Option Node → Option ℕ → Type 0
@@ -227,34 +183,9 @@ variable_read : (n i : ℕ) → i < 2 ^ 31 → IsRead n ((codes "v" ++ decimal i
 unfolding node_in opcode_in
 variable_read n i small = (rw (whole_of-decimal i small) refl, refl)
 
-operator_read : (n o k : ℕ) (x : Operands) → o < 2 ^ 31 → operands_of o ≡ Some x → FitsOperands (Some x) k → IsRead n ((codes "o" ++ decimal o) ∷ []) (fixed_node o (Some x)) (counted_opcode o (Some x))
+operator_read : (n o : ℕ) (x : Operands) → o < 2 ^ 31 → operands_of o ≡ Some x → IsRead n ((codes "o" ++ decimal o) ∷ []) (fixed_node o (Some x)) (counted_opcode o (Some x))
 unfolding node_in opcode_in
-operator_read n o k x small e f = (rw (whole_of-decimal o small, e) refl, rw (whole_of-decimal o small, e) refl)
-
--- the piece with the row of a node alone
-alone_in : (c : Counts) (p : Piece) (ns : List Node) (m : Node) (n : ℕ) (words : WordLine) → IsInTree c p ns None → IsWritten words → IsRead c.n_var words (Some m) None → IsInTree c (longer p (row_at n words)) (ns ++ m ∷ []) None
-alone_in c p ns m n words h w r = in_tree-more (row_at n words) (rw (row-written words w, r.0) refl) (rw (row-written words w, r.1) refl) h
-
--- lines that are taken within an expression, and the nodes after them
-pub record TakesNodes (o : List ℤ) (c : Counts) (before : List Piece) (p : Piece) (n : ℕ) (lines : List WordLine) (ns : List Node) : Type 0 where
-  pub taken : IsTaken o c (before ++ p ∷ []) n lines (before ++ with_lines p n lines ∷ [])
-  pub within : IsInTree c (with_lines p n lines) ns None
-
-one_row : (o : List ℤ) (c : Counts) (before : List Piece) (d : Draft) (p : Piece) (ns : List Node) (m r : Node) (n : ℕ) → HasFewIndices c → SaysBefore o c before d → IsInTree c p ns None → 0 < awaited ns
-    → IsNodeFine c d.definitions m → node_total c before + length ns < 2 ^ 22 → IsRead c.n_var (node_words m) (Some r) None → TakesNodes o c before p n (node_words m ∷ []) (ns ++ r ∷ [])
-one_row o c before d p ns m r n few s h some fine room read = record {
-  taken = line_taken o c before p n (node_words m) NodeLine (node_line o c before d p ns m few s h some fine room);
-  within = alone_in c p ns r n (node_words m) h (words_written c d.definitions m few fine) read;
-}
-
--- ---- an opcode with its number of operands on the next row
-
-opcode_in_tree : (c : Counts) (p : Piece) (ns : List Node) (n o : ℕ) → o < 2 ^ 31 → operands_of o ≡ Some OnNextLine → IsWritten ((codes "o" ++ decimal o) ∷ []) → IsInTree c p ns None
-    → IsInTree c (longer p (row_at n ((codes "o" ++ decimal o) ∷ []))) ns (Some (record { opcode = o; line = n }))
-opcode_in_tree c p ns n o small e w h =
-    let words : WordLine = (codes "o" ++ decimal o) ∷ [] in
-    let read = operator_read c.n_var o 1 OnNextLine small e (omega arith) in
-    subst (λ ms. IsInTree c (longer p (row_at n words)) ms (Some (record { opcode = o; line = n }))) (append-nil ns) (in_tree-more {ms = []} {pending = None} (row_at n words) (rw (row-written words w, read.0) refl) (rw (row-written words w, read.1) refl) h)
+operator_read n o x small e = (rw (whole_of-decimal o small, e) refl, rw (whole_of-decimal o small, e) refl)
 
 count_fine : (k : ℕ) → 1 ≤ k → k ≤ 2 ^ 22 → first_reason (operand_tests (decimal k ∷ [])) ≡ None
 unfolding operand_tests
@@ -262,20 +193,7 @@ count_fine k some few =
     let small : k < 2 ^ 31 = omega arith in
     rw (are_digits-decimal k small, whole_of-decimal k small, lt-ltb 0 k some, lt-ltb k (2 ^ 22 + 1) (omega arith)) refl
 
-count_line : (o : List ℤ) (c : Counts) (before : List Piece) (p : Piece) (ns : List Node) (q : Pending) (k : ℕ) → 1 ≤ k → k ≤ 2 ^ 22 → IsInTree c p ns (Some q) → IsLineFine o c before p (decimal k ∷ []) OperandCount
-count_line o c before p ns q k some few h =
-    let small : k < 2 ^ 31 = omega arith in
-    record {
-      written = written-one (decimal k) (word-decimal k (lt_trans small (lit< tt)));
-      is = decimal_no_head k [] small;
-      awaited = count_awaited c p ns q h;
-      fine = count_fine k some few;
-    }
-
-count_in_tree : (c : Counts) (p : Piece) (ns : List Node) (q : Pending) (n k : ℕ) → k < 2 ^ 31 → IsInTree c p ns (Some q) → IsInTree c (longer p (row_at n (decimal k ∷ []))) (ns ++ Op q.opcode k ∷ []) None
-count_in_tree c p ns q n k small h =
-    let words : WordLine = decimal k ∷ [] in
-    in_tree-more {ms = Op q.opcode k ∷ []} {pending = Some q} (row_at n words) (rw (row-written words (written-one (decimal k) (word-decimal k (lt_trans small (lit< tt)))), whole_of-decimal k small) refl) refl h
+-- ---- lines within an expression
 
 rows_at-append : (n : ℕ) (xs ys : List WordLine) → rows_at n (xs ++ ys) ≡ rows_at n xs ++ rows_at (n + length xs) ys
 rows_at-append n [] ys = ap (λ k. rows_at k ys) (omega arith)
@@ -285,85 +203,106 @@ pub with_lines-append : (p : Piece) (n m : ℕ) (xs ys : List WordLine) → m �
 with_lines-append p n m xs ys e =
     ap (λ rs. record p { rows = rs }) (append_assoc p.rows (rows_at n xs) (rows_at m ys) ∙ ap (λ rs. p.rows ++ rs) (ap (λ k. rows_at n xs ++ rows_at k ys) e ∙ sym (rows_at-append n xs ys)))
 
-takes_then : (o : List ℤ) (c : Counts) (before : List Piece) (p : Piece) (n m : ℕ) (xs ys : List WordLine) (ns ms : List Node) → m ≡ n + length xs → TakesNodes o c before p n xs ns → TakesNodes o c before (with_lines p n xs) m ys ms
-    → TakesNodes o c before p n (xs ++ ys) ms
-takes_then o c before p n m xs ys ns ms e f g =
-    let same = with_lines-append p n m xs ys e in
-    record {
-      taken = subst (λ q. IsTaken o c (before ++ p ∷ []) n (xs ++ ys) (before ++ q ∷ [])) same
-          (taken_then f.taken e g.taken);
-      within = subst (λ q. IsInTree c q ms None) same g.within;
-    }
-
-counted_rows : (o : List ℤ) (c : Counts) (before : List Piece) (d : Draft) (p : Piece) (ns : List Node) (opcode k n : ℕ) → HasFewIndices c → SaysBefore o c before d → IsInTree c p ns None → 0 < awaited ns
-    → IsNodeFine c d.definitions (Op opcode k) → node_total c before + length ns < 2 ^ 22 → operands_of opcode ≡ Some OnNextLine → opcode < 2 ^ 31 → 1 ≤ k
-    → TakesNodes o c before p n (((codes "o" ++ decimal opcode) ∷ []) ∷ (decimal k ∷ []) ∷ []) (ns ++ Op opcode k ∷ [])
-counted_rows o c before d p ns opcode k n few s h some fine room e small more =
-    let words : WordLine = (codes "o" ++ decimal opcode) ∷ [] in
-    let count : WordLine = decimal k ∷ [] in
-    let q : Pending = record { opcode = opcode; line = n } in
-    let first = longer p (row_at n words) in
-    let least : k < 2 ^ 31 = omega (arith, fine.1) in
-    let one = line_taken o c before p n words NodeLine (node_line o c before d p ns (Op opcode k) few s h some fine room) in
-    let in_first = opcode_in_tree c p ns n opcode small e (words_written c d.definitions (Op opcode k) few fine) h in
-    let two = line_taken o c before first (n + 1) count OperandCount (count_line o c before first ns q k more fine.1 in_first) in
-    let in_second = count_in_tree c first ns q (n + 1) k least in_first in
-    let same = with_lines-append p n (n + 1) (words ∷ []) (count ∷ []) refl in
-    record {
-      taken = subst (λ q. IsTaken o c (before ++ p ∷ []) n (words ∷ count ∷ []) (before ++ q ∷ [])) same
-          (taken_then one refl two);
-      within = subst (λ q. IsInTree c q (ns ++ Op opcode k ∷ []) None) same in_second;
-    }
-
--- ---- any node
-
-pub node_taken : (o : List ℤ) (c : Counts) (before : List Piece) (d : Draft) (p : Piece) (ns : List Node) (m : Node) (n : ℕ) → HasFewIndices c → SaysBefore o c before d → IsInTree c p ns None → 0 < awaited ns
-    → IsNodeFine c d.definitions m → node_total c before + length ns < 2 ^ 22 → TakesNodes o c before p n (node_lines m) (ns ++ m ∷ [])
-node_taken o c before d p ns (Num x) n few s h some fine room = one_row o c before d p ns (Num x) (Num x) n few s h some fine room (number_read c.n_var x)
-node_taken o c before d p ns (Var j) n few s h some fine room =
-    let read = variable_read c.n_var j (omega arith) in
-    let same : variable_node c.n_var j ≡ Var j = rw (lt-ltb j c.n_var fine) refl in
-    one_row o c before d p ns (Var j) (Var j) n few s h some fine room (read.0 ∙ ap Some same, read.1)
-node_taken o c before d p ns (Defined i) n few s h some fine room =
-    let read = variable_read c.n_var i (omega (arith, fine.0, fine.1)) in
-    let same : variable_node c.n_var i ≡ Defined i = rw (le-ltb i c.n_var fine.0) refl in
-    one_row o c before d p ns (Defined i) (Defined i) n few s h some fine room (read.0 ∙ ap Some same, read.1)
-node_taken o c before d p ns (Op opcode k) n few s h some fine room =
-    let is = operands_known opcode k fine.0 in
-    by (operands_of opcode) refl is.0 (omega (arith, is.1))
-  where
-    by : (x : Option Operands) → operands_of opcode ≡ x → FitsOperands x k → opcode < 2 ^ 31 → TakesNodes o c before p n (operator_lines opcode k) (ns ++ Op opcode k ∷ [])
-    by None e f small = absurd f
-    by (Some One) e f small = rw e
-        (let read = operator_read c.n_var opcode k One small e f in
-        one_row o c before d p ns (Op opcode k) (Op opcode k) n few s h some fine room (read.0 ∙ ap (λ j. Some (Op opcode j)) (sym f), read.1))
-    by (Some Two) e f small = rw e
-        (let read = operator_read c.n_var opcode k Two small e f in
-        one_row o c before d p ns (Op opcode k) (Op opcode k) n few s h some fine room (read.0 ∙ ap (λ j. Some (Op opcode j)) (sym f), read.1))
-    by (Some OnNextLine) e f small = rw e (counted_rows o c before d p ns opcode k n few s h some fine room e small f)
-
--- ---- any nodes
+-- lines that are taken within an expression, and the nodes and the pending opcode after them
+pub record TakesNodes (o : List ℤ) (c : Counts) (before : List Piece) (p : Piece) (n : ℕ) (lines : List WordLine) (ns : List Node) (pending : Option Pending) : Type 0 where
+  pub taken : IsTaken o c (before ++ p ∷ []) n lines (before ++ with_lines p n lines ∷ [])
+  pub within : IsInTree c (with_lines p n lines) ns pending
 
 -- a tree is awaited before each node
 abbrev pub AreAwaited : ℕ → List Node → Type 0
 AreAwaited w [] = Unit {0}
 AreAwaited w (m ∷ ms) = (0 < w) × AreAwaited (w - 1 + operand_count m) ms
 
-pub nodes_taken : (o : List ℤ) (c : Counts) (before : List Piece) (d : Draft) (p : Piece) (ns ms : List Node) (n : ℕ) → HasFewIndices c → SaysBefore o c before d → IsInTree c p ns None → AreAwaited (awaited ns) ms
-    → AllByRecursion (IsNodeFine c d.definitions) ms → node_total c before + (length ns + length ms) ≤ 2 ^ 22 → TakesNodes o c before p n (flat_map node_lines ms) (ns ++ ms)
-nodes_taken o c before d p ns [] n few s h w fine room =
-    let same : with_lines p n [] ≡ p = ap (λ rs. record p { rows = rs }) (append-nil p.rows) in
-    record {
-      taken = subst (λ q. IsTaken o c (before ++ p ∷ []) n [] (before ++ q ∷ [])) (sym same) taken_none;
-      within = subst (λ q. IsInTree c q (ns ++ []) None) (sym same) (subst (λ xs. IsInTree c p xs None) (sym (append-nil ns)) h);
-    }
-nodes_taken o c before d p ns (m ∷ ms) n few s h w fine room =
-    let one = node_taken o c before d p ns m n few s h w.0 fine.0 (omega (arith, room)) in
-    let next = ns ++ m ∷ [] in
-    let waits : AreAwaited (awaited next) ms = subst (λ k. AreAwaited k ms) (sym (awaited-push 1 ns m)) w.1 in
-    let more = nodes_taken o c before d (with_lines p n (node_lines m)) next ms (n + length (node_lines m)) few s one.within waits fine.1 (omega (arith, room, length-append ns (m ∷ []))) in
-    let all = takes_then o c before p n (n + length (node_lines m)) (node_lines m) (flat_map node_lines ms) next (next ++ ms) refl one more in
-    subst (λ xs. TakesNodes o c before p n (flat_map node_lines (m ∷ ms)) xs) (append_assoc ns (m ∷ []) ms) all
+-- after pieces that say the draft d, of a file with few of all
+module _ (o : List ℤ) (c : Counts) (before : List Piece) (d : Draft) (few : AreCounts c) (said : draft_of o c before ≡ d) where
+  takes_row : (p : Piece) (n : ℕ) (words : WordLine) (a : Awaited) (ns ms : List Node) (pending next : Option Pending) → IsLineFine o c before p words a → IsInTree c p ns pending
+      → only_nodes (last_nodes c.n_var pending (row_at n words)) ≡ ms → last_pending pending (row_at n words) ≡ next → TakesNodes o c before p n (words ∷ []) (ns ++ ms) next
+  takes_row p n words a ns ms pending next line h new after = record { taken = line_taken o c before p n words a line; within = in_tree-more (row_at n words) new after h }
+
+  takes_then : (p : Piece) (n m : ℕ) (xs ys : List WordLine) (ns ms : List Node) (pending next : Option Pending) → m ≡ n + length xs → TakesNodes o c before p n xs ns pending → TakesNodes o c before (with_lines p n xs) m ys ms next
+      → TakesNodes o c before p n (xs ++ ys) ms next
+  takes_then p n m xs ys ns ms pending next e f g =
+      let same = with_lines-append p n m xs ys e in
+      record {
+        taken = subst (λ q. IsTaken o c (before ++ p ∷ []) n (xs ++ ys) (before ++ q ∷ [])) same (taken_then f.taken e g.taken);
+        within = subst (λ q. IsInTree c q ms next) same g.within;
+      }
+
+  node_line : (p : Piece) (ns : List Node) (m : Node) → IsInTree c p ns None → 0 < awaited ns → IsNodeFine c d.definitions m → node_total c before + length ns < 2 ^ 22 → IsLineFine o c before p (node_words m) NodeLine
+  unfolding node_tests
+  node_line p ns m h some fine room =
+      let now = before ++ p ∷ [] in
+      let same : draft_of o c now ≡ d = draft_before o c before p (tree_says p.head h.tree) (rw (node_awaited c p ns h some) refl) ∙ said in
+      let form : first_reason (node_form_tests c (draft_of o c now) (node_words m)) ≡ None = ap (λ e. first_reason (node_form_tests c e (node_words m))) same ∙ form_fine c d m few fine in
+      record {
+        written = words_written c d.definitions m few fine;
+        is = no_head m;
+        awaited = node_awaited c p ns h some;
+        fine = reason_after (node_form_tests c (draft_of o c now) (node_words m)) ((nat_le (2 ^ 22) (node_total c now), TooLarge) ∷ []) form ∙ not_large (node_total c now) (node_room c before p ns None h room);
+      }
+
+  one_row : (p : Piece) (ns : List Node) (m r : Node) (n : ℕ) → IsInTree c p ns None → 0 < awaited ns → IsNodeFine c d.definitions m → node_total c before + length ns < 2 ^ 22
+      → IsRead c.n_var (node_words m) (Some r) None → TakesNodes o c before p n (node_words m ∷ []) (ns ++ r ∷ []) None
+  one_row p ns m r n h some fine room read =
+      let w = row-written (node_words m) (words_written c d.definitions m few fine) in
+      takes_row p n (node_words m) NodeLine ns (r ∷ []) None None (node_line p ns m h some fine room) h (rw (w, read.0) refl) (rw (w, read.1) refl)
+
+  -- an opcode with its number of operands on the next row
+  counted_rows : (p : Piece) (ns : List Node) (opcode k n : ℕ) → IsInTree c p ns None → 0 < awaited ns → IsNodeFine c d.definitions (Op opcode k) → node_total c before + length ns < 2 ^ 22
+      → operands_of opcode ≡ Some OnNextLine → opcode < 2 ^ 31 → 1 ≤ k → TakesNodes o c before p n (((codes "o" ++ decimal opcode) ∷ []) ∷ (decimal k ∷ []) ∷ []) (ns ++ Op opcode k ∷ []) None
+  counted_rows p ns opcode k n h some fine room e small more =
+      let words : WordLine = (codes "o" ++ decimal opcode) ∷ [] in
+      let count : WordLine = decimal k ∷ [] in
+      let q : Pending = record { opcode = opcode; line = n } in
+      let least : k < 2 ^ 31 = omega (arith, fine.1) in
+      let read = operator_read c.n_var opcode OnNextLine small e in
+      let w = row-written words (words_written c d.definitions (Op opcode k) few fine) in
+      let one = takes_row p n words NodeLine ns [] None (Some q) (node_line p ns (Op opcode k) h some fine room) h (rw (w, read.0) refl) (rw (w, read.1) refl) in
+      let first = with_lines p n (words ∷ []) in
+      let within : IsInTree c first ns (Some q) = subst (λ ms. IsInTree c first ms (Some q)) (append-nil ns) one.within in
+      let written = written-one (decimal k) (word-decimal k (lt_trans least (lit< tt))) in
+      let line : IsLineFine o c before first count OperandCount = record { written = written; is = decimal_no_head k [] least; awaited = tree_awaited c first ns (Some q) within; fine = count_fine k more fine.1 } in
+      let two = takes_row first (n + 1) count OperandCount ns (Op opcode k ∷ []) (Some q) None line within (rw (row-written count written, whole_of-decimal k least) refl) refl in
+      takes_then p n (n + 1) (words ∷ []) (count ∷ []) (ns ++ []) (ns ++ Op opcode k ∷ []) (Some q) None refl one two
+
+  node_taken : (p : Piece) (ns : List Node) (m : Node) (n : ℕ) → IsInTree c p ns None → 0 < awaited ns → IsNodeFine c d.definitions m → node_total c before + length ns < 2 ^ 22 → TakesNodes o c before p n (node_lines m) (ns ++ m ∷ []) None
+  node_taken p ns (Num x) n h some fine room = one_row p ns (Num x) (Num x) n h some fine room (number_read c.n_var x)
+  node_taken p ns (Var j) n h some fine room =
+      let read = variable_read c.n_var j (omega (arith, fine, few.variables)) in
+      let same : variable_node c.n_var j ≡ Var j = rw (lt-ltb j c.n_var fine) refl in
+      one_row p ns (Var j) (Var j) n h some fine room (read.0 ∙ ap Some same, read.1)
+  node_taken p ns (Defined i) n h some fine room =
+      let read = variable_read c.n_var i (omega (arith, fine.0, fine.1, few.variables, few.defined)) in
+      let same : variable_node c.n_var i ≡ Defined i = rw (le-ltb i c.n_var fine.0) refl in
+      one_row p ns (Defined i) (Defined i) n h some fine room (read.0 ∙ ap Some same, read.1)
+  node_taken p ns (Op opcode k) n h some fine room =
+      let is = operands_known opcode k fine.0 in
+      by (operands_of opcode) refl is.0 (omega (arith, is.1))
+    where
+      fixed : (j : ℕ) → k ≡ j → IsRead c.n_var ((codes "o" ++ decimal opcode) ∷ []) (Some (Op opcode j)) None → TakesNodes o c before p n (((codes "o" ++ decimal opcode) ∷ []) ∷ []) (ns ++ Op opcode k ∷ []) None
+      fixed j f read = one_row p ns (Op opcode k) (Op opcode k) n h some fine room (read.0 ∙ ap (λ j. Some (Op opcode j)) (sym f), read.1)
+
+      by : (x : Option Operands) → operands_of opcode ≡ x → FitsOperands x k → opcode < 2 ^ 31 → TakesNodes o c before p n (operator_lines opcode k) (ns ++ Op opcode k ∷ []) None
+      by None e f small = absurd f
+      by (Some One) e f small = rw e (fixed 1 f (operator_read c.n_var opcode One small e))
+      by (Some Two) e f small = rw e (fixed 2 f (operator_read c.n_var opcode Two small e))
+      by (Some OnNextLine) e f small = rw e (counted_rows p ns opcode k n h some fine room e small f)
+
+  pub nodes_taken : (p : Piece) (ns ms : List Node) (n : ℕ) → IsInTree c p ns None → AreAwaited (awaited ns) ms → AllByRecursion (IsNodeFine c d.definitions) ms → node_total c before + (length ns + length ms) ≤ 2 ^ 22
+      → TakesNodes o c before p n (flat_map node_lines ms) (ns ++ ms) None
+  nodes_taken p ns [] n h w fine room =
+      let same : with_lines p n [] ≡ p = ap (λ rs. record p { rows = rs }) (append-nil p.rows) in
+      record {
+        taken = subst (λ q. IsTaken o c (before ++ p ∷ []) n [] (before ++ q ∷ [])) (sym same) taken_none;
+        within = subst (λ q. IsInTree c q (ns ++ []) None) (sym same) (subst (λ xs. IsInTree c p xs None) (sym (append-nil ns)) h);
+      }
+  nodes_taken p ns (m ∷ ms) n h w fine room =
+      let one = node_taken p ns m n h w.0 fine.0 (omega (arith, room)) in
+      let next = ns ++ m ∷ [] in
+      let waits : AreAwaited (awaited next) ms = subst (λ k. AreAwaited k ms) (sym (awaited-push 1 ns m)) w.1 in
+      let more = nodes_taken (with_lines p n (node_lines m)) next ms (n + length (node_lines m)) one.within waits fine.1 (omega (arith, room, length-append ns (m ∷ []))) in
+      let all = takes_then p n (n + length (node_lines m)) (node_lines m) (flat_map node_lines ms) next (next ++ ms) None None refl one more in
+      subst (λ xs. TakesNodes o c before p n (flat_map node_lines (m ∷ ms)) xs None) (append_assoc ns (m ∷ []) ms) all
 
 -- ---- the nodes of a tree that may stand in a file
 

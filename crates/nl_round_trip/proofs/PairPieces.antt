@@ -6,14 +6,11 @@ use Rattle.nl_model.specs.File.{Term}
 use Rattle.nl_writer.specs.Written.{term_line, term_lines}
 use Rattle.std.proofs.lemmas.Bool.{lt-ltb}
 use Rattle.std.proofs.lemmas.Bool.Decides.{nat_tests}
-use Rattle.std.proofs.lemmas.Fmt.{decimal_is_IsNumeral_wide}
 use Rattle.std.specs.Fmt.{decimal}
-use Rattle.std.specs.Str.Parse.{AllDigits}
 use Rattle.texts.specs.Judged.{first_reason}
-use Rattle.exact_numbers.proofs.Texts.{digit_byte}
 use Rattle.nl_model.specs.declared.header_counts.Counts.{Counts}
 use Rattle.nl_lines.specs.declared.awaited.Awaited.TheVariants.{Pair}
-use Rattle.nl_lines.specs.Heads.{is_head, is_ascii_letter}
+use Rattle.nl_lines.specs.Heads.{is_head}
 use Rattle.nl_lines.specs.Pieces.{Piece, awaited_in, piece_pairs, pair_in, line_kind, line_count, pair_count, has_tree}
 use Rattle.nl_lines.specs.Rows.{row_words}
 use Rattle.nl_lines.specs.Tests.{index_limit, wants_whole_values, holds_once, has_index, is_full, pair_form_tests, pair_tests, is_linear, is_suffix, pair_total, column_counts}
@@ -23,43 +20,42 @@ use Rattle.written_texts.specs.Lines.{WordLine}
 use Rattle.written_texts.proofs.WordLemmas.{row-written}
 use Rattle.nl_round_trip.specs.InsideTaking.{row_at, IsTaken, rows_at}
 use Rattle.written_texts.proofs.NumbersRead.{whole_of-decimal, are_digits-decimal, dec_of-text}
-use Rattle.nl_round_trip.proofs.TakenLemmas.{IsLineFine, AwaitsLines, with_lines, AreLinesFine, lines_taken, taken_then, begun_piece, IsHeadFine, head_taken, line_rows_size}
+use Rattle.nl_round_trip.proofs.TakenLemmas.{IsLineFine, AwaitsLines, with_lines, AreLinesFine, lines_taken, begun_piece, line_rows_size}
 use Rattle.std.proofs.lemmas.List.{take_all}
 use Rattle.std.specs.List.{AllByRecursion, filter_map}
 use Rattle.nl_model.specs.Rules.{most_terms}
 use Rattle.nl_lines.specs.declared.head.Head.{Head}
 use Rattle.nl_lines.proofs.RowLemmas.{early_pairs}
+use Rattle.nl_lines.proofs.PairRows.{digits_plain}
 use Rattle.nl_lines.proofs.PieceLemmas.{longer}
-use Rattle.nl_lines.proofs.TotalLemmas.{pairs-append, pairs-other}
+use Rattle.nl_segments.proofs.PairLines.{pairs_with}
 
 pub written-term : (t : Term) → t.0 < 10 ^ 64 → IsWritten (term_line t)
 written-term t small = record { some = omega arith; few = omega arith; each = (word-decimal t.0 small, (word-text t.1, tt)) }
 
 -- ---- a row of digits is no head
 
-no_letter : (b : ℕ) → 48 ≤ b → b ≤ 57 → is_ascii_letter b ≡ false
-no_letter b low high = grind (arith, nat_tests)
-
-digits_no_head : (word : List ℕ) (rest : WordLine) → 0 < length word → AllDigits 10 word → is_head (word ∷ rest) ≡ false
-digits_no_head [] rest some d = absurd (omega arith)
-digits_no_head (b ∷ word) rest some d = let byte = digit_byte b d.0 in rw (no_letter b byte.0 byte.1) refl
-
 pub decimal_no_head : (n : ℕ) (rest : WordLine) → n < 2 ^ 31 → is_head (decimal n ∷ rest) ≡ false
-decimal_no_head n rest small = let numeral = decimal_is_IsNumeral_wide n (lt_trans small (lit< tt)) in digits_no_head (decimal n) rest numeral.0.0 numeral.0.1
+decimal_no_head n rest small = rw (digits_plain (decimal n) (are_digits-decimal n small)) refl
 
 -- ---- one pair
 
+-- an index that is there, and a value that may stand with it
+pub record IsTermFine (c : Counts) (head : Head) (t : Term) : Type 0 where
+  pub small : t.0 < 2 ^ 31
+  pub below : t.0 < index_limit c head
+  pub whole : (wants_whole_values head && not (is_whole t.1)) ≡ false
+
 -- the pair may come next in the piece p, which was begun after these pieces
 pub record IsPairFine (c : Counts) (before : List Piece) (p : Piece) (t : Term) : Type 0 where
-  pub small : t.0 < 2 ^ 31
-  pub below : t.0 < index_limit c p.head
-  pub whole : (wants_whole_values p.head && not (is_whole t.1)) ≡ false
+  pub term : IsTermFine c p.head t
   pub once : (holds_once p.head && has_index (piece_pairs p) t.0) ≡ false
   pub room : is_full (before ++ p ∷ []) p.head ≡ false
 
 pair_fine : (c : Counts) (before : List Piece) (p : Piece) (t : Term) → IsPairFine c before p t → first_reason (pair_tests c (before ++ p ∷ []) p (term_line t)) ≡ None
 unfolding pair_tests pair_form_tests
-pair_fine c before p t h = rw (are_digits-decimal t.0 h.small, whole_of-decimal t.0 h.small, dec_of-text t.1, lt-ltb t.0 (index_limit c p.head) h.below, h.whole, h.once, h.room) refl
+pair_fine c before p t h =
+    rw (are_digits-decimal t.0 h.term.small, whole_of-decimal t.0 h.term.small, dec_of-text t.1, lt-ltb t.0 (index_limit c p.head) h.term.below, h.term.whole, h.once, h.room) refl
 
 pub pair_read : (n : ℕ) (t : Term) → t.0 < 2 ^ 31 → pair_in (row_words (row_at n (term_line t))) ≡ Some t
 unfolding pair_in
@@ -69,8 +65,8 @@ pair_read n t small = rw (row-written (term_line t) (written-term t (lt_trans sm
 
 pair_line : (o : List ℤ) (c : Counts) (before : List Piece) (p : Piece) (t : Term) → IsPairFine c before p t → awaited_in c p ≡ Pair → IsLineFine o c before p (term_line t) Pair
 pair_line o c before p t h awaited = record {
-  written = written-term t (lt_trans h.small (lit< tt));
-  is = decimal_no_head t.0 (text_of t.1 ∷ []) h.small;
+  written = written-term t (lt_trans h.term.small (lit< tt));
+  is = decimal_no_head t.0 (text_of t.1 ∷ []) h.term.small;
   awaited = awaited;
   fine = pair_fine c before p t h;
 }
@@ -98,11 +94,7 @@ pub uncounted : (counts : Head → Bool) (p : Piece) → counts p.head ≡ false
 uncounted counts p e total = omega (arith, none_more counts p e)
 
 pub pair_total-append : (counts : Head → Bool) (before : List Piece) (p : Piece) → pair_total counts (before ++ p ∷ []) ≡ pair_total counts before + pairs_more counts p
-pair_total-append counts before p = by (counts p.head) refl
-  where
-    by : (b : Bool) → counts p.head ≡ b → pair_total counts (before ++ p ∷ []) ≡ pair_total counts before + pairs_more counts p
-    by true e = omega (arith, pairs-append counts before p e, all_more counts p e)
-    by false e = omega (arith, pairs-other counts before p e, none_more counts p e)
+pair_total-append counts before p = pairs_with counts before p
 
 full_none : (l s : Bool) (a b : ℕ) → (l ≡ true → a < most_terms) → (s ≡ true → b < most_terms) → ((l && nat_le most_terms a) || (s && nat_le most_terms b)) ≡ false
 full_none true true a b f g = let x = f refl in let y = g refl in grind (arith, nat_tests)
@@ -116,12 +108,6 @@ full_none false false a b f g = refl
 abbrev pub AreFresh : Bool → List Term → List Term → Type 0
 AreFresh once seen [] = Unit {0}
 AreFresh once seen (t ∷ terms) = ((once && has_index seen t.0) ≡ false) × AreFresh once (seen ++ t ∷ []) terms
-
--- an index that is there, and a value that may stand with it
-pub record IsTermFine (c : Counts) (head : Head) (t : Term) : Type 0 where
-  pub small : t.0 < 2 ^ 31
-  pub below : t.0 < index_limit c head
-  pub whole : (wants_whole_values head && not (is_whole t.1)) ≡ false
 
 -- the terms may follow in the piece p after these pieces
 pub record MayTake (c : Counts) (before : List Piece) (p : Piece) (terms : List Term) : Type 0 where
@@ -138,13 +124,10 @@ pub pairs_fine : (c : Counts) (before : List Piece) (p : Piece) (n : ℕ) (terms
 pairs_fine c before p n [] lacks h = tt
 pairs_fine c before p n (t ∷ terms) lacks h =
     let row = row_at n (term_line t) in
-    let first = h.each.0 in
-    let pairs : piece_pairs (longer p row) ≡ piece_pairs p ++ t ∷ [] = early_pairs p row t (omega arith) (pair_read n t first.small) in
+    let pairs : piece_pairs (longer p row) ≡ piece_pairs p ++ t ∷ [] = early_pairs p row t (omega arith) (pair_read n t h.each.0.small) in
     let size : length (piece_pairs (longer p row)) ≡ length (piece_pairs p) + 1 = ap (length {A = Term}) pairs ∙ length-append (piece_pairs p) (t ∷ []) in
     let now : IsPairFine c before p t = record {
-      small = first.small;
-      below = first.below;
-      whole = first.whole;
+      term = h.each.0;
       once = h.fresh.0;
       room = full_none (is_linear p.head) (is_suffix p.head) (pair_total is_linear (before ++ p ∷ [])) (pair_total is_suffix (before ++ p ∷ []))
           (room_left is_linear before p (length terms) h.linear) (room_left is_suffix before p (length terms) h.values);
@@ -169,14 +152,6 @@ pub record IsPairHead (c : Counts) (head : Head) : Type 0 where
 -- the piece of a head and the rows of these terms
 abbrev pub pair_piece : ℕ → WordLine → Head → List Term → Piece
 pair_piece n words head terms = with_lines (begun_piece n words head) (n + 1) (term_lines terms)
-
-pub pair_piece_taken : {o : List ℤ} {c : Counts} {before : List Piece} {n : ℕ} {words : WordLine} {head : Head} {terms : List Term} → IsHeadFine c before words head → IsPairHead c head → pair_count head ≡ length terms
-    → MayTake c before (begun_piece n words head) terms → IsTaken o c before n (words ∷ term_lines terms) (before ++ pair_piece n words head terms ∷ [])
-pair_piece_taken {o = o} {c = c} {before = before} {n = n} {words = words} {head = head} {terms = terms} h k size may =
-    let p = begun_piece n words head in
-    let fine = pairs_fine c before p (n + 1) terms (omega (arith, size)) may in
-    taken_then (head_taken h) refl
-    (pairs_taken o c before p (n + 1) terms (record { kind = k.kind; lacks = omega (arith, size, k.count) }) fine)
 
 -- what its rows say
 read_pairs : (n : ℕ) (terms : List Term) → AllByRecursion (λ t. t.0 < 2 ^ 31) terms → filter_map (λ r. pair_in (row_words r)) (rows_at n (term_lines terms)) ≡ terms

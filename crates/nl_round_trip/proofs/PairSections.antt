@@ -1,5 +1,5 @@
 -- Written guesses, the written terms of constraints and of objectives, and written suffixes are taken.
-use Rattle.std.proofs.Common.{◌≡◌, ◌≢◌, ◌∙◌, ℕ, suc, ◌+◌, ◌^◌, ◌<◌, ◌≤◌, ◌==◌, Bool, true, false, cond, ℤ, List, [], ◌∷◌, ◌++◌, length, get_or, refl, sym, ap, ap₂, subst, arith, length-append, append_assoc, lt_trans, lit<, ◌-◌, take, replicate, Some, append-nil, sum_by, ◌*◌, ◌%◌, not, ◌&&◌, ◌||◌, nat_le, All}
+use Rattle.std.proofs.Common.{◌≡◌, ◌≢◌, ◌∙◌, ℕ, suc, ◌+◌, ◌^◌, ◌<◌, ◌≤◌, ◌==◌, Bool, true, false, cond, ℤ, List, [], ◌∷◌, ◌++◌, length, get_or, refl, sym, ap, ap₂, subst, arith, length-append, append_assoc, lt_trans, lit<, ◌-◌, take, replicate, Some, append-nil, sum_by, ◌*◌, not, ◌&&◌, ◌||◌, nat_le, All}
 use Rattle.std.specs.Prelude.{codes, slice_set, slice_index, AllPairs}
 use Rattle.std.specs.List.{AllByRecursion, filter_map, slice_get, flat_map}
 use Rattle.std.proofs.lemmas.List.{get_or_at, get_or_append_left, set_at, take_more, take_all, length-take-le}
@@ -8,23 +8,26 @@ use Rattle.nl_model.specs.declared.header_counts.Counts.{Counts}
 use Rattle.nl_model.specs.Draft.{Draft}
 use Rattle.nl_model.specs.File.{Term}
 use Rattle.nl_model.specs.declared.suffix.Suffix.{Suffix}
+use Rattle.nl_model.specs.declared.suffix_kinds.Objects.{Objects}
+use Rattle.nl_model.specs.declared.suffix_kinds.Objects.TheVariants.{Variables, Constraints, Objectives, Problem}
 use Rattle.nl_model.specs.Rules.{AreIndicesApart, most_terms, term_count, has_suffix, is_suffix_of, IsSuffix, object_count}
 use Rattle.nl_lines.specs.declared.awaited.Awaited.TheVariants.{Nothing}
 use Rattle.nl_lines.specs.declared.head.Head.{Head}
 use Rattle.nl_lines.specs.declared.head.Head.TheVariants.{DualGuesses, PrimalGuesses, Sides, Terms, Slopes, Definition as DefinitionHead, Suffix as SuffixHead}
 use Rattle.nl_lines.specs.Heads.{head_of, is_in_range}
-use Rattle.nl_lines.specs.Pieces.{Piece, awaited_in, awaited_of, piece_pairs, pair_count, pair_in, is_complete}
+use Rattle.nl_lines.specs.Pieces.{Piece, awaited_in, awaited_of, piece_pairs, pair_count, pair_in}
 use Rattle.nl_lines.specs.Rows.{row_words}
 use Rattle.nl_lines.specs.Saying.{with_piece}
 use Rattle.nl_lines.specs.Tests.{index_limit, wants_whole_values, holds_once, has_index, is_linear, is_suffix, is_repeated, is_same_piece, suffix_count}
+use Rattle.nl_model.proofs.ObjectLemmas.{same_objects-comm}
 use Rattle.written_texts.specs.Lines.{WordLine}
 use Rattle.nl_writer.specs.Written.{lettered, term_lines, guess_piece, by_number, term_piece, term_line, suffix_piece}
-use Rattle.written_texts.proofs.WrittenWords.{word-lettered, written-one, word-decimal, written-two, written-three}
+use Rattle.written_texts.proofs.WrittenWords.{word-lettered, word-decimal, written-three}
 use Rattle.nl_round_trip.specs.InsideStandings.{rank, IsStanding, Reaches}
 use Rattle.written_texts.proofs.NumbersRead.{whole_of-decimal}
-use Rattle.nl_round_trip.proofs.TakenLemmas.{begun_piece, IsHeadFine, lines_done, lines_no_nodes, taken_then}
-use Rattle.nl_round_trip.proofs.PairPieces.{IsTermBelow, each_small, pairs_more, uncounted, AreFresh, IsTermFine, MayTake, IsPairHead, pair_piece, pair_piece_taken, pair_piece-pairs, fresh_none}
-use Rattle.nl_round_trip.proofs.StandingMore.{not_repeated, suffixes_more, same_standing, standing_as, piece_reached, reaches_none, same_reach, reaches_then, columns-append, standing_more, said_whole}
+use Rattle.nl_round_trip.proofs.TakenLemmas.{begun_piece, counted_head, head_taken, IsHeadFine, number_head, lines_done, lines_no_nodes, taken_then}
+use Rattle.nl_round_trip.proofs.PairPieces.{IsTermBelow, each_small, pairs_more, uncounted, AreFresh, IsTermFine, MayTake, IsPairHead, pair_piece, pair_piece-pairs, pairs_fine, pairs_taken, fresh_none}
+use Rattle.nl_round_trip.proofs.StandingMore.{Adds, added_reaches, added_then, not_repeated, suffixes_more, same_standing, standing_as, piece_added, reaches_none, same_reach, reaches_then, said_whole}
 use Rattle.std.proofs.lemmas.List.Sums.{sum_by-cons}
 use Rattle.std.proofs.lemmas.Option.{slice_get_within, get_or_from_slice_get, slice_get-get_or}
 use Rattle.std.proofs.lemmas.Bool.{lt-ltb, eqb-true, false_from_ne_true, lt-leb}
@@ -35,28 +38,29 @@ use Rattle.std.proofs.lemmas.Bool.Decides.{nat_tests}
 use Rattle.texts.specs.Names.{is_name}
 use Rattle.exact_numbers.proofs.Bridge.{and_true}
 use Rattle.written_texts.specs.Words.{IsKeptWord}
-use Rattle.nl_round_trip.specs.InsideTaking.{IsTaken}
 use Rattle.nl_round_trip.specs.Writable.{IsWritableSuffix}
 use Rattle.std.proofs.lemmas.List.Elements.{recursion_from_All}
 use Rattle.nl_model.specs.HeaderRules.{AreCounts}
 use Rattle.exact_numbers.specs.Numbers.{is_whole}
-use Rattle.nl_model.specs.SuffixKinds.{wants_whole as kind_wants_whole}
+use Rattle.nl_model.specs.SuffixKinds.{objects_of, wants_whole as kind_wants_whole, count_among as count_of}
 
 -- ---- any piece of pairs
 
-pub pairs_reached : {o : List ℤ} {c : Counts} {before : List Piece} {d e : Draft} {n next after linear values nodes suffixes linear' values' suffixes' : ℕ} (words : WordLine) (head : Head) (terms : List Term)
+pairs_added : {o : List ℤ} {c : Counts} {before : List Piece} {d e : Draft} {n next after linear values nodes suffixes linear' values' suffixes' : ℕ} (words : WordLine) (head : Head) (terms : List Term)
     → IsHeadFine c before words head → IsPairHead c head → pair_count head ≡ length terms → MayTake c before (begun_piece n words head) terms → AllByRecursion (λ t. t.0 < 2 ^ 31) terms → next ≤ after → rank head < after
     → (piece_pairs (pair_piece n words head terms) ≡ terms → awaited_in c (pair_piece n words head terms) ≡ Nothing → with_piece d (pair_piece n words head terms) ≡ e)
     → (length (piece_pairs (pair_piece n words head terms)) ≡ length terms → linear + pairs_more is_linear (pair_piece n words head terms) ≡ linear')
     → (length (piece_pairs (pair_piece n words head terms)) ≡ length terms → values + pairs_more is_suffix (pair_piece n words head terms) ≡ values')
     → suffixes + suffixes_more head ≡ suffixes' → IsStanding o c before d next linear values nodes suffixes
-    → Reaches o c before n (words ∷ term_lines terms) e after linear' values' nodes suffixes'
-pairs_reached {c = c} {n = n} {nodes = nodes} words head terms fine alone size may small up above said lin val suf s =
+    → Adds o c before n (words ∷ term_lines terms) (pair_piece n words head terms) e after linear' values' nodes suffixes'
+pairs_added {o = o} {c = c} {before = before} {n = n} words head terms fine alone size may small up above said lin val suf s =
     let p = pair_piece n words head terms in
     let pairs = pair_piece-pairs n words head terms size small in
     let done = lines_done c n words head term_line terms (alone.count ∙ size) alone.alone in
     let count : length (piece_pairs p) ≡ length terms = ap (length {A = Term}) pairs in
-    piece_reached p (pair_piece_taken fine alone size may) done (alone.columns p) up above (said pairs done) (lin count) (val count) (omega (arith, lines_no_nodes c n words head (term_lines terms) alone.alone)) suf s
+    let p0 = begun_piece n words head in
+    let lines = pairs_taken o c before p0 (n + 1) terms (record { kind = alone.kind; lacks = omega (arith, size, alone.count) }) (pairs_fine c before p0 (n + 1) terms (omega (arith, size)) may) in
+    piece_added p (taken_then (head_taken fine) refl lines) done up above (said pairs done) (lin count) (val count) (omega (arith, lines_no_nodes c n words head (term_lines terms) alone.alone)) suf s
 
 -- a piece that has just begun has no pairs
 pub begun_pairs : (n : ℕ) (words : WordLine) (head : Head) → piece_pairs (begun_piece n words head) ≡ []
@@ -108,21 +112,16 @@ terms_reached {c = c} {before = before} {n = n} {linear = linear} {values = valu
       linear = λ e. let all : linear + length terms ≡ linear' = ap (λ b. linear + cond b (length terms) 0) (sym e ∙ g.linear_is) ∙ sum in omega (arith, s.terms_are, room, all, no_more n words head);
       values = λ e. let none = g.no_suffix in absurd cc;
     } in
-    pairs_reached words head terms fine g.alone g.size may (each_small limit terms most low) up above (λ pairs done. said pairs)
-    (λ e. ap₂ (λ b k. linear + cond b k 0) g.linear_is e ∙ sum) (λ e. uncounted is_suffix p g.no_suffix values) (rw g.no_suffix (omega arith)) s
+    added_reaches p (g.alone.columns p)
+    (pairs_added words head terms fine g.alone g.size may (each_small limit terms most low) up above (λ pairs done. said pairs)
+    (λ e. ap₂ (λ b k. linear + cond b k 0) g.linear_is e ∙ sum) (λ e. uncounted is_suffix p g.no_suffix values) (rw g.no_suffix (omega arith)) s)
 
 -- ---- guesses
 
 dual_head : (c : Counts) (before : List Piece) (count : ℕ) → count < 2 ^ 31 → awaited_of c before ≡ Nothing → AllByRecursion (λ p. rank p.head < rank (DualGuesses count)) before
     → IsHeadFine c before (lettered (codes "d") count ∷ []) (DualGuesses count)
 unfolding head_of is_in_range
-dual_head c before count few done ranks = record {
-  written = written-one (lettered (codes "d") count) (word-lettered 100 count (omega arith) (lt_trans few (lit< tt)));
-  form = (refl, refl, refl);
-  read = rw (whole_of-decimal count few) refl;
-  done = done;
-  fine = rw (not_repeated before (DualGuesses count) [] ranks) refl;
-}
+dual_head c before count few done ranks = number_head 100 count (DualGuesses count) (omega arith) few (refl, refl, refl) (rw (whole_of-decimal count few) refl) done (rw (not_repeated before (DualGuesses count) [] ranks) refl)
 
 pub duals_reached : {o : List ℤ} {c : Counts} {before : List Piece} {d : Draft} {n linear values nodes suffixes : ℕ} (terms : List Term) → c.n_con ≤ 2 ^ 20 → AllByRecursion (IsTermBelow c.n_con) terms → AreIndicesApart terms → length terms < 2 ^ 31 → linear ≤ most_terms → d.dual_guesses ≡ []
     → IsStanding o c before d (rank (DualGuesses 0)) linear values nodes suffixes → Reaches o c before n (guess_piece (codes "d") terms) (record d { dual_guesses = terms }) (rank (PrimalGuesses 0)) linear values nodes suffixes
@@ -136,13 +135,7 @@ duals_reached {c = c} {before = before} {d = d} (t ∷ ts) most low apart few ro
 primal_head : (c : Counts) (before : List Piece) (count : ℕ) → count < 2 ^ 31 → awaited_of c before ≡ Nothing → AllByRecursion (λ p. rank p.head < rank (PrimalGuesses count)) before
     → IsHeadFine c before (lettered (codes "x") count ∷ []) (PrimalGuesses count)
 unfolding head_of is_in_range
-primal_head c before count few done ranks = record {
-  written = written-one (lettered (codes "x") count) (word-lettered 120 count (omega arith) (lt_trans few (lit< tt)));
-  form = (refl, refl, refl);
-  read = rw (whole_of-decimal count few) refl;
-  done = done;
-  fine = rw (not_repeated before (PrimalGuesses count) [] ranks) refl;
-}
+primal_head c before count few done ranks = number_head 120 count (PrimalGuesses count) (omega arith) few (refl, refl, refl) (rw (whole_of-decimal count few) refl) done (rw (not_repeated before (PrimalGuesses count) [] ranks) refl)
 
 pub primals_reached : {o : List ℤ} {c : Counts} {before : List Piece} {d : Draft} {n linear values nodes suffixes : ℕ} (terms : List Term) → c.n_var ≤ 2 ^ 20 → AllByRecursion (IsTermBelow c.n_var) terms → AreIndicesApart terms → length terms < 2 ^ 31 → linear ≤ most_terms → d.primal_guesses ≡ []
     → IsStanding o c before d (rank (PrimalGuesses 0)) linear values nodes suffixes → Reaches o c before n (guess_piece (codes "x") terms) (record d { primal_guesses = terms }) (rank Sides) linear values nodes suffixes
@@ -175,13 +168,6 @@ steps_reached piece D R terms size xs step done (x ∷ rest) i e k before n line
     let more = λ (b : List Piece). steps_reached piece D R terms size xs step (done ++ x ∷ []) rest (i + 1) (e ∙ sym (append_assoc done (x ∷ []) rest)) (omega (arith, length-append done (x ∷ []), k)) b (n + length (piece i x)) (linear + terms x) (nodes + size x)
     (omega (arith, few, more_terms)) (omega (arith, small, more_nodes)) in
     same_reach (reaches_then one more) refl (omega (arith, more_terms)) refl (omega (arith, more_nodes)) refl
-
-pub all_reached : {A : Type 0} {o : List ℤ} {c : Counts} {before : List Piece} {n linear values nodes suffixes : ℕ} (piece : ℕ → A → List WordLine) (D : ℕ → Draft) (R : ℕ → ℕ) (terms size : A → ℕ) (xs : List A)
-    → ((i : ℕ) (x : A) (before : List Piece) (n linear nodes : ℕ) → slice_get xs i ≡ Some x → linear + terms x ≤ most_terms → nodes + size x ≤ 2 ^ 22 → IsStanding o c before (D i) (R i) linear values nodes suffixes
-    → Reaches o c before n (piece i x) (D (i + 1)) (R (i + 1)) (linear + terms x) values (nodes + size x) suffixes)
-    → linear + sum_by terms xs ≤ most_terms → nodes + sum_by size xs ≤ 2 ^ 22 → IsStanding o c before (D 0) (R 0) linear values nodes suffixes
-    → Reaches o c before n (by_number piece 0 xs) (D (length xs)) (R (length xs)) (linear + sum_by terms xs) values (nodes + sum_by size xs) suffixes
-all_reached {before = before} {n = n} {linear = linear} {nodes = nodes} piece D R terms size xs step few small s = steps_reached piece D R terms size xs step [] xs 0 refl refl before n linear nodes few small s
 
 pub no_sum : {A : Type 0} (xs : List A) → sum_by (λ x. 0) xs ≡ 0
 no_sum [] = refl
@@ -251,7 +237,7 @@ pub rows_reached : {o : List ℤ} {c : Counts} {before : List Piece} {n linear v
     → IsStanding o c before (put (replicate (length rows) [])) (first + 0) linear values nodes suffixes
     → Reaches o c before n (by_number (term_piece letter) 0 rows) (put rows) (first + length rows) (linear + term_count rows) values nodes suffixes
 rows_reached {o = o} {c = c} {values = values} {suffixes = suffixes} {letter = letter} {put = put} {first = first} rows r vars low room few s =
-    same_reach (all_reached (term_piece letter) (λ i. put (filled rows [] i)) (λ i. first + i) (length {A = Term}) (λ ts. 0) rows step room (omega (arith, few, no_sum rows)) (same_standing s (ap put (sym (filled-none rows []))) refl refl refl refl))
+    same_reach (steps_reached (term_piece letter) (λ i. put (filled rows [] i)) (λ i. first + i) (length {A = Term}) (λ ts. 0) rows step [] rows 0 refl refl _ _ _ _ room (omega (arith, few, no_sum rows)) (same_standing s (ap put (sym (filled-none rows []))) refl refl refl refl))
     (ap put (filled-all rows [])) refl refl (omega (arith, no_sum rows)) refl
   where
     step : (i : ℕ) (x : List Term) (before : List Piece) (n linear nodes : ℕ) → slice_get rows i ≡ Some x → linear + length x ≤ most_terms → nodes + 0 ≤ 2 ^ 22 → IsStanding o c before (put (filled rows [] i)) (first + i) linear values nodes suffixes
@@ -264,48 +250,30 @@ rows_reached {o = o} {c = c} {values = values} {suffixes = suffixes} {letter = l
 
 -- ---- constraints
 
-terms_head : (c : Counts) (rows : ℕ) (before : List Piece) (i k : ℕ) → c.n_con ≤ 2 ^ 20 → rows ≡ c.n_con → i < rows → k < 2 ^ 31 → awaited_of c before ≡ Nothing → AllByRecursion (λ p. rank p.head < 9 * 2 ^ 32 + i) before
-    → IsHeadFine c before (lettered (codes "J") i ∷ decimal k ∷ []) (Terms i k)
-unfolding head_of is_in_range
-terms_head c rows before i k most same lt few done ranks =
-    let small : i < 2 ^ 31 = omega arith in
-    record {
-      written = written-two (lettered (codes "J") i) (decimal k) (word-lettered 74 i (omega arith) (lt_trans small (lit< tt))) (word-decimal k (lt_trans few (lit< tt)));
-      form = (refl, refl, refl);
-      read = rw (whole_of-decimal i small, whole_of-decimal k few) refl;
-      done = done;
-      fine = rw (lt-ltb i c.n_con (omega arith), not_repeated before (Terms i k) [] ranks) refl;
-    }
-
 pub terms_section : (c : Counts) (d : Draft) (rows : ℕ) → c.n_con ≤ 2 ^ 20 → rows ≡ c.n_con → IsRowSection c Terms (codes "J") (λ xs. record d { terms = xs }) rows (9 * 2 ^ 32)
+unfolding head_of is_in_range
 terms_section c d rows most same = record {
   ranks = λ i k. refl;
   terms = λ i k. record { alone = record { kind = refl; count = refl; alone = refl; columns = λ p. refl }; size = refl; limit_is = refl; any_value = refl; once_is = refl; linear_is = refl; no_suffix = refl };
   said = λ xs i k n words ts. refl;
-  fine = λ before i k lt few done ranks. terms_head c rows before i k most same lt few done ranks;
+  fine = λ before i k lt few done ranks.
+      let small : i < 2 ^ 31 = omega (arith, lt, same, most) in
+      counted_head 74 i k (Terms i k) (omega arith) small few (refl, refl, refl) (rw (whole_of-decimal i small, whole_of-decimal k few) refl) done
+      (rw (lt-ltb i c.n_con (omega (arith, lt, same)), not_repeated before (Terms i k) [] ranks) refl);
 }
 
 -- ---- objectives
 
-slopes_head : (c : Counts) (rows : ℕ) (before : List Piece) (i k : ℕ) → c.n_obj ≤ 2 ^ 20 → rows ≡ c.n_obj → i < rows → k < 2 ^ 31 → awaited_of c before ≡ Nothing → AllByRecursion (λ p. rank p.head < 10 * 2 ^ 32 + i) before
-    → IsHeadFine c before (lettered (codes "G") i ∷ decimal k ∷ []) (Slopes i k)
-unfolding head_of is_in_range
-slopes_head c rows before i k most same lt few done ranks =
-    let small : i < 2 ^ 31 = omega arith in
-    record {
-      written = written-two (lettered (codes "G") i) (decimal k) (word-lettered 71 i (omega arith) (lt_trans small (lit< tt))) (word-decimal k (lt_trans few (lit< tt)));
-      form = (refl, refl, refl);
-      read = rw (whole_of-decimal i small, whole_of-decimal k few) refl;
-      done = done;
-      fine = rw (lt-ltb i c.n_obj (omega arith), not_repeated before (Slopes i k) [] ranks) refl;
-    }
-
 pub slopes_section : (c : Counts) (d : Draft) (rows : ℕ) → c.n_obj ≤ 2 ^ 20 → rows ≡ c.n_obj → IsRowSection c Slopes (codes "G") (λ xs. record d { slopes = xs }) rows (10 * 2 ^ 32)
+unfolding head_of is_in_range
 slopes_section c d rows most same = record {
   ranks = λ i k. refl;
   terms = λ i k. record { alone = record { kind = refl; count = refl; alone = refl; columns = λ p. refl }; size = refl; limit_is = refl; any_value = refl; once_is = refl; linear_is = refl; no_suffix = refl };
   said = λ xs i k n words ts. refl;
-  fine = λ before i k lt few done ranks. slopes_head c rows before i k most same lt few done ranks;
+  fine = λ before i k lt few done ranks.
+      let small : i < 2 ^ 31 = omega (arith, lt, same, most) in
+      counted_head 71 i k (Slopes i k) (omega arith) small few (refl, refl, refl) (rw (whole_of-decimal i small, whole_of-decimal k few) refl) done
+      (rw (lt-ltb i c.n_obj (omega (arith, lt, same)), not_repeated before (Slopes i k) [] ranks) refl);
 }
 
 -- ---- a suffix
@@ -347,21 +315,14 @@ suffix_head_fine c before s w done new few =
 abbrev pub with_suffix : Draft → Suffix → Draft
 with_suffix d s = record d { suffixes = d.suffixes ++ s ∷ [] }
 
-pub record SuffixMore (o : List ℤ) (c : Counts) (before : List Piece) (d : Draft) (n : ℕ) (x : Suffix) (linear values nodes suffixes : ℕ) : Type 0 where
-  pub taken : IsTaken o c before n (suffix_piece x) (before ++ suffix_at n x ∷ [])
-  pub stands : IsStanding o c (before ++ suffix_at n x ∷ []) (with_suffix d x) (rank (DefinitionHead 0 0 0)) linear (values + length x.values) nodes (suffixes + 1)
-
-suffix_alone : (c : Counts) (x : Suffix) → IsPairHead c (suffix_head_of x)
-suffix_alone c x = record { kind = refl; count = refl; alone = refl; columns = λ p. refl }
-
 pub few_objects : (c : Counts) (kind : ℕ) → AreCounts c → object_count c kind ≤ 2 ^ 20
-few_objects c kind k = by (kind % 4 == 0) (kind % 4 == 1) (kind % 4 == 2)
+few_objects c kind k = by (objects_of kind)
   where
-    by : (p q r : Bool) → cond p c.n_var (cond q c.n_con (cond r c.n_obj 1)) ≤ 2 ^ 20
-    by true q r = k.variables
-    by false true r = k.constraints
-    by false false true = omega (arith, k.objectives)
-    by false false false = omega arith
+    by : (o : Objects) → count_of c.n_var c.n_con c.n_obj o ≤ 2 ^ 20
+    by Variables = k.variables
+    by Constraints = k.constraints
+    by Objectives = omega (arith, k.objectives)
+    by Problem = omega arith
 
 pub true_or_none : (a b : Bool) → (a ≡ true → b ≡ true) → (a && not b) ≡ false
 true_or_none true b h = rw (h refl) refl
@@ -382,29 +343,22 @@ fresh_suffix known xs x apart =
     (λ i d lt. ap₂ (λ s t. is_suffix_of t.kind t.name s) (sym (get_or_append_left known (x ∷ xs) d i lt)) (sym (get_or_at known x xs d (length known) refl)) ∙ apart i (length known) d lt (omega arith))
 
 suffix_more : (o : List ℤ) (c : Counts) (before : List Piece) (d : Draft) (n linear values nodes suffixes : ℕ) (x : Suffix) → d.counts ≡ c → is_repeated before (suffix_head_of x) x.name ≡ false → AreCounts c → IsWritableSuffix x × IsSuffix c x
-    → values + length x.values ≤ most_terms → suffixes < 1024 → IsStanding o c before d (rank (DefinitionHead 0 0 0)) linear values nodes suffixes → SuffixMore o c before d n x linear values nodes suffixes
+    → values + length x.values ≤ most_terms → suffixes < 1024 → IsStanding o c before d (rank (DefinitionHead 0 0 0)) linear values nodes suffixes
+    → Adds o c before n (suffix_piece x) (suffix_at n x) (with_suffix d x) (rank (DefinitionHead 0 0 0)) linear (values + length x.values) nodes (suffixes + 1)
 suffix_more o c before d n linear values nodes suffixes x counts new k r room few s =
     let words = suffix_words x in
     let head = suffix_head_of x in
-    let p = suffix_at n x in
-    let alone = suffix_alone c x in
-    let each = values_fine c x k r.0 r.1 in
-    let below : All (λ t. t.0 < 2 ^ 31) x.values = λ i t lt. let low = r.1.below i t lt in let most = few_objects c x.kind k in omega (arith, low, most) in
+    let small : All (λ t. t.0 < 2 ^ 31) x.values = λ i t lt. let low = r.1.below i t lt in let most = few_objects c x.kind k in omega (arith, low, most) in
     let may : MayTake c before (begun_piece n words head) x.values = record {
-      each = each;
+      each = values_fine c x k r.0 r.1;
       fresh = subst (λ seen. AreFresh true seen x.values) (sym (begun_pairs n words head)) (fresh_apart [] x.values r.1.apart);
       linear = λ e. absurd cc;
       values = λ e. omega (arith, s.values_are, room, no_more n words head);
     } in
-    let pairs = pair_piece-pairs n words head x.values refl (recursion_from_All (λ t. t.0 < 2 ^ 31) x.values below) in
-    let done = lines_done c n words head term_line x.values refl refl in
-    let complete : is_complete d.counts p ≡ true = rw (counts, done) refl in
-    let said : with_piece d p ≡ with_suffix d x = said_whole d _ p complete ∙ ap (λ ts. with_suffix d (record { kind = x.kind; name = x.name; values = ts })) pairs in
-    let more = standing_more {after = rank (DefinitionHead 0 0 0)} p s done (omega arith) (omega arith) in
-    record {
-      taken = pair_piece_taken (suffix_head_fine c before x r.0 s.done new (omega (arith, s.suffixes_are, few))) alone refl may;
-      stands = same_standing more said (omega arith) (ap (λ ts. values + length ts) pairs) (omega (arith, lines_no_nodes c n words head (term_lines x.values) refl)) refl;
-    }
+    pairs_added words head x.values (suffix_head_fine c before x r.0 s.done new (omega (arith, s.suffixes_are, few))) (record { kind = refl; count = refl; alone = refl; columns = λ p. refl }) refl may
+    (recursion_from_All (λ t. t.0 < 2 ^ 31) x.values small) (omega arith) (omega arith)
+    (λ pairs done. said_whole d _ (suffix_at n x) (rw (counts, done) refl) ∙ ap (λ ts. with_suffix d (record { kind = x.kind; name = x.name; values = ts })) pairs)
+    (λ e. omega arith) (λ e. ap (λ k. values + k) e) refl s
 
 -- ---- all suffixes
 
@@ -412,11 +366,8 @@ suffix_repeated : (before : List Piece) (n kind count : ℕ) (name : List ℕ) (
     → is_repeated (before ++ suffix_at n x ∷ []) (SuffixHead kind count) name ≡ has_suffix (known ++ x ∷ []) kind name
 suffix_repeated before n kind count name known x e =
     list_any-append (is_same_piece (SuffixHead kind count) name) before (suffix_at n x ∷ [])
-    ∙ ap₂ (λ a b. a || (b && bytes_eq x.name name || false)) e (turned (kind % 4) (x.kind % 4))
+    ∙ ap₂ (λ a b. a || (b && bytes_eq x.name name || false)) e (same_objects-comm kind x.kind)
     ∙ sym (list_any-append (is_suffix_of kind name) known (x ∷ []))
-  where
-    turned : (a b : ℕ) → (a == b) ≡ (b == a)
-    turned a b = grind (arith, nat_tests)
 
 pub suffixes_reached : {o : List ℤ} {c : Counts} {before : List Piece} {d : Draft} {n linear values nodes suffixes : ℕ} (known xs : List Suffix) → d.counts ≡ c → d.suffixes ≡ known
     → ((kind count : ℕ) (name : List ℕ) → is_repeated before (SuffixHead kind count) name ≡ has_suffix known kind name) → AreCounts c → AllByRecursion (λ s. IsWritableSuffix s × IsSuffix c s) xs → AllPairs (λ s t. is_suffix_of t.kind t.name s ≡ false) (known ++ xs)
@@ -431,9 +382,4 @@ suffixes_reached {o = o} {c = c} {before = before} {d = d} {n = n} {linear = lin
     let one = suffix_more o c before d n linear values nodes suffixes x counts new k fits.0 (omega (arith, room, total)) (omega (arith, few)) s in
     let more = suffixes_reached {before = before ++ p ∷ []} {n = n + length (suffix_piece x)} (known ++ x ∷ []) xs counts (ap (λ ss. ss ++ x ∷ []) are)
     (λ kind count name. suffix_repeated before n kind count name known x (rep kind count name)) k fits.1 (subst (AllPairs (λ s t. is_suffix_of t.kind t.name s ≡ false)) (sym (append_assoc known (x ∷ []) xs)) apart) (omega (arith, room, total)) (omega (arith, few)) one.stands in
-    record {
-      after = more.after;
-      taken = taken_then one.taken refl more.taken;
-      columns = more.columns ∙ columns-append before p refl;
-      stands = same_standing more.stands (ap (λ ss. record d { suffixes = ss }) (append_assoc known (x ∷ []) xs)) refl (omega (arith, total)) refl (omega arith);
-    }
+    same_reach (added_then p refl one more) (ap (λ ss. record d { suffixes = ss }) (append_assoc known (x ∷ []) xs)) refl (omega (arith, total)) refl (omega arith)

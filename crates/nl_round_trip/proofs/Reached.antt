@@ -8,12 +8,12 @@ use Rattle.nl_lines.specs.Pieces.{Piece, with_row, pieces_of}
 use Rattle.nl_lines.specs.Saying.{draft_of}
 use Rattle.nl_lines.specs.Tests.{row_tests}
 use Rattle.nl_segments.specs.Grammar.{Standing, standing, line_refusal, end_refusal, is_in_header, nl_rules}
-use Rattle.nl_segments.specs.Steps.{after}
+use Rattle.nl_segments.specs.Steps.{after as after_line}
 use Rattle.nl_segments.proofs.StandingLemmas.{standing-more}
 use Rattle.written_texts.specs.Lines.{WordLine, spaced}
 use Rattle.written_texts.specs.Words.{IsWritten}
 use Rattle.written_texts.proofs.WordLemmas.{kept-spaced, some-written, row-written, are_words, words-spaced}
-use Rattle.nl_round_trip.specs.InsideTaking.{row_at, AreFine, pieces_after}
+use Rattle.nl_round_trip.specs.InsideTaking.{row_at, IsTaken, taken_line, taken_none}
 use Rattle.std.proofs.lemmas.Bool.{lt-ltb}
 use Rattle.std.proofs.lemmas.List.{map-append}
 use Rattle.nl_lines.specs.Rows.{rows_from}
@@ -26,10 +26,10 @@ pub record IsReached (lines : List (List ℕ)) (s : Standing) : Type 0 where
 pub reached_none : IsReached [] (standing [])
 reached_none = record { clean = clean_none nl_rules; here = refl }
 
-pub reached_more : (lines : List (List ℕ)) (s : Standing) (line : List ℕ) → IsReached lines s → line_refusal s line ≡ None → IsReached (lines ++ line ∷ []) (after s (length lines + 1) line)
-reached_more lines s line h e = record {
+pub reached_more : (lines : List (List ℕ)) (s t : Standing) (line : List ℕ) → IsReached lines s → line_refusal s line ≡ None → after_line s (length lines + 1) line ≡ t → IsReached (lines ++ line ∷ []) t
+reached_more lines s t line h e next = record {
   clean = clean_more nl_rules lines line h.clean (ap (λ s. line_refusal s line) h.here ∙ e);
-  here = standing-more lines line ∙ ap (λ s. after s (length lines + 1) line) h.here;
+  here = standing-more lines line ∙ ap (λ s. after_line s (length lines + 1) line) h.here ∙ next;
 }
 
 pub reached_end : (lines : List (List ℕ)) (s : Standing) → IsReached lines s → end_refusal s ≡ None → IsClean nl_rules lines End
@@ -46,22 +46,19 @@ unfolding line_refusal
 line_fine header pieces words body w fine = rw (some-written words w, kept-spaced words w.each, body, row-written words w) fine
 
 line_after : (header : List (List (List ℕ))) (pieces : List Piece) (n : ℕ) (words : WordLine) → is_in_header (in_body header pieces) ≡ false → IsWritten words
-    → after (in_body header pieces) n (spaced words) ≡ in_body header (with_row (counts_in header) pieces (row_at n words))
+    → after_line (in_body header pieces) n (spaced words) ≡ in_body header (with_row (counts_in header) pieces (row_at n words))
 line_after header pieces n words body w = rw (some-written words w, kept-spaced words w.each, body) refl
 
-pub body_reached : (header : List (List (List ℕ))) (pieces : List Piece) (lines : List (List ℕ)) (n : ℕ) (body : List WordLine) → ((ps : List Piece) → is_in_header (in_body header ps) ≡ false)
-    → n ≡ length lines + 1 → AllByRecursion IsWritten body → IsReached lines (in_body header pieces) → AreFine (options_in header) (counts_in header) pieces n body
-    → IsReached (lines ++ map spaced body) (in_body header (pieces_after (counts_in header) pieces n body))
-body_reached header pieces lines n [] past e w h fine = subst (λ ls. IsReached ls (in_body header pieces)) (sym (append-nil lines)) h
-body_reached header pieces lines n (words ∷ body) past e w h fine =
+pub body_reached : (header : List (List (List ℕ))) (pieces : List Piece) {after : List Piece} (lines : List (List ℕ)) (n : ℕ) (body : List WordLine) → ((ps : List Piece) → is_in_header (in_body header ps) ≡ false)
+    → n ≡ length lines + 1 → IsTaken (options_in header) (counts_in header) pieces n body after → IsReached lines (in_body header pieces) → IsReached (lines ++ map spaced body) (in_body header after)
+body_reached header pieces lines n [] past e taken_none h = subst (λ ls. IsReached ls (in_body header pieces)) (sym (append-nil lines)) h
+body_reached header pieces {after = after} lines n (words ∷ body) past e (taken_line w f t) h =
     let next = with_row (counts_in header) pieces (row_at n words) in
-    let one = reached_more lines (in_body header pieces) (spaced words) h (line_fine header pieces words (past pieces) w.0 fine.0) in
-    let here : after (in_body header pieces) (length lines + 1) (spaced words) ≡ in_body header next =
-    ap (λ k. after (in_body header pieces) k (spaced words)) (sym e) ∙ line_after header pieces n words (past pieces) w.0 in
-    let now : IsReached (lines ++ spaced words ∷ []) (in_body header next) = subst (IsReached (lines ++ spaced words ∷ [])) here one in
+    let now = reached_more lines (in_body header pieces) (in_body header next) (spaced words) h (line_fine header pieces words (past pieces) w f)
+    (ap (λ k. after_line (in_body header pieces) k (spaced words)) (sym e) ∙ line_after header pieces n words (past pieces) w) in
     let count : n + 1 ≡ length (lines ++ spaced words ∷ []) + 1 = omega (arith, length-append lines (spaced words ∷ []), e) in
-    let more = body_reached header next (lines ++ spaced words ∷ []) (n + 1) body past count w.1 now fine.1 in
-    subst (λ ls. IsReached ls (in_body header (pieces_after (counts_in header) next (n + 1) body))) (append_assoc lines (spaced words ∷ []) (map spaced body)) more
+    let more = body_reached header next (lines ++ spaced words ∷ []) (n + 1) body past count t now in
+    subst (λ ls. IsReached ls (in_body header after)) (append_assoc lines (spaced words ∷ []) (map spaced body)) more
 
 -- ---- the header
 
@@ -74,7 +71,7 @@ head_line_fine : (before : List WordLine) (words : WordLine) → length before <
 unfolding line_refusal
 head_line_fine before words few w fine = rw (some-written words w, kept-spaced words w.each, lt-ltb (length before) 10 few, words-spaced words (are_words words w.each), fine) refl
 
-head_line_after : (before : List WordLine) (words : WordLine) (n : ℕ) → length before < 10 → IsWritten words → after (in_body before []) n (spaced words) ≡ in_body (before ++ words ∷ []) []
+head_line_after : (before : List WordLine) (words : WordLine) (n : ℕ) → length before < 10 → IsWritten words → after_line (in_body before []) n (spaced words) ≡ in_body (before ++ words ∷ []) []
 head_line_after before words n few w = rw (some-written words w, kept-spaced words w.each, lt-ltb (length before) 10 few, words-spaced words (are_words words w.each)) refl
 
 nothing_read : standing [] ≡ in_body [] []
@@ -85,10 +82,8 @@ pub head_reached : (before lines : List WordLine) → length before + length lin
 head_reached before [] few w fine h = subst (λ ls. IsReached (map spaced ls) (in_body ls [])) (sym (append-nil before)) h
 head_reached before (words ∷ lines) few w fine h =
     let next = before ++ words ∷ [] in
-    let one = reached_more (map spaced before) (in_body before []) (spaced words) h (head_line_fine before words (omega arith) w.0 fine.0) in
-    let here = head_line_after before words (length (map spaced before) + 1) (omega arith) w.0 in
-    let now : IsReached (map spaced next) (in_body next []) =
-    subst (λ ls. IsReached ls (in_body next [])) (sym (map-append spaced before (words ∷ []))) (subst (IsReached (map spaced before ++ spaced words ∷ [])) here one) in
+    let one = reached_more (map spaced before) (in_body before []) (in_body next []) (spaced words) h (head_line_fine before words (omega arith) w.0 fine.0) (head_line_after before words (length (map spaced before) + 1) (omega arith) w.0) in
+    let now : IsReached (map spaced next) (in_body next []) = subst (λ ls. IsReached ls (in_body next [])) (sym (map-append spaced before (words ∷ []))) one in
     let more = head_reached next lines (omega (arith, few, length-append before (words ∷ []))) w.1 fine.1 now in
     subst (λ ls. IsReached (map spaced ls) (in_body ls [])) (append_assoc before (words ∷ []) lines) more
 

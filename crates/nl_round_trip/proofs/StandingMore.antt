@@ -1,41 +1,33 @@
 -- What pieces mean for the next one, piece by piece in the written order.
-use Rattle.std.proofs.Common.{◌≡◌, ◌∙◌, ℕ, ◌+◌, ◌*◌, ◌^◌, ◌<◌, ◌≤◌, Bool, true, false, cond, ℤ, List, [], ◌∷◌, ◌++◌, length, filter, refl, ap, arith, length-append}
+use Rattle.std.proofs.Common.{◌≡◌, ◌∙◌, ℕ, ◌+◌, ◌*◌, ◌^◌, ◌<◌, ◌≤◌, Bool, true, false, cond, ℤ, List, [], ◌∷◌, ◌++◌, length, refl, ap, ap₂, ◌==◌, arith}
 use Rattle.std.proofs.lemmas.Bool.{eqb-true}
-use Rattle.std.proofs.lemmas.Grind.{flat_map-append}
 use Rattle.std.proofs.lemmas.List.{append-nil}
-use Rattle.std.proofs.lemmas.List.Elements.{filter-append}
 use Rattle.std.specs.List.{AllByRecursion}
+use Rattle.exact_numbers.proofs.Bridge.{and_true}
 use Rattle.nl_model.specs.declared.header_counts.Counts.{Counts}
 use Rattle.nl_model.specs.Draft.{Draft}
 use Rattle.nl_lines.specs.declared.awaited.Awaited.TheVariants.{Nothing}
 use Rattle.nl_lines.specs.declared.head.Head.{Head}
-use Rattle.nl_lines.specs.declared.head.Head.TheVariants.{Body, Objective, Definition, DualGuesses, PrimalGuesses, Sides, Bounds, ColumnCounts, Terms, Slopes, Suffix}
 use Rattle.nl_lines.specs.Pieces.{Piece, awaited_in, piece_nodes, is_complete}
 use Rattle.nl_lines.specs.Saying.{with_piece, if_complete}
+use Rattle.nl_lines.specs.Segment.{index_of, segment_of}
 use Rattle.nl_lines.specs.Tests.{is_linear, is_suffix, suffix_count, is_same_head, is_repeated, column_counts, all_column_counts}
 use Rattle.nl_lines.proofs.PieceLemmas.{draft-append}
 use Rattle.nl_lines.proofs.TotalLemmas.{nodes-append}
+use Rattle.nl_segments.proofs.PairHeld.{columns-append as columns_more}
+use Rattle.nl_segments.proofs.PairLines.{suffixes_with}
 use Rattle.written_texts.specs.Lines.{WordLine}
 use Rattle.nl_round_trip.specs.InsideStandings.{rank, IsStanding, Reaches}
-use Rattle.nl_round_trip.specs.InsideTaking.{IsTaken}
-use Rattle.nl_round_trip.proofs.TakenLemmas.{all_append, awaited-append, taken_none, taken_then}
+use Rattle.nl_round_trip.specs.InsideTaking.{IsTaken, taken_none}
+use Rattle.nl_round_trip.proofs.TakenLemmas.{all_append, awaited-append, taken_then}
 use Rattle.nl_round_trip.proofs.PairPieces.{pairs_more, pair_total-append}
 
 -- ---- the written order
 
 same_rank : (a b : Head) → is_same_head a b ≡ true → rank a ≡ rank b
-same_rank (Body i) (Body k) e = ap (λ x. 2 * 2 ^ 32 + x) (eqb-true i k e)
-same_rank (Objective i maximise) (Objective k sense) e = ap (λ x. 3 * 2 ^ 32 + x) (eqb-true i k e)
-same_rank (Definition i j usage) (Definition k l uses) e = refl
-same_rank (DualGuesses m) (DualGuesses n) e = refl
-same_rank (PrimalGuesses m) (PrimalGuesses n) e = refl
-same_rank Sides Sides e = refl
-same_rank Bounds Bounds e = refl
-same_rank (ColumnCounts m) (ColumnCounts n) e = refl
-same_rank (Terms i m) (Terms k n) e = ap (λ x. 9 * 2 ^ 32 + x) (eqb-true i k e)
-same_rank (Slopes i m) (Slopes k n) e = ap (λ x. 10 * 2 ^ 32 + x) (eqb-true i k e)
-same_rank (Suffix a m) (Suffix b n) e = refl
-same_rank a b e = absurd cc
+same_rank a b e =
+    let same = and_true ((segment_of a).letter == (segment_of b).letter) _ e in
+    ap₂ (λ l i. l * 2 ^ 32 + i) (eqb-true (segment_of a).letter (segment_of b).letter same.0) (eqb-true (index_of (segment_of a).subject) (index_of (segment_of b).subject) same.1)
 
 -- a piece of a later rank was not there before
 pub not_repeated : (before : List Piece) (head : Head) (name : List ℕ) → AllByRecursion (λ p. rank p.head < rank head) before → is_repeated before head name ≡ false
@@ -56,14 +48,7 @@ abbrev pub suffixes_more : Head → ℕ
 suffixes_more head = cond (is_suffix head) 1 0
 
 pub suffix_count-append : (before : List Piece) (p : Piece) → suffix_count (before ++ p ∷ []) ≡ suffix_count before + suffixes_more p.head
-suffix_count-append before p =
-    ap (length {A = Piece}) (filter-append (λ p. is_suffix p.head) before (p ∷ []))
-    ∙ length-append (filter (λ p. is_suffix p.head) before) (filter (λ p. is_suffix p.head) (p ∷ []))
-    ∙ ap (λ n. suffix_count before + n) (by (is_suffix p.head) refl)
-  where
-    by : (b : Bool) → is_suffix p.head ≡ b → length (filter (λ p. is_suffix p.head) (p ∷ [])) ≡ suffixes_more p.head
-    by true e = rw e refl
-    by false e = rw e refl
+suffix_count-append before p = suffixes_with before p
 
 -- a complete piece more
 pub standing_more : {o : List ℤ} {c : Counts} {before : List Piece} {d : Draft} {next after linear values nodes suffixes : ℕ} (p : Piece) → IsStanding o c before d next linear values nodes suffixes
@@ -108,8 +93,7 @@ said_whole d more p e = rw e refl
 
 -- a piece that has none
 pub columns-append : (before : List Piece) (p : Piece) → column_counts p p.head ≡ [] → all_column_counts (before ++ p ∷ []) ≡ all_column_counts before
-columns-append before p none =
-    flat_map-append (λ p. column_counts p p.head) before (p ∷ []) ∙ ap (λ ks. all_column_counts before ++ (ks ++ [])) none ∙ append-nil (all_column_counts before)
+columns-append before p none = columns_more before p ∙ ap (λ ks. all_column_counts before ++ ks) none ∙ append-nil (all_column_counts before)
 
 -- ---- lines that reach a standing
 
@@ -117,17 +101,28 @@ pub same_reach : {o : List ℤ} {c : Counts} {before : List Piece} {n : ℕ} {li
     → d ≡ e → linear ≡ linear' → values ≡ values' → nodes ≡ nodes' → suffixes ≡ suffixes' → Reaches o c before n lines e next linear' values' nodes' suffixes'
 same_reach r p q s t u = record { after = r.after; taken = r.taken; stands = same_standing r.stands p q s t u; columns = r.columns }
 
--- a complete piece, of which these are the lines
-pub piece_reached : {o : List ℤ} {c : Counts} {before : List Piece} {n : ℕ} {lines : List WordLine} {d e : Draft} {next after linear values nodes suffixes linear' values' nodes' suffixes' : ℕ} (p : Piece) → IsTaken o c before n lines (before ++ p ∷ [])
-    → awaited_in c p ≡ Nothing → column_counts p p.head ≡ [] → next ≤ after → rank p.head < after
-    → with_piece d p ≡ e → linear + pairs_more is_linear p ≡ linear' → values + pairs_more is_suffix p ≡ values' → nodes + length (piece_nodes c p) ≡ nodes' → suffixes + suffixes_more p.head ≡ suffixes'
-    → IsStanding o c before d next linear values nodes suffixes → Reaches o c before n lines e after linear' values' nodes' suffixes'
-piece_reached {before = before} p taken done none up above said lin val nod suf s =
-    record { after = before ++ p ∷ []; columns = columns-append before p none; taken = taken; stands = same_standing (standing_more p s done up above) said lin val nod suf }
+-- a complete piece more, of which these are the lines
+pub record Adds (o : List ℤ) (c : Counts) (before : List Piece) (n : ℕ) (lines : List WordLine) (p : Piece) (d : Draft) (next linear values nodes suffixes : ℕ) : Type 0 where
+  pub taken : IsTaken o c before n lines (before ++ p ∷ [])
+  pub stands : IsStanding o c (before ++ p ∷ []) d next linear values nodes suffixes
+
+pub piece_added : {o : List ℤ} {c : Counts} {before : List Piece} {n : ℕ} {lines : List WordLine} {d e : Draft} {next after linear values nodes suffixes linear' values' nodes' suffixes' : ℕ} (p : Piece) → IsTaken o c before n lines (before ++ p ∷ [])
+    → awaited_in c p ≡ Nothing → next ≤ after → rank p.head < after → with_piece d p ≡ e → linear + pairs_more is_linear p ≡ linear' → values + pairs_more is_suffix p ≡ values' → nodes + length (piece_nodes c p) ≡ nodes' → suffixes + suffixes_more p.head ≡ suffixes'
+    → IsStanding o c before d next linear values nodes suffixes → Adds o c before n lines p e after linear' values' nodes' suffixes'
+piece_added p taken done up above said lin val nod suf s = record { taken = taken; stands = same_standing (standing_more p s done up above) said lin val nod suf }
+
+pub added_reaches : {o : List ℤ} {c : Counts} {before : List Piece} {n : ℕ} {lines : List WordLine} {d : Draft} {next linear values nodes suffixes : ℕ} (p : Piece) → column_counts p p.head ≡ [] → Adds o c before n lines p d next linear values nodes suffixes
+    → Reaches o c before n lines d next linear values nodes suffixes
+added_reaches {before = before} p none a = record { after = before ++ p ∷ []; columns = columns-append before p none; taken = a.taken; stands = a.stands }
 
 -- no lines
 pub reaches_none : {o : List ℤ} {c : Counts} {before : List Piece} {n : ℕ} {d : Draft} {next linear values nodes suffixes : ℕ} → IsStanding o c before d next linear values nodes suffixes → Reaches o c before n [] d next linear values nodes suffixes
 reaches_none {before = before} s = record { after = before; taken = taken_none; columns = refl; stands = s }
+
+-- a piece, and further lines after it
+pub added_then : {o : List ℤ} {c : Counts} {before : List Piece} {n : ℕ} {xs ys : List WordLine} {d e : Draft} {next after linear values nodes suffixes linear' values' nodes' suffixes' : ℕ} (p : Piece) → column_counts p p.head ≡ []
+    → Adds o c before n xs p d next linear values nodes suffixes → Reaches o c (before ++ p ∷ []) (n + length xs) ys e after linear' values' nodes' suffixes' → Reaches o c before n (xs ++ ys) e after linear' values' nodes' suffixes'
+added_then {before = before} p none a q = record { after = q.after; taken = taken_then a.taken refl q.taken; stands = q.stands; columns = q.columns ∙ columns-append before p none }
 
 -- lines, and further ones after them
 pub reaches_then : {o : List ℤ} {c : Counts} {before : List Piece} {n : ℕ} {xs ys : List WordLine} {d e : Draft} {next after linear values nodes suffixes linear' values' nodes' suffixes' : ℕ} → Reaches o c before n xs d next linear values nodes suffixes

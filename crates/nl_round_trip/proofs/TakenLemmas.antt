@@ -1,5 +1,5 @@
 -- Heads and lines that are taken, and lines of one kind one after the other.
-use Rattle.std.proofs.Common.{◌≡◌, ◌∙◌, ℕ, ◌+◌, true, false, ℤ, List, [], ◌∷◌, ◌++◌, length, refl, sym, ap, ap₂, subst, arith, Some, None, ◌≤◌, map, length-append, append_assoc, append-nil, nat_lt}
+use Rattle.std.proofs.Common.{◌≡◌, ◌∙◌, ℕ, ◌+◌, true, false, ℤ, List, [], ◌∷◌, ◌++◌, length, refl, sym, ap, subst, arith, Some, None, ◌≤◌, ◌<◌, ◌^◌, map, length-append, append_assoc, append-nil, nat_lt, lt_trans, lit<}
 use Rattle.std.specs.List.{AllByRecursion}
 use Rattle.texts.specs.Judged.{first_reason}
 use Rattle.nl_model.specs.declared.header_counts.Counts.{Counts}
@@ -13,63 +13,68 @@ use Rattle.nl_lines.specs.Tests.{row_tests, head_tests, head_form_tests, formed_
 use Rattle.nl_lines.proofs.PieceLemmas.{longer, last-append, extended-append}
 use Rattle.written_texts.specs.Lines.{WordLine}
 use Rattle.written_texts.specs.Words.{IsWritten}
+use Rattle.written_texts.proofs.WrittenWords.{word-decimal, word-lettered, written-one, written-two}
+use Rattle.nl_writer.specs.Written.{lettered}
+use Rattle.std.specs.Fmt.{decimal}
 use Rattle.written_texts.proofs.WordLemmas.{row-written}
-use Rattle.nl_round_trip.specs.InsideTaking.{row_at, AreFine, pieces_after, IsTaken, rows_at}
+use Rattle.nl_round_trip.specs.InsideTaking.{row_at, IsTaken, rows_at, taken_line, taken_none}
 use Rattle.std.proofs.lemmas.Bool.{lt-ltb, le-ltb}
 use Rattle.std.proofs.lemmas.List.{length-map}
 use Rattle.nl_lines.specs.Nodes.{nodes_from}
 
 -- ---- lines after lines
 
-pub taken_none : {o : List ℤ} {c : Counts} {before : List Piece} {n : ℕ} → IsTaken o c before n [] before
-taken_none = record { written = tt; fine = tt; pieces = refl }
-
 pub all_append : {X : Type 0} (P : X → Type 0) (xs ys : List X) → AllByRecursion P xs → AllByRecursion P ys → AllByRecursion P (xs ++ ys)
 all_append P [] ys f g = g
 all_append P (x ∷ xs) ys f g = (f.0, all_append P xs ys f.1 g)
 
-fine-append : (o : List ℤ) (c : Counts) (before : List Piece) (n : ℕ) (xs ys : List WordLine) → AreFine o c before n xs → AreFine o c (pieces_after c before n xs) (n + length xs) ys → AreFine o c before n (xs ++ ys)
-fine-append o c before n [] ys f g = subst (λ k. AreFine o c before k ys) (omega arith) g
-fine-append o c before n (x ∷ xs) ys f g =
-    let next = with_row c before (row_at n x) in
-    let count : n + length (x ∷ xs) ≡ n + 1 + length xs = omega arith in
-    (f.0, fine-append o c next (n + 1) xs ys f.1 (subst (λ k. AreFine o c (pieces_after c next (n + 1) xs) k ys) count g))
-
-after-append : (c : Counts) (before : List Piece) (n : ℕ) (xs ys : List WordLine) → pieces_after c before n (xs ++ ys) ≡ pieces_after c (pieces_after c before n xs) (n + length xs) ys
-after-append c before n [] ys = ap (λ k. pieces_after c before k ys) (omega arith)
-after-append c before n (x ∷ xs) ys =
-    let next = with_row c before (row_at n x) in
-    after-append c next (n + 1) xs ys ∙ ap (λ k. pieces_after c (pieces_after c next (n + 1) xs) k ys) (omega arith)
-
 pub taken_then : {o : List ℤ} {c : Counts} {before between after : List Piece} {n m : ℕ} {xs ys : List WordLine} → IsTaken o c before n xs between → m ≡ n + length xs → IsTaken o c between m ys after → IsTaken o c before n (xs ++ ys) after
-taken_then {o = o} {c = c} {before = before} {between = between} {n = n} {xs = xs} {ys = ys} f e g =
-    let fine : AreFine o c (pieces_after c before n xs) (n + length xs) ys = subst (λ ps. AreFine o c ps (n + length xs) ys) (sym f.pieces) (subst (λ k. AreFine o c between k ys) e g.fine) in
-    record {
-      written = all_append IsWritten xs ys f.written g.written;
-      fine = fine-append o c before n xs ys f.fine fine;
-      pieces = after-append c before n xs ys ∙ ap₂ (λ ps k. pieces_after c ps k ys) f.pieces (sym e) ∙ g.pieces;
-    }
+taken_then {o = o} {c = c} {before = before} {after = after} {ys = ys} taken_none e g = subst (λ k. IsTaken o c before k ys after) (omega (arith, e)) g
+taken_then (taken_line w f t) e g = taken_line w f (taken_then t (omega (arith, e)) g)
+
+taken_one : {o : List ℤ} {c : Counts} {before after : List Piece} {n : ℕ} {words : WordLine} → IsWritten words → first_reason (row_tests c (draft_of o c before) before words) ≡ None → with_row c before (row_at n words) ≡ after → IsTaken o c before n (words ∷ []) after
+taken_one {o = o} {c = c} {before = before} {n = n} {words = words} w f e = subst (IsTaken o c before n (words ∷ [])) e (taken_line w f taken_none)
+
+pub taken_written : {o : List ℤ} {c : Counts} {before after : List Piece} {n : ℕ} {lines : List WordLine} → IsTaken o c before n lines after → AllByRecursion IsWritten lines
+taken_written taken_none = tt
+taken_written (taken_line w f t) = (w, taken_written t)
 
 -- ---- a head
 
 abbrev pub begun_piece : ℕ → WordLine → Head → Piece
 begun_piece n words head = record { head = head; name = name_in words; line = n; rows = [] }
 
+abbrev pub IsHeadForm : WordLine → Type 0
+IsHeadForm words = (is_head words ≡ true) × (is_segment_letter (letter_of words) ≡ true) × (is_refused_letter (letter_of words) ≡ false)
+
 -- the words are a head that may come after these pieces
 pub record IsHeadFine (c : Counts) (before : List Piece) (words : WordLine) (head : Head) : Type 0 where
   pub written : IsWritten words
-  pub form : (is_head words ≡ true) × (is_segment_letter (letter_of words) ≡ true) × (is_refused_letter (letter_of words) ≡ false)
+  pub form : IsHeadForm words
   pub read : head_of c words ≡ Some head
   pub done : awaited_of c before ≡ Nothing
   pub fine : first_reason (formed_head_tests c before (name_in words) (Some head)) ≡ None
 
+-- a letter and a number, and a letter and two numbers
+pub number_head : {c : Counts} {before : List Piece} (letter n : ℕ) (head : Head) → 36 ≤ letter → n < 2 ^ 31 → IsHeadForm (lettered (letter ∷ []) n ∷ []) → head_of c (lettered (letter ∷ []) n ∷ []) ≡ Some head
+    → awaited_of c before ≡ Nothing → first_reason (formed_head_tests c before [] (Some head)) ≡ None → IsHeadFine c before (lettered (letter ∷ []) n ∷ []) head
+number_head letter n head low small form read done fine =
+    record { written = written-one (lettered (letter ∷ []) n) (word-lettered letter n low (lt_trans small (lit< tt))); form = form; read = read; done = done; fine = fine }
+
+pub counted_head : {c : Counts} {before : List Piece} (letter n k : ℕ) (head : Head) → 36 ≤ letter → n < 2 ^ 31 → k < 2 ^ 31 → IsHeadForm (lettered (letter ∷ []) n ∷ decimal k ∷ []) → head_of c (lettered (letter ∷ []) n ∷ decimal k ∷ []) ≡ Some head
+    → awaited_of c before ≡ Nothing → first_reason (formed_head_tests c before [] (Some head)) ≡ None → IsHeadFine c before (lettered (letter ∷ []) n ∷ decimal k ∷ []) head
+counted_head letter n k head low small few form read done fine = record {
+  written = written-two (lettered (letter ∷ []) n) (decimal k) (word-lettered letter n low (lt_trans small (lit< tt))) (word-decimal k (lt_trans few (lit< tt)));
+  form = form;
+  read = read;
+  done = done;
+  fine = fine;
+}
+
 pub head_taken : {o : List ℤ} {c : Counts} {before : List Piece} {n : ℕ} {words : WordLine} {head : Head} → IsHeadFine c before words head → IsTaken o c before n (words ∷ []) (before ++ begun_piece n words head ∷ [])
 unfolding row_tests head_tests head_form_tests
-head_taken {words = words} h = record {
-  written = (h.written, tt);
-  fine = (rw (h.form.0, h.done, h.form.1, h.form.2, h.read) h.fine, tt);
-  pieces = rw (row-written words h.written, h.form.0, h.read, row-written words h.written) refl;
-}
+head_taken {words = words} h =
+    taken_one h.written (rw (h.form.0, h.done, h.form.1, h.form.2, h.read) h.fine) (rw (row-written words h.written, h.form.0, h.read, row-written words h.written) refl)
 
 -- ---- a line
 
@@ -89,11 +94,7 @@ line_taken o c before p n words a h =
     let d = draft_of o c ps in
     let tests : first_reason (line_tests c d ps words (last_piece ps)) ≡ None =
     ap (λ q. first_reason (line_tests c d ps words q)) (last-append before p) ∙ ap (λ b. first_reason (awaited_tests c d ps p words b)) (awaited-append c before p ∙ h.awaited) ∙ h.fine in
-    record {
-      written = (h.written, tt);
-      fine = (rw h.is tests, tt);
-      pieces = rw (row-written words h.written, h.is) (extended-append before p (row_at n words));
-    }
+    taken_one h.written (rw h.is tests) (rw (row-written words h.written, h.is) (extended-append before p (row_at n words)))
 
 -- a piece that awaits lines of this kind, and lacks at least k of them
 pub record AwaitsLines (c : Counts) (p : Piece) (a : Awaited) (k : ℕ) : Type 0 where

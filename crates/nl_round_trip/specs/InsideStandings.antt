@@ -5,26 +5,16 @@ use Rattle.nl_model.specs.declared.header_counts.Counts.{Counts}
 use Rattle.nl_model.specs.Draft.{Draft}
 use Rattle.nl_lines.specs.declared.awaited.Awaited.TheVariants.{Nothing}
 use Rattle.nl_lines.specs.declared.head.Head.{Head}
-use Rattle.nl_lines.specs.declared.head.Head.TheVariants.{Body, Objective, Definition, DualGuesses, PrimalGuesses, Sides, Bounds, ColumnCounts, Terms, Slopes, Suffix}
 use Rattle.nl_lines.specs.Pieces.{Piece, awaited_of}
 use Rattle.nl_lines.specs.Saying.{draft_of}
+use Rattle.nl_lines.specs.Segment.{index_of, segment_of}
 use Rattle.nl_lines.specs.Tests.{is_linear, is_suffix, pair_total, node_total, suffix_count, all_column_counts}
 use Rattle.written_texts.specs.Lines.{WordLine}
 use Rattle.nl_round_trip.specs.InsideTaking.{IsTaken}
 
 -- sections one after the other, and within some the pieces by their numbers
 abbrev pub rank : Head → ℕ
-rank (Suffix kind n) = 0
-rank (Definition i j usage) = 2 ^ 32
-rank (Body i) = 2 * 2 ^ 32 + i
-rank (Objective k maximise) = 3 * 2 ^ 32 + k
-rank (DualGuesses n) = 4 * 2 ^ 32
-rank (PrimalGuesses n) = 5 * 2 ^ 32
-rank Sides = 6 * 2 ^ 32
-rank Bounds = 7 * 2 ^ 32
-rank (ColumnCounts n) = 8 * 2 ^ 32
-rank (Terms i n) = 9 * 2 ^ 32 + i
-rank (Slopes k n) = 10 * 2 ^ 32 + k
+rank head = (segment_of head).letter * 2 ^ 32 + index_of (segment_of head).subject
 
 -- the pieces are complete, say the draft d, stand before what has a rank from `next` on, and hold
 -- so many linear terms, values of suffixes, nodes and suffixes

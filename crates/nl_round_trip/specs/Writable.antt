@@ -1,6 +1,6 @@
 -- Which files can be written so that the text is read as the same file: those that keep the rules
 -- of values and the limits of texts.
-use Rattle.std.specs.Prelude.{◌≡◌, ℕ, ◌+◌, ◌/◌, ◌%◌, ◌^◌, ◌<◌, ◌≤◌, ◌==◌, Bool, true, false, List, length, sum_by, All, slice_index, codes, IfSome, get_or}
+use Rattle.std.specs.Prelude.{◌≡◌, ℕ, ◌+◌, ◌^◌, ◌<◌, ◌≤◌, ◌==◌, true, false, List, length, sum_by, All, slice_index, codes, IfSome, get_or}
 use Rattle.std.specs.List.{list_all}
 use Rattle.std.specs.Option.{option_map_or}
 use Rattle.std.specs.Str.{bytes_eq}
@@ -60,8 +60,8 @@ pub record HasRoom (f : File) : Type 0 where
   pub lines : All (λ line. length (spaced line) ≤ 65536) (nl_lines f)
   pub text : length (nl_text f) ≤ 2 ^ 31
 
-pub record IsWritable (f : File) : Type 0 where
-  pub file : IsFile f
+-- numbers that can be written, names that are read as names, and the limits of texts
+pub record IsWithinLimits (f : File) : Type 0 where
   pub options : list_all has_31_bits f.options ≡ true
   pub trees : AreTreesWritable f
   pub usages : All (λ d. d.usage < 2 ^ 31) f.definitions
@@ -74,6 +74,11 @@ pub record IsWritable (f : File) : Type 0 where
   pub few_nodes : node_count f ≤ 2 ^ 22
   pub binary : (j : ℕ) (i : Interval) → j < f.counts.n_var →
       is_binary (variable_kind f.counts j) ≡ true → is_within_unit (get_or f.bounds j i) ≡ true
+
+-- the rules of values, these limits, and room for the text
+pub record IsWritable (f : File) : Type 0 where
+  pub file : IsFile f
+  pub limits : IsWithinLimits f
   pub room : HasRoom f
 
 -- the text says the file, at some places

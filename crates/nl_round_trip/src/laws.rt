@@ -1,6 +1,7 @@
 // The laws of written .nl texts.
 ghost use Rattle.nl_round_trip.specs.Writable.{WrittenIsRead};
 ghost use Rattle.nl_round_trip.specs.ReadBack.{WrittenReadsBack};
+ghost use Rattle.nl_round_trip.specs.Rewritten.{ReadIsWritable, ReadIsWrittenAgain};
 
 /// What is written of a file that can be written is a text of the profile, without faults, that
 /// says the file.
@@ -12,4 +13,14 @@ pub fn written_is_read()
 /// that can be written, it is that file or want of memory.
 pub fn written_reads_back()
     ensures { WrittenReadsBack }
+{}
+
+/// A file that a text says can be written: its written text, too, is within the limits of texts.
+pub fn what_is_read_is_writable()
+    ensures { ReadIsWritable }
+{}
+
+/// What is written of a file that a text says is a text that says this file.
+pub fn what_is_read_is_written_again()
+    ensures { ReadIsWrittenAgain }
 {}

@@ -43,11 +43,11 @@ use Rattle.nl_lines.proofs.PieceLemmas.{split, longer, extended-append}
 -- ---- what a piece awaits
 
 -- after them, it awaits a row of its expression
-record IsInside (c : Counts) (p : Piece) (kind : Awaited) : Type 0 where
-  place : IsInTree c p
-  awaits : tree_awaits (piece_nodes c p) (piece_pending p) ≡ kind
+pub record IsInside (c : Counts) (p : Piece) (kind : Awaited) : Type 0 where
+  pub place : IsInTree c p
+  pub awaits : tree_awaits (piece_nodes c p) (piece_pending p) ≡ kind
 
-inside_tree : (c : Counts) (p : Piece) (kind : Awaited) → awaited_in c p ≡ kind → in_tree kind ≡ true → IsInside c p kind
+pub inside_tree : (c : Counts) (p : Piece) (kind : Awaited) → awaited_in c p ≡ kind → in_tree kind ≡ true → IsInside c p kind
 unfolding awaited_in
 inside_tree c p kind e tree = by (nat_lt (length p.rows) (line_count c p.head)) (has_tree p.head) refl refl e
   where
@@ -110,7 +110,7 @@ node_run c ns row run wanted = by (node_in c.n_var (row_words row)) (opcode_in (
     by (Some n) None p q = record { run = rw p (IsRun-push 1 ns n run wanted (node_formed c (row_words row) n p)); pending = rw q tt }
     by (Some n) (Some o) p q = absurd (let none = (opcode_counted c.n_var (row_words row) o q).none in cc)
 
-node_awaited : (ns : List Placed) (q : Option Pending) → tree_awaits ns q ≡ NodeLine → (q ≡ None) × (0 < awaited (only_nodes ns))
+pub node_awaited : (ns : List Placed) (q : Option Pending) → tree_awaits ns q ≡ NodeLine → (q ≡ None) × (0 < awaited (only_nodes ns))
 node_awaited ns (Some q) e = absurd cc
 node_awaited ns None e = node_wanted (only_nodes ns) None e
 
@@ -121,7 +121,7 @@ running_node c p row i h =
     running_row c p row None i.place a.0 r.run r.pending
 
 -- the number of operands of the opcode that awaits it
-no_count : (ns : List Placed) → tree_awaits ns None ≡ OperandCount → ⊥
+pub no_count : (ns : List Placed) → tree_awaits ns None ≡ OperandCount → ⊥
 no_count ns e = cond_both (awaited (only_nodes ns) == 0) Nothing NodeLine (λ a. a ≡ OperandCount → ⊥) (λ q is. cc) (λ q is. cc) e
 
 running_count : (c : Counts) (p : Piece) (row : NumberedRow) → IsInside c p OperandCount → first_reason (operand_tests (row_words row)) ≡ None → IsRunning c p → IsRunning c (longer p row)

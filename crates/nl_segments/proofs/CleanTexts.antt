@@ -100,16 +100,15 @@ here_none before line rest last c =
     rw (take_at before (line ∷ rest) (length before) refl, drop_at before (line ∷ rest) (length before) refl) refl in
     sym here ∙ c.clean (length before) (omega (arith, length-append before (line ∷ rest)))
 
-all_lines : (P : ℕ → Type 0) (before rest : List (List ℕ)) (last : Last) → ((n : ℕ) → length before < n → n ≤ length before + length rest → P n) → IsClean nl_rules (before ++ rest) last
-    → IsCleanStanding P (standing before) → IsCleanStanding P (standing (before ++ rest))
-all_lines P before [] last each c h = subst (λ ls. IsCleanStanding P (standing ls)) (sym (append-nil before)) h
-all_lines P before (line ∷ rest) last each c h =
+-- what each line without a fault keeps holds after all lines
+pub all_lines : (K : Standing → Type 0) (count : ℕ) → ((s : Standing) (n : ℕ) (line : List ℕ) → 0 < n → n ≤ count → K s → line_refusal s line ≡ None → K (after s n line))
+    → (before rest : List (List ℕ)) (last : Last) → length before + length rest ≤ count → IsClean nl_rules (before ++ rest) last → K (standing before) → K (standing (before ++ rest))
+all_lines K count each before [] last room c h = subst (λ ls. K (standing ls)) (sym (append-nil before)) h
+all_lines K count each before (line ∷ rest) last room c h =
     let one : (before ++ line ∷ []) ++ rest ≡ before ++ line ∷ rest = append_assoc before (line ∷ []) rest in
-    let fine = here_none before line rest last c in
-    let next = subst (IsCleanStanding P) (sym (standing-more before line)) (step P (standing before) (length before + 1) line (each (length before + 1) (omega arith) (omega arith)) h fine) in
-    let longer : length (before ++ line ∷ []) ≡ length before + 1 = length-append before (line ∷ []) in
-    subst (λ ls. IsCleanStanding P (standing ls)) one
-    (all_lines P (before ++ line ∷ []) rest last (λ n more most. each n (omega (arith, more, longer)) (omega (arith, most, longer))) (subst (λ ls. IsClean nl_rules ls last) (sym one) c) next)
+    let next = subst K (sym (standing-more before line)) (each (standing before) (length before + 1) line (omega arith) (omega (arith, room)) h (here_none before line rest last c)) in
+    subst (λ ls. K (standing ls)) one
+    (all_lines K count each (before ++ line ∷ []) rest last (omega (arith, room, length-append before (line ∷ []))) (subst (λ ls. IsClean nl_rules ls last) (sym one) c) next)
 
 -- ---- the end
 
@@ -125,6 +124,9 @@ at_end text e = by (scan text).fault refl
     by : (o : Option LineFault) → (scan text).fault ≡ o → end_refusal (standing (lines_of text)) ≡ None
     by None q = rw q at e
     by (Some fault) q = absurd (let some = rw q at e in cc)
+
+pub none_missing : (text : List ℕ) → IsClean nl_rules (lines_of text) (last_line text) → end_refusal (standing (lines_of text)) ≡ None
+none_missing text c = at_end text (end_none (lines_of text) (last_line text) c)
 
 -- what a text without a fault means
 pub record IsWholeText (P : ℕ → Type 0) (s : Standing) : Type 0 where
@@ -150,7 +152,8 @@ whole_by P s h e = by (is_in_header s) refl
 
 pub whole_text : (P : ℕ → Type 0) (text : List ℕ) → ((n : ℕ) → 0 < n → n ≤ length (lines_of text) → P n) → IsClean nl_rules (lines_of text) (last_line text) → IsWholeText P (standing (lines_of text))
 whole_text P text each c =
-    whole_by P (standing (lines_of text)) (all_lines P [] (lines_of text) (last_line text) (λ n more most. each n more (omega (arith, most))) c (start P)) (at_end text (end_none (lines_of text) (last_line text) c))
+    let lines = lines_of text in
+    whole_by P (standing lines) (all_lines (IsCleanStanding P) (length lines) (λ s n line more most h fine. step P s n line (each n more most) h fine) [] lines (last_line text) (omega arith) c (start P)) (none_missing text c)
 
 -- ---- the laws
 
@@ -290,7 +293,7 @@ none_wanted : (ns : List Placed) (q : Option Pending) → is_nothing (tree_await
 none_wanted ns (Some q) e = absurd cc
 none_wanted ns None e = cond_both (awaited (only_nodes ns) == 0) Nothing NodeLine (λ a. is_nothing a ≡ true → awaited (only_nodes ns) ≡ 0) (λ s f. eqb-true (awaited (only_nodes ns)) 0 s) (λ s f. absurd cc) e
 
-nothing_wanted : (c : Counts) (p : Piece) → has_tree p.head ≡ true → is_complete c p ≡ true → awaited (only_nodes (piece_nodes c p)) ≡ 0
+pub nothing_wanted : (c : Counts) (p : Piece) → has_tree p.head ≡ true → is_complete c p ≡ true → awaited (only_nodes (piece_nodes c p)) ≡ 0
 nothing_wanted c p t whole = none_wanted (piece_nodes c p) (piece_pending p) (tree_done c p t whole)
 
 found : (P : ℕ → Type 0) (s : Standing) (f : File) (owner : Owner) (begins : Head → Type 0) (t : Tree) → IsWholeText P s → IsSaid (counts_of s) s.pieces begins t → ((h : Head) → begins h → BeginsTree f owner h) → HasPiece s f owner t

@@ -13,9 +13,8 @@ ghost use Rattle.nl_lines.specs.Tests.{SaysInterval, is_binary, is_sides};
 use crate::body::BodyReader;
 use crate::closing::count_line;
 use crate::current::Current;
-use nl_header::kinds_of;
 use nl_lines::{NlReason, is_sides, read_interval};
-use nl_model::{Header, Interval, Kind, NlBuilder};
+use nl_model::{Header, Interval, Kind, NlBuilder, kinds_of};
 use std::alloc::AllocError;
 use texts::Stop;
 

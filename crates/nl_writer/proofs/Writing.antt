@@ -1,11 +1,10 @@
 -- Lines that are written one after the other.
-use Rattle.std.proofs.Common.{◌≡◌, ℕ, ◌+◌, ◌<◌, ◌≤◌, ◌∙◌, refl, sym, ap, ap₂, subst, List, ◌∷◌, ◌++◌, length, drop, append_assoc, append-nil, add-one, drop-cons, Some}
+use Rattle.std.proofs.Common.{◌≡◌, ℕ, ◌+◌, ◌<◌, ◌∙◌, refl, sym, ap, ap₂, subst, List, ◌∷◌, ◌++◌, length, drop, append_assoc, add-one, drop-cons, Some}
 use Rattle.std.specs.Prelude.{ℤ, Bool, Option, None, unwrap_or}
 use Rattle.std.specs.Option.{option_map}
 use Rattle.std.proofs.lemmas.Grind.{flat_map-append}
 use Rattle.nl_model.specs.declared.header_counts.Counts.{Counts}
 use Rattle.nl_model.specs.declared.objective.Objective.{Objective}
-use Rattle.std.proofs.lemmas.List.{drop_all}
 use Rattle.std.proofs.lemmas.Option.{slice_get_within, get_or_from_slice_get}
 use Rattle.std.specs.List.{flat_map, slice_get}
 use Rattle.code_tables.specs.Opcodes.{class_of}

@@ -2,8 +2,8 @@
 use Rattle.std.proofs.Common.{◌≡◌, ℕ, ◌+◌, ◌-◌, ◌<◌, ◌≤◌, ◌==◌, ◌∙◌, sym, ap, subst, refl, Bool, true, false, ◌||◌, List, [], ◌∷◌, ◌++◌, length, replicate, get_or, slice_set, ⊎_elim, arith, length-append}
 use Rattle.std.proofs.lemmas.Bool.{cases_eq, eq-eqb, ne_eqb}
 use Rattle.std.proofs.lemmas.List.Folds.{list_any-append}
-use Rattle.proof_text.specs.declared.proof.ProofNode.{ProofNode}
-use Rattle.proof_text.specs.Proofs.{Pair}
+use Rattle.certificates.specs.declared.proof.ProofNode.{ProofNode}
+use Rattle.certificates.specs.Proofs.{Pair}
 use Rattle.std.specs.Prelude.{take, cond, count_by, sum_by}
 use Rattle.std.proofs.Math.Seq.{take-append_seam}
 use Rattle.std.proofs.Math.Bool.{or-false, or-true}

@@ -1,5 +1,4 @@
 pub mod Counted
-pub mod KindLemmas
 pub mod RowLemmas
 pub mod Steps
 pub mod GrammarLemmas

@@ -3,19 +3,18 @@ use Rattle.std.proofs.Common.{◌≡◌, ◌∙◌, ℕ, Bool, true, false, ◌&
 use Rattle.std.specs.Prelude.{IfOk}
 use Rattle.std.proofs.lemmas.Bool.{not-false}
 use Rattle.texts.specs.declared.stop.Stop.{Stop}
-use Rattle.texts.specs.Reading.{Stands}
+use Rattle.texts.specs.Reading.{Stands, lines_of, last_of}
 use Rattle.texts.specs.declared.fault.TextFault.{TextFault}
 use Rattle.texts.specs.Judged.{IsClean}
-use Rattle.texts.specs.Reading.{lines_of, last_of}
 use Rattle.texts.proofs.FirstReasons.{none_each}
 use Rattle.texts.proofs.JudgedLemmas.{one_outcome}
-use Rattle.proof_text.specs.declared.proof.Claim.{Claim}
-use Rattle.proof_text.specs.declared.proof.ProofNode.{ProofNode}
-use Rattle.proof_text.specs.Files.{IsProofIn}
-use Rattle.proof_text.specs.Proofs.{Pair, ProofValue}
+use Rattle.certificates.specs.declared.proof.Claim.{Claim}
+use Rattle.certificates.specs.declared.proof.ProofNode.{ProofNode}
+use Rattle.file_certificates.specs.Files.{IsProofIn}
+use Rattle.certificates.specs.Proofs.{Pair, ProofValue}
 use Rattle.nl_model.specs.File.{File}
 use Rattle.proof_text.specs.declared.fault.ProofReason.{ProofReason}
-use Rattle.proof_text.specs.Setting.{Setting, setting_of}
+use Rattle.file_certificates.specs.Setting.{Setting, setting_of}
 use Rattle.proof_text.specs.Rows.{rows_in}
 use Rattle.proof_text.specs.Standing.{IsSaid, Standing, is_whole, standing}
 use Rattle.proof_text.specs.Tests.{end_tests}

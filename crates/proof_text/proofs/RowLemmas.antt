@@ -13,10 +13,10 @@ use Rattle.texts.proofs.NamePlaces.{bytes_same}
 use Rattle.exact_numbers.specs.Numbers.{dec_of, whole_of}
 use Rattle.exact_numbers.specs.declared.dec.Dec.{Dec}
 use Rattle.proof_text.specs.declared.fault.ProofReason.{ProofReason}
-use Rattle.proof_text.specs.declared.proof.Claim.{Claim}
-use Rattle.proof_text.specs.declared.proof.ProofNode.{ProofNode}
-use Rattle.proof_text.specs.Proofs.{Pair}
-use Rattle.proof_text.specs.Setting.{Setting}
+use Rattle.certificates.specs.declared.proof.Claim.{Claim}
+use Rattle.certificates.specs.declared.proof.ProofNode.{ProofNode}
+use Rattle.certificates.specs.Proofs.{Pair}
+use Rattle.file_certificates.specs.Setting.{Setting}
 use Rattle.proof_text.specs.Rows.{Row, claim_in, is_alone, is_claim_row, is_node_row, is_row, node_in, pair_in, pair_of}
 use Rattle.proof_text.specs.Standing.{Standing, pairs_left, subtrees_left}
 use Rattle.proof_text.specs.Steps.{ReadSoFar, moved, with_claim, with_node, with_pair, with_row}

@@ -25,13 +25,13 @@ use Rattle.linear_program.specs.Intervals.{is_whole_kind}
 use Rattle.linear_programs.specs.Elements.{elements_from}
 use Rattle.linear_programs.proofs.Elements.{elements_at, elements_length}
 use Rattle.file_meaning.specs.Meaning.{is_whole_variable}
-use Rattle.proof_text.specs.declared.proof.Claim.{Claim}
-use Rattle.proof_text.specs.declared.proof.Claim.TheVariants.{Value, Infeasible}
-use Rattle.proof_text.specs.declared.proof.ProofNode.{ProofNode}
-use Rattle.proof_text.specs.declared.proof.ProofNode.TheVariants.{Split, Weights}
+use Rattle.certificates.specs.declared.proof.Claim.{Claim}
+use Rattle.certificates.specs.declared.proof.Claim.TheVariants.{Value, Infeasible}
+use Rattle.certificates.specs.declared.proof.ProofNode.{ProofNode}
+use Rattle.certificates.specs.declared.proof.ProofNode.TheVariants.{Split, Weights}
 use Rattle.proof_text.specs.declared.fault.ProofReason.TheVariants.{Extra}
-use Rattle.proof_text.specs.Proofs.{Pair, claim_value}
-use Rattle.proof_text.specs.Setting.{Setting, setting_of}
+use Rattle.certificates.specs.Proofs.{Pair, claim_value}
+use Rattle.file_certificates.specs.Setting.{Setting, setting_of}
 use Rattle.proof_text.specs.Rows.{Row, claim_in, is_alone, is_node_row, is_row, leaf_in, node_in, pair_in, rows_in, value_claim}
 use Rattle.proof_text.specs.Standing.{Standing, is_whole, pairs_left, standing, subtrees_left}
 use Rattle.proof_text.specs.Steps.{with_claim, with_line, with_node, with_pair, with_row}

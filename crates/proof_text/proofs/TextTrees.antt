@@ -8,15 +8,15 @@ use Rattle.std.proofs.lemmas.List.Elements.{All-cons}
 use Rattle.fractions.specs.Fits.{fits}
 use Rattle.texts.specs.Reading.{lines_of}
 use Rattle.nl_model.specs.File.{File}
-use Rattle.proof_text.specs.declared.proof.Claim.{Claim}
-use Rattle.proof_text.specs.declared.proof.Claim.TheVariants.{Value, Infeasible}
-use Rattle.proof_text.specs.declared.proof.ProofNode.{ProofNode}
-use Rattle.proof_text.specs.declared.proof.ProofNode.TheVariants.{Split, Duals, Weights}
-use Rattle.proof_text.specs.Files.{IsProofIn, IsTreeIn}
-use Rattle.proof_text.specs.Proofs.{IsAlone, Pair, ProofTree, ProofValue, split, duals, weights, claim_value, nodes_of, pairs_of}
+use Rattle.certificates.specs.declared.proof.Claim.{Claim}
+use Rattle.certificates.specs.declared.proof.Claim.TheVariants.{Value, Infeasible}
+use Rattle.certificates.specs.declared.proof.ProofNode.{ProofNode}
+use Rattle.certificates.specs.declared.proof.ProofNode.TheVariants.{Split, Duals, Weights}
+use Rattle.file_certificates.specs.Files.{IsProofIn, IsTreeIn}
+use Rattle.certificates.specs.Proofs.{IsAlone, Pair, ProofTree, ProofValue, split, duals, weights, claim_value, nodes_of, pairs_of}
 use Rattle.proof_text.specs.Reader.{IsProofText}
 use Rattle.proof_text.specs.Rows.{Row, claim_in, node_in, pair_in, rows_in}
-use Rattle.proof_text.specs.Setting.{setting_of}
+use Rattle.file_certificates.specs.Setting.{setting_of}
 use Rattle.proof_text.specs.Standing.{IsSaid, Standing, is_leaf, is_split, node_count, pairs_left, standing, subtrees_left}
 use Rattle.proof_text.specs.InsideReader.{AreAwaited}
 use Rattle.proof_text.proofs.Counted.{node_awaited, none_awaited, pair_awaited}

@@ -4,10 +4,10 @@ use Rattle.std.specs.Prelude.{ℕ, List}
 use Rattle.texts.specs.Judged.{Rules, first_reason}
 use Rattle.texts.specs.declared.lines.LineFault.{LineFault}
 use Rattle.texts.specs.declared.lines.LineFault.TheVariants.{LineTooLong as LongLine, InputTooLong as LongInput}
-use Rattle.proof_text.specs.Proofs.{ProofValue}
+use Rattle.certificates.specs.Proofs.{ProofValue}
 use Rattle.proof_text.specs.declared.fault.ProofReason.{ProofReason}
 use Rattle.proof_text.specs.declared.fault.ProofReason.TheVariants.{LineTooLong, InputTooLong}
-use Rattle.proof_text.specs.Setting.{Setting}
+use Rattle.file_certificates.specs.Setting.{Setting}
 use Rattle.proof_text.specs.Rows.{rows_in}
 use Rattle.proof_text.specs.Standing.{IsSaid, standing}
 use Rattle.proof_text.specs.Tests.{end_tests, line_tests}

@@ -1,7 +1,7 @@
 -- What the reader's counts and marks are of the nodes and pairs that it keeps.
 use Rattle.std.specs.Prelude.{◌≡◌, ℕ, ◌+◌, ◌<◌, ◌≤◌, Bool, false, List, length, get_or, count_by, sum_by}
-use Rattle.proof_text.specs.declared.proof.ProofNode.{ProofNode}
-use Rattle.proof_text.specs.Proofs.{Pair}
+use Rattle.certificates.specs.declared.proof.ProofNode.{ProofNode}
+use Rattle.certificates.specs.Proofs.{Pair}
 use Rattle.proof_text.specs.Standing.{earlier_count, has_pair, is_leaf, is_split, last_pairs, node_count}
 
 -- each row is marked where it has a pair

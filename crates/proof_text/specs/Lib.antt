@@ -1,6 +1,3 @@
-pub mod Proofs
-pub mod Files
-pub mod Setting
 pub mod Rows
 pub mod Standing
 pub mod Tests

@@ -8,11 +8,11 @@ use Rattle.texts.specs.Words.{begins, row_of, word_at}
 use Rattle.exact_numbers.specs.Numbers.{dec_of, signed_of, whole_of}
 use Rattle.exact_numbers.specs.Values.{dec_value}
 use Rattle.exact_numbers.specs.declared.dec.Dec.{Dec}
-use Rattle.proof_text.specs.declared.proof.Claim.{Claim}
-use Rattle.proof_text.specs.declared.proof.Claim.TheVariants.{Value, Infeasible}
-use Rattle.proof_text.specs.declared.proof.ProofNode.{ProofNode}
-use Rattle.proof_text.specs.declared.proof.ProofNode.TheVariants.{Split, Duals, Weights}
-use Rattle.proof_text.specs.Proofs.{Pair}
+use Rattle.certificates.specs.declared.proof.Claim.{Claim}
+use Rattle.certificates.specs.declared.proof.Claim.TheVariants.{Value, Infeasible}
+use Rattle.certificates.specs.declared.proof.ProofNode.{ProofNode}
+use Rattle.certificates.specs.declared.proof.ProofNode.TheVariants.{Split, Duals, Weights}
+use Rattle.certificates.specs.Proofs.{Pair}
 
 -- the words of a line
 abbrev pub Row : Type 0

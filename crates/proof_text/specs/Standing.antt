@@ -1,10 +1,10 @@
 -- What the rows so far come to, and what is awaited behind them.
 use Rattle.std.specs.Prelude.{◌≡◌, ℕ, ◌+◌, ◌-◌, ◌==◌, Bool, true, false, not, ◌&&◌, nat_lt, List, length, take, drop, filter_map, slice_get, count_by, sum_by, Option, Some, is_some}
 use Rattle.std.specs.List.{list_any}
-use Rattle.proof_text.specs.declared.proof.Claim.{Claim}
-use Rattle.proof_text.specs.declared.proof.ProofNode.{ProofNode}
-use Rattle.proof_text.specs.declared.proof.ProofNode.TheVariants.{Split, Duals, Weights}
-use Rattle.proof_text.specs.Proofs.{Pair, ProofValue}
+use Rattle.certificates.specs.declared.proof.Claim.{Claim}
+use Rattle.certificates.specs.declared.proof.ProofNode.{ProofNode}
+use Rattle.certificates.specs.declared.proof.ProofNode.TheVariants.{Split, Duals, Weights}
+use Rattle.certificates.specs.Proofs.{Pair, ProofValue}
 use Rattle.proof_text.specs.Rows.{Row, claim_in, node_in, pair_in}
 
 -- whether a row has come; the claim, the nodes and the pairs

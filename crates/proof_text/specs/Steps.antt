@@ -3,11 +3,11 @@
 use Rattle.std.specs.Prelude.{ℕ, ◌==◌, true, List, ◌++◌, length, Option, option_to_list, if◌then◌else◌}
 use Rattle.std.specs.Option.{option_or}
 use Rattle.texts.specs.Words.{row_of}
-use Rattle.proof_text.specs.declared.proof.Claim.{Claim}
-use Rattle.proof_text.specs.declared.proof.ProofNode.{ProofNode}
-use Rattle.proof_text.specs.Proofs.{Pair}
+use Rattle.certificates.specs.declared.proof.Claim.{Claim}
+use Rattle.certificates.specs.declared.proof.ProofNode.{ProofNode}
+use Rattle.certificates.specs.Proofs.{Pair}
 use Rattle.proof_text.specs.Rows.{Row, claim_in, node_in, pair_in}
-use Rattle.proof_text.specs.Setting.{Setting}
+use Rattle.file_certificates.specs.Setting.{Setting}
 use Rattle.proof_text.specs.Standing.{Standing}
 
 -- what it is judged by, and what was read of it

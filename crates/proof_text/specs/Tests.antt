@@ -6,12 +6,12 @@ use Rattle.texts.specs.Words.{row_of, word_at}
 use Rattle.linear_program.specs.declared.kind.Kind.{Kind}
 use Rattle.linear_program.specs.declared.kind.Kind.TheVariants.{Continuous}
 use Rattle.linear_program.specs.Intervals.{is_whole_kind}
-use Rattle.proof_text.specs.declared.proof.ProofNode.{ProofNode}
-use Rattle.proof_text.specs.declared.proof.ProofNode.TheVariants.{Split}
-use Rattle.proof_text.specs.Proofs.{Pair}
+use Rattle.certificates.specs.declared.proof.ProofNode.{ProofNode}
+use Rattle.certificates.specs.declared.proof.ProofNode.TheVariants.{Split}
+use Rattle.certificates.specs.Proofs.{Pair}
 use Rattle.proof_text.specs.declared.fault.ProofReason.{ProofReason}
 use Rattle.proof_text.specs.declared.fault.ProofReason.TheVariants.{BadFirst, BadLine, BadNumber, IndexOut, NotWhole, RepeatedIndex, Short, Extra, TooLarge}
-use Rattle.proof_text.specs.Setting.{Setting}
+use Rattle.file_certificates.specs.Setting.{Setting}
 use Rattle.proof_text.specs.Rows.{Row, claim_in, is_claim_row, is_node_row, node_in, pair_in}
 use Rattle.proof_text.specs.Standing.{Standing, has_pair, is_whole, last_pairs, pairs_left, subtrees_left}
 

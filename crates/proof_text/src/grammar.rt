@@ -2,22 +2,19 @@
 ghost use Rattle.std.specs.Prelude.{◌≡◌, ◌<◌, ◌^◌, ◌+◌, ◌∷◌, count_by, List, ℕ, [], Some, is_some, IfOk, OnOk, true};
 ghost use Rattle.texts.specs.Judged.{DecidesOrStops, Takes};
 ghost use Rattle.texts.specs.Words.{texts};
-ghost use Rattle.nl_model.specs.Kinds.{variable_kind};
-ghost use Rattle.linear_programs.specs.Elements.{elements_from};
 ghost use Rattle.proof_text.specs.Grammar.{SaysProof, proof_rules};
 ghost use Rattle.proof_text.specs.Rows.{claim_in, node_in, pair_in, rows_in};
-ghost use Rattle.proof_text.specs.Setting.{Setting, setting_of};
+ghost use Rattle.file_certificates.specs.Setting.{Setting, setting_of};
 ghost use Rattle.proof_text.specs.Standing.{IsSaid, has_pair, is_leaf, is_split, is_whole, last_pairs, node_count, pairs_left, standing, subtrees_left};
 ghost use Rattle.proof_text.specs.Steps.{moved, with_claim, with_line, with_node, with_pair, with_row};
 ghost use Rattle.proof_text.specs.Tests.{claim_tests, end_tests, first_tests, is_split_continuous, is_split_out, line_tests, node_tests, pair_tests, row_tests};
 
 use crate::fault::ProofReason;
-use crate::proof::{Claim, Proof, ProofNode};
 use crate::rows::{judge_first, read_claim};
 use crate::words::{is_node_row, node_in, pair_in};
+use certificates::proof::{Claim, Proof, ProofNode};
 use exact_numbers::Dec;
-use nl_header::kinds_of;
-use nl_model::{Kind, NlFile, Terms};
+use nl_model::{Kind, NlFile, Terms, all_kinds};
 use std::alloc::{AllocError, Global};
 use std::marker::Model;
 use texts::{Grammar, LineFault, Marks, Row, Stop};
@@ -94,20 +91,6 @@ impl Grammar for ProofGrammar {
     fn finish(self) -> Result<Proof, Stop<ProofReason>> {
         self.end()
     }
-}
-
-// The kinds of all variables.
-fn all_kinds(alloc: Global, file: &NlFile) -> Result<Vec<Kind>, AllocError>
-    ensures { IfOk result (λ v. v.items
-        ≡ elements_from (variable_kind file.now.counts) 0 file.now.counts.n_var) }
-{
-    let header = file.header();
-    let counts = header.counts();
-    let mut kinds = Vec::with_capacity(alloc, counts.n_var as usize)?;
-    for var in 0..counts.n_var {
-        kinds.push(kinds_of(header, var))?;
-    }
-    Ok(kinds)
 }
 
 // Whether a split is of no variable.

@@ -1,10 +1,10 @@
 // Laws of proof texts. Each is proved by a function with an empty body.
 ghost use Rattle.std.specs.Prelude.{List, ℕ};
 ghost use Rattle.nl_model.specs.File.{File};
-ghost use Rattle.proof_text.specs.Files.{IsProofIn};
-ghost use Rattle.proof_text.specs.Proofs.{ProofValue};
+ghost use Rattle.file_certificates.specs.Files.{IsProofIn};
+ghost use Rattle.certificates.specs.Proofs.{ProofValue};
 ghost use Rattle.proof_text.specs.Reader.{HasOneReading, IsProofText};
-ghost use Rattle.proof_text.specs.Setting.{Setting, setting_of};
+ghost use Rattle.file_certificates.specs.Setting.{Setting, setting_of};
 
 /// Each text is one proof, or has one first fault.
 pub fn one_reading()

@@ -1,14 +1,13 @@
-//! Proofs by branches, and their reader.
+//! The reader of proofs by branches.
 #![tactic(auto)]
 
 mod fault;
 mod grammar;
 pub mod laws;
-mod proof;
 mod reader;
 mod rows;
 mod words;
 
+pub use certificates::proof::{Claim, Proof, ProofNode};
 pub use fault::{ProofFault, ProofReason};
-pub use proof::{Claim, Proof, ProofNode};
 pub use reader::{ProofReader, read_proof};

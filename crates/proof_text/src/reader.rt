@@ -4,14 +4,14 @@ ghost use Rattle.std.specs.Result.{result_err};
 ghost use Rattle.texts.specs.Stopped.{IfFault};
 ghost use Rattle.texts.specs.Reading.{HasFaultSoFar, IsFreeSoFar};
 ghost use Rattle.nl_model.specs.File.{File};
-ghost use Rattle.proof_text.specs.Files.{IsProofIn};
+ghost use Rattle.file_certificates.specs.Files.{IsProofIn};
 ghost use Rattle.proof_text.specs.Grammar.{proof_rules};
-ghost use Rattle.proof_text.specs.Setting.{Setting, setting_of};
+ghost use Rattle.file_certificates.specs.Setting.{Setting, setting_of};
 ghost use Rattle.proof_text.specs.Reader.{IsFed, ReadsProof};
 
 use crate::fault::ProofFault;
 use crate::grammar::ProofGrammar;
-use crate::proof::Proof;
+use certificates::proof::Proof;
 use nl_model::NlFile;
 use std::alloc::{AllocError, Global};
 use std::marker::Model;

@@ -6,8 +6,8 @@ ghost use Rattle.proof_text.specs.Rows.{claim_in};
 ghost use Rattle.proof_text.specs.Tests.{claim_tests, first_tests};
 
 use crate::fault::ProofReason;
-use crate::proof::Claim;
 use crate::words::{claim_in, is_claim_row};
+use certificates::proof::Claim;
 
 /// Whether the row is the first one.
 #[tactic(auto, unfolding(crate::specs::Tests::first_tests))]

@@ -1,4 +1,5 @@
 use Rattle.std.proofs.Common.{◌≡◌, ◌≢◌, ℕ, zero, suc, ◌+◌, ◌<◌, ◌≤◌, ◌^◌, ◌∙◌, sym, ap, refl, arith, subst, Bool, List, [], ◌∷◌, length, drop, get_or, All, map, length-drop, ap₂, cond, nat_eq, true, false, ⊎_elim, ◌++◌, append_assoc, append-nil, Option, Some, None, length-append, add-one, ◌-◌, IsTrue, IfSome}
+use Rattle.std.specs.Prelude.{is_some, ◌||◌}
 use Rattle.std.specs.List.{AllPairs}
 use Rattle.std.proofs.lemmas.List.{drop-drop, get_or-drop, get_or-map, length-map, map-append, drop_all, get_or_default}
 use Rattle.std.proofs.lemmas.List.Elements.{All-cons, All-map, All-nil, All-push, All-append}
@@ -14,7 +15,7 @@ use Rattle.std.proofs.lemmas.Fmt.{decimal_injective}
 use Rattle.fractions.specs.Rational.{ℚ, zero_ℚ, ◌-ℚ◌, neg_ℚ}
 use Rattle.texts.specs.Names.{IsName}
 use Rattle.mps_model.specs.declared.kinds.RowKind.{RowKind}
-use Rattle.exported_program.specs.Program.{ScaledRow, kind_of_row, mps_row, with_entry, entries_of, zdef_name, bounds_of, bound_record, column_bounds, fixed_or_both, nonzero, z_name, columns_of, column_entries, or_obj_zero, two_sided, has_side, obj_name, nl_name, program_of}
+use Rattle.exported_program.specs.Program.{ScaledRow, kind_of_row, mps_row, with_entry, entries_of, zdef_name, bounds_of, bound_record, column_bounds, fixed_or_both, nonzero, z_name, columns_of, column_entries, or_obj_zero, two_sided, obj_name, nl_name, program_of}
 use Rattle.exact_numbers.specs.Values.{dec_value}
 use Rattle.linear_programs.specs.Names.{row_name, variable_name}
 use Rattle.scaling.specs.Scaled.{ScaledValue, IsScaled, term_count, IsRowOver}
@@ -520,7 +521,7 @@ module _ {V : Type 0} (items : V → List TermOf) (s : ScaledValue) (cols : List
       }
 
 -- ---- no row but the objective is free
-kind_bounded : (l u : Option ℚ) → IsTrue (has_side l u) → kind_of_row l u ≢ N
+kind_bounded : (l u : Option ℚ) → IsTrue (is_some l || is_some u) → kind_of_row l u ≢ N
 kind_bounded None None h e = cc
 kind_bounded None (Some u) h e = cc
 kind_bounded (Some l) None h e = cc

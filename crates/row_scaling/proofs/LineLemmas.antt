@@ -1,4 +1,4 @@
-use Rattle.std.proofs.Common.{◌≡◌, ℕ, zero, suc, ◌+◌, ◌∙◌, sym, ap, ap₂, refl, arith, codes, List, [], ◌∷◌, ◌++◌, length, drop, get_or, append-nil, map, Option, Some, None, true, false, cond, Bool, add-one, ◌-◌, ◌<◌, ◌≤◌, length-append, take, take-append-drop, drop-drop, All}
+use Rattle.std.proofs.Common.{◌≡◌, ℕ, zero, suc, ◌+◌, ◌∙◌, sym, ap, ap₂, refl, arith, codes, List, [], ◌∷◌, ◌++◌, length, drop, get_or, append-nil, map, Option, Some, None, true, false, cond, Bool, ◌-◌, ◌<◌, ◌≤◌, take, take-append-drop, drop-drop, All}
 use Rattle.std.proofs.lemmas.List.{get_or-drop, drop_all, get_or-map, get_or_default, length-map, map-append, nil_from_length}
 use Rattle.std.specs.List.{flat_map}
 use Rattle.fractions.specs.Rational.{ℚ, neg_ℚ, zero_ℚ, ◌-ℚ◌}

@@ -64,7 +64,6 @@ fn put_listed_bounds(out: &mut Vec<u8>, scaled: &Scaled) -> Result<(), AllocErro
 }
 
 /// Writes the bounds; nothing where there is no column.
-#[tactic(auto, using(crate::proofs::LineLemmas::all_bounds_written, crate::proofs::LineLemmas::no_bounds_written))]
 pub(crate) fn put_bounds(out: &mut Vec<u8>, scaled: &Scaled) -> Result<(), AllocError>
     ensures { OnOk result (out.new.items ≡ out.old.items ++ lines_text
         (unless_empty (all_bounds scaled.now) (section (codes "BOUNDS")

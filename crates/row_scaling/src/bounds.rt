@@ -87,7 +87,6 @@ fn add_column_bounds(builder: &mut MpsBuilder, j: u32, side: Interval) -> Result
 }
 
 // Adds all bounds, column by column.
-#[tactic(auto, using(crate::proofs::AddLemmas::column_bounds_put, crate::proofs::AddLemmas::all_bounds_put, crate::proofs::AddLemmas::bounds_only))]
 pub(crate) fn add_bounds(builder: &mut MpsBuilder, scaled: &Scaled) -> Result<(), AllocError>
     requires count { length builder.old.columns ≡ column_count scaled.now }
     requires empty { builder.old.bounds ≡ [] }

@@ -65,7 +65,6 @@ fn name_of_column(scaled: &Scaled, j: u32) -> ShortName
 }
 
 // The columns from column `first` on.
-#[tactic(auto, using(crate::proofs::LineLemmas::entries_within))]
 fn put_part(
     out: &mut Vec<u8>,
     scaled: &Scaled,
@@ -102,7 +101,6 @@ fn put_part(
 }
 
 // All columns, batch by batch.
-#[tactic(auto, using(crate::proofs::BatchLemmas::next_part, crate::proofs::LineLemmas::part_columns))]
 fn put_parts(
     out: &mut Vec<u8>,
     alloc: Global,

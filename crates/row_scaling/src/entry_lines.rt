@@ -70,7 +70,6 @@ fn put_line_before(
 }
 
 // Writes the lines of a few entries, from the last to the first.
-#[tactic(auto, using(crate::proofs::LineLemmas::few_none))]
 fn put_few(
     lines: &mut LineText<2048>,
     scaled: &Scaled,

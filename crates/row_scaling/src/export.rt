@@ -25,7 +25,6 @@ fn make_room(builder: &mut MpsBuilder, scaled: &Scaled) -> Result<(), AllocError
 
 /// The exported program: its rows are the scaled ones, its objective is as it is or tied to a
 /// column of its own.
-#[tactic(auto, using(crate::proofs::AddLemmas::complete, crate::proofs::AddLemmas::whole_program))]
 pub fn program(alloc: Global, scaled: &Scaled) -> Result<Mps, AllocError>
     ensures { IfOk result (λ m. with_values dec_value m ≡ exported_as scaled.now) }
 {

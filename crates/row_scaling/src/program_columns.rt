@@ -42,7 +42,6 @@ fn or_zero(entries: Vec<(u32, Dec)>, zero: Dec) -> Result<Vec<(u32, Dec)>, Alloc
 }
 
 // Adds a column, with the number zero in row 0 where it has no entries.
-#[tactic(auto, using(crate::proofs::AddLemmas::can_add, crate::proofs::AddLemmas::filled_column))]
 fn add_column(
     builder: &mut MpsBuilder,
     name: Name,

@@ -113,7 +113,6 @@ fn put_row_ranges(
 }
 
 /// Writes the ranges; nothing where there is none.
-#[tactic(auto, using(crate::proofs::LineLemmas::no_ranges_written, crate::proofs::LineLemmas::ranges_written))]
 pub(crate) fn put_ranges(out: &mut Vec<u8>, scaled: &Scaled) -> Result<(), AllocError>
     ensures { OnOk result (out.new.items ≡ out.old.items ++ lines_text
         (unless_empty (all_ranges scaled.now) (section (codes "RANGES")

@@ -58,7 +58,6 @@ fn add_range(builder: &mut MpsBuilder, place: u32, range: Option<Dec>) -> Result
 }
 
 // Adds the right sides of the rows.
-#[tactic(auto, using(crate::proofs::AddLemmas::entries_put))]
 fn add_row_sides(builder: &mut MpsBuilder, scaled: &Scaled) -> Result<(), AllocError>
     requires within { length builder.old.rows ≡ 1 + length (program_rows scaled.now) }
     requires before { All (λ e. e.row < 1) builder.old.rhs }
@@ -82,7 +81,6 @@ fn add_row_sides(builder: &mut MpsBuilder, scaled: &Scaled) -> Result<(), AllocE
 }
 
 // Adds the ranges of the rows.
-#[tactic(auto, using(crate::proofs::AddLemmas::there_is_place, crate::proofs::AddLemmas::entries_put, crate::proofs::AddLemmas::rows_bounded))]
 pub(crate) fn add_ranges(builder: &mut MpsBuilder, scaled: &Scaled) -> Result<(), AllocError>
     requires rows { builder.old.rows
         ≡ record { name = obj_name; kind = N } ∷ map mps_row (program_rows scaled.now) }

@@ -1,4 +1,5 @@
 use Rattle.std.proofs.Common.{◌≡◌, ◌≢◌, ℕ, zero, suc, ◌<◌, ◌≤◌, ◌∙◌, sym, ap, refl, subst, arith, ⊎_elim, List, [], ◌∷◌, ◌++◌, All, pos, length-append, length, append_assoc, append-nil, ◌^◌, ap₂, Option, Some, None, IsTrue, ℤ, unsigned_abs}
+use Rattle.std.specs.Prelude.{is_some, ◌||◌, Bool}
 use Rattle.std.proofs.Math.ListN.{get_or-append}
 use Rattle.std.proofs.lemmas.Bool.{cases_eq, cases_lt}
 use Rattle.std.proofs.lemmas.List.Elements.{All-nil, All-cons, All-head, All-tail, All-push, All-append}
@@ -17,7 +18,7 @@ use Rattle.exact_numbers.specs.declared.dec.Dec.{Dec}
 use Rattle.scaling.specs.Rows.{TermOf, IsSparse, IsBelow, side_value, RowValue, IsScaledRow}
 use Rattle.linear_programs.specs.Linear.{Row}
 use Rattle.exported_program.specs.Export.{RowFits, ScaledFits, SideFits, IfSide, IfBoth, RangeFits}
-use Rattle.exported_program.specs.Program.{scaled_side, has_side, range_of, scaled_row}
+use Rattle.exported_program.specs.Program.{scaled_side, range_of, scaled_row}
 use Rattle.linear_program.specs.declared.interval.Interval.{Interval}
 use Rattle.exact_numbers.proofs.Zeros.{fits_zero}
 use Rattle.fractions.specs.Fits.{fits}
@@ -295,17 +296,20 @@ pub fraction_small : (x : Frac) (k : ℕ) → frac_value x ≡ whole (pos k) →
 unfolding whole
 fraction_small x k e = let top : unsigned_abs x.num ≡ k = ap (λ y. unsigned_abs y.top) e in subst (λ m. m < 2 ^ 127) top x.spelled.size
 
-sided_times : (q c : ℚ) (l u : Option ℚ) → has_side (times_side q (less_side c l)) (times_side q (less_side c u)) ≡ has_side l u
+abbrev either_there : Option ℚ → Option ℚ → Bool
+either_there l u = is_some l || is_some u
+
+sided_times : (q c : ℚ) (l u : Option ℚ) → either_there (times_side q (less_side c l)) (times_side q (less_side c u)) ≡ either_there l u
 sided_times q c None None = refl
 sided_times q c None (Some u) = refl
 sided_times q c (Some l) u = refl
 
-pub is_scaled : (q c : ℚ) (l u lo hi : Option ℚ) (b : Form) (us : List TermOf) (d : Interval) (m : Option Dec) → lo ≡ less_side c l → hi ≡ less_side c u → q ≢ zero_ℚ → AreAscending 0 (form_terms b) → IsTrue (has_side l u) →
+pub is_scaled : (q c : ℚ) (l u lo hi : Option ℚ) (b : Form) (us : List TermOf) (d : Interval) (m : Option Dec) → lo ≡ less_side c l → hi ≡ less_side c u → q ≢ zero_ℚ → AreAscending 0 (form_terms b) → IsTrue (either_there l u) →
     AreTermsTimes q (form_terms b) us → side_value d.lo ≡ times_side q lo → side_value d.hi ≡ times_side q hi → side_value m ≡ range_of (side_value d.lo) (side_value d.hi) → IsScaledRow (record { terms = us; side = d; range = m })
 is_scaled q c l u lo hi b us d m e f some up sided times first second range =
     record {
       sparse = times_sparse q some 0 (form_terms b) us times up;
-      sided = ap₂ has_side (first ∙ ap (times_side q) e) (second ∙ ap (times_side q) f) ∙ sided_times q c l u ∙ sided;
+      sided = ap₂ either_there (first ∙ ap (times_side q) e) (second ∙ ap (times_side q) f) ∙ sided_times q c l u ∙ sided;
       range = range;
     }
 

@@ -4,12 +4,13 @@ use Rattle.std.proofs.Math.Seq.{get_or-append_seam}
 use Rattle.std.proofs.Math.ListN.{get_or-append}
 use Rattle.std.proofs.lemmas.Bool.{cases_lt, false_from_ne_true}
 use Rattle.std.proofs.lemmas.List.Sums.{sum_by-cons, sum_by-append}
+use Rattle.linear_program.specs.Intervals.{is_sided}
 use Rattle.texts.specs.Stopped.{IfFault}
 use Rattle.texts.specs.declared.stop.Stop.{Stop}
 use Rattle.texts.specs.declared.stop.Stop.TheVariants.{Fault, Memory}
-use Rattle.linear_programs.specs.Linear.{Row, Linear, variable_count, no_row, row_at, Form as LinearForm, row_at as row_of_program}
+use Rattle.linear_programs.specs.Linear.{Row, Linear, variable_count, no_row, row_at, Form as LinearForm, row_at as row_of_program, has_side}
 use Rattle.exported_program.specs.Export.{ExportFits, RowFits, IsDecimal, ObjectiveFits, ScaledFits, factor_of_objective, IsObjectiveTooWide, factor_of_row}
-use Rattle.exported_program.specs.Program.{has_side, program_of, scaled_row, tie, then_at, zdef_name, exported_rows, program, tie as tie_row, tied_program, z_form, z_variable}
+use Rattle.exported_program.specs.Program.{program_of, scaled_row, tie, then_at, zdef_name, exported_rows, program, tie as tie_row, tied_program, z_form, z_variable}
 use Rattle.exported_program.specs.Return.{is_exported}
 use Rattle.linear_program.specs.declared.interval.Interval.{Interval}
 use Rattle.linear_program.specs.declared.kind.Kind.{Kind}
@@ -24,7 +25,6 @@ use Rattle.scaling.specs.Factored.{AreScaledRows, IsFactored, IsScaledAt, body_t
 use Rattle.scaling.specs.Scaled.{row_term_count, ScaledValue, IsRowOver, IsScaled, IsTie}
 use Rattle.scaling.specs.Scaling.{HasScaleFault, HasLeastFactors, HasNoScaleFault, IsExportOf, IsScaledOf}
 use Rattle.scaling.proofs.SharedLemmas.{rest_of, zero_decimal, zero_fits, one_not_zero}
-use Rattle.scaling.specs.Rows.{side_value}
 use Rattle.std.proofs.lemmas.List.Elements.{All-nil, All-cons, All-head, All-tail}
 use Rattle.fractions.specs.Fits.{fits}
 use Rattle.fractions.specs.Rational.{ℚ, zero_ℚ, one_ℚ, whole, neg_ℚ, ◌*ℚ◌, ◌-ℚ◌}
@@ -81,13 +81,13 @@ module _ (l : LinearValue) (is : IsLinear l) where
     body_below : AreBelow (variable_count (linear_value l)) (form_terms b)
     body_below = subst (λ n. AreBelow n (form_terms b)) (sym count_is) form_over
 
-    pub not_exported : has_side (side_value s.lo) (side_value s.hi) ≡ false → IsTrue (is_exported (row_at (linear_value l) i)) → ⊥
-    not_exported none t = let x : has_side (side_value s.lo) (side_value s.hi) ≡ true = sym (ap is_exported row_is) ∙ t in cc
+    pub not_exported : is_sided s ≡ false → IsTrue (is_exported (row_at (linear_value l) i)) → ⊥
+    not_exported none t = let x : is_sided s ≡ true = sym (ap is_exported row_is) ∙ t in cc
 
-    pub exported_row : (r : FactoredRow) → has_side (side_value s.lo) (side_value s.hi) ≡ true → ((n i : ℕ) → AreBelow n (form_terms b) → IsFactored n i (row_for i b s) r) → IsScaledAt (linear_value l) i (Some r)
+    pub exported_row : (r : FactoredRow) → is_sided s ≡ true → ((n i : ℕ) → AreBelow n (form_terms b) → IsFactored n i (row_for i b s) r) → IsScaledAt (linear_value l) i (Some r)
     exported_row r some all = (ap is_exported row_is ∙ some, subst (λ w. IsFactored (variable_count (linear_value l)) i w r) (sym row_is) (all (variable_count (linear_value l)) i body_below))
 
-    pub too_wide : has_side (side_value s.lo) (side_value s.hi) ≡ true → ((n i : ℕ) → AreBelow n (form_terms b) → ¬ RowFits n (row_for i b s) (factor_for n (row_for i b s))) → ¬ ExportFits (linear_value l) i
+    pub too_wide : is_sided s ≡ true → ((n i : ℕ) → AreBelow n (form_terms b) → ¬ RowFits n (row_for i b s) (factor_for n (row_for i b s))) → ¬ ExportFits (linear_value l) i
     too_wide some bad fits =
         let n = variable_count (linear_value l) in
         bad n i body_below (subst (λ w. RowFits n w (factor_for n w)) row_is (fits (ap is_exported row_is ∙ some)))
@@ -259,7 +259,7 @@ same_from : (factor : ℕ → ℕ) (p : ℕ) (os : List (Option FactoredRow)) (r
 unfolding exported_rows
 same_from factor p [] [] n h = refl
 same_from factor p (None ∷ os) (r ∷ rs) n h =
-    let none : has_side r.side.lower r.side.upper ≡ false = false_from_ne_true (has_side r.side.lower r.side.upper) (h 0 p (omega arith) (omega arith)) in
+    let none : has_side r.side ≡ false = false_from_ne_true (has_side r.side) (h 0 p (omega arith) (omega arith)) in
     same_from factor (suc p) os rs (omega (arith, n)) (λ i k e l. h (suc i) k (omega (arith, e)) (omega (arith, l)))
     ∙ ap (λ b. cond b (scaled_row (factor p) r ∷ exported_rows factor (suc p) rs) (exported_rows factor (suc p) rs)) (sym none)
 same_from factor p (Some x ∷ os) (r ∷ rs) n h =

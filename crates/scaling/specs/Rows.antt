@@ -2,8 +2,9 @@
 use Rattle.std.specs.Prelude.{◌≡◌, ◌≢◌, ℕ, suc, ◌<◌, ◌≤◌, IsTrue, List, [], ◌∷◌, Option, Box, All}
 use Rattle.std.specs.Global.{Global}
 use Rattle.std.specs.Option.{option_map}
+use Rattle.linear_program.specs.Intervals.{is_sided}
 use Rattle.fractions.specs.Rational.{ℚ, zero_ℚ}
-use Rattle.exported_program.specs.Program.{has_side, range_of}
+use Rattle.exported_program.specs.Program.{range_of}
 use Rattle.exact_numbers.specs.declared.dec.Dec.{Dec}
 use Rattle.exact_numbers.specs.Values.{dec_value}
 pub use Rattle.linear_program.specs.Decimals.{DecimalTerm as TermOf}
@@ -36,5 +37,5 @@ pub record RowValue : Type 0 where
 -- what holds of every scaled row
 pub record IsScaledRow (r : RowValue) : Type 0 where
   pub sparse : IsSparse 0 r.terms
-  pub sided : IsTrue (has_side (side_value r.side.lo) (side_value r.side.hi))
+  pub sided : IsTrue (is_sided r.side)
   pub range : side_value r.range ≡ range_of (side_value r.side.lo) (side_value r.side.hi)

@@ -1,10 +1,10 @@
 // The rows of a folded file, each times its least factor.
 ghost use Rattle.std.specs.Prelude.{◌≡◌, ℕ, ◌<◌, ◌≤◌, ◌<ℤ◌, pos, IsTrue, IfOk, IfErr, false, length, get_or, None};
+ghost use Rattle.linear_program.specs.Intervals.{is_sided};
 ghost use Rattle.texts.specs.Stopped.{IfFault};
 ghost use Rattle.fractions.specs.Rational.{whole};
 ghost use Rattle.exact_numbers.specs.Values.{frac_value};
 ghost use Rattle.exported_program.specs.Export.{ExportFits, RowFits};
-ghost use Rattle.exported_program.specs.Program.{has_side};
 ghost use Rattle.linear_program.specs.Coefs.{AreBelow};
 ghost use Rattle.linear_program.specs.declared.form.Form.{Form};
 ghost use Rattle.linear_program.specs.Forms.{form_terms};
@@ -39,7 +39,7 @@ pub(crate) fn whole(number: i128) -> Frac
 
 // A row times its least factor. Wide exactly where a number does not fit.
 fn scale_row(alloc: Global, body: &Form, side: Interval) -> Result<FactoredRow, Stop<Wide>>
-    requires { IsTrue (has_side (side_value side.lo) (side_value side.hi)) }
+    requires { IsTrue (is_sided side) }
     ensures scaled { (n i : ℕ) → AreBelow n (form_terms body.now)
         → IfOk result (λ r. IsFactored n i (row_for i body.now side) r) }
     ensures few { IfOk result (λ r. length r.row.terms ≡ length (form_terms body.now)) }
@@ -66,16 +66,6 @@ fn scale_row(alloc: Global, body: &Form, side: Interval) -> Result<FactoredRow, 
     Ok(FactoredRow { factor, row })
 }
 
-// Whether one of the sides is there.
-fn has_side(side: Interval) -> bool
-    ensures { result ≡ has_side (side_value side.lo) (side_value side.hi) }
-{
-    match (side.lo, side.hi) {
-        (None, None) => false,
-        _ => true,
-    }
-}
-
 // The row of a constraint times its least factor, none where it has no side. Its fault is that a
 // number does not fit.
 fn scaled_row_at(
@@ -96,8 +86,7 @@ fn scaled_row_at(
     let sides = linear.sides();
     let body = &bodies[con as usize];
     let side = sides[con as usize];
-    let asked = side;
-    if !has_side(asked) {
+    if !side.has_side() {
         return Ok(None);
     }
     match scale_row(alloc, body, side) {

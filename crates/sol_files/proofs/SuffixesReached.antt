@@ -1,5 +1,5 @@
 -- The written lines of suffixes are read back.
-use Rattle.std.proofs.Common.{◌≡◌, ◌∙◌, ℕ, suc, ◌+◌, ◌-◌, ◌<◌, ◌≤◌, ◌^◌, Bool, true, false, not, ◌&&◌, ◌||◌, cond, ◌%◌, List, [], ◌∷◌, ◌++◌, length, map, refl, sym, ap, ap₂, subst, arith, ◌==◌, nat_lt, nat_le}
+use Rattle.std.proofs.Common.{◌≡◌, ◌∙◌, ℕ, suc, ◌+◌, ◌-◌, ◌<◌, ◌≤◌, ◌^◌, Bool, true, false, not, ◌&&◌, ◌||◌, List, [], ◌∷◌, ◌++◌, length, map, refl, sym, ap, ap₂, subst, arith, ◌==◌, nat_lt, nat_le}
 use Rattle.std.specs.Prelude.{codes}
 use Rattle.std.specs.List.{AllByRecursion, flat_map, sum_by}
 use Rattle.std.specs.Fmt.{decimal}
@@ -19,7 +19,9 @@ use Rattle.sol_files.specs.Built.{with_suffix}
 use Rattle.texts.specs.Cut.{IsTextLine}
 use Rattle.sol_files.specs.Rows.{pair_in}
 use Rattle.sol_files.specs.Tests.{row_tests, tail_tests, line_tests_at, has_index}
-use Rattle.nl_model.specs.SuffixKinds.{object_limit, wants_whole}
+use Rattle.nl_model.specs.declared.suffix_kinds.Objects.{Objects}
+use Rattle.nl_model.specs.declared.suffix_kinds.Objects.TheVariants.{Variables, Constraints, Objectives, Problem}
+use Rattle.nl_model.specs.SuffixKinds.{object_limit, objects_of, wants_whole, count_among}
 use Rattle.exact_numbers.specs.Numbers.{is_whole}
 use Rattle.sol_files.specs.Steps.{after_row, after_at, named_suffix, rest_awaits}
 use Rattle.sol_files.specs.Written.{head_line, value_line, suffix_lines, are_values, IsWritableSuffix}
@@ -194,13 +196,13 @@ values_reached lines s d p c t v x (pair ∷ rest) all most room g =
 -- ---- one suffix
 
 most_objects : (n_var n_con kind : ℕ) → n_var ≤ 2 ^ 20 → n_con ≤ 2 ^ 20 → object_limit n_var n_con 256 kind ≤ 2 ^ 20
-most_objects n_var n_con kind var con = by (kind % 4 == 0) (kind % 4 == 1) (kind % 4 == 2)
+most_objects n_var n_con kind var con = by (objects_of kind)
   where
-    by : (a b e : Bool) → cond a n_var (cond b n_con (cond e 256 1)) ≤ 2 ^ 20
-    by true b e = var
-    by false true e = con
-    by false false true = omega arith
-    by false false false = omega arith
+    by : (o : Objects) → count_among n_var n_con 256 o ≤ 2 ^ 20
+    by Variables = var
+    by Constraints = con
+    by Objectives = omega arith
+    by Problem = omega arith
 
 pub suffix_reached : (lines : List (List ℕ)) (s : Sol) (d p c t v : ℕ) (x : SolSuffix) → IsWritableSuffix s.n_var s.n_con x → s.n_var ≤ 2 ^ 20 → s.n_con ≤ 2 ^ 20 → c < 1024 → t + length x.table ≤ 65536 → v + length x.values ≤ 2 ^ 22
     → IsReached lines (at Tail s d p c t v) → IsReached (lines ++ suffix_lines x) (at Tail (with_suffix s x) d p (c + 1) (t + length x.table) (v + length x.values))

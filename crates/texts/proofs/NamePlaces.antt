@@ -1,5 +1,5 @@
 -- The places of names in a list, and names as keys of a set.
-use Rattle.std.proofs.Common.{◌≡◌, ◌≢◌, ◌∙◌, ℕ, zero, suc, ◌+◌, ◌<◌, ◌≤◌, not, cond, Bool, true, false, List, [], ◌∷◌, ◌++◌, length, map, get_or, Option, Some, None, refl, sym, ap, arith}
+use Rattle.std.proofs.Common.{◌≡◌, ◌≢◌, ◌∙◌, ℕ, zero, suc, ◌+◌, ◌<◌, ◌≤◌, not, cond, Bool, true, false, List, [], ◌∷◌, ◌++◌, length, map, get_or, Some, None, refl, sym, ap, arith}
 use Rattle.std.specs.Prelude.{nat_lt, slice_get, option_map, All, AllPairs}
 use Rattle.std.specs.Global.{Vec}
 use Rattle.std.specs.List.{position, position_or_len, prefix_len, list_any}

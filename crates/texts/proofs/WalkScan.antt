@@ -1,7 +1,7 @@
 -- The walk over a text meets its lines: the text, cut at each LF.
 use Rattle.std.proofs.Common.{◌≡◌, ◌∙◌, ℕ, zero, suc, ◌+◌, ◌-◌, ◌<◌, ◌≤◌, ◌^◌, List, [], ◌∷◌, ◌++◌, length, map, take, Bool, true, false, leb, refl, sym, ap, ap₂, arith, append_assoc}
 use Rattle.std.specs.Prelude.{◌==◌, nat_le, get_or, take_while}
-use Rattle.std.specs.List.{slice_split, onto_first}
+use Rattle.std.specs.List.{slice_split}
 use Rattle.std.proofs.lemmas.Bool.{leb-true, leb-false}
 use Rattle.std.proofs.lemmas.List.{append-nil, length-append, take-append-le, take_all}
 use Rattle.std.proofs.lemmas.List.Sums.{take_while-cons}
@@ -10,7 +10,7 @@ use Rattle.std.specs.declared.option.Option.TheVariants.{None, Some}
 use Rattle.texts.specs.declared.lines.LineFault.{LineFault}
 use Rattle.texts.specs.declared.lines.LineFault.TheVariants.{LineTooLong, InputTooLong}
 use Rattle.texts.specs.Lines.{trimmed, is_short, parts_of, ended_parts, line_fault, Scan, scan_of, scan}
-use Rattle.texts.proofs.Walk.{Walk, no_lines, next_byte, steps, walk, seen}
+use Rattle.texts.proofs.Walk.{Walk, no_lines, steps, walk, seen}
 use Rattle.texts.proofs.WalkSteps.{leb_of, leb_not, next-input, next-line, next-long, next-more, steps-fault}
 
 abbrev parts : List ℕ → List (List ℕ)

@@ -15,4 +15,4 @@ returns-in-Err-open_sol g c = second_stopped nl_read check_last IsCertified c.ar
 pub returns : goal.returns
 returns g c =
     both_ended nl_read check_last IsCertified c.args.nl.now c.args.sol.now value_of itself _ _ _ c.in-Ok.read c.in-Ok.ensures.reads c.in-Ok-open_sol.solution c.in-Ok-open_sol.ensures.reads _ _ _ _ _
-    c.judge-judged.ensures.comes (meant_so (value_of c.in-Ok.read) c.in-Ok-open_sol.solution _ c.judge-judged.ensures.file c.judge-judged.ensures.comes) c.end.ensures c.judge-judged.ensures.above c.judge-judged.ensures.counts
+    c.to_verdict-judged.ensures.comes (meant_so (value_of c.in-Ok.read) c.in-Ok-open_sol.solution _ c.to_verdict-judged.ensures.file c.to_verdict-judged.ensures.comes) c.end.ensures c.to_verdict-judged.ensures.above c.to_verdict-judged.ensures.counts

@@ -9,4 +9,4 @@ pub returns-in-Err : goal.returns-in-Err
 returns-in-Err g c = at_rest (λ n. only_stopped import_last MeansTheProgram c.args.file.now itself n _ _ c.in-Err.ended c.in-Err.ensures.reads)
 
 pub returns : goal.returns
-returns g c = at_rest (λ n. only_ended import_last MeansTheProgram c.args.file.now itself _ _ c.in-Ok.mps c.in-Ok.ensures.reads n n _ _ _ c.judge-judged.ensures (meant_so c.in-Ok.mps _ c.judge-judged.ensures) c.end.ensures (omega arith) refl)
+returns g c = at_rest (λ n. only_ended import_last MeansTheProgram c.args.file.now itself _ _ c.in-Ok.mps c.in-Ok.ensures.reads n n _ _ _ c.to_output-judged.ensures (meant_so c.in-Ok.mps _ c.to_output-judged.ensures) c.end.ensures (omega arith) refl)

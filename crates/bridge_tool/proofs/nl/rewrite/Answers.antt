@@ -10,4 +10,4 @@ pub returns-in-Err : goal.returns-in-Err
 returns-in-Err g c = at_rest (λ n. only_stopped nl_last (λ nl. IsText nl.file (nl_text nl.file)) c.args.file.now value_of n _ _ c.in-Err.ended c.in-Err.ensures.reads)
 
 pub returns : goal.returns
-returns g c = at_rest (λ n. only_ended nl_last (λ nl. IsText nl.file (nl_text nl.file)) c.args.file.now value_of _ _ c.in-Ok.read c.in-Ok.ensures.reads n n _ _ _ c.judge-judged.ensures (meant_anyway _ _ (nl_meant c.in-Ok.ensures.reads.judged.bytes (value_of c.in-Ok.read) c.in-Ok.ensures.reads.judged.says)) c.end.ensures (omega arith) refl)
+returns g c = at_rest (λ n. only_ended nl_last (λ nl. IsText nl.file (nl_text nl.file)) c.args.file.now value_of _ _ c.in-Ok.read c.in-Ok.ensures.reads n n _ _ _ c.to_output-judged.ensures (meant_anyway _ _ (nl_meant c.in-Ok.ensures.reads.judged.bytes (value_of c.in-Ok.read) c.in-Ok.ensures.reads.judged.says)) c.end.ensures (omega arith) refl)

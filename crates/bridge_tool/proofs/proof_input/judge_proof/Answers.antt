@@ -1,4 +1,4 @@
-use Rattle.proof_text.specs.Setting.{setting_of}
+use Rattle.file_certificates.specs.Setting.{setting_of}
 use Rattle.bridge_tool.proofs.proof_input.judge_proof.Goals as goal
 
 pub returns-in-Ok-clause-says : goal.returns-in-Ok-clause-says

@@ -15,4 +15,4 @@ returns-in-Err-open_proof g c = second_stopped nl_read prove_last IsProvedOf c.a
 pub returns : goal.returns
 returns g c =
     both_ended nl_read prove_last IsProvedOf c.args.nl.now c.args.proof.now value_of itself _ _ _ c.in-Ok.read c.in-Ok.ensures.reads c.in-Ok-open_proof.given c.in-Ok-open_proof.ensures.reads _ _ _ _ _
-    c.judge-judged.ensures.comes c.judge-judged.ensures.means c.end.ensures c.judge-judged.ensures.above c.judge-judged.ensures.counts
+    c.to_verdict-judged.ensures.comes c.to_verdict-judged.ensures.means c.end.ensures c.to_verdict-judged.ensures.above c.to_verdict-judged.ensures.counts

@@ -30,8 +30,8 @@ returns-in-Err-open_named g c =
     _ c.in-Ok-open_rows.names c.in-Ok-open_rows.ensures.reads _ c.in-Ok-open_columns.names c.in-Ok-open_columns.ensures.reads)
     itself _ _ c.in-Err-open_named.ended c.in-Err-open_named.ensures.reads
 
-pub judge-judged-requires-clause-made : goal.judge-judged-requires-clause-made
-judge-judged-requires-clause-made g c =
+pub to_output-judged-requires-clause-made : goal.to_output-judged-requires-clause-made
+to_output-judged-requires-clause-made g c =
     let said = c.in-Ok-open_named.ensures.reads.judged in
     (Listed c.in-Ok-open_rows.names c.in-Ok-open_columns.names, said.bytes, said.says)
 
@@ -41,5 +41,5 @@ returns g c =
     (named_return_told c.args.nl.now c.args.answer.now c.args.rows.now c.args.columns.now) (listed_sound false 3 c.args.nl.now c.args.rows.now c.args.columns.now (after_names c.args.answer.now) (names_sound c.args.answer.now)) _ _
     (columns_down false 3 c.args.nl.now c.args.rows.now c.args.columns.now (after_names c.args.answer.now) (names_sound c.args.answer.now) value_of _ _ c.in-Ok.read c.in-Ok.ensures.reads
     _ c.in-Ok-open_rows.names c.in-Ok-open_rows.ensures.reads _ c.in-Ok-open_columns.names c.in-Ok-open_columns.ensures.reads)
-    itself _ c.in-Ok-open_named.given c.in-Ok-open_named.ensures.reads _ _ _ _ _ c.judge-judged.ensures.comes
-    (meant_anyway _ _ (return_meant (value_of c.in-Ok.read) c.in-Ok-open_named.given c.judge-judged.ensures.file)) c.end.ensures c.judge-judged.ensures.above c.judge-judged.ensures.counts
+    itself _ c.in-Ok-open_named.given c.in-Ok-open_named.ensures.reads _ _ _ _ _ c.to_output-judged.ensures.comes
+    (meant_anyway _ _ (return_meant (value_of c.in-Ok.read) c.in-Ok-open_named.given c.to_output-judged.ensures.file)) c.end.ensures c.to_output-judged.ensures.above c.to_output-judged.ensures.counts

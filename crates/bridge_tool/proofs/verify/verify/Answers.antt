@@ -15,4 +15,4 @@ returns-in-Err-open_certificate g c = second_stopped nl_read verify_last IsVerif
 pub returns : goal.returns
 returns g c =
     both_ended nl_read verify_last IsVerified c.args.nl.now c.args.certificate.now value_of itself _ _ _ c.in-Ok.read c.in-Ok.ensures.reads c.in-Ok-open_certificate.given c.in-Ok-open_certificate.ensures.reads _ _ _ _ _
-    c.judge-judged.ensures.comes c.judge-judged.ensures.means c.end.ensures c.judge-judged.ensures.above c.judge-judged.ensures.counts
+    c.to_verdict-judged.ensures.comes c.to_verdict-judged.ensures.means c.end.ensures c.to_verdict-judged.ensures.above c.to_verdict-judged.ensures.counts

@@ -4,8 +4,8 @@ use Rattle.duality.specs.Branch.{proof_fault}
 use Rattle.duality.specs.Certificate.{judged, with_leaves}
 use Rattle.exact_numbers.specs.Values.{frac_value}
 use Rattle.certificates.specs.Certificates.{tree_over}
-use Rattle.certificate_check.specs.Programs.{program_of}
-use Rattle.certificate_check.proofs.SumLemmas.{if_put}
+use Rattle.dual_bounds.specs.Programs.{program_of}
+use Rattle.dual_bounds.proofs.SumLemmas.{if_put}
 use Rattle.certificate_walk.specs.InsidePoints.{fractions_of}
 use Rattle.certificate_walk.proofs.check.near_outcome.Goals as goal
 

@@ -1,5 +1,5 @@
 use Rattle.linear_program.proofs.CoefLemmas.{not_zero}
-use Rattle.certificates.specs.Numbers.{number_value}
+use Rattle.linear_program.specs.Numbers.{number_value}
 use Rattle.certificate_walk.proofs.Planes.{built_sum, built_terms, nothing_built, pair_added, pair_skipped}
 use Rattle.certificate_walk.proofs.Written.{number_at}
 use Rattle.certificate_walk.proofs.plane.terms_of.Goals as goal

@@ -1,4 +1,5 @@
 use Rattle.std.proofs.Common.{◌∙◌, rules, arith, ◌≡◌, ap, ℕ, ℤ, Bool, List, pos, ◌+◌, ◌<◌, ◌^◌, ◌++◌, length, subst, to_z, of_z, ◌-ℤ◌}
+use Rattle.std.proofs.lemmas.Grind.{common_steps}
 use Rattle.std.specs.Int.{w128}
 use Rattle.std.specs.Str.Parse.{AllDigits, digits_value}
 use Rattle.exact_numbers.specs.Decimal.{signed}
@@ -63,3 +64,6 @@ pub returns-in-None : goal.returns-in-None
 returns-in-None c =
     let p = parts_of c.args.text.now _ _ _ _ c.without_sign-body.ensures c.mark_place-mark.ensures.place c.point_place-point.ensures.place c.mark_place-mark.ensures.within c.point_place-point.ensures.within c.after_place-fraction.ensures in
     read_none _ _ _ _ _ _ p c.has_minus.ensures (omega arith) (search rules) (search rules) (omega arith) c.in-Some.ensures c.in-None.ensures
+
+pub returns-in_default : goal.returns-in_default
+returns-in_default c = grind (arith, common_steps)

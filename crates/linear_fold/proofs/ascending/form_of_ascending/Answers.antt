@@ -7,7 +7,7 @@ use Rattle.linear_program.specs.Coefs.{Term}
 use Rattle.linear_program.specs.Decimals.{frac_of, fraction_terms}
 use Rattle.linear_program.specs.Forms.{form_line}
 use Rattle.linear_program.proofs.DecimalLemmas.{AllFit, fit_more, frac_of-value, one_fraction_more}
-use Rattle.linear_fold.proofs.Expressions.{are_decimals, IsListed, one_listed, term_at}
+use Rattle.linear_fold.proofs.Expressions.{are_decimals, IsListed, list_line, none_listed, one_listed, term_at}
 use Rattle.linear_fold.proofs.ascending.form_of_ascending.Goals as goal
 
 pub loop-index-preserved : goal.loop-index-preserved
@@ -34,3 +34,16 @@ pub of_decimals-requires : goal.of_decimals-requires
 of_decimals-requires g c =
     are_decimals 0 c.args.terms.now c.requires.ascending
     (c.loop-index.invariant.fit (subst AllFit (sym (drop_all c.loop-index.index c.args.terms.now c.loop-index-test.false)) tt))
+
+pub loop-index-init : goal.loop-index-init
+loop-index-init g c =
+    let whole = linear_terms c.args.terms.now in
+    let k = (form_line c.args.number.now).constant in
+    let none : IsListed (form_line c.args.number.now) c.args.first whole k [] c.args.first whole =
+    subst (λ ps. IsListed (list_line k ps) c.args.first whole k [] c.args.first whole) (sym c.requires.number) (none_listed c.args.first whole k c.requires.ascending) in
+    let start : c.args.first ≡ c.args.first + 0 = omega arith in
+    record {
+      listed = subst (λ j. IsListed (form_line c.args.number.now) c.args.first whole k [] j whole) start none;
+      fit = λ h. h;
+      counted = (let h = c.tick.ensures in omega arith);
+    }

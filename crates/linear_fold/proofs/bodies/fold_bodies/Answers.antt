@@ -2,7 +2,7 @@ use Rattle.std.proofs.Common.{◌≡◌, ◌∙◌, ◌+◌, ◌<◌, ◌≤◌,
 use Rattle.nl_model.specs.declared.at.Owner.TheVariants.{Con as OfConstraint}
 use Rattle.linear_fold.specs.InsideOwnerFolds.{AreBodiesOf, IsFormOf, bodies_size, coefficients_of, owned_at, owner_size}
 use Rattle.linear_program.specs.Forms.{form_terms}
-use Rattle.linear_fold.proofs.BodyLemmas.{bodies_size_le, body_size, one_more_body, one_more_count, left_end, left_more, left_stop, steps_more, steps_within}
+use Rattle.linear_fold.proofs.BodyLemmas.{bodies_size_le, body_size, one_more_body, one_more_count, left_end, left_init, left_more, left_stop, steps_more, steps_within}
 use Rattle.linear_fold.proofs.bodies.fold_bodies.Goals as goal
 
 pub loop-con-preserved : goal.loop-con-preserved
@@ -59,3 +59,17 @@ pub returns-clause-folded : goal.returns-clause-folded
 returns-clause-folded g c =
     let f = c.args.file.now in
     left_end f c.args.folder.now.count (λ j. owned_at f (OfConstraint j)) f.counts.n_con c.loop-con.folder.count c.loop-con.con (let h = c.loop-con-test.false in let same : c.counts-counts.result.now.n_con ≡ f.counts.n_con = ap (λ x. x.n_con) (c.counts-counts.ensures.value ∙ c.header.ensures.counts) in omega arith) c.loop-con.invariant.left
+
+pub loop-con-init : goal.loop-con-init
+loop-con-init g c =
+    let f = c.args.file.now in
+    let none = c.in_ok-bodies.ensures.items in
+    record {
+      folder_now = c.requires.folder;
+      left = left_init f c.args.folder.now.count (λ j. owned_at f (OfConstraint j)) f.counts.n_con;
+      bodies_are = subst (AreBodiesOf f 0) (sym none) tt;
+      number = ap length none;
+      counted = (let h : coefficients_of c.in_ok-bodies.bodies.items ≡ 0 = ap coefficients_of none in omega arith);
+      above = omega arith;
+      below = omega arith;
+    }

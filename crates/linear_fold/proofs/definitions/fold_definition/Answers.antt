@@ -1,5 +1,5 @@
-use Rattle.std.proofs.Common.{arith}
-use Rattle.linear_fold.proofs.BodyLemmas.{definition_folded, definition_here}
+use Rattle.std.proofs.Common.{◌≤◌, ◌+◌, ◌*◌, arith, subst}
+use Rattle.linear_fold.proofs.BodyLemmas.{definition_folded, definition_here, definition_owner}
 use Rattle.linear_fold.proofs.definitions.fold_definition.Goals as goal
 
 pub overflow_sub-slot : goal.overflow_sub-slot
@@ -29,3 +29,11 @@ returns-clause-folder g c =
       few = h.few;
       slots = rw h.variables (definition_folded c.args.file.now c.requires.file c.args.index c.args.definition.now c.requires.at c.fold_owner.new.folder.slots.items c.in_ok-form.form h.slots c.in_ok-form.ensures.form);
     }
+
+pub returns-clause-below : goal.returns-clause-below
+returns-clause-below g c =
+    subst (λ m. c.fold_owner.new.steps ≤ c.args.steps.now + 2 * (c.args.file.now.counts.n_var + 1) * m) (definition_owner c.args.file.now c.requires.file c.args.index c.args.definition.now c.requires.at) c.fold_owner.ensures.below
+
+pub returns-in_err-form-clause-below : goal.returns-in_err-form-clause-below
+returns-in_err-form-clause-below g c =
+    subst (λ m. c.fold_owner.new.steps ≤ c.args.steps.now + 2 * (c.args.file.now.counts.n_var + 1) * m) (definition_owner c.args.file.now c.requires.file c.args.index c.args.definition.now c.requires.at) c.fold_owner.ensures.below

@@ -1,7 +1,8 @@
 use Rattle.std.proofs.Common.{◌+◌, ◌<◌, ◌≤◌, ◌*◌, sym, subst, arith, length, take}
+use Rattle.std.proofs.lemmas.List.{take_all}
 use Rattle.nl_meaning.specs.Trees.{tree_size}
 use Rattle.nl_model.specs.declared.at.Owner.TheVariants.{Def as OfDefinition}
-use Rattle.linear_fold.specs.InsideOwnerFolds.{definitions_size, owned_at}
+use Rattle.linear_fold.specs.InsideOwnerFolds.{HasFolded, definitions_size, owned_at}
 use Rattle.linear_fold.proofs.BodyLemmas.{at_position, definition_size, definitions_size_le, left_end, left_more, left_stop, position_small, steps_more, steps_within}
 use Rattle.linear_fold.proofs.definitions.fold_definitions.Goals as goal
 
@@ -51,3 +52,16 @@ returns-clause-folded g c =
     let f = c.args.file.now in
     left_end f c.args.folder.now.count (λ j. owned_at f (OfDefinition j)) (length f.definitions) c.loop-index.folder.count c.loop-index.index
     (let h = c.loop-index-test.false in subst (λ xs. length xs ≤ c.loop-index.index) c.defs-definition-items.ensures (omega arith)) c.loop-index.invariant.left
+
+pub returns-clause-folder : goal.returns-clause-folder
+returns-clause-folder g c =
+    let f = c.args.file.now in
+    subst (λ ds. HasFolded f ds c.loop-index.folder)
+    (take_all c.loop-index.index f.definitions (let h = c.loop-index-test.false in subst (λ xs. length xs ≤ c.loop-index.index) c.defs-definition-items.ensures (omega arith)))
+    c.loop-index.invariant.folder_now
+
+pub returns-clause-below : goal.returns-clause-below
+returns-clause-below g c =
+    let f = c.args.file.now in
+    let i = c.loop-index.index in
+    steps_within f.counts.n_var c.args.steps.now c.loop-index.steps (definitions_size (take i f.definitions)) (definitions_size f.definitions) (definitions_size_le f.definitions i) c.loop-index.invariant.below

@@ -1,7 +1,7 @@
 use Rattle.std.proofs.Common.{◌≡◌, ◌∷◌, [], ◌-◌, ◌+◌, ◌*◌, ◌≤◌, length, reverse, drop, sym, ap, subst, subst₂, arith, ◌∙◌, length-append}
 use Rattle.nl_model.specs.Nodes.{trees_of, with_node}
 use Rattle.linear_fold.specs.InsideFolds.{ArePartsFolded, ArePartsWithin, NodeFinds}
-use Rattle.linear_fold.proofs.Folding.{entry_folded, entry_is_within, no_step, some_node, node_at, finds_at, top_first, top_folded, tree_steps}
+use Rattle.linear_fold.proofs.Folding.{entry_folded, entry_is_within, no_step, some_node, node_at, finds_at, top_first, top_folded, tree_steps, stopped_steps, last_steps}
 use Rattle.linear_fold.proofs.Operators.{if_ok}
 use Rattle.linear_fold.proofs.fold.fold_tree.Goals as goal
 
@@ -52,3 +52,18 @@ returns-clause-within g c =
     if_ok c.into_entry.result _ _
     (λ e is. entry_is_within c.args.variables c.in-Some.part e is (subst (ArePartsWithin c.args.variables) (top_first c.loop-place.stack.items c.pop.new.self.items c.in-Some.part c.in-Some.ensures.items) c.loop-place.invariant.within).0)
     c.into_entry.ensures
+
+pub returns-in_err-part-clause-below : goal.returns-in_err-part-clause-below
+returns-in_err-part-clause-below g c =
+    stopped_steps (c.args.variables + 1) (length c.args.nodes.now) c.loop-place.place c.args.steps.now c.loop-place.steps c.part_of.new.steps (length c.loop-place.stack.items) (length c.part_of.new.stack.items) c.loop-place-test.true c.loop-place.auto.place c.loop-place.invariant.below
+    (subst₂ (λ a b. c.part_of.new.steps + (c.args.variables + 1) * a ≤ c.loop-place.steps + (c.args.variables + 1) * b + (c.args.variables + 1)) (omega (arith, c.part_of.new.stack.ok.0)) (omega (arith, c.loop-place.stack.ok.0)) c.in_err-part.ensures.below)
+
+pub returns-in_err-push-clause-below : goal.returns-in_err-push-clause-below
+returns-in_err-push-clause-below g c =
+    stopped_steps (c.args.variables + 1) (length c.args.nodes.now) c.loop-place.place c.args.steps.now c.loop-place.steps c.part_of.new.steps (length c.loop-place.stack.items) (length c.part_of.new.stack.items) c.loop-place-test.true c.loop-place.auto.place c.loop-place.invariant.below
+    (subst₂ (λ a b. c.part_of.new.steps + (c.args.variables + 1) * a ≤ c.loop-place.steps + (c.args.variables + 1) * b + (c.args.variables + 1)) (omega (arith, c.part_of.new.stack.ok.0)) (omega (arith, c.loop-place.stack.ok.0)) c.in_ok-part.ensures.below)
+
+pub returns-clause-below : goal.returns-clause-below
+returns-clause-below g c =
+    let one_more : length c.loop-place.stack.items ≡ length c.pop.new.self.items + 1 = ap length c.in-Some.ensures.items ∙ length-append c.pop.new.self.items (c.in-Some.part ∷ []) in
+    last_steps (c.args.variables + 1) (length c.args.nodes.now) c.loop-place.place c.args.steps.now c.loop-place.steps (length c.loop-place.stack.items) (omega (arith, one_more)) c.loop-place.invariant.below

@@ -1,10 +1,10 @@
-use Rattle.std.proofs.Common.{◌≡◌, ◌∙◌, ℕ, None, length, reverse, subst, subst₂, sym}
+use Rattle.std.proofs.Common.{◌≡◌, ◌∙◌, ◌+◌, ◌*◌, ℕ, None, length, reverse, subst, subst₂, sym}
 use Rattle.std.proofs.lemmas.List.{length-reverse}
 use Rattle.nl_meaning.specs.Trees.{HasCount}
 use Rattle.linear_fold.specs.declared.operate.Outcome.{Outcome}
 use Rattle.linear_fold.specs.InsideFolds.{first_broken}
 use Rattle.linear_fold.specs.InsideOperates.{AreOperands, Operates, lines_of_parts}
-use Rattle.linear_fold.proofs.Folding.{all_operands, operand_within, operator_broken, operator_folded, operator_within, faulty_operands}
+use Rattle.linear_fold.proofs.Folding.{all_operands, from_start, operand_within, operator_broken, operator_folded, operator_within, faulty_operands}
 use Rattle.linear_fold.proofs.fold.operation_part.Goals as goal
 use Rattle.linear_fold.proofs.fold.operation_part.Goals.{After-operate}
 
@@ -39,3 +39,6 @@ returns-in-Ok-Refused-clause-part g c known ts operands =
     let s = sound g (goal.at.returns-in-Ok-Refused-clause-part g c).After-operate in
     let got = subst₂ (λ (n : ℕ) (o : Outcome). Operates n c.args.class (lines_of_parts (reverse c.args.operands.now)) o) c.requires.places c.in-Ok-Refused.field-0-is c.in-Ok-Refused.ensures.outcome in
     operator_broken known c.args.variables c.args.place c.args.class ts (reverse c.args.operands.now) s.0 s.1 s.2 operands c.in-Ok-Refused.reason got
+
+pub returns-in-Some-clause-below : goal.returns-in-Some-clause-below
+returns-in-Some-clause-below g c = from_start c.args.steps.now ((c.args.variables + 1) * length c.args.operands.now)

@@ -1,10 +1,10 @@
-use Rattle.std.proofs.Common.{◌≡◌, ◌≤◌, ◌∷◌, ◌∙◌, ◌+◌, ◌-◌, drop, length, reverse, sym, ap, subst, take, arith, vec_len}
+use Rattle.std.proofs.Common.{◌≡◌, ◌≤◌, ◌∷◌, ◌∙◌, ◌+◌, ◌*◌, ◌-◌, drop, length, reverse, sym, ap, subst, take, arith, vec_len}
 use Rattle.std.proofs.lemmas.List.{length-reverse}
 use Rattle.nl_meaning.specs.Trees.{operator}
 use Rattle.nl_model.specs.Nodes.{with_node}
 use Rattle.linear_fold.specs.InsideFolds.{ArePartsFolded, ArePartsWithin, IsPartFolded, NodeFinds}
 use Rattle.linear_fold.proofs.Operators.{if_ok, back_is, front_is}
-use Rattle.linear_fold.proofs.Folding.{entry_steps, operator_size, operator_step, within_take, within_parts_drop}
+use Rattle.linear_fold.proofs.Folding.{entry_steps, from_start, operator_size, operator_step, within_take, within_parts_drop}
 use Rattle.linear_fold.proofs.fold.part_of.Goals as goal
 use Rattle.linear_fold.proofs.fold.part_of.Goals.{After-len}
 
@@ -70,3 +70,12 @@ returns-in-Op-clause-below g c =
     let found = subst (NodeFinds c.args.variables c.args.slots.now (vec_len c.args.stack.now)) c.in-Op.is c.requires.finds in
     entry_steps (c.args.variables + 1) c.args.steps.now c.operation_part-made.new.steps (length c.split_at.result.1.now) (vec_len c.truncate.new.self) (vec_len c.args.stack.now) c.operation_part-made.ensures.below
     (omega (arith, found.1, c.len.ensures, c.deref.ensures.len, c.split_at.ensures.back_len, c.truncate.ensures.len))
+
+pub returns-in-Num-clause-below : goal.returns-in-Num-clause-below
+returns-in-Num-clause-below g c = from_start (c.args.steps.now + (c.args.variables + 1) * vec_len c.args.stack.now) (c.args.variables + 1)
+
+pub returns-in-Var-clause-below : goal.returns-in-Var-clause-below
+returns-in-Var-clause-below g c = from_start (c.args.steps.now + (c.args.variables + 1) * vec_len c.args.stack.now) (c.args.variables + 1)
+
+pub returns-in-Defined-clause-below : goal.returns-in-Defined-clause-below
+returns-in-Defined-clause-below g c = from_start (c.args.steps.now + (c.args.variables + 1) * vec_len c.args.stack.now) (c.args.variables + 1)

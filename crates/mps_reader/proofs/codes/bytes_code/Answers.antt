@@ -1,4 +1,5 @@
 use Rattle.std.proofs.Common.{◌+◌, ◌*◌, ◌<◌, ◌^◌, length, sym, ap, arith}
+use Rattle.std.proofs.lemmas.Grind.{common_steps}
 use Rattle.std.proofs.lemmas.List.{drop_all}
 use Rattle.mps_reader.specs.InsideCodes.{bytes_code}
 use Rattle.mps_reader.proofs.CodeLemmas.{one_is_small, code_fits}
@@ -16,3 +17,6 @@ overflow_mul-code c =
     let byte : 0 < 256 = omega arith in
     let fits : c.bytes.code * 256 + 0 < 2 ^ 64 = code_fits c.bytes.code 0 c.bytes.place c.bytes.invariant.small byte c.bytes-test.true (omega (arith, c.bytes.invariant.within, c.requires)) in
     omega (arith, fits)
+
+pub bytes-preserved : goal.bytes-preserved
+bytes-preserved c = grind (arith, common_steps)

@@ -4,7 +4,7 @@ use Rattle.mps_writer.proofs.Writing.{markers_more}
 use Rattle.scaling.specs.Parts.{column_count}
 use Rattle.row_scaling.specs.InsideColumns.{entries_in_column, entry_value}
 use Rattle.row_scaling.specs.InsideSections.{lines_from}
-use Rattle.row_scaling.proofs.LineLemmas.{part_written}
+use Rattle.row_scaling.proofs.LineLemmas.{entries_within, part_written}
 use Rattle.row_scaling.proofs.column_lines.put_part.Goals as goal
 
 pub loop-k-preserved : goal.loop-k-preserved
@@ -21,3 +21,10 @@ loop-k-preserved c =
           (part_written s c.requires.scaled (c.args.first + k) c.loop-k.marked c.is_marked-now.result c.loop-k.markers c.in_ok-markers.markers c.loop-k.out.items c.put_change.new.out.items c.put_column.new.out.items _ c.name_of_column-name.result c.deref.result.now
           inside c.loop-k.invariant.text c.is_marked-now.ensures c.name_of_column-name.ensures (ap (map entry_value) c.deref.ensures.value ∙ terms) c.in_ok-markers.ensures.0 c.in_ok-markers.ensures.1 c.in_ok-put_column.ensures);
     }
+
+pub put_column-requires-clause-within : goal.put_column-requires-clause-within
+put_column-requires-clause-within c =
+    let s = c.args.scaled.now in
+    let column = c.index-columns-k.result in
+    let terms : map entry_value column.items ≡ entries_in_column s (c.args.first + c.loop-k.k) = ap (λ v. map entry_value v.items) c.index-columns-k.is ∙ c.requires.columns.terms c.loop-k.k column (omega arith) in
+    entries_within s (c.args.first + c.loop-k.k) c.deref.result.now (ap (map entry_value) c.deref.ensures.value ∙ terms)

@@ -1,4 +1,5 @@
 use Rattle.std.proofs.Common.{◌≡◌, ◌+◌, ◌-◌, ◌<◌, ◌≤◌, ◌^◌, ◌∙◌, ℕ, List, [], ◌∷◌, ◌++◌, ap, arith, length, length-append, refl}
+use Rattle.std.proofs.lemmas.Grind.{common_steps}
 use Rattle.std.proofs.lemmas.Fmt.{length-decimal-le}
 use Rattle.std.specs.Fmt.{decimal}
 use Rattle.row_scaling.proofs.LineLemmas.{row_is_named}
@@ -30,3 +31,6 @@ returns-in-Some c =
       text = c.put_byte.ensures ∙ ap (λ x. 99 ∷ x) c.put_number.ensures ∙ ap (λ ns. ns ++ c.args.lines.now) named;
       short = omega (arith, ap length c.put_byte.ensures, d.1);
     }
+
+pub returns-in-None-clause-text : goal.returns-in-None-clause-text
+returns-in-None-clause-text c = grind (arith, common_steps)

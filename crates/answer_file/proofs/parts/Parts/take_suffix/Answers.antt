@@ -1,4 +1,4 @@
-use Rattle.std.proofs.Common.{◌∙◌, sym, ap}
+use Rattle.std.proofs.Common.{◌∙◌, sym, ap, ap₂}
 use Rattle.std.proofs.lemmas.List.{length-map}
 use Rattle.answer_file.proofs.PartLemmas.{suffix-taken}
 use Rattle.exact_numbers.specs.Numbers.{dec_of}
@@ -14,6 +14,6 @@ returns c =
     c.word_at-name.ensures
     (sym c.is_name.ensures ∙ c.if-not-is_name.false)
     (sym c.in-Some.ensures)
-    (c.object_target-target.ensures ∙ ap (object_target c.args.scope.now c.in-Some.kind) c.word_at.ensures)
+    (c.object_target-target.ensures ∙ ap₂ (object_target c.args.scope.now) c.objects_of-objects.ensures c.word_at.ensures)
     (c.dec_of.ensures ∙ ap dec_of c.word_at-2.ensures)
     c.take_object.ensures

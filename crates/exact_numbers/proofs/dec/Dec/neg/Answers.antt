@@ -1,4 +1,4 @@
-use Rattle.std.proofs.Common.{arith, ap₂, ◌∙◌, ◌≡◌, neg_ℤ}
+use Rattle.std.proofs.Common.{rules, arith, ap₂, ◌∙◌, ◌≡◌, neg_ℤ}
 use Rattle.std.proofs.lemmas.Int.{ints}
 use Rattle.fractions.specs.Rational.{decimal_value}
 use Rattle.exact_numbers.proofs.Decimals.{abs_is}
@@ -14,3 +14,6 @@ returns c =
     let m : c.of_parts.result.m ≡ neg_ℤ c.args.self.m = omega (arith, ints, c.m.ensures, c.of_parts.ensures.mantissa) in
     let e : c.of_parts.result.e ≡ c.args.self.e = omega (arith, ints, c.of_parts.ensures.exponent, c.e.ensures) in
     ap₂ decimal_value m e ∙ decimal-neg c.args.self.m c.args.self.e
+
+pub overflow_sub-m : goal.overflow_sub-m
+overflow_sub-m c = search rules

@@ -37,3 +37,6 @@ returns c =
     let size = c.unsigned_abs-size.ensures.value in
     let w = short_sum _ _ _ _ _ _ _ _ _ x y a.2 b.2 (subst (λ z. unsigned_abs z < 2 ^ 126) left first.bounded) (subst (λ z. unsigned_abs z < 2 ^ 126) right second.bounded) c.small_gcd-common.ensures.greatest (sum ∙ ap₂ ◌+ℤ◌ left right) (subst (λ z. IsGcd z c.small_gcd-common.result c.small_gcd-part.result) size c.small_gcd-part.ensures.greatest) (c.divided-num.ensures ∙ ap (λ z. z / c.small_gcd-part.result) size) (c.small_product-den.ensures ∙ ap₂ ◌*◌ c.divided-other_scale.ensures c.divided.ensures) in
     sum_found c.paired.result c.args.self c.args.other _ _ _ _ _ _ n a.1 k b.1 c.paired.ensures.numerator c.paired.ensures.denominator w
+
+pub overflow_add-sum : goal.overflow_add-sum
+overflow_add-sum c = search rules

@@ -1,5 +1,4 @@
-use Rattle.std.proofs.Common.{◌≡◌, ◌<◌, ◌∙◌, true, false, get_or, length, sym, subst}
-use Rattle.linear_program.specs.Decimals.{fraction_terms}
+use Rattle.std.proofs.Common.{◌≡◌, ◌∙◌, true, false, get_or, sym, subst}
 use Rattle.linear_program.proofs.DecimalLemmas.{fits_at, fraction_at}
 use Rattle.linear_program.proofs.decimal_terms.DecimalTerms.at.Goals as goal
 

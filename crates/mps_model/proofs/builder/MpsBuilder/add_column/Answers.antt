@@ -1,4 +1,4 @@
-use Rattle.std.proofs.Common.{length, map, ◌∙◌, arith}
+use Rattle.std.proofs.Common.{arith}
 use Rattle.std.proofs.lemmas.List.{length-map}
 use Rattle.mps_model.specs.Built.{entry_of}
 use Rattle.mps_model.proofs.Adding.{entries_added}

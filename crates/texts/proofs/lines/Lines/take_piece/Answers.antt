@@ -1,4 +1,5 @@
 use Rattle.std.proofs.Common.{ap, sym, subst, ◌∙◌, ◌≡◌, ◌+◌, ◌≤◌, ◌^◌, arith, false, vec_len}
+use Rattle.std.proofs.lemmas.Grind.{common_steps}
 use Rattle.std.proofs.lemmas.List.{length-take}
 use Rattle.texts.specs.InsideLinesFields.{IsLines}
 use Rattle.texts.specs.declared.lines.Lines.TheInside.{Inside}
@@ -73,3 +74,18 @@ invariant_of-self-2 c =
       total = fits;
       count = omega (arith, behind, bytes);
     }
+
+pub returns-then-front-line_room : goal.returns-then-front-line_room
+returns-then-front-line_room c = grind (arith, common_steps)
+
+pub slice_bounds-extend_from_slice-end : goal.slice_bounds-extend_from_slice-end
+slice_bounds-extend_from_slice-end c = grind (arith, common_steps)
+
+pub unreachable-requires : goal.unreachable-requires
+unreachable-requires c = grind (arith, common_steps)
+
+pub returns-then-not-ends : goal.returns-then-not-ends
+returns-then-not-ends c = grind (arith, common_steps)
+
+pub returns : goal.returns
+returns c = grind (arith, common_steps)

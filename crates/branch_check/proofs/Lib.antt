@@ -1,0 +1,4 @@
+pub mod Conversion
+pub mod CutNumbers
+pub mod NumberLemmas
+pub mod Proved

@@ -1,0 +1,54 @@
+// The check of a proof.
+ghost use Rattle.std.specs.Prelude.{◌≡◌, IfOk, true};
+ghost use Rattle.fractions.specs.Fits.{fits};
+ghost use Rattle.exact_numbers.specs.Values.{frac_value};
+ghost use Rattle.dual_bounds.specs.Programs.{program_of};
+ghost use Rattle.branch_check.specs.Leaves.{IsProved, IsVerdictOn};
+ghost use Rattle.certificates.specs.Proofs.{IsProofOf, claim_value};
+
+use crate::leaf::{ProofVerdict, verdict_of};
+use crate::tree::tree_of;
+use certificate_walk::check_tree;
+use certificates::proof::{Claim, Proof};
+use dual_bounds::Columns;
+use exact_numbers::Frac;
+use std::alloc::{AllocError, Global};
+
+// The stated value as a fraction; 0 where there is none.
+fn stated_value(claim: Claim) -> Frac
+    requires { fits (claim_value claim) ≡ true }
+    ensures { frac_value result ≡ claim_value claim }
+{
+    let Claim::Value(_, value) = claim else {
+        return Frac::zero();
+    };
+    match Frac::of_dec(value) {
+        Some(number) => number,
+        None => unreachable!(),
+    }
+}
+
+/// Whether a proof shows its claim of the linear program of its file: the first leaf that does not
+/// close, or Yes. The columns are those of the file with the objective of the claim. The memory for
+/// the proof as a certificate is taken first. The work for a leaf is that of the terms of its rows
+/// and of the objective, and of putting the rows in order; for a split it is constant.
+pub fn check_proof(
+    alloc: Global,
+    columns: &Columns,
+    proof: &Proof,
+) -> Result<ProofVerdict, AllocError>
+    requires { IsProofOf (program_of columns.now) proof.now }
+
+    // The first leaf, in order, that does not close under the bounds of the splits above it.
+    ensures exact { IfOk result (λ v. IsVerdictOn (program_of columns.now) proof.now v) }
+
+    // With Yes no feasible point is better than the stated value, or there is no relaxed point.
+    ensures proved { IfOk result (λ v. IsProved (program_of columns.now) proof.now.claim v) }
+{
+    let tree = tree_of(alloc, columns, proof)?;
+    let value = stated_value(proof.claim());
+    let found = check_tree(alloc, columns, &tree.nodes, &tree.pairs, value);
+    drop(tree);
+    let verdict = verdict_of(found?);
+    Ok(verdict)
+}

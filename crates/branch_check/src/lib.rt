@@ -1,0 +1,11 @@
+//! Proofs by branches: a tree of splits on whole variables, each leaf of which closes by duals or
+//! by weights.
+#![tactic(auto)]
+
+mod check;
+mod leaf;
+mod numbers;
+mod tree;
+
+pub use check::check_proof;
+pub use leaf::ProofVerdict;

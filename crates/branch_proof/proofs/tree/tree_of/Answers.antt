@@ -1,6 +1,0 @@
-use Rattle.std.proofs.Common.{◌∙◌, sym}
-use Rattle.certificate_check.specs.Programs.{program_of}
-use Rattle.branch_proof.proofs.tree.tree_of.Goals as goal
-
-pub write-requires-clause-proof : goal.write-requires-clause-proof
-write-requires-clause-proof c = (program_of c.args.columns.now, sym (c.in_ok-numbers.ensures.count ∙ c.n_con.ensures), c.requires)

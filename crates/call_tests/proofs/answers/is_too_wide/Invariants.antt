@@ -1,5 +1,0 @@
-use Rattle.call_tests.proofs.answers.is_too_wide.Given as goal
-
--- the ledger is the blank's
-abbrev pub ghosts-returned : goal.ghosts-returned
-ghosts-returned a = record { name = a.blank.name; parts = a.blank.parts }

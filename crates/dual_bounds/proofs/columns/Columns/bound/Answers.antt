@@ -1,0 +1,10 @@
+use Rattle.std.proofs.Common.{◌∙◌, ap, ap₂}
+use Rattle.dual_bounds.specs.Programs.{bounds_in}
+use Rattle.dual_bounds.proofs.Rows.{own_bounds}
+use Rattle.dual_bounds.proofs.columns.Columns.bound.Goals as goal
+
+pub returns : goal.returns
+returns c =
+    c.interval_at.ensures
+    ∙ ap₂ (λ lo hi. bounds_in lo hi c.args.var) c.deref.ensures.value c.deref-2.ensures.value
+    ∙ ap (λ box. box c.args.var) (own_bounds c.args.self.now)

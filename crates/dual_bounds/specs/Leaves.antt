@@ -1,0 +1,57 @@
+-- The bound of a leaf: over the rows of a program and those of planes after them.
+use Rattle.std.specs.Prelude.{◌≡◌, ℕ, suc, ◌<◌, ◌≤◌, ◌++◌, Bool, List, [], ◌∷◌, length, if◌then◌else◌, slice_get, Option, Some, option_and_then}
+use Rattle.fractions.specs.Functions.{is_zero}
+use Rattle.fractions.specs.Rational.{ℚ}
+use Rattle.linear_programs.specs.Linear.{Linear, row_at, row_count, variable_count}
+use Rattle.duality.specs.Checked.{fitting, less_product}
+use Rattle.linear_program.specs.Intervals.{interval_of}
+use Rattle.linear_program.specs.Coefs.{Term, coef_in}
+use Rattle.linear_program.specs.Numbers.{Pair, number_value}
+use Rattle.dual_bounds.specs.declared.columns.Columns.{Columns}
+use Rattle.dual_bounds.specs.declared.form.Row.{Row}
+use Rattle.dual_bounds.specs.Lists.{form_of}
+use Rattle.dual_bounds.specs.Terms.{AreTerms}
+
+-- the indices ascend, from `from` and below n
+unfoldable pub AreIndices : ℕ → ℕ → List Pair → Type 0
+AreIndices from n [] = Unit {0}
+AreIndices from n (p ∷ ps) = (from ≤ p.0) × (p.0 < n) × AreIndices (suc p.0) n ps
+
+-- row i of the program is this row
+pub record IsRowAt (f : Linear) (i : ℕ) (r : Row) : Type 0 where
+  pub body : (row_at f i).body ≡ form_of r.body
+  pub side : (row_at f i).side ≡ interval_of r.side
+  pub terms : AreTerms 0 (variable_count f) r.body.terms.items
+
+-- the rows that are held, with those of planes after them, are the program's
+pub record HasRows (c : Columns) (planes : List Row) (f : Linear) : Type 0 where
+  pub rows : row_count f ≡ length (c.rows.items ++ planes)
+  pub row : (i : ℕ) (r : Row) → slice_get (c.rows.items ++ planes) i ≡ Some r → IsRowAt f i r
+  pub variables : variable_count f ≡ length c.columns.items
+
+-- the goal is this sum, maximised or minimised
+pub record IsGoal (maximise : Bool) (constant : ℚ) (terms : List Term) (f : Linear) : Type 0 where
+  pub sense : f.maximise ≡ maximise
+  pub sum : f.objective ≡ record { constant = constant; coefficient = coef_in terms }
+
+-- the program that is held with the rows of planes after its own
+pub record IsOver (c : Columns) (planes : List Row) (f : Linear) : Type 0 where
+  pub rows : row_count f ≡ length (c.rows.items ++ planes)
+  pub row : (i : ℕ) (r : Row) → slice_get (c.rows.items ++ planes) i ≡ Some r → IsRowAt f i r
+  pub variables : variable_count f ≡ length c.columns.items
+  pub objective : f.objective ≡ form_of c.objective
+  pub maximise : f.maximise ≡ c.maximise
+
+-- a sum less the weight of a row times the coefficient there
+abbrev pub lessened : Option ℚ → ℚ → ℚ → Option ℚ
+lessened weight a s = if is_zero a then Some s else option_and_then (λ w. less_product s w a) weight
+
+-- a step for each pair
+abbrev pub run_pairs : (ℚ → ℕ → ℚ → Option ℚ) → Option ℚ → List Pair → Option ℚ
+run_pairs step o [] = o
+run_pairs step o (p ∷ ps) =
+    run_pairs step (option_and_then (λ s. step s p.0 (number_value p.1)) o) ps
+
+-- the step of a reduced cost
+abbrev pub cost_act : Linear → ℕ → ℚ → ℕ → ℚ → Option ℚ
+cost_act f j s i v = lessened (fitting v) ((row_at f i).body.coefficient j) s

@@ -1,0 +1,111 @@
+// Making and reading linear programs by columns.
+ghost use Rattle.std.specs.Prelude.{◌≡◌, ◌<◌, IfOk};
+ghost use Rattle.linear_programs.specs.Linear.{variable_at, variable_count};
+ghost use Rattle.duality.specs.Points.{bounds_of};
+ghost use Rattle.linear_programs.specs.Linear.{row_count};
+ghost use Rattle.linear_program.specs.Intervals.{interval_of, is_whole_kind};
+ghost use Rattle.linear_program.specs.Programs.{linear_value};
+ghost use Rattle.dual_bounds.specs.Programs.{program_of};
+
+use crate::columns::Columns;
+use crate::copies::{body_of, copied_kinds, lower_sides, rows_of, upper_sides};
+use crate::form::{Body, Row};
+use crate::sides::interval_at;
+use crate::transpose::{by_column, costs_of};
+use linear_program::{Interval, Kind, Linear};
+use std::alloc::{AllocError, Global};
+
+fn is_whole_kind(kind: Kind) -> bool
+    ensures { result ≡ is_whole_kind kind }
+{
+    match kind {
+        Kind::Continuous => false,
+        Kind::Binary | Kind::Integer => true,
+    }
+}
+
+impl Columns {
+    /// The linear program of a folded file.
+    #[tactic(auto, using(crate::proofs::Assembled::assembled), unfolding(crate::specs::Programs::program_of))]
+    pub fn of(alloc: Global, linear: &Linear) -> Result<Columns, AllocError>
+        ensures { IfOk result (λ c. program_of c ≡ linear_value linear.now) }
+    {
+        let bounds = linear.bounds();
+        let form = linear.objective();
+        let objective = body_of(alloc, form)?;
+        let rows = rows_of(alloc, linear)?;
+        let columns = by_column(alloc, &rows, bounds.len())?;
+        let costs = costs_of(alloc, &objective.terms, bounds.len())?;
+        let lower = lower_sides(alloc, bounds)?;
+        let upper = upper_sides(alloc, bounds)?;
+        let kinds = copied_kinds(alloc, linear.kinds())?;
+        Ok(Columns {
+            rows,
+            columns,
+            costs,
+            lower,
+            upper,
+            kinds,
+            objective,
+            maximise: linear.maximise(),
+        })
+    }
+
+    /// The number of variables.
+    #[tactic(auto, using(crate::proofs::Rows::variables_counted))]
+    pub fn n_var(&self) -> u32
+        ensures { result ≡ variable_count (program_of self.now) }
+    {
+        self.columns.len() as u32
+    }
+
+    /// The number of constraints.
+    #[tactic(auto, using(crate::proofs::Rows::rows_counted))]
+    pub fn n_con(&self) -> u32
+        ensures { result ≡ row_count (program_of self.now) }
+    {
+        self.rows.len() as u32
+    }
+
+    /// The bounds of a variable.
+    #[tactic(auto, using(crate::proofs::Rows::variables_counted))]
+    pub fn bound(&self, var: u32) -> Interval
+        requires { var < variable_count (program_of self.now) }
+        ensures { interval_of result ≡ bounds_of (program_of self.now) var }
+    {
+        interval_at(&self.lower, &self.upper, var as usize)
+    }
+
+    /// Whether a variable is to be whole.
+    pub fn is_whole(&self, var: u32) -> bool
+        requires { var < variable_count (program_of self.now) }
+        ensures { result ≡ (variable_at (program_of self.now) var).whole }
+    {
+        match self.kinds.get(var as usize) {
+            Some(kind) => is_whole_kind(*kind),
+            None => false,
+        }
+    }
+
+    /// The constraints, in order.
+    pub fn rows(&self) -> &[Row]
+        ensures { result.now ≡ self.now.rows.items }
+    {
+        &self.rows
+    }
+
+    /// The objective.
+    pub fn objective(&self) -> &Body
+        ensures { result.now ≡ self.now.objective }
+    {
+        &self.objective
+    }
+
+    /// Whether the objective is maximised.
+    #[tactic(auto, unfolding(crate::specs::Programs::program_of))]
+    pub fn maximise(&self) -> bool
+        ensures { result ≡ (program_of self.now).maximise }
+    {
+        self.maximise
+    }
+}

@@ -1,0 +1,91 @@
+-- What is given for a claim: over a file it is over its linear program, and what it shows there it shows of the file.
+use Rattle.std.proofs.Common.{◌≡◌, ℕ, suc, ◌<◌, sym, subst, refl, IsTrue, Option, Some, None}
+use Rattle.std.proofs.lemmas.List.Elements.{All-weaker}
+use Rattle.fractions.specs.Rational.{ℚ, IsWhole}
+use Rattle.linear_programs.specs.Linear.{Variable, variable_count, row_count}
+use Rattle.duality.specs.Certificate.{holds}
+use Rattle.duality.specs.Parts.{IsWholeVariable}
+use Rattle.nl_model.specs.File.{File}
+use Rattle.nl_model.specs.Rules.{IsFile}
+use Rattle.file_meaning.specs.FoldFaults.{fold_fault}
+use Rattle.file_meaning.specs.LinearFile.{linear_of}
+use Rattle.file_meaning.proofs.Files.{count_lem, variable_lem}
+use Rattle.certificates.specs.Certificates.{CertificateValue, CertificateTree, split, plane, lemma, duals, weights, IsTreeOver, Given, HasTree, HasWeights, IsAskedFor, IsGivenOver, IsCertificateOf, certificate_over, claim_outcome, objective_of}
+use Rattle.file_certificates.specs.Files.{IsCertificateIn, IsWholeIn}
+use Rattle.linear_program.specs.Numbers.{Pair, spread, number_value}
+use Rattle.file_certificates.specs.Says.{IsShown, OutcomeSays, IsTrueOf}
+use Rattle.certificates.specs.declared.certificate.Claim.{Claim}
+use Rattle.certificates.specs.declared.certificate.Claim.TheVariants.{Optimal, Within, Bound, Feasible, Infeasible, Unbounded}
+use Rattle.certificates.proofs.Given.{is_certificate}
+use Rattle.file_certificates.proofs.Files.{rows_counted, outcomes}
+
+-- ---- a certificate of a file is one of its linear program
+tree_by : (A B : ℕ → Type 0) → ((j : ℕ) → A j → B j) → (n m : ℕ) (tree : CertificateTree) → IsTreeOver A n m tree → IsTreeOver B n m tree
+unfolding IsTreeOver
+tree_by A B by n m (split j t below above) h = (by j h.0, h.1, tree_by A B by n m below h.2, tree_by A B by n m above h.3)
+tree_by A B by n m (plane ps t below above) h = (
+  All-weaker (λ (p : Pair). A p.0 × IsWhole (number_value p.1)) (λ (p : Pair). B p.0 × IsWhole (number_value p.1)) (λ p q. (by p.0 q.0, q.1)) ps h.0,
+  h.1,
+  h.2,
+  h.3,
+  tree_by A B by n (suc m) below h.4,
+  tree_by A B by n (suc m) above h.5,
+)
+tree_by A B by n m (lemma ps t shown rest) h = (h.0, h.1, h.2, tree_by A B by n m shown h.3, tree_by A B by n (suc m) rest h.4)
+tree_by A B by n m (duals ps) h = h
+tree_by A B by n m (weights ps) h = h
+
+whole_in : (f : File) (k j : ℕ) → IsWholeIn f j → IsWholeVariable (linear_of f k) j
+whole_in f k j h =
+    (subst (λ n. j < n) (sym (count_lem f k)) h.0, subst (λ (v : Variable). IsTrue v.whole) (sym (variable_lem f k j h.0)) h.1)
+
+given_of : (f : File) (k : ℕ) (g : Given) → IsGivenOver (IsWholeIn f) f.counts.n_var f.counts.n_con g → IsGivenOver (IsWholeVariable (linear_of f k)) (variable_count (linear_of f k)) (row_count (linear_of f k)) g
+given_of f k g h =
+    let over : IsGivenOver (IsWholeVariable (linear_of f k)) f.counts.n_var f.counts.n_con g =
+    record {
+      point = h.point;
+      ray = h.ray;
+      tree = λ t e. tree_by (IsWholeIn f) (IsWholeVariable (linear_of f k)) (whole_in f k) f.counts.n_var f.counts.n_con t (h.tree t e);
+      few_rows = h.few_rows;
+    } in
+    subst (λ n. IsGivenOver (IsWholeVariable (linear_of f k)) n (row_count (linear_of f k)) g) (sym (count_lem f k))
+    (subst (λ m. IsGivenOver (IsWholeVariable (linear_of f k)) f.counts.n_var m g) (sym (rows_counted f k)) over)
+
+pub certificate_of : (f : File) (k : ℕ) (c : CertificateValue) → IsCertificateIn f c → IsCertificateOf (linear_of f k) c
+certificate_of f k c h =
+    record {
+      given = h.given;
+      point = h.point;
+      ray = h.ray;
+      nodes = h.nodes;
+      pairs = h.pairs;
+      asked = h.asked;
+      fine = given_of f k h.given h.fine;
+      few_nodes = h.few_nodes;
+      few_pairs = h.few_pairs;
+    }
+
+-- ---- what a claim that holds says of the file
+claim_by : (f : File) (n m : ℕ) (claim : Claim) (g : Given) (tree : Option CertificateTree) → g.tree ≡ tree → IsAskedFor claim g → (o : Option ℚ) → IsShown f (objective_of claim) (certificate_over n m claim (record g { tree = tree })) o → IsTrueOf f claim (spread n g.point) o
+claim_by f n m (Optimal k) g None e asked o h = absurd (subst HasTree e asked.1)
+claim_by f n m (Optimal k) g (Some tree) e asked None h = h
+claim_by f n m (Optimal k) g (Some tree) e asked (Some v) h = h
+claim_by f n m (Within k b) g None e asked o h = absurd (subst HasTree e asked.1)
+claim_by f n m (Within k b) g (Some tree) e asked None h = h
+claim_by f n m (Within k b) g (Some tree) e asked (Some v) h = h
+claim_by f n m (Bound k v) g None e asked o h = absurd (subst HasTree e asked.2)
+claim_by f n m (Bound k v) g (Some tree) e asked o h = h
+claim_by f n m (Feasible k) g tree e asked None h = h
+claim_by f n m (Feasible k) g tree e asked (Some v) h = h
+claim_by f n m Infeasible g None e asked o h = absurd (subst HasWeights e asked.2)
+claim_by f n m Infeasible g (Some tree) e asked o h = h
+claim_by f n m (Unbounded k) g tree e asked o h = h
+
+pub claim_true : (f : File) (c : CertificateValue) → IsFile f → fold_fault f (objective_of c.claim) ≡ None → (h : IsCertificateIn f c) → (o : Option ℚ) → claim_outcome (linear_of f (objective_of c.claim)) c.claim h.given ≡ holds o → IsTrueOf f c.claim (spread f.counts.n_var h.given.point) o
+claim_true f c file clean h o e =
+    let k : ℕ = objective_of c.claim in
+    let n : ℕ = variable_count (linear_of f k) in
+    let m : ℕ = row_count (linear_of f k) in
+    let says = outcomes f k file clean (certificate_over n m c.claim h.given) (is_certificate (linear_of f k) c.claim h.given h.asked (given_of f k h.given h.fine)) in
+    subst (λ i. IsTrueOf f c.claim (spread i h.given.point) o) (count_lem f k)
+    (claim_by f n m c.claim h.given h.given.tree refl h.asked o (subst (OutcomeSays f k (certificate_over n m c.claim h.given)) e says))

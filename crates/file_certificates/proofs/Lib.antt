@@ -1,0 +1,4 @@
+pub mod Files
+pub mod Given
+pub mod Best
+pub mod ProofFiles

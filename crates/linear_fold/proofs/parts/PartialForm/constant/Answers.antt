@@ -1,0 +1,12 @@
+use Rattle.std.proofs.Common.{◌∙◌, subst}
+use Rattle.exact_numbers.specs.Values.{frac_value}
+use Rattle.linear_fold.specs.InsideOperates.{IsOperand}
+use Rattle.linear_fold.proofs.Operators.{multiple_constant}
+use Rattle.linear_fold.proofs.parts.PartialForm.constant.Goals as goal
+
+pub returns-in-Variable-clause-test : goal.returns-in-Variable-clause-test
+returns-in-Variable-clause-test c n w =
+    rw c.in-Variable.is (c.constant_of_multiple.ensures.test ∙ multiple_constant n c.in-Variable.field-0 (frac_value c.in-Variable.factor) (subst (IsOperand n) c.in-Variable.is w).sound)
+
+pub returns-in-Linear-clause-test : goal.returns-in-Linear-clause-test
+returns-in-Linear-clause-test c n w = rw c.in-Linear.is (c.constant_of.ensures.test n (subst (IsOperand n) c.in-Linear.is w).zero_from)

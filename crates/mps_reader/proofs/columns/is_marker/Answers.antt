@@ -1,0 +1,9 @@
+use Rattle.std.proofs.Common.{arith}
+use Rattle.std.proofs.lemmas.Grind.{common_steps}
+use Rattle.mps_reader.proofs.columns.is_marker.Goals as goal
+
+pub returns-else-words-eq3 : goal.returns-else-words-eq3
+returns-else-words-eq3 c = grind (arith, common_steps)
+
+pub returns-then-words-eq3 : goal.returns-then-words-eq3
+returns-then-words-eq3 c = grind (arith, common_steps)

@@ -1,4 +1,0 @@
-//! What was read as an .nl file can be written again.
-#![tactic(auto)]
-
-pub mod laws;
