@@ -28,10 +28,10 @@ fn stated_value(claim: Claim) -> Frac
     }
 }
 
-/// Whether a proof shows its claim of the linear program of its file: the first leaf that does not
-/// close, or Yes. The columns are those of the file with the objective of the claim. The memory for
-/// the proof as a certificate is taken first. The work for a leaf is that of the terms of its rows
-/// and of the objective, and of putting the rows in order; for a split it is constant.
+/// Whether a proof shows its claim of a linear program: the first leaf that does not close, or Yes.
+/// The columns have the objective of the claim. The memory for the proof as a certificate is taken
+/// first. The work for a leaf is that of the terms of its rows and of the objective, and of putting
+/// the rows in order; for a split it is constant.
 pub fn check_proof(
     alloc: Global,
     columns: &Columns,

@@ -1,5 +1,5 @@
-//! Proofs by branches: a tree of splits on whole variables, each leaf of which closes by duals or
-//! by weights.
+//! The checker of proofs by branches: a tree of splits on whole variables, each leaf of which
+//! closes by duals or by weights.
 #![tactic(auto)]
 
 mod check;

@@ -1,4 +1,4 @@
--- Columns that are put together from a folded file.
+-- Columns that are put together from a linear program.
 use Rattle.std.proofs.Common.{◌≡◌, ℕ, ◌+◌, ◌≤◌, arith, ◌^◌, ◌∙◌, sym, ap, ap₂, subst, Bool, List, length, map, Option}
 use Rattle.std.specs.Global.{Vec}
 use Rattle.std.specs.Prelude.{slice_get}

@@ -33,7 +33,7 @@ untouched_or_not (Exact f) n = absurd (n (λ e. cc))
 untouched_or_not TooWide n = absurd (n (λ e. cc))
 
 -- ---- marks
-one_only : (i j : ℕ) → Contains (i ∷ []) j → j ≡ i
+pub one_only : (i j : ℕ) → Contains (i ∷ []) j → j ≡ i
 one_only i j c = let within = c.1 in let k : c.0 ≡ 0 = omega arith in sym c.2 ∙ ap (λ q. get_or (i ∷ []) q j) k
 
 module _ (ss : List Sum) (i : ℕ) (s : Sum) (within : i < length ss) where

@@ -1,4 +1,4 @@
-// Copies of the parts of a folded file.
+// Copies of the parts of a linear program.
 ghost use Rattle.std.specs.Prelude.{◌≡◌, length, map, IfOk};
 ghost use Rattle.linear_program.specs.Coefs.{AreAscending};
 ghost use Rattle.linear_program.specs.Programs.{IsLinear};
@@ -24,7 +24,7 @@ pub(crate) fn body_of(alloc: Global, form: &Form) -> Result<Body, AllocError>
     })
 }
 
-// The rows of a folded file.
+// The rows of a linear program.
 #[tactic(auto, using(crate::proofs::Copied::none_copied, crate::proofs::Copied::none_within))]
 pub(crate) fn rows_of(alloc: Global, linear: &Linear) -> Result<Vec<Row>, AllocError>
     requires { IsLinear linear.now }

@@ -25,7 +25,7 @@ fn is_whole_kind(kind: Kind) -> bool
 }
 
 impl Columns {
-    /// The linear program of a folded file.
+    /// The linear program, by rows and by columns.
     #[tactic(auto, using(crate::proofs::Assembled::assembled), unfolding(crate::specs::Programs::program_of))]
     pub fn of(alloc: Global, linear: &Linear) -> Result<Columns, AllocError>
         ensures { IfOk result (λ c. program_of c ≡ linear_value linear.now) }
