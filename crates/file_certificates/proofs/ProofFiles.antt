@@ -7,13 +7,12 @@ use Rattle.duality.proofs.Branches.{branches, infeasible}
 use Rattle.nl_model.specs.File.{File}
 use Rattle.nl_model.specs.Rules.{IsFile}
 use Rattle.file_meaning.specs.FoldFaults.{fold_fault}
-use Rattle.file_meaning.specs.LinearFile.{linear_of}
-use Rattle.file_meaning.specs.Meaning.{IsRelaxed}
+use Rattle.file_meaning.specs.LinearFile.{HasLines, linear_of}
 use Rattle.file_meaning.proofs.Files.{count_lem, variable_lem, same_relaxed}
-use Rattle.file_meaning.proofs.Folding.{clean_has_lines}
-use Rattle.file_meaning.proofs.Formed.{file_formed}
 use Rattle.file_certificates.proofs.Files.{bound_of, rows_counted}
-use Rattle.file_certificates.specs.Solutions.{IsBound}
+use Rattle.file_certificates.specs.Solutions.{IsBound, IsBroken}
+use Rattle.file_certificates.proofs.Broken.{broken_of}
+use Rattle.file_certificates.proofs.Claims.{lines_of, objective_there}
 use Rattle.file_certificates.specs.Files.{IsProofIn, IsTreeIn}
 use Rattle.certificates.specs.Proofs.{IsProofOf, IsTreeOf, Pair, ProofTree, ProofValue, split, duals, weights}
 
@@ -34,8 +33,10 @@ proof_of f k p h = record { tree = h.tree; nodes = h.nodes; pairs = h.pairs; fin
 
 -- ---- what it says of the file
 pub file_bound : (f : File) (k : ℕ) → IsFile f → fold_fault f k ≡ None → (v : ℚ) (tree : Tree) → AreSplitsWhole (linear_of f k) tree → proof_fault (linear_of f k) v tree ≡ None → IsBound f k v
-file_bound f k file clean v tree splits closed = bound_of f k (clean_has_lines f k (file_formed f file k) clean) v (branches (linear_of f k) v tree splits closed)
+file_bound f k file clean v tree splits closed =
+    bound_of f k (lines_of f k file clean) (objective_there f k clean) v (branches (linear_of f k) v tree splits closed)
 
-pub file_infeasible : (f : File) (k : ℕ) → IsFile f → fold_fault f k ≡ None → (v : ℚ) (ys : List ℚ) → proof_fault (linear_of f k) v (weights_leaf ys) ≡ None → (xs : List ℚ) → ¬ IsRelaxed f xs
-file_infeasible f k file clean v ys closed xs ok =
-    infeasible (linear_of f k) v ys closed xs ((same_relaxed f k (clean_has_lines f k (file_formed f file k) clean) xs).0 ok)
+pub file_infeasible : (f : File) (k : ℕ) → IsFile f → fold_fault f k ≡ None → (v : ℚ) (ys : List ℚ) → proof_fault (linear_of f k) v (weights_leaf ys) ≡ None → (xs : List ℚ) → IsBroken f xs
+file_infeasible f k file clean v ys closed xs =
+    let lines : HasLines f k = lines_of f k file clean in
+    broken_of f k lines xs (λ ok. infeasible (linear_of f k) v ys closed xs ((same_relaxed f k lines xs).0 ok))
