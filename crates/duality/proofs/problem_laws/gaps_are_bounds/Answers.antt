@@ -1,6 +1,6 @@
-use Rattle.file_certificates.proofs.Causes.{denied}
-use Rattle.file_certificates.proofs.LeafGaps.{leaf_denies}
-use Rattle.file_certificates.proofs.laws.gaps_are_bounds.Goals as goal
+use Rattle.duality.proofs.Causes.{denied}
+use Rattle.duality.proofs.LeafGaps.{leaf_denies}
+use Rattle.duality.proofs.problem_laws.gaps_are_bounds.Goals as goal
 
 pub returns-clause-parts : goal.returns-clause-parts
 returns-clause-parts c = leaf_denies

@@ -9,7 +9,7 @@ use Rattle.duality.specs.Checked.{is_at_most}
 use Rattle.duality.specs.Parts.{Part, Cut, first_part, second_part}
 use Rattle.duality.specs.Verdict.{Fault, row_broken, bound_broken, row_side_missing, bound_side_missing, too_wide, BoundVerdict, bound, no_bound, dual_bound, without_objective}
 use Rattle.duality.proofs.Weak.{weak}
-use Rattle.file_certificates.specs.LeafSays.{IsPartBound, LeafDenies, part_of_leaf}
+use Rattle.duality.specs.LeafSays.{IsPartBound, LeafDenies, part_of_leaf}
 
 -- a gap is told at the leaf that is judged, and it is the bound there
 record IsGapAt (k n : ℕ) (r : BoundVerdict) (b : ℚ) : Type 0 where

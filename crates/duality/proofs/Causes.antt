@@ -10,9 +10,9 @@ use Rattle.duality.specs.Points.{Numbers, bounds_of}
 use Rattle.duality.specs.Ray.{RayFault, ray_fault}
 use Rattle.duality.specs.Verdict.{Fault, row_broken, bound_broken, row_side_missing, bound_side_missing, too_wide, at_row, at_bound, first_fault, row_fault, row_check, bound_fault, run_form, sides_fit, is_inside}
 use Rattle.duality.proofs.DualFaults.{both_say, first_says}
-use Rattle.file_certificates.specs.LeafSays.{IsLeafDenied}
-use Rattle.file_certificates.specs.Says.{AtPoint}
-use Rattle.file_certificates.proofs.LeafGaps.{leaf_denies}
+use Rattle.duality.specs.LeafSays.{IsLeafDenied}
+use Rattle.duality.specs.ProblemSays.{AtPoint}
+use Rattle.duality.proofs.LeafGaps.{leaf_denies}
 
 -- ---- at a point no side is missing
 abbrev pub IsPointFault : Fault → Type 0
