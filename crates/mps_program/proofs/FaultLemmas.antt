@@ -18,7 +18,7 @@ use Rattle.mps_model.specs.Valid.{entry_count}
 use Rattle.mps_program.specs.declared.mps_fault.MpsFault.{MpsFault}
 use Rattle.mps_program.specs.declared.mps_fault.MpsFault.TheVariants.{EmptyInterval, TooWide, TooLarge}
 use Rattle.mps_program.specs.Faults.{is_too_large, is_column_empty, both_sides, first_wide, first_empty, first_wide_body, is_objective_wide, wide_objective, mps_fault}
-use Rattle.mps_program.specs.InsideSides.{sides_from}
+use Rattle.mps_program.specs.Decimals.{sides_from}
 use Rattle.mps_program.specs.Places.{places, first, listed}
 use Rattle.mps_program.specs.Program.{values_of, constraints}
 use Rattle.mps_program.proofs.FirstLemmas.{listed_at, listed_length, places_same}

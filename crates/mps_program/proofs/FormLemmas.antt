@@ -32,7 +32,7 @@ use Rattle.mps_program.proofs.FirstLemmas.{listed_at, listed_length, none_more, 
 use Rattle.mps_program.proofs.PlaceLemmas.{one_where, places_more}
 use Rattle.mps_program.specs.Program.{values_of, is_bounded_kind, is_constraint, constraints, coefficient_at, linear_row, linear_rows}
 use Rattle.mps_program.specs.Terms.{row_terms, has_wide_term}
-use Rattle.mps_program.specs.InsideSides.{sides_from}
+use Rattle.mps_program.specs.Decimals.{sides_from}
 use Rattle.mps_program.specs.InsideForms.{IsFormOf, AreBodiesOf}
 use Rattle.mps_program.proofs.LawLemmas.{past_columns}
 use Rattle.mps_program.proofs.TermLemmas.{AreApart, row_decimals, row_coefs}

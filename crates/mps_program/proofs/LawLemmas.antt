@@ -37,7 +37,7 @@ pub past_columns : (m : Mps ℚ) (i j : ℕ) → length m.columns ≤ j → coef
 past_columns m i j h = ap (λ (c : _). part_of_row i c.entries one_ℚ) (get_or_past m.columns j no_column h) ∙ no_part i
 
 -- a row that is no constraint has no sides
-free_row : (kind : RowKind) (b : ℚ) (range : Option ℚ) (x : ℚ) → is_bounded_kind kind ≡ false → IsInside (row_sides kind b range) x
+pub free_row : (kind : RowKind) (b : ℚ) (range : Option ℚ) (x : ℚ) → is_bounded_kind kind ≡ false → IsInside (row_sides kind b range) x
 free_row N b range x e = record { above = tt; below = tt }
 free_row k b range x e = let r = e in cc
 

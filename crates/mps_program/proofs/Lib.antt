@@ -7,6 +7,7 @@ pub mod SideLemmas
 pub mod OrderLemmas
 pub mod PartLemmas
 pub mod LawLemmas
+pub mod OnceLemmas
 pub mod TermLemmas
 pub mod FormLemmas
 pub mod FaultLemmas

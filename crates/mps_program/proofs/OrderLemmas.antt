@@ -1,6 +1,7 @@
--- No lower side of the file is above its upper side.
-use Rattle.std.proofs.Common.{◌≡◌, ℕ, get_or, sym, subst, refl, arith, ⊎_elim, Bool, false, cond, pos, ◌*ℤ◌, ◌<ℤ◌, Option, Some, None}
+-- No lower side is above its upper side.
+use Rattle.std.proofs.Common.{◌≡◌, ℕ, ◌<◌, length, map, All, get_or, sym, subst, refl, arith, ⊎_elim, Bool, false, cond, pos, ◌*ℤ◌, ◌<ℤ◌, Option, Some, None}
 use Rattle.std.proofs.lemmas.Int.{ints}
+use Rattle.std.proofs.lemmas.List.Elements.{All-map}
 use Rattle.std.specs.Cmp.{int_ranks}
 use Rattle.std.specs.Option.{option_map}
 use Rattle.std.specs.Ordering.{MatchOrdering, is_gt}
@@ -16,11 +17,11 @@ use Rattle.linear_program.specs.declared.interval.Interval.{Interval as Sides}
 use Rattle.mps_model.specs.declared.kinds.RowKind.{RowKind}
 use Rattle.mps_model.specs.declared.kinds.RowKind.TheVariants.{N, L, G, E}
 use Rattle.mps_model.specs.Mps.{Mps, with_values, no_mps_row, at_row, rhs_at, row_sides, row_interval, column_interval, is_negative, size_of}
-use Rattle.mps_program.specs.InsideSides.{sides_from}
-use Rattle.mps_program.specs.Faults.{is_row_wide, is_column_empty}
-use Rattle.mps_program.specs.Faults.{both_sides}
-use Rattle.mps_program.specs.Program.{values_of}
+use Rattle.mps_program.specs.Decimals.{sides_from}
+use Rattle.mps_program.specs.Faults.{both_sides, is_row_wide, is_column_empty, first_wide}
+use Rattle.mps_program.specs.Program.{values_of, is_constraint, constraints}
 use Rattle.mps_program.proofs.MinusLemmas.{minus_is, neg_above, neg_below}
+use Rattle.mps_program.proofs.PlaceLemmas.{all_places, none_passes}
 use Rattle.mps_program.proofs.ReachLemmas.{negative_in, negative_out}
 use Rattle.mps_program.proofs.SideLemmas.{sides_back, row_fits, rhs_fits, column_fits}
 
@@ -94,3 +95,18 @@ unfolding with_values
 column_ordered m j clean =
     let s = column_interval (values_of m) j in
     ordered_by (sides_from s) (subst (λ (t : Interval). IsRising t.lower t.upper) (sym (sides_back s (column_fits j m.bounds))) (column_rising s.lower s.upper clean))
+
+-- ---- all constraints, where no range is out of reach
+module _ (m : Mps Dec) (narrow : first_wide m ≡ None) where
+  not_wide : (i : ℕ) → i < length m.rows → is_row_wide m i ≡ false
+  not_wide i lt = none_passes (is_row_wide m) (length m.rows) narrow i lt
+
+  pub row_back : (i : ℕ) → i < length m.rows → interval_of (sides_from (row_interval (values_of m) i)) ≡ row_interval (values_of m) i
+  unfolding with_values
+  row_back i lt = sides_back (row_interval (values_of m) i) (row_fits (get_or m.rows i no_mps_row).kind (rhs_at (values_of m) i) (at_row i (values_of m).ranges) (rhs_fits i m.rhs) (not_wide i lt))
+
+  pub rows_ordered : All IsOrdered (map (λ i. sides_from (row_interval (values_of m) i)) (constraints m.rows))
+  unfolding constraints
+  rows_ordered =
+      All-map IsOrdered (λ i. sides_from (row_interval (values_of m) i)) (constraints m.rows)
+      (all_places (λ i. IsOrdered (sides_from (row_interval (values_of m) i))) (is_constraint m.rows) (length m.rows) (λ i lt e. row_ordered m i (not_wide i lt)))

@@ -12,12 +12,12 @@ use Rattle.linear_program.specs.Intervals.{interval_of}
 use Rattle.linear_program.specs.declared.interval.Interval.{Interval as Sides}
 use Rattle.linear_program.specs.declared.kind.Kind.{Kind}
 use Rattle.mps_model.specs.Built.{entry_of, bound_of}
-use Rattle.mps_model.specs.Mps.{Entry, Bound, Column, Mps, with_values, entry_with, column_with, no_mps_row, no_column, at_row, rhs_at, or_zero, row_sides, row_interval, column_at, column_interval, usual_lower, or_usual, objective_row}
+use Rattle.mps_model.specs.Mps.{Entry, Bound, Column, Mps, with_values, entry_with, column_with, no_mps_row, no_column, at_row, rhs_at, or_zero, row_sides, row_interval, column_at, column_interval, usual_lower, or_usual}
 use Rattle.mps_model.specs.declared.kinds.BoundKind.{BoundKind}
 use Rattle.mps_model.specs.declared.kinds.RowKind.{RowKind}
 use Rattle.mps_program.specs.InsideColumns.{SetSides, set_value, sets_of}
 use Rattle.mps_program.specs.Kinds.{kind_by, column_kind, are_zero_to_one}
-use Rattle.mps_program.specs.InsideSides.{sides_from}
+use Rattle.mps_program.specs.Decimals.{sides_from}
 use Rattle.mps_program.specs.Faults.{is_range_wide, is_row_wide}
 use Rattle.mps_program.specs.Places.{places}
 use Rattle.mps_program.specs.Program.{values_of}
@@ -63,9 +63,9 @@ at_values i (e ∷ es) = by (nat_eq e.row i) (at_values i es)
     by true h = refl
     by false h = h
 
-pub right_side : (m : Mps Dec) (place : ℕ) (o : Option Dec) (z : Dec) → place ≡ objective_row m.rows → o ≡ at_row place m.rhs → dec_value z ≡ or_zero (option_map dec_value o) → dec_value z ≡ rhs_at (values_of m) (objective_row m.rows)
+pub right_side : (m : Mps Dec) (row : ℕ) (o : Option Dec) (z : Dec) → o ≡ at_row row m.rhs → dec_value z ≡ or_zero (option_map dec_value o) → dec_value z ≡ rhs_at (values_of m) row
 unfolding with_values
-right_side m place o z e h g = g ∙ ap or_zero (ap (option_map dec_value) h ∙ at_values place m.rhs) ∙ ap (rhs_at (values_of m)) e
+right_side m row o z h g = g ∙ ap or_zero (ap (option_map dec_value) h ∙ at_values row m.rhs)
 
 module _ (m : Mps Dec) (i : ℕ) (kind : RowKind) (rhs range : Option Dec) (k : kind ≡ (get_or m.rows i no_mps_row).kind) (h : rhs ≡ at_row i m.rhs) (g : range ≡ at_row i m.ranges) where
   rhs_is : or_zero (option_map dec_value rhs) ≡ rhs_at (values_of m) i

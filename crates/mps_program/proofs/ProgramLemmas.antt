@@ -1,7 +1,7 @@
 -- The linear program that is made of the parts of a program.
-use Rattle.std.proofs.Common.{◌≡◌, ℕ, zero, suc, ◌<◌, ◌≤◌, ◌^◌, ◌∙◌, sym, ap, ap₂, refl, subst, arith, Bool, true, false, not, ◌&&◌, List, ◌∷◌, length, get_or, map, All, None}
+use Rattle.std.proofs.Common.{◌≡◌, ℕ, zero, suc, ◌<◌, ◌≤◌, ◌^◌, ◌∙◌, sym, ap, ap₂, refl, subst, arith, Bool, true, false, not, ◌&&◌, List, ◌∷◌, length, map, All, None}
 use Rattle.std.proofs.lemmas.Bool.{or_parts}
-use Rattle.std.proofs.lemmas.List.{length-map, get_or-map, ext_get_or}
+use Rattle.std.proofs.lemmas.List.{length-map, ext_get_or}
 use Rattle.fractions.specs.Fits.{fits}
 use Rattle.fractions.specs.Rational.{neg_ℚ}
 use Rattle.exact_numbers.specs.declared.dec.Dec.{Dec}
@@ -14,20 +14,20 @@ use Rattle.linear_program.specs.Programs.{LinearValue, IsLinear, rows_from, vari
 use Rattle.linear_program.specs.declared.form.Form.{Form}
 use Rattle.linear_program.specs.declared.interval.Interval.{Interval as Sides}
 use Rattle.linear_program.specs.declared.kind.Kind.{Kind}
-use Rattle.mps_model.specs.Mps.{Mps, with_values, column_with, no_mps_row, at_row, rhs_at, row_interval, column_interval, objective_row}
+use Rattle.mps_model.specs.Mps.{Mps, with_values, column_with, rhs_at, row_interval, column_interval, objective_row}
 use Rattle.mps_program.specs.Places.{listed}
-use Rattle.mps_program.specs.Faults.{is_row_wide, first_wide, is_body_wide, first_wide_body, is_objective_wide}
+use Rattle.mps_program.specs.Faults.{first_wide, is_body_wide, first_wide_body, is_objective_wide}
 use Rattle.mps_program.specs.Program.{values_of, is_constraint, constraints, linear_variable, linear_of}
 use Rattle.mps_program.specs.Terms.{row_terms, has_wide_term}
-use Rattle.mps_program.specs.InsideSides.{sides_from}
+use Rattle.mps_program.specs.Decimals.{sides_from}
 use Rattle.mps_program.specs.Kinds.{kind_by, column_kind, is_whole, is_zero_to_one}
 use Rattle.mps_program.specs.InsideForms.{IsFormOf, AreBodiesOf}
 use Rattle.mps_program.proofs.FaultLemmas.{IsSmall}
 use Rattle.mps_program.proofs.FirstLemmas.{listed_at, listed_length}
 use Rattle.mps_program.proofs.FormLemmas.{form_lem, form_over, form_size, body_count, rows_lem, bodies_over, bodies_size}
-use Rattle.mps_program.proofs.OrderLemmas.{row_ordered}
+use Rattle.mps_program.proofs.OrderLemmas.{row_back, rows_ordered}
 use Rattle.mps_program.proofs.PlaceLemmas.{all_places, none_passes}
-use Rattle.mps_program.proofs.SideLemmas.{sides_back, row_fits, rhs_fits, column_fits}
+use Rattle.mps_program.proofs.SideLemmas.{sides_back, column_fits}
 use Rattle.mps_program.proofs.TermLemmas.{AreApart, few_terms}
 
 -- ---- variables
@@ -70,9 +70,6 @@ module _ (m : Mps Dec) where
     pub objective : is_objective_wide m ≡ false
 
   module _ (apart : AreApart (length m.rows) m.columns) (clean : IsClean) where
-    not_wide : (i : ℕ) → i < length m.rows → is_row_wide m i ≡ false
-    not_wide i lt = none_passes (is_row_wide m) (length m.rows) clean.wide i lt
-
     second_false : (a b : Bool) → a ≡ true → (a && b) ≡ false → b ≡ false
     second_false true b e h = h
     second_false false b e h = let r = e in cc
@@ -80,13 +77,9 @@ module _ (m : Mps Dec) where
     abbrev side_of : ℕ → Sides
     side_of i = sides_from (row_interval (values_of m) i)
 
-    row_back : (i : ℕ) → i < length m.rows → interval_of (side_of i) ≡ row_interval (values_of m) i
-    unfolding with_values
-    row_back i lt = sides_back (row_interval (values_of m) i) (row_fits (get_or m.rows i no_mps_row).kind (rhs_at (values_of m) i) (at_row i (values_of m).ranges) (rhs_fits i m.rhs) (not_wide i lt))
-
     all_back : All (λ i. interval_of (side_of i) ≡ row_interval (values_of m) i) (constraints m.rows)
     unfolding constraints
-    all_back = all_places (λ i. interval_of (side_of i) ≡ row_interval (values_of m) i) (is_constraint m.rows) (length m.rows) (λ i lt e. row_back i lt)
+    all_back = all_places (λ i. interval_of (side_of i) ≡ row_interval (values_of m) i) (is_constraint m.rows) (length m.rows) (λ i lt e. row_back m clean.wide i lt)
 
     all_fit : All (λ i. has_wide_term (row_terms m i) ≡ false) (constraints m.rows)
     unfolding constraints
@@ -96,12 +89,6 @@ module _ (m : Mps Dec) where
 
     objective_fit : has_wide_term (row_terms m (objective_row m.rows)) ≡ false
     objective_fit = (or_parts (not (fits (rhs_at (values_of m) (objective_row m.rows)))) (has_wide_term (row_terms m (objective_row m.rows))) clean.objective).1
-
-    each_ordered : All IsOrdered (map side_of (constraints m.rows))
-    unfolding constraints
-    each_ordered k d lt =
-        let inside : k < length (constraints m.rows) = omega (arith, lt, length-map (constraints m.rows) side_of) in
-        subst IsOrdered (sym (get_or-map side_of (constraints m.rows) k 0 d inside)) (all_places (λ i. IsOrdered (side_of i)) (is_constraint m.rows) (length m.rows) (λ i h e. row_ordered m i (not_wide i h)) k 0 inside)
 
     -- ---- the parts
     module _ (bodies : List Form) (objective : Form) (maximise : Bool) (sides bounds : List Sides) (kinds : List Kind)
@@ -122,7 +109,7 @@ module _ (m : Mps Dec) where
             bodies = bodies_over m apart (length bounds) width (constraints m.rows) bodies bodies_are all_fit;
             objective = form_over m apart (objective_row m.rows) objective_fit (neg_ℚ (rhs_at (values_of m) (objective_row m.rows))) objective objective_is (length bounds) width;
             sides = ap length sides_are ∙ length-map (constraints m.rows) side_of ∙ sym height;
-            ordered = subst (All IsOrdered) (sym sides_are) each_ordered;
+            ordered = subst (All IsOrdered) (sym sides_are) (rows_ordered m clean.wide);
             kinds = ap length kinds_are ∙ listed_length (column_kind m) (length m.columns) ∙ sym width;
             few_rows = subst (λ n. n ≤ 2 ^ 20) (sym height) clean.small.rows;
             few_columns = subst (λ n. n ≤ 2 ^ 20) (sym width) clean.small.columns;

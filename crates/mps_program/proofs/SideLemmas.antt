@@ -20,7 +20,7 @@ use Rattle.mps_model.specs.Mps.{Entry, Bound, entry_with, bound_with, at_row, or
 use Rattle.linear_program.specs.Intervals.{interval_of}
 use Rattle.exact_numbers.specs.Numbers.{dec_from}
 use Rattle.exact_numbers.proofs.NumberLemmas.{dec_from-value, dec_from-fits}
-use Rattle.mps_program.specs.InsideSides.{sides_from}
+use Rattle.mps_program.specs.Decimals.{sides_from}
 use Rattle.mps_program.specs.Faults.{range_step, is_in_reach, is_range_wide}
 
 -- ---- values of decimals

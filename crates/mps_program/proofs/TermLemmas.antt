@@ -1,9 +1,9 @@
 -- The terms of rows: how they are put together, their order and their coefficients, and how many there are.
 use Rattle.std.proofs.Common.{◌≡◌, ◌≢◌, ℕ, zero, suc, ◌+◌, ◌<◌, ◌≤◌, ◌∙◌, sym, ap, ap₂, refl, subst, arith, Bool, true, false, cond, not, nat_eq, ◌&&◌, ◌||◌, if◌then◌else◌, List, [], ◌∷◌, ◌++◌, length, get_or, map, drop, replicate, Some, None, All, AllPairs, ⊎_elim, ◌⊎◌, inl, inr, add-one, append-nil}
-use Rattle.std.proofs.lemmas.Bool.{cases_lt, eqb-true, eq-eqb, ne_eqb, or_parts, not-false}
-use Rattle.std.proofs.lemmas.List.{length-append, ext_get_or, get_or-replicate, length-replicate, get_or_past}
+use Rattle.std.proofs.lemmas.Bool.{eqb-true, ne_eqb, or_parts, not-false}
+use Rattle.std.proofs.lemmas.List.{length-append, ext_get_or, get_or-replicate, length-replicate}
 use Rattle.std.proofs.lemmas.List.Elements.{All-head, All-tail}
-use Rattle.std.proofs.lemmas.List.Sums.{sum_by-cons, sum_by-append}
+use Rattle.std.proofs.lemmas.List.Sums.{sum_by-cons}
 use Rattle.std.proofs.Math.ListN.{get_or-map as get_or-map-any}
 use Rattle.std.specs.List.{sum_by, filter_map, cons_option}
 use Rattle.fractions.specs.Rational.{ℚ, zero_ℚ, one_ℚ, ◌+ℚ◌, ◌*ℚ◌}
@@ -17,16 +17,17 @@ use Rattle.linear_program.specs.Decimals.{DecimalTerm, AreDecimals, frac_of, fra
 use Rattle.linear_program.proofs.CoefLemmas.{found_same, found_apart, found_before}
 use Rattle.linear_program.proofs.DecimalLemmas.{AllFit, fractions_ascend, frac_of-value}
 use Rattle.mps_model.specs.Built.{entry_of}
-use Rattle.mps_model.specs.Mps.{MpsRow, Entry, Column, Mps, entry_with, column_with, with_values, no_column, no_mps_row, part_of_row, objective_row}
+use Rattle.mps_model.specs.Mps.{MpsRow, Entry, Column, Mps, entry_with, column_with, with_values, no_column, part_of_row, objective_row}
 use Rattle.mps_model.specs.Valid.{AreEntries, entry_count}
-use Rattle.mps_program.specs.Places.{places, listed}
-use Rattle.mps_program.specs.Program.{values_of, is_bounded_kind, is_constraint, constraints, coefficient_at}
+use Rattle.mps_program.specs.Places.{listed, one_if}
+use Rattle.mps_program.specs.Program.{values_of, is_constraint, constraints, coefficient_at}
 use Rattle.mps_program.specs.Terms.{is_zero_dec, term_of, terms_from, row_terms, has_wide_term}
-use Rattle.mps_program.specs.InsideForms.{one_if, AreInOrder}
+use Rattle.mps_program.specs.InsideForms.{AreInOrder}
 use Rattle.mps_program.proofs.FirstLemmas.{listed_at, listed_length}
+use Rattle.mps_program.proofs.OnceLemmas.{sum_more, sum_none, term_more, once_or_not}
 use Rattle.mps_program.proofs.LoopLemmas.{drop_is, drop_all, fact_is, objective_free}
 use Rattle.mps_program.proofs.PartLemmas.{zero_value}
-use Rattle.mps_program.proofs.PlaceLemmas.{one_where, not_both_ways}
+use Rattle.mps_program.proofs.PlaceLemmas.{not_both_ways}
 
 -- ---- a coefficient without a fraction
 module _ (ts : List DecimalTerm) (k : ℕ) (t : DecimalTerm) (lt : k < length ts) (is : t ≡ get_or ts k t) where
@@ -253,73 +254,12 @@ module _ (m : Mps Dec) where
       sym (append-nil (get_or all i [])) ∙ ap (λ cs. get_or all i [] ++ terms_from i j cs) (sym (drop_all m.columns j end)) ∙ way.left i inside ∙ sym (listed_at (row_terms m) (length m.rows) i [] inside))
 
 -- ---- how many terms there are
-module _ {A : Type 0} where
-  sum_more : (f g h : A → ℕ) → ((x : A) → f x ≡ g x + h x) → (xs : List A) → sum_by f xs ≡ sum_by g xs + sum_by h xs
-  sum_more f g h e [] = refl
-  sum_more f g h e (x ∷ xs) = sum_by-cons f x xs ∙ omega (arith, e x, sum_more f g h e xs, sum_by-cons g x xs, sum_by-cons h x xs)
-
-  sum_none : (f : A → ℕ) → ((x : A) → f x ≡ 0) → (xs : List A) → sum_by f xs ≡ 0
-  sum_none f e [] = refl
-  sum_none f e (x ∷ xs) = sum_by-cons f x xs ∙ omega (arith, e x, sum_none f e xs)
-
--- a row that passes is counted once
-module _ (test : ℕ → Bool) (r : ℕ) (z : Bool) where
-  abbrev hit : ℕ → ℕ
-  hit i = one_if (nat_eq r i && z)
-
-  none_below : (n : ℕ) → n ≤ r → sum_by hit (places test n) ≡ 0
-  unfolding places
-  none_below zero le = refl
-  none_below (suc n) le = sum_by-append hit (places test n) (one_where (test n) n) ∙ omega (arith, none_below n (omega (arith, le)), here (test n))
-    where
-      here : (b : Bool) → sum_by hit (one_where b n) ≡ 0
-      here true = ap (λ t. 0 + one_if (t && z)) (ne_eqb r n (λ same. omega (arith, same, le)))
-      here false = refl
-
-  counted_once : (n : ℕ) → r < n → sum_by hit (places test n) ≡ one_if (test r && z)
-  unfolding places
-  counted_once zero lt = absurd (omega arith)
-  counted_once (suc n) lt =
-      sum_by-append hit (places test n) (one_where (test n) n)
-      ∙ ⊎_elim
-      (λ (below : r < n). omega (arith, counted_once n below, past (test n) (nat_eq r n) refl below))
-      (λ (above : n ≤ r). let same : r ≡ n = omega (arith, above, lt) in omega (arith, none_below n above, here same (test n) z refl refl))
-      (cases_lt r n)
-    where
-      past : (b t : Bool) → nat_eq r n ≡ t → r < n → sum_by hit (one_where b n) ≡ 0
-      past true true e below = absurd (omega (arith, eqb-true r n e, below))
-      past true false e below = ap (λ t. 0 + one_if (t && z)) e
-      past false t e below = refl
-
-      here : r ≡ n → (b y : Bool) → test n ≡ b → z ≡ y → sum_by hit (one_where b n) ≡ one_if (test r && z)
-      here same true y e f = ap (λ t. 0 + one_if (t && z)) (eq-eqb r n same) ∙ one_zero z ∙ ap (λ t. one_if (t && z)) (sym (ap test same ∙ e))
-        where
-          one_zero : (y : Bool) → 0 + one_if y ≡ one_if y
-          one_zero true = refl
-          one_zero false = refl
-      here same false y e f = ap (λ t. one_if (t && z)) (sym (ap test same ∙ e))
-
-term_more : (t : DecimalTerm) (b : Bool) (tail : List DecimalTerm) → length (cons_option (if b then Some t else None) tail) ≡ one_if b + length tail
-term_more t true tail = omega arith
-term_more t false tail = omega arith
-
 module _ (rows : List MpsRow) where
   abbrev test : ℕ → Bool
   test = is_constraint rows
 
   abbrev obj : ℕ
   obj = objective_row rows
-
-  past_rows : (r : ℕ) → length rows ≤ r → test r ≡ false
-  past_rows r h = ap (λ (x : MpsRow). is_bounded_kind x.kind) (get_or_past rows r no_mps_row h)
-
-  once_or_not : (r : ℕ) (z : Bool) → sum_by (λ i. one_if (nat_eq r i && z)) (constraints rows) ≡ one_if (test r && z)
-  unfolding constraints
-  once_or_not r z =
-      ⊎_elim
-      (λ (lt : r < length rows). counted_once test r z (length rows) lt)
-      (λ (ge : length rows ≤ r). none_below test r z (length rows) ge ∙ ap (λ b. one_if (b && z)) (sym (past_rows r ge)))
-      (cases_lt r (length rows))
 
   -- no entry is in a constraint and in the objective
   at_most_one : (r : ℕ) (z : Bool) → one_if (test r && z) + one_if (nat_eq r obj && z) ≤ 1
@@ -341,7 +281,7 @@ module _ (rows : List MpsRow) where
         arith,
         sum_more (λ i. length (filter_map (term_of i p) (e ∷ es))) (λ i. one_if (nat_eq e.row i && some)) (λ i. length (filter_map (term_of i p) es)) (λ i. term_more (p, e.value) (nat_eq e.row i && some) (filter_map (term_of i p) es)) (constraints rows),
         term_more (p, e.value) (nat_eq e.row obj && some) (filter_map (term_of obj p) es),
-        once_or_not e.row some,
+        once_or_not rows e.row some,
         at_most_one e.row some,
         column_few p es,
       )

@@ -83,8 +83,8 @@ is_objective_wide m =
 abbrev pub wide_objective : Mps Dec → Option ℕ
 wide_objective m = if is_objective_wide m then Some (objective_row m.rows) else None
 
--- ---- the first fault: the size, the ranges of rows, the columns, the numbers of constraints, those
--- of the objective
+-- ---- the first fault: the size, the ranges of rows, the columns, the numbers of constraints,
+-- those of the objective
 unfoldable pub mps_fault : Mps Dec → Option MpsFault
 mps_fault m =
     if is_too_large m then Some TooLarge

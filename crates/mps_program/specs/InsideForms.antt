@@ -1,14 +1,11 @@
 -- The forms that terms of rows become.
-use Rattle.std.specs.Prelude.{◌≡◌, ◌≢◌, ℕ, suc, ◌≤◌, Bool, cond, List, [], ◌∷◌}
+use Rattle.std.specs.Prelude.{◌≡◌, ◌≢◌, ℕ, suc, ◌≤◌, List, [], ◌∷◌}
 use Rattle.fractions.specs.Rational.{ℚ, zero_ℚ}
 use Rattle.exact_numbers.specs.Values.{dec_value}
 use Rattle.linear_program.specs.Coefs.{AreAscending}
 use Rattle.linear_program.specs.Decimals.{DecimalTerm, fraction_terms}
 use Rattle.linear_program.specs.Forms.{form_line, form_terms, parts_line}
 use Rattle.linear_program.specs.declared.form.Form.{Form}
-
-abbrev pub one_if : Bool → ℕ
-one_if b = cond b 1 0
 
 -- ascending by column, the first being at least n, and no coefficient is 0
 abbrev pub AreInOrder : ℕ → List DecimalTerm → Type 0

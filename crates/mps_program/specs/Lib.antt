@@ -4,6 +4,6 @@ pub mod Example
 pub mod Terms
 pub mod Kinds
 pub mod Faults
-pub mod InsideSides
+pub mod Decimals
 pub mod InsideColumns
 pub mod InsideForms

@@ -1,10 +1,14 @@
 -- Places that pass a test, and lists by place.
-use Rattle.std.specs.Prelude.{ℕ, zero, suc, Bool, if◌then◌else◌, List, [], ◌∷◌, ◌++◌, Option, Some, None}
+use Rattle.std.specs.Prelude.{ℕ, zero, suc, Bool, cond, if◌then◌else◌, List, [], ◌∷◌, ◌++◌, Option, Some, None}
 
 -- the numbers below n that pass, ascending
 unfoldable pub places : (ℕ → Bool) → ℕ → List ℕ
 places test zero = []
 places test (suc n) = places test n ++ (if test n then n ∷ [] else [])
+
+-- 1 where a test holds, for counts
+abbrev pub one_if : Bool → ℕ
+one_if b = cond b 1 0
 
 -- the first of some numbers, where there is one
 abbrev pub first : List ℕ → Option ℕ

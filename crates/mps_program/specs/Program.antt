@@ -1,5 +1,5 @@
--- The linear program that an MPS program is, in its own numbering: constraint k is the k-th row that
--- is no N row, variable j is column j, the objective is the first N row.
+-- The linear program that an MPS program is, in its own numbering: constraint k is the k-th row
+-- that is no N row, variable j is column j, the objective is the first N row.
 use Rattle.std.specs.Prelude.{ℕ, suc, Bool, true, false, List, [], ◌∷◌, length, get_or}
 use Rattle.fractions.specs.Rational.{ℚ, zero_ℚ, one_ℚ, neg_ℚ}
 use Rattle.linear_programs.specs.Elements.{elements_from}

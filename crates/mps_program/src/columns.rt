@@ -8,7 +8,7 @@ ghost use Rattle.mps_model.specs.Built.{bound_of};
 ghost use Rattle.mps_model.specs.Mps.{Bound, column_interval, or_usual, makes_whole, lower_set, upper_set, usual_lower};
 ghost use Rattle.mps_program.specs.InsideColumns.{none_set, set_value, sets_of, with_sets};
 ghost use Rattle.mps_program.specs.Kinds.{column_kind};
-ghost use Rattle.mps_program.specs.InsideSides.{sides_from};
+ghost use Rattle.mps_program.specs.Decimals.{sides_from};
 ghost use Rattle.mps_program.specs.Places.{listed};
 ghost use Rattle.mps_program.specs.Program.{values_of};
 
@@ -183,16 +183,16 @@ fn is_either(a: bool, b: bool) -> bool
     a || b
 }
 
-// The sides and the kinds of the columns.
+/// The sides and the kinds of the columns.
 #[derive(Drop)]
-pub(crate) struct Columns {
-    pub(crate) sides: Vec<Interval>,
-    pub(crate) kinds: Vec<Kind>,
+pub struct Columns {
+    pub sides: Vec<Interval>,
+    pub kinds: Vec<Kind>,
 }
 
-// The sides and the kinds of all columns.
+/// The sides and the kinds of all columns.
 #[tactic(auto, unfolding(crate::specs::Places::listed))]
-pub(crate) fn sides_and_kinds(alloc: Global, mps: &Mps) -> Result<Columns, AllocError>
+pub fn sides_and_kinds(alloc: Global, mps: &Mps) -> Result<Columns, AllocError>
     ensures sides { IfOk result
         (λ c. c.sides.items
         ≡ listed (λ j. sides_from (column_interval (values_of mps.now) j))

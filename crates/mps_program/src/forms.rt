@@ -1,22 +1,20 @@
 // The forms of the constraints and of the objective.
-ghost use Rattle.std.specs.Prelude.{◌≡◌, ◌<◌, ◌≤◌, ◌^◌, ◌&&◌, ℕ, [], IfOk, IfErr, OnOk, None, Some, false, get_or, length};
+ghost use Rattle.std.specs.Prelude.{◌≡◌, ◌<◌, IfOk, IfErr, None, Some, false, length};
 ghost use Rattle.std.specs.Option.{option_map};
-ghost use Rattle.fractions.specs.Rational.{neg_ℚ, zero_ℚ};
-ghost use Rattle.exact_numbers.specs.Values.{dec_value, frac_value};
+ghost use Rattle.fractions.specs.Rational.{neg_ℚ};
+ghost use Rattle.exact_numbers.specs.Values.{frac_value};
 ghost use Rattle.linear_program.specs.Decimals.{AreDecimals};
 ghost use Rattle.mps_model.specs.Mps.{objective_row, rhs_at};
-ghost use Rattle.mps_model.specs.Valid.{IsMps};
 ghost use Rattle.texts.specs.Stopped.{IfFault};
 ghost use Rattle.mps_program.specs.Faults.{first_wide_body, is_objective_wide, wide_objective};
 ghost use Rattle.mps_program.specs.InsideForms.{AreBodiesOf, IsFormOf};
 ghost use Rattle.mps_program.specs.Places.{listed, places};
-ghost use Rattle.mps_program.specs.Program.{constraints, is_constraint, values_of};
+ghost use Rattle.mps_program.specs.Program.{constraints, values_of};
 ghost use Rattle.mps_program.specs.Terms.{has_wide_term, row_terms};
 ghost use Rattle.mps_program.specs.declared.mps_fault.MpsFault.TheVariants.{TooWide as TooWideFault};
 
-use crate::by_place::at_row;
 use crate::mps_fault::MpsFault;
-use crate::rows::{is_bounded_kind, objective_row, or_zero};
+use crate::rows::{is_bounded_kind, objective_row, right_side};
 use crate::terms::has_wide_term;
 use exact_numbers::{Dec, Frac};
 use linear_program::{Coefficients, Form, Terms};
@@ -83,9 +81,8 @@ pub(crate) fn objective_of(
         ≡ Some fault)) }
 {
     let place = objective_row(mps.rows());
-    let rhs = mps.rhs();
-    let given = at_row(rhs, place);
-    let Some(side) = Frac::of_dec(or_zero(given)) else {
+    let right = right_side(mps, place);
+    let Some(side) = Frac::of_dec(right) else {
         return Err(Stop::Fault(MpsFault::TooWide(place as u32)));
     };
     let own = terms[place].items();

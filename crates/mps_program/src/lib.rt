@@ -12,5 +12,9 @@ mod sides;
 mod terms;
 mod variables;
 
+pub use columns::{Columns, sides_and_kinds};
 pub use mps_fault::MpsFault;
 pub use program::linear_of;
+pub use rows::{constraint_sides, is_bounded_kind, objective_row, right_side, with_one};
+pub use terms::is_zero;
+pub use variables::first_empty;

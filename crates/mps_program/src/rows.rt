@@ -2,18 +2,14 @@
 ghost use Rattle.std.specs.Prelude.{◌≡◌, ◌∷◌, [], ◌++◌, ◌+◌, ◌≤◌, ◌<◌, ◌^◌, cond, None, Some, false, true, MatchOption, IfOk, IfErr, OnOk, length, map};
 ghost use Rattle.std.specs.Option.{option_map};
 ghost use Rattle.exact_numbers.specs.Values.{dec_value};
-ghost use Rattle.linear_program.specs.Intervals.{interval_of};
-ghost use Rattle.mps_model.specs.Built.{entry_of};
-ghost use Rattle.mps_model.specs.Mps.{at_row, objective_row, or_zero, row_interval, row_sides};
+ghost use Rattle.mps_model.specs.Mps.{at_row, objective_row, or_zero, rhs_at, row_interval, row_sides};
 ghost use Rattle.texts.specs.Stopped.{IfFault};
-ghost use Rattle.mps_program.specs.InsideSides.{sides_from};
-ghost use Rattle.mps_program.specs.InsideForms.{one_if};
+ghost use Rattle.mps_program.specs.Decimals.{sides_from};
+ghost use Rattle.mps_program.specs.Places.{one_if};
 ghost use Rattle.mps_program.specs.Faults.{first_wide, is_range_wide};
 ghost use Rattle.mps_program.specs.Program.{constraints, is_bounded_kind, values_of};
-ghost use Rattle.mps_program.specs.declared.mps_fault.MpsFault.TheVariants.{TooWide as TooWideFault};
 
-use crate::by_place::by_row;
-use crate::mps_fault::MpsFault;
+use crate::by_place::{at_row, by_row};
 use crate::sides::row_sides;
 use exact_numbers::Dec;
 use linear_program::Interval;
@@ -21,8 +17,8 @@ use mps_model::{Mps, MpsRow, RowKind};
 use std::alloc::{AllocError, Global};
 use texts::Stop;
 
-// Whether a row of this kind is a constraint.
-pub(crate) fn is_bounded_kind(kind: RowKind) -> bool
+/// Whether a row of this kind is a constraint.
+pub fn is_bounded_kind(kind: RowKind) -> bool
     ensures { result ≡ is_bounded_kind kind }
 {
     match kind {
@@ -31,8 +27,8 @@ pub(crate) fn is_bounded_kind(kind: RowKind) -> bool
     }
 }
 
-// The place of the first N row.
-pub(crate) fn objective_row(rows: &[MpsRow]) -> usize
+/// The place of the first N row.
+pub fn objective_row(rows: &[MpsRow]) -> usize
     ensures { result ≡ objective_row rows.now }
 {
     'rows: for i in 0..rows.len() {
@@ -44,8 +40,8 @@ pub(crate) fn objective_row(rows: &[MpsRow]) -> usize
     rows.len()
 }
 
-// One more where the test holds.
-fn with_one(count: u32, is_more: bool) -> u32
+/// One more where the test holds.
+pub fn with_one(count: u32, is_more: bool) -> u32
     requires { count ≤ 2 ^ 23 }
     ensures { result ≡ count + one_if is_more }
 {
@@ -66,13 +62,22 @@ pub(crate) fn count_constraints(rows: &[MpsRow]) -> u32
 }
 
 // The number, or 0 where there is none.
-pub(crate) fn or_zero(number: Option<Dec>) -> Dec
+fn or_zero(number: Option<Dec>) -> Dec
     ensures { dec_value result ≡ or_zero (option_map dec_value number) }
 {
     match number {
         Some(value) => value,
         None => Dec::zero(),
     }
+}
+
+/// The right side of a row, or 0 where none is given.
+pub fn right_side(mps: &Mps, row: usize) -> Dec
+    ensures { dec_value result ≡ rhs_at (values_of mps.now) row }
+{
+    let rhs = mps.rhs();
+    let given = at_row(rhs, row);
+    or_zero(given)
 }
 
 // The sides of a row. None exactly where its range is out of reach.
@@ -103,16 +108,14 @@ fn add_where(
     Ok(())
 }
 
-// The sides of the constraints, in order.
+/// The sides of the constraints, in order, or the first row whose range is out of reach.
 #[tactic(auto, unfolding(crate::specs::Places::places))]
-pub(crate) fn constraint_sides(alloc: Global, mps: &Mps) -> Result<Vec<Interval>, Stop<MpsFault>>
+pub fn constraint_sides(alloc: Global, mps: &Mps) -> Result<Vec<Interval>, Stop<u32>>
     ensures sides { IfOk result
         (λ v. v.items
         ≡ map (λ i. sides_from (row_interval (values_of mps.now) i)) (constraints mps.now.rows)) }
     ensures clean { IfOk result (λ v. first_wide mps.now ≡ None) }
-    ensures fault { IfErr result
-        (λ stop. IfFault stop (λ fault. option_map TooWideFault (first_wide mps.now)
-        ≡ Some fault)) }
+    ensures fault { IfErr result (λ stop. IfFault stop (λ row. first_wide mps.now ≡ Some row)) }
 {
     let rows = mps.rows();
     let rhs = by_row(alloc, rows.len(), mps.rhs())?;
@@ -122,7 +125,7 @@ pub(crate) fn constraint_sides(alloc: Global, mps: &Mps) -> Result<Vec<Interval>
         let row = &rows[i];
         let kind = row.kind;
         let Some(side) = sides_at(kind, rhs[i], ranges[i]) else {
-            return Err(Stop::Fault(MpsFault::TooWide(i as u32)));
+            return Err(Stop::Fault(i as u32));
         };
         add_where(&mut sides, is_bounded_kind(kind), side)?;
     }

@@ -13,7 +13,8 @@ use linear_program::{Terms, count_terms};
 use mps_model::{Mps, MpsColumn};
 use std::alloc::{AllocError, Global};
 
-fn is_zero(value: Dec) -> bool
+/// Whether a number is 0.
+pub fn is_zero(value: Dec) -> bool
     ensures { result ≡ is_zero_dec value }
 {
     value.is_zero()
@@ -31,7 +32,7 @@ fn zeros(alloc: Global, count: usize) -> Result<Vec<u32>, AllocError>
 }
 
 // How many entries each row has. Sizes are room alone, of which no clause speaks.
-fn count_entries(sizes: &mut [u32], columns: &[MpsColumn]) {
+fn count_by_row(sizes: &mut [u32], columns: &[MpsColumn]) {
     for column in columns {
         count_terms(sizes, column.entries());
     }
@@ -111,7 +112,7 @@ pub(crate) fn terms_by_row(alloc: Global, mps: &Mps) -> Result<Vec<Terms>, Alloc
 {
     let columns = mps.columns();
     let mut sizes = zeros(alloc, mps.rows().len())?;
-    count_entries(&mut sizes, columns);
+    count_by_row(&mut sizes, columns);
     let mut all = without_terms(alloc, &sizes)?;
     'columns: for j in 0..columns.len() {
         let column = &columns[j];

@@ -59,9 +59,9 @@ fn is_empty(sides: Interval) -> bool
     }
 }
 
-// The place of the first column without a value.
+/// The place of the first column without a value.
 #[tactic(auto, unfolding(crate::specs::Places::places))]
-pub(crate) fn first_empty(sides: &[Interval]) -> Option<u32>
+pub fn first_empty(sides: &[Interval]) -> Option<u32>
     requires { length sides.now ≤ 2 ^ 21 }
     ensures { result
         ≡ first (places (λ j. both_sides is_gt (interval_of (get_or sides.now j no_sides)).lower

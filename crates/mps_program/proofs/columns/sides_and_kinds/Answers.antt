@@ -4,7 +4,7 @@ use Rattle.mps_model.specs.Mps.{column_interval}
 use Rattle.mps_program.specs.InsideColumns.{none_set, sets_of, with_sets, set_value}
 use Rattle.mps_program.specs.Kinds.{are_zero_to_one, column_kind, kind_by}
 use Rattle.linear_program.specs.Intervals.{interval_of}
-use Rattle.mps_program.specs.InsideSides.{sides_from}
+use Rattle.mps_program.specs.Decimals.{sides_from}
 use Rattle.mps_program.specs.Program.{values_of}
 use Rattle.mps_program.proofs.FirstLemmas.{listed_push}
 use Rattle.mps_program.proofs.LoopLemmas.{all_set}

@@ -1,7 +1,7 @@
 use Rattle.std.proofs.Common.{◌≡◌}
 use Rattle.mps_model.specs.Mps.{column_interval}
 use Rattle.mps_program.specs.Kinds.{column_kind}
-use Rattle.mps_program.specs.InsideSides.{sides_from}
+use Rattle.mps_program.specs.Decimals.{sides_from}
 use Rattle.mps_program.specs.Places.{listed}
 use Rattle.mps_program.specs.Program.{values_of}
 use Rattle.mps_program.proofs.columns.sides_and_kinds.Given as goal

@@ -4,7 +4,7 @@ use Rattle.linear_program.specs.Programs.{LinearValue, linear_value}
 use Rattle.mps_model.specs.Mps.{column_interval}
 use Rattle.mps_program.specs.declared.mps_fault.MpsFault.TheVariants.{TooWide}
 use Rattle.mps_program.specs.Faults.{first_wide, first_wide_body, wide_objective, mps_fault}
-use Rattle.mps_program.specs.InsideSides.{sides_from}
+use Rattle.mps_program.specs.Decimals.{sides_from}
 use Rattle.mps_program.specs.Program.{constraints, values_of}
 use Rattle.mps_program.specs.Terms.{row_terms}
 use Rattle.mps_program.proofs.FormLemmas.{body_count}

@@ -1,6 +1,6 @@
 use Rattle.std.proofs.Common.{◌≡◌, [], map}
 use Rattle.mps_model.specs.Mps.{row_interval}
-use Rattle.mps_program.specs.InsideSides.{sides_from}
+use Rattle.mps_program.specs.Decimals.{sides_from}
 use Rattle.mps_program.specs.Faults.{is_row_wide}
 use Rattle.mps_program.specs.Program.{is_constraint}
 use Rattle.mps_program.specs.Places.{places}

@@ -1,8 +1,7 @@
 use Rattle.std.proofs.Common.{◌≡◌, ◌∙◌, sym, ap, ap₂, arith, length, ◌+◌}
 use Rattle.std.proofs.lemmas.List.{get_or_default}
 use Rattle.mps_model.specs.Mps.{MpsRow, no_mps_row}
-use Rattle.mps_program.specs.InsideForms.{one_if}
-use Rattle.mps_program.specs.Places.{places}
+use Rattle.mps_program.specs.Places.{places, one_if}
 use Rattle.mps_program.specs.Program.{is_bounded_kind, is_constraint, constraints}
 use Rattle.mps_program.proofs.FirstLemmas.{before_more, before_small}
 use Rattle.mps_program.proofs.rows.count_constraints.Goals as goal
