@@ -12,7 +12,8 @@ use Rattle.mps_reader.specs.Reader.{IsMpsText}
 use Rattle.mps_import.specs.declared.import_fault.ImportFault.{ImportFault}
 use Rattle.mps_import.specs.Faults.{import_fault}
 use Rattle.mps_import.specs.Import.{import_of}
-use Rattle.mps_import.specs.Variables.{in_order, values_of}
+use Rattle.mps_import.specs.Variables.{in_order}
+use Rattle.mps_program.specs.Program.{values_of}
 use Rattle.nl_writer.specs.Written.{nl_text}
 use Rattle.bridge_tool.specs.ImportTold.{import_line}
 use Rattle.bridge_tool.specs.Mps.{IsMpsRefused}

@@ -23,12 +23,14 @@ use Rattle.linear_program.specs.declared.kind.Kind.TheVariants.{Continuous, Bina
 use Rattle.nl_model.specs.Kinds.{Group, group_of, kind_among, variable_kind}
 use Rattle.nl_lines.specs.Tests.{is_binary, is_within_unit}
 use Rattle.mps_model.specs.Mps.{Mps, column_interval, with_values}
-use Rattle.mps_import.specs.Decimals.{sides_from}
+use Rattle.mps_program.specs.Decimals.{sides_from}
 use Rattle.mps_import.specs.Import.{import_counts, import_of}
-use Rattle.mps_import.specs.Variables.{are_zero_to_one, is_whole, is_zero_to_one, order_of_columns, values_of}
+use Rattle.mps_program.specs.Kinds.{are_zero_to_one, is_whole, is_zero_to_one}
+use Rattle.mps_import.specs.Variables.{order_of_columns}
+use Rattle.mps_program.specs.Program.{values_of}
 use Rattle.mps_import.proofs.MeaningLemmas.{order_length}
-use Rattle.mps_import.proofs.PlaceLemmas.{all_places, first_part, not_both_ways, parts_length, second_part, third_part}
-use Rattle.mps_import.proofs.SideLemmas.{column_fits, sides_back}
+use Rattle.mps_program.proofs.PlaceLemmas.{all_places, first_part, not_both_ways, parts_length, second_part, third_part}
+use Rattle.mps_program.proofs.SideLemmas.{column_fits, sides_back}
 
 -- ---- the places of binary variables
 

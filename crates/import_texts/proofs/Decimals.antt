@@ -20,10 +20,12 @@ use Rattle.mps_model.specs.Valid.{IsMps}
 use Rattle.exported_program.specs.Export.{IsDecimal}
 use Rattle.exported_program.specs.Factor.{coefficients_below}
 use Rattle.mps_import.specs.Decimals.{number_tree}
-use Rattle.mps_import.specs.Import.{entries_at, import_of, is_zero_dec, objective_constant, objective_terms, row_terms, term_of, terms_from}
-use Rattle.mps_import.specs.Variables.{order_of_columns, values_of}
+use Rattle.mps_import.specs.Import.{entries_at, import_of, objective_constant, objective_terms, row_terms, terms_from}
+use Rattle.mps_program.specs.Terms.{is_zero_dec, term_of}
+use Rattle.mps_import.specs.Variables.{order_of_columns}
+use Rattle.mps_program.specs.Program.{values_of}
 use Rattle.mps_import.proofs.PartLemmas.{all_columns}
-use Rattle.mps_import.proofs.SideLemmas.{rhs_fits, spelled_value}
+use Rattle.mps_program.proofs.SideLemmas.{rhs_fits, spelled_value}
 use Rattle.exact_numbers.proofs.Fitting.{dec_fits, neg_fits, zero_fits}
 use Rattle.import_texts.proofs.Files.{all_terms_from, column_terms}
 

@@ -17,8 +17,9 @@ use Rattle.exported_program.proofs.Export.{same_objective as objective_of_progra
 use Rattle.exported_program.proofs.Factor.{factor_above}
 use Rattle.scaling.specs.Scaling.{IsExportOf}
 use Rattle.mps_import.specs.Faults.{import_fault}
-use Rattle.mps_import.specs.Import.{constraints, import_counts, import_of}
-use Rattle.mps_import.specs.Variables.{in_order, values_of}
+use Rattle.mps_program.specs.Program.{constraints, values_of}
+use Rattle.mps_import.specs.Import.{import_counts, import_of}
+use Rattle.mps_import.specs.Variables.{in_order}
 use Rattle.mps_import.proofs.LawLemmas.{feasible_lem, objective_lem, sense_lem}
 use Rattle.import_texts.proofs.Files.{is_file}
 
@@ -26,7 +27,7 @@ use Rattle.import_texts.proofs.Files.{is_file}
 pub plain_import : (m : Mps Dec) → IsPlain (import_of m) 0
 unfolding import_of import_counts
 plain_import m = record {
-  bodies = λ i lt. subst (λ (o : Option Tree). IsNumber (tree_or_zero o)) (sym (get_or-replicate (length (constraints m)) i None None lt)) tt;
+  bodies = λ i lt. subst (λ (o : Option Tree). IsNumber (tree_or_zero o)) (sym (get_or-replicate (length (constraints m.rows)) i None None lt)) tt;
   objective = tt;
 }
 

@@ -14,14 +14,17 @@ use Rattle.nl_model.specs.declared.objective.Objective.{Objective}
 use Rattle.nl_model.specs.Rules.{AreBodies, AreGuesses, AreObjectives, AreTerms, AreTermsBelow, IsFile, IsSuffix, IsTreeKnown, most_terms}
 use Rattle.linear_program.specs.Intervals.{IsOrdered}
 use Rattle.mps_model.specs.Mps.{Entry, Mps, column_interval, objective_row, row_interval}
-use Rattle.mps_import.specs.Decimals.{sides_from}
+use Rattle.mps_program.specs.Decimals.{sides_from}
 use Rattle.mps_import.specs.Faults.{import_fault}
-use Rattle.mps_import.specs.Import.{constraint_terms, constraints, entries_at, has_sides, import_counts, import_objective, import_of, is_constraint, is_zero_dec, objective_terms, row_terms, term_of, terms_from}
-use Rattle.mps_import.specs.Variables.{is_whole, is_zero_to_one, order_of_columns, values_of}
+use Rattle.mps_import.specs.Import.{constraint_terms, entries_at, has_sides, import_counts, import_objective, import_of, objective_terms, row_terms, terms_from}
+use Rattle.mps_program.specs.Program.{constraints, values_of}
+use Rattle.mps_program.specs.Terms.{is_zero_dec, term_of}
+use Rattle.mps_program.specs.Kinds.{is_whole, is_zero_to_one}
+use Rattle.mps_import.specs.Variables.{order_of_columns}
 use Rattle.mps_import.proofs.MeaningLemmas.{order_length}
-use Rattle.mps_import.proofs.OrderLemmas.{column_ordered, row_ordered}
-use Rattle.mps_import.proofs.PartLemmas.{clean_large, few_columns, few_constraints, header_fits, not_empty, not_wide}
-use Rattle.mps_import.proofs.PlaceLemmas.{all_parted, all_places, parts_length}
+use Rattle.mps_program.proofs.OrderLemmas.{column_ordered, rows_ordered}
+use Rattle.mps_import.proofs.PartLemmas.{clean_large, few_columns, few_constraints, header_fits, not_empty, clean_wide}
+use Rattle.mps_program.proofs.PlaceLemmas.{all_parted, parts_length}
 use Rattle.mps_import.proofs.TermLemmas.{few_terms}
 
 -- ---- terms
@@ -62,9 +65,9 @@ module _ (m : Mps Dec) (clean : import_fault m ≡ None) where
       let n = length m.columns in
       let few = few_terms m (clean_large m clean) in
       record {
-        rows = length-map (constraints m) (row_terms m);
+        rows = length-map (constraints m.rows) (row_terms m);
         costs = refl;
-        terms_below = All-map (AreTermsBelow n) (row_terms m) (constraints m) (always (λ i. AreTermsBelow n (row_terms m i)) (constraints m) (row_below m));
+        terms_below = All-map (AreTermsBelow n) (row_terms m) (constraints m.rows) (always (λ i. AreTermsBelow n (row_terms m i)) (constraints m.rows) (row_below m));
         slopes_below = one (AreTermsBelow n) (objective_terms m) (row_below m (objective_row m.rows));
         few_terms = omega (arith, few);
         few_slopes = one (λ ts. length ts ≤ most_terms) (objective_terms m) (omega (arith, few));
@@ -72,11 +75,11 @@ module _ (m : Mps Dec) (clean : import_fault m ≡ None) where
 
   -- ---- the other parts
 
-  all_bodies : AreBodies (import_counts m) [] (replicate (length (constraints m)) None)
+  all_bodies : AreBodies (import_counts m) [] (replicate (length (constraints m.rows)) None)
   unfolding import_counts
   all_bodies = record {
-    count = length-replicate (length (constraints m)) None;
-    known = All-replicate (λ (b : Option Tree). IfSome b (IsTreeKnown (length m.columns) [])) (length (constraints m)) None tt;
+    count = length-replicate (length (constraints m.rows)) None;
+    known = All-replicate (λ (b : Option Tree). IfSome b (IsTreeKnown (length m.columns) [])) (length (constraints m.rows)) None tt;
   }
 
   the_objective : AreObjectives (import_counts m) [] (import_objective m ∷ [])
@@ -89,10 +92,6 @@ module _ (m : Mps Dec) (clean : import_fault m ≡ None) where
   no_guesses : (n : ℕ) → AreGuesses n []
   no_guesses n = record { below = All-nil (λ t. t.0 < n); apart = λ i j d lt within. absurd (omega (arith, within)) }
 
-  all_sides : All (λ i. IsOrdered (sides_from (row_interval (values_of m) i))) (constraints m)
-  unfolding constraints
-  all_sides = all_places (λ i. IsOrdered (sides_from (row_interval (values_of m) i))) (is_constraint m.rows) (length m.rows) (λ i lt e. row_ordered m i (not_wide m clean i lt))
-
   all_bounds : All (λ j. IsOrdered (sides_from (column_interval (values_of m) j))) (order_of_columns m)
   unfolding order_of_columns
   all_bounds = all_parted (is_whole m) (is_zero_to_one m) (λ j. IsOrdered (sides_from (column_interval (values_of m) j))) (length m.columns) (λ j lt. column_ordered m j (not_empty m clean j lt))
@@ -103,8 +102,8 @@ module _ (m : Mps Dec) (clean : import_fault m ≡ None) where
   unfolding import_of import_counts
   is_file =
       let rows = few_constraints m clean in
-      let ranges = count_by-le-length (has_sides is_ne m) (constraints m) in
-      let equations = count_by-le-length (has_sides is_eq m) (constraints m) in
+      let ranges = count_by-le-length (has_sides is_ne m) (constraints m.rows) in
+      let equations = count_by-le-length (has_sides is_eq m) (constraints m.rows) in
       let parts = parts_length (is_whole m) (is_zero_to_one m) (length m.columns) in
       record {
         ruled = header_fits _ _ _ _ _ _ _ _ (few_columns m clean) rows (omega (arith, rows, ranges)) (omega (arith, rows, equations)) (omega (arith, parts)) (few_terms m (clean_large m clean));
@@ -113,11 +112,11 @@ module _ (m : Mps Dec) (clean : import_fault m ≡ None) where
         objectives = the_objective;
         terms = all_terms;
         all_terms = refl;
-        side_count = length-map (constraints m) (λ i. sides_from (row_interval (values_of m) i));
-        sides = All-map IsOrdered (λ i. sides_from (row_interval (values_of m) i)) (constraints m) all_sides;
+        side_count = length-map (constraints m.rows) (λ i. sides_from (row_interval (values_of m) i));
+        sides = rows_ordered m (clean_wide m clean);
         bound_count = length-map (order_of_columns m) (λ j. sides_from (column_interval (values_of m) j)) ∙ order_length m;
         bounds = All-map IsOrdered (λ j. sides_from (column_interval (values_of m) j)) (order_of_columns m) all_bounds;
-        dual_guesses = no_guesses (length (constraints m));
+        dual_guesses = no_guesses (length (constraints m.rows));
         primal_guesses = no_guesses (length m.columns);
         suffixes = record { each = All-nil (IsSuffix (import_counts m)); apart = λ i j d lt within. absurd (omega (arith, within)) };
       }

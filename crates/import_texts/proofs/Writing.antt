@@ -25,10 +25,10 @@ use Rattle.nl_round_trip.proofs.Room.{writable_by}
 use Rattle.mps_model.specs.Mps.{Mps, objective_row, rhs_at, with_values}
 use Rattle.mps_import.specs.Decimals.{number_tree}
 use Rattle.mps_import.specs.Faults.{import_fault}
-use Rattle.mps_import.specs.Import.{constraints, import_objective, import_of, objective_constant, objective_terms}
-use Rattle.mps_import.specs.Variables.{values_of}
+use Rattle.mps_program.specs.Program.{constraints, values_of}
+use Rattle.mps_import.specs.Import.{import_objective, import_of, objective_constant, objective_terms}
 use Rattle.mps_import.proofs.PartLemmas.{clean_large, number_is}
-use Rattle.mps_import.proofs.SideLemmas.{rhs_fits}
+use Rattle.mps_program.proofs.SideLemmas.{rhs_fits}
 use Rattle.exact_numbers.proofs.Fitting.{neg_fits}
 use Rattle.mps_import.proofs.TermLemmas.{few_terms}
 use Rattle.import_texts.proofs.Binary.{binary_within}
@@ -51,7 +51,7 @@ trees_written : (m : Mps Dec) → AreTreesWritable (import_of m)
 unfolding import_of
 trees_written m = record {
   definitions = All-nil (λ (d : Definition). HasNodes d.tree);
-  bodies = All-replicate (λ (b : Option Tree). IfSome b HasNodes) (length (constraints m)) None tt;
+  bodies = All-replicate (λ (b : Option Tree). IfSome b HasNodes) (length (constraints m.rows)) None tt;
   objectives = one (λ (o : Objective). HasNodes o.tree) (import_objective m) (objective_nodes m);
 }
 
@@ -63,7 +63,7 @@ no_size (suc n) = omega (arith, no_size n, sum_by-cons (λ (b : Option Tree). op
 
 nodes_few : (m : Mps Dec) → node_count (import_of m) ≤ 2 ^ 22
 unfolding import_of
-nodes_few m = omega (arith, no_size (length (constraints m)), sum_by-cons (λ (o : Objective). tree_size o.tree) (import_objective m) [])
+nodes_few m = omega (arith, no_size (length (constraints m.rows)), sum_by-cons (λ (o : Objective). tree_size o.tree) (import_objective m) [])
 
 terms_few : (m : Mps Dec) → import_fault m ≡ None → linear_count (import_of m) ≤ 2 ^ 22
 unfolding import_of

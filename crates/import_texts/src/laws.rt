@@ -9,7 +9,8 @@ ghost use Rattle.mps_model.specs.Valid.{IsMps};
 ghost use Rattle.exported_program.specs.Export.{IsDecimal};
 ghost use Rattle.mps_import.specs.Faults.{import_fault};
 ghost use Rattle.mps_import.specs.Import.{import_of};
-ghost use Rattle.mps_import.specs.Variables.{in_order, values_of};
+ghost use Rattle.mps_import.specs.Variables.{in_order};
+ghost use Rattle.mps_program.specs.Program.{values_of};
 ghost use Rattle.scaling.specs.Scaling.{IsExportOf};
 ghost use Rattle.import_texts.specs.Imports.{ImportsAreSaid, ImportsAreWritable, NoOtherFileIsSaid};
 

@@ -7,13 +7,14 @@ use Rattle.mps_model.specs.Built.{entry_of}
 use Rattle.mps_model.specs.Mps.{Entry, Column, Mps, no_column}
 use Rattle.mps_model.specs.Valid.{AreEntries}
 use Rattle.mps_import.specs.Import.{entries_at}
-use Rattle.mps_import.specs.Places.{listed}
+use Rattle.mps_program.specs.Places.{listed}
 use Rattle.mps_import.specs.InsideUses.{IsOnItsWay, entries_left, use_of}
 use Rattle.mps_import.specs.Variables.{order_of_columns}
 use Rattle.mps_import.specs.declared.rows.RowUse.{RowUse}
 use Rattle.mps_import.specs.declared.rows.RowUse.TheVariants.{Unused}
-use Rattle.mps_import.proofs.LoopLemmas.{drop_is, fact_is}
-use Rattle.mps_import.proofs.PartLemmas.{all_columns, entry_within}
+use Rattle.mps_program.proofs.LoopLemmas.{drop_is, fact_is}
+use Rattle.mps_import.proofs.PartLemmas.{all_columns}
+use Rattle.mps_program.proofs.PartLemmas.{entry_within}
 use Rattle.mps_import.proofs.TermLemmas.{use_at}
 
 module _ (m : Mps Dec) where

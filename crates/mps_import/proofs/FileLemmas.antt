@@ -1,43 +1,42 @@
 -- The file that is made of the parts of a program.
 use Rattle.std.proofs.Common.{◌≡◌, ℕ, suc, ◌+◌, ◌<◌, ◌≤◌, ◌^◌, ◌∙◌, sym, ap, ap₂, refl, subst, arith, Bool, false, nat_lt, ◌||◌, List, [], ◌∷◌, ◌++◌, length, get_or, map, Some, All, replicate, nat_eq, IsSome, slice_set, Result, Ok, Err, IfErr, IsErrAnd}
-use Rattle.std.proofs.lemmas.List.{length-map, get_or-map}
-use Rattle.std.specs.Ordering.{is_gt}
+use Rattle.std.proofs.lemmas.List.{length-map}
 use Rattle.std.specs.Option.{option_map}
 use Rattle.texts.specs.Stopped.{IfFault}
 use Rattle.texts.specs.declared.stop.Stop.{Stop}
 use Rattle.texts.specs.declared.stop.Stop.TheVariants.{Fault, Memory}
-use Rattle.linear_programs.specs.Linear.{Interval}
 use Rattle.exact_numbers.specs.declared.dec.Dec.{Dec}
-use Rattle.linear_program.specs.Intervals.{interval_of, no_sides, IsOrdered}
+use Rattle.linear_program.specs.Intervals.{no_sides, IsOrdered}
 use Rattle.nl_meaning.specs.Trees.{Tree}
 use Rattle.nl_model.specs.Draft.{Draft, empty_draft, file_of, is_given}
 use Rattle.nl_model.specs.Rules.{term_count}
 use Rattle.linear_program.specs.declared.interval.Interval.{Interval as Sides}
-use Rattle.mps_model.specs.Mps.{Mps, with_values, row_interval, column_interval, objective_row}
+use Rattle.mps_model.specs.Mps.{Mps, column_interval, objective_row}
 use Rattle.mps_import.specs.declared.build.Parts.{Parts}
 use Rattle.mps_import.specs.declared.rows.RowUse.{RowUse}
 use Rattle.mps_import.specs.declared.import_fault.ImportFault.{ImportFault}
 use Rattle.mps_import.specs.declared.import_fault.ImportFault.TheVariants.{TooWide}
-use Rattle.mps_import.specs.Decimals.{sides_from, number_tree}
-use Rattle.mps_import.specs.Faults.{is_too_large, is_column_empty, first_wide, first_empty, import_fault}
-use Rattle.mps_import.specs.Import.{both_sides, is_constraint, constraints, constraint_terms, objective_terms, import_counts, import_options, import_objective, import_of, objective_constant}
+use Rattle.mps_program.specs.Decimals.{sides_from}
+use Rattle.mps_import.specs.Decimals.{number_tree}
+use Rattle.mps_import.specs.Faults.{is_too_large, import_fault}
+use Rattle.mps_program.specs.Faults.{first_wide}
+use Rattle.mps_program.specs.Program.{is_constraint, constraints, values_of}
+use Rattle.mps_import.specs.Import.{constraint_terms, objective_terms, import_counts, import_options, import_objective, import_of, objective_constant}
 use Rattle.mps_import.specs.InsideParts.{ArePartsOf, begun_draft}
-use Rattle.mps_import.specs.Places.{places, first, listed}
+use Rattle.mps_program.specs.Places.{places, listed}
 use Rattle.mps_import.specs.InsideUses.{use_of, hits_in, is_constraint_at, is_objective_at}
-use Rattle.mps_import.specs.Variables.{values_of, order_of_columns}
-use Rattle.mps_import.proofs.FirstLemmas.{listed_at, listed_length, places_same}
+use Rattle.mps_import.specs.Variables.{order_of_columns}
+use Rattle.mps_program.proofs.FirstLemmas.{listed_at, listed_length}
 use Rattle.mps_import.proofs.MeaningLemmas.{order_length}
-use Rattle.mps_import.proofs.OrderLemmas.{row_ordered, column_ordered}
-use Rattle.mps_import.proofs.PartLemmas.{wide_fault, not_wide, not_empty, all_columns, sides_count}
-use Rattle.mps_import.proofs.PlaceLemmas.{all_places}
-use Rattle.mps_import.proofs.SideLemmas.{sides_back, column_fits}
+use Rattle.mps_program.proofs.OrderLemmas.{column_ordered, rows_ordered}
+use Rattle.mps_import.proofs.PartLemmas.{wide_fault, clean_wide, not_empty, all_columns, sides_count}
 use Rattle.mps_import.proofs.TermLemmas.{hits_in_same, all_constraint_terms, all_objective_terms, constraint_at, objective_at}
 use Rattle.std.proofs.lemmas.List.Elements.{All-cons, All-nil}
 
-pub large_is : (m : Mps Dec) (r c : ℕ) (b : Bool) → r ≡ length (constraints m) → c ≡ length m.columns → b ≡ nat_lt (2 ^ 20) r || nat_lt (2 ^ 20) c → nat_lt (2 ^ 20) (length (constraints m)) || nat_lt (2 ^ 20) (length m.columns) ≡ b
+pub large_is : (m : Mps Dec) (r c : ℕ) (b : Bool) → r ≡ length (constraints m.rows) → c ≡ length m.columns → b ≡ nat_lt (2 ^ 20) r || nat_lt (2 ^ 20) c → nat_lt (2 ^ 20) (length (constraints m.rows)) || nat_lt (2 ^ 20) (length m.columns) ≡ b
 large_is m r c b e f h = sym (h ∙ ap₂ (λ x y. nat_lt (2 ^ 20) x || nat_lt (2 ^ 20) y) e f)
 
-pub rank_all : (m : Mps Dec) → length (places (is_constraint m.rows) (length m.rows)) ≡ length (constraints m)
+pub rank_all : (m : Mps Dec) → length (places (is_constraint m.rows) (length m.rows)) ≡ length (constraints m.rows)
 unfolding constraints
 rank_all m = refl
 
@@ -64,36 +63,16 @@ module _ (m : Mps Dec) (d : Draft) (begun : d ≡ empty_draft import_options (im
       e ∙ ap (λ (x : Draft). record x { objectives = slice_set x.objectives 0 (Some (record { maximise = maximise; tree = tree })) }) begun
       ∙ ap₂ (λ s t. record (empty_draft import_options (import_counts m)) { objectives = Some (record { maximise = s; tree = t }) ∷ [] }) sense number
 
--- the first column whose sides cross is the first empty one
-pub empty_is : (m : Mps Dec) (sides : List Sides) → sides ≡ listed (λ j. sides_from (column_interval (values_of m) j)) (length m.columns) → first (places (λ j. both_sides is_gt (interval_of (get_or sides j no_sides)).lower (interval_of (get_or sides j no_sides)).upper) (length sides)) ≡ first_empty m
-unfolding with_values
-empty_is m sides are =
-    let f : ℕ → Sides = λ j. sides_from (column_interval (values_of m) j) in
-    let test : ℕ → Bool = λ j. both_sides is_gt (interval_of (get_or sides j no_sides)).lower (interval_of (get_or sides j no_sides)).upper in
-    let size : length sides ≡ length m.columns = ap length are ∙ listed_length f (length m.columns) in
-    ap (λ n. first (places test n)) size
-    ∙ ap first (places_same test (is_column_empty m) (length m.columns)
-    (λ j lt. ap (λ (s : Interval). both_sides is_gt s.lower s.upper) (ap interval_of (ap (λ ss. get_or ss j no_sides) are ∙ listed_at f (length m.columns) j no_sides lt) ∙ sides_back (column_interval (values_of m) j) (column_fits j m.bounds))))
-
 map_along : (f g : ℕ → Sides) (js : List ℕ) → All (λ j. f j ≡ g j) js → map f js ≡ map g js
 map_along f g [] h = refl
 map_along f g (j ∷ js) h = ap₂ (λ y ys. y ∷ ys) (h 0 j (omega arith)) (map_along f g js (λ k d lt. h (suc k) d (omega (arith, lt))))
 
 module _ (m : Mps Dec) (p : Parts) (are : ArePartsOf m p) where
-  abbrev row_side : ℕ → Sides
-  row_side i = sides_from (row_interval (values_of m) i)
-
   abbrev column_side : ℕ → Sides
   column_side j = sides_from (column_interval (values_of m) j)
 
-  each_ordered : All IsOrdered (map row_side (constraints m))
-  unfolding constraints
-  each_ordered k d lt =
-      let inside : k < length (constraints m) = omega (arith, lt, length-map (constraints m) row_side) in
-      subst IsOrdered (sym (get_or-map row_side (constraints m) k 0 d inside)) (all_places (λ i. IsOrdered (row_side i)) (is_constraint m.rows) (length m.rows) (λ i h e. row_ordered m i (not_wide m are.clean i h)) k 0 inside)
-
   pub sides_ordered : All IsOrdered p.sides.items
-  sides_ordered = subst (All IsOrdered) (sym are.sides) each_ordered
+  sides_ordered = subst (All IsOrdered) (sym are.sides) (rows_ordered m (clean_wide m are.clean))
 
   bounds_length : length p.bounds.items ≡ length m.columns
   bounds_length = ap length are.bounds ∙ listed_length column_side (length m.columns)
@@ -142,7 +121,7 @@ module _ (m : Mps Dec) (p : Parts) (are : ArePartsOf m p) where
         c_is : c ≡ bounded
         c_is = third_step ∙ ap (λ (x : Draft). record x { bounds = x.bounds ++ map (λ j. get_or p.bounds.items j no_sides) p.variables.columns.items }) b_is
 
-        pub bounded_is : (c.counts ≡ import_counts m) × (c.terms ≡ replicate (length (constraints m)) []) × (c.slopes ≡ [] ∷ [])
+        pub bounded_is : (c.counts ≡ import_counts m) × (c.terms ≡ replicate (length (constraints m.rows)) []) × (c.slopes ≡ [] ∷ [])
         unfolding import_counts
         bounded_is = (ap (λ (x : Draft). x.counts) c_is, ap (λ (x : Draft). x.terms) c_is, ap (λ (x : Draft). x.slopes) c_is)
 

@@ -1,14 +1,7 @@
-pub mod PlaceLemmas
-pub mod SideLemmas
 pub mod MeaningLemmas
 pub mod KindLemmas
 pub mod LawLemmas
-pub mod ReachLemmas
-pub mod FirstLemmas
-pub mod LoopLemmas
 pub mod TermLemmas
-pub mod OrderLemmas
 pub mod PartLemmas
 pub mod FileLemmas
-pub mod MinusLemmas
 pub mod EntryLemmas

@@ -2,83 +2,36 @@
 use Rattle.std.proofs.Common.{◌≡◌, ℕ, zero, suc, ◌+◌, ◌<◌, ◌≤◌, ◌^◌, ◌∙◌, sym, ap, ap₂, refl, subst, arith, Bool, true, false, cond, not, nat_eq, nat_lt, ◌&&◌, ◌||◌, if◌then◌else◌, List, [], ◌∷◌, ◌++◌, length, get_or, map, drop, set, replicate, Some, None, ⊎_elim, add-one, append_assoc, append-nil}
 use Rattle.std.proofs.lemmas.Bool.{cases_lt, eqb-true, eq-eqb, ne_eqb, ltb-false, or_parts}
 use Rattle.std.proofs.lemmas.List.{length-append, length-map, length-set, get_or-map, get_or-set_same, get_or-set_other, get_or-replicate, get_or_past, ext_get_or, length-replicate}
-use Rattle.std.proofs.lemmas.List.Sums.{sum_by-append, sum_by-cons}
+use Rattle.std.proofs.lemmas.List.Sums.{sum_by-cons}
 use Rattle.std.specs.List.{sum_by, filter_map, cons_option}
 use Rattle.exact_numbers.specs.declared.dec.Dec.{Dec}
 use Rattle.nl_model.specs.Draft.{Draft}
 use Rattle.nl_model.specs.File.{Term}
 use Rattle.nl_model.specs.Rules.{term_count, most_terms}
-use Rattle.mps_model.specs.Mps.{MpsRow, Entry, Mps, no_mps_row, objective_row}
+use Rattle.mps_model.specs.Mps.{Entry, Mps, objective_row}
 use Rattle.mps_import.specs.declared.rows.RowUse.{RowUse}
 use Rattle.mps_import.specs.declared.rows.RowUse.TheVariants.{Unused, Objective, Constraint}
 use Rattle.mps_import.specs.Faults.{is_too_large}
-use Rattle.mps_import.specs.Import.{is_bounded_kind, is_constraint, constraints, is_zero_dec, term_of, entries_at, terms_from, row_terms, constraint_terms, objective_terms, import_counts}
-use Rattle.mps_import.specs.Places.{places, listed}
-use Rattle.mps_import.specs.InsideUses.{rank, use_of, is_hit, one_if, hits, hits_in, is_constraint_use, is_objective_use, is_constraint_at, is_objective_at, terms_left, entries_left, IsOnItsWay, CanAddTerm, with_term}
+use Rattle.mps_program.specs.Program.{is_constraint, constraints}
+use Rattle.mps_program.specs.Terms.{is_zero_dec, term_of}
+use Rattle.mps_import.specs.Import.{entries_at, terms_from, row_terms, constraint_terms, objective_terms, import_counts}
+use Rattle.mps_program.specs.Places.{listed, one_if}
+use Rattle.mps_import.specs.InsideUses.{rank, use_of, is_hit, hits, hits_in, is_constraint_use, is_objective_use, is_constraint_at, is_objective_at, terms_left, entries_left, IsOnItsWay, CanAddTerm, with_term}
 use Rattle.mps_import.specs.Variables.{order_of_columns}
-use Rattle.mps_import.proofs.FirstLemmas.{listed_at, listed_length, place_at, before_at, before_end}
-use Rattle.mps_import.proofs.LoopLemmas.{drop_is, drop_all, objective_free}
-use Rattle.mps_import.proofs.PlaceLemmas.{one_where, all_places, not_both_ways}
+use Rattle.mps_program.proofs.FirstLemmas.{listed_at, listed_length, place_at, before_at, before_end}
+use Rattle.mps_program.proofs.OnceLemmas.{sum_more, sum_none, term_more, past_rows, once_or_not}
+use Rattle.mps_program.proofs.LoopLemmas.{drop_is, drop_all, objective_free}
+use Rattle.mps_program.proofs.PlaceLemmas.{all_places, not_both_ways}
 
 -- ---- sums
 module _ {A : Type 0} where
-  sum_more : (f g h : A → ℕ) → ((x : A) → f x ≡ g x + h x) → (xs : List A) → sum_by f xs ≡ sum_by g xs + sum_by h xs
-  sum_more f g h e [] = refl
-  sum_more f g h e (x ∷ xs) = sum_by-cons f x xs ∙ omega (arith, e x, sum_more f g h e xs, sum_by-cons g x xs, sum_by-cons h x xs)
-
-  sum_none : (f : A → ℕ) → ((x : A) → f x ≡ 0) → (xs : List A) → sum_by f xs ≡ 0
-  sum_none f e [] = refl
-  sum_none f e (x ∷ xs) = sum_by-cons f x xs ∙ omega (arith, e x, sum_none f e xs)
-
   sum_through : {B : Type 0} (f : B → ℕ) (g : A → B) (xs : List A) → sum_by f (map g xs) ≡ sum_by (λ x. f (g x)) xs
   sum_through f g [] = refl
   sum_through f g (x ∷ xs) = sum_by-cons f (g x) (map g xs) ∙ ap (λ n. f (g x) + n) (sum_through f g xs) ∙ sym (sum_by-cons (λ x. f (g x)) x xs)
 
--- a row that passes is counted once
-module _ (test : ℕ → Bool) (r : ℕ) (z : Bool) where
-  abbrev pub hit : ℕ → ℕ
-  hit i = one_if (nat_eq r i && z)
-
-  pub none_below : (n : ℕ) → n ≤ r → sum_by hit (places test n) ≡ 0
-  unfolding places
-  none_below zero le = refl
-  none_below (suc n) le = sum_by-append hit (places test n) (one_where (test n) n) ∙ omega (arith, none_below n (omega (arith, le)), here (test n))
-    where
-      here : (b : Bool) → sum_by hit (one_where b n) ≡ 0
-      here true = ap (λ t. 0 + one_if (t && z)) (ne_eqb r n (λ same. omega (arith, same, le)))
-      here false = refl
-
-  pub counted_once : (n : ℕ) → r < n → sum_by hit (places test n) ≡ one_if (test r && z)
-  unfolding places
-  counted_once zero lt = absurd (omega arith)
-  counted_once (suc n) lt =
-      sum_by-append hit (places test n) (one_where (test n) n)
-      ∙ ⊎_elim
-      (λ (below : r < n). omega (arith, counted_once n below, past (test n) (nat_eq r n) refl below))
-      (λ (above : n ≤ r). let same : r ≡ n = omega (arith, above, lt) in omega (arith, none_below n above, here same (test n) z refl refl))
-      (cases_lt r n)
-    where
-      past : (b t : Bool) → nat_eq r n ≡ t → r < n → sum_by hit (one_where b n) ≡ 0
-      past true true e below = absurd (omega (arith, eqb-true r n e, below))
-      past true false e below = ap (λ t. 0 + one_if (t && z)) e
-      past false t e below = refl
-
-      here : r ≡ n → (b y : Bool) → test n ≡ b → z ≡ y → sum_by hit (one_where b n) ≡ one_if (test r && z)
-      here same true y e f = ap (λ t. 0 + one_if (t && z)) (eq-eqb r n same) ∙ one_zero z ∙ ap (λ t. one_if (t && z)) (sym (ap test same ∙ e))
-        where
-          one_zero : (y : Bool) → 0 + one_if y ≡ one_if y
-          one_zero true = refl
-          one_zero false = refl
-      here same false y e f = ap (λ t. one_if (t && z)) (sym (ap test same ∙ e))
-
 -- ---- how many terms there are
-
 pub hits_in_same : (s t : ℕ → Bool) → ((i : ℕ) → s i ≡ t i) → (m : Mps Dec) (js : List ℕ) → hits_in s m js ≡ hits_in t m js
 hits_in_same s t h m js = λ k. hits_in (λ i. h i k) m js
-
-term_more : (t : Term) (b : Bool) (tail : List Term) → length (cons_option (if b then Some t else None) tail) ≡ one_if b + length tail
-term_more t true tail = omega arith
-term_more t false tail = omega arith
 
 module _ (m : Mps Dec) where
   abbrev test : ℕ → Bool
@@ -87,35 +40,24 @@ module _ (m : Mps Dec) where
   abbrev obj : ℕ
   obj = objective_row m.rows
 
-  past_rows : (r : ℕ) → length m.rows ≤ r → test r ≡ false
-  past_rows r h = ap (λ (x : MpsRow). is_bounded_kind x.kind) (get_or_past m.rows r no_mps_row h)
-
-  once_or_not : (r : ℕ) (z : Bool) → sum_by (λ i. one_if (nat_eq r i && z)) (constraints m) ≡ one_if (test r && z)
-  unfolding constraints
-  once_or_not r z =
-      ⊎_elim
-      (λ (lt : r < length m.rows). counted_once test r z (length m.rows) lt)
-      (λ (ge : length m.rows ≤ r). none_below test r z (length m.rows) ge ∙ ap (λ b. one_if (b && z)) (sym (past_rows r ge)))
-      (cases_lt r (length m.rows))
-
-  column_count : (p : ℕ) (es : List (Entry Dec)) → sum_by (λ i. length (filter_map (term_of i p) es)) (constraints m) ≡ hits test es
-  column_count p [] = sum_none (λ i. 0) (λ i. refl) (constraints m)
+  column_count : (p : ℕ) (es : List (Entry Dec)) → sum_by (λ i. length (filter_map (term_of i p) es)) (constraints m.rows) ≡ hits test es
+  column_count p [] = sum_none (λ i. 0) (λ i. refl) (constraints m.rows)
   column_count p (e ∷ es) =
-      sum_more (λ i. length (filter_map (term_of i p) (e ∷ es))) (λ i. one_if (nat_eq e.row i && not (is_zero_dec e.value))) (λ i. length (filter_map (term_of i p) es)) (λ i. term_more (p, e.value) (nat_eq e.row i && not (is_zero_dec e.value)) (filter_map (term_of i p) es)) (constraints m)
-      ∙ ap₂ ◌+◌ (once_or_not e.row (not (is_zero_dec e.value))) (column_count p es)
+      sum_more (λ i. length (filter_map (term_of i p) (e ∷ es))) (λ i. one_if (nat_eq e.row i && not (is_zero_dec e.value))) (λ i. length (filter_map (term_of i p) es)) (λ i. term_more (p, e.value) (nat_eq e.row i && not (is_zero_dec e.value)) (filter_map (term_of i p) es)) (constraints m.rows)
+      ∙ ap₂ ◌+◌ (once_or_not m.rows e.row (not (is_zero_dec e.value))) (column_count p es)
       ∙ sym (sum_by-cons (λ e. one_if (is_hit test e)) e es)
 
-  columns_count : (p : ℕ) (js : List ℕ) → sum_by (λ i. length (terms_from m i p js)) (constraints m) ≡ hits_in test m js
+  columns_count : (p : ℕ) (js : List ℕ) → sum_by (λ i. length (terms_from m i p js)) (constraints m.rows) ≡ hits_in test m js
   unfolding terms_from
-  columns_count p [] = sum_none (λ i. 0) (λ i. refl) (constraints m)
+  columns_count p [] = sum_none (λ i. 0) (λ i. refl) (constraints m.rows)
   columns_count p (j ∷ js) =
-      sum_more (λ i. length (terms_from m i p (j ∷ js))) (λ i. length (filter_map (term_of i p) (entries_at m j))) (λ i. length (terms_from m i (suc p) js)) (λ i. length-append (filter_map (term_of i p) (entries_at m j)) (terms_from m i (suc p) js)) (constraints m)
+      sum_more (λ i. length (terms_from m i p (j ∷ js))) (λ i. length (filter_map (term_of i p) (entries_at m j))) (λ i. length (terms_from m i (suc p) js)) (λ i. length-append (filter_map (term_of i p) (entries_at m j)) (terms_from m i (suc p) js)) (constraints m.rows)
       ∙ ap₂ ◌+◌ (column_count p (entries_at m j)) (columns_count (suc p) js)
       ∙ sym (sum_by-cons (λ j. hits test (entries_at m j)) j js)
 
   pub all_constraint_terms : hits_in test m (order_of_columns m) ≡ term_count (constraint_terms m)
   unfolding row_terms
-  all_constraint_terms = sym (sum_through length (row_terms m) (constraints m) ∙ columns_count 0 (order_of_columns m))
+  all_constraint_terms = sym (sum_through length (row_terms m) (constraints m.rows) ∙ columns_count 0 (order_of_columns m))
 
   row_column_count : (o p : ℕ) (es : List (Entry Dec)) → length (filter_map (term_of o p) es) ≡ hits (λ i. nat_eq i o) es
   row_column_count o p [] = refl
@@ -168,7 +110,7 @@ module _ (m : Mps Dec) where
     constraint_at r =
         ⊎_elim
         (λ (lt : r < length m.rows). ap is_constraint_use (use_at r Unused lt) ∙ constraint_is r)
-        (λ (ge : length m.rows ≤ r). ap is_constraint_use (use_past r ge) ∙ sym (past_rows r ge))
+        (λ (ge : length m.rows ≤ r). ap is_constraint_use (use_past r ge) ∙ sym (past_rows m.rows r ge))
         (cases_lt r (length m.rows))
 
     pub objective_at : obj < length m.rows → (r : ℕ) → is_objective_at uses r ≡ nat_eq r obj
@@ -180,16 +122,16 @@ module _ (m : Mps Dec) where
 
   -- ---- constraints and their rows
   abbrev row : ℕ → ℕ
-  row c = get_or (constraints m) c 0
+  row c = get_or (constraints m.rows) c 0
 
-  row_passes : (c : ℕ) → c < length (constraints m) → test (row c) ≡ true
+  row_passes : (c : ℕ) → c < length (constraints m.rows) → test (row c) ≡ true
   unfolding constraints
   row_passes c lt = all_places (λ j. test j ≡ true) test (length m.rows) (λ j h e. e) c 0 lt
 
-  other_row : (r c : ℕ) → test r ≡ false → c < length (constraints m) → nat_eq r (row c) ≡ false
+  other_row : (r c : ℕ) → test r ≡ false → c < length (constraints m.rows) → nat_eq r (row c) ≡ false
   other_row r c e lt = ne_eqb r (row c) (λ same. not_both_ways (test r) (ap test same ∙ row_passes c lt) e)
 
-  same_row : (r c : ℕ) → test r ≡ true → r < length m.rows → c < length (constraints m) → nat_eq r (row c) ≡ nat_eq c (rank m.rows r)
+  same_row : (r c : ℕ) → test r ≡ true → r < length m.rows → c < length (constraints m.rows) → nat_eq r (row c) ≡ nat_eq c (rank m.rows r)
   unfolding constraints
   same_row r c e lt within = by (nat_eq r (row c)) (nat_eq c (rank m.rows r)) refl refl
     where
@@ -199,7 +141,7 @@ module _ (m : Mps Dec) where
       by true false p q = absurd (not_both_ways (nat_eq c (rank m.rows r)) (eq-eqb c (rank m.rows r) (sym (before_at test (length m.rows) c within) ∙ ap (rank m.rows) (sym (eqb-true r (row c) p)))) q)
       by false true p q = absurd (not_both_ways (nat_eq r (row c)) (eq-eqb r (row c) (sym (place_at test (length m.rows) r lt e) ∙ ap row (sym (eqb-true c (rank m.rows r) q)))) p)
 
-  rank_below : (r : ℕ) → test r ≡ true → r < length m.rows → rank m.rows r < length (constraints m)
+  rank_below : (r : ℕ) → test r ≡ true → r < length m.rows → rank m.rows r < length (constraints m.rows)
   unfolding constraints
   rank_below r e lt = before_end test (length m.rows) r lt e
 
@@ -216,10 +158,10 @@ module _ (m : Mps Dec) where
     counts : n.counts ≡ d.counts
     rows : length n.terms ≡ length d.terms
     costs : length n.slopes ≡ length d.slopes
-    terms : (c : ℕ) → c < length (constraints m) → get_or n.terms c [] ≡ added (nat_eq r (row c)) t (get_or d.terms c [])
+    terms : (c : ℕ) → c < length (constraints m.rows) → get_or n.terms c [] ≡ added (nat_eq r (row c)) t (get_or d.terms c [])
     slopes : get_or n.slopes 0 [] ≡ added (nat_eq r obj) t (get_or d.slopes 0 [])
 
-  with_constraint : (d : Draft) (r p : ℕ) (v : Dec) → test r ≡ true → r < length m.rows → length d.terms ≡ length (constraints m) → IsWith d (with_term (Constraint (rank m.rows r)) p v d) r (p, v)
+  with_constraint : (d : Draft) (r p : ℕ) (v : Dec) → test r ≡ true → r < length m.rows → length d.terms ≡ length (constraints m.rows) → IsWith d (with_term (Constraint (rank m.rows r)) p v d) r (p, v)
   with_constraint d r p v e lt size =
       record {
         counts = refl;
@@ -235,7 +177,7 @@ module _ (m : Mps Dec) where
       not_objective : nat_eq r obj ≡ false
       not_objective = sym (objective_is r) ∙ ap (λ b. is_objective_use (cond b (Constraint (rank m.rows r)) (cond (nat_eq r obj) Objective Unused))) e
 
-      by : (c : ℕ) → c < length (constraints m) → (b : Bool) → nat_eq c k ≡ b → get_or (set d.terms k (get_or d.terms k [] ++ (p, v) ∷ [])) c [] ≡ added (nat_eq r (row c)) (p, v) (get_or d.terms c [])
+      by : (c : ℕ) → c < length (constraints m.rows) → (b : Bool) → nat_eq c k ≡ b → get_or (set d.terms k (get_or d.terms k [] ++ (p, v) ∷ [])) c [] ≡ added (nat_eq r (row c)) (p, v) (get_or d.terms c [])
       by c within true q =
           let same = eqb-true c k q in
           ap (λ i. get_or (set d.terms k (get_or d.terms k [] ++ (p, v) ∷ [])) i []) same
@@ -266,7 +208,7 @@ module _ (m : Mps Dec) where
         slopes = ap (λ b. added b (p, v) (get_or d.slopes 0 [])) (sym f);
       }
 
-  with_use : (d : Draft) (r p : ℕ) (v : Dec) → r < length m.rows → length d.terms ≡ length (constraints m) → length d.slopes ≡ 1 → IsWith d (with_term (use_of m.rows r) p v d) r (p, v)
+  with_use : (d : Draft) (r p : ℕ) (v : Dec) → r < length m.rows → length d.terms ≡ length (constraints m.rows) → length d.slopes ≡ 1 → IsWith d (with_term (use_of m.rows r) p v d) r (p, v)
   with_use d r p v lt rows costs = by (test r) (nat_eq r obj) refl refl
     where
       by : (a b : Bool) → test r ≡ a → nat_eq r obj ≡ b → IsWith d (with_term (cond a (Constraint (rank m.rows r)) (cond b Objective Unused)) p v d) r (p, v)
@@ -315,7 +257,7 @@ module _ (m : Mps Dec) where
   -- ---- there is room for a term
   pub few_terms : is_too_large m ≡ false → term_count (constraint_terms m) + length (objective_terms m) ≤ most_terms
   unfolding is_too_large
-  few_terms e = ltb-false (2 ^ 22) (term_count (constraint_terms m) + length (objective_terms m)) (or_parts (nat_lt (2 ^ 20) (length (constraints m)) || nat_lt (2 ^ 20) (length m.columns)) _ e).1
+  few_terms e = ltb-false (2 ^ 22) (term_count (constraint_terms m) + length (objective_terms m)) (or_parts (nat_lt (2 ^ 20) (length (constraints m.rows)) || nat_lt (2 ^ 20) (length m.columns)) _ e).1
 
 -- lists that are no longer than others, and one of which is shorter
 sum_le : (xs ys : List (List Term)) → length xs ≡ length ys → ((c : ℕ) → c < length xs → length (get_or xs c []) ≤ length (get_or ys c [])) → term_count xs ≤ term_count ys
@@ -340,21 +282,21 @@ module _ (m : Mps Dec) (clean : is_too_large m ≡ false) (p : ℕ) (e : Entry D
 
   no_more : (c : ℕ) → c < length d.terms → length (get_or d.terms c []) ≤ length (get_or (constraint_terms m) c [])
   no_more c within =
-      let inside : c < length (constraints m) = omega (arith, within, way.rows) in
-      omega (arith, ap length (way.terms c inside), length-append (get_or d.terms c []) (entries_left m p (e ∷ es) js (get_or (constraints m) c 0)), ap length (get_or-map (row_terms m) (constraints m) c 0 [] inside))
+      let inside : c < length (constraints m.rows) = omega (arith, within, way.rows) in
+      omega (arith, ap length (way.terms c inside), length-append (get_or d.terms c []) (entries_left m p (e ∷ es) js (get_or (constraints m.rows) c 0)), ap length (get_or-map (row_terms m) (constraints m.rows) c 0 [] inside))
 
   room_for : is_constraint m.rows e.row ≡ true → CanAddTerm (Constraint (rank m.rows e.row)) d
   unfolding import_counts
   room_for f =
       let k = rank m.rows e.row in
-      let inside : k < length (constraints m) = rank_below m e.row f lt in
-      let here : nat_eq e.row (get_or (constraints m) k 0) ≡ true = same_row m e.row k f lt inside ∙ eq-eqb k k refl in (
+      let inside : k < length (constraints m.rows) = rank_below m e.row f lt in
+      let here : nat_eq e.row (get_or (constraints m.rows) k 0) ≡ true = same_row m e.row k f lt inside ∙ eq-eqb k k refl in (
         subst (λ (c : _). k < c.n_con) (sym way.counts) inside,
         omega (
           arith,
           few_terms m clean,
-          sum_lt d.terms (constraint_terms m) k (way.rows ∙ sym (length-map (constraints m) (row_terms m))) no_more (omega (arith, inside, way.rows))
-              (omega (arith, least true (eq-eqb e.row e.row refl) (get_or d.terms k []) (row_terms m (get_or (constraints m) k 0)) (get_or (constraints m) k 0) here (way.terms k inside), ap length (get_or-map (row_terms m) (constraints m) k 0 [] inside))),
+          sum_lt d.terms (constraint_terms m) k (way.rows ∙ sym (length-map (constraints m.rows) (row_terms m))) no_more (omega (arith, inside, way.rows))
+              (omega (arith, least true (eq-eqb e.row e.row refl) (get_or d.terms k []) (row_terms m (get_or (constraints m.rows) k 0)) (get_or (constraints m.rows) k 0) here (way.terms k inside), ap length (get_or-map (row_terms m) (constraints m.rows) k 0 [] inside))),
         ),
       )
 
@@ -383,14 +325,14 @@ module _ (m : Mps Dec) where
   pub column_ended : (p : ℕ) (js : List ℕ) (d : Draft) → IsOnItsWay m (entries_left m p [] (drop (suc p) js)) d → IsOnItsWay m (terms_left m (p + 1) (drop (p + 1) js)) d
   column_ended p js d = subst (λ left. IsOnItsWay m left d) (λ k i. terms_from m i (sym (add-one p) k) (drop (sym (add-one p) k) js))
 
-  pub way_begun : (d : Draft) → d.counts ≡ import_counts m → d.terms ≡ replicate (length (constraints m)) [] → d.slopes ≡ [] ∷ [] → IsOnItsWay m (terms_left m 0 (order_of_columns m)) d
+  pub way_begun : (d : Draft) → d.counts ≡ import_counts m → d.terms ≡ replicate (length (constraints m.rows)) [] → d.slopes ≡ [] ∷ [] → IsOnItsWay m (terms_left m 0 (order_of_columns m)) d
   unfolding row_terms
   way_begun d counts terms slopes =
       record {
         counts = counts;
-        rows = ap length terms ∙ length-replicate (length (constraints m)) [];
+        rows = ap length terms ∙ length-replicate (length (constraints m.rows)) [];
         costs = ap length slopes;
-        terms = λ c within. ap (λ xs. xs ++ row_terms m (get_or (constraints m) c 0)) (ap (λ ts. get_or ts c []) terms ∙ get_or-replicate (length (constraints m)) c [] [] within);
+        terms = λ c within. ap (λ xs. xs ++ row_terms m (get_or (constraints m.rows) c 0)) (ap (λ ts. get_or ts c []) terms ∙ get_or-replicate (length (constraints m.rows)) c [] [] within);
         slopes = ap (λ xs. get_or xs 0 [] ++ objective_terms m) slopes;
       }
 
@@ -406,9 +348,9 @@ module _ (m : Mps Dec) where
 
     pub way_ended_terms : d.terms ≡ constraint_terms m
     way_ended_terms =
-        ext_get_or [] d.terms (constraint_terms m) (way.rows ∙ sym (length-map (constraints m) (row_terms m)))
-        (λ c lt. let inside : c < length (constraints m) = omega (arith, lt, way.rows) in
-        sym (append-nil (get_or d.terms c [])) ∙ ap (λ xs. get_or d.terms c [] ++ xs) (sym (nothing_left (get_or (constraints m) c 0))) ∙ way.terms c inside ∙ sym (get_or-map (row_terms m) (constraints m) c 0 [] inside))
+        ext_get_or [] d.terms (constraint_terms m) (way.rows ∙ sym (length-map (constraints m.rows) (row_terms m)))
+        (λ c lt. let inside : c < length (constraints m.rows) = omega (arith, lt, way.rows) in
+        sym (append-nil (get_or d.terms c [])) ∙ ap (λ xs. get_or d.terms c [] ++ xs) (sym (nothing_left (get_or (constraints m.rows) c 0))) ∙ way.terms c inside ∙ sym (get_or-map (row_terms m) (constraints m.rows) c 0 [] inside))
 
     pub way_ended_slopes : d.slopes ≡ objective_terms m ∷ []
     way_ended_slopes = one_list d.slopes (objective_terms m) way.costs (sym (append-nil (get_or d.slopes 0 [])) ∙ ap (λ xs. get_or d.slopes 0 [] ++ xs) (sym (nothing_left (objective_row m.rows))) ∙ way.slopes)

@@ -1,56 +1,29 @@
 -- The .nl file that an MPS program is imported as (Gay 2005, "Writing .nl Files").
-use Rattle.std.specs.Prelude.{ℕ, suc, nat_eq, Bool, true, false, not, ◌&&◌, if◌then◌else◌, pos, ℤ, List, [], ◌∷◌, ◌++◌, length, map, get_or, replicate, Option, Some, None}
+use Rattle.std.specs.Prelude.{ℕ, suc, Bool, pos, ℤ, List, [], ◌∷◌, ◌++◌, length, map, get_or, replicate, None}
 use Rattle.std.specs.List.{filter_map, count_by}
-use Rattle.std.specs.Ordering.{is_eq, is_ne, int_eq}
+use Rattle.std.specs.Ordering.{is_eq, is_ne}
 use Rattle.std.specs.declared.cmp.Ordering.{Ordering}
 use Rattle.fractions.specs.Rational.{ℚ, neg_ℚ}
-use Rattle.exact_numbers.specs.Values.{order_of}
 use Rattle.exact_numbers.specs.declared.dec.Dec.{Dec}
 use Rattle.nl_model.specs.declared.header_counts.Counts.{Counts}
 use Rattle.nl_model.specs.File.{Term, File}
 use Rattle.nl_model.specs.declared.objective.Objective.{Objective}
 use Rattle.nl_model.specs.Rules.{term_count}
-use Rattle.mps_model.specs.Mps.{MpsRow, Entry, Mps, no_mps_row, no_column, row_interval, column_interval, rhs_at, objective_row}
-use Rattle.mps_model.specs.declared.kinds.RowKind.{RowKind}
-use Rattle.mps_model.specs.declared.kinds.RowKind.TheVariants.{N, L, G, E}
-use Rattle.mps_import.specs.Decimals.{sides_from, number_tree}
-use Rattle.mps_import.specs.Places.{places}
-use Rattle.mps_import.specs.Variables.{values_of, columns_that, is_binary, is_integer, order_of_columns}
+use Rattle.mps_model.specs.Mps.{Entry, Mps, no_column, row_interval, column_interval, rhs_at, objective_row}
+use Rattle.mps_program.specs.Decimals.{sides_from}
+use Rattle.mps_program.specs.Faults.{both_sides}
+use Rattle.mps_program.specs.Program.{values_of, constraints}
+use Rattle.mps_program.specs.Terms.{term_of}
+use Rattle.mps_import.specs.Decimals.{number_tree}
+use Rattle.mps_import.specs.Variables.{columns_that, is_binary, is_integer, order_of_columns}
 
 -- ---- rows
-abbrev pub is_bounded_kind : RowKind → Bool
-is_bounded_kind N = false
-is_bounded_kind L = true
-is_bounded_kind G = true
-is_bounded_kind E = true
-
--- row i is no N row
-abbrev pub is_constraint : List MpsRow → ℕ → Bool
-is_constraint rows i = is_bounded_kind (get_or rows i no_mps_row).kind
-
--- the row of each constraint, in order
-unfoldable pub constraints : Mps Dec → List ℕ
-constraints m = places (is_constraint m.rows) (length m.rows)
-
--- what a test says of both sides, where both are there
-abbrev pub both_sides : (Ordering → Bool) → Option ℚ → Option ℚ → Bool
-both_sides test None u = false
-both_sides test (Some l) None = false
-both_sides test (Some l) (Some u) = test (order_of l u)
-
 -- the sides of row i are there, and the test passes their order
 abbrev pub has_sides : (Ordering → Bool) → Mps Dec → ℕ → Bool
 has_sides test m i =
     both_sides test (row_interval (values_of m) i).lower (row_interval (values_of m) i).upper
 
 -- ---- terms
-abbrev pub is_zero_dec : Dec → Bool
-is_zero_dec d = int_eq d.m (pos 0)
-
--- the term of variable p for an entry in row i that is not 0
-abbrev pub term_of : ℕ → ℕ → Entry Dec → Option Term
-term_of i p e = if nat_eq e.row i && not (is_zero_dec e.value) then Some (p, e.value) else None
-
 -- the entries of column j
 abbrev pub entries_at : Mps Dec → ℕ → List (Entry Dec)
 entries_at m j = (get_or m.columns j no_column).entries
@@ -66,7 +39,7 @@ row_terms m i = terms_from m i 0 (order_of_columns m)
 
 -- of all constraints
 abbrev pub constraint_terms : Mps Dec → List (List Term)
-constraint_terms m = map (row_terms m) (constraints m)
+constraint_terms m = map (row_terms m) (constraints m.rows)
 
 -- of the objective
 abbrev pub objective_terms : Mps Dec → List Term
@@ -114,8 +87,9 @@ counts_with variables constraints ranges equations binary integer terms slopes =
 -- ranges and equations are the constraints with two sides that differ, or are equal
 unfoldable pub import_counts : Mps Dec → Counts
 import_counts m =
-    counts_with (length m.columns) (length (constraints m))
-    (count_by (has_sides is_ne m) (constraints m)) (count_by (has_sides is_eq m) (constraints m))
+    counts_with (length m.columns) (length (constraints m.rows))
+    (count_by (has_sides is_ne m) (constraints m.rows))
+    (count_by (has_sides is_eq m) (constraints m.rows))
     (length (columns_that is_binary m)) (length (columns_that is_integer m))
     (term_count (constraint_terms m)) (length (objective_terms m))
 
@@ -135,12 +109,12 @@ import_of m =
     record {
       options = import_options;
       counts = import_counts m;
-      bodies = replicate (length (constraints m)) None;
+      bodies = replicate (length (constraints m.rows)) None;
       objectives = import_objective m ∷ [];
       definitions = [];
       terms = constraint_terms m;
       slopes = objective_terms m ∷ [];
-      sides = map (λ i. sides_from (row_interval (values_of m) i)) (constraints m);
+      sides = map (λ i. sides_from (row_interval (values_of m) i)) (constraints m.rows);
       bounds = map (λ j. sides_from (column_interval (values_of m) j)) (order_of_columns m);
       dual_guesses = [];
       primal_guesses = [];

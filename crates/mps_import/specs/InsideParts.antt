@@ -8,12 +8,14 @@ use Rattle.nl_model.specs.Draft.{Draft, empty_draft}
 use Rattle.nl_model.specs.Rules.{term_count}
 use Rattle.linear_program.specs.declared.interval.Interval.{Interval as Sides}
 use Rattle.mps_import.specs.declared.build.Parts.{Parts}
-use Rattle.mps_import.specs.Decimals.{sides_from}
+use Rattle.mps_program.specs.Decimals.{sides_from}
 use Rattle.mps_import.specs.Faults.{import_fault}
-use Rattle.mps_import.specs.Import.{both_sides, constraints, constraint_terms, objective_terms, import_counts, import_options, import_objective}
-use Rattle.mps_import.specs.Places.{listed}
+use Rattle.mps_program.specs.Faults.{both_sides}
+use Rattle.mps_program.specs.Program.{constraints, values_of}
+use Rattle.mps_import.specs.Import.{constraint_terms, objective_terms, import_counts, import_options, import_objective}
+use Rattle.mps_program.specs.Places.{listed}
 use Rattle.mps_import.specs.InsideUses.{use_of}
-use Rattle.mps_import.specs.Variables.{values_of, columns_that, is_binary, is_integer, order_of_columns}
+use Rattle.mps_import.specs.Variables.{columns_that, is_binary, is_integer, order_of_columns}
 
 -- both sides are there, and are equal or differ
 abbrev pub side_test : Bool → Sides → Bool
@@ -30,7 +32,8 @@ pub record ArePartsOf (m : Mps Dec) (p : Parts) : Type 0 where
   pub clean : import_fault m ≡ None
   pub uses : p.uses.items ≡ listed (use_of m.rows) (length m.rows)
   pub objective : p.objective ≡ objective_row m.rows
-  pub sides : p.sides.items ≡ map (λ i. sides_from (row_interval (values_of m) i)) (constraints m)
+  pub sides : p.sides.items
+      ≡ map (λ i. sides_from (row_interval (values_of m) i)) (constraints m.rows)
   pub bounds : p.bounds.items
       ≡ listed (λ j. sides_from (column_interval (values_of m) j)) (length m.columns)
   pub order : p.variables.columns.items ≡ order_of_columns m

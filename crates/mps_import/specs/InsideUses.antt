@@ -8,8 +8,10 @@ use Rattle.nl_model.specs.Rules.{most_terms, term_count}
 use Rattle.mps_model.specs.Mps.{MpsRow, Entry, Mps, objective_row}
 use Rattle.mps_import.specs.declared.rows.RowUse.{RowUse}
 use Rattle.mps_import.specs.declared.rows.RowUse.TheVariants.{Unused, Objective, Constraint}
-use Rattle.mps_import.specs.Import.{is_constraint, constraints, is_zero_dec, term_of, entries_at, terms_from, row_terms, objective_terms, import_counts}
-use Rattle.mps_import.specs.Places.{places}
+use Rattle.mps_program.specs.Program.{is_constraint, constraints}
+use Rattle.mps_program.specs.Terms.{is_zero_dec, term_of}
+use Rattle.mps_import.specs.Import.{entries_at, terms_from, row_terms, objective_terms, import_counts}
+use Rattle.mps_program.specs.Places.{places, one_if}
 
 -- the number of constraints before row i
 abbrev pub rank : List MpsRow → ℕ → ℕ
@@ -25,9 +27,6 @@ use_of rows i =
 -- an entry that is not 0 in a row that passes
 abbrev pub is_hit : (ℕ → Bool) → Entry Dec → Bool
 is_hit test e = test e.row && not (is_zero_dec e.value)
-
-abbrev pub one_if : Bool → ℕ
-one_if b = cond b 1 0
 
 -- how many entries of some columns are not 0, in rows that pass
 abbrev pub hits : (ℕ → Bool) → List (Entry Dec) → ℕ
@@ -66,11 +65,11 @@ entries_left m p es js i = filter_map (term_of i p) es ++ terms_from m i (suc p)
 -- objective
 pub record IsOnItsWay (m : Mps Dec) (left : ℕ → List Term) (d : Draft) : Type 0 where
   pub counts : d.counts ≡ import_counts m
-  pub rows : length d.terms ≡ length (constraints m)
+  pub rows : length d.terms ≡ length (constraints m.rows)
   pub costs : length d.slopes ≡ 1
-  pub terms : (c : ℕ) → c < length (constraints m)
-      → get_or d.terms c [] ++ left (get_or (constraints m) c 0)
-      ≡ row_terms m (get_or (constraints m) c 0)
+  pub terms : (c : ℕ) → c < length (constraints m.rows)
+      → get_or d.terms c [] ++ left (get_or (constraints m.rows) c 0)
+      ≡ row_terms m (get_or (constraints m.rows) c 0)
   pub slopes : get_or d.slopes 0 [] ++ left (objective_row m.rows) ≡ objective_terms m
 
 -- the term may be added

@@ -1,27 +1,31 @@
 // The import of a program.
 ghost use Rattle.std.specs.Prelude.{◌≡◌, ◌++◌, ◌+◌, ◌≤◌, ◌<◌, ◌^◌, false, true, All, cond, None, Some, IfOk, IfErr, OnOk, get_or, length, map, nat_lt, ◌||◌};
 ghost use Rattle.std.specs.List.{count_by};
+ghost use Rattle.std.specs.Option.{option_map};
 ghost use Rattle.texts.specs.Stopped.{IfFault};
 ghost use Rattle.std.specs.Ordering.{is_eq, is_ne};
 ghost use Rattle.exact_numbers.specs.Values.{dec_value, exponent_of, mantissa_of, order_of};
 ghost use Rattle.linear_program.specs.Intervals.{no_sides, IsOrdered};
-ghost use Rattle.mps_model.specs.Mps.{objective_row};
+ghost use Rattle.mps_model.specs.Mps.{objective_row, row_interval};
 ghost use Rattle.nl_meaning.specs.Trees.{number};
 ghost use Rattle.nl_model.specs.HeaderWords.{header_counts, header_options};
 ghost use Rattle.mps_import.specs.Faults.{import_fault};
 ghost use Rattle.mps_import.specs.Import.{counts_with, import_counts, import_of, import_options, objective_constant};
 ghost use Rattle.mps_import.specs.InsideParts.{ArePartsOf, begun_draft, side_test};
 ghost use Rattle.mps_import.specs.Variables.{order_of_columns};
+ghost use Rattle.mps_import.specs.declared.import_fault.ImportFault.TheVariants.{TooWide as TooWideFault};
+ghost use Rattle.mps_program.specs.Decimals.{sides_from};
+ghost use Rattle.mps_program.specs.Faults.{first_wide};
+ghost use Rattle.mps_program.specs.Program.{constraints, values_of};
 
-use crate::by_place::at_row;
-use crate::columns::sides_and_kinds;
 use crate::import_fault::ImportFault;
 use crate::imported::{Imported, Order};
-use crate::rows::{RowUse, constraint_sides, or_zero, row_uses, with_one};
+use crate::rows::{RowUse, row_uses};
 use crate::terms::{Counted, add_terms, count_terms};
-use crate::variables::{Variables, first_empty, in_kinds};
+use crate::variables::{Variables, in_kinds};
 use exact_numbers::Dec;
 use mps_model::Mps;
+use mps_program::{constraint_sides, first_empty, right_side, sides_and_kinds, with_one};
 use nl_model::{Counts, Expr, ExprBuilder, Header, Interval, NlBuilder, NlFile, Node, Options};
 use std::alloc::{AllocError, Global};
 use std::cmp::Ordering;
@@ -49,6 +53,22 @@ fn is_too_long(constraints: u32, columns: usize) -> bool
     constraints > MOST_PLACES || columns > MOST_PLACES as usize
 }
 
+// The sides of the constraints, or a fault of the first row whose range is out of reach.
+fn sides_of(alloc: Global, mps: &Mps) -> Result<Vec<Interval>, Stop<ImportFault>>
+    ensures sides { IfOk result
+        (λ v. v.items
+        ≡ map (λ i. sides_from (row_interval (values_of mps.now) i)) (constraints mps.now.rows)) }
+    ensures clean { IfOk result (λ v. first_wide mps.now ≡ None) }
+    ensures fault { IfErr result
+        (λ stop. IfFault stop (λ fault. option_map TooWideFault (first_wide mps.now)
+        ≡ Some fault)) }
+{
+    match constraint_sides(alloc, mps) {
+        Ok(sides) => Ok(sides),
+        Err(stop) => Err(stop.map_fault(|row| ImportFault::TooWide(row))),
+    }
+}
+
 // The parts of a program, or its first fault.
 fn parts_of(alloc: Global, mps: &Mps) -> Result<Parts, Stop<ImportFault>>
     ensures parts { IfOk result (λ p. ArePartsOf mps.now p) }
@@ -66,7 +86,7 @@ fn parts_of(alloc: Global, mps: &Mps) -> Result<Parts, Stop<ImportFault>>
     let Some(count) = count_terms(mps, &variables.columns, &rows.uses) else {
         return Err(Stop::Fault(ImportFault::TooLarge));
     };
-    let sides = constraint_sides(alloc, mps)?;
+    let sides = sides_of(alloc, mps)?;
     if let Some(column) = first_empty(&columns.sides) {
         return Err(Stop::Fault(ImportFault::EmptyInterval(column)));
     }
@@ -232,9 +252,7 @@ fn constant_of(mps: &Mps, objective: usize) -> Dec
     requires { objective ≡ objective_row mps.now.rows }
     ensures { dec_value result ≡ objective_constant mps.now }
 {
-    let rhs = mps.rhs();
-    let given = at_row(rhs, objective);
-    let side = or_zero(given);
+    let side = right_side(mps, objective);
     side.neg()
 }
 

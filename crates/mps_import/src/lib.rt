@@ -2,14 +2,11 @@
 #![tactic(auto)]
 
 mod build;
-mod by_place;
-mod columns;
 mod import_fault;
 mod imported;
 pub mod laws;
 mod places;
 mod rows;
-mod sides;
 mod terms;
 mod variables;
 

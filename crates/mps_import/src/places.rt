@@ -1,6 +1,6 @@
 // Places of a kind.
 ghost use Rattle.std.specs.Prelude.{◌≡◌, ◌≤◌, ◌^◌, ◌++◌, ◌∷◌, [], if◌then◌else◌, length, IfOk, OnOk};
-ghost use Rattle.mps_import.specs.InsideColumns.{is_kind, of_kind};
+ghost use Rattle.mps_import.specs.InsideKinds.{is_kind, of_kind};
 
 use nl_model::Kind;
 use std::alloc::{AllocError, Global};
@@ -28,7 +28,7 @@ fn add_where(found: &mut Vec<u32>, is_marked: bool, place: u32) -> Result<(), Al
 }
 
 // The places of a kind, ascending.
-#[tactic(auto, unfolding(crate::specs::Places::places))]
+#[tactic(auto, unfolding(mps_program::specs::Places::places))]
 pub(crate) fn places_of(alloc: Global, kinds: &[Kind], kind: Kind) -> Result<Vec<u32>, AllocError>
     requires few { length kinds.now ≤ 2 ^ 21 }
     ensures { IfOk result (λ v. v.items ≡ of_kind kind kinds.now) }

@@ -3,15 +3,18 @@ ghost use Rattle.std.specs.Prelude.{◌≡◌, ◌<◌, ◌≤◌, ◌+◌, ◌&
 ghost use Rattle.mps_model.specs.Built.{entry_of};
 ghost use Rattle.nl_model.specs.Rules.{most_terms};
 ghost use Rattle.mps_import.specs.Faults.{is_too_large};
-ghost use Rattle.mps_import.specs.Import.{constraint_terms, constraints, import_counts, is_zero_dec, objective_terms};
-ghost use Rattle.mps_import.specs.Places.{listed};
-ghost use Rattle.mps_import.specs.InsideUses.{CanAddTerm, IsOnItsWay, hits, hits_in, is_constraint_at, is_constraint_use, is_objective_at, is_objective_use, one_if, terms_left, use_of, with_term};
+ghost use Rattle.mps_import.specs.Import.{constraint_terms, import_counts, objective_terms};
+ghost use Rattle.mps_program.specs.Program.{constraints};
+ghost use Rattle.mps_program.specs.Terms.{is_zero_dec};
+ghost use Rattle.mps_program.specs.Places.{listed, one_if};
+ghost use Rattle.mps_import.specs.InsideUses.{CanAddTerm, IsOnItsWay, hits, hits_in, is_constraint_at, is_constraint_use, is_objective_at, is_objective_use, terms_left, use_of, with_term};
 ghost use Rattle.mps_import.specs.declared.rows.RowUse.TheVariants.{Unused};
 ghost use Rattle.mps_import.specs.Variables.{order_of_columns};
 
-use crate::rows::{RowUse, with_one};
+use crate::rows::RowUse;
 use exact_numbers::Dec;
 use mps_model::Mps;
+use mps_program::{is_zero, with_one};
 use nl_model::NlBuilder;
 use std::alloc::AllocError;
 
@@ -23,12 +26,6 @@ const MOST_TERMS: u32 = 0x40_0000;
 pub(crate) struct Counted {
     pub(crate) constraints: u32,
     pub(crate) objective: u32,
-}
-
-fn is_zero(value: Dec) -> bool
-    ensures { result ≡ is_zero_dec value }
-{
-    value.is_zero()
 }
 
 // The counts with one entry more.
@@ -190,7 +187,7 @@ pub(crate) fn add_terms(
     requires uses { uses.now ≡ listed (use_of mps.now.rows) (length mps.now.rows) }
     requires clean { is_too_large mps.now ≡ false }
     requires counts { builder.old.counts ≡ import_counts mps.now }
-    requires terms { builder.old.terms ≡ replicate (length (constraints mps.now)) [] }
+    requires terms { builder.old.terms ≡ replicate (length (constraints mps.now.rows)) [] }
     requires slopes { builder.old.slopes ≡ [] ∷ [] }
     ensures { OnOk result (builder.new
         ≡ record builder.old {

@@ -4,7 +4,7 @@ use Rattle.mps_import.specs.Import.{counts_with, import_options}
 use Rattle.std.specs.List.{count_by}
 use Rattle.mps_import.specs.InsideParts.{side_test}
 use Rattle.mps_import.proofs.PartLemmas.{few_constraints, few_columns, sides_count, counts_are, header_there}
-use Rattle.mps_import.proofs.PlaceLemmas.{not_both_ways}
+use Rattle.mps_program.proofs.PlaceLemmas.{not_both_ways}
 use Rattle.mps_import.proofs.build.header_of.Goals as goal
 
 pub counts_of-counts-requires-clause-sides : goal.counts_of-counts-requires-clause-sides

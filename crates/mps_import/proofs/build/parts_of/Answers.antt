@@ -1,16 +1,17 @@
 use Rattle.std.proofs.Common.{◌≡◌, ◌<◌, ◌∙◌, sym, ap, subst, arith, false, length, All}
 use Rattle.mps_model.specs.Mps.{column_interval, objective_row}
-use Rattle.mps_import.specs.Decimals.{sides_from}
+use Rattle.mps_program.specs.Decimals.{sides_from}
 use Rattle.mps_import.specs.Faults.{is_too_large}
-use Rattle.mps_import.specs.Import.{constraints}
-use Rattle.mps_import.specs.Places.{listed}
+use Rattle.mps_program.specs.Program.{constraints, values_of}
+use Rattle.mps_program.specs.Places.{listed}
 use Rattle.mps_import.specs.InsideUses.{rank, use_of}
-use Rattle.mps_import.specs.Variables.{order_of_columns, values_of}
-use Rattle.mps_import.proofs.FirstLemmas.{listed_length}
+use Rattle.mps_import.specs.Variables.{order_of_columns}
+use Rattle.mps_program.proofs.FirstLemmas.{listed_length}
 use Rattle.mps_import.proofs.PartLemmas.{order_is, binary_places, integer_places, all_columns, large_fault, empty_fault, no_fault, large_places, large_terms, not_large}
 use Rattle.mps_import.proofs.TermLemmas.{use_count}
-use Rattle.mps_import.proofs.FileLemmas.{large_is, rank_all, terms_counted, slopes_counted, empty_is, wide_stop}
-use Rattle.mps_import.specs.InsideColumns.{column_kind}
+use Rattle.mps_import.proofs.FileLemmas.{large_is, rank_all, terms_counted, slopes_counted, wide_stop}
+use Rattle.mps_program.proofs.FaultLemmas.{empty_is}
+use Rattle.mps_program.specs.Kinds.{column_kind}
 use Rattle.mps_import.proofs.build.parts_of.Goals as goal
 use Rattle.mps_import.proofs.build.parts_of.Goals.{In-Some}
 
@@ -25,7 +26,7 @@ pub returns-then-is_too_long-clause-fault : goal.returns-then-is_too_long-clause
 returns-then-is_too_long-clause-fault c =
     let m = c.args.mps.now in
     let all : c.rows-all.result.now ≡ m.rows = c.rows-all.ensures.value in
-    let count : c.in_ok-rows.rows.constraints ≡ length (constraints m) = c.in_ok-rows.ensures.constraints ∙ ap (λ rs. rank rs (length rs)) all ∙ rank_all m in
+    let count : c.in_ok-rows.rows.constraints ≡ length (constraints m.rows) = c.in_ok-rows.ensures.constraints ∙ ap (λ rs. rank rs (length rs)) all ∙ rank_all m in
     let long = large_is m c.in_ok-rows.rows.constraints (length c.columns-width.result.now) c.is_too_long.result count (ap length c.columns-width.ensures.value) c.is_too_long.ensures in
     large_fault m (large_places m (long ∙ c.if-is_too_long.true))
 
@@ -51,7 +52,7 @@ returns-in_default-clause-fault c =
     let uses : c.in_ok-rows.rows.uses.items ≡ listed (use_of m.rows) (length m.rows) = c.in_ok-rows.ensures.uses ∙ ap (λ rs. listed (use_of rs) (length rs)) all in
     let kinds = c.deref.ensures.value ∙ c.in_ok-columns.ensures.kinds in
     let order : c.in_ok-variables.variables.columns.items ≡ order_of_columns m = c.in_ok-variables.ensures.columns ∙ order_is m c.deref.result.now kinds in
-    let count : c.in_ok-rows.rows.constraints ≡ length (constraints m) = c.in_ok-rows.ensures.constraints ∙ ap (λ rs. rank rs (length rs)) all ∙ rank_all m in
+    let count : c.in_ok-rows.rows.constraints ≡ length (constraints m.rows) = c.in_ok-rows.ensures.constraints ∙ ap (λ rs. rank rs (length rs)) all ∙ rank_all m in
     let long = large_is m c.in_ok-rows.rows.constraints (length c.columns-width.result.now) c.is_too_long.result count (ap length c.columns-width.ensures.value) c.is_too_long.ensures in
     let terms = terms_counted m c.deref-3.result.now c.deref-2.result.now (c.deref-3.ensures.value ∙ uses) (c.deref-2.ensures.value ∙ order) in
     let slopes = slopes_counted m c.deref-3.result.now c.deref-2.result.now (c.deref-3.ensures.value ∙ uses) (c.deref-2.ensures.value ∙ order) valid.complete.objective in
@@ -66,7 +67,7 @@ few c =
     let uses : c.in_ok-rows.rows.uses.items ≡ listed (use_of m.rows) (length m.rows) = c.in_ok-rows.ensures.uses ∙ ap (λ rs. listed (use_of rs) (length rs)) all in
     let kinds = c.deref.ensures.value ∙ c.in_ok-columns.ensures.kinds in
     let order : c.in_ok-variables.variables.columns.items ≡ order_of_columns m = c.in_ok-variables.ensures.columns ∙ order_is m c.deref.result.now kinds in
-    let count : c.in_ok-rows.rows.constraints ≡ length (constraints m) = c.in_ok-rows.ensures.constraints ∙ ap (λ rs. rank rs (length rs)) all ∙ rank_all m in
+    let count : c.in_ok-rows.rows.constraints ≡ length (constraints m.rows) = c.in_ok-rows.ensures.constraints ∙ ap (λ rs. rank rs (length rs)) all ∙ rank_all m in
     let long = large_is m c.in_ok-rows.rows.constraints (length c.columns-width.result.now) c.is_too_long.result count (ap length c.columns-width.ensures.value) c.is_too_long.ensures in
     let terms = terms_counted m c.deref-3.result.now c.deref-2.result.now (c.deref-3.ensures.value ∙ uses) (c.deref-2.ensures.value ∙ order) in
     let slopes = slopes_counted m c.deref-3.result.now c.deref-2.result.now (c.deref-3.ensures.value ∙ uses) (c.deref-2.ensures.value ∙ order) valid.complete.objective in

@@ -1,8 +1,8 @@
 use Rattle.std.proofs.Common.{◌≡◌, ◌∙◌, sym, ap, ap₂, arith, ◌++◌, get_or}
 use Rattle.std.proofs.lemmas.List.{get_or_default}
 use Rattle.linear_program.specs.declared.kind.Kind.TheVariants.{Continuous}
-use Rattle.mps_import.specs.InsideColumns.{is_kind}
-use Rattle.mps_import.proofs.PlaceLemmas.{one_where, places_more}
+use Rattle.mps_import.specs.InsideKinds.{is_kind}
+use Rattle.mps_program.proofs.PlaceLemmas.{one_where, places_more}
 use Rattle.mps_import.proofs.places.places_of.Goals as goal
 
 pub kinds-preserved : goal.kinds-preserved

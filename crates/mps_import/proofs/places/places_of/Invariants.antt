@@ -1,7 +1,7 @@
 use Rattle.std.proofs.Common.{◌≡◌, get_or}
 use Rattle.linear_program.specs.declared.kind.Kind.TheVariants.{Continuous}
-use Rattle.mps_import.specs.InsideColumns.{is_kind}
-use Rattle.mps_import.specs.Places.{places}
+use Rattle.mps_import.specs.InsideKinds.{is_kind}
+use Rattle.mps_program.specs.Places.{places}
 use Rattle.mps_import.proofs.places.places_of.Given as goal
 
 abbrev pub invariant-kinds : goal.invariant-kinds

@@ -1,9 +1,10 @@
 use Rattle.std.proofs.Common.{◌≡◌, ◌+◌, ◌∙◌, sym, ap, ap₂, arith, nat_eq}
 use Rattle.std.proofs.lemmas.List.{get_or_default}
 use Rattle.mps_model.specs.Mps.{MpsRow, no_mps_row}
-use Rattle.mps_import.specs.Import.{is_bounded_kind, is_constraint}
-use Rattle.mps_import.specs.InsideUses.{use_of, one_if}
-use Rattle.mps_import.proofs.FirstLemmas.{listed_push, before_more, before_small}
+use Rattle.mps_program.specs.Program.{is_bounded_kind, is_constraint}
+use Rattle.mps_import.specs.InsideUses.{use_of}
+use Rattle.mps_program.specs.Places.{one_if}
+use Rattle.mps_program.proofs.FirstLemmas.{listed_push, before_more, before_small}
 use Rattle.mps_import.proofs.PartLemmas.{use_is}
 use Rattle.mps_import.proofs.rows.row_uses.Goals as goal
 

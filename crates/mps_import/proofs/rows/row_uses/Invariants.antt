@@ -1,5 +1,5 @@
 use Rattle.std.proofs.Common.{◌≡◌}
-use Rattle.mps_import.specs.Places.{listed}
+use Rattle.mps_program.specs.Places.{listed}
 use Rattle.mps_import.specs.InsideUses.{rank, use_of}
 use Rattle.mps_import.proofs.rows.row_uses.Given as goal
 

@@ -5,12 +5,14 @@ use Rattle.mps_model.specs.Built.{entry_of}
 use Rattle.mps_model.specs.Mps.{Entry}
 use Rattle.nl_model.specs.Draft.{Draft}
 use Rattle.nl_model.specs.declared.header_counts.Counts.{Counts}
-use Rattle.mps_import.specs.Import.{import_counts, is_zero_dec}
+use Rattle.mps_import.specs.Import.{import_counts}
+use Rattle.mps_program.specs.Terms.{is_zero_dec}
 use Rattle.mps_import.specs.InsideUses.{IsOnItsWay, entries_left}
 use Rattle.mps_import.proofs.EntryLemmas.{AreEntriesAt, column_inside, entries_read, next_entry}
 use Rattle.mps_import.proofs.MeaningLemmas.{order_length}
-use Rattle.mps_import.proofs.LoopLemmas.{drop_all}
-use Rattle.mps_import.proofs.PartLemmas.{entry_within, only_terms, still_only}
+use Rattle.mps_program.proofs.LoopLemmas.{drop_all}
+use Rattle.mps_program.proofs.PartLemmas.{entry_within}
+use Rattle.mps_import.proofs.PartLemmas.{only_terms, still_only}
 use Rattle.mps_import.proofs.TermLemmas.{column_begun, column_ended, entry_passed, there_is_room, use_count}
 use Rattle.mps_import.proofs.terms.add_column.Goals as goal
 use Rattle.mps_import.proofs.terms.add_column.Goals.{After-entries-entries}

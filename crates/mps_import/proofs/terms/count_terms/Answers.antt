@@ -2,7 +2,7 @@ use Rattle.std.proofs.Common.{◌<◌, sym, ap, subst, arith, List, length, All}
 use Rattle.mps_model.specs.Mps.{Entry, Column}
 use Rattle.mps_model.specs.Valid.{AreEntries}
 use Rattle.exact_numbers.specs.declared.dec.Dec.{Dec}
-use Rattle.mps_import.proofs.LoopLemmas.{fact_is}
+use Rattle.mps_program.proofs.LoopLemmas.{fact_is}
 use Rattle.mps_import.proofs.terms.count_terms.Goals as goal
 
 pub with_entries-requires-clause-within : goal.with_entries-requires-clause-within

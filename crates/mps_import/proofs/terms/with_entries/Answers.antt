@@ -1,6 +1,7 @@
 use Rattle.std.proofs.Common.{◌∙◌, arith, length}
 use Rattle.mps_import.specs.InsideUses.{is_constraint_use, is_objective_use}
-use Rattle.mps_import.proofs.PartLemmas.{count_step, entry_within}
+use Rattle.mps_import.proofs.PartLemmas.{count_step}
+use Rattle.mps_program.proofs.PartLemmas.{entry_within}
 use Rattle.mps_import.proofs.terms.with_entries.Goals as goal
 
 pub use_at-what-requires : goal.use_at-what-requires

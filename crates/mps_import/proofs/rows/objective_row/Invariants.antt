@@ -1,6 +1,0 @@
-use Rattle.std.proofs.Common.{◌≡◌, ◌+◌, drop}
-use Rattle.mps_model.specs.Mps.{objective_row}
-use Rattle.mps_import.proofs.rows.objective_row.Given as goal
-
-abbrev pub invariant-rows : goal.invariant-rows
-invariant-rows l = l.i + objective_row (drop l.i l.rows) ≡ objective_row l.rows

@@ -1,5 +1,0 @@
-use Rattle.mps_import.proofs.PartLemmas.{zero_same}
-use Rattle.mps_import.proofs.terms.is_zero.Goals as goal
-
-pub returns : goal.returns
-returns c = zero_same c.is_zero.result c.args.value c.is_zero.ensures
