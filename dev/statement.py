@@ -4,12 +4,13 @@
     dev/statement.py CRATE/FILE:NAME ..   the definitions, by file, from the ground up, with their texts
     dev/statement.py --all                the definitions of every theorem (the packages hold this text)
     dev/statement.py --sizes              how large the statement of each theorem is
+    dev/statement.py --senses             the names that have two senses in the statement of a theorem
     dev/statement.py --write              writes docs/verify/reading.md: the statement of each theorem, by file
     dev/statement.py --check              says whether docs/verify/reading.md is as --write makes it, and what a statement may
                                           not rest on; status 1 where something is wrong
 
-A definition of `crates/CRATE/specs/FILE.antt` rests on those that its text names. Names of the toolchain's library and
-types that code declares (`specs.declared`) are not followed: the library is trusted, and a type says its parts itself.
+A definition of `crates/CRATE/specs/FILE.antt` rests on those that its text names. Names of the toolchain's library are not
+followed: it is trusted. Types that code declares (`specs.declared`) are printed and counted apart, from the code.
 A value that holds a proof cites lemmas, which stand in files named `..Lemmas`. The machine checks them, and their types
 say nothing that the value's type does not say: they are counted apart, and what they alone rest on is no part of a
 statement. Files named `Inside..` have what only contracts of private code cite: no statement rests on them.
@@ -136,6 +137,17 @@ class SpecFile:
                 files.setdefault("/".join(["crates", path[1], "src", *path[4:-1]]) + ".rt", []).append(own)
         return [f"-- {', '.join(sorted(set(names)))} of code: {file}" for file, names in sorted(files.items())]
 
+    def declared(self, found: list[Definition]) -> set[tuple[str, str]]:
+        """The types of code that these definitions use: file and name."""
+        words = {word for it in found for word in WORD.findall(it.text)}
+        types = set()
+        for name, (path, own) in self.imports.items():
+            if name in words and path[2:4] == ["specs", "declared"]:
+                of_code = [part for part in path[4:] if not part.startswith("The")]
+                file = "/".join(["crates", path[1], "src", *(of_code[:-1] or ["lib"])]) + ".rt"
+                types.add((file, of_code[-1]))
+        return types
+
     def begin(self, line: str, number: int, comment: list[str]) -> Definition:
         """The definition that begins at this line; the one of that name, where clauses of it go on."""
         found = HEAD.match(line)
@@ -237,6 +249,7 @@ class Theorem:
     name: str
     roots: tuple[str, ...]
     sentence: str
+    two_senses: int = 0         # names that stand for two things in it: never more
 
 
 HEADLINE = "bridge_tool/Promise:Answers"
@@ -262,6 +275,9 @@ THEOREMS = (
     Theorem("verify", (HEADLINE, "bridge_tool/Verify:verify_promise"),
             "What `verify` answers: `certificate_text` says which texts are certificates, `duality/Parts`, `Branch`, `Ray` "
             "and `Certificate` when one holds, `duality/Problem` what is then true of the problem that the file states."),
+    Theorem("which texts are certificates", ("certificate_text/Written:IsWrittenFor",),
+            "What the lines of a certificate are, by the value that they say: the readable definition (law of `certificate_text` "
+            "that exactly these texts are read as the value)."),
     Theorem("what a verified claim means", ("duality/Told:IsTrueOf", "file_certificates/FileProblem:problem_of"),
             "What is true of the file where `verify` says yes: this much has to be read to believe only that."),
     Theorem("what a denied claim means", ("duality/ProblemSays:Denies", "file_certificates/FileProblem:problem_of"),
@@ -319,6 +335,45 @@ CLOSING = (
 )
 
 
+def declaration(file: str, name: str) -> list[str]:
+    """The lines by which code declares a type; of one that contracts see as another value, that value."""
+    lines = (TOP / file).read_text().splitlines() if (TOP / file).exists() else []
+    begins = re.compile(rf"^(?:pub(?:\(\w+\))? )?(?:struct|enum) {name}\b")
+    model = re.compile(rf"^impl(?:<[^>]*>)? Model for {name}\b")
+    seen = [number for number, line in enumerate(lines) if model.match(line)]
+    if seen:
+        value = next((line.strip() for line in lines[seen[0]:] if "ghost Value = " in line), "")
+        return [f"{name} is seen as {value.removeprefix('ghost Value = ').strip('{ };')}"]
+    start = next((number for number, line in enumerate(lines) if begins.match(line)), None)
+    if start is None:
+        return []
+    ends = next(number for number, line in enumerate(lines[start:], start) if line.rstrip().endswith((";", "}")) and
+                not line.startswith("    "))
+    return [line for line in lines[start:ends + 1] if not line.strip().startswith("//")]
+
+
+def types_of(statement: Statement, keys: list[Key]) -> dict[tuple[str, str], list[str]]:
+    """The types that code declares and these definitions use, with their lines."""
+    found: set[tuple[str, str]] = set()
+    for file, definitions in statement.by_file(keys).items():
+        found |= statement.files[file].declared(definitions)
+    return {it: declaration(*it) for it in sorted(found)}
+
+
+def type_size(statement: Statement, keys: list[Key]) -> str:
+    """How many types of code these use, and their lines."""
+    types = types_of(statement, keys)
+    return f"{len(types)} types of code, {sum(map(len, types.values()))} lines"
+
+
+def senses(statement: Statement, keys: list[Key]) -> dict[str, list[Key]]:
+    """The names that more than one of these definitions has."""
+    named: dict[str, list[Key]] = {}
+    for key in keys:
+        named.setdefault(key[2], []).append(key)
+    return {name: found for name, found in sorted(named.items()) if len(found) > 1}
+
+
 def key_of(name: str) -> Key:
     """The key of CRATE/FILE:NAME."""
     place, _, own = name.partition(":")
@@ -353,8 +408,13 @@ def printed(statement: Statement, roots: list[Key]) -> str:
         lines += [*own.types_of_code(found), ""]
         for it in found:
             lines += [*it.comment, *it.lines, ""]
+    types = types_of(statement, keys)
+    if types:
+        lines += [f"==== types of code: {type_size(statement, keys)}", ""]
+    for (place, name), declared in types.items():
+        lines += [f"-- {name}: {place}", *declared, ""]
     cited = f"lemmas that they cite, not to be read: {lemma_size(statement, keys)}"
-    return "\n".join([*lines, whole_size(statement, keys), cited])
+    return "\n".join([*lines, f"{whole_size(statement, keys)}; {type_size(statement, keys)}", cited])
 
 
 def all_texts() -> str:
@@ -380,10 +440,12 @@ def section(statement: Statement, keys: list[Key], known: set[Key]) -> list[str]
 def reading(statement: Statement) -> str:
     """The text of docs/verify/reading.md."""
     found = {it.name: statement.closure([key_of(root) for root in it.roots]) for it in THEOREMS}
-    lines = [*OPENING, "", "| theorem | definitions that say it | its statement | lemmas |", "|---|---|---|---|"]
+    lines = [*OPENING, "", "| theorem | definitions that say it | its statement | types of code | lemmas |",
+             "|---|---|---|---|---|"]
     for it in THEOREMS:
         roots = ", ".join(f"`{root}`" for root in it.roots)
-        sizes = f"{whole_size(statement, found[it.name])} | {lemma_size(statement, found[it.name])}"
+        keys = found[it.name]
+        sizes = f"{whole_size(statement, keys)} | {type_size(statement, keys)} | {lemma_size(statement, keys)}"
         lines.append(f"| {it.name} | {roots} | {sizes} |")
     known: set[Key] = set()
     for it in THEOREMS[:-1]:
@@ -402,6 +464,10 @@ def complaints(statement: Statement) -> list[str]:
             for lemma in statement.names_in(key):
                 if statement[lemma].is_lemma and not statement[lemma].is_proof():
                     found.add(f"{'/'.join(lemma)} is no proof, and {'/'.join(key)} cites it")
+        named = senses(statement, statement.closure([key_of(root) for root in it.roots]))
+        if len(named) > it.two_senses and it != THEOREMS[-1]:
+            found.add(f"{len(named)} names have two senses in the statement of `{it.name}`, more than {it.two_senses}: "
+                      f"{', '.join(named)} (dev/statement.py --senses)")
     return sorted(found)
 
 
@@ -414,7 +480,14 @@ def main(words: list[str]) -> int:
     elif words == ["--sizes"]:
         for it in THEOREMS:
             keys = statement.closure([key_of(root) for root in it.roots])
-            print(f"{it.name}: {whole_size(statement, keys)}; lemmas: {lemma_size(statement, keys)}")
+            lemmas = lemma_size(statement, keys)
+            print(f"{it.name}: {whole_size(statement, keys)}; {type_size(statement, keys)}; lemmas: {lemmas}")
+    elif words == ["--senses"]:
+        for it in THEOREMS[:-1]:
+            named = senses(statement, statement.closure([key_of(root) for root in it.roots]))
+            print(f"{it.name}: {len(named)}")
+            for name, keys in named.items():
+                print(f"    {name}: " + ", ".join(f"{crate}/{file}" for crate, file, _ in keys))
     elif words == ["--write"]:
         READING.parent.mkdir(parents=True, exist_ok=True)
         READING.write_text(reading(statement))
