@@ -1,4 +1,5 @@
 pub mod Files
+pub mod Settings
 pub mod Given
 pub mod Best
 pub mod ProofFiles
