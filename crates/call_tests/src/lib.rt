@@ -17,6 +17,8 @@ mod imports;
 #[cfg(test)]
 mod made_instances;
 #[cfg(test)]
+mod mps_programs;
+#[cfg(test)]
 mod named_texts;
 #[cfg(test)]
 mod numbers;

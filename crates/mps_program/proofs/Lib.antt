@@ -1,0 +1,13 @@
+pub mod MinusLemmas
+pub mod PlaceLemmas
+pub mod FirstLemmas
+pub mod LoopLemmas
+pub mod ReachLemmas
+pub mod SideLemmas
+pub mod OrderLemmas
+pub mod PartLemmas
+pub mod LawLemmas
+pub mod TermLemmas
+pub mod FormLemmas
+pub mod FaultLemmas
+pub mod ProgramLemmas

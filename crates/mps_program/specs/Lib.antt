@@ -1,0 +1,9 @@
+pub mod Places
+pub mod Program
+pub mod Example
+pub mod Terms
+pub mod Kinds
+pub mod Faults
+pub mod InsideSides
+pub mod InsideColumns
+pub mod InsideForms
