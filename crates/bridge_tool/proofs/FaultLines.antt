@@ -33,7 +33,7 @@ use Rattle.texts.proofs.JudgedLemmas.{fault_line}
 use Rattle.answer_file.specs.Grammar.{answer_rules}
 use Rattle.answer_file.specs.Names.{Setting as AnswerSetting}
 use Rattle.certificate_text.specs.Grammar.{certificate_rules}
-use Rattle.file_certificates.specs.Setting.{Setting as CertificateSetting}
+use Rattle.certificates.specs.Setting.{Setting as CertificateSetting}
 use Rattle.fixed_mps.specs.Grammar.{fixed_rules}
 use Rattle.mps_reader.specs.Grammar.{mps_rules}
 use Rattle.name_files.specs.Names.{Counts, name_rules}

@@ -47,7 +47,8 @@ use Rattle.branch_proof.proofs.Files.{claim_true as proof_true}
 use Rattle.file_certificates.proofs.ProofFiles.{proof_of}
 use Rattle.certificates.proofs.ProofReading.{tree_back}
 use Rattle.proof_text.specs.Reader.{HasProofFault, IsProofText}
-use Rattle.file_certificates.specs.Setting.{Setting as CertificateSetting, setting_of as certificate_setting}
+use Rattle.certificates.specs.Setting.{Setting as CertificateSetting}
+use Rattle.file_certificates.specs.Setting.{setting_of as certificate_setting}
 use Rattle.proof_text.proofs.ReadingLemmas.{one_reading as one_proof}
 use Rattle.bridge_tool.specs.ProofTold.{leaf_line, proof_line}
 use Rattle.bridge_tool.specs.Prove.{IsProofRefused, IsProvedOf, by_fold as by_proof_fold, by_leaf, claimed_objective, open_leaf, prove_outcome}

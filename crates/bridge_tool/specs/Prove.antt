@@ -17,7 +17,8 @@ use Rattle.file_certificates.specs.ProofSays.{IsProvedTrueOf}
 use Rattle.certificates.specs.Proofs.{ProofValue, claim_value, tree_over}
 use Rattle.certificates.specs.ProofReading.{tree_in}
 use Rattle.proof_text.specs.Reader.{HasProofFault, IsProofText}
-use Rattle.file_certificates.specs.Setting.{Setting, setting_of}
+use Rattle.certificates.specs.Setting.{Setting}
+use Rattle.file_certificates.specs.Setting.{setting_of}
 use Rattle.bridge_tool.specs.NlTold.{fold_line}
 use Rattle.bridge_tool.specs.Outcome.{Outcome, Refused, Done}
 use Rattle.bridge_tool.specs.Promise.{Promise}

@@ -17,7 +17,8 @@ use Rattle.certificates.specs.Reading.{given_in}
 use Rattle.file_certificates.specs.Says.{IsTrueOf}
 use Rattle.certificates.specs.declared.certificate.Claim.{Claim}
 use Rattle.certificate_text.specs.Reader.{HasCertificateFault, IsCertificateText}
-use Rattle.file_certificates.specs.Setting.{Setting, setting_of}
+use Rattle.certificates.specs.Setting.{Setting}
+use Rattle.file_certificates.specs.Setting.{setting_of}
 use Rattle.bridge_tool.specs.CertificateTold.{certificate_line, is_held, outcome_line}
 use Rattle.bridge_tool.specs.NlTold.{fold_line}
 use Rattle.bridge_tool.specs.Outcome.{Outcome, Refused, Done}

@@ -1,8 +1,8 @@
 // Reading and judging the text of a certificate.
 ghost use Rattle.std.specs.Prelude.{◌≡◌, ◌≢◌, List, ℕ, IfErr, IfOk, Err, IfSome};
 ghost use Rattle.desk.specs.Desk.{IsUnknown, OnlyInput};
+ghost use Rattle.certificates.specs.Setting.{IsCertificateFor, Setting};
 ghost use Rattle.file_certificates.specs.Files.{IsCertificateIn};
-ghost use Rattle.nl_model.specs.File.{File};
 ghost use Rattle.certificate_text.specs.Reader.{IsFed, IsCertificateText};
 ghost use Rattle.file_certificates.specs.Setting.{setting_of};
 ghost use Rattle.bridge_tool.specs.InsideAnswer.{status_of};
@@ -18,13 +18,14 @@ use crate::refusal::Refusal;
 use crate::transfer::{Feed, LIMIT, Unread};
 use certificate_text::CertificateReader;
 use certificates::Certificate;
-use nl_model::NlFile;
+use linear_program::Kind;
+use nl_model::{NlFile, all_kinds};
 use std::alloc::Global;
 use text_base::{Desk, Stop};
 
 impl Feed for CertificateReader {
     ghost use Rattle.certificate_text.specs.Reader.{IsFed};
-    ghost use Rattle.file_certificates.specs.Setting.{Setting};
+    ghost use Rattle.certificates.specs.Setting.{Setting};
 
     ghost Setting = { Setting };
 
@@ -38,40 +39,67 @@ impl Feed for CertificateReader {
     }
 }
 
-/// Feeds a reader of certificates of this file the named text.
-pub(crate) fn read_certificate<D: Desk>(
+// Feeds a reader of certificates over so many rows, and variables of these kinds, the named text.
+fn read_certificate<D: Desk>(
     alloc: Global,
     desk: &mut D,
-    file: &NlFile,
+    rows: u32,
+    kinds: Vec<Kind>,
     name: &str,
 ) -> Result<CertificateReader, Unread>
     ensures text { IfOk result (λ reader. HasRead (D.meaning desk.old).texts name.now LIMIT
-        (D.meaning desk.new).left (IsFed (setting_of file.now) reader)) }
+        (D.meaning desk.new).left (IsFed (record { rows = rows; kinds = kinds.items }) reader)) }
     ensures cause { HasReadCause (IsUnknown (D.meaning desk.old).texts name.now)
         (D.meaning desk.old).input_faults (D.meaning desk.new).input_faults result }
     ensures rest { OnlyInput (D.meaning desk.old) (D.meaning desk.new) }
 {
-    let reader = CertificateReader::new(alloc, file)?;
+    let reader = CertificateReader::new(alloc, rows, kinds)?;
     read(alloc, desk, name, reader)
 }
 
-/// What the text says that a reader of certificates of a file was fed, or why it is refused; the
-/// text is this file of its command.
-pub(crate) fn judge_certificate(
+// What the text says that a reader of certificates was fed, or why it is refused; the text is this
+// file of its command.
+fn judge_certificate(
     reader: CertificateReader,
     number: u32,
 ) -> Result<Certificate, Stop<Refusal>>
-    ensures says { (f : File) (text : List ℕ) → IsFed (setting_of f) reader text
-        → Says itself (IsCertificateText (setting_of f))
-        (IsCertificateRefused (setting_of f) number) text result }
-    ensures certificate { IfOk result (λ c. (f : File) (text : List ℕ)
-        → IsFed (setting_of f) reader text → IsCertificateIn f c) }
+    ensures says { (s : Setting) (text : List ℕ) → IsFed s reader text
+        → Says itself (IsCertificateText s) (IsCertificateRefused s number) text result }
+    ensures certificate { IfOk result (λ c. (s : Setting) (text : List ℕ)
+        → IsFed s reader text → IsCertificateFor s c) }
     ensures kept { IfSome reader.stopped (λ stop. result
         ≡ Err (refused_by (IsCertificateFault number) stop)) }
 {
     match reader.finish() {
         Ok(certificate) => Ok(certificate),
         Err(stop) => Err(stop.map_fault(|fault| Refusal::Certificate(number, fault))),
+    }
+}
+
+/// The certificate over so many rows, and variables of these kinds, that a text says, which is this
+/// one of its command, or the answer that ends the command.
+pub(crate) fn open_certificate_over<D: Desk>(
+    alloc: Global,
+    desk: &mut D,
+    rows: u32,
+    kinds: Vec<Kind>,
+    name: &str,
+    number: u32,
+) -> Result<Certificate, Answer>
+    ensures reads { ReadsFile itself
+        (IsCertificateText (record { rows = rows; kinds = kinds.items }))
+        (IsCertificateRefused (record { rows = rows; kinds = kinds.items }) number) name.now
+        (D.meaning desk.old) (D.meaning desk.new) result }
+    ensures certificate { IfOk result (λ c. IsCertificateFor
+        (record { rows = rows; kinds = kinds.items }) c) }
+    ensures known { IfErr result (λ answer. status_of answer ≢ 3) }
+{
+    match read_certificate(alloc, desk, rows, kinds, name) {
+        Ok(reader) => {
+            let judged = judge_certificate(reader, number);
+            answered(judged)
+        }
+        Err(unread) => Err(missed(unread)),
     }
 }
 
@@ -90,11 +118,11 @@ pub(crate) fn open_certificate<D: Desk>(
     ensures certificate { IfOk result (λ c. IsCertificateIn file.now c) }
     ensures known { IfErr result (λ answer. status_of answer ≢ 3) }
 {
-    match read_certificate(alloc, desk, file, name) {
-        Ok(reader) => {
-            let judged = judge_certificate(reader, number);
-            answered(judged)
+    match all_kinds(alloc, file) {
+        Ok(kinds) => {
+            let rows = file.header().counts().n_con;
+            open_certificate_over(alloc, desk, rows, kinds, name, number)
         }
-        Err(unread) => Err(missed(unread)),
+        Err(_) => Err(Answer::NoMemory),
     }
 }

@@ -1,7 +1,7 @@
 // Each law is proved by a function with an empty body.
 ghost use Rattle.std.specs.Prelude.{◌≡◌, ◌↔◌, ◌+◌, ◌≤◌, ◌^◌, List, ℕ, None, Option, Some, length, take};
 ghost use Rattle.answer_file.specs.Names.{Setting as AnswerSetting};
-ghost use Rattle.file_certificates.specs.Setting.{Setting as CertificateSetting};
+ghost use Rattle.certificates.specs.Setting.{Setting as CertificateSetting};
 ghost use Rattle.export_round_trip.specs.ReadAs.{IsReadAs};
 ghost use Rattle.linear_fold.specs.FoldedFaults.{HasFaultPlace};
 ghost use Rattle.linear_fold.specs.declared.fold_fault.FoldFault.{FoldFault};

@@ -24,7 +24,7 @@ use text_base::{Desk, Stop};
 
 impl Feed for ProofReader {
     ghost use Rattle.proof_text.specs.Reader.{IsFed};
-    ghost use Rattle.file_certificates.specs.Setting.{Setting};
+    ghost use Rattle.certificates.specs.Setting.{Setting};
 
     ghost Setting = { Setting };
 

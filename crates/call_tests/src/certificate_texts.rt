@@ -7,7 +7,8 @@ use example_texts::certificate_texts::{
     A_THIRD, BY_LEMMA, BY_PARITY, BY_RAY, CHARGED, NO_END, ONE_AT_LEAST, ONE_FREE, ONE_WHOLE_FREE,
     THIRDS, TWO_OR_BETTER,
 };
-use linear_program::Number;
+use linear_program::{Kind, Number};
+use nl_model::all_kinds;
 use std::alloc::Global;
 use std::process::Abort;
 use text_base::Stop;
@@ -47,6 +48,15 @@ fn ends_in(pairs: &[(u32, Number)], index: u32, value: Option<Frac>) -> bool {
     }
 }
 
+// The number of constraints of a file, and the kinds of its variables.
+fn setting_of(rt: &impl Abort, alloc: Global, nl: &str) -> (u32, Vec<Kind>) {
+    let file = file_of(rt, alloc, nl);
+    let rows = file.header().counts().n_con;
+    let kinds = all_kinds(alloc, &file);
+    drop(file);
+    (rows, kinds.expect(rt, "memory"))
+}
+
 #[test]
 fn certificates_are_read(rt: HostRuntime) {
     let split = [('s', 0, 0), ('w', 1, 0), ('d', 0, 0)];
@@ -68,9 +78,8 @@ fn certificates_are_read(rt: HostRuntime) {
         (CHARGED, BY_LEMMA, lemma.as_slice(), 4, (1, 1, 1)),
     ];
     for (nl, text, nodes, pairs, last) in cases {
-        let file = file_of(&rt, rt.alloc(), nl);
-        let read = read_certificate(rt.alloc(), &file, text.as_bytes());
-        drop(file);
+        let (rows, kinds) = setting_of(&rt, rt.alloc(), nl);
+        let read = read_certificate(rt.alloc(), rows, kinds, text.as_bytes());
         let certificate = read.expect(&rt, "a certificate");
         assert!(rt; are_nodes(certificate.nodes(), nodes));
         assert!(rt; certificate.pairs().len() == pairs);
@@ -81,8 +90,8 @@ fn certificates_are_read(rt: HostRuntime) {
 
 #[test]
 fn a_certificate_comes_in_pieces(rt: HostRuntime) {
-    let file = file_of(&rt, rt.alloc(), NO_END);
-    let mut reader = CertificateReader::new(rt.alloc(), &file).expect(&rt, "memory");
+    let (rows, kinds) = setting_of(&rt, rt.alloc(), NO_END);
+    let mut reader = CertificateReader::new(rt.alloc(), rows, kinds).expect(&rt, "memory");
     for piece in BY_RAY.as_bytes().chunks(1) {
         assert!(rt; reader.feed(piece).is_ok());
     }
@@ -90,7 +99,6 @@ fn a_certificate_comes_in_pieces(rt: HostRuntime) {
     assert!(rt; certificate.nodes().is_empty());
     assert!(rt; certificate.pairs().len() == 2);
     drop(certificate);
-    drop(file);
 }
 
 fn is_fault<T: Drop>(
@@ -112,13 +120,12 @@ fn are_refused(
     reason: CertificateReason,
     cases: &[(&str, u32)],
 ) -> bool {
-    let file = file_of(rt, alloc, nl);
     let mut are_all = true;
     for (text, line) in cases {
-        let read = read_certificate(alloc, &file, text.as_bytes());
+        let (rows, kinds) = setting_of(rt, alloc, nl);
+        let read = read_certificate(alloc, rows, kinds, text.as_bytes());
         are_all &= is_fault(read, reason, *line);
     }
-    drop(file);
     are_all
 }
 

@@ -8,7 +8,7 @@ use Rattle.texts.specs.declared.fault.TextFault.{TextFault}
 use Rattle.texts.specs.Reading.{Stands}
 use Rattle.certificates.specs.Proofs.{ProofValue}
 use Rattle.proof_text.specs.declared.fault.ProofReason.{ProofReason}
-use Rattle.file_certificates.specs.Setting.{Setting}
+use Rattle.certificates.specs.Setting.{Setting}
 use Rattle.proof_text.specs.Rows.{rows_in}
 use Rattle.proof_text.specs.Standing.{Standing, standing}
 use Rattle.proof_text.specs.Steps.{ReadSoFar, moved, with_line}

@@ -1,4 +1,4 @@
--- Each text has one reading, and what a reader answers is a proof of its file.
+-- Each text has one reading, and what a reader answers is a proof for its setting.
 use Rattle.std.proofs.Common.{◌≡◌, ◌∙◌, ℕ, Bool, true, false, ◌&&◌, List, Option, Some, None, Result, Ok, Err, is_some, inl, inr, refl, sym, ap₂, subst}
 use Rattle.std.specs.Prelude.{IfOk}
 use Rattle.std.proofs.lemmas.Bool.{not-false}
@@ -10,11 +10,9 @@ use Rattle.texts.proofs.FirstReasons.{none_each}
 use Rattle.texts.proofs.JudgedLemmas.{one_outcome}
 use Rattle.certificates.specs.declared.proof.Claim.{Claim}
 use Rattle.certificates.specs.declared.proof.ProofNode.{ProofNode}
-use Rattle.file_certificates.specs.Files.{IsProofIn}
 use Rattle.certificates.specs.Proofs.{Pair, ProofValue}
-use Rattle.nl_model.specs.File.{File}
 use Rattle.proof_text.specs.declared.fault.ProofReason.{ProofReason}
-use Rattle.file_certificates.specs.Setting.{Setting, setting_of}
+use Rattle.certificates.specs.Setting.{IsProofFor, Setting}
 use Rattle.proof_text.specs.Rows.{rows_in}
 use Rattle.proof_text.specs.Standing.{IsSaid, Standing, is_whole, standing}
 use Rattle.proof_text.specs.Tests.{end_tests}
@@ -69,14 +67,14 @@ one_reading s text =
           ap₂ fault_at same.0 same.1;
     }
 
--- what is read for the setting of a file
-pub proof_from : (f : File) (text : List ℕ) (s : Setting) → s ≡ setting_of f → (result : Result ProofValue (Stop (TextFault ProofReason))) → ReadsProof s text result → IfOk result (λ p. IsProofIn f p)
-proof_from f text s same (Ok p) reads = text_is_proof f text p (subst (λ (t : Setting). IsProofText t text p) same reads)
-proof_from f text s same (Err stop) reads = tt
+-- what is read for a setting
+pub proof_from : (s : Setting) (text : List ℕ) (t : Setting) → t ≡ s → (result : Result ProofValue (Stop (TextFault ProofReason))) → ReadsProof t text result → IfOk result (λ p. IsProofFor s p)
+proof_from s text t same (Ok p) reads = text_is_proof s text p (subst (λ (u : Setting). IsProofText u text p) same reads)
+proof_from s text t same (Err stop) reads = tt
 
 -- the same for a reader
 pub proof_read : (inside held : Reading) (result : Result ProofValue (Stop (TextFault ProofReason))) → inside ≡ held
     → ((text : List ℕ) → Stands inside.stopped (proof_rules inside.read.setting) (λ lines. inside.read.standing ≡ standing (rows_in lines)) inside.lines text → ReadsProof inside.read.setting text result)
-    → IfOk result (λ p. (f : File) (text : List ℕ) → IsFed (setting_of f) held text → IsProofIn f p)
-proof_read inside held (Ok p) same reads = λ f text fed. text_is_proof f text p (read_for inside held (Ok p) same reads (setting_of f) text fed)
+    → IfOk result (λ p. (s : Setting) (text : List ℕ) → IsFed s held text → IsProofFor s p)
+proof_read inside held (Ok p) same reads = λ s text fed. text_is_proof s text p (read_for inside held (Ok p) same reads s text fed)
 proof_read inside held (Err stop) same reads = tt

@@ -16,7 +16,7 @@ use Rattle.proof_text.specs.declared.fault.ProofReason.{ProofReason}
 use Rattle.certificates.specs.declared.proof.Claim.{Claim}
 use Rattle.certificates.specs.declared.proof.ProofNode.{ProofNode}
 use Rattle.certificates.specs.Proofs.{Pair}
-use Rattle.file_certificates.specs.Setting.{Setting}
+use Rattle.certificates.specs.Setting.{Setting}
 use Rattle.proof_text.specs.Rows.{Row, claim_in, is_alone, is_claim_row, is_node_row, is_row, node_in, pair_in, pair_of}
 use Rattle.proof_text.specs.Standing.{Standing, pairs_left, subtrees_left}
 use Rattle.proof_text.specs.Steps.{ReadSoFar, moved, with_claim, with_node, with_pair, with_row}

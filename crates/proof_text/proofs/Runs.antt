@@ -3,7 +3,6 @@ use Rattle.std.proofs.Common.{◌≡◌, ◌∙◌, ℕ, ◌+◌, ◌<◌, ◌�
 use Rattle.std.proofs.lemmas.Bool.{and_parts, not-false, ltb-true}
 use Rattle.std.proofs.lemmas.Bool.Decides.{nat_tests}
 use Rattle.std.proofs.lemmas.List.{take_at, drop_at}
-use Rattle.std.specs.Prelude.{IsTrue}
 use Rattle.std.specs.List.{cons_option, filter_map}
 use Rattle.std.specs.Str.{bytes_eq}
 use Rattle.fractions.specs.Fits.{fits}
@@ -18,20 +17,15 @@ use Rattle.texts.specs.Reading.{last_by, last_of, lines_of}
 use Rattle.texts.specs.Words.{begins, row_of, word_at}
 use Rattle.texts.proofs.FirstReasons.{none_each}
 use Rattle.texts.proofs.NamePlaces.{bytes_same}
-use Rattle.nl_model.specs.File.{File}
-use Rattle.nl_model.specs.Kinds.{variable_kind}
 use Rattle.linear_program.specs.declared.kind.Kind.TheVariants.{Continuous}
 use Rattle.linear_program.specs.Intervals.{is_whole_kind}
-use Rattle.linear_programs.specs.Elements.{elements_from}
-use Rattle.linear_programs.proofs.Elements.{elements_at, elements_length}
-use Rattle.file_meaning.specs.Meaning.{is_whole_variable}
 use Rattle.certificates.specs.declared.proof.Claim.{Claim}
 use Rattle.certificates.specs.declared.proof.Claim.TheVariants.{Value, Infeasible}
 use Rattle.certificates.specs.declared.proof.ProofNode.{ProofNode}
 use Rattle.certificates.specs.declared.proof.ProofNode.TheVariants.{Split, Weights}
 use Rattle.proof_text.specs.declared.fault.ProofReason.TheVariants.{Extra}
 use Rattle.certificates.specs.Proofs.{Pair, claim_value}
-use Rattle.file_certificates.specs.Setting.{Setting, setting_of}
+use Rattle.certificates.specs.Setting.{IsWholeFor, Setting}
 use Rattle.proof_text.specs.Rows.{Row, claim_in, is_alone, is_node_row, is_row, leaf_in, node_in, pair_in, rows_in, value_claim}
 use Rattle.proof_text.specs.Standing.{Standing, is_whole, pairs_left, standing, subtrees_left}
 use Rattle.proof_text.specs.Steps.{with_claim, with_line, with_node, with_pair, with_row}
@@ -73,29 +67,29 @@ abbrev pub MayStand : Option Claim → ProofNode → Type 0
 MayStand c (Weights n) = Unit {0}
 MayStand c n = is_alone c ≡ false
 
-abbrev pub FitsNode : File → ProofNode → Type 0
-FitsNode f (Split j t) = (j < f.counts.n_var) × IsTrue (is_whole_variable f j)
-FitsNode f n = Unit {0}
+abbrev pub FitsNode : Setting → ProofNode → Type 0
+FitsNode s (Split j t) = IsWholeFor s j
+FitsNode s n = Unit {0}
 
-abbrev pub MayCome : File → Standing → Piece → Type 0
-MayCome f st (claim_row c) = (is_none st.claim ≡ true) × (fits (claim_value c) ≡ true)
-MayCome f st (node_row n) =
-    (is_some st.claim ≡ true) × (pairs_left st ≡ 0) × (0 < subtrees_left st) × (length st.nodes < 2 ^ 16) × FitsNode f n × MayStand st.claim n
-MayCome f st (pair_row p) = (is_some st.claim ≡ true) × (0 < pairs_left st) × (p.0 < f.counts.n_con)
+abbrev pub MayCome : Setting → Standing → Piece → Type 0
+MayCome s st (claim_row c) = (is_none st.claim ≡ true) × (fits (claim_value c) ≡ true)
+MayCome s st (node_row n) =
+    (is_some st.claim ≡ true) × (pairs_left st ≡ 0) × (0 < subtrees_left st) × (length st.nodes < 2 ^ 16) × FitsNode s n × MayStand st.claim n
+MayCome s st (pair_row p) = (is_some st.claim ≡ true) × (0 < pairs_left st) × (p.0 < s.rows)
 
 -- each may come, and behind them all has come
-unfoldable pub IsRun : File → Standing → List Piece → Type 0
-IsRun f st [] = is_whole st ≡ true
-IsRun f st (p ∷ ps) = MayCome f st p × IsRun f (with_piece st p) ps
+unfoldable pub IsRun : Setting → Standing → List Piece → Type 0
+IsRun s st [] = is_whole st ≡ true
+IsRun s st (p ∷ ps) = MayCome s st p × IsRun s (with_piece st p) ps
 
 -- behind the first row
 abbrev pub begun_only : Standing
 begun_only = record { begun = true; claim = None; nodes = []; pairs = [] }
 
 -- the row says a piece that may come
-record Here (f : File) (st : Standing) (words : Row) : Type 0 where
+record Here (s : Setting) (st : Standing) (words : Row) : Type 0 where
   piece : Piece
-  may : MayCome f st piece
+  may : MayCome s st piece
   is : Is words piece
   next : with_row st words ≡ with_piece st piece
 
@@ -138,9 +132,9 @@ claim_in_fits words c e = by (is_row (codes "infeasible") 1 words) e
     by true e = (let same : Infeasible ≡ c = cc in subst (λ (d : Claim). fits (claim_value d) ≡ true) same none_fits)
     by false e = value (is_row (codes "value") 3 words) e
 
-claim_may : (f : File) (st : Standing) (words : Row) (o : Option Claim) → claim_in words ≡ o → Says words o None None → is_none st.claim ≡ true → is_none o ≡ false → st.begun ≡ true → Here f st words
-claim_may f st words None e says none given b = absurd cc
-claim_may f st words (Some c) e says none given b = record { piece = claim_row c; may = (none, claim_in_fits words c e); is = says; next = sym (claim_is st words (Some c) says b none) }
+claim_may : (s : Setting) (st : Standing) (words : Row) (o : Option Claim) → claim_in words ≡ o → Says words o None None → is_none st.claim ≡ true → is_none o ≡ false → st.begun ≡ true → Here s st words
+claim_may s st words None e says none given b = absurd cc
+claim_may s st words (Some c) e says none given b = record { piece = claim_row c; may = (none, claim_in_fits words c e); is = says; next = sym (claim_is st words (Some c) says b none) }
 
 -- ---- a node
 
@@ -172,72 +166,64 @@ may_stand c words n is row = by (is_row (codes "weights") 2 words) refl row
     by false e h = other_stand c n (not_true (is_alone c) (and_parts (not (is_alone c)) (is_row (codes "duals") 2 words || is_row (codes "split") 3 words) h).0)
 
 -- the variable of a split that is no fault
-fits_node : (f : File) (n : ProofNode) → is_split_out (setting_of f).kinds (Some n) ≡ false → is_split_continuous (setting_of f).kinds (Some n) ≡ false → FitsNode f n
-fits_node f (Split j t) out continuous =
-    let kind = variable_kind f.counts in
-    let n = f.counts.n_var in
-    let below : j < n = subst (λ m. j < m) (elements_length kind 0 n) (le_false (length (elements_from kind 0 n)) j out) in
-    let here : 0 + j ≡ j = omega arith in
-    (below, ap (λ (i : ℕ). is_whole_kind (kind i)) (sym here) ∙ ap is_whole_kind (sym (elements_at kind 0 n j Continuous below)) ∙ not-false (is_whole_kind (get_or (elements_from kind 0 n) j Continuous)) continuous)
-fits_node f n out continuous = tt
+fits_node : (s : Setting) (n : ProofNode) → is_split_out s.kinds (Some n) ≡ false → is_split_continuous s.kinds (Some n) ≡ false → FitsNode s n
+fits_node s (Split j t) out continuous = (le_false (length s.kinds) j out, not-false (is_whole_kind (get_or s.kinds j Continuous)) continuous)
+fits_node s n out continuous = tt
 
 -- ---- a row
 
-node_may : (f : File) (st : Standing) (words : Row) (o : Option ProofNode) → node_in words ≡ o → Says words None o None → st.begun ≡ true → is_some st.claim ≡ true → pairs_left st ≡ 0 → 0 < subtrees_left st
-    → is_node_row st.claim words ≡ true → is_none o ≡ false → is_split_out (setting_of f).kinds o ≡ false
-    → is_split_continuous (setting_of f).kinds o ≡ false → nat_le (2 ^ 16) (length st.nodes) ≡ false → Here f st words
-node_may f st words None e says b claim none some row given out continuous few = absurd cc
-node_may f st words (Some n) e says b claim none some row given out continuous few =
+node_may : (s : Setting) (st : Standing) (words : Row) (o : Option ProofNode) → node_in words ≡ o → Says words None o None → st.begun ≡ true → is_some st.claim ≡ true → pairs_left st ≡ 0 → 0 < subtrees_left st
+    → is_node_row st.claim words ≡ true → is_none o ≡ false → is_split_out s.kinds o ≡ false
+    → is_split_continuous s.kinds o ≡ false → nat_le (2 ^ 16) (length st.nodes) ≡ false → Here s st words
+node_may s st words None e says b claim none some row given out continuous few = absurd cc
+node_may s st words (Some n) e says b claim none some row given out continuous few =
     record {
       piece = node_row n;
-      may = (claim, none, some, le_false (2 ^ 16) (length st.nodes) few, fits_node f n out continuous, may_stand st.claim words n e row);
+      may = (claim, none, some, le_false (2 ^ 16) (length st.nodes) few, fits_node s n out continuous, may_stand st.claim words n e row);
       is = says;
       next = sym (node_is st words (Some n) says b);
     }
 
-pair_may : (f : File) (st : Standing) (words : Row) (o : Option Pair) → Says words None None o → st.begun ≡ true → is_some st.claim ≡ true → 0 < pairs_left st → is_none o ≡ false → is_pair_out f.counts.n_con o ≡ false → Here f st words
-pair_may f st words None says b claim left given out = absurd cc
-pair_may f st words (Some p) says b claim left given out =
-    record { piece = pair_row p; may = (claim, left, le_false f.counts.n_con p.0 out); is = says; next = sym (pair_is st words (Some p) says b) }
+pair_may : (s : Setting) (st : Standing) (words : Row) (o : Option Pair) → Says words None None o → st.begun ≡ true → is_some st.claim ≡ true → 0 < pairs_left st → is_none o ≡ false → is_pair_out s.rows o ≡ false → Here s st words
+pair_may s st words None says b claim left given out = absurd cc
+pair_may s st words (Some p) says b claim left given out =
+    record { piece = pair_row p; may = (claim, left, le_false s.rows p.0 out); is = says; next = sym (pair_is st words (Some p) says b) }
 
-claim_here : (f : File) (st : Standing) (words : Row) → st.begun ≡ true → is_none st.claim ≡ true → first_reason (claim_tests words) ≡ None → Here f st words
+claim_here : (s : Setting) (st : Standing) (words : Row) → st.begun ≡ true → is_none st.claim ≡ true → first_reason (claim_tests words) ≡ None → Here s st words
 unfolding claim_tests
-claim_here f st words b none tests =
+claim_here s st words b none tests =
     let each = none_each (claim_tests words) tests in
-    claim_may f st words (claim_in words) refl (claim_row_says words tests) none each.1.0 b
+    claim_may s st words (claim_in words) refl (claim_row_says words tests) none each.1.0 b
 
-node_here : (f : File) (st : Standing) (words : Row) → st.begun ≡ true → is_some st.claim ≡ true → pairs_left st ≡ 0 → 0 < subtrees_left st → first_reason (node_tests (setting_of f) st words) ≡ None → Here f st words
+node_here : (s : Setting) (st : Standing) (words : Row) → st.begun ≡ true → is_some st.claim ≡ true → pairs_left st ≡ 0 → 0 < subtrees_left st → first_reason (node_tests s st words) ≡ None → Here s st words
 unfolding node_tests
-node_here f st words b claim none some tests =
-    let each = none_each (node_tests (setting_of f) st words) tests in
-    node_may f st words (node_in words) refl (node_row_says (setting_of f) st words tests) b claim none some (not-false (is_node_row st.claim words) each.0) each.1.0 each.1.1.0 each.1.1.1.0 each.1.1.1.1.0
+node_here s st words b claim none some tests =
+    let each = none_each (node_tests s st words) tests in
+    node_may s st words (node_in words) refl (node_row_says s st words tests) b claim none some (not-false (is_node_row st.claim words) each.0) each.1.0 each.1.1.0 each.1.1.1.0 each.1.1.1.1.0
 
-pair_here : (f : File) (st : Standing) (words : Row) → st.begun ≡ true → is_some st.claim ≡ true → 0 < pairs_left st → first_reason (pair_tests (setting_of f) st words) ≡ None → Here f st words
+pair_here : (s : Setting) (st : Standing) (words : Row) → st.begun ≡ true → is_some st.claim ≡ true → 0 < pairs_left st → first_reason (pair_tests s st words) ≡ None → Here s st words
 unfolding pair_tests
-pair_here f st words b claim left tests =
-    let each = none_each (pair_tests (setting_of f) st words) tests in
-    pair_may f st words (pair_in words) (pair_row_says (setting_of f) st words tests) b claim left each.1.0 each.1.1.0
+pair_here s st words b claim left tests =
+    let each = none_each (pair_tests s st words) tests in
+    pair_may s st words (pair_in words) (pair_row_says s st words tests) b claim left each.1.0 each.1.1.0
 
-row_may : (f : File) (st : Standing) (words : Row) → st.begun ≡ true → first_reason (row_tests (setting_of f) st words) ≡ None → Here f st words
+row_may : (s : Setting) (st : Standing) (words : Row) → st.begun ≡ true → first_reason (row_tests s st words) ≡ None → Here s st words
 unfolding row_tests pair_tests node_tests
-row_may f st words begun tests = claim (is_none st.claim) refl (rw begun at tests)
+row_may s st words begun tests = claim (is_none st.claim) refl (rw begun at tests)
   where
-    s : Setting
-    s = setting_of f
-
-    node : is_some st.claim ≡ true → pairs_left st ≡ 0 → (b : Bool) → nat_lt 0 (subtrees_left st) ≡ b → first_reason (cond b (node_tests s st words) ((true, Extra) ∷ [])) ≡ None → Here f st words
-    node claim none true is tests = node_here f st words begun claim none (ltb-true 0 (subtrees_left st) is) tests
+    node : is_some st.claim ≡ true → pairs_left st ≡ 0 → (b : Bool) → nat_lt 0 (subtrees_left st) ≡ b → first_reason (cond b (node_tests s st words) ((true, Extra) ∷ [])) ≡ None → Here s st words
+    node claim none true is tests = node_here s st words begun claim none (ltb-true 0 (subtrees_left st) is) tests
     node claim none false is tests = absurd cc
 
     pair : is_some st.claim ≡ true → (b : Bool) → nat_lt 0 (pairs_left st) ≡ b
-        → first_reason (cond b (pair_tests s st words) (cond (nat_lt 0 (subtrees_left st)) (node_tests s st words) ((true, Extra) ∷ []))) ≡ None → Here f st words
-    pair claim true is tests = pair_here f st words begun claim (ltb-true 0 (pairs_left st) is) tests
+        → first_reason (cond b (pair_tests s st words) (cond (nat_lt 0 (subtrees_left st)) (node_tests s st words) ((true, Extra) ∷ []))) ≡ None → Here s st words
+    pair claim true is tests = pair_here s st words begun claim (ltb-true 0 (pairs_left st) is) tests
     pair claim false is tests = node claim (zero_left (pairs_left st) is) (nat_lt 0 (subtrees_left st)) refl tests
 
     claim : (b : Bool) → is_none st.claim ≡ b
         → first_reason (cond b (claim_tests words) (cond (nat_lt 0 (pairs_left st)) (pair_tests s st words) (cond (nat_lt 0 (subtrees_left st)) (node_tests s st words) ((true, Extra) ∷ [])))) ≡ None
-        → Here f st words
-    claim true is tests = claim_here f st words begun is tests
+        → Here s st words
+    claim true is tests = claim_here s st words begun is tests
     claim false is tests = pair (is_there st.claim is) (nat_lt 0 (pairs_left st)) refl tests
 
 -- ---- a text
@@ -260,34 +246,34 @@ abbrev EndsFine : Setting → Last → Type 0
 EndsFine s last = (lines : List (List ℕ)) → last_reason (proof_rules s) lines last ≡ None → first_reason (end_tests (standing (rows_in lines))) ≡ None
 
 -- the rows are those of a run of pieces
-pub record Runs (f : File) (st : Standing) (rows : List Row) : Type 0 where
+pub record Runs (s : Setting) (st : Standing) (rows : List Row) : Type 0 where
   pub pieces : List Piece
-  pub run : IsRun f st pieces
+  pub run : IsRun s st pieces
   pub claims : filter_map claim_in rows ≡ filter_map as_claim pieces
   pub nodes : filter_map node_in rows ≡ filter_map as_node pieces
   pub pairs : filter_map pair_in rows ≡ filter_map as_pair pieces
 
 -- a row before them
-runs_more : (f : File) (st : Standing) (words : Row) (rows : List Row) → Here f st words → Runs f (with_row st words) rows → Runs f st (words ∷ rows)
+runs_more : (s : Setting) (st : Standing) (words : Row) (rows : List Row) → Here s st words → Runs s (with_row st words) rows → Runs s st (words ∷ rows)
 unfolding IsRun
-runs_more f st words rows here more =
+runs_more s st words rows here more =
     record {
       pieces = here.piece ∷ more.pieces;
-      run = (here.may, subst (λ (now : Standing). IsRun f now more.pieces) here.next more.run);
+      run = (here.may, subst (λ (now : Standing). IsRun s now more.pieces) here.next more.run);
       claims = ap₂ cons_option here.is.claim more.claims;
       nodes = ap₂ cons_option here.is.node more.nodes;
       pairs = ap₂ cons_option here.is.pair more.pairs;
     }
 
-runs_from : (f : File) (last : Last) → EndsFine (setting_of f) last → (rest before : List (List ℕ)) → (standing (rows_in before)).begun ≡ true → IsClean (proof_rules (setting_of f)) (before ++ rest) last
-    → Runs f (standing (rows_in before)) (rows_in rest)
+runs_from : (s : Setting) (last : Last) → EndsFine s last → (rest before : List (List ℕ)) → (standing (rows_in before)).begun ≡ true → IsClean (proof_rules s) (before ++ rest) last
+    → Runs s (standing (rows_in before)) (rows_in rest)
 unfolding IsRun end_tests line_tests rows_in
-runs_from f last ends [] before begun clean =
-    let tests = none_each (end_tests (standing (rows_in before))) (ends before (end_clean (setting_of f) last before clean)) in
+runs_from s last ends [] before begun clean =
+    let tests = none_each (end_tests (standing (rows_in before))) (ends before (end_clean s last before clean)) in
     record { pieces = []; run = not-false (is_whole (standing (rows_in before))) tests.1.0; claims = refl; nodes = refl; pairs = refl }
-runs_from f last ends (line ∷ rest) before begun clean =
-    by (length (row_of line) == 0) (line_clean (setting_of f) last before rest line clean) (line_push before line)
-    (λ more. runs_from f last ends rest (before ++ line ∷ []) more (after_line before rest line (setting_of f) last clean))
+runs_from s last ends (line ∷ rest) before begun clean =
+    by (length (row_of line) == 0) (line_clean s last before rest line clean) (line_push before line)
+    (λ more. runs_from s last ends rest (before ++ line ∷ []) more (after_line before rest line s last clean))
   where
     st : Standing
     st = standing (rows_in before)
@@ -295,36 +281,36 @@ runs_from f last ends (line ∷ rest) before begun clean =
     words : Row
     words = row_of line
 
-    by : (b : Bool) → first_reason (cond b [] (row_tests (setting_of f) st words)) ≡ None → standing (rows_in (before ++ line ∷ [])) ≡ cond b st (with_row st words)
-        → ((standing (rows_in (before ++ line ∷ []))).begun ≡ true → Runs f (standing (rows_in (before ++ line ∷ []))) (rows_in rest))
-        → Runs f st (cond (not b) (words ∷ rows_in rest) (rows_in rest))
-    by true tests is next = subst (λ (now : Standing). Runs f now (rows_in rest)) is (next (ap (λ (now : Standing). now.begun) is ∙ begun))
+    by : (b : Bool) → first_reason (cond b [] (row_tests s st words)) ≡ None → standing (rows_in (before ++ line ∷ [])) ≡ cond b st (with_row st words)
+        → ((standing (rows_in (before ++ line ∷ []))).begun ≡ true → Runs s (standing (rows_in (before ++ line ∷ []))) (rows_in rest))
+        → Runs s st (cond (not b) (words ∷ rows_in rest) (rows_in rest))
+    by true tests is next = subst (λ (now : Standing). Runs s now (rows_in rest)) is (next (ap (λ (now : Standing). now.begun) is ∙ begun))
     by false tests is next =
-        runs_more f st words (rows_in rest) (row_may f st words begun tests)
-        (subst (λ (now : Standing). Runs f now (rows_in rest)) is (next (ap (λ (now : Standing). now.begun) is)))
+        runs_more s st words (rows_in rest) (row_may s st words begun tests)
+        (subst (λ (now : Standing). Runs s now (rows_in rest)) is (next (ap (λ (now : Standing). now.begun) is)))
 
 -- the first row, and a run behind it
-first_runs : (f : File) (words : Row) (rows : List Row) → first_reason (first_tests words) ≡ None → Runs f (with_row (standing []) words) rows → Runs f begun_only (words ∷ rows)
-first_runs f words rows tests more =
+first_runs : (s : Setting) (words : Row) (rows : List Row) → first_reason (first_tests words) ≡ None → Runs s (with_row (standing []) words) rows → Runs s begun_only (words ∷ rows)
+first_runs s words rows tests more =
     let says = first_row_says words tests in
     record {
       pieces = more.pieces;
-      run = subst (λ (now : Standing). IsRun f now more.pieces) (sym (first_is (standing []) words says)) more.run;
+      run = subst (λ (now : Standing). IsRun s now more.pieces) (sym (first_is (standing []) words says)) more.run;
       claims = ap₂ cons_option says.claim more.claims;
       nodes = ap₂ cons_option says.node more.nodes;
       pairs = ap₂ cons_option says.pair more.pairs;
     }
 
-begins_from : (f : File) (last : Last) → EndsFine (setting_of f) last → (rest before : List (List ℕ)) → standing (rows_in before) ≡ standing [] → IsClean (proof_rules (setting_of f)) (before ++ rest) last → Runs f begun_only (rows_in rest)
+begins_from : (s : Setting) (last : Last) → EndsFine s last → (rest before : List (List ℕ)) → standing (rows_in before) ≡ standing [] → IsClean (proof_rules s) (before ++ rest) last → Runs s begun_only (rows_in rest)
 unfolding end_tests line_tests row_tests rows_in
-begins_from f last ends [] before none clean =
-    let tests = none_each (end_tests (standing (rows_in before))) (ends before (end_clean (setting_of f) last before clean)) in
+begins_from s last ends [] before none clean =
+    let tests = none_each (end_tests (standing (rows_in before))) (ends before (end_clean s last before clean)) in
     absurd (let wrong = tests.0 in let no_rows = ap (λ (st : Standing). not st.begun) none in cc)
-begins_from f last ends (line ∷ rest) before none clean =
-    by (length (row_of line) == 0) (subst (λ (st : Standing). first_reason (line_tests (setting_of f) st line) ≡ None) none (line_clean (setting_of f) last before rest line clean))
+begins_from s last ends (line ∷ rest) before none clean =
+    by (length (row_of line) == 0) (subst (λ (st : Standing). first_reason (line_tests s st line) ≡ None) none (line_clean s last before rest line clean))
     (line_push before line ∙ ap (λ st. with_line st line) none)
-    (λ more. begins_from f last ends rest (before ++ line ∷ []) more (after_line before rest line (setting_of f) last clean))
-    (λ more. runs_from f last ends rest (before ++ line ∷ []) more (after_line before rest line (setting_of f) last clean))
+    (λ more. begins_from s last ends rest (before ++ line ∷ []) more (after_line before rest line s last clean))
+    (λ more. runs_from s last ends rest (before ++ line ∷ []) more (after_line before rest line s last clean))
   where
     words : Row
     words = row_of line
@@ -332,10 +318,10 @@ begins_from f last ends (line ∷ rest) before none clean =
     now : Standing
     now = standing (rows_in (before ++ line ∷ []))
 
-    by : (b : Bool) → first_reason (cond b [] (first_tests words)) ≡ None → now ≡ cond b (standing []) (with_row (standing []) words) → (now ≡ standing [] → Runs f begun_only (rows_in rest))
-        → (now.begun ≡ true → Runs f now (rows_in rest)) → Runs f begun_only (cond (not b) (words ∷ rows_in rest) (rows_in rest))
+    by : (b : Bool) → first_reason (cond b [] (first_tests words)) ≡ None → now ≡ cond b (standing []) (with_row (standing []) words) → (now ≡ standing [] → Runs s begun_only (rows_in rest))
+        → (now.begun ≡ true → Runs s now (rows_in rest)) → Runs s begun_only (cond (not b) (words ∷ rows_in rest) (rows_in rest))
     by true tests is next run = next is
-    by false tests is next run = first_runs f words (rows_in rest) tests (subst (λ (st : Standing). Runs f st (rows_in rest)) is (run (ap (λ (st : Standing). st.begun) is)))
+    by false tests is next run = first_runs s words (rows_in rest) tests (subst (λ (st : Standing). Runs s st (rows_in rest)) is (run (ap (λ (st : Standing). st.begun) is)))
 
 last_fine : (s : Setting) (fault : Option LineFault) → EndsFine s (last_by fault End)
 last_fine s None lines e = e
@@ -352,6 +338,6 @@ text_ends s text clean =
     last_fine s (scan text).fault (lines_of text)
     (end_clean s (last_of text) (lines_of text) (subst (λ ls. IsClean (proof_rules s) ls (last_of text)) (sym (append-nil (lines_of text))) clean))
 
-pub text_runs : (f : File) (text : List ℕ) → IsClean (proof_rules (setting_of f)) (lines_of text) (last_of text) → Runs f begun_only (rows_in (lines_of text))
+pub text_runs : (s : Setting) (text : List ℕ) → IsClean (proof_rules s) (lines_of text) (last_of text) → Runs s begun_only (rows_in (lines_of text))
 unfolding last_of
-text_runs f text clean = begins_from f (last_of text) (last_fine (setting_of f) (scan text).fault) (lines_of text) [] no_rows clean
+text_runs s text clean = begins_from s (last_of text) (last_fine s (scan text).fault) (lines_of text) [] no_rows clean

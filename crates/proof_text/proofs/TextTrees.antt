@@ -7,16 +7,14 @@ use Rattle.std.proofs.lemmas.Bool.{and_parts, eqb-true}
 use Rattle.std.proofs.lemmas.List.Elements.{All-cons}
 use Rattle.fractions.specs.Fits.{fits}
 use Rattle.texts.specs.Reading.{lines_of}
-use Rattle.nl_model.specs.File.{File}
 use Rattle.certificates.specs.declared.proof.Claim.{Claim}
 use Rattle.certificates.specs.declared.proof.Claim.TheVariants.{Value, Infeasible}
 use Rattle.certificates.specs.declared.proof.ProofNode.{ProofNode}
 use Rattle.certificates.specs.declared.proof.ProofNode.TheVariants.{Split, Duals, Weights}
-use Rattle.file_certificates.specs.Files.{IsProofIn, IsTreeIn}
 use Rattle.certificates.specs.Proofs.{IsAlone, Pair, ProofTree, ProofValue, split, duals, weights, claim_value, nodes_of, pairs_of}
 use Rattle.proof_text.specs.Reader.{IsProofText}
 use Rattle.proof_text.specs.Rows.{Row, claim_in, node_in, pair_in, rows_in}
-use Rattle.file_certificates.specs.Setting.{setting_of}
+use Rattle.certificates.specs.Setting.{IsProofFor, IsTreeFor, Setting}
 use Rattle.proof_text.specs.Standing.{IsSaid, Standing, is_leaf, is_split, node_count, pairs_left, standing, subtrees_left}
 use Rattle.proof_text.specs.InsideReader.{AreAwaited}
 use Rattle.proof_text.proofs.Counted.{node_awaited, none_awaited, pair_awaited}
@@ -24,30 +22,30 @@ use Rattle.proof_text.proofs.Runs.{FitsNode, IsRun, MayStand, Piece, Runs, as_cl
 
 -- ---- what the pieces that are left give
 
-AreTrees : File → Claim → List ProofTree → Type 0
-AreTrees f c [] = Unit {0}
-AreTrees f c (tree ∷ trees) = IsTreeIn f tree × IsAlone c tree × AreTrees f c trees
+AreTrees : Setting → Claim → List ProofTree → Type 0
+AreTrees s c [] = Unit {0}
+AreTrees s c (tree ∷ trees) = IsTreeFor s tree × IsAlone c tree × AreTrees s c trees
 
 -- after the claim c
 abbrev claimed : Claim → List ProofNode → List Pair → Standing
 claimed c nodes pairs = record { begun = true; claim = Some c; nodes = nodes; pairs = pairs }
 
 -- they come
-record Grows (f : File) (c : Claim) (nodes : List ProofNode) (subtrees left : ℕ) (ps : List Piece) : Type 0 where
+record Grows (s : Setting) (c : Claim) (nodes : List ProofNode) (subtrees left : ℕ) (ps : List Piece) : Type 0 where
   own : List Pair
   trees : List ProofTree
   own_count : length own ≡ left
   tree_count : length trees ≡ subtrees
-  within : All (λ (p : Pair). p.0 < f.counts.n_con) own
-  fine : AreTrees f c trees
+  within : All (λ (p : Pair). p.0 < s.rows) own
+  fine : AreTrees s c trees
   nodes_are : filter_map as_node ps ≡ flat_map nodes_of trees
   pairs_are : filter_map as_pair ps ≡ own ++ flat_map pairs_of trees
   few_nodes : length nodes + length (filter_map as_node ps) ≤ 2 ^ 16
   no_claim : filter_map as_claim ps ≡ []
 
 -- these pieces go on from every standing after the claim
-abbrev GoOn : File → Claim → List Piece → Type 0
-GoOn f c ps = (nodes : List ProofNode) (pairs : List Pair) (subtrees left : ℕ) → AreAwaited nodes pairs subtrees left → length nodes ≤ 2 ^ 16 → IsRun f (claimed c nodes pairs) ps → Grows f c nodes subtrees left ps
+abbrev GoOn : Setting → Claim → List Piece → Type 0
+GoOn s c ps = (nodes : List ProofNode) (pairs : List Pair) (subtrees left : ℕ) → AreAwaited nodes pairs subtrees left → length nodes ≤ 2 ^ 16 → IsRun s (claimed c nodes pairs) ps → Grows s c nodes subtrees left ps
 
 -- the counts that are awaited, by the tests
 none_left : (n m k : ℕ) → n + m ≡ k → k - m ≡ 0 → n ≡ 0
@@ -56,9 +54,9 @@ none_left n m k e z = omega (arith, e, z)
 some_left : (n m k : ℕ) → n + m ≡ k → 0 < k - m → 0 < n
 some_left n m k e z = omega (arith, e, z)
 
-end_grows : (f : File) (c : Claim) → GoOn f c []
+end_grows : (s : Setting) (c : Claim) → GoOn s c []
 unfolding IsRun AreTrees
-end_grows f c nodes pairs subtrees left h few run =
+end_grows s c nodes pairs subtrees left h few run =
     let st = claimed c nodes pairs in
     let whole = and_parts (pairs_left st == 0) (subtrees_left st == 0) run in
     record {
@@ -76,14 +74,14 @@ end_grows f c nodes pairs subtrees left h few run =
 
 -- ---- a pair
 
-pair_first : (f : File) (c : Claim) (p : Pair) (ps : List Piece) (nodes : List ProofNode) (subtrees left : ℕ) → 0 < left → p.0 < f.counts.n_con → Grows f c nodes subtrees (left - 1) ps → Grows f c nodes subtrees left (pair_row p ∷ ps)
-pair_first f c p ps nodes subtrees left some below g =
+pair_first : (s : Setting) (c : Claim) (p : Pair) (ps : List Piece) (nodes : List ProofNode) (subtrees left : ℕ) → 0 < left → p.0 < s.rows → Grows s c nodes subtrees (left - 1) ps → Grows s c nodes subtrees left (pair_row p ∷ ps)
+pair_first s c p ps nodes subtrees left some below g =
     record {
       own = p ∷ g.own;
       trees = g.trees;
       own_count = (let n = g.own_count in omega (arith, n, some));
       tree_count = g.tree_count;
-      within = All-cons (λ (q : Pair). q.0 < f.counts.n_con) p g.own below g.within;
+      within = All-cons (λ (q : Pair). q.0 < s.rows) p g.own below g.within;
       fine = g.fine;
       nodes_are = g.nodes_are;
       pairs_are = ap (λ l. p ∷ l) g.pairs_are;
@@ -91,11 +89,11 @@ pair_first f c p ps nodes subtrees left some below g =
       no_claim = g.no_claim;
     }
 
-pair_grows : (f : File) (c : Claim) (p : Pair) (ps : List Piece) → GoOn f c ps → GoOn f c (pair_row p ∷ ps)
+pair_grows : (s : Setting) (c : Claim) (p : Pair) (ps : List Piece) → GoOn s c ps → GoOn s c (pair_row p ∷ ps)
 unfolding IsRun
-pair_grows f c p ps next nodes pairs subtrees left h few run =
+pair_grows s c p ps next nodes pairs subtrees left h few run =
     let some = some_left left (length pairs) (sum_by node_count nodes) h.left_are run.0.1 in
-    pair_first f c p ps nodes subtrees left some run.0.2 (next nodes (pairs ++ p ∷ []) subtrees (left - 1) (pair_awaited nodes pairs subtrees left (left - 1) p h (omega (arith, some))) few run.1)
+    pair_first s c p ps nodes subtrees left some run.0.2 (next nodes (pairs ++ p ∷ []) subtrees (left - 1) (pair_awaited nodes pairs subtrees left (left - 1) p h (omega (arith, some))) few run.1)
 
 -- ---- a node
 
@@ -119,12 +117,12 @@ longer : (nodes : List ProofNode) (node : ProofNode) → length nodes < 2 ^ 16 �
 longer nodes node lt = omega (arith, length-append nodes (node ∷ []), lt)
 
 -- a leaf takes the pairs that come first
-leaf_grows : (f : File) (c : Claim) (nodes : List ProofNode) (subtrees n : ℕ) (node : ProofNode) (ps : List Piece) → 0 < subtrees
+leaf_grows : (s : Setting) (c : Claim) (nodes : List ProofNode) (subtrees n : ℕ) (node : ProofNode) (ps : List Piece) → 0 < subtrees
     → (tree : List Pair → ProofTree) → ((own : List Pair) → length own ≡ n → nodes_of (tree own) ≡ node ∷ []) → ((own : List Pair) → pairs_of (tree own) ≡ own)
-    → ((own : List Pair) → All (λ (p : Pair). p.0 < f.counts.n_con) own → IsTreeIn f (tree own)) → ((own : List Pair) → IsAlone c (tree own))
-    → Grows f c (nodes ++ node ∷ []) (subtrees - 1) n ps → Grows f c nodes subtrees 0 (node_row node ∷ ps)
+    → ((own : List Pair) → All (λ (p : Pair). p.0 < s.rows) own → IsTreeFor s (tree own)) → ((own : List Pair) → IsAlone c (tree own))
+    → Grows s c (nodes ++ node ∷ []) (subtrees - 1) n ps → Grows s c nodes subtrees 0 (node_row node ∷ ps)
 unfolding AreTrees
-leaf_grows f c nodes subtrees n node ps some tree its_nodes its_pairs its_tree its_alone g =
+leaf_grows s c nodes subtrees n node ps some tree its_nodes its_pairs its_tree its_alone g =
     record {
       own = [];
       trees = tree g.own ∷ g.trees;
@@ -139,13 +137,13 @@ leaf_grows f c nodes subtrees n node ps some tree its_nodes its_pairs its_tree i
     }
 
 -- a split joins the first two subtrees that come
-split_grows : (f : File) (c : Claim) (nodes : List ProofNode) (subtrees : ℕ) (j : ℕ) (t : ℤ) (ps : List Piece) → 0 < subtrees → FitsNode f (Split j t) → MayStand (Some c) (Split j t)
-    → (g : Grows f c (nodes ++ Split j t ∷ []) (suc subtrees) 0 ps) → (trees : List ProofTree) → g.trees ≡ trees → Grows f c nodes subtrees 0 (node_row (Split j t) ∷ ps)
-unfolding AreTrees nodes_of pairs_of IsTreeIn
-split_grows f c nodes subtrees j t ps some fit may g [] e = absurd (let n = g.tree_count in let m = ap (λ (l : List ProofTree). length l) e in omega (arith, n, m))
-split_grows f c nodes subtrees j t ps some fit may g (low ∷ []) e = absurd (let n = g.tree_count in let m = ap (λ (l : List ProofTree). length l) e in omega (arith, n, m, some))
-split_grows f c nodes subtrees j t ps some fit may g (low ∷ high ∷ rest) e =
-    let fine : AreTrees f c (low ∷ high ∷ rest) = subst (AreTrees f c) e g.fine in
+split_grows : (s : Setting) (c : Claim) (nodes : List ProofNode) (subtrees : ℕ) (j : ℕ) (t : ℤ) (ps : List Piece) → 0 < subtrees → FitsNode s (Split j t) → MayStand (Some c) (Split j t)
+    → (g : Grows s c (nodes ++ Split j t ∷ []) (suc subtrees) 0 ps) → (trees : List ProofTree) → g.trees ≡ trees → Grows s c nodes subtrees 0 (node_row (Split j t) ∷ ps)
+unfolding AreTrees nodes_of pairs_of IsTreeFor
+split_grows s c nodes subtrees j t ps some fit may g [] e = absurd (let n = g.tree_count in let m = ap (λ (l : List ProofTree). length l) e in omega (arith, n, m))
+split_grows s c nodes subtrees j t ps some fit may g (low ∷ []) e = absurd (let n = g.tree_count in let m = ap (λ (l : List ProofTree). length l) e in omega (arith, n, m, some))
+split_grows s c nodes subtrees j t ps some fit may g (low ∷ high ∷ rest) e =
+    let fine : AreTrees s c (low ∷ high ∷ rest) = subst (AreTrees s c) e g.fine in
     let none : g.own ≡ [] = no_pairs g.own g.own_count in
     record {
       own = [];
@@ -153,49 +151,49 @@ split_grows f c nodes subtrees j t ps some fit may g (low ∷ high ∷ rest) e =
       own_count = refl;
       tree_count = (let n = g.tree_count in let m = ap (λ (l : List ProofTree). length l) e in omega (arith, n, m));
       within = λ k d lt. absurd (omega (arith, lt));
-      fine = ((fit.0, fit.1, fine.0, fine.2.0), split_alone c j t low high may, fine.2.2);
+      fine = ((fit, fine.0, fine.2.0), split_alone c j t low high may, fine.2.2);
       nodes_are = ap (λ l. Split j t ∷ l) (g.nodes_are ∙ ap (flat_map nodes_of) e ∙ sym (append_assoc (nodes_of low) (nodes_of high) (flat_map nodes_of rest)));
       pairs_are = g.pairs_are ∙ ap₂ (λ own ts. own ++ flat_map pairs_of ts) none e ∙ sym (append_assoc (pairs_of low) (pairs_of high) (flat_map pairs_of rest));
       few_nodes = (let few = g.few_nodes in omega (arith, few, length-append nodes (Split j t ∷ [])));
       no_claim = g.no_claim;
     }
 
-node_by : (f : File) (c : Claim) (n : ProofNode) (ps : List Piece) → GoOn f c ps → (nodes : List ProofNode) (pairs : List Pair) (subtrees left : ℕ) → AreAwaited nodes pairs subtrees left → left ≡ 0 → 0 < subtrees
-    → length nodes < 2 ^ 16 → FitsNode f n → MayStand (Some c) n → IsRun f (claimed c (nodes ++ n ∷ []) pairs) ps → Grows f c nodes subtrees 0 (node_row n ∷ ps)
-unfolding nodes_of pairs_of IsTreeIn
-node_by f c (Split j t) ps next nodes pairs subtrees left h none some few fit may run =
+node_by : (s : Setting) (c : Claim) (n : ProofNode) (ps : List Piece) → GoOn s c ps → (nodes : List ProofNode) (pairs : List Pair) (subtrees left : ℕ) → AreAwaited nodes pairs subtrees left → left ≡ 0 → 0 < subtrees
+    → length nodes < 2 ^ 16 → FitsNode s n → MayStand (Some c) n → IsRun s (claimed c (nodes ++ n ∷ []) pairs) ps → Grows s c nodes subtrees 0 (node_row n ∷ ps)
+unfolding nodes_of pairs_of IsTreeFor
+node_by s c (Split j t) ps next nodes pairs subtrees left h none some few fit may run =
     let g = next (nodes ++ Split j t ∷ []) pairs (suc subtrees) 0 (node_awaited nodes pairs subtrees left (suc subtrees) (Split j t) h none (omega arith)) (longer nodes (Split j t) few) run in
-    split_grows f c nodes subtrees j t ps some fit may g g.trees refl
-node_by f c (Duals n) ps next nodes pairs subtrees left h none some few fit may run =
+    split_grows s c nodes subtrees j t ps some fit may g g.trees refl
+node_by s c (Duals n) ps next nodes pairs subtrees left h none some few fit may run =
     let g = next (nodes ++ Duals n ∷ []) pairs (subtrees - 1) n (node_awaited nodes pairs subtrees left (subtrees - 1) (Duals n) h none (omega (arith, some))) (longer nodes (Duals n) few) run in
-    leaf_grows f c nodes subtrees n (Duals n) ps some (λ own. duals own) (λ own e. ap (λ m. Duals m ∷ []) e) (λ own. refl) (λ own h. h) (λ own. duals_alone c n own may) g
-node_by f c (Weights n) ps next nodes pairs subtrees left h none some few fit may run =
+    leaf_grows s c nodes subtrees n (Duals n) ps some (λ own. duals own) (λ own e. ap (λ m. Duals m ∷ []) e) (λ own. refl) (λ own h. h) (λ own. duals_alone c n own may) g
+node_by s c (Weights n) ps next nodes pairs subtrees left h none some few fit may run =
     let g = next (nodes ++ Weights n ∷ []) pairs (subtrees - 1) n (node_awaited nodes pairs subtrees left (subtrees - 1) (Weights n) h none (omega (arith, some))) (longer nodes (Weights n) few) run in
-    leaf_grows f c nodes subtrees n (Weights n) ps some (λ own. weights own) (λ own e. ap (λ m. Weights m ∷ []) e) (λ own. refl) (λ own h. h) (λ own. weights_alone c own) g
+    leaf_grows s c nodes subtrees n (Weights n) ps some (λ own. weights own) (λ own e. ap (λ m. Weights m ∷ []) e) (λ own. refl) (λ own h. h) (λ own. weights_alone c own) g
 
-node_grows : (f : File) (c : Claim) (n : ProofNode) (ps : List Piece) → GoOn f c ps → GoOn f c (node_row n ∷ ps)
+node_grows : (s : Setting) (c : Claim) (n : ProofNode) (ps : List Piece) → GoOn s c ps → GoOn s c (node_row n ∷ ps)
 unfolding IsRun
-node_grows f c n ps next nodes pairs subtrees left h few run =
+node_grows s c n ps next nodes pairs subtrees left h few run =
     let none = none_left left (length pairs) (sum_by node_count nodes) h.left_are run.0.1 in
     let some = some_left subtrees (count_by is_leaf nodes) (1 + count_by is_split nodes) h.subtrees_are run.0.2 in
-    subst (λ k. Grows f c nodes subtrees k (node_row n ∷ ps)) (sym none) (node_by f c n ps next nodes pairs subtrees left h none some run.0.3 run.0.4 run.0.5 run.1)
+    subst (λ k. Grows s c nodes subtrees k (node_row n ∷ ps)) (sym none) (node_by s c n ps next nodes pairs subtrees left h none some run.0.3 run.0.4 run.0.5 run.1)
 
-grows : (f : File) (c : Claim) (ps : List Piece) → GoOn f c ps
+grows : (s : Setting) (c : Claim) (ps : List Piece) → GoOn s c ps
 unfolding IsRun
-grows f c [] = end_grows f c
-grows f c (claim_row d ∷ ps) = λ nodes pairs subtrees left h few run. absurd (let there = run.0.0 in cc)
-grows f c (node_row n ∷ ps) = node_grows f c n ps (grows f c ps)
-grows f c (pair_row p ∷ ps) = pair_grows f c p ps (grows f c ps)
+grows s c [] = end_grows s c
+grows s c (claim_row d ∷ ps) = λ nodes pairs subtrees left h few run. absurd (let there = run.0.0 in cc)
+grows s c (node_row n ∷ ps) = node_grows s c n ps (grows s c ps)
+grows s c (pair_row p ∷ ps) = pair_grows s c p ps (grows s c ps)
 
 -- ---- the claim
 
-tree_ends : (f : File) (c : Claim) (rows : List Row) (ps : List Piece) (p : ProofValue) → fits (claim_value c) ≡ true → filter_map claim_in rows ≡ c ∷ filter_map as_claim ps → filter_map node_in rows ≡ filter_map as_node ps
-    → filter_map pair_in rows ≡ filter_map as_pair ps → (g : Grows f c [] 1 0 ps) → (trees : List ProofTree) → g.trees ≡ trees → IsSaid (standing rows) p → IsProofIn f p
+tree_ends : (s : Setting) (c : Claim) (rows : List Row) (ps : List Piece) (p : ProofValue) → fits (claim_value c) ≡ true → filter_map claim_in rows ≡ c ∷ filter_map as_claim ps → filter_map node_in rows ≡ filter_map as_node ps
+    → filter_map pair_in rows ≡ filter_map as_pair ps → (g : Grows s c [] 1 0 ps) → (trees : List ProofTree) → g.trees ≡ trees → IsSaid (standing rows) p → IsProofFor s p
 unfolding AreTrees
-tree_ends f c rows ps p fit claims nodes pairs g [] e said = absurd (let n = g.tree_count in let m = ap (λ (l : List ProofTree). length l) e in omega (arith, n, m))
-tree_ends f c rows ps p fit claims nodes pairs g (tree ∷ other ∷ rest) e said = absurd (let n = g.tree_count in let m = ap (λ (l : List ProofTree). length l) e in omega (arith, n, m))
-tree_ends f c rows ps p fit claims nodes pairs g (tree ∷ []) e said =
-    let fine : AreTrees f c (tree ∷ []) = subst (AreTrees f c) e g.fine in
+tree_ends s c rows ps p fit claims nodes pairs g [] e said = absurd (let n = g.tree_count in let m = ap (λ (l : List ProofTree). length l) e in omega (arith, n, m))
+tree_ends s c rows ps p fit claims nodes pairs g (tree ∷ other ∷ rest) e said = absurd (let n = g.tree_count in let m = ap (λ (l : List ProofTree). length l) e in omega (arith, n, m))
+tree_ends s c rows ps p fit claims nodes pairs g (tree ∷ []) e said =
+    let fine : AreTrees s c (tree ∷ []) = subst (AreTrees s c) e g.fine in
     let same : c ≡ p.claim = (let a = ap (λ cs. slice_get cs 0) claims in let b = said.claim in cc) in
     let none : g.own ≡ [] = no_pairs g.own g.own_count in
     record {
@@ -208,14 +206,14 @@ tree_ends f c rows ps p fit claims nodes pairs g (tree ∷ []) e said =
       few = (let few = g.few_nodes in let are = ap length (said.nodes ∙ nodes) in omega (arith, few, are));
     }
 
-runs_end : (f : File) (rows : List Row) (p : ProofValue) (r : Runs f begun_only rows) (ps : List Piece) → r.pieces ≡ ps → IsSaid (standing rows) p → IsProofIn f p
+runs_end : (s : Setting) (rows : List Row) (p : ProofValue) (r : Runs s begun_only rows) (ps : List Piece) → r.pieces ≡ ps → IsSaid (standing rows) p → IsProofFor s p
 unfolding IsRun
-runs_end f rows p r [] e said = absurd (let run = subst (IsRun f begun_only) e r.run in cc)
-runs_end f rows p r (claim_row c ∷ ps) e said =
-    let run = subst (IsRun f begun_only) e r.run in
-    let g = grows f c ps [] [] 1 0 none_awaited (omega arith) run.1 in
-    tree_ends f c rows ps p run.0.1 (r.claims ∙ ap (filter_map as_claim) e) (r.nodes ∙ ap (filter_map as_node) e) (r.pairs ∙ ap (filter_map as_pair) e) g g.trees refl said
-runs_end f rows p r (q ∷ ps) e said = absurd (let there = (subst (IsRun f begun_only) e r.run).0.0 in cc)
+runs_end s rows p r [] e said = absurd (let run = subst (IsRun s begun_only) e r.run in cc)
+runs_end s rows p r (claim_row c ∷ ps) e said =
+    let run = subst (IsRun s begun_only) e r.run in
+    let g = grows s c ps [] [] 1 0 none_awaited (omega arith) run.1 in
+    tree_ends s c rows ps p run.0.1 (r.claims ∙ ap (filter_map as_claim) e) (r.nodes ∙ ap (filter_map as_node) e) (r.pairs ∙ ap (filter_map as_pair) e) g g.trees refl said
+runs_end s rows p r (q ∷ ps) e said = absurd (let there = (subst (IsRun s begun_only) e r.run).0.0 in cc)
 
-pub text_is_proof : (f : File) (text : List ℕ) (p : ProofValue) → IsProofText (setting_of f) text p → IsProofIn f p
-text_is_proof f text p h = (let runs = text_runs f text h.clean in runs_end f (rows_in (lines_of text)) p runs runs.pieces refl h.said)
+pub text_is_proof : (s : Setting) (text : List ℕ) (p : ProofValue) → IsProofText s text p → IsProofFor s p
+text_is_proof s text p h = (let runs = text_runs s text h.clean in runs_end s (rows_in (lines_of text)) p runs runs.pieces refl h.said)

@@ -7,7 +7,7 @@ use Rattle.texts.specs.declared.lines.LineFault.TheVariants.{LineTooLong as Long
 use Rattle.certificates.specs.Proofs.{ProofValue}
 use Rattle.proof_text.specs.declared.fault.ProofReason.{ProofReason}
 use Rattle.proof_text.specs.declared.fault.ProofReason.TheVariants.{LineTooLong, InputTooLong}
-use Rattle.file_certificates.specs.Setting.{Setting}
+use Rattle.certificates.specs.Setting.{Setting}
 use Rattle.proof_text.specs.Rows.{rows_in}
 use Rattle.proof_text.specs.Standing.{IsSaid, standing}
 use Rattle.proof_text.specs.Tests.{end_tests, line_tests}

@@ -1,4 +1,4 @@
--- What reading a proof of a file answers, and what a reader of one stands for.
+-- What reading a proof answers, and what a reader of one stands for.
 use Rattle.std.specs.Prelude.{◌≡◌, ◌⊎◌, ℕ, List, Option, Result}
 use Rattle.texts.specs.declared.stop.Stop.{Stop}
 use Rattle.texts.specs.declared.fault.TextFault.{TextFault}
@@ -6,7 +6,7 @@ use Rattle.texts.specs.Lines.{LinesState}
 use Rattle.texts.specs.Reading.{Stands, Reads, IsRead, HasFault}
 use Rattle.certificates.specs.Proofs.{ProofValue}
 use Rattle.proof_text.specs.declared.fault.ProofReason.{ProofReason}
-use Rattle.file_certificates.specs.Setting.{Setting}
+use Rattle.certificates.specs.Setting.{Setting}
 use Rattle.proof_text.specs.Rows.{rows_in}
 use Rattle.proof_text.specs.Standing.{standing}
 use Rattle.proof_text.specs.Steps.{ReadSoFar}

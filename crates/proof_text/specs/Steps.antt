@@ -7,7 +7,7 @@ use Rattle.certificates.specs.declared.proof.Claim.{Claim}
 use Rattle.certificates.specs.declared.proof.ProofNode.{ProofNode}
 use Rattle.certificates.specs.Proofs.{Pair}
 use Rattle.proof_text.specs.Rows.{Row, claim_in, node_in, pair_in}
-use Rattle.file_certificates.specs.Setting.{Setting}
+use Rattle.certificates.specs.Setting.{Setting}
 use Rattle.proof_text.specs.Standing.{Standing}
 
 -- what it is judged by, and what was read of it

@@ -11,7 +11,7 @@ use Rattle.certificates.specs.declared.proof.ProofNode.TheVariants.{Split}
 use Rattle.certificates.specs.Proofs.{Pair}
 use Rattle.proof_text.specs.declared.fault.ProofReason.{ProofReason}
 use Rattle.proof_text.specs.declared.fault.ProofReason.TheVariants.{BadFirst, BadLine, BadNumber, IndexOut, NotWhole, RepeatedIndex, Short, Extra, TooLarge}
-use Rattle.file_certificates.specs.Setting.{Setting}
+use Rattle.certificates.specs.Setting.{Setting}
 use Rattle.proof_text.specs.Rows.{Row, claim_in, is_claim_row, is_node_row, node_in, pair_in}
 use Rattle.proof_text.specs.Standing.{Standing, has_pair, is_whole, last_pairs, pairs_left, subtrees_left}
 

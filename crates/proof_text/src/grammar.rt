@@ -4,7 +4,7 @@ ghost use Rattle.texts.specs.Judged.{DecidesOrStops, Takes};
 ghost use Rattle.texts.specs.Words.{texts};
 ghost use Rattle.proof_text.specs.Grammar.{SaysProof, proof_rules};
 ghost use Rattle.proof_text.specs.Rows.{claim_in, node_in, pair_in, rows_in};
-ghost use Rattle.file_certificates.specs.Setting.{Setting, setting_of};
+ghost use Rattle.certificates.specs.Setting.{Setting};
 ghost use Rattle.proof_text.specs.Standing.{IsSaid, has_pair, is_leaf, is_split, is_whole, last_pairs, node_count, pairs_left, standing, subtrees_left};
 ghost use Rattle.proof_text.specs.Steps.{moved, with_claim, with_line, with_node, with_pair, with_row};
 ghost use Rattle.proof_text.specs.Tests.{claim_tests, end_tests, first_tests, is_split_continuous, is_split_out, line_tests, node_tests, pair_tests, row_tests};
@@ -14,7 +14,7 @@ use crate::rows::{judge_first, read_claim};
 use crate::words::{is_node_row, node_in, pair_in};
 use certificates::proof::{Claim, Proof, ProofNode};
 use exact_numbers::Dec;
-use nl_model::{Kind, NlFile, Terms, all_kinds};
+use linear_program::{Kind, Terms};
 use std::alloc::{AllocError, Global};
 use std::marker::Model;
 use texts::{Grammar, LineFault, Marks, Row, Stop};
@@ -25,8 +25,8 @@ const MOST_NODES: usize = 1 << 16;
 /// All leaves together have at most so many pairs.
 const MOST_PAIRS: usize = 1 << 22;
 
-/// What was read of a proof, and the number of constraints and the kinds of the variables of its
-/// file.
+/// What was read of a proof, and the number of rows and the kinds of the variables that it is judged
+/// by.
 #[derive(Drop)]
 pub struct ProofGrammar {
     rows: u32,
@@ -141,14 +141,17 @@ fn subtrees_after(subtrees: u64, node: ProofNode) -> u64
 }
 
 impl ProofGrammar {
-    /// No lines of a proof of this file.
+    /// No lines of a proof over so many rows and these variables.
     #[tactic(auto, unfolding(crate::specs::Rows::rows_in))]
-    pub(crate) fn new(alloc: Global, file: &NlFile) -> Result<ProofGrammar, AllocError>
-        ensures setting { IfOk result (λ g. g.setting ≡ setting_of file.now) }
+    pub(crate) fn new(
+        alloc: Global,
+        rows: u32,
+        kinds: Vec<Kind>,
+    ) -> Result<ProofGrammar, AllocError>
+        ensures setting { IfOk result (λ g. g.setting
+            ≡ record { rows = rows; kinds = kinds.items }) }
         ensures standing { IfOk result (λ g. g.standing ≡ standing (rows_in [])) }
     {
-        let kinds = all_kinds(alloc, file)?;
-        let rows = file.header().counts().n_con;
         let marks = Marks::new(alloc, rows as usize)?;
         Ok(ProofGrammar {
             rows,

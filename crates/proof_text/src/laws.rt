@@ -1,20 +1,18 @@
 // Laws of proof texts. Each is proved by a function with an empty body.
 ghost use Rattle.std.specs.Prelude.{List, ℕ};
-ghost use Rattle.nl_model.specs.File.{File};
-ghost use Rattle.file_certificates.specs.Files.{IsProofIn};
 ghost use Rattle.certificates.specs.Proofs.{ProofValue};
 ghost use Rattle.proof_text.specs.Reader.{HasOneReading, IsProofText};
-ghost use Rattle.file_certificates.specs.Setting.{Setting, setting_of};
+ghost use Rattle.certificates.specs.Setting.{IsProofFor, Setting};
 
 /// Each text is one proof, or has one first fault.
 pub fn one_reading()
     ensures { (s : Setting) (text : List ℕ) → HasOneReading s text }
 {}
 
-/// What is read for a file is a proof of the file: its nodes are those of one tree, in prefix
-/// order, whose splits are on whole variables and whose pairs are of constraints.
+/// What is read for a setting is a proof for it: its nodes are those of one tree, in prefix order,
+/// whose splits are on whole variables and whose pairs are of its rows.
 #[tactic(auto, using(crate::proofs::TextTrees::text_is_proof))]
 pub fn texts_are_proofs()
-    ensures { (f : File) (text : List ℕ) (p : ProofValue)
-        → IsProofText (setting_of f) text p → IsProofIn f p }
+    ensures { (s : Setting) (text : List ℕ) (p : ProofValue)
+        → IsProofText s text p → IsProofFor s p }
 {}

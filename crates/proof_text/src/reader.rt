@@ -3,21 +3,23 @@ ghost use Rattle.std.specs.Prelude.{◌≡◌, ◌++◌, List, ℕ, [], IfOk, If
 ghost use Rattle.std.specs.Result.{result_err};
 ghost use Rattle.texts.specs.Stopped.{IfFault};
 ghost use Rattle.texts.specs.Reading.{HasFaultSoFar, IsFreeSoFar};
-ghost use Rattle.nl_model.specs.File.{File};
 ghost use Rattle.file_certificates.specs.Files.{IsProofIn};
 ghost use Rattle.proof_text.specs.Grammar.{proof_rules};
-ghost use Rattle.file_certificates.specs.Setting.{Setting, setting_of};
+ghost use Rattle.certificates.specs.Setting.{IsProofFor, Setting};
+ghost use Rattle.file_certificates.specs.Setting.{setting_of};
 ghost use Rattle.proof_text.specs.Reader.{IsFed, ReadsProof};
+ghost use Rattle.proof_text.specs.Rows.{rows_in};
+ghost use Rattle.proof_text.specs.Standing.{standing};
 
 use crate::fault::ProofFault;
 use crate::grammar::ProofGrammar;
 use certificates::proof::Proof;
-use nl_model::NlFile;
+use nl_model::{NlFile, all_kinds};
 use std::alloc::{AllocError, Global};
 use std::marker::Model;
 use texts::{Reader, Stop, read};
 
-/// Reads a proof of a file that comes in pieces.
+/// Reads a proof that comes in pieces.
 #[derive(Drop)]
 pub struct ProofReader {
     reader: Reader<ProofGrammar>,
@@ -35,6 +37,15 @@ impl Model for ProofReader {
     } };
 }
 
+// No lines of a proof of this file.
+fn grammar_of(alloc: Global, file: &NlFile) -> Result<ProofGrammar, AllocError>
+    ensures setting { IfOk result (λ g. g.setting ≡ setting_of file.now) }
+    ensures standing { IfOk result (λ g. g.standing ≡ standing (rows_in [])) }
+{
+    let kinds = all_kinds(alloc, file)?;
+    ProofGrammar::new(alloc, file.header().counts().n_con, kinds)
+}
+
 impl ProofReader {
     /// A reader of a new proof of this file.
     pub fn new(alloc: Global, file: &NlFile) -> Result<ProofReader, AllocError>
@@ -42,7 +53,7 @@ impl ProofReader {
         // Nothing has stopped it.
         ensures going { IfOk result (λ reader. reader.stopped ≡ None) }
     {
-        let grammar = ProofGrammar::new(alloc, file)?;
+        let grammar = grammar_of(alloc, file)?;
         Ok(ProofReader {
             reader: Reader::new(alloc, grammar)?,
         })
@@ -71,9 +82,9 @@ impl ProofReader {
     pub fn finish(self) -> Result<Proof, Stop<ProofFault>>
         ensures reads { (s : Setting) (text : List ℕ) → IsFed s self text
             → ReadsProof s text result }
-        // It is a proof of the file that the reader was made for.
-        ensures proof { IfOk result (λ p. (f : File) (text : List ℕ)
-            → IsFed (setting_of f) self text → IsProofIn f p) }
+        // It is a proof for what the reader was made for.
+        ensures proof { IfOk result (λ p. (s : Setting) (text : List ℕ)
+            → IsFed s self text → IsProofFor s p) }
         ensures sticky { IfSome self.stopped (λ stop. result ≡ Err stop) }
     {
         self.reader.finish()
@@ -85,6 +96,6 @@ pub fn read_proof(alloc: Global, file: &NlFile, text: &[u8]) -> Result<Proof, St
     ensures reads { ReadsProof (setting_of file.now) text.now result }
     ensures proof { IfOk result (λ p. IsProofIn file.now p) }
 {
-    let grammar = ProofGrammar::new(alloc, file)?;
+    let grammar = grammar_of(alloc, file)?;
     read(alloc, grammar, text)
 }

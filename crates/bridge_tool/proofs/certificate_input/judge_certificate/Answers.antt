@@ -1,5 +1,4 @@
-use Rattle.file_certificates.specs.Setting.{setting_of}
 use Rattle.bridge_tool.proofs.certificate_input.judge_certificate.Goals as goal
 
 pub returns-in-Ok-clause-says : goal.returns-in-Ok-clause-says
-returns-in-Ok-clause-says c = λ f text fed. c.in-Ok.ensures.reads (setting_of f) text fed
+returns-in-Ok-clause-says c = λ s text fed. c.in-Ok.ensures.reads s text fed
