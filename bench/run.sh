@@ -7,8 +7,9 @@
 #     [TERMS="1000000 2000000 4000000"] [RUNS=5] bench/run.sh PROGRAM [BASELINE]
 #
 # PROGRAM is the built `bridge`, BASELINE an asl2mps that is built already. Each time is the processor time, user and
-# system, of the best of RUNS runs, commands in turn; a ratio is printed beside asl2mps and clp alone. The first
-# number of TERMS is also that of lists in C and of defined variables, which asl2mps refuses: they stand beside J terms.
+# system, of the best of RUNS runs, commands in turn; a ratio is printed beside asl2mps and clp alone. The floor (floor.c)
+# is a program in C of one pass that writes the same bytes without checks: no converter is much faster. The first number of
+# TERMS is also that of lists in C and of defined variables, which asl2mps refuses: they stand beside J terms.
 set -eu
 here=$(cd "$(dirname "$0")" && pwd)
 program=$(realpath "$1")
@@ -26,6 +27,8 @@ elif [ -f "$headers/asl.h" ] && cc -O2 -w -I"$headers" "$here/asl2mps.c" -o "$wo
 else
     echo "no baseline: Debian's libamplsolver-dev is not there, or asl2mps.c is not built over it; no ratio of export is printed"
 fi
+floor=$work/floor
+cc -O2 -w "$here/floor.c" -o "$floor"
 clp=$(command -v clp || true)
 [ -n "$clp" ] || echo "no clp (Debian's coinor-clp): no ratio of mps is printed"
 
@@ -66,21 +69,23 @@ nl_text() {
     echo "$text"
 }
 
-# beside_baseline TERMS FORM: a line of `export` beside asl2mps.
+# beside_baseline TERMS FORM: a line of `export` beside asl2mps and the floor.
 beside_baseline() {
-    local text seconds peak reading beside other part=-
+    local text seconds peak reading beside other least part=- bottom=-
     text=$(nl_text "$1" "$2")
-    local words=(0 "$program" export "$text" ::: 2 "$program" export "$text" 1)
+    local words=(0 "$program" export "$text" ::: 2 "$program" export "$text" 1 ::: 0 "$floor" "$text")
     [ -z "$baseline" ] || words+=(::: 0 "$baseline" "$text")
-    read -r seconds peak reading _ beside other <<<"$(measure "${words[@]}")"
+    read -r seconds peak reading _ least _ beside other <<<"$(measure "${words[@]}")"
     if [ -n "$baseline" ]; then
-        part=$(ratio "$seconds" "$beside") other=$(bytes_each "$other" "$1")
+        part=$(ratio "$seconds" "$beside") bottom=$(ratio "$least" "$beside") other=$(bytes_each "$other" "$1")
     fi
-    printf '%9s %8s %8s %8s %8s %6s %13s %17s\n' "$1" "$2" "$seconds" "$reading" "${beside:--}" "$part" "$(bytes_each "$peak" "$1")" "${other:--}"
+    printf '%9s %8s %8s %8s %8s %8s %6s %6s %13s %17s\n' "$1" "$2" "$seconds" "$reading" "$least" "${beside:--}" "$part" "$bottom" \
+        "$(bytes_each "$peak" "$1")" "${other:--}"
 }
 
 echo "export: processor seconds, best of $RUNS runs; reading is export of an objective that the text has not"
-printf '%9s %8s %8s %8s %8s %6s %13s %17s\n' terms form export reading asl2mps ratio "bytes a term" "asl2mps' bytes"
+printf '%9s %8s %8s %8s %8s %8s %6s %6s %13s %17s\n' terms form export reading floor asl2mps ratio "floor's" "bytes a term" \
+    "asl2mps' bytes"
 for size in "${sizes[@]}"; do
     beside_baseline "$size" linear
 done
@@ -90,7 +95,7 @@ for form in list defined; do
     plain=$(nl_text "${sizes[0]}" linear)
     times=$(measure 0 "$program" export "$text" ::: 2 "$program" export "$text" 1 ::: 0 "$program" export "$plain")
     read -r seconds peak reading _ beside _ <<<"$times"
-    printf '%9s %8s %8s %8s %8s %6s %13s   %s times our own J terms\n' "${sizes[0]}" "$form" "$seconds" "$reading" - - "$(bytes_each "$peak" "${sizes[0]}")" "$(ratio "$seconds" "$beside")"
+    printf '%9s %8s %8s %8s %8s %8s %6s %6s %13s   %s times our own J terms\n' "${sizes[0]}" "$form" "$seconds" "$reading" - - - - "$(bytes_each "$peak" "${sizes[0]}")" "$(ratio "$seconds" "$beside")"
 done
 
 echo

@@ -1,6 +1,6 @@
 """`export FILE`, `export FILE K`: header, segments, folding, scaling, limits."""
 from .texts import (
-    BIG, Case, KNAPSACK, KNAPSACK_MPS, SMALL, bad_words, doubled, file, head, mps, one_term, one_term_mps, small_mps, text,
+    BIG, KNAPSACK, KNAPSACK_MPS, SMALL, bad_words, doubled, file, head, mps, one_term, one_term_mps, small_mps, text,
     with_line,
 )
 from . import texts

@@ -1,5 +1,4 @@
 """`export FILE K ROWS COLS` and `return NL ANSWER ROWS COLS`: the names of lists in place of numbers."""
-from . import texts
 from .returned import HEAD, MAXIMISED, TIED
 from .texts import Case, KNAPSACK, bad_words, lines, text
 

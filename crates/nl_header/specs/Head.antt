@@ -30,7 +30,8 @@ header_number lines line place = number_in (header_line lines line) place
 
 -- nothing asks for a row past the last
 abbrev pub no_field_row : FieldRow
-no_field_row = record { line = 0; place = 0; field = record { row = 0; required = false; zero = false } }
+no_field_row =
+    record { line = 0; place = 0; field = record { row = 0; required = false; zero = false } }
 
 -- what a row's number is after a line with these words, when it was `number` before
 abbrev pub number_after : FieldRow → ℕ → List (List ℕ) → ℕ → ℕ
