@@ -89,6 +89,15 @@ class Answer:
         other = Answer(self.program, outcome, self.options)
         return other if self.duals is not None else other.without_duals()
 
+    def with_code(self, code: Code) -> Answer:
+        other = copy.copy(self)
+        other.outcome = replace(self.outcome, code=code)
+        return other
+
+    def without_point(self, code: Code) -> Answer:
+        """Nothing but the code."""
+        return Answer(self.program, Outcome(code, self.outcome.text), self.options)
+
     def objective(self) -> str | None:
         """The objective for the message: the solver's fraction, else a double of 10 digits at
         the written values."""

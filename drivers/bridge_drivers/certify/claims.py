@@ -59,6 +59,14 @@ class Verdict(NamedTuple):
     def is_proved(self) -> bool:
         return self.path is not None
 
+    def claim(self) -> str:
+        """The first word of a line that is proved, nothing of another one."""
+        return self.line.split()[0] if self.is_proved() else ""
+
+    def bound(self) -> Fraction:
+        """That of `bound` and `within`."""
+        return Fraction(self.line.split()[1])
+
 
 class Contradiction(NamedTuple):
     """A tree of weights: the program with the forms that it splits, and its leaves' file."""
