@@ -29,9 +29,10 @@ class Answer:
         self.values: dict[str, str] | None = None
         self.duals: dict[str, str] | None = None
         self.costs: dict[str, str] | None = None
+        self.whole = program.whole if options.round and not options.relax else set()
         if outcome.values is not None:
-            whole = program.whole if options.round and not options.relax else set()
-            self.values = {c: self.value(outcome.values[c], c in whole) for c in program.columns}
+            self.values = {c: self.value(outcome.values[c], c in self.whole)
+                           for c in program.columns}
         loose = self.loose
         if outcome.duals is not None:
             self.duals = {r: self.number(outcome.duals[r]) for r in program.constraints}

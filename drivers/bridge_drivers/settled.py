@@ -32,10 +32,15 @@ class Settled(NamedTuple):
 def settled(answer: Answer, verdict: Verdict, strict: bool = False) -> Settled:
     """By the claim that is proved; under `strict` only what ends the question is solved."""
     found = by_claim(answer, verdict)
-    if strict and found.code < 500 and verdict.claim() not in FINAL:
+    if strict and not is_final(verdict):
         return Settled(Code.UNSURE, recoded(found.answer, Code.UNSURE),
                        "not proved, as strict=1 wants it", found.kind)
     return found
+
+
+def is_final(verdict: Verdict) -> bool:
+    """Whether it ends the question."""
+    return verdict.claim() in FINAL
 
 
 def by_claim(answer: Answer, verdict: Verdict) -> Settled:

@@ -13,11 +13,11 @@ from .certificates import Certifier, remove_older
 from .certify.claims import WITHOUT, Verdict
 from .codes import Code, Failure, Status
 from .job import Clock, Job
-from .miss import NONE, Miss, miss
+from .miss import NONE, Miss, largest_share, miss, missing
 from .nl import BadFile, prepared
 from .options import Options
 from .program import Program
-from .settled import settled
+from .settled import is_final, settled
 from .solvers.base import Outcome, Solver, Unclear
 from .values import BadValue
 
@@ -28,13 +28,14 @@ ROUNDING = 1e-15            # of the largest term: less is not told by doubles
 @dataclass
 class Result:
     """A message, its .sol (None: one without values is to be made), what wantsol prints, and the
-    figures of a certificate."""
+    figures of a certificate. `is_final`: it is what strict=1 wants, or that is not asked for."""
 
     code: Code
     lines: list[str]
     sol: bytes | None = None
     answer: Answer | None = None
     figures: str = ""
+    is_final: bool = True
 
 
 class Solving:
@@ -158,8 +159,8 @@ class Solving:
     def missed(self, program: Program, answer: Answer) -> Miss:
         assert answer.values is not None
         if answer.apart:
-            return Miss(answer.most_apart, "a whole number")
-        return miss(program, answer.values)
+            return missing(answer.most_apart, "a whole number")
+        return miss(program, answer.values, answer.whole)
 
     # the message -------------------------------------------------------------------
 
@@ -193,7 +194,7 @@ class Solving:
                 if other is not None:
                     return self.told(job, nl, *other, notes)
                 answer = answer.with_code(Code.UNSURE)
-            found = settled(answer, verdict)
+            found = settled(answer, verdict, bool(self.options.strict))
             if found.text is not None:
                 own = self.headline(job, answer).partition(": ")[2]
                 lines.insert(0, f"its own answer: {own}")
@@ -213,7 +214,7 @@ class Solving:
         fault_line = certifier.kept(verdict)
         last = [*answer.notes(), *([fault_line] if fault_line else []), verdict.line]
         return Result(found.code, [self.headline(job, answer, found.text), *lines, *last], sol,
-                      answer, verdict.figures)
+                      answer, verdict.figures, not self.options.strict or is_final(verdict))
 
     def returned(self, certifier: Certifier, answer: Answer,
                  lines: list[str]) -> tuple[Answer, bytes]:
@@ -244,7 +245,7 @@ class Solving:
     def broken(answer: Answer) -> str:
         """By how much the written values miss the model at most."""
         assert answer.values is not None
-        share = max(miss(answer.program, answer.values).share, ROUNDING)
+        share = max(largest_share(answer.program, answer.values), ROUNDING)
         return f"; no row or bound is missed by more than {share:.2g} of its largest term"
 
 

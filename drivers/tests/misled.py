@@ -25,6 +25,7 @@ from support import Sol, driven                 # noqa: E402
 from bridge_drivers import solvers              # noqa: E402
 
 DRIVERS = ("cbc", "glpsol", "lp_solve", "highs")
+THREADS = 8
 
 
 def judged(folder: str, driver: str, model: Misleading, options: list[str]) -> tuple[int, str]:
@@ -58,13 +59,13 @@ def main() -> int:
             print(f"{driver}: not there")
             continue
         start, codes = time.monotonic(), collections.Counter()
-        with tempfile.TemporaryDirectory(prefix="misled-") as folder, ThreadPoolExecutor(3) as pool:
+        with tempfile.TemporaryDirectory(prefix="misled-") as folder, ThreadPoolExecutor(THREADS) as pool:
             for model, (code, fault) in zip(family, pool.map(
                     lambda m: judged(folder, driver, m, options), family)):
                 codes[code] += 1
                 wrong += bool(fault)
                 if fault:
-                    print(f"{driver} {model.name}: code {code}, {fault}")
+                    print(f"{driver} {model.name}: code {code}, {fault}", flush=True)
         shares = ", ".join(f"code {code}: {count}" for code, count in sorted(codes.items()))
         print(f"{driver}: {shares}; {time.monotonic() - start:.0f} s")
     print(f"{wrong} wrong")

@@ -69,6 +69,15 @@ class Table(Case):
                 ("bound 5", INFEASIBLE, INFEASIBLE, None)):
             self.judge(self.settled(code, line), wanted, value)
 
+    def test_strict(self) -> None:
+        """Only what ends the question is passed on with another code than 100."""
+        for code in ALL:
+            for line, point, wanted in (("optimal 5", 5, SOLVED), ("infeasible", None, INFEASIBLE),
+                                        ("unbounded", 5, UNBOUNDED), ("feasible 5", 5, UNSURE),
+                                        ("within 9 5", 5, UNSURE), ("bound 9", None, UNSURE),
+                                        ("not proved: time", None, UNSURE)):
+                self.assertEqual(self.settled(code, line, point, strict=True).code, wanted)
+
     def test_small_objectives(self) -> None:
         """What is apart is measured by the objective itself."""
         small = Program(TEXT.replace(b"x0 obj 1", b"x0 obj 1e-9"))
