@@ -19,12 +19,13 @@ use Rattle.nl_lines.specs.Pieces.{is_nothing, line_kind}
 use Rattle.nl_lines.specs.Tests.{is_binary, is_sides}
 use Rattle.nl_lines.specs.WholeRows.{IsWholeRow}
 use Rattle.nl_lines.proofs.IntervalRows.{interval_counted, interval_fine, interval_plain, is_refused}
+use Rattle.nl_lines.proofs.WholeRows.{column_fine, whole_plain}
 use Rattle.nl_segments.specs.Current.{Current, current_awaits, less_line, less_lines}
 use Rattle.nl_segments.specs.Held.{Body, HoldsSome, IsAwaiting, TakesRow}
 use Rattle.nl_segments.specs.InsideLineFronts.{AwaitsColumns, AwaitsIntervals, AwaitsLines, HasIntervals, with_lines}
 use Rattle.nl_segments.specs.InsideLineSteps.{HasRoom, next_interval_tests, unless_complete, with_interval}
 use Rattle.nl_segments.specs.InsideTermRuns.{TakesLines}
-use Rattle.nl_segments.proofs.PairHeld.{IsIntervalNext, early as early_line, interval_step, is_line_kind, next_interval}
+use Rattle.nl_segments.proofs.PairHeld.{IsIntervalNext, column_step, early as early_line, interval_step, is_line_kind, next_interval}
 use Rattle.nl_segments.proofs.PairLines.{awaits_as, opened}
 use Rattle.nl_segments.specs.Grammar.{counts_of}
 use Rattle.nl_segments.proofs.StandingLemmas.{goes_on, none_taken, row_first, still_some}
@@ -171,3 +172,21 @@ few_left first d of_constraint left piece front h lt takes f =
 pub same_counts : (d : Draft) (of_constraint : Bool) (i : Interval) → (with_interval d of_constraint i).counts ≡ d.counts
 same_counts d true i = refl
 same_counts d false i = refl
+
+-- ---- the number of a column more
+
+pub no_column : (columns : List ℕ) (left : ℕ) (b : Body) (cur : Current) (number : ℕ) (piece : List ℕ) → AwaitsColumns columns left b cur → TakesLines b piece number (record { len = 0; lines = 0 }) (with_lines b b.draft columns cur 0)
+no_column columns left b cur number piece is =
+    subst (λ x. TakesLines b piece number (record { len = 0; lines = 0 }) (with_lines b b.draft x cur 0)) is.columns_are (none_yet ColumnCount left b cur number piece refl is.awaits)
+
+pub column_taken : (first columns columns_new : List ℕ) (left : ℕ) (b : Body) (cur : Current) (number : ℕ) (piece : List ℕ) (front : Front) (len k : ℕ) → AwaitsColumns first left b cur → front.lines < left
+    → TakesLines b piece number front (with_lines b b.draft columns cur front.lines) → IsFirstRow (drop front.len piece) len (λ words. IsWholeRow words k) → columns_new ≡ columns ++ k ∷ []
+    → TakesLines b piece number (record { len = front.len + len; lines = front.lines + 1 }) (with_lines b b.draft columns_new cur (front.lines + 1))
+column_taken first columns columns_new left b cur number piece front len k is lt h row given =
+    let n = front.lines in
+    let old = with_lines b b.draft columns cur n in
+    let new = with_lines b b.draft columns_new cur (n + 1) in
+    goes_on b old new piece (drop front.len piece) number front (record { len = len; lines = 1 }) h refl
+    (row_first old new (drop front.len piece) (number + n) len (λ words. IsWholeRow words k) row (λ words r. (0, r.one))
+    (λ words r. column_step old words (number + n) k columns_new (unless_complete (less_lines cur (n + 1))) (still_awaiting ColumnCount left b cur n b.draft columns refl is.awaits lt) (whole_plain words k r) (column_fine words k r) r.says given
+    (next_current ColumnCount left b cur n b.draft columns refl is.awaits lt)))

@@ -18,6 +18,7 @@ impl BodyReader {
         match self.awaited() {
             Awaited::Pair => self.take_terms(piece, number),
             Awaited::Interval => self.take_intervals(piece, number),
+            Awaited::ColumnCount => self.take_columns(piece, number),
             _ => Front { len: 0, lines: 0 },
         }
     }
