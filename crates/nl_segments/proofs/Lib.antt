@@ -11,5 +11,6 @@ pub mod LineFronts
 pub mod PairPiece
 pub mod HeadBegun
 pub mod HeadLaw
+pub mod HeadFronts
 pub mod CleanRows
 pub mod CleanTexts

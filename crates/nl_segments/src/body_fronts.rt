@@ -19,6 +19,7 @@ impl BodyReader {
             Awaited::Pair => self.take_terms(piece, number),
             Awaited::Interval => self.take_intervals(piece, number),
             Awaited::ColumnCount => self.take_columns(piece, number),
+            Awaited::Nothing => self.take_head_line(piece, number),
             _ => Front { len: 0, lines: 0 },
         }
     }

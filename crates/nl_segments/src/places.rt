@@ -1,5 +1,6 @@
 // The lines of all nodes, terms and heads of a file.
-ghost use Rattle.std.specs.Prelude.{◌≡◌, ◌<◌, ◌≤◌, ◌^◌, ◌+◌, ◌-◌, if◌then◌else◌, ◌++◌, ◌∷◌, [], length, replicate, get_or, slice_get, slice_set, true, Some, IsSome, IfOk, OnOk, option_copied};
+ghost use Rattle.std.specs.Prelude.{◌≡◌, ◌<◌, ◌≤◌, ◌^◌, ◌+◌, ◌-◌, if◌then◌else◌, ◌++◌, ◌∷◌, [], length, replicate, get_or, slice_get, slice_set, true, false, Ok, Some, IsSome, IfOk, OnOk, option_copied};
+ghost use Rattle.nl_lines.specs.Pieces.{keeps_pairs};
 ghost use Rattle.nl_lines.specs.Saying.{changed, empty_lines, no_lines, owner_lines, place_line};
 ghost use Rattle.nl_segments.specs.InsideLineRuns.{follows};
 ghost use Rattle.nl_segments.specs.InsidePlaceSteps.{HasOwner, HasBegun, more_nodes, more_term_run, more_terms, terms_follow, with_begun, with_node_line, with_term_line, with_term_run};
@@ -126,7 +127,9 @@ impl Places {
     /// Takes the line of a head.
     pub(crate) fn begin(&mut self, alloc: Global, head: Head, line: u32) -> Result<(), AllocError>
         requires { HasOwner self.old head }
-        ensures { OnOk result (self.new ≡ with_begun self.old line head) }
+        ensures ok { OnOk result (self.new ≡ with_begun self.old line head) }
+        // Where nothing is kept after the head, no memory is wanted.
+        ensures given { keeps_pairs head ≡ false → result ≡ Ok tt }
     {
         match head {
             Head::Body(i) => begin_tree(&mut self.constraints, i as usize, line),
