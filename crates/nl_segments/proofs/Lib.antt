@@ -6,6 +6,7 @@ pub mod CurrentLemmas
 pub mod PairLines
 pub mod TreeLaw
 pub mod NodeSteps
+pub mod NodeFronts
 pub mod PairHeld
 pub mod LineFronts
 pub mod PairPiece

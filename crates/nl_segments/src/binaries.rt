@@ -19,10 +19,19 @@ impl Binaries {
             ≡ (nat_le result.first j && nat_lt j result.end) }
     {
         let shared = counts.nlvb.saturating_sub(counts.nlvbi);
-        let rows = counts.nlvc.saturating_sub(counts.nlvb).saturating_sub(counts.nlvci);
-        let objectives = counts.nlvo.saturating_sub(counts.nlvc).saturating_sub(counts.nlvoi);
+        let rows = counts
+            .nlvc
+            .saturating_sub(counts.nlvb)
+            .saturating_sub(counts.nlvci);
+        let objectives = counts
+            .nlvo
+            .saturating_sub(counts.nlvc)
+            .saturating_sub(counts.nlvoi);
         let nonlinear = counts.nlvc.max(counts.nlvo);
-        let linear = counts.n_var.saturating_sub(nonlinear).saturating_sub(counts.nbv);
+        let linear = counts
+            .n_var
+            .saturating_sub(nonlinear)
+            .saturating_sub(counts.nbv);
         let first = shared as u64
             + counts.nlvbi as u64
             + rows as u64

@@ -20,7 +20,8 @@ impl BodyReader {
             Awaited::Interval => self.take_intervals(piece, number),
             Awaited::ColumnCount => self.take_columns(piece, number),
             Awaited::Nothing => self.take_head_line(piece, number),
-            _ => Front { len: 0, lines: 0 },
+            Awaited::Node => self.take_leaf_line(piece, number),
+            Awaited::OperandCount => self.take_operand_line(piece, number),
         }
     }
 

@@ -76,12 +76,7 @@ fn add_interval(
 }
 
 // Gives the file the intervals of lines at the front of a piece, where so many are left.
-fn give_intervals(
-    builder: &mut NlBuilder,
-    of_constraint: bool,
-    left: u32,
-    piece: &[u8],
-) -> Front
+fn give_intervals(builder: &mut NlBuilder, of_constraint: bool, left: u32, piece: &[u8]) -> Front
     requires { HasIntervals builder.old of_constraint left }
     ensures few { result.lines ≤ left }
     ensures takes { (b : Body) (cur : CurrentValue) (number : ℕ)
