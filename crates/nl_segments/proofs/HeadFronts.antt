@@ -1,6 +1,6 @@
 -- A head after which nothing is kept, at the front of a piece.
-use Rattle.std.proofs.Common.{◌≡◌, ◌∙◌, ℕ, suc, Bool, true, false, List, [], ◌∷◌, length, replicate, refl, sym, ap, Some, None}
-use Rattle.std.specs.Prelude.{is_some, Ok}
+use Rattle.std.proofs.Common.{◌≡◌, ◌∙◌, ℕ, suc, Bool, true, false, List, [], ◌∷◌, length, replicate, refl, sym, None}
+use Rattle.std.specs.Prelude.{is_some}
 use Rattle.std.proofs.lemmas.Bool.{not-false}
 use Rattle.texts.specs.Judged.{first_reason}
 use Rattle.texts.proofs.FirstReasons.{none_each}
@@ -15,8 +15,8 @@ use Rattle.nl_lines.specs.Heads.{is_in_range, name_in}
 use Rattle.nl_lines.specs.Pieces.{keeps_pairs}
 use Rattle.nl_lines.specs.SeenSegments.{Segments, with_segment}
 use Rattle.nl_lines.specs.Tests.{is_suffix}
-use Rattle.nl_segments.specs.Held.{Body, TakesRow}
-use Rattle.nl_segments.specs.InsideHeadSteps.{begun_count, begun_current, begun_draft, begun_name, held_head_tests, new_head_tests, with_begun_head}
+use Rattle.nl_segments.specs.Held.{Body}
+use Rattle.nl_segments.specs.InsideHeadSteps.{begun_count, begun_current, begun_draft, begun_name, held_head_tests, with_begun_head}
 use Rattle.nl_segments.specs.InsidePlaceSteps.{with_begun}
 use Rattle.nl_segments.specs.InsideTermRuns.{TakesLines}
 use Rattle.nl_segments.proofs.HeadLaw.{form_fine, head_step}

@@ -1,12 +1,10 @@
 -- Intervals, and numbers of columns, a line each, that are taken at once; and which variables are binary.
-use Rattle.std.proofs.Common.{◌≡◌, ◌∙◌, ℕ, ◌+◌, ◌-◌, ◌<◌, ◌≤◌, Bool, true, false, not, ◌&&◌, nat_le, nat_lt, if◌then◌else◌, List, [], ◌∷◌, ◌++◌, length, drop, max, refl, sym, ap, subst, arith, Option, Some, None}
-use Rattle.std.specs.Prelude.{IfSome, IsSomeAnd, Ok}
+use Rattle.std.proofs.Common.{◌≡◌, ◌∙◌, ℕ, ◌+◌, ◌-◌, ◌<◌, ◌≤◌, Bool, true, false, not, ◌&&◌, nat_le, nat_lt, if◌then◌else◌, List, [], ◌∷◌, ◌++◌, drop, max, refl, sym, ap, subst, arith, Some, None}
+use Rattle.std.specs.Prelude.{IfSome, IsSomeAnd}
 use Rattle.std.proofs.lemmas.Bool.{lt-ltb, ltb-true, ltb-false}
 use Rattle.std.proofs.lemmas.Bool.Decides.{nat_tests}
-use Rattle.exact_numbers.specs.Numbers.{whole_of}
 use Rattle.linear_program.specs.declared.interval.Interval.{Interval}
 use Rattle.linear_program.specs.declared.kind.Kind.TheVariants.{Binary, Continuous, Integer}
-use Rattle.texts.specs.Judged.{first_reason}
 use Rattle.texts.specs.declared.grammar.Front.{Front}
 use Rattle.nl_model.specs.declared.header_counts.Counts.{Counts}
 use Rattle.nl_model.specs.Draft.{Draft}
@@ -21,9 +19,9 @@ use Rattle.nl_lines.specs.WholeRows.{IsWholeRow}
 use Rattle.nl_lines.proofs.IntervalRows.{interval_counted, interval_fine, interval_plain, is_refused}
 use Rattle.nl_lines.proofs.WholeRows.{column_fine, whole_plain}
 use Rattle.nl_segments.specs.Current.{Current, current_awaits, less_line, less_lines}
-use Rattle.nl_segments.specs.Held.{Body, HoldsSome, IsAwaiting, TakesRow}
+use Rattle.nl_segments.specs.Held.{Body, HoldsSome, IsAwaiting}
 use Rattle.nl_segments.specs.InsideLineFronts.{AwaitsColumns, AwaitsIntervals, AwaitsLines, HasIntervals, with_lines}
-use Rattle.nl_segments.specs.InsideLineSteps.{HasRoom, next_interval_tests, unless_complete, with_interval}
+use Rattle.nl_segments.specs.InsideLineSteps.{HasRoom, unless_complete, with_interval}
 use Rattle.nl_segments.specs.InsideTermRuns.{TakesLines}
 use Rattle.nl_segments.proofs.PairHeld.{IsIntervalNext, column_step, early as early_line, interval_step, is_line_kind, next_interval}
 use Rattle.nl_segments.proofs.PairLines.{awaits_as, opened}

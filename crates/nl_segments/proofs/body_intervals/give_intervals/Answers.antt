@@ -1,4 +1,4 @@
-use Rattle.std.proofs.Common.{◌≡◌, ◌∙◌, ◌+◌, ◌-◌, not, ◌&&◌, false, ap, arith, drop, refl, subst, sym, ℕ, List}
+use Rattle.std.proofs.Common.{◌≡◌, ◌∙◌, ◌-◌, not, ◌&&◌, false, ap, arith, drop, refl, subst, sym, ℕ}
 use Rattle.std.proofs.lemmas.List.{length-drop}
 use Rattle.nl_model.specs.Kinds.{variable_kind}
 use Rattle.nl_lines.specs.FirstRows.{IsFirstRow}

@@ -1,5 +1,4 @@
 use Rattle.std.proofs.Common.{arith}
-use Rattle.std.proofs.lemmas.List.{length-drop}
 use Rattle.texts.proofs.FrontLemmas.{front_few}
 use Rattle.nl_segments.specs.Held.{body_of}
 use Rattle.nl_segments.proofs.StandingLemmas.{goes_on, still_some}
