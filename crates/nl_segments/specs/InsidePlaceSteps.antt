@@ -77,6 +77,12 @@ terms_follow l (Terms i k) line = follows (get_or l.constraints i no_lines).term
 terms_follow l (Slopes k j) line = follows (get_or l.objectives k no_lines).terms line
 terms_follow l head line = false
 
+-- a line follows those of the nodes of the last piece, which is of a constraint or an objective
+abbrev pub nodes_follow : PlaceLines → Head → ℕ → Bool
+nodes_follow l (Body i) line = follows (get_or l.constraints i no_lines).nodes line
+nodes_follow l (Objective k m) line = follows (get_or l.objectives k no_lines).nodes line
+nodes_follow l head line = false
+
 -- the owner of a head has a place
 abbrev pub HasOwner : PlaceLines → Head → Type 0
 HasOwner l (Body i) = i < length l.constraints

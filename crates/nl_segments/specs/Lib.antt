@@ -13,5 +13,6 @@ pub mod InsideTaking
 pub mod InsideTreeSteps
 pub mod InsideKnownPairs
 pub mod InsideKnownNodes
+pub mod InsideLineFronts
 pub mod InsideLineRuns
 pub mod InsideTermRuns

@@ -4,13 +4,14 @@ ghost use Rattle.texts.specs.Judged.{Decides};
 ghost use Rattle.nl_lines.specs.declared.awaited.Awaited.TheVariants.{Node};
 ghost use Rattle.nl_segments.specs.Held.{HoldsSome, IsAwaiting, TakesRow, body_of};
 ghost use Rattle.nl_lines.specs.Leaves.{IsLeafRow};
+ghost use Rattle.nl_segments.specs.InsideTermRuns.{TakesLines};
 ghost use Rattle.nl_segments.specs.InsideTreeSteps.{IsNextRow, counted_node_tests};
 
 use crate::body::BodyReader;
-use crate::body_nodes::MOST_NODES;
-use nl_lines::{Leaf, NlReason, NodeRow, read_leaf_row};
+use crate::body_nodes::{MOST_NODES, row_count, take_next_row};
+use nl_lines::{Leaf, NlReason, NodeRow, first_leaf, read_leaf_row};
 use nl_model::NlBuilder;
-use texts::Stop;
+use texts::{Front, Stop};
 
 // A row of an expression, after so many nodes.
 #[tactic(auto, using(texts::proofs::FirstReasons::reason_after, nl_lines::proofs::NodeLemmas::too_large))]
@@ -43,5 +44,36 @@ impl BodyReader {
             Err(reason) => return Err(Stop::Fault(reason)),
         };
         self.keep_node(row, line)
+    }
+
+    /// Takes the line at the front of a piece, which has this number, where that is a letter and a
+    /// number alone, and follows the lines of the other nodes.
+    pub(crate) fn take_leaf_line(&mut self, piece: &[u8], number: u32) -> Front
+        requires awaited { IsAwaiting Node (body_of self.old) }
+        requires held { HoldsSome (body_of self.old) }
+        ensures { TakesLines (body_of self.old) piece.now number result (body_of self.new) }
+    {
+        let Some(first) = first_leaf(piece) else {
+            return Front { len: 0, lines: 0 };
+        };
+        let Ok(row) = read_next(first.leaf, &self.builder, self.nodes) else {
+            return Front { len: 0, lines: 0 };
+        };
+        let counted = row;
+        let taken = take_next_row(
+            &mut self.builder,
+            &mut self.places,
+            &mut self.current,
+            row,
+            number,
+        );
+        if !taken {
+            return Front { len: 0, lines: 0 };
+        }
+        self.nodes += row_count(counted);
+        Front {
+            len: first.len,
+            lines: 1,
+        }
     }
 }

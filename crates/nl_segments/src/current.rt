@@ -1,5 +1,5 @@
 // The piece that was begun last.
-ghost use Rattle.std.specs.Prelude.{◌≡◌, ◌<◌, ◌≤◌, ◌^◌, length, OnOk, IfSome};
+ghost use Rattle.std.specs.Prelude.{◌≡◌, ◌<◌, ◌≤◌, ◌^◌, length, OnOk, OnErr, IfSome};
 ghost use Rattle.nl_model.specs.Nodes.{awaited};
 ghost use Rattle.nl_segments.specs.Current.{IsPending, new_current, nodes_await, current_awaits, less_line, less_lines, with_pair, with_node_row};
 ghost use Rattle.nl_lines.specs.NodeRows.{IsFormedRow};
@@ -126,7 +126,8 @@ impl Current {
         requires wanted { 0 < awaited self.old.nodes }
         requires few { length self.old.nodes < 2 ^ 22 }
         requires formed { IsFormedRow row }
-        ensures { OnOk result (self.new ≡ with_node_row self.old line row) }
+        ensures ok { OnOk result (self.new ≡ with_node_row self.old line row) }
+        ensures err { OnErr result (self.new ≡ self.old) }
     {
         match row {
             NodeRow::Whole(node) => {

@@ -71,6 +71,21 @@ impl OwnerLines {
         self.nodes.push(line)
     }
 
+    /// Whether a line follows those of the nodes, or is the first.
+    pub(crate) fn nodes_follow(&self, line: u32) -> bool
+        ensures { result ≡ follows self.now.nodes line }
+    {
+        self.nodes.follows(line)
+    }
+
+    /// Adds the line of a node that follows the others.
+    pub(crate) fn add_next_node(&mut self, line: u32)
+        requires { follows self.old.nodes line ≡ true }
+        ensures { self.new ≡ record self.old { nodes = self.old.nodes ++ line ∷ [] } }
+    {
+        self.nodes.grow(line, 1);
+    }
+
     /// Adds the line of a term.
     pub(crate) fn add_term(&mut self, line: u32) -> Result<(), AllocError>
         ensures { OnOk result (self.new ≡ record self.old { terms = self.old.terms ++ line ∷ [] }) }
