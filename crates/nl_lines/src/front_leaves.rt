@@ -1,4 +1,4 @@
-// A letter and a number of the common form alone in the line at the front of a text, read in one pass.
+// A letter and a number alone in the line at the front of a text, read in one pass.
 ghost use Rattle.std.specs.Prelude.{◌∷◌, IfSome};
 ghost use Rattle.nl_lines.specs.FirstRows.{IsFirstRow};
 ghost use Rattle.nl_lines.specs.Leaves.{IsLeafRow};

@@ -7,6 +7,7 @@ pub mod PairLines
 pub mod TreeLaw
 pub mod NodeSteps
 pub mod NodeFronts
+pub mod NodeRuns
 pub mod PairHeld
 pub mod LineFronts
 pub mod PairPiece

@@ -20,6 +20,9 @@ use Rattle.nl_lines.proofs.WholeRows.{operand_fine, operand_says, whole_plain}
 use Rattle.nl_segments.specs.Current.{Current, IsPending, with_node_row}
 use Rattle.nl_segments.specs.Held.{Body, HoldsSome, IsAwaiting}
 use Rattle.nl_segments.specs.InsideKnownNodes.{IsGoodNode}
+use Rattle.nl_lines.specs.declared.head.Head.{Head}
+use Rattle.nl_lines.specs.declared.head.Head.TheVariants.{Body as BodyHead, Objective}
+use Rattle.nl_segments.specs.InsidePlaceSteps.{nodes_follow, with_node_line, with_node_run}
 use Rattle.nl_segments.specs.InsideTermRuns.{TakesLines}
 use Rattle.nl_segments.specs.InsideTreeSteps.{CanTakeRow, IsNextRow, IsSettled, counted_node_tests, row_count, with_row_line}
 use Rattle.nl_segments.proofs.NodeSteps.{can_keep_node, can_take, count_read, node_kept, row_taken}
@@ -88,3 +91,9 @@ operand_first b piece number len k cur q draft kept places a first few lines set
 pub at_most_one : (r : NodeRow) → row_count r ≤ 1
 at_most_one (Whole n) = omega arith
 at_most_one (Counted o) = omega arith
+
+-- one line as a run
+pub one_node : (l : PlaceLines) (line : ℕ) (h : Head) → nodes_follow l h line ≡ true → with_node_run l line 1 h ≡ with_node_line l line h
+one_node l line (BodyHead i) e = refl
+one_node l line (Objective k m) e = refl
+one_node l line h e = absurd cc

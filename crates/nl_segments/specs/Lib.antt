@@ -15,4 +15,5 @@ pub mod InsideKnownPairs
 pub mod InsideKnownNodes
 pub mod InsideLineFronts
 pub mod InsideLineRuns
+pub mod InsideNodeRuns
 pub mod InsideTermRuns

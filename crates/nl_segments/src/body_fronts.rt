@@ -20,7 +20,7 @@ impl BodyReader {
             Awaited::Interval => self.take_intervals(piece, number),
             Awaited::ColumnCount => self.take_columns(piece, number),
             Awaited::Nothing => self.take_head_line(piece, number),
-            Awaited::Node => self.take_leaf_line(piece, number),
+            Awaited::Node => self.take_nodes(piece, number),
             Awaited::OperandCount => self.take_operand_line(piece, number),
         }
     }

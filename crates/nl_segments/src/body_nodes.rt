@@ -106,9 +106,12 @@ fn give_whole(builder: &mut NlBuilder, whole: Current) -> Result<(), AllocError>
     give_tree(builder, head, terms, tree)
 }
 
-// Gives the expression of the piece that is held to the file, where that is complete. It is not
-// held any more then.
-fn settle(builder: &mut NlBuilder, current: &mut Option<Current>) -> Result<(), AllocError>
+/// Gives the expression of the piece that is held to the file, where that is complete. It is not
+/// held any more then.
+pub(crate) fn settle(
+    builder: &mut NlBuilder,
+    current: &mut Option<Current>,
+) -> Result<(), AllocError>
     requires { IsSomeAnd current.old (λ c. CanSettle builder.old c) }
     ensures settled { OnOk result
         (IfSome current.old (λ c. IsSettled builder.old c current.new builder.new)) }
@@ -147,13 +150,14 @@ pub(crate) fn take_row(
 }
 
 // Takes the line of a row, if it is a node. It follows those of the other nodes.
+#[tactic(auto, using(crate::proofs::NodeFronts::one_node))]
 fn add_next_line(places: &mut Places, head: Head, row: NodeRow, line: u32)
     requires owner { HasOwner places.old head }
     requires next { nodes_follow places.old head line ≡ true }
     ensures { places.new ≡ with_row_line places.old line head row }
 {
     match row {
-        NodeRow::Whole(_) => places.add_next_node(head, line),
+        NodeRow::Whole(_) => places.add_nodes(head, line, 1),
         NodeRow::Counted(_) => {}
     }
 }

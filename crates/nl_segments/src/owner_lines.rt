@@ -1,7 +1,7 @@
 // The lines of one owner.
 ghost use Rattle.std.specs.Prelude.{◌≡◌, ◌≤◌, ◌+◌, ◌^◌, ◌++◌, ◌∷◌, [], true, None, Some, OnOk, slice_get};
 ghost use Rattle.nl_segments.specs.InsideLineRuns.{follows};
-ghost use Rattle.nl_segments.specs.InsidePlaceSteps.{more_term_run};
+ghost use Rattle.nl_segments.specs.InsidePlaceSteps.{more_node_run, more_term_run};
 ghost use Rattle.nl_lines.specs.Saying.{no_lines};
 ghost use Rattle.std.specs.Option.{option_or};
 
@@ -78,12 +78,13 @@ impl OwnerLines {
         self.nodes.follows(line)
     }
 
-    /// Adds the line of a node that follows the others.
-    pub(crate) fn add_next_node(&mut self, line: u32)
-        requires { follows self.old.nodes line ≡ true }
-        ensures { self.new ≡ record self.old { nodes = self.old.nodes ++ line ∷ [] } }
+    /// Adds the lines of so many nodes that follow the others, from this line on.
+    pub(crate) fn add_nodes(&mut self, line: u32, count: u32)
+        requires next { follows self.old.nodes line ≡ true }
+        requires room { line + count ≤ 2 ^ 32 }
+        ensures { self.new ≡ more_node_run line count self.old }
     {
-        self.nodes.grow(line, 1);
+        self.nodes.grow(line, count);
     }
 
     /// Adds the line of a term.

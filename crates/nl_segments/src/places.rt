@@ -3,7 +3,7 @@ ghost use Rattle.std.specs.Prelude.{◌≡◌, ◌<◌, ◌≤◌, ◌^◌, ◌+
 ghost use Rattle.nl_lines.specs.Pieces.{keeps_pairs};
 ghost use Rattle.nl_lines.specs.Saying.{changed, empty_lines, no_lines, owner_lines, place_line};
 ghost use Rattle.nl_segments.specs.InsideLineRuns.{follows};
-ghost use Rattle.nl_segments.specs.InsidePlaceSteps.{HasOwner, HasBegun, more_nodes, more_term_run, more_terms, nodes_follow, terms_follow, with_begun, with_node_line, with_term_line, with_term_run};
+ghost use Rattle.nl_segments.specs.InsidePlaceSteps.{HasOwner, HasBegun, more_node_run, more_nodes, more_term_run, more_terms, nodes_follow, terms_follow, with_begun, with_node_line, with_node_run, with_term_line, with_term_run};
 ghost use Rattle.std.specs.Option.{option_or};
 
 use crate::owner_lines::OwnerLines;
@@ -78,13 +78,14 @@ fn add_node(owners: &mut Vec<OwnerLines>, i: usize, line: u32) -> Result<(), All
     owner.add_node(line)
 }
 
-fn add_next_node(owners: &mut Vec<OwnerLines>, i: usize, line: u32)
+fn add_nodes(owners: &mut Vec<OwnerLines>, i: usize, line: u32, count: u32)
     requires owner { i < length owners.old.items }
     requires next { follows (get_or owners.old.items i no_lines).nodes line ≡ true }
-    ensures { owners.new.items ≡ changed (more_nodes line) owners.old.items i }
+    requires room { line + count ≤ 2 ^ 32 }
+    ensures { owners.new.items ≡ changed (more_node_run line count) owners.old.items i }
 {
     let owner = &mut owners[i];
-    owner.add_next_node(line);
+    owner.add_nodes(line, count);
 }
 
 fn add_term(owners: &mut Vec<OwnerLines>, i: usize, line: u32) -> Result<(), AllocError>
@@ -194,16 +195,16 @@ impl Places {
         }
     }
 
-    /// Takes the line of a node of the last piece, which has this head. It follows those of the
-    /// other nodes.
-    pub(crate) fn add_next_node(&mut self, head: Head, line: u32)
+    /// Takes the lines of so many nodes of the last piece, which has this head, from this line on.
+    pub(crate) fn add_nodes(&mut self, head: Head, line: u32, count: u32)
         requires owner { HasOwner self.old head }
         requires next { nodes_follow self.old head line ≡ true }
-        ensures { self.new ≡ with_node_line self.old line head }
+        requires room { line + count ≤ 2 ^ 32 }
+        ensures { self.new ≡ with_node_run self.old line count head }
     {
         match head {
-            Head::Body(i) => add_next_node(&mut self.constraints, i as usize, line),
-            Head::Objective(k, _) => add_next_node(&mut self.objectives, k as usize, line),
+            Head::Body(i) => add_nodes(&mut self.constraints, i as usize, line, count),
+            Head::Objective(k, _) => add_nodes(&mut self.objectives, k as usize, line, count),
             _ => {}
         }
     }
