@@ -197,7 +197,7 @@ class Driver:
         """Told on standard error; with -AMPL also a .sol with the code, and exit 0 with it."""
         line = f"{self.name}: {fault.text}"
         sys.stderr.write(line + "\n")
-        minizinc.tell(line)
+        minizinc.tell(line, is_error=True)
         if self.words.ampl and fault.code != Code.STOPPED and not self.options.failexit:
             try:
                 self.put(bare(self.nl, fault.code, max(self.options.objno, 1) - 1, [line]))

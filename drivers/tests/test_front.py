@@ -368,17 +368,38 @@ class Ends(Case):
                                             b"nonlinear\n"), ran.stderr)
 
     def test_minizinc_is_told(self) -> None:
-        """A parent called minizinc, on its own standard error, unless it was called with -v."""
-        self.assertFalse(minizinc.is_quiet_minizinc(os.getpid()))
+        """A parent called minizinc, on its own standard error, also with -v."""
+        self.assertFalse(minizinc.is_minizinc(os.getpid()))
         parent = os.path.join(self.folder, "minizinc")
         os.symlink(os.path.realpath(sys.executable), parent)
         driver = [sys.executable, os.path.join(BIN, "bridge-cbc"), self.stub, "foo=1"]
         code = f"import subprocess; subprocess.run({driver!r}, stderr=subprocess.DEVNULL)"
         told = b"% bridge-cbc: unknown option foo; -= lists the options\n"
-        for words, err in (([], told), (["-v"], b"")):
+        for words, err in (([], told), (["-v"], told)):
             ran = subprocess.run([parent, "-c", code, *words], stderr=subprocess.PIPE,
                                  check=False)
             self.assertEqual(ran.stderr, err)
+
+    def test_minizinc_is_told_in_a_file(self) -> None:
+        """Where it writes its next line over what was appended, and where it appends too; a
+        verdict only where it was not called with -v."""
+        parent, path = (os.path.join(self.folder, name) for name in ("minizinc", "told"))
+        os.symlink(os.path.realpath(sys.executable), parent)
+        for told, is_error, words in (("optimal 7", False, []), ("refused", True, []),
+                                      ("refused", True, ["-v"]), ("optimal 7", False, ["-v"])):
+            child = [sys.executable, "-c", f"from bridge_drivers import minizinc; "
+                                           f"minizinc.tell({told!r}, {is_error})"]
+            code = (f"import os, subprocess; os.write(2, b'before\\n'); subprocess.run({child!r}, "
+                    "stderr=subprocess.DEVNULL); os.write(2, b'%[NL DEBUG] SOLVED\\n')")
+            for mode in ("wb", "ab"):
+                with open(path, mode) as err:
+                    subprocess.run([parent, "-c", code, *words], stderr=err, check=True,
+                                   env={**os.environ, "PYTHONPATH": DRIVERS})
+                with open(path, encoding="ascii") as f:
+                    lines = [line.rstrip() for line in f if line.strip()]
+                os.unlink(path)
+                wanted = [f"% {told}"] if is_error or not words else []
+                self.assertEqual(sorted(lines), sorted(["before", "%[NL DEBUG] SOLVED", *wanted]))
 
     def test_output_passes_other_calls_on(self) -> None:
         stream = io.StringIO()
