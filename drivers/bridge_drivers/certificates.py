@@ -7,7 +7,6 @@ What the .sol itself holds, `bridge check` says in a line before.
 from __future__ import annotations
 
 import os
-import shutil
 from fractions import Fraction
 
 from .answer import Answer
@@ -18,6 +17,7 @@ from .certify.text import answer_lines
 from .certify.watch import Watch
 from .codes import Code
 from .job import Job
+from .keeping import Keeper, Kept
 from .names import Names
 from .sol import duals_of, values_of
 from .solvers.base import BASIC, Outcome
@@ -116,16 +116,17 @@ class Certifier:
                           [int(r[1:]) for r in rows if outcome.row_basis[r] != BASIC])
         return Given(values, duals, basis)
 
-    def kept(self, verdict: Verdict) -> str | None:
-        """Copies the accepted text to where `certificate` says; a line where that fails."""
+    def kept(self, verdict: Verdict) -> Kept | None:
+        """Keeps the accepted text where `certificate` says; None where it says nothing."""
         target = self.job.options.certificate
-        if not target or verdict.path is None:
+        if not target:
             return None
-        try:
-            shutil.copyfile(verdict.path, target)
-        except OSError as fault:
-            return f"the certificate is not kept: {target}: {fault.strerror}"
-        return None
+        if verdict.path is None:
+            stays = f"; {target} stays as it was" if os.path.exists(target) else ""
+            return Kept("no certificate is written" + stays)
+        keeper = Keeper(self.bridge, self.nl, self.program.maximise,
+                        bool(self.job.options.overwrite))
+        return keeper.kept(verdict.path, verdict.line, target)
 
     # words -----------------------------------------------------------------------
 
@@ -162,10 +163,3 @@ class Certifier:
 def rounded(text: str) -> str:
     """The decimal of few places that is near a double's."""
     return text_of(round(float(text), PLACES))[0]
-
-
-def remove_older(path: str) -> None:
-    """A certificate of an earlier run must not pass for this one's. What is no plain file, such as
-    a device, is left where it is."""
-    if os.path.isfile(path) or os.path.islink(path) and not os.path.exists(path):
-        os.unlink(path)

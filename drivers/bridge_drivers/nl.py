@@ -12,6 +12,7 @@ import struct
 from typing import NamedTuple
 
 from .binary_nl import shortest, text_of_binary
+from .files import naming
 
 LONG = re.compile(rb"(?<![^\sn])-?\d+\.\d+(?:[eE][-+]?\d+)?(?!\S)")
 
@@ -70,7 +71,7 @@ def prepared(path: str, target: str, shorter: bool) -> Prepared:
         note = f"{count} numbers of the .nl file were read in their shortest spelling"
         if not count:
             return Prepared(path, [])
-    with open(target, "wb") as f:
+    with naming(target), open(target, "wb") as f:
         f.write(text)
     return Prepared(target, [note])
 

@@ -43,6 +43,8 @@ COMMON = (
     Option("outlev", 0, int, "0 quiet, 1 the solver's log, 2 also the commands and times"),
     Option("only", "", str, "mps: write the MPS text that this solver reads beside the model, "
                             "and stop"),
+    Option("overwrite", 0, int, "1: a certificate replaces what stands at its place, also one that "
+                                "says more"),
     Option("prove", 0, int, "1: search a certificate that the answer is optimal (timelim holds "
                             "for it too; 60 seconds where there is none)"),
     Option("relax", 0, int, "1: integer variables as continuous ones"),
@@ -71,6 +73,7 @@ class Options:
     objno: int
     outlev: int
     only: str
+    overwrite: int
     prove: int
     relax: int
     round: int

@@ -9,10 +9,11 @@ from dataclasses import dataclass, replace
 
 from .answer import Answer
 from .bridge import Bridge, Refused
-from .certificates import Certifier, remove_older
+from .certificates import Certifier
 from .certify.claims import WITHOUT, Verdict
 from .codes import Code, Failure, Status
 from .job import Clock, Job
+from .keeping import Kept
 from .miss import NONE, Miss, miss
 from .nl import BadFile, prepared
 from .options import Options
@@ -27,14 +28,15 @@ FAR = 1e-6                  # between objectives that are not the same
 
 @dataclass
 class Result:
-    """A message, its .sol (None: one without values is to be made), what wantsol prints, and the
-    figures of a certificate."""
+    """A message, its .sol (None: one without values is to be made), what wantsol prints, the
+    figures of a certificate, and where it is kept."""
 
     code: Code
     lines: list[str]
     sol: bytes | None = None
     answer: Answer | None = None
     figures: str = ""
+    kept: Kept | None = None
 
 
 class Solving:
@@ -49,8 +51,6 @@ class Solving:
 
     def result(self) -> Result:
         """The outcome. Failure where there is none."""
-        if self.options.certificate:
-            remove_older(self.options.certificate)
         kept = os.path.join(self.folder, "text.nl")
         try:
             text_form = prepared(self.nl, kept, bool(self.options.shortest))
@@ -204,10 +204,10 @@ class Solving:
             raise Failure(Code.NOT_RETURNED, f"return: {fault.line()}") from None
         if self.options.outlev and verdict.figures:
             print(f"certificate: {verdict.figures}", flush=True)
-        fault_line = certifier.kept(verdict)
-        last = [fault_line] if fault_line else []
+        kept = certifier.kept(verdict)
+        last = [kept.line] if kept else []
         return Result(code, lines + answer.notes() + last + [verdict.line], sol, answer,
-                      verdict.figures)
+                      verdict.figures, kept)
 
     def returned(self, certifier: Certifier, answer: Answer,
                  lines: list[str]) -> tuple[Answer, bytes]:

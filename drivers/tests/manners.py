@@ -379,14 +379,15 @@ class Claims(Case):
                              in self.sol().text, name != "near")
 
     def test_certificate(self) -> None:
-        """It is kept where it is accepted, and judged again; an older one goes."""
+        """It is kept where it is accepted, and judged again; else an older one stays."""
         kept = os.path.join(self.folder, "kept.certificate")
         self.put(MODELS["product"].text)
         self.assertEqual(self.last("cbc", "product", "certificate=" + kept), "optimal 19")
         ran = subprocess.run([*PROGRAM, "verify", self.stub + ".nl", kept], capture_output=True)
         self.assertEqual(ran.stdout, b"optimal 19\n")
         self.last("cbc", "product", "certificate=" + kept, "check=0")
-        self.assertFalse(os.path.exists(kept))
+        self.assertEqual(self.sol().message[-2], f"no certificate is written; {kept} stays as it was")
+        self.assertTrue(os.path.exists(kept))
         self.assertEqual(self.sol().message[-1], "not proved: check=0")
         self.last("cbc", "product", "certificate=/nonexistent/kept")
         self.assertIn("the certificate is not kept: /nonexistent/kept: No such file",

@@ -10,10 +10,10 @@ import tempfile
 from typing import Sequence, TextIO
 
 from .. import VERSION, console, solvers
-from ..certificates import remove_older
 from ..codes import Code, Failure, Status
 from ..driver import Driver
 from ..interrupts import SIGNALS
+from ..keeping import Kept
 from ..options import BadOption, Option
 from ..solving import Result
 
@@ -24,35 +24,43 @@ OPTIONS = (
                                    "standard output)"),
     Option("driver", "cbc", str, "the driver that finds a point"),
     Option("objno", 1, int, "which objective, from 1"),
+    Option("overwrite", 0, int, "1: the certificate replaces what stands there, also one that says "
+                                "more"),
     Option("shortest", 0, int, "1: long decimals of the .nl are read as shorter ones with the "
                                "same double"),
     Option("stats", 0, int, "1: a line of figures"),
     Option("timelim", 60.0, float, "seconds for the driver, and again for the certificate; 0: no "
                                    "limit"),
 )
-PASSED = ("objno", "shortest", "timelim")
+PASSED = ("objno", "overwrite", "shortest", "timelim")
 USAGE = f"""usage: {NAME} MODEL [option=value ..]
 
   finds what is true of MODEL.nl by a solver and a search, writes a certificate of it, and tells
-  the verdict of `bridge verify`. Status 1 where nothing is proved.
+  the verdict of `bridge verify`. Status 1 where nothing is proved, 5 where the certificate could
+  not be written.
 
 """
 
 
 class Finding(Driver):
-    """The driver whose answer is certified; its message is printed, and no .sol written."""
+    """The driver whose answer is certified; its message is printed, and no .sol written.
+    `is_hidden`: where the certificate is kept is not told."""
 
     stream: TextIO = sys.stdout
+    is_hidden = False
     lines: list[str] = []
     figures = ""
+    kept: Kept | None = None
 
     def __init__(self, name: str) -> None:
         super().__init__(name)
         self.name = self.clock.name = NAME
 
     def deliver(self, result: Result) -> None:
-        self.lines, self.figures = result.lines, result.figures
-        print("\n".join(result.lines), file=self.stream, flush=True)
+        self.lines, self.figures, self.kept = result.lines, result.figures, result.kept
+        lines = [line for line in result.lines
+                 if not (self.is_hidden and result.kept and line == result.kept.line)]
+        print("\n".join(lines), file=self.stream, flush=True)
 
 
 class Command:
@@ -73,7 +81,7 @@ class Command:
         self.stream = sys.stderr if self.path == "-" else sys.stdout
 
     def run(self) -> int:
-        """An older certificate goes first: it must not pass for this run's."""
+        """An older certificate stays until there is one that says as much."""
         with SIGNALS.kept(True):
             folder = tempfile.mkdtemp(prefix=NAME + "-")
             try:
@@ -83,10 +91,11 @@ class Command:
                 shutil.rmtree(folder, ignore_errors=True)
 
     def run_in(self, folder: str) -> int:
-        place = os.path.join(folder, "kept") if self.path == "-" else self.path
-        remove_older(place)
+        if self.path != "-":
+            return self.found(self.path)
+        place = os.path.join(folder, "kept")
         status = self.found(place)
-        if self.path == "-" and os.path.exists(place):
+        if os.path.exists(place):
             with open(place, encoding="ascii") as f:
                 shutil.copyfileobj(f, sys.stdout)
         return status
@@ -97,12 +106,16 @@ class Command:
         words += [f"{name}={self.options[name]}" for name in PASSED]
         words += ["bridge=" + str(self.options["bridge"])] if self.options["bridge"] else []
         driver = Finding(str(self.options["driver"]))
-        driver.stream = self.stream
+        driver.stream, driver.is_hidden = self.stream, self.path == "-"
         status = driver.main(words)
         if status != Status.DONE:
+            if os.path.isfile(place):
+                sys.stderr.write(f"{NAME}: {place} stays as it was\n")
             return status
         if self.options["stats"] and driver.figures:
             print(driver.figures, file=self.stream)
+        if driver.kept is not None and driver.kept.failed:
+            return Status.UNWRITTEN
         failed = driver.lines[-1].startswith("not proved")
         return Status.FAILED if failed else Status.DONE
 

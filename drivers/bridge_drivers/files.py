@@ -1,0 +1,57 @@
+"""Files that are written whole or not at all, and faults that name their file."""
+
+from __future__ import annotations
+
+import contextlib
+import os
+import shutil
+import stat
+from typing import Iterator
+
+from .interrupts import SIGNALS
+
+NO_ONE = 0o222              # the bits of a mode that let someone write
+
+
+@contextlib.contextmanager
+def naming(path: str) -> Iterator[None]:
+    """A fault of writing, such as a full disk, has no file of its own: it gets this one."""
+    try:
+        yield
+    except OSError as fault:
+        if fault.filename is None:
+            fault.filename = path
+        raise
+
+
+def is_special(path: str) -> bool:
+    """Whether it is there and is no plain file: a device, a pipe."""
+    return os.path.exists(path) and not os.path.isfile(path)
+
+
+def put(source: str, target: str) -> None:
+    """A copy of a file that stands at its place at once or not at all: it is written beside it and
+    renamed. What is no plain file is written to. A file that nobody may write stays."""
+    if is_special(target):
+        with naming(target), open(source, "rb") as data, open(target, "wb") as out:
+            shutil.copyfileobj(data, out)
+        return
+    place = os.path.realpath(target)
+    mode = stat.S_IMODE(os.stat(place).st_mode) if os.path.exists(place) else None
+    if mode is not None and not (mode & NO_ONE and os.access(place, os.W_OK)):
+        raise PermissionError(13, "it may not be written", target)
+    part = f"{place}.{os.getpid()}.part"
+    with SIGNALS.kept(True):
+        try:
+            with naming(target), open(source, "rb") as data, open(part, "wb") as out:
+                shutil.copyfileobj(data, out)
+                out.flush()
+                os.fsync(out.fileno())
+            if mode is not None:
+                os.chmod(part, mode)
+            os.replace(part, place)
+        except OSError as fault:
+            with contextlib.suppress(OSError):
+                os.unlink(part)
+            fault.filename, fault.filename2 = target, None
+            raise
