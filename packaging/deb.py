@@ -97,7 +97,8 @@ def control(project: Project, inside: list[File]) -> list[File]:
     major, minor = project.glibc()
     fields = [f"Package: {project.name}", f"Version: {project.version}",
               f"Architecture: {ARCHITECTURE}", f"Maintainer: {project.maintainer()}",
-              f"Installed-Size: {size}", f"Depends: libc6 (>= {major}.{minor}), python3 (>= 3.9)",
+              f"Installed-Size: {size}", f"Depends: libc6 (>= {major}.{minor}), python3 (>= 3.9), "
+              "coinor-libclp1",
               "Recommends: coinor-cbc", f"Suggests: {SOLVERS}", "Section: math",
               "Priority: optional", f"Description: {project.table['description']}"]
     sums = [f"{hashlib.md5(f.data).hexdigest()}  {f.path}\n" for f in inside]

@@ -9,11 +9,10 @@ from dataclasses import dataclass, replace
 
 from .answer import Answer
 from .bridge import Bridge, Refused
-from .certificates import Certifier
+from .certificates import Certifier, End
 from .certify.claims import WITHOUT, Verdict
 from .codes import Code, Failure, Status
 from .job import Clock, Job
-from .keeping import Kept
 from .miss import NONE, Miss, miss
 from .nl import BadFile, prepared
 from .options import Options
@@ -29,14 +28,14 @@ FAR = 1e-6                  # between objectives that are not the same
 @dataclass
 class Result:
     """A message, its .sol (None: one without values is to be made), what wantsol prints, the
-    figures of a certificate, and where it is kept."""
+    figures of a certificate, and how the message ends."""
 
     code: Code
     lines: list[str]
     sol: bytes | None = None
     answer: Answer | None = None
     figures: str = ""
-    kept: Kept | None = None
+    end: End | None = None
 
 
 class Solving:
@@ -204,10 +203,8 @@ class Solving:
             raise Failure(Code.NOT_RETURNED, f"return: {fault.line()}") from None
         if self.options.outlev and verdict.figures:
             print(f"certificate: {verdict.figures}", flush=True)
-        kept = certifier.kept(verdict)
-        last = [kept.line] if kept else []
-        return Result(code, lines + answer.notes() + last + [verdict.line], sol, answer,
-                      verdict.figures, kept)
+        end = certifier.ended(verdict)
+        return Result(code, lines + answer.notes() + end.lines, sol, answer, verdict.figures, end)
 
     def returned(self, certifier: Certifier, answer: Answer,
                  lines: list[str]) -> tuple[Answer, bytes]:

@@ -3,8 +3,11 @@ told."""
 
 from __future__ import annotations
 
+import contextlib
+import io
 import os
 import resource
+import shutil
 import signal
 import subprocess
 import sys
@@ -18,6 +21,8 @@ from models import MODELS
 
 from bridge_drivers import files, verdicts
 from bridge_drivers.bridge import Bridge, Late, Reply
+from bridge_drivers.certify import clp, command
+from bridge_drivers.certify.command import Finding
 from bridge_drivers.keeping import Keeper, Kept
 from bridge_drivers.verdicts import Said
 
@@ -204,6 +209,19 @@ class Certify(Case):
                 self.assertEqual(ended.returncode, 5, ended.stderr)
                 self.assertEqual(ended.stdout.split("\n")[-2], "optimal 19")
                 self.assertIn(f"the certificate is not kept: {target}: ", ended.stdout)
+
+    @unittest.skipUnless(shutil.which("cbc"), "no cbc")
+    def test_without_clp(self) -> None:
+        """A search that cannot be made is told, with the package that it needs, and status 1."""
+        self.put(MODELS["knap"].text)
+        out = io.StringIO()
+        with mock.patch.object(clp, "LOADED", [None]), contextlib.redirect_stdout(out), \
+                mock.patch.object(Finding, "stream", out):
+            status = command.run([self.stub])
+        self.assertEqual(status, 1)
+        self.assertIn("(Debian: apt install coinor-libclp1)\n", out.getvalue())
+        self.assertEqual(out.getvalue().split("\n")[-2],
+                         "not proved: there was no search; without it: feasible 17")
 
     def test_a_full_disk_is_named(self) -> None:
         """Files that may not grow: the fault has the name of its file."""

@@ -26,7 +26,7 @@ class Words(Case):
         ended = self.replay("cbc", "knap", self.stub + ".nl")
         self.assertEqual(ended.returncode, 0)
         self.assertRegex(ended.stdout, "optimal solution; objective 17\n"
-                                       "bridge check .*\n(feasible|optimal) 17\n")
+                                       "bridge check .*\n(in words: .*\n)?(feasible|optimal) 17\n")
         self.assertFalse(os.path.exists(self.stub + ".sol"))
         self.replay("cbc", "knap", self.stub, "-s")
         self.assertEqual(self.sol().code, 0)
@@ -340,6 +340,14 @@ class Claims(Case):
                            ("mixed", "feasible 173/4")):
             self.put(MODELS[name].text)
             self.assertEqual(self.last("cbc", name), line)
+        for name, line in (("knap", "not proved: there was no search; without it: feasible 17"),
+                           ("infeasible", "not proved: CLP's library (coinor-libclp1) is not "
+                                          "installed"), ("product", "optimal 19")):
+            self.put(MODELS[name].text)
+            self.assertEqual(self.last("cbc", name, "prove=1"), line)
+            self.assertEqual("prove=1 needs the library of CLP, which is not there (Debian: apt "
+                             "install coinor-libclp1)" in self.sol().message, name != "product")
+            self.assertNotIn("in words", self.sol().message[-1])
 
     def test_stopped_and_undecided(self) -> None:
         self.put(MODELS["knap"].text)

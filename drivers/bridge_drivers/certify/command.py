@@ -57,9 +57,10 @@ class Finding(Driver):
         self.name = self.clock.name = NAME
 
     def deliver(self, result: Result) -> None:
-        self.lines, self.figures, self.kept = result.lines, result.figures, result.kept
+        self.lines, self.figures = result.lines, result.figures
+        self.kept = result.end.kept if result.end else None
         lines = [line for line in result.lines
-                 if not (self.is_hidden and result.kept and line == result.kept.line)]
+                 if not (self.is_hidden and self.kept and line == self.kept.line)]
         print("\n".join(lines), file=self.stream, flush=True)
 
 
