@@ -94,9 +94,9 @@ class Solving:
         path = f"{self.nl[:-3]}.{self.solver.name}.mps"
         with open(path, "wb") as f:
             f.write(self.solver.text(program))
-        words = shlex.join([self.solver.program, *self.solver.reading(program, path)])
-        return Result(Code.LIMIT, [f"{path} is written, nothing was solved; read by: {words}",
-                                   WITHOUT + "only=mps"])
+        words = shlex.join(self.solver.command(program, path, self.options.solver))
+        return Result(Code.LIMIT, [f"{path} is written, and nothing was solved; "
+                                   f"{self.solver.title} reads and solves it by", words])
 
     def extra(self) -> list[str]:
         try:

@@ -409,7 +409,10 @@ class Claims(Case):
             self.last(driver, "product", "only=mps")
             sol = self.sol()
             self.assertEqual((sol.code, sol.values), (450, []))
-            self.assertIn(words, sol.message[0])
+            self.assertIn(f"{self.stub}.{driver}.mps is written, and nothing was solved; ",
+                          sol.message[0])
+            self.assertIn(words, sol.message[1])
+            self.assertNotIn("not proved", sol.text)
             with open(f"{self.stub}.{driver}.mps", "rb") as f:
                 self.assertTrue(f.read().startswith(start))
         self.last("cbc", "product", "only=lp")

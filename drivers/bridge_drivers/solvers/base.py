@@ -82,6 +82,10 @@ class Solver:
         """The words by which the solver reads that text and solves it."""
         return [path]
 
+    def command(self, program: Program, path: str, named: str) -> list[str]:
+        """All words of that, as one types them; `named` is the executable, where one is named."""
+        return [named or self.program, *self.reading(program, path)]
+
 
 def row_side(kind: str, letter: str) -> int:
     """The status of a row off the basis: by its kind where that tells it alone, else by the
