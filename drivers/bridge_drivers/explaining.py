@@ -12,6 +12,7 @@ from typing import Mapping, NamedTuple, Sequence
 
 from .expressions import Expression
 from .names import Names, comment_of
+from .printable import in_a_line, printable
 
 TOLD = re.compile(r"refused (?:file (\d+) ?)?(?:(line|row|column|objective) (\d+)|program)?: (.*)",
                   re.S)
@@ -237,6 +238,9 @@ class Refusal:
 
     def line(self) -> str:
         """All of it in one line."""
+        return in_a_line(self.text())
+
+    def text(self) -> str:
         t = self.parts
         if t is None or not 1 <= t.file <= len(self.files):
             return without_files(self.told)
@@ -286,7 +290,7 @@ class Refusal:
             lines.append("what helps: " + helps)
         if t.kind == "line":
             lines += around(self.files[t.file - 1], t.number)
-        return lines
+        return list(map(printable, lines))
 
 
 def around(path: str, line: int, before: int = 2, after: int = 3) -> list[str]:

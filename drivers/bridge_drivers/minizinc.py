@@ -10,6 +10,8 @@ import os
 import re
 import stat
 
+from .printable import in_a_line
+
 PROGRAM = "minizinc"
 VERBOSE = (b"-v", b"--verbose")
 ROOM = 200                      # bytes of what MiniZinc writes after its solver has ended
@@ -57,7 +59,7 @@ def tell(line: str, is_error: bool = False) -> None:
     except OSError:
         return
     try:
-        data = room_in(parent, out) + f"% {line}\n".encode("utf-8", "surrogateescape")
+        data = room_in(parent, out) + f"% {in_a_line(line)}\n".encode("utf-8", "surrogateescape")
         os.write(out, data)
     except OSError:
         pass

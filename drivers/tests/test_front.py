@@ -170,6 +170,23 @@ class Refusals(Case):
                                                                 missing], {missing: "x.sol"})
         self.assertEqual(fault.line(), "x.sol: input fault (No such file or directory)")
 
+    def test_controls_of_a_terminal(self) -> None:
+        """Of names, comments, paths and lines around: they are shown and not obeyed."""
+        self.put(PRODUCT.replace(b"v0\no0", b"v0\t# \x1b[2Jspeed\no0"))
+        self.put(b"Cap\x1b]0;title\x07\n", ".row")
+        self.put("a\x1b[31m\x9b1m\nb\rc\nz\n".encode(), ".col")
+        nl = self.stub + ".nl"
+        told = "refused line 17: nonlinear"
+        line = explaining.in_words(["export", nl], told, {})
+        self.assertEqual(line, nl + " line 17: constraint 0 (Cap\\x1b]0;title\\x07): "
+                               "(a\\x1b[31m\\x9b1m * (b\\x0dc + 3)) is nonlinear")
+        self.assertEqual(explaining.in_words(["export", nl], told, {nl: "m\x1b[1m.nl"}),
+                         "m\\x1b[1m.nl line 17: constraint 0: (\\x1b[2Jspeed * (x1 + 3)) is "
+                         "nonlinear")
+        more = "\n".join(explaining.Refusal(["export", nl], "refused line 17: nonlinear", {}).more())
+        self.assertIn("\\x1b[2Jspeed", more)
+        self.assertNotRegex(line + more, "[\x00-\x08\x0b-\x1f\x7f-\x9f]")
+
     def test_more(self) -> None:
         """The whole expression, what helps, the lines around."""
         self.put(PRODUCT)
@@ -400,6 +417,18 @@ class Ends(Case):
                 os.unlink(path)
                 wanted = [f"% {told}"] if is_error or not words else []
                 self.assertEqual(sorted(lines), sorted(["before", "%[NL DEBUG] SOLVED", *wanted]))
+
+    def test_controls_in_paths_and_streams(self) -> None:
+        """A path with an escape, and a byte that is one alone, on standard error; values on
+        standard output by names that have some."""
+        for path, told in ((b"\x1b[2Jm", b"\\x1b[2Jm.nl: "), (b"\x9b2Jm", b"\\x9b2Jm.nl: ")):
+            ran = subprocess.run([sys.executable, os.path.join(BIN, "bridge-cbc"), path],
+                                 capture_output=True, check=False)
+            self.assertEqual(ran.returncode, 4)
+            self.assertTrue(ran.stderr.startswith(b"bridge-cbc: " + told), ran.stderr)
+        stream = io.StringIO()
+        console.Output(stream).writelines(["a\x1b[1m\n", "b\tc\n"])
+        self.assertEqual(stream.getvalue(), "a\\x1b[1m\nb\tc\n")
 
     def test_output_passes_other_calls_on(self) -> None:
         stream = io.StringIO()
