@@ -149,6 +149,17 @@ class Certifier:
         return bool(options.prove and options.check) and clp.library() is None \
             and (said is None or not said.is_settled())
 
+    @staticmethod
+    def rounding(verdict: Verdict, answer: Answer, told: str) -> str:
+        """Why the numbers of a .sol say another thing than an exact optimum, where they are only
+        near to it."""
+        said = verdicts.read(verdict.line)
+        if said is None or said.word != "optimal" or told.split()[-1:] == [plain(str(said.value))]:
+            return ""
+        what = [word for word, count in (("values", answer.loose), ("duals", answer.loose_duals))
+                if count]
+        return f"; the exact {' and '.join(what)} are rounded to decimals in it" if what else ""
+
     def words(self, said: Said | None) -> list[str]:
         """The claim in words, where it says more than its line."""
         if said is None or said.is_settled():

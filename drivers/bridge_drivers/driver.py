@@ -9,7 +9,7 @@ import sys
 import tempfile
 from typing import Sequence
 
-from . import VERSION, console, minizinc, solvers, words
+from . import VERSION, console, kinds, minizinc, solvers, words
 from .bridge import BESIDE, Bridge, Missing, find
 from .codes import Code, Failure, Status
 from .interrupts import SIGNALS, Interrupted
@@ -113,14 +113,16 @@ class Driver:
         named = self.options.solver or self.solver.program
         place = self.solver.place(self.options.solver)
         if place is None:
-            raise Failure(Code.NOT_FOUND, f"{named} was not found: install it or give solver=PATH")
+            how = f"apt install {self.solver.package} (Debian)" \
+                if self.solver.package and not self.options.solver else "install it"
+            raise Failure(Code.NOT_FOUND, f"{named} was not found: {how} or give solver=PATH")
         return os.path.abspath(place)
 
     # the run -----------------------------------------------------------------------
 
     def work(self) -> Result:
-        if not os.path.exists(self.nl):
-            raise Failure(Code.FILE, f"{self.nl}: no such file", Status.NO_FILE)
+        if not os.path.exists(self.nl) or os.path.isdir(self.nl):
+            raise Failure(Code.FILE, kinds.no_model(self.words.stub or ""), Status.NO_FILE)
         bridge = self.find_bridge()
         solver_path = "" if self.options.only else self.find_solver()
         with SIGNALS.kept(True):

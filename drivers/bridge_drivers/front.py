@@ -6,16 +6,20 @@ from __future__ import annotations
 import hashlib
 import json
 import os
+import re
 import signal
+import subprocess
 import sys
 from typing import Callable, NamedTuple, Sequence
 
 from . import VERSION, console, explaining
-from .bridge import BESIDE, PACKAGE, Bridge, Missing, Refused, find
+from .bridge import BESIDE, PACKAGE, Bridge, Missing, Refused, find, is_plain
 from .stats import stats
 
 NAME = "nl-bridge"
-DONE, REFUSED, BAD_WORDS, OUTPUT_FAULT, NOT_THERE = 0, 2, 3, 5, 127
+DONE, REFUSED, BAD_WORDS, INPUT_FAULT, OUTPUT_FAULT, NOT_THERE = 0, 2, 3, 4, 5, 127
+NUMBERS = ("K", "SEED", "SIZE")             # words of the table that are no files
+NUMBER, MOST = re.compile("0|[1-9][0-9]*"), 4294967295
 
 
 class Command(NamedTuple):
@@ -24,6 +28,10 @@ class Command(NamedTuple):
     word: str
     rest: str
     text: str
+
+    def forms(self) -> list[list[str]]:
+        """The words that follow, without and with those in brackets."""
+        return [re.sub(r"\[.*?\]", "", self.rest).split(), re.sub(r"[][]", "", self.rest).split()]
 
 
 COMMANDS = (
@@ -113,9 +121,46 @@ def show_stats(bridge: Bridge, words: Sequence[str]) -> int:
         return fault.status
 
 
+def wrong_words(words: Sequence[str]) -> str:
+    """Why the proved program does not take these words, by its table; nothing where it does."""
+    rows = [c for c in COMMANDS if c.word == words[0]]
+    named = [names for row in rows for names in row.forms() if len(names) == len(words) - 1]
+    if not all(map(is_plain, words)):
+        return "a word that is not UTF-8"
+    if not named:
+        return f"{words[0]} takes " + " or ".join(row.rest for row in rows)
+    for name, word in zip(named[0], words[1:]):
+        if name in NUMBERS and not (NUMBER.fullmatch(word) and int(word) <= MOST):
+            return f"{name} is a plain number up to {MOST}, not {word}"
+    return ""
+
+
+def with_cause(place: Sequence[str], words: Sequence[str]) -> int | None:
+    """Runs the proved program where words or files are at fault, and adds to what it tells which,
+    and why; None where there is no fault."""
+    wrong = wrong_words(words)
+    files = explaining.files_of(words)
+    if not wrong and not any(map(explaining.fault_at, files)):
+        return None
+    ran = subprocess.run([*place, *words], stderr=subprocess.PIPE, check=False)
+    told = ran.stderr.decode("utf-8", "surrogateescape")
+    if ran.returncode == BAD_WORDS and wrong:
+        told = f"{NAME}: {told.strip()}: {wrong}; -h lists the commands\n"
+    elif ran.returncode == INPUT_FAULT:
+        told = f"{NAME}: {explaining.unreadable(files, {})}\n"
+    sys.stderr.write(told)
+    return ran.returncode if ran.returncode >= 0 else 128 - ran.returncode
+
+
 def passed_on(place: Sequence[str], words: Sequence[str]) -> int:
     """The proved program in this process's place, with the signals that it would have without
     Python."""
+    try:
+        status = with_cause(place, words)
+    except OSError as fault:
+        raise Missing(f"{place[0]} could not be run: {fault.strerror}") from None
+    if status is not None:
+        return status
     for name in ("SIGPIPE", "SIGXFSZ"):
         if hasattr(signal, name):
             signal.signal(getattr(signal, name), signal.SIG_DFL)

@@ -22,11 +22,13 @@ class BadFile(Exception):
 
 
 class Header(NamedTuple):
-    """What a .sol without values repeats of the first two lines."""
+    """What a .sol without values repeats of the first two lines, and how many objectives there
+    are."""
 
     options: list[str]
     constraints: int
     variables: int
+    objectives: int = 0
 
 
 class Prepared(NamedTuple):
@@ -46,7 +48,8 @@ def header(path: str) -> Header:
     options = [str(int(w)) for w in first[1:1 + count]]
     if len(options) != count or not 0 <= count <= 9:
         raise ValueError("options")
-    return Header(options, int(second[1]), int(second[0]))
+    return Header(options, int(second[1]), int(second[0]),
+                  int(second[2]) if len(second) > 2 else 0)
 
 
 def prepared(path: str, target: str, shorter: bool) -> Prepared:

@@ -14,7 +14,7 @@ from .certify.claims import WITHOUT, Verdict
 from .codes import Code, Failure, Status
 from .job import Clock, Job
 from .miss import NONE, Miss, miss
-from .nl import BadFile, prepared
+from .nl import BadFile, header, prepared
 from .options import Options
 from .program import Program
 from .solvers.base import Outcome, Solver, Unclear
@@ -65,7 +65,7 @@ class Solving:
                 return Result(Code.INFEASIBLE, [f"infeasible: {fault.line()}",
                                                 WITHOUT + "bridge refuses the model for this"])
             status = Status.REFUSED if fault.status == 2 else Status.FAILED
-            raise Failure(Code.REFUSED, fault.line(), status) from None
+            raise Failure(Code.REFUSED, self.refusal(fault, text_form.path), status) from None
         if self.options.only:
             return self.only_written(program)
         if program.whole and not self.solver.integers and not self.options.relax:
@@ -78,6 +78,14 @@ class Solving:
         if self.options.keep:
             job.write("model.mps", program.text)
         return self.told(job, text_form.path, *self.answered(job), text_form.notes)
+
+    def refusal(self, fault: Refused, nl: str) -> str:
+        """In words; an objective that is not there by the number that the option says."""
+        if not fault.told.endswith(": no such objective"):
+            return fault.line()
+        count = header(nl).objectives
+        return (f"{self.nl}: objno={self.options.objno}: no such objective: the file has {count}, "
+                "and objno counts from 1")
 
     def exported(self, nl: str) -> Program:
         words = ["export", nl]
@@ -198,6 +206,7 @@ class Solving:
                 told = certifier.checked(answer)
                 if told.endswith(" is broken"):
                     told += self.broken(answer)
+                told += certifier.rounding(verdict, answer, told)
                 lines.append("bridge check of the .sol: " + told)
         except Refused as fault:
             raise Failure(Code.NOT_RETURNED, f"return: {fault.line()}") from None

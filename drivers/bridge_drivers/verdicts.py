@@ -105,11 +105,11 @@ def better(maximise: bool) -> str:
     return "above" if maximise else "below"
 
 
-def limit_words(bound: Fraction, maximise: bool, steps: Multiples | None) -> str:
-    """`no point has more than 59.6; the objective is a multiple of 1 there, so none more than
-    59`."""
+def limit_words(bound: Fraction, maximise: bool, steps: Multiples | None, which: str = "") -> str:
+    """`no point has more than 59.6, and at whole points the objective goes by 1: none has more
+    than 59`."""
     more = "more" if maximise else "less"
-    text = f"no point has {more} than {decimal(bound)}"
+    text = f"no point has {more} than {which}{decimal(bound)}"
     if steps is not None and steps.beside(bound, maximise) != bound:
         text += (f", and at whole points the objective goes by {decimal(steps.step)}: none has "
                  f"{more} than {decimal(steps.beside(bound, maximise))}")
@@ -131,5 +131,5 @@ def in_words(said: Said, maximise: bool, steps: Multiples | None = None) -> str:
     if said.word == "optimal":
         return point + ", and none is better"
     away = abs(said.bound - said.value)
-    return (f"{point}, and {limit_words(said.bound, maximise, steps)}: the bound is "
-            f"{decimal(away)}{share(away, said.value)} {better(maximise)} it")
+    return (f"{point}, and {limit_words(said.bound, maximise, steps, 'the bound ')}; the bound is "
+            f"{decimal(away)}{share(away, said.value)} {better(maximise)} the point's")

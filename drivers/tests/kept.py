@@ -24,6 +24,7 @@ from bridge_drivers.bridge import Bridge, Late, Reply
 from bridge_drivers.certify import clp, command
 from bridge_drivers.certify.command import Finding
 from bridge_drivers.keeping import Keeper, Kept
+from bridge_drivers.program import Program
 from bridge_drivers.verdicts import Said
 
 CERTIFY = os.path.join(HERE, "..", "bin", "bridge-certify")
@@ -56,6 +57,50 @@ class Covers(unittest.TestCase):
         self.assertEqual(verdicts.read("unbounded of objective 1"), Said("unbounded", None, None, 1))
         for line in ("leaf 0 gap 17", "optimal", "optimal x", "not proved: x", "feasible 1/0"):
             self.assertIsNone(verdicts.read(line))
+
+
+class InWords(unittest.TestCase):
+    """Claims in words: which number is the bound, from which side, and by how much."""
+
+    def words(self, line: str, maximise: bool = True,
+              steps: "verdicts.Multiples | None" = None) -> str:
+        said = verdicts.read(line)
+        assert said is not None
+        return verdicts.in_words(said, maximise, steps)
+
+    def test_claims(self) -> None:
+        for line, maximise, words in (
+                ("within 19 17", True, "a point has the objective 17, and no point has more than "
+                 "the bound 19; the bound is 2 (11.76 %) above the point's"),
+                ("within 5/3 2", False, "a point has the objective 2, and no point has less than "
+                 "the bound about 1.666666667; the bound is about 0.3333333333 (16.67 %) below the "
+                 "point's"),
+                ("within 1 0", True, "a point has the objective 0, and no point has more than the "
+                 "bound 1; the bound is 1 above the point's"),
+                ("bound 173/4", False, "no point has less than 43.25"),
+                ("feasible 22/5", False, "a point has the objective 4.4"),
+                ("optimal 22/5 of objective 2", False,
+                 "a point has the objective 4.4, and none is better"),
+                ("infeasible", True, "no point satisfies the model"),
+                ("unbounded", False, "the objective goes below every number")):
+            self.assertEqual(self.words(line, maximise), words)
+        self.assertEqual(self.words("bound 1" + "0" * 400), "no point has more than 1e400")
+        self.assertRegex(self.words("bound 12345678901234567/3"), "than about 4.115226300e")
+
+    def test_a_bound_of_a_whole_objective(self) -> None:
+        """It is rounded to a value that the objective can have."""
+        program = Program(b"NAME nl\nROWS\n N obj\n L c0\nCOLUMNS\n M0 'MARKER' 'INTORG'\n"
+                          b" x0 obj 0.5\n x1 obj 1.5\n M1 'MARKER' 'INTEND'\n x2 c0 1\nRHS\n"
+                          b" RHS obj -0.25\nBOUNDS\nENDATA\n")
+        steps = verdicts.multiples(program)
+        self.assertEqual(steps, verdicts.Multiples(F(1, 4), F(1, 2)))
+        self.assertEqual(self.words("bound 59.6", True, steps), "no point has more than 59.6, and "
+                         "at whole points the objective goes by 0.5: none has more than 59.25")
+        self.assertEqual(self.words("bound 59.6", False, steps), "no point has less than 59.6, and "
+                         "at whole points the objective goes by 0.5: none has less than 59.75")
+        self.assertEqual(self.words("bound 59.75", True, steps), "no point has more than 59.75")
+        program.costs["x2"] = "1"
+        self.assertIsNone(verdicts.multiples(program))
 
 
 class Keeping(Case):

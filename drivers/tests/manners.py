@@ -108,6 +108,8 @@ class Failures(Case):
         self.failure(505, 2, "CLP takes no integer variables, and the model has 3; relax=1", "clp",
                      "knap")
         self.failure(506, 1, "CBC gave no usable answer: it wrote no answer", "cbc", "nothing")
+        self.failure(501, 2, "stub.nl: objno=3: no such objective: the file has 1, and objno counts "
+                             "from 1", "cbc", "knap", "objno=3")
         self.failure(502, 3, "extra: a quote does not end", "cbc", "knap", "extra='")
         self.failure(502, 3, "objno=0: solving without an objective is not offered", "cbc",
                      "knap", "objno=0")
@@ -242,6 +244,8 @@ class Claims(Case):
         self.put(MODELS["thirds"].text)
         self.assertEqual(self.last("esolver", "thirds"), "optimal 1/3")
         self.assertRegex(self.sol().text, r"\n\d+ exact values have no decimal of at most 38")
+        self.assertRegex(self.sol().text, CHECKED + "the reduced cost of .*; the exact values and "
+                                          "duals are rounded to decimals in it\n")
         self.put(MODELS["no_objective"].text)
         run = copy.deepcopy(stored.runs("esolver")["no_objective"])
         run["files"]["answer.sol"] = ["status OPTIMAL", "\tValue = 0", "VARS:", "x0 = 10/3",

@@ -48,6 +48,17 @@ class Processes(Case):
         self.assertIn("/nonexistent/cbc was not found: install it or give solver=PATH",
                       ended.stderr)
 
+    def test_packages_of_solvers(self) -> None:
+        """A solver that is not there is told with the Debian package that has it."""
+        self.put(MODELS["knap"].text)
+        bridge = self.script("bridge", "exit 3")
+        for driver, package in (("cbc", "coinor-cbc"), ("clp", "coinor-clp"),
+                                ("esolver", "qsopt-ex"), ("glpsol", "glpk-utils"),
+                                ("lp_solve", "lp-solve")):
+            ended = self.drive(driver, self.stub, PATH="/nonexistent", BRIDGE=bridge)
+            self.assertEqual((ended.returncode, ended.stderr), (1, f"bridge-{driver}: {driver} was "
+                             f"not found: apt install {package} (Debian) or give solver=PATH\n"))
+
     def test_solver_that_fails(self) -> None:
         self.put(MODELS["knap"].text)
         for solver, code in ((self.script("cbc", "echo out of paper >&2; exit 7"), 506),

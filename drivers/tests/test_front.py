@@ -17,7 +17,7 @@ from unittest import mock
 from support import HERE, Case
 from models import MODELS
 
-from bridge_drivers import VERSION, console, explaining, front, minizinc, stats
+from bridge_drivers import VERSION, console, explaining, front, kinds, minizinc, stats
 from bridge_drivers.bridge import Bridge, Refused, Reply
 from bridge_drivers.expressions import Expression
 from bridge_drivers.names import Names
@@ -145,7 +145,7 @@ class Refusals(Case):
                          "bits)")
         self.assertEqual(self.export("refused objective 1: no such objective"),
                          "m.nl: objective 1: no such objective (the file has fewer objectives; "
-                         "objno counts from 1)")
+                         "they count from 0 here)")
 
     def test_other_files(self) -> None:
         """They count among the files of the words."""
@@ -196,6 +196,51 @@ class Refusals(Case):
         self.assertTrue(more[1].startswith("what helps: "))
         self.assertEqual(more[4], ">     17 o2")
         self.assertEqual(len(more), 8)
+
+
+class Kinds(Case):
+    """Files that are no .nl, by what is in them and by their names."""
+
+    def told(self, name: str, data: bytes) -> str:
+        path = os.path.join(self.folder, name)
+        with open(path, "wb") as f:
+            f.write(data)
+        text = kinds.no_model(path)
+        os.unlink(path)
+        return text.replace(self.folder + os.sep, "")
+
+    def test_named_ones(self) -> None:
+        for name, data, told in (
+                ("model.mps", b"* made\nNAME x\nROWS\n", "is an MPS file: `nl-bridge import "
+                 "model.mps model.nl` makes model.nl of it"),
+                ("model.txt", b"NAME\nROWS\n", "is an MPS file: "),
+                ("model.lp", b"\\ made\nMinimize\n obj: x\n", "is an LP file, which no command "
+                 "here reads: `glpsol --lp model.lp --check --wfreemps model.mps`"),
+                ("model.lp", b"/* made */\nmax: 3x;\n", "is an LP file"),
+                ("knap.nl.gz", b"\x1f\x8b\x08", "is a compressed file: `gunzip -k knap.nl.gz`"),
+                ("model.mod", b"var x;\n", "is a text of AMPL: in AMPL, `write gmodel;` writes "
+                                            "model.nl"),
+                ("diet.mzn", b"var 1..2: x;\n", "is a text of MiniZinc: `minizinc --solver "
+                                                 "bridge-cbc diet.mzn`"),
+                ("k.certificate", b"certificate 1\n", "is a certificate: `nl-bridge verify "),
+                ("notes", b"\n", "is no .nl file by its name")):
+            self.assertTrue(self.told(name, data).startswith(f"{name} {told}"),
+                            self.told(name, data))
+
+    def test_others(self) -> None:
+        self.assertEqual(kinds.no_model(self.stub), self.stub + ".nl: no such file")
+        self.assertEqual(kinds.no_model(self.folder), self.folder + " is a folder")
+        self.put(b"NAME\nROWS\n", ".mps")
+        self.assertTrue(kinds.no_model(self.stub).startswith(
+            f"{self.stub}.nl: no such file; {self.stub}.mps is an MPS file: "))
+
+    def test_in_a_refusal(self) -> None:
+        self.put(b"NAME\nROWS\n")
+        self.assertEqual(explaining.in_words(["export", self.stub + ".nl"],
+                                             "refused line 1: bad first line",
+                                             {self.stub + ".nl": "m.nl"}),
+                         "m.nl line 1: bad first line: it is an MPS file: `nl-bridge import m.nl "
+                         "m.nl` makes m.nl of it")
 
 
 class UnknownWords(unittest.TestCase):
@@ -272,6 +317,41 @@ class Front(Case):
         self.assertEqual((status, err, out.split("\n")[0]), (0, "", f"nl-bridge {VERSION}"))
         self.assertEqual([line.split(" ")[0] for line in out.split("\n")],
                          ["nl-bridge", "program", "sha256", "toolchain", "drivers", ""])
+
+    def test_faults_of_words_and_files(self) -> None:
+        """The proved program tells the fault, and what is added says which word or file, and
+        why."""
+        program = ("for w in \"$@\"; do case $w in one|*:*) echo 'bad words' >&2; exit 3;; esac; "
+                   "done\n[ $# = 1 ] && { echo 'bad words' >&2; exit 3; }\n"
+                   "echo 'input fault' >&2; exit 4")
+        self.put(b"x")
+        nl = self.stub + ".nl"
+        for words, status, told in (
+                (["export", "/nonexistent/m.nl"], 4,
+                 "nl-bridge: /nonexistent/m.nl: input fault (No such file or directory)\n"),
+                (["verify", nl, self.folder], 4,
+                 f"nl-bridge: {self.folder}: input fault (Is a directory)\n"),
+                (["export"], 3, "nl-bridge: bad words: export takes FILE [K] or FILE K ROWS COLS; "
+                                "-h lists the commands\n"),
+                (["export", nl, "one"], 3, "nl-bridge: bad words: K is a plain number up to "
+                                           "4294967295, not one; -h lists the commands\n")):
+            path = os.path.join(self.folder, "faulty")
+            with open(path, "w", encoding="ascii") as f:
+                f.write("#!/bin/sh\n" + program + "\n")
+            os.chmod(path, 0o755)
+            ran = subprocess.run([sys.executable, os.path.join(BIN, "nl-bridge"), *words],
+                                 capture_output=True, text=True, check=False,
+                                 env={**os.environ, "BRIDGE": path})
+            self.assertEqual((ran.returncode, ran.stdout, ran.stderr), (status, "", told))
+
+    def test_words_of_the_table(self) -> None:
+        for words, wrong in ((["export", "a"], False), (["export", "a", "0"], False),
+                             (["export", "a", "00"], True), (["export", "a", "4294967296"], True),
+                             (["export", "a", "0", "r"], True), (["return", "a", "b"], False),
+                             (["return", "a", "b", "r", "c"], False), (["return", "a"], True),
+                             (["make", "1", "2"], False), (["make", "1"], True),
+                             (["nl", "\udcff"], True)):
+            self.assertEqual(bool(front.wrong_words(words)), wrong, words)
 
     def test_explain(self) -> None:
         self.put(MODELS["nonlinear"].text)

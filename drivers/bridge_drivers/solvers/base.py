@@ -47,6 +47,7 @@ class Solver:
 
     name = ""                           # of the driver, without bridge-
     program = ""                        # the executable
+    package = ""                        # Debian's, that has it
     title = ""                          # in messages
     integers = True                     # takes integer columns
     again = ""                          # how it is asked where an answer is not good

@@ -22,6 +22,7 @@ LOOKS = "import importlib.util as u, sys; sys.exit(u.find_spec('scipy') is None)
 
 class Highs(Solver):
     name, program, title = "highs", "a python3 with SciPy", "HiGHS of SciPy"
+    package = "python3-scipy"
     version = r"HiGHS of SciPy (\S+)"
     again = "without presolve"
     infinite = "1e20"
