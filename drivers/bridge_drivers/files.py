@@ -3,10 +3,11 @@
 from __future__ import annotations
 
 import contextlib
+import io
 import os
 import shutil
 import stat
-from typing import Iterator
+from typing import BinaryIO, Iterator
 
 from .interrupts import SIGNALS
 
@@ -32,8 +33,18 @@ def is_special(path: str) -> bool:
 def put(source: str, target: str) -> None:
     """A copy of a file that stands at its place at once or not at all: it is written beside it and
     renamed. What is no plain file is written to. A file that nobody may write stays."""
+    with open(source, "rb") as data:
+        put_all(data, target)
+
+
+def write(target: str, data: bytes) -> None:
+    """The same with these bytes."""
+    put_all(io.BytesIO(data), target)
+
+
+def put_all(data: BinaryIO, target: str) -> None:
     if is_special(target):
-        with naming(target), open(source, "rb") as data, open(target, "wb") as out:
+        with naming(target), open(target, "wb") as out:
             shutil.copyfileobj(data, out)
         return
     place = os.path.realpath(target)
@@ -43,7 +54,7 @@ def put(source: str, target: str) -> None:
     part = f"{place}.{os.getpid()}.part"
     with SIGNALS.kept(True):
         try:
-            with naming(target), open(source, "rb") as data, open(part, "wb") as out:
+            with naming(target), open(part, "wb") as out:
                 shutil.copyfileobj(data, out)
                 out.flush()
                 os.fsync(out.fileno())

@@ -14,6 +14,7 @@ from typing import Callable, NamedTuple, Sequence
 
 from . import VERSION, console, explaining
 from .bridge import BESIDE, PACKAGE, Bridge, Missing, Refused, find, is_plain
+from .importing import imported
 from .stats import stats
 
 NAME = "nl-bridge"
@@ -51,6 +52,7 @@ COMMANDS = (
 OWN = (
     Command("explain", "FILE [K]", "what a refusal is about: the expression, the lines, names"),
     Command("explain", "COMMAND FILE ..", "the same for a call of another command"),
+    Command("import", "FILE NL", "the .nl text in NL, the names beside it in .row and .col"),
     Command("stats", "FILE [K]", "sizes and kinds, numbers that are no doubles, scaled rows"),
     Command("version", "", "the program with its sum, the toolchain, the drivers"),
     Command("help", "", "this text"),
@@ -112,6 +114,19 @@ def explain(bridge: Bridge, words: Sequence[str]) -> int:
     return reply.status
 
 
+def show_import(bridge: Bridge, words: Sequence[str]) -> int:
+    """An MPS text into a file, with its names beside it."""
+    try:
+        print(imported(bridge, *words))
+        return DONE
+    except Refused as fault:
+        sys.stderr.write(f"{NAME}: {fault.line()}\n")
+        return fault.status
+    except OSError as fault:
+        sys.stderr.write(f"{NAME}: {fault.filename}: {fault.strerror}\n")
+        return OUTPUT_FAULT
+
+
 def show_stats(bridge: Bridge, words: Sequence[str]) -> int:
     try:
         print("\n".join(stats(bridge, *words)))
@@ -128,6 +143,7 @@ def wrong_words(words: Sequence[str]) -> str:
     if not all(map(is_plain, words)):
         return "a word that is not UTF-8"
     if not named:
+        rows += [c for c in OWN if c.word == words[0]]
         return f"{words[0]} takes " + " or ".join(row.rest for row in rows)
     for name, word in zip(named[0], words[1:]):
         if name in NUMBERS and not (NUMBER.fullmatch(word) and int(word) <= MOST):
@@ -196,6 +212,8 @@ def command(words: Sequence[str]) -> int:
         if asks_version:
             print(version(place), end="")
             return DONE
+        if first == "import" and len(rest) == 2:
+            return show_import(Bridge(place, lambda argv: None), rest)
         if first in own:
             return own[first](Bridge(place, lambda argv: None), rest)
         return passed_on(place, words)

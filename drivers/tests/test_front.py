@@ -8,16 +8,18 @@ import importlib
 import io
 import json
 import os
+import random
 import re
 import subprocess
 import sys
 import unittest
 from unittest import mock
 
-from support import HERE, Case
+from support import HERE, NEEDS_PROGRAM, PROGRAM, Case
 from models import MODELS
 
-from bridge_drivers import VERSION, console, explaining, front, kinds, minizinc, stats
+from bridge_drivers import (VERSION, console, explaining, front, importing, kinds, minizinc,
+                            stats)
 from bridge_drivers.bridge import Bridge, Refused, Reply
 from bridge_drivers.expressions import Expression
 from bridge_drivers.names import Names
@@ -251,6 +253,59 @@ class UnknownWords(unittest.TestCase):
                 Options().take(words)
         with self.assertRaisesRegex(BadOption, "^no value for timelim$"):
             Options().take(["timelim"])
+
+
+class Importing(Case):
+    TEXT = (b"NAME p\nROWS\n N cost\n G both\n N other\n L cap\nCOLUMNS\n M0 'MARKER' 'INTORG'\n"
+            b" i cost 1\n i both 1\n b both 2\n low both 1\n M1 'MARKER' 'INTEND'\n c cost 2\n"
+            b" 'MARKER' cap 1\n v cap 1\nRHS\n RHS both 3\nBOUNDS\n UP BND b 1\n UP BND i 9\n"
+            b" UP BND low -1\n BV BND v\nENDATA\n")
+
+    def test_order(self) -> None:
+        """Continuous, binary, integer, each in the order of the columns; constraints, then the
+        objective."""
+        self.assertEqual(importing.lists_of(self.TEXT), importing.Lists(
+            ["both", "cap", "cost"], ["c", "'MARKER'", "b", "v", "i", "low"]))
+
+    @NEEDS_PROGRAM
+    def test_against_the_program(self) -> None:
+        """The kinds of the .nl are those of the names, and so are the bounds."""
+        self.put(self.TEXT, ".mps")
+        bridge = Bridge(PROGRAM, lambda argv: None)
+        line = importing.imported(bridge, self.stub + ".mps", self.stub + ".nl")
+        self.assertEqual(line, f"{self.stub}.nl is written, with the names of 2 constraints and 6 "
+                               f"variables in {self.stub}.row and {self.stub}.col")
+        with open(self.stub + ".nl", encoding="ascii") as f:
+            lines = f.read().split("\n")
+        self.assertEqual(lines[6].split()[:2], ["2", "2"])
+        at = lines.index("b") + 1
+        self.assertEqual(lines[at:at + 6], ["2 0", "2 0", "0 0 1", "0 0 1", "0 0 9", "1 -1"])
+        bounds = Names(self.stub)
+        self.assertEqual([bounds.column(j) for j in range(6)],
+                         ["c", "'MARKER'", "b", "v", "i", "low"])
+
+    @NEEDS_PROGRAM
+    def test_random_ones(self) -> None:
+        """Each column has a bound of its own, which the .nl has at the place of its name."""
+        chance = random.Random(7)
+        for _ in range(20):
+            lines, bounds, wanted = [], [], {}
+            for j in range(12):
+                whole, low, high = chance.random() < .6, chance.choice((0, 1, -1)), \
+                    chance.choice((1, 2 + j))
+                mark = [f" M{j} 'MARKER' 'INTORG'", f" x{j} r 1", f" M{j}e 'MARKER' 'INTEND'"]
+                lines += mark if whole else mark[1:2]
+                bounds += [f" LO BND x{j} {low}", f" UP BND x{j} {high}"]
+                wanted[f"x{j}"] = f"4 {low}" if low == high else f"0 {low} {high}"
+            text = "\n".join(["NAME", "ROWS", " N o", " L r", "COLUMNS", *lines, "RHS", "BOUNDS",
+                              *bounds, "ENDATA", ""])
+            self.put(text.encode(), ".mps")
+            importing.imported(Bridge(PROGRAM, lambda argv: None), self.stub + ".mps", self.stub)
+            with open(self.stub + ".nl", encoding="ascii") as f:
+                made = f.read().split("\n")
+            at = made.index("b") + 1
+            names = Names(self.stub)
+            self.assertEqual({names.column(j): made[at + j] for j in range(12)}, wanted)
 
 
 class Figures(unittest.TestCase):
