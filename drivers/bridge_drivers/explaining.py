@@ -24,6 +24,9 @@ HEAD_LINES = 10
 NL_FIRST = ("export", "nl", "return", "check", "prove", "verify")     # commands of an .nl file
 
 
+FIRST_LINES = {"verify": "certificate 1", "prove": "proof 1", "return": "answer 1"}
+
+
 class Meaning(NamedTuple):
     """What a reason says of a model, and what helps (empty where that is plain)."""
 
@@ -270,6 +273,8 @@ class Refusal:
             kind = kinds.kind_of(self.files[0])
             if kind is not None:
                 return f"{t.reason}: it {kinds.told(self.files[0], kind, self.shown[0])}"
+        if t.reason == "bad first line" and self.file_two(t):
+            return f"{t.reason} (it does not begin with `{FIRST_LINES[self.command]}`)"
         if t.file != 1 or not self.is_model or t.reason in AT_END:
             return t.reason + meaning(t.reason)
         try:
@@ -280,6 +285,10 @@ class Refusal:
         if not t.reason.startswith(("short", "extra", "bad line")):
             expression = expression_at(segment, t.number, self.names)
         return f"{place_of(segment, t.number, self.names)}: {fault_of(t.reason, expression)}"
+
+    def file_two(self, t: Told) -> bool:
+        """Whether it is the second file of a command, whose first line is known."""
+        return t.file == 2 and self.command in FIRST_LINES
 
     def thing(self, t: Told) -> str:
         """`constraint 3 (Cap): ` for a row of the model; rows of an MPS text have no names here."""

@@ -13,6 +13,7 @@ import sys
 from typing import Callable, NamedTuple, Sequence
 
 from . import VERSION, console, explaining
+from .explained import command as certificates
 from .bridge import BESIDE, PACKAGE, Bridge, Missing, Refused, find, is_plain
 from .importing import imported
 from .stats import stats
@@ -51,6 +52,8 @@ COMMANDS = (
 )
 OWN = (
     Command("explain", "FILE [K]", "what a refusal is about: the expression, the lines, names"),
+    Command("explain", "NL CERTIFICATE", "what a certificate says, or where it fails; --html FILE, "
+                                         "--svg FILE"),
     Command("explain", "COMMAND FILE ..", "the same for a call of another command"),
     Command("import", "FILE NL", "the .nl text in NL, the names beside it in .row and .col"),
     Command("stats", "FILE [K]", "sizes and kinds, numbers that are no doubles, scaled rows"),
@@ -99,8 +102,14 @@ def version(words: list[str]) -> str:
 
 
 def explain(bridge: Bridge, words: Sequence[str]) -> int:
-    """The refusal of a call, of `export` where there is a file alone. The status is the call's."""
+    """What a certificate says, where there are a model and one. Else the refusal of a call, of
+    `export` where there is a file alone; the status is the call's."""
     known = {command.word for command in COMMANDS}
+    if len(words) > 1 and words[0] not in known and not NUMBER.fullmatch(words[1]):
+        try:
+            return certificates.explained(bridge, certificates.files_of(words))
+        except certificates.BadWords as fault:
+            return wrong(str(fault))
     call = list(words) if len(words) > 1 and words[0] in known else ["export", *words]
     reply = bridge.call(*call)
     if reply.status in (0, 1):
