@@ -152,7 +152,8 @@ class Project:
     def documents(self) -> Iterator[File]:
         """What users read. Unfit where a link leads to none of it."""
         found = [File("README.md", read("README.md")),
-                 File("drivers/README.md", read("drivers", "README.md"))]
+                 File("drivers/README.md", read("drivers", "README.md")),
+                 File("drivers/report.schema.json", read("drivers", "report.schema.json"))]
         for folder in FOLDERS:
             for name in sorted(os.listdir(os.path.join(TOP, "docs", folder))):
                 if name.endswith(".md"):

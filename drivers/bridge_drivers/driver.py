@@ -9,7 +9,7 @@ import sys
 import tempfile
 from typing import Sequence
 
-from . import VERSION, console, kinds, minizinc, solvers, words
+from . import VERSION, console, kinds, minizinc, report, solvers, words
 from .bridge import BESIDE, Bridge, Missing, find
 from .codes import Code, Failure, Status
 from .interrupts import SIGNALS, Interrupted
@@ -33,6 +33,46 @@ class Driver:
         self.clock = Clock(self.name)
         self.nl = self.sol = ""
         self.is_put = False
+        self.result: Result | None = None
+        self.fault: Failure | None = None
+        self.bridge_words: Sequence[str] = ()
+
+    def call(self, argv: Sequence[str]) -> int:
+        """The exit status; with json=1 what is told goes into an object."""
+        asked = words.read(argv)
+        options = Options(self.solver.options)
+        if asked.ask is not None or not report.is_wanted(asked.options, options, self.name):
+            return self.main(argv)
+        told = report.Report(self.name)
+        told.status = report.silently(lambda: self.main(argv), bool(options.outlev))
+        self.fill(told)
+        return told.show()
+
+    def fill(self, told: report.Report) -> None:
+        """What a report says of this run."""
+        told.model, told.program = self.nl or None, self.bridge_words
+        if self.fault is not None:
+            told.text = f"{self.name}: {self.fault.text}"
+            told.lines = [told.text]
+            told.code = None if self.fault.code == Code.STOPPED else int(self.fault.code)
+        elif self.result is not None:
+            end = self.result.end
+            told.code, told.lines = int(self.result.code), self.result.lines
+            told.text, told.said = told.lines[-1], end.said if end else None
+            told.certificate = end.kept.path if end and end.kept else None
+            self.fill_values(told)
+
+    def fill_values(self, told: report.Report) -> None:
+        """By name, as `wantsol` asks for them."""
+        assert self.result is not None
+        answer, names = self.result.answer, Names(self.nl[:-3])
+        if answer is None:
+            return
+        for wanted, key, texts, of_list in ((2, "values", answer.values, names.column),
+                                            (4, "duals", answer.duals, names.row)):
+            if self.options.wantsol & wanted and texts is not None:
+                told.more[key] = {of_list(int(name[1:])) or name: text
+                                  for name, text in texts.items() if name[1:].isdigit()}
 
     def main(self, argv: Sequence[str]) -> int:
         """The exit status."""
@@ -104,7 +144,8 @@ class Driver:
 
     def find_bridge(self) -> Bridge:
         try:
-            return Bridge(find(self.options.bridge, BESIDE), self.clock.note)
+            self.bridge_words = find(self.options.bridge, BESIDE)
+            return Bridge(self.bridge_words, self.clock.note)
         except Missing as fault:
             raise Failure(Code.NOT_FOUND, str(fault)) from None
 
@@ -148,7 +189,7 @@ class Driver:
 
     def deliver(self, result: Result) -> None:
         """The .sol at once or not at all, the message, and what wantsol asks for."""
-        o, lines = self.options, result.lines
+        o, lines, self.result = self.options, result.lines, result
         if result.sol is None:
             lines = [f"{self.name}: {lines[0]}", *lines[1:]]
             sol = bare(self.nl, result.code, o.objno - 1, lines)
@@ -197,6 +238,7 @@ class Driver:
 
     def failed(self, fault: Failure) -> int:
         """Told on standard error; with -AMPL also a .sol with the code, and exit 0 with it."""
+        self.fault = fault
         line = f"{self.name}: {fault.text}"
         sys.stderr.write(line + "\n")
         minizinc.tell(line, is_error=True)
@@ -212,4 +254,4 @@ class Driver:
 def main(name: str = "") -> None:
     """Without a name that of the command: bridge-NAME."""
     name = name or console.own_name().removeprefix("bridge-")
-    console.run("bridge-" + name, lambda: Driver(name).main(sys.argv[1:]))
+    console.run("bridge-" + name, lambda: Driver(name).call(sys.argv[1:]))

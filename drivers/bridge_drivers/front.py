@@ -16,7 +16,8 @@ from . import VERSION, console, explaining
 from .explained import command as certificates
 from .bridge import BESIDE, PACKAGE, Bridge, Missing, Refused, find, is_plain
 from .importing import imported
-from .stats import stats
+from .report import Report, sum_of
+from .stats import Stats, stats
 
 NAME = "nl-bridge"
 DONE, REFUSED, BAD_WORDS, INPUT_FAULT, OUTPUT_FAULT, NOT_THERE = 0, 2, 3, 4, 5, 127
@@ -200,8 +201,61 @@ def wrong(text: str) -> int:
     return BAD_WORDS
 
 
+def reported(words: Sequence[str]) -> int:
+    """`verify`, `stats` and `version` with the word json=1."""
+    told = Report(NAME)
+    try:
+        told.program = place = find("", BESIDE)
+        told.status = REPORTED[words[0]](told, Bridge(place, lambda argv: None), words)
+    except Refused as fault:
+        told.status, told.text = fault.status, f"{NAME}: {fault.line()}"
+    except Missing as fault:
+        told.status, told.text = NOT_THERE, f"{NAME}: {fault}"
+    if told.status not in (0, 1):
+        sys.stderr.write(told.text + "\n")
+    told.lines = told.lines or [told.text]
+    return told.show()
+
+
+def report_verify(told: Report, bridge: Bridge, words: Sequence[str]) -> int:
+    told.model, told.certificate = words[1:]
+    line = bridge.verdict("verify", *words[1:])
+    told.take_line(line)
+    return 0 if told.said else 1
+
+
+def report_stats(told: Report, bridge: Bridge, words: Sequence[str]) -> int:
+    told.model = words[1]
+    figures = Stats(bridge, *words[1:])
+    told.lines, told.text = figures.lines(), "stats"
+    told.more["stats"] = figures.object()
+    return 0
+
+
+def report_version(told: Report, bridge: Bridge, words: Sequence[str]) -> int:
+    told.lines = version(list(bridge.words)).rstrip("\n").split("\n")
+    told.text, package = told.lines[0], built()
+    is_packaged = len(bridge.words) == 1 and package.get("sha256") == sum_of(bridge.words[0])
+    told.more["program"] = list(bridge.words)
+    told.more["toolchain"] = package.get("toolchain") if is_packaged else None
+    told.more["proved"] = package.get("proved") == "yes" if is_packaged else None
+    told.more["drivers"] = PACKAGE
+    return 0
+
+
+REPORTED: dict[str, Callable[[Report, Bridge, Sequence[str]], int]] = {
+    "verify": report_verify, "stats": report_stats, "version": report_version}
+COUNTS = {"verify": (3,), "stats": (2, 3), "version": (1,)}       # words of their calls
+
+
 def command(words: Sequence[str]) -> int:
     """One call."""
+    if "json=1" in words and words[0] in REPORTED:
+        plain = [word for word in words if word != "json=1"]
+        if len(plain) not in COUNTS[words[0]]:
+            return wrong(f"{words[0]} json=1 takes " + {"verify": "NL CERTIFICATE",
+                                                         "stats": "FILE [K]"}.get(words[0], "no more"))
+        return reported(plain)
     if not words:
         sys.stderr.write(usage())
         return BAD_WORDS

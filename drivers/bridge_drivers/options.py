@@ -38,6 +38,7 @@ COMMON = (
     Option("extra", "", str, "further words for the solver, in quotes"),
     Option("failexit", 0, int, "1: where there is no answer, write no .sol and end with another "
                                "status than 0 (MiniZinc)"),
+    Option("json", 0, int, "1: standard output gets one object of JSON, and nothing else"),
     Option("keep", "", str, "folder that keeps the files in between"),
     Option("objno", 1, int, "which objective, from 1"),
     Option("outlev", 0, int, "0 quiet, 1 the solver's log, 2 also the commands and times"),
@@ -69,6 +70,7 @@ class Options:
     check: int
     extra: str
     failexit: int
+    json: int
     keep: str
     objno: int
     outlev: int

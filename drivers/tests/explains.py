@@ -212,7 +212,7 @@ class Explained(Case):
 
     def test_picture(self) -> None:
         told = self.object(self.example("knap.nl"), self.example("knap.certificate"))
-        root = xml.fromstring(told.picture())
+        root = xml.fromstring(told.picture(True))
         groups = root.findall(SVG + "g")
         self.assertEqual([g.get("class") for g in groups],
                          ["cut", "duals", "cut", "cut", "duals", "weights", "weights"])
@@ -249,11 +249,11 @@ class Explained(Case):
     def test_names_are_escaped(self) -> None:
         self.put(b"<b>&\n\x1b[31mb\nz\n", ".col")
         told = self.object(self.example("knap.nl"), self.example("knap.certificate"))
-        for text in (told.page(), told.picture()):
+        for text in (told.page(), told.picture(True)):
             self.assertNotIn("<b>", text)
             self.assertEqual(printable(text), text)
             self.assertIn("&lt;b&gt;&amp; \u2264 0", text)
-        xml.fromstring(told.picture())
+        xml.fromstring(told.picture(True))
 
     def test_pages_that_cannot_be_written(self) -> None:
         self.put(self.example("knap.nl"))

@@ -15,6 +15,7 @@ from ..driver import Driver
 from ..interrupts import SIGNALS
 from ..keeping import Kept
 from ..options import BadOption, Option
+from ..report import Report, silently
 from ..solving import Result
 
 NAME = "bridge-certify"
@@ -23,6 +24,7 @@ OPTIONS = (
     Option("certificate", "", str, "where the certificate is written (MODEL.certificate; - is "
                                    "standard output)"),
     Option("driver", "cbc", str, "the driver that finds a point"),
+    Option("json", 0, int, "1: standard output gets one object of JSON, and nothing else"),
     Option("objno", 1, int, "which objective, from 1"),
     Option("overwrite", 0, int, "1: the certificate replaces what stands there, also one that says "
                                 "more"),
@@ -57,7 +59,7 @@ class Finding(Driver):
         self.name = self.clock.name = NAME
 
     def deliver(self, result: Result) -> None:
-        self.lines, self.figures = result.lines, result.figures
+        self.lines, self.figures, self.result = result.lines, result.figures, result
         self.kept = result.end.kept if result.end else None
         lines = [line for line in result.lines
                  if not (self.is_hidden and self.kept and line == self.kept.line)]
@@ -65,7 +67,7 @@ class Finding(Driver):
 
 
 class Command:
-    """One call: `stub` is the model's path without its end, `stream` where lines are told."""
+    """One call: `stub` is the model's path without its end."""
 
     def __init__(self, argv: Sequence[str]) -> None:
         self.options = {o.name: o.default for o in OPTIONS}
@@ -79,7 +81,19 @@ class Command:
         if self.options["driver"] not in solvers.NAMES:
             raise BadOption("driver is one of " + ", ".join(solvers.NAMES))
         self.path = str(self.options["certificate"]) or self.stub + ".certificate"
-        self.stream = sys.stderr if self.path == "-" else sys.stdout
+        self.driver: Finding | None = None
+        if self.options["json"] and self.path == "-":
+            raise BadOption("json=1 and certificate=- both want standard output")
+
+    def call(self) -> int:
+        """The exit status; with json=1 what is told goes into an object."""
+        if not self.options["json"]:
+            return self.run()
+        told = Report(NAME)
+        told.status = silently(self.run, False)
+        if self.driver is not None:
+            self.driver.fill(told)
+        return told.show()
 
     def run(self) -> int:
         """An older certificate stays until there is one that says as much."""
@@ -106,15 +120,16 @@ class Command:
         words = [self.stub, "-e", "prove=1", "certificate=" + place]
         words += [f"{name}={self.options[name]}" for name in PASSED]
         words += ["bridge=" + str(self.options["bridge"])] if self.options["bridge"] else []
-        driver = Finding(str(self.options["driver"]))
-        driver.stream, driver.is_hidden = self.stream, self.path == "-"
+        self.driver = driver = Finding(str(self.options["driver"]))
+        driver.is_hidden = self.path == "-"
+        driver.stream = stream = sys.stderr if driver.is_hidden else sys.stdout
         status = driver.main(words)
         if status != Status.DONE:
             if os.path.isfile(place):
                 sys.stderr.write(f"{NAME}: {place} stays as it was\n")
             return status
         if self.options["stats"] and driver.figures:
-            print(driver.figures, file=self.stream)
+            print(driver.figures, file=stream)
         if driver.kept is not None and driver.kept.failed:
             return Status.UNWRITTEN
         failed = driver.lines[-1].startswith("not proved")
@@ -138,7 +153,7 @@ def run(argv: Sequence[str]) -> int:
         print(f"{NAME} {VERSION}")
         return Status.DONE
     try:
-        return Command(argv).run()
+        return Command(argv).call()
     except BadOption as fault:
         failure = Failure(Code.BAD_OPTION, str(fault), Status.BAD_WORDS)
     except Failure as fault:
@@ -146,7 +161,12 @@ def run(argv: Sequence[str]) -> int:
     except OSError as fault:
         failure = Failure(Code.FILE, f"{fault.filename}: {fault.strerror}")
     sys.stderr.write(f"{NAME}: {failure.text}\n")
-    return failure.status
+    if "json=1" not in argv:
+        return failure.status
+    told = Report(NAME)
+    told.status, told.code, told.text = failure.status, int(failure.code), failure.text
+    told.lines = [failure.text]
+    return told.show()
 
 
 def main() -> None:

@@ -6,7 +6,7 @@ import hashlib
 import os
 import tempfile
 from fractions import Fraction
-from typing import NamedTuple, Sequence
+from typing import Callable, NamedTuple, Sequence
 
 from .. import explaining, verdicts
 from ..bridge import Bridge, Refused
@@ -118,7 +118,7 @@ class Explaining:
         told += self.wording.lines()
         return told + ([self.note] if self.note else [])
 
-    def picture(self, alone: bool = True) -> str:
+    def picture(self, alone: bool) -> str:
         return Picture(self.certificate, self.wording, self.bounds, self.fails,
                        self.holds).svg(alone)
 
@@ -153,7 +153,9 @@ def explained(bridge: Bridge, files: Files) -> int:
     verdict = reply.out.decode("utf-8", "replace").strip()
     told = Explaining(bridge, files, verdict, reply.status == 0)
     print("\n".join(map(in_a_line, told.lines())))
-    for path, text in ((files.html, told.page), (files.svg, told.picture)):
+    pages: Sequence[tuple[str, Callable[[], str]]] = (
+        (files.html, told.page), (files.svg, lambda: told.picture(True)))
+    for path, text in pages:
         if path:
             try:
                 write(path, text().encode("utf-8", "backslashreplace"))
