@@ -17,8 +17,9 @@ except ImportError:
 
 from sources import BUILT, TOP, noted, said_by
 
-sys.path.append(os.path.join(TOP, "dev"))
+sys.path += [os.path.join(TOP, "dev"), os.path.join(TOP, "drivers")]
 import statement                                        # noqa: E402
+from bridge_drivers.front import completion             # noqa: E402
 
 PACKAGE = "bridge_drivers"
 FOLDERS = ("user", "verify", "dev")         # of documents
@@ -163,6 +164,14 @@ class Project:
         if dead:
             raise Unfit("links that lead nowhere: " + ", ".join(dead))
         yield from found
+
+    def completions(self, zsh: str) -> Iterator[File]:
+        """Where shells look for them below PREFIX/share; `zsh` is zsh's folder. Those of bash are
+        one text under the name of each command."""
+        yield File(f"zsh/{zsh}/_{self.name}", completion("zsh").encode())
+        text = completion("bash").encode()
+        for name in self.scripts:
+            yield File(f"bash-completion/completions/{name}", text)
 
     def examples(self) -> Iterator[File]:
         """What users can try. Not among the documents, which small systems leave out."""

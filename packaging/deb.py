@@ -83,6 +83,8 @@ def files(project: Project) -> list[File]:
         inside.append(File(f"usr/bin/{name}", text.encode(), 0o755))
     inside += [File(f"usr/share/minizinc/solvers/{f.path}", f.data)
                for f in project.configurations()]
+    inside += [File(f"usr/share/{f.path}", f.data)
+               for f in project.completions("vendor-completions")]
     inside += [File(f"usr/share/man/man1/{f.path}.gz", zipped(f.data)) for f in project.pages()]
     inside += [File(f"{documents}/{f.path}", f.data) for f in project.documents()]
     inside += [File(f"usr/share/{project.name}/{f.path}", f.data) for f in project.examples()]

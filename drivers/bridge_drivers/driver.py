@@ -106,7 +106,8 @@ class Driver:
         if ask == "-=":
             return self.options.listing()
         if ask == "-?":
-            return words.usage(self.name, self.solver.title)
+            listing = "".join(f"  {line}\n" for line in self.options.listing().splitlines())
+            return words.help_text(self.name, self.solver.title, listing)
         place = self.solver.place() or "not found"
         return f"{self.name} {VERSION} ({self.solver.title} {place})\n"
 

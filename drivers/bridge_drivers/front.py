@@ -16,6 +16,7 @@ from . import VERSION, console, explaining
 from .explained import command as certificates
 from .bridge import BESIDE, PACKAGE, Bridge, Missing, Refused, find, is_plain
 from .importing import imported
+from .near import near
 from .report import Report, sum_of
 from .stats import Stats, stats
 
@@ -58,6 +59,7 @@ OWN = (
     Command("explain", "COMMAND FILE ..", "the same for a call of another command"),
     Command("import", "FILE NL", "the .nl text in NL, the names beside it in .row and .col"),
     Command("stats", "FILE [K]", "sizes and kinds, numbers that are no doubles, scaled rows"),
+    Command("completion", "bash|zsh", "completion of all commands for a shell"),
     Command("version", "", "the program with its sum, the toolchain, the drivers"),
     Command("help", "", "this text"),
 )
@@ -72,6 +74,7 @@ def rows_of(commands: Sequence[Command]) -> str:
 def usage() -> str:
     return (f"usage: {NAME} COMMAND ..\n\nof the proved program:\n{rows_of(COMMANDS)}\n"
             f"around it:\n{rows_of(OWN)}\nstatus: {STATUSES}\n"
+            f"example: {NAME} verify knap.nl knap.certificate\n"
             f"Solvers are run by bridge-cbc and kin. More: man {NAME}\n")
 
 
@@ -196,8 +199,19 @@ def passed_on(place: Sequence[str], words: Sequence[str]) -> int:
         raise Missing(f"{place[0]} could not be run: {fault.strerror}") from None
 
 
+def completion(shell: str) -> str:
+    """Of all commands. The drivers are read for it alone."""
+    from .certify.command import OPTIONS
+    from .completion import Completion
+    texts: dict[str, str] = {}
+    for row in (*COMMANDS, *OWN):
+        texts.setdefault(row.word, row.text)
+    return Completion(texts, OPTIONS).text(shell)
+
+
 def wrong(text: str) -> int:
-    sys.stderr.write(f"{NAME}: {text}; -h lists the commands\n")
+    end = "" if text.endswith("?") else ";"
+    sys.stderr.write(f"{NAME}: {text}{end} -h lists the commands\n")
     return BAD_WORDS
 
 
@@ -266,8 +280,14 @@ def command(words: Sequence[str]) -> int:
     own: dict[str, Callable[[Bridge, Sequence[str]], int]] = {"explain": explain,
                                                               "stats": show_stats}
     asks_version = first in ("-v", "--version", "version")
-    if not asks_version and first not in own and first not in {c.word for c in COMMANDS}:
-        return wrong(f"unknown command {first}")
+    if not asks_version and first not in {c.word for c in (*COMMANDS, *OWN)}:
+        names = [c.word for c in (*COMMANDS, *OWN)]
+        return wrong(f"unknown command {first};{near(first, names)}".rstrip(";"))
+    if first == "completion":
+        if len(rest) != 1 or rest[0] not in ("bash", "zsh"):
+            return wrong("completion takes bash or zsh")
+        print(completion(rest[0]), end="")
+        return DONE
     if first in own and not rest or first == "stats" and len(rest) > 2:
         return wrong(f"{first} takes a FILE")
     try:

@@ -6,6 +6,8 @@ import os
 import shlex
 from typing import Callable, Iterable, Union
 
+from .near import near
+
 Value = Union[int, float, str]
 KINDS: dict[object, str] = {int: "a whole number", float: "a number", str: "a text"}
 
@@ -105,7 +107,7 @@ class Options:
         """The option of this name, in capitals or not, with `-` before it or not."""
         name = name.lstrip("-").lower()
         if name not in self.known:
-            raise BadOption(f"unknown option {name}; -= lists the options")
+            raise BadOption(f"unknown option {name};{near(name, self.known)} -= lists the options")
         return self.known[name]
 
     def take(self, words: Iterable[str]) -> None:

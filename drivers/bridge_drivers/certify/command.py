@@ -14,6 +14,7 @@ from ..codes import Code, Failure, Status
 from ..driver import Driver
 from ..interrupts import SIGNALS
 from ..keeping import Kept
+from ..near import near
 from ..options import BadOption, Option
 from ..report import Report, silently
 from ..solving import Result
@@ -41,6 +42,9 @@ USAGE = f"""usage: {NAME} MODEL [option=value ..]
   the verdict of `bridge verify`. Status 1 where nothing is proved, 5 where the certificate could
   not be written.
 
+"""
+EXAMPLE = f"""
+example: {NAME} knap timelim=60 certificate=knap.certificate
 """
 
 
@@ -76,7 +80,7 @@ class Command:
         for word in argv[1:]:
             name, equal, value = word.partition("=")
             if not equal or name not in known:
-                raise BadOption(f"unknown option {word}; -= lists the options")
+                raise BadOption(f"unknown option {word};{near(name, known)} -= lists the options")
             self.options[name] = known[name].read(value)
         if self.options["driver"] not in solvers.NAMES:
             raise BadOption("driver is one of " + ", ".join(solvers.NAMES))
@@ -147,7 +151,7 @@ def run(argv: Sequence[str]) -> int:
         sys.stderr.write(USAGE + listing())
         return Status.BAD_WORDS
     if argv[0] in ("-?", "-h", "--help", "-="):
-        sys.stdout.write(listing() if argv[0] == "-=" else USAGE + listing())
+        sys.stdout.write(listing() if argv[0] == "-=" else USAGE + listing() + EXAMPLE)
         return Status.DONE
     if argv[0] in ("-v", "--version"):
         print(f"{NAME} {VERSION}")
