@@ -46,6 +46,12 @@ class Output(Shown):
         guarded(self.stream.flush)
 
 
+def raw(stream: TextIO, text: str) -> None:
+    """Text of ours with controls, which a stream that shows them lets through."""
+    inner = stream.stream if isinstance(stream, Shown) else stream
+    guarded(lambda: inner.write(text))
+
+
 def guarded(call: Callable[[], Result]) -> Result:
     try:
         return call()

@@ -9,7 +9,7 @@ import sys
 import tempfile
 from typing import Sequence
 
-from . import VERSION, console, kinds, minizinc, report, solvers, words
+from . import VERSION, colour, console, kinds, minizinc, report, solvers, words
 from .bridge import BESIDE, Bridge, Missing, find
 from .codes import Code, Failure, Status
 from .interrupts import SIGNALS, Interrupted
@@ -202,7 +202,10 @@ class Driver:
             with open(os.path.join(o.keep, "bridge.sol"), "wb") as f:
                 f.write(sol)
         if (not self.words.ampl or o.failexit) and not o.wantsol & 8:
-            print("\n".join(lines), flush=True)
+            if result.end is None:              # no verdict
+                print("\n".join(lines), flush=True)
+            else:
+                colour.tell_all(lines, sys.stdout)
         if o.failexit:
             unsure = f"{lines[0]}; " if result.code == Code.UNSURE else ""
             minizinc.tell(f"{self.name}: {unsure}{lines[-1]}")

@@ -12,9 +12,9 @@ import subprocess
 import sys
 from typing import Callable, NamedTuple, Sequence
 
-from . import VERSION, console, explaining
-from .explained import command as certificates
+from . import VERSION, colour, console, explaining
 from .bridge import BESIDE, PACKAGE, Bridge, Missing, Refused, find, is_plain
+from .explained import command as certificates
 from .importing import imported
 from .near import near
 from .report import Report, sum_of
@@ -22,6 +22,7 @@ from .stats import Stats, stats
 
 NAME = "nl-bridge"
 DONE, REFUSED, BAD_WORDS, INPUT_FAULT, OUTPUT_FAULT, NOT_THERE = 0, 2, 3, 4, 5, 127
+VERDICTS = ("verify", "check", "prove")
 NUMBERS = ("K", "SEED", "SIZE")             # words of the table that are no files
 NUMBER, MOST = re.compile("0|[1-9][0-9]*"), 4294967295
 
@@ -181,11 +182,22 @@ def with_cause(place: Sequence[str], words: Sequence[str]) -> int | None:
     return ran.returncode if ran.returncode >= 0 else 128 - ran.returncode
 
 
+def coloured(place: Sequence[str], words: Sequence[str]) -> int:
+    """A verdict on a terminal."""
+    ran = subprocess.run([*place, *words], stdout=subprocess.PIPE, check=False)
+    line = ran.stdout.decode("utf-8", "replace").rstrip("\n")
+    if line:
+        colour.tell(line, sys.stdout)
+    return ran.returncode if ran.returncode >= 0 else 128 - ran.returncode
+
+
 def passed_on(place: Sequence[str], words: Sequence[str]) -> int:
     """The proved program in this process's place, with the signals that it would have without
     Python."""
     try:
         status = with_cause(place, words)
+        if status is None and words[0] in VERDICTS and colour.is_wanted(sys.stdout):
+            status = coloured(place, words)
     except OSError as fault:
         raise Missing(f"{place[0]} could not be run: {fault.strerror}") from None
     if status is not None:

@@ -23,7 +23,7 @@ HERE = os.path.dirname(os.path.abspath(__file__))
 sys.path[:0] = [HERE]
 MODULES = ("units", "stored_runs", "manners", "kept", "processes", "end_to_end", "pulp_class",
            "certify_parts", "certify_search", "test_front", "explains", "reports",
-           "completions",
+           "completions", "colours",
            "packages")
 
 

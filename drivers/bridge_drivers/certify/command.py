@@ -9,7 +9,7 @@ import sys
 import tempfile
 from typing import Sequence, TextIO
 
-from .. import VERSION, console, solvers
+from .. import VERSION, colour, console, solvers
 from ..codes import Code, Failure, Status
 from ..driver import Driver
 from ..interrupts import SIGNALS
@@ -67,7 +67,7 @@ class Finding(Driver):
         self.kept = result.end.kept if result.end else None
         lines = [line for line in result.lines
                  if not (self.is_hidden and self.kept and line == self.kept.line)]
-        print("\n".join(lines), file=self.stream, flush=True)
+        colour.tell_all(lines, self.stream)
 
 
 class Command:

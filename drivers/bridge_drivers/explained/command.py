@@ -4,11 +4,12 @@ from __future__ import annotations
 
 import hashlib
 import os
+import sys
 import tempfile
 from fractions import Fraction
 from typing import Callable, NamedTuple, Sequence
 
-from .. import explaining, verdicts
+from .. import colour, explaining, verdicts
 from ..bridge import Bridge, Refused
 from ..certify.model import Model, Unfit, factors
 from ..files import write
@@ -152,7 +153,9 @@ def explained(bridge: Bridge, files: Files) -> int:
         return reply.status
     verdict = reply.out.decode("utf-8", "replace").strip()
     told = Explaining(bridge, files, verdict, reply.status == 0)
-    print("\n".join(map(in_a_line, told.lines())))
+    first, *lines = map(in_a_line, told.lines())
+    colour.tell(first, sys.stdout, verdict)
+    print("\n".join(lines))
     pages: Sequence[tuple[str, Callable[[], str]]] = (
         (files.html, told.page), (files.svg, lambda: told.picture(True)))
     for path, text in pages:
