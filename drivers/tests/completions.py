@@ -135,7 +135,7 @@ class Near(unittest.TestCase):
                                  capture_output=True, text=True, check=False)
             self.assertEqual(ran.returncode, 0, ran.stderr)
             example = ran.stdout.rstrip("\n").split("\n")[-1]
-            self.assertTrue(example.startswith(f"example: bridge-{name} knap "), example)
+            self.assertTrue(example.startswith(f"example: bridge-{name} "), example)
             if name != "certify":
                 for option in COMMON:
                     self.assertRegex(ran.stdout, f"(?m)^  {option.name} ")

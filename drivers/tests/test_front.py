@@ -595,6 +595,9 @@ class Installing(Case):
             self.assertEqual(json.load(f)["executable"][0],
                              os.path.join(prefix, "bin", "bridge-cbc"))
         self.assertNotIn("MZN_SOLVER_PATH", ran.stdout)
+        for shell, name in (("bash-completion/completions", "bridge-certify"),
+                            ("zsh/site-functions", "_nl-bridge")):
+            self.assertTrue(os.path.isfile(os.path.join(prefix, "share", shell, name)), name)
         self.assertEqual(self.install(prefix, "--remove").returncode, 0)
         self.assertEqual(self.paths(), {other})
         self.assertEqual(self.install(prefix, "--remove").returncode, 1)

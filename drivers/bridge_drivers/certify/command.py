@@ -44,7 +44,7 @@ USAGE = f"""usage: {NAME} MODEL [option=value ..]
 
 """
 EXAMPLE = f"""
-example: {NAME} knap timelim=60 certificate=knap.certificate
+example: {NAME} mix timelim=60 certificate=mix.certificate
 """
 
 
