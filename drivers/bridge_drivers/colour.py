@@ -1,5 +1,5 @@
-"""The verdict in colour, on a terminal: green what is settled, yellow what is known in part, red what
-is not proved. NO_COLOR (https://no-color.org) leaves it out."""
+"""The verdict in colour, on a terminal: green what is settled, yellow what is known in part, red
+what is not proved. NO_COLOR (https://no-color.org) leaves it out."""
 
 from __future__ import annotations
 

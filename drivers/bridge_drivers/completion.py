@@ -12,9 +12,9 @@ FILES = ("bridge", "certificate", "solver")     # options whose values are paths
 FOLDERS = ("keep",)
 VALUES = {"only": "mps", "driver": " ".join(solvers.NAMES), "outlev": "0 1 2",
           "wantsol": "1 2 4 6 7 8"}
-DASHED = {"-AMPL": "called by a modelling system", "-s": "write the .sol", "-e": "no echo of options",
-          "-=": "list the options", "-v": "versions", "-h": "help"}
-BASH = """# bash completion of nl-bridge and the drivers beside it; made by `nl-bridge completion bash`
+DASHED = {"-AMPL": "called by a modelling system", "-s": "write the .sol",
+          "-e": "no echo of options", "-=": "list the options", "-v": "versions", "-h": "help"}
+BASH = """# bash completion of nl-bridge and its drivers; made by `nl-bridge completion bash`
 
 _nl_bridge_value() {        # of the option before the sign =
     case $1 in
@@ -63,7 +63,7 @@ _nl_bridge() {
 complete -F _nl_bridge %(all)s
 """
 ZSH = """#compdef %(all)s
-# zsh completion of nl-bridge and the drivers beside it; made by `nl-bridge completion zsh`
+# zsh completion of nl-bridge and its drivers; made by `nl-bridge completion zsh`
 
 _nl_bridge() {
     local -a words_of dashed

@@ -66,8 +66,8 @@ def own_name() -> str:
 
 def run(name: str, command: Callable[[], int], broken: int = BROKEN) -> NoReturn:
     """Ends the process with the command's status. Bytes of paths that are not UTF-8 are printed
-    as they are, controls of a terminal as `\\x1b`; a standard output that breaks or is closed is told in one line, and so is a
-    signal."""
+    as they are, controls of a terminal as `\\x1b`; a standard output that breaks or is closed is
+    told in one line, and so is a signal."""
     SIGNALS.take()
     fill()
     for stream in (sys.stdout, sys.stderr):

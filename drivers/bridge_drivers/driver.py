@@ -37,43 +37,6 @@ class Driver:
         self.fault: Failure | None = None
         self.bridge_words: Sequence[str] = ()
 
-    def call(self, argv: Sequence[str]) -> int:
-        """The exit status; with json=1 what is told goes into an object."""
-        asked = words.read(argv)
-        options = Options(self.solver.options)
-        if asked.ask is not None or not report.is_wanted(asked.options, options, self.name):
-            return self.main(argv)
-        told = report.Report(self.name)
-        told.status = report.silently(lambda: self.main(argv), bool(options.outlev))
-        self.fill(told)
-        return told.show()
-
-    def fill(self, told: report.Report) -> None:
-        """What a report says of this run."""
-        told.model, told.program = self.nl or None, self.bridge_words
-        if self.fault is not None:
-            told.text = f"{self.name}: {self.fault.text}"
-            told.lines = [told.text]
-            told.code = None if self.fault.code == Code.STOPPED else int(self.fault.code)
-        elif self.result is not None:
-            end = self.result.end
-            told.code, told.lines = int(self.result.code), self.result.lines
-            told.text, told.said = told.lines[-1], end.said if end else None
-            told.certificate = end.kept.path if end and end.kept else None
-            self.fill_values(told)
-
-    def fill_values(self, told: report.Report) -> None:
-        """By name, as `wantsol` asks for them."""
-        assert self.result is not None
-        answer, names = self.result.answer, Names(self.nl[:-3])
-        if answer is None:
-            return
-        for wanted, key, texts, of_list in ((2, "values", answer.values, names.column),
-                                            (4, "duals", answer.duals, names.row)):
-            if self.options.wantsol & wanted and texts is not None:
-                told.more[key] = {of_list(int(name[1:])) or name: text
-                                  for name, text in texts.items() if name[1:].isdigit()}
-
     def main(self, argv: Sequence[str]) -> int:
         """The exit status."""
         self.words = words.read(argv)
@@ -258,4 +221,4 @@ class Driver:
 def main(name: str = "") -> None:
     """Without a name that of the command: bridge-NAME."""
     name = name or console.own_name().removeprefix("bridge-")
-    console.run("bridge-" + name, lambda: Driver(name).call(sys.argv[1:]))
+    console.run("bridge-" + name, lambda: report.reported(Driver(name), sys.argv[1:]))

@@ -279,8 +279,8 @@ def command(words: Sequence[str]) -> int:
     if "json=1" in words and words[0] in REPORTED:
         plain = [word for word in words if word != "json=1"]
         if len(plain) not in COUNTS[words[0]]:
-            return wrong(f"{words[0]} json=1 takes " + {"verify": "NL CERTIFICATE",
-                                                         "stats": "FILE [K]"}.get(words[0], "no more"))
+            takes = {"verify": "NL CERTIFICATE", "stats": "FILE [K]"}.get(words[0], "no more")
+            return wrong(f"{words[0]} json=1 takes {takes}")
         return reported(plain)
     if not words:
         sys.stderr.write(usage())

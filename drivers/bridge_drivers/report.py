@@ -1,5 +1,5 @@
-"""`json=1`: one object on standard output for programs that call these commands. Its keys are always
-there, null where there is nothing; `report.schema.json` says what each is."""
+"""`json=1`: one object on standard output for programs that call these commands. Its keys are
+always there, null where there is nothing; `report.schema.json` says what each is."""
 
 from __future__ import annotations
 
@@ -10,11 +10,16 @@ import json
 import sys
 import time
 from fractions import Fraction
-from typing import Any, Callable, Dict, Optional, Sequence
+from typing import TYPE_CHECKING, Any, Callable, Dict, Optional, Sequence
 
-from . import VERSION, verdicts
+from . import VERSION, verdicts, words
+from .codes import Code
+from .names import Names
 from .options import BadOption, Options
 from .verdicts import Said
+
+if TYPE_CHECKING:
+    from .driver import Driver
 
 Object = Dict[str, Any]
 PIECE = 1 << 20                 # bytes of a file that are read at once
@@ -87,13 +92,13 @@ class Report:
         self.text, self.said = line, verdicts.read(line)
 
 
-def is_wanted(words: Sequence[str], options: Options, driver: str) -> bool:
+def is_wanted(given: Sequence[str], options: Options, driver: str) -> bool:
     """Whether the words of a driver ask for it, also where others of them are wrong."""
     try:
         options.environment(driver)
-        options.take(words)
+        options.take(given)
     except BadOption:
-        return "json=1" in words
+        return "json=1" in given
     return bool(options.json)
 
 
@@ -101,3 +106,43 @@ def silently(call: Callable[[], int], shows: bool) -> int:
     """A call whose standard output is left out, or goes to standard error."""
     with contextlib.redirect_stdout(sys.stderr if shows else io.StringIO()):
         return call()
+
+
+def reported(driver: Driver, argv: Sequence[str]) -> int:
+    """The exit status of a driver's call; with json=1 what it tells goes into an object."""
+    asked, options = words.read(argv), Options(driver.solver.options)
+    if asked.ask is not None or not is_wanted(asked.options, options, driver.name):
+        return driver.main(argv)
+    told = Report(driver.name)
+    told.status = silently(lambda: driver.main(argv), bool(options.outlev))
+    fill(told, driver)
+    return told.show()
+
+
+def fill(told: Report, driver: Driver) -> None:
+    """What is known after a driver's run."""
+    told.model, told.program = driver.nl or None, driver.bridge_words
+    if driver.fault is not None:
+        told.text = f"{driver.name}: {driver.fault.text}"
+        told.lines = [told.text]
+        told.code = None if driver.fault.code == Code.STOPPED else int(driver.fault.code)
+    elif driver.result is not None:
+        result, end = driver.result, driver.result.end
+        told.code, told.lines, told.text = int(result.code), result.lines, result.lines[-1]
+        told.said = end.said if end else None
+        told.certificate = end.kept.path if end and end.kept else None
+        told.more.update(numbers_of(driver))
+
+
+def numbers_of(driver: Driver) -> Object:
+    """Values and duals by name, as `wantsol` asks for them."""
+    found: Object = {}
+    answer = driver.result.answer if driver.result else None
+    names = Names(driver.nl[:-3])
+    if answer is not None:
+        for wanted, key, texts, of_list in ((2, "values", answer.values, names.column),
+                                            (4, "duals", answer.duals, names.row)):
+            if driver.options.wantsol & wanted and texts is not None:
+                found[key] = {of_list(int(name[1:])) or name: text
+                              for name, text in texts.items() if name[1:].isdigit()}
+    return found

@@ -54,7 +54,8 @@ class Covers(unittest.TestCase):
     def test_lines(self) -> None:
         self.assertEqual(verdicts.read("within 19 35/2 of objective 2"),
                          Said("within", F(35, 2), F(19), 2))
-        self.assertEqual(verdicts.read("unbounded of objective 1"), Said("unbounded", None, None, 1))
+        self.assertEqual(verdicts.read("unbounded of objective 1"),
+                         Said("unbounded", None, None, 1))
         for line in ("leaf 0 gap 17", "optimal", "optimal x", "not proved: x", "feasible 1/0"):
             self.assertIsNone(verdicts.read(line))
 
@@ -114,7 +115,8 @@ class Keeping(Case):
         status = int(verdicts.read(says) is None)
         with mock.patch.object(bridge, "call",
                                lambda *words: Reply(status, says.encode() + b"\n", "")):
-            return Keeper(bridge, self.stub + ".nl", True, overwrite).kept(source, line, self.target)
+            keeper = Keeper(bridge, self.stub + ".nl", True, overwrite)
+            return keeper.kept(source, line, self.target)
 
     @property
     def target(self) -> str:
@@ -168,7 +170,8 @@ class Keeping(Case):
                             ("/dev/full", "No space left on device")):
             with mock.patch.object(Keeping, "target", target):
                 kept = self.keep("optimal 17", "")
-            self.assertEqual(kept, Kept(f"the certificate is not kept: {target}: {why}", None, True))
+            self.assertEqual(kept, Kept(f"the certificate is not kept: {target}: {why}", None,
+                                        True))
         self.put(OPTIMAL[:-8], ".certificate")
         os.chmod(self.target, 0o444)
         kept = self.keep("optimal 17", "")
@@ -277,7 +280,8 @@ class Certify(Case):
             resource.setrlimit(resource.RLIMIT_FSIZE, (64, 64))
         ended = self.certify("bridge=" + " ".join(PROGRAM), preexec_fn=small)
         self.assertNotEqual(ended.returncode, 0)
-        self.assertRegex(ended.stderr + ended.stdout, r"/\S+( could not be run or written)?: File too large")
+        self.assertRegex(ended.stderr + ended.stdout,
+                         r"/\S+( could not be run or written)?: File too large")
         self.assertNotIn("None", ended.stderr + ended.stdout)
 
 

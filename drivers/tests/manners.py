@@ -108,8 +108,8 @@ class Failures(Case):
         self.failure(505, 2, "CLP takes no integer variables, and the model has 3; relax=1", "clp",
                      "knap")
         self.failure(506, 1, "CBC gave no usable answer: it wrote no answer", "cbc", "nothing")
-        self.failure(501, 2, "stub.nl: objno=3: no such objective: the file has 1, and objno counts "
-                             "from 1", "cbc", "knap", "objno=3")
+        self.failure(501, 2, "stub.nl: objno=3: no such objective: the file has 1, and objno "
+                             "counts from 1", "cbc", "knap", "objno=3")
         self.failure(502, 3, "extra: a quote does not end", "cbc", "knap", "extra='")
         self.failure(502, 3, "objno=0: solving without an objective is not offered", "cbc",
                      "knap", "objno=0")
@@ -398,7 +398,8 @@ class Claims(Case):
         ran = subprocess.run([*PROGRAM, "verify", self.stub + ".nl", kept], capture_output=True)
         self.assertEqual(ran.stdout, b"optimal 19\n")
         self.last("cbc", "product", "certificate=" + kept, "check=0")
-        self.assertEqual(self.sol().message[-2], f"no certificate is written; {kept} stays as it was")
+        self.assertEqual(self.sol().message[-2],
+                         f"no certificate is written; {kept} stays as it was")
         self.assertTrue(os.path.exists(kept))
         self.assertEqual(self.sol().message[-1], "not proved: check=0")
         self.last("cbc", "product", "certificate=/nonexistent/kept")

@@ -20,8 +20,8 @@ from fractions import Fraction as F
 BIN = os.path.join(HERE, "..", "bin")
 TYPES = {"null": type(None), "string": str, "integer": int, "number": (int, float), "array": list,
          "object": dict, "boolean": bool}
-KNOWN = {"type", "enum", "anyOf", "required", "additionalProperties", "properties", "items", "minimum",
-         "maximum", "minItems", "maxItems", "pattern", "description", "title", "$schema"}
+KNOWN = {"type", "enum", "anyOf", "required", "additionalProperties", "properties", "items",
+         "minimum", "maximum", "minItems", "maxItems", "pattern", "description", "title", "$schema"}
 
 
 def schema() -> dict[str, Any]:
@@ -128,8 +128,8 @@ class Objects(Case):
     def test_stats_and_version(self) -> None:
         self.put_knap()
         told = self.call("nl-bridge", "stats", self.stub + ".nl", "json=1")
-        self.assertEqual([told["stats"][k] for k in ("sense", "columns", "binary", "rows", "sides")],
-                         ["maximise", 3, 3, 1, [10.0, 10.0]])
+        keys = ("sense", "columns", "binary", "rows", "sides")
+        self.assertEqual([told["stats"][k] for k in keys], ["maximise", 3, 3, 1, [10.0, 10.0]])
         told = self.call("nl-bridge", "version", "json=1")
         self.assertEqual((told["program"], told["proved"]), (PROGRAM, None))
         self.put(MODELS["nonlinear"].text)

@@ -185,7 +185,7 @@ class Refusals(Case):
         self.assertEqual(explaining.in_words(["export", nl], told, {nl: "m\x1b[1m.nl"}),
                          "m\\x1b[1m.nl line 17: constraint 0: (\\x1b[2Jspeed * (x1 + 3)) is "
                          "nonlinear")
-        more = "\n".join(explaining.Refusal(["export", nl], "refused line 17: nonlinear", {}).more())
+        more = "\n".join(explaining.Refusal(["export", nl], told, {}).more())
         self.assertIn("\\x1b[2Jspeed", more)
         self.assertNotRegex(line + more, "[\x00-\x08\x0b-\x1f\x7f-\x9f]")
 

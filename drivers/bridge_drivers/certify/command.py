@@ -16,7 +16,7 @@ from ..interrupts import SIGNALS
 from ..keeping import Kept
 from ..near import near
 from ..options import BadOption, Option
-from ..report import Report, silently
+from ..report import Report, fill, silently
 from ..solving import Result
 
 NAME = "bridge-certify"
@@ -96,7 +96,7 @@ class Command:
         told = Report(NAME)
         told.status = silently(self.run, False)
         if self.driver is not None:
-            self.driver.fill(told)
+            fill(told, self.driver)
         return told.show()
 
     def run(self) -> int:

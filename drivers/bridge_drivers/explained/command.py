@@ -75,6 +75,7 @@ class Explaining:
         head = header(files.nl)
         self.names = Names(stub, head.variables, head.constraints)
         self.note = ""
+        self.drawn: Picture | None = None
         self.bounds = self.exact(bridge, head.constraints)
         self.wording = Wording(self.certificate, self.names, self.bounds, head.constraints)
         self.tally = tally(self.certificate, head.constraints)
@@ -120,8 +121,10 @@ class Explaining:
         return told + ([self.note] if self.note else [])
 
     def picture(self, alone: bool) -> str:
-        return Picture(self.certificate, self.wording, self.bounds, self.fails,
-                       self.holds).svg(alone)
+        if self.drawn is None:
+            self.drawn = Picture(self.certificate, self.wording, self.bounds, self.fails,
+                                 self.holds)
+        return self.drawn.svg(alone)
 
     def page(self) -> str:
         lines = [line.partition(" ") for line in self.wording.lines()]
@@ -159,6 +162,10 @@ def explained(bridge: Bridge, files: Files) -> int:
     pages: Sequence[tuple[str, Callable[[], str]]] = (
         (files.html, told.page), (files.svg, lambda: told.picture(True)))
     for path, text in pages:
+        if path and any(os.path.exists(path) and os.path.samefile(path, given)
+                        for given in files[:2]):
+            print(f"{path} is not written: it is what is explained")
+            return UNWRITTEN
         if path:
             try:
                 write(path, text().encode("utf-8", "backslashreplace"))

@@ -17,7 +17,8 @@ h2 { font-size: 1.1rem; margin: 1.6rem 0 .5rem; }
 .verdict { font-family: ui-monospace, monospace; font-weight: 600; }
 .yes { color: var(--yes); } .no { color: var(--no); }
 .pale { color: var(--pale); font-size: .875rem; overflow-wrap: anywhere; }
-.scroll { overflow: auto; max-height: 85vh; border: 1px solid var(--line); border-radius: 6px; padding: .5rem; }
+.scroll { overflow: auto; max-height: 85vh; border: 1px solid var(--line); border-radius: 6px;
+  padding: .5rem; }
 table { border-collapse: collapse; width: 100%; font-size: .9375rem; }
 td, th { text-align: left; padding: .25rem .5rem; border-bottom: 1px solid var(--line);
   vertical-align: top; overflow-wrap: anywhere; }
@@ -74,13 +75,14 @@ def text_of(page: Page) -> str:
     if page.svg:
         parts += ["<h2>Its tree</h2>",
                   '<p class="pale">Each part follows from the one on its left by a split; what is '
-                  "claimed is shown where all parts on the right close. Point at a part to see it in "
-                  "full.</p>",
+                  "claimed is shown where all parts on the right close. Point at a part to see it "
+                  "in full.</p>",
                   f'<div class="scroll" tabindex="0" role="region" aria-label="the tree">{page.svg}'
                   "</div>"]
     parts += used_of(page)
-    parts += ['<p class="pale">The verdict is that of the proved program. What is told beside it is '
-              "worked out by the drivers, and not proved.</p>", "</main>", "</body>", "</html>", ""]
+    parts += ['<p class="pale">The verdict is that of the proved program. What is told beside it '
+              "is worked out by the drivers, and not proved.</p>",
+              "</main>", "</body>", "</html>", ""]
     return "\n".join(parts)
 
 

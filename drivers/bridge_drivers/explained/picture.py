@@ -1,5 +1,5 @@
-"""The tree of a certificate as a picture in SVG: each node with the part that it is, the bound that is
-shown there, and how it goes on or closes. Large trees are folded to a depth."""
+"""The tree of a certificate as a picture in SVG: each node with the part that it is, the bound that
+is shown there, and how it goes on or closes. Large trees are folded to a depth."""
 
 from __future__ import annotations
 
@@ -240,8 +240,8 @@ class Picture:
 
 def bounds_of(certificate: Certificate, bounds: Bounds) -> dict[int, Fraction | None]:
     """The bound that is shown at each node: that of a leaf's numbers, and else of the worse part;
-    None where there is no point. A lemma has that of its second tree. Nodes with a leaf whose numbers
-    show nothing are left out, and those that are left when time is over."""
+    None where there is no point. A lemma has that of its second tree. Nodes with a leaf whose
+    numbers show nothing are left out, and those that are left when time is over."""
     values: dict[int, Fraction | None] = {}
     nodes, end = certificate.nodes, time.monotonic() + SECONDS
     for place in range(len(nodes) - 1, -1, -1):

@@ -1,5 +1,5 @@
-"""A certificate in words: what it claims, what its tree is made of, where and by how much it does not
-hold."""
+"""A certificate in words: what it claims, what its tree is made of, where and by how much it does
+not hold."""
 
 from __future__ import annotations
 
