@@ -12,6 +12,7 @@ import random
 import re
 import subprocess
 import sys
+import tempfile
 import unittest
 from unittest import mock
 
@@ -322,6 +323,14 @@ class Figures(unittest.TestCase):
             "1e25, to lp_solve from 1e30",
             "not doubles   1 numbers: 0.30000000000000004441 (c2 x2)",
             "scaled rows   1: c0 by 3"])
+
+    def test_controls_in_names(self) -> None:
+        with tempfile.TemporaryDirectory() as folder:
+            stub = os.path.join(folder, "m")
+            with open(stub + ".row", "w", encoding="utf-8") as f:
+                f.write("Cap\x1b[2J\n")
+            lines = stats.lines_of(stats.figures_of(EXPORTED), {"c0": "3"}, Names(stub))
+        self.assertEqual(lines[-1], "scaled rows   1: c0 (Cap\\x1b[2J) by 3")
 
     def test_a_tied_objective(self) -> None:
         text = (b"NAME nl\nROWS\n N obj\n E zdef\nCOLUMNS\n x0 zdef 1\n z obj 1\n z zdef -3\nRHS\n"

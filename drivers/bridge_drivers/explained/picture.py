@@ -18,7 +18,7 @@ MOST_DEPTH = 8
 MOST_PATH = 40                  # levels down to a leaf that fails, which are shown unfolded
 SECONDS = 5.0                   # in which bounds are worked out
 WIDTH, HEIGHT, ACROSS, DOWN, MARGIN = 196, 58, 236, 70, 12
-MOST_TEXT, MOST_PART = 28, 24   # characters of a line in a node, of its first, which is bold
+MOST_TEXT, MOST_PART = 26, 24   # characters of a line in a node, of its first, which is bold
 STYLE = """
 .tree text { font: 12px system-ui, sans-serif; fill: #1b1f24; }
 .tree .part { font-weight: 600; }
