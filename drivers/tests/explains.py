@@ -166,9 +166,16 @@ class Explained(Case):
                                              "too little"),
                 ("feasible 0/point 1/1 .25", "variable 1 is 1/4 at the point, 0.25 from a whole "
                                              "number"),
-                ("unbounded 0/point 0/ray 0", "ray does not improve")):
+                ("unbounded 0/point 0/ray 0", "along the ray the objective changes by 0, which is "
+                                              "no better")):
             lines = self.explain(ENDLESS, text_of(text))
             self.assertEqual((self.status, lines[2]), (1, "fails     " + line))
+        wide = "1" + "0" * 36
+        lines = self.explain(nl([("C", 0, None)] * 2, [(None, 2, {0: 3, 1: 5})],
+                                [("max", 0, {0: 1})]),
+                             text_of(f"feasible 0/point 2/0 1e-36/1 {wide}"))
+        self.assertEqual(lines[2], "fails     a sum of constraint 0 at the point, or a side of it, "
+                                   "passes 128 bits: numbers with fewer digits are wanted")
         lines = self.explain(ENDLESS, text_of("unbounded 0/point 0/ray 2/0 1/1 1"))
         self.assertEqual(lines[1:], ["claim     the objective goes above every number",
                                      "point     all 0", "ray       x0 1, x1 1; the others 0"])

@@ -126,7 +126,10 @@ class Bounds:
         """Of a constraint at a point."""
         return sum((a * point.get(j, Fraction(0)) for j, a in self.row(number).terms), Fraction(0))
 
+    def change(self, ray: Mapping[int, Fraction]) -> Fraction:
+        """Of the objective along a ray."""
+        return sum((c * ray.get(j, Fraction(0)) for j, c in self.goal.costs.items()), Fraction(0))
+
     def value(self, point: Mapping[int, Fraction]) -> Fraction:
         """The objective at a point."""
-        return self.goal.constant + sum((c * point.get(j, Fraction(0))
-                                         for j, c in self.goal.costs.items()), Fraction(0))
+        return self.goal.constant + self.change(point)

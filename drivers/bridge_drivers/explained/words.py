@@ -18,6 +18,7 @@ MOST_TERMS = 6                  # of a form that is told
 MOST_LISTED = 12                # values of a point, rows
 FAULT = re.compile(r"leaf (\d+) (?:(gap) (\S+)|(too wide)|(row|bound) (\d+) has no side)")
 POINT_FAULT = re.compile(r"(ray )?(row|bound|variable) (\d+) (broken|not whole)")
+WIDE = re.compile(r"too wide at (ray )?(?:(row|bound) (\d+)|objective)")
 
 
 class Tally(NamedTuple):
@@ -171,7 +172,20 @@ class Wording:
         found = POINT_FAULT.fullmatch(verdict)
         if found is not None and self.bounds is not None:
             return ["fails     " + self.point_fault(*found.groups())]
+        found = WIDE.fullmatch(verdict)
+        if found is not None:
+            return ["fails     " + self.wide(*found.groups())]
+        if verdict == "ray does not improve" and self.bounds is not None:
+            return ["fails     along the ray the objective changes by "
+                    f"{self.bounds.change(self.certificate.ray or {})}, which is no better"]
         return ["fails     " + verdict]
+
+    def wide(self, ray: str | None, kind: str | None, number: str | None) -> str:
+        what = "the objective" if number is None else \
+            self.row(int(number)) if kind == "row" else self.names.variable(int(number))
+        where = "along the ray" if ray else "at the point"
+        return f"a sum of {what} {where}, or a side of it, passes 128 bits: numbers with fewer " \
+               "digits are wanted"
 
     def fault(self, place: int, found: re.Match[str]) -> str:
         _, gap, value, wide, kind, number = found.groups()
