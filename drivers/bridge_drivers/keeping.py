@@ -42,7 +42,8 @@ class Keeper:
         why = self.stays(verdicts.read(line), target)
         if why:
             return Kept(f"{target} stays as it is: {why}; overwrite=1 replaces it")
-        was_there = os.path.isfile(target) and os.path.getsize(target) > 0
+        was_there = os.path.isfile(target) and not is_special(target) \
+            and os.path.getsize(target) > 0
         try:
             put(source, target)
             size = os.path.getsize(source)
@@ -78,7 +79,8 @@ class Keeper:
 
 def is_other(path: str) -> bool:
     """Whether a plain file with text is there that is no certificate."""
-    return os.path.isfile(path) and head_of(path)[:1] not in ([], [FIRST])
+    return os.path.isfile(path) and not is_special(path) \
+        and head_of(path)[:1] not in ([], [FIRST])
 
 
 def head_of(path: str) -> list[bytes]:

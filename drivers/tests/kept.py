@@ -179,6 +179,17 @@ class Keeping(Case):
         self.assertIn("it may not be written", kept.line)
         self.assertEqual(sorted(os.listdir(self.folder)), ["source", "stub.certificate", "stub.nl"])
 
+    def test_standard_output(self) -> None:
+        """Where it is a file, the certificate is added to it."""
+        code = ("import os, sys; sys.path[:0] = sys.argv[1:2]; from bridge_drivers.files import "
+                "put; print('before'); put(sys.argv[2], '/dev/stdout'); print('behind')")
+        self.put(OPTIMAL, ".certificate")
+        with open(self.stub, "wb") as out:
+            subprocess.run([sys.executable, "-c", code, os.path.join(HERE, ".."), self.target],
+                           stdout=out, check=True)
+        with open(self.stub, "rb") as f:
+            self.assertEqual(f.read(), b"before\n" + OPTIMAL + b"behind\n")
+
     def test_links_and_modes(self) -> None:
         """A link stays one, and a file keeps its mode."""
         real = os.path.join(self.folder, "real")
