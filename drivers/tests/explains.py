@@ -231,6 +231,12 @@ class Explained(Case):
                           ["x2 \u2265 1", "bound 12", "split x0"]])
         self.assertEqual(len(root.findall(SVG + "path")), 6 + 1)
 
+    def test_without_a_tree(self) -> None:
+        told = self.object(ENDLESS, text_of("feasible 0/point 0"))
+        texts = [t.text for t in xml.fromstring(told.picture(True)).iter(SVG + "text")]
+        self.assertEqual(texts, ["the certificate has no tree"])
+        self.assertNotIn("Its tree", told.page())
+
     def test_folded(self) -> None:
         """A large tree is folded to a depth, but for the path to the leaf that fails."""
         for claim, fails in (("bound 0 45", False), ("bound 0 40", True)):

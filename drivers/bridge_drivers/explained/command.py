@@ -162,15 +162,20 @@ def explained(bridge: Bridge, files: Files) -> int:
     pages: Sequence[tuple[str, Callable[[], str]]] = (
         (files.html, told.page), (files.svg, lambda: told.picture(True)))
     for path, text in pages:
-        if path and any(os.path.exists(path) and os.path.samefile(path, given)
-                        for given in files[:2]):
-            print(f"{path} is not written: it is what is explained")
+        if path and not is_put(path, text, files):
             return UNWRITTEN
-        if path:
-            try:
-                write(path, text().encode("utf-8", "backslashreplace"))
-            except OSError as fault:
-                print(f"{path} is not written: {fault.strerror}")
-                return UNWRITTEN
-            print(f"{path} is written")
     return reply.status
+
+
+def is_put(path: str, text: Callable[[], str], files: Files) -> bool:
+    """Writes a page, and tells it; whether it could be."""
+    if any(os.path.exists(path) and os.path.samefile(path, given) for given in files[:2]):
+        print(f"{path} is not written: it is what is explained")
+        return False
+    try:
+        write(path, text().encode("utf-8", "backslashreplace"))
+    except OSError as fault:
+        print(f"{path} is not written: {fault.strerror}")
+        return False
+    print(f"{path} is written")
+    return True

@@ -197,7 +197,7 @@ class Picture:
     # svg -----------------------------------------------------------------------------
 
     def size(self) -> tuple[int, int]:
-        across = max((d.x for d in self.drawn), default=0) + WIDTH + MARGIN
+        across = max((d.x for d in self.drawn), default=MARGIN) + WIDTH + MARGIN
         return across, max(self.lowest - (DOWN - HEIGHT) + MARGIN, HEIGHT)
 
     def svg(self, alone: bool) -> str:
@@ -211,7 +211,9 @@ class Picture:
             f'height="{height}" viewBox="0 0 {width} {height}" role="img" aria-label="{said}">',
             f"<title>{said}</title>", f"<style>{STYLE + ('' if alone else DARK)}</style>",
             *([f'<path d="M0 0H{width}V{height}H0Z" style="fill: #fff; stroke: none"/>'] if alone
-              else []), *self.lines(), *self.boxes(), "</svg>", ""])
+              else []), *self.lines(), *self.boxes(),
+            *([f'<text x="{MARGIN}" y="{HEIGHT // 2}">{said}</text>'] if not nodes else []),
+            "</svg>", ""])
 
     def lines(self) -> Iterator[str]:
         at = {d.place: d for d in self.drawn}
