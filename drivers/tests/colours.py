@@ -2,6 +2,7 @@
 
 from __future__ import annotations
 
+import contextlib
 import io
 import os
 import pty
@@ -62,9 +63,15 @@ class Processes(Case):
                              env={**os.environ, "NO_COLOR": "", "TERM": "xterm", **environment},
                              cwd=EXAMPLES, check=False)
         os.close(theirs)
-        told = os.read(ours, 65536).replace(b"\r\n", b"\n")
+        told = b""
+        with contextlib.suppress(OSError):          # its end, after what it holds
+            while True:
+                piece = os.read(ours, 65536)
+                told += piece
+                if not piece:
+                    break
         os.close(ours)
-        return ran.returncode, told
+        return ran.returncode, told.replace(b"\r\n", b"\n")
 
     def test_verify(self) -> None:
         words = ["nl-bridge", "verify", "knap.nl", "knap.certificate"]

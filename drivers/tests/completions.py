@@ -110,8 +110,8 @@ class Texts(Case):
 
 
 def seen(terminal: int, text: str) -> str:
-    """What a terminal shows until the text is there, or ten seconds are over."""
-    shown, end = "", time.monotonic() + 10
+    """What a terminal shows until the text is there, or thirty seconds are over."""
+    shown, end = "", time.monotonic() + 30
     while text not in shown and time.monotonic() < end:
         if select.select([terminal], [], [], 0.2)[0]:
             shown += os.read(terminal, 4096).decode("utf-8", "replace")
