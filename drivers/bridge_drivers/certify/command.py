@@ -62,12 +62,13 @@ class Finding(Driver):
         super().__init__(name)
         self.name = self.clock.name = NAME
 
-    def deliver(self, result: Result) -> None:
+    def deliver(self, result: Result) -> Status:
         self.lines, self.figures, self.result = result.lines, result.figures, result
         self.kept = result.end.kept if result.end else None
         lines = [line for line in result.lines
                  if not (self.is_hidden and self.kept and line == self.kept.line)]
         colour.tell_all(lines, self.stream)
+        return Status.DONE
 
 
 class Command:
