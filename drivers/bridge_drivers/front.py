@@ -75,6 +75,7 @@ def rows_of(commands: Sequence[Command]) -> str:
 def usage() -> str:
     return (f"usage: {NAME} COMMAND ..\n\nof the proved program:\n{rows_of(COMMANDS)}\n"
             f"around it:\n{rows_of(OWN)}\nstatus: {STATUSES}\n"
+            "json=1 behind the words of verify, stats and version: one object of JSON\n"
             f"example: {NAME} verify knap.nl knap.certificate\n"
             f"Solvers are run by bridge-cbc and kin. More: man {NAME}\n")
 

@@ -141,5 +141,5 @@ class Options:
         lines = []
         for o in self.known.values():
             default = f" ({o.default})" if o.default != "" else ""
-            lines.append(f"{o.name:<9} {o.text}{default}\n")
+            lines.append(f"{o.name:<11} {o.text}{default}\n")
         return "".join(lines)
