@@ -10,6 +10,7 @@ import threading
 import time
 from typing import Any, Callable, NamedTuple, Sequence, TypeVar
 
+from .files import naming
 from .interrupts import kill, with_child
 from .options import Options
 from .program import Program
@@ -77,7 +78,7 @@ class Job:
 
     def write(self, name: str, data: bytes) -> str:
         path = self.path(name)
-        with open(path, "wb") as f:
+        with naming(path), open(path, "wb") as f:
             f.write(data)
         return path
 

@@ -5,10 +5,12 @@ from __future__ import annotations
 
 import json
 import os
+import shutil
 import signal
 import subprocess
 import sys
 import time
+import unittest
 
 from support import BIN, HERE, NEEDS_PROGRAM, Case, Ended, driven
 from models import MODELS
@@ -42,6 +44,17 @@ class Processes(Case):
         self.assertEqual(self.sol().code, 503)
         self.assertIn("/nonexistent/cbc was not found: install it or give solver=PATH",
                       ended.stderr)
+
+    def test_packages_of_solvers(self) -> None:
+        """A solver that is not there is told with the Debian package that has it."""
+        self.put(MODELS["knap"].text)
+        bridge = self.script("bridge", "exit 3")
+        for driver, package in (("cbc", "coinor-cbc"), ("clp", "coinor-clp"),
+                                ("esolver", "qsopt-ex"), ("glpsol", "glpk-utils"),
+                                ("lp_solve", "lp-solve")):
+            ended = self.drive(driver, self.stub, PATH="/nonexistent", BRIDGE=bridge)
+            self.assertEqual((ended.returncode, ended.stderr), (1, f"bridge-{driver}: {driver} was "
+                             f"not found: apt install {package} (Debian) or give solver=PATH\n"))
 
     def test_solver_that_fails(self) -> None:
         self.put(MODELS["knap"].text)
@@ -122,3 +135,39 @@ class Processes(Case):
         again = subprocess.run([sys.executable, os.path.join(HERE, "..", "install"), prefix],
                                capture_output=True, text=True)
         self.assertEqual(again.returncode, 0, again.stderr)
+
+
+@NEEDS_PROGRAM
+@unittest.skipUnless(shutil.which("minizinc") and shutil.which("cbc"), "no minizinc, or no cbc")
+class MiniZinc(Case):
+    """MiniZinc itself, whose standard error is a file, a pipe, or a file that it appends to."""
+
+    def told(self, model: str, mode: str) -> tuple[int, list[str]]:
+        """Its status, and the lines of the driver."""
+        source, path = os.path.join(self.folder, "m.mzn"), os.path.join(self.folder, "told")
+        with open(source, "w", encoding="ascii") as f:
+            f.write(model)
+        words = ["minizinc", "--solver", "bridge-cbc", "--nl-flags", "prove=1", source]
+        environment = {**os.environ, "MZN_SOLVER_PATH": os.path.join(HERE, "..", "minizinc")}
+        if not mode:
+            ran = subprocess.run(words, env=environment, capture_output=True)
+            told = ran.stderr
+        else:
+            with open(path, mode) as err:
+                ran = subprocess.run(words, env=environment, stderr=err,
+                                     stdout=subprocess.DEVNULL)
+            with open(path, "rb") as f:
+                told = f.read()
+            os.unlink(path)
+        lines = told.decode().split("\n")
+        return ran.returncode, [line for line in lines if "bridge-cbc: " in line]
+
+    def test_lines(self) -> None:
+        for mode in ("wb", "ab", ""):
+            status, lines = self.told("var 0..7: x; var 0..5: y; constraint 3*x + 2*y <= 12; "
+                                      "solve maximize x + y;", mode)
+            self.assertEqual((status, lines), (0, ["% bridge-cbc: optimal 5"]))
+            status, lines = self.told("var 0.0..5.0: x; solve maximize x;", mode)
+            self.assertEqual((status, len(lines)), (1, 1), lines)
+            self.assertRegex(lines[0], "^% bridge-cbc: .*: missing segment .*: add a constraint on "
+                                       "two variables")

@@ -31,8 +31,8 @@ import stored                                           # noqa: E402
 
 LOOSE = ("lp_solve",)           # prints six digits
 CLOSE = F(1, 10 ** 6)
-LAST_LINE = re.compile(r"(not proved: .|infeasible$|unbounded$|(optimal|feasible|bound) \S+$"
-                       r"|within \S+ \S+$)")
+LAST_LINE = re.compile(r"(not proved: .|(infeasible|unbounded|(optimal|feasible|bound) \S+"
+                       r"|within \S+ \S+)( of objective \d+)?$)")
 CHECKED = "bridge check of the .sol: "
 PROGRAM = find("", BESIDE) if os.environ.get("BRIDGE") else []
 HAS_CLP = clp.library() is not None

@@ -11,7 +11,7 @@ from fractions import Fraction as F
 from unittest import mock
 
 from support import HERE, Case
-from bridge_drivers import binary_nl, bridge, certificates, nl, sol, values, words
+from bridge_drivers import binary_nl, bridge, nl, sol, values, words
 from bridge_drivers.bridge import Refused, Reply
 from bridge_drivers.interrupts import SIGNALS, Interrupted, Signals, with_child
 from bridge_drivers.options import BadOption, Options
@@ -165,19 +165,6 @@ class Files(Case):
             self.assertRaisesRegex(bridge.Missing, "is another program", bridge.find, "", [])
         missing = bridge.Bridge(["/nonexistent/bridge"], lambda argv: None)
         self.assertRaises(bridge.Missing, missing.call, "export", "x")
-
-    def test_only_plain_files_are_removed(self) -> None:
-        """A certificate's place may be a device, a pipe or a link to one."""
-        plain, link, pipe = (os.path.join(self.folder, n) for n in ("plain", "link", "pipe"))
-        with open(plain, "w"):
-            os.symlink(pipe, link)
-        os.mkfifo(pipe)
-        for path, stays in ((plain, False), (pipe, True), (link, True), ("/dev/null", True)):
-            certificates.remove_older(path)
-            self.assertEqual(os.path.lexists(path), stays, path)
-        os.unlink(pipe)
-        certificates.remove_older(link)
-        self.assertFalse(os.path.lexists(link))
 
 
 class Interrupts(Case):

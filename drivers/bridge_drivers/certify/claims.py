@@ -23,6 +23,7 @@ from .text import Naming
 from .tree import Spool, Tree, count
 from .watch import KEPT, Over, Stopped, Watch
 from ..bridge import Bridge, Late, Refused
+from ..files import naming
 from ..nl import header
 from ..program import Program
 
@@ -112,7 +113,7 @@ class Certifying:
         """Writes the lines, and a tree from its file; asks `bridge verify`."""
         written(self.path, lines)
         if tree is not None:
-            with open(self.path, "ab") as f, open(tree, "rb") as source:
+            with naming(self.path), open(self.path, "ab") as f, open(tree, "rb") as source:
                 shutil.copyfileobj(source, f)
         self.bridge.limit = self.watch.for_verdict(1.0 if tree is None else TREE)
         try:

@@ -47,6 +47,7 @@ class Solver:
 
     name = ""                           # of the driver, without bridge-
     program = ""                        # the executable
+    package = ""                        # Debian's, that has it
     title = ""                          # in messages
     integers = True                     # takes integer columns
     again = ""                          # how it is asked where an answer is not good
@@ -81,6 +82,10 @@ class Solver:
     def reading(self, program: Program, path: str) -> list[str]:
         """The words by which the solver reads that text and solves it."""
         return [path]
+
+    def command(self, program: Program, path: str, named: str) -> list[str]:
+        """All words of that, as one types them; `named` is the executable, where one is named."""
+        return [named or self.program, *self.reading(program, path)]
 
 
 def row_side(kind: str, letter: str) -> int:

@@ -25,6 +25,7 @@ SENTENCES = (
 
 class Glpsol(Solver):
     name, program, title = "glpsol", "glpsol", "GLPK"
+    package = "glpk-utils"
     again = "without its presolve, its basis checked exactly"
     version = r"GLPSOL.*?Solver,? v?(\S+)"
     options = (Option("mipgap", 0.0, float, "relative gap at which the search stops"),
