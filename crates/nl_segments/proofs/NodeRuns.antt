@@ -1,5 +1,5 @@
 -- Nodes of an expression that are taken at once.
-use Rattle.std.proofs.Common.{◌≡◌, ◌∙◌, ℕ, zero, suc, ◌+◌, ◌<◌, ◌^◌, ◌==◌, Bool, true, false, if◌then◌else◌, List, [], ◌∷◌, ◌++◌, drop, refl, sym, ap, subst, arith, append_assoc, append-nil, Option, Some, None}
+use Rattle.std.proofs.Common.{◌≡◌, ◌∙◌, ℕ, ◌+◌, ◌<◌, ◌^◌, ◌==◌, Bool, true, false, if◌then◌else◌, List, [], ◌∷◌, ◌++◌, drop, refl, sym, ap, subst, arith, append_assoc, append-nil, Option, Some, None}
 use Rattle.std.specs.Prelude.{All, IfSome, IsSomeAnd, Ok}
 use Rattle.std.specs.List.{range_with_len}
 use Rattle.texts.specs.Judged.{Decides}
@@ -28,7 +28,7 @@ use Rattle.nl_segments.specs.InsideTreeSteps.{CanSettle, CanTakeRow, IsNextRow, 
 use Rattle.nl_segments.proofs.NodeFronts.{IsReadNext, leaf_can, leaf_first}
 use Rattle.nl_segments.proofs.NodeSteps.{beyond, fresh_tree, in_tree, wanted_here}
 use Rattle.nl_segments.proofs.PairLines.{awaits_as, opened}
-use Rattle.nl_segments.proofs.StandingLemmas.{goes_on, none_taken, range_parts, still_some}
+use Rattle.nl_segments.proofs.StandingLemmas.{changed_same, changed_twice, goes_on, none_taken, range_parts, still_some}
 
 -- ---- the lines of nodes
 
@@ -36,25 +36,21 @@ more_range : (o : OwnerLines) (first n : ℕ) → more_nodes (first + n) (more_n
 more_range o first n =
     ap (λ ns. record o { nodes = ns }) (append_assoc o.nodes (range_with_len first n) ((first + n) ∷ []) ∙ ap (λ ns. o.nodes ++ ns) (sym (range_parts first n 1)))
 
-changed_more : (owners : List OwnerLines) (i first n : ℕ) → changed (more_nodes (first + n)) (changed (more_node_run first n) owners i) i ≡ changed (more_node_run first (n + 1)) owners i
-changed_more [] i first n = refl
-changed_more (o ∷ owners) zero first n = ap (λ x. x ∷ owners) (more_range o first n)
-changed_more (o ∷ owners) (suc i) first n = ap (λ xs. o ∷ xs) (changed_more owners i first n)
+more_nodes_at : (owners : List OwnerLines) (i first n : ℕ) → changed (more_nodes (first + n)) (changed (more_node_run first n) owners i) i ≡ changed (more_node_run first (n + 1)) owners i
+more_nodes_at owners i first n = changed_twice (more_nodes (first + n)) (more_node_run first n) (more_node_run first (n + 1)) (λ o. more_range o first n) owners i
 
-changed_none : (owners : List OwnerLines) (i first : ℕ) → changed (more_node_run first 0) owners i ≡ owners
-changed_none [] i first = refl
-changed_none (o ∷ owners) zero first = ap (λ ns. record o { nodes = ns } ∷ owners) (append-nil o.nodes)
-changed_none (o ∷ owners) (suc i) first = ap (λ os. o ∷ os) (changed_none owners i first)
+no_nodes_at : (owners : List OwnerLines) (i first : ℕ) → changed (more_node_run first 0) owners i ≡ owners
+no_nodes_at owners i first = changed_same (more_node_run first 0) (λ o. ap (λ ns. record o { nodes = ns }) (append-nil o.nodes)) owners i
 
 run_more : (l : PlaceLines) (first n : ℕ) (h : Head) → keeps_pairs h ≡ false → with_node_line (with_node_run l first n h) (first + n) h ≡ with_node_run l first (n + 1) h
-run_more l first n (BodyHead i) e = ap (λ os. record l { constraints = os }) (changed_more l.constraints i first n)
-run_more l first n (Objective k m) e = ap (λ os. record l { objectives = os }) (changed_more l.objectives k first n)
+run_more l first n (BodyHead i) e = ap (λ os. record l { constraints = os }) (more_nodes_at l.constraints i first n)
+run_more l first n (Objective k m) e = ap (λ os. record l { objectives = os }) (more_nodes_at l.objectives k first n)
 run_more l first n (Definition i j u) e = absurd cc
 run_more l first n head e = refl
 
 run_none : (l : PlaceLines) (first : ℕ) (h : Head) → with_node_run l first 0 h ≡ l
-run_none l first (BodyHead i) = ap (λ os. record l { constraints = os }) (changed_none l.constraints i first)
-run_none l first (Objective k m) = ap (λ os. record l { objectives = os }) (changed_none l.objectives k first)
+run_none l first (BodyHead i) = ap (λ os. record l { constraints = os }) (no_nodes_at l.constraints i first)
+run_none l first (Objective k m) = ap (λ os. record l { objectives = os }) (no_nodes_at l.objectives k first)
 run_none l first head = refl
 
 -- ---- a piece that is settled

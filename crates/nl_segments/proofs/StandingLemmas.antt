@@ -471,25 +471,32 @@ more_range : (o : OwnerLines) (first n : ℕ) → more_terms (first + n) (more_t
 more_range o first n =
     ap (λ ts. record o { terms = ts }) (append_assoc o.terms (range_with_len first n) ((first + n) ∷ []) ∙ ap (λ ts. o.terms ++ ts) (sym (range_parts first n 1)))
 
-changed_more : (owners : List OwnerLines) (i first n : ℕ) → changed (more_terms (first + n)) (changed (more_term_run first n) owners i) i ≡ changed (more_term_run first (n + 1)) owners i
-changed_more [] i first n = refl
-changed_more (o ∷ owners) zero first n = ap (λ x. x ∷ owners) (more_range o first n)
-changed_more (o ∷ owners) (suc i) first n = ap (λ xs. o ∷ xs) (changed_more owners i first n)
+-- one owner changed twice, and one that is not changed
+pub changed_twice : (f g h : OwnerLines → OwnerLines) → ((o : OwnerLines) → f (g o) ≡ h o) → (owners : List OwnerLines) (i : ℕ) → changed f (changed g owners i) i ≡ changed h owners i
+changed_twice f g h same [] i = refl
+changed_twice f g h same (o ∷ owners) zero = ap (λ x. x ∷ owners) (same o)
+changed_twice f g h same (o ∷ owners) (suc i) = ap (λ xs. o ∷ xs) (changed_twice f g h same owners i)
+
+pub changed_same : (f : OwnerLines → OwnerLines) → ((o : OwnerLines) → f o ≡ o) → (owners : List OwnerLines) (i : ℕ) → changed f owners i ≡ owners
+changed_same f same [] i = refl
+changed_same f same (o ∷ owners) zero = ap (λ x. x ∷ owners) (same o)
+changed_same f same (o ∷ owners) (suc i) = ap (λ xs. o ∷ xs) (changed_same f same owners i)
+
+more_terms_at : (owners : List OwnerLines) (i first n : ℕ) → changed (more_terms (first + n)) (changed (more_term_run first n) owners i) i ≡ changed (more_term_run first (n + 1)) owners i
+more_terms_at owners i first n = changed_twice (more_terms (first + n)) (more_term_run first n) (more_term_run first (n + 1)) (λ o. more_range o first n) owners i
 
 run_more : (l : PlaceLines) (first n : ℕ) (h : Head) → is_linear h ≡ true → keeps_pairs h ≡ false → with_term_run l first (n + 1) h ≡ with_term_line (with_term_run l first n h) (first + n) h
-run_more l first n (Terms i k) e f = ap (λ os. record l { constraints = os }) (sym (changed_more l.constraints i first n))
-run_more l first n (Slopes i k) e f = ap (λ os. record l { objectives = os }) (sym (changed_more l.objectives i first n))
+run_more l first n (Terms i k) e f = ap (λ os. record l { constraints = os }) (sym (more_terms_at l.constraints i first n))
+run_more l first n (Slopes i k) e f = ap (λ os. record l { objectives = os }) (sym (more_terms_at l.objectives i first n))
 run_more l first n (Definition i j u) e f = absurd cc
 run_more l first n head e f = absurd cc
 
-changed_none : (owners : List OwnerLines) (i first : ℕ) → changed (more_term_run first 0) owners i ≡ owners
-changed_none [] i first = refl
-changed_none (o ∷ owners) zero first = ap (λ ts. record o { terms = ts } ∷ owners) (append-nil o.terms)
-changed_none (o ∷ owners) (suc i) first = ap (λ os. o ∷ os) (changed_none owners i first)
+no_terms_at : (owners : List OwnerLines) (i first : ℕ) → changed (more_term_run first 0) owners i ≡ owners
+no_terms_at owners i first = changed_same (more_term_run first 0) (λ o. ap (λ ts. record o { terms = ts }) (append-nil o.terms)) owners i
 
 run_none : (l : PlaceLines) (first : ℕ) (h : Head) → with_term_run l first 0 h ≡ l
-run_none l first (Terms i k) = ap (λ os. record l { constraints = os }) (changed_none l.constraints i first)
-run_none l first (Slopes i k) = ap (λ os. record l { objectives = os }) (changed_none l.objectives i first)
+run_none l first (Terms i k) = ap (λ os. record l { constraints = os }) (no_terms_at l.constraints i first)
+run_none l first (Slopes i k) = ap (λ os. record l { objectives = os }) (no_terms_at l.objectives i first)
 run_none l first head = refl
 
 given_counts : (d : Draft) (h : Head) (t : Term) → (with_given d h t).counts ≡ d.counts
