@@ -57,6 +57,7 @@ class Certifier:
         self.program = job.program
         self.relaxed = bool(job.program.whole) and bool(job.options.relax)
         self.linear = not job.program.whole or self.relaxed
+        self.is_interrupted = False
 
     # calls -----------------------------------------------------------------------
 
@@ -88,16 +89,18 @@ class Certifier:
     def verdict(self, answer: Answer, sol: bytes) -> Verdict:
         """By the certificate of a search, which has `timelim` with prove=1 and a second without."""
         options = self.job.options
-        seconds = (options.timelim or SECONDS) if options.prove else ONE_LEAF
+        proves = bool(options.prove) and not self.job.is_interrupted
+        watch = Watch((options.timelim or SECONDS) if proves else ONE_LEAF,
+                      self.job.clock.progress, not proves)
         work = Certifying(self.bridge, self.nl, self.job.folder, self.program, options.objno - 1,
-                          Watch(seconds, self.job.clock.name), bool(options.prove), self.relaxed,
-                          bool(options.bound))
+                          watch, proves, self.relaxed, bool(options.bound))
         claim = CLAIMS[answer.outcome.code]
-        if claim == "point" and not self.relaxed and not options.prove \
+        if claim == "point" and not self.relaxed and not proves \
                 and len(self.program.text) > LARGE:
             return self.as_it_stands(work, sol)
         verdict: Verdict = self.job.clock.timed("certify", certified, work, claim,
                                                 self.given(answer))
+        self.is_interrupted = watch.is_stopped
         return verdict
 
     def as_it_stands(self, work: Certifying, sol: bytes) -> Verdict:

@@ -50,7 +50,7 @@ class Driver:
         self.nl, self.sol = base + ".nl", base + ".sol"
         try:
             self.take_options()
-            return self.deliver(self.work())
+            return self.deliver(self.shown())
         except Failure as fault:
             return self.failed(fault)
         except Interrupted as signal:
@@ -124,6 +124,15 @@ class Driver:
         return os.path.abspath(place)
 
     # the run -----------------------------------------------------------------------
+
+    def shown(self) -> Result:
+        """The work, and what goes on in it on standard error."""
+        progress = self.clock.progress
+        progress.start(sys.stderr, not self.options.outlev)
+        try:
+            return self.work()
+        finally:
+            progress.stop()
 
     def work(self) -> Result:
         if not os.path.exists(self.nl) or os.path.isdir(self.nl):

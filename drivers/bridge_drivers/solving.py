@@ -5,6 +5,7 @@ from __future__ import annotations
 import os
 import shlex
 import shutil
+import signal
 from dataclasses import dataclass, replace
 
 from .answer import Answer
@@ -12,6 +13,7 @@ from .bridge import Bridge, Refused
 from .certificates import Certifier, End
 from .certify.claims import WITHOUT, Verdict
 from .codes import Code, Failure, Status
+from .interrupts import Interrupted
 from .job import Clock, Job
 from .miss import NONE, Miss, largest_share, miss, missing
 from .nl import BadFile, header, prepared
@@ -77,6 +79,7 @@ class Solving:
                           Status.REFUSED)
         job = self.make_job(program, self.options, self.folder, self.solver_path, self.extra(),
                             self.clock)
+        job.read = lambda line: self.solver.said(line, program)
         if self.options.keep:
             job.write("model.mps", program.text)
         return self.told(job, text_form.path, *self.answered(job), text_form.notes)
@@ -140,9 +143,13 @@ class Solving:
             job.again = again
             job.remove_answers()
             outcome = self.solver.solve(job)
+            if job.is_interrupted:
+                outcome = interrupted(outcome)
             answer = Answer(job.program, outcome, self.options)
             missed = NONE if answer.values is None else self.missed(job.program, answer)
         except (Unclear, BadValue, LookupError, ValueError, ArithmeticError) as fault:
+            if job.is_interrupted:
+                raise Interrupted(signal.SIGINT) from None
             raise Failure(Code.NO_ANSWER,
                           f"{self.solver.title} gave no usable answer: {fault}") from None
         except OSError as fault:
@@ -152,7 +159,7 @@ class Solving:
 
     def in_another_way(self, job: Job, first: Outcome) -> tuple[Outcome, Answer, Miss] | None:
         """None where it was asked so before, or gives no answer."""
-        if job.again or not self.solver.again:
+        if job.again or not self.solver.again or job.is_interrupted:
             return None
         try:
             outcome, answer, missed = self.asked(job, True)
@@ -202,6 +209,8 @@ class Solving:
                 if other is not None:
                     return self.told(job, nl, *other, notes)
                 answer = answer.with_code(Code.UNSURE)
+            if certifier.is_interrupted:
+                lines.append("interrupted: the search for a certificate was ended")
             found = settled(answer, verdict, bool(self.options.strict))
             if found.text is not None:
                 own = self.headline(job, answer).partition(": ")[2]
@@ -256,6 +265,14 @@ class Solving:
         assert answer.values is not None
         share = max(largest_share(answer.program, answer.values), ROUNDING)
         return f"; no row or bound is missed by more than {share:.2g} of its largest term"
+
+
+def interrupted(outcome: Outcome) -> Outcome:
+    """What a solver answers that was told to end."""
+    texts = {Code.LIMIT_WITH_POINT: "interrupted with a feasible solution",
+             Code.LIMIT: "interrupted without a feasible solution"}
+    text = texts.get(outcome.code, f"interrupted; {outcome.text}")
+    return replace(outcome, text=text)
 
 
 def keep_model(path: str, kept: str) -> None:

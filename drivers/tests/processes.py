@@ -15,6 +15,23 @@ import unittest
 from support import BIN, HERE, NEEDS_PROGRAM, Case, Ended, driven
 from models import MODELS
 
+INTERRUPTED = """#!{python}
+import signal, struct, sys
+
+def stop(*_):
+    after = lambda word: sys.argv[sys.argv.index(word) + 1]
+    with open(after("-solution"), "w") as f:
+        f.write("Stopped on iterations - objective value 17.0\\n")
+    with open(after("-saveSolution"), "wb") as f:
+        f.write(struct.pack("=ii9d", 1, 3, 17, 9, 0, 1, 1, 0, 0, 0, 0))
+    sys.exit(0)
+
+signal.signal(signal.SIGINT, stop)
+open({mark!r}, "w").close()
+while True:
+    signal.pause()
+"""
+
 
 @NEEDS_PROGRAM
 class Processes(Case):
@@ -91,11 +108,38 @@ class Processes(Case):
                 time.sleep(0.05)
             child.send_signal(number)
             _, err = child.communicate(timeout=30)
-            self.assertEqual((child.returncode, err), (status, "bridge-cbc: interrupted\n"))
+            self.assertEqual((child.returncode, err.split("\n")[-2]),
+                             (status, "bridge-cbc: interrupted"))
             self.assertFalse(os.path.exists(self.stub + ".sol"))
             with open(mark) as f:
                 pid = int(f.read())
             self.assertRaises(ProcessLookupError, os.kill, pid, 0)
+            os.unlink(mark)
+
+    def test_an_interrupt_is_the_solvers_first(self) -> None:
+        """It ends with its best point, which is passed on."""
+        mark = os.path.join(self.folder, "started")
+        solver = os.path.join(self.folder, "cbc")
+        with open(solver, "w") as f:
+            f.write(INTERRUPTED.format(python=sys.executable, mark=mark))
+        os.chmod(solver, 0o755)
+        self.put(MODELS["knap"].text)
+        for words in ([], ["prove=1", "timelim=600"]):
+            argv = [sys.executable, os.path.join(BIN, "bridge-cbc"), self.stub, "-AMPL", "-e",
+                    "solver=" + solver, *words]
+            child = subprocess.Popen(argv, stderr=subprocess.PIPE, text=True,
+                                     preexec_fn=lambda: signal.signal(signal.SIGINT,
+                                                                      signal.SIG_DFL))
+            for _ in range(1200):
+                if os.path.exists(mark):
+                    break
+                time.sleep(0.05)
+            child.send_signal(signal.SIGINT)
+            child.communicate(timeout=60)
+            sol = self.sol()
+            self.assertEqual((child.returncode, sol.values), (0, [1, 1, 0]))
+            self.assertIn("interrupted with a feasible solution", sol.text)
+            self.assertEqual(sol.code, 0 if sol.message[-1] == "optimal 17" else 400)
             os.unlink(mark)
 
     def test_ignored_signals(self) -> None:

@@ -35,6 +35,7 @@ ONE_LEAF = 1.0                  # seconds for it
 LOOSER = (1e-9, 1e-7, 1e-5, 1e-3)       # of a value: what a bound may lie away
 SAFER = (1e-9, 1e-7, 1e-5)              # of the greatest cost: room for rounding
 MOST_CLP_SECONDS = 30.0
+MOST_MENDED = 200               # nodes of a search beside an answer
 TREE = 0.75                     # of the seconds that are left, to judge a tree
 
 
@@ -117,6 +118,7 @@ class Certifying:
                 shutil.copyfileobj(source, f)
         self.bridge.limit = self.watch.for_verdict(1.0 if tree is None else TREE)
         try:
+            self.watch.progress.tell("bridge verify")
             with self.watch.judging():
                 reply = self.bridge.call("verify", self.nl, self.path)
         except Late:
@@ -167,9 +169,25 @@ class Certifying:
             return self.best(self.linear_optimum(given))
         assert given.values is not None
         point = self.exact(given.values)
+        if point is None and points.broken(self.model, given.values) > ROUNDING:
+            point = self.mended(given.values)
         if point is not None:
             return self.best(self.whole_optimum(point))
         return self.without_exact(given.values)
+
+    def mended(self, x: Sequence[float | Fraction]) -> Point | None:
+        """A point beside an answer some of whose whole values are off by the digits that a solver
+        prints, or are given by equations."""
+        for frees in (False, True):
+            near = points.loosened(self.model, x, frees)
+            try:
+                Search(near, Goal(None, False, self.exact), Spool(), self.watch,
+                       self.watch.spent() + self.watch.left() / 4, MOST_MENDED).run()
+            except Better as better:
+                return better.point
+            except (NoClp, Stopped):
+                pass
+        return None
 
     def without_exact(self, x: Sequence[float | Fraction]) -> Verdict:
         """Where no exact point has the answer's whole variables: a contradiction, or whatever the
@@ -201,6 +219,7 @@ class Certifying:
         """None where CLP is not there."""
         if library() is None:
             return None, State.OTHER
+        self.watch.progress.tell("the relaxation by CLP")
         clp = self.model.relaxation()
         clp.limit(ONE_LEAF if not self.proves else min(max(self.watch.left(), ONE_LEAF),
                                                       MOST_CLP_SECONDS))
@@ -242,6 +261,7 @@ class Certifying:
                 made += filter(None, [points.vertex(p, given.basis, [float(v) for v in x])])
         yield from (point for point in made if all(map(is_narrow, point)))
         if clp is not None:
+            self.watch.progress.tell("the exact vertex")
             vertex = points.vertex(p, Basis(*clp.basis()), clp.values())
             if vertex is not None and all(map(is_narrow, vertex)):
                 yield vertex
@@ -253,6 +273,7 @@ class Certifying:
         if not any(p.costs):
             return closer.close({}, False, box)
         closed = None
+        self.watch.progress.tell("exact duals")
         if clp is not None:
             closed = closer.close(dict(enumerate(clp.duals())), False, box) or \
                 closer.exactly(closer.basis_duals(*clp.basis()), False, box)
@@ -315,6 +336,7 @@ class Certifying:
         for _ in range(MOST_BETTER):
             plans = Plans(p, p.value(point), self.exact, self.folder, self.watch)
             self.point, self.plans = point, plans
+            self.watch.incumbent = float(p.sign * p.value(point))
             try:
                 self.planned(plans)
                 break
@@ -483,6 +505,7 @@ def certified(work: Certifying, claim: str, given: Given = Given()) -> Verdict:
         "point": work.of_point, "infeasible": work.of_infeasible, "nothing": work.of_nothing,
         "unbounded": work.of_unbounded, "either": work.of_either}
     watch = work.watch
+    watch.progress.begin("certificate", watch.seconds)
     Clp.until = time.monotonic() + watch.until_over()
     try:
         with watch.interruptible():
@@ -499,3 +522,4 @@ def certified(work: Certifying, claim: str, given: Given = Given()) -> Verdict:
         return Verdict(WITHOUT + str(fault))
     finally:
         Clp.until = math.inf
+        watch.progress.begin("")

@@ -60,7 +60,7 @@ class Finding(Driver):
 
     def __init__(self, name: str) -> None:
         super().__init__(name)
-        self.name = self.clock.name = NAME
+        self.name = self.clock.name = self.clock.progress.name = NAME
 
     def deliver(self, result: Result) -> Status:
         self.lines, self.figures, self.result = result.lines, result.figures, result

@@ -9,6 +9,7 @@ ANSWER gets one JSON text: `status` as SciPy tells it, `message`, and where ther
 from __future__ import annotations
 
 import json
+import signal
 import sys
 from typing import Any
 
@@ -136,6 +137,7 @@ def linear(p: Program, cost: Any, words: dict[str, Any], sign: float) -> dict[st
 
 
 def main() -> None:
+    signal.signal(signal.SIGINT, signal.SIG_DFL)        # HiGHS keeps no point where it is ended
     p, words = Program(sys.argv[1]), json.loads(sys.argv[3]) if len(sys.argv) > 3 else USUAL
     print("HiGHS of SciPy", scipy.__version__, flush=True)
     sign = -1.0 if p.maximise else 1.0
