@@ -29,9 +29,10 @@ class Answer:
         self.values: dict[str, str] | None = None
         self.duals: dict[str, str] | None = None
         self.costs: dict[str, str] | None = None
+        self.whole = program.whole if options.round and not options.relax else set()
         if outcome.values is not None:
-            whole = program.whole if options.round and not options.relax else set()
-            self.values = {c: self.value(outcome.values[c], c in whole) for c in program.columns}
+            self.values = {c: self.value(outcome.values[c], c in self.whole)
+                           for c in program.columns}
         loose = self.loose
         if outcome.duals is not None:
             self.duals = {r: self.number(outcome.duals[r]) for r in program.constraints}
@@ -88,6 +89,15 @@ class Answer:
             outcome.duals = {**old, **duals}
         other = Answer(self.program, outcome, self.options)
         return other if self.duals is not None else other.without_duals()
+
+    def with_code(self, code: Code) -> Answer:
+        other = copy.copy(self)
+        other.outcome = replace(self.outcome, code=code)
+        return other
+
+    def without_point(self, code: Code) -> Answer:
+        """Nothing but the code."""
+        return Answer(self.program, Outcome(code, self.outcome.text), self.options)
 
     def objective(self) -> str | None:
         """The objective for the message: the solver's fraction, else a double of 10 digits at

@@ -20,7 +20,7 @@ from .codes import Code
 from .job import Job
 from .names import Names
 from .sol import duals_of, values_of
-from .solvers.base import BASIC, Outcome
+from .solvers.base import BASIC
 from .values import plain, text_of
 
 SECONDS = 60.0              # of a search, where timelim says nothing
@@ -68,19 +68,19 @@ class Certifier:
 
     # the verdict -----------------------------------------------------------------
 
-    def verdict(self, outcome: Outcome, answer: Answer, sol: bytes) -> Verdict:
+    def verdict(self, answer: Answer, sol: bytes) -> Verdict:
         """By the certificate of a search, which has `timelim` with prove=1 and a second without."""
         options = self.job.options
         seconds = (options.timelim or SECONDS) if options.prove else ONE_LEAF
         work = Certifying(self.bridge, self.nl, self.job.folder, self.program, options.objno - 1,
                           Watch(seconds, self.job.clock.name), bool(options.prove), self.relaxed,
                           bool(options.bound))
-        claim = CLAIMS[outcome.code]
+        claim = CLAIMS[answer.outcome.code]
         if claim == "point" and not self.relaxed and not options.prove \
                 and len(self.program.text) > LARGE:
             return self.as_it_stands(work, sol)
         verdict: Verdict = self.job.clock.timed("certify", certified, work, claim,
-                                                self.given(outcome, answer))
+                                                self.given(answer))
         return verdict
 
     def as_it_stands(self, work: Certifying, sol: bytes) -> Verdict:
@@ -99,9 +99,9 @@ class Certifier:
         except Refused as fault:
             return Verdict(WITHOUT + fault.line())
 
-    def given(self, outcome: Outcome, answer: Answer) -> Given:
+    def given(self, answer: Answer) -> Given:
         """The answer by position: the solver's numbers, whole ones as they are written."""
-        p = self.program
+        p, outcome = self.program, answer.outcome
         columns = [name for name in p.columns if name != "z"]
         rows = [name for name in p.constraints if name != "zdef"]
         values = duals = basis = None

@@ -47,8 +47,7 @@ class Driver:
         self.nl, self.sol = base + ".nl", base + ".sol"
         try:
             self.take_options()
-            self.deliver(self.work())
-            return Status.DONE
+            return self.deliver(self.work())
         except Failure as fault:
             return self.failed(fault)
         except Interrupted as signal:
@@ -85,6 +84,7 @@ class Driver:
         if self.options.objno == 0:
             raise Failure(Code.BAD_OPTION, "objno=0: solving without an objective is not offered",
                           Status.BAD_WORDS)
+        self.options.prove = int(bool(self.options.prove or self.options.strict))
         self.clock.tells = self.options.outlev >= 2
         if self.options.given and self.words.echo and not self.options.failexit:
             print(f"{self.name} {VERSION}: {' '.join(self.options.given)}", flush=True)
@@ -144,7 +144,7 @@ class Driver:
 
     # after the run -----------------------------------------------------------------
 
-    def deliver(self, result: Result) -> None:
+    def deliver(self, result: Result) -> Status:
         """The .sol at once or not at all, the message, and what wantsol asks for."""
         o, lines = self.options, result.lines
         if result.sol is None:
@@ -166,6 +166,7 @@ class Driver:
             self.show(result)
         if self.clock.tells:
             print(self.clock.summary(), flush=True)
+        return Status.DONE if result.is_final or self.words.ampl else Status.NOT_PROVED
 
     def show(self, result: Result) -> None:
         """Values of variables and duals of constraints, one a line, by their names beside the

@@ -2,43 +2,55 @@
 
 from __future__ import annotations
 
-from typing import Mapping, NamedTuple
+from typing import Collection, Iterator, Mapping, NamedTuple
 
 from .program import Program
 
 MOST = 1e-6                 # of the largest term: what counts as satisfied
+ROUNDING = 1e-12            # the same where all columns are whole numbers
 INFINITE = float("inf")
 
 
 class Miss(NamedTuple):
-    """The share of its largest term (1 where that is less) by which `name` is missed most."""
+    """The share of its largest term, at the values or at 1, by which `name` is missed most;
+    `times` is that share over what counts as satisfied."""
 
+    times: float
     share: float
     name: str
 
     def is_much(self) -> bool:
-        return self.share > MOST
+        return self.times > 1
 
 
-NONE = Miss(0.0, "")
+NONE = Miss(0.0, 0.0, "")
+
+
+def missing(share: float, name: str, is_whole: bool = False) -> Miss:
+    return Miss(share / (ROUNDING if is_whole else MOST), share, name)
 
 
 class Activities:
     """Sums and largest terms of rows at values."""
 
-    def __init__(self, program: Program, values: Mapping[str, str]) -> None:
+    def __init__(self, program: Program, values: Mapping[str, str],
+                 whole: Collection[str]) -> None:
         self.x = {name.encode(): float(text) for name, text in values.items()}
+        self.whole = {name.encode() for name in whole if values[name].lstrip("-").isdigit()}
         text = program.text
         start = text.index(b"\nCOLUMNS\n") + 9
         end = text.index(b"\nRHS\n", start)
         self.sums: dict[bytes, float] = {}
         self.sizes: dict[bytes, float] = {}
+        self.mixed: set[bytes] = set()          # rows with a column that is not whole
         for line in text[start:end].split(b"\n"):
             words = line.split()
             if len(words) == 3 and words[1] != b"obj" and words[1] != b"'MARKER'":
-                term = float(words[2]) * self.x[words[0]]
-                self.sums[words[1]] = self.sums.get(words[1], 0.0) + term
-                self.sizes[words[1]] = max(self.sizes.get(words[1], 1.0), abs(term))
+                a, x, row = float(words[2]), self.x[words[0]], words[1]
+                self.sums[row] = self.sums.get(row, 0.0) + a * x
+                self.sizes[row] = max(self.sizes.get(row, 0.0), abs(a) * max(1.0, abs(x)))
+                if words[0] not in self.whole:
+                    self.mixed.add(row)
         self.sides: dict[bytes, tuple[float, float]] = {}
         self.bounds: dict[bytes, tuple[float, float]] = dict.fromkeys(self.x, (0.0, INFINITE))
         self.read_rows(text[text.index(b"\nROWS\n") + 6:start - 9])
@@ -87,25 +99,32 @@ class Activities:
             hi = INFINITE
         self.bounds[name] = lo, hi
 
-    def most(self) -> Miss:
-        worst = NONE
+    def misses(self) -> Iterator[Miss]:
+        """Of all rows and bounds. A bound is its own largest term, and 0 is measured by 1."""
         for name, (lo, hi) in self.sides.items():
             if name != b"obj":
-                at = self.sums.get(name, 0.0)
-                worst = max(worst, missed(name, at, lo, hi, self.sizes.get(name, 1.0)))
+                at, size = self.sums.get(name, 0.0), self.sizes.get(name, 0.0)
+                yield missed(name, at, lo, hi, size, name not in self.mixed)
         for name, (lo, hi) in self.bounds.items():
-            worst = max(worst, missed(name, self.x[name], lo, hi, 1.0))
-        return worst
+            x = self.x[name]
+            if not lo <= x <= hi:
+                size = abs(x) if (lo if x < lo else hi) else max(1.0, abs(x))
+                yield missed(name, x, lo, hi, size, name in self.whole)
 
 
-
-def missed(name: bytes, at: float, lo: float, hi: float, size: float) -> Miss:
+def missed(name: bytes, at: float, lo: float, hi: float, size: float, is_whole: bool) -> Miss:
     by = max(lo - at, at - hi, 0.0)
     if not by:
         return NONE
-    size = max(size, *(abs(end) for end in (lo, hi) if abs(end) < INFINITE))
-    return Miss(by / size, name.decode())
+    size = max(size, abs(lo if at < lo else hi))
+    return missing(by / size, name.decode(), is_whole)
 
 
-def miss(program: Program, values: Mapping[str, str]) -> Miss:
-    return Activities(program, values).most()
+def miss(program: Program, values: Mapping[str, str], whole: Collection[str] = ()) -> Miss:
+    """The one that counts most; `whole` are the columns whose values are meant to be whole."""
+    return max(Activities(program, values, whole).misses(), default=NONE)
+
+
+def largest_share(program: Program, values: Mapping[str, str]) -> float:
+    """Of all that is missed."""
+    return max((m.share for m in Activities(program, values, ()).misses()), default=0.0)

@@ -51,6 +51,8 @@ COMMON = (
     Option("shortest", 0, int, "1: numbers of the .nl with 16 digits or more become the shortest "
                                "ones with the same double"),
     Option("solver", "", str, "path of the solver"),
+    Option("strict", 0, int, "1: what is not proved optimal, infeasible or unbounded is not "
+                             "solved (code 100, exit status 6); sets prove=1"),
     Option("timelim", 0.0, float, "seconds for the solver; 0: no limit"),
     Option("wantsol", 0, int, "without -AMPL, a sum of 1 write .sol, 2 print values, 4 print "
                               "duals, 8 no message"),
@@ -76,6 +78,7 @@ class Options:
     round: int
     shortest: int
     solver: str
+    strict: int
     timelim: float
     wantsol: int
 

@@ -57,8 +57,9 @@ class Program:
         """Whether the objective is anything but the constant 0."""
         return bool(self.costs) or self.objective_rhs != "0"
 
-    def figure(self, values: Mapping[str, str]) -> float:
-        """The objective at decimal texts, in doubles: for a message, never for a claim."""
+    def figure(self, values: Mapping[str, str] | Mapping[str, float]) -> float:
+        """The objective at doubles or decimal texts, in doubles: for a message, never for a
+        claim."""
         terms = [float(cost) * float(values[column]) for column, cost in self.costs.items()]
         return math.fsum([-float(self.objective_rhs)] + terms)
 

@@ -75,7 +75,7 @@ class BridgeCmd(pulp.LpSolver_CMD):
         lp.assignConsPi(dict(zip(lp.constraints, answer.duals)))
         if answer.costs is not None:
             lp.assignVarsDj({name: answer.costs.get(j, 0.0) for j, name in enumerate(names)})
-        return self.assigned(lp, *statuses_of(answer.code))
+        return self.assigned(lp, *statuses_of(answer.code, answer.message.split("\n")[-1]))
 
     def assigned(self, lp: pulp.LpProblem, status: int, solution: int) -> int:
         if self.msg and status == pulp.LpStatusInfeasible and self.message.startswith("inf"):
@@ -193,11 +193,13 @@ def reduced_costs(lines: Sequence[str]) -> dict[int, float] | None:
     return None
 
 
-def statuses_of(code: int) -> tuple[int, int]:
-    """PuLP's status of the problem and of its solution. A point that a limit left is feasible and
-    no more; one that misses its rows is none."""
+def statuses_of(code: int, last: str = "") -> tuple[int, int]:
+    """PuLP's status of the problem and of its solution. A point that a limit left, or that the
+    message's last line calls feasible, is that and no more; one that misses its rows is none."""
     if code < 100:
         return pulp.LpStatusOptimal, pulp.LpSolutionOptimal
+    if code < 200 and last.split(" ")[0] in ("feasible", "within", "optimal"):
+        return pulp.LpStatusNotSolved, pulp.LpSolutionIntegerFeasible
     if code < 200:
         return pulp.LpStatusNotSolved, pulp.LpSolutionNoSolutionFound
     if code < 290:

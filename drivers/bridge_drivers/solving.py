@@ -13,28 +13,29 @@ from .certificates import Certifier, remove_older
 from .certify.claims import WITHOUT, Verdict
 from .codes import Code, Failure, Status
 from .job import Clock, Job
-from .miss import NONE, Miss, miss
+from .miss import NONE, Miss, largest_share, miss, missing
 from .nl import BadFile, prepared
 from .options import Options
 from .program import Program
+from .settled import is_final, settled
 from .solvers.base import Outcome, Solver, Unclear
 from .values import BadValue
 
 
 ROUNDING = 1e-15            # of the largest term: less is not told by doubles
-FAR = 1e-6                  # between objectives that are not the same
 
 
 @dataclass
 class Result:
     """A message, its .sol (None: one without values is to be made), what wantsol prints, and the
-    figures of a certificate."""
+    figures of a certificate. `is_final`: it is what strict=1 wants, or that is not asked for."""
 
     code: Code
     lines: list[str]
     sol: bytes | None = None
     answer: Answer | None = None
     figures: str = ""
+    is_final: bool = True
 
 
 class Solving:
@@ -158,25 +159,28 @@ class Solving:
     def missed(self, program: Program, answer: Answer) -> Miss:
         assert answer.values is not None
         if answer.apart:
-            return Miss(answer.most_apart, "a whole number")
-        return miss(program, answer.values)
+            return missing(answer.most_apart, "a whole number")
+        return miss(program, answer.values, answer.whole)
 
     # the message -------------------------------------------------------------------
 
-    def headline(self, job: Job, outcome: Outcome, answer: Answer) -> str:
-        text = f"{self.solver.named(job.log)}: {outcome.text}"
+    def headline(self, job: Job, answer: Answer, text: str | None = None) -> str:
+        """What is told first: the solver's words, or others that what was proved puts in their
+        place."""
+        title = self.solver.named(job.log)
+        line = f"{title}: {answer.outcome.text}" if text is None else f"{title}, corrected: {text}"
         figure = answer.objective()
         if figure is not None:
-            text += f"; objective {figure}"
+            line += f"; objective {figure}"
         if job.program.whole and self.options.relax:
-            text += " (integer variables relaxed)"
-        return text
+            line += " (integer variables relaxed)"
+        return line
 
     def told(self, job: Job, nl: str, outcome: Outcome, answer: Answer, missed: Miss,
              notes: list[str]) -> Result:
         """The .sol by `bridge return`, with a message whose last line is the verdict."""
         certifier = Certifier(self.bridge, nl, job, self.nl[:-3])
-        lines = [self.headline(job, outcome, answer), *notes, *outcome.notes]
+        lines = [*notes, *outcome.notes]
         far = self.solver.far_note(job.program)
         lines += [far] if far else []
         if missed.is_much():
@@ -184,17 +188,20 @@ class Solving:
                          "of the largest term")
         try:
             answer, sol = self.returned(certifier, answer, lines)
-            verdict = self.verdict(certifier, outcome, answer, sol)
+            verdict = self.verdict(certifier, answer, sol)
             if verdict.contradicted and outcome.code == Code.SOLVED:
                 other = self.in_another_way(job, outcome)
                 if other is not None:
                     return self.told(job, nl, *other, notes)
-                outcome = replace(outcome, code=Code.UNSURE)
-                answer = Answer(job.program, outcome, self.options)
-                answer, sol = self.returned(certifier, answer, lines)
-            code, moved = self.moved(outcome, answer, verdict, lines)
-            if moved is not answer:
-                answer, sol = self.returned(certifier, moved, lines)
+                answer = answer.with_code(Code.UNSURE)
+            found = settled(answer, verdict, bool(self.options.strict))
+            if found.text is not None:
+                own = self.headline(job, answer).partition(": ")[2]
+                lines.insert(0, f"its own answer: {own}")
+            if found.kind:
+                lines.append(f"{found.kind} point was found; objective {found.answer.objective()}")
+            if found.answer is not answer or answer.outcome.code != outcome.code:
+                answer, sol = self.returned(certifier, found.answer, lines)
             if self.options.check and answer.values is not None:
                 told = certifier.checked(answer)
                 if told.endswith(" is broken"):
@@ -205,9 +212,9 @@ class Solving:
         if self.options.outlev and verdict.figures:
             print(f"certificate: {verdict.figures}", flush=True)
         fault_line = certifier.kept(verdict)
-        last = [fault_line] if fault_line else []
-        return Result(code, lines + answer.notes() + last + [verdict.line], sol, answer,
-                      verdict.figures)
+        last = [*answer.notes(), *([fault_line] if fault_line else []), verdict.line]
+        return Result(found.code, [self.headline(job, answer, found.text), *lines, *last], sol,
+                      answer, verdict.figures, not self.options.strict or is_final(verdict))
 
     def returned(self, certifier: Certifier, answer: Answer,
                  lines: list[str]) -> tuple[Answer, bytes]:
@@ -221,13 +228,12 @@ class Solving:
         answer = answer.without_duals()
         return answer, certifier.returned(answer, lines)
 
-    def verdict(self, certifier: Certifier, outcome: Outcome, answer: Answer,
-                sol: bytes) -> Verdict:
+    def verdict(self, certifier: Certifier, answer: Answer, sol: bytes) -> Verdict:
         """What is proved. A fault of the search leaves the answer as it stands."""
         if not self.options.check:
             return Verdict(WITHOUT + "check=0")
         try:
-            return certifier.verdict(outcome, answer, sol)
+            return certifier.verdict(answer, sol)
         except OSError as fault:
             return Verdict(f"{WITHOUT}{fault.filename}: {fault.strerror}")
         except (ArithmeticError, AssertionError, LookupError, TypeError, ValueError) as fault:
@@ -235,46 +241,11 @@ class Solving:
                 raise
             return Verdict(f"{WITHOUT}a fault of the driver: {fault!r}")
 
-    def moved(self, outcome: Outcome, answer: Answer, verdict: Verdict,
-              lines: list[str]) -> tuple[Code, Answer]:
-        """The answer at the point that was proved, and the code that it has."""
-        if verdict.point is None or not verdict.is_proved() or outcome.code == Code.UNBOUNDED:
-            return outcome.code, answer
-        values = {f"x{j}": value for j, value in enumerate(verdict.point)}
-        if "z" in answer.program.columns and verdict.value is not None:
-            values["z"] = verdict.value
-        code = outcome.code
-        if verdict.line.startswith("optimal"):
-            code = Code.SOLVED
-        elif code in (Code.INFEASIBLE, Code.INFEASIBLE_OR_UNBOUNDED):
-            code = Code.UNSURE
-        duals = {f"c{i}": y for i, y in verdict.duals.items()
-                 if f"c{i}" in answer.program.kinds}
-        moved = answer.at(values, duals if code == Code.SOLVED else {}, code)
-        kind = self.another(answer, moved)
-        if kind:
-            lines.append(f"{kind} point was found; objective {moved.objective()}")
-            if code == Code.SOLVED and not verdict.line.startswith("optimal"):
-                return Code.UNSURE, answer.at(values, {}, Code.UNSURE)
-        return code, moved
-
-    @staticmethod
-    def another(answer: Answer, moved: Answer) -> str:
-        """What the point that was proved is beside the answer; nothing where the objective is the
-        same."""
-        assert moved.values is not None
-        if answer.values is None:
-            return "a"
-        old, new = (answer.program.figure(values) for values in (answer.values, moved.values))
-        if not is_apart(old, new):
-            return ""
-        return "a better" if (new > old) == answer.program.maximise else "another"
-
     @staticmethod
     def broken(answer: Answer) -> str:
         """By how much the written values miss the model at most."""
         assert answer.values is not None
-        share = max(miss(answer.program, answer.values).share, ROUNDING)
+        share = max(largest_share(answer.program, answer.values), ROUNDING)
         return f"; no row or bound is missed by more than {share:.2g} of its largest term"
 
 
@@ -282,7 +253,3 @@ def keep_model(path: str, kept: str) -> None:
     """The model as it is judged: MiniZinc, for one, removes its file."""
     if path != kept and not (os.path.exists(kept) and os.path.samefile(path, kept)):
         shutil.copyfile(path, kept)
-
-
-def is_apart(one: float, other: float) -> bool:
-    return abs(one - other) > FAR * max(1.0, abs(one), abs(other))

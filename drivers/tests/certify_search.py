@@ -11,6 +11,7 @@ import random
 import signal
 import subprocess
 import sys
+import time
 from fractions import Fraction as F
 from unittest import mock
 
@@ -118,18 +119,20 @@ class Models(Certified):
             self.assertEqual(verdict.line, "unbounded", name)
 
     def test_one_leaf(self) -> None:
-        """Without a search: what one leaf proves, else that the point is feasible; a bound where
-        it is wanted; the bound of a relaxation."""
-        for name, x, line in (("knap", (1, 1, 0), "feasible 17"),
+        """In the second that a run without `prove` has: what is optimal, else that the point is
+        feasible; a bound where it is wanted; the bound of a relaxation."""
+        for name, x, line in (("knap", (1, 1, 0), "optimal 17"), ("knap", (0, 1, 0), "optimal 17"),
                               ("at_bound", (1, 1, 2), "optimal 2"),
                               ("at_bound", (1, 0, 1), "optimal 2"),
-                              ("at_bound", (1, 1, 1), "not proved: no exact point has the answer's "
-                                                      "whole variables")):
-            verdict = certified(self.work(CLAIMED[name].text, False), "point", Given(x))
+                              ("at_bound", (1, 1, 1), "optimal 2")):
+            work = self.work(CLAIMED[name].text, False)
+            verdict = certified(work, "point", Given(x))
             self.assertEqual(verdict.line, line)
         given = Given([F(1), F(1), F(0)])
-        verdict = certified(self.work(CLAIMED["knap"].text, False, bounds=True), "point", given)
-        self.assertEqual(verdict.line, "within 19 17")
+        with mock.patch("bridge_drivers.certify.search.MOST_DEPTH", -1):
+            for bounds, line in ((False, "feasible 17"), (True, "within 19 17")):
+                work = self.work(CLAIMED["knap"].text, False, bounds=bounds)
+                self.assertEqual(certified(work, "point", given).line, line)
         verdict = certified(self.work(CLAIMED["knap"].text, relaxed=True), "point", given)
         self.assertEqual(f"{float(F(verdict.line.split()[1])):.4f}", "19.2308")
         self.assertTrue(verdict.line.startswith("bound "))
@@ -220,6 +223,47 @@ class Limits(Certified):
         with mock.patch.object(Search, "look", looking):
             verdict = certified(work, "point", Given(optimum))
         self.assertRegex(verdict.line, r"^within \d+ 14$")
+
+    def test_a_step_that_never_looks_at_the_clock(self) -> None:
+        """It is ended, and what is known then is judged: all within a tenth and 5 s."""
+        def endless(*words: object) -> None:
+            while True:
+                time.sleep(0.01)
+        knap = CLAIMED["knap"].text
+        for part, claim, given, made, lines in (
+                ("bridge_drivers.certify.claims.parity", "infeasible", None, knap,
+                 "not proved: time"),
+                ("bridge_drivers.certify.search.Search.run", "point", [F(1), F(1), F(0)], knap,
+                 r"within \S+ 17"),
+                ("bridge_drivers.certify.plans.Plans.bounded", "point", [F(1), F(1), F(0)], knap,
+                 "optimal 17")):
+            work = self.work(made)
+            work.watch = Watch(1.0)
+            start = time.monotonic()
+            with mock.patch(part, endless):
+                verdict = certified(work, claim, Given(given))
+            self.assertLess(time.monotonic() - start, 1.1 + 5.5)
+            self.assertRegex(verdict.line, f"^{lines}$", part)
+            self.assertEqual(signal.getitimer(signal.ITIMER_REAL), (0.0, 0.0))
+
+    def test_seconds_of_a_verdict(self) -> None:
+        """Never past the end, which loading does not put off."""
+        for seconds in (1.0, 60.0):
+            watch = Watch(seconds)
+            for after in (0.0, seconds, seconds + 2, seconds * 2 + 9):
+                with mock.patch("time.monotonic", lambda: watch.started + after):
+                    watch.restart()
+                    left = max(seconds * 1.1 + 5 - after, 0.1)
+                    self.assertAlmostEqual(watch.for_verdict(), left)
+                    self.assertLessEqual(watch.until_over(), seconds * 1.1 + 5 - after)
+
+    def test_a_tree_that_is_too_deep(self) -> None:
+        """The point stays, with the bound of the relaxation."""
+        work = self.work(CLAIMED["eqknap"].text)
+        with mock.patch("bridge_drivers.certify.search.MOST_DEPTH", -1), \
+                mock.patch.object(Search, "best_bound", lambda *_: None):
+            verdict = certified(work, "point", Given([F(2), F(7), F(5)]))
+        self.assertRegex(verdict.line, r"^within \S+ 14$")
 
     def test_late_verdict(self) -> None:
         work = self.work(CLAIMED["knap"].text)

@@ -10,19 +10,14 @@ import subprocess
 import sys
 import time
 
-from support import HERE, NEEDS_PROGRAM, Case, Ended
+from support import BIN, HERE, NEEDS_PROGRAM, Case, Ended, driven
 from models import MODELS
-
-BIN = os.path.join(HERE, "..", "bin")
 
 
 @NEEDS_PROGRAM
 class Processes(Case):
     def drive(self, driver: str, *words: str, place: str = BIN, **environment: str) -> Ended:
-        ran = subprocess.run([sys.executable, os.path.join(place, "bridge-" + driver), *words],
-                             stdin=subprocess.DEVNULL, capture_output=True, text=True,
-                             env={**os.environ, **environment})
-        return Ended(ran.returncode, ran.stdout, ran.stderr)
+        return driven(driver, *words, place=place, **environment)
 
     def script(self, name: str, text: str) -> str:
         path = os.path.join(self.folder, name)

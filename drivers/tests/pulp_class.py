@@ -141,6 +141,11 @@ class Manners(unittest.TestCase):
                           "threads=3", "relax=1", "prove=1"])
 
     def test_statuses(self) -> None:
+        for last, solution in (("feasible 3", pulp.LpSolutionIntegerFeasible),
+                               ("within 2 3", pulp.LpSolutionIntegerFeasible),
+                               ("not proved: time", pulp.LpSolutionNoSolutionFound),
+                               ("bound 3", pulp.LpSolutionNoSolutionFound)):
+            self.assertEqual(pulp_solver.statuses_of(100, last), (pulp.LpStatusNotSolved, solution))
         told = {code: pulp.LpStatus[pulp_solver.statuses_of(code)[0]]
                 for code in (0, 100, 200, 290, 300, 400, 450)}
         self.assertEqual(told, {0: "Optimal", 100: "Not Solved", 200: "Infeasible",

@@ -5,6 +5,7 @@ from __future__ import annotations
 import math
 import os
 import shutil
+import time
 from fractions import Fraction
 from typing import Callable, Iterator, List, Mapping, NamedTuple, Sequence
 
@@ -15,22 +16,25 @@ from .equations import parity
 from .leaves import Closed, Closer
 from .model import Added, Box, Model, Point, Unfit, factors
 from .numbers import is_narrow
-from .plans import MOST_THIN, PLAIN, SHORT, Plans, written
+from .plans import MOST_THIN, PLAIN, SHORT, Plans, Shaped, written
 from .points import Basis
 from .search import Better, Goal, Search
 from .text import Naming
 from .tree import Spool, Tree, count
-from .watch import Stopped, Watch
+from .watch import KEPT, Over, Stopped, Watch
 from ..bridge import Bridge, Late, Refused
 from ..nl import header
 from ..program import Program
 
 WITHOUT = "not proved: "
-MOST_BETTER = 6                 # points that a search may find
+NO_EXACT = "no exact point has the answer's whole variables"
+ROUNDING = Fraction(1, 10 ** 12)        # of the largest term of a row
+MOST_BETTER = 100               # points that a search may find
 ONE_LEAF = 1.0                  # seconds for it
 LOOSER = (1e-9, 1e-7, 1e-5, 1e-3)       # of a value: what a bound may lie away
 SAFER = (1e-9, 1e-7, 1e-5)              # of the greatest cost: room for rounding
 MOST_CLP_SECONDS = 30.0
+TREE = 0.75                     # of the seconds that are left, to judge a tree
 
 
 class Given(NamedTuple):
@@ -59,6 +63,14 @@ class Verdict(NamedTuple):
     def is_proved(self) -> bool:
         return self.path is not None
 
+    def claim(self) -> str:
+        """The first word of a line that is proved, nothing of another one."""
+        return self.line.split()[0] if self.is_proved() else ""
+
+    def bound(self) -> Fraction:
+        """That of `bound` and `within`."""
+        return Fraction(self.line.split()[1])
+
 
 class Contradiction(NamedTuple):
     """A tree of weights: the program with the forms that it splits, and its leaves' file."""
@@ -80,6 +92,8 @@ class Certifying:
         self.bridge, self.nl, self.folder, self.objective = bridge, nl, folder, objective
         self.watch, self.proves, self.relaxed, self.bounded = watch, proves, relaxed, bounds
         self.program, self.figures = program, ""
+        self.point: Point | None = None         # the best that is known
+        self.plans: Plans | None = None
         self.path = os.path.join(folder, "certificate")
 
     def load(self) -> None:
@@ -89,6 +103,7 @@ class Certifying:
         self.linear = not any(self.model.whole)
         if not self.proves:
             self.watch.restart()
+            Clp.until = time.monotonic() + self.watch.until_over()
 
     # the text and its verdict ------------------------------------------------------
 
@@ -99,9 +114,10 @@ class Certifying:
         if tree is not None:
             with open(self.path, "ab") as f, open(tree, "rb") as source:
                 shutil.copyfileobj(source, f)
-        self.bridge.limit = self.watch.for_verdict()
+        self.bridge.limit = self.watch.for_verdict(1.0 if tree is None else TREE)
         try:
-            reply = self.bridge.call("verify", self.nl, self.path)
+            with self.watch.judging():
+                reply = self.bridge.call("verify", self.nl, self.path)
         except Late:
             return Verdict(WITHOUT + "time: bridge verify was ended before its verdict", point)
         finally:
@@ -152,14 +168,26 @@ class Certifying:
         point = self.exact(given.values)
         if point is not None:
             return self.best(self.whole_optimum(point))
-        verdict = Verdict(WITHOUT + "no exact point has the answer's whole variables")
-        if self.proves:         # whatever the search finds
-            verdict = self.best(self.infeasible())
-        if verdict.is_proved():
-            return verdict
+        return self.without_exact(given.values)
+
+    def without_exact(self, x: Sequence[float | Fraction]) -> Verdict:
+        """Where no exact point has the answer's whole variables: a contradiction, or whatever the
+        search finds. An answer that breaks rows by rounding alone is meant, and stands: only with
+        `proves` more is tried, and no worse point takes its place."""
+        p, verdict = self.model, Verdict(WITHOUT + NO_EXACT)
+        by = points.broken(p, x)
+        if 0 < by <= ROUNDING:
+            verdict = Verdict(f"{WITHOUT}rows of whole variables are missed by {float(by):.2g} of "
+                              "their largest term, which is rounding")
         seconds = min(max(self.watch.left(), ONE_LEAF), MOST_CLP_SECONDS)
-        return verdict._replace(contradicted=points.is_contradicted(self.model, given.values,
-                                                                    seconds))
+        contradicted = by > ROUNDING or points.is_contradicted(p, x, seconds)
+        if self.proves or contradicted or not by:
+            found = self.best(self.infeasible())
+            is_worse = found.point is not None and found.claim() != "optimal" and \
+                p.value(found.point) > p.value([Fraction(v) for v in x])
+            if found.is_proved() and (contradicted or not is_worse):
+                return found
+        return verdict._replace(contradicted=contradicted)
 
     def of_nothing(self, given: Given = Given()) -> Verdict:
         """A bound, where there is no point."""
@@ -189,14 +217,19 @@ class Certifying:
             if point in found:
                 continue
             found.append(point)
+            self.point = min(found, key=p.value)
             leaf = self.linear_leaf(clp, given, p.value(point))
             if leaf is not None:
                 yield self.one_leaf(leaf, "optimal", None, point)
+        if state is State.UNBOUNDED:
+            yield self.unbounded(given)
+        if not found:
+            yield Verdict(WITHOUT + "no exact point was found near the answer")
+            yield from self.infeasible()
         if clp is not None:
             yield from self.loose_bounds(clp, found)
         if found:
             yield self.feasible(found[0])
-        yield Verdict(WITHOUT + "no exact point was found near the answer")
 
     def linear_points(self, given: Given, clp: Clp | None) -> Iterator[Point]:
         """Near the answer, then the vertex of its basis, then of CLP's; narrow ones alone."""
@@ -280,6 +313,7 @@ class Certifying:
         p = self.model
         for _ in range(MOST_BETTER):
             plans = Plans(p, p.value(point), self.exact, self.folder, self.watch)
+            self.point, self.plans = point, plans
             try:
                 self.planned(plans)
                 break
@@ -291,10 +325,7 @@ class Certifying:
         else:
             yield self.feasible(point)
         if plans.best is not None:
-            self.figures = f"{plans.best.name} plan, {plans.best.figures.nodes} nodes, " \
-                           f"{plans.best.figures.rows} rows, {plans.best.size} bytes"
-            yield self.judged(text.head("optimal", self.objective, None, point),
-                              plans.best.path, point)
+            yield self.by_tree(plans.best, point)
         if self.proves or self.bounded:
             bounded = plans.bounded()
             if bounded is not None:
@@ -302,8 +333,35 @@ class Certifying:
                 self.figures = "; ".join(plans.told)
                 yield self.judged(text.head("within", self.objective, p.sign * value, point),
                                   path, point)
+            yield from self.root_bound(point)
         yield self.feasible(point)
         yield Verdict(WITHOUT + (plans.told[-1] if plans.told else "no plan was tried"), point)
+
+    def by_tree(self, shaped: Shaped, point: Point) -> Verdict:
+        self.figures = f"{shaped.name} plan, {shaped.figures.nodes} nodes, " \
+                       f"{shaped.figures.rows} rows, {shaped.size} bytes"
+        return self.judged(text.head("optimal", self.objective, None, point), shaped.path, point)
+
+    def root_bound(self, point: Point) -> Iterator[Verdict]:
+        """The bound of the relaxation, where a search leaves none."""
+        clp, state = self.relaxation()
+        if clp is not None and state is State.OPTIMAL:
+            yield from (v for v in self.loose_bounds(clp, [point]) if v.claim() == "within")
+
+    def known(self) -> Iterator[Verdict]:
+        """What there is where the time is over: a tree, the best point, the relaxation's bound."""
+        point = self.point
+        if point is not None and self.plans is not None and self.plans.best is not None:
+            yield self.by_tree(self.plans.best, point)
+        if point is not None and (self.proves or self.bounded):
+            try:
+                with self.watch.alarmed(self.watch.to_end() - KEPT):
+                    yield from self.root_bound(point)
+            except Over:
+                self.watch.disarm()
+        if point is not None:
+            yield self.feasible(point)
+        yield Verdict(WITHOUT + ("interrupted" if self.watch.is_stopped else "time"))
 
     def planned(self, plans: Plans) -> None:
         if not any(self.model.costs):
@@ -311,7 +369,7 @@ class Certifying:
         elif self.proves:
             plans.try_all()
         else:
-            plans.run("plain", [], ONE_LEAF, most=1)
+            plans.run("plain", [], ONE_LEAF)
 
     def exact(self, x: Sequence[float | Fraction]) -> Point | None:
         seconds = min(max(self.watch.left(), ONE_LEAF), MOST_CLP_SECONDS)
@@ -344,7 +402,7 @@ class Certifying:
         except (NoClp, Stopped) as fault:
             yield Verdict(f"{WITHOUT}{fault}")
         except Better as better:
-            if self.proves and not self.linear:
+            if not self.linear:
                 yield from self.whole_optimum(better.point)
             yield self.feasible(better.point)
 
@@ -352,7 +410,7 @@ class Certifying:
         """A tree whose leaves are all weights: one that splits thin forms too where it is the
         shorter one."""
         p = self.model
-        left = self.watch.left() if self.proves else ONE_LEAF
+        left = self.watch.left()
         small = self.proves and all(p.whole) and sum(p.whole) <= MOST_THIN
         forms = directions(p) if small else []
         if not forms:
@@ -400,7 +458,7 @@ class Certifying:
         if self.linear:
             clp = p.relaxation()
             return points.any_point(p, clp) if clp.solve() is State.OPTIMAL else None
-        seconds = self.watch.left() if self.proves else ONE_LEAF
+        seconds = self.watch.left()
         try:
             Search(p, Goal(None, False, self.exact), Spool(), self.watch,
                    self.watch.spent() + seconds).run()
@@ -423,10 +481,20 @@ def certified(work: Certifying, claim: str, given: Given = Given()) -> Verdict:
     calls: dict[str, Callable[[Given], Verdict]] = {
         "point": work.of_point, "infeasible": work.of_infeasible, "nothing": work.of_nothing,
         "unbounded": work.of_unbounded, "either": work.of_either}
+    watch = work.watch
+    Clp.until = time.monotonic() + watch.until_over()
     try:
-        with work.watch.interruptible():
-            return calls[claim](given)
+        with watch.interruptible():
+            try:
+                with watch.alarmed(watch.until_over()):
+                    return calls[claim](given)
+            except Over:
+                watch.disarm()
+                Clp.until = time.monotonic() + watch.to_end() - KEPT
+                return work.best(work.known())
     except Refused as fault:
         return Verdict(WITHOUT + fault.line())
-    except (Unfit, NoClp, Stopped) as fault:
+    except (Unfit, NoClp, Stopped, Over) as fault:
         return Verdict(WITHOUT + str(fault))
+    finally:
+        Clp.until = math.inf

@@ -5,10 +5,13 @@ from __future__ import annotations
 import ctypes
 import ctypes.util
 import enum
+import math
+import time
 from typing import Any, NamedTuple, Optional, Sequence
 
 INFINITE = 1.7976931348623157e308       # COIN's own
 STATUS_BITS, STATUS_BASIC = 7, 1
+SMALL = 1e-3                            # numbers that are scaled
 ITERATIONS = 100_000                    # of one relaxation
 NAMES = ("libClp.so.1", "libClp.so", "libClp.1.dylib", "libClp.dylib")
 End = Optional[float]
@@ -41,6 +44,35 @@ class State(enum.Enum):
     INFEASIBLE = 1
     UNBOUNDED = 2
     OTHER = 3
+
+
+class Scaled(NamedTuple):
+    """By how much a program's columns, rows and costs are made greater: tolerances are of fixed
+    size, and hide what small numbers say."""
+
+    columns: list[float]
+    rows: list[float]
+    cost: float
+
+    @classmethod
+    def of(cls, linear: Linear) -> Scaled:
+        """Powers of two, where both bounds of a column, all coefficients of a row or all costs are
+        small."""
+        ends = ([abs(end) for end in pair if end] for pair in zip(linear.lo, linear.hi))
+        columns = [enlarging(max(sizes, default=1.0)) if None not in (lo, hi) else 1.0
+                   for sizes, lo, hi in zip(ends, linear.lo, linear.hi)]
+        most = [0.0] * len(linear.sides)
+        for column, by in zip(linear.columns, columns):
+            for i, a in column:
+                most[i] = max(most[i], abs(a) / by)
+        costs = [abs(c) / by for c, by in zip(linear.cost, columns)]
+        return cls(columns, [enlarging(size) for size in most],
+                   enlarging(max(costs, default=0.0)))
+
+
+def enlarging(size: float) -> float:
+    """The power of two that makes a small number about 1."""
+    return 2.0 ** -math.frexp(size)[1] if 0 < size < SMALL else 1.0
 
 
 class Linear(NamedTuple):
@@ -79,12 +111,12 @@ def doubles(values: Sequence[float]) -> Any:
     return (D * max(len(values), 1))(*values)
 
 
-def low(values: Sequence[End]) -> Any:
-    return doubles([-INFINITE if v is None else v for v in values])
+def low(values: Sequence[End], by: Sequence[float]) -> Any:
+    return doubles([-INFINITE if v is None else v * b for v, b in zip(values, by)])
 
 
-def high(values: Sequence[End]) -> Any:
-    return doubles([INFINITE if v is None else v for v in values])
+def high(values: Sequence[End], by: Sequence[float]) -> Any:
+    return doubles([INFINITE if v is None else v * b for v, b in zip(values, by)])
 
 
 def read(place: int, count: int) -> list[float]:
@@ -92,7 +124,11 @@ def read(place: int, count: int) -> list[float]:
 
 
 class Clp:
-    """A relaxation whose bounds and sides change. What it answers is of the last `solve`."""
+    """A relaxation whose bounds and sides change. What it answers is of the last `solve`. No solve
+    of any goes on after `until`, a time of the monotonic clock."""
+
+    until = math.inf
+    seconds = math.inf
 
     def __init__(self, linear: Linear) -> None:
         lib = library()
@@ -100,20 +136,22 @@ class Clp:
             raise NoClp("CLP's library (coinor-libclp1) is not installed")
         self.lib, self.model = lib, lib.Clp_newModel()
         self.n, self.m = len(linear.columns), len(linear.sides)
+        self.scaled = scaled = Scaled.of(linear)
         starts, index, value = [0], [], []
-        for column in linear.columns:
+        for column, by in zip(linear.columns, scaled.columns):
             for i, a in column:
                 index.append(i)
-                value.append(a)
+                value.append(a / by * scaled.rows[i])
             starts.append(len(index))
-        self.lo, self.hi = low(linear.lo), high(linear.hi)
-        self.side_lo = low([a for a, _ in linear.sides])
-        self.side_hi = high([b for _, b in linear.sides])
+        self.lo, self.hi = low(linear.lo, scaled.columns), high(linear.hi, scaled.columns)
+        self.side_lo = low([a for a, _ in linear.sides], scaled.rows)
+        self.side_hi = high([b for _, b in linear.sides], scaled.rows)
+        costs = [c / by * scaled.cost for c, by in zip(linear.cost, scaled.columns)]
         ints = (I * len(starts))(*starts), (I * max(len(index), 1))(*index)
         lib.Clp_setLogLevel(self.model, 0)
         lib.Clp_setSmallElementValue(self.model, 0.0)
         lib.Clp_loadProblem(self.model, self.n, self.m, *ints, doubles(value), self.lo, self.hi,
-                            doubles(linear.cost), self.side_lo, self.side_hi)
+                            doubles(costs), self.side_lo, self.side_hi)
 
     def __del__(self) -> None:
         if getattr(self, "model", None):
@@ -122,19 +160,21 @@ class Clp:
 
     def limit(self, seconds: float) -> None:
         """Of each solve from here on."""
-        self.lib.Clp_setMaximumSeconds(self.model, seconds)
+        self.seconds = seconds
 
     def tighten(self, tolerance: float) -> None:
         """By how much rows and bounds may be missed."""
         self.lib.Clp_setPrimalTolerance(self.model, tolerance)
 
     def bound(self, column: int, lo: End, hi: End) -> None:
-        self.lo[column] = -INFINITE if lo is None else lo
-        self.hi[column] = INFINITE if hi is None else hi
+        by = self.scaled.columns[column]
+        self.lo[column] = -INFINITE if lo is None else lo * by
+        self.hi[column] = INFINITE if hi is None else hi * by
 
     def side(self, row: int, lo: End, hi: End) -> None:
-        self.side_lo[row] = -INFINITE if lo is None else lo
-        self.side_hi[row] = INFINITE if hi is None else hi
+        by = self.scaled.rows[row]
+        self.side_lo[row] = -INFINITE if lo is None else lo * by
+        self.side_hi[row] = INFINITE if hi is None else hi * by
 
     def solve(self, most: int = ITERATIONS, again: bool = False) -> State:
         """`most` iterations; `again`: by the other simplex method, where one failed."""
@@ -146,18 +186,22 @@ class Clp:
             lib.Clp_chgRowUpper(model, self.side_hi)
         lib.Clp_setNumberIterations(model, 0)
         lib.Clp_setMaximumIterations(model, most)
+        seconds = min(self.seconds, self.until - time.monotonic())
+        lib.Clp_setMaximumSeconds(model, max(seconds, 0.0) if seconds < math.inf else -1.0)
         (lib.Clp_primal if again else lib.Clp_dual)(model, 0)
         status = lib.Clp_status(model)
         return State(status) if status in (0, 1, 2) else State.OTHER
 
     def objective(self) -> float:
-        return float(self.lib.Clp_objectiveValue(self.model))
+        return float(self.lib.Clp_objectiveValue(self.model)) / self.scaled.cost
 
     def values(self) -> list[float]:
-        return read(self.lib.Clp_primalColumnSolution(self.model), self.n)
+        found = read(self.lib.Clp_primalColumnSolution(self.model), self.n)
+        return [x / by for x, by in zip(found, self.scaled.columns)]
 
     def duals(self) -> list[float]:
-        return read(self.lib.Clp_dualRowSolution(self.model), self.m)
+        found = read(self.lib.Clp_dualRowSolution(self.model), self.m)
+        return [y * by / self.scaled.cost for y, by in zip(found, self.scaled.rows)]
 
     def ray(self) -> list[float]:
         """Weights of rows that contradict each other, in either sign; none where CLP has none."""
@@ -166,7 +210,7 @@ class Clp:
             return []
         weights = read(place, self.m)
         self.lib.Clp_freeRay(self.model, place)
-        return weights
+        return [y * by for y, by in zip(weights, self.scaled.rows)]
 
     def keep(self) -> bytes:
         """The basis, for `restore`."""

@@ -50,9 +50,10 @@ class Finding(Driver):
         super().__init__(name)
         self.name = self.clock.name = NAME
 
-    def deliver(self, result: Result) -> None:
+    def deliver(self, result: Result) -> Status:
         self.lines, self.figures = result.lines, result.figures
         print("\n".join(result.lines), file=self.stream, flush=True)
+        return Status.DONE
 
 
 class Command:

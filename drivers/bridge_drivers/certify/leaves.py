@@ -7,7 +7,7 @@ import math
 from fractions import Fraction
 from typing import Iterator, Mapping, NamedTuple, Optional, Sequence
 
-from .exact import solved
+from .exact import Equation, solved
 from .model import Box, Model
 
 TINY = 1e-11                    # smaller duals count as 0
@@ -260,12 +260,12 @@ class Closer:
     def missing_duals(self, basic: list[int], rows: list[int]) -> Optional[dict[int, Fraction]]:
         """The same for the program of phase one, whose further columns come two a row."""
         p, inside = self.model, set(rows)
-        system = []
+        system: list[Equation] = []
         for j in basic:
             if j < p.n:
                 system.append(({i: a for i, a in p.by_column[j] if i in inside}, 0))
             else:
                 i = (j - p.n) % p.m
                 one = 1 if j < p.n + p.m else -1
-                system.append(({i: 1} if i in inside else {}, one))
+                system.append(({i: p.row_unit(i)} if i in inside else {}, one))
         return solved(system)

@@ -12,7 +12,7 @@ from typing import Iterable, List, Mapping, NamedTuple, Optional, Sequence
 from ..bridge import Bridge
 from ..sections import Sections
 from ..sol import duals_of
-from .clp import Clp, Linear
+from .clp import Clp, Linear, enlarging
 
 Side = Optional[int]
 Sides = List[Optional[int]]
@@ -168,14 +168,20 @@ class Model:
         return Clp(self.linear(has_cost))
 
     def phase_one(self) -> Clp:
-        """Minimises by how much rows are missed: two more columns a row take that up."""
+        """Minimises by how much rows are missed, each in its own unit: two more columns a row take
+        that up."""
         linear, m = self.linear(False), self.m
-        missing = [[(i, one)] for one in (1.0, -1.0) for i in range(m)]
+        missing = [[(i, float(one * self.row_unit(i)))] for one in (1, -1) for i in range(m)]
         clp = Clp(Linear(linear.lo + [0.0] * (2 * m), linear.hi + [None] * (2 * m),
                          [0.0] * self.n + [1.0] * (2 * m), linear.sides,
                          linear.columns + missing))
         clp.tighten(TIGHT)
         return clp
+
+    def row_unit(self, row: int) -> Fraction:
+        """1, or the power of two near the coefficients of a row where all of them are small."""
+        most = max((abs(a) for _, a in self.rows[row]), default=0) / self.scale
+        return 1 / Fraction(enlarging(most))
 
     # points ------------------------------------------------------------------------
 

@@ -120,7 +120,7 @@ class Plans:
         """The stopped search with the best bound, while there is no tree."""
         if self.best is not None:
             return
-        pending = search.best_bound()
+        pending = search.best_bound(self.watch.spent() + (1 - RESERVE) * self.watch.seconds)
         if pending is not None and (self.partial is None
                                     or pending.bound > self.partial.pending.bound):
             self.partial = Partial(search, pending, searched, rows)

@@ -7,7 +7,7 @@ from typing import Iterator, Mapping, NamedTuple, Sequence
 
 from .clp import Clp, State, library
 from .exact import solved
-from .model import Model, Point
+from .model import Model, Point, Side
 from .numbers import is_narrow
 
 NEAR_WHOLE = 1e-3               # how far from whole numbers a point may be
@@ -135,6 +135,31 @@ def is_contradicted(model: Model, x: Sequence[float | Fraction], seconds: float)
         return False
     clp = with_fixed(model, whole_columns(model, x), seconds)
     return clp.solve() is State.INFEASIBLE and clp.solve(again=True) is State.INFEASIBLE
+
+
+def broken(model: Model, x: Sequence[float | Fraction]) -> Fraction:
+    """By what share of its largest term a row of whole columns, or a bound of one, is missed most
+    at the whole columns of x."""
+    p, fixed = model, whole_columns(model, x)
+    most = max((miss(v * p.unit, p.lo[j], p.hi[j], Fraction(p.unit)) for j, v in fixed.items()),
+               default=ZERO)
+    share = Fraction(p.unit, p.scale)
+    for row, lo, hi in zip(p.rows, p.side_lo, p.side_hi):
+        if all(p.whole[j] for j, _ in row):
+            at = sum((a * fixed[j] for j, a in row), ZERO) * share
+            size = max((abs(a) * max(abs(fixed[j]), ONE) for j, a in row), default=ONE) * share
+            most = max(most, miss(at, lo, hi, size))
+    return most
+
+
+def miss(at: Fraction, lo: Side, hi: Side, size: Fraction) -> Fraction:
+    """What a value misses its sides by, as a share of the side or of that size."""
+    by = [lo - at if lo is not None else ZERO, at - hi if hi is not None else ZERO]
+    if max(by) <= 0:
+        return ZERO
+    end = lo if by[0] > 0 else hi
+    assert end is not None
+    return max(by) / max(size, abs(at), Fraction(abs(end)))
 
 
 def any_point(model: Model, clp: Clp) -> Point | None:

@@ -15,14 +15,16 @@ from typing import Callable, Iterator, NamedTuple, Sequence
 from . import tree as trees
 from .choice import Choice
 from .clp import Clp, State
-from .leaves import Closed, Closer
-from .model import Box, Model, Point, Side
+from .leaves import Closed, Closer, Multipliers
+from .model import TIGHT, Box, Model, Point, Side
 from .tree import Cut, Empty, Leaf, Split, Spool, Tree
 from .watch import Stopped, Watch
 
 NEAR = 1e-6                     # of a whole number: not split first
 CLOSE = 1e-7                    # of the goal: a leaf is tried
 FEASIBLE = 1e-9                 # by how much rows may be missed
+LEAST = 1e-14                   # the same where nothing else is left to try
+MOST_LOOKED_AT = 10 ** 6        # rows times columns
 MOST_NODES = 2 ** 22            # of `bridge verify`
 MOST_DEPTH = 3000
 STRONG = 16
@@ -270,9 +272,14 @@ class Search:
         if done is not None:
             return done
         unfixed = self.unfixed(apart)
-        if unfixed is None:
+        if unfixed is not None:
+            return self.branch(unfixed, x[unfixed], 0, base)
+        if state is not State.OPTIMAL:      # nor is what CLP calls infeasible
+            self.compare(x)
+        done = self.by_row() or self.by_missing(LEAST)
+        if done is None:
             raise Stopped("a leaf does not close")
-        return self.branch(unfixed, x[unfixed], 0, base)
+        return done
 
     def compare(self, x: Sequence[float]) -> None:
         """Better where the exact point there should not be."""
@@ -344,15 +351,30 @@ class Search:
                 return self.leaf(closed)
         return self.by_missing()
 
-    def by_missing(self) -> Done | None:
-        """With the duals of the program that minimises by how much rows are missed."""
+    def by_row(self) -> Done | None:
+        """With one row that the bounds of its columns contradict."""
+        p = self.model
+        if p.m * p.n > MOST_LOOKED_AT:
+            return None
+        for i, lo, hi in zip(range(p.m), p.side_lo, p.side_hi):
+            for side, one in ((lo, 1), (hi, -1)):
+                if side is not None:
+                    closed = self.closer.attempt(Multipliers({i: one}, 1, True), self.box)
+                    if closed is not None:
+                        return self.leaf(closed)
+        return None
+
+    def by_missing(self, least: float = FEASIBLE) -> Done | None:
+        """With the duals of the program that minimises by how much rows are missed, where that is
+        not less."""
         p = self.model
         clp = self.missing = self.missing or p.phase_one()
         for j in range(p.n):
             clp.bound(j, p.double(self.box.lo[j]), p.double(self.box.hi[j]))
         for i in self.forms:
             clp.side(i, p.double(p.side_lo[i]), p.double(p.side_hi[i]))
-        if clp.solve() is not State.OPTIMAL or clp.objective() < FEASIBLE:
+        clp.tighten(min(TIGHT, least))
+        if clp.solve() is not State.OPTIMAL or clp.objective() < least:
             return None
         closed = self.closer.close(dict(enumerate(clp.duals())), True, self.box)
         if closed is None:
@@ -399,9 +421,9 @@ class Search:
 
     # a bound, where the time is over -----------------------------------------------
 
-    def best_bound(self) -> Pending | None:
-        """What is not worked yet, with the bounds of its relaxations; None with forms, or where
-        a relaxation has no bound."""
+    def best_bound(self, until: float = math.inf) -> Pending | None:
+        """What is not worked yet, with the bounds of its relaxations; None with forms, where a
+        relaxation has no bound, or after `until`, in seconds of the watch."""
         if self.forms or self.aim.target is None:
             return None
         boxes: list[Unworked] = []
@@ -410,6 +432,8 @@ class Search:
             return None
         boxes.append(top)
         for b in reversed(self.open):
+            if self.watch.spent() > until:
+                return None
             self.leave(b)
             if b.parts[1 - b.part] is None:
                 self.clp.restore(b.basis)

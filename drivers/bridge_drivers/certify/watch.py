@@ -9,26 +9,37 @@ import threading
 import time
 from typing import Iterator
 
+from ..interrupts import SIGNALS
+
 EVERY = 5.0                 # seconds between lines of progress
-GRACE = 5.0                 # seconds past the limit after which `bridge verify` is ended
-LEAST = 10.0                # seconds that it has at least
+GRACE = 5.0                 # seconds past the limit and a tenth of it, when all has ended
+KEPT = 2.5                  # seconds of them, for what is known when the limit comes
+LEAST = 0.1                 # seconds that a call of `bridge verify` has
+AGAIN = 1.0                 # seconds after which a step that goes on is told once more
 
 
 class Stopped(Exception):
     """A search ended without a tree; the text says why."""
 
 
+class Over(Exception):
+    """The time of a certificate is over: it comes in the middle of whatever goes on."""
+
+
 class Watch:
-    """Of one certificate: `seconds` is the limit of all its searches, 0 for none."""
+    """Of one certificate: `seconds` is the limit of all its searches, 0 for none. All has ended a
+    tenth and 5 s after it, counted from the start."""
 
     def __init__(self, seconds: float, name: str = "bridge-certify") -> None:
         self.seconds, self.name = seconds, name
-        self.began = self.told = time.monotonic()
-        self.is_stopped = False
+        self.started = self.began = self.told = time.monotonic()
+        self.is_stopped = self.is_armed = self.is_judging = False
 
     def restart(self) -> None:
-        """The seconds count from here."""
+        """The seconds count from here, what has ended not."""
         self.began = time.monotonic()
+        if self.is_armed:
+            self.arm(self.until_over())
 
     def spent(self) -> float:
         return time.monotonic() - self.began
@@ -37,9 +48,19 @@ class Watch:
         """Seconds for searches."""
         return self.seconds - self.spent() if self.seconds else float("inf")
 
-    def for_verdict(self) -> float | None:
-        """Seconds for `bridge verify`: a tenth and 5 s more than the limit, and never below 10."""
-        return max(self.seconds * 1.1 + GRACE - self.spent(), LEAST) if self.seconds else None
+    def to_end(self) -> float:
+        """Seconds until all must have ended."""
+        if not self.seconds:
+            return float("inf")
+        return self.started + self.seconds * 1.1 + GRACE - time.monotonic()
+
+    def for_verdict(self, share: float = 1.0) -> float | None:
+        """Seconds for `bridge verify`, a share of what is left."""
+        return max(self.to_end() * share, LEAST) if self.seconds else None
+
+    def until_over(self) -> float:
+        """Seconds until Over: to the limit, with some left for what is known then."""
+        return min(self.left(), self.to_end() - KEPT)
 
     def look(self, nodes: int, until: float) -> None:
         """At each node: Stopped after the limit, after `until` (in seconds of this watch) or an
@@ -60,6 +81,45 @@ class Watch:
     def tell(self, text: str) -> None:
         print(f"{self.name}: {text}, {self.spent():.0f} s", file=sys.stderr, flush=True)
 
+    # the alarm ---------------------------------------------------------------------
+
+    @contextlib.contextmanager
+    def alarmed(self, seconds: float) -> Iterator[None]:
+        """Over where the block takes longer; not in other threads than the main one. The caller
+        disarms where it comes."""
+        if threading.current_thread() is not threading.main_thread() or seconds == float("inf"):
+            yield
+            return
+        old = signal.signal(signal.SIGALRM, self.over)
+        self.arm(seconds)
+        try:
+            yield
+        finally:
+            self.disarm()
+            signal.signal(signal.SIGALRM, old)
+
+    def over(self, number: int, frame: object) -> None:
+        """Not while a process is started or ended, nor while `bridge verify` runs, which has a
+        limit of its own: it comes again."""
+        if self.is_armed and not SIGNALS.is_held and not self.is_judging:
+            raise Over("time")
+
+    def arm(self, seconds: float) -> None:
+        self.is_armed = True
+        signal.setitimer(signal.ITIMER_REAL, max(seconds, LEAST), AGAIN)
+
+    def disarm(self) -> None:
+        self.is_armed = False
+        signal.setitimer(signal.ITIMER_REAL, 0)
+
+    @contextlib.contextmanager
+    def judging(self) -> Iterator[None]:
+        self.is_judging = True
+        try:
+            yield
+        finally:
+            self.is_judging = False
+
     @contextlib.contextmanager
     def interruptible(self) -> Iterator[None]:
         """An interrupt ends the search at its next node, and nothing else. (From a terminal it
@@ -71,6 +131,8 @@ class Watch:
 
         def stop(number: int, frame: object) -> None:
             self.is_stopped = True
+            if self.is_armed:           # a step without nodes ends too
+                self.arm(AGAIN)
         old = signal.signal(signal.SIGINT, stop)
         try:
             yield

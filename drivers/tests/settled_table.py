@@ -1,0 +1,92 @@
+"""What is passed on beside each claim that is proved: code, point and words, in a table."""
+
+from __future__ import annotations
+
+from fractions import Fraction as F
+
+from support import Case
+from bridge_drivers.answer import Answer
+from bridge_drivers.certify.claims import Verdict
+from bridge_drivers.codes import Code
+from bridge_drivers.options import Options
+from bridge_drivers.program import Program
+from bridge_drivers.settled import Settled, settled
+from bridge_drivers.solvers.base import Outcome
+
+TEXT = b"NAME nl\nOBJSENSE\n MAX\nROWS\n N obj\n L c0\nCOLUMNS\n M0 'MARKER' 'INTORG'\n" \
+       b" x0 obj 1\n x0 c0 1\n M1 'MARKER' 'INTEND'\nRHS\n RHS c0 9\nENDATA\n"
+SOLVED, UNSURE, LIMIT = Code.SOLVED, Code.UNSURE, Code.LIMIT
+INFEASIBLE, EITHER, UNBOUNDED = Code.INFEASIBLE, Code.INFEASIBLE_OR_UNBOUNDED, Code.UNBOUNDED
+STOPPED = Code.LIMIT_WITH_POINT
+WITH_POINT = (SOLVED, UNSURE, STOPPED)
+ALL = (*WITH_POINT, LIMIT, INFEASIBLE, EITHER, UNBOUNDED)
+
+
+class Table(Case):
+    def settled(self, code: Code, line: str, point: int | None = None, value: str = "5",
+                strict: bool = False) -> Settled:
+        values = {"x0": float(value)} if code in WITH_POINT else None
+        answer = Answer(Program(TEXT), Outcome(code, "told", values), Options())
+        is_proved = not line.startswith("not proved")
+        verdict = Verdict(line, None if point is None else [F(point)],
+                          "kept" if is_proved else None, "", None if point is None else F(point))
+        return settled(answer, verdict, strict)
+
+    def judge(self, found: Settled, code: Code, value: "int | None", kind: str = "") -> None:
+        self.assertEqual((found.code, found.answer.outcome.code), (code, code))
+        self.assertEqual(found.answer.values, None if value is None else {"x0": str(value)})
+        self.assertEqual(found.kind, kind)
+
+    def test_no_point(self) -> None:
+        """Whatever the solver said."""
+        for code in ALL:
+            for line, proved in (("infeasible", INFEASIBLE), ("unbounded", UNBOUNDED)):
+                found = self.settled(code, line, 5 if proved is UNBOUNDED else None)
+                self.judge(found, proved, None)
+                self.assertEqual(found.text is None, code == proved)
+
+    def test_points(self) -> None:
+        for code in ALL:
+            self.judge(self.settled(code, "optimal 5", 5), SOLVED, 5,
+                       "" if code in WITH_POINT else "a")
+            self.judge(self.settled(code, "optimal 7", 7), SOLVED, 7,
+                       "a better" if code in WITH_POINT else "a")
+        for line in ("feasible", "within 9"):
+            for point, kind, code, wanted in (
+                    (5, "", SOLVED, SOLVED), (7, "a better", SOLVED, UNSURE),
+                    (3, "another", SOLVED, UNSURE), (5, "", UNSURE, UNSURE),
+                    (5, "", STOPPED, STOPPED), (7, "a better", STOPPED, STOPPED),
+                    (5, "a", LIMIT, STOPPED), (5, "a", INFEASIBLE, UNSURE),
+                    (5, "a", EITHER, UNSURE), (5, "a", UNBOUNDED, UNSURE)):
+                self.judge(self.settled(code, f"{line} {point}", point), wanted, point, kind)
+
+    def test_bounds(self) -> None:
+        """A value that is better than what is possible is not solved."""
+        for line, code, wanted, value in (
+                ("bound 5", SOLVED, SOLVED, 5), ("bound 6", SOLVED, SOLVED, 5),
+                ("bound 4", SOLVED, UNSURE, 5), ("bound 5", STOPPED, STOPPED, 5),
+                ("bound 5", LIMIT, LIMIT, None), ("bound 5", UNBOUNDED, LIMIT, None),
+                ("bound 5", INFEASIBLE, INFEASIBLE, None)):
+            self.judge(self.settled(code, line), wanted, value)
+
+    def test_strict(self) -> None:
+        """Only what ends the question is passed on with another code than 100."""
+        for code in ALL:
+            for line, point, wanted in (("optimal 5", 5, SOLVED), ("infeasible", None, INFEASIBLE),
+                                        ("unbounded", 5, UNBOUNDED), ("feasible 5", 5, UNSURE),
+                                        ("within 9 5", 5, UNSURE), ("bound 9", None, UNSURE),
+                                        ("not proved: time", None, UNSURE)):
+                self.assertEqual(self.settled(code, line, point, strict=True).code, wanted)
+
+    def test_small_objectives(self) -> None:
+        """What is apart is measured by the objective itself."""
+        small = Program(TEXT.replace(b"x0 obj 1", b"x0 obj 1e-9"))
+        answer = Answer(small, Outcome(SOLVED, "told", {"x0": 0.0}), Options())
+        found = settled(answer, Verdict("feasible 1/250000000", [F(4)], "kept", "", F(4, 10 ** 9)))
+        self.judge(found, UNSURE, 4, "a better")
+
+    def test_nothing_proved(self) -> None:
+        for code in ALL:
+            found = self.settled(code, "not proved: time")
+            self.judge(found, code, 5 if code in WITH_POINT else None)
+            self.assertIsNone(found.text)
