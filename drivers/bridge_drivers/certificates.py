@@ -25,7 +25,7 @@ from .values import plain, text_of
 
 SECONDS = 60.0              # of a search, where timelim says nothing
 ONE_LEAF = 1.0              # without prove=1
-LARGE = 400_000             # bytes of an exported program whose certificate is the .sol itself
+LARGE = 400_000             # bytes of an exported program that have a second each
 PLACES = 9                  # decimals that doubles are rounded to, where they do not pass
 CLAIMS = {Code.SOLVED: "point", Code.UNSURE: "point", Code.LIMIT_WITH_POINT: "point",
           Code.INFEASIBLE: "infeasible", Code.UNBOUNDED: "unbounded",
@@ -69,18 +69,20 @@ class Certifier:
     # the verdict -----------------------------------------------------------------
 
     def verdict(self, answer: Answer, sol: bytes) -> Verdict:
-        """By the certificate of a search, which has `timelim` with prove=1 and a second without."""
+        """By the certificate of a search, which has `timelim` with prove=1, and without a second or
+        more by the size of the program. Where a large one has none, the .sol as it stands."""
         options = self.job.options
-        seconds = (options.timelim or SECONDS) if options.prove else ONE_LEAF
+        size = len(self.program.text)
+        seconds = (options.timelim or SECONDS) if options.prove \
+            else min(max(size / LARGE, ONE_LEAF), SECONDS)
         work = Certifying(self.bridge, self.nl, self.job.folder, self.program, options.objno - 1,
                           Watch(seconds, self.job.clock.name), bool(options.prove), self.relaxed,
                           bool(options.bound))
         claim = CLAIMS[answer.outcome.code]
-        if claim == "point" and not self.relaxed and not options.prove \
-                and len(self.program.text) > LARGE:
-            return self.as_it_stands(work, sol)
         verdict: Verdict = self.job.clock.timed("certify", certified, work, claim,
                                                 self.given(answer))
+        if claim == "point" and not self.relaxed and not verdict.is_proved() and size > LARGE:
+            return self.as_it_stands(work, sol)
         return verdict
 
     def as_it_stands(self, work: Certifying, sol: bytes) -> Verdict:

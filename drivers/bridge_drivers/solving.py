@@ -212,7 +212,7 @@ class Solving:
         if self.options.outlev and verdict.figures:
             print(f"certificate: {verdict.figures}", flush=True)
         fault_line = certifier.kept(verdict)
-        last = [*answer.notes(), *([fault_line] if fault_line else []), verdict.line]
+        last = [*answer.notes(), *filter(None, (fault_line, verdict.note)), verdict.line]
         return Result(found.code, [self.headline(job, answer, found.text), *lines, *last], sol,
                       answer, verdict.figures, not self.options.strict or is_final(verdict))
 

@@ -22,7 +22,7 @@ os.environ["PYTHONDONTWRITEBYTECODE"] = "1"         # also where drivers are pro
 HERE = os.path.dirname(os.path.abspath(__file__))
 sys.path[:0] = [HERE]
 MODULES = ("units", "stored_runs", "manners", "processes", "end_to_end", "pulp_class",
-           "certify_parts", "certify_search", "settled_table", "test_front")
+           "certify_parts", "certify_search", "certify_linear", "settled_table", "test_front")
 
 
 def main() -> int:

@@ -7,17 +7,18 @@ import os
 import shutil
 import time
 from fractions import Fraction
-from typing import Callable, Iterator, List, Mapping, NamedTuple, Sequence
+from typing import Callable, Iterator, Mapping, NamedTuple, Sequence
 
-from . import points, text
+from . import linear, points, short, text
 from .clp import Clp, NoClp, State, library
 from .directions import directions
 from .equations import parity
-from .leaves import Closed, Closer
+from .leaves import Closed, Closer, Multipliers
 from .model import Added, Box, Model, Point, Unfit, factors
 from .numbers import is_narrow
 from .plans import MOST_THIN, PLAIN, SHORT, Plans, Shaped, written
 from .points import Basis
+from .refined import Near
 from .search import Better, Goal, Search
 from .text import Naming
 from .tree import Spool, Tree, count
@@ -50,7 +51,7 @@ class Verdict(NamedTuple):
     """The last line of a message, with the point that it speaks of and its objective in the
     file's own sense, `path` where the accepted text is, a line of figures, and the duals of the
     exported rows where one leaf has them. `contradicted`: CLP finds no point that has the answer's
-    whole variables."""
+    whole variables. `note` says why it is not `optimal`, where that is known."""
 
     line: str
     point: Point | None = None
@@ -59,6 +60,7 @@ class Verdict(NamedTuple):
     value: Fraction | None = None
     duals: Mapping[int, Fraction] = {}
     contradicted: bool = False
+    note: str = ""
 
     def is_proved(self) -> bool:
         return self.path is not None
@@ -196,24 +198,32 @@ class Certifying:
 
     # linear programs ---------------------------------------------------------------
 
-    def relaxation(self) -> tuple[Clp | None, State]:
-        """None where CLP is not there."""
+    def relaxation(self, given: Given = Given()) -> tuple[Clp | None, State]:
+        """None where CLP is not there. It starts from the answer's basis."""
         if library() is None:
             return None, State.OTHER
         clp = self.model.relaxation()
-        clp.limit(ONE_LEAF if not self.proves else min(max(self.watch.left(), ONE_LEAF),
-                                                      MOST_CLP_SECONDS))
+        if given.basis is not None and given.values is not None:
+            clp.start(*given.basis, [float(v) for v in given.values])
+        clp.limit(self.clp_seconds() if self.proves or self.linear else ONE_LEAF)
         state = clp.solve()
         if state is not State.OPTIMAL:
             state = clp.solve(again=True)
         return clp, state
 
     def linear_optimum(self, given: Given) -> Iterator[Verdict]:
-        p, (clp, state) = self.model, self.relaxation()
+        """`optimal` from short numbers, else from a basis; a large program from a basis at once.
+        Where its numbers are too wide, a point and a bound in short ones."""
+        p, optima = self.model, linear.Optima(self.model)
+        is_large = optima.is_large()
+        if is_large and given.basis is not None and given.values is not None:
+            x = [float(v) for v in given.values]
+            yield from self.by_bases(optima, iter([Near(given.basis, x)]))
+        clp, state = self.relaxation(given)
         found: list[Point] = []
         if state is not State.OPTIMAL:
             clp = None
-        for point in self.linear_points(given, clp):
+        for point in [] if is_large and clp is not None else self.linear_points(given, clp):
             if point in found:
                 continue
             found.append(point)
@@ -223,6 +233,9 @@ class Certifying:
                 yield self.one_leaf(leaf, "optimal", None, point)
         if state is State.UNBOUNDED:
             yield self.unbounded(given)
+        if clp is not None:
+            yield from self.by_bases(optima, optima.bases(clp, self.clp_seconds()))
+            yield from self.short(clp, found, optima.note())
         if not found:
             yield Verdict(WITHOUT + "no exact point was found near the answer")
             yield from self.infeasible()
@@ -231,15 +244,47 @@ class Certifying:
         if found:
             yield self.feasible(found[0])
 
+    def clp_seconds(self) -> float:
+        return min(max(self.watch.left(), ONE_LEAF), MOST_CLP_SECONDS)
+
+    def by_bases(self, optima: linear.Optima, bases: Iterator[Near]) -> Iterator[Verdict]:
+        """`optimal` by the first basis that is exactly optimal, where its numbers are narrow."""
+        found = optima.first(bases)
+        if found is not None:
+            leaf = Closed(Multipliers(found.duals, found.den, False), [], 0)
+            verdict = self.one_leaf(leaf, "optimal", None, found.point)
+            optima.refused = "" if verdict.is_proved() else verdict.line
+            yield verdict
+
+    def short(self, clp: Clp, found: list[Point], note: str) -> Iterator[Verdict]:
+        """`within` by short numbers, or `bound` where there is no short point."""
+        p, seconds = self.model, self.clp_seconds()
+        duals = short.short_duals(p, clp, seconds)
+        value, leaf = None, None
+        if duals is not None:
+            leaf = Closed(duals.leaf, duals.judged.reduced, 0)
+            value = p.sign * short.shortened(p, duals.bound())
+        for made in short.Rounding(p, clp.keep(), clp.values(), seconds).points():
+            self.point = made.point
+            found.insert(0, made.point)
+            if leaf is not None:
+                verdict = self.one_leaf(leaf, "within", value, made.point)
+                yield verdict._replace(note=f"{note}; {made.way}" if made.way else note)
+        if leaf is not None:
+            yield self.one_leaf(leaf, "bound", value, None)._replace(note=note)
+
     def linear_points(self, given: Given, clp: Clp | None) -> Iterator[Point]:
         """Near the answer, then the vertex of its basis, then of CLP's; narrow ones alone."""
-        p, x = self.model, given.values
-        made: List[Point] = []
+        p, x, is_near = self.model, given.values, False
         if x is not None:
-            made += points.near(p, x)
-            if given.basis is not None and not made:
-                made += filter(None, [points.vertex(p, given.basis, [float(v) for v in x])])
-        yield from (point for point in made if all(map(is_narrow, point)))
+            for point in points.near(p, x):
+                is_near = True
+                if all(map(is_narrow, point)):
+                    yield point
+            if given.basis is not None and not is_near:
+                vertex = points.vertex(p, given.basis, [float(v) for v in x])
+                if vertex is not None and all(map(is_narrow, vertex)):
+                    yield vertex
         if clp is not None:
             vertex = points.vertex(p, Basis(*clp.basis()), clp.values())
             if vertex is not None and all(map(is_narrow, vertex)):
