@@ -77,7 +77,7 @@ class Certifier:
             else min(max(size / LARGE, ONE_LEAF), SECONDS)
         work = Certifying(self.bridge, self.nl, self.job.folder, self.program, options.objno - 1,
                           Watch(seconds, self.job.clock.name), bool(options.prove), self.relaxed,
-                          bool(options.bound))
+                          bool(options.bound), bool(options.shorten))
         claim = CLAIMS[answer.outcome.code]
         verdict: Verdict = self.job.clock.timed("certify", certified, work, claim,
                                                 self.given(answer))

@@ -154,16 +154,15 @@ def parallel(size: int, rnd: random.Random) -> bytes:
 
 
 def knapsack(size: int, rnd: random.Random) -> bytes:
-    """Of two weights, whose values follow the first one."""
-    a = [rnd.randint(10, 60) for _ in range(size)]
-    b = [rnd.randint(10, 60) for _ in range(size)]
-    return nl([("B", 0, 1)] * size, [(None, sum(a) // 2, dict(enumerate(a))),
-                                     (None, sum(b) // 2, dict(enumerate(b)))],
-              [("max", 0, {j: v + rnd.randint(0, 9) for j, v in enumerate(a)})])
+    """Of five weights, whose values follow them."""
+    a = [[rnd.randint(10, 90) for _ in range(size)] for _ in range(5)]
+    values = [sum(column) // 5 + rnd.randint(0, 20) for column in zip(*a)]
+    return nl([("B", 0, 1)] * size, [(None, sum(row) // 2, dict(enumerate(row))) for row in a],
+              [("max", 0, dict(enumerate(values)))])
 
 
 def lots(size: int, rnd: random.Random) -> bytes:
-    """One thing over periods: a cost to set up, a cost to keep."""
+    """One thing over periods: a cost to set up, a cost to keep, a capacity."""
     need = [rnd.randint(5, 30) for _ in range(size)]
     columns = [real(0, None)] * (2 * size) + [("B", 0, 1)] * size
     rows, costs = [], {}
@@ -171,8 +170,10 @@ def lots(size: int, rnd: random.Random) -> bytes:
         terms = {t: 1, size + t: -1}
         if t:
             terms[size + t - 1] = 1
-        rows += [(need[t], need[t], terms), (None, 0, {t: 1, 2 * size + t: -70})]
-        costs.update({t: rnd.randint(1, 3), size + t: "0.5", 2 * size + t: rnd.randint(30, 60)})
+        rows += [(need[t], need[t], terms),
+                 (None, 0, {t: 1, 2 * size + t: -rnd.randint(60, 90)})]
+        costs.update({t: rnd.randint(1, 3), size + t: cents(rnd, 0.3, 2),
+                      2 * size + t: rnd.randint(80, 160)})
     return nl(columns, rows, [("min", 0, costs)])
 
 
@@ -199,10 +200,11 @@ def stock(size: int, rnd: random.Random) -> bytes:
 
 
 def pigeons(size: int, rnd: random.Random) -> bytes:
-    """SIZE pigeons in one hole less."""
+    """SIZE pigeons in one hole less, no two of them in one."""
     holes = size - 1
     rows = [(1, None, {i * holes + h: 1 for h in range(holes)}) for i in range(size)]
-    rows += [(None, 1, {i * holes + h: 1 for i in range(size)}) for h in range(holes)]
+    rows += [(None, 1, {i * holes + h: 1, k * holes + h: 1})
+             for h in range(holes) for i in range(size) for k in range(i)]
     return nl([("B", 0, 1)] * (size * holes), rows, [("min", 0, {0: 1})])
 
 

@@ -86,14 +86,14 @@ class Contradiction(NamedTuple):
 class Certifying:
     """One model: `nl` is its path, `folder` one for files, `objective` counts from 0. `proves`:
     searches may be long; else one leaf is tried. `relaxed`: the answer is of the relaxation.
-    `bounds`: a bound of the relaxation is wanted too."""
+    `bounds`: a bound of the relaxation is wanted too. `shortens`: after a tree, a shorter one."""
 
     def __init__(self, bridge: Bridge, nl: str, folder: str, program: Program, objective: int,
                  watch: Watch, proves: bool = True, relaxed: bool = False,
-                 bounds: bool = False) -> None:
+                 bounds: bool = False, shortens: bool = False) -> None:
         self.bridge, self.nl, self.folder, self.objective = bridge, nl, folder, objective
         self.watch, self.proves, self.relaxed, self.bounded = watch, proves, relaxed, bounds
-        self.program, self.figures = program, ""
+        self.program, self.figures, self.shortens = program, "", shortens
         self.point: Point | None = None         # the best that is known
         self.plans: Plans | None = None
         self.path = os.path.join(folder, "certificate")
@@ -324,10 +324,12 @@ class Certifying:
             return
         p, box = self.model, Box(self.model.lo, self.model.hi)
         top = clp.objective() + float(p.constant)
-        point = min(found, key=p.value, default=None)
+        point, least = min(found, key=p.value, default=None), short.trivial(p)
         for duals in self.safe_duals(clp):
             for room in LOOSER:
                 target = floored(top, room * max(1.0, abs(top)))
+                if least is not None and target < least:
+                    target, duals = least, []
                 closed = Closer(p, target).close(dict(enumerate(duals)), False, box)
                 if closed is None:
                     continue
@@ -357,7 +359,7 @@ class Certifying:
     def whole_optimum(self, point: Point) -> Iterator[Verdict]:
         p = self.model
         for _ in range(MOST_BETTER):
-            plans = Plans(p, p.value(point), self.exact, self.folder, self.watch)
+            plans = Plans(p, p.value(point), self.exact, self.folder, self.watch, self.shortens)
             self.point, self.plans = point, plans
             try:
                 self.planned(plans)
@@ -466,7 +468,7 @@ class Certifying:
             plain = self.contradiction([], min(PLAIN, left / 2))
         except Stopped:
             pass
-        if plain is None or plain.nodes > SHORT:
+        if plain is None or self.shortens and plain.nodes > SHORT:
             try:
                 last = self.contradiction(forms, self.watch.left() / 2)
             except Stopped:

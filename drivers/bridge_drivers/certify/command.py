@@ -7,6 +7,7 @@ import os
 import shutil
 import sys
 import tempfile
+import time
 from typing import Sequence, TextIO
 
 from .. import VERSION, console, solvers
@@ -24,13 +25,15 @@ OPTIONS = (
                                    "standard output)"),
     Option("driver", "cbc", str, "the driver that finds a point"),
     Option("objno", 1, int, "which objective, from 1"),
+    Option("shorten", 0, int, "1: after a certificate, a shorter one is looked for in the time "
+                              "that is left"),
     Option("shortest", 0, int, "1: long decimals of the .nl are read as shorter ones with the "
                                "same double"),
     Option("stats", 0, int, "1: a line of figures"),
     Option("timelim", 60.0, float, "seconds for the driver, and again for the certificate; 0: no "
                                    "limit"),
 )
-PASSED = ("objno", "shortest", "timelim")
+PASSED = ("objno", "shorten", "shortest", "timelim")
 USAGE = f"""usage: {NAME} MODEL [option=value ..]
 
   finds what is true of MODEL.nl by a solver and a search, writes a certificate of it, and tells
@@ -103,7 +106,8 @@ class Command:
         if status != Status.DONE:
             return status
         if self.options["stats"] and driver.figures:
-            print(driver.figures, file=self.stream)
+            print(f"{driver.figures}; {time.process_time():.2f} s of the search",
+                  file=self.stream)
         failed = driver.lines[-1].startswith("not proved")
         return Status.FAILED if failed else Status.DONE
 
