@@ -29,7 +29,7 @@ from .verdicts import Said
 
 SECONDS = 60.0              # of a search, where timelim says nothing
 ONE_LEAF = 1.0              # without prove=1
-LARGE = 400_000             # bytes of an exported program whose certificate is the .sol itself
+LARGE = 400_000             # bytes of an exported program that have a second each
 PLACES = 9                  # decimals that doubles are rounded to, where they do not pass
 CLAIMS = {Code.SOLVED: "point", Code.UNSURE: "point", Code.LIMIT_WITH_POINT: "point",
           Code.INFEASIBLE: "infeasible", Code.UNBOUNDED: "unbounded",
@@ -87,20 +87,21 @@ class Certifier:
     # the verdict -----------------------------------------------------------------
 
     def verdict(self, answer: Answer, sol: bytes) -> Verdict:
-        """By the certificate of a search, which has `timelim` with prove=1 and a second without."""
+        """By the certificate of a search, which has `timelim` with prove=1, and without a second or
+        more by the size of the program. Where a large one has none, the .sol as it stands."""
         options = self.job.options
-        proves = bool(options.prove) and not self.job.is_interrupted
-        watch = Watch((options.timelim or SECONDS) if proves else ONE_LEAF,
-                      self.job.clock.progress, not proves)
+        proves, size = bool(options.prove) and not self.job.is_interrupted, len(self.program.text)
+        seconds = (options.timelim or SECONDS) if proves \
+            else min(max(size / LARGE, ONE_LEAF), SECONDS)
+        watch = Watch(seconds, self.job.clock.progress, not proves)
         work = Certifying(self.bridge, self.nl, self.job.folder, self.program, options.objno - 1,
-                          watch, proves, self.relaxed, bool(options.bound))
+                          watch, proves, self.relaxed, bool(options.bound), bool(options.shorten))
         claim = CLAIMS[answer.outcome.code]
-        if claim == "point" and not self.relaxed and not proves \
-                and len(self.program.text) > LARGE:
-            return self.as_it_stands(work, sol)
         verdict: Verdict = self.job.clock.timed("certify", certified, work, claim,
                                                 self.given(answer))
         self.is_interrupted = watch.is_stopped
+        if claim == "point" and not self.relaxed and not verdict.is_proved() and size > LARGE:
+            return self.as_it_stands(work, sol)
         return verdict
 
     def as_it_stands(self, work: Certifying, sol: bytes) -> Verdict:
@@ -145,7 +146,8 @@ class Certifier:
             lines.append(NO_SEARCH)
             if said is not None:
                 last = f"{WITHOUT}there was no search; without it: {last}"
-        return End([*lines, *([kept.line] if kept else []), last], said, kept)
+        kept_line = kept.line if kept else ""
+        return End([*lines, *filter(None, (kept_line, verdict.note)), last], said, kept)
 
     def lacks_search(self, said: Said | None) -> bool:
         options = self.job.options

@@ -55,6 +55,8 @@ COMMON = (
                             "written as that number"),
     Option("shortest", 0, int, "1: numbers of the .nl with 16 digits or more become the shortest "
                                "ones with the same double"),
+    Option("shorten", 0, int, "1: after a certificate, a shorter one is looked for in the time "
+                              "that is left (prove=1)"),
     Option("solver", "", str, "path of the solver"),
     Option("strict", 0, int, "1: what is not proved optimal, infeasible or unbounded is not "
                              "solved (code 100, exit status 6); sets prove=1"),
@@ -83,6 +85,7 @@ class Options:
     prove: int
     relax: int
     round: int
+    shorten: int
     shortest: int
     solver: str
     strict: int

@@ -9,9 +9,11 @@ Side = Optional[Fraction]
 
 
 class Sections:
-    """Rows, columns, costs and entries by name. A bound or side None is infinite."""
+    """Rows, columns, costs and entries by name. A bound or side None is infinite. Numbers of one
+    text are one object."""
 
     def __init__(self, text: bytes) -> None:
+        self.known: dict[str, Fraction] = {}
         self.maximise = False
         self.kinds: dict[str, str] = {}
         self.rhs: dict[str, Fraction] = {}
@@ -35,9 +37,15 @@ class Sections:
                 self.column(words)
             elif part in ("RHS", "RANGES"):
                 table = self.rhs if part == "RHS" else self.ranges
-                table[words[1]] = Fraction(words[2])
+                table[words[1]] = self.number(words[2])
             elif part == "BOUNDS":
                 self.bound(*words)
+
+    def number(self, text: str) -> Fraction:
+        found = self.known.get(text)
+        if found is None:
+            found = self.known[text] = Fraction(text)
+        return found
 
     def column(self, words: list[str]) -> None:
         """`NAME ROW VALUE`, or a marker, between which columns are whole."""
@@ -49,17 +57,18 @@ class Sections:
             self.bounds[name] = [Fraction(0), None]
             if self.in_whole:
                 self.whole.add(name)
+        number = self.number(value)
         if row == "obj":
-            self.costs[name] = Fraction(value)
-        elif Fraction(value):
-            self.entries.append((row, name, Fraction(value)))
+            self.costs[name] = number
+        elif number:
+            self.entries.append((row, name, number))
 
     def bound(self, kind: str, _: str, column: str, value: str = "") -> None:
         ends = self.bounds[column]
         if kind in ("LO", "FX", "MI", "FR"):
-            ends[0] = Fraction(value) if value else None
+            ends[0] = self.number(value) if value else None
         if kind in ("UP", "FX", "PL", "FR"):
-            ends[1] = Fraction(value) if value else None
+            ends[1] = self.number(value) if value else None
 
     def untie(self) -> Fraction:
         """The objective's constant. Where the objective stands in the row zdef, as its factor g

@@ -11,7 +11,7 @@ from .certify.claims import Verdict
 from .codes import Code
 from .program import Program
 
-FAR = 1e-6                  # of the largest cost: between objectives that are not the same
+FAR = 1e-6                  # of the largest term or the sum: between objectives that are not the same
 DIGITS = 1e-5               # of values that are the same: a solver may print six digits
 FINAL = ("optimal", "infeasible", "unbounded")
 WORDS = {Code.SOLVED: "optimal solution", Code.UNSURE: "feasible solution",
@@ -104,7 +104,7 @@ def another(answer: Answer, values: Mapping[str, Fraction]) -> str:
     program, old = answer.program, {c: float(text) for c, text in answer.values.items()}
     new = {c: as_double(value) for c, value in values.items()}
     one, other = (program.figure(point) for point in (old, new))
-    if abs(one - other) <= FAR * max(size(program, old), size(program, new)):
+    if abs(one - other) <= FAR * max(size(program, old), size(program, new), abs(one)):
         return ""
     if all(abs(v - old[c]) <= DIGITS * max(abs(v), abs(old[c])) for c, v in new.items()):
         return ""

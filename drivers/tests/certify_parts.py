@@ -5,7 +5,7 @@ from __future__ import annotations
 
 import random
 from fractions import Fraction as F
-from unittest import TestCase
+from unittest import TestCase, mock
 
 from support import Case
 from bridge_drivers import miss
@@ -201,6 +201,27 @@ class Leaves(TestCase):
         self.assertEqual((found.leaf.numbers, found.leaf.den), ({2: 1}, 1))
         self.assertIsNone(closer.close({2: 0.25}, True, self.box))
         self.assertIsNone(closer.close({}, True, self.box))
+
+    def test_shorter(self) -> None:
+        """Duals that miss the cost of a column without an upper bound by less than is rounded."""
+        p = Model(b"""NAME nl
+ROWS
+ N obj
+ G c0
+COLUMNS
+ x0 obj 1
+ x0 c0 3
+ x1 obj 1e9
+ x1 c0 3e9
+RHS
+ RHS c0 7
+ENDATA
+""", {}, 1)
+        y, box = {0: 1 / 3 + 1e-13}, Box(p.lo, p.hi)
+        with mock.patch.object(Closer, "roundings", lambda *words: iter(())):
+            found = Closer(p, F(7, 3) - F(1, 10 ** 8)).close(y, False, box)
+            self.assertIsNone(Closer(p, F(7, 3)).close(y, False, box))
+        self.assertLess(F(found.leaf.numbers[0], found.leaf.den), F(1, 3))
 
     def test_basis_duals(self) -> None:
         closer = Closer(self.model, F(0))

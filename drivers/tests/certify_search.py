@@ -19,6 +19,7 @@ from bridge_drivers.certify import text
 from bridge_drivers.certify.claims import Certifying, Given, Verdict, certified
 from bridge_drivers.certify.plans import Plans
 from bridge_drivers.certify.search import Better, Search
+from bridge_drivers.certify.short import trivial
 from bridge_drivers.certify.watch import Watch
 from bridge_drivers.program import Program
 from claim_models import BINARY, CLAIMED
@@ -216,6 +217,51 @@ class Spines(Certified):
             self.assertEqual(verdict.line, f"bound {work.model.sign * bound}", name)
             self.assertLessEqual(bound, work.model.sign * value)
 
+
+    def test_first_tree(self) -> None:
+        """It is told; a shorter text is looked for where that is wanted."""
+        weights = (35, 27, 23, 19, 15, 15, 12, 8, 6, 3)
+        made = nl([BINARY] * 10, [(None, 39, dict(enumerate(weights))),
+                                  (None, 40, {j: 3 + j for j in range(10)})],
+                  [("max", 0, {j: w + j % 3 for j, w in enumerate(weights)})])
+        for shortens in (False, True):
+            _, plans = self.plans(made, F(44))
+            plans.shortens = shortens
+            with mock.patch("bridge_drivers.certify.plans.SHORT", 1):
+                plans.try_all()
+            self.assertEqual(len(plans.told) > 1, shortens, plans.told)
+
+    def test_bound_of_a_part_that_does_not_close(self) -> None:
+        """It has that of both parts; and nothing is told below what bounds of columns say."""
+        for name, value in (("mixed", F("43.25")), ("lots", F("14.3"))):
+            work, plans = self.plans(CLAIMED[name].text, value)
+            unworked = Search.unworked
+            with mock.patch.object(Search, "unworked", lambda search: None if search.open else
+                                   unworked(search)):
+                self.assertFalse(plans.run("plain", [], SECONDS, most=2), name)
+            bound, path = plans.bounded()
+            verdict = work.judged(text.head("bound", 0, work.model.sign * bound), path)
+            self.assertEqual(verdict.claim(), "bound", verdict.line)
+            least = trivial(work.model)
+            self.assertTrue(least is None or least <= bound)
+        self.assertEqual((least, plans.rounded(-0.001)), (0, 0))
+
+    def test_looser_bound(self) -> None:
+        """A bound that does not close is lowered, and the search is as it was."""
+        work, plans = self.plans(CLAIMED["lots"].text, F("14.3"))
+        self.assertFalse(plans.run("plain", [], SECONDS, most=4))
+        closed, tries = Search.closed_at, []
+
+        def closing(search, pending, target, strict):
+            tries.append(target)
+            return None if len(tries) < 2 else closed(search, pending, target, strict)
+        with mock.patch.object(Search, "closed_at", closing):
+            low, _ = plans.bounded()
+        self.assertEqual(sorted(set(tries), reverse=True), tries)
+        bound, path = plans.bounded()
+        self.assertLess(low, bound)
+        verdict = work.judged(text.head("bound", 0, work.model.sign * bound), path)
+        self.assertEqual(verdict.claim(), "bound", verdict.line)
 
 class Limits(Certified):
     def test_within(self) -> None:

@@ -1,7 +1,9 @@
 #!/usr/bin/env python3
 """Certificates of larger models: one line a model, parted by tabs.
 
-    certify_table.py models FOLDER              writes FOLDER/NAME.nl
+    certify_table.py models FOLDER              writes FOLDER/NAME.nl, of collections
+    certify_table.py families FOLDER [MOST]     the same of families, by size (`families.py`); linear
+                                                programs of at most MOST nonzeros (100000)
     certify_table.py [-jN] SECONDS FOLDER FILE.nl ..
                                                 certificates go to FOLDER, N models at once (1)
     certify_table.py readme TABLE ..            the tables of drivers/README.md of such lines
@@ -15,7 +17,7 @@ The models, from two packages of Debian (examples of the one, samples of the oth
 
 The first makes text .nl files of them, as GLPK reads them, by `bridge import`. The second runs
 `bridge-certify` with that limit for the solver, and again for the search: lines come in the order
-of the files. Needs BRIDGE (or the program of the gate), glpsol, cbc and CLP's library.
+of the files, with processor seconds of all processes and of the search alone. Needs BRIDGE (or the program of the gate), glpsol, cbc and CLP's library.
 """
 
 from __future__ import annotations
@@ -26,22 +28,30 @@ import re
 import subprocess
 import sys
 import tempfile
-import time
+import threading
 from concurrent.futures import ThreadPoolExecutor
+from typing import NamedTuple
 
 HERE = os.path.dirname(os.path.abspath(__file__))
-sys.path[:0] = [os.path.join(HERE, "..")]
+sys.path[:0] = [os.path.join(HERE, ".."), HERE]
 
-from bridge_drivers.bridge import BESIDE, find                  # noqa: E402
+import families                                         # noqa: E402
+from bridge_drivers.bridge import BESIDE, find          # noqa: E402
 from bridge_drivers.program import Program              # noqa: E402
 
 SOURCES = ("/usr/share/doc/glpk-utils/examples/*.mod", "/usr/share/doc/glpk-utils/examples/*.mps",
            "/usr/share/coin/Data/Sample/*.mps")
 HEAD = ("model", "columns", "whole", "rows", "plan", "nodes", "pairs", "digits", "bytes",
-        "seconds", "line")
+        "seconds", "search", "line")
 NODES = ("split", "plane", "lemma", "duals", "weights")
 READ_SECONDS = 60               # of glpsol, for one model
 MARGIN = 120                    # seconds beyond both limits
+LINEAR = ("transport", "flow", "assignment", "covering", "staircase", "diet", "dense",
+          "decimal_flow")
+SIZES = (1000, 10_000, 100_000, 1_000_000)
+OTHERS = (("parallel", (2, 3, 6)), ("knapsack", (20, 30, 40)), ("lots", (8, 12, 17, 20)),
+          ("packing", (6, 8, 10)), ("stock", (3, 4, 6)), ("pigeons", (5, 6, 8)),
+          ("frobenius", (5, 8)), ("split", (3, 4)))
 
 
 # models ------------------------------------------------------------------------------
@@ -87,6 +97,14 @@ def models(bridge: list[str], target: str) -> None:
                 f.write(ran.stdout)
 
 
+def written_families(target: str, most: int) -> None:
+    os.makedirs(target, exist_ok=True)
+    wanted = [(name, size) for name in LINEAR for size in SIZES if size <= most]
+    for name, size in wanted + [(name, size) for name, sizes in OTHERS for size in sizes]:
+        with open(os.path.join(target, f"{name}-{size}.nl"), "wb") as f:
+            f.write(families.made(name, size))
+
+
 # the table ---------------------------------------------------------------------------
 
 
@@ -115,21 +133,39 @@ def figures(path: str) -> list[str]:
     return [str(nodes), str(pairs), str(digits), str(os.path.getsize(path))]
 
 
+class Ended(NamedTuple):
+    """What a process wrote, and the processor seconds of it and of all that it ran."""
+
+    told: list[str]
+    seconds: float
+
+
+def ended(words: list[str], limit: float) -> Ended:
+    with tempfile.TemporaryFile() as out:
+        child = subprocess.Popen(words, stdin=subprocess.DEVNULL, stdout=out,
+                                 stderr=subprocess.STDOUT)
+        timer = threading.Timer(limit, child.kill)
+        timer.start()
+        _, status, used = os.wait4(child.pid, 0)
+        child.returncode = os.waitstatus_to_exitcode(status)
+        timer.cancel()
+        out.seek(0)
+        told = out.read().decode("utf-8", "replace").strip().split("\n")
+    return Ended(["no end"] if child.returncode < 0 else told, used.ru_utime + used.ru_stime)
+
+
 def line(bridge: list[str], path: str, seconds: str, folder: str) -> list[str]:
     name = os.path.basename(path)[:-3]
     certificate = os.path.join(folder, name + ".certificate")
     program = os.path.join(HERE, "..", "bin", "bridge-certify")
-    began = time.monotonic()
-    try:
-        ran = subprocess.run([sys.executable, program, path, f"timelim={seconds}", "stats=1",
-                              "certificate=" + certificate], stdin=subprocess.DEVNULL,
-                             capture_output=True, text=True, timeout=2 * float(seconds) + MARGIN)
-        told = (ran.stdout or ran.stderr).strip().split("\n")
-    except subprocess.TimeoutExpired:
-        told = ["no end"]
-    spent = time.monotonic() - began
-    plan = told.pop().partition(",")[0] if os.path.exists(certificate) else ""
-    return [name, *shape(bridge, path), plan, *figures(certificate), f"{spent:.1f}", told[-1]]
+    told, spent = ended([sys.executable, program, path, f"timelim={seconds}", "stats=1",
+                         "certificate=" + certificate], 2 * float(seconds) + MARGIN)
+    plan, search = "", ""
+    if os.path.exists(certificate):
+        plan, _, search = told.pop().rpartition("; ")
+        plan, search = plan.partition(",")[0], search.split(" ")[0]
+    return [name, *shape(bridge, path), plan, *figures(certificate), f"{spent:.1f}", search,
+            told[-1]]
 
 
 # for the README ----------------------------------------------------------------------
@@ -184,6 +220,9 @@ def main() -> None:
     bridge = find("", BESIDE)
     if arguments[:1] == ["models"]:
         models(bridge, arguments[1])
+        return
+    if arguments[:1] == ["families"]:
+        written_families(arguments[1], int((arguments[2:] or ["100000"])[0]))
         return
     at_once = int(arguments.pop(0)[2:]) if arguments[0].startswith("-j") else 1
     seconds, folder, *paths = arguments

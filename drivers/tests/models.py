@@ -2,6 +2,7 @@
 
 from __future__ import annotations
 
+import collections
 from dataclasses import dataclass, field
 from fractions import Fraction as F
 from typing import Mapping, Sequence, Union
@@ -25,9 +26,9 @@ def nl(variables, rows=(), objectives=(), trees: Mapping[int, Sequence[str]] = {
     out += ["b"] + [side(lo, hi) for _, lo, hi in variables]
     if variables:
         out.append(f"k{len(variables) - 1}")
-        total = 0
+        total, found = 0, collections.Counter(j for _, _, terms in rows for j in terms)
         for j in range(len(variables) - 1):
-            total += sum(j in terms for _, _, terms in rows)
+            total += found[j]
             out.append(str(total))
     for letter, items in (("J", rows), ("G", objectives)):
         for i, (_, _, terms) in enumerate(items):

@@ -7,17 +7,18 @@ import os
 import shutil
 import time
 from fractions import Fraction
-from typing import Callable, Iterator, List, Mapping, NamedTuple, Sequence
+from typing import Callable, Iterator, Mapping, NamedTuple, Sequence
 
-from . import points, text
+from . import linear, points, short, text
 from .clp import Clp, NoClp, State, library
 from .directions import directions
 from .equations import parity
-from .leaves import Closed, Closer
+from .leaves import Closed, Closer, Multipliers
 from .model import Added, Box, Model, Point, Unfit, factors
 from .numbers import is_narrow
 from .plans import MOST_THIN, PLAIN, SHORT, Plans, Shaped, written
 from .points import Basis
+from .refined import Near
 from .search import Better, Goal, Search
 from .text import Naming
 from .tree import Spool, Tree, count
@@ -52,7 +53,7 @@ class Verdict(NamedTuple):
     """The last line of a message, with the point that it speaks of and its objective in the
     file's own sense, `path` where the accepted text is, a line of figures, and the duals of the
     exported rows where one leaf has them. `contradicted`: CLP finds no point that has the answer's
-    whole variables."""
+    whole variables. `note` says why it is not `optimal`, where that is known."""
 
     line: str
     point: Point | None = None
@@ -61,6 +62,7 @@ class Verdict(NamedTuple):
     value: Fraction | None = None
     duals: Mapping[int, Fraction] = {}
     contradicted: bool = False
+    note: str = ""
 
     def is_proved(self) -> bool:
         return self.path is not None
@@ -86,14 +88,14 @@ class Contradiction(NamedTuple):
 class Certifying:
     """One model: `nl` is its path, `folder` one for files, `objective` counts from 0. `proves`:
     searches may be long; else one leaf is tried. `relaxed`: the answer is of the relaxation.
-    `bounds`: a bound of the relaxation is wanted too."""
+    `bounds`: a bound of the relaxation is wanted too. `shortens`: after a tree, a shorter one."""
 
     def __init__(self, bridge: Bridge, nl: str, folder: str, program: Program, objective: int,
                  watch: Watch, proves: bool = True, relaxed: bool = False,
-                 bounds: bool = False) -> None:
+                 bounds: bool = False, shortens: bool = False) -> None:
         self.bridge, self.nl, self.folder, self.objective = bridge, nl, folder, objective
         self.watch, self.proves, self.relaxed, self.bounded = watch, proves, relaxed, bounds
-        self.program, self.figures = program, ""
+        self.program, self.figures, self.shortens = program, "", shortens
         self.point: Point | None = None         # the best that is known
         self.plans: Plans | None = None
         self.path = os.path.join(folder, "certificate")
@@ -215,25 +217,33 @@ class Certifying:
 
     # linear programs ---------------------------------------------------------------
 
-    def relaxation(self) -> tuple[Clp | None, State]:
-        """None where CLP is not there."""
+    def relaxation(self, given: Given = Given()) -> tuple[Clp | None, State]:
+        """None where CLP is not there. It starts from the answer's basis."""
         if library() is None:
             return None, State.OTHER
         self.watch.progress.tell("the relaxation by CLP")
         clp = self.model.relaxation()
-        clp.limit(ONE_LEAF if not self.proves else min(max(self.watch.left(), ONE_LEAF),
-                                                      MOST_CLP_SECONDS))
+        if given.basis is not None and given.values is not None:
+            clp.start(*given.basis, [float(v) for v in given.values])
+        clp.limit(self.clp_seconds() if self.proves or self.linear else ONE_LEAF)
         state = clp.solve()
         if state is not State.OPTIMAL:
             state = clp.solve(again=True)
         return clp, state
 
     def linear_optimum(self, given: Given) -> Iterator[Verdict]:
-        p, (clp, state) = self.model, self.relaxation()
+        """`optimal` from short numbers, else from a basis; a large program from a basis at once.
+        Where its numbers are too wide, a point and a bound in short ones."""
+        p, optima = self.model, linear.Optima(self.model)
+        is_large = optima.is_large()
+        if is_large and given.basis is not None and given.values is not None:
+            x = [float(v) for v in given.values]
+            yield from self.by_bases(optima, iter([Near(given.basis, x)]))
+        clp, state = self.relaxation(given)
         found: list[Point] = []
         if state is not State.OPTIMAL:
             clp = None
-        for point in self.linear_points(given, clp):
+        for point in [] if is_large and clp is not None else self.linear_points(given, clp):
             if point in found:
                 continue
             found.append(point)
@@ -243,6 +253,9 @@ class Certifying:
                 yield self.one_leaf(leaf, "optimal", None, point)
         if state is State.UNBOUNDED:
             yield self.unbounded(given)
+        if clp is not None:
+            yield from self.by_bases(optima, optima.bases(clp, self.clp_seconds()))
+            yield from self.short(clp, found, optima.note())
         if not found:
             yield Verdict(WITHOUT + "no exact point was found near the answer")
             yield from self.infeasible()
@@ -251,15 +264,47 @@ class Certifying:
         if found:
             yield self.feasible(found[0])
 
+    def clp_seconds(self) -> float:
+        return min(max(self.watch.left(), ONE_LEAF), MOST_CLP_SECONDS)
+
+    def by_bases(self, optima: linear.Optima, bases: Iterator[Near]) -> Iterator[Verdict]:
+        """`optimal` by the first basis that is exactly optimal, where its numbers are narrow."""
+        found = optima.first(bases)
+        if found is not None:
+            leaf = Closed(Multipliers(found.duals, found.den, False), [], 0)
+            verdict = self.one_leaf(leaf, "optimal", None, found.point)
+            optima.refused = "" if verdict.is_proved() else verdict.line
+            yield verdict
+
+    def short(self, clp: Clp, found: list[Point], note: str) -> Iterator[Verdict]:
+        """`within` by short numbers, or `bound` where there is no short point."""
+        p, seconds = self.model, self.clp_seconds()
+        duals = short.short_duals(p, clp, seconds)
+        value, leaf = None, None
+        if duals is not None:
+            leaf = Closed(duals.leaf, duals.judged.reduced, 0)
+            value = p.sign * short.shortened(p, duals.bound())
+        for made in short.Rounding(p, clp.keep(), clp.values(), seconds).points():
+            self.point = made.point
+            found.insert(0, made.point)
+            if leaf is not None:
+                verdict = self.one_leaf(leaf, "within", value, made.point)
+                yield verdict._replace(note=f"{note}; {made.way}" if made.way else note)
+        if leaf is not None:
+            yield self.one_leaf(leaf, "bound", value, None)._replace(note=note)
+
     def linear_points(self, given: Given, clp: Clp | None) -> Iterator[Point]:
         """Near the answer, then the vertex of its basis, then of CLP's; narrow ones alone."""
-        p, x = self.model, given.values
-        made: List[Point] = []
+        p, x, is_near = self.model, given.values, False
         if x is not None:
-            made += points.near(p, x)
-            if given.basis is not None and not made:
-                made += filter(None, [points.vertex(p, given.basis, [float(v) for v in x])])
-        yield from (point for point in made if all(map(is_narrow, point)))
+            for point in points.near(p, x):
+                is_near = True
+                if all(map(is_narrow, point)):
+                    yield point
+            if given.basis is not None and not is_near:
+                vertex = points.vertex(p, given.basis, [float(v) for v in x])
+                if vertex is not None and all(map(is_narrow, vertex)):
+                    yield vertex
         if clp is not None:
             self.watch.progress.tell("the exact vertex")
             vertex = points.vertex(p, Basis(*clp.basis()), clp.values())
@@ -301,10 +346,12 @@ class Certifying:
             return
         p, box = self.model, Box(self.model.lo, self.model.hi)
         top = clp.objective() + float(p.constant)
-        point = min(found, key=p.value, default=None)
+        point, least = min(found, key=p.value, default=None), short.trivial(p)
         for duals in self.safe_duals(clp):
             for room in LOOSER:
                 target = floored(top, room * max(1.0, abs(top)))
+                if least is not None and target < least:
+                    target, duals = least, []
                 closed = Closer(p, target).close(dict(enumerate(duals)), False, box)
                 if closed is None:
                     continue
@@ -334,7 +381,7 @@ class Certifying:
     def whole_optimum(self, point: Point) -> Iterator[Verdict]:
         p = self.model
         for _ in range(MOST_BETTER):
-            plans = Plans(p, p.value(point), self.exact, self.folder, self.watch)
+            plans = Plans(p, p.value(point), self.exact, self.folder, self.watch, self.shortens)
             self.point, self.plans = point, plans
             self.watch.incumbent = float(p.sign * p.value(point))
             try:
@@ -444,7 +491,7 @@ class Certifying:
             plain = self.contradiction([], min(PLAIN, left / 2))
         except Stopped:
             pass
-        if plain is None or plain.nodes > SHORT:
+        if plain is None or self.shortens and plain.nodes > SHORT:
             try:
                 last = self.contradiction(forms, self.watch.left() / 2)
             except Stopped:

@@ -10,7 +10,8 @@ import time
 from typing import Any, NamedTuple, Optional, Sequence
 
 INFINITE = 1.7976931348623157e308       # COIN's own
-STATUS_BITS, STATUS_BASIC = 7, 1
+STATUS_BITS = 7
+STATUS_FREE, STATUS_BASIC, STATUS_UPPER, STATUS_LOWER = 0, 1, 2, 3
 SMALL = 1e-3                            # numbers that are scaled
 ITERATIONS = 100_000                    # of one relaxation
 NAMES = ("libClp.so.1", "libClp.so", "libClp.1.dylib", "libClp.dylib")
@@ -219,8 +220,27 @@ class Clp:
     def restore(self, kept: bytes) -> None:
         self.lib.Clp_copyinStatus(self.model, kept)
 
+    def start(self, columns: Sequence[int], rows: Sequence[int], x: Sequence[float]) -> None:
+        """The basis of these columns, and of all rows but these, for the next solve. What is not
+        basic stands at the end that is nearest at x."""
+        kept = bytearray([STATUS_BASIC] * (self.n + self.m))
+        is_basic = set(columns)
+        for j in range(self.n):
+            if j not in is_basic:
+                value = x[j] * self.scaled.columns[j]
+                kept[j] = standing(self.lo[j], self.hi[j], value)
+        for i in rows:
+            kept[self.n + i] = STATUS_UPPER if self.side_lo[i] <= -INFINITE else STATUS_LOWER
+        self.restore(bytes(kept))
+
     def basis(self) -> tuple[list[int], list[int]]:
         """Basic columns, and rows that are not basic."""
         basic = [status & STATUS_BITS == STATUS_BASIC for status in self.keep()]
         return ([j for j in range(self.n) if basic[j]],
                 [i for i in range(self.m) if not basic[self.n + i]])
+
+
+def standing(lo: float, hi: float, value: float) -> int:
+    if lo <= -INFINITE:
+        return STATUS_FREE if hi >= INFINITE else STATUS_UPPER
+    return STATUS_UPPER if abs(hi - value) < abs(value - lo) else STATUS_LOWER

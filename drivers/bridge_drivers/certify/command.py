@@ -7,6 +7,7 @@ import os
 import shutil
 import sys
 import tempfile
+import time
 from typing import Sequence, TextIO
 
 from .. import VERSION, colour, console, solvers
@@ -29,13 +30,15 @@ OPTIONS = (
     Option("objno", 1, int, "which objective, from 1"),
     Option("overwrite", 0, int, "1: the certificate replaces what stands there, also one that says "
                                 "more"),
+    Option("shorten", 0, int, "1: after a certificate, a shorter one is looked for in the time "
+                              "that is left"),
     Option("shortest", 0, int, "1: long decimals of the .nl are read as shorter ones with the "
                                "same double"),
     Option("stats", 0, int, "1: a line of figures"),
     Option("timelim", 60.0, float, "seconds for the driver, and again for the certificate; 0: no "
                                    "limit"),
 )
-PASSED = ("objno", "overwrite", "shortest", "timelim")
+PASSED = ("objno", "overwrite", "shorten", "shortest", "timelim")
 USAGE = f"""usage: {NAME} MODEL [option=value ..]
 
   finds what is true of MODEL.nl by a solver and a search, writes a certificate of it, and tells
@@ -134,7 +137,7 @@ class Command:
                 sys.stderr.write(f"{NAME}: {place} stays as it was\n")
             return status
         if self.options["stats"] and driver.figures:
-            print(driver.figures, file=stream)
+            print(f"{driver.figures}; {time.process_time():.2f} s of the search", file=stream)
         if driver.kept is not None and driver.kept.failed:
             return Status.UNWRITTEN
         failed = driver.lines[-1].startswith("not proved")

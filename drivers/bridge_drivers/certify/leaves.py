@@ -20,6 +20,8 @@ MOST_MENDED = 60                # columns without their side that are worth mend
 ROUNDS = 6                      # of mending
 MOST_BASIC = 3000               # columns of a basis that is solved in fractions
 LEAST_THINNED = 4               # duals of a leaf that is thinned
+SHORTER = (1e-10, 1e-8, 1e-6, 1e-4)     # by what share duals are made smaller at last
+SHORTER_DIGITS = 13             # of them, beyond the first of the greatest dual
 
 
 class Multipliers(NamedTuple):
@@ -211,6 +213,20 @@ class Closer:
                 closed = self.attempt(leaf, box)
                 if closed is not None:
                     return closed
+        return None if weights else self.shorter(y, box)
+
+    def shorter(self, y: Mapping[int, float], box: Box) -> Closed | None:
+        """Smaller duals leave room for rounding in columns with costs above 0."""
+        most = max((abs(v) for v in y.values()), default=0.0)
+        if not most:
+            return None
+        places = SHORTER_DIGITS - math.floor(math.log10(most))
+        for share in SHORTER:
+            less = {i: v * (1 - share) for i, v in y.items()}
+            leaf = self.rounded(less, places, False)
+            closed = self.attempt(leaf, box) if leaf.den <= MOST_DENOMINATOR else None
+            if closed is not None:
+                return closed
         return None
 
     def small_weights(self, y: Mapping[int, float], box: Box) -> Closed | None:

@@ -75,15 +75,20 @@ class Model:
         self.set_sides(s, factors)
 
     def set_rows(self, s: Sections, factors: Mapping[int, int]) -> None:
-        entries = [(int(row[1:]), int(column[1:]), a) for row, column, a in s.entries]
+        place = {f"c{i}": i for i in range(self.m)}
+        at = {name: j for j, name in enumerate(s.bounds)}
         if factors:
-            entries = [(i, j, a / factors.get(i, 1)) for i, j, a in entries]
-        self.scale = lcm(1, *{a.denominator for _, _, a in entries})
+            s.entries = [(row, column, a / factors.get(place[row], 1))
+                         for row, column, a in s.entries]
+        different = {id(a): a for _, _, a in s.entries}
+        self.scale = lcm(1, *{a.denominator for a in different.values()})
+        over = {key: a.numerator * (self.scale // a.denominator)
+                for key, a in different.items()}
         self.rows: list[list[tuple[int, int]]] = [[] for _ in range(self.m)]
-        for i, j, a in entries:
-            self.rows[i].append((j, a.numerator * (self.scale // a.denominator)))
-        for row in self.rows:
-            row.sort()
+        for row, column, a in s.entries:
+            self.rows[place[row]].append((at[column], over[id(a)]))
+        for entries in self.rows:
+            entries.sort()
         self.set_columns()
 
     def set_columns(self) -> None:
@@ -95,18 +100,19 @@ class Model:
     def set_sides(self, s: Sections, factors: Mapping[int, int]) -> None:
         names = [f"c{i}" for i in range(self.m)]
         sides = [s.sides(name) if name in s.kinds else (None, None) for name in names]
-        sides = [(lo and lo / factors.get(i, 1), hi and hi / factors.get(i, 1))
-                 for i, (lo, hi) in enumerate(sides)]
+        if factors:
+            sides = [(lo and lo / factors.get(i, 1), hi and hi / factors.get(i, 1))
+                     for i, (lo, hi) in enumerate(sides)]
         bounds = [(lo, hi) for lo, hi in s.bounds.values()]
-        ends = {end.denominator for pair in sides + bounds for end in pair if end is not None}
-        self.unit = lcm(1, *ends)
-
-        def whole(end: Fraction | None) -> Side:
-            return None if end is None else int(end * self.unit)
-        self.side_lo: Sides = [whole(lo) for lo, _ in sides]
-        self.side_hi: Sides = [whole(hi) for _, hi in sides]
-        self.lo: Sides = [whole(lo) for lo, _ in bounds]
-        self.hi: Sides = [whole(hi) for _, hi in bounds]
+        different = {id(end): end for pair in sides + bounds for end in pair if end is not None}
+        self.unit = unit = lcm(1, *{end.denominator for end in different.values()})
+        over: dict[int, Side] = {key: end.numerator * (unit // end.denominator)
+                                 for key, end in different.items()}
+        over[id(None)] = None
+        self.side_lo: Sides = [over[id(lo)] for lo, _ in sides]
+        self.side_hi: Sides = [over[id(hi)] for _, hi in sides]
+        self.lo: Sides = [over[id(lo)] for lo, _ in bounds]
+        self.hi: Sides = [over[id(hi)] for _, hi in bounds]
 
     # other programs ----------------------------------------------------------------
 
@@ -188,20 +194,27 @@ class Model:
 
     def fits(self, x: Point) -> bool:
         """Whether a point satisfies wholeness, bounds and rows."""
-        for value, whole, lo, hi in zip(x, self.whole, self.lo, self.hi):
-            if whole and value.denominator != 1 or is_outside(value * self.unit, lo, hi):
+        if any(value.denominator != 1 for value, whole in zip(x, self.whole) if whole):
+            return False
+        over, den = over_one(x)
+        for value, lo, hi in zip(over, self.lo, self.hi):
+            if is_outside(value * self.unit, scaled(lo, den), scaled(hi, den)):
                 return False
-        share = Fraction(self.unit, self.scale)
+        den *= self.scale
         for row, lo, hi in zip(self.rows, self.side_lo, self.side_hi):
             if lo is None and hi is None:
                 continue
-            if is_outside(sum(a * x[j] for j, a in row) * share, lo, hi):
+            at = sum([a * over[j] for j, a in row]) * self.unit
+            if is_outside(at, scaled(lo, den), scaled(hi, den)):
                 return False
         return True
 
     def value(self, x: Point) -> Fraction:
         """Minimised."""
-        return self.constant + sum(c * x[j] for j, c in enumerate(self.cost) if c)
+        over, den = over_one([x[j] for j, c in enumerate(self.costs) if c])
+        costs = [c for c in self.costs if c]
+        total = sum([c * v for c, v in zip(costs, over)])
+        return self.constant + Fraction(total, den * self.cost_scale)
 
     def ends(self, column: int) -> list[Fraction]:
         """The finite bounds of a column."""
@@ -222,7 +235,17 @@ class Model:
         return Step(size, {j: int(c / size) for j, c in enumerate(self.cost) if c})
 
 
-def is_outside(value: Fraction, lo: Side, hi: Side) -> bool:
+def over_one(x: Sequence[Fraction]) -> tuple[list[int], int]:
+    """Numerators over one denominator."""
+    den = lcm(1, *{v.denominator for v in x})
+    return [v.numerator * (den // v.denominator) for v in x], den
+
+
+def scaled(end: Side, by: int) -> Side:
+    return None if end is None else end * by
+
+
+def is_outside(value: int, lo: Side, hi: Side) -> bool:
     return lo is not None and value < lo or hi is not None and value > hi
 
 

@@ -1,4 +1,5 @@
-"""The plans that are tried for a tree: cuts make some trees longer, so the shortest text is kept.
+"""The plans that are tried for a tree: the first one is told; where a short text is wanted, the
+shortest, since cuts make some trees longer.
 
 *plain*: no spine; *thin*: forms of a reduced lattice are split beside columns; *lemma*:
 mixed-integer rounding, where there are continuous columns; *cover*: covers and rounded rows;
@@ -15,6 +16,7 @@ from typing import Callable, Iterator, NamedTuple, Sequence
 from .directions import directions
 from .model import Added, Model, Point
 from .search import MOST_NODES, Pending, Search
+from .short import trivial
 from .spine import Figures, Maker, Row, Spined, Value
 from .tree import Spool
 from .watch import Stopped, Watch
@@ -30,6 +32,7 @@ RESERVE = 0.93                  # of the time, for plans; the rest is for a boun
 MOST_THIN = 45                  # whole columns
 CLOSED = 0.03                   # of the gap: spines that close it by less than that are near
 DIGITS = 3                      # of the gap, that a bound has
+LOOSER = (0.0, 1e-9, 1e-7, 1e-5, 1e-3)  # of a bound, by which it is lowered until it closes
 
 Exact = Callable[[Sequence[float]], "Point | None"]
 
@@ -71,11 +74,13 @@ def written(path: str, lines: Iterator[str]) -> int:
 
 
 class Plans:
-    """Trees for one value. Files go to `folder`; `told` says what was tried."""
+    """Trees for one value: the first one, where `shortens` is not said. Files go to `folder`;
+    `told` says what was tried."""
 
     def __init__(self, model: Model, value: Fraction, exact: Exact, folder: str,
-                 watch: Watch) -> None:
+                 watch: Watch, shortens: bool = False) -> None:
         self.model, self.exact, self.folder, self.watch = model, exact, folder, watch
+        self.shortens = shortens
         self.step = model.step()
         self.value = Value(model, value, self.step)
         self.spool = Spool()
@@ -127,7 +132,9 @@ class Plans:
             self.partial = Partial(search, pending, searched, rows)
 
     def is_short(self) -> bool:
-        return self.best is not None and self.best.figures.nodes <= SHORT
+        """Whether no other tree is looked for."""
+        return self.best is not None and (not self.shortens
+                                          or self.best.figures.nodes <= SHORT)
 
     # all plans ---------------------------------------------------------------------
 
@@ -192,30 +199,42 @@ class Plans:
 
     def bounded(self) -> tuple[Fraction, str] | None:
         """A value that no point is better than, which the stopped searches have, with the file
-        of its tree."""
+        of its tree: the best that closes."""
         if self.partial is None:
             return None
         search, pending, searched, rows = self.partial
-        value = Value(self.model, self.rounded(pending.bound), self.step)
-        goal = value.goal(self.exact)
-        assert goal.target is not None
-        tree = search.closed_at(pending, goal.target, goal.strict)
-        if tree is None:
-            return None
-        spined = Spined(self.model, searched, value, rows, tree, self.spool)
-        path = os.path.join(self.folder, "bound.tree")
-        written(path, spined.lines())
-        return value.value, path
+        tried = set()
+        for room in LOOSER:
+            low = pending.bound - room * max(1.0, abs(pending.bound))
+            value = Value(self.model, self.rounded(low), self.step)
+            if value.value in tried:
+                continue
+            tried.add(value.value)
+            goal = value.goal(self.exact)
+            assert goal.target is not None
+            tree = search.closed_at(pending, goal.target, goal.strict)
+            if tree is not None:
+                spined = Spined(self.model, searched, value, rows, tree, self.spool)
+                path = os.path.join(self.folder, "bound.tree")
+                written(path, spined.lines())
+                return value.value, path
+        return None
 
     def rounded(self, bound: float) -> Fraction:
         """A bound of the relaxation in few digits: the next value of the objective where it has
-        steps."""
+        steps; never below what bounds of columns alone say."""
         value, step = self.value.value, self.step
         if bound == math.inf:
             return value
+        least = trivial(self.model)
         if step is not None:
             units = (bound - float(self.model.constant)) / float(step.size)
-            return min(self.model.constant + step.size * math.ceil(units - 1e-6), value)
-        room = max(float(value) - bound, 1e-9 * max(1.0, abs(bound)))
-        ten = Fraction(10) ** (math.floor(math.log10(room)) - DIGITS)
-        return min(math.floor((bound - room * 1e-3) / float(ten)) * ten, value)
+            if least is not None:
+                units = max(units, float((least - self.model.constant) / step.size))
+            found = self.model.constant + step.size * math.ceil(units - 1e-6)
+            least = None
+        else:
+            room = max(float(value) - bound, 1e-9 * max(1.0, abs(bound)))
+            ten = Fraction(10) ** (math.floor(math.log10(room)) - DIGITS)
+            found = math.floor((bound - room * 1e-3) / float(ten)) * ten
+        return min(found if least is None else max(found, least), value)

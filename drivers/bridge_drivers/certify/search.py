@@ -197,12 +197,13 @@ class Search:
                 self.enter(b)
                 return None
             self.open.pop()
-            tree, needs = self.node(b), b.needs - {b.number}
+            low, high = b.parts
+            assert low is not None and high is not None
+            tree, needs = self.node(b, (low, high)), b.needs - {b.number}
         return tree
 
-    def node(self, b: Branch) -> Tree:
-        low, high = b.parts
-        assert low is not None and high is not None
+    def node(self, b: Branch, parts: tuple[Tree, Tree]) -> Tree:
+        low, high = parts
         if b.column < self.model.n:
             return Split(b.column, b.at, low, high)
         return Cut(self.forms[b.column - self.model.n], b.at, low, high)
@@ -422,32 +423,40 @@ class Search:
     # a bound, where the time is over -----------------------------------------------
 
     def best_bound(self, until: float = math.inf) -> Pending | None:
-        """What is not worked yet, with the bounds of its relaxations; None with forms, where a
-        relaxation has no bound, or after `until`, in seconds of the watch."""
+        """What is not worked yet, with the bounds of its relaxations, or of the one above where it
+        has none; None with forms, where the root has none, or after `until`, in seconds of the
+        watch."""
         if self.forms or self.aim.target is None:
             return None
         boxes: list[Unworked] = []
-        top = self.unworked()
-        if top is None:
-            return None
-        boxes.append(top)
+        box, part = self.own_box(), self.unworked()
         for b in reversed(self.open):
             if self.watch.spent() > until:
                 return None
             self.leave(b)
+            if not boxes:
+                part = part or self.as_above(b, box)
+                if part is None:
+                    return None
+                boxes.append(part)
             if b.parts[1 - b.part] is None:
                 self.clp.restore(b.basis)
-                lo, hi = self.part_ends(b.column, b.at, 1 - b.part)
-                self.set_ends(b.column, lo, hi)
-                other = self.unworked()
+                self.set_ends(b.column, *self.part_ends(b.column, b.at, 1 - b.part))
+                box, part = self.own_box(), self.unworked()
                 self.set_ends(b.column, b.lo, b.hi)
-                if other is None:
+                part = part or self.as_above(b, box)
+                if part is None:
                     return None
-                boxes.append(other)
-        return Pending(min(box.base for box in boxes), boxes)
+                boxes.append(part)
+        if not boxes and part is not None:
+            boxes.append(part)
+        return Pending(min(box.base for box in boxes), boxes) if boxes else None
+
+    def own_box(self) -> Box:
+        return Box(list(self.box.lo), list(self.box.hi))
 
     def unworked(self) -> Unworked | None:
-        box = Box(list(self.box.lo), list(self.box.hi))
+        box = self.own_box()
         for lo, hi, is_whole, j in zip(box.lo, box.hi, self.model.whole, range(self.model.n)):
             if is_whole and lo is not None and hi is not None and lo > hi:
                 return Unworked(math.inf, box, {}, Empty(j, hi // self.model.unit))
@@ -455,6 +464,14 @@ class Search:
         if state is State.INFEASIBLE:
             done = self.by_contradiction()
             return None if done is None else Unworked(math.inf, box, {}, done.tree)
+        return self.relaxed(box, state)
+
+    def as_above(self, b: Branch, box: Box) -> Unworked | None:
+        """A part of a branch with the bound of both."""
+        self.clp.restore(b.basis)
+        return self.relaxed(box, self.clp.solve())
+
+    def relaxed(self, box: Box, state: State) -> Unworked | None:
         if state is not State.OPTIMAL:
             return None
         duals = {i: y for i, y in enumerate(self.clp.duals()) if y}
@@ -472,8 +489,7 @@ class Search:
                 other = self.leaf_at(closer, next(boxes))
             if tree is None or other is None:
                 return None
-            b.parts[b.part], b.parts[1 - b.part] = tree, other
-            tree = self.node(b)
+            tree = self.node(b, (tree, other) if b.part == 0 else (other, tree))
         return tree
 
     def leaf_at(self, closer: Closer, unworked: Unworked) -> Tree | None:

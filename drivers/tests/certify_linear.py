@@ -1,0 +1,257 @@
+"""Linear programs whose optimum needs more than a short point: exact bases, bases that come nearer,
+short points and duals. What needs SciPy, CLP's library or the program is skipped without it."""
+
+from __future__ import annotations
+
+import random
+import unittest
+from fractions import Fraction as F
+from unittest import TestCase, mock
+
+from certify_search import Certified
+from support import NEEDS_CLP, NEEDS_PROGRAM
+from bridge_drivers.certify import bases, linear, points, short, sparse
+from bridge_drivers.certify.claims import Given, certified
+from bridge_drivers.certify.clp import State
+from bridge_drivers.certify.leaves import Closer
+from bridge_drivers.certify.model import Model, over_one
+from bridge_drivers.certify.refined import Refining
+from bridge_drivers.certify.sparse import NoSolution, Wide
+from families import made
+from models import nl, real
+
+NEEDS_SCIPY = unittest.skipUnless(sparse.tools(), "no SciPy")
+
+TWO = b"""NAME nl
+ROWS
+ N obj
+ G c0
+ L c1
+COLUMNS
+ x0 obj 2
+ x0 c0 3
+ x0 c1 1
+ x1 obj 3
+ x1 c0 2
+ x1 c1 -1.5
+RHS
+ RHS c0 4
+ RHS c1 1.25
+BOUNDS
+ UP BND x1 7
+ENDATA
+"""
+OPTIMUM = [F(17, 13), F(1, 26)]
+
+
+def two() -> Model:
+    """min 2 x0 + 3 x1; both rows are tight at the optimum."""
+    return Model(TWO, {}, 2)
+
+
+def without_scipy():
+    return mock.patch.object(sparse, "LOADED", [None])
+
+
+class Fractions(TestCase):
+    def test_near(self) -> None:
+        """Values that are told again from their digits, and ones that have too few."""
+        rng = random.Random(3)
+        for _ in range(50):
+            wanted = [F(rng.randint(-999, 999), rng.choice((1, 7, 7, 91, 360)))
+                      for _ in range(4)]
+            values = [round(v * 2 ** 80) for v in wanted]
+            found = sparse.near(values, 80, 1)
+            self.assertEqual([F(v, found.den) for v in found.numbers], wanted)
+        self.assertIsNone(sparse.near([round(F(10007, 20011) * 2 ** 20)], 20, 1))
+
+    def test_combined(self) -> None:
+        for count in (1, 2, 3, 5, 8):
+            digits = [[k + 1, -k] for k in range(count)]
+            wanted = [sum(row[c] << 8 * (count - 1 - k) for k, row in enumerate(digits))
+                      for c in (0, 1)]
+            self.assertEqual(sparse.combined(digits, 8), wanted)
+
+
+@NEEDS_SCIPY
+class Squares(TestCase):
+    def test_random(self) -> None:
+        """The system and its transpose."""
+        rng = random.Random(4)
+        for n in (1, 2, 5, 40):
+            rows = [[(j, rng.randint(-50, 50)) for j in range(n) if j == i or rng.random() < 0.2]
+                    for i in range(n)]
+            rows = [[(j, a or 1) for j, a in row] for row in rows]
+            square = sparse.Square(sparse.tools(), rows, 20_000)
+            side = [rng.randint(-9, 9) for _ in range(n)]
+            x = square.solve(side)
+            for row, s in zip(rows, side):
+                self.assertEqual(sum(a * x.numbers[j] for j, a in row), s * x.den)
+            y = square.solve(side, True)
+            for k, s in enumerate(side):
+                at = sum(a * y.numbers[i] for i, row in enumerate(rows) for j, a in row if j == k)
+                self.assertEqual(at, s * y.den)
+
+    def test_faults(self) -> None:
+        tools = sparse.tools()
+        with self.assertRaisesRegex(NoSolution, "singular"):
+            sparse.Square(tools, [[(0, 1), (1, 2)], [(0, 2), (1, 4)]], 400).solve([1, 0])
+        with self.assertRaisesRegex(NoSolution, "too wide"):
+            sparse.Square(tools, [[(0, 2 ** 70)]], 400)
+        with self.assertRaisesRegex(NoSolution, "right side"):
+            sparse.Square(tools, [[(0, 3)]], 400).solve([2 ** 60])
+        rows = [[(0, 97), (9, 1)]] + [[(k - 1, 1), (k, 97)] for k in range(1, 10)]
+        with self.assertRaises(Wide) as caught:
+            sparse.Square(tools, rows, 60).solve([1] + [0] * 9)
+        self.assertEqual(str(caught.exception), "more than 30 bits")
+
+
+class Bases(TestCase):
+    def judged(self) -> None:
+        p = two()
+        found = bases.optimum(p, points.Basis([0, 1], [0, 1]), [1.3, 0.04])
+        self.assertEqual(found.point, OPTIMUM)
+        self.assertEqual({i: F(y, found.den) for i, y in found.duals.items()},
+                         {0: F(12, 13), 1: F(-10, 13)})
+        self.assertEqual(found.bits(), 5)
+        for columns, rows, x, why in (([0], [0], [1.3, 0.0], "row 1 is broken"),
+                                      ([1], [0], [0.0, 2.0], "column 0 could be better"),
+                                      ([0, 1], [1], [1.3, 0.0], "not square")):
+            with self.assertRaisesRegex(NoSolution, why):
+                bases.optimum(p, points.Basis(columns, rows), x)
+
+    def test_by_hand(self) -> None:
+        with without_scipy():
+            self.assertFalse(bases.can_be_large())
+            self.judged()
+
+    @NEEDS_SCIPY
+    def test_by_scipy(self) -> None:
+        self.assertTrue(bases.can_be_large())
+        self.judged()
+
+
+class Shorts(TestCase):
+    def test_alone(self) -> None:
+        """Columns that stand in one equation alone, with a coefficient of 1 first."""
+        p = Model(TWO.replace(b" G c0\n L c1\n", b" E c0\n L c1\n").replace(b" x1 c1 -1.5\n", b"")
+                  .replace(b"RHS\n", b" x2 c0 1\n x3 c1 1\nRHS\n", 1), {}, 2)
+        self.assertEqual(short.alone(p), {0: 2})
+
+    def test_bounds(self) -> None:
+        p = two()
+        self.assertEqual(short.trivial(p), 0)
+        self.assertIsNone(short.trivial(p.with_costs([F(1), F(-1)]).with_bounds([0, 0],
+                                                                                [None, None])))
+        self.assertEqual(short.shortened(p, F(1, 10 ** 12)), 0)
+        self.assertEqual(short.shortened(p, F(10, 3)), F("3.333333333"))
+        found = short.best_rounding(Closer(p, None), [12 / 13, -10 / 13])
+        self.assertLess(0, F(71, 26) - found.bound())
+        self.assertLess(F(71, 26) - found.bound(), F(1, 10 ** 9))
+
+    @NEEDS_CLP
+    def test_points(self) -> None:
+        """Near the optimum, within rows and bounds."""
+        p = two()
+        clp = p.relaxation()
+        self.assertIs(clp.solve(), State.OPTIMAL)
+        found = next(short.Rounding(p, clp.keep(), clp.values(), 1.0).points())
+        self.assertTrue(p.fits(found.point))
+        self.assertLess(p.value(found.point) - p.value(OPTIMUM), F(1, 10 ** 7))
+        self.assertLessEqual(over_one(found.point)[1], 10 ** 9)
+
+
+@NEEDS_CLP
+class Starts(TestCase):
+    def test_basis(self) -> None:
+        """CLP goes on from a basis: no step is left from the optimal one."""
+        clp = two().relaxation()
+        clp.start([0, 1], [0, 1], [1.3, 0.04])
+        self.assertEqual(clp.basis(), ([0, 1], [0, 1]))
+        self.assertIs(clp.solve(0), State.OPTIMAL)
+        other = two().relaxation()
+        other.start([], [], [0.0, 7.0])
+        self.assertEqual(other.basis(), ([], []))
+        self.assertIs(other.solve(), State.OPTIMAL)
+
+
+@NEEDS_PROGRAM
+@NEEDS_CLP
+class Linear(Certified):
+    WIDE = r"the exact optimum needs numbers of (more than )?\d+ bits; a certificate holds 127"
+
+    def verdict(self, text: bytes):
+        work = self.work(text)
+        return work, certified(work, "point", Given())
+
+    def within(self, text: bytes, way: str, most: F = F(1, 10 ** 5)) -> None:
+        """Whose point and bound are that near."""
+        work, verdict = self.verdict(text)
+        self.assertEqual(verdict.claim(), "within", verdict.line)
+        self.assertLessEqual(abs(verdict.value - verdict.bound()), most * abs(verdict.value))
+        self.assertRegex(verdict.note, f"^{self.WIDE}{way}$")
+
+    def test_families(self) -> None:
+        """Decimals: equations with columns of their own, and inequalities."""
+        self.within(made("staircase", 757),
+                    "; rounding is taken up by columns of 80 equations alone")
+        self.within(made("diet", 100_000), "")
+        with without_scipy():
+            self.within(made("staircase", 757),
+                        "; rounding is taken up by columns of 80 equations alone")
+
+    def test_basis_of_equations(self) -> None:
+        """Equations of which none has a column of its own: what rounding leaves goes through a
+        basis of them."""
+        p = Model(self.exported(made("decimal_flow", 300)), {}, 18)
+        clp = p.relaxation()
+        self.assertIs(clp.solve(), State.OPTIMAL)
+        found = next(short.Rounding(p, clp.keep(), clp.values(), 1.0).points())
+        self.assertEqual(found.way, "rounding is taken up by a basis of 18 equations")
+        self.assertTrue(p.fits(found.point))
+
+    def exported(self, text: bytes) -> bytes:
+        return self.work(text).program.text
+
+    def test_whole_data(self) -> None:
+        """The answer's basis is enough, with SciPy or without."""
+        for family in ("transport", "assignment", "flow"):
+            text = made(family, 4000)
+            lines = [self.verdict(text)[1].line]
+            with without_scipy():
+                lines.append(self.verdict(text)[1].line)
+            self.assertRegex(lines[0], r"^optimal \d+$")
+            self.assertEqual(lines[0], lines[1], family)
+
+    def test_nearly_parallel(self) -> None:
+        """CLP's basis is not the exact one."""
+        for size in (2, 3):
+            work, verdict = self.verdict(made("parallel", size))
+            self.assertEqual(verdict.claim(), "optimal", verdict.line)
+            optima = linear.Optima(work.model)
+            clp, _ = work.relaxation()
+            self.assertIsNone(optima.first(iter([next(optima.bases(clp, 1.0))])))
+            self.assertEqual(len(optima.faults), 1)
+            near = list(Refining(work.model, clp, 1.0).bases())
+            found = optima.first(iter(near))
+            self.assertEqual(work.model.sign * work.model.value(found.point), verdict.value)
+
+    def test_refused_text(self) -> None:
+        """An optimum that `bridge verify` finds too wide: short numbers come next."""
+        _, verdict = self.verdict(made("diet", 30_000))
+        self.assertEqual(verdict.claim(), "within", verdict.line)
+        self.assertRegex(verdict.note, "^the exact optimum: bridge verify says `too wide at ")
+
+    def test_no_room(self) -> None:
+        """Equations of which nothing is left to round: no point is told that is none."""
+        text = nl([real(0, 1)] * 3, [("1.5", "1.5", {0: "1.1", 1: "0.7", 2: "0.3"}),
+                                     ("0.9", "0.9", {0: "0.3", 1: "1.3", 2: "0.1"})],
+                  [("min", 0, {0: "0.3", 1: "0.9", 2: "0.7"})])
+        work, verdict = self.verdict(text)
+        self.assertEqual(verdict.claim(), "optimal", verdict.line)
+        clp, _ = work.relaxation()
+        for found in short.Rounding(work.model, clp.keep(), clp.values(), 1.0).points():
+            self.assertTrue(work.model.fits(found.point))
+
+
+del Certified           # its tests are run where it stands
