@@ -1,5 +1,6 @@
 pub mod Files
 pub mod Settings
+pub mod FileClaims
+pub mod Verdicts
 pub mod Given
-pub mod Best
 pub mod ProofFiles
