@@ -261,9 +261,11 @@ THEOREMS = (
             "value and its text are, `dual_return/Return` what the answer is returned as."),
     Theorem("verify", (HEADLINE, "bridge_tool/Verify:verify_promise"),
             "What `verify` answers: `certificate_text` says which texts are certificates, `duality/Parts`, `Branch`, `Ray` "
-            "and `Certificate` when one holds, `file_certificates/Says` what is then true of the file."),
-    Theorem("what a verified claim means", ("file_certificates/Says:IsTrueOf",),
+            "and `Certificate` when one holds, `duality/Problem` what is then true of the problem that the file states."),
+    Theorem("what a verified claim means", ("duality/Told:IsTrueOf", "file_certificates/FileProblem:problem_of"),
             "What is true of the file where `verify` says yes: this much has to be read to believe only that."),
+    Theorem("what a denied claim means", ("duality/ProblemSays:Denies", "file_certificates/FileProblem:problem_of"),
+            "What is true of the file, or of a leaf's part of its program, where `verify` says no, by the cause that is told."),
     Theorem("check", (HEADLINE, "bridge_tool/Check:check_promise"),
             "What `check` answers on a point and duals: `duality/Verdict` has the phases of a verdict in their order."),
     Theorem("prove", (HEADLINE, "bridge_tool/Prove:prove_promise"),

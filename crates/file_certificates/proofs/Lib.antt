@@ -1,4 +1,4 @@
 pub mod Files
+pub mod Verdicts
 pub mod Given
-pub mod Best
 pub mod ProofFiles

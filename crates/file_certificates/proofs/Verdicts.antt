@@ -1,0 +1,52 @@
+-- What verdicts on the linear program of a file say of the file: what they say of the problem that it states.
+use Rattle.std.proofs.Common.{◌≡◌, ◌↔◌, ℕ, List, None}
+use Rattle.fractions.specs.Rational.{ℚ}
+use Rattle.duality.specs.Branch.{Tree, duals, open_gap, weights, AreSplitsWhole, proof_fault}
+use Rattle.duality.specs.Certificate.{Certificate, IsCertificate, outcome}
+use Rattle.duality.specs.Contrary.{IsConstraintUnmet, IsEachBeaten, IsNoneBetter, IsNoneFeasible, IsNoneRelaxed}
+use Rattle.duality.specs.LeafSays.{IsLeafDenied}
+use Rattle.duality.specs.Problem.{IsBestRelaxed, IsBound, IsBroken, IsConstraintBroken, IsInfeasible, IsReached, IsRelaxed, IsUnbounded}
+use Rattle.duality.specs.ProblemSays.{OutcomeSays, VerdictSays}
+use Rattle.duality.specs.Verdict.{verdict, yes}
+use Rattle.duality.proofs.Claims.{same_bounds, same_constraints, same_infeasible, same_relaxed_infeasible, same_unbounded}
+use Rattle.duality.proofs.Problems.{bounds, certificates, lone_leaf, none_relaxed, outcomes, verdicts}
+use Rattle.nl_model.specs.File.{File}
+use Rattle.nl_model.specs.Rules.{IsFile}
+use Rattle.file_meaning.specs.FoldFaults.{fold_fault}
+use Rattle.file_meaning.specs.LinearFile.{linear_of}
+use Rattle.file_certificates.specs.FileProblem.{problem_of}
+use Rattle.file_certificates.proofs.Files.{meant}
+
+module _ (f : File) (k : ℕ) (file : IsFile f) (clean : fold_fault f k ≡ None) where
+  pub file_bounds : (v : ℚ) → IsBound (problem_of f k) v ↔ IsNoneBetter (problem_of f k) v
+  file_bounds = same_bounds (linear_of f k) (problem_of f k) (meant f k file clean)
+
+  pub file_infeasible : IsInfeasible (problem_of f k) ↔ IsNoneFeasible (problem_of f k)
+  file_infeasible = same_infeasible (linear_of f k) (problem_of f k) (meant f k file clean)
+
+  pub file_relaxed : ((xs : List ℚ) → IsBroken (problem_of f k) xs) ↔ IsNoneRelaxed (problem_of f k)
+  file_relaxed = same_relaxed_infeasible (linear_of f k) (problem_of f k) (meant f k file clean)
+
+  pub file_unbounded : IsUnbounded (problem_of f k) ↔ IsEachBeaten (problem_of f k)
+  file_unbounded = same_unbounded (linear_of f k) (problem_of f k) (meant f k file clean)
+
+  pub file_constraints : (xs : List ℚ) (i : ℕ) → IsConstraintBroken (problem_of f k) xs i ↔ IsConstraintUnmet (problem_of f k) xs i
+  file_constraints = same_constraints (linear_of f k) (problem_of f k) (meant f k file clean)
+
+  pub file_verdicts : (xs ys : List ℚ) → VerdictSays (problem_of f k) xs (verdict (linear_of f k) xs ys)
+  file_verdicts = verdicts (linear_of f k) (problem_of f k) (meant f k file clean)
+
+  pub file_certificates : (xs ys : List ℚ) (v : ℚ) → verdict (linear_of f k) xs ys ≡ yes v → IsBestRelaxed (problem_of f k) xs v
+  file_certificates = certificates (linear_of f k) (problem_of f k) (meant f k file clean)
+
+  pub file_outcomes : (c : Certificate) → IsCertificate (linear_of f k) c → OutcomeSays (problem_of f k) (linear_of f k) c (outcome (linear_of f k) c)
+  file_outcomes = outcomes (linear_of f k) (problem_of f k) (meant f k file clean)
+
+  pub file_proofs : (v : ℚ) (tree : Tree) → AreSplitsWhole (linear_of f k) tree → proof_fault (linear_of f k) v tree ≡ None → IsBound (problem_of f k) v
+  file_proofs = bounds (linear_of f k) (problem_of f k) (meant f k file clean)
+
+  pub file_broken : (v : ℚ) (ys : List ℚ) → proof_fault (linear_of f k) v (weights ys) ≡ None → (xs : List ℚ) → IsBroken (problem_of f k) xs
+  file_broken = none_relaxed (linear_of f k) (problem_of f k) (meant f k file clean)
+
+  pub file_gaps : (ys : List ℚ) (n : ℕ) (b : ℚ) → IsLeafDenied (linear_of f k) (duals ys) (open_gap n b) → (xs : List ℚ) → IsRelaxed (problem_of f k) xs → IsReached (problem_of f k) b xs
+  file_gaps = lone_leaf (linear_of f k) (problem_of f k) (meant f k file clean)
