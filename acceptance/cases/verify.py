@@ -159,8 +159,9 @@ def exact_cases():
     for name, value in EXACT.items():
         program, answer = (texts.data("data", "certificates", f"{name}.{kind}") for kind in ("nl", "sol"))
         number, point, duals = solution(answer.decode().split("\n"))
-        yield verdict(f"a bound by the duals of {name}", program, [f"bound {number} {value}", *duals], f"bound {value}")
-        yield verdict(f"the answer to {name}", program, [f"optimal {number}", *point, *duals], whole.get(name, f"optimal {value}"))
+        objective = f" of objective {number}" if int(number) > 0 else ""
+        yield verdict(f"a bound by the duals of {name}", program, [f"bound {number} {value}", *duals], f"bound {value}{objective}")
+        yield verdict(f"the answer to {name}", program, [f"optimal {number}", *point, *duals], whole.get(name, f"optimal {value}{objective}"))
 
 
 def collection_cases():

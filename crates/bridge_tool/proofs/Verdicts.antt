@@ -5,7 +5,6 @@ use Rattle.std.specs.Option.{option_map_or}
 use Rattle.std.specs.Global.{Vec}
 use Rattle.std.proofs.lemmas.Bool.{eqb-true, ltb-false, and_parts}
 use Rattle.std.proofs.lemmas.Int.{ints}
-use Rattle.fractions.specs.Rational.{ℚ}
 use Rattle.duality.specs.Problem.{Problem}
 use Rattle.duality.specs.ProblemSays.{Denies, VerdictSays}
 use Rattle.duality.specs.Told.{Told, IsToldTrue}
@@ -18,7 +17,7 @@ use Rattle.dual_bounds.specs.Terms.{values_of}
 use Rattle.certificate_check.specs.declared.fitting.FitFault.{FitFault}
 use Rattle.certificate_check.specs.declared.fitting.FitFault.TheVariants.{OtherCounts, NoPrimal, NoDual}
 use Rattle.file_certificates.specs.FileProblem.{problem_of}
-use Rattle.file_certificates.proofs.Files.{verdict_of_file}
+use Rattle.file_certificates.proofs.Verdicts.{file_verdicts}
 use Rattle.file_meaning.specs.FoldFaults.{fold_fault, FoldFault as FileFault}
 use Rattle.file_meaning.specs.LinearFile.{linear_of, linear_row}
 use Rattle.linear_programs.proofs.Elements.{elements_length}
@@ -43,6 +42,7 @@ use Rattle.bridge_tool.proofs.SeveralFiles.{IsPlain, IsLast, verdict_last, AreRe
 use Rattle.bridge_tool.proofs.OneFile.{sol_read}
 use Rattle.bridge_tool.specs.declared.refusal.Refusal.{Refusal}
 use Rattle.duality.specs.Branch.{LeafFault, proof_fault}
+use Rattle.duality.proofs.Causes.{denied}
 use Rattle.branch_check.specs.declared.leaf.ProofVerdict.{ProofVerdict}
 use Rattle.branch_check.specs.declared.leaf.ProofVerdict.TheVariants.{Yes}
 use Rattle.file_certificates.specs.Files.{IsProofIn, IsCertificateIn}
@@ -133,7 +133,7 @@ module _ (nl : NlValue) (s : Sol) (file : IsFile nl.file) where
     line_of v is = ap (by_fit nl s) fits ∙ ap (by_number nl s) number ∙ ap (by_fold nl s k) folds ∙ ap by_verdict is
 
     told_says : (v : Verdict) → shown nl s k ≡ v → VerdictSays (problem_of nl.file k) (values_of s.primals) v
-    told_says v is = subst (VerdictSays (problem_of nl.file k) (values_of s.primals)) is (verdict_of_file nl.file k file (no_fault nl.file (fold_fault nl.file k) folds) (values_of s.primals) (values_of s.duals))
+    told_says v is = subst (VerdictSays (problem_of nl.file k) (values_of s.primals)) is (file_verdicts nl.file k file (no_fault nl.file (fold_fault nl.file k) folds) (values_of s.primals) (values_of s.duals))
 
     by_told : (v : Verdict) → shown nl s k ≡ v → Says (is_yes v)
     by_told (yes x) is = record { number = k; value = x; objective = number; line = line_of (yes x) is; best = told_says (yes x) is }
@@ -262,7 +262,7 @@ module _ (nl : NlValue) (p : ProofValue) (given : IsProofIn nl.file p) where
   -- a verdict means what it should
   proved_by : (o : Option LeafFault) (v : ProofVerdict) → fault_of v ≡ o → IsFile nl.file → fold_fault nl.file claimed ≡ None → IsProved folded p.claim v → open_leaf nl p ≡ o → prove_outcome nl p ≡ by_leaf o → ByVerdict (is_none o) (IsProvedOf nl p) (IsLeftOpen nl p)
   proved_by None v none file fine proved open line = proof_true nl.file claimed file fine p.claim (subst (λ (w : ProofVerdict). IsProved folded p.claim w) (yes_of v (ap is_none none)) proved)
-  proved_by (Some fault) v some file fine proved open line = record { fault = fault; line = line; denies = leaf_denied folded (claim_value p.claim) (tree_over (row_count folded) (tree_in p)) fault open }
+  proved_by (Some fault) v some file fine proved open line = record { fault = fault; line = line; denies = denied folded (tree_over (row_count folded) (tree_in p)) (claim_value p.claim) fault open }
 
   pub proof_says : (l : LinearValue) (v : ProofVerdict) (held : Bool) (bytes : List ℕ) → IsFile nl.file → HasFolded nl claimed l → IsVerdictOn (linear_value l) p v → IsProved (linear_value l) p.claim v
       → held ≡ is_none (fault_of v) → bytes ≡ leaf_line (fault_of v) → ByVerdict held (IsProvedOf nl p) (IsLeftOpen nl p)
