@@ -1,5 +1,5 @@
 -- The claims of a problem in both forms: what is not better is reached, and the other way.
-use Rattle.std.proofs.Common.{◌≡◌, ◌↔◌, ◌∙◌, inl, inr, ℕ, sym, subst, Bool, true, false, List}
+use Rattle.std.proofs.Common.{◌↔◌, ◌∙◌, inl, inr, ℕ, sym, subst, Bool, true, false, List}
 use Rattle.std.proofs.lemmas.Option.{same_Some}
 use Rattle.fractions.specs.Rational.{ℚ}
 use Rattle.fractions.proofs.Arithmetic.{le_or_lt, not_both}
@@ -7,7 +7,7 @@ use Rattle.linear_programs.specs.Linear.{IsInside, Linear, objective_value}
 use Rattle.duality.specs.Contrary.{IsBetterAt, IsConstraintUnmet, IsEachBeaten, IsNoneBetter, IsNoneFeasible, IsNoneRelaxed}
 use Rattle.duality.specs.Means.{Means}
 use Rattle.duality.specs.Points.{IsAsGood, IsBetter}
-use Rattle.duality.specs.Problem.{Problem, IsBound, IsBroken, IsConstraintBroken, IsConstraintMet, IsInfeasible, IsReached, IsUnbounded}
+use Rattle.duality.specs.Problem.{Problem, IsBound, IsBroken, IsConstraintBroken, IsInfeasible, IsReached, IsUnbounded}
 use Rattle.duality.proofs.Broken.{broken_of, failed_of, not_feasible, not_relaxed}
 
 -- ---- numbers

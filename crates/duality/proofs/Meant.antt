@@ -1,10 +1,10 @@
 -- A linear program means the problem that it states.
-use Rattle.std.proofs.Common.{◌≡◌, ◌↔◌, ℕ, sym, subst, refl, List, All, Some}
+use Rattle.std.proofs.Common.{◌↔◌, ℕ, sym, subst, refl, List}
 use Rattle.std.proofs.lemmas.Option.{same_Some}
 use Rattle.fractions.specs.Rational.{ℚ}
-use Rattle.linear_programs.specs.Linear.{Linear, IsFeasible as IsFeasibleProgram, IsInside, IsRelaxed as IsRelaxedProgram, RowHolds, form_value, no_row, objective_value, row_at, row_count, variable_count}
+use Rattle.linear_programs.specs.Linear.{Linear, IsInside, IsRelaxed as IsRelaxedProgram, RowHolds, form_value, no_row, row_at, variable_count}
 use Rattle.duality.specs.Means.{Means, problem_in}
-use Rattle.duality.specs.Problem.{IsConstraintBroken, IsFeasible, IsRelaxed}
+use Rattle.duality.specs.Problem.{IsConstraintBroken, IsRelaxed}
 use Rattle.duality.specs.Says.{IsRowBroken}
 use Rattle.duality.proofs.Feasible.{all_rows}
 

@@ -1,5 +1,5 @@
 -- What a verdict on a linear program says of the problem that the program means.
-use Rattle.std.specs.Prelude.{ℕ, List, [], Option}
+use Rattle.std.specs.Prelude.{List, [], Option}
 use Rattle.fractions.specs.Rational.{ℚ}
 use Rattle.linear_programs.specs.Linear.{Linear}
 use Rattle.duality.specs.Branch.{LeafFault}

@@ -37,10 +37,10 @@ module _ (f : File) (k : ℕ) where
   relaxed_points xs = (
     λ h. record { bodies = λ i l. let m = h.met i l in subst (HasValueInside (side_of f i)) (sym m.has) m.inside; bounds = h.bounds },
     λ h.
-      record {
-        met = λ i l. let m = inside_at (side_of f i) (body_value f i xs) (h.bodies i l) in record { value = m.0; has = m.1; inside = m.2 };
-        bounds = h.bounds;
-      },
+        record {
+          met = λ i l. let m = inside_at (side_of f i) (body_value f i xs) (h.bodies i l) in record { value = m.0; has = m.1; inside = m.2 };
+          bounds = h.bounds;
+        },
   )
 
   pub feasible_points : (xs : List ℚ) → IsFeasible (problem_of f k) xs ↔ IsFeasibleFile f xs
@@ -62,21 +62,21 @@ module _ (f : File) (k : ℕ) where
   bounds xs j = (
     λ h. record { within = subst (λ n. j < n) (sym (count_lem f k)) h.within; broken = λ ok. h.broken (subst (λ (v : Variable). IsInside v.bound (value_at xs j)) (variable_lem f k j h.within) ok) },
     λ h.
-      let l : j < f.counts.n_var = subst (λ n. j < n) (count_lem f k) h.within in
-      record { within = l; broken = λ ok. h.broken (subst (λ (v : Variable). IsInside v.bound (value_at xs j)) (sym (variable_lem f k j l)) ok) },
+        let l : j < f.counts.n_var = subst (λ n. j < n) (count_lem f k) h.within in
+        record { within = l; broken = λ ok. h.broken (subst (λ (v : Variable). IsInside v.bound (value_at xs j)) (sym (variable_lem f k j l)) ok) },
   )
 
   whole : (xs : List ℚ) (j : ℕ) → IsNotWhole (problem_of f k) xs j ↔ IsNotWholeProgram (linear_of f k) xs j
   whole xs j = (
     λ h.
-      record {
-        within = subst (λ n. j < n) (sym (count_lem f k)) h.within;
-        asked = subst (λ (v : Variable). IsTrue v.whole) (sym (variable_lem f k j h.within)) h.asked;
-        broken = h.broken;
-      },
+        record {
+          within = subst (λ n. j < n) (sym (count_lem f k)) h.within;
+          asked = subst (λ (v : Variable). IsTrue v.whole) (sym (variable_lem f k j h.within)) h.asked;
+          broken = h.broken;
+        },
     λ h.
-      let l : j < f.counts.n_var = subst (λ n. j < n) (count_lem f k) h.within in
-      record { within = l; asked = subst (λ (v : Variable). IsTrue v.whole) (variable_lem f k j l) h.asked; broken = h.broken },
+        let l : j < f.counts.n_var = subst (λ n. j < n) (count_lem f k) h.within in
+        record { within = l; asked = subst (λ (v : Variable). IsTrue v.whole) (variable_lem f k j l) h.asked; broken = h.broken },
   )
 
   module _ (lines : HasLines f k) where
@@ -100,13 +100,13 @@ module _ (f : File) (k : ℕ) where
     rows : (xs : List ℚ) (i : ℕ) → IsConstraintBroken (problem_of f k) xs i ↔ IsRowBroken (linear_of f k) xs i
     rows xs i = (
       λ h.
-        record {
-          within = subst (λ n. i < n) (sym rows_counted) h.within;
-          broken = λ ok. h.broken (subst (IsInside (side_of f i)) (same_Some _ h.value (sym (lines.bodies i h.within xs) ∙ h.has)) (row_from xs i h.within ok));
-        },
+          record {
+            within = subst (λ n. i < n) (sym rows_counted) h.within;
+            broken = λ ok. h.broken (subst (IsInside (side_of f i)) (same_Some _ h.value (sym (lines.bodies i h.within xs) ∙ h.has)) (row_from xs i h.within ok));
+          },
       λ h.
-        let l : i < f.counts.n_con = subst (λ n. i < n) rows_counted h.within in
-        record { within = l; value = form_value (body_form f i) f.counts.n_var xs; has = lines.bodies i l xs; broken = λ ok. h.broken (row_to xs i l ok) },
+          let l : i < f.counts.n_con = subst (λ n. i < n) rows_counted h.within in
+          record { within = l; value = form_value (body_form f i) f.counts.n_var xs; has = lines.bodies i l xs; broken = λ ok. h.broken (row_to xs i l ok) },
     )
 
   pub meant : IsFile f → fold_fault f k ≡ None → Means (linear_of f k) (problem_of f k)

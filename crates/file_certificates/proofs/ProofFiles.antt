@@ -1,5 +1,5 @@
 -- A proof of a file is one of its linear program.
-use Rattle.std.proofs.Common.{◌≡◌, ℕ, ◌<◌, IsTrue, All, sym, subst}
+use Rattle.std.proofs.Common.{ℕ, ◌<◌, IsTrue, All, sym, subst}
 use Rattle.linear_programs.specs.Linear.{Variable}
 use Rattle.nl_model.specs.File.{File}
 use Rattle.file_meaning.specs.LinearFile.{linear_of}
