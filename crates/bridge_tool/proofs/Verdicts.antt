@@ -261,8 +261,8 @@ module _ (nl : NlValue) (p : ProofValue) (given : IsProofIn nl.file p) where
 
   -- a verdict means what it should
   proved_by : (o : Option LeafFault) (v : ProofVerdict) → fault_of v ≡ o → IsFile nl.file → fold_fault nl.file claimed ≡ None → IsProved folded p.claim v → open_leaf nl p ≡ o → prove_outcome nl p ≡ by_leaf o → ByVerdict (is_none o) (IsProvedOf nl p) (IsLeftOpen nl p)
-  proved_by None v none file fine proved open line = proof_true nl.file claimed file fine p.claim (subst (λ (w : ProofVerdict). IsProved folded p.claim w) (yes_of v (ap is_none none)) proved)
-  proved_by (Some fault) v some file fine proved open line = record { fault = fault; line = line; denies = denied folded (tree_over (row_count folded) (tree_in p)) (claim_value p.claim) fault open }
+  proved_by None v none file fine proved first line = proof_true nl.file claimed file fine p.claim (subst (λ (w : ProofVerdict). IsProved folded p.claim w) (yes_of v (ap is_none none)) proved)
+  proved_by (Some fault) v some file fine proved first line = record { fault = fault; line = line; denies = denied folded (tree_over (row_count folded) (tree_in p)) (claim_value p.claim) fault first }
 
   pub proof_says : (l : LinearValue) (v : ProofVerdict) (held : Bool) (bytes : List ℕ) → IsFile nl.file → HasFolded nl claimed l → IsVerdictOn (linear_value l) p v → IsProved (linear_value l) p.claim v
       → held ≡ is_none (fault_of v) → bytes ≡ leaf_line (fault_of v) → ByVerdict held (IsProvedOf nl p) (IsLeftOpen nl p)

@@ -121,7 +121,8 @@ fn judges_certificates_of_other_files(rt: HostRuntime) {
 // With a second objective: 3 x, whose greatest value is 15.
 #[test]
 fn names_the_second_objective(rt: HostRuntime) {
-    let nl = "g3 1 1 0\n1 1 2 0 0\n0 0\n0 0\n0 0 0\n0 0 0 1\n0 1 0 0 0\n1 2\n0 0\n0 0 0 0 0\nO0 0\nn0\nO1 1\nn0\nr\n2 3\nb\n0 0 5\nJ0 1\n0 2\nG0 1\n0 1\nG1 1\n0 3\n";
+    let nl =
+        "g3 1 1 0\n1 1 2 0 0\n0 0\n0 0\n0 0 0\n0 0 0 1\n0 1 0 0 0\n1 2\n0 0\n0 0 0 0 0\nO0 0\nn0\nO1 1\nn0\nr\n2 3\nb\n0 0 5\nJ0 1\n0 2\nG0 1\n0 1\nG1 1\n0 3\n";
     let cases = [
         (
             "optimal 1\npoint 1\n0 5\nduals 0\n",
