@@ -88,7 +88,7 @@ module _ (f : Linear) (p : Problem) (means : Means f p) (xs : List ℚ) where
 pub not_relaxed : (p : Problem) (xs : List ℚ) → IsBroken p xs → ¬ IsRelaxed p xs
 not_relaxed p xs (inl (i, row)) ok =
     let m = ok.met i row.within in
-    row.broken (subst (IsInside (p.side i)) (same_Some m.value row.value (sym m.has ∙ row.has)) m.inside)
+    row.broken (subst (IsInside (p.side i)) (same_Some m.0 row.value (sym m.1 ∙ row.has)) m.2)
 not_relaxed p xs (inr (j, bound)) ok = bound.broken (ok.bounds j bound.within)
 
 pub not_feasible : (p : Problem) (xs : List ℚ) → IsBroken p xs ⊎ ((j : ℕ) × IsNotWhole p xs j) → ¬ IsFeasible p xs

@@ -22,7 +22,7 @@ not_better false v w l g = not_both v w l g
 -- ---- any problem: each claim gives what is not the case
 module _ (p : Problem) where
   none_better : (v : ℚ) (xs : List ℚ) → IsReached p v xs → ¬ IsBetterAt p xs v
-  none_better v xs r b = not_better p.maximises v r.value r.as_good (subst (λ w. IsBetter p.maximises w v) (same_Some b.value r.value (sym b.has ∙ r.has)) b.better)
+  none_better v xs r b = not_better p.maximises v r.0 r.2 (subst (λ w. IsBetter p.maximises w v) (same_Some b.value r.0 (sym b.has ∙ r.1)) b.better)
 
   pub none_at_all : (v : ℚ) → IsBound p v → IsNoneBetter p v
   none_at_all v h xs ok = none_better v xs (h.best xs ok)
@@ -34,15 +34,15 @@ module _ (p : Problem) where
   none_relaxed h xs = not_relaxed p xs (h xs)
 
   pub unmet_of : (xs : List ℚ) (i : ℕ) → IsConstraintBroken p xs i → IsConstraintUnmet p xs i
-  unmet_of xs i h = record { within = h.within; unmet = λ m. h.broken (subst (IsInside (p.side i)) (same_Some m.value h.value (sym m.has ∙ h.has)) m.inside) }
+  unmet_of xs i h = record { within = h.within; unmet = λ m. h.broken (subst (IsInside (p.side i)) (same_Some m.0 h.value (sym m.1 ∙ h.has)) m.2) }
 
   pub each_beaten : IsUnbounded p → IsEachBeaten p
-  each_beaten h v = let b = h.beaten v in (b.point, b.solution.feasible, record { value = b.value; has = b.solution.value; better = b.better })
+  each_beaten h v = let b = h v in (b.0, b.2.feasible, record { value = b.1; has = b.2.value; better = b.3 })
 
 -- ---- a problem that a linear program means: and the other way
 module _ (f : Linear) (p : Problem) (means : Means f p) where
   pub reached_of : (v : ℚ) (xs : List ℚ) → (¬ IsBetter p.maximises (objective_value f xs) v) → IsReached p v xs
-  reached_of v xs h = record { value = objective_value f xs; has = means.value xs; as_good = as_good_of p.maximises v (objective_value f xs) h }
+  reached_of v xs h = (objective_value f xs, means.value xs, as_good_of p.maximises v (objective_value f xs) h)
 
   reached_if : (v : ℚ) (xs : List ℚ) → (¬ IsBetterAt p xs v) → IsReached p v xs
   reached_if v xs h = reached_of v xs (λ b. h (record { value = objective_value f xs; has = means.value xs; better = b }))
@@ -53,14 +53,10 @@ module _ (f : Linear) (p : Problem) (means : Means f p) where
   broken_if : (xs : List ℚ) (i : ℕ) → IsConstraintUnmet p xs i → IsConstraintBroken p xs i
   broken_if xs i h =
       let b = means.bodies xs i h.within in
-      record { within = h.within; value = b.0; has = b.1; broken = λ ok. h.unmet (record { value = b.0; has = b.1; inside = ok }) }
+      record { within = h.within; value = b.0; has = b.1; broken = λ ok. h.unmet (b.0, b.1, ok) }
 
   unbounded_if : IsEachBeaten p → IsUnbounded p
-  unbounded_if h =
-      record {
-        there = means.there;
-        beaten = λ v. let b = h v in record { point = b.0; value = b.2.value; solution = record { there = means.there; feasible = b.1; value = b.2.has }; better = b.2.better };
-      }
+  unbounded_if h v = let b = h v in (b.0, b.2.value, record { there = means.there; feasible = b.1; value = b.2.has }, b.2.better)
 
   -- ---- so they are the same
   pub same_bounds : (v : ℚ) → IsBound p v ↔ IsNoneBetter p v

@@ -16,10 +16,10 @@ module _ (f : Linear) where
   relaxed xs = (
     λ h.
         record {
-          rows = all_rows f (RowHolds (variable_count f) xs) (λ i l. let m = h.met i l in subst (IsInside (row_at f i).side) (sym (same_Some _ m.value m.has)) m.inside);
+          rows = all_rows f (RowHolds (variable_count f) xs) (λ i l. let m = h.met i l in subst (IsInside (row_at f i).side) (sym (same_Some _ m.0 m.1)) m.2);
           bounds = h.bounds;
         },
-    λ h. record { met = λ i l. record { value = _; has = refl; inside = h.rows i no_row l }; bounds = h.bounds },
+    λ h. record { met = λ i l. (_, refl, h.rows i no_row l); bounds = h.bounds },
   )
 
   rows : (xs : List ℚ) (i : ℕ) → IsConstraintBroken (problem_in f) xs i ↔ IsRowBroken f xs i

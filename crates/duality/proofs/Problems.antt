@@ -7,7 +7,7 @@ use Rattle.duality.specs.Certificate.{Certificate, optimal, near, bounded, feasi
 use Rattle.duality.specs.LeafSays.{IsLeafDenied, part_of_leaf}
 use Rattle.duality.specs.Means.{Means}
 use Rattle.duality.specs.Points.{IsAsGood, IsBetter}
-use Rattle.duality.specs.Problem.{Problem, IsBeaten, IsBestRelaxed, IsBound, IsBroken, IsFeasible, IsNotWhole, IsReached, IsRelaxed, IsSolution, IsWithinGap}
+use Rattle.duality.specs.Problem.{Problem, IsBestRelaxed, IsBound, IsBroken, IsFeasible, IsNotWhole, IsReached, IsRelaxed, IsSolution, IsWithinGap}
 use Rattle.duality.specs.ProblemSays.{FaultSays, VerdictSays, IsShown, Denies, OutcomeSays, PointDenies}
 use Rattle.duality.specs.Ray.{RayFault, ray_fault}
 use Rattle.duality.specs.Says.{IsWithinGap as IsWithinGapProgram, FaultSays as FaultSaysProgram, VerdictSays as VerdictSaysProgram}
@@ -58,7 +58,7 @@ module _ (f : Linear) (p : Problem) (means : Means f p) where
   reached_by : (xs : List ℚ) (v : ℚ) → (¬ IsBetter f.maximise (objective_value f xs) v) → IsReached p v xs
   reached_by xs v h = reached_of f p means v xs (subst (λ m. ¬ IsBetter m (objective_value f xs) v) (sym means.sense) h)
 
-  bound_of : (v : ℚ) → IsBoundProgram f v → IsBound p v
+  pub bound_of : (v : ℚ) → IsBoundProgram f v → IsBound p v
   bound_of v h = record { there = means.there; best = λ xs ok. reached_by xs v (h xs ((means.feasible xs).0 ok)) }
 
   solution_of : (xs : List ℚ) (v : ℚ) → IsSolutionProgram f xs v → IsSolution p xs v
@@ -73,14 +73,8 @@ module _ (f : Linear) (p : Problem) (means : Means f p) where
         best = λ zs ok. reached_by zs b (h.best zs ((means.relaxed zs).0 ok));
       }
 
-  beaten_of : (v : ℚ) (xs : List ℚ) → IsFeasibleProgram f xs → IsBetter f.maximise (objective_value f xs) v → IsBeaten p v
-  beaten_of v xs ok better =
-      record {
-        point = xs;
-        value = objective_value f xs;
-        solution = record { there = means.there; feasible = (means.feasible xs).1 ok; value = means.value xs };
-        better = subst (λ m. IsBetter m (objective_value f xs) v) (sym means.sense) better;
-      }
+  beaten_of : (v : ℚ) (xs : List ℚ) → IsFeasibleProgram f xs → IsBetter f.maximise (objective_value f xs) v → IsSolution p xs (objective_value f xs) × IsBetter p.maximises (objective_value f xs) v
+  beaten_of v xs ok better = (record { there = means.there; feasible = (means.feasible xs).1 ok; value = means.value xs }, subst (λ m. IsBetter m (objective_value f xs) v) (sym means.sense) better)
 
   -- ---- the verdict on a point and duals
   fault_of_problem : (xs : List ℚ) (g : Fault) → FaultSaysProgram (f) xs g → FaultSays p xs g
@@ -111,7 +105,7 @@ module _ (f : Linear) (p : Problem) (means : Means f p) where
   shown_of_problem (infeasible tree) (Some v) h w = absurd w
   shown_of_problem (infeasible tree) None h w = record { told = told_infeasible; is_told = refl; true_of = infeasible_of f p means (λ xs ok. h xs ((means.feasible xs).0 ok)) }
   shown_of_problem (unbounded xs ds) (Some v) h w = absurd w
-  shown_of_problem (unbounded xs ds) None h w = record { told = told_unbounded; is_told = refl; true_of = record { there = means.there; beaten = λ v. let b = h v in beaten_of v b.0 b.1 b.2 } }
+  shown_of_problem (unbounded xs ds) None h w = record { told = told_unbounded; is_told = refl; true_of = λ v. let b = h v in let better = beaten_of v b.0 b.1 b.2 in (b.0, objective_value f b.0, better.0, better.1) }
 
   fault_at : (xs : List ℚ) (g : Fault) → PointSaysProgram (f) xs (at_point g) → IsPointFault g → PointDenies p xs g
   fault_at xs (row_broken i) h w = (means.rows xs i).1 h
@@ -176,16 +170,15 @@ module _ (f : Linear) (p : Problem) (means : Means f p) where
   pub bounds : (v : ℚ) (tree : Tree) → AreSplitsWhole f tree → proof_fault f v tree ≡ None → IsBound p v
   bounds v tree splits closed = bound_of v (branches f v tree splits closed)
 
+  pub broken_at : ((xs : List ℚ) → ¬ IsRelaxedProgram f xs) → (xs : List ℚ) → IsBroken p xs
+  broken_at none xs = broken_of f p means xs (λ ok. none xs ((means.relaxed xs).0 ok))
+
   pub none_relaxed : (v : ℚ) (ys : List ℚ) → proof_fault f v (weights ys) ≡ None → (xs : List ℚ) → IsBroken p xs
-  none_relaxed v ys closed xs = broken_of f p means xs (λ ok. infeasible_leaf f v ys closed xs ((means.relaxed xs).0 ok))
+  none_relaxed v ys closed = broken_at (infeasible_leaf f v ys closed)
 
   -- the gap of a tree that is one leaf of duals is a bound of the problem, whole variables or not
   pub lone_leaf : (ys : List ℚ) (n : ℕ) (b : ℚ) → IsLeafDenied f (duals ys) (open_gap n b) → (xs : List ℚ) → IsRelaxed p xs → IsReached p b xs
   unfolding part_of_leaf
   lone_leaf ys n b h xs ok =
       let r : IsRelaxedProgram f xs = (means.relaxed xs).0 ok in
-      record {
-        value = objective_value f xs;
-        has = means.value xs;
-        as_good = subst (λ m. IsAsGood m b (objective_value f xs)) (sym means.sense) (h.denies.1 xs (record { rows = r.rows; bounds = r.bounds }));
-      }
+      (objective_value f xs, means.value xs, subst (λ m. IsAsGood m b (objective_value f xs)) (sym means.sense) (h.denies.1 xs (record { rows = r.rows; bounds = r.bounds })))

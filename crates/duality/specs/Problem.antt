@@ -44,10 +44,8 @@ IsBroken p xs = ((i : ℕ) × IsConstraintBroken p xs i) ⊎ ((j : ℕ) × IsBou
 
 -- ---- feasible points
 -- constraint i has a value at the point, which is within its sides
-pub record IsConstraintMet (p : Problem) (xs : List ℚ) (i : ℕ) : Type 0 where
-  pub value : ℚ
-  pub has : p.body i xs ≡ Some value
-  pub inside : IsInside (p.side i) value
+abbrev pub IsConstraintMet : Problem → List ℚ → ℕ → Type 0
+IsConstraintMet p xs i = (v : ℚ) × (p.body i xs ≡ Some v) × IsInside (p.side i) v
 
 -- each constraint is met, and each variable is within its bounds
 pub record IsRelaxed (p : Problem) (xs : List ℚ) : Type 0 where
@@ -61,10 +59,8 @@ pub record IsFeasible (p : Problem) (xs : List ℚ) : Type 0 where
 
 -- ---- claims
 -- the objective has a value at the point, and v is at least as good
-pub record IsReached (p : Problem) (v : ℚ) (xs : List ℚ) : Type 0 where
-  pub value : ℚ
-  pub has : p.objective xs ≡ Some value
-  pub as_good : IsAsGood p.maximises v value
+abbrev pub IsReached : Problem → ℚ → List ℚ → Type 0
+IsReached p v xs = (w : ℚ) × (p.objective xs ≡ Some w) × IsAsGood p.maximises v w
 
 -- v is a dual bound: at least as good as the objective at each feasible point. Where no point is
 -- feasible each v is one.
@@ -78,32 +74,24 @@ pub record IsSolution (p : Problem) (xs : List ℚ) (v : ℚ) : Type 0 where
   pub feasible : IsFeasible p xs
   pub value : p.objective xs ≡ Some v
 
--- moreover v is at least as good as the objective at each feasible point
-pub record IsOptimal (p : Problem) (xs : List ℚ) (v : ℚ) : Type 0 where
-  pub solution : IsSolution p xs v
-  pub best : IsBound p v
-
 -- the point is feasible with the value v, and b is at least as good as the objective at each feasible
 -- point: what is best lies between both
 pub record IsNear (p : Problem) (xs : List ℚ) (v b : ℚ) : Type 0 where
   pub solution : IsSolution p xs v
   pub best : IsBound p b
 
+-- the value is the bound: no feasible point is better
+abbrev pub IsOptimal : Problem → List ℚ → ℚ → Type 0
+IsOptimal p xs v = IsNear p xs v v
+
 -- each point breaks some constraint or some bound, or some whole variable is not whole there
 abbrev pub IsInfeasible : Problem → Type 0
 IsInfeasible p = (xs : List ℚ) → IsBroken p xs ⊎ ((j : ℕ) × IsNotWhole p xs j)
 
--- a feasible point at which the objective is better than v
-pub record IsBeaten (p : Problem) (v : ℚ) : Type 0 where
-  pub point : List ℚ
-  pub value : ℚ
-  pub solution : IsSolution p point value
-  pub better : IsBetter p.maximises value v
-
 -- whatever the value, some feasible point has a better one
-pub record IsUnbounded (p : Problem) : Type 0 where
-  pub there : IsTrue p.has_objective
-  pub beaten : (v : ℚ) → IsBeaten p v
+abbrev pub IsUnbounded : Problem → Type 0
+IsUnbounded p =
+    (v : ℚ) → (xs : List ℚ) × (w : ℚ) × IsSolution p xs w × IsBetter p.maximises w v
 
 -- ---- without the whole variables
 -- the point is relaxed feasible with the value v, and b is at least as good as the objective at each

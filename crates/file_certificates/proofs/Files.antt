@@ -35,10 +35,10 @@ module _ (f : File) (k : ℕ) where
   -- ---- the problem has the file's points
   pub relaxed_points : (xs : List ℚ) → IsRelaxed (problem_of f k) xs ↔ IsRelaxedFile f xs
   relaxed_points xs = (
-    λ h. record { bodies = λ i l. let m = h.met i l in subst (HasValueInside (side_of f i)) (sym m.has) m.inside; bounds = h.bounds },
+    λ h. record { bodies = λ i l. let m = h.met i l in subst (HasValueInside (side_of f i)) (sym m.1) m.2; bounds = h.bounds },
     λ h.
         record {
-          met = λ i l. let m = inside_at (side_of f i) (body_value f i xs) (h.bodies i l) in record { value = m.0; has = m.1; inside = m.2 };
+          met = λ i l. inside_at (side_of f i) (body_value f i xs) (h.bodies i l);
           bounds = h.bounds;
         },
   )

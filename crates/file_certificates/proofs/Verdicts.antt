@@ -1,15 +1,17 @@
 -- What verdicts on the linear program of a file say of the file: what they say of the problem that it states.
 use Rattle.std.proofs.Common.{◌≡◌, ◌↔◌, ℕ, List, None}
 use Rattle.fractions.specs.Rational.{ℚ}
+use Rattle.linear_programs.specs.Linear.{IsRelaxed as IsRelaxedProgram}
 use Rattle.duality.specs.Branch.{Tree, duals, open_gap, weights, AreSplitsWhole, proof_fault}
 use Rattle.duality.specs.Certificate.{Certificate, IsCertificate, outcome}
 use Rattle.duality.specs.Contrary.{IsConstraintUnmet, IsEachBeaten, IsNoneBetter, IsNoneFeasible, IsNoneRelaxed}
 use Rattle.duality.specs.LeafSays.{IsLeafDenied}
 use Rattle.duality.specs.Problem.{IsBestRelaxed, IsBound, IsBroken, IsConstraintBroken, IsInfeasible, IsReached, IsRelaxed, IsUnbounded}
 use Rattle.duality.specs.ProblemSays.{OutcomeSays, VerdictSays}
+use Rattle.duality.specs.Solutions.{IsBound as IsBoundProgram}
 use Rattle.duality.specs.Verdict.{verdict, yes}
 use Rattle.duality.proofs.Claims.{same_bounds, same_constraints, same_infeasible, same_relaxed_infeasible, same_unbounded}
-use Rattle.duality.proofs.Problems.{bounds, certificates, lone_leaf, none_relaxed, outcomes, verdicts}
+use Rattle.duality.proofs.Problems.{bound_of, bounds, broken_at, certificates, lone_leaf, none_relaxed, outcomes, verdicts}
 use Rattle.nl_model.specs.File.{File}
 use Rattle.nl_model.specs.Rules.{IsFile}
 use Rattle.file_meaning.specs.FoldFaults.{fold_fault}
@@ -33,6 +35,14 @@ module _ (f : File) (k : ℕ) (file : IsFile f) (clean : fold_fault f k ≡ None
   pub file_constraints : (xs : List ℚ) (i : ℕ) → IsConstraintBroken (problem_of f k) xs i ↔ IsConstraintUnmet (problem_of f k) xs i
   file_constraints = same_constraints (linear_of f k) (problem_of f k) (meant f k file clean)
 
+  -- what holds of its linear program
+  pub file_bound_of : (v : ℚ) → IsBoundProgram (linear_of f k) v → IsBound (problem_of f k) v
+  file_bound_of = bound_of (linear_of f k) (problem_of f k) (meant f k file clean)
+
+  pub file_broken_at : ((xs : List ℚ) → ¬ IsRelaxedProgram (linear_of f k) xs) → (xs : List ℚ) → IsBroken (problem_of f k) xs
+  file_broken_at = broken_at (linear_of f k) (problem_of f k) (meant f k file clean)
+
+  -- verdicts
   pub file_verdicts : (xs ys : List ℚ) → VerdictSays (problem_of f k) xs (verdict (linear_of f k) xs ys)
   file_verdicts = verdicts (linear_of f k) (problem_of f k) (meant f k file clean)
 
