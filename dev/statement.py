@@ -310,6 +310,12 @@ CLOSING = (
     "",
     "That the files a desk names are those of the machine (`HostDesk` is trusted), that the compilers and the prover are",
     "right, how long a run takes and how much memory it needs.",
+    "",
+    "That points need be rational only: a point is a list of rational numbers. Of a file that folds each claim holds of real",
+    "points, too. For its numbers are rational and its bodies linear; and a system of linear inequalities with rational",
+    "numbers, strict ones among them (`better than V`) and some variables fixed at whole numbers, that has a real solution",
+    "has a rational one: Fourier and Motzkin's elimination decides both alike. So a real point that is better than a bound,",
+    "or that is feasible where there is none, would give a rational one. No law here states it.",
 )
 
 

@@ -74,8 +74,8 @@ pub record IsSolution (p : Problem) (xs : List ℚ) (v : ℚ) : Type 0 where
   pub feasible : IsFeasible p xs
   pub value : p.objective xs ≡ Some v
 
--- the point is feasible with the value v, and b is at least as good as the objective at each feasible
--- point: what is best lies between both
+-- the point is feasible with the value v, and b is at least as good as the objective at each
+-- feasible point: what is best lies between both
 pub record IsNear (p : Problem) (xs : List ℚ) (v b : ℚ) : Type 0 where
   pub solution : IsSolution p xs v
   pub best : IsBound p b
@@ -94,8 +94,8 @@ IsUnbounded p =
     (v : ℚ) → (xs : List ℚ) × (w : ℚ) × IsSolution p xs w × IsBetter p.maximises w v
 
 -- ---- without the whole variables
--- the point is relaxed feasible with the value v, and b is at least as good as the objective at each
--- relaxed feasible point
+-- the point is relaxed feasible with the value v, and b is at least as good as the objective at
+-- each relaxed feasible point
 pub record IsWithinGap (p : Problem) (xs : List ℚ) (v b : ℚ) : Type 0 where
   pub there : IsTrue p.has_objective
   pub relaxed : IsRelaxed p xs

@@ -54,8 +54,8 @@ PointDenies p xs (row_side_missing i) = ⊥
 PointDenies p xs (bound_side_missing j) = ⊥
 PointDenies p xs (too_wide place) = Unit {0}
 
--- it holds at the point that is judged; a claim on a bound or on no feasible point is judged without
--- one
+-- it holds at the point that is judged; a claim on a bound or on no feasible point is judged
+-- without one
 abbrev pub AtPoint : Certificate → (List ℚ → Type 0) → Type 0
 AtPoint (optimal xs tree) says = says xs
 AtPoint (near xs b tree) says = says xs
@@ -64,8 +64,8 @@ AtPoint (feasible xs) says = says xs
 AtPoint (infeasible tree) says = ⊥
 AtPoint (unbounded xs ds) says = says xs
 
--- what a leaf of a tree over the program f says that does not close: the point, where one is judged,
--- is feasible
+-- what a leaf of a tree over the program f says that does not close: the point, where one is
+-- judged, is feasible
 abbrev pub LeafSays : Problem → Linear → Certificate → LeafFault → Type 0
 LeafSays p f (optimal xs tree) g = IsFeasible p xs × IsLeafDenied f tree g
 LeafSays p f (near xs b tree) g = IsFeasible p xs × IsLeafDenied f tree g

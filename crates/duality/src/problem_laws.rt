@@ -1,5 +1,5 @@
-// What verdicts on a linear program say of a problem that it means; each law is proved by a function
-// with an empty body.
+// What verdicts on a linear program say of a problem that it means; each law is proved by a
+// function with an empty body.
 ghost use Rattle.std.specs.Prelude.{◌≡◌, ◌↔◌, ℕ, IsTrue, List, None, Some};
 ghost use Rattle.fractions.specs.Rational.{ℚ};
 ghost use Rattle.linear_programs.specs.Linear.{Linear};
@@ -18,9 +18,9 @@ pub fn programs_are_meant()
     ensures { (f : Linear) → Means f (problem_in f) }
 {}
 
-/// Of a problem that a linear program means, the claims are what they are by what is not the case: no
-/// feasible point is better, none is feasible, some is better than any value, a constraint is not
-/// met.
+/// Of a problem that a linear program means, the claims are what they are by what is not the case:
+/// no feasible point is better, none is feasible, some is better than any value, a constraint is
+/// not met.
 pub fn claims_are_contrary()
     ensures bounds { (f : Linear) (p : Problem) → Means f p → (v : ℚ)
         → IsBound p v ↔ IsNoneBetter p v }
@@ -33,8 +33,8 @@ pub fn claims_are_contrary()
         → IsConstraintBroken p xs i ↔ IsConstraintUnmet p xs i }
 {}
 
-/// Of any problem, also one with values that are not there, each claim implies what it is by what is
-/// not the case.
+/// Of any problem, also one with values that are not there, each claim implies what it is by what
+/// is not the case.
 pub fn claims_are_stronger()
     ensures bounds { (p : Problem) (v : ℚ) → IsBound p v → IsNoneBetter p v }
     ensures infeasible { (p : Problem) → IsInfeasible p → IsNoneFeasible p }
@@ -44,9 +44,9 @@ pub fn claims_are_stronger()
         → IsConstraintUnmet p xs i }
 {}
 
-/// What the verdict on a point and duals says: with a yes or a gap the point is relaxed feasible, the
-/// objective has the value there, and the bound is at least as good as the objective at each relaxed
-/// feasible point; a constraint or a bound that is named as broken is so.
+/// What the verdict on a point and duals says: with a yes or a gap the point is relaxed feasible,
+/// the objective has the value there, and the bound is at least as good as the objective at each
+/// relaxed feasible point; a constraint or a bound that is named as broken is so.
 pub fn verdicts_of_problems()
     ensures { (f : Linear) (p : Problem) → Means f p → (xs ys : List ℚ)
         → VerdictSays p xs (verdict f xs ys) }
@@ -58,9 +58,9 @@ pub fn certificates_of_problems()
         → verdict f xs ys ≡ yes v → IsBestRelaxed p xs v }
 {}
 
-/// What the verdict on a certificate says. Where it holds, what is told is true: the point is optimal,
-/// near or a solution, v is a bound, there is no feasible point, or no end. Where it fails at the
-/// point, that is not feasible; where it fails later, the point is feasible.
+/// What the verdict on a certificate says. Where it holds, what is told is true: the point is
+/// optimal, near or a solution, v is a bound, there is no feasible point, or no end. Where it fails
+/// at the point, that is not feasible; where it fails later, the point is feasible.
 pub fn outcomes_of_problems()
     ensures { (f : Linear) (p : Problem) → Means f p → (c : Certificate) → IsCertificate f c
         → OutcomeSays p f c (outcome f c) }

@@ -27,7 +27,7 @@ objective_there f k = by (has_objective f k)
     by true e = refl
     by false e = absurd (cc)
 
-inside_at : (s : Interval) (o : Option ℚ) → HasValueInside s o → (v : ℚ) × (o ≡ Some v) × IsInside s v
+pub inside_at : (s : Interval) (o : Option ℚ) → HasValueInside s o → (v : ℚ) × (o ≡ Some v) × IsInside s v
 inside_at s None h = absurd h
 inside_at s (Some v) h = (v, refl, h)
 

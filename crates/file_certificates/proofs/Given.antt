@@ -1,6 +1,5 @@
 -- What is given for a claim: over a file it is over its linear program, and what it shows there it shows of the file.
-use Rattle.std.proofs.Common.{◌≡◌, ℕ, suc, ◌<◌, sym, subst, refl, IsTrue, [], Option, Some, None}
-use Rattle.std.proofs.lemmas.Option.{same_Some}
+use Rattle.std.proofs.Common.{◌≡◌, ℕ, suc, ◌<◌, sym, subst, IsTrue, Option, None}
 use Rattle.std.proofs.lemmas.List.Elements.{All-weaker}
 use Rattle.fractions.specs.Rational.{ℚ, IsWhole}
 use Rattle.linear_programs.specs.Linear.{Variable, variable_count, row_count}
@@ -11,19 +10,15 @@ use Rattle.nl_model.specs.Rules.{IsFile}
 use Rattle.file_meaning.specs.FoldFaults.{fold_fault}
 use Rattle.file_meaning.specs.LinearFile.{linear_of}
 use Rattle.file_meaning.proofs.Files.{count_lem, variable_lem}
-use Rattle.certificates.specs.Certificates.{CertificateValue, CertificateTree, split, plane, lemma, duals, weights, IsTreeOver, Given, HasTree, HasWeights, IsAskedFor, IsGivenOver, IsCertificateOf, certificate_over, claim_outcome, objective_of}
+use Rattle.certificates.specs.Certificates.{CertificateValue, CertificateTree, split, plane, lemma, duals, weights, IsTreeOver, Given, IsGivenOver, IsCertificateOf, certificate_over, claim_outcome, objective_of}
 use Rattle.file_certificates.specs.Files.{IsCertificateIn, IsWholeIn}
 use Rattle.linear_program.specs.Numbers.{Pair, spread, number_value}
-use Rattle.duality.specs.Problem.{Problem}
-use Rattle.duality.specs.ProblemSays.{Denies, IsShown, OutcomeSays}
-use Rattle.duality.specs.Told.{IsToldTrue, IsTrueOf, bound as told_bound, infeasible as told_infeasible}
+use Rattle.duality.specs.ProblemSays.{Denies}
+use Rattle.duality.specs.Told.{IsToldTrue}
 use Rattle.certificates.specs.Told.{told_claim}
 use Rattle.file_certificates.specs.FileProblem.{problem_of}
-use Rattle.certificates.specs.declared.certificate.Claim.{Claim}
-use Rattle.certificates.specs.declared.certificate.Claim.TheVariants.{Optimal, Within, Bound, Feasible, Infeasible, Unbounded}
-use Rattle.certificates.proofs.Given.{is_certificate}
-use Rattle.file_certificates.proofs.Files.{rows_counted}
-use Rattle.file_certificates.proofs.Verdicts.{file_outcomes}
+use Rattle.file_certificates.proofs.Files.{meant, rows_counted}
+use Rattle.certificates.proofs.ClaimsTold.{told_denied, told_true}
 
 -- ---- a certificate of a file is one of its linear program
 tree_by : (A B : ℕ → Type 0) → ((j : ℕ) → A j → B j) → (n m : ℕ) (tree : CertificateTree) → IsTreeOver A n m tree → IsTreeOver B n m tree
@@ -71,37 +66,18 @@ certificate_of f k c h =
       few_pairs = h.few_pairs;
     }
 
--- ---- what a claim that holds says of the file
-claim_by : (p : Problem) (n m : ℕ) (claim : Claim) (g : Given) (tree : Option CertificateTree) → g.tree ≡ tree → IsAskedFor claim g → (o : Option ℚ) → IsShown p (certificate_over n m claim (record g { tree = tree })) o → IsToldTrue p (spread n g.point) (told_claim claim o)
-claim_by p n m (Optimal k) g None e asked o h = absurd (subst HasTree e asked.1)
-claim_by p n m (Optimal k) g (Some tree) e asked o h = h
-claim_by p n m (Within k b) g None e asked o h = absurd (subst HasTree e asked.1)
-claim_by p n m (Within k b) g (Some tree) e asked o h = h
-claim_by p n m (Bound k v) g None e asked o h = absurd (subst HasTree e asked.2)
-claim_by p n m (Bound k v) g (Some tree) e asked None h = let e = h.is_told in absurd (cc)
-claim_by p n m (Bound k v) g (Some tree) e asked (Some w) h = record { told = told_bound w; is_told = refl; true_of = subst (IsTrueOf p []) (sym (same_Some _ h.told h.is_told)) h.true_of }
-claim_by p n m (Feasible k) g tree e asked o h = h
-claim_by p n m Infeasible g None e asked o h = absurd (subst HasWeights e asked.2)
-claim_by p n m Infeasible g (Some tree) e asked None h = record { told = told_infeasible; is_told = refl; true_of = subst (IsTrueOf p []) (sym (same_Some _ h.told h.is_told)) h.true_of }
-claim_by p n m Infeasible g (Some tree) e asked (Some v) h = let e = h.is_told in absurd (cc)
-claim_by p n m (Unbounded k) g tree e asked o h = h
-
-pub claim_true : (f : File) (c : CertificateValue) → IsFile f → fold_fault f (objective_of c.claim) ≡ None → (h : IsCertificateIn f c) → (o : Option ℚ) → claim_outcome (linear_of f (objective_of c.claim)) c.claim h.given ≡ holds o → IsToldTrue (problem_of f (objective_of c.claim)) (spread f.counts.n_var h.given.point) (told_claim c.claim o)
+-- ---- what a claim says of the file
+pub claim_true : (f : File) (c : CertificateValue) → IsFile f → fold_fault f (objective_of c.claim) ≡ None → (h : IsCertificateIn f c) → (o : Option ℚ) → claim_outcome (linear_of f (objective_of c.claim)) c.claim h.given ≡ holds o
+    → IsToldTrue (problem_of f (objective_of c.claim)) (spread f.counts.n_var h.given.point) (told_claim c.claim o)
 claim_true f c file clean h o e =
     let k : ℕ = objective_of c.claim in
-    let n : ℕ = variable_count (linear_of f k) in
-    let m : ℕ = row_count (linear_of f k) in
-    let says = file_outcomes f k file clean (certificate_over n m c.claim h.given) (is_certificate (linear_of f k) c.claim h.given h.asked (given_of f k h.given h.fine)) in
-    subst (λ i. IsToldTrue (problem_of f k) (spread i h.given.point) (told_claim c.claim o)) (count_lem f k)
-    (claim_by (problem_of f k) n m c.claim h.given h.given.tree refl h.asked o (subst (OutcomeSays (problem_of f k) (linear_of f k) (certificate_over n m c.claim h.given)) e says))
+    subst (λ n. IsToldTrue (problem_of f k) (spread n h.given.point) (told_claim c.claim o)) (count_lem f k)
+    (told_true (linear_of f k) (problem_of f k) (meant f k file clean) c (certificate_of f k c h) o e)
 
--- ---- what a claim that fails says of the file
 pub claim_denied : (f : File) (c : CertificateValue) → IsFile f → fold_fault f (objective_of c.claim) ≡ None → (h : IsCertificateIn f c) → (cause : Cause) → claim_outcome (linear_of f (objective_of c.claim)) c.claim h.given ≡ fails cause
     → Denies (problem_of f (objective_of c.claim)) (linear_of f (objective_of c.claim)) (certificate_over f.counts.n_var f.counts.n_con c.claim h.given) cause
 claim_denied f c file clean h cause e =
     let k : ℕ = objective_of c.claim in
-    let n : ℕ = variable_count (linear_of f k) in
-    let m : ℕ = row_count (linear_of f k) in
-    let says = file_outcomes f k file clean (certificate_over n m c.claim h.given) (is_certificate (linear_of f k) c.claim h.given h.asked (given_of f k h.given h.fine)) in
-    subst (λ i. Denies (problem_of f k) (linear_of f k) (certificate_over i f.counts.n_con c.claim h.given) cause) (count_lem f k)
-    (subst (λ i. Denies (problem_of f k) (linear_of f k) (certificate_over n i c.claim h.given) cause) (rows_counted f k) (subst (OutcomeSays (problem_of f k) (linear_of f k) (certificate_over n m c.claim h.given)) e says))
+    subst (λ n. Denies (problem_of f k) (linear_of f k) (certificate_over n f.counts.n_con c.claim h.given) cause) (count_lem f k)
+    (subst (λ m. Denies (problem_of f k) (linear_of f k) (certificate_over (variable_count (linear_of f k)) m c.claim h.given) cause) (rows_counted f k)
+    (told_denied (linear_of f k) (problem_of f k) (meant f k file clean) c (certificate_of f k c h) cause e))

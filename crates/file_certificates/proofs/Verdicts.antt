@@ -1,16 +1,14 @@
 -- What verdicts on the linear program of a file say of the file: what they say of the problem that it states.
-use Rattle.std.proofs.Common.{◌≡◌, ◌↔◌, ℕ, List, None}
+use Rattle.std.proofs.Common.{◌≡◌, ℕ, List, None}
 use Rattle.fractions.specs.Rational.{ℚ}
 use Rattle.linear_programs.specs.Linear.{IsRelaxed as IsRelaxedProgram}
 use Rattle.duality.specs.Branch.{Tree, duals, open_gap, weights, AreSplitsWhole, proof_fault}
 use Rattle.duality.specs.Certificate.{Certificate, IsCertificate, outcome}
-use Rattle.duality.specs.Contrary.{IsConstraintUnmet, IsEachBeaten, IsNoneBetter, IsNoneFeasible, IsNoneRelaxed}
 use Rattle.duality.specs.LeafSays.{IsLeafDenied}
-use Rattle.duality.specs.Problem.{IsBestRelaxed, IsBound, IsBroken, IsConstraintBroken, IsInfeasible, IsReached, IsRelaxed, IsUnbounded}
+use Rattle.duality.specs.Problem.{IsBestRelaxed, IsBound, IsBroken, IsReached, IsRelaxed}
 use Rattle.duality.specs.ProblemSays.{OutcomeSays, VerdictSays}
 use Rattle.duality.specs.Solutions.{IsBound as IsBoundProgram}
 use Rattle.duality.specs.Verdict.{verdict, yes}
-use Rattle.duality.proofs.Claims.{same_bounds, same_constraints, same_infeasible, same_relaxed_infeasible, same_unbounded}
 use Rattle.duality.proofs.Problems.{bound_of, bounds, broken_at, certificates, lone_leaf, none_relaxed, outcomes, verdicts}
 use Rattle.nl_model.specs.File.{File}
 use Rattle.nl_model.specs.Rules.{IsFile}
@@ -20,21 +18,6 @@ use Rattle.file_certificates.specs.FileProblem.{problem_of}
 use Rattle.file_certificates.proofs.Files.{meant}
 
 module _ (f : File) (k : ℕ) (file : IsFile f) (clean : fold_fault f k ≡ None) where
-  pub file_bounds : (v : ℚ) → IsBound (problem_of f k) v ↔ IsNoneBetter (problem_of f k) v
-  file_bounds = same_bounds (linear_of f k) (problem_of f k) (meant f k file clean)
-
-  pub file_infeasible : IsInfeasible (problem_of f k) ↔ IsNoneFeasible (problem_of f k)
-  file_infeasible = same_infeasible (linear_of f k) (problem_of f k) (meant f k file clean)
-
-  pub file_relaxed : ((xs : List ℚ) → IsBroken (problem_of f k) xs) ↔ IsNoneRelaxed (problem_of f k)
-  file_relaxed = same_relaxed_infeasible (linear_of f k) (problem_of f k) (meant f k file clean)
-
-  pub file_unbounded : IsUnbounded (problem_of f k) ↔ IsEachBeaten (problem_of f k)
-  file_unbounded = same_unbounded (linear_of f k) (problem_of f k) (meant f k file clean)
-
-  pub file_constraints : (xs : List ℚ) (i : ℕ) → IsConstraintBroken (problem_of f k) xs i ↔ IsConstraintUnmet (problem_of f k) xs i
-  file_constraints = same_constraints (linear_of f k) (problem_of f k) (meant f k file clean)
-
   -- what holds of its linear program
   pub file_bound_of : (v : ℚ) → IsBoundProgram (linear_of f k) v → IsBound (problem_of f k) v
   file_bound_of = bound_of (linear_of f k) (problem_of f k) (meant f k file clean)

@@ -1,4 +1,4 @@
-use Rattle.file_certificates.proofs.Verdicts.{file_bounds, file_constraints, file_infeasible, file_relaxed, file_unbounded}
+use Rattle.file_certificates.proofs.FileClaims.{file_bounds, file_constraints, file_infeasible, file_relaxed, file_unbounded}
 use Rattle.file_certificates.proofs.laws.claims_are_contrary.Goals as goal
 
 pub returns-clause-bounds : goal.returns-clause-bounds
