@@ -10,4 +10,5 @@ pub mod Numbers
 pub mod OneFile
 pub mod Returning
 pub mod SeveralFiles
+pub mod Certificates
 pub mod Verdicts
