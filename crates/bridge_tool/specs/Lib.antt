@@ -36,3 +36,5 @@ pub mod ToldLines
 pub mod Transfer
 pub mod VerdictTold
 pub mod Verify
+pub mod VerifyMps
+pub mod InsideVerifyMps

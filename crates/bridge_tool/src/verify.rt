@@ -27,8 +27,8 @@ use nl_segments::NlRead;
 use std::alloc::{AllocError, Global};
 use text_base::{Desk, Ledger, Steps, Stop};
 
-// The verdict on a certificate for a linear program.
-fn outcome_on(
+/// The verdict on a certificate for a linear program.
+pub(crate) fn outcome_on(
     alloc: Global,
     linear: &Linear,
     certificate: &Certificate,
@@ -42,8 +42,8 @@ fn outcome_on(
     Ok(outcome)
 }
 
-// Whether the claim holds, and the line of the verdict.
-fn told_outcome(
+/// Whether the claim holds, and the line of the verdict.
+pub(crate) fn told_outcome(
     alloc: Global,
     certificate: &Certificate,
     outcome: Outcome,
