@@ -11,6 +11,7 @@ use Rattle.bridge_tool.specs.declared.refusal.Refusal.{Refusal}
 use Rattle.bridge_tool.specs.InsideAnswer.{IsWorked, Ends, EndsWriting, status_of, told_by, HasWritten, HasStopped}
 use Rattle.bridge_tool.specs.Outcome.{Outcome, BadWords, Untold, NoText, Refused, Done, Status, Written, IsQuiet, told_line, verdict_status}
 use Rattle.bridge_tool.specs.Promise.{Promise}
+use Rattle.bridge_tool.specs.SeveralFiles.{ByVerdict}
 use Rattle.bridge_tool.specs.Transfer.{AppendsPart}
 use Rattle.bridge_tool.specs.declared.answer.Answer.{Answer}
 use Rattle.bridge_tool.specs.declared.answer.Answer.TheVariants.{Done as IsDone, Refused as IsRefusal, InputFault, OutputFault, NoMemory}
@@ -70,9 +71,13 @@ untold_verdict judges true input output may = inl refl
 untold_verdict judges false input output (inl e) = absurd cc
 untold_verdict judges false input output (inr j) = inr (inl (j, refl))
 
-meant : (verdict : Bool) (M : Type 0) → (verdict ≡ true → M) → verdict_status verdict ≡ 0 → M
-meant true M h e = h refl
-meant false M h e = absurd (omega (arith, e))
+meant : (verdict : Bool) (M D : Type 0) → ByVerdict verdict M D → verdict_status verdict ≡ 0 → M
+meant true M D h e = h
+meant false M D h e = absurd (omega (arith, e))
+
+denied : (verdict : Bool) (M D : Type 0) → ByVerdict verdict M D → verdict_status verdict ≡ 1 → D
+denied true M D h e = absurd (omega (arith, e))
+denied false M D h e = h
 
 -- The command with this promise has read its files, and the desk stands so; it comes to this outcome, where the desk
 -- tells its texts.
@@ -97,6 +102,7 @@ module _ (p : Promise) (judges : Bool) (old mid : Meaning) where
         quiet = λ q. rest.written;
         left = left;
         means = λ e. absurd (low (omega (arith, e)));
+        denies = λ e. absurd (low (omega (arith, e)));
         input_later = later;
         output_later = omega (arith, rest.output_faults);
         input = input;
@@ -123,7 +129,7 @@ module _ (p : Promise) (judges : Bool) (old mid : Meaning) where
       (λ o h. elim (j.knows o h) [ inl e ↦ rw e (inr (inr (inl refl))) | inr e ↦ rw e (inl refl) ]) (λ o h. elim (j.knows o h) [ inl e ↦ rw e tt | inr e ↦ rw e refl ])
       (λ q text is. j.left text is) (omega (arith, j.same)) (λ lt. absurd (omega (arith, lt, j.same))) j.rest
 
-  done_worked : (new : Meaning) (verdict : Bool) (bytes : List ℕ) → HasComeTo p judges old mid (Done verdict bytes) → (verdict ≡ true) ⊎ IsTrue judges → (verdict ≡ true → p.means) → HasWritten bytes mid new → IsWorked p old new (IsDone verdict)
+  done_worked : (new : Meaning) (verdict : Bool) (bytes : List ℕ) → HasComeTo p judges old mid (Done verdict bytes) → (verdict ≡ true) ⊎ IsTrue judges → ByVerdict verdict p.means p.denies → HasWritten bytes mid new → IsWorked p old new (IsDone verdict)
   done_worked new verdict bytes j may means h =
       let all : Appends old.written new.written bytes = subst (λ (w : Option (List ℕ)). Appends w new.written bytes) j.rest.written h.all in
       let le : verdict_status verdict ≤ 1 = low verdict in
@@ -133,7 +139,8 @@ module _ (p : Promise) (judges : Bool) (old mid : Meaning) where
         line = λ o c. no_line o (verdict_status verdict) _ le;
         quiet = λ q. absurd (not_quiet _ le q);
         left = λ q text is. h.rest.left ∙ j.left text is;
-        means = meant verdict p.means means;
+        means = meant verdict p.means p.denies means;
+        denies = denied verdict p.means p.denies means;
         input_later = omega (arith, j.same, h.rest.input_faults);
         output_later = omega (arith, h.count, j.rest.output_faults);
         input = λ lt. absurd (omega (arith, lt, j.same, h.rest.input_faults));
@@ -154,6 +161,7 @@ module _ (p : Promise) (judges : Bool) (old mid : Meaning) where
         quiet = λ q. absurd (five_is_loud q);
         left = λ q text is. h.rest.left ∙ j.left text is;
         means = λ e. absurd (omega (arith, e));
+        denies = λ e. absurd (omega (arith, e));
         input_later = omega (arith, j.same, h.rest.input_faults);
         output_later = omega (arith, h.later, j.rest.output_faults);
         input = λ lt. absurd (omega (arith, lt, j.same, h.rest.input_faults));
@@ -164,7 +172,7 @@ module _ (p : Promise) (judges : Bool) (old mid : Meaning) where
       }
 
   -- the bytes of the outcome were written, or an output call failed
-  pub wrote_worked : (new : Meaning) (verdict : Bool) (bytes : List ℕ) (answer : Answer) → HasComeTo p judges old mid (Done verdict bytes) → (verdict ≡ true) ⊎ IsTrue judges → (verdict ≡ true → p.means) → EndsWriting verdict bytes mid new answer → IsWorked p old new answer
+  pub wrote_worked : (new : Meaning) (verdict : Bool) (bytes : List ℕ) (answer : Answer) → HasComeTo p judges old mid (Done verdict bytes) → (verdict ≡ true) ⊎ IsTrue judges → ByVerdict verdict p.means p.denies → EndsWriting verdict bytes mid new answer → IsWorked p old new answer
   wrote_worked new verdict bytes answer j may means (inl h) = rw h.0 (done_worked new verdict bytes j may means h.1)
   wrote_worked new verdict bytes answer j may means (inr h) = rw h.0 (output_worked new verdict bytes j h.1)
 

@@ -21,7 +21,7 @@ use Rattle.bridge_tool.proofs.OneFile.{import_last, fixed_last, mps_last, nl_las
 use Rattle.bridge_tool.proofs.Making.{make_one}
 use Rattle.bridge_tool.proofs.NameLists.{listed_sound}
 use Rattle.bridge_tool.proofs.NamedExporting.{after_names as named_next, names_sound as named_next_sound}
-use Rattle.bridge_tool.proofs.SeveralFiles.{HasOne, IsPlain, both_sound, last_sound}
+use Rattle.bridge_tool.proofs.SeveralFiles.{HasOne, IsPlain, NoVerdict, both_sound, last_sound}
 use Rattle.bridge_tool.proofs.Returning.{after_names as return_next, names_sound as return_next_sound, return_last}
 use Rattle.std.proofs.lemmas.Bool.{cases_lt}
 use Rattle.std.proofs.lemmas.Option.{IfSome_then}
@@ -42,17 +42,17 @@ Any outcome = Unit {0}
 
 -- with the texts of a desk that tells them
 pub told_has_one : (texts : Texts) (c : Command) → HasOne IsPlain (promise_of (Some texts) c).comes
-told_has_one texts (Export file k) = (last_sound (export_last k) (λ nl. IsExportMeant nl k) file texts).one
+told_has_one texts (Export file k) = (last_sound (export_last k) (λ nl. IsExportMeant nl k) NoVerdict file texts).one
 told_has_one texts (Make seed size) = make_one seed size
-told_has_one texts (Nl file) = (last_sound nl_last (λ nl. IsText nl.file (nl_text nl.file)) file texts).one
-told_has_one texts (Mps file) = (last_sound mps_last IsMpsMeant file texts).one
-told_has_one texts (Sol file) = (last_sound sol_last IsSolMeant file texts).one
-told_has_one texts (Check nl sol) = (both_sound nl_read check_last IsCertified nl sol texts).one
-told_has_one texts (Import file) = (last_sound import_last MeansTheProgram file texts).one
-told_has_one texts (Prove nl proof) = (both_sound nl_read prove_last IsProvedOf nl proof texts).one
-told_has_one texts (Verify nl certificate) = (both_sound nl_read verify_last IsVerified nl certificate texts).one
-told_has_one texts (Fixed file) = (last_sound fixed_last IsMpsMeant file texts).one
-told_has_one texts (Return nl answer) = (both_sound nl_read return_last IsReturnMeant nl answer texts).one
+told_has_one texts (Nl file) = (last_sound nl_last (λ nl. IsText nl.file (nl_text nl.file)) NoVerdict file texts).one
+told_has_one texts (Mps file) = (last_sound mps_last IsMpsMeant NoVerdict file texts).one
+told_has_one texts (Sol file) = (last_sound sol_last IsSolMeant NoVerdict file texts).one
+told_has_one texts (Check nl sol) = (both_sound nl_read check_last IsCertified (λ nl. NoVerdict) nl sol texts).one
+told_has_one texts (Import file) = (last_sound import_last MeansTheProgram NoVerdict file texts).one
+told_has_one texts (Prove nl proof) = (both_sound nl_read prove_last IsProvedOf (λ nl. NoVerdict) nl proof texts).one
+told_has_one texts (Verify nl certificate) = (both_sound nl_read verify_last IsVerified (λ nl. NoVerdict) nl certificate texts).one
+told_has_one texts (Fixed file) = (last_sound fixed_last IsMpsMeant NoVerdict file texts).one
+told_has_one texts (Return nl answer) = (both_sound nl_read return_last IsReturnMeant (λ nl. NoVerdict) nl answer texts).one
 told_has_one texts (NamedExport file k rows columns) = (listed_sound false 2 file rows columns (named_next k columns) (named_next_sound k columns) texts).one
 told_has_one texts (NamedReturn nl answer rows columns) = (listed_sound false 3 nl rows columns (return_next answer) (return_next_sound answer) texts).one
 
@@ -94,6 +94,7 @@ pub record IsAnswered (p : Promise) (old new : Meaning) (status : ℕ) : Type 0 
   pub told : (o : Outcome) → p.comes o → Told o old.told new.told old.message_faults new.message_faults status
   pub silent : status ≤ 1 → new.told ≡ old.told
   pub means : status ≡ 0 → p.means
+  pub denies : status ≡ 1 → p.denies
 
 answered_so : (p : Promise) (old mid new : Meaning) (answer : Answer) → IsWorked p old mid answer
     → (1 < status_of answer → TellsFront mid.told new.told mid.message_faults new.message_faults (told_by answer))
@@ -110,6 +111,7 @@ answered_so p old mid new answer h tells silent rest =
       told = λ o c. told_by_status o (status_of answer) (told_by answer) P (h.line o c) (cases_lt 1 (status_of answer)) tells_old;
       silent = λ le. silent le ∙ h.told;
       means = λ e. h.means e;
+      denies = λ e. h.denies e;
     }
 
 pub answered : (p : Promise) (old mid new : Meaning) (answer : Answer) (status : ℕ) → IsWorked p old mid answer → status ≡ status_of answer
@@ -127,6 +129,7 @@ module _ (p : Promise) (old new : Meaning) (status : ℕ) (a : IsAnswered p old 
     denied = (λ z. absurd (omega (arith, z, high)), λ e. absurd (is_not false e.0 e.1));
     wrote = λ holds bytes c. absurd (is_not holds bytes c);
     means = λ z. absurd (omega (arith, z, high));
+    denies = λ z. absurd (omega (arith, z, high));
     other = inr why;
   }
 
@@ -158,6 +161,7 @@ module _ (p : Promise) (old new : Meaning) (status : ℕ) (a : IsAnswered p old 
         denied = (λ z. absurd (omega (arith, z, is)), λ e. verdict false e.0 e.1);
         wrote = wrote;
         means = a.means;
+        denies = a.denies;
         other = inl (omega (arith, is));
       }
 
@@ -169,6 +173,7 @@ module _ (p : Promise) (old new : Meaning) (status : ℕ) (a : IsAnswered p old 
         denied = (λ z. (bytes, h), λ e. is);
         wrote = wrote;
         means = a.means;
+        denies = a.denies;
         other = inl (omega (arith, is));
       }
 

@@ -43,7 +43,7 @@ use Rattle.bridge_tool.specs.declared.answer.Answer.{Answer}
 use Rattle.bridge_tool.proofs.Ending.{HasComeTo, ends_status, memory_worked, refused_worked, wrote_worked}
 use Rattle.bridge_tool.proofs.Exporting.{an_export, exports_so, nl_read, one_program, one_text, same_file, staged_either, staged_so}
 use Rattle.bridge_tool.proofs.Known.{OnlyInput-same}
-use Rattle.bridge_tool.proofs.SeveralFiles.{HasOne, IsPlain, done_so, one_of_both, one_by_value, plain_known}
+use Rattle.bridge_tool.proofs.SeveralFiles.{HasOne, IsPlain, done_so, of_yes, one_by_value, one_of_both, plain_known}
 
 -- ---- coefficients
 
@@ -183,7 +183,7 @@ module _ (seed size : ℕ) where
   pub make_worked : size ≤ 20000 → (old new : Meaning) (judged : Result (Bool × Vec ℕ) (Stop Refusal)) (answer : Answer) → Comes (make_promise seed size).comes judged → Ends judged old new answer
       → IsWorked (make_promise seed size) old new answer
   make_worked few old new (Ok t) answer comes ends =
-      wrote_worked (make_promise seed size) false old old new t.0 t.1.items answer (come old (Done t.0 t.1.items) comes) (inl (holds_so t.0 t.1.items comes)) (λ e. instance_summed_up seed size few) ends
+      wrote_worked (make_promise seed size) false old old new t.0 t.1.items answer (come old (Done t.0 t.1.items) comes) (inl (holds_so t.0 t.1.items comes)) (of_yes t.0 (IsInstanceSummedUp seed size) (λ e. instance_summed_up seed size few)) ends
   make_worked few old new (Err (IsFault refusal)) answer comes ends =
       rw (ends.0, ends.1) (refused_worked (make_promise seed size) false old old refusal (come old (Refused (refusal_line refusal)) comes))
   make_worked few old new (Err IsMemory) answer comes ends =

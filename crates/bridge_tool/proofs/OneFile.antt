@@ -17,7 +17,7 @@ use Rattle.bridge_tool.specs.Fixed.{IsFixedRefused, fixed_told}
 use Rattle.bridge_tool.specs.MpsTold.{mps_line}
 use Rattle.bridge_tool.specs.Outcome.{Done, Outcome, Refused}
 use Rattle.bridge_tool.specs.Promise.{Promise}
-use Rattle.bridge_tool.proofs.SeveralFiles.{AreRead, read_by, same_one, IsLast, read_so, IsPlain, one_refused, one_said, writes_last}
+use Rattle.bridge_tool.proofs.SeveralFiles.{AreRead, read_by, same_one, IsLast, read_so, IsPlain, of_yes, one_refused, one_said, writes_last}
 use Rattle.sol_files.specs.Reader.{HasSolFault, IsSol}
 use Rattle.sol_files.specs.Sol.{Sol}
 use Rattle.sol_files.specs.Written.{sol_text}
@@ -39,7 +39,7 @@ use Rattle.mps_import.specs.declared.import_fault.ImportFault.{ImportFault}
 use Rattle.mps_import.specs.Faults.{import_fault}
 use Rattle.texts.specs.declared.stop.Stop.{Stop}
 use Rattle.bridge_tool.specs.Import.{MeansTheProgram, by_fault, import_outcome, CannotBeImported, IsImportedAs, import_told}
-use Rattle.bridge_tool.specs.SeveralFiles.{Comes, after_file, ends, writes}
+use Rattle.bridge_tool.specs.SeveralFiles.{ByVerdict, Comes, after_file, ends, writes}
 use Rattle.bridge_tool.specs.declared.refusal.Refusal.{Refusal}
 use Rattle.desk.specs.Desk.{Texts}
 use Rattle.mps_import.specs.Import.{import_of}
@@ -109,8 +109,8 @@ module _ (m : Mps Dec) where
       let clean = clean_by (import_fault m) holds bytes e in
       record { feasible = λ xs. feasible_lem m clean xs; objective = λ xs. objective_lem m xs; sense = sense_lem m }
 
-pub meant_so : (m : Mps Dec) (judged : Result (Bool × Vec ℕ) (Stop Refusal)) → Comes (λ outcome. outcome ≡ import_outcome m) judged → IfOk judged (λ t. t.0 ≡ true → MeansTheProgram m)
-meant_so m (Ok t) h = λ e. import_meant m t.0 t.1.items h
+pub meant_so : (m : Mps Dec) (judged : Result (Bool × Vec ℕ) (Stop Refusal)) → Comes (λ outcome. outcome ≡ import_outcome m) judged → IfOk judged (λ t. ByVerdict t.0 (MeansTheProgram m) (Unit {0}))
+meant_so m (Ok t) h = of_yes t.0 (MeansTheProgram m) (λ e. import_meant m t.0 t.1.items h)
 meant_so m (Err stop) h = tt
 
 pub import_last : IsLast false IsMpsText IsMpsRefused (λ m outcome. outcome ≡ import_outcome m) (λ m old new. new ≡ old)

@@ -30,7 +30,7 @@ use Rattle.bridge_tool.specs.declared.refusal.Refusal.TheVariants.{Answer, Retur
 use Rattle.bridge_tool.specs.Return.{IsAnswerRefused, IsReturnMeant, IsReturned, IsReturnRefused, Makes, ReturnsAs, after_answer}
 use Rattle.bridge_tool.specs.SeveralFiles.{Says, itself}
 use Rattle.bridge_tool.specs.Stages.{HasFolded, HasScaled, CanBeExported, CannotBeExported, fold_steps}
-use Rattle.bridge_tool.proofs.SeveralFiles.{AreRead, read_by, IsEither, IsLast, IsSound, either_last, last_sound}
+use Rattle.bridge_tool.proofs.SeveralFiles.{AreRead, IsEither, IsLast, IsSound, NoVerdict, either_last, last_sound, read_by}
 use Rattle.bridge_tool.proofs.Exporting.{folded_at, one_reason, staged, staged_or_not, staged_so}
 
 -- ---- the second file
@@ -112,4 +112,4 @@ module _ (answer : List â„•) (nl : NlValue) (texts : Texts) (r c : List (List â„
   after_names = after_answer (named_setting nl.file r c) nl texts answer
 
   pub names_sound : IsSound after_names
-  names_sound = last_sound (answer_last (named_setting nl.file r c) nl) (IsReturnMeant nl) answer texts
+  names_sound = last_sound (answer_last (named_setting nl.file r c) nl) (IsReturnMeant nl) NoVerdict answer texts

@@ -15,7 +15,7 @@ use Rattle.texts.specs.declared.stop.Stop.TheVariants.{Fault, Memory}
 use Rattle.bridge_tool.specs.InsideRefusal.{refusal_line}
 use Rattle.bridge_tool.specs.InsideAnswer.{IsAtRest, IsCounted, IsWorked, Ends, Missed, status_of}
 use Rattle.bridge_tool.specs.Promise.{Promise}
-use Rattle.bridge_tool.specs.SeveralFiles.{Answered, ByValue, Comes, HasEnded, HasSaid, ReadsFile, Says, after_file, desk_promise, ends}
+use Rattle.bridge_tool.specs.SeveralFiles.{Answered, ByValue, ByVerdict, Comes, HasEnded, HasSaid, ReadsFile, Says, after_file, desk_promise, judges_last}
 use Rattle.bridge_tool.specs.declared.refusal.Refusal.{Refusal}
 use Rattle.bridge_tool.specs.Transfer.{HasRead, HasReadCause, IsFrontRead, ReadsFront}
 use Rattle.bridge_tool.specs.declared.answer.Answer.{Answer}
@@ -118,8 +118,8 @@ pub record IsSound (p : Promise) : Type 0 where
   pub last : (a b : List ℕ) → p.last a → p.last b → a ≡ b
   pub idle : (n : ℕ) → p.counts n n
 
-pub sound_end : (texts : Texts) (file : List ℕ) (comes : Outcome → Type 0) (counts : ℕ → ℕ → Type 0) (means : Type 0) → HasOne IsPlain comes → ((n : ℕ) → counts n n) → IsSound (ends texts file comes counts means)
-sound_end texts file comes counts means one idle = record {
+pub sound_end : (texts : Texts) (file : List ℕ) (comes : Outcome → Type 0) (counts : ℕ → ℕ → Type 0) (means denies : Type 0) → HasOne IsPlain comes → ((n : ℕ) → counts n n) → IsSound (judges_last texts file comes counts means denies)
+sound_end texts file comes counts means denies one idle = record {
   one = one;
   last = λ a b h k. same_Some a b (sym h ∙ k);
   idle = idle;
@@ -174,6 +174,7 @@ module _ {V : Type 0} (reads : List ℕ → V → Type 0) (refuses : List ℕ �
       last = λ last. ByValue reads refuses text (λ line. last ≡ whole) (λ value. (next value).last last);
       counts = λ old new. ByValue reads refuses text (λ line. new ≡ old) (λ value. (next value).counts old new);
       means = ByValue reads refuses text (λ line. ⊥) (λ value. (next value).means);
+      denies = ByValue reads refuses text (λ line. ⊥) (λ value. (next value).denies);
     })
     sound_text = record { one = one_by_value d (λ value. (next value).comes) (λ value. (s value).one) text; last = one_last; idle = idle_text }
 
@@ -182,6 +183,7 @@ module _ {V : Type 0} (reads : List ℕ → V → Type 0) (refuses : List ℕ �
     last = λ last. MatchOption text ⊥ (λ text. ByValue reads refuses (take LIMIT text) (λ line. last ≡ text) (λ value. (next value).last last));
     counts = λ old new. MatchOption text (new ≡ old) (λ text. ByValue reads refuses (take LIMIT text) (λ line. new ≡ old) (λ value. (next value).counts old new));
     means = MatchOption text ⊥ (λ text. ByValue reads refuses (take LIMIT text) (λ line. ⊥) (λ value. (next value).means));
+    denies = MatchOption text ⊥ (λ text. ByValue reads refuses (take LIMIT text) (λ line. ⊥) (λ value. (next value).denies));
   })
   sound_by d next s None = record {
     one = record { outcome = NoText; comes_to = refl; is = tt; one = λ other j. j };
@@ -232,9 +234,10 @@ pub record IsPartOf (q p : Promise) : Type 0 where
   pub last : (text : List ℕ) → q.last text → p.last text
   pub counts : (m n : ℕ) → q.counts m n → p.counts m n
   pub means : q.means → p.means
+  pub denies : q.denies → p.denies
 
 whole : (p : Promise) → IsPartOf p p
-whole p = record { comes = λ o h. h; last = λ t h. h; counts = λ m n h. h; means = λ h. h }
+whole p = record { comes = λ o h. h; last = λ t h. h; counts = λ m n h. h; means = λ h. h; denies = λ h. h }
 
 module _ {V : Type 0} (reads : List ℕ → V → Type 0) (refuses : List ℕ → List ℕ → Type 0) where
   -- what is next is left where the file says its value
@@ -244,6 +247,7 @@ module _ {V : Type 0} (reads : List ℕ → V → Type 0) (refuses : List ℕ �
     last = λ l h. rw is (inr (value, (r, h)));
     counts = λ m n h. rw is (inr (value, (r, h)));
     means = λ h. rw is (inr (value, (r, h)));
+    denies = λ h. rw is (inr (value, (r, h)));
   }
 
 part_of_part : (r q p : Promise) → IsPartOf r q → IsPartOf q p → IsPartOf r p
@@ -252,6 +256,7 @@ part_of_part r q p h k = record {
   last = λ t x. k.last t (h.last t x);
   counts = λ m n x. k.counts m n (h.counts m n x);
   means = λ x. k.means (h.means x);
+  denies = λ x. k.denies (h.denies x);
 }
 
 -- the bytes that a file said something with are its first bytes
@@ -369,10 +374,13 @@ module _ (told : Texts → Promise) (judges : Bool) where
 
     -- ---- all files were read
 
-    module _ {R V : Type 0} (seen : R → V) (reads : List ℕ → V → Type 0) (refuses : List ℕ → List ℕ → Type 0) (file : List ℕ) (comes : V → Outcome → Type 0) (counts : V → ℕ → ℕ → Type 0) (means : V → Type 0) (old before mid : Meaning)
-        (h : HasComeDown (λ texts. after_file reads refuses texts file (λ value. ends texts file (comes value) (counts value) (means value))) old before) (value : R) (read : ReadsFile seen reads refuses file before mid (Ok value)) where
-      down : HasComeDown (λ texts. ends texts file (comes (seen value)) (counts (seen value)) (means (seen value))) old mid
-      down = further seen reads refuses file (λ texts value. ends texts file (comes value) (counts value) (means value)) old before mid h value read
+    module _ {R V : Type 0} (seen : R → V) (reads : List ℕ → V → Type 0) (refuses : List ℕ → List ℕ → Type 0) (file : List ℕ) (comes : V → Outcome → Type 0) (counts : V → ℕ → ℕ → Type 0) (means denies : V → Type 0) (old before mid : Meaning)
+        (h : HasComeDown (λ texts. after_file reads refuses texts file (λ value. judges_last texts file (comes value) (counts value) (means value) (denies value))) old before) (value : R) (read : ReadsFile seen reads refuses file before mid (Ok value)) where
+      abbrev ending : Texts → V → Promise
+      ending texts value = judges_last texts file (comes value) (counts value) (means value) (denies value)
+
+      down : HasComeDown (λ texts. ending texts (seen value)) old mid
+      down = further seen reads refuses file ending old before mid h value read
 
       has_come_to : (x : Outcome) → comes (seen value) x → HasComeTo (desk_promise judges told old.texts) judges old mid x
       has_come_to x is = record {
@@ -385,27 +393,29 @@ module _ (told : Texts → Promise) (judges : Bool) where
         rest = down.rest;
       }
 
-      meant : (texts : Option Texts) → ((t : Texts) → texts ≡ Some t → IsPartOf (ends t file (comes (seen value)) (counts (seen value)) (means (seen value))) (told t)) → means (seen value) → (desk_promise judges told texts).means
-      meant None part m = tt
-      meant (Some texts) part m = (part texts refl).means m
+      meant : (verdict : Bool) (texts : Option Texts) → ((t : Texts) → texts ≡ Some t → IsPartOf (ending t (seen value)) (told t)) → ByVerdict verdict (means (seen value)) (denies (seen value)) → ByVerdict verdict (desk_promise judges told texts).means (desk_promise judges told texts).denies
+      meant true None part m = tt
+      meant false None part m = tt
+      meant true (Some texts) part m = (part texts refl).means m
+      meant false (Some texts) part m = (part texts refl).denies m
 
       judged_as : (new : Meaning) (judged : Result (Bool × Vec ℕ) (Stop Refusal)) (answer : Answer)
           → Comes (comes (seen value)) judged
-          → IfOk judged (λ t. ((t.0 ≡ true) ⊎ IsTrue judges) × (t.0 ≡ true → means (seen value)))
+          → IfOk judged (λ t. ((t.0 ≡ true) ⊎ IsTrue judges) × ByVerdict t.0 (means (seen value)) (denies (seen value)))
           → Ends judged mid new answer
           → IsWorked (desk_promise judges told old.texts) old new answer
-      judged_as new (Ok t) answer is m e = wrote_worked _ judges old mid new t.0 t.1.items answer (has_come_to (IsDone t.0 t.1.items) is) m.0 (λ yes. meant old.texts down.of (m.1 yes)) e
+      judged_as new (Ok t) answer is m e = wrote_worked _ judges old mid new t.0 t.1.items answer (has_come_to (IsDone t.0 t.1.items) is) m.0 (meant t.0 old.texts down.of m.1) e
       judged_as new (Err (Fault refusal)) answer is m e = rw (e.0, e.1) (refused_worked _ judges old mid refusal (has_come_to (IsRefusal (refusal_line refusal)) is))
       judged_as new (Err Memory) answer is m e = rw (e.0, e.1) (memory_worked _ judges old mid (λ o c. known_by old.texts o c) down.same down.rest)
 
-      counted_by : (texts : Option Texts) (m n : ℕ) → ((t : Texts) → texts ≡ Some t → IsPartOf (ends t file (comes (seen value)) (counts (seen value)) (means (seen value))) (told t)) → counts (seen value) m n → (desk_promise judges told texts).counts m n
+      counted_by : (texts : Option Texts) (m n : ℕ) → ((t : Texts) → texts ≡ Some t → IsPartOf (ending t (seen value)) (told t)) → counts (seen value) m n → (desk_promise judges told texts).counts m n
       counted_by None m n part c = tt
       counted_by (Some texts) m n part c = (part texts refl).counts m n c
 
       -- the values were judged so with these steps, and the command ended with this answer
       pub ended : (m n : ℕ) (new : Meaning) (judged : Result (Bool × Vec ℕ) (Stop Refusal)) (answer : Answer)
           → Comes (comes (seen value)) judged
-          → IfOk judged (λ t. ((t.0 ≡ true) ⊎ IsTrue judges) × (t.0 ≡ true → means (seen value)))
+          → IfOk judged (λ t. ((t.0 ≡ true) ⊎ IsTrue judges) × ByVerdict t.0 (means (seen value)) (denies (seen value)))
           → Ends judged mid new answer → m ≤ n → counts (seen value) m n
           → IsCounted (desk_promise judges told old.texts) old new m n answer
       ended m n new judged answer is meant e above c =
@@ -436,6 +446,10 @@ module _ {V : Type 0} {reads : List ℕ → V → Type 0} {refuses : List ℕ �
   first_down seen old new value read = further from_first judges seen reads refuses file next old old new (begun from_first judges old) value read
 
 -- ---- the last file of a command
+
+-- a command that gives no verdict promises nothing of another verdict
+abbrev pub NoVerdict : {V : Type 0} → V → Type 0
+NoVerdict value = Unit {0}
 
 -- what has to be shown of it, and of what its value comes to
 pub record IsLast (judges : Bool) {V : Type 0} (reads : List ℕ → V → Type 0) (refuses : List ℕ → List ℕ → Type 0) (comes : V → Outcome → Type 0) (counts : V → ℕ → ℕ → Type 0) : Type 0 where
@@ -472,20 +486,20 @@ module _ {V : Type 0} {reads : List ℕ → V → Type 0} {refuses : List ℕ �
     verdict = λ value holds bytes e. inr refl;
   }
 
-judged_so : (judges : Bool) (comes : Outcome → Type 0) (means : Type 0) (judged : Result (Bool × Vec ℕ) (Stop Refusal)) → ((holds : Bool) (bytes : List ℕ) → comes (IsDone holds bytes) → (holds ≡ true) ⊎ IsTrue judges)
-    → Comes comes judged → IfOk judged (λ t. t.0 ≡ true → means) → IfOk judged (λ t. ((t.0 ≡ true) ⊎ IsTrue judges) × (t.0 ≡ true → means))
-judged_so judges comes means (Ok t) may is m = (may t.0 t.1.items is, m)
-judged_so judges comes means (Err stop) may is m = tt
+judged_so : (judges : Bool) (comes : Outcome → Type 0) (means denies : Type 0) (judged : Result (Bool × Vec ℕ) (Stop Refusal)) → ((holds : Bool) (bytes : List ℕ) → comes (IsDone holds bytes) → (holds ≡ true) ⊎ IsTrue judges)
+    → Comes comes judged → IfOk judged (λ t. ByVerdict t.0 means denies) → IfOk judged (λ t. ((t.0 ≡ true) ⊎ IsTrue judges) × ByVerdict t.0 means denies)
+judged_so judges comes means denies (Ok t) may is m = (may t.0 t.1.items is, m)
+judged_so judges comes means denies (Err stop) may is m = tt
 
-module _ {judges : Bool} {V : Type 0} {reads : List ℕ → V → Type 0} {refuses : List ℕ → List ℕ → Type 0} {comes : V → Outcome → Type 0} {counts : V → ℕ → ℕ → Type 0} (l : IsLast judges reads refuses comes counts) (means : V → Type 0) (file : List ℕ) where
+module _ {judges : Bool} {V : Type 0} {reads : List ℕ → V → Type 0} {refuses : List ℕ → List ℕ → Type 0} {comes : V → Outcome → Type 0} {counts : V → ℕ → ℕ → Type 0} (l : IsLast judges reads refuses comes counts) (means denies : V → Type 0) (file : List ℕ) where
   abbrev the_end : Texts → V → Promise
-  the_end texts value = ends texts file (comes value) (counts value) (means value)
+  the_end texts value = judges_last texts file (comes value) (counts value) (means value) (denies value)
 
   abbrev from_last : Texts → Promise
   from_last texts = after_file reads refuses texts file (the_end texts)
 
   end_sound : (texts : Texts) (value : V) → IsSound (the_end texts value)
-  end_sound texts value = sound_end texts file (comes value) (counts value) (means value) (l.one value) (l.idle value)
+  end_sound texts value = sound_end texts file (comes value) (counts value) (means value) (denies value) (l.one value) (l.idle value)
 
   pub last_sound : (texts : Texts) → IsSound (from_last texts)
   last_sound texts = sound_after reads refuses l.read texts file (the_end texts) (end_sound texts)
@@ -498,29 +512,29 @@ module _ {judges : Bool} {V : Type 0} {reads : List ℕ → V → Type 0} {refus
 
     -- all was judged
     pub last_ended : {R : Type 0} (seen : R → V) (new : Meaning) (value : R) → ReadsFile {R = R} seen reads refuses file mid new (Ok value) → (m n : ℕ) (last : Meaning) (judged : Result (Bool × Vec ℕ) (Stop Refusal)) (answer : Answer)
-        → Comes (comes (seen value)) judged → IfOk judged (λ t. t.0 ≡ true → means (seen value)) → Ends judged new last answer → m ≤ n → counts (seen value) m n
+        → Comes (comes (seen value)) judged → IfOk judged (λ t. ByVerdict t.0 (means (seen value)) (denies (seen value))) → Ends judged new last answer → m ≤ n → counts (seen value) m n
         → IsCounted (desk_promise judges told old.texts) old last m n answer
     last_ended seen new value read m n last judged answer is meant end above c =
-        ended told judges s seen reads refuses file comes counts means old mid new down value read m n last judged answer is (judged_so judges (comes (seen value)) (means (seen value)) judged (l.verdict (seen value)) is meant) end above c
+        ended told judges s seen reads refuses file comes counts means denies old mid new down value read m n last judged answer is (judged_so judges (comes (seen value)) (means (seen value)) (denies (seen value)) judged (l.verdict (seen value)) is meant) end above c
 
   -- of a command of this file alone
   pub only_stopped : {R : Type 0} (seen : R → V) (n : ℕ) (old new : Meaning) (answer : Answer) → ReadsFile {R = R} seen reads refuses file old new (Err answer) → IsCounted (desk_promise judges from_last old.texts) old new n n answer
   only_stopped seen n old new answer read = last_stopped from_last last_sound old old (begun from_last judges old) seen n new answer read
 
   pub only_ended : {R : Type 0} (seen : R → V) (old new : Meaning) (value : R) → ReadsFile {R = R} seen reads refuses file old new (Ok value) → (m n : ℕ) (last : Meaning) (judged : Result (Bool × Vec ℕ) (Stop Refusal)) (answer : Answer)
-      → Comes (comes (seen value)) judged → IfOk judged (λ t. t.0 ≡ true → means (seen value)) → Ends judged new last answer → m ≤ n → counts (seen value) m n
+      → Comes (comes (seen value)) judged → IfOk judged (λ t. ByVerdict t.0 (means (seen value)) (denies (seen value))) → Ends judged new last answer → m ≤ n → counts (seen value) m n
       → IsCounted (desk_promise judges from_last old.texts) old last m n answer
   only_ended seen old new value read = last_ended from_last last_sound old old (begun from_last judges old) seen new value read
 
 -- ---- a command of two files
 
 module _ {judges : Bool} {V W : Type 0} {reads : List ℕ → V → Type 0} {refuses : List ℕ → List ℕ → Type 0} {reads_second : V → List ℕ → W → Type 0} {refuses_second : V → List ℕ → List ℕ → Type 0} {comes : V → W → Outcome → Type 0} {counts : V → W → ℕ → ℕ → Type 0}
-    (d : AreRead reads refuses) (l : (value : V) → IsLast judges (reads_second value) (refuses_second value) (comes value) (counts value)) (means : V → W → Type 0) (file second : List ℕ) where
+    (d : AreRead reads refuses) (l : (value : V) → IsLast judges (reads_second value) (refuses_second value) (comes value) (counts value)) (means denies : V → W → Type 0) (file second : List ℕ) where
   abbrev from_second : Texts → V → Promise
-  from_second texts value = from_last (l value) (means value) second texts
+  from_second texts value = from_last (l value) (means value) (denies value) second texts
 
   second_sound : (texts : Texts) (value : V) → IsSound (from_second texts value)
-  second_sound texts value = last_sound (l value) (means value) second texts
+  second_sound texts value = last_sound (l value) (means value) (denies value) second texts
 
   abbrev from_both : Texts → Promise
   from_both texts = after_file reads refuses texts file (from_second texts)
@@ -538,21 +552,30 @@ module _ {judges : Bool} {V W : Type 0} {reads : List ℕ → V → Type 0} {ref
 
     -- the second file ends it
     pub second_stopped : (n : ℕ) (answer : Answer) → ReadsFile {R = S} seen_second (reads_second (seen value)) (refuses_second (seen value)) second mid new (Err answer) → IsCounted (desk_promise judges from_both old.texts) old new n n answer
-    second_stopped n answer other = last_stopped (l (seen value)) (means (seen value)) second from_both both_sound old mid second_down seen_second n new answer other
+    second_stopped n answer other = last_stopped (l (seen value)) (means (seen value)) (denies (seen value)) second from_both both_sound old mid second_down seen_second n new answer other
 
     -- both were judged
     pub both_ended : (given : S) → ReadsFile {R = S} seen_second (reads_second (seen value)) (refuses_second (seen value)) second mid new (Ok given) → (m n : ℕ) (last : Meaning) (judged : Result (Bool × Vec ℕ) (Stop Refusal)) (answer : Answer)
-        → Comes (comes (seen value) (seen_second given)) judged → IfOk judged (λ t. t.0 ≡ true → means (seen value) (seen_second given)) → Ends judged new last answer → m ≤ n → counts (seen value) (seen_second given) m n
+        → Comes (comes (seen value) (seen_second given)) judged → IfOk judged (λ t. ByVerdict t.0 (means (seen value) (seen_second given)) (denies (seen value) (seen_second given))) → Ends judged new last answer → m ≤ n → counts (seen value) (seen_second given) m n
         → IsCounted (desk_promise judges from_both old.texts) old last m n answer
-    both_ended given other = last_ended (l (seen value)) (means (seen value)) second from_both both_sound old mid second_down seen_second new given other
+    both_ended given other = last_ended (l (seen value)) (means (seen value)) (denies (seen value)) second from_both both_sound old mid second_down seen_second new given other
+
+-- what a yes means, where nothing is said of another verdict
+pub of_yes : (verdict : Bool) (M : Type 0) → (verdict ≡ true → M) → ByVerdict verdict M (Unit {0})
+of_yes true M m = m refl
+of_yes false M m = tt
+
+pub meant_yes : (judged : Result (Bool × Vec ℕ) (Stop Refusal)) (M : Type 0) → IfOk judged (λ t. t.0 ≡ true → M) → IfOk judged (λ t. ByVerdict t.0 M (Unit {0}))
+meant_yes (Ok t) M m = of_yes t.0 M m
+meant_yes (Err stop) M m = tt
 
 -- what holds of each verdict
-pub meant_always : (judged : Result (Bool × Vec ℕ) (Stop Refusal)) (M : Type 0) → IfOk judged (λ t. M) → IfOk judged (λ t. t.0 ≡ true → M)
-meant_always (Ok t) M m = λ e. m
+pub meant_always : (judged : Result (Bool × Vec ℕ) (Stop Refusal)) (M : Type 0) → IfOk judged (λ t. M) → IfOk judged (λ t. ByVerdict t.0 M (Unit {0}))
+meant_always (Ok t) M m = of_yes t.0 M (λ e. m)
 meant_always (Err stop) M m = tt
 
-pub meant_anyway : (judged : Result (Bool × Vec ℕ) (Stop Refusal)) (M : Type 0) → M → IfOk judged (λ t. t.0 ≡ true → M)
-meant_anyway (Ok t) M m = λ e. m
+pub meant_anyway : (judged : Result (Bool × Vec ℕ) (Stop Refusal)) (M : Type 0) → M → IfOk judged (λ t. ByVerdict t.0 M (Unit {0}))
+meant_anyway (Ok t) M m = of_yes t.0 M (λ e. m)
 meant_anyway (Err stop) M m = tt
 
 -- a command that counts no steps, whatever was counted before it

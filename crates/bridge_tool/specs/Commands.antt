@@ -44,6 +44,7 @@ bad_words = record {
   last = λ text. ⊥;
   counts = λ old new. new ≡ old;
   means = ⊥;
+  denies = ⊥;
 }
 
 abbrev pub promise_by : Option Texts → Option Command → Promise

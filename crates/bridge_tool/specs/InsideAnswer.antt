@@ -46,6 +46,7 @@ pub record IsWorked (p : Promise) (old new : Meaning) (answer : Answer) : Type 0
   pub left : (status_of answer ≤ 2) ⊎ (status_of answer ≡ 5) → (text : List ℕ) → p.last text
       → new.left ≡ Some (drop LIMIT text)
   pub means : status_of answer ≡ 0 → p.means
+  pub denies : status_of answer ≡ 1 → p.denies
   pub input_later : old.input_faults ≤ new.input_faults
   pub output_later : old.output_faults ≤ new.output_faults
   pub input : old.input_faults < new.input_faults → status_of answer ≡ 4

@@ -90,6 +90,7 @@ make_promise seed size = record {
   last = λ text. ⊥;
   counts = λ old new. new ≤ old + step_bound (instance seed size);
   means = IsInstanceSummedUp seed size;
+  denies = Unit {0};
 }
 
 -- the input is as it was, and no input call failed

@@ -2,7 +2,8 @@
 --
 -- A command that reads files one after another is a promise that is built from its end:
 --   `ends texts file comes counts means`: the files were read, `file` last, and the command comes
---     to this; `writes texts file bytes means` where it always writes these bytes;
+--     to this; `writes texts file bytes means` where it always writes these bytes, and
+--     `judges_last texts file comes counts means denies` where it gives a verdict;
 --   `after_file reads refuses texts file next`: this file is read. A text that it refuses ends the
 --     command with its line; else the text says one value, and the rest of the command is
 --     `next value`, which may read a further file;
@@ -24,7 +25,7 @@
 -- In proofs (`proofs/SeveralFiles`): `AreRead` for each file, and `IsLast` for the last with what
 -- its value comes to. From these `only_..` gives each clause of a command of one file, `both_..` of
 -- one of two; else `first_..` begins, `further` goes on, and `last_..` ends.
-use Rattle.std.specs.Prelude.{◌≡◌, ◌⊎◌, ◌≤◌, ℕ, Bool, true, List, take, Result, Ok, Err, MatchOption, MatchResult}
+use Rattle.std.specs.Prelude.{◌≡◌, ◌⊎◌, ◌≤◌, ℕ, Bool, true, false, List, take, Result, Ok, Err, MatchOption, MatchResult}
 use Rattle.std.specs.Global.{Vec}
 use Rattle.std.specs.declared.option.Option.{Option}
 use Rattle.std.specs.declared.option.Option.TheVariants.{None, Some}
@@ -50,7 +51,7 @@ module _ {V : Type 0} (reads : List ℕ → V → Type 0) (refuses : List ℕ �
 
   -- A file is read; what its first bytes say, up to the limit, leads to the promise that is next.
   -- Where they are refused, the command comes to that refusal, this text is the last that it
-  -- starts, no step is counted, and no 0 can mean anything; where there is no such file, it comes
+  -- starts, no step is counted, and neither 0 nor 1 can come; where there is no such file, it comes
   -- to `NoText`.
   abbrev pub after_file : Texts → List ℕ → (next : V → Promise) → Promise
   after_file texts file next = record {
@@ -64,17 +65,25 @@ module _ {V : Type 0} (reads : List ℕ → V → Type 0) (refuses : List ℕ �
         (λ value. (next value).counts old new));
     means = MatchOption (texts file) ⊥ (λ text. ByValue (take LIMIT text) (λ line. ⊥)
         (λ value. (next value).means));
+    denies = MatchOption (texts file) ⊥ (λ text. ByValue (take LIMIT text) (λ line. ⊥)
+        (λ value. (next value).denies));
   }
 
--- all files were read, this one last
-abbrev pub ends : Texts → List ℕ → (comes : Outcome → Type 0) → (counts : ℕ → ℕ → Type 0)
-    → (means : Type 0) → Promise
-ends texts file comes counts means = record {
+-- all files were read, this one last, and a verdict is given
+abbrev pub judges_last : Texts → List ℕ → (comes : Outcome → Type 0) → (counts : ℕ → ℕ → Type 0)
+    → (means denies : Type 0) → Promise
+judges_last texts file comes counts means denies = record {
   comes = comes;
   last = λ last. texts file ≡ Some last;
   counts = counts;
   means = means;
+  denies = denies;
 }
+
+-- the same without a verdict
+abbrev pub ends : Texts → List ℕ → (comes : Outcome → Type 0) → (counts : ℕ → ℕ → Type 0)
+    → (means : Type 0) → Promise
+ends texts file comes counts means = judges_last texts file comes counts means (Unit {0})
 
 -- the same, and these bytes are written; no steps are counted
 abbrev pub writes : Texts → List ℕ → (bytes : List ℕ) → (means : Type 0) → Promise
@@ -88,6 +97,7 @@ untold judges = record {
   last = λ last. ⊥;
   counts = λ old new. Unit {0};
   means = Unit {0};
+  denies = Unit {0};
 }
 
 -- the promise at a desk that tells its texts, or does not
@@ -137,6 +147,11 @@ pub record ReadsFile {R V : Type 0} (seen : R → V) (reads : List ℕ → V →
   pub later : old.input_faults ≤ new.input_faults
   pub judged : MatchResult result (λ value. HasSaid reads file old new (seen value))
       (λ answer. HasEnded refuses file old new answer)
+
+-- what a verdict means, by whether it is yes
+abbrev pub ByVerdict : Bool → (means denies : Type 0) → Type 0
+ByVerdict true means denies = means
+ByVerdict false means denies = denies
 
 -- what judging all values answers: a verdict with the bytes to write, or a refusal
 abbrev pub Comes : (comes : Outcome → Type 0) → Result (Bool × Vec ℕ) (Stop Refusal) → Type 0

@@ -4,7 +4,7 @@ use Rattle.bridge_tool.specs.NamedExport.{AreNamedMeant, named_told}
 use Rattle.bridge_tool.specs.SeveralFiles.{itself}
 use Rattle.bridge_tool.proofs.NameLists.{columns_stopped, listed_sound, nl_stopped, rows_down, rows_stopped}
 use Rattle.bridge_tool.proofs.NamedExporting.{after_names, named_last, names_sound, of_lists}
-use Rattle.bridge_tool.proofs.SeveralFiles.{last_ended, meant_always}
+use Rattle.bridge_tool.proofs.SeveralFiles.{NoVerdict, last_ended, meant_always}
 use Rattle.bridge_tool.proofs.named_export.export_named.Goals as goal
 
 pub returns-in-Err : goal.returns-in-Err
@@ -22,9 +22,9 @@ returns-in-Err-open_columns g c =
 
 pub returns : goal.returns
 returns g c =
-    last_ended (named_last c.args.objective (value_of c.in-Ok.read) c.in-Ok-open_rows.names) (λ k. AreNamedMeant (of_lists c.args.objective (value_of c.in-Ok.read) c.in-Ok-open_rows.names k)) c.args.columns.now
+    last_ended (named_last c.args.objective (value_of c.in-Ok.read) c.in-Ok-open_rows.names) (λ k. AreNamedMeant (of_lists c.args.objective (value_of c.in-Ok.read) c.in-Ok-open_rows.names k)) NoVerdict c.args.columns.now
     (named_told c.args.file.now c.args.objective c.args.rows.now c.args.columns.now) (listed_sound false 2 c.args.file.now c.args.rows.now c.args.columns.now (after_names c.args.objective c.args.columns.now) (names_sound c.args.objective c.args.columns.now)) _ _
     (rows_down false 2 c.args.file.now c.args.rows.now c.args.columns.now (after_names c.args.objective c.args.columns.now) (names_sound c.args.objective c.args.columns.now) value_of _ _ c.in-Ok.read c.in-Ok.ensures.reads
     _ c.in-Ok-open_rows.names c.in-Ok-open_rows.ensures.reads)
     itself _ c.in-Ok-open_columns.names c.in-Ok-open_columns.ensures.reads _ _ _ _ _ (c.to_output-judged.ensures.comes _ refl)
-    (meant_always _ _ (c.to_output-judged.ensures.means _ refl)) c.end.ensures c.to_output-judged.ensures.above (c.to_output-judged.ensures.counts _ refl)
+    (meant_always c.to_output-judged.result _ (c.to_output-judged.ensures.means _ refl)) c.end.ensures c.to_output-judged.ensures.above (c.to_output-judged.ensures.counts _ refl)
