@@ -47,17 +47,10 @@ told_has_one texts (Make seed size) = make_one seed size
 told_has_one texts (Nl file) = (last_sound nl_last (λ nl. IsText nl.file (nl_text nl.file)) NoVerdict file texts).one
 told_has_one texts (Mps file) = (last_sound mps_last IsMpsMeant NoVerdict file texts).one
 told_has_one texts (Sol file) = (last_sound sol_last IsSolMeant NoVerdict file texts).one
-<<<<<<< HEAD
 told_has_one texts (Check nl sol) = (both_sound nl_read check_last IsCertified IsNotCertified nl sol texts).one
 told_has_one texts (Import file) = (last_sound import_last MeansTheProgram NoVerdict file texts).one
 told_has_one texts (Prove nl proof) = (both_sound nl_read prove_last IsProvedOf IsLeftOpen nl proof texts).one
 told_has_one texts (Verify nl certificate) = (both_sound nl_read verify_last IsVerified IsDenied nl certificate texts).one
-=======
-told_has_one texts (Check nl sol) = (both_sound nl_read check_last IsCertified (λ nl. NoVerdict) nl sol texts).one
-told_has_one texts (Import file) = (last_sound import_last MeansTheProgram NoVerdict file texts).one
-told_has_one texts (Prove nl proof) = (both_sound nl_read prove_last IsProvedOf (λ nl. NoVerdict) nl proof texts).one
-told_has_one texts (Verify nl certificate) = (both_sound nl_read verify_last IsVerified (λ nl. NoVerdict) nl certificate texts).one
->>>>>>> main
 told_has_one texts (Fixed file) = (last_sound fixed_last IsMpsMeant NoVerdict file texts).one
 told_has_one texts (Return nl answer) = (both_sound nl_read return_last IsReturnMeant (λ nl. NoVerdict) nl answer texts).one
 told_has_one texts (NamedExport file k rows columns) = (listed_sound false 2 file rows columns (named_next k columns) (named_next_sound k columns) texts).one

@@ -6,13 +6,14 @@ use Rattle.linear_programs.specs.Linear.{Linear, variable_count, row_count}
 use Rattle.duality.specs.Branch.{AreSplitsWhole, proof_fault}
 use Rattle.duality.specs.Certificate.{Cause, Outcome, fails, holds}
 use Rattle.duality.specs.Means.{Means}
+use Rattle.duality.specs.Parts.{IsWholeVariable}
 use Rattle.duality.specs.Problem.{Problem}
 use Rattle.duality.specs.ProblemSays.{Denies, IsShown, OutcomeSays}
 use Rattle.duality.specs.Told.{IsToldTrue, IsTrueOf, bound as told_bound, infeasible as told_infeasible}
 use Rattle.duality.proofs.Problems.{bounds, none_relaxed, outcomes}
 use Rattle.exact_numbers.specs.Values.{dec_value}
 use Rattle.linear_program.specs.Numbers.{spread}
-use Rattle.certificates.specs.Certificates.{CertificateTree, CertificateValue, Given, HasTree, HasWeights, IsAskedFor, IsCertificateOf, certificate_over, claim_outcome}
+use Rattle.certificates.specs.Certificates.{CertificateTree, CertificateValue, Given, HasTree, HasWeights, IsAskedFor, IsCertificateOf, IsGivenOver, certificate_over, claim_outcome}
 use Rattle.certificates.specs.Proofs.{IsProofOf, IsTreeOf, IsAlone, ProofTree, ProofValue, split, duals, weights, claim_value, tree_over as proof_tree_over}
 use Rattle.certificates.specs.ProofSays.{IsProvedTrueOf}
 use Rattle.certificates.specs.Told.{told_claim}
@@ -38,14 +39,26 @@ claim_by p n m Infeasible g (Some tree) e asked (Some v) h = let e = h.is_told i
 claim_by p n m (Unbounded k) g tree e asked o h = h
 
 module _ (f : Linear) (p : Problem) (means : Means f p) where
-  says : (c : CertificateValue) (h : IsCertificateOf f c) (o : Outcome) → claim_outcome f c.claim h.given ≡ o → OutcomeSays p f (certificate_over (variable_count f) (row_count f) c.claim h.given) o
-  says c h o e = subst (OutcomeSays p f (certificate_over (variable_count f) (row_count f) c.claim h.given)) e (outcomes f p means (certificate_over (variable_count f) (row_count f) c.claim h.given) (is_certificate f c.claim h.given h.asked h.fine))
+  abbrev IsOver : Given → Type 0
+  IsOver g = IsGivenOver (IsWholeVariable f) (variable_count f) (row_count f) g
 
+  says : (claim : Claim) (g : Given) → IsAskedFor claim g → IsOver g → (o : Outcome) → claim_outcome f claim g ≡ o → OutcomeSays p f (certificate_over (variable_count f) (row_count f) claim g) o
+  says claim g asked fine o e =
+      subst (OutcomeSays p f (certificate_over (variable_count f) (row_count f) claim g)) e (outcomes f p means (certificate_over (variable_count f) (row_count f) claim g) (is_certificate f claim g asked fine))
+
+  -- of what is given for a claim
+  pub given_true : (claim : Claim) (g : Given) → IsAskedFor claim g → IsOver g → (o : Option ℚ) → claim_outcome f claim g ≡ holds o → IsToldTrue p (spread (variable_count f) g.point) (told_claim claim o)
+  given_true claim g asked fine o e = claim_by p (variable_count f) (row_count f) claim g g.tree refl asked o (says claim g asked fine (holds o) e)
+
+  pub given_denied : (claim : Claim) (g : Given) → IsAskedFor claim g → IsOver g → (cause : Cause) → claim_outcome f claim g ≡ fails cause → Denies p f (certificate_over (variable_count f) (row_count f) claim g) cause
+  given_denied claim g asked fine cause e = says claim g asked fine (fails cause) e
+
+  -- of a certificate
   pub told_true : (c : CertificateValue) (h : IsCertificateOf f c) (o : Option ℚ) → claim_outcome f c.claim h.given ≡ holds o → IsToldTrue p (spread (variable_count f) h.given.point) (told_claim c.claim o)
-  told_true c h o e = claim_by p (variable_count f) (row_count f) c.claim h.given h.given.tree refl h.asked o (says c h (holds o) e)
+  told_true c h = given_true c.claim h.given h.asked h.fine
 
   pub told_denied : (c : CertificateValue) (h : IsCertificateOf f c) (cause : Cause) → claim_outcome f c.claim h.given ≡ fails cause → Denies p f (certificate_over (variable_count f) (row_count f) c.claim h.given) cause
-  told_denied c h cause e = says c h (fails cause) e
+  told_denied c h = given_denied c.claim h.given h.asked h.fine
 
   -- ---- proofs by branches
   splits_whole : (m : ℕ) (tree : ProofTree) → IsTreeOf f tree → AreSplitsWhole f (proof_tree_over m tree)

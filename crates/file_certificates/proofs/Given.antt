@@ -18,7 +18,7 @@ use Rattle.duality.specs.Told.{IsToldTrue}
 use Rattle.certificates.specs.Told.{told_claim}
 use Rattle.file_certificates.specs.FileProblem.{problem_of}
 use Rattle.file_certificates.proofs.Files.{meant, rows_counted}
-use Rattle.certificates.proofs.ClaimsTold.{told_denied, told_true}
+use Rattle.certificates.proofs.ClaimsTold.{given_denied, given_true}
 
 -- ---- a certificate of a file is one of its linear program
 tree_by : (A B : ℕ → Type 0) → ((j : ℕ) → A j → B j) → (n m : ℕ) (tree : CertificateTree) → IsTreeOver A n m tree → IsTreeOver B n m tree
@@ -72,7 +72,7 @@ pub claim_true : (f : File) (c : CertificateValue) → IsFile f → fold_fault f
 claim_true f c file clean h o e =
     let k : ℕ = objective_of c.claim in
     subst (λ n. IsToldTrue (problem_of f k) (spread n h.given.point) (told_claim c.claim o)) (count_lem f k)
-    (told_true (linear_of f k) (problem_of f k) (meant f k file clean) c (certificate_of f k c h) o e)
+    (given_true (linear_of f k) (problem_of f k) (meant f k file clean) c.claim h.given h.asked (given_of f k h.given h.fine) o e)
 
 pub claim_denied : (f : File) (c : CertificateValue) → IsFile f → fold_fault f (objective_of c.claim) ≡ None → (h : IsCertificateIn f c) → (cause : Cause) → claim_outcome (linear_of f (objective_of c.claim)) c.claim h.given ≡ fails cause
     → Denies (problem_of f (objective_of c.claim)) (linear_of f (objective_of c.claim)) (certificate_over f.counts.n_var f.counts.n_con c.claim h.given) cause
@@ -80,4 +80,4 @@ claim_denied f c file clean h cause e =
     let k : ℕ = objective_of c.claim in
     subst (λ n. Denies (problem_of f k) (linear_of f k) (certificate_over n f.counts.n_con c.claim h.given) cause) (count_lem f k)
     (subst (λ m. Denies (problem_of f k) (linear_of f k) (certificate_over (variable_count (linear_of f k)) m c.claim h.given) cause) (rows_counted f k)
-    (told_denied (linear_of f k) (problem_of f k) (meant f k file clean) c (certificate_of f k c h) cause e))
+    (given_denied (linear_of f k) (problem_of f k) (meant f k file clean) c.claim h.given h.asked (given_of f k h.given h.fine) cause e))
