@@ -1,5 +1,5 @@
 -- What an MPS text and a certificate come to: one outcome, and what each verdict means.
-use Rattle.std.proofs.Common.{◌≡◌, ◌∙◌, inl, inr, ◌⊎◌, ℕ, ◌<◌, ◌≤◌, Bool, true, false, List, Option, Some, None, Result, Ok, Err, refl, sym, ap, ap₂, subst, nat_lt, codes}
+use Rattle.std.proofs.Common.{◌≡◌, ◌∙◌, inl, inr, ◌⊎◌, ℕ, ◌<◌, ◌≤◌, Bool, true, false, List, Option, Some, None, Result, Ok, Err, refl, sym, ap, ap₂, subst, arith, nat_lt, codes}
 use Rattle.std.specs.Prelude.{IfOk}
 use Rattle.std.specs.Global.{Vec}
 use Rattle.std.proofs.lemmas.Bool.{lt-ltb}
@@ -86,6 +86,18 @@ program_read form = record {
 
 -- ---- reading it
 
+no_answer : (l : LinearValue) (answer : Answer) → Err {T = LinearValue} {E = Answer} answer ≡ Ok l → ⊥
+no_answer l answer e = cc
+
+no_program : (l : LinearValue) (answer : Answer) → Ok {T = LinearValue} {E = Answer} l ≡ Err answer → ⊥
+no_program l answer e = cc
+
+same_answer : (a b : Answer) → Err {T = LinearValue} {E = Answer} a ≡ Err b → a ≡ b
+same_answer a b e = cc
+
+same_program : (k l : LinearValue) → Ok {T = LinearValue} {E = Answer} l ≡ Ok k → k ≡ l
+same_program k l e = cc
+
 module _ (form : Form) (file : List ℕ) (old new : Meaning) where
   ended_by : (answer : Answer) → HasEnded (IsTextRefused form) file old new answer → HasEnded (IsProgramRefused form) file old new answer
   ended_by (Refused refusal) h = record { bytes = h.bytes; read = h.read; says = inl h.says; same = h.same }
@@ -105,9 +117,9 @@ module _ (form : Form) (file : List ℕ) (old new : Meaning) where
     no_memory answer e = rw e h.judged.same
 
     ended_with : (judged : Result LinearValue (Stop Refusal)) (answer : Answer) → GivesProgram m judged → Answered judged (Err answer) → HasEnded (IsProgramRefused form) file old new answer
-    ended_with (Ok l) answer gives same = absurd cc
-    ended_with (Err (Fault refusal)) answer gives same = no_linear answer refusal cc gives
-    ended_with (Err Memory) answer gives same = no_memory answer cc
+    ended_with (Ok l) answer gives same = absurd (no_answer l answer same)
+    ended_with (Err (Fault why)) answer gives same = no_linear answer why (same_answer answer (Refused why) same) gives
+    ended_with (Err Memory) answer gives same = no_memory answer (same_answer answer NoMemory same)
 
     -- its program ends it
     pub program_ended : (judged : Result LinearValue (Stop Refusal)) (answer : Answer) → GivesProgram m judged → Answered judged (Err answer) → ReadsFile {R = Mps Dec} itself (HasProgram form) (IsProgramRefused form) file old new (Err answer)
@@ -115,9 +127,9 @@ module _ (form : Form) (file : List ℕ) (old new : Meaning) where
 
     -- it has a linear program
     pub program_is : (judged : Result LinearValue (Stop Refusal)) (l : LinearValue) → GivesProgram m judged → Answered judged (Ok l) → IsProgramOf m l
-    program_is (Ok k) l gives same = (let is : k ≡ l = cc in subst (IsProgramOf m) is gives)
-    program_is (Err (Fault refusal)) l gives same = absurd cc
-    program_is (Err Memory) l gives same = absurd cc
+    program_is (Ok k) l gives same = subst (IsProgramOf m) (same_program k l same) gives
+    program_is (Err (Fault why)) l gives same = absurd (no_program l (Refused why) same)
+    program_is (Err Memory) l gives same = absurd (no_program l NoMemory same)
 
     pub program_there : (l : LinearValue) → IsProgramOf m l → ReadsFile {R = Mps Dec} itself (HasProgram form) (IsProgramRefused form) file old new (Ok m)
     program_there l is = record {

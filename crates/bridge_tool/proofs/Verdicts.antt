@@ -127,7 +127,7 @@ done_verdict a b x y e = cc
 
 module _ (nl : NlValue) (s : Sol) (file : IsFile nl.file) where
   abbrev Says : Bool → Type 0
-  Says holds = ByVerdict holds (IsCertified nl s) (IsNotCertified nl s)
+  Says held = ByVerdict held (IsCertified nl s) (IsNotCertified nl s)
 
   module _ (k : ℕ) (fits : unfit nl s ≡ None) (number : objective_number s ≡ pos k) (folds : first_fold_fault nl.file k ≡ None) where
     line_of : (v : Verdict) → shown nl s k ≡ v → check_outcome nl s ≡ by_verdict v
@@ -141,20 +141,20 @@ module _ (nl : NlValue) (s : Sol) (file : IsFile nl.file) where
     by_told (gap x b) is = record { number = k; told = gap x b; objective = number; line = line_of (gap x b) is; says = told_says (gap x b) is }
     by_told (refused cause) is = record { number = k; told = refused cause; objective = number; line = line_of (refused cause) is; says = told_says (refused cause) is }
 
-  module _ (holds : Bool) (bytes : List ℕ) where
-    by_folding : (k : ℕ) (o : Option FoldFault) → unfit nl s ≡ None → objective_number s ≡ pos k → first_fold_fault nl.file k ≡ o → by_fold nl s k o ≡ Done holds bytes → Says holds
-    by_folding k None fits number folds e = subst Says (done_verdict (is_yes (shown nl s k)) holds (verdict_line (shown nl s k)) bytes e) (by_told k fits number folds (shown nl s k) refl)
+  module _ (held : Bool) (bytes : List ℕ) where
+    by_folding : (k : ℕ) (o : Option FoldFault) → unfit nl s ≡ None → objective_number s ≡ pos k → first_fold_fault nl.file k ≡ o → by_fold nl s k o ≡ Done held bytes → Says held
+    by_folding k None fits number folds e = subst Says (done_verdict (is_yes (shown nl s k)) held (verdict_line (shown nl s k)) bytes e) (by_told k fits number folds (shown nl s k) refl)
     by_folding k (Some fault) fits number folds e = absurd cc
 
-    by_objective : (z : ℤ) → unfit nl s ≡ None → objective_number s ≡ z → by_number nl s z ≡ Done holds bytes → Says holds
+    by_objective : (z : ℤ) → unfit nl s ≡ None → objective_number s ≡ z → by_number nl s z ≡ Done held bytes → Says held
     by_objective (pos k) fits number e = by_folding k (first_fold_fault nl.file k) fits number refl e
     by_objective (negsuc n) fits number e = absurd cc
 
-    by_fitting : (o : Option FitFault) → unfit nl s ≡ o → by_fit nl s o ≡ Done holds bytes → Says holds
+    by_fitting : (o : Option FitFault) → unfit nl s ≡ o → by_fit nl s o ≡ Done held bytes → Says held
     by_fitting None fits e = by_objective (objective_number s) fits refl e
     by_fitting (Some fault) fits e = absurd cc
 
-    pub verdict_says : check_outcome nl s ≡ Done holds bytes → Says holds
+    pub verdict_says : check_outcome nl s ≡ Done held bytes → Says held
     verdict_says e = by_fitting (unfit nl s) refl e
 
 -- ---- what the code answers
@@ -270,7 +270,7 @@ module _ (nl : NlValue) (p : ProofValue) (given : IsProofIn nl.file p) where
   proof_says l v held bytes file folds exact proved h b =
       let line : prove_outcome nl p ≡ by_leaf (fault_of v) = sym (proof_done l v (is_none (fault_of v)) (leaf_line (fault_of v)) folds exact refl refl) in
       let shown : IsProved folded p.claim v = subst (λ (g : Linear). IsProved g p.claim v) folds.linear proved in
-      subst (λ (holds : Bool). ByVerdict holds (IsProvedOf nl p) (IsLeftOpen nl p)) (sym h) (proved_by (fault_of v) v refl file folds.fine shown (sym (leaf_so l v folds exact)) line)
+      subst (λ (t : Bool). ByVerdict t (IsProvedOf nl p) (IsLeftOpen nl p)) (sym h) (proved_by (fault_of v) v refl file folds.fine shown (sym (leaf_so l v folds exact)) line)
 
 -- ---- one outcome
 
@@ -358,4 +358,4 @@ module _ (nl : NlValue) (c : CertificateValue) (given : IsCertificateIn nl.file 
       let shown : claim_shown nl c ≡ o = sym (shown_so l o folds exact) in
       let outcome : claim_outcome f c.claim given.given ≡ o = ap (λ (g : Given). claim_outcome f c.claim g) (sym given_so) ∙ shown in
       let line : verify_outcome nl c ≡ by_claim c.claim o = sym (claim_done l o (is_held o) (outcome_line c.claim o) folds exact refl refl) in
-      subst (λ (holds : Bool). ByVerdict holds (IsVerified nl c) (IsDenied nl c)) (sym h) (claim_means (problem_of nl.file k) f c (verify_outcome nl c) o line (claim_says o file folds.fine outcome))
+      subst (λ (t : Bool). ByVerdict t (IsVerified nl c) (IsDenied nl c)) (sym h) (claim_means (problem_of nl.file k) f c (verify_outcome nl c) o line (claim_says o file folds.fine outcome))

@@ -1,7 +1,7 @@
 // The commands verify_mps and verify_fixed: from an MPS text and a certificate to the line of a
 // verdict, or to a refusal.
 ghost use Rattle.std.specs.Prelude.{◌≡◌, ◌≢◌, IfErr, IfOk};
-ghost use Rattle.linear_program.specs.Programs.{linear_value};
+ghost use Rattle.linear_program.specs.Programs.{IsLinear, linear_value};
 ghost use Rattle.certificates.specs.Certificates.{IsCertificateOf};
 ghost use Rattle.certificates.specs.Setting.{IsCertificateFor, program_setting};
 ghost use Rattle.certificate_text.specs.Reader.{IsCertificateText};
@@ -80,7 +80,7 @@ fn open_for<D: Desk>(
         (IsCertificateRefused (program_setting linear.now) 2) name.now (D.meaning desk.old)
         (D.meaning desk.new) result }
     ensures for_setting { IfOk result (λ c. IsCertificateFor (program_setting linear.now) c) }
-    ensures of_program { IfOk result (λ c. IsCertificateOf (linear_value linear.now) c) }
+    ensures valid { IsLinear linear.now }
     ensures known { IfErr result (λ answer. status_of answer ≢ 3) }
 {
     let rows = linear.bodies().len() as u32;

@@ -1,4 +1,7 @@
 use Rattle.std.proofs.Common.{refl, arith}
+use Rattle.linear_program.specs.Programs.{linear_value}
+use Rattle.certificates.specs.Setting.{program_setting}
+use Rattle.certificates.proofs.Settings.{certificate_for, program_has_setting}
 use Rattle.bridge_tool.specs.SeveralFiles.{itself}
 use Rattle.bridge_tool.specs.VerifyMps.{IsDeniedMps, IsVerifiedMps}
 use Rattle.bridge_tool.proofs.Programs.{certificate_as, comes_as, fits_for, opened_as, program_ended, program_is, program_last, program_read, program_says, program_there, text_ended}
@@ -34,7 +37,12 @@ returns g c =
     (λ n. both_ended (program_read c.args.form) program_last IsVerifiedMps IsDeniedMps c.args.mps.now c.args.certificate.now itself itself _ _ _ m (program_there c.args.form c.args.mps.now _ _ m c.in-Ok.ensures.reads l is) given
     (opened_as m l is c.args.certificate.now _ _ _ c.in-Ok-open_for.ensures.reads) n n _ _ _ comes (program_says m given (certificate_as m l is given c.in-Ok-open_for.ensures.for_setting) c.to_verdict-verdict.result comes) c.end.ensures (omega arith) refl)
 
-pub to_verdict-verdict-requires-fits : goal.to_verdict-verdict-requires-fits
-to_verdict-verdict-requires-fits g c =
+pub to_verdict-verdict-requires-clause-certificate : goal.to_verdict-verdict-requires-clause-certificate
+to_verdict-verdict-requires-clause-certificate g c =
+    let l = c.in-Ok-answered.linear in
+    certificate_for (linear_value l) (program_setting l) (program_has_setting l c.in-Ok-open_for.ensures.valid) c.in-Ok-open_for.given c.in-Ok-open_for.ensures.for_setting
+
+pub to_verdict-verdict-requires-clause-fits : goal.to_verdict-verdict-requires-clause-fits
+to_verdict-verdict-requires-clause-fits g c =
     let h = c.in-Ok-open_for.ensures.for_setting in
     fits_for c.in-Ok-open_for.given.claim h.given h.asked
