@@ -86,17 +86,14 @@ program_read form = record {
 
 -- ---- reading it
 
-no_answer : (l : LinearValue) (answer : Answer) → Err {T = LinearValue} {E = Answer} answer ≡ Ok l → ⊥
-no_answer l answer e = cc
+no_answer : (l : LinearValue) (answer : Answer) (r : Result LinearValue Answer) → r ≡ Err answer → r ≡ Ok l → ⊥
+no_answer l answer r e h = cc
 
-no_program : (l : LinearValue) (answer : Answer) → Ok {T = LinearValue} {E = Answer} l ≡ Err answer → ⊥
-no_program l answer e = cc
+same_answer : (a b : Answer) (r : Result LinearValue Answer) → r ≡ Err a → r ≡ Err b → a ≡ b
+same_answer a b r e h = cc
 
-same_answer : (a b : Answer) → Err {T = LinearValue} {E = Answer} a ≡ Err b → a ≡ b
-same_answer a b e = cc
-
-same_program : (k l : LinearValue) → Ok {T = LinearValue} {E = Answer} l ≡ Ok k → k ≡ l
-same_program k l e = cc
+same_program : (k l : LinearValue) (r : Result LinearValue Answer) → r ≡ Ok l → r ≡ Ok k → k ≡ l
+same_program k l r e h = cc
 
 module _ (form : Form) (file : List ℕ) (old new : Meaning) where
   ended_by : (answer : Answer) → HasEnded (IsTextRefused form) file old new answer → HasEnded (IsProgramRefused form) file old new answer
@@ -117,9 +114,9 @@ module _ (form : Form) (file : List ℕ) (old new : Meaning) where
     no_memory answer e = rw e h.judged.same
 
     ended_with : (judged : Result LinearValue (Stop Refusal)) (answer : Answer) → GivesProgram m judged → Answered judged (Err answer) → HasEnded (IsProgramRefused form) file old new answer
-    ended_with (Ok l) answer gives same = absurd (no_answer l answer same)
-    ended_with (Err (Fault why)) answer gives same = no_linear answer why (same_answer answer (Refused why) same) gives
-    ended_with (Err Memory) answer gives same = no_memory answer (same_answer answer NoMemory same)
+    ended_with (Ok l) answer gives same = absurd (no_answer l answer (Err answer) refl same)
+    ended_with (Err (Fault why)) answer gives same = no_linear answer why (same_answer answer (Refused why) (Err answer) refl same) gives
+    ended_with (Err Memory) answer gives same = no_memory answer (same_answer answer NoMemory (Err answer) refl same)
 
     -- its program ends it
     pub program_ended : (judged : Result LinearValue (Stop Refusal)) (answer : Answer) → GivesProgram m judged → Answered judged (Err answer) → ReadsFile {R = Mps Dec} itself (HasProgram form) (IsProgramRefused form) file old new (Err answer)
@@ -127,9 +124,9 @@ module _ (form : Form) (file : List ℕ) (old new : Meaning) where
 
     -- it has a linear program
     pub program_is : (judged : Result LinearValue (Stop Refusal)) (l : LinearValue) → GivesProgram m judged → Answered judged (Ok l) → IsProgramOf m l
-    program_is (Ok k) l gives same = subst (IsProgramOf m) (same_program k l same) gives
-    program_is (Err (Fault why)) l gives same = absurd (no_program l (Refused why) same)
-    program_is (Err Memory) l gives same = absurd (no_program l NoMemory same)
+    program_is (Ok k) l gives same = subst (IsProgramOf m) (same_program k l (Ok l) refl same) gives
+    program_is (Err (Fault why)) l gives same = absurd (no_answer l (Refused why) (Ok l) same refl)
+    program_is (Err Memory) l gives same = absurd (no_answer l NoMemory (Ok l) same refl)
 
     pub program_there : (l : LinearValue) → IsProgramOf m l → ReadsFile {R = Mps Dec} itself (HasProgram form) (IsProgramRefused form) file old new (Ok m)
     program_there l is = record {
