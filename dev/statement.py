@@ -261,9 +261,11 @@ THEOREMS = (
             "value and its text are, `dual_return/Return` what the answer is returned as."),
     Theorem("verify", (HEADLINE, "bridge_tool/Verify:verify_promise"),
             "What `verify` answers: `certificate_text` says which texts are certificates, `duality/Parts`, `Branch`, `Ray` "
-            "and `Certificate` when one holds, `file_certificates/Says` what is then true of the file."),
-    Theorem("what a verified claim means", ("file_certificates/Says:IsTrueOf",),
+            "and `Certificate` when one holds, `duality/Problem` what is then true of the problem that the file states."),
+    Theorem("what a verified claim means", ("duality/Told:IsTrueOf", "file_certificates/FileProblem:problem_of"),
             "What is true of the file where `verify` says yes: this much has to be read to believe only that."),
+    Theorem("what a denied claim means", ("duality/ProblemSays:Denies", "file_certificates/FileProblem:problem_of"),
+            "What is true of the file, or of a leaf's part of its program, where `verify` says no, by the cause that is told."),
     Theorem("check", (HEADLINE, "bridge_tool/Check:check_promise"),
             "What `check` answers on a point and duals: `duality/Verdict` has the phases of a verdict in their order."),
     Theorem("prove", (HEADLINE, "bridge_tool/Prove:prove_promise"),
@@ -308,6 +310,12 @@ CLOSING = (
     "",
     "That the files a desk names are those of the machine (`HostDesk` is trusted), that the compilers and the prover are",
     "right, how long a run takes and how much memory it needs.",
+    "",
+    "That points need be rational only: a point is a list of rational numbers. Of a file that folds each claim holds of real",
+    "points, too. For its numbers are rational and its bodies linear; and a system of linear inequalities with rational",
+    "numbers, strict ones among them (`better than V`) and some variables fixed at whole numbers, that has a real solution",
+    "has a rational one: Fourier and Motzkin's elimination decides both alike. So a real point that is better than a bound,",
+    "or that is feasible where there is none, would give a rational one. No law here states it.",
 )
 
 

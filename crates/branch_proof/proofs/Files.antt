@@ -5,16 +5,14 @@ use Rattle.nl_model.specs.File.{File}
 use Rattle.nl_model.specs.Rules.{IsFile}
 use Rattle.file_meaning.specs.FoldFaults.{fold_fault}
 use Rattle.file_meaning.specs.LinearFile.{linear_of}
-use Rattle.file_meaning.proofs.Files.{same_relaxed}
-use Rattle.file_meaning.proofs.Folding.{clean_has_lines}
-use Rattle.file_meaning.proofs.Formed.{file_formed}
 use Rattle.certificates.specs.declared.proof.Claim.{Claim}
 use Rattle.certificates.specs.declared.proof.Claim.TheVariants.{Value, Infeasible}
-use Rattle.file_certificates.specs.ProofSays.{IsProvedTrueOf}
-use Rattle.file_certificates.proofs.Files.{bound_of}
+use Rattle.certificates.specs.ProofSays.{IsProvedTrueOf}
+use Rattle.file_certificates.specs.FileProblem.{problem_of}
+use Rattle.file_certificates.proofs.Verdicts.{file_bound_of, file_broken_at}
 use Rattle.branch_check.specs.Leaves.{IsProved}
 use Rattle.branch_check.specs.declared.leaf.ProofVerdict.TheVariants.{Yes}
 
-pub claim_true : (f : File) (k : ℕ) → IsFile f → fold_fault f k ≡ None → (claim : Claim) → IsProved (linear_of f k) claim Yes → IsProvedTrueOf f k claim
-claim_true f k file clean (Value n d) proved = bound_of f k (clean_has_lines f k (file_formed f file k) clean) (dec_value d) proved
-claim_true f k file clean Infeasible proved = λ xs ok. proved xs ((same_relaxed f k (clean_has_lines f k (file_formed f file k) clean) xs).0 ok)
+pub claim_true : (f : File) (k : ℕ) → IsFile f → fold_fault f k ≡ None → (claim : Claim) → IsProved (linear_of f k) claim Yes → IsProvedTrueOf (problem_of f k) claim
+claim_true f k file clean (Value n d) proved = file_bound_of f k file clean (dec_value d) proved
+claim_true f k file clean Infeasible proved = file_broken_at f k file clean proved

@@ -1,23 +1,24 @@
 -- What is given for a claim: over a file it is over its linear program, and what it shows there it shows of the file.
-use Rattle.std.proofs.Common.{◌≡◌, ℕ, suc, ◌<◌, sym, subst, refl, IsTrue, Option, Some, None}
+use Rattle.std.proofs.Common.{◌≡◌, ℕ, suc, ◌<◌, sym, subst, IsTrue, Option, None}
 use Rattle.std.proofs.lemmas.List.Elements.{All-weaker}
 use Rattle.fractions.specs.Rational.{ℚ, IsWhole}
 use Rattle.linear_programs.specs.Linear.{Variable, variable_count, row_count}
-use Rattle.duality.specs.Certificate.{holds}
+use Rattle.duality.specs.Certificate.{Cause, fails, holds}
 use Rattle.duality.specs.Parts.{IsWholeVariable}
 use Rattle.nl_model.specs.File.{File}
 use Rattle.nl_model.specs.Rules.{IsFile}
 use Rattle.file_meaning.specs.FoldFaults.{fold_fault}
 use Rattle.file_meaning.specs.LinearFile.{linear_of}
 use Rattle.file_meaning.proofs.Files.{count_lem, variable_lem}
-use Rattle.certificates.specs.Certificates.{CertificateValue, CertificateTree, split, plane, lemma, duals, weights, IsTreeOver, Given, HasTree, HasWeights, IsAskedFor, IsGivenOver, IsCertificateOf, certificate_over, claim_outcome, objective_of}
+use Rattle.certificates.specs.Certificates.{CertificateValue, CertificateTree, split, plane, lemma, duals, weights, IsTreeOver, Given, IsGivenOver, IsCertificateOf, certificate_over, claim_outcome, objective_of}
 use Rattle.file_certificates.specs.Files.{IsCertificateIn, IsWholeIn}
 use Rattle.linear_program.specs.Numbers.{Pair, spread, number_value}
-use Rattle.file_certificates.specs.Says.{IsShown, OutcomeSays, IsTrueOf}
-use Rattle.certificates.specs.declared.certificate.Claim.{Claim}
-use Rattle.certificates.specs.declared.certificate.Claim.TheVariants.{Optimal, Within, Bound, Feasible, Infeasible, Unbounded}
-use Rattle.certificates.proofs.Given.{is_certificate}
-use Rattle.file_certificates.proofs.Files.{rows_counted, outcomes}
+use Rattle.duality.specs.ProblemSays.{Denies}
+use Rattle.duality.specs.Told.{IsToldTrue}
+use Rattle.certificates.specs.Told.{told_claim}
+use Rattle.file_certificates.specs.FileProblem.{problem_of}
+use Rattle.file_certificates.proofs.Files.{meant, rows_counted}
+use Rattle.certificates.proofs.ClaimsTold.{given_denied, given_true}
 
 -- ---- a certificate of a file is one of its linear program
 tree_by : (A B : ℕ → Type 0) → ((j : ℕ) → A j → B j) → (n m : ℕ) (tree : CertificateTree) → IsTreeOver A n m tree → IsTreeOver B n m tree
@@ -65,27 +66,18 @@ certificate_of f k c h =
       few_pairs = h.few_pairs;
     }
 
--- ---- what a claim that holds says of the file
-claim_by : (f : File) (n m : ℕ) (claim : Claim) (g : Given) (tree : Option CertificateTree) → g.tree ≡ tree → IsAskedFor claim g → (o : Option ℚ) → IsShown f (objective_of claim) (certificate_over n m claim (record g { tree = tree })) o → IsTrueOf f claim (spread n g.point) o
-claim_by f n m (Optimal k) g None e asked o h = absurd (subst HasTree e asked.1)
-claim_by f n m (Optimal k) g (Some tree) e asked None h = h
-claim_by f n m (Optimal k) g (Some tree) e asked (Some v) h = h
-claim_by f n m (Within k b) g None e asked o h = absurd (subst HasTree e asked.1)
-claim_by f n m (Within k b) g (Some tree) e asked None h = h
-claim_by f n m (Within k b) g (Some tree) e asked (Some v) h = h
-claim_by f n m (Bound k v) g None e asked o h = absurd (subst HasTree e asked.2)
-claim_by f n m (Bound k v) g (Some tree) e asked o h = h
-claim_by f n m (Feasible k) g tree e asked None h = h
-claim_by f n m (Feasible k) g tree e asked (Some v) h = h
-claim_by f n m Infeasible g None e asked o h = absurd (subst HasWeights e asked.2)
-claim_by f n m Infeasible g (Some tree) e asked o h = h
-claim_by f n m (Unbounded k) g tree e asked o h = h
-
-pub claim_true : (f : File) (c : CertificateValue) → IsFile f → fold_fault f (objective_of c.claim) ≡ None → (h : IsCertificateIn f c) → (o : Option ℚ) → claim_outcome (linear_of f (objective_of c.claim)) c.claim h.given ≡ holds o → IsTrueOf f c.claim (spread f.counts.n_var h.given.point) o
+-- ---- what a claim says of the file
+pub claim_true : (f : File) (c : CertificateValue) → IsFile f → fold_fault f (objective_of c.claim) ≡ None → (h : IsCertificateIn f c) → (o : Option ℚ) → claim_outcome (linear_of f (objective_of c.claim)) c.claim h.given ≡ holds o
+    → IsToldTrue (problem_of f (objective_of c.claim)) (spread f.counts.n_var h.given.point) (told_claim c.claim o)
 claim_true f c file clean h o e =
     let k : ℕ = objective_of c.claim in
-    let n : ℕ = variable_count (linear_of f k) in
-    let m : ℕ = row_count (linear_of f k) in
-    let says = outcomes f k file clean (certificate_over n m c.claim h.given) (is_certificate (linear_of f k) c.claim h.given h.asked (given_of f k h.given h.fine)) in
-    subst (λ i. IsTrueOf f c.claim (spread i h.given.point) o) (count_lem f k)
-    (claim_by f n m c.claim h.given h.given.tree refl h.asked o (subst (OutcomeSays f k (certificate_over n m c.claim h.given)) e says))
+    subst (λ n. IsToldTrue (problem_of f k) (spread n h.given.point) (told_claim c.claim o)) (count_lem f k)
+    (given_true (linear_of f k) (problem_of f k) (meant f k file clean) c.claim h.given h.asked (given_of f k h.given h.fine) o e)
+
+pub claim_denied : (f : File) (c : CertificateValue) → IsFile f → fold_fault f (objective_of c.claim) ≡ None → (h : IsCertificateIn f c) → (cause : Cause) → claim_outcome (linear_of f (objective_of c.claim)) c.claim h.given ≡ fails cause
+    → Denies (problem_of f (objective_of c.claim)) (linear_of f (objective_of c.claim)) (certificate_over f.counts.n_var f.counts.n_con c.claim h.given) cause
+claim_denied f c file clean h cause e =
+    let k : ℕ = objective_of c.claim in
+    subst (λ n. Denies (problem_of f k) (linear_of f k) (certificate_over n f.counts.n_con c.claim h.given) cause) (count_lem f k)
+    (subst (λ m. Denies (problem_of f k) (linear_of f k) (certificate_over (variable_count (linear_of f k)) m c.claim h.given) cause) (rows_counted f k)
+    (given_denied (linear_of f k) (problem_of f k) (meant f k file clean) c.claim h.given h.asked (given_of f k h.given h.fine) cause e))

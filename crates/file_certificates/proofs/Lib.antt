@@ -1,4 +1,5 @@
 pub mod Files
+pub mod FileClaims
+pub mod Verdicts
 pub mod Given
-pub mod Best
 pub mod ProofFiles

@@ -1,6 +1,3 @@
 pub mod Files
-pub mod Solutions
-pub mod Says
-pub mod Best
-pub mod ProofSays
+pub mod FileProblem
 pub mod Setting

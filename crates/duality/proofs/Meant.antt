@@ -1,0 +1,43 @@
+-- A linear program means the problem that it states.
+use Rattle.std.proofs.Common.{◌↔◌, ℕ, sym, subst, refl, List}
+use Rattle.std.proofs.lemmas.Option.{same_Some}
+use Rattle.fractions.specs.Rational.{ℚ}
+use Rattle.linear_programs.specs.Linear.{Linear, IsInside, IsRelaxed as IsRelaxedProgram, RowHolds, form_value, no_row, row_at, variable_count}
+use Rattle.duality.specs.Means.{Means, problem_in}
+use Rattle.duality.specs.Problem.{IsConstraintBroken, IsRelaxed}
+use Rattle.duality.specs.Says.{IsRowBroken}
+use Rattle.duality.proofs.Feasible.{all_rows}
+
+module _ (f : Linear) where
+  at_point : List ℚ → ℕ → ℚ
+  at_point xs i = form_value (row_at f i).body (variable_count f) xs
+
+  relaxed : (xs : List ℚ) → IsRelaxed (problem_in f) xs ↔ IsRelaxedProgram f xs
+  relaxed xs = (
+    λ h.
+        record {
+          rows = all_rows f (RowHolds (variable_count f) xs) (λ i l. let m = h.met i l in subst (IsInside (row_at f i).side) (sym (same_Some _ m.0 m.1)) m.2);
+          bounds = h.bounds;
+        },
+    λ h. record { met = λ i l. (_, refl, h.rows i no_row l); bounds = h.bounds },
+  )
+
+  rows : (xs : List ℚ) (i : ℕ) → IsConstraintBroken (problem_in f) xs i ↔ IsRowBroken f xs i
+  rows xs i = (
+    λ h. record { within = h.within; broken = λ ok. h.broken (subst (IsInside (row_at f i).side) (same_Some _ h.value h.has) ok) },
+    λ h. record { within = h.within; value = _; has = refl; broken = h.broken },
+  )
+
+  pub meant : Means f (problem_in f)
+  meant =
+      record {
+        feasible = λ xs. (λ h. record { relaxed = (relaxed xs).0 h.relaxed; whole = h.whole }, λ h. record { relaxed = (relaxed xs).1 h.relaxed; whole = h.whole });
+        relaxed = relaxed;
+        rows = rows;
+        bounds = λ xs j. (λ h. record { within = h.within; broken = h.broken }, λ h. record { within = h.within; broken = h.broken });
+        whole = λ xs j. (λ h. record { within = h.within; asked = h.asked; broken = h.broken }, λ h. record { within = h.within; asked = h.asked; broken = h.broken });
+        bodies = λ xs i l. (_, refl);
+        there = refl;
+        sense = refl;
+        value = λ xs. refl;
+      }

@@ -1,0 +1,88 @@
+-- What a verdict on a linear program says of the problem that the program means.
+use Rattle.std.specs.Prelude.{List, [], Option}
+use Rattle.fractions.specs.Rational.{ℚ}
+use Rattle.linear_programs.specs.Linear.{Linear}
+use Rattle.duality.specs.Branch.{LeafFault}
+use Rattle.duality.specs.Certificate.{Certificate, optimal, near, bounded, feasible, infeasible, unbounded, Cause, at_point, not_whole, objective_wide, at_ray, at_leaf, Outcome, holds, fails}
+use Rattle.duality.specs.LeafSays.{IsLeafDenied}
+use Rattle.duality.specs.Problem.{Problem, IsBoundBroken, IsConstraintBroken, IsFeasible, IsNotWhole, IsRelaxed, IsWithinGap}
+use Rattle.duality.specs.Told.{IsToldTrue, told_certificate}
+use Rattle.duality.specs.Verdict.{Place, at_row, at_bound, at_cost, at_objective, at_total, Fault, row_broken, bound_broken, row_side_missing, bound_side_missing, too_wide, Verdict, yes, gap, refused}
+
+-- ---- the verdict on a point and duals
+-- what is too wide says nothing of the row or bound at which it is met; after them the point is
+-- relaxed feasible
+abbrev pub WidthSays : Problem → List ℚ → Place → Type 0
+WidthSays p xs (at_row i) = Unit {0}
+WidthSays p xs (at_bound j) = Unit {0}
+WidthSays p xs (at_cost j) = IsRelaxed p xs
+WidthSays p xs at_objective = IsRelaxed p xs
+WidthSays p xs at_total = IsRelaxed p xs
+
+abbrev pub FaultSays : Problem → List ℚ → Fault → Type 0
+FaultSays p xs (row_broken i) = IsConstraintBroken p xs i
+FaultSays p xs (bound_broken j) = IsBoundBroken p xs j
+FaultSays p xs (row_side_missing i) = IsRelaxed p xs
+FaultSays p xs (bound_side_missing j) = IsRelaxed p xs
+FaultSays p xs (too_wide place) = WidthSays p xs place
+
+abbrev pub VerdictSays : Problem → List ℚ → Verdict → Type 0
+VerdictSays p xs (yes v) = IsWithinGap p xs v v
+VerdictSays p xs (gap v b) = IsWithinGap p xs v b
+VerdictSays p xs (refused g) = FaultSays p xs g
+
+-- ---- the verdict on a certificate
+-- the point that a certificate gives: 0 everywhere where it gives none
+abbrev pub point_in : Certificate → List ℚ
+point_in (optimal xs tree) = xs
+point_in (near xs b tree) = xs
+point_in (bounded v tree) = []
+point_in (feasible xs) = xs
+point_in (infeasible tree) = []
+point_in (unbounded xs ds) = xs
+
+-- where it holds, what is told is true
+abbrev pub IsShown : Problem → Certificate → Option ℚ → Type 0
+IsShown p c o = IsToldTrue p (point_in c) (told_certificate c o)
+
+-- What a fault of the rows and bounds at a point says: nothing of what is too wide. No side can be
+-- missing there.
+abbrev pub PointDenies : Problem → List ℚ → Fault → Type 0
+PointDenies p xs (row_broken i) = IsConstraintBroken p xs i
+PointDenies p xs (bound_broken j) = IsBoundBroken p xs j
+PointDenies p xs (row_side_missing i) = ⊥
+PointDenies p xs (bound_side_missing j) = ⊥
+PointDenies p xs (too_wide place) = Unit {0}
+
+-- it holds at the point that is judged; a claim on a bound or on no feasible point is judged
+-- without one
+abbrev pub AtPoint : Certificate → (List ℚ → Type 0) → Type 0
+AtPoint (optimal xs tree) says = says xs
+AtPoint (near xs b tree) says = says xs
+AtPoint (bounded v tree) says = ⊥
+AtPoint (feasible xs) says = says xs
+AtPoint (infeasible tree) says = ⊥
+AtPoint (unbounded xs ds) says = says xs
+
+-- what a leaf of a tree over the program f says that does not close: the point, where one is
+-- judged, is feasible
+abbrev pub LeafSays : Problem → Linear → Certificate → LeafFault → Type 0
+LeafSays p f (optimal xs tree) g = IsFeasible p xs × IsLeafDenied f tree g
+LeafSays p f (near xs b tree) g = IsFeasible p xs × IsLeafDenied f tree g
+LeafSays p f (bounded v tree) g = IsLeafDenied f tree g
+LeafSays p f (feasible xs) g = ⊥
+LeafSays p f (infeasible tree) g = IsLeafDenied f tree g
+LeafSays p f (unbounded xs ds) g = ⊥
+
+-- What is said where a certificate fails, by its cause. The point is judged before the ray and the
+-- leaves: where they fail, it is feasible.
+abbrev pub Denies : Problem → Linear → Certificate → Cause → Type 0
+Denies p f c (at_point g) = AtPoint c (λ xs. PointDenies p xs g)
+Denies p f c (not_whole j) = AtPoint c (λ xs. IsRelaxed p xs × IsNotWhole p xs j)
+Denies p f c objective_wide = AtPoint c (IsFeasible p)
+Denies p f c (at_ray g) = AtPoint c (IsFeasible p)
+Denies p f c (at_leaf g) = LeafSays p f c g
+
+abbrev pub OutcomeSays : Problem → Linear → Certificate → Outcome → Type 0
+OutcomeSays p f c (holds o) = IsShown p c o
+OutcomeSays p f c (fails g) = Denies p f c g
