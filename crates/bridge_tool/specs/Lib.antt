@@ -4,6 +4,7 @@ pub mod AnswerTold
 pub mod ByText
 pub mod CertificateTold
 pub mod Check
+pub mod Claims
 pub mod Command
 pub mod Commands
 pub mod Export
