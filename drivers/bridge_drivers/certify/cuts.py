@@ -170,6 +170,26 @@ def divided(m: Model, x: Sequence[float], row: Side, divisor: Fraction) -> Propo
     return rounding.proposal(side)
 
 
+def may_be_deep(m: Model, x: Sequence[float], row: Side, divisor: Fraction) -> bool:
+    """Whether a divided row is violated, in doubles."""
+    d, depth = float(divisor), 0.0
+    side = float(row.side) / d
+    for j, a in row.terms:
+        lo, hi, share = m.lo[j], m.hi[j], a / d
+        if not m.whole[j]:
+            end = lo if a > 0 else hi
+            if end is None:
+                return False
+            side -= share * end / m.unit
+            continue
+        up = hi is not None and (lo is None or x[j] - lo / m.unit > hi / m.unit - x[j])
+        at = (hi if up else lo or 0) / m.unit                       # type: ignore[operator]
+        sign = -1 if up else 1
+        depth += math.floor(sign * share + SLACK) * sign * (x[j] - at)
+        side -= share * at
+    return depth - math.floor(side + SLACK) > LEAST / 2
+
+
 def single_rows(m: Model, clp: Clp, x: Sequence[float]) -> Iterator[Proposal]:
     """Rows that are divided by a coefficient, or by the divisor of all."""
     for row in sides(m):
@@ -182,7 +202,9 @@ def single_rows(m: Model, clp: Clp, x: Sequence[float]) -> Iterator[Proposal]:
                 divisors.append(g)
         for d in divisors:
             for k in (1, 2, 3):
-                found = divided(m, x, row, Fraction(d, k)) if k == 1 or d % k == 0 else None
+                if k > 1 and d % k or not may_be_deep(m, x, row, Fraction(d, k)):
+                    continue
+                found = divided(m, x, row, Fraction(d, k))
                 if found is not None and found.depth > LEAST:
                     yield found
 

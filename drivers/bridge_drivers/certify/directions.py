@@ -172,8 +172,8 @@ def directions(p: Model, objective: Mapping[int, int] = {},
     terms = {place[j]: Fraction(a) for j, a in objective.items() if j in place}
     if terms:
         thin.append(sized(terms, width))
-    reduction = Reduction([[int(t.terms.get(k, 0) * PRECISION / t.width) for t in thin]
-                           for k in range(len(wide))])
+    reduction = Reduction([[int(t.terms[k] * PRECISION / t.width) if k in t.terms else 0
+                            for t in thin] for k in range(len(wide))])
     if not reduction.run():
         return []
     # a point is `lambda` times the steps, so lambda is the point times their inverse

@@ -23,6 +23,8 @@ class Contradiction(Exception):
 
 def whole(terms: Mapping[int, Rational], side: Rational) -> tuple[Terms, int]:
     """The equation in whole numbers without a common factor."""
+    if isinstance(side, int) and all(isinstance(a, int) for a in terms.values()):
+        return reduced({i: int(a) for i, a in terms.items() if a}, side)
     exact = {i: Fraction(a) for i, a in terms.items() if a}
     right = Fraction(side)
     k = lcm(right.denominator, *(a.denominator for a in exact.values()))

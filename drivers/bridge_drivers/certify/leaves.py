@@ -107,8 +107,8 @@ class Closer:
             return judged.bound - 1
         if self.target is None:
             return 0
-        wanted = self.target * judged.scale
-        return judged.bound - (math.floor(wanted) + 1 if self.strict else math.ceil(wanted))
+        wanted, den = self.target.numerator * judged.scale, self.target.denominator
+        return judged.bound - (wanted // den + 1 if self.strict else -(-wanted // den))
 
     def has_side(self, row: int, y: Fraction | int) -> bool:
         p = self.model
@@ -176,10 +176,13 @@ class Closer:
         return Multipliers(numbers, 10 ** max(places, 0), weights)
 
     def of_fractions(self, y: Mapping[int, Fraction], weights: bool) -> Multipliers:
-        y = {i: v for i, v in y.items() if v and self.has_side(i, v)}
-        den = math.lcm(1, *{v.denominator for v in y.values()})
-        numbers = {i: v.numerator * (den // v.denominator) for i, v in y.items()}
-        return Multipliers(numbers, den, weights)
+        return self.of_pairs({i: (v.numerator, v.denominator) for i, v in y.items()}, weights)
+
+    def of_pairs(self, y: Mapping[int, tuple[int, int]], weights: bool) -> Multipliers:
+        """Of numerators and denominators."""
+        y = {i: v for i, v in y.items() if v[0] and self.has_side(i, v[0])}
+        den = math.lcm(1, *{q for _, q in y.values()})
+        return Multipliers({i: p * (den // q) for i, (p, q) in y.items()}, den, weights)
 
     def roundings(self, y: Mapping[int, float], weights: bool) -> Iterator[Multipliers]:
         """In the order of their length."""
@@ -191,8 +194,7 @@ class Closer:
             if den is None:
                 yield self.rounded(y, first + next(digits), weights)
             else:
-                short = {i: Fraction(v).limit_denominator(den) for i, v in y.items()}
-                yield self.of_fractions(short, weights)
+                yield self.of_pairs({i: convergent(v, den) for i, v in y.items()}, weights)
 
     def close(self, duals: Mapping[int, float], weights: bool, box: Box) -> Closed | None:
         """The shortest that closes."""
@@ -270,8 +272,9 @@ class Closer:
         p, inside = self.model, set(rows)
         if len(basic) > MOST_BASIC or len(basic) != len(rows):
             return None
-        return solved([({i: a for i, a in p.by_column[j] if i in inside}, p.cost[j] * p.scale)
-                       for j in basic])
+        found = solved([({i: a for i, a in p.by_column[j] if i in inside}, p.costs[j] * p.scale)
+                        for j in basic])
+        return None if found is None else {i: y / p.cost_scale for i, y in found.items() if y}
 
     def missing_duals(self, basic: list[int], rows: list[int]) -> Optional[dict[int, Fraction]]:
         """The same for the program of phase one, whose further columns come two a row."""
@@ -285,3 +288,16 @@ class Closer:
                 one = 1 if j < p.n + p.m else -1
                 system.append(({i: p.row_unit(i)} if i in inside else {}, one))
         return solved(system)
+
+
+def convergent(value: float, most: int) -> tuple[int, int]:
+    """The last convergent of a double whose denominator is at most that."""
+    n, d = value.as_integer_ratio()
+    p0, q0, p1, q1 = 0, 1, 1, 0
+    while d:
+        k, rest = divmod(n, d)
+        if q0 + k * q1 > most:
+            break
+        p0, q0, p1, q1 = p1, q1, p0 + k * p1, q0 + k * q1
+        n, d = d, rest
+    return p1, q1

@@ -12,12 +12,13 @@ from .search import Better, Goal, Search
 from .tree import Spool, Tree
 from .watch import Stopped, Watch
 
-FRACTIONAL = Fraction(1, 100)   # how far from whole numbers the side must be
+FRACTIONAL = 0.01               # how far from whole numbers the side must be
 MOST_DIVISORS = 12
 MULTIPLES = (1, 2, 4, 8)        # of a divisor
 MOST_DENOMINATOR = 10 ** 9
 LEAST_DEPTH = 1e-3
 LEAST = 1e-6
+ROUNDED = 1e-9
 MOST_SUMMED = 5                 # rows of one sum
 NODES = 8                       # of a part's tree
 SECONDS = 1.0
@@ -151,19 +152,20 @@ class MixedRounding:
                 yield divisor * k
 
     def best(self) -> Rounded | None:
-        """The cut of the divisor with which it is deepest."""
+        """The cut of the divisor with which it is deepest, in doubles."""
         best: tuple[float, Fraction] | None = None
+        whole = float(self.side)
+        counted = [(float(c.share), c.value) for c in self.counted.values()]
+        slacks = [(float(s.share), s.at.distance) for s in self.slacks if s.share < 0]
         for divisor in self.divisors():
-            side = self.side / divisor
-            f = side - math.floor(side)
+            d = float(divisor)
+            f = whole / d - math.floor(whole / d)
             if not FRACTIONAL <= f <= 1 - FRACTIONAL:
                 continue
-            parts = [(float(lifted(c.share / divisor, f)), c.value)
-                     for c in self.counted.values()]
-            parts += [(float(s.share / divisor / (1 - f)), s.at.distance)
-                      for s in self.slacks if s.share < 0]
-            norm = math.sqrt(sum(a * a for a, _ in parts))
-            violation = sum(a * value for a, value in parts) - math.floor(side)
+            parts = [(lifted_double(a / d, f), value) for a, value in counted]
+            parts += [(a / d / (1 - f), distance) for a, distance in slacks]
+            norm = math.sqrt(sum([a * a for a, _ in parts]))
+            violation = sum([a * value for a, value in parts]) - math.floor(whole / d)
             if violation > LEAST and (best is None or violation / norm > best[0]):
                 best = violation / norm, divisor
         return None if best is None else self.cut(best[1])
@@ -173,6 +175,8 @@ class MixedRounding:
         side = self.side / divisor
         low = math.floor(side)
         f = side - low
+        if not f:
+            return None
         terms: dict[int, Fraction] = {}
         form: dict[int, int] = {}
         at = Fraction(low)
@@ -213,6 +217,12 @@ def lifted(q: Fraction, f: Fraction) -> Fraction:
     """What mixed rounding makes of a coefficient, f being what the side has over a whole number."""
     low = math.floor(q)
     return low + max(Fraction(0), q - low - f) / (1 - f)
+
+
+def lifted_double(q: float, f: float) -> float:
+    """The same in doubles, with room below whole numbers."""
+    low = math.floor(q + ROUNDED)
+    return low + max(0.0, q - low - f) / (1 - f)
 
 
 class Sums:
