@@ -21,7 +21,7 @@ from bridge_drivers.certify.plans import Plans
 from bridge_drivers.certify.search import Better, Search
 from bridge_drivers.certify.watch import Watch
 from bridge_drivers.program import Program
-from claim_models import BINARY, CLAIMED, CYCLE
+from claim_models import BINARY, CLAIMED
 from models import MODELS, nl, real, whole
 
 COMMAND = os.path.join(HERE, "..", "bin", "bridge-certify")
