@@ -66,8 +66,10 @@ class Solving:
             program = self.exported(text_form.path)
         except Refused as fault:
             if fault.told.endswith(": empty interval"):
-                return Result(Code.INFEASIBLE, [f"infeasible: {fault.line()}",
-                                                WITHOUT + "bridge refuses the model for this"])
+                strict = bool(self.options.strict)
+                return Result(Code.UNSURE if strict else Code.INFEASIBLE,
+                              [f"infeasible: {fault.line()}",
+                               WITHOUT + "bridge refuses the model for this"], is_final=not strict)
             status = Status.REFUSED if fault.status == 2 else Status.FAILED
             raise Failure(Code.REFUSED, self.refusal(fault, text_form.path), status) from None
         if self.options.only:
