@@ -8,7 +8,7 @@ import os
 import re
 import sys
 import time
-from typing import Iterator, NamedTuple
+from typing import Iterator, NamedTuple, Sequence
 
 try:
     import tomllib
@@ -17,12 +17,13 @@ except ImportError:
 
 from sources import BUILT, TOP, noted, said_by
 
-sys.path.append(os.path.join(TOP, "dev"))
+sys.path += [os.path.join(TOP, "dev"), os.path.join(TOP, "drivers")]
 import statement                                        # noqa: E402
+from bridge_drivers.front import completion             # noqa: E402
 
 PACKAGE = "bridge_drivers"
-DOCUMENTS = ("user/formats.md", "user/refusals.md", "user/commands.md", "verify/reading.md",
-             "verify/theorems.md")
+FOLDERS = ("user", "verify", "dev")         # of documents
+LINK = re.compile(r"\]\(([^)#]+)(?:#[^)]*)?\)")
 DRIVER = "bridge_drivers.driver:main"       # commands of this kind share a man page
 DRIVERS_PAGE = "bridge-cbc.1"
 X86_64 = b"\x3e\x00"                        # the machine in an ELF file's head
@@ -47,6 +48,19 @@ def epoch() -> int:
     """The time of every file: SOURCE_DATE_EPOCH, else that of the commit, else 1980."""
     given = os.environ.get("SOURCE_DATE_EPOCH") or said_by("git", "log", "-1", "--format=%ct")
     return max(int(given or 0), 315532800)
+
+
+def dead_links(documents: Sequence[File]) -> list[str]:
+    """Links between documents that lead to none of them, with the documents that have them."""
+    paths = {file.path for file in documents}
+    paths |= {os.path.dirname(path) for path in paths}
+    dead = []
+    for file in documents:
+        for link in LINK.findall(file.data.decode()) if file.path.endswith(".md") else ():
+            to = os.path.normpath(os.path.join(os.path.dirname(file.path), link))
+            if "://" not in link and to not in paths:
+                dead.append(f"{link} ({file.path})")
+    return dead
 
 
 class Project:
@@ -137,12 +151,27 @@ class Project:
                 yield name + ".1"
 
     def documents(self) -> Iterator[File]:
-        """What users read."""
-        yield File("README.md", read("README.md"))
-        yield File("drivers/README.md", read("drivers", "README.md"))
-        for name in DOCUMENTS:
-            yield File(f"docs/{name}", read("docs", name))
-        yield File("docs/verify/definitions.txt", statement.all_texts().encode())
+        """What users read. Unfit where a link leads to none of it."""
+        found = [File("README.md", read("README.md")),
+                 File("drivers/README.md", read("drivers", "README.md")),
+                 File("drivers/report.schema.json", read("drivers", "report.schema.json"))]
+        for folder in FOLDERS:
+            for name in sorted(os.listdir(os.path.join(TOP, "docs", folder))):
+                if name.endswith(".md"):
+                    found.append(File(f"docs/{folder}/{name}", read("docs", folder, name)))
+        found.append(File("docs/verify/definitions.txt", statement.all_texts().encode()))
+        dead = dead_links(found)
+        if dead:
+            raise Unfit("links that lead nowhere: " + ", ".join(dead))
+        yield from found
+
+    def completions(self, zsh: str) -> Iterator[File]:
+        """Where shells look for them below PREFIX/share; `zsh` is zsh's folder. Those of bash are
+        one text under the name of each command."""
+        yield File(f"zsh/{zsh}/_{self.name}", completion("zsh").encode())
+        text = completion("bash").encode()
+        for name in self.scripts:
+            yield File(f"bash-completion/completions/{name}", text)
 
     def examples(self) -> Iterator[File]:
         """What users can try. Not among the documents, which small systems leave out."""

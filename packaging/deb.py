@@ -83,6 +83,8 @@ def files(project: Project) -> list[File]:
         inside.append(File(f"usr/bin/{name}", text.encode(), 0o755))
     inside += [File(f"usr/share/minizinc/solvers/{f.path}", f.data)
                for f in project.configurations()]
+    inside += [File(f"usr/share/{f.path}", f.data)
+               for f in project.completions("vendor-completions")]
     inside += [File(f"usr/share/man/man1/{f.path}.gz", zipped(f.data)) for f in project.pages()]
     inside += [File(f"{documents}/{f.path}", f.data) for f in project.documents()]
     inside += [File(f"usr/share/{project.name}/{f.path}", f.data) for f in project.examples()]
@@ -97,7 +99,8 @@ def control(project: Project, inside: list[File]) -> list[File]:
     major, minor = project.glibc()
     fields = [f"Package: {project.name}", f"Version: {project.version}",
               f"Architecture: {ARCHITECTURE}", f"Maintainer: {project.maintainer()}",
-              f"Installed-Size: {size}", f"Depends: libc6 (>= {major}.{minor}), python3 (>= 3.9)",
+              f"Installed-Size: {size}", f"Depends: libc6 (>= {major}.{minor}), python3 (>= 3.9), "
+              "coinor-libclp1",
               "Recommends: coinor-cbc", f"Suggests: {SOLVERS}", "Section: math",
               "Priority: optional", f"Description: {project.table['description']}"]
     sums = [f"{hashlib.md5(f.data).hexdigest()}  {f.path}\n" for f in inside]

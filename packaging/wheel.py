@@ -25,6 +25,7 @@ def files(project: Project) -> list[File]:
     data = f"{name_of(project)}.data/data/share"
     inside += [File(f"{data}/minizinc/solvers/{f.path}", f.data)
                for f in project.configurations()]
+    inside += [File(f"{data}/{f.path}", f.data) for f in project.completions("site-functions")]
     pages = {f.path: f.data for f in project.pages()}
     pages.update({name: b".so man1/bridge-cbc.1\n" for name in project.linked_pages()})
     inside += [File(f"{data}/man/man1/{name}", page) for name, page in sorted(pages.items())]

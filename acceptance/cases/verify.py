@@ -25,7 +25,9 @@ LEMMA = "lemma 2 {} / 0 1 / 1 -7 / split 1 0 / duals 1 / 0 1 / duals 0"
 # max x + y with 2 x + 2 y <= 3, both whole and from 0 to 1
 ROUNDED = text(file((2, 1, 1, 2, 0, 2, 2, 0), "O0 1 / n0 / r / 1 3 / b / 0 0 1 / 0 0 1 / J0 2 / 0 2 / 1 2 / G0 2 / 0 1 / 1 1"))
 NO_OBJECTIVE = text(file((1, 1, 0, 0, 1, 1, 0, 0), "r / 0 1 2 / b / 3 / J0 1 / 0 3"))
-TWO = text(file((1, 1, 2, 0, 1, 1, 2, 0), "O0 0 / n0 / O1 1 / n0 / r / 2 2 / b / 0 0 5 / J0 1 / 0 2 / G0 1 / 0 1 / G1 1 / 0 3"))
+TWO_BODY = "O0 0 / n0 / O1 1 / n0 / r / 2 2 / b / {} / J0 1 / 0 2 / G0 1 / 0 1 / G1 1 / 0 3"
+TWO = text(file((1, 1, 2, 0, 1, 1, 2, 0), TWO_BODY.format("0 0 5")))
+TWO_ENDLESS = text(file((1, 1, 2, 0, 1, 1, 2, 0), TWO_BODY.format("2 0")))
 PRODUCT = text(file((2, 1, 1, 0, 0, 0, 0, 0), "O0 0 / o2 / v0 / v1 / r / 1 1 / b / 3 / 3"))
 TINY = f"1/{BIG}"
 COLLECTIONS = {
@@ -74,7 +76,13 @@ def third_cases():
     yield verdict("weights that give 0", WHOLE, "optimal 0 / point 1 / 0 1 / split 0 0 / weights 0 / duals 0", "leaf 0 gap 0")
     yield verdict("the second leaf", WHOLE, "optimal 0 / point 1 / 0 2 / split 0 0 / weights 1 / 0 1 / duals 0", "leaf 1 gap 1")
     yield verdict("a bound broken", row(bound="0 0 5"), "feasible 0 / point 1 / 0 6", "bound 0 broken")
-    yield verdict("the second objective", TWO, "optimal 1 / point 1 / 0 5 / duals 0", "optimal 15")
+    yield verdict("the second objective", TWO, "optimal 1 / point 1 / 0 5 / duals 0", "optimal 15 of objective 1")
+    yield verdict("the second objective, a gap left", TWO, "within 1 31/2 / point 1 / 0 5 / duals 0", "within 31/2 15 of objective 1")
+    yield verdict("the second objective, a bound", TWO, "bound 1 16 / duals 0", "bound 16 of objective 1")
+    yield verdict("the second objective, a point", TWO, "feasible 1 / point 1 / 0 2", "feasible 6 of objective 1")
+    yield verdict("the second objective, no end", TWO_ENDLESS, "unbounded 1 / point 1 / 0 1 / ray 1 / 0 1", "unbounded of objective 1")
+    yield verdict("the first objective is not named", TWO, "feasible 0 / point 1 / 0 2", "feasible 2")
+    yield verdict("none is named where nothing holds", TWO, "optimal 1 / point 0 / duals 0", "row 0 broken")
     yield verdict("the second objective, the value of the first", TWO, "bound 1 5 / duals 0", "leaf 0 gap 15")
 
 
@@ -151,8 +159,9 @@ def exact_cases():
     for name, value in EXACT.items():
         program, answer = (texts.data("data", "certificates", f"{name}.{kind}") for kind in ("nl", "sol"))
         number, point, duals = solution(answer.decode().split("\n"))
-        yield verdict(f"a bound by the duals of {name}", program, [f"bound {number} {value}", *duals], f"bound {value}")
-        yield verdict(f"the answer to {name}", program, [f"optimal {number}", *point, *duals], whole.get(name, f"optimal {value}"))
+        objective = f" of objective {number}" if int(number) > 0 else ""
+        yield verdict(f"a bound by the duals of {name}", program, [f"bound {number} {value}", *duals], f"bound {value}{objective}")
+        yield verdict(f"the answer to {name}", program, [f"optimal {number}", *point, *duals], whole.get(name, f"optimal {value}{objective}"))
 
 
 def collection_cases():

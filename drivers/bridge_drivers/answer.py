@@ -124,11 +124,17 @@ class Answer:
         if self.duals is not None:
             lines += [f"row {r} {v}" for r, v in self.duals.items()]
         if self.costs is not None:
-            lines += [f"suffix 4 rc {c} {v}" for c, v in self.costs.items() if v != "0"]
+            lines += self.cost_lines(self.costs)
         if o.column_basis and o.row_basis is not None and self.costs is not None:
             lines += [f"suffix 0 sstatus {c} {s}" for c, s in o.column_basis.items()]
             lines += [f"suffix 1 sstatus {r} {s}" for r, s in o.row_basis.items()]
         return lines
+
+    @staticmethod
+    def cost_lines(costs: Mapping[str, str]) -> list[str]:
+        """Those that are not 0; where all are 0, one, which says that they are known."""
+        told = {c: v for c, v in costs.items() if v != "0"} or dict(list(costs.items())[:1])
+        return [f"suffix 4 rc {c} {v}" for c, v in told.items()]
 
     def text(self, message: Sequence[str]) -> bytes:
         lines = ["answer 1", f"status {int(self.outcome.code)}", f"objno {self.options.objno - 1}"]

@@ -7,21 +7,25 @@ What the .sol itself holds, `bridge check` says in a line before.
 from __future__ import annotations
 
 import os
-import shutil
 from fractions import Fraction
+from typing import NamedTuple
 
+from . import verdicts
 from .answer import Answer
 from .bridge import Bridge, Refused
+from .certify import clp
 from .certify.claims import WITHOUT, Certifying, Given, Verdict, certified
 from .certify.points import Basis
 from .certify.text import answer_lines
 from .certify.watch import Watch
 from .codes import Code
 from .job import Job
+from .keeping import Keeper, Kept
 from .names import Names
 from .sol import duals_of, values_of
 from .solvers.base import BASIC
 from .values import plain, text_of
+from .verdicts import Said
 
 SECONDS = 60.0              # of a search, where timelim says nothing
 ONE_LEAF = 1.0              # without prove=1
@@ -32,6 +36,19 @@ CLAIMS = {Code.SOLVED: "point", Code.UNSURE: "point", Code.LIMIT_WITH_POINT: "po
           Code.INFEASIBLE_OR_UNBOUNDED: "either", Code.LIMIT: "nothing"}
 
 
+NO_SEARCH = ("prove=1 needs the library of CLP, which is not there (Debian: apt install "
+             "coinor-libclp1)")
+
+
+class End(NamedTuple):
+    """How a message ends: its last lines, the verdict behind them; what is claimed where it is
+    proved; and where the certificate is kept."""
+
+    lines: list[str]
+    said: Said | None = None
+    kept: Kept | None = None
+
+
 class Certifier:
     """Asks `bridge` over the .nl file at `nl`. `stub` is where AMPL writes names beside it."""
 
@@ -40,6 +57,7 @@ class Certifier:
         self.program = job.program
         self.relaxed = bool(job.program.whole) and bool(job.options.relax)
         self.linear = not job.program.whole or self.relaxed
+        self.is_interrupted = False
 
     # calls -----------------------------------------------------------------------
 
@@ -72,15 +90,16 @@ class Certifier:
         """By the certificate of a search, which has `timelim` with prove=1, and without a second or
         more by the size of the program. Where a large one has none, the .sol as it stands."""
         options = self.job.options
-        size = len(self.program.text)
-        seconds = (options.timelim or SECONDS) if options.prove \
+        proves, size = bool(options.prove) and not self.job.is_interrupted, len(self.program.text)
+        seconds = (options.timelim or SECONDS) if proves \
             else min(max(size / LARGE, ONE_LEAF), SECONDS)
+        watch = Watch(seconds, self.job.clock.progress, not proves)
         work = Certifying(self.bridge, self.nl, self.job.folder, self.program, options.objno - 1,
-                          Watch(seconds, self.job.clock.name), bool(options.prove), self.relaxed,
-                          bool(options.bound), bool(options.shorten))
+                          watch, proves, self.relaxed, bool(options.bound), bool(options.shorten))
         claim = CLAIMS[answer.outcome.code]
         verdict: Verdict = self.job.clock.timed("certify", certified, work, claim,
                                                 self.given(answer))
+        self.is_interrupted = watch.is_stopped
         if claim == "point" and not self.relaxed and not verdict.is_proved() and size > LARGE:
             return self.as_it_stands(work, sol)
         return verdict
@@ -118,16 +137,56 @@ class Certifier:
                           [int(r[1:]) for r in rows if outcome.row_basis[r] != BASIC])
         return Given(values, duals, basis)
 
-    def kept(self, verdict: Verdict) -> str | None:
-        """Copies the accepted text to where `certificate` says; a line where that fails."""
+    def ended(self, verdict: Verdict) -> End:
+        """What is told of a verdict. A search that was asked for and cannot be made is told as
+        `not proved`, with what is proved without it."""
+        said = verdicts.read(verdict.line) if verdict.is_proved() else None
+        kept, last, lines = self.kept(verdict), verdict.line, self.words(said)
+        if self.lacks_search(said):
+            lines.append(NO_SEARCH)
+            if said is not None:
+                last = f"{WITHOUT}there was no search; without it: {last}"
+        kept_line = kept.line if kept else ""
+        return End([*lines, *filter(None, (kept_line, verdict.note)), last], said, kept)
+
+    def lacks_search(self, said: Said | None) -> bool:
+        options = self.job.options
+        return bool(options.prove and options.check) and clp.library() is None \
+            and (said is None or not said.is_settled())
+
+    @staticmethod
+    def rounding(verdict: Verdict, answer: Answer, told: str) -> str:
+        """Why the numbers of a .sol say another thing than an exact optimum, where they are only
+        near to it."""
+        said = verdicts.read(verdict.line)
+        if said is None or said.word != "optimal" or told.split()[-1:] == [plain(str(said.value))]:
+            return ""
+        what = [word for word, count in (("values", answer.loose), ("duals", answer.loose_duals))
+                if count]
+        return f"; the exact {' and '.join(what)} are rounded to decimals in it" if what else ""
+
+    def words(self, said: Said | None) -> list[str]:
+        """The claim in words, where it says more than its line."""
+        if said is None or said.is_settled():
+            return []
+        steps = None if self.relaxed else verdicts.multiples(self.program)
+        text = verdicts.in_words(said, self.program.maximise, steps)
+        if said.word == "feasible":
+            text += "; whether one is better was not searched for: prove=1 goes on" \
+                if not self.job.options.prove else "; the search for a better one did not end"
+        return ["in words: " + text]
+
+    def kept(self, verdict: Verdict) -> Kept | None:
+        """Keeps the accepted text where `certificate` says; None where it says nothing."""
         target = self.job.options.certificate
-        if not target or verdict.path is None:
+        if not target:
             return None
-        try:
-            shutil.copyfile(verdict.path, target)
-        except OSError as fault:
-            return f"the certificate is not kept: {target}: {fault.strerror}"
-        return None
+        if verdict.path is None:
+            stays = f"; {target} stays as it was" if os.path.exists(target) else ""
+            return Kept("no certificate is written" + stays)
+        keeper = Keeper(self.bridge, self.nl, self.program.maximise,
+                        bool(self.job.options.overwrite))
+        return keeper.kept(verdict.path, verdict.line, target)
 
     # words -----------------------------------------------------------------------
 
@@ -164,10 +223,3 @@ class Certifier:
 def rounded(text: str) -> str:
     """The decimal of few places that is near a double's."""
     return text_of(round(float(text), PLACES))[0]
-
-
-def remove_older(path: str) -> None:
-    """A certificate of an earlier run must not pass for this one's. What is no plain file, such as
-    a device, is left where it is."""
-    if os.path.isfile(path) or os.path.islink(path) and not os.path.exists(path):
-        os.unlink(path)

@@ -35,6 +35,7 @@ class Status(enum.IntEnum):
     REFUSED = 2
     BAD_WORDS = 3
     NO_FILE = 4
+    UNWRITTEN = 5               # bridge-certify: its certificate
     NOT_PROVED = 6              # strict=1
     INTERRUPTED = 130
     TERMINATED = 143

@@ -7,6 +7,7 @@ import sys
 from typing import Callable, NoReturn, TextIO, TypeVar, cast
 
 from .interrupts import SIGNALS, Interrupted
+from .printable import printable
 
 BROKEN = 1                      # the exit status where standard output broke
 Result = TypeVar("Result")
@@ -16,23 +17,39 @@ class OutputBroken(BaseException):
     """Standard output takes no more: a closed pipe, a full disk. No `except Exception` stops it."""
 
 
-class Output:
-    """A text stream whose faults are OutputBroken; else the stream that it is made of."""
+class Shown:
+    """A text stream without controls of a terminal; else the stream that it is made of."""
 
     def __init__(self, stream: TextIO) -> None:
         self.stream = stream
 
     def write(self, text: str) -> int:
-        return guarded(lambda: self.stream.write(text))
+        return self.stream.write(printable(text))
 
     def writelines(self, lines: list[str]) -> None:
-        guarded(lambda: self.stream.writelines(lines))
+        self.stream.writelines(map(printable, lines))
+
+    def __getattr__(self, name: str) -> object:
+        return getattr(self.stream, name)
+
+
+class Output(Shown):
+    """One whose faults are OutputBroken."""
+
+    def write(self, text: str) -> int:
+        return guarded(lambda: super(Output, self).write(text))
+
+    def writelines(self, lines: list[str]) -> None:
+        guarded(lambda: super(Output, self).writelines(lines))
 
     def flush(self) -> None:
         guarded(self.stream.flush)
 
-    def __getattr__(self, name: str) -> object:
-        return getattr(self.stream, name)
+
+def raw(stream: TextIO, text: str) -> None:
+    """Text of ours with controls, which a stream that shows them lets through."""
+    inner = stream.stream if isinstance(stream, Shown) else stream
+    guarded(lambda: inner.write(text))
 
 
 def guarded(call: Callable[[], Result]) -> Result:
@@ -49,8 +66,8 @@ def own_name() -> str:
 
 def run(name: str, command: Callable[[], int], broken: int = BROKEN) -> NoReturn:
     """Ends the process with the command's status. Bytes of paths that are not UTF-8 are printed
-    as they are; a standard output that breaks or is closed is told in one line, and so is a
-    signal."""
+    as they are, controls of a terminal as `\\x1b`; a standard output that breaks or is closed is
+    told in one line, and so is a signal."""
     SIGNALS.take()
     fill()
     for stream in (sys.stdout, sys.stderr):
@@ -58,6 +75,7 @@ def run(name: str, command: Callable[[], int], broken: int = BROKEN) -> NoReturn
             stream.reconfigure(errors="surrogateescape" if stream.encoding.lower() == "utf-8"
                                else "backslashreplace")
     sys.stdout = cast(TextIO, Output(sys.stdout))
+    sys.stderr = cast(TextIO, Shown(sys.stderr))
     try:
         status = int(command())
         sys.stdout.flush()

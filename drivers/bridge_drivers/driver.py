@@ -9,7 +9,7 @@ import sys
 import tempfile
 from typing import Sequence
 
-from . import VERSION, console, minizinc, solvers, words
+from . import VERSION, colour, console, kinds, minizinc, report, solvers, words
 from .bridge import BESIDE, Bridge, Missing, find
 from .codes import Code, Failure, Status
 from .interrupts import SIGNALS, Interrupted
@@ -33,6 +33,9 @@ class Driver:
         self.clock = Clock(self.name)
         self.nl = self.sol = ""
         self.is_put = False
+        self.result: Result | None = None
+        self.fault: Failure | None = None
+        self.bridge_words: Sequence[str] = ()
 
     def main(self, argv: Sequence[str]) -> int:
         """The exit status."""
@@ -47,7 +50,7 @@ class Driver:
         self.nl, self.sol = base + ".nl", base + ".sol"
         try:
             self.take_options()
-            return self.deliver(self.work())
+            return self.deliver(self.shown())
         except Failure as fault:
             return self.failed(fault)
         except Interrupted as signal:
@@ -65,7 +68,8 @@ class Driver:
         if ask == "-=":
             return self.options.listing()
         if ask == "-?":
-            return words.usage(self.name, self.solver.title)
+            listing = "".join(f"  {line}\n" for line in self.options.listing().splitlines())
+            return words.help_text(self.name, self.solver.title, listing)
         place = self.solver.place() or "not found"
         return f"{self.name} {VERSION} ({self.solver.title} {place})\n"
 
@@ -104,7 +108,8 @@ class Driver:
 
     def find_bridge(self) -> Bridge:
         try:
-            return Bridge(find(self.options.bridge, BESIDE), self.clock.note)
+            self.bridge_words = find(self.options.bridge, BESIDE)
+            return Bridge(self.bridge_words, self.clock.note)
         except Missing as fault:
             raise Failure(Code.NOT_FOUND, str(fault)) from None
 
@@ -113,14 +118,25 @@ class Driver:
         named = self.options.solver or self.solver.program
         place = self.solver.place(self.options.solver)
         if place is None:
-            raise Failure(Code.NOT_FOUND, f"{named} was not found: install it or give solver=PATH")
+            how = f"apt install {self.solver.package} (Debian)" \
+                if self.solver.package and not self.options.solver else "install it"
+            raise Failure(Code.NOT_FOUND, f"{named} was not found: {how} or give solver=PATH")
         return os.path.abspath(place)
 
     # the run -----------------------------------------------------------------------
 
+    def shown(self) -> Result:
+        """The work, and what goes on in it on standard error."""
+        progress = self.clock.progress
+        progress.start(sys.stderr, not self.options.outlev)
+        try:
+            return self.work()
+        finally:
+            progress.stop()
+
     def work(self) -> Result:
-        if not os.path.exists(self.nl):
-            raise Failure(Code.FILE, f"{self.nl}: no such file", Status.NO_FILE)
+        if not os.path.exists(self.nl) or os.path.isdir(self.nl):
+            raise Failure(Code.FILE, kinds.no_model(self.words.stub or ""), Status.NO_FILE)
         bridge = self.find_bridge()
         solver_path = "" if self.options.only else self.find_solver()
         with SIGNALS.kept(True):
@@ -146,7 +162,7 @@ class Driver:
 
     def deliver(self, result: Result) -> Status:
         """The .sol at once or not at all, the message, and what wantsol asks for."""
-        o, lines = self.options, result.lines
+        o, lines, self.result = self.options, result.lines, result
         if result.sol is None:
             lines = [f"{self.name}: {lines[0]}", *lines[1:]]
             sol = bare(self.nl, result.code, o.objno - 1, lines)
@@ -158,7 +174,10 @@ class Driver:
             with open(os.path.join(o.keep, "bridge.sol"), "wb") as f:
                 f.write(sol)
         if (not self.words.ampl or o.failexit) and not o.wantsol & 8:
-            print("\n".join(lines), flush=True)
+            if result.end is None:              # no verdict
+                print("\n".join(lines), flush=True)
+            else:
+                colour.tell_all(lines, sys.stdout)
         if o.failexit:
             unsure = f"{lines[0]}; " if result.code == Code.UNSURE else ""
             minizinc.tell(f"{self.name}: {unsure}{lines[-1]}")
@@ -196,9 +215,10 @@ class Driver:
 
     def failed(self, fault: Failure) -> int:
         """Told on standard error; with -AMPL also a .sol with the code, and exit 0 with it."""
+        self.fault = fault
         line = f"{self.name}: {fault.text}"
         sys.stderr.write(line + "\n")
-        minizinc.tell(line)
+        minizinc.tell(line, is_error=True)
         if self.words.ampl and fault.code != Code.STOPPED and not self.options.failexit:
             try:
                 self.put(bare(self.nl, fault.code, max(self.options.objno, 1) - 1, [line]))
@@ -211,4 +231,4 @@ class Driver:
 def main(name: str = "") -> None:
     """Without a name that of the command: bridge-NAME."""
     name = name or console.own_name().removeprefix("bridge-")
-    console.run("bridge-" + name, lambda: Driver(name).main(sys.argv[1:]))
+    console.run("bridge-" + name, lambda: report.reported(Driver(name), sys.argv[1:]))

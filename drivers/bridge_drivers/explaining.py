@@ -7,11 +7,14 @@ have their names where AMPL wrote them beside the model (stub.col, stub.row), or
 
 from __future__ import annotations
 
+import os
 import re
 from typing import Mapping, NamedTuple, Sequence
 
+from . import kinds
 from .expressions import Expression
 from .names import Names, comment_of
+from .printable import in_a_line, printable
 
 TOLD = re.compile(r"refused (?:file (\d+) ?)?(?:(line|row|column|objective) (\d+)|program)?: (.*)",
                   re.S)
@@ -19,6 +22,9 @@ HEADS = b"COVLFSJGKkbrdx"
 BODIES = b"COVL"                        # segments that hold an expression
 HEAD_LINES = 10
 NL_FIRST = ("export", "nl", "return", "check", "prove", "verify")     # commands of an .nl file
+
+
+FIRST_LINES = {"verify": "certificate 1", "prove": "proof 1", "return": "answer 1"}
 
 
 class Meaning(NamedTuple):
@@ -47,7 +53,7 @@ MEANING: Mapping[str, Meaning] = {
                                     "write the sets as rows with whole variables"),
     "complementarity": Meaning("complementarity conditions are not taken",
                                "two rows and a whole variable"),
-    "no such objective": Meaning("the file has fewer objectives; objno counts from 1"),
+    "no such objective": Meaning("the file has fewer objectives; they count from 0 here"),
     "empty interval": Meaning("a lower bound is above its upper bound, so nothing satisfies the "
                               "model"),
     "bad number": Meaning("not a decimal number, or beyond 38 digits (MiniZinc: without "
@@ -66,9 +72,10 @@ MEANING: Mapping[str, Meaning] = {
     "refused power": Meaning("a power's exponent must be a whole number from 0 to 127",
                              "compute it in the data"),
     "end in header": Meaning("an .nl file begins with ten lines"),
-    "missing segment": Meaning("no O of an objective, no r of constraints or no b of variables",
-                               "MiniZinc 2.6.4 writes no b where nothing is left to constrain: add "
-                               "a constraint on two variables"),
+    "missing segment": Meaning("no O of an objective, no r of constraints or no b of variables; "
+                               "MiniZinc writes no b for a model of bounds alone: add a constraint "
+                               "on two variables",
+                               "MiniZinc: add a constraint on two variables"),
     "undefined": Meaning("a defined variable that is used before its piece"),
     "no dual values": Meaning("the answer has none, and bridge checks none without them"),
     "no primal values": Meaning("the answer has none"),
@@ -125,14 +132,26 @@ def without_files(told: str) -> str:
     return told + meaning(told.rpartition(": ")[2])
 
 
+def fault_at(path: str) -> str:
+    """Why a file cannot be read; nothing where it can, or is no plain file, of which nothing is
+    taken here."""
+    try:
+        if os.path.isfile(path) or os.path.isdir(path) or not os.path.exists(path):
+            with open(path, "rb"):
+                pass
+    except OSError as fault:
+        return fault.strerror or str(fault)
+    except ValueError as fault:             # a byte 0 in the path
+        return str(fault)
+    return ""
+
+
 def unreadable(files: Sequence[str], shown: Mapping[str, str]) -> str:
     """Which of the files cannot be read, and why."""
     for file in files:
-        try:
-            with open(file, "rb") as f:
-                f.read(1)
-        except OSError as fault:
-            return f"{shown.get(file, file)}: input fault ({fault.strerror})"
+        why = fault_at(file)
+        if why:
+            return f"{shown.get(file, file)}: input fault ({why})"
     return "input fault: " + " or ".join(shown.get(f, f) for f in files) + " could not be read"
 
 
@@ -237,6 +256,9 @@ class Refusal:
 
     def line(self) -> str:
         """All of it in one line."""
+        return in_a_line(self.text())
+
+    def text(self) -> str:
         t = self.parts
         if t is None or not 1 <= t.file <= len(self.files):
             return without_files(self.told)
@@ -247,6 +269,12 @@ class Refusal:
         return f"{file}: {thing}{t.reason}{meaning(t.reason)}"
 
     def at_line(self, t: Told) -> str:
+        if t.file == 1 and self.is_model and t.reason == "bad first line":
+            kind = kinds.kind_of(self.files[0])
+            if kind is not None:
+                return f"{t.reason}: it {kinds.told(self.files[0], kind, self.shown[0])}"
+        if t.reason == "bad first line" and self.file_two(t):
+            return f"{t.reason} (it does not begin with `{FIRST_LINES[self.command]}`)"
         if t.file != 1 or not self.is_model or t.reason in AT_END:
             return t.reason + meaning(t.reason)
         try:
@@ -257,6 +285,10 @@ class Refusal:
         if not t.reason.startswith(("short", "extra", "bad line")):
             expression = expression_at(segment, t.number, self.names)
         return f"{place_of(segment, t.number, self.names)}: {fault_of(t.reason, expression)}"
+
+    def file_two(self, t: Told) -> bool:
+        """Whether it is the second file of a command, whose first line is known."""
+        return t.file == 2 and self.command in FIRST_LINES
 
     def thing(self, t: Told) -> str:
         """`constraint 3 (Cap): ` for a row of the model; rows of an MPS text have no names here."""
@@ -286,7 +318,7 @@ class Refusal:
             lines.append("what helps: " + helps)
         if t.kind == "line":
             lines += around(self.files[t.file - 1], t.number)
-        return lines
+        return list(map(printable, lines))
 
 
 def around(path: str, line: int, before: int = 2, after: int = 3) -> list[str]:

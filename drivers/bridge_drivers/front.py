@@ -6,16 +6,25 @@ from __future__ import annotations
 import hashlib
 import json
 import os
+import re
 import signal
+import subprocess
 import sys
 from typing import Callable, NamedTuple, Sequence
 
-from . import VERSION, console, explaining
-from .bridge import BESIDE, PACKAGE, Bridge, Missing, Refused, find
-from .stats import stats
+from . import VERSION, colour, console, explaining
+from .bridge import BESIDE, PACKAGE, Bridge, Missing, Refused, find, is_plain
+from .explained import command as certificates
+from .importing import imported
+from .near import near
+from .report import Report, sum_of
+from .stats import Stats, stats
 
 NAME = "nl-bridge"
-DONE, REFUSED, BAD_WORDS, OUTPUT_FAULT, NOT_THERE = 0, 2, 3, 5, 127
+DONE, REFUSED, BAD_WORDS, INPUT_FAULT, OUTPUT_FAULT, NOT_THERE = 0, 2, 3, 4, 5, 127
+VERDICTS = ("verify", "check", "prove")
+NUMBERS = ("K", "SEED", "SIZE")             # words of the table that are no files
+NUMBER, MOST = re.compile("0|[1-9][0-9]*"), 4294967295
 
 
 class Command(NamedTuple):
@@ -24,6 +33,10 @@ class Command(NamedTuple):
     word: str
     rest: str
     text: str
+
+    def forms(self) -> list[list[str]]:
+        """The words that follow, without and with those in brackets."""
+        return [re.sub(r"\[.*?\]", "", self.rest).split(), re.sub(r"[][]", "", self.rest).split()]
 
 
 COMMANDS = (
@@ -42,8 +55,12 @@ COMMANDS = (
 )
 OWN = (
     Command("explain", "FILE [K]", "what a refusal is about: the expression, the lines, names"),
+    Command("explain", "NL CERTIFICATE", "what a certificate says, or where it fails; --html FILE, "
+                                         "--svg FILE"),
     Command("explain", "COMMAND FILE ..", "the same for a call of another command"),
+    Command("import", "FILE NL", "the .nl text in NL, the names beside it in .row and .col"),
     Command("stats", "FILE [K]", "sizes and kinds, numbers that are no doubles, scaled rows"),
+    Command("completion", "bash|zsh", "completion of all commands for a shell"),
     Command("version", "", "the program with its sum, the toolchain, the drivers"),
     Command("help", "", "this text"),
 )
@@ -58,6 +75,8 @@ def rows_of(commands: Sequence[Command]) -> str:
 def usage() -> str:
     return (f"usage: {NAME} COMMAND ..\n\nof the proved program:\n{rows_of(COMMANDS)}\n"
             f"around it:\n{rows_of(OWN)}\nstatus: {STATUSES}\n"
+            "json=1 behind the words of verify, stats and version: one object of JSON\n"
+            f"example: {NAME} verify knap.nl knap.certificate\n"
             f"Solvers are run by bridge-cbc and kin. More: man {NAME}\n")
 
 
@@ -89,8 +108,14 @@ def version(words: list[str]) -> str:
 
 
 def explain(bridge: Bridge, words: Sequence[str]) -> int:
-    """The refusal of a call, of `export` where there is a file alone. The status is the call's."""
+    """What a certificate says, where there are a model and one. Else the refusal of a call, of
+    `export` where there is a file alone; the status is the call's."""
     known = {command.word for command in COMMANDS}
+    if len(words) > 1 and words[0] not in known and not NUMBER.fullmatch(words[1]):
+        try:
+            return certificates.explained(bridge, certificates.files_of(words))
+        except certificates.BadWords as fault:
+            return wrong(str(fault))
     call = list(words) if len(words) > 1 and words[0] in known else ["export", *words]
     reply = bridge.call(*call)
     if reply.status in (0, 1):
@@ -104,6 +129,19 @@ def explain(bridge: Bridge, words: Sequence[str]) -> int:
     return reply.status
 
 
+def show_import(bridge: Bridge, words: Sequence[str]) -> int:
+    """An MPS text into a file, with its names beside it."""
+    try:
+        print(imported(bridge, *words))
+        return DONE
+    except Refused as fault:
+        sys.stderr.write(f"{NAME}: {fault.line()}\n")
+        return fault.status
+    except OSError as fault:
+        sys.stderr.write(f"{NAME}: {fault.filename}: {fault.strerror}\n")
+        return OUTPUT_FAULT
+
+
 def show_stats(bridge: Bridge, words: Sequence[str]) -> int:
     try:
         print("\n".join(stats(bridge, *words)))
@@ -113,9 +151,58 @@ def show_stats(bridge: Bridge, words: Sequence[str]) -> int:
         return fault.status
 
 
+def wrong_words(words: Sequence[str]) -> str:
+    """Why the proved program does not take these words, by its table; nothing where it does."""
+    rows = [c for c in COMMANDS if c.word == words[0]]
+    named = [names for row in rows for names in row.forms() if len(names) == len(words) - 1]
+    if not all(map(is_plain, words)):
+        return "a word that is not UTF-8"
+    if not named:
+        rows += [c for c in OWN if c.word == words[0]]
+        return f"{words[0]} takes " + " or ".join(row.rest for row in rows)
+    for name, word in zip(named[0], words[1:]):
+        if name in NUMBERS and not (NUMBER.fullmatch(word) and int(word) <= MOST):
+            return f"{name} is a plain number up to {MOST}, not {word}"
+    return ""
+
+
+def with_cause(place: Sequence[str], words: Sequence[str]) -> int | None:
+    """Runs the proved program where words or files are at fault, and adds to what it tells which,
+    and why; None where there is no fault."""
+    wrong = wrong_words(words)
+    files = explaining.files_of(words)
+    if not wrong and not any(map(explaining.fault_at, files)):
+        return None
+    ran = subprocess.run([*place, *words], stderr=subprocess.PIPE, check=False)
+    told = ran.stderr.decode("utf-8", "surrogateescape")
+    if ran.returncode == BAD_WORDS and wrong:
+        told = f"{NAME}: {told.strip()}: {wrong}; -h lists the commands\n"
+    elif ran.returncode == INPUT_FAULT:
+        told = f"{NAME}: {explaining.unreadable(files, {})}\n"
+    sys.stderr.write(told)
+    return ran.returncode if ran.returncode >= 0 else 128 - ran.returncode
+
+
+def coloured(place: Sequence[str], words: Sequence[str]) -> int:
+    """A verdict on a terminal."""
+    ran = subprocess.run([*place, *words], stdout=subprocess.PIPE, check=False)
+    line = ran.stdout.decode("utf-8", "replace").rstrip("\n")
+    if line:
+        colour.tell(line, sys.stdout)
+    return ran.returncode if ran.returncode >= 0 else 128 - ran.returncode
+
+
 def passed_on(place: Sequence[str], words: Sequence[str]) -> int:
     """The proved program in this process's place, with the signals that it would have without
     Python."""
+    try:
+        status = with_cause(place, words)
+        if status is None and words[0] in VERDICTS and colour.is_wanted(sys.stdout):
+            status = coloured(place, words)
+    except OSError as fault:
+        raise Missing(f"{place[0]} could not be run: {fault.strerror}") from None
+    if status is not None:
+        return status
     for name in ("SIGPIPE", "SIGXFSZ"):
         if hasattr(signal, name):
             signal.signal(getattr(signal, name), signal.SIG_DFL)
@@ -125,13 +212,77 @@ def passed_on(place: Sequence[str], words: Sequence[str]) -> int:
         raise Missing(f"{place[0]} could not be run: {fault.strerror}") from None
 
 
+def completion(shell: str) -> str:
+    """Of all commands. The drivers are read for it alone."""
+    from .certify.command import OPTIONS
+    from .completion import Completion
+    texts: dict[str, str] = {}
+    for row in (*COMMANDS, *OWN):
+        texts.setdefault(row.word, row.text)
+    return Completion(texts, OPTIONS).text(shell)
+
+
 def wrong(text: str) -> int:
-    sys.stderr.write(f"{NAME}: {text}; -h lists the commands\n")
+    end = "" if text.endswith("?") else ";"
+    sys.stderr.write(f"{NAME}: {text}{end} -h lists the commands\n")
     return BAD_WORDS
+
+
+def reported(words: Sequence[str]) -> int:
+    """`verify`, `stats` and `version` with the word json=1."""
+    told = Report(NAME)
+    try:
+        told.program = place = find("", BESIDE)
+        told.status = REPORTED[words[0]](told, Bridge(place, lambda argv: None), words)
+    except Refused as fault:
+        told.status, told.text = fault.status, f"{NAME}: {fault.line()}"
+    except Missing as fault:
+        told.status, told.text = NOT_THERE, f"{NAME}: {fault}"
+    if told.status not in (0, 1):
+        sys.stderr.write(told.text + "\n")
+    told.lines = told.lines or [told.text]
+    return told.show()
+
+
+def report_verify(told: Report, bridge: Bridge, words: Sequence[str]) -> int:
+    told.model, told.certificate = words[1:]
+    line = bridge.verdict("verify", *words[1:])
+    told.take_line(line)
+    return 0 if told.said else 1
+
+
+def report_stats(told: Report, bridge: Bridge, words: Sequence[str]) -> int:
+    told.model = words[1]
+    figures = Stats(bridge, *words[1:])
+    told.lines, told.text = figures.lines(), "stats"
+    told.more["stats"] = figures.object()
+    return 0
+
+
+def report_version(told: Report, bridge: Bridge, words: Sequence[str]) -> int:
+    told.lines = version(list(bridge.words)).rstrip("\n").split("\n")
+    told.text, package = told.lines[0], built()
+    is_packaged = len(bridge.words) == 1 and package.get("sha256") == sum_of(bridge.words[0])
+    told.more["program"] = list(bridge.words)
+    told.more["toolchain"] = package.get("toolchain") if is_packaged else None
+    told.more["proved"] = package.get("proved") == "yes" if is_packaged else None
+    told.more["drivers"] = PACKAGE
+    return 0
+
+
+REPORTED: dict[str, Callable[[Report, Bridge, Sequence[str]], int]] = {
+    "verify": report_verify, "stats": report_stats, "version": report_version}
+COUNTS = {"verify": (3,), "stats": (2, 3), "version": (1,)}       # words of their calls
 
 
 def command(words: Sequence[str]) -> int:
     """One call."""
+    if "json=1" in words and words[0] in REPORTED:
+        plain = [word for word in words if word != "json=1"]
+        if len(plain) not in COUNTS[words[0]]:
+            takes = {"verify": "NL CERTIFICATE", "stats": "FILE [K]"}.get(words[0], "no more")
+            return wrong(f"{words[0]} json=1 takes {takes}")
+        return reported(plain)
     if not words:
         sys.stderr.write(usage())
         return BAD_WORDS
@@ -142,8 +293,14 @@ def command(words: Sequence[str]) -> int:
     own: dict[str, Callable[[Bridge, Sequence[str]], int]] = {"explain": explain,
                                                               "stats": show_stats}
     asks_version = first in ("-v", "--version", "version")
-    if not asks_version and first not in own and first not in {c.word for c in COMMANDS}:
-        return wrong(f"unknown command {first}")
+    if not asks_version and first not in {c.word for c in (*COMMANDS, *OWN)}:
+        names = [c.word for c in (*COMMANDS, *OWN)]
+        return wrong(f"unknown command {first};{near(first, names)}".rstrip(";"))
+    if first == "completion":
+        if len(rest) != 1 or rest[0] not in ("bash", "zsh"):
+            return wrong("completion takes bash or zsh")
+        print(completion(rest[0]), end="")
+        return DONE
     if first in own and not rest or first == "stats" and len(rest) > 2:
         return wrong(f"{first} takes a FILE")
     try:
@@ -151,6 +308,8 @@ def command(words: Sequence[str]) -> int:
         if asks_version:
             print(version(place), end="")
             return DONE
+        if first == "import" and len(rest) == 2:
+            return show_import(Bridge(place, lambda argv: None), rest)
         if first in own:
             return own[first](Bridge(place, lambda argv: None), rest)
         return passed_on(place, words)

@@ -32,6 +32,7 @@ class Signals:
     def __init__(self) -> None:
         self.is_held = self.is_ending = False
         self.waiting = 0
+        self.receiver: Callable[[], None] | None = None
 
     def take(self) -> None:
         """From here on. One that is ignored from the start stays so."""
@@ -42,6 +43,9 @@ class Signals:
     def came(self, number: int, frame: object = None) -> None:
         if self.is_held:
             self.waiting = self.waiting or number
+        elif number == signal.SIGINT and self.receiver is not None:
+            receiver, self.receiver = self.receiver, None
+            receiver()
         elif not self.is_ending:
             self.is_ending = True
             raise Interrupted(number)
@@ -56,6 +60,15 @@ class Signals:
         finally:
             self.is_held = old
         self.act()
+
+    @contextlib.contextmanager
+    def first_to(self, receiver: Callable[[], None]) -> Iterator[None]:
+        """A block whose first interrupt is the receiver's. The second one ends the run."""
+        self.receiver = receiver
+        try:
+            yield
+        finally:
+            self.receiver = None
 
     def act(self) -> None:
         """On what waited."""
@@ -86,10 +99,14 @@ def with_child(use: Callable[[subprocess.Popen[bytes]], T], argv: Sequence[str],
 
 def kill(child: subprocess.Popen[bytes]) -> None:
     """With what it started, which may hold its output open, where its group is its own."""
+    send(child, signal.SIGKILL)
+
+
+def send(child: subprocess.Popen[bytes], number: int) -> None:
     try:
         if os.getpgid(child.pid) == child.pid:
-            os.killpg(child.pid, signal.SIGKILL)
+            os.killpg(child.pid, number)
             return
     except (ProcessLookupError, PermissionError):
         pass
-    child.kill()
+    child.send_signal(number)

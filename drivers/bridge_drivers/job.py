@@ -4,15 +4,18 @@ from __future__ import annotations
 
 import os
 import shlex
+import signal
 import subprocess
 import sys
 import threading
 import time
-from typing import Any, Callable, NamedTuple, Sequence, TypeVar
+from typing import Any, Callable, Mapping, NamedTuple, Sequence, TypeVar
 
-from .interrupts import kill, with_child
+from .files import naming
+from .interrupts import SIGNALS, kill, send, with_child
 from .options import Options
 from .program import Program
+from .progress import Progress, detailed
 
 LOG = "solver.log"
 T = TypeVar("T")
@@ -34,6 +37,7 @@ class Clock:
         self.name, self.began = name, time.monotonic()
         self.spent: dict[str, float] = {}
         self.tells = False
+        self.progress = Progress(name)
 
     def timed(self, part: str, call: Callable[..., T], *words: Any) -> T:
         start = time.monotonic()
@@ -57,14 +61,15 @@ class Clock:
 class Job:
     """What a solver's module works with: `program`, `options`, `solver` (its path), `extra`
     (further words for it), and files in `folder`. `again`: it is asked once more, in another
-    way."""
+    way. `is_interrupted`: it was told to end. `read` tells what a line of its log says."""
 
     def __init__(self, program: Program, options: Options, folder: str, solver: str,
                  extra: Sequence[str], clock: Clock) -> None:
         self.program, self.options, self.folder = program, options, folder
         self.solver, self.extra, self.clock = solver, list(extra), clock
         self.log = ""
-        self.again = False
+        self.again = self.is_interrupted = False
+        self.read: Callable[[str], Mapping[str, float]] = lambda line: {}
         self.remove_answers()               # a kept folder may hold another run's
 
     def remove_answers(self) -> None:
@@ -77,7 +82,7 @@ class Job:
 
     def write(self, name: str, data: bytes) -> str:
         path = self.path(name)
-        with open(path, "wb") as f:
+        with naming(path), open(path, "wb") as f:
             f.write(data)
         return path
 
@@ -108,16 +113,33 @@ class Job:
         if self.options.timelim:
             timer.daemon = True
             timer.start()
-        lines = []
-        assert child.stdout is not None
+        self.clock.progress.begin(os.path.basename(self.solver), self.options.timelim)
         try:
-            for data in child.stdout:
-                line = data.decode("utf-8", "replace")
-                lines.append(line)
-                if self.options.outlev:
-                    sys.stdout.write(line)
-            status = child.wait()
+            with SIGNALS.first_to(lambda: self.interrupt(child)):
+                log = self.logged(child)
+                status = child.wait()
         finally:                    # also where a signal ends the driver
             timer.cancel()
+            self.clock.progress.begin("")
         sys.stdout.flush()
-        return Ran(status, "".join(lines), killed.is_set())
+        return Ran(status, log, killed.is_set())
+
+    def logged(self, child: subprocess.Popen[bytes]) -> str:
+        """What it tells, to its end."""
+        lines, known = [], dict[str, float]()
+        assert child.stdout is not None
+        for data in child.stdout:
+            line = data.decode("utf-8", "replace")
+            lines.append(line)
+            if self.options.outlev:
+                sys.stdout.write(line)
+            found = self.read(line)
+            if found:
+                known.update(found)
+                self.clock.progress.tell(detailed(known))
+        return "".join(lines)
+
+    def interrupt(self, child: subprocess.Popen[bytes]) -> None:
+        """It is told to end, and what it answers then is the answer."""
+        self.is_interrupted = True
+        send(child, signal.SIGINT)

@@ -1,43 +1,66 @@
 """A line for the user of MiniZinc, which drops what a solver tells where `-v` is not said.
 
 Its own standard error is open to its children on Linux, as /proc/PID/fd/2. Where that cannot be
-had, is a file (whose places MiniZinc counts by itself), or `-v` was said, nothing is done: the line
-stands on this process's standard error too.
+had, nothing is done: the line stands on this process's standard error too.
 """
 
 from __future__ import annotations
 
 import os
+import re
 import stat
+
+from .printable import in_a_line
 
 PROGRAM = "minizinc"
 VERBOSE = (b"-v", b"--verbose")
+ROOM = 200                      # bytes of what MiniZinc writes after its solver has ended
 
 
-def is_quiet_minizinc(process: int) -> bool:
-    """Whether this process is MiniZinc, called without -v."""
+def is_minizinc(process: int) -> bool:
     try:
         with open(f"/proc/{process}/comm", encoding="utf-8", errors="replace") as f:
-            name = f.read().strip()
-        with open(f"/proc/{process}/cmdline", "rb") as f:
-            words = f.read().split(b"\0")
+            return f.read().strip() == PROGRAM
     except OSError:
         return False
-    return name == PROGRAM and not any(word in VERBOSE for word in words)
 
 
-def tell(line: str) -> None:
-    """The line on MiniZinc's standard error, as one of its comments, where it would be lost."""
+def is_verbose(process: int) -> bool:
+    """Whether it was called with -v: then it passes on what a solver tells."""
+    try:
+        with open(f"/proc/{process}/cmdline", "rb") as f:
+            return any(word in VERBOSE for word in f.read().split(b"\0"))
+    except OSError:
+        return False
+
+
+def room_in(process: int, out: int) -> bytes:
+    """MiniZinc counts the places of a file by itself, and writes its next lines over what was
+    appended, unless it appends too: a line of blanks is there for that."""
+    if not stat.S_ISREG(os.fstat(out).st_mode):
+        return b""
+    try:
+        with open(f"/proc/{process}/fdinfo/2", encoding="ascii") as f:
+            flags = re.search(r"^flags:\s*([0-7]+)$", f.read(), re.M)
+    except OSError:
+        flags = None
+    appends = flags is not None and int(flags.group(1), 8) & os.O_APPEND
+    return b"" if appends else b" " * ROOM + b"\n"
+
+
+def tell(line: str, is_error: bool = False) -> None:
+    """The line on MiniZinc's standard error, as one of its comments, where it would be lost; that
+    of an error always."""
     parent = os.getppid()
-    if not is_quiet_minizinc(parent):
+    if not is_minizinc(parent) or is_verbose(parent) and not is_error:
         return
     try:
         out = os.open(f"/proc/{parent}/fd/2", os.O_WRONLY | os.O_APPEND | os.O_NOCTTY)
     except OSError:
         return
     try:
-        if not stat.S_ISREG(os.fstat(out).st_mode):
-            os.write(out, f"% {line}\n".encode("utf-8", "surrogateescape"))
+        data = room_in(parent, out) + f"% {in_a_line(line)}\n".encode("utf-8", "surrogateescape")
+        os.write(out, data)
     except OSError:
         pass
     finally:

@@ -4,20 +4,22 @@ from __future__ import annotations
 
 import re
 
+from .printable import in_a_line
+
 COMMENT = re.compile(rb"(?:^|[ \t])#[ \t]*(\S.*)")
 
 
 def comment_of(line: bytes) -> str:
     """What stands behind the mark # of an .nl line."""
     found = COMMENT.search(line.rstrip(b"\r\n"))
-    return found.group(1).decode("utf-8", "surrogateescape").strip() if found else ""
+    return in_a_line(found.group(1).decode("utf-8", "surrogateescape").strip()) if found else ""
 
 
 def read_names(path: str) -> list[str]:
     """One name a line, lines without words left out. Empty where there is no such file."""
     try:
-        with open(path, encoding="utf-8", errors="surrogateescape") as f:
-            return [line.strip() for line in f.read().split("\n") if line.strip()]
+        with open(path, encoding="utf-8", errors="surrogateescape", newline="\n") as f:
+            return [in_a_line(line.strip()) for line in f.read().split("\n") if line.strip()]
     except OSError:
         return []
 

@@ -12,6 +12,7 @@ import struct
 from typing import NamedTuple
 
 from .binary_nl import shortest, text_of_binary
+from .files import naming
 
 LONG = re.compile(rb"(?<![^\sn])-?\d+\.\d+(?:[eE][-+]?\d+)?(?!\S)")
 
@@ -21,11 +22,13 @@ class BadFile(Exception):
 
 
 class Header(NamedTuple):
-    """What a .sol without values repeats of the first two lines."""
+    """What a .sol without values repeats of the first two lines, and how many objectives there
+    are."""
 
     options: list[str]
     constraints: int
     variables: int
+    objectives: int = 0
 
 
 class Prepared(NamedTuple):
@@ -45,7 +48,8 @@ def header(path: str) -> Header:
     options = [str(int(w)) for w in first[1:1 + count]]
     if len(options) != count or not 0 <= count <= 9:
         raise ValueError("options")
-    return Header(options, int(second[1]), int(second[0]))
+    return Header(options, int(second[1]), int(second[0]),
+                  int(second[2]) if len(second) > 2 else 0)
 
 
 def prepared(path: str, target: str, shorter: bool) -> Prepared:
@@ -70,7 +74,7 @@ def prepared(path: str, target: str, shorter: bool) -> Prepared:
         note = f"{count} numbers of the .nl file were read in their shortest spelling"
         if not count:
             return Prepared(path, [])
-    with open(target, "wb") as f:
+    with naming(target), open(target, "wb") as f:
         f.write(text)
     return Prepared(target, [note])
 

@@ -6,6 +6,8 @@ import os
 import shlex
 from typing import Callable, Iterable, Union
 
+from .near import near
+
 Value = Union[int, float, str]
 KINDS: dict[object, str] = {int: "a whole number", float: "a number", str: "a text"}
 
@@ -38,11 +40,14 @@ COMMON = (
     Option("extra", "", str, "further words for the solver, in quotes"),
     Option("failexit", 0, int, "1: where there is no answer, write no .sol and end with another "
                                "status than 0 (MiniZinc)"),
+    Option("json", 0, int, "1: standard output gets one object of JSON, and nothing else"),
     Option("keep", "", str, "folder that keeps the files in between"),
     Option("objno", 1, int, "which objective, from 1"),
     Option("outlev", 0, int, "0 quiet, 1 the solver's log, 2 also the commands and times"),
     Option("only", "", str, "mps: write the MPS text that this solver reads beside the model, "
                             "and stop"),
+    Option("overwrite", 0, int, "1: a certificate replaces what stands at its place, also one that "
+                                "says more"),
     Option("prove", 0, int, "1: search a certificate that the answer is optimal (timelim holds "
                             "for it too; 60 seconds where there is none)"),
     Option("relax", 0, int, "1: integer variables as continuous ones"),
@@ -71,10 +76,12 @@ class Options:
     check: int
     extra: str
     failexit: int
+    json: int
     keep: str
     objno: int
     outlev: int
     only: str
+    overwrite: int
     prove: int
     relax: int
     round: int
@@ -106,7 +113,7 @@ class Options:
         """The option of this name, in capitals or not, with `-` before it or not."""
         name = name.lstrip("-").lower()
         if name not in self.known:
-            raise BadOption(f"unknown option {name}; -= lists the options")
+            raise BadOption(f"unknown option {name};{near(name, self.known)} -= lists the options")
         return self.known[name]
 
     def take(self, words: Iterable[str]) -> None:
@@ -137,5 +144,5 @@ class Options:
         lines = []
         for o in self.known.values():
             default = f" ({o.default})" if o.default != "" else ""
-            lines.append(f"{o.name:<9} {o.text}{default}\n")
+            lines.append(f"{o.name:<11} {o.text}{default}\n")
         return "".join(lines)

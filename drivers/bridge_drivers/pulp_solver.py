@@ -22,6 +22,9 @@ import pulp
 from .bridge import BESIDE, Bridge, Missing, Refused, find
 
 FILES = ("mps", "nl", "sol", "row", "col")
+WORDS = (("relax=1", "mip=False"), ("prove=1", "prove=True"), ("timelim=", "timeLimit="),
+         ("mipgap=", "gapRel="), ("solver=PATH", "options=['solver=PATH']"),
+         ("bridge=PATH", "bridge='PATH'"))              # a driver's, and what they are here
 
 
 class BridgeCmd(pulp.LpSolver_CMD):
@@ -52,6 +55,7 @@ class BridgeCmd(pulp.LpSolver_CMD):
     def actualSolve(self, lp: pulp.LpProblem) -> int:
         """Solves, and assigns values, duals and reduced costs where there are any. Answers PuLP's
         status; PulpSolverError where there is no outcome."""
+        forget(lp)
         empty = empty_interval(lp)
         if empty:
             self.message = f"infeasible: {empty}"
@@ -65,17 +69,26 @@ class BridgeCmd(pulp.LpSolver_CMD):
             answer = self.answered(paths)
         finally:
             self.delete_tmp_files(*paths.values())
-        self.message = answer.message
+        self.message = in_words(answer.message)
         if self.msg:
-            print(answer.message)
+            print(self.message)
         if answer.code >= 500:
-            raise pulp.PulpSolverError(answer.message)
-        names = [variable.name for variable in order]
-        lp.assignVarsVals(dict(zip(names, answer.values)))
+            raise pulp.PulpSolverError(self.message)
+        self.take(lp, answer, [variable.name for variable in order])
+        return self.assigned(lp, *statuses_of(answer.code, answer.message.split("\n")[-1]))
+
+    @staticmethod
+    def take(lp: pulp.LpProblem, answer: Answer, names: Sequence[str]) -> None:
+        """Values, slacks, duals and reduced costs, each where there are any."""
+        if answer.values:
+            lp.assignVarsVals(dict(zip(names, answer.values)))
+            lp.assignConsSlack({name: sum(a * x.varValue for x, a in constraint.items())
+                                for name, constraint in lp.constraints.items()}, activity=True)
+        else:
+            lp.assignVarsVals(dict.fromkeys(names))
         lp.assignConsPi(dict(zip(lp.constraints, answer.duals)))
         if answer.costs is not None:
             lp.assignVarsDj({name: answer.costs.get(j, 0.0) for j, name in enumerate(names)})
-        return self.assigned(lp, *statuses_of(answer.code, answer.message.split("\n")[-1]))
 
     def assigned(self, lp: pulp.LpProblem, status: int, solution: int) -> int:
         if self.msg and status == pulp.LpStatusInfeasible and self.message.startswith("inf"):
@@ -113,8 +126,8 @@ class BridgeCmd(pulp.LpSolver_CMD):
                                  errors="replace",
                                  stdout=None if self.msg else subprocess.DEVNULL)
             if ran.returncode != 0:
-                raise pulp.PulpSolverError(ran.stderr.strip() or f"{self.path} ended with "
-                                           f"{ran.returncode}")
+                raise pulp.PulpSolverError(in_words(ran.stderr.strip())
+                                           or f"{self.path} ended with {ran.returncode}")
             return read_sol(paths["sol"])
         except OSError as fault:
             raise pulp.PulpSolverError(f"{fault.filename or self.path}: {fault.strerror}") from None
@@ -131,14 +144,29 @@ class BridgeCmd(pulp.LpSolver_CMD):
 
 
 class Answer(NamedTuple):
-    """What a .sol says; `duals` and `values` are empty where there are none, `costs` are the
-    reduced costs that are not 0, None where there are none."""
+    """What a .sol says; `duals` and `values` are empty where there are none, `costs` are reduced
+    costs, those that are not told being 0, None where there are none."""
 
     code: int
     message: str
     duals: list[float]
     values: list[float]
     costs: dict[int, float] | None
+
+
+def forget(lp: pulp.LpProblem) -> None:
+    """Duals, slacks and reduced costs that another solver left do not pass for this one's."""
+    for variable in lp.variables():
+        variable.dj = None
+    for constraint in lp.constraints.values():
+        constraint.pi = constraint.slack = None
+
+
+def in_words(text: str) -> str:
+    """What a driver tells, in the words of this class."""
+    for word, ours in WORDS:
+        text = text.replace(word, ours)
+    return text
 
 
 def empty_interval(lp: pulp.LpProblem) -> str:

@@ -12,6 +12,7 @@ from .codes import Code
 from .program import Program
 
 FAR = 1e-6                  # of the largest term or the sum: between objectives that are not the same
+DIGITS = 1e-5               # of values that are the same: a solver may print six digits
 FINAL = ("optimal", "infeasible", "unbounded")
 WORDS = {Code.SOLVED: "optimal solution", Code.UNSURE: "feasible solution",
          Code.INFEASIBLE: "infeasible", Code.UNBOUNDED: "unbounded",
@@ -96,13 +97,16 @@ def coded(code: Code, claim: str, kind: str) -> Code:
 
 
 def another(answer: Answer, values: Mapping[str, Fraction]) -> str:
-    """What a point is beside the answer; nothing where the objective is the same."""
+    """What a point is beside the answer; nothing where the objective is the same, or each value up
+    to the digits that are printed."""
     if answer.values is None:
         return "a"
     program, old = answer.program, {c: float(text) for c, text in answer.values.items()}
     new = {c: as_double(value) for c, value in values.items()}
     one, other = (program.figure(point) for point in (old, new))
     if abs(one - other) <= FAR * max(size(program, old), size(program, new), abs(one)):
+        return ""
+    if all(abs(v - old[c]) <= DIGITS * max(abs(v), abs(old[c])) for c, v in new.items()):
         return ""
     return "a better" if (other > one) == program.maximise else "another"
 

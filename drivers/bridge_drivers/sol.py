@@ -6,6 +6,7 @@ from __future__ import annotations
 from typing import Sequence
 
 from .nl import header
+from .printable import in_a_line
 
 MARK = b"\nOptions\n"
 
@@ -13,14 +14,14 @@ MARK = b"\nOptions\n"
 def bare(nl: str, code: int, objective: int, message: Sequence[str]) -> bytes:
     """A .sol that has a code and no values, for the .nl file at this path."""
     head = header(nl)
-    lines = [*message, "", "Options", str(len(head.options)), *head.options,
+    lines = ["", "Options", str(len(head.options)), *head.options,
              str(head.constraints), "0", str(head.variables), "0", f"objno {objective} {code}"]
-    return encoded(lines)
+    return encoded([*map(in_a_line, message), *lines])
 
 
 def with_message(sol: bytes, message: Sequence[str]) -> bytes:
     """The same .sol under another message; an empty line ends it."""
-    return encoded(message) + sol[sol.index(MARK):]
+    return encoded(list(map(in_a_line, message))) + sol[sol.index(MARK):]
 
 
 def duals_of(sol: bytes) -> list[str]:

@@ -5,16 +5,18 @@ from __future__ import annotations
 import os
 import shlex
 import shutil
+import signal
 from dataclasses import dataclass, replace
 
 from .answer import Answer
 from .bridge import Bridge, Refused
-from .certificates import Certifier, remove_older
+from .certificates import Certifier, End
 from .certify.claims import WITHOUT, Verdict
 from .codes import Code, Failure, Status
+from .interrupts import Interrupted
 from .job import Clock, Job
 from .miss import NONE, Miss, largest_share, miss, missing
-from .nl import BadFile, prepared
+from .nl import BadFile, header, prepared
 from .options import Options
 from .program import Program
 from .settled import is_final, settled
@@ -27,14 +29,16 @@ ROUNDING = 1e-15            # of the largest term: less is not told by doubles
 
 @dataclass
 class Result:
-    """A message, its .sol (None: one without values is to be made), what wantsol prints, and the
-    figures of a certificate. `is_final`: it is what strict=1 wants, or that is not asked for."""
+    """A message, its .sol (None: one without values is to be made), what wantsol prints, the
+    figures of a certificate, and how the message ends. `is_final`: it is what strict=1 wants, or
+    that is not asked for."""
 
     code: Code
     lines: list[str]
     sol: bytes | None = None
     answer: Answer | None = None
     figures: str = ""
+    end: End | None = None
     is_final: bool = True
 
 
@@ -50,8 +54,6 @@ class Solving:
 
     def result(self) -> Result:
         """The outcome. Failure where there is none."""
-        if self.options.certificate:
-            remove_older(self.options.certificate)
         kept = os.path.join(self.folder, "text.nl")
         try:
             text_form = prepared(self.nl, kept, bool(self.options.shortest))
@@ -67,7 +69,7 @@ class Solving:
                 return Result(Code.INFEASIBLE, [f"infeasible: {fault.line()}",
                                                 WITHOUT + "bridge refuses the model for this"])
             status = Status.REFUSED if fault.status == 2 else Status.FAILED
-            raise Failure(Code.REFUSED, fault.line(), status) from None
+            raise Failure(Code.REFUSED, self.refusal(fault, text_form.path), status) from None
         if self.options.only:
             return self.only_written(program)
         if program.whole and not self.solver.integers and not self.options.relax:
@@ -77,9 +79,18 @@ class Solving:
                           Status.REFUSED)
         job = self.make_job(program, self.options, self.folder, self.solver_path, self.extra(),
                             self.clock)
+        job.read = lambda line: self.solver.said(line, program)
         if self.options.keep:
             job.write("model.mps", program.text)
         return self.told(job, text_form.path, *self.answered(job), text_form.notes)
+
+    def refusal(self, fault: Refused, nl: str) -> str:
+        """In words; an objective that is not there by the number that the option says."""
+        if not fault.told.endswith(": no such objective"):
+            return fault.line()
+        count = header(nl).objectives
+        return (f"{self.nl}: objno={self.options.objno}: no such objective: the file has {count}, "
+                "and objno counts from 1")
 
     def exported(self, nl: str) -> Program:
         words = ["export", nl]
@@ -96,9 +107,9 @@ class Solving:
         path = f"{self.nl[:-3]}.{self.solver.name}.mps"
         with open(path, "wb") as f:
             f.write(self.solver.text(program))
-        words = shlex.join([self.solver.program, *self.solver.reading(program, path)])
-        return Result(Code.LIMIT, [f"{path} is written, nothing was solved; read by: {words}",
-                                   WITHOUT + "only=mps"])
+        words = shlex.join(self.solver.command(program, path, self.options.solver))
+        return Result(Code.LIMIT, [f"{path} is written, and nothing was solved; "
+                                   f"{self.solver.title} reads and solves it by", words])
 
     def extra(self) -> list[str]:
         try:
@@ -132,9 +143,13 @@ class Solving:
             job.again = again
             job.remove_answers()
             outcome = self.solver.solve(job)
+            if job.is_interrupted:
+                outcome = interrupted(outcome)
             answer = Answer(job.program, outcome, self.options)
             missed = NONE if answer.values is None else self.missed(job.program, answer)
         except (Unclear, BadValue, LookupError, ValueError, ArithmeticError) as fault:
+            if job.is_interrupted:
+                raise Interrupted(signal.SIGINT) from None
             raise Failure(Code.NO_ANSWER,
                           f"{self.solver.title} gave no usable answer: {fault}") from None
         except OSError as fault:
@@ -144,7 +159,7 @@ class Solving:
 
     def in_another_way(self, job: Job, first: Outcome) -> tuple[Outcome, Answer, Miss] | None:
         """None where it was asked so before, or gives no answer."""
-        if job.again or not self.solver.again:
+        if job.again or not self.solver.again or job.is_interrupted:
             return None
         try:
             outcome, answer, missed = self.asked(job, True)
@@ -194,6 +209,8 @@ class Solving:
                 if other is not None:
                     return self.told(job, nl, *other, notes)
                 answer = answer.with_code(Code.UNSURE)
+            if certifier.is_interrupted:
+                lines.append("interrupted: the search for a certificate was ended")
             found = settled(answer, verdict, bool(self.options.strict))
             if found.text is not None:
                 own = self.headline(job, answer).partition(": ")[2]
@@ -206,15 +223,16 @@ class Solving:
                 told = certifier.checked(answer)
                 if told.endswith(" is broken"):
                     told += self.broken(answer)
+                told += certifier.rounding(verdict, answer, told)
                 lines.append("bridge check of the .sol: " + told)
         except Refused as fault:
             raise Failure(Code.NOT_RETURNED, f"return: {fault.line()}") from None
         if self.options.outlev and verdict.figures:
             print(f"certificate: {verdict.figures}", flush=True)
-        fault_line = certifier.kept(verdict)
-        last = [*answer.notes(), *filter(None, (fault_line, verdict.note)), verdict.line]
-        return Result(found.code, [self.headline(job, answer, found.text), *lines, *last], sol,
-                      answer, verdict.figures, not self.options.strict or is_final(verdict))
+        end = certifier.ended(verdict)
+        return Result(found.code, [self.headline(job, answer, found.text), *lines,
+                                   *answer.notes(), *end.lines], sol, answer, verdict.figures, end,
+                      not self.options.strict or is_final(verdict))
 
     def returned(self, certifier: Certifier, answer: Answer,
                  lines: list[str]) -> tuple[Answer, bytes]:
@@ -247,6 +265,14 @@ class Solving:
         assert answer.values is not None
         share = max(largest_share(answer.program, answer.values), ROUNDING)
         return f"; no row or bound is missed by more than {share:.2g} of its largest term"
+
+
+def interrupted(outcome: Outcome) -> Outcome:
+    """What a solver answers that was told to end."""
+    texts = {Code.LIMIT_WITH_POINT: "interrupted with a feasible solution",
+             Code.LIMIT: "interrupted without a feasible solution"}
+    text = texts.get(outcome.code, f"interrupted; {outcome.text}")
+    return replace(outcome, text=text)
 
 
 def keep_model(path: str, kept: str) -> None:

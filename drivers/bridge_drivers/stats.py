@@ -63,6 +63,14 @@ class Range:
         if self.high is None or size > self.high:
             self.high = size
 
+    def ends(self) -> list[float] | None:
+        """In doubles; None where there are none, or are beyond these."""
+        try:
+            return None if self.low is None or self.high is None else \
+                [float(self.low), float(self.high)]
+        except OverflowError:
+            return None
+
     def line(self) -> str:
         if self.low is None or self.high is None:
             return "none"
@@ -187,14 +195,21 @@ def bound(f: Figures, kind: str, _set: str, name: str, text: str = "") -> None:
 # the lines --------------------------------------------------------------------------
 
 
-def columns_line(f: Figures) -> str:
+def counts_of(f: Figures) -> dict[str, int]:
+    """Columns by kind, and those that are free or fixed."""
     columns = [c for name, c in f.columns.items() if name != TIED]
     whole = [c for c in columns if c.whole]
     binary = sum(c.low == 0 and c.high == 1 for c in whole)
-    free = sum(c.low is None and c.high is None for c in columns)
-    fixed = sum(c.low is not None and c.low == c.high for c in columns)
-    return (f"{len(columns)}: {len(columns) - len(whole)} continuous, {binary} binary, "
-            f"{len(whole) - binary} integer; {free} free, {fixed} fixed")
+    return {"continuous": len(columns) - len(whole), "binary": binary,
+            "integer": len(whole) - binary,
+            "free": sum(c.low is None and c.high is None for c in columns),
+            "fixed": sum(c.low is not None and c.low == c.high for c in columns)}
+
+
+def columns_line(f: Figures) -> str:
+    k = counts_of(f)
+    return (f"{k['continuous'] + k['binary'] + k['integer']}: {k['continuous']} continuous, "
+            f"{k['binary']} binary, {k['integer']} integer; {k['free']} free, {k['fixed']} fixed")
 
 
 def sense_line(f: Figures) -> str:
@@ -251,8 +266,34 @@ def factors_of(bridge: Bridge, nl: str, objective: str, rows: list[str]) -> dict
     return {row: duals[int(row[1:])] for row in rows}
 
 
+class Stats:
+    """Of an .nl file. Refused where `bridge` refuses it."""
+
+    def __init__(self, bridge: Bridge, nl: str, objective: str = "0") -> None:
+        self.figures = figures_of(bridge.text("export", nl, objective))
+        self.factors = factors_of(bridge, nl, objective, self.figures.rows())
+        self.names = Names(nl[:-3] if nl.endswith(".nl") else nl)
+
+    def lines(self) -> list[str]:
+        return lines_of(self.figures, self.factors, self.names)
+
+    def object(self) -> dict[str, object]:
+        """The same for programs: counts, and ranges in doubles."""
+        f = self.figures
+        kinds = counts_of(f)
+        return {"sense": "maximise" if f.maximise else "minimise",
+                "constant": None if f.tied_by is not None else str(-Fraction(f.constant)),
+                "tied_by": None if f.tied_by is None else str(f.tied_by),
+                "columns": sum(kinds[k] for k in ("continuous", "binary", "integer")), **kinds,
+                "rows": len(f.rows()), "at_most": len(f.rows("L")), "at_least": len(f.rows("G")),
+                "equations": len(f.rows("E")), "two_sides": f.ranged, "entries": f.entries,
+                "costs": f.costs, "coefficients": f.sizes.ends(),
+                "cost_coefficients": f.cost_sizes.ends(), "sides": f.sides.ends(),
+                "infinite": f.infinite, "not_doubles": len(f.lost),
+                "scaled_rows": {row_name(row, self.names): factor
+                                for row, factor in self.factors.items() if factor != "1"}}
+
+
 def stats(bridge: Bridge, nl: str, objective: str = "0") -> list[str]:
     """The lines on an .nl file. Refused where `bridge` refuses it."""
-    figures = figures_of(bridge.text("export", nl, objective))
-    names = Names(nl[:-3] if nl.endswith(".nl") else nl)
-    return lines_of(figures, factors_of(bridge, nl, objective, figures.rows()), names)
+    return Stats(bridge, nl, objective).lines()

@@ -55,5 +55,15 @@ def read(argv: Sequence[str]) -> Words:
     return words
 
 
+EXAMPLE = """
+example: {name} knap prove=1 timelim=60
+"""
+
+
+def help_text(name: str, title: str, options: str) -> str:
+    """The usage, the options one a line, an example."""
+    return usage(name, title) + "\noptions:\n" + options + EXAMPLE.format(name=name)
+
+
 def usage(name: str, title: str) -> str:
     return USAGE.format(name=name, title=title, variable=name.replace("-", "_") + "_options")

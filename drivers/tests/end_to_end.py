@@ -25,6 +25,24 @@ class EndToEnd(Case):
         self.judge(driver, name)
 
 
+class Only(Case):
+    """The command that `only=mps` prints can be run as it stands, and solves."""
+
+    def through(self, driver: str) -> None:
+        model = "product" if solvers.load(driver).integers else "diet"
+        self.put(MODELS[model].text)
+        program = os.path.join(HERE, "..", "bin", "bridge-" + driver)
+        ran = subprocess.run([sys.executable, program, self.stub, "only=mps", "-e"],
+                             stdin=subprocess.DEVNULL, capture_output=True, text=True)
+        self.assertEqual(ran.returncode, 0, ran.stderr)
+        lines = ran.stdout.split("\n")
+        self.assertEqual(len(lines), 3, lines)
+        again = subprocess.run(["sh", "-c", lines[1]], stdin=subprocess.DEVNULL, cwd=self.folder,
+                               capture_output=True, text=True)
+        self.assertEqual(again.returncode, 0, again.stdout + again.stderr)
+        self.assertRegex(again.stdout + again.stderr, "(?i)optimal|solved|value of objective")
+
+
 class LargeFactors(Case):
     """A binary column that solvers take for 0 where it is 0.0000005: what they then call optimal
     is not passed on as that."""
@@ -87,6 +105,10 @@ def add_tests() -> None:
                 self.through(driver, name)
             reason = f"no {driver}" if there else "no bridge that knows `verify`"
             setattr(EndToEnd, f"test_{driver}_{name}", unittest.skipUnless(solver, reason)(test))
+        def only(self: Only, driver: str = driver) -> None:
+            self.through(driver)
+        setattr(Only, f"test_{driver}", unittest.skipUnless(solver, reason)(only))
+
         def far(self: FarBounds, driver: str = driver) -> None:
             self.through(driver)
         setattr(FarBounds, f"test_{driver}", unittest.skipUnless(solver, reason)(far))

@@ -26,7 +26,7 @@ class Words(Case):
         ended = self.replay("cbc", "knap", self.stub + ".nl")
         self.assertEqual(ended.returncode, 0)
         self.assertRegex(ended.stdout, "optimal solution; objective 17\n"
-                                       "bridge check .*\n(feasible|optimal) 17\n")
+                                       "bridge check .*\n(in words: .*\n)?(feasible|optimal) 17\n")
         self.assertFalse(os.path.exists(self.stub + ".sol"))
         self.replay("cbc", "knap", self.stub, "-s")
         self.assertEqual(self.sol().code, 0)
@@ -108,6 +108,8 @@ class Failures(Case):
         self.failure(505, 2, "CLP takes no integer variables, and the model has 3; relax=1", "clp",
                      "knap")
         self.failure(506, 1, "CBC gave no usable answer: it wrote no answer", "cbc", "nothing")
+        self.failure(501, 2, "stub.nl: objno=3: no such objective: the file has 1, and objno "
+                             "counts from 1", "cbc", "knap", "objno=3")
         self.failure(502, 3, "extra: a quote does not end", "cbc", "knap", "extra='")
         self.failure(502, 3, "objno=0: solving without an objective is not offered", "cbc",
                      "knap", "objno=0")
@@ -242,6 +244,8 @@ class Claims(Case):
         self.put(MODELS["thirds"].text)
         self.assertEqual(self.last("esolver", "thirds"), "optimal 1/3")
         self.assertRegex(self.sol().text, r"\n\d+ exact values have no decimal of at most 38")
+        self.assertRegex(self.sol().text, CHECKED + "the reduced cost of .*; the exact values and "
+                                          "duals are rounded to decimals in it\n")
         self.put(MODELS["no_objective"].text)
         run = copy.deepcopy(stored.runs("esolver")["no_objective"])
         run["files"]["answer.sol"] = ["status OPTIMAL", "\tValue = 0", "VARS:", "x0 = 10/3",
@@ -342,6 +346,14 @@ class Claims(Case):
                            ("mixed", "feasible 173/4")):
             self.put(MODELS[name].text)
             self.assertEqual(self.last("cbc", name), line)
+        for name, line in (("knap", "not proved: there was no search; without it: feasible 17"),
+                           ("infeasible", "not proved: CLP's library (coinor-libclp1) is not "
+                                          "installed"), ("product", "optimal 19")):
+            self.put(MODELS[name].text)
+            self.assertEqual(self.last("cbc", name, "prove=1"), line)
+            self.assertEqual("prove=1 needs the library of CLP, which is not there (Debian: apt "
+                             "install coinor-libclp1)" in self.sol().message, name != "product")
+            self.assertNotIn("in words", self.sol().message[-1])
 
     def test_stopped_and_undecided(self) -> None:
         self.put(MODELS["knap"].text)
@@ -383,14 +395,16 @@ class Claims(Case):
                              in self.sol().text, name != "near")
 
     def test_certificate(self) -> None:
-        """It is kept where it is accepted, and judged again; an older one goes."""
+        """It is kept where it is accepted, and judged again; else an older one stays."""
         kept = os.path.join(self.folder, "kept.certificate")
         self.put(MODELS["product"].text)
         self.assertEqual(self.last("cbc", "product", "certificate=" + kept), "optimal 19")
         ran = subprocess.run([*PROGRAM, "verify", self.stub + ".nl", kept], capture_output=True)
         self.assertEqual(ran.stdout, b"optimal 19\n")
         self.last("cbc", "product", "certificate=" + kept, "check=0")
-        self.assertFalse(os.path.exists(kept))
+        self.assertEqual(self.sol().message[-2],
+                         f"no certificate is written; {kept} stays as it was")
+        self.assertTrue(os.path.exists(kept))
         self.assertEqual(self.sol().message[-1], "not proved: check=0")
         self.last("cbc", "product", "certificate=/nonexistent/kept")
         self.assertIn("the certificate is not kept: /nonexistent/kept: No such file",
@@ -404,7 +418,10 @@ class Claims(Case):
             self.last(driver, "product", "only=mps")
             sol = self.sol()
             self.assertEqual((sol.code, sol.values), (450, []))
-            self.assertIn(words, sol.message[0])
+            self.assertIn(f"{self.stub}.{driver}.mps is written, and nothing was solved; ",
+                          sol.message[0])
+            self.assertIn(words, sol.message[1])
+            self.assertNotIn("not proved", sol.text)
             with open(f"{self.stub}.{driver}.mps", "rb") as f:
                 self.assertTrue(f.read().startswith(start))
         self.last("cbc", "product", "only=lp")

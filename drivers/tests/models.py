@@ -146,8 +146,8 @@ MODELS = {
                       word="refused count"),
     "third_objective": linear(nl([real(0, 9)], [], [("min", 0, {0: 1})]), 501,
                               options=["objno=3"],
-                              word="no such objective (the file has fewer objectives; objno "
-                                   "counts from 1)"),
+                              word="objno=3: no such objective: the file has 1, and objno "
+                                   "counts from 1"),
 }
 
 

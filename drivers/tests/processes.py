@@ -5,13 +5,32 @@ from __future__ import annotations
 
 import json
 import os
+import shutil
 import signal
 import subprocess
 import sys
 import time
+import unittest
 
 from support import BIN, HERE, NEEDS_PROGRAM, Case, Ended, driven
 from models import MODELS
+
+INTERRUPTED = """#!{python}
+import signal, struct, sys
+
+def stop(*_):
+    after = lambda word: sys.argv[sys.argv.index(word) + 1]
+    with open(after("-solution"), "w") as f:
+        f.write("Stopped on iterations - objective value 17.0\\n")
+    with open(after("-saveSolution"), "wb") as f:
+        f.write(struct.pack("=ii9d", 1, 3, 17, 9, 0, 1, 1, 0, 0, 0, 0))
+    sys.exit(0)
+
+signal.signal(signal.SIGINT, stop)
+open({mark!r}, "w").close()
+while True:
+    signal.pause()
+"""
 
 
 @NEEDS_PROGRAM
@@ -42,6 +61,17 @@ class Processes(Case):
         self.assertEqual(self.sol().code, 503)
         self.assertIn("/nonexistent/cbc was not found: install it or give solver=PATH",
                       ended.stderr)
+
+    def test_packages_of_solvers(self) -> None:
+        """A solver that is not there is told with the Debian package that has it."""
+        self.put(MODELS["knap"].text)
+        bridge = self.script("bridge", "exit 3")
+        for driver, package in (("cbc", "coinor-cbc"), ("clp", "coinor-clp"),
+                                ("esolver", "qsopt-ex"), ("glpsol", "glpk-utils"),
+                                ("lp_solve", "lp-solve")):
+            ended = self.drive(driver, self.stub, PATH="/nonexistent", BRIDGE=bridge)
+            self.assertEqual((ended.returncode, ended.stderr), (1, f"bridge-{driver}: {driver} was "
+                             f"not found: apt install {package} (Debian) or give solver=PATH\n"))
 
     def test_solver_that_fails(self) -> None:
         self.put(MODELS["knap"].text)
@@ -78,11 +108,38 @@ class Processes(Case):
                 time.sleep(0.05)
             child.send_signal(number)
             _, err = child.communicate(timeout=30)
-            self.assertEqual((child.returncode, err), (status, "bridge-cbc: interrupted\n"))
+            self.assertEqual((child.returncode, err.split("\n")[-2]),
+                             (status, "bridge-cbc: interrupted"))
             self.assertFalse(os.path.exists(self.stub + ".sol"))
             with open(mark) as f:
                 pid = int(f.read())
             self.assertRaises(ProcessLookupError, os.kill, pid, 0)
+            os.unlink(mark)
+
+    def test_an_interrupt_is_the_solvers_first(self) -> None:
+        """It ends with its best point, which is passed on."""
+        mark = os.path.join(self.folder, "started")
+        solver = os.path.join(self.folder, "cbc")
+        with open(solver, "w") as f:
+            f.write(INTERRUPTED.format(python=sys.executable, mark=mark))
+        os.chmod(solver, 0o755)
+        self.put(MODELS["knap"].text)
+        for words in ([], ["prove=1", "timelim=600"]):
+            argv = [sys.executable, os.path.join(BIN, "bridge-cbc"), self.stub, "-AMPL", "-e",
+                    "solver=" + solver, *words]
+            child = subprocess.Popen(argv, stderr=subprocess.PIPE, text=True,
+                                     preexec_fn=lambda: signal.signal(signal.SIGINT,
+                                                                      signal.SIG_DFL))
+            for _ in range(1200):
+                if os.path.exists(mark):
+                    break
+                time.sleep(0.05)
+            child.send_signal(signal.SIGINT)
+            child.communicate(timeout=60)
+            sol = self.sol()
+            self.assertEqual((child.returncode, sol.values), (0, [1, 1, 0]))
+            self.assertIn("interrupted with a feasible solution", sol.text)
+            self.assertEqual(sol.code, 0 if sol.message[-1] == "optimal 17" else 400)
             os.unlink(mark)
 
     def test_ignored_signals(self) -> None:
@@ -122,3 +179,39 @@ class Processes(Case):
         again = subprocess.run([sys.executable, os.path.join(HERE, "..", "install"), prefix],
                                capture_output=True, text=True)
         self.assertEqual(again.returncode, 0, again.stderr)
+
+
+@NEEDS_PROGRAM
+@unittest.skipUnless(shutil.which("minizinc") and shutil.which("cbc"), "no minizinc, or no cbc")
+class MiniZinc(Case):
+    """MiniZinc itself, whose standard error is a file, a pipe, or a file that it appends to."""
+
+    def told(self, model: str, mode: str) -> tuple[int, list[str]]:
+        """Its status, and the lines of the driver."""
+        source, path = os.path.join(self.folder, "m.mzn"), os.path.join(self.folder, "told")
+        with open(source, "w", encoding="ascii") as f:
+            f.write(model)
+        words = ["minizinc", "--solver", "bridge-cbc", "--nl-flags", "prove=1", source]
+        environment = {**os.environ, "MZN_SOLVER_PATH": os.path.join(HERE, "..", "minizinc")}
+        if not mode:
+            ran = subprocess.run(words, env=environment, capture_output=True)
+            told = ran.stderr
+        else:
+            with open(path, mode) as err:
+                ran = subprocess.run(words, env=environment, stderr=err,
+                                     stdout=subprocess.DEVNULL)
+            with open(path, "rb") as f:
+                told = f.read()
+            os.unlink(path)
+        lines = told.decode().split("\n")
+        return ran.returncode, [line for line in lines if "bridge-cbc: " in line]
+
+    def test_lines(self) -> None:
+        for mode in ("wb", "ab", ""):
+            status, lines = self.told("var 0..7: x; var 0..5: y; constraint 3*x + 2*y <= 12; "
+                                      "solve maximize x + y;", mode)
+            self.assertEqual((status, lines), (0, ["% bridge-cbc: optimal 5"]))
+            status, lines = self.told("var 0.0..5.0: x; solve maximize x;", mode)
+            self.assertEqual((status, len(lines)), (1, 1), lines)
+            self.assertRegex(lines[0], "^% bridge-cbc: .*: missing segment .*: add a constraint on "
+                                       "two variables")

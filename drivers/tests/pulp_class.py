@@ -89,6 +89,36 @@ class Solves(Case):
         self.solve(SOLVERS[0], problem)
         self.assertEqual([(v.value(), v.dj) for v in (x, y)], [(4, 0), (0, 1)])
 
+    def test_reduced_costs_of_zero_and_slacks(self) -> None:
+        """All 0: they are 0.0. Slacks are set as PuLP counts them, and what another solver left of
+        them goes, as do values where there are none."""
+        for solver in SOLVERS:
+            problem = pulp.LpProblem("p", pulp.LpMinimize)
+            x, y = pulp.LpVariable("left", 0), pulp.LpVariable("right", 0)
+            problem += 2 * x + 3 * y
+            problem += x + y >= 4, "both"
+            problem += x - y == 1, "apart"
+            problem += x + 2 * y <= 9, "room"
+            self.solve(solver, problem)
+            self.assertEqual([v.dj for v in (x, y)], [0.0, 0.0])
+            self.assertEqual({n: c.slack for n, c in problem.constraints.items()},
+                             {"both": 0, "apart": 0, "room": 3.5})
+            problem += x <= 1
+            self.solve(solver, problem)
+            self.assertEqual(pulp.LpStatus[problem.status], "Infeasible")
+            self.assertEqual([(v.varValue, v.dj) for v in (x, y)], [(None, None)] * 2)
+            self.assertEqual({(c.slack, c.pi) for c in problem.constraints.values()},
+                             {(None, None)})
+
+    @unittest.skipUnless(shutil.which("clp"), "no clp")
+    def test_errors_in_words_of_pulp(self) -> None:
+        problem = pulp.LpProblem("p", pulp.LpMinimize)
+        problem += 2 * pulp.LpVariable("x", 1, 5, pulp.LpInteger)
+        with self.assertRaisesRegex(pulp.PulpSolverError, "takes no integer variables, and the "
+                                                          "model has 1; mip=False drops that"):
+            self.solve("clp", problem)
+        self.assertRegex(self.solve("clp", problem, mip=False).message, r"\nbound \S+$")
+
     def test_files_that_are_kept(self) -> None:
         problem = pulp.LpProblem("kept", pulp.LpMinimize)
         x = pulp.LpVariable("left", 1)

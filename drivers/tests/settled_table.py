@@ -85,6 +85,13 @@ class Table(Case):
         found = settled(answer, Verdict("feasible 1/250000000", [F(4)], "kept", "", F(4, 10 ** 9)))
         self.judge(found, UNSURE, 4, "a better")
 
+    def test_digits_that_are_not_printed(self) -> None:
+        """A point that is mended is the solver's."""
+        found = self.settled(SOLVED, "feasible 1234567", 1234567, "1234570")
+        self.judge(found, SOLVED, 1234567)
+        found = self.settled(SOLVED, "feasible 1234567", 1234567, "1234600")
+        self.judge(found, UNSURE, 1234567, "another")
+
     def test_nothing_proved(self) -> None:
         for code in ALL:
             found = self.settled(code, "not proved: time")

@@ -17,7 +17,6 @@ from typing import Callable, NamedTuple
 from unittest import mock
 
 HERE = os.path.dirname(os.path.abspath(__file__))
-BIN = os.path.join(HERE, "..", "bin")
 sys.path[:0] = [os.path.join(HERE, ".."), HERE]
 
 from bridge_drivers import solvers                      # noqa: E402
@@ -31,8 +30,8 @@ import stored                                           # noqa: E402
 
 LOOSE = ("lp_solve",)           # prints six digits
 CLOSE = F(1, 10 ** 6)
-LAST_LINE = re.compile(r"(not proved: .|infeasible$|unbounded$|(optimal|feasible|bound) \S+$"
-                       r"|within \S+ \S+$)")
+LAST_LINE = re.compile(r"(not proved: .|infeasible$|(unbounded|(optimal|feasible|bound) \S+"
+                       r"|within \S+ \S+)( of objective [1-9]\d*)?$)")
 CHECKED = "bridge check of the .sol: "
 PROGRAM = find("", BESIDE) if os.environ.get("BRIDGE") else []
 HAS_CLP = clp.library() is not None
@@ -58,14 +57,6 @@ class Ended(NamedTuple):
     returncode: int
     stdout: str
     stderr: str
-
-
-def driven(driver: str, *words: str, place: str = BIN, **environment: str) -> Ended:
-    """A driver as a process of its own."""
-    ran = subprocess.run([sys.executable, os.path.join(place, "bridge-" + driver), *words],
-                         stdin=subprocess.DEVNULL, capture_output=True, text=True,
-                         env={**os.environ, **environment})
-    return Ended(ran.returncode, ran.stdout, ran.stderr)
 
 
 class Sol:
@@ -214,9 +205,13 @@ class Case(unittest.TestCase):
                 self.assertLessEqual(abs(costs.get(j, F(0)) - want), CLOSE, sol.text)
 
     def judge_claim(self, name: str, sol: Sol) -> None:
-        """The last line has the exact value, and `bridge check` agrees on the .sol."""
+        """The last line has the exact value, and the objective where it is not the first;
+        `bridge check` agrees on the .sol."""
         model, last = MODELS[name], sol.message[-1]
-        word, value = last.split()
+        number = next((int(o[6:]) - 1 for o in model.options if o.startswith("objno=")), 0)
+        end = f" of objective {number}" if number > 0 else ""
+        self.assertTrue(last.endswith(end), sol.text)
+        word, value = last.removesuffix(end).split()
         self.assertIn(word, ("optimal",) if model.linear else ("optimal", "feasible"), sol.text)
         self.assertEqual(F(value), model.objective or 0)
         if "no decimal" in sol.text:

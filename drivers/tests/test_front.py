@@ -8,16 +8,19 @@ import importlib
 import io
 import json
 import os
+import random
 import re
 import subprocess
 import sys
+import tempfile
 import unittest
 from unittest import mock
 
-from support import HERE, Case
+from support import HERE, NEEDS_PROGRAM, PROGRAM, Case
 from models import MODELS
 
-from bridge_drivers import VERSION, console, explaining, front, minizinc, stats
+from bridge_drivers import (VERSION, console, explaining, front, importing, kinds, minizinc,
+                            stats)
 from bridge_drivers.bridge import Bridge, Refused, Reply
 from bridge_drivers.expressions import Expression
 from bridge_drivers.names import Names
@@ -145,7 +148,7 @@ class Refusals(Case):
                          "bits)")
         self.assertEqual(self.export("refused objective 1: no such objective"),
                          "m.nl: objective 1: no such objective (the file has fewer objectives; "
-                         "objno counts from 1)")
+                         "they count from 0 here)")
 
     def test_other_files(self) -> None:
         """They count among the files of the words."""
@@ -170,6 +173,23 @@ class Refusals(Case):
                                                                 missing], {missing: "x.sol"})
         self.assertEqual(fault.line(), "x.sol: input fault (No such file or directory)")
 
+    def test_controls_of_a_terminal(self) -> None:
+        """Of names, comments, paths and lines around: they are shown and not obeyed."""
+        self.put(PRODUCT.replace(b"v0\no0", b"v0\t# \x1b[2Jspeed\no0"))
+        self.put(b"Cap\x1b]0;title\x07\n", ".row")
+        self.put("a\x1b[31m\x9b1m\nb\rc\nz\n".encode(), ".col")
+        nl = self.stub + ".nl"
+        told = "refused line 17: nonlinear"
+        line = explaining.in_words(["export", nl], told, {})
+        self.assertEqual(line, nl + " line 17: constraint 0 (Cap\\x1b]0;title\\x07): "
+                               "(a\\x1b[31m\\x9b1m * (b\\x0dc + 3)) is nonlinear")
+        self.assertEqual(explaining.in_words(["export", nl], told, {nl: "m\x1b[1m.nl"}),
+                         "m\\x1b[1m.nl line 17: constraint 0: (\\x1b[2Jspeed * (x1 + 3)) is "
+                         "nonlinear")
+        more = "\n".join(explaining.Refusal(["export", nl], told, {}).more())
+        self.assertIn("\\x1b[2Jspeed", more)
+        self.assertNotRegex(line + more, "[\x00-\x08\x0b-\x1f\x7f-\x9f]")
+
     def test_more(self) -> None:
         """The whole expression, what helps, the lines around."""
         self.put(PRODUCT)
@@ -181,6 +201,51 @@ class Refusals(Case):
         self.assertEqual(len(more), 8)
 
 
+class Kinds(Case):
+    """Files that are no .nl, by what is in them and by their names."""
+
+    def told(self, name: str, data: bytes) -> str:
+        path = os.path.join(self.folder, name)
+        with open(path, "wb") as f:
+            f.write(data)
+        text = kinds.no_model(path)
+        os.unlink(path)
+        return text.replace(self.folder + os.sep, "")
+
+    def test_named_ones(self) -> None:
+        for name, data, told in (
+                ("model.mps", b"* made\nNAME x\nROWS\n", "is an MPS file: `nl-bridge import "
+                 "model.mps model.nl` makes model.nl of it"),
+                ("model.txt", b"NAME\nROWS\n", "is an MPS file: "),
+                ("model.lp", b"\\ made\nMinimize\n obj: x\n", "is an LP file, which no command "
+                 "here reads: `glpsol --lp model.lp --check --wfreemps model.mps`"),
+                ("model.lp", b"/* made */\nmax: 3x;\n", "is an LP file"),
+                ("knap.nl.gz", b"\x1f\x8b\x08", "is a compressed file: `gunzip -k knap.nl.gz`"),
+                ("model.mod", b"var x;\n", "is a text of AMPL: in AMPL, `write gmodel;` writes "
+                                            "model.nl"),
+                ("diet.mzn", b"var 1..2: x;\n", "is a text of MiniZinc: `minizinc --solver "
+                                                 "bridge-cbc diet.mzn`"),
+                ("k.certificate", b"certificate 1\n", "is a certificate: `nl-bridge verify "),
+                ("notes", b"\n", "is no .nl file by its name")):
+            self.assertTrue(self.told(name, data).startswith(f"{name} {told}"),
+                            self.told(name, data))
+
+    def test_others(self) -> None:
+        self.assertEqual(kinds.no_model(self.stub), self.stub + ".nl: no such file")
+        self.assertEqual(kinds.no_model(self.folder), self.folder + " is a folder")
+        self.put(b"NAME\nROWS\n", ".mps")
+        self.assertTrue(kinds.no_model(self.stub).startswith(
+            f"{self.stub}.nl: no such file; {self.stub}.mps is an MPS file: "))
+
+    def test_in_a_refusal(self) -> None:
+        self.put(b"NAME\nROWS\n")
+        self.assertEqual(explaining.in_words(["export", self.stub + ".nl"],
+                                             "refused line 1: bad first line",
+                                             {self.stub + ".nl": "m.nl"}),
+                         "m.nl line 1: bad first line: it is an MPS file: `nl-bridge import m.nl "
+                         "m.nl` makes m.nl of it")
+
+
 class UnknownWords(unittest.TestCase):
     def test_unknown_words(self) -> None:
         """They are told as unknown, also where no value follows."""
@@ -189,6 +254,59 @@ class UnknownWords(unittest.TestCase):
                 Options().take(words)
         with self.assertRaisesRegex(BadOption, "^no value for timelim$"):
             Options().take(["timelim"])
+
+
+class Importing(Case):
+    TEXT = (b"NAME p\nROWS\n N cost\n G both\n N other\n L cap\nCOLUMNS\n M0 'MARKER' 'INTORG'\n"
+            b" i cost 1\n i both 1\n b both 2\n low both 1\n M1 'MARKER' 'INTEND'\n c cost 2\n"
+            b" 'MARKER' cap 1\n v cap 1\nRHS\n RHS both 3\nBOUNDS\n UP BND b 1\n UP BND i 9\n"
+            b" UP BND low -1\n BV BND v\nENDATA\n")
+
+    def test_order(self) -> None:
+        """Continuous, binary, integer, each in the order of the columns; constraints, then the
+        objective."""
+        self.assertEqual(importing.lists_of(self.TEXT), importing.Lists(
+            ["both", "cap", "cost"], ["c", "'MARKER'", "b", "v", "i", "low"]))
+
+    @NEEDS_PROGRAM
+    def test_against_the_program(self) -> None:
+        """The kinds of the .nl are those of the names, and so are the bounds."""
+        self.put(self.TEXT, ".mps")
+        bridge = Bridge(PROGRAM, lambda argv: None)
+        line = importing.imported(bridge, self.stub + ".mps", self.stub + ".nl")
+        self.assertEqual(line, f"{self.stub}.nl is written, with the names of 2 constraints and 6 "
+                               f"variables in {self.stub}.row and {self.stub}.col")
+        with open(self.stub + ".nl", encoding="ascii") as f:
+            lines = f.read().split("\n")
+        self.assertEqual(lines[6].split()[:2], ["2", "2"])
+        at = lines.index("b") + 1
+        self.assertEqual(lines[at:at + 6], ["2 0", "2 0", "0 0 1", "0 0 1", "0 0 9", "1 -1"])
+        bounds = Names(self.stub)
+        self.assertEqual([bounds.column(j) for j in range(6)],
+                         ["c", "'MARKER'", "b", "v", "i", "low"])
+
+    @NEEDS_PROGRAM
+    def test_random_ones(self) -> None:
+        """Each column has a bound of its own, which the .nl has at the place of its name."""
+        chance = random.Random(7)
+        for _ in range(20):
+            lines, bounds, wanted = [], [], {}
+            for j in range(12):
+                whole, low, high = chance.random() < .6, chance.choice((0, 1, -1)), \
+                    chance.choice((1, 2 + j))
+                mark = [f" M{j} 'MARKER' 'INTORG'", f" x{j} r 1", f" M{j}e 'MARKER' 'INTEND'"]
+                lines += mark if whole else mark[1:2]
+                bounds += [f" LO BND x{j} {low}", f" UP BND x{j} {high}"]
+                wanted[f"x{j}"] = f"4 {low}" if low == high else f"0 {low} {high}"
+            text = "\n".join(["NAME", "ROWS", " N o", " L r", "COLUMNS", *lines, "RHS", "BOUNDS",
+                              *bounds, "ENDATA", ""])
+            self.put(text.encode(), ".mps")
+            importing.imported(Bridge(PROGRAM, lambda argv: None), self.stub + ".mps", self.stub)
+            with open(self.stub + ".nl", encoding="ascii") as f:
+                made = f.read().split("\n")
+            at = made.index("b") + 1
+            names = Names(self.stub)
+            self.assertEqual({names.column(j): made[at + j] for j in range(12)}, wanted)
 
 
 class Figures(unittest.TestCase):
@@ -205,6 +323,14 @@ class Figures(unittest.TestCase):
             "1e25, to lp_solve from 1e30",
             "not doubles   1 numbers: 0.30000000000000004441 (c2 x2)",
             "scaled rows   1: c0 by 3"])
+
+    def test_controls_in_names(self) -> None:
+        with tempfile.TemporaryDirectory() as folder:
+            stub = os.path.join(folder, "m")
+            with open(stub + ".row", "w", encoding="utf-8") as f:
+                f.write("Cap\x1b[2J\n")
+            lines = stats.lines_of(stats.figures_of(EXPORTED), {"c0": "3"}, Names(stub))
+        self.assertEqual(lines[-1], "scaled rows   1: c0 (Cap\\x1b[2J) by 3")
 
     def test_a_tied_objective(self) -> None:
         text = (b"NAME nl\nROWS\n N obj\n E zdef\nCOLUMNS\n x0 zdef 1\n z obj 1\n z zdef -3\nRHS\n"
@@ -255,6 +381,41 @@ class Front(Case):
         self.assertEqual((status, err, out.split("\n")[0]), (0, "", f"nl-bridge {VERSION}"))
         self.assertEqual([line.split(" ")[0] for line in out.split("\n")],
                          ["nl-bridge", "program", "sha256", "toolchain", "drivers", ""])
+
+    def test_faults_of_words_and_files(self) -> None:
+        """The proved program tells the fault, and what is added says which word or file, and
+        why."""
+        program = ("for w in \"$@\"; do case $w in one|*:*) echo 'bad words' >&2; exit 3;; esac; "
+                   "done\n[ $# = 1 ] && { echo 'bad words' >&2; exit 3; }\n"
+                   "echo 'input fault' >&2; exit 4")
+        self.put(b"x")
+        nl = self.stub + ".nl"
+        for words, status, told in (
+                (["export", "/nonexistent/m.nl"], 4,
+                 "nl-bridge: /nonexistent/m.nl: input fault (No such file or directory)\n"),
+                (["verify", nl, self.folder], 4,
+                 f"nl-bridge: {self.folder}: input fault (Is a directory)\n"),
+                (["export"], 3, "nl-bridge: bad words: export takes FILE [K] or FILE K ROWS COLS; "
+                                "-h lists the commands\n"),
+                (["export", nl, "one"], 3, "nl-bridge: bad words: K is a plain number up to "
+                                           "4294967295, not one; -h lists the commands\n")):
+            path = os.path.join(self.folder, "faulty")
+            with open(path, "w", encoding="ascii") as f:
+                f.write("#!/bin/sh\n" + program + "\n")
+            os.chmod(path, 0o755)
+            ran = subprocess.run([sys.executable, os.path.join(BIN, "nl-bridge"), *words],
+                                 capture_output=True, text=True, check=False,
+                                 env={**os.environ, "BRIDGE": path})
+            self.assertEqual((ran.returncode, ran.stdout, ran.stderr), (status, "", told))
+
+    def test_words_of_the_table(self) -> None:
+        for words, wrong in ((["export", "a"], False), (["export", "a", "0"], False),
+                             (["export", "a", "00"], True), (["export", "a", "4294967296"], True),
+                             (["export", "a", "0", "r"], True), (["return", "a", "b"], False),
+                             (["return", "a", "b", "r", "c"], False), (["return", "a"], True),
+                             (["make", "1", "2"], False), (["make", "1"], True),
+                             (["nl", "\udcff"], True)):
+            self.assertEqual(bool(front.wrong_words(words)), wrong, words)
 
     def test_explain(self) -> None:
         self.put(MODELS["nonlinear"].text)
@@ -368,17 +529,50 @@ class Ends(Case):
                                             b"nonlinear\n"), ran.stderr)
 
     def test_minizinc_is_told(self) -> None:
-        """A parent called minizinc, on its own standard error, unless it was called with -v."""
-        self.assertFalse(minizinc.is_quiet_minizinc(os.getpid()))
+        """A parent called minizinc, on its own standard error, also with -v."""
+        self.assertFalse(minizinc.is_minizinc(os.getpid()))
         parent = os.path.join(self.folder, "minizinc")
         os.symlink(os.path.realpath(sys.executable), parent)
         driver = [sys.executable, os.path.join(BIN, "bridge-cbc"), self.stub, "foo=1"]
         code = f"import subprocess; subprocess.run({driver!r}, stderr=subprocess.DEVNULL)"
         told = b"% bridge-cbc: unknown option foo; -= lists the options\n"
-        for words, err in (([], told), (["-v"], b"")):
+        for words, err in (([], told), (["-v"], told)):
             ran = subprocess.run([parent, "-c", code, *words], stderr=subprocess.PIPE,
                                  check=False)
             self.assertEqual(ran.stderr, err)
+
+    def test_minizinc_is_told_in_a_file(self) -> None:
+        """Where it writes its next line over what was appended, and where it appends too; a
+        verdict only where it was not called with -v."""
+        parent, path = (os.path.join(self.folder, name) for name in ("minizinc", "told"))
+        os.symlink(os.path.realpath(sys.executable), parent)
+        for told, is_error, words in (("optimal 7", False, []), ("refused", True, []),
+                                      ("refused", True, ["-v"]), ("optimal 7", False, ["-v"])):
+            child = [sys.executable, "-c", f"from bridge_drivers import minizinc; "
+                                           f"minizinc.tell({told!r}, {is_error})"]
+            code = (f"import os, subprocess; os.write(2, b'before\\n'); subprocess.run({child!r}, "
+                    "stderr=subprocess.DEVNULL); os.write(2, b'%[NL DEBUG] SOLVED\\n')")
+            for mode in ("wb", "ab"):
+                with open(path, mode) as err:
+                    subprocess.run([parent, "-c", code, *words], stderr=err, check=True,
+                                   env={**os.environ, "PYTHONPATH": DRIVERS})
+                with open(path, encoding="ascii") as f:
+                    lines = [line.rstrip() for line in f if line.strip()]
+                os.unlink(path)
+                wanted = [f"% {told}"] if is_error or not words else []
+                self.assertEqual(sorted(lines), sorted(["before", "%[NL DEBUG] SOLVED", *wanted]))
+
+    def test_controls_in_paths_and_streams(self) -> None:
+        """A path with an escape, and a byte that is one alone, on standard error; values on
+        standard output by names that have some."""
+        for path, told in ((b"\x1b[2Jm", b"\\x1b[2Jm.nl: "), (b"\x9b2Jm", b"\\x9b2Jm.nl: ")):
+            ran = subprocess.run([sys.executable, os.path.join(BIN, "bridge-cbc"), path],
+                                 capture_output=True, check=False)
+            self.assertEqual(ran.returncode, 4)
+            self.assertTrue(ran.stderr.startswith(b"bridge-cbc: " + told), ran.stderr)
+        stream = io.StringIO()
+        console.Output(stream).writelines(["a\x1b[1m\n", "b\tc\n"])
+        self.assertEqual(stream.getvalue(), "a\\x1b[1m\nb\tc\n")
 
     def test_output_passes_other_calls_on(self) -> None:
         stream = io.StringIO()
@@ -410,6 +604,9 @@ class Installing(Case):
             self.assertEqual(json.load(f)["executable"][0],
                              os.path.join(prefix, "bin", "bridge-cbc"))
         self.assertNotIn("MZN_SOLVER_PATH", ran.stdout)
+        for shell, name in (("bash-completion/completions", "bridge-certify"),
+                            ("zsh/site-functions", "_nl-bridge")):
+            self.assertTrue(os.path.isfile(os.path.join(prefix, "share", shell, name)), name)
         self.assertEqual(self.install(prefix, "--remove").returncode, 0)
         self.assertEqual(self.paths(), {other})
         self.assertEqual(self.install(prefix, "--remove").returncode, 1)

@@ -2,16 +2,18 @@
 
 from __future__ import annotations
 
+import io
 import os
 import signal
 import struct
 import subprocess
 import sys
+import time
 from fractions import Fraction as F
 from unittest import mock
 
 from support import HERE, Case
-from bridge_drivers import binary_nl, bridge, certificates, nl, sol, values, words
+from bridge_drivers import binary_nl, bridge, nl, progress, sol, solvers, values, words
 from bridge_drivers.bridge import Refused, Reply
 from bridge_drivers.interrupts import SIGNALS, Interrupted, Signals, with_child
 from bridge_drivers.options import BadOption, Options
@@ -166,18 +168,71 @@ class Files(Case):
         missing = bridge.Bridge(["/nonexistent/bridge"], lambda argv: None)
         self.assertRaises(bridge.Missing, missing.call, "export", "x")
 
-    def test_only_plain_files_are_removed(self) -> None:
-        """A certificate's place may be a device, a pipe or a link to one."""
-        plain, link, pipe = (os.path.join(self.folder, n) for n in ("plain", "link", "pipe"))
-        with open(plain, "w"):
-            os.symlink(pipe, link)
-        os.mkfifo(pipe)
-        for path, stays in ((plain, False), (pipe, True), (link, True), ("/dev/null", True)):
-            certificates.remove_older(path)
-            self.assertEqual(os.path.lexists(path), stays, path)
-        os.unlink(pipe)
-        certificates.remove_older(link)
-        self.assertFalse(os.path.lexists(link))
+
+class Terminal(io.StringIO):
+    def isatty(self) -> bool:
+        return True
+
+
+class Shown(Case):
+    """What is told while a run goes on."""
+
+    def test_line(self) -> None:
+        shown = progress.Progress("bridge-cbc")
+        shown.begin("cbc", 60)
+        shown.tell(progress.detailed({"incumbent": 45.0, "bound": 50.0, "nodes": 100.0,
+                                      "open": 12.0}))
+        self.assertEqual(shown.line(), "bridge-cbc: cbc, 0 of 60 s, incumbent 45, bound 50, "
+                                       "gap 10 %, 100 nodes, 12 open")
+        shown.begin("certificate")
+        self.assertEqual(shown.line(), "bridge-cbc: certificate, 0 s")
+        self.assertEqual([progress.gap(*pair) for pair in ((0, 0), (0, 3), (-4, -5))],
+                         [0, 100, 20])
+
+    def test_streams(self) -> None:
+        """In place on a terminal, where nothing is left of it; lines elsewhere."""
+        for stream, in_place in ((Terminal(), True), (Terminal(), False), (io.StringIO(), True)):
+            shown = progress.Progress("bridge-cbc")
+            with mock.patch.multiple(progress, FIRST=0.01, EVERY=0.01, EVERY_LINE=0.01):
+                shown.begin("cbc")
+                shown.start(stream, in_place)
+                while stream.getvalue().count("cbc, ") < 3:
+                    time.sleep(0.01)
+                shown.stop()
+            text = stream.getvalue()
+            if in_place and stream.isatty():
+                self.assertNotIn("\n", text)
+                self.assertEqual(text[:len(progress.CLEAR)], progress.CLEAR)
+                self.assertEqual(text[-len(progress.CLEAR):], progress.CLEAR)
+            else:
+                self.assertEqual(set(text.split("\n")), {"bridge-cbc: cbc, 0 s", ""})
+            shown.stop()
+            self.assertEqual(stream.getvalue(), text)
+
+    def test_logs(self) -> None:
+        """What solvers tell, in the objective's own sense."""
+        least, most = (Program(b"NAME nl\n" + sense + b"ROWS\n N obj\nCOLUMNS\nRHS\nENDATA\n")
+                       for sense in (b"", b"OBJSENSE\n MAX\n"))
+        for name, program, line, known in (
+                ("cbc", least, "Cbc0010I After 100 nodes, 12 on tree, 45.5 best solution, best "
+                               "possible 40 (1.23 seconds)",
+                 {"nodes": 100, "open": 12, "incumbent": 45.5, "bound": 40}),
+                ("cbc", most, "Cbc0010I After 0 nodes, 1 on tree, 1e+50 best solution, best "
+                              "possible -1397571.6 (0.2 seconds)",
+                 {"nodes": 0, "open": 1, "bound": 1397571.6}),
+                ("cbc", most, "Cbc0012I Integer solution of -17 found by rounding after 0 "
+                              "iterations and 0 nodes (0.01 seconds)", {"incumbent": 17}),
+                ("clp", most, "Clp0006I 52  Obj 8.5 Primal inf 0 (0)",
+                 {"iterations": 52, "objective": 8.5}),
+                ("glpsol", most, "+  1234: mip =   1.200000000e+01 <=   1.500000000e+01  25.0% "
+                                 "(12; 34)",
+                 {"iterations": 1234, "incumbent": 12, "bound": 15, "open": 12}),
+                ("glpsol", most, "+    84: mip =     not found yet <=              +inf        "
+                                 "(1; 0)", {"iterations": 84, "open": 1}),
+                ("glpsol", least, "*    10: obj =   2.000000000e+00 inf =   0.000e+00 (2)",
+                 {"iterations": 10, "objective": 2}),
+                ("lp_solve", least, "Set parameter", {})):
+            self.assertEqual(solvers.load(name).said(line, program), known, line)
 
 
 class Interrupts(Case):
@@ -203,6 +258,18 @@ class Interrupts(Case):
             with_child(lambda child: self.fail("it is not used"), ["sleep", "60"],
                        start_new_session=True)
         self.assertEqual((caught.exception.status(), started[0].returncode), (143, -9))
+
+    def test_the_first_interrupt_of_a_block(self) -> None:
+        """It is the receiver's, the second one ends the run."""
+        old = signal.signal(signal.SIGINT, SIGNALS.came)
+        self.addCleanup(signal.signal, signal.SIGINT, old)
+        got: list[int] = []
+        with self.assertRaises(Interrupted), SIGNALS.first_to(lambda: got.append(1)):
+            signal.raise_signal(signal.SIGINT)
+            self.assertEqual(got, [1])
+            signal.raise_signal(signal.SIGINT)
+        self.assertEqual(got, [1])
+        self.assertIsNone(SIGNALS.receiver)
 
     def test_while_a_process_runs_and_ends(self) -> None:
         """A second signal does not break off what the first one ends."""

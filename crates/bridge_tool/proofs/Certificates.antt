@@ -1,15 +1,11 @@
 -- Certificates that are opened.
-use Rattle.std.proofs.Common.{◌≡◌, ℕ, List, Result, Ok, Err}
+use Rattle.std.proofs.Common.{ℕ, List, Result, Ok, Err}
 use Rattle.std.specs.Prelude.{IfOk}
 use Rattle.texts.specs.declared.stop.Stop.{Stop}
 use Rattle.texts.specs.declared.stop.Stop.TheVariants.{Fault, Memory}
-use Rattle.linear_program.specs.declared.kind.Kind.{Kind}
-use Rattle.nl_model.specs.File.{File}
-use Rattle.nl_model.specs.Kinds.{kinds_in}
 use Rattle.certificates.specs.Certificates.{CertificateValue}
 use Rattle.certificates.specs.Setting.{IsCertificateFor, Setting}
 use Rattle.certificate_text.specs.Reader.{IsFed, Reading}
-use Rattle.file_certificates.specs.Setting.{setting_of}
 use Rattle.bridge_tool.specs.SeveralFiles.{Answered}
 use Rattle.bridge_tool.specs.declared.answer.Answer.{Answer}
 use Rattle.bridge_tool.specs.declared.refusal.Refusal.{Refusal}
@@ -20,7 +16,3 @@ pub answered_for : (s : Setting) (reader : Reading) (bytes : List ℕ) (judged :
 answered_for s reader bytes (Ok c) result fed is same = rw same (is s bytes fed)
 answered_for s reader bytes (Err (Fault refusal)) result fed is same = rw same tt
 answered_for s reader bytes (Err Memory) result fed is same = rw same tt
-
--- what holds over the constraints and the variables of a file holds for its setting
-pub over_file : (P : Setting → Type 0) (f : File) (rows : ℕ) (kinds : List Kind) → rows ≡ f.counts.n_con → kinds ≡ kinds_in f → P (record { rows = rows; kinds = kinds }) → P (setting_of f)
-over_file P f rows kinds e h p = rw (← e, ← h) p

@@ -12,3 +12,4 @@ pub mod Returning
 pub mod SeveralFiles
 pub mod Certificates
 pub mod Verdicts
+pub mod Programs

@@ -565,10 +565,6 @@ pub of_yes : (verdict : Bool) (M : Type 0) → (verdict ≡ true → M) → ByVe
 of_yes true M m = m refl
 of_yes false M m = tt
 
-pub meant_yes : (judged : Result (Bool × Vec ℕ) (Stop Refusal)) (M : Type 0) → IfOk judged (λ t. t.0 ≡ true → M) → IfOk judged (λ t. ByVerdict t.0 M (Unit {0}))
-meant_yes (Ok t) M m = of_yes t.0 M m
-meant_yes (Err stop) M m = tt
-
 -- what holds of each verdict
 pub meant_always : (judged : Result (Bool × Vec ℕ) (Stop Refusal)) (M : Type 0) → IfOk judged (λ t. M) → IfOk judged (λ t. ByVerdict t.0 M (Unit {0}))
 meant_always (Ok t) M m = of_yes t.0 M (λ e. m)

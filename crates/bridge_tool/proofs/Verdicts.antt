@@ -1,10 +1,13 @@
--- What a .sol text, a proof text and a certificate show of an .nl text: one outcome, and what a yes means.
+-- What a .sol text, a proof text and a certificate show of an .nl text: one outcome, and what each verdict means.
 use Rattle.std.proofs.Common.{◌≡◌, ◌∙◌, inl, inr, ℕ, ◌+◌, ◌≤◌, ◌==◌, ℤ, pos, negsuc, Bool, true, false, List, length, if◌then◌else◌, Option, Some, None, Result, Ok, Err, refl, sym, ap, ap₂, subst, arith, is_none}
-use Rattle.std.specs.Prelude.{◌&&◌, ◌<ℤ◌, nat_lt, option_map, IfOk}
+use Rattle.std.specs.Prelude.{◌&&◌, ◌<ℤ◌, [], ◌++◌, codes, nat_lt, option_map, IfOk}
+use Rattle.std.specs.Option.{option_map_or}
 use Rattle.std.specs.Global.{Vec}
 use Rattle.std.proofs.lemmas.Bool.{eqb-true, ltb-false, and_parts}
 use Rattle.std.proofs.lemmas.Int.{ints}
-use Rattle.fractions.specs.Rational.{ℚ}
+use Rattle.duality.specs.Problem.{Problem}
+use Rattle.duality.specs.ProblemSays.{Denies, VerdictSays}
+use Rattle.duality.specs.Told.{Told, IsToldTrue}
 use Rattle.duality.specs.Verdict.{Verdict, verdict, yes, gap, refused}
 use Rattle.linear_programs.specs.Linear.{row_count, variable_count, Linear}
 use Rattle.exact_numbers.specs.declared.dec.Dec.{Dec}
@@ -13,7 +16,8 @@ use Rattle.texts.specs.declared.stop.Stop.TheVariants.{Fault, Memory}
 use Rattle.dual_bounds.specs.Terms.{values_of}
 use Rattle.certificate_check.specs.declared.fitting.FitFault.{FitFault}
 use Rattle.certificate_check.specs.declared.fitting.FitFault.TheVariants.{OtherCounts, NoPrimal, NoDual}
-use Rattle.file_certificates.proofs.Best.{certificates}
+use Rattle.file_certificates.specs.FileProblem.{problem_of}
+use Rattle.file_certificates.proofs.Verdicts.{file_verdicts}
 use Rattle.file_meaning.specs.FoldFaults.{fold_fault, FoldFault as FileFault}
 use Rattle.file_meaning.specs.LinearFile.{linear_of, linear_row}
 use Rattle.linear_programs.proofs.Elements.{elements_length}
@@ -27,16 +31,18 @@ use Rattle.nl_segments.specs.Grammar.{NlValue}
 use Rattle.sol_files.specs.Built.{IsEmptyOrFull}
 use Rattle.sol_files.specs.Reader.{IsSol}
 use Rattle.sol_files.specs.Sol.{Sol}
-use Rattle.bridge_tool.specs.Check.{IsCertified, by_fit, by_fold, by_number, by_verdict, check_outcome, most_steps, objective_number, shown, steps_by_fit, steps_by_number, unfit}
-use Rattle.bridge_tool.specs.Outcome.{Refused, Done}
+use Rattle.bridge_tool.specs.Check.{IsCertified, IsNotCertified, by_fit, by_fold, by_number, by_verdict, check_outcome, most_steps, objective_number, shown, steps_by_fit, steps_by_number, unfit}
+use Rattle.bridge_tool.specs.Claims.{IsClaimDenied, IsClaimTrue}
+use Rattle.bridge_tool.specs.Outcome.{Outcome, Refused, Done}
 use Rattle.bridge_tool.specs.Sol.{IsSolRefused}
-use Rattle.bridge_tool.specs.SeveralFiles.{Comes}
+use Rattle.bridge_tool.specs.SeveralFiles.{ByVerdict, Comes}
 use Rattle.bridge_tool.specs.Stages.{Folds, HasFolded, fold_steps}
 use Rattle.bridge_tool.specs.VerdictTold.{fit_line, is_yes, negative_line, verdict_line}
 use Rattle.bridge_tool.proofs.SeveralFiles.{IsPlain, IsLast, verdict_last, AreRead, read_so}
 use Rattle.bridge_tool.proofs.OneFile.{sol_read}
 use Rattle.bridge_tool.specs.declared.refusal.Refusal.{Refusal}
-use Rattle.duality.specs.Branch.{proof_fault}
+use Rattle.duality.specs.Branch.{LeafFault, proof_fault}
+use Rattle.duality.proofs.Causes.{denied}
 use Rattle.branch_check.specs.declared.leaf.ProofVerdict.{ProofVerdict}
 use Rattle.branch_check.specs.declared.leaf.ProofVerdict.TheVariants.{Yes}
 use Rattle.file_certificates.specs.Files.{IsProofIn, IsCertificateIn}
@@ -51,20 +57,20 @@ use Rattle.certificates.specs.Setting.{Setting as CertificateSetting}
 use Rattle.file_certificates.specs.Setting.{setting_of as certificate_setting}
 use Rattle.proof_text.proofs.ReadingLemmas.{one_reading as one_proof}
 use Rattle.bridge_tool.specs.ProofTold.{leaf_line, proof_line}
-use Rattle.bridge_tool.specs.Prove.{IsProofRefused, IsProvedOf, by_fold as by_proof_fold, by_leaf, claimed_objective, open_leaf, prove_outcome}
+use Rattle.bridge_tool.specs.Prove.{IsLeftOpen, IsProofRefused, IsProvedOf, by_fold as by_proof_fold, by_leaf, claimed_objective, open_leaf, prove_outcome}
 use Rattle.duality.specs.Certificate.{Outcome as ClaimOutcome, holds, fails}
-use Rattle.certificates.specs.Certificates.{CertificateValue, Given, IsAskedFor, IsCertificateOf, claim_outcome, objective_of}
+use Rattle.certificates.specs.Certificates.{CertificateValue, Given, IsAskedFor, IsCertificateOf, certificate_over, claim_outcome, objective_of}
+use Rattle.certificates.specs.Told.{told_claim}
 use Rattle.linear_program.specs.Numbers.{spread}
 use Rattle.certificates.specs.Reading.{given_in}
-use Rattle.file_certificates.specs.Says.{IsTrueOf}
 use Rattle.certificates.specs.declared.certificate.Claim.{Claim}
 use Rattle.certificates.specs.declared.certificate.Claim.TheVariants.{Within}
-use Rattle.file_certificates.proofs.Given.{certificate_of, claim_true}
+use Rattle.file_certificates.proofs.Given.{certificate_of, claim_denied, claim_true}
 use Rattle.certificates.proofs.Reading.{given_back}
 use Rattle.certificate_text.specs.Reader.{HasCertificateFault, IsCertificateText}
 use Rattle.certificate_text.proofs.ReadingLemmas.{one_reading as one_certificate}
-use Rattle.bridge_tool.specs.CertificateTold.{HasFittingBound, certificate_line, is_held, outcome_line}
-use Rattle.bridge_tool.specs.Verify.{IsCertificateRefused, IsVerified, by_claim, by_fold as by_claim_fold, claim_shown, verify_outcome}
+use Rattle.bridge_tool.specs.CertificateTold.{HasFittingBound, certificate_line, is_held, objective_text, outcome_line, told_text}
+use Rattle.bridge_tool.specs.Verify.{IsCertificateRefused, IsDenied, IsVerified, by_claim, by_fold as by_claim_fold, claim_shown, verify_outcome}
 
 -- ---- one outcome
 
@@ -110,47 +116,46 @@ module _ (nl : NlValue) (s : Sol) (fits : unfit nl s ≡ None) where
   pub all_duals : (k : ℕ) → IsEmptyOrFull s.n_con (length s.duals) → length s.duals ≡ row_count (linear_of nl.file k)
   all_duals k given = full nl.file.counts.n_con (length s.duals) (subst (λ (n : ℕ). IsEmptyOrFull n (length s.duals)) (sym same.0) given) tests.2 ∙ sym (rows_counted k)
 
--- ---- a yes
+-- ---- what a verdict means
 
 no_fault : (f : File) (o : Option FileFault) → option_map (named_fault f) o ≡ None → o ≡ None
 no_fault f None e = refl
 no_fault f (Some x) e = absurd cc
 
--- the value of a verdict that is yes
-yes_value : (v : Verdict) (bytes : List ℕ) → by_verdict v ≡ Done true bytes → (x : ℚ) × (v ≡ yes x)
-yes_value (yes x) bytes e = (x, refl)
-yes_value (gap x b) bytes e = absurd cc
-yes_value (refused cause) bytes e = absurd cc
+done_verdict : (a b : Bool) (x y : List ℕ) → Done a x ≡ Done b y → a ≡ b
+done_verdict a b x y e = cc
 
-module _ (nl : NlValue) (s : Sol) (file : IsFile nl.file) (bytes : List ℕ) where
-  by_yes : (k : ℕ) → unfit nl s ≡ None → objective_number s ≡ pos k → first_fold_fault nl.file k ≡ None → by_verdict (shown nl s k) ≡ Done true bytes → IsCertified nl s
-  by_yes k fits number folds e =
-      let found = yes_value (shown nl s k) bytes e in
-      let fine = no_fault nl.file (fold_fault nl.file k) folds in
-      record {
-        number = k;
-        value = found.0;
-        objective = number;
-        folds = fine;
-        line = ap (by_fit nl s) fits ∙ ap (by_number nl s) number ∙ ap (by_fold nl s k) folds ∙ ap by_verdict found.1;
-        best = certificates nl.file k file fine (values_of s.primals) (values_of s.duals) found.0 found.1;
-      }
+module _ (nl : NlValue) (s : Sol) (file : IsFile nl.file) where
+  abbrev Says : Bool → Type 0
+  Says held = ByVerdict held (IsCertified nl s) (IsNotCertified nl s)
 
-  by_folding : (k : ℕ) (o : Option FoldFault) → unfit nl s ≡ None → objective_number s ≡ pos k → first_fold_fault nl.file k ≡ o → by_fold nl s k o ≡ Done true bytes → IsCertified nl s
-  by_folding k None fits number folds e = by_yes k fits number folds e
-  by_folding k (Some fault) fits number folds e = absurd cc
+  module _ (k : ℕ) (fits : unfit nl s ≡ None) (number : objective_number s ≡ pos k) (folds : first_fold_fault nl.file k ≡ None) where
+    line_of : (v : Verdict) → shown nl s k ≡ v → check_outcome nl s ≡ by_verdict v
+    line_of v is = ap (by_fit nl s) fits ∙ ap (by_number nl s) number ∙ ap (by_fold nl s k) folds ∙ ap by_verdict is
 
-  by_objective : (z : ℤ) → unfit nl s ≡ None → objective_number s ≡ z → by_number nl s z ≡ Done true bytes → IsCertified nl s
-  by_objective (pos k) fits number e = by_folding k (first_fold_fault nl.file k) fits number refl e
-  by_objective (negsuc n) fits number e = absurd cc
+    told_says : (v : Verdict) → shown nl s k ≡ v → VerdictSays (problem_of nl.file k) (values_of s.primals) v
+    told_says v is = subst (VerdictSays (problem_of nl.file k) (values_of s.primals)) is (file_verdicts nl.file k file (no_fault nl.file (fold_fault nl.file k) folds) (values_of s.primals) (values_of s.duals))
 
-  by_fitting : (o : Option FitFault) → unfit nl s ≡ o → by_fit nl s o ≡ Done true bytes → IsCertified nl s
-  by_fitting None fits e = by_objective (objective_number s) fits refl e
-  by_fitting (Some fault) fits e = absurd cc
+    by_told : (v : Verdict) → shown nl s k ≡ v → Says (is_yes v)
+    by_told (yes x) is = record { number = k; value = x; objective = number; line = line_of (yes x) is; best = told_says (yes x) is }
+    by_told (gap x b) is = record { number = k; told = gap x b; objective = number; line = line_of (gap x b) is; says = told_says (gap x b) is }
+    by_told (refused cause) is = record { number = k; told = refused cause; objective = number; line = line_of (refused cause) is; says = told_says (refused cause) is }
 
-  -- what a yes means
-  pub certified_by : check_outcome nl s ≡ Done true bytes → IsCertified nl s
-  certified_by e = by_fitting (unfit nl s) refl e
+  module _ (held : Bool) (bytes : List ℕ) where
+    by_folding : (k : ℕ) (o : Option FoldFault) → unfit nl s ≡ None → objective_number s ≡ pos k → first_fold_fault nl.file k ≡ o → by_fold nl s k o ≡ Done held bytes → Says held
+    by_folding k None fits number folds e = subst Says (done_verdict (is_yes (shown nl s k)) held (verdict_line (shown nl s k)) bytes e) (by_told k fits number folds (shown nl s k) refl)
+    by_folding k (Some fault) fits number folds e = absurd cc
+
+    by_objective : (z : ℤ) → unfit nl s ≡ None → objective_number s ≡ z → by_number nl s z ≡ Done held bytes → Says held
+    by_objective (pos k) fits number e = by_folding k (first_fold_fault nl.file k) fits number refl e
+    by_objective (negsuc n) fits number e = absurd cc
+
+    by_fitting : (o : Option FitFault) → unfit nl s ≡ o → by_fit nl s o ≡ Done held bytes → Says held
+    by_fitting None fits e = by_objective (objective_number s) fits refl e
+    by_fitting (Some fault) fits e = absurd cc
+
+    pub verdict_says : check_outcome nl s ≡ Done held bytes → Says held
+    verdict_says e = by_fitting (unfit nl s) refl e
 
 -- ---- what the code answers
 
@@ -191,9 +196,9 @@ module _ (nl : NlValue) (s : Sol) where
   pub most_so : (z : ℤ) (k : ℕ) → unfit nl s ≡ None → z ≡ objective_number s → z ≡ pos k → steps_by_number nl (pos k) ≡ most_steps nl s
   most_so z k fits number is = ap (steps_by_number nl) (sym is ∙ number) ∙ sym (ap (steps_by_fit nl s) fits)
 
-  -- a verdict that is yes means what it should
-  pub meant_so : (r : Result (Bool × Vec ℕ) (Stop Refusal)) → IsFile nl.file → Comes (λ outcome. outcome ≡ check_outcome nl s) r → IfOk r (λ t. t.0 ≡ true → IsCertified nl s)
-  meant_so (Ok t) file h = λ e. certified_by nl s file t.1.items (sym h ∙ ap (λ b. Done b t.1.items) e)
+  -- a verdict means what it should
+  pub meant_so : (r : Result (Bool × Vec ℕ) (Stop Refusal)) → IsFile nl.file → Comes (λ outcome. outcome ≡ check_outcome nl s) r → IfOk r (λ t. ByVerdict t.0 (IsCertified nl s) (IsNotCertified nl s))
+  meant_so (Ok t) file h = verdict_says nl s file t.0 t.1.items (sym h)
   meant_so (Err stop) file h = tt
 
 -- ---- the command
@@ -255,12 +260,17 @@ module _ (nl : NlValue) (p : ProofValue) (given : IsProofIn nl.file p) where
   proof_stopped (Fault line) h = ap Refused h.told ∙ sym (ap (by_proof_fold nl p) h.first)
   proof_stopped Memory h = tt
 
-  -- a yes means what it should
-  pub proved_so : (l : LinearValue) (v : ProofVerdict) (held : Bool) → IsFile nl.file → HasFolded nl claimed l → IsProved (linear_value l) p.claim v → held ≡ is_none (fault_of v) → held ≡ true → IsProvedOf nl p
-  proved_so l v held file folds proved h holding =
-      let is : v ≡ Yes = yes_of v (sym h ∙ holding) in
-      let shown : IsProved folded p.claim Yes = subst (λ (w : ProofVerdict). IsProved folded p.claim w) is (subst (λ (g : Linear). IsProved g p.claim v) folds.linear proved) in
-      record { folds = folds.fine; true_of = proof_true nl.file claimed file folds.fine p.claim shown }
+  -- a verdict means what it should
+  proved_by : (o : Option LeafFault) (v : ProofVerdict) → fault_of v ≡ o → IsFile nl.file → fold_fault nl.file claimed ≡ None → IsProved folded p.claim v → open_leaf nl p ≡ o → prove_outcome nl p ≡ by_leaf o → ByVerdict (is_none o) (IsProvedOf nl p) (IsLeftOpen nl p)
+  proved_by None v none file fine proved first line = proof_true nl.file claimed file fine p.claim (subst (λ (w : ProofVerdict). IsProved folded p.claim w) (yes_of v (ap is_none none)) proved)
+  proved_by (Some fault) v some file fine proved first line = record { fault = fault; line = line; denies = denied folded (tree_over (row_count folded) (tree_in p)) (claim_value p.claim) fault first }
+
+  pub proof_says : (l : LinearValue) (v : ProofVerdict) (held : Bool) (bytes : List ℕ) → IsFile nl.file → HasFolded nl claimed l → IsVerdictOn (linear_value l) p v → IsProved (linear_value l) p.claim v
+      → held ≡ is_none (fault_of v) → bytes ≡ leaf_line (fault_of v) → ByVerdict held (IsProvedOf nl p) (IsLeftOpen nl p)
+  proof_says l v held bytes file folds exact proved h b =
+      let line : prove_outcome nl p ≡ by_leaf (fault_of v) = sym (proof_done l v (is_none (fault_of v)) (leaf_line (fault_of v)) folds exact refl refl) in
+      let shown : IsProved folded p.claim v = subst (λ (g : Linear). IsProved g p.claim v) folds.linear proved in
+      subst (λ (t : Bool). ByVerdict t (IsProvedOf nl p) (IsLeftOpen nl p)) (sym h) (proved_by (fault_of v) v refl file folds.fine shown (sym (leaf_so l v folds exact)) line)
 
 -- ---- one outcome
 
@@ -281,10 +291,20 @@ verify_last nl =
 
 -- ---- what the code answers
 
--- a claim that holds has a value, if any
-held_with : (o : ClaimOutcome) → is_held o ≡ true → (value : Option ℚ) × (o ≡ holds value)
-held_with (holds value) e = (value, refl)
-held_with (fails cause) e = absurd cc
+-- what a verdict on a certificate says of a problem with the linear program f
+abbrev pub ClaimSays : Problem → Linear → CertificateValue → ClaimOutcome → Type 0
+ClaimSays p f c (holds value) = IsToldTrue p (spread p.variables (given_in c).point) (told_claim c.claim value)
+ClaimSays p f c (fails cause) = Denies p f (certificate_over p.variables p.constraints c.claim (given_in c)) cause
+
+-- then its line means what it should
+pub claim_means : (p : Problem) (f : Linear) (c : CertificateValue) (outcome : Outcome) (o : ClaimOutcome) → outcome ≡ by_claim c.claim o → ClaimSays p f c o → ByVerdict (is_held o) (IsClaimTrue p c outcome) (IsClaimDenied p f c outcome)
+claim_means p f c outcome (holds value) line says =
+    record {
+      told = says.told;
+      line = line ∙ ap (λ (o : Option Told). Done true (option_map_or told_text o [] ++ objective_text (objective_of c.claim) ++ codes "\n")) says.is_told;
+      true_of = says.true_of;
+    }
+claim_means p f c outcome (fails cause) line says = record { cause = cause; line = line; denies = says }
 
 asked_fits : (claim : Claim) (g : Given) → IsAskedFor claim g → HasFittingBound claim
 asked_fits (Within k b) g h = h.2
@@ -327,17 +347,15 @@ module _ (nl : NlValue) (c : CertificateValue) (given : IsCertificateIn nl.file 
   claim_stopped (Fault line) h = ap Refused h.told ∙ sym (ap (by_claim_fold nl c) h.first)
   claim_stopped Memory h = tt
 
-  -- a yes means what it should
+  -- a verdict means what it should
+  claim_says : (o : ClaimOutcome) → IsFile nl.file → fold_fault nl.file k ≡ None → claim_outcome f c.claim given.given ≡ o → ClaimSays (problem_of nl.file k) f c o
+  claim_says (holds value) file fine e = subst (λ (g : Given). IsToldTrue (problem_of nl.file k) (spread nl.file.counts.n_var g.point) (told_claim c.claim value)) (sym given_so) (claim_true nl.file c file fine given value e)
+  claim_says (fails cause) file fine e = subst (λ (g : Given). Denies (problem_of nl.file k) f (certificate_over nl.file.counts.n_var nl.file.counts.n_con c.claim g) cause) (sym given_so) (claim_denied nl.file c file fine given cause e)
+
   pub verified_so : (l : LinearValue) (o : ClaimOutcome) (held : Bool) (bytes : List ℕ) → IsFile nl.file → HasFolded nl k l → ((h : IsCertificateOf (linear_value l) c) → o ≡ claim_outcome (linear_value l) c.claim h.given)
-      → held ≡ is_held o → bytes ≡ outcome_line c.claim o → held ≡ true → IsVerified nl c
-  verified_so l o held bytes file folds exact h b holding =
-      let found = held_with o (sym h ∙ holding) in
-      let shown : claim_shown nl c ≡ holds found.0 = sym (shown_so l o folds exact) ∙ found.1 in
-      let outcome : claim_outcome f c.claim given.given ≡ holds found.0 = ap (λ (g : Given). claim_outcome f c.claim g) (sym given_so) ∙ shown in
-      let true_so : IsTrueOf nl.file c.claim (spread nl.file.counts.n_var given.given.point) found.0 = claim_true nl.file c file folds.fine given found.0 outcome in
-      record {
-        value = found.0;
-        folds = folds.fine;
-        line = sym (claim_done l o held bytes folds exact h b) ∙ ap₂ Done holding (b ∙ ap (outcome_line c.claim) found.1);
-        true_of = subst (λ (g : Given). IsTrueOf nl.file c.claim (spread nl.file.counts.n_var g.point) found.0) (sym given_so) true_so;
-      }
+      → held ≡ is_held o → bytes ≡ outcome_line c.claim o → ByVerdict held (IsVerified nl c) (IsDenied nl c)
+  verified_so l o held bytes file folds exact h b =
+      let shown : claim_shown nl c ≡ o = sym (shown_so l o folds exact) in
+      let outcome : claim_outcome f c.claim given.given ≡ o = ap (λ (g : Given). claim_outcome f c.claim g) (sym given_so) ∙ shown in
+      let line : verify_outcome nl c ≡ by_claim c.claim o = sym (claim_done l o (is_held o) (outcome_line c.claim o) folds exact refl refl) in
+      subst (λ (t : Bool). ByVerdict t (IsVerified nl c) (IsDenied nl c)) (sym h) (claim_means (problem_of nl.file k) f c (verify_outcome nl c) o line (claim_says o file folds.fine outcome))

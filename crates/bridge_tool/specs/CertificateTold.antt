@@ -1,12 +1,15 @@
 -- The lines that tell faults of certificates' texts, and the lines of verdicts on certificates.
-use Rattle.std.specs.Prelude.{◌≡◌, ℕ, Bool, true, false, List, [], ◌++◌, codes, Option, Some, None}
+use Rattle.std.specs.Prelude.{◌≡◌, ℕ, Bool, true, false, nat_lt, if◌then◌else◌, List, [], ◌++◌, codes}
+use Rattle.std.specs.Option.{option_map_or}
 use Rattle.std.specs.Fmt.{decimal}
 use Rattle.fractions.specs.Fits.{fits}
-use Rattle.fractions.specs.Rational.{ℚ}
 use Rattle.duality.specs.Certificate.{Cause, at_point, not_whole, objective_wide, at_ray, at_leaf, Outcome, holds, fails}
 use Rattle.duality.specs.Ray.{RayFault, ray_row_wide, ray_row_broken, ray_bound_broken, ray_objective_wide, ray_no_better}
+use Rattle.duality.specs.Told.{Told, optimal, within, bound, feasible, infeasible, unbounded}
 use Rattle.texts.specs.declared.fault.TextFault.{TextFault}
 use Rattle.linear_program.specs.Numbers.{number_value}
+use Rattle.certificates.specs.Certificates.{objective_of}
+use Rattle.certificates.specs.Told.{told_claim}
 use Rattle.certificates.specs.declared.certificate.Claim.{Claim}
 use Rattle.certificates.specs.declared.certificate.Claim.TheVariants.{Optimal, Within, Bound, Feasible, Infeasible, Unbounded}
 use Rattle.certificate_text.specs.declared.fault.CertificateReason.{CertificateReason}
@@ -36,18 +39,22 @@ certificate_line file f =
 
 -- ---- verdicts
 
--- what is said where the claim holds: the claim, with a bound that is given, and the value
-abbrev pub claim_text : Claim → List ℕ
-claim_text (Optimal k) = codes "optimal"
-claim_text (Within k b) = codes "within " ++ number_text (number_value b)
-claim_text (Bound k v) = codes "bound"
-claim_text (Feasible k) = codes "feasible"
-claim_text Infeasible = codes "infeasible"
-claim_text (Unbounded k) = codes "unbounded"
+-- what is said where a claim holds
+abbrev pub told_text : Told → List ℕ
+told_text (optimal v) = codes "optimal " ++ number_text v
+told_text (within b v) = codes "within " ++ number_text b ++ codes " " ++ number_text v
+told_text (bound v) = codes "bound " ++ number_text v
+told_text (feasible v) = codes "feasible " ++ number_text v
+told_text infeasible = codes "infeasible"
+told_text unbounded = codes "unbounded"
 
-abbrev pub value_text : Option ℚ → List ℕ
-value_text None = []
-value_text (Some v) = codes " " ++ number_text v
+-- the objective that it is said of; that of number 0 is not named
+abbrev pub objective_text : ℕ → List ℕ
+objective_text k = if nat_lt 0 k then codes " of objective " ++ decimal k else []
+
+-- the line where the claim holds
+abbrev pub told_line : Claim → Told → List ℕ
+told_line claim told = told_text told ++ objective_text (objective_of claim) ++ codes "\n"
 
 -- why a ray shows nothing
 abbrev pub ray_text : RayFault → List ℕ
@@ -66,7 +73,8 @@ failed_text (at_ray g) = ray_text g
 failed_text (at_leaf g) = leaf_text g
 
 abbrev pub outcome_text : Claim → Outcome → List ℕ
-outcome_text claim (holds value) = claim_text claim ++ value_text value
+outcome_text claim (holds value) = option_map_or told_text (told_claim claim value) []
+    ++ objective_text (objective_of claim)
 outcome_text claim (fails cause) = failed_text cause
 
 -- the line of a verdict on a certificate for this claim

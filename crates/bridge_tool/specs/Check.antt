@@ -1,12 +1,13 @@
 -- The command check: what a .sol text shows of the best value of an .nl text.
-use Rattle.std.specs.Prelude.{◌≡◌, ℕ, ◌+◌, ◌≤◌, ℤ, pos, negsuc, true, List}
+use Rattle.std.specs.Prelude.{◌≡◌, ℕ, ◌+◌, ◌≤◌, ℤ, pos, negsuc, false, true, List}
 use Rattle.std.specs.Option.{option_map_or}
 use Rattle.std.specs.declared.option.Option.{Option}
 use Rattle.std.specs.declared.option.Option.TheVariants.{None, Some}
 use Rattle.fractions.specs.Rational.{ℚ}
+use Rattle.duality.specs.Problem.{IsBestRelaxed}
+use Rattle.duality.specs.ProblemSays.{VerdictSays}
 use Rattle.duality.specs.Verdict.{Verdict, verdict, yes}
 use Rattle.desk.specs.Desk.{Texts}
-use Rattle.file_meaning.specs.FoldFaults.{fold_fault}
 use Rattle.file_meaning.specs.LinearFile.{linear_of}
 use Rattle.linear_fold.specs.FoldedFaults.{first_fold_fault}
 use Rattle.linear_fold.specs.declared.fold_fault.FoldFault.{FoldFault}
@@ -14,7 +15,7 @@ use Rattle.nl_segments.specs.Grammar.{NlValue}
 use Rattle.nl_segments.specs.Reader.{IsNl}
 use Rattle.sol_files.specs.Reader.{IsSol}
 use Rattle.sol_files.specs.Sol.{Sol}
-use Rattle.file_certificates.specs.Best.{IsBestRelaxed}
+use Rattle.file_certificates.specs.FileProblem.{problem_of}
 use Rattle.certificate_check.specs.Fits.{fit_fault, given_by}
 use Rattle.dual_bounds.specs.Terms.{values_of}
 use Rattle.certificate_check.specs.declared.fitting.FitFault.{FitFault}
@@ -22,7 +23,7 @@ use Rattle.bridge_tool.specs.NlTold.{fold_line}
 use Rattle.bridge_tool.specs.Outcome.{Outcome, Refused, Done}
 use Rattle.bridge_tool.specs.Promise.{Promise}
 use Rattle.bridge_tool.specs.Refusal.{HasTextRefusal}
-use Rattle.bridge_tool.specs.SeveralFiles.{after_file, desk_promise, ends}
+use Rattle.bridge_tool.specs.SeveralFiles.{after_file, desk_promise, judges_last}
 use Rattle.bridge_tool.specs.Sol.{IsSolRefused}
 use Rattle.bridge_tool.specs.Stages.{fold_steps}
 use Rattle.bridge_tool.specs.VerdictTold.{fit_line, is_yes, negative_line, verdict_line}
@@ -75,18 +76,24 @@ steps_by_fit nl s None = steps_by_number nl (objective_number s)
 abbrev pub most_steps : NlValue → Sol → ℕ
 most_steps nl s = steps_by_fit nl s (unfit nl s)
 
--- ---- what a yes means
+-- ---- what a verdict means
 
--- The file has no fold fault, so that each value exists; the point of the solution is feasible in
--- the relaxed program of the file, its objective has the value that the line shows, and no relaxed
--- feasible point is better.
+-- Of a yes: the point of the solution is relaxed feasible in the file, its objective has the value
+-- that the line tells, and this is at least as good as at each relaxed feasible point.
 pub record IsCertified (nl : NlValue) (s : Sol) : Type 0 where
   pub number : ℕ
   pub value : ℚ
   pub objective : objective_number s ≡ pos number
-  pub folds : fold_fault nl.file number ≡ None
   pub line : check_outcome nl s ≡ Done true (verdict_line (yes value))
-  pub best : IsBestRelaxed nl.file number (values_of s.primals) value
+  pub best : IsBestRelaxed (problem_of nl.file number) (values_of s.primals) value
+
+-- of any other: what the line tells is so
+pub record IsNotCertified (nl : NlValue) (s : Sol) : Type 0 where
+  pub number : ℕ
+  pub told : Verdict
+  pub objective : objective_number s ≡ pos number
+  pub line : check_outcome nl s ≡ Done false (verdict_line told)
+  pub says : VerdictSays (problem_of nl.file number) (values_of s.primals) told
 
 -- ---- the promise
 
@@ -94,8 +101,9 @@ abbrev pub check_told : List ℕ → List ℕ → Texts → Promise
 check_told nl sol texts =
     after_file IsNl HasTextRefusal texts nl (λ file.
     after_file IsSol (IsSolRefused 2) texts sol (λ solution.
-    ends texts sol (λ outcome. outcome ≡ check_outcome file solution)
-    (λ old new. new ≤ old + most_steps file solution) (IsCertified file solution)))
+    judges_last texts sol (λ outcome. outcome ≡ check_outcome file solution)
+    (λ old new. new ≤ old + most_steps file solution) (IsCertified file solution)
+    (IsNotCertified file solution)))
 
 abbrev pub check_promise : Option Texts → List ℕ → List ℕ → Promise
 check_promise texts nl sol = desk_promise true (check_told nl sol) texts

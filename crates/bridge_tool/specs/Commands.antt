@@ -3,7 +3,7 @@ use Rattle.std.specs.Prelude.{◌≡◌, ℕ, List}
 use Rattle.std.specs.declared.option.Option.{Option}
 use Rattle.std.specs.declared.option.Option.TheVariants.{None, Some}
 use Rattle.desk.specs.Desk.{Texts, Meaning}
-use Rattle.bridge_tool.specs.Command.{Command, Check, Export, Fixed, Mps, Nl, Sol, command_of, Import, Prove, Verify, Make, Return, NamedExport, NamedReturn}
+use Rattle.bridge_tool.specs.Command.{Command, Check, Export, Fixed, Mps, Nl, Sol, command_of, Import, Prove, Verify, VerifyProgram, Make, Return, NamedExport, NamedReturn}
 use Rattle.bridge_tool.specs.Check.{check_promise}
 use Rattle.bridge_tool.specs.Export.{export_promise}
 use Rattle.bridge_tool.specs.Import.{import_promise}
@@ -18,6 +18,7 @@ use Rattle.bridge_tool.specs.Prove.{prove_promise}
 use Rattle.bridge_tool.specs.Return.{named_return_promise, return_promise}
 use Rattle.bridge_tool.specs.Sol.{sol_promise}
 use Rattle.bridge_tool.specs.Verify.{verify_promise}
+use Rattle.bridge_tool.specs.VerifyMps.{verify_mps_promise}
 
 -- at a desk with these texts
 abbrev pub promise_of : Option Texts → Command → Promise
@@ -29,6 +30,8 @@ promise_of texts (Check nl sol) = check_promise texts nl sol
 promise_of texts (Import file) = import_promise texts file
 promise_of texts (Prove nl proof) = prove_promise texts nl proof
 promise_of texts (Verify nl certificate) = verify_promise texts nl certificate
+promise_of texts (VerifyProgram form mps certificate) =
+    verify_mps_promise texts form mps certificate
 promise_of texts (Fixed file) = fixed_promise texts file
 promise_of texts (Return nl answer) = return_promise texts nl answer
 promise_of texts (NamedExport file objective rows columns) =

@@ -4,6 +4,7 @@ pub mod AnswerTold
 pub mod ByText
 pub mod CertificateTold
 pub mod Check
+pub mod Claims
 pub mod Command
 pub mod Commands
 pub mod Export
@@ -35,3 +36,5 @@ pub mod ToldLines
 pub mod Transfer
 pub mod VerdictTold
 pub mod Verify
+pub mod VerifyMps
+pub mod InsideVerifyMps

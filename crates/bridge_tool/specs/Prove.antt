@@ -1,11 +1,11 @@
 -- The command prove: what a proof by branches shows of an .nl text.
-use Rattle.std.specs.Prelude.{◌≡◌, ℕ, ◌+◌, ◌≤◌, true, List, is_none}
+use Rattle.std.specs.Prelude.{◌≡◌, ℕ, ◌+◌, ◌≤◌, false, true, List, is_none}
 use Rattle.std.specs.declared.option.Option.{Option}
 use Rattle.std.specs.declared.option.Option.TheVariants.{None, Some}
 use Rattle.linear_programs.specs.Linear.{row_count}
 use Rattle.duality.specs.Branch.{LeafFault, proof_fault}
+use Rattle.duality.specs.LeafSays.{IsLeafDenied}
 use Rattle.desk.specs.Desk.{Texts}
-use Rattle.file_meaning.specs.FoldFaults.{fold_fault}
 use Rattle.file_meaning.specs.LinearFile.{linear_of}
 use Rattle.linear_fold.specs.FoldedFaults.{first_fold_fault}
 use Rattle.linear_fold.specs.declared.fold_fault.FoldFault.{FoldFault}
@@ -13,7 +13,8 @@ use Rattle.nl_segments.specs.Grammar.{NlValue}
 use Rattle.nl_segments.specs.Reader.{IsNl}
 use Rattle.certificates.specs.declared.proof.Claim.{Claim}
 use Rattle.certificates.specs.declared.proof.Claim.TheVariants.{Value, Infeasible}
-use Rattle.file_certificates.specs.ProofSays.{IsProvedTrueOf}
+use Rattle.certificates.specs.ProofSays.{IsProvedTrueOf}
+use Rattle.file_certificates.specs.FileProblem.{problem_of}
 use Rattle.certificates.specs.Proofs.{ProofValue, claim_value, tree_over}
 use Rattle.certificates.specs.ProofReading.{tree_in}
 use Rattle.proof_text.specs.Reader.{HasProofFault, IsProofText}
@@ -24,7 +25,7 @@ use Rattle.bridge_tool.specs.Outcome.{Outcome, Refused, Done}
 use Rattle.bridge_tool.specs.Promise.{Promise}
 use Rattle.bridge_tool.specs.ProofTold.{leaf_line, proof_line}
 use Rattle.bridge_tool.specs.Refusal.{HasTextRefusal}
-use Rattle.bridge_tool.specs.SeveralFiles.{after_file, desk_promise, ends}
+use Rattle.bridge_tool.specs.SeveralFiles.{after_file, desk_promise, judges_last}
 use Rattle.bridge_tool.specs.Stages.{fold_steps}
 use Rattle.bridge_tool.specs.Told.{TellsFault}
 
@@ -57,12 +58,17 @@ by_fold nl p None = by_leaf (open_leaf nl p)
 abbrev pub prove_outcome : NlValue → ProofValue → Outcome
 prove_outcome nl p = by_fold nl p (first_fold_fault nl.file (claimed_objective p.claim))
 
--- What a yes means: the file has no fold fault, so that each value exists; and no feasible point of
--- the file, whole variables whole, is better than the stated value, or no point is feasible in its
--- relaxed program.
-pub record IsProvedOf (nl : NlValue) (p : ProofValue) : Type 0 where
-  pub folds : fold_fault nl.file (claimed_objective p.claim) ≡ None
-  pub true_of : IsProvedTrueOf nl.file (claimed_objective p.claim) p.claim
+-- What a yes means: the stated value is at least as good as the objective at each feasible point of
+-- the file, whole variables whole; or each point breaks a constraint or a bound.
+abbrev pub IsProvedOf : NlValue → ProofValue → Type 0
+IsProvedOf nl p = IsProvedTrueOf (problem_of nl.file (claimed_objective p.claim)) p.claim
+
+-- what a no means: what the line tells of a leaf is so
+pub record IsLeftOpen (nl : NlValue) (p : ProofValue) : Type 0 where
+  pub fault : LeafFault
+  pub line : prove_outcome nl p ≡ Done false (leaf_line (Some fault))
+  pub denies : let f = linear_of nl.file (claimed_objective p.claim) in
+      IsLeafDenied f (tree_over (row_count f) (tree_in p)) fault
 
 -- ---- the promise
 
@@ -71,8 +77,9 @@ prove_told nl proof texts =
     after_file IsNl HasTextRefusal texts nl (λ file.
     after_file (IsProofText (setting_of file.file)) (IsProofRefused (setting_of file.file) 2) texts
     proof (λ p.
-    ends texts proof (λ outcome. outcome ≡ prove_outcome file p)
-    (λ old new. new ≤ old + fold_steps file (claimed_objective p.claim)) (IsProvedOf file p)))
+    judges_last texts proof (λ outcome. outcome ≡ prove_outcome file p)
+    (λ old new. new ≤ old + fold_steps file (claimed_objective p.claim)) (IsProvedOf file p)
+    (IsLeftOpen file p)))
 
 abbrev pub prove_promise : Option Texts → List ℕ → List ℕ → Promise
 prove_promise texts nl proof = desk_promise true (prove_told nl proof) texts

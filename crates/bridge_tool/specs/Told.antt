@@ -8,7 +8,7 @@ use Rattle.exact_numbers.specs.Written.{frac_text}
 abbrev pub number_text : ℚ → List ℕ
 number_text x = frac_text x.top x.bottom
 
--- a line that tells that the input is refused: one line, which begins so
+-- what tells that the input is refused: a text that begins so and ends a line
 abbrev pub IsRefusalLine : List ℕ → Type 0
 IsRefusalLine line = (text : List ℕ) × (line ≡ codes "refused " ++ text ++ codes "\n")
 

@@ -2,29 +2,27 @@
 use Rattle.std.specs.Prelude.{◌≡◌, ℕ, ◌+◌, ◌≤◌, true, List}
 use Rattle.std.specs.declared.option.Option.{Option}
 use Rattle.std.specs.declared.option.Option.TheVariants.{None, Some}
-use Rattle.fractions.specs.Rational.{ℚ}
-use Rattle.duality.specs.Certificate.{Outcome as ClaimOutcome, holds}
+use Rattle.duality.specs.Certificate.{Outcome as ClaimOutcome}
 use Rattle.desk.specs.Desk.{Texts}
-use Rattle.file_meaning.specs.FoldFaults.{fold_fault}
 use Rattle.file_meaning.specs.LinearFile.{linear_of}
 use Rattle.linear_fold.specs.FoldedFaults.{first_fold_fault}
 use Rattle.linear_fold.specs.declared.fold_fault.FoldFault.{FoldFault}
 use Rattle.nl_segments.specs.Grammar.{NlValue}
 use Rattle.nl_segments.specs.Reader.{IsNl}
 use Rattle.certificates.specs.Certificates.{CertificateValue, claim_outcome, objective_of}
-use Rattle.linear_program.specs.Numbers.{spread}
 use Rattle.certificates.specs.Reading.{given_in}
-use Rattle.file_certificates.specs.Says.{IsTrueOf}
+use Rattle.file_certificates.specs.FileProblem.{problem_of}
 use Rattle.certificates.specs.declared.certificate.Claim.{Claim}
 use Rattle.certificate_text.specs.Reader.{HasCertificateFault, IsCertificateText}
 use Rattle.certificates.specs.Setting.{Setting}
 use Rattle.file_certificates.specs.Setting.{setting_of}
 use Rattle.bridge_tool.specs.CertificateTold.{certificate_line, is_held, outcome_line}
+use Rattle.bridge_tool.specs.Claims.{IsClaimDenied, IsClaimTrue}
 use Rattle.bridge_tool.specs.NlTold.{fold_line}
 use Rattle.bridge_tool.specs.Outcome.{Outcome, Refused, Done}
 use Rattle.bridge_tool.specs.Promise.{Promise}
 use Rattle.bridge_tool.specs.Refusal.{HasTextRefusal}
-use Rattle.bridge_tool.specs.SeveralFiles.{after_file, desk_promise, ends}
+use Rattle.bridge_tool.specs.SeveralFiles.{after_file, desk_promise, judges_last}
 use Rattle.bridge_tool.specs.Stages.{fold_steps}
 use Rattle.bridge_tool.specs.Told.{TellsFault}
 
@@ -51,14 +49,15 @@ by_fold nl c None = by_claim c.claim (claim_shown nl c)
 abbrev pub verify_outcome : NlValue → CertificateValue → Outcome
 verify_outcome nl c = by_fold nl c (first_fold_fault nl.file (objective_of c.claim))
 
--- What a yes means: the file has no fold fault, so that each value exists, and the claim is true of
--- the file, whole variables whole, for the point that is given and the value that is written.
-pub record IsVerified (nl : NlValue) (c : CertificateValue) : Type 0 where
-  pub value : Option ℚ
-  pub folds : fold_fault nl.file (objective_of c.claim) ≡ None
-  pub line : verify_outcome nl c ≡ Done true (outcome_line c.claim (holds value))
-  pub true_of : IsTrueOf nl.file c.claim
-      (spread nl.file.counts.n_var (given_in c).point) value
+-- what a yes means: the line is true of the file with the objective of the claim
+abbrev pub IsVerified : NlValue → CertificateValue → Type 0
+IsVerified nl c =
+    IsClaimTrue (problem_of nl.file (objective_of c.claim)) c (verify_outcome nl c)
+
+-- what a no means
+abbrev pub IsDenied : NlValue → CertificateValue → Type 0
+IsDenied nl c = let k = objective_of c.claim in
+    IsClaimDenied (problem_of nl.file k) (linear_of nl.file k) c (verify_outcome nl c)
 
 -- ---- the promise
 
@@ -67,8 +66,9 @@ verify_told nl certificate texts =
     after_file IsNl HasTextRefusal texts nl (λ file.
     after_file (IsCertificateText (setting_of file.file))
     (IsCertificateRefused (setting_of file.file) 2) texts certificate (λ c.
-    ends texts certificate (λ outcome. outcome ≡ verify_outcome file c)
-    (λ old new. new ≤ old + fold_steps file (objective_of c.claim)) (IsVerified file c)))
+    judges_last texts certificate (λ outcome. outcome ≡ verify_outcome file c)
+    (λ old new. new ≤ old + fold_steps file (objective_of c.claim)) (IsVerified file c)
+    (IsDenied file c)))
 
 abbrev pub verify_promise : Option Texts → List ℕ → List ℕ → Promise
 verify_promise texts nl certificate = desk_promise true (verify_told nl certificate) texts

@@ -59,10 +59,7 @@ fn read_certificate<D: Desk>(
 
 // What the text says that a reader of certificates was fed, or why it is refused; the text is this
 // file of its command.
-fn judge_certificate(
-    reader: CertificateReader,
-    number: u32,
-) -> Result<Certificate, Stop<Refusal>>
+fn judge_certificate(reader: CertificateReader, number: u32) -> Result<Certificate, Stop<Refusal>>
     ensures says { (s : Setting) (text : List ℕ) → IsFed s reader text
         → Says itself (IsCertificateText s) (IsCertificateRefused s number) text result }
     ensures certificate { IfOk result (λ c. (s : Setting) (text : List ℕ)

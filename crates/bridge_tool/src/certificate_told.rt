@@ -1,11 +1,16 @@
 // What is told of faults of certificates' texts, and the lines of verdicts on certificates.
-ghost use Rattle.std.specs.Prelude.{◌≡◌, ◌≤◌, ◌++◌, codes, length, IfOk, OnOk, true};
+ghost use Rattle.std.specs.Prelude.{◌≡◌, ◌≤◌, [], ◌++◌, codes, length, IfOk, OnOk, true};
 ghost use Rattle.std.specs.Fmt.{decimal};
+ghost use Rattle.std.specs.Option.{option_map_or};
 ghost use Rattle.fractions.specs.Fits.{fits};
+ghost use Rattle.duality.specs.Told.{within};
+ghost use Rattle.exact_numbers.specs.Values.{frac_value};
 ghost use Rattle.linear_program.specs.Numbers.{number_value};
 ghost use Rattle.dual_bounds.specs.Terms.{value_found};
+ghost use Rattle.certificates.specs.Certificates.{objective_of};
+ghost use Rattle.certificates.specs.Told.{told_claim};
 ghost use Rattle.certificate_walk.specs.Outcomes.{cause_of, leaf_fault_of, outcome_of, point_fault_of, ray_fault_of};
-ghost use Rattle.bridge_tool.specs.CertificateTold.{certificate_reason_text, claim_text, failed_text, HasFittingBound, is_held, outcome_line, outcome_text, ray_text, value_text};
+ghost use Rattle.bridge_tool.specs.CertificateTold.{certificate_reason_text, failed_text, HasFittingBound, is_held, objective_text, outcome_line, outcome_text, ray_text, told_text};
 ghost use Rattle.bridge_tool.specs.LeafTold.{leaf_text};
 ghost use Rattle.bridge_tool.specs.Told.{number_text};
 ghost use Rattle.bridge_tool.specs.VerdictTold.{cause_text};
@@ -51,41 +56,96 @@ fn put_given(line: &mut Vec<u8>, number: &Number) -> Result<(), AllocError>
     }
 }
 
-fn put_within(line: &mut Vec<u8>, bound: &Number) -> Result<(), AllocError>
+fn put_within(line: &mut Vec<u8>, bound: &Number, value: Frac) -> Result<(), AllocError>
     requires { fits (number_value bound.now) ≡ true }
     ensures { OnOk result (line.new.items
-        ≡ line.old.items ++ (codes "within " ++ number_text (number_value bound.now))) }
+        ≡ line.old.items ++ told_text (within (number_value bound.now) (frac_value value))) }
 {
     put(line, b"within ")?;
-    put_given(line, bound)
+    put_given(line, bound)?;
+    put(line, b" ")?;
+    put_frac(line, value)
 }
 
-// What is said where a claim holds, but for the value.
-fn put_claim(line: &mut Vec<u8>, claim: Claim) -> Result<(), AllocError>
+// A word and a number.
+fn put_value(line: &mut Vec<u8>, word: &[u8], value: Frac) -> Result<(), AllocError>
+    ensures { OnOk result (line.new.items
+        ≡ line.old.items ++ (word.now ++ number_text (frac_value value))) }
+{
+    put(line, word)?;
+    put_frac(line, value)
+}
+
+// What is said where a claim holds with a value.
+fn put_valued(line: &mut Vec<u8>, claim: Claim, value: Frac) -> Result<(), AllocError>
     requires { HasFittingBound claim }
-    ensures { OnOk result (line.new.items ≡ line.old.items ++ claim_text claim) }
+    ensures { OnOk result (line.new.items ≡ line.old.items
+        ++ option_map_or told_text (told_claim claim (value_found (Some value))) []) }
 {
     match claim {
-        Claim::Optimal(_) => put(line, b"optimal"),
-        Claim::Within(_, bound) => put_within(line, &bound),
-        Claim::Bound(_, _) => put(line, b"bound"),
-        Claim::Feasible(_) => put(line, b"feasible"),
-        Claim::Infeasible => put(line, b"infeasible"),
-        Claim::Unbounded(_) => put(line, b"unbounded"),
+        Claim::Optimal(_) => put_value(line, b"optimal ", value),
+        Claim::Within(_, bound) => put_within(line, &bound, value),
+        Claim::Bound(_, _) => put_value(line, b"bound ", value),
+        Claim::Feasible(_) => put_value(line, b"feasible ", value),
+        Claim::Infeasible | Claim::Unbounded(_) => Ok(()),
     }
 }
 
-// The value of a claim that holds, after a blank.
-fn put_value(line: &mut Vec<u8>, value: Option<Frac>) -> Result<(), AllocError>
-    ensures { OnOk result (line.new.items ≡ line.old.items ++ value_text (value_found value)) }
+// What is said where a claim holds without a value.
+fn put_bare(line: &mut Vec<u8>, claim: Claim) -> Result<(), AllocError>
+    ensures { OnOk result (line.new.items ≡ line.old.items
+        ++ option_map_or told_text (told_claim claim None) []) }
+{
+    match claim {
+        Claim::Infeasible => put(line, b"infeasible"),
+        Claim::Unbounded(_) => put(line, b"unbounded"),
+        Claim::Optimal(_) | Claim::Within(_, _) | Claim::Bound(_, _) => Ok(()),
+        Claim::Feasible(_) => Ok(()),
+    }
+}
+
+// What is said where a claim holds with this value, if any.
+fn put_told(line: &mut Vec<u8>, claim: Claim, value: Option<Frac>) -> Result<(), AllocError>
+    requires { HasFittingBound claim }
+    ensures { OnOk result (line.new.items ≡ line.old.items
+        ++ option_map_or told_text (told_claim claim (value_found value)) []) }
 {
     match value {
-        Some(value) => {
-            put(line, b" ")?;
-            put_frac(line, value)
-        }
-        None => Ok(()),
+        Some(value) => put_valued(line, claim, value),
+        None => put_bare(line, claim),
     }
+}
+
+/// The number of the objective of a claim; 0 where it is of none.
+pub(crate) fn objective_of(claim: Claim) -> u32
+    ensures { result ≡ objective_of claim }
+{
+    match claim {
+        Claim::Optimal(objective) => objective,
+        Claim::Within(objective, _) => objective,
+        Claim::Bound(objective, _) => objective,
+        Claim::Feasible(objective) => objective,
+        Claim::Infeasible => 0,
+        Claim::Unbounded(objective) => objective,
+    }
+}
+
+// The objective, where it is not that of number 0.
+fn put_objective(line: &mut Vec<u8>, objective: u32) -> Result<(), AllocError>
+    ensures { OnOk result (line.new.items ≡ line.old.items ++ objective_text objective) }
+{
+    if objective == 0 {
+        return Ok(());
+    }
+    put_index(line, b" of objective ", objective, b"")
+}
+
+// The objective of a claim, where it is not that of number 0.
+fn put_objective_of(line: &mut Vec<u8>, claim: Claim) -> Result<(), AllocError>
+    ensures { OnOk result (line.new.items
+        ≡ line.old.items ++ objective_text (objective_of claim)) }
+{
+    put_objective(line, objective_of(claim))
 }
 
 // Where a number of the point does not fit.
@@ -158,8 +218,9 @@ fn put_outcome(line: &mut Vec<u8>, claim: Claim, outcome: Outcome) -> Result<(),
 {
     match outcome {
         Outcome::Holds(value) => {
-            put_claim(line, claim)?;
-            put_value(line, value)
+            let kept = claim;
+            put_told(line, claim, value)?;
+            put_objective_of(line, kept)
         }
         Outcome::Fails(cause) => put_cause(line, cause),
     }

@@ -40,6 +40,7 @@ mod top;
 mod transfer;
 mod verdict_told;
 mod verify;
+mod verify_mps;
 
 pub use instances::make_instance;
 pub use top::bridge;

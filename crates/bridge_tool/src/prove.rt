@@ -1,15 +1,15 @@
 // The command prove: from an .nl text and a proof text to the line of a verdict, or to a
 // refusal.
-ghost use Rattle.std.specs.Prelude.{◌≡◌, ◌+◌, ◌≤◌, true, is_none, IfOk};
+ghost use Rattle.std.specs.Prelude.{◌≡◌, ◌+◌, ◌≤◌, is_none, IfOk};
 ghost use Rattle.linear_program.specs.Programs.{linear_value};
 ghost use Rattle.nl_segments.specs.Reader.{HasLines, value_of};
 ghost use Rattle.file_certificates.specs.Files.{IsProofIn};
 ghost use Rattle.branch_check.specs.Leaves.{IsProved, IsVerdictOn, fault_of};
 ghost use Rattle.certificates.specs.Proofs.{IsProofOf};
 ghost use Rattle.bridge_tool.specs.InsideAnswer.{IsCounted};
-ghost use Rattle.bridge_tool.specs.Prove.{IsProvedOf, claimed_objective, prove_outcome, prove_promise};
+ghost use Rattle.bridge_tool.specs.Prove.{IsLeftOpen, IsProvedOf, claimed_objective, prove_outcome, prove_promise};
 ghost use Rattle.bridge_tool.specs.ProofTold.{leaf_line};
-ghost use Rattle.bridge_tool.specs.SeveralFiles.{Comes};
+ghost use Rattle.bridge_tool.specs.SeveralFiles.{ByVerdict, Comes};
 ghost use Rattle.bridge_tool.specs.Stages.{fold_steps};
 
 use crate::answer::Answer;
@@ -73,7 +73,8 @@ fn to_verdict<L: Ledger>(
     requires proof { IsProofIn read.now.file proof.now }
     ensures comes { Comes (λ outcome. outcome ≡ prove_outcome (value_of read.now) proof.now)
         result }
-    ensures means { IfOk result (λ t. t.0 ≡ true → IsProvedOf (value_of read.now) proof.now) }
+    ensures says { IfOk result (λ t. ByVerdict t.0 (IsProvedOf (value_of read.now) proof.now)
+        (IsLeftOpen (value_of read.now) proof.now)) }
     ensures above { steps.old ≤ steps.new }
     ensures counts { steps.new ≤ steps.old + fold_steps (value_of read.now)
         (claimed_objective proof.now.claim) }

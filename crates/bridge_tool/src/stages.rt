@@ -14,7 +14,7 @@ use crate::refusal::Refusal;
 use linear_fold::{Linear, fold_all, fold_file};
 use mps_model::Mps;
 use nl_segments::NlRead;
-use row_scaling::{Scaled, program, scale_rows};
+use row_scaling::{Scaled, program, scale_program};
 use std::alloc::{AllocError, Global};
 use text_base::{Ledger, Steps, Stop};
 
@@ -65,8 +65,7 @@ pub(crate) fn fold_read<L: Ledger>(
 pub(crate) fn scale(alloc: Global, linear: Linear, objective: u32) -> Result<Scaled, Stop<Refusal>>
     ensures { Scales (linear_value linear) objective result }
 {
-    let scaled = scale_rows(alloc, &linear);
-    drop(linear);
+    let scaled = scale_program(alloc, linear);
     match scaled {
         Ok(scaled) => Ok(scaled),
         Err(stop) => Err(stop.map_fault(|fault| Refusal::Scale(objective, fault))),

@@ -1,6 +1,6 @@
 // The command verify: from an .nl text and a certificate to the line of a verdict, or to a
 // refusal.
-ghost use Rattle.std.specs.Prelude.{◌≡◌, ◌+◌, ◌≤◌, true, IfOk};
+ghost use Rattle.std.specs.Prelude.{◌≡◌, ◌+◌, ◌≤◌, IfOk};
 ghost use Rattle.linear_program.specs.Programs.{linear_value};
 ghost use Rattle.nl_segments.specs.Reader.{HasLines, value_of};
 ghost use Rattle.certificates.specs.Certificates.{IsCertificateOf, claim_outcome, objective_of};
@@ -8,41 +8,27 @@ ghost use Rattle.file_certificates.specs.Files.{IsCertificateIn};
 ghost use Rattle.certificate_walk.specs.Outcomes.{outcome_of};
 ghost use Rattle.bridge_tool.specs.InsideAnswer.{IsCounted};
 ghost use Rattle.bridge_tool.specs.CertificateTold.{HasFittingBound, is_held, outcome_line};
-ghost use Rattle.bridge_tool.specs.SeveralFiles.{Comes};
+ghost use Rattle.bridge_tool.specs.SeveralFiles.{ByVerdict, Comes};
 ghost use Rattle.bridge_tool.specs.Stages.{fold_steps};
-ghost use Rattle.bridge_tool.specs.Verify.{IsVerified, verify_outcome, verify_promise};
+ghost use Rattle.bridge_tool.specs.Verify.{IsDenied, IsVerified, verify_outcome, verify_promise};
 
 use crate::answer::Answer;
 use crate::certificate_input::open_certificate;
-use crate::certificate_told::{is_held, outcome_line};
+use crate::certificate_told::{is_held, objective_of, outcome_line};
 use crate::nl_input::open_nl;
 use crate::one_file::end;
 use crate::refusal::Refusal;
 use crate::stages::fold;
 use certificate_check::Columns;
 use certificate_walk::{Outcome, check_certificate};
-use certificates::{Certificate, Claim};
+use certificates::Certificate;
 use linear_fold::Linear;
 use nl_segments::NlRead;
 use std::alloc::{AllocError, Global};
 use text_base::{Desk, Ledger, Steps, Stop};
 
-// The number of the objective of the claim; 0 where it is of none.
-fn objective_of(certificate: &Certificate) -> u32
-    ensures { result ≡ objective_of certificate.now.claim }
-{
-    match certificate.claim() {
-        Claim::Optimal(objective) => objective,
-        Claim::Within(objective, _) => objective,
-        Claim::Bound(objective, _) => objective,
-        Claim::Feasible(objective) => objective,
-        Claim::Infeasible => 0,
-        Claim::Unbounded(objective) => objective,
-    }
-}
-
-// The verdict on a certificate for a linear program.
-fn outcome_on(
+/// The verdict on a certificate for a linear program.
+pub(crate) fn outcome_on(
     alloc: Global,
     linear: &Linear,
     certificate: &Certificate,
@@ -56,8 +42,8 @@ fn outcome_on(
     Ok(outcome)
 }
 
-// Whether the claim holds, and the line of the verdict.
-fn told_outcome(
+/// Whether the claim holds, and the line of the verdict.
+pub(crate) fn told_outcome(
     alloc: Global,
     certificate: &Certificate,
     outcome: Outcome,
@@ -82,13 +68,13 @@ fn to_verdict<L: Ledger>(
     requires certificate { IsCertificateIn read.now.file certificate.now }
     ensures comes { Comes (λ outcome. outcome ≡ verify_outcome (value_of read.now)
         certificate.now) result }
-    ensures means { IfOk result (λ t. t.0 ≡ true → IsVerified (value_of read.now)
-        certificate.now) }
+    ensures says { IfOk result (λ t. ByVerdict t.0 (IsVerified (value_of read.now) certificate.now)
+        (IsDenied (value_of read.now) certificate.now)) }
     ensures above { steps.old ≤ steps.new }
     ensures counts { steps.new ≤ steps.old + fold_steps (value_of read.now)
         (objective_of certificate.now.claim) }
 {
-    let objective = objective_of(certificate);
+    let objective = objective_of(certificate.claim());
     let linear = fold(alloc, read, objective, steps)?;
     let outcome = outcome_on(alloc, &linear, certificate);
     drop(linear);

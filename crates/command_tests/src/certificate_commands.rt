@@ -118,6 +118,40 @@ fn judges_certificates_of_other_files(rt: HostRuntime) {
     }
 }
 
+// With a second objective: 3 x, whose greatest value is 15.
+#[test]
+fn names_the_second_objective(rt: HostRuntime) {
+    let nl =
+        "g3 1 1 0\n1 1 2 0 0\n0 0\n0 0\n0 0 0\n0 0 0 1\n0 1 0 0 0\n1 2\n0 0\n0 0 0 0 0\nO0 0\nn0\nO1 1\nn0\nr\n2 3\nb\n0 0 5\nJ0 1\n0 2\nG0 1\n0 1\nG1 1\n0 3\n";
+    let cases = [
+        (
+            "optimal 1\npoint 1\n0 5\nduals 0\n",
+            0,
+            "optimal 15 of objective 1\n",
+        ),
+        (
+            "within 1 31/2\npoint 1\n0 5\nduals 0\n",
+            0,
+            "within 31/2 15 of objective 1\n",
+        ),
+        ("bound 1 16\nduals 0\n", 0, "bound 16 of objective 1\n"),
+        (
+            "feasible 1\npoint 1\n0 2\n",
+            0,
+            "feasible 6 of objective 1\n",
+        ),
+        ("feasible 0\npoint 1\n0 2\n", 0, "feasible 2\n"),
+        ("bound 1 14\nduals 0\n", 1, "leaf 0 gap 15\n"),
+        ("feasible 1\npoint 0\n", 1, "row 0 broken\n"),
+    ];
+    for (rest, status, line) in cases {
+        assert!(rt;
+            begins_well(&rt, rt.alloc(), nl, rest, (status, line)),
+            "at {rest}"
+        );
+    }
+}
+
 // With the objective turned and no upper bound.
 #[test]
 fn shows_that_there_is_no_end(rt: HostRuntime) {

@@ -22,6 +22,8 @@ mod mps_commands;
 #[cfg(test)]
 mod name_commands;
 #[cfg(test)]
+mod program_commands;
+#[cfg(test)]
 mod proof_commands;
 #[cfg(test)]
 mod return_commands;

@@ -15,3 +15,7 @@ pub const FIXED: &str =
 /// The written text of that program.
 pub const FIXED_WRITTEN: &str =
     "NAME TESTFIX\nROWS\n N COST\n L LIM1\nCOLUMNS\n M0 'MARKER' 'INTORG'\n X COST 1\n X LIM1 2\n M1 'MARKER' 'INTEND'\n Y COST -3\nRHS\n RHS LIM1 7\nBOUNDS\n FR BND Y\nENDATA\n";
+
+/// A whole column in the second of two constraints, a column in the first, and a second N row.
+pub const WHOLE_IN_TWO: &str =
+    "ROWS\n N COST\n L ONE\n N OTHER\n G TWO\nCOLUMNS\n M0 'MARKER' 'INTORG'\n X COST 1 OTHER 5\n X TWO 2\n M1 'MARKER' 'INTEND'\n Y ONE 1\nRHS\n RHS TWO 3\nBOUNDS\n UP BND X 5\nENDATA\n";

@@ -5,3 +5,6 @@ pub mod Expressions
 pub mod Folding
 pub mod Operators
 pub mod OwnerLemmas
+mod HeldLemmas
+mod CompletionLemmas
+mod HeldBodies

@@ -1,5 +1,7 @@
 pub mod FoldedFaults
 pub mod InsideFolds
+pub mod InsideHeld
+pub mod InsideHeldBodies
 pub mod InsideOperates
 pub mod InsideOwnerFolds
 pub mod InsideLinearTerms

@@ -1,4 +1,5 @@
 // What a whole tree comes to.
+use exact_numbers::Frac;
 use linear_program::Form;
 use nl_meaning::Fault;
 
@@ -6,5 +7,13 @@ use nl_meaning::Fault;
 #[derive(Drop)]
 pub enum Entry {
     Linear(Form),
+    Broken(Fault),
+}
+
+/// What a number with terms that ascend comes to: a form whose coefficients are these terms, or its
+/// first fault.
+#[derive(Clone, Copy)]
+pub enum Held {
+    Number(Frac),
     Broken(Fault),
 }

@@ -3,12 +3,14 @@
 
 mod ascending;
 mod bodies;
+mod completing;
 mod constants;
 mod definitions;
 mod entries;
 mod expression;
 mod fold;
 mod fold_fault;
+mod held;
 mod operate;
 mod owners;
 mod parts;

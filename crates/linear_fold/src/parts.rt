@@ -25,7 +25,8 @@ pub enum PartialForm {
 
 // The first fault of a part and of those after it, whose first fault is known.
 fn fault_before(part: &PartialForm, after: Option<Fault>) -> Option<Fault>
-    ensures { (ps : List PartialForm) → after ≡ first_broken ps → result ≡ first_broken (part.now ∷ ps) }
+    ensures { (ps : List PartialForm) → after ≡ first_broken ps
+        → result ≡ first_broken (part.now ∷ ps) }
 {
     match part {
         PartialForm::Number(_) => after,

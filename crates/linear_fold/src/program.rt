@@ -7,11 +7,13 @@ ghost use Rattle.file_meaning.specs.Expressions.{maximises};
 ghost use Rattle.file_meaning.specs.FoldFaults.{fold_fault, has_objective};
 ghost use Rattle.file_meaning.specs.LinearFile.{linear_of, HasLines};
 ghost use Rattle.linear_fold.specs.FoldedFaults.{first_fold_fault, HasFaultPlace, step_bound};
+ghost use Rattle.linear_fold.specs.InsideHeldBodies.{HasBodies, bodies_in};
 ghost use Rattle.linear_fold.specs.InsideOwnerFolds.{AreFormsOf};
 ghost use Rattle.nl_model.specs.Kinds.{kinds_in};
 ghost use Rattle.linear_program.specs.Programs.{linear_value};
 
-use crate::bodies::fold_forms;
+use crate::bodies::{Bodies, fold_forms};
+use crate::completing::completed_forms;
 use crate::definitions::empty_folder;
 use crate::fold_fault::FoldFault;
 use linear_program::{Form, Interval, Linear};
@@ -93,18 +95,19 @@ fn assemble(
     Ok(Linear::of_parts(bodies, form, objective, maximise, sides, bounds, kinds))
 }
 
-// The folded file of the forms of its bodies and of an objective; its sides and bounds are handed
-// on, and the rest of it is let go.
+// The folded file of its bodies and of the form of an objective; its sides and bounds are handed
+// on, and so are the terms of held bodies. The rest of it is let go.
 fn assemble_file(
     alloc: Global,
     file: NlFile,
     objective: u32,
-    bodies: Vec<Form>,
+    bodies: Bodies,
     form: Form,
 ) -> Result<Linear, AllocError>
     requires file { IsFile file }
     requires counts { AreCounts file.counts }
-    requires forms { AreFormsOf file objective bodies.items form }
+    requires forms { AreFormsOf file objective (bodies_in file bodies) form }
+    requires bodies { HasBodies file true bodies }
     ensures linear { IfOk result (λ l. linear_value l ≡ linear_of file objective) }
     ensures number { IfOk result (λ l. l.number ≡ objective) }
     ensures sides { IfOk result (λ l. l.sides ≡ file.sides) }
@@ -113,9 +116,11 @@ fn assemble_file(
 {
     let maximise = is_maximised(&file, objective);
     let listed = all_kinds(alloc, &file);
-    let (sides, bounds) = file.into_intervals();
+    let (terms, sides, bounds) = file.into_rows();
     let kinds = listed?;
-    Ok(Linear::of_parts(bodies, form, objective, maximise, sides, bounds, kinds))
+    let Bodies { forms, held } = bodies;
+    let all = completed_forms(forms, &held, terms);
+    Ok(Linear::of_parts(all, form, objective, maximise, sides, bounds, kinds))
 }
 
 // The forms of the bodies of a file and of one of its objectives, or its first fault.
@@ -123,9 +128,12 @@ fn forms_of<L: Ledger>(
     alloc: Global,
     file: &NlFile,
     objective: u32,
+    hold: bool,
     steps: &mut Steps<L>,
-) -> Result<(Vec<Form>, Form), Stop<FoldFault>>
-    ensures forms { IfOk result (λ r. AreFormsOf file.now objective r.0.items r.1) }
+) -> Result<(Bodies, Form), Stop<FoldFault>>
+    ensures forms { IfOk result
+        (λ r. AreFormsOf file.now objective (bodies_in file.now r.0) r.1) }
+    ensures bodies { IfOk result (λ r. HasBodies file.now hold r.0) }
     ensures file { IsFile file.now }
     ensures counts { AreCounts file.now.counts }
     ensures fine { OnOk result (fold_fault file.now objective ≡ None) }
@@ -141,7 +149,7 @@ fn forms_of<L: Ledger>(
         return Err(Stop::Fault(FoldFault::NoSuchObjective(objective)));
     }
     let mut folder = empty_folder(alloc, file)?;
-    let forms = match fold_forms(alloc, file, objective, &mut folder, steps) {
+    let forms = match fold_forms(alloc, file, objective, hold, &mut folder, steps) {
         Ok(forms) => forms,
         Err(stop) => return Err(stop),
     };
@@ -177,15 +185,17 @@ pub fn fold_all<L: Ledger>(
     ensures below { steps.new ≤ steps.old + step_bound file.now }
     ensures none { has_objective file.now objective ≡ false → steps.new ≡ steps.old }
 {
-    let (bodies, form) = match forms_of(alloc, file, objective, steps) {
+    let (bodies, form) = match forms_of(alloc, file, objective, false, steps) {
         Ok(forms) => forms,
         Err(stop) => return Err(stop),
     };
-    let linear = assemble(alloc, file, objective, bodies, form)?;
+    let Bodies { forms, held: _ } = bodies;
+    let linear = assemble(alloc, file, objective, forms, form)?;
     Ok(linear)
 }
 
-/// The same of a file that is let go: its sides and bounds are handed on.
+/// The same of a file that is let go: its sides and bounds are handed on, and so are the terms of
+/// rows whose body is a number, where they ascend.
 pub fn fold_file<L: Ledger>(
     alloc: Global,
     file: NlFile,
@@ -214,7 +224,7 @@ pub fn fold_file<L: Ledger>(
     ensures below { steps.new ≤ steps.old + step_bound file }
     ensures none { has_objective file objective ≡ false → steps.new ≡ steps.old }
 {
-    let forms = forms_of(alloc, &file, objective, steps);
+    let forms = forms_of(alloc, &file, objective, true, steps);
     let (bodies, form) = match forms {
         Ok(forms) => forms,
         Err(stop) => {

@@ -1,5 +1,5 @@
 // The coefficients of a form: fractions, or the decimals of a file.
-ghost use Rattle.std.specs.Prelude.{◌≡◌, ◌≢◌, ◌∷◌, ◌<◌, ◌^◌, IfOk, IfSome, [], get_or, length};
+ghost use Rattle.std.specs.Prelude.{◌≡◌, ◌≢◌, ◌∷◌, ◌<◌, ◌^◌, IfOk, IfSome, MatchResult, [], get_or, length};
 ghost use Rattle.exact_numbers.specs.Values.{frac_value};
 ghost use Rattle.fractions.specs.Rational.{zero_ℚ};
 ghost use Rattle.linear_program.specs.Coefs.{AreAscending, AreDecimalsOf};
@@ -9,6 +9,7 @@ ghost use Rattle.linear_program.specs.Forms.{terms_left};
 use crate::decimal_terms::DecimalTerms;
 use crate::form_terms::{FormTerms, TermSource};
 use crate::fraction_terms::FractionTerms;
+use crate::terms::Terms;
 use exact_numbers::{Dec, Frac};
 use std::alloc::{AllocError, Global};
 use std::marker::Model;
@@ -70,6 +71,26 @@ impl Coefficients {
         Ok(Coefficients {
             list: TermList::Decimals(decimals),
         })
+    }
+
+    /// Decimals, which are not copied.
+    pub fn of_terms(terms: Terms) -> Self
+        requires { AreDecimals 0 terms }
+        ensures { result ≡ fraction_terms terms }
+    {
+        Coefficients {
+            list: TermList::Decimals(DecimalTerms::of_terms(terms)),
+        }
+    }
+
+    // The decimals, which are not copied; the same coefficients where they are kept as fractions.
+    pub(crate) fn into_terms(self) -> Result<Terms, Coefficients>
+        ensures { MatchResult result (λ ts. AreDecimalsOf ts self) (λ c. c ≡ self) }
+    {
+        match self.list {
+            TermList::Fractions(terms) => Err(Coefficients::of_fractions(terms)),
+            TermList::Decimals(terms) => Ok(terms.into_terms()),
+        }
     }
 
     /// One term.

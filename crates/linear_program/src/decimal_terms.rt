@@ -3,6 +3,7 @@ ghost use Rattle.std.specs.Prelude.{◌≡◌, ◌<◌, IfOk, get_or, length};
 ghost use Rattle.linear_program.specs.Decimals.{AreDecimals, fraction_terms};
 
 use crate::few::Few;
+use crate::terms::Terms;
 use exact_numbers::{Dec, Frac};
 use std::alloc::{AllocError, Global};
 use std::marker::Model;
@@ -34,6 +35,24 @@ impl DecimalTerms {
     {
         let items = Few::of_slice(alloc, terms)?;
         Ok(DecimalTerms { items })
+    }
+
+    /// These terms, which are not copied.
+    pub(crate) fn of_terms(terms: Terms) -> Self
+        requires { AreDecimals 0 terms }
+        ensures { result ≡ terms }
+    {
+        DecimalTerms {
+            items: terms.into_few(),
+        }
+    }
+
+    /// The terms, which are not copied.
+    pub(crate) fn into_terms(self) -> Terms
+        ensures terms { result ≡ self }
+        ensures decimals { AreDecimals 0 self }
+    {
+        Terms::of_few(self.items)
     }
 
     pub(crate) fn allocator(&self) -> Global {

@@ -1,10 +1,11 @@
 // Linear forms.
-ghost use Rattle.std.specs.Prelude.{◌≡◌, ◌+◌, ◌<◌, ◌≤◌, ◌^◌, ℕ, [], length, IfOk, IfErr, IfSome, OnErr, OnOk, ◌≢◌, false, true};
+ghost use Rattle.std.specs.Prelude.{◌≡◌, ◌+◌, ◌<◌, ◌≤◌, ◌^◌, ℕ, [], length, IfOk, IfErr, IfSome, MatchResult, OnErr, OnOk, ◌≢◌, false, true};
 ghost use Rattle.texts.specs.Stopped.{IfFault};
 ghost use Rattle.exact_numbers.specs.Values.{frac_value};
 ghost use Rattle.fractions.specs.Rational.{zero_ℚ};
 ghost use Rattle.linear_programs.specs.Lines.{constant_line, is_constant};
 ghost use Rattle.linear_program.specs.Coefs.{AreAscending, AreDecimalsOf, AreProducts, HasWideProduct, coef_in};
+ghost use Rattle.linear_program.specs.Decimals.{AreDecimals, fraction_terms};
 ghost use Rattle.linear_program.specs.Forms.{AddsScaled, HasRoom, IsWithin, Multiplies, form_line, form_terms, is_open, pad_places, terms_left};
 
 use crate::coefficients::Coefficients;
@@ -12,6 +13,7 @@ use crate::form_terms::FormTerms;
 use crate::merged::add_to_closed;
 use crate::pad::Pad;
 use crate::sum::Sum;
+use crate::terms::Terms;
 use crate::too_wide::Wide;
 use exact_numbers::{Dec, Frac};
 use std::alloc::{AllocError, Global};
@@ -114,6 +116,17 @@ impl Form {
         Form::of_parts(constant, Coefficients::new(alloc))
     }
 
+    /// The closed form of a constant and of decimals, which are not copied.
+    pub fn of_terms(constant: Frac, terms: Terms) -> Form
+        requires { AreDecimals 0 terms }
+        ensures line { form_line result
+            ≡ record { constant = frac_value constant; coef = coef_in (fraction_terms terms) } }
+        ensures terms { form_terms result ≡ fraction_terms terms }
+        ensures closed { is_open result ≡ false }
+    {
+        Form::of_parts(constant, Coefficients::of_terms(terms))
+    }
+
     // The closed form of a constant and of coefficients.
     pub(crate) fn of_parts(constant: Frac, coefficients: Coefficients) -> Form
         ensures line { form_line result
@@ -184,6 +197,23 @@ impl Form {
         match &self.kept {
             Kept::Closed(coefficients, _) => coefficients.decimals(),
             Kept::Open(_) => None,
+        }
+    }
+
+    /// The terms as decimals, which are not copied, where they are kept so; else the form itself.
+    pub fn into_terms(self) -> Result<Terms, Form>
+        ensures { MatchResult result (λ ts. AreDecimalsOf ts (form_terms self)) (λ f. f ≡ self) }
+    {
+        match self.kept {
+            Kept::Closed(coefficients, constant) => match coefficients.into_terms() {
+                Ok(terms) => Ok(terms),
+                Err(coefficients) => Err(Form {
+                    kept: Kept::Closed(coefficients, constant),
+                }),
+            },
+            Kept::Open(sum) => Err(Form {
+                kept: Kept::Open(sum),
+            }),
         }
     }
 

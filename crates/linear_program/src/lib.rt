@@ -27,7 +27,7 @@ pub use form::Form;
 pub use form_terms::FormTerms;
 pub use interval::Interval;
 pub use kind::Kind;
-pub use linear::Linear;
+pub use linear::{Linear, LinearParts};
 pub use number::Number;
 pub use pad::Pad;
 pub use sum::Sum;

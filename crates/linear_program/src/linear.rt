@@ -46,6 +46,18 @@ impl Model for Linear {
         }) };
 }
 
+/// The parts of a linear program.
+#[derive(Drop)]
+pub struct LinearParts {
+    pub bodies: Vec<Form>,
+    pub objective: Form,
+    pub number: u32,
+    pub maximise: bool,
+    pub sides: Vec<Interval>,
+    pub bounds: Vec<Interval>,
+    pub kinds: Vec<Kind>,
+}
+
 impl Linear {
     ghost use Rattle.linear_program.specs.Programs.{IsLinear};
 
@@ -88,6 +100,31 @@ impl Linear {
             sides,
             bounds,
             kinds,
+        }
+    }
+
+    /// The parts, which are not copied.
+    pub fn into_parts(self) -> LinearParts
+        ensures value { self
+            ≡ record {
+              bodies = result.bodies.items;
+              objective = result.objective;
+              number = result.number;
+              maximise = result.maximise;
+              sides = result.sides.items;
+              bounds = result.bounds.items;
+              kinds = result.kinds.items;
+            } }
+        ensures linear { IsLinear self }
+    {
+        LinearParts {
+            bodies: self.bodies,
+            objective: self.objective,
+            number: self.number,
+            maximise: self.maximise,
+            sides: self.sides,
+            bounds: self.bounds,
+            kinds: self.kinds,
         }
     }
 

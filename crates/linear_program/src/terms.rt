@@ -24,6 +24,8 @@ impl Model for Terms {
 }
 
 impl Terms {
+    ghost use Rattle.linear_program.specs.Fews.{few_items};
+
     /// No terms.
     pub fn new(alloc: Global) -> Self
         ensures { result ≡ [] }
@@ -39,6 +41,20 @@ impl Terms {
     {
         let items = Few::of_slice(alloc, terms)?;
         Ok(Terms { items })
+    }
+
+    // The terms of a list.
+    pub(crate) fn of_few(items: Few<(u32, Dec)>) -> Self
+        ensures { result ≡ few_items items }
+    {
+        Terms { items }
+    }
+
+    // The list of the terms.
+    pub(crate) fn into_few(self) -> Few<(u32, Dec)>
+        ensures { few_items result ≡ self }
+    {
+        self.items
     }
 
     /// Adds a term at the end.

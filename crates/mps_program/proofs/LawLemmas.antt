@@ -56,11 +56,11 @@ module _ (m : Mps ℚ) where
   all_rows P h k [] = All-nil P
   all_rows P h k (i ∷ is) = All-cons P (linear_row m k i) (linear_rows m (suc k) is) (h k i) (all_rows P h (suc k) is)
 
-  count_lem : variable_count (linear_of m) ≡ width
+  pub count_lem : variable_count (linear_of m) ≡ width
   unfolding linear_of
   count_lem = elements_length (linear_variable m) 0 width
 
-  variable_lem : (j : ℕ) → j < width → variable_at (linear_of m) j ≡ linear_variable m j
+  pub variable_lem : (j : ℕ) → j < width → variable_at (linear_of m) j ≡ linear_variable m j
   unfolding linear_of
   variable_lem j lt = elements_at (linear_variable m) 0 width j no_variable lt ∙ ap (linear_variable m) (omega arith)
 
@@ -81,7 +81,7 @@ module _ (m : Mps ℚ) where
     unfolding linear_part row_value
     part_lem i = sum_below_same (λ j. coefficient_at m i j *ℚ value_at xs j) (λ j. part_of_row i (column_at m j).entries (value_at xs j)) width (λ j lt. part_times i (column_at m j).entries (value_at xs j))
 
-    body_lem : (i n : ℕ) → n ≡ width → form_value (row_form m i) n xs ≡ row_value m xs i
+    pub body_lem : (i n : ℕ) → n ≡ width → form_value (row_form m i) n xs ≡ row_value m xs i
     body_lem i n e = zero-+ℚ (linear_part (coefficient_at m i) n xs) ∙ ap (λ n. linear_part (coefficient_at m i) n xs) e ∙ part_lem i
 
     pub objective_lem : objective_value (linear_of m) xs ≡ mps_objective m xs

@@ -1,7 +1,10 @@
 pub mod DraftLemmas
 pub mod FreshLaw
+pub mod FrontRows
+pub mod HeadRows
 pub mod HeadSuffixes
 pub mod IntervalOrder
+pub mod IntervalRows
 pub mod LeafLemmas
 pub mod LineLaw
 pub mod NodeLemmas

@@ -45,7 +45,7 @@ whole_digits word i e = by (are_digits word) refl
     by true h = h
     by false h = absurd (let none : None ≡ Some i = rw h at e in cc)
 
-no_letter : (b : ℕ) → 48 ≤ b → b ≤ 57 → is_ascii_letter b ≡ false
+pub no_letter : (b : ℕ) → 48 ≤ b → b ≤ 57 → is_ascii_letter b ≡ false
 no_letter b low high = grind (arith, nat_tests)
 
 pub digits_plain : (word : List ℕ) → are_digits word ≡ true → is_ascii_letter (slice_index word 0) ≡ false
@@ -94,7 +94,7 @@ pair_row line word n i d within space cut some whole index dec word_some word_un
 
 -- ---- such a line at the front of a text
 
-front_one : (text line more : List ℕ) (len : ℕ) → text ≡ (line ++ 10 ∷ []) ++ more → len ≡ length line + 1 → IsTextLine line → IsFront text (record { len = len; lines = 1 }) (line ∷ [])
+pub front_one : (text line more : List ℕ) (len : ℕ) → text ≡ (line ++ 10 ∷ []) ++ more → len ≡ length line + 1 → IsTextLine line → IsFront text (record { len = len; lines = 1 }) (line ∷ [])
 front_one text line more len parts is one =
     let whole : length (line ++ 10 ∷ []) ≡ len = omega (arith, is, length-append line (10 ∷ [])) in
     let front : take len text ≡ line ++ 10 ∷ [] = ap (take len) parts ∙ ap (λ k. take k ((line ++ 10 ∷ []) ++ more)) (sym whole) ∙ take-append_seam (line ++ 10 ∷ []) more in

@@ -11,3 +11,7 @@ pub mod Segment
 pub mod Tests
 pub mod WholeRows
 pub mod FirstPairs
+pub mod FirstRows
+pub mod InsideFrontLines
+pub mod HeadRows
+pub mod IntervalRows

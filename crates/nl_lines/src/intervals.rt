@@ -1,5 +1,5 @@
 // Lines of intervals.
-ghost use Rattle.std.specs.Prelude.{◌≡◌, option_map, Some, None, codes};
+ghost use Rattle.std.specs.Prelude.{◌≡◌, ◌||◌, ◌&&◌, not, option_map, Some, None, codes};
 ghost use Rattle.std.specs.Str.{bytes_eq};
 ghost use Rattle.texts.specs.Judged.{Decides};
 ghost use Rattle.texts.specs.Words.{texts, word_at};
@@ -167,4 +167,13 @@ pub fn read_interval(words: &[&[u8]], of_constraint: bool, unit: bool) -> Result
         return Err(NlReason::BinaryBounds);
     }
     Ok(interval)
+}
+
+/// Whether a row that is this interval alone is refused: the interval is empty, or that of a binary
+/// variable is not from 0 to 1.
+#[inline]
+pub fn is_refused_interval(interval: &Interval, unit: bool) -> bool
+    ensures { result ≡ (is_empty interval.now || (unit && not (is_within_unit interval.now))) }
+{
+    is_empty(interval) || (unit && !is_within_unit(interval))
 }

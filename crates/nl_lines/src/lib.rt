@@ -4,6 +4,10 @@
 
 mod awaited;
 mod fault;
+mod front_heads;
+mod front_leaves;
+mod front_lines;
+mod front_words;
 mod head;
 mod head_rules;
 mod heads;
@@ -24,20 +28,23 @@ mod words;
 
 pub use awaited::{Awaited, is_nothing};
 pub use fault::{NlFault, NlReason};
+pub use front_heads::{FirstHead, first_head};
+pub use front_leaves::{FirstLeaf, first_leaf};
+pub use front_lines::{FirstInterval, FirstWhole, first_interval, first_whole};
 pub use head::Head;
 pub use head_rules::{
     MOST_TERMS, has_tree, holds_once, is_full, is_linear, is_sides, is_suffix, keeps_pairs,
     line_count, line_kind, mark_count, mark_of,
 };
 pub use heads::{is_in_range, read_head};
-pub use intervals::read_interval;
+pub use intervals::{is_refused_interval, read_interval};
 pub use judging::{judge_pair, read_next_pair};
 pub use leaf::Leaf;
 pub use leaf_line::leaf_of_line;
 pub use leaf_row::read_leaf_row;
 pub use node_row::NodeRow;
 pub use nodes::read_node;
-pub use number_lines::{read_column, read_operand_count};
+pub use number_lines::{is_operand_count, read_column, read_operand_count};
 pub use pair_line::{FirstPair, first_pair, pair_of_line};
 pub use pending::Pending;
 pub use whole_line::whole_of_line;

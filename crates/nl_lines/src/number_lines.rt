@@ -1,5 +1,5 @@
 // Lines of one whole number.
-ghost use Rattle.std.specs.Prelude.{◌≡◌, Some};
+ghost use Rattle.std.specs.Prelude.{◌≡◌, ◌^◌, ◌&&◌, nat_le, nat_lt, Some};
 ghost use Rattle.texts.specs.Judged.{Decides};
 ghost use Rattle.texts.specs.Words.{texts, word_at};
 ghost use Rattle.exact_numbers.specs.Numbers.{whole_of};
@@ -47,4 +47,12 @@ pub fn read_operand_count(words: &[&[u8]]) -> Result<u32, NlReason>
         return Err(NlReason::TooLarge);
     }
     Ok(count)
+}
+
+/// Whether an operator may have so many operands.
+#[inline]
+pub fn is_operand_count(count: u32) -> bool
+    ensures { result ≡ (nat_lt 0 count && nat_le count (2 ^ 22)) }
+{
+    0 < count && count <= MOST_OPERANDS
 }

@@ -135,12 +135,14 @@ impl NlFile {
         self.bounds[var as usize]
     }
 
-    /// The intervals of all constraints and of all variables; the rest is let go.
-    pub fn into_intervals(self) -> (Vec<Interval>, Vec<Interval>)
-        ensures sides { result.0.items ≡ self.sides }
-        ensures bounds { result.1.items ≡ self.bounds }
+    /// The terms of all constraints, the intervals of all constraints and those of all variables; the
+    /// rest is let go.
+    pub fn into_rows(self) -> (Vec<Terms>, Vec<Interval>, Vec<Interval>)
+        ensures terms { result.0.items ≡ self.terms }
+        ensures sides { result.1.items ≡ self.sides }
+        ensures bounds { result.2.items ≡ self.bounds }
     {
-        (self.sides, self.bounds)
+        (self.terms, self.sides, self.bounds)
     }
 
     /// The guesses of dual values of constraints in file order.

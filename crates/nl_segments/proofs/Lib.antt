@@ -6,9 +6,13 @@ pub mod CurrentLemmas
 pub mod PairLines
 pub mod TreeLaw
 pub mod NodeSteps
+pub mod NodeFronts
+pub mod NodeRuns
 pub mod PairHeld
+pub mod LineFronts
 pub mod PairPiece
 pub mod HeadBegun
 pub mod HeadLaw
+pub mod HeadFronts
 pub mod CleanRows
 pub mod CleanTexts

@@ -49,6 +49,7 @@ use Rattle.nl_lines.specs.declared.head.Head.{Head}
 use Rattle.nl_lines.specs.declared.head.Head.TheVariants.{Definition, DualGuesses, Terms, Slopes}
 use Rattle.nl_lines.specs.declared.pair_line.FirstPair.{FirstPair}
 use Rattle.nl_lines.specs.FirstPairs.{IsFirstPair}
+use Rattle.nl_lines.specs.FirstRows.{IsFirstRow}
 use Rattle.nl_lines.specs.PairTests.{IsPairRow, is_full_at, known_pair_tests, next_pair_tests}
 use Rattle.nl_lines.specs.Saying.{OwnerLines, PlaceLines, changed}
 use Rattle.nl_lines.specs.Tests.{holds_once, index_limit, is_linear, is_suffix, wants_whole_values}
@@ -370,32 +371,50 @@ nothing_there (x ∷ xs) i e = absurd cc
 
 -- ---- lines at the front of a piece
 
-all-more : (lines : List (List ℕ)) (line : List ℕ) → AllByRecursion IsTextLine lines → IsTextLine line → AllByRecursion IsTextLine (lines ++ line ∷ [])
-all-more [] line h k = (k, tt)
-all-more (l ∷ lines) line h k = (h.0, all-more lines line h.1 k)
+all-joined : (xs ys : List (List ℕ)) → AllByRecursion IsTextLine xs → AllByRecursion IsTextLine ys → AllByRecursion IsTextLine (xs ++ ys)
+all-joined [] ys h k = k
+all-joined (x ∷ xs) ys h k = (h.0, all-joined xs ys h.1 k)
 
-front_more : (piece : List ℕ) (front : Front) (lines : List (List ℕ)) (line : List ℕ) (n : ℕ) → IsFront piece front lines → IsFront (drop front.len piece) (record { len = n; lines = 1 }) (line ∷ [])
-    → IsFront piece (record { len = front.len + n; lines = front.lines + 1 }) (lines ++ line ∷ [])
-front_more piece front lines line n h one =
-    let size : length (take front.len piece) ≡ front.len = omega (arith, h.within, length-take front.len piece) in
-    let both : take (front.len + n) piece ≡ take front.len piece ++ take n (drop front.len piece) =
-    ap (take (front.len + n)) (sym (take-append-drop front.len piece)) ∙ ap (λ (k : ℕ). take (k + n) (take front.len piece ++ drop front.len piece)) (sym size)
-    ∙ take-append-add (take front.len piece) (drop front.len piece) n in
+front_joined : (piece : List ℕ) (f g : Front) (xs ys : List (List ℕ)) → IsFront piece f xs → IsFront (drop f.len piece) g ys → IsFront piece (record { len = f.len + g.len; lines = f.lines + g.lines }) (xs ++ ys)
+front_joined piece f g xs ys h k =
+    let size : length (take f.len piece) ≡ f.len = omega (arith, h.within, length-take f.len piece) in
+    let both : take (f.len + g.len) piece ≡ take f.len piece ++ take g.len (drop f.len piece) =
+    ap (take (f.len + g.len)) (sym (take-append-drop f.len piece)) ∙ ap (λ (n : ℕ). take (n + g.len) (take f.len piece ++ drop f.len piece)) (sym size)
+    ∙ take-append-add (take f.len piece) (drop f.len piece) g.len in
     record {
-      within = omega (arith, h.within, one.within, length-drop front.len piece);
-      text = both ∙ ap₂ (λ (a b : List ℕ). a ++ b) h.text one.text ∙ sym (flat_map-append (λ line. line ++ 10 ∷ []) lines (line ∷ []));
-      each = all-more lines line h.each one.each.0;
-      count = omega (arith, h.count, length-append lines (line ∷ []));
+      within = omega (arith, h.within, k.within, length-drop f.len piece);
+      text = both ∙ ap₂ (λ (a b : List ℕ). a ++ b) h.text k.text ∙ sym (flat_map-append (λ line. line ++ 10 ∷ []) xs ys);
+      each = all-joined xs ys h.each k.each;
+      count = omega (arith, h.count, k.count, length-append xs ys);
     }
 
 -- ---- lines after one another
 
-goes_more : (s : Standing) (number next : ℕ) (lines : List (List ℕ)) (line : List ℕ) (mid new : Body) → GoesOn s number lines mid → next ≡ number + length lines
-    → ((s : Standing) → IsHeld s mid → (line_refusal s line ≡ None) × IsHeld (after s next line) new) → GoesOn s number (lines ++ line ∷ []) new
-goes_more s number next [] line mid new g e step =
+goes_joined : (s : Standing) (number next : ℕ) (xs ys : List (List ℕ)) (mid new : Body) → GoesOn s number xs mid → next ≡ number + length xs → ((s : Standing) → IsHeld s mid → GoesOn s next ys new) → GoesOn s number (xs ++ ys) new
+goes_joined s number next [] ys mid new g e more =
     let same : next ≡ number = omega (arith, e) in
-    let h = step s g in (h.0, subst (λ n. IsHeld (after s n line) new) same h.1)
-goes_more s number next (l ∷ lines) line mid new g e step = (g.0, goes_more (after s number l) (number + 1) next lines line mid new g.1 (omega (arith, e)) step)
+    subst (λ n. GoesOn s n ys new) same (more s g)
+goes_joined s number next (x ∷ xs) ys mid new g e more = (g.0, goes_joined (after s number x) (number + 1) next xs ys mid new g.1 (omega (arith, e)) more)
+
+-- lines that are taken after others
+pub goes_on : (old mid new : Body) (piece rest : List ℕ) (number : ℕ) (f g : Front) → TakesLines old piece number f mid → rest ≡ drop f.len piece → TakesLines mid rest (number + f.lines) g new
+    → TakesLines old piece number (record { len = f.len + g.len; lines = f.lines + g.lines }) new
+goes_on old mid new piece rest number f g h is k = record {
+  lines = h.lines ++ k.lines;
+  is = front_joined piece f g h.lines k.lines h.is (subst (λ bs. IsFront bs g k.lines) is k.is);
+  goes = λ s held. goes_joined s number (number + f.lines) h.lines k.lines mid new (h.goes s held) (ap (λ (n : ℕ). number + n) h.is.count) k.goes;
+}
+
+-- a row that the text begins with
+pub row_first : (old new : Body) (piece : List ℕ) (number len : ℕ) (says : List (List ℕ) → Type 0) → IsFirstRow piece len says → ((words : List (List ℕ)) → says words → (more : ℕ) × (length words ≡ suc more))
+    → ((words : List (List ℕ)) → says words → TakesRow old words number (Ok tt) new) → TakesLines old piece number (record { len = len; lines = 1 }) new
+row_first old new piece number len says r counted step =
+    let some = counted (row_of (without_comment r.line)) r.row in
+    record {
+      lines = r.line ∷ [];
+      is = r.first;
+      goes = some_row old new r.line number (Ok tt) (words_held r.line some.0 some.1) (step (row_of (without_comment r.line)) r.row);
+    }
 
 goes_some : (s : Standing) (number : ℕ) (lines : List (List ℕ)) (b : Body) → GoesOn s number lines b → HoldsSome b
 goes_some s number [] b g = (s, g)
@@ -452,25 +471,32 @@ more_range : (o : OwnerLines) (first n : ℕ) → more_terms (first + n) (more_t
 more_range o first n =
     ap (λ ts. record o { terms = ts }) (append_assoc o.terms (range_with_len first n) ((first + n) ∷ []) ∙ ap (λ ts. o.terms ++ ts) (sym (range_parts first n 1)))
 
-changed_more : (owners : List OwnerLines) (i first n : ℕ) → changed (more_terms (first + n)) (changed (more_term_run first n) owners i) i ≡ changed (more_term_run first (n + 1)) owners i
-changed_more [] i first n = refl
-changed_more (o ∷ owners) zero first n = ap (λ x. x ∷ owners) (more_range o first n)
-changed_more (o ∷ owners) (suc i) first n = ap (λ xs. o ∷ xs) (changed_more owners i first n)
+-- one owner changed twice, and one that is not changed
+pub changed_twice : (f g h : OwnerLines → OwnerLines) → ((o : OwnerLines) → f (g o) ≡ h o) → (owners : List OwnerLines) (i : ℕ) → changed f (changed g owners i) i ≡ changed h owners i
+changed_twice f g h same [] i = refl
+changed_twice f g h same (o ∷ owners) zero = ap (λ x. x ∷ owners) (same o)
+changed_twice f g h same (o ∷ owners) (suc i) = ap (λ xs. o ∷ xs) (changed_twice f g h same owners i)
+
+pub changed_same : (f : OwnerLines → OwnerLines) → ((o : OwnerLines) → f o ≡ o) → (owners : List OwnerLines) (i : ℕ) → changed f owners i ≡ owners
+changed_same f same [] i = refl
+changed_same f same (o ∷ owners) zero = ap (λ x. x ∷ owners) (same o)
+changed_same f same (o ∷ owners) (suc i) = ap (λ xs. o ∷ xs) (changed_same f same owners i)
+
+more_terms_at : (owners : List OwnerLines) (i first n : ℕ) → changed (more_terms (first + n)) (changed (more_term_run first n) owners i) i ≡ changed (more_term_run first (n + 1)) owners i
+more_terms_at owners i first n = changed_twice (more_terms (first + n)) (more_term_run first n) (more_term_run first (n + 1)) (λ o. more_range o first n) owners i
 
 run_more : (l : PlaceLines) (first n : ℕ) (h : Head) → is_linear h ≡ true → keeps_pairs h ≡ false → with_term_run l first (n + 1) h ≡ with_term_line (with_term_run l first n h) (first + n) h
-run_more l first n (Terms i k) e f = ap (λ os. record l { constraints = os }) (sym (changed_more l.constraints i first n))
-run_more l first n (Slopes i k) e f = ap (λ os. record l { objectives = os }) (sym (changed_more l.objectives i first n))
+run_more l first n (Terms i k) e f = ap (λ os. record l { constraints = os }) (sym (more_terms_at l.constraints i first n))
+run_more l first n (Slopes i k) e f = ap (λ os. record l { objectives = os }) (sym (more_terms_at l.objectives i first n))
 run_more l first n (Definition i j u) e f = absurd cc
 run_more l first n head e f = absurd cc
 
-changed_none : (owners : List OwnerLines) (i first : ℕ) → changed (more_term_run first 0) owners i ≡ owners
-changed_none [] i first = refl
-changed_none (o ∷ owners) zero first = ap (λ ts. record o { terms = ts } ∷ owners) (append-nil o.terms)
-changed_none (o ∷ owners) (suc i) first = ap (λ os. o ∷ os) (changed_none owners i first)
+no_terms_at : (owners : List OwnerLines) (i first : ℕ) → changed (more_term_run first 0) owners i ≡ owners
+no_terms_at owners i first = changed_same (more_term_run first 0) (λ o. ap (λ ts. record o { terms = ts }) (append-nil o.terms)) owners i
 
 run_none : (l : PlaceLines) (first : ℕ) (h : Head) → with_term_run l first 0 h ≡ l
-run_none l first (Terms i k) = ap (λ os. record l { constraints = os }) (changed_none l.constraints i first)
-run_none l first (Slopes i k) = ap (λ os. record l { objectives = os }) (changed_none l.objectives i first)
+run_none l first (Terms i k) = ap (λ os. record l { constraints = os }) (no_terms_at l.constraints i first)
+run_none l first (Slopes i k) = ap (λ os. record l { objectives = os }) (no_terms_at l.objectives i first)
 run_none l first head = refl
 
 given_counts : (d : Draft) (h : Head) (t : Term) → (with_given d h t).counts ≡ d.counts
@@ -578,11 +604,7 @@ term_taken b cur head most number d d_new uses uses_new piece front p a lt h fir
     let step : TakesBodyLine old line (number + n) (Ok tt) new =
     some_row old new line (number + n) (Ok tt) (words_held line 1 first.pair.two)
     (pair_step old new (less_lines cur n) head words (number + n) t false (sym a.same_head) (pair_plain words t first.pair) is_read (sym (free b cur head most number n d uses a lt)) is_fine is_done) in
-    record {
-      lines = h.lines ++ line ∷ [];
-      is = front_more piece front h.lines line p.len h.is first.first;
-      goes = λ s held. goes_more s number (number + n) h.lines line old new (h.goes s held) (ap (λ (k : ℕ). number + k) h.is.count) step;
-    }
+    goes_on b old new piece (drop front.len piece) number front (record { len = p.len; lines = 1 }) h refl (record { lines = line ∷ []; is = first.first; goes = step })
 
 pub can_term : (d_old d : Draft) (uses_old uses : List ℕ) (head : Head) (most : ℕ) (piece : List ℕ) (front : Front) (p : FirstPair) (h : HasBodyOf d_old uses_old head most) → front.lines < most
     → TakesLines h.body piece 1 front (with_counted (with_parts h.body d uses) h.current 1 front.lines) → IsFirstPair (drop front.len piece) p → p.index < d.counts.n_var

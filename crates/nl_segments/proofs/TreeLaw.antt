@@ -1,21 +1,16 @@
 -- A tree whose nodes use what is there uses what is there.
-use Rattle.std.proofs.Common.{◌≡◌, ℕ, suc, List, [], ◌∷◌, ◌++◌, sym, ap, subst, arith, All, Option, Some, None}
-use Rattle.std.specs.Prelude.{IfSome, OnOk, Ok, Err, Result}
-use Rattle.std.specs.declared.alloc.AllocError.{AllocError}
+use Rattle.std.proofs.Common.{◌≡◌, ℕ, suc, List, [], ◌∷◌, ◌++◌, sym, subst, arith, All}
 use Rattle.nl_meaning.specs.Trees.{Tree, Trees}
 use Rattle.nl_model.specs.File.{Term}
 use Rattle.nl_model.specs.declared.definition.Def.{Def as Definition}
 use Rattle.nl_model.specs.declared.node.Node.{Node}
-use Rattle.nl_model.specs.Nodes.{IsPrefix, a_number, a_variable, a_defined, an_operation, ArePrefixes, no_tree, one_more, AreNodesOf, tree_of}
+use Rattle.nl_model.specs.Nodes.{IsPrefix, a_number, a_variable, a_defined, an_operation, ArePrefixes, no_tree, one_more, AreNodesOf}
 use Rattle.nl_model.specs.Draft.{Draft}
 use Rattle.nl_model.specs.Rules.{IsTreeWithin, AreTreesWithin}
 use Rattle.nl_lines.specs.NodeRows.{IsNodeKnown}
-use Rattle.nl_lines.specs.declared.awaited.Awaited.TheVariants.{Nothing}
-use Rattle.nl_lines.specs.declared.node_row.NodeRow.{NodeRow}
-use Rattle.nl_lines.specs.Pieces.{is_nothing}
-use Rattle.nl_segments.specs.Current.{Current, current_awaits, with_node_row}
+use Rattle.nl_segments.specs.Current.{Current}
 use Rattle.nl_lines.specs.declared.head.Head.{Head}
-use Rattle.nl_segments.specs.InsideTreeSteps.{IsFresh, IsSettled, MayTake, with_tree}
+use Rattle.nl_segments.specs.InsideTreeSteps.{IsFresh, MayTake}
 
 -- node by node
 abbrev Each : ℕ → List Definition → List Node → Type 0
@@ -56,12 +51,3 @@ may_take d cur head terms nodes tree h t n fresh known of =
       fresh = subst (λ x. IsFresh d x terms) (sym h) (subst (λ ts. IsFresh d cur.head ts) (sym t) fresh);
       within = tree_within d.counts.n_var d.definitions tree nodes of.prefix (subst (All (IsNodeKnown d.counts.n_var d.definitions)) (sym n) known);
     }
-
--- a piece that is complete is not held, and its expression is in the draft
-pub whole_settled : (d new : Draft) (old kept : Option Current) (held whole : Current) (line : ℕ) (row : NodeRow) (r : Result (Unit {0}) AllocError)
-    → old ≡ Some held → whole ≡ with_node_row held line row → current_awaits whole ≡ Nothing → kept ≡ None → OnOk r (new ≡ with_tree d whole.head whole.pairs (tree_of whole.nodes))
-    → OnOk r (IfSome old (λ c. IsSettled d (with_node_row c line row) kept new))
-whole_settled d new old kept held whole line row (Ok u) e w n k given =
-    subst (λ o. IfSome o (λ c. IsSettled d (with_node_row c line row) kept new)) (sym e)
-    (subst (λ next. IsSettled d next kept new) w (subst (λ o. IsSettled d whole o new) (sym k) (ap is_nothing n, given)))
-whole_settled d new old kept held whole line row (Err x) e w n k given = tt

@@ -71,11 +71,29 @@ with_term_run l first n (Slopes k j) =
     record l { objectives = changed (more_term_run first n) l.objectives k }
 with_term_run l first n head = l
 
+-- so many nodes in lines that follow one another, from this one on
+abbrev pub more_node_run : ℕ → ℕ → OwnerLines → OwnerLines
+more_node_run first n o = record o { nodes = o.nodes ++ range_with_len first n }
+
+-- such nodes of the last piece, which has this head
+abbrev pub with_node_run : PlaceLines → ℕ → ℕ → Head → PlaceLines
+with_node_run l first n (Body i) =
+    record l { constraints = changed (more_node_run first n) l.constraints i }
+with_node_run l first n (Objective k m) =
+    record l { objectives = changed (more_node_run first n) l.objectives k }
+with_node_run l first n head = l
+
 -- a line follows those of the terms of the last piece, which are not kept
 abbrev pub terms_follow : PlaceLines → Head → ℕ → Bool
 terms_follow l (Terms i k) line = follows (get_or l.constraints i no_lines).terms line
 terms_follow l (Slopes k j) line = follows (get_or l.objectives k no_lines).terms line
 terms_follow l head line = false
+
+-- a line follows those of the nodes of the last piece, which is of a constraint or an objective
+abbrev pub nodes_follow : PlaceLines → Head → ℕ → Bool
+nodes_follow l (Body i) line = follows (get_or l.constraints i no_lines).nodes line
+nodes_follow l (Objective k m) line = follows (get_or l.objectives k no_lines).nodes line
+nodes_follow l head line = false
 
 -- the owner of a head has a place
 abbrev pub HasOwner : PlaceLines → Head → Type 0

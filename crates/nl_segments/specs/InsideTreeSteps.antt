@@ -63,6 +63,12 @@ IsSettled old cur (Some kept) new =
 IsSettled old cur None new = (is_nothing (current_awaits cur) ≡ true)
     × (new ≡ with_tree old cur.head cur.pairs (tree_of cur.nodes))
 
+-- the draft may take the expression of a piece, where that is complete
+pub record CanSettle (d : Draft) (cur : Current) : Type 0 where
+  pub tree : has_tree cur.head ≡ true
+  pub fresh : current_awaits cur ≡ Nothing → IsFresh d cur.head cur.pairs
+  pub known : All (IsNodeKnown d.counts.n_var d.definitions) cur.nodes
+
 -- a piece may take a row of its expression, whose node or opcode stands in this line
 pub record CanTakeRow (d : Draft) (l : PlaceLines) (cur : Current) (row : NodeRow)
     (line : ℕ) : Type 0 where

@@ -13,5 +13,7 @@ pub mod InsideTaking
 pub mod InsideTreeSteps
 pub mod InsideKnownPairs
 pub mod InsideKnownNodes
+pub mod InsideLineFronts
 pub mod InsideLineRuns
+pub mod InsideNodeRuns
 pub mod InsideTermRuns

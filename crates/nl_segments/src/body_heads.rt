@@ -6,16 +6,19 @@ ghost use Rattle.texts.specs.Words.{texts};
 ghost use Rattle.nl_lines.specs.Heads.{is_head, head_of, is_in_range, name_in};
 ghost use Rattle.nl_segments.specs.InsideHeadSteps.{has_come, has_come_suffix, held_head_tests, new_head_tests, begun_current, begun_name, begun_count, begun_draft};
 ghost use Rattle.nl_segments.specs.Held.{HoldsSome, TakesRow, body_of};
+ghost use Rattle.nl_segments.specs.InsideTermRuns.{TakesLines};
 ghost use Rattle.nl_lines.specs.SeenSegments.{IsSeenIn};
 ghost use Rattle.nl_lines.specs.Tests.{is_suffix};
 
 use crate::body::BodyReader;
 use crate::current::Current;
 use crate::seen::Seen;
-use nl_lines::{Head, NlReason, has_tree, is_in_range, is_suffix, line_count, read_head};
+use nl_lines::{
+    Head, NlReason, first_head, has_tree, is_in_range, is_suffix, line_count, read_head,
+};
 use nl_model::{Counts, NlBuilder, Suffix, Terms};
 use std::alloc::{AllocError, Global};
-use texts::{Name, Stop, word_at};
+use texts::{Front, Name, Stop, word_at};
 
 /// A file has at most so many suffixes.
 const MOST_SUFFIXES: u32 = 1024;
@@ -200,5 +203,40 @@ impl BodyReader {
         self.places.begin(self.alloc, head, line)?;
         give_empty_suffix(&mut self.builder, self.alloc, head, name)?;
         Ok(())
+    }
+
+    /// Takes the line at the front of a piece, which has this number, where that is the head of an
+    /// expression of a constraint, or of linear terms, and no piece is open.
+    pub(crate) fn take_head_line(&mut self, piece: &[u8], number: u32) -> Front
+        requires { HoldsSome (body_of self.old) }
+        ensures { TakesLines (body_of self.old) piece.now number result (body_of self.new) }
+    {
+        let Some(first) = first_head(piece) else {
+            return Front { len: 0, lines: 0 };
+        };
+        let head = first.head;
+        let is_open = self.current.is_some();
+        if is_open {
+            return Front { len: 0, lines: 0 };
+        }
+        let name = b"".as_slice();
+        let Ok(()) = judge(&self.builder, &self.seen, self.suffixes, head, name) else {
+            return Front { len: 0, lines: 0 };
+        };
+        // room first, so that nothing is half begun
+        let Ok(()) = make_room(&mut self.builder, head) else {
+            return Front { len: 0, lines: 0 };
+        };
+        let Ok(()) = self.places.begin(self.alloc, head, number) else {
+            unreachable!()
+        };
+        self.current = begun_current(self.alloc, self.builder.header().counts(), head, number);
+        self.marks.clear();
+        self.seen.add(head);
+        self.name = None;
+        Front {
+            len: first.len,
+            lines: 1,
+        }
     }
 }

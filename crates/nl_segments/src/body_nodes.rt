@@ -1,5 +1,5 @@
 // A line with a node.
-ghost use Rattle.std.specs.Prelude.{◌≡◌, ℕ, List, true, false, IfSome, IsSomeAnd, OnOk, All};
+ghost use Rattle.std.specs.Prelude.{◌≡◌, ℕ, List, true, false, IfSome, IsSomeAnd, OnOk, Ok, All};
 ghost use Rattle.texts.specs.Judged.{Decides};
 ghost use Rattle.texts.specs.Words.{texts};
 ghost use Rattle.nl_model.specs.Nodes.{tree_of};
@@ -9,9 +9,9 @@ ghost use Rattle.nl_lines.specs.Heads.{is_head};
 ghost use Rattle.nl_lines.specs.NodeRows.{IsNodeKnown};
 ghost use Rattle.nl_segments.specs.Held.{HoldsSome, IsAwaiting, TakesRow, body_of};
 ghost use Rattle.nl_segments.specs.InsideKnownNodes.{HasGoodNode, IsGoodNode};
-ghost use Rattle.nl_lines.specs.Pieces.{has_tree};
-ghost use Rattle.nl_segments.specs.InsidePlaceSteps.{HasOwner, HasBegun};
-ghost use Rattle.nl_segments.specs.InsideTreeSteps.{CanTakeRow, IsNextRow, MayTake, IsFresh, with_tree, IsSettled, row_count, with_row_line, counted_node_tests};
+ghost use Rattle.nl_lines.specs.Pieces.{has_tree, keeps_pairs};
+ghost use Rattle.nl_segments.specs.InsidePlaceSteps.{HasOwner, HasBegun, nodes_follow};
+ghost use Rattle.nl_segments.specs.InsideTreeSteps.{CanSettle, CanTakeRow, IsNextRow, MayTake, IsFresh, with_tree, IsSettled, row_count, with_row_line, counted_node_tests};
 
 use crate::body::BodyReader;
 use crate::current::Current;
@@ -40,8 +40,8 @@ fn read_row(words: &[&[u8]], builder: &NlBuilder, nodes: u32) -> Result<NodeRow,
     Ok(row)
 }
 
-// How many nodes a row is.
-fn row_count(row: NodeRow) -> u32
+/// How many nodes a row is.
+pub(crate) fn row_count(row: NodeRow) -> u32
     ensures { result ≡ row_count row }
 {
     match row {
@@ -70,7 +70,9 @@ fn give_tree(
     tree: Expr,
 ) -> Result<(), AllocError>
     requires { MayTake builder.old head terms tree }
-    ensures { OnOk result (builder.new ≡ with_tree builder.old head terms tree) }
+    ensures ok { OnOk result (builder.new ≡ with_tree builder.old head terms tree) }
+    // Where no pairs are kept, no memory is wanted.
+    ensures given { keeps_pairs head ≡ false → result ≡ Ok tt }
 {
     match head {
         Head::Body(con) => builder.body(con, tree),
@@ -94,13 +96,35 @@ fn give_whole(builder: &mut NlBuilder, whole: Current) -> Result<(), AllocError>
     requires fresh { IsFresh builder.old whole.head whole.pairs }
     requires known { All
         (IsNodeKnown builder.old.counts.n_var builder.old.definitions) whole.nodes }
-    ensures { OnOk result
+    ensures ok { OnOk result
         (builder.new ≡ with_tree builder.old whole.head whole.pairs (tree_of whole.nodes)) }
+    ensures given { keeps_pairs whole.head ≡ false → result ≡ Ok tt }
 {
     let head = whole.head();
     let (terms, nodes) = whole.into_parts();
     let tree = nodes.finish();
     give_tree(builder, head, terms, tree)
+}
+
+/// Gives the expression of the piece that is held to the file, where that is complete. It is not
+/// held any more then.
+pub(crate) fn settle(
+    builder: &mut NlBuilder,
+    current: &mut Option<Current>,
+) -> Result<(), AllocError>
+    requires { IsSomeAnd current.old (λ c. CanSettle builder.old c) }
+    ensures settled { OnOk result
+        (IfSome current.old (λ c. IsSettled builder.old c current.new builder.new)) }
+    ensures given { IfSome current.old (λ c. keeps_pairs c.head ≡ false → result ≡ Ok tt) }
+{
+    let Some(held) = current else { unreachable!() };
+    if held.awaited() != Awaited::Nothing {
+        return Ok(());
+    }
+    let Some(whole) = current.take() else {
+        unreachable!()
+    };
+    give_whole(builder, whole)
 }
 
 /// Takes a row of the expression of the piece that is held, whose node or opcode stands in this
@@ -122,13 +146,53 @@ pub(crate) fn take_row(
     let placed = row;
     add_row_line(places, held.head(), placed, line)?;
     held.take_row(row, line)?;
-    if held.awaited() != Awaited::Nothing {
-        return Ok(());
+    settle(builder, current)
+}
+
+// Takes the line of a row, if it is a node. It follows those of the other nodes.
+#[tactic(auto, using(crate::proofs::NodeFronts::one_node))]
+fn add_next_line(places: &mut Places, head: Head, row: NodeRow, line: u32)
+    requires owner { HasOwner places.old head }
+    requires next { nodes_follow places.old head line ≡ true }
+    ensures { places.new ≡ with_row_line places.old line head row }
+{
+    match row {
+        NodeRow::Whole(_) => places.add_nodes(head, line, 1),
+        NodeRow::Counted(_) => {}
     }
-    let Some(whole) = current.take() else {
+}
+
+/// Takes such a row, as `take_row` does, where its line follows those of the other nodes of a
+/// constraint or an objective. Else, and where memory is wanted, all stays.
+pub(crate) fn take_next_row(
+    builder: &mut NlBuilder,
+    places: &mut Places,
+    current: &mut Option<Current>,
+    row: NodeRow,
+    line: u32,
+) -> bool
+    requires { IsSomeAnd current.old (λ c. CanTakeRow builder.old places.old c row line) }
+    ensures places { result ≡ true → IfSome current.old
+        (λ c. places.new ≡ with_row_line places.old line c.head row) }
+    ensures settled { result ≡ true → IfSome current.old
+        (λ c. IsSettled builder.old (with_node_row c line row) current.new builder.new) }
+    ensures stays { result ≡ false → (builder.new ≡ builder.old) × (places.new ≡ places.old)
+        × (current.new ≡ current.old) }
+{
+    let Some(held) = current else { unreachable!() };
+    let head = held.head();
+    if !places.nodes_follow(head, line) {
+        return false;
+    }
+    let placed = row;
+    let Ok(()) = held.take_row(row, line) else {
+        return false;
+    };
+    add_next_line(places, head, placed, line);
+    let Ok(()) = settle(builder, current) else {
         unreachable!()
     };
-    give_whole(builder, whole)
+    true
 }
 
 impl BodyReader {

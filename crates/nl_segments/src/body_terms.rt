@@ -89,7 +89,7 @@ impl BodyReader {
 
     /// Takes terms of a constraint or an objective, a line each, at the front of a piece, of which
     /// the first line has this number.
-    pub(crate) fn take_front(&mut self, piece: &[u8], number: u32) -> Front
+    pub(crate) fn take_terms(&mut self, piece: &[u8], number: u32) -> Front
         requires held { HoldsSome (body_of self.old) }
         requires few { number + length piece.now ≤ 2 ^ 31 + 1 }
         ensures { TakesLines (body_of self.old) piece.now number result (body_of self.new) }

@@ -1,14 +1,19 @@
 // The piece that was begun last.
-ghost use Rattle.std.specs.Prelude.{◌≡◌, ◌<◌, ◌≤◌, ◌^◌, length, OnOk, IfSome};
+ghost use Rattle.std.specs.Prelude.{◌≡◌, ◌<◌, ◌≤◌, ◌-◌, ◌^◌, ℕ, None, All, length, OnOk, OnErr, IfSome};
 ghost use Rattle.nl_model.specs.Nodes.{awaited};
 ghost use Rattle.nl_segments.specs.Current.{IsPending, new_current, nodes_await, current_awaits, less_line, less_lines, with_pair, with_node_row};
-ghost use Rattle.nl_lines.specs.NodeRows.{IsFormedRow};
+ghost use Rattle.nl_lines.specs.NodeRows.{IsFormedRow, IsNodeKnown};
+ghost use Rattle.nl_segments.specs.Held.{Body};
+ghost use Rattle.nl_segments.specs.InsideNodeRuns.{AwaitsNodes, HasNodes, only_nodes_of, with_nodes};
+ghost use Rattle.nl_segments.specs.InsideTermRuns.{TakesLines};
 
+use crate::body_leaves::give_nodes;
 use exact_numbers::Dec;
 use nl_lines::{Awaited, Head, NodeRow, Pending, has_tree, line_kind};
-use nl_model::{ExprBuilder, Terms};
+use nl_model::{ExprBuilder, NlBuilder, Terms};
 use std::alloc::{AllocError, Global};
 use std::marker::Model;
+use texts::Front;
 
 /// The piece that was begun last: its head, how many lines before an expression are still awaited,
 /// and what was read of it.
@@ -126,7 +131,8 @@ impl Current {
         requires wanted { 0 < awaited self.old.nodes }
         requires few { length self.old.nodes < 2 ^ 22 }
         requires formed { IsFormedRow row }
-        ensures { OnOk result (self.new ≡ with_node_row self.old line row) }
+        ensures ok { OnOk result (self.new ≡ with_node_row self.old line row) }
+        ensures err { OnErr result (self.new ≡ self.old) }
     {
         match row {
             NodeRow::Whole(node) => {
@@ -136,6 +142,22 @@ impl Current {
             NodeRow::Counted(opcode) => self.pending = Some(Pending { opcode, line }),
         }
         Ok(())
+    }
+
+    /// Keeps nodes of lines at the front of a piece, after so many nodes of the file.
+    pub(crate) fn take_nodes(&mut self, builder: &NlBuilder, before: u32, piece: &[u8]) -> Front
+        requires alone { self.old.pending ≡ None }
+        requires some { HasNodes builder.now self.old.nodes before }
+        ensures same { self.new ≡ only_nodes_of self.old self.new.nodes }
+        ensures few { result.lines ≤ 2 ^ 22 - before }
+        ensures known { All (IsNodeKnown builder.now.counts.n_var builder.now.definitions)
+            self.new.nodes }
+        ensures takes { (b : Body) (number : ℕ)
+            → AwaitsNodes builder.now self.old.nodes before b self.old
+            → TakesLines b piece.now number result
+            (with_nodes b self.old self.new.nodes number result.lines) }
+    {
+        give_nodes(builder, &mut self.nodes, before, piece)
     }
 
     /// The opcode that awaits its number of operands.

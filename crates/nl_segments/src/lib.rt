@@ -1,8 +1,10 @@
 // Reading .nl files: their segments, one line after the other.
 #![tactic(auto)]
 
+mod binaries;
 mod body;
 mod body_columns;
+mod body_fronts;
 mod body_heads;
 mod body_intervals;
 mod body_leaves;

@@ -1,7 +1,7 @@
 // The lines of one owner.
 ghost use Rattle.std.specs.Prelude.{◌≡◌, ◌≤◌, ◌+◌, ◌^◌, ◌++◌, ◌∷◌, [], true, None, Some, OnOk, slice_get};
 ghost use Rattle.nl_segments.specs.InsideLineRuns.{follows};
-ghost use Rattle.nl_segments.specs.InsidePlaceSteps.{more_term_run};
+ghost use Rattle.nl_segments.specs.InsidePlaceSteps.{more_node_run, more_term_run};
 ghost use Rattle.nl_lines.specs.Saying.{no_lines};
 ghost use Rattle.std.specs.Option.{option_or};
 
@@ -69,6 +69,22 @@ impl OwnerLines {
         ensures { OnOk result (self.new ≡ record self.old { nodes = self.old.nodes ++ line ∷ [] }) }
     {
         self.nodes.push(line)
+    }
+
+    /// Whether a line follows those of the nodes, or is the first.
+    pub(crate) fn nodes_follow(&self, line: u32) -> bool
+        ensures { result ≡ follows self.now.nodes line }
+    {
+        self.nodes.follows(line)
+    }
+
+    /// Adds the lines of so many nodes that follow the others, from this line on.
+    pub(crate) fn add_nodes(&mut self, line: u32, count: u32)
+        requires next { follows self.old.nodes line ≡ true }
+        requires room { line + count ≤ 2 ^ 32 }
+        ensures { self.new ≡ more_node_run line count self.old }
+    {
+        self.nodes.grow(line, count);
     }
 
     /// Adds the line of a term.

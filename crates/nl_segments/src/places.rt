@@ -1,8 +1,9 @@
 // The lines of all nodes, terms and heads of a file.
-ghost use Rattle.std.specs.Prelude.{◌≡◌, ◌<◌, ◌≤◌, ◌^◌, ◌+◌, ◌-◌, if◌then◌else◌, ◌++◌, ◌∷◌, [], length, replicate, get_or, slice_get, slice_set, true, Some, IsSome, IfOk, OnOk, option_copied};
+ghost use Rattle.std.specs.Prelude.{◌≡◌, ◌<◌, ◌≤◌, ◌^◌, ◌+◌, ◌-◌, if◌then◌else◌, ◌++◌, ◌∷◌, [], length, replicate, get_or, slice_get, slice_set, true, false, Ok, Some, IsSome, IfOk, OnOk, option_copied};
+ghost use Rattle.nl_lines.specs.Pieces.{keeps_pairs};
 ghost use Rattle.nl_lines.specs.Saying.{changed, empty_lines, no_lines, owner_lines, place_line};
 ghost use Rattle.nl_segments.specs.InsideLineRuns.{follows};
-ghost use Rattle.nl_segments.specs.InsidePlaceSteps.{HasOwner, HasBegun, more_nodes, more_term_run, more_terms, terms_follow, with_begun, with_node_line, with_term_line, with_term_run};
+ghost use Rattle.nl_segments.specs.InsidePlaceSteps.{HasOwner, HasBegun, more_node_run, more_nodes, more_term_run, more_terms, nodes_follow, terms_follow, with_begun, with_node_line, with_node_run, with_term_line, with_term_run};
 ghost use Rattle.std.specs.Option.{option_or};
 
 use crate::owner_lines::OwnerLines;
@@ -77,6 +78,16 @@ fn add_node(owners: &mut Vec<OwnerLines>, i: usize, line: u32) -> Result<(), All
     owner.add_node(line)
 }
 
+fn add_nodes(owners: &mut Vec<OwnerLines>, i: usize, line: u32, count: u32)
+    requires owner { i < length owners.old.items }
+    requires next { follows (get_or owners.old.items i no_lines).nodes line ≡ true }
+    requires room { line + count ≤ 2 ^ 32 }
+    ensures { owners.new.items ≡ changed (more_node_run line count) owners.old.items i }
+{
+    let owner = &mut owners[i];
+    owner.add_nodes(line, count);
+}
+
 fn add_term(owners: &mut Vec<OwnerLines>, i: usize, line: u32) -> Result<(), AllocError>
     requires { i < length owners.old.items }
     ensures { OnOk result (owners.new.items ≡ changed (more_terms line) owners.old.items i) }
@@ -126,7 +137,9 @@ impl Places {
     /// Takes the line of a head.
     pub(crate) fn begin(&mut self, alloc: Global, head: Head, line: u32) -> Result<(), AllocError>
         requires { HasOwner self.old head }
-        ensures { OnOk result (self.new ≡ with_begun self.old line head) }
+        ensures ok { OnOk result (self.new ≡ with_begun self.old line head) }
+        // Where nothing is kept after the head, no memory is wanted.
+        ensures given { keeps_pairs head ≡ false → result ≡ Ok tt }
     {
         match head {
             Head::Body(i) => begin_tree(&mut self.constraints, i as usize, line),
@@ -166,6 +179,33 @@ impl Places {
             Head::Objective(k, _) => add_node(&mut self.objectives, k as usize, line),
             Head::Definition(_, _, _) => self.add_to_definition(line, true),
             _ => Ok(()),
+        }
+    }
+
+    /// Whether a line follows those of the nodes of the last piece, which has this head, where that
+    /// is of a constraint or an objective.
+    pub(crate) fn nodes_follow(&self, head: Head, line: u32) -> bool
+        requires { HasOwner self.now head }
+        ensures { result ≡ nodes_follow self.now head line }
+    {
+        match head {
+            Head::Body(i) => self.constraints[i as usize].nodes_follow(line),
+            Head::Objective(k, _) => self.objectives[k as usize].nodes_follow(line),
+            _ => false,
+        }
+    }
+
+    /// Takes the lines of so many nodes of the last piece, which has this head, from this line on.
+    pub(crate) fn add_nodes(&mut self, head: Head, line: u32, count: u32)
+        requires owner { HasOwner self.old head }
+        requires next { nodes_follow self.old head line ≡ true }
+        requires room { line + count ≤ 2 ^ 32 }
+        ensures { self.new ≡ with_node_run self.old line count head }
+    {
+        match head {
+            Head::Body(i) => add_nodes(&mut self.constraints, i as usize, line, count),
+            Head::Objective(k, _) => add_nodes(&mut self.objectives, k as usize, line, count),
+            _ => {}
         }
     }
 

@@ -56,7 +56,8 @@ fn put_line_before(
     requires within { row < length (all_rows scaled.now) }
     requires room { length lines.old + 128 ≤ 2048 }
     ensures text { lines.new
-        ≡ line_text (indented (column.now ∷ name_of_row (all_rows scaled.now) row ∷ text_of value ∷ []))
+        ≡ line_text (indented (column.now ∷ name_of_row (all_rows scaled.now) row
+        ∷ text_of value ∷ []))
         ++ lines.old }
     ensures short { length lines.new ≤ length lines.old + 100 }
 {

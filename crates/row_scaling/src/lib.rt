@@ -18,5 +18,7 @@ mod sides;
 mod written;
 
 pub use export::program;
-pub use scaling::{FactoredRow, ScaleFault, Scaled, ScaledObjective, ScaledRow, Tie, scale_rows};
+pub use scaling::{
+    FactoredRow, ScaleFault, Scaled, ScaledObjective, ScaledRow, Tie, scale_program, scale_rows,
+};
 pub use written::write_exported;

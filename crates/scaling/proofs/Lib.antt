@@ -3,3 +3,5 @@ pub mod LinearLemmas
 pub mod NumberLemmas
 pub mod SharedLemmas
 pub mod TieLemmas
+mod PlainRows
+mod MovedRows

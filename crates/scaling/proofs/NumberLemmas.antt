@@ -187,7 +187,7 @@ decimal_cofactor d x same =
     let finite : IsFinite (whole (pos 1) *ℚ x) = record { m = d.m; e = d.e; same = one-*ℚ x ∙ sym same } in
     eq-one_of_dvd-one ((finite_multiple 1 x).0 finite)
 
-same_multiple : (k c : ℕ) → c ≡ 1 → least_multiple k c ≡ k
+pub same_multiple : (k c : ℕ) → c ≡ 1 → least_multiple k c ≡ k
 same_multiple k c e =
     let one : 1 ≡ c = sym e in
     sym (same_lcm k c k (subst (λ n. 0 < n) one (omega arith)) (subst (λ n. IsLcm k n k) one (dvd_refl k, one_dvd k, λ m p q. p)))

@@ -7,7 +7,9 @@ use Rattle.exact_numbers.specs.declared.frac.Frac.{Frac}
 use Rattle.exact_numbers.specs.Values.{dec_value, frac_value, FitsDec}
 use Rattle.exported_program.specs.Export.{IfSide, IfBoth, RangeFits}
 use Rattle.linear_program.specs.Coefs.{Term}
-use Rattle.scaling.specs.Rows.{TermOf}
+use Rattle.exact_numbers.specs.declared.dec.Dec.{Dec}
+use Rattle.exported_program.specs.Program.{range_of}
+use Rattle.scaling.specs.Rows.{TermOf, side_value}
 
 -- the coefficients of terms, in order
 abbrev pub coefficients_in : List Term → List ℚ
@@ -49,6 +51,20 @@ pub record AreSidesFit (q : ℚ) (l u : Option ℚ) : Type 0 where
   pub lower : IfSide (NumberFits q) l
   pub upper : IfSide (NumberFits q) u
   pub range : IfBoth RangeFits (times_side q l) (times_side q u)
+
+-- a number fits a fraction
+abbrev pub HasFraction : ℚ → Type 0
+HasFraction x = IsTrue (fits x)
+
+-- the difference of two sides, where both are there and differ; it fits
+abbrev pub IsRangeOf : Option ℚ → Option ℚ → Option Dec → Type 0
+IsRangeOf l u r = IfBoth RangeFits l u × (side_value r ≡ range_of l u)
+
+-- both sides fit, and so does their difference
+pub record ArePlain (l u : Option ℚ) (range : Option Dec) : Type 0 where
+  pub lower : IfSide HasFraction l
+  pub upper : IfSide HasFraction u
+  pub range_is : IsRangeOf l u range
 
 -- a term times q
 pub record IsTermTimes (q : ℚ) (t : Term) (u : TermOf) : Type 0 where

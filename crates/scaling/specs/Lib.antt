@@ -1,6 +1,7 @@
 pub mod Exported
 pub mod Factored
 pub mod Fitting
+pub mod InsideMoves
 pub mod InsideParts
 pub mod Parts
 pub mod Rows

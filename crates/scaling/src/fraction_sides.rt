@@ -85,7 +85,7 @@ fn same_fraction(a: Frac, b: Frac) -> bool
 // The upper number less the lower one, none where they do not differ. Wide exactly where it does
 // not fit.
 #[tactic(auto, using(crate::proofs::SharedLemmas::same_sides, crate::proofs::SharedLemmas::too_wide, crate::proofs::SharedLemmas::no_decimal, crate::proofs::SharedLemmas::range_there))]
-fn difference(lower: Frac, upper: Frac) -> Result<Option<Dec>, Wide>
+pub(crate) fn difference(lower: Frac, upper: Frac) -> Result<Option<Dec>, Wide>
     ensures { MatchResult result
         (λ r. IfBoth RangeFits (Some (frac_value lower)) (Some (frac_value upper))
         × (side_value r ≡ range_of (Some (frac_value lower)) (Some (frac_value upper))))

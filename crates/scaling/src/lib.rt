@@ -6,6 +6,7 @@ mod factors;
 mod fraction_sides;
 pub mod laws;
 mod objectives;
+mod plain_sides;
 mod row;
 mod scale;
 mod scale_fault;
@@ -15,6 +16,6 @@ mod scaled_terms;
 mod tied;
 
 pub use row::{FactoredRow, ScaledObjective, ScaledRow, Tie};
-pub use scale::scale_rows;
+pub use scale::{scale_program, scale_rows};
 pub use scale_fault::ScaleFault;
 pub use scaled::Scaled;

@@ -1,5 +1,5 @@
 // The rows of a folded file, each times its least factor.
-ghost use Rattle.std.specs.Prelude.{◌≡◌, ℕ, ◌<◌, ◌≤◌, ◌<ℤ◌, pos, IsTrue, IfOk, IfErr, false, length, get_or, None};
+ghost use Rattle.std.specs.Prelude.{◌≡◌, ℕ, ◌<◌, ◌≤◌, ◌^◌, ◌<ℤ◌, pos, IsTrue, IfOk, IfErr, false, length, get_or, None};
 ghost use Rattle.linear_program.specs.Intervals.{is_sided};
 ghost use Rattle.texts.specs.Stopped.{IfFault};
 ghost use Rattle.fractions.specs.Rational.{whole};
@@ -8,8 +8,9 @@ ghost use Rattle.exported_program.specs.Export.{ExportFits, RowFits};
 ghost use Rattle.linear_program.specs.Coefs.{AreBelow};
 ghost use Rattle.linear_program.specs.declared.form.Form.{Form};
 ghost use Rattle.linear_program.specs.Forms.{form_terms};
-ghost use Rattle.linear_program.specs.Programs.{linear_value};
+ghost use Rattle.linear_program.specs.Programs.{LinearValue, linear_value};
 ghost use Rattle.scaling.specs.Factored.{AreScaledRows, IsFactored, IsScaledAt, body_term_count, factor_for, row_for, term_count_of};
+ghost use Rattle.scaling.specs.InsideMoves.{HasRows, IsRow};
 ghost use Rattle.scaling.specs.Scaled.{row_term_count};
 ghost use Rattle.scaling.specs.Scaling.{HasScaleFault};
 ghost use Rattle.scaling.specs.declared.scale_fault.ScaleFault.TheVariants.{RowTooWide};
@@ -17,6 +18,7 @@ ghost use Rattle.scaling.specs.Rows.{side_value};
 
 use crate::factors::factor_of_row;
 use crate::fraction_sides::{scaled_sides, sides_less};
+use crate::plain_sides::plain_sides;
 use crate::row::{FactoredRow, ScaledRow};
 use crate::scale_fault::ScaleFault;
 use crate::scaled_terms::scaled_terms;
@@ -66,6 +68,33 @@ fn scale_row(alloc: Global, body: &Form, side: Interval) -> Result<FactoredRow, 
     Ok(FactoredRow { factor, row })
 }
 
+// The same row of a body that is let go: its terms are handed on where they are decimals, and with
+// them the sides, where the factor is 1.
+fn move_row(alloc: Global, body: Form, side: Interval) -> Result<FactoredRow, Stop<Wide>>
+    requires { IsTrue (is_sided side) }
+    ensures scaled { (n i : ℕ) → AreBelow n (form_terms body)
+        → IfOk result (λ r. IsFactored n i (row_for i body side) r) }
+    ensures few { IfOk result (λ r. length r.row.terms ≡ length (form_terms body)) }
+    ensures wide { (n i : ℕ) → AreBelow n (form_terms body)
+        → IfErr result
+        (λ stop. IfFault stop
+        (λ _. ¬ RowFits n (row_for i body side) (factor_for n (row_for i body side)))) }
+{
+    let kept = side;
+    let Some(sides) = plain_sides(body.constant(), side) else {
+        return scale_row(alloc, &body, kept);
+    };
+    let _terms = body.terms();
+    let _one = Frac::one();
+    match body.into_terms() {
+        Ok(terms) => {
+            let row = ScaledRow::new(alloc, terms, sides.side, sides.range)?;
+            Ok(FactoredRow { factor: 1, row })
+        }
+        Err(body) => scale_row(alloc, &body, kept),
+    }
+}
+
 // The row of a constraint times its least factor, none where it has no side. Its fault is that a
 // number does not fit.
 fn scaled_row_at(
@@ -111,6 +140,64 @@ pub(crate) fn scaled_rows(
     let mut rows = Vec::with_capacity(alloc, bodies.len())?;
     for con in 0..bodies.len() as u32 {
         let row = match scaled_row_at(alloc, linear, con) {
+            Ok(row) => row,
+            Err(stop) => return Err(stop),
+        };
+        rows.push(row)?;
+    }
+    Ok(rows)
+}
+
+// The row of a body that is let go, times its least factor, none where it has no side. Its fault is
+// that a number does not fit.
+fn moved_row(
+    alloc: Global,
+    con: u32,
+    body: Form,
+    side: Interval,
+) -> Result<Option<FactoredRow>, Stop<ScaleFault>>
+    ensures scaled { (l : LinearValue) → IsRow l con body side
+        → IfOk result (λ o. IsScaledAt (linear_value l) con o) }
+    ensures few { IfOk result (λ o. term_count_of o ≤ length (form_terms body)) }
+    ensures wide { (l : LinearValue) → IsRow l con body side
+        → IfErr result
+        (λ stop. IfFault stop
+        (λ fault. (fault ≡ RowTooWide con) × ¬ ExportFits (linear_value l) con)) }
+{
+    if !side.has_side() {
+        return Ok(None);
+    }
+    match move_row(alloc, body, side) {
+        Ok(row) => Ok(Some(row)),
+        Err(Stop::Memory) => Err(Stop::Memory),
+        Err(Stop::Fault(_)) => Err(Stop::Fault(ScaleFault::RowTooWide(con))),
+    }
+}
+
+/// The rows by constraint of bodies that are let go, none where one has no side, or the first that
+/// is too wide.
+pub(crate) fn moved_rows(
+    alloc: Global,
+    bodies: Vec<Form>,
+    sides: &[Interval],
+) -> Result<Vec<Option<FactoredRow>>, Stop<ScaleFault>>
+    requires few { length bodies.items ≤ 2 ^ 20 }
+    requires count { length sides.now ≡ length bodies.items }
+    ensures scaled { (l : LinearValue) → HasRows l bodies.items sides.now
+        → IfOk result (λ rows. AreScaledRows (linear_value l) rows.items) }
+    ensures few { (l : LinearValue) → HasRows l bodies.items sides.now
+        → IfOk result (λ rows. row_term_count rows.items ≤ body_term_count l.bodies) }
+    ensures wide { (l : LinearValue) → HasRows l bodies.items sides.now
+        → IfErr result
+        (λ stop. IfFault stop (λ fault. HasScaleFault (linear_value l) fault)) }
+{
+    let mut rows = Vec::with_capacity(alloc, bodies.len())?;
+    let mut rest = bodies.into_iter();
+    for con in 0..sides.len() as u32 {
+        let Some(body) = rest.next() else {
+            unreachable!()
+        };
+        let row = match moved_row(alloc, con, body, sides[con as usize]) {
             Ok(row) => row,
             Err(stop) => return Err(stop),
         };

@@ -8,7 +8,7 @@ from typing import NamedTuple, Sequence
 from .exact import solved
 from .model import Model, Point, over_one
 from .points import Basis
-from .sparse import NoSolution, Solution, Square, Tools, Wide, tools
+from .sparse import NoSolution, Solution, Square, Tools, tools
 
 BY_HAND = 300                   # unknowns of a system that is eliminated without SciPy
 WORK = 4_000_000                # digits of all unknowns that are made at most

@@ -25,6 +25,7 @@ from .text import Naming
 from .tree import Spool, Tree, count
 from .watch import KEPT, Over, Stopped, Watch
 from ..bridge import Bridge, Late, Refused
+from ..files import naming
 from ..nl import header
 from ..program import Program
 
@@ -37,6 +38,7 @@ LOOSER = (1e-9, 1e-7, 1e-5, 1e-3)       # of a value: what a bound may lie away
 SAFER = (1e-9, 1e-7, 1e-5)              # of the greatest cost: room for rounding
 MOST_CLP_SECONDS = 30.0
 SEARCHED = 0.9                  # of the seconds that are left, for a last search
+MOST_MENDED = 200               # nodes of a search beside an answer
 TREE = 0.75                     # of the seconds that are left, to judge a tree
 
 
@@ -116,10 +118,11 @@ class Certifying:
         """Writes the lines, and a tree from its file; asks `bridge verify`."""
         written(self.path, lines)
         if tree is not None:
-            with open(self.path, "ab") as f, open(tree, "rb") as source:
+            with naming(self.path), open(self.path, "ab") as f, open(tree, "rb") as source:
                 shutil.copyfileobj(source, f)
         self.bridge.limit = self.watch.for_verdict(1.0 if tree is None else TREE)
         try:
+            self.watch.progress.tell("bridge verify")
             with self.watch.judging():
                 reply = self.bridge.call("verify", self.nl, self.path)
         except Late:
@@ -170,9 +173,25 @@ class Certifying:
             return self.best(self.linear_optimum(given))
         assert given.values is not None
         point = self.exact(given.values)
+        if point is None and points.broken(self.model, given.values) > ROUNDING:
+            point = self.mended(given.values)
         if point is not None:
             return self.best(self.whole_optimum(point))
         return self.without_exact(given.values)
+
+    def mended(self, x: Sequence[float | Fraction]) -> Point | None:
+        """A point beside an answer some of whose whole values are off by the digits that a solver
+        prints, or are given by equations."""
+        for frees in (False, True):
+            near = points.loosened(self.model, x, frees)
+            try:
+                Search(near, Goal(None, False, self.exact), Spool(), self.watch,
+                       self.watch.spent() + self.watch.left() / 4, MOST_MENDED).run()
+            except Better as better:
+                return better.point
+            except (NoClp, Stopped):
+                pass
+        return None
 
     def without_exact(self, x: Sequence[float | Fraction]) -> Verdict:
         """Where no exact point has the answer's whole variables: a contradiction, or whatever the
@@ -207,6 +226,7 @@ class Certifying:
         """None where CLP is not there. It starts from the answer's basis."""
         if library() is None:
             return None, State.OTHER
+        self.watch.progress.tell("the relaxation by CLP")
         clp = self.model.relaxation()
         if given.basis is not None and given.values is not None:
             clp.start(*given.basis, [float(v) for v in given.values])
@@ -291,6 +311,7 @@ class Certifying:
                 if vertex is not None and all(map(is_narrow, vertex)):
                     yield vertex
         if clp is not None:
+            self.watch.progress.tell("the exact vertex")
             vertex = points.vertex(p, Basis(*clp.basis()), clp.values())
             if vertex is not None and all(map(is_narrow, vertex)):
                 yield vertex
@@ -302,6 +323,7 @@ class Certifying:
         if not any(p.costs):
             return closer.close({}, False, box)
         closed = None
+        self.watch.progress.tell("exact duals")
         if clp is not None:
             closed = closer.close(dict(enumerate(clp.duals())), False, box) or \
                 closer.exactly(closer.basis_duals(*clp.basis()), False, box)
@@ -366,6 +388,7 @@ class Certifying:
         for _ in range(MOST_BETTER):
             plans = Plans(p, p.value(point), self.exact, self.folder, self.watch, self.shortens)
             self.point, self.plans = point, plans
+            self.watch.incumbent = float(p.sign * p.value(point))
             try:
                 self.planned(plans)
                 break
@@ -534,6 +557,7 @@ def certified(work: Certifying, claim: str, given: Given = Given()) -> Verdict:
         "point": work.of_point, "infeasible": work.of_infeasible, "nothing": work.of_nothing,
         "unbounded": work.of_unbounded, "either": work.of_either}
     watch = work.watch
+    watch.progress.begin("certificate", watch.seconds)
     Clp.until = time.monotonic() + watch.until_over()
     try:
         with watch.interruptible():
@@ -550,3 +574,4 @@ def certified(work: Certifying, claim: str, given: Given = Given()) -> Verdict:
         return Verdict(WITHOUT + str(fault))
     finally:
         Clp.until = math.inf
+        watch.progress.begin("")

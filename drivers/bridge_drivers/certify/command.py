@@ -10,12 +10,14 @@ import tempfile
 import time
 from typing import Sequence, TextIO
 
-from .. import VERSION, console, solvers
-from ..certificates import remove_older
+from .. import VERSION, colour, console, solvers
 from ..codes import Code, Failure, Status
 from ..driver import Driver
 from ..interrupts import SIGNALS
+from ..keeping import Kept
+from ..near import near
 from ..options import BadOption, Option
+from ..report import Report, fill, silently
 from ..solving import Result
 
 NAME = "bridge-certify"
@@ -24,7 +26,10 @@ OPTIONS = (
     Option("certificate", "", str, "where the certificate is written (MODEL.certificate; - is "
                                    "standard output)"),
     Option("driver", "cbc", str, "the driver that finds a point"),
+    Option("json", 0, int, "1: standard output gets one object of JSON, and nothing else"),
     Option("objno", 1, int, "which objective, from 1"),
+    Option("overwrite", 0, int, "1: the certificate replaces what stands there, also one that says "
+                                "more"),
     Option("shorten", 0, int, "1: after a certificate, a shorter one is looked for in the time "
                               "that is left"),
     Option("shortest", 0, int, "1: long decimals of the .nl are read as shorter ones with the "
@@ -33,34 +38,44 @@ OPTIONS = (
     Option("timelim", 60.0, float, "seconds for the driver, and again for the certificate; 0: no "
                                    "limit"),
 )
-PASSED = ("objno", "shorten", "shortest", "timelim")
+PASSED = ("objno", "overwrite", "shorten", "shortest", "timelim")
 USAGE = f"""usage: {NAME} MODEL [option=value ..]
 
   finds what is true of MODEL.nl by a solver and a search, writes a certificate of it, and tells
-  the verdict of `bridge verify`. Status 1 where nothing is proved.
+  the verdict of `bridge verify`. Status 1 where nothing is proved, 5 where the certificate could
+  not be written.
 
+"""
+EXAMPLE = f"""
+example: {NAME} mix timelim=60 certificate=mix.certificate
 """
 
 
 class Finding(Driver):
-    """The driver whose answer is certified; its message is printed, and no .sol written."""
+    """The driver whose answer is certified; its message is printed, and no .sol written.
+    `is_hidden`: where the certificate is kept is not told."""
 
     stream: TextIO = sys.stdout
+    is_hidden = False
     lines: list[str] = []
     figures = ""
+    kept: Kept | None = None
 
     def __init__(self, name: str) -> None:
         super().__init__(name)
-        self.name = self.clock.name = NAME
+        self.name = self.clock.name = self.clock.progress.name = NAME
 
     def deliver(self, result: Result) -> Status:
-        self.lines, self.figures = result.lines, result.figures
-        print("\n".join(result.lines), file=self.stream, flush=True)
+        self.lines, self.figures, self.result = result.lines, result.figures, result
+        self.kept = result.end.kept if result.end else None
+        lines = [line for line in result.lines
+                 if not (self.is_hidden and self.kept and line == self.kept.line)]
+        colour.tell_all(lines, self.stream)
         return Status.DONE
 
 
 class Command:
-    """One call: `stub` is the model's path without its end, `stream` where lines are told."""
+    """One call: `stub` is the model's path without its end."""
 
     def __init__(self, argv: Sequence[str]) -> None:
         self.options = {o.name: o.default for o in OPTIONS}
@@ -69,15 +84,27 @@ class Command:
         for word in argv[1:]:
             name, equal, value = word.partition("=")
             if not equal or name not in known:
-                raise BadOption(f"unknown option {word}; -= lists the options")
+                raise BadOption(f"unknown option {word};{near(name, known)} -= lists the options")
             self.options[name] = known[name].read(value)
         if self.options["driver"] not in solvers.NAMES:
             raise BadOption("driver is one of " + ", ".join(solvers.NAMES))
         self.path = str(self.options["certificate"]) or self.stub + ".certificate"
-        self.stream = sys.stderr if self.path == "-" else sys.stdout
+        self.driver: Finding | None = None
+        if self.options["json"] and self.path == "-":
+            raise BadOption("json=1 and certificate=- both want standard output")
+
+    def call(self) -> int:
+        """The exit status; with json=1 what is told goes into an object."""
+        if not self.options["json"]:
+            return self.run()
+        told = Report(NAME)
+        told.status = silently(self.run, False)
+        if self.driver is not None:
+            fill(told, self.driver)
+        return told.show()
 
     def run(self) -> int:
-        """An older certificate goes first: it must not pass for this run's."""
+        """An older certificate stays until there is one that says as much."""
         with SIGNALS.kept(True):
             folder = tempfile.mkdtemp(prefix=NAME + "-")
             try:
@@ -87,10 +114,11 @@ class Command:
                 shutil.rmtree(folder, ignore_errors=True)
 
     def run_in(self, folder: str) -> int:
-        place = os.path.join(folder, "kept") if self.path == "-" else self.path
-        remove_older(place)
+        if self.path != "-":
+            return self.found(self.path)
+        place = os.path.join(folder, "kept")
         status = self.found(place)
-        if self.path == "-" and os.path.exists(place):
+        if os.path.exists(place):
             with open(place, encoding="ascii") as f:
                 shutil.copyfileobj(f, sys.stdout)
         return status
@@ -100,14 +128,18 @@ class Command:
         words = [self.stub, "-e", "prove=1", "certificate=" + place]
         words += [f"{name}={self.options[name]}" for name in PASSED]
         words += ["bridge=" + str(self.options["bridge"])] if self.options["bridge"] else []
-        driver = Finding(str(self.options["driver"]))
-        driver.stream = self.stream
+        self.driver = driver = Finding(str(self.options["driver"]))
+        driver.is_hidden = self.path == "-"
+        driver.stream = stream = sys.stderr if driver.is_hidden else sys.stdout
         status = driver.main(words)
         if status != Status.DONE:
+            if os.path.isfile(place):
+                sys.stderr.write(f"{NAME}: {place} stays as it was\n")
             return status
         if self.options["stats"] and driver.figures:
-            print(f"{driver.figures}; {time.process_time():.2f} s of the search",
-                  file=self.stream)
+            print(f"{driver.figures}; {time.process_time():.2f} s of the search", file=stream)
+        if driver.kept is not None and driver.kept.failed:
+            return Status.UNWRITTEN
         failed = driver.lines[-1].startswith("not proved")
         return Status.FAILED if failed else Status.DONE
 
@@ -123,13 +155,13 @@ def run(argv: Sequence[str]) -> int:
         sys.stderr.write(USAGE + listing())
         return Status.BAD_WORDS
     if argv[0] in ("-?", "-h", "--help", "-="):
-        sys.stdout.write(listing() if argv[0] == "-=" else USAGE + listing())
+        sys.stdout.write(listing() if argv[0] == "-=" else USAGE + listing() + EXAMPLE)
         return Status.DONE
     if argv[0] in ("-v", "--version"):
         print(f"{NAME} {VERSION}")
         return Status.DONE
     try:
-        return Command(argv).run()
+        return Command(argv).call()
     except BadOption as fault:
         failure = Failure(Code.BAD_OPTION, str(fault), Status.BAD_WORDS)
     except Failure as fault:
@@ -137,7 +169,12 @@ def run(argv: Sequence[str]) -> int:
     except OSError as fault:
         failure = Failure(Code.FILE, f"{fault.filename}: {fault.strerror}")
     sys.stderr.write(f"{NAME}: {failure.text}\n")
-    return failure.status
+    if "json=1" not in argv:
+        return failure.status
+    told = Report(NAME)
+    told.status, told.code, told.text = failure.status, int(failure.code), failure.text
+    told.lines = [failure.text]
+    return told.show()
 
 
 def main() -> None:

@@ -10,6 +10,7 @@ from math import gcd, lcm
 from typing import Iterable, List, Mapping, NamedTuple, Optional, Sequence
 
 from ..bridge import Bridge
+from ..files import naming
 from ..sections import Sections
 from ..sol import duals_of
 from .clp import Clp, Linear, enlarging
@@ -254,7 +255,7 @@ def factors(bridge: Bridge, nl: str, folder: str, constraints: Sequence[str]) ->
     if not constraints:
         return {}
     path = os.path.join(folder, "ones.txt")
-    with open(path, "w", encoding="utf-8") as f:
+    with naming(path), open(path, "w", encoding="utf-8") as f:
         f.write("answer 1\n" + "".join(f"row {row} 1\n" for row in constraints))
     duals = [Fraction(dual) for dual in duals_of(bridge.text("return", nl, path))]
     if any(dual.denominator != 1 or dual < 0 for dual in duals):

@@ -20,6 +20,7 @@ from .short import trivial
 from .spine import Figures, Maker, Row, Spined, Value
 from .tree import Spool
 from .watch import Stopped, Watch
+from ..files import naming
 
 SHORT = 40                      # nodes of a tree that needs no other plan
 WHOLE_TIME = 60.0               # seconds that the shares of plans are of
@@ -66,7 +67,7 @@ class Partial(NamedTuple):
 def written(path: str, lines: Iterator[str]) -> int:
     """Writes lines as they come; how many bytes."""
     size = 0
-    with open(path, "w", encoding="ascii") as f:
+    with naming(path), open(path, "w", encoding="ascii") as f:
         for line in lines:
             size += f.write(line + "\n")
     return size

@@ -2,6 +2,7 @@
 
 from __future__ import annotations
 
+import math
 from fractions import Fraction
 from typing import Iterator, Mapping, NamedTuple, Sequence
 
@@ -127,6 +128,24 @@ def with_fixed(model: Model, fixed: Mapping[int, Fraction], seconds: float) -> C
     clp = p.with_bounds(lo, hi).relaxation()
     clp.limit(seconds)
     return clp
+
+
+def loosened(model: Model, x: Sequence[float | Fraction], frees: bool) -> Model:
+    """The program around an answer: its whole columns as they are, but for those of more digits
+    than solvers print, and with `frees` those that have a cost and stand in an equation."""
+    p, fixed = model, whole_columns(model, x)
+    given = {j for row, lo, hi in zip(p.rows, p.side_lo, p.side_hi) if lo is not None and lo == hi
+             for j, _ in row if frees and p.cost[j]}
+    los, his = list(p.lo), list(p.hi)
+    for j, v in fixed.items():
+        if j in given:
+            continue
+        room = math.ceil(abs(v) * APART) if abs(v) * APART >= 1 else 0
+        lo, hi = ((int(v) + by) * p.unit for by in (-room, room))
+        old_lo, old_hi = los[j], his[j]
+        los[j] = lo if old_lo is None else max(lo, old_lo)
+        his[j] = hi if old_hi is None else min(hi, old_hi)
+    return p.with_bounds(los, his)
 
 
 def is_contradicted(model: Model, x: Sequence[float | Fraction], seconds: float) -> bool:

@@ -243,11 +243,11 @@ class Search:
         if len(self.open) > MOST_DEPTH:
             raise Stopped("the tree is too deep")
         if self.tells and self.watch.is_due():
-            bound = ""
+            known = {"nodes": float(self.nodes), "open": float(len(self.open) + 1)}
             if self.aim.target is not None:
                 best = min([b.base for b in self.open if None in b.parts] + [self.base])
-                bound = f", best bound {self.model.sign * best:.10g}"
-            self.watch.tell(f"{self.nodes} nodes, {len(self.open) + 1} open{bound}")
+                known["bound"] = self.model.sign * best
+            self.watch.tell(**known)
 
     def nearest_zero(self, column: int) -> float:
         lo, hi = self.ends(column)

@@ -92,7 +92,7 @@ class Maker:
             return None
         self.base = clp.objective() + float(self.model.constant)
         if self.watch.is_due():
-            self.watch.tell(f"{len(rows)} cuts, best bound {self.model.sign * self.base:.10g}")
+            self.watch.tell(cuts=len(rows), bound=self.model.sign * self.base)
         return Tableau(m, clp, clp.values(), self.base)
 
     def is_over(self, until: float) -> bool:

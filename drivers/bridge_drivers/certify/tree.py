@@ -2,10 +2,12 @@
 
 from __future__ import annotations
 
+import os
 import tempfile
 from typing import Iterator, NamedTuple, Tuple, Union
 
 from .leaves import Multipliers
+from ..files import naming
 
 
 class Leaf(NamedTuple):
@@ -54,8 +56,9 @@ class Spool:
         pairs = "".join(f" {i} {v}" for i, v in leaf.numbers.items())
         line = f"{int(leaf.weights)} {leaf.den}{pairs}\n".encode()
         place = self.end
-        self.file.seek(place)
-        self.file.write(line)
+        with naming(os.path.join(tempfile.gettempdir(), "certify")):
+            self.file.seek(place)
+            self.file.write(line)
         self.end += len(line)
         return place
 

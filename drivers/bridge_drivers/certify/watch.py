@@ -4,14 +4,14 @@ from __future__ import annotations
 
 import contextlib
 import signal
-import sys
 import threading
 import time
 from typing import Iterator
 
 from ..interrupts import SIGNALS
+from ..progress import Progress, detailed
 
-EVERY = 5.0                 # seconds between lines of progress
+EVERY = 0.5                 # seconds between what is told of the progress
 GRACE = 5.0                 # seconds past the limit and a tenth of it, when all has ended
 KEPT = 2.5                  # seconds of them, for what is known when the limit comes
 LEAST = 0.1                 # seconds that a call of `bridge verify` has
@@ -27,22 +27,28 @@ class Over(Exception):
 
 
 class Watch:
-    """Of one certificate: `seconds` is the limit of all its searches, 0 for none. All has ended a
-    tenth and 5 s after it, counted from the start."""
+    """Of one certificate: `seconds` is the limit of all its searches, 0 for none, `of_processor`:
+    in processor time, so that a busy machine does not end a short one. All has ended a tenth and
+    5 s after the limit, counted from the start."""
 
-    def __init__(self, seconds: float, name: str = "bridge-certify") -> None:
-        self.seconds, self.name = seconds, name
-        self.started = self.began = self.told = time.monotonic()
+    def __init__(self, seconds: float, progress: Progress | None = None,
+                 of_processor: bool = False) -> None:
+        self.seconds, self.progress = seconds, progress or Progress("bridge-certify")
+        self.incumbent: float | None = None
+        self.of_processor = of_processor
+        self.now = time.process_time if of_processor else time.monotonic
+        self.started = self.told = time.monotonic()
+        self.began = self.now()
         self.is_stopped = self.is_armed = self.is_judging = False
 
     def restart(self) -> None:
         """The seconds count from here, what has ended not."""
-        self.began = time.monotonic()
+        self.began = self.now()
         if self.is_armed:
             self.arm(self.until_over())
 
     def spent(self) -> float:
-        return time.monotonic() - self.began
+        return self.now() - self.began
 
     def left(self) -> float:
         """Seconds for searches."""
@@ -60,7 +66,8 @@ class Watch:
 
     def until_over(self) -> float:
         """Seconds until Over: to the limit, with some left for what is known then."""
-        return min(self.left(), self.to_end() - KEPT)
+        left = self.to_end() - KEPT
+        return left if self.of_processor else min(self.left(), left)
 
     def look(self, nodes: int, until: float) -> None:
         """At each node: Stopped after the limit, after `until` (in seconds of this watch) or an
@@ -71,15 +78,18 @@ class Watch:
             raise Stopped(f"time ({nodes} nodes)")
 
     def is_due(self) -> bool:
-        """Whether a line of progress is to be told, each 5 s."""
+        """Whether the progress is to be told."""
         now = time.monotonic()
         if now - self.told < EVERY:
             return False
         self.told = now
         return True
 
-    def tell(self, text: str) -> None:
-        print(f"{self.name}: {text}, {self.spent():.0f} s", file=sys.stderr, flush=True)
+    def tell(self, **known: float) -> None:
+        """Of a search: nodes, open ones, cuts, the best bound."""
+        if self.incumbent is not None:
+            known = {"incumbent": self.incumbent, **known}
+        self.progress.tell(detailed(known))
 
     # the alarm ---------------------------------------------------------------------
 

@@ -19,6 +19,9 @@ if TYPE_CHECKING:
 BASIC, SUPERBASIC, LOWER, UPPER, EQUAL = 1, 2, 3, 4, 5
 
 
+NONE_YET = 1e40                         # what stands for an incumbent where there is none
+
+
 class Unclear(Exception):
     """The solver's answer was not understood, or there is none."""
 
@@ -47,11 +50,13 @@ class Solver:
 
     name = ""                           # of the driver, without bridge-
     program = ""                        # the executable
+    package = ""                        # Debian's, that has it
     title = ""                          # in messages
     integers = True                     # takes integer columns
     again = ""                          # how it is asked where an answer is not good
     options: Sequence[Option] = ()      # its own
     version = ""                        # a pattern whose one group is the version in the log
+    lines: Sequence[str] = ()           # patterns of its log, with groups as `detailed` names them
     infinite = ""                       # the size from which sides and bounds are none to it
 
     def named(self, log: str) -> str:
@@ -70,6 +75,15 @@ class Solver:
     def solve(self, job: Job) -> Outcome:
         raise NotImplementedError
 
+    def said(self, line: str, program: Program) -> dict[str, float]:
+        """What a line of its log says, by the names of the patterns' groups."""
+        for pattern in self.lines:
+            found = re.search(pattern, line)
+            if found:
+                known = {name: number(text) for name, text in found.groupdict().items()}
+                return {name: value for name, value in known.items() if abs(value) < NONE_YET}
+        return {}
+
     def place(self, named: str = "") -> str | None:
         """The executable: the named one, or one on the PATH."""
         return shutil.which(named or self.program)
@@ -81,6 +95,18 @@ class Solver:
     def reading(self, program: Program, path: str) -> list[str]:
         """The words by which the solver reads that text and solves it."""
         return [path]
+
+    def command(self, program: Program, path: str, named: str) -> list[str]:
+        """All words of that, as one types them; `named` is the executable, where one is named."""
+        return [named or self.program, *self.reading(program, path)]
+
+
+def number(text: str) -> float:
+    """Not a number where it is none."""
+    try:
+        return float(text)
+    except ValueError:
+        return float("nan")
 
 
 def row_side(kind: str, letter: str) -> int:

@@ -10,6 +10,7 @@ from .coin import Coin
 
 class Cbc(Coin):
     name, program, title = "cbc", "cbc", "CBC"
+    package = "coinor-cbc"
     again = "without preprocessing"
     version = r"Version: (\S+)"
     options = (Option("mipgap", 0.0, float, "relative gap at which the search stops"),

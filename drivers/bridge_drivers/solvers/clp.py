@@ -9,6 +9,7 @@ from .coin import Coin
 
 class Clp(Coin):
     name, program, title = "clp", "clp", "CLP"
+    package = "coinor-clp"
     again = "without its presolve"
     version = r"Coin LP version ([0-9.]+)"
     integers = False

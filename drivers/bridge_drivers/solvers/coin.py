@@ -28,6 +28,18 @@ class Saved(NamedTuple):
 
 class Coin(Solver):
     infinite = "1e25"                   # of upper bounds; of others 1e30
+    lines = (r"Cbc0010I After (?P<nodes>\d+) nodes, (?P<open>\d+) on tree, (?P<incumbent>\S+) best "
+             r"solution, best possible (?P<bound>\S+)",
+             r"Cbc0012I Integer solution of (?P<incumbent>\S+) found",
+             r"Cbc0004I Integer solution of (?P<incumbent>\S+) found",
+             r"Clp0006I +(?P<iterations>\d+) +Obj (?P<objective>\S+)")
+
+    def said(self, line: str, program: Program) -> dict[str, float]:
+        """CBC minimises, and tells of what it minimises."""
+        known = super().said(line, program)
+        sign = -1.0 if program.maximise and "Cbc00" in line else 1.0
+        return {name: sign * value if name in ("incumbent", "bound") else value
+                for name, value in known.items()}
 
     def model(self, job: Job) -> list[str]:
         """The words that name the model. To CoinUtils a `NAME nl` line means fixed columns, and

@@ -16,6 +16,7 @@ SECTIONS = ("VARS", "REDUCED COST", "PI", "SLACK")
 
 class Esolver(Solver):
     name, program, title = "esolver", "esolver", "QSopt_ex"
+    package = "qsopt-ex"
     version = r"Using QSopt_ex (\S+)"
     integers = False
 

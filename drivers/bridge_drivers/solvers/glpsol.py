@@ -25,7 +25,13 @@ SENTENCES = (
 
 class Glpsol(Solver):
     name, program, title = "glpsol", "glpsol", "GLPK"
+    package = "glpk-utils"
     again = "without its presolve, its basis checked exactly"
+    lines = (r"^\+ *(?P<iterations>\d+): (?:mip =|>>>>>) +(?P<incumbent>\S+) +[<>]= +"
+             r"(?P<bound>\S+) .*\((?P<open>\d+);",
+             r"^\+ *(?P<iterations>\d+): mip = +not found yet +[<>]= +(?P<bound>\S+) .*"
+             r"\((?P<open>\d+);",
+             r"^[ *#] *(?P<iterations>\d+): obj = +(?P<objective>\S+)")
     version = r"GLPSOL.*?Solver,? v?(\S+)"
     options = (Option("mipgap", 0.0, float, "relative gap at which the search stops"),
                Option("xcheck", 0, int, "1: glpsol checks its final basis in exact arithmetic"))

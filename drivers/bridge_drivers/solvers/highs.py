@@ -12,6 +12,7 @@ from typing import Any
 from ..codes import Code
 from ..job import Job
 from ..options import Option
+from ..program import Program
 from .base import Outcome, Solver, Unclear, first_line, read_lines, stopped
 
 PLACES = ("/usr/bin/python3", "python3")
@@ -21,6 +22,7 @@ LOOKS = "import importlib.util as u, sys; sys.exit(u.find_spec('scipy') is None)
 
 class Highs(Solver):
     name, program, title = "highs", "a python3 with SciPy", "HiGHS of SciPy"
+    package = "python3-scipy"
     version = r"HiGHS of SciPy (\S+)"
     again = "without presolve"
     infinite = "1e20"
@@ -32,6 +34,9 @@ class Highs(Solver):
             if path and has_scipy(path):
                 return path
         return None
+
+    def command(self, program: Program, path: str, named: str) -> list[str]:
+        return [self.place(named) or PLACES[0], SCRIPT, path]
 
     def solve(self, job: Job) -> Outcome:
         options, p = job.options, job.program

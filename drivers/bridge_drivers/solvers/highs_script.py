@@ -1,5 +1,6 @@
-"""HiGHS on an exported program, by a python3 that has SciPy: `highs_script.py MPS ANSWER WORDS`,
-WORDS a JSON text. It stands alone: that python3 need not be the driver's.
+"""HiGHS on an exported program, by a python3 that has SciPy: `highs_script.py MPS [ANSWER WORDS]`,
+WORDS a JSON text. It stands alone: that python3 need not be the driver's. Without ANSWER it goes to
+standard output.
 
 ANSWER gets one JSON text: `status` as SciPy tells it, `message`, and where there are, `values` and
 `duals` by row and `costs` by column, as rates of change of the objective in its own sense.
@@ -8,6 +9,7 @@ ANSWER gets one JSON text: `status` as SciPy tells it, `message`, and where ther
 from __future__ import annotations
 
 import json
+import signal
 import sys
 from typing import Any
 
@@ -17,6 +19,7 @@ from scipy.optimize import Bounds, LinearConstraint, linprog, milp
 from scipy.sparse import csr_matrix, vstack
 
 INFINITE = float("inf")
+USUAL = {"mipgap": 0.0, "seconds": 0.0, "relax": False, "presolve": True, "disp": False}
 
 
 class Program:
@@ -134,7 +137,8 @@ def linear(p: Program, cost: Any, words: dict[str, Any], sign: float) -> dict[st
 
 
 def main() -> None:
-    p, words = Program(sys.argv[1]), json.loads(sys.argv[3])
+    signal.signal(signal.SIGINT, signal.SIG_DFL)        # HiGHS keeps no point where it is ended
+    p, words = Program(sys.argv[1]), json.loads(sys.argv[3]) if len(sys.argv) > 3 else USUAL
     print("HiGHS of SciPy", scipy.__version__, flush=True)
     sign = -1.0 if p.maximise else 1.0
     cost = sign * numpy.array(p.cost)
@@ -142,6 +146,9 @@ def main() -> None:
         answer = mixed(p, cost, words)
     else:
         answer = linear(p, cost, words, sign)
+    if len(sys.argv) < 3:
+        print(json.dumps(answer))
+        return
     with open(sys.argv[2], "w") as f:
         json.dump(answer, f)
 

@@ -17,6 +17,7 @@ NOTE = "lp_solve prints six digits"
 
 class LpSolve(Solver):
     name, program, title = "lp_solve", "lp_solve", "lp_solve"
+    package = "lp-solve"
     infinite = "1e30"
 
     def solve(self, job: Job) -> Outcome:

@@ -27,4 +27,4 @@ returns g c =
     (rows_down false 2 c.args.file.now c.args.rows.now c.args.columns.now (after_names c.args.objective c.args.columns.now) (names_sound c.args.objective c.args.columns.now) value_of _ _ c.in-Ok.read c.in-Ok.ensures.reads
     _ c.in-Ok-open_rows.names c.in-Ok-open_rows.ensures.reads)
     itself _ c.in-Ok-open_columns.names c.in-Ok-open_columns.ensures.reads _ _ _ _ _ (c.to_output-judged.ensures.comes _ refl)
-    (meant_always _ _ (c.to_output-judged.ensures.means _ refl)) c.end.ensures c.to_output-judged.ensures.above (c.to_output-judged.ensures.counts _ refl)
+    (meant_always c.to_output-judged.result _ (c.to_output-judged.ensures.means _ refl)) c.end.ensures c.to_output-judged.ensures.above (c.to_output-judged.ensures.counts _ refl)

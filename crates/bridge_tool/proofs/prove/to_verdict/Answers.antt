@@ -1,5 +1,5 @@
 use Rattle.nl_segments.specs.Reader.{value_of}
-use Rattle.bridge_tool.proofs.Verdicts.{proof_done, proof_so, proved_so}
+use Rattle.bridge_tool.proofs.Verdicts.{proof_done, proof_says, proof_so}
 use Rattle.bridge_tool.proofs.Exporting.{folded_at}
 use Rattle.bridge_tool.proofs.prove.to_verdict.Goals as goal
 
@@ -13,7 +13,7 @@ returns-clause-comes g c =
     let folds = folded_at _ _ _ _ c.claimed_objective-objective.ensures c.in_ok-linear.ensures.folds in
     proof_done (value_of c.args.read.now) c.args.proof.now c.requires.proof c.in_ok-linear.linear c.in_ok-verdict.field-0 _ _ folds c.in_ok-verdict.ensures.exact c.in_ok-told.ensures.holds c.in_ok-told.ensures.line
 
-pub returns-clause-means : goal.returns-clause-means
-returns-clause-means g c = λ holding.
+pub returns-clause-says : goal.returns-clause-says
+returns-clause-says g c =
     let folds = folded_at _ _ _ _ c.claimed_objective-objective.ensures c.in_ok-linear.ensures.folds in
-    proved_so (value_of c.args.read.now) c.args.proof.now c.requires.proof c.in_ok-linear.linear c.in_ok-verdict.field-0 _ c.in_ok-linear.ensures.file folds c.in_ok-verdict.ensures.proved c.in_ok-told.ensures.holds holding
+    proof_says (value_of c.args.read.now) c.args.proof.now c.requires.proof c.in_ok-linear.linear c.in_ok-verdict.field-0 _ _ c.in_ok-linear.ensures.file folds c.in_ok-verdict.ensures.exact c.in_ok-verdict.ensures.proved c.in_ok-told.ensures.holds c.in_ok-told.ensures.line

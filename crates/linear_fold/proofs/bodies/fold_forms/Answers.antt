@@ -1,4 +1,6 @@
+use Rattle.std.proofs.Common.{arith}
 use Rattle.linear_fold.proofs.BodyLemmas.{all_fine, first_stopped, second_stopped, third_stopped, three_parts}
+use Rattle.linear_fold.proofs.HeldBodies.{forms_are}
 use Rattle.linear_fold.proofs.bodies.fold_forms.Goals as goal
 
 pub returns-in-Err-clause-fault : goal.returns-in-Err-clause-fault
@@ -22,3 +24,8 @@ returns-in-Ok-fold_objective-clause-below g c =
 pub returns-in-Err-fold_objective-clause-below : goal.returns-in-Err-fold_objective-clause-below
 returns-in-Err-fold_objective-clause-below g c =
     three_parts c.args.file.now c.args.objective c.args.steps.now c.fold_definitions.new.steps c.fold_bodies.new.steps c.fold_objective.new.steps c.in-Ok.ensures.below c.in-Ok-fold_bodies.ensures.below c.in-Err-fold_objective.ensures.below
+
+pub returns-in-Ok-fold_objective-clause-forms : goal.returns-in-Ok-fold_objective-clause-forms
+returns-in-Ok-fold_objective-clause-forms g c =
+    forms_are c.args.file.now c.requires.file c.args.objective c.args.hold c.in-Ok-fold_bodies.bodies c.in-Ok-fold_objective.form c.in-Ok-fold_bodies.ensures.bodies c.in-Ok-fold_objective.ensures.form
+    (let few = c.in-Ok-fold_objective.ensures.few in let counted = c.in-Ok-fold_bodies.ensures.counted in omega arith)

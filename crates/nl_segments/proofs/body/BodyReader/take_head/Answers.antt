@@ -53,5 +53,5 @@ returns c =
       suffixes = c.begun_count-self.ensures i;
       columns = b.columns;
       uses = b.uses;
-      places = c.in_ok-begin.ensures i;
+      places = c.in_ok-begin.ensures.ok i;
     })

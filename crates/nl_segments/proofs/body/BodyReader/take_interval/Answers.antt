@@ -21,4 +21,4 @@ pub returns : goal.returns
 returns c =
     interval_step (body_of c.args.self.now) c.in-Some.current _ _ c.in-Ok.interval _ _ c.in-Some.is c.requires.awaited c.requires.row
     (ap (λ k. first_reason (next_interval_tests k c.in-Some.current (texts c.args.words.now))) (sym c.header.ensures.counts) ∙ c.in-Ok.ensures.0) c.in-Ok.ensures.1.says
-    (c.in_ok-add_interval.ensures ∙ ap (λ b. with_interval c.args.self.now.builder b c.in-Ok.interval) (c.is_sides-of_constraint.ensures ∙ ap is_sides c.head.ensures)) c.count_line.ensures
+    (c.in_ok-add_interval.ensures.ok ∙ ap (λ b. with_interval c.args.self.now.builder b c.in-Ok.interval) (c.is_sides-of_constraint.ensures ∙ ap is_sides c.head.ensures)) c.count_line.ensures

@@ -1,0 +1,114 @@
+"""`verify_mps MPS CERTIFICATE` and `verify_fixed MPS CERTIFICATE`: each claim with its certificate, over MPS programs with each kind of row and bound."""
+from . import texts
+from .fixed import FIXED
+from .imported import BOUNDS
+from .mps import PAIRS
+from .texts import bad_words, lines, mps, text
+
+# min X with 2 X at least 3, X whole and from 0 to 5; the row of X is the second that is no N row
+BODY = "ROWS/ N COST/ L ONE/ N OTHER/ G TWO/COLUMNS/ M0 'MARKER' 'INTORG'/ X COST 1 OTHER 5/ X TWO 2/ M1 'MARKER' 'INTEND'/ Y ONE 1/RHS/ RHS TWO {}/BOUNDS/ {}"
+WHOLE = BODY.format("3", "UP BND X 5")
+BEST = "optimal 0 / point 1 / 0 2 / split 0 1 / weights 1 / 1 1 / duals 0"
+# one row of one free column, with this kind, right side and range
+RANGED = "ROWS/ N C/ {} R/COLUMNS/ X C 1 R 1/RHS/ RHS R {}/RANGES/ RNG R {}/BOUNDS/ FR BND X"
+
+
+def judged(name, body, certificate, line, status=0, command="verify_mps"):
+    """What is written on a certificate, given by its lines after the first, for a program of these lines."""
+    program = body if isinstance(body, bytes) else mps(body).encode()
+    return texts.done(name, command, program, lines("certificate 1 / " + certificate), out=line + "\n", status=status)
+
+
+def refused(name, body, certificate, told, command="verify_mps"):
+    program = body if isinstance(body, bytes) else mps(body).encode()
+    return texts.refused(name, command, program, lines("certificate 1 / " + certificate), told=told)
+
+
+def claim_cases():
+    yield judged("a best point", WHOLE, BEST, "optimal 2")
+    yield judged("a point within a gap", WHOLE, "within 0 3/2 / point 1 / 0 2 / duals 1 / 1 1/2", "within 3/2 2")
+    yield judged("a bound", WHOLE, "bound 0 3/2 / duals 1 / 1 1/2", "bound 3/2")
+    yield judged("a point", WHOLE, "feasible 0 / point 1 / 0 5", "feasible 5")
+    yield judged("no point", BODY.format("13", "UP BND X 5"), "infeasible / weights 1 / 1 1", "infeasible")
+    yield judged("no end", "OBJSENSE/ MAX/" + BODY.format("3", "PL BND X"), "unbounded 0 / point 1 / 0 2 / ray 1 / 0 1", "unbounded")
+    yield judged("a bound that is too good", WHOLE, "bound 0 2 / duals 1 / 1 1/2", "leaf 0 gap 3/2", 1)
+    yield judged("the first constraint broken", WHOLE, "feasible 0 / point 2 / 0 2 / 1 1", "row 0 broken", 1)
+    yield judged("the second constraint broken", WHOLE, "feasible 0 / point 0", "row 1 broken", 1)
+    yield judged("a whole column that is not whole", WHOLE, "feasible 0 / point 1 / 0 5/2", "variable 0 not whole", 1)
+    yield judged("a bound broken", WHOLE, "feasible 0 / point 1 / 0 6", "bound 0 broken", 1)
+    yield judged("a ray that leaves a bound", WHOLE, "unbounded 0 / point 1 / 0 2 / ray 1 / 0 1", "ray bound 0 broken", 1)
+
+
+def objective_cases():
+    """The first N row less its right side; MAX; another N row is not looked at."""
+    yield judged("a right side of the objective", BODY.format("3 COST -7", "UP BND X 5"), BEST, "optimal 9")
+    yield judged("the greatest value", "OBJSENSE/ MAX/" + WHOLE, "optimal 0 / point 1 / 0 5 / duals 0", "optimal 5")
+    yield judged("the value of the other N row", WHOLE, "bound 0 10 / split 0 1 / weights 1 / 1 1 / duals 0", "leaf 1 gap 2", 1)
+    yield refused("a second objective", WHOLE, "bound 1 2 / duals 0", "objective 1: no such objective")
+
+
+def range_cases():
+    """The other side of a row: below the right side of L, above that of G, and for E by the sign of the range."""
+    for kind, right, size, low, high in [("L", 4, 3, 1, 4), ("L", 4, -3, 1, 4), ("G", 4, 3, 4, 7), ("G", 4, -3, 4, 7), ("E", 4, 3, 4, 7), ("E", 4, -3, 1, 4)]:
+        program = RANGED.format(kind, right, size)
+        name = f"a range of {size} on {kind}"
+        yield judged(f"{name}, its least value", program, f"optimal 0 / point 1 / 0 {low} / duals 1 / 0 1", f"optimal {low}")
+        yield judged(f"{name}, its greatest", "OBJSENSE/ MAX/" + program, f"optimal 0 / point 1 / 0 {high} / duals 1 / 0 1", f"optimal {high}")
+        yield judged(f"{name}, below it", program, f"feasible 0 / point 1 / 0 {low - 1}.5", "row 0 broken", 1)
+        yield judged(f"{name}, above it", program, f"feasible 0 / point 1 / 0 {high}.5", "row 0 broken", 1)
+
+
+def bound_cases():
+    """A program with every kind of bound, each of which is broken in turn while the rows hold; D, E and G are whole."""
+    program = text([" T 2.5" if line == " T 1" else line for line in BOUNDS])
+    held = {"A": "3", "B": "-1", "D": "2", "H": "1/4"}
+
+    def at(**moved):
+        values = {**held, **moved}
+        pairs = [f"{j} {values[name]}" for j, name in enumerate("ABDEGHIJK") if name in values]
+        return f"feasible 0 / point {len(pairs)} / " + " / ".join(pairs)
+
+    yield judged("every kind of bound", program, at(), "feasible 11/4")
+    yield judged("columns without bounds", program, at(A="-1000000", J="1000003", K="-1"), "feasible 11/4")
+    yield judged("UP below 0", program, at(B="0"), "bound 1 broken", 1)
+    yield judged("LI", program, at(D="1", H="3/4"), "bound 2 broken", 1)
+    yield judged("UI", program, at(E="8"), "bound 3 broken", 1)
+    yield judged("the usual lower bound", program, at(E="-1"), "bound 3 broken", 1)
+    yield judged("BV", program, at(G="2", K="-6"), "bound 4 broken", 1)
+    yield judged("FX", program, at(D="9/4", H="1/8"), "bound 5 broken", 1)
+    yield judged("PL", program, at(I="-1"), "bound 6 broken", 1)
+    yield judged("LO", program, at(A="1004", J="-1001"), "bound 7 broken", 1)
+    yield judged("UI makes whole", program, at(E="1/2"), "variable 3 not whole", 1)
+    yield judged("BV makes whole", program, at(G="1/2", K="-1"), "variable 4 not whole", 1)
+    yield judged("an equation that no bound allows", text(BOUNDS), "infeasible / weights 1 / 2 -1", "infeasible")
+
+
+def fault_cases():
+    yield refused("no MPS text", text(PAIRS[:-1]), BEST, "line 17: no end")
+    yield refused("an empty column", text(PAIRS[:16] + [" LO BN X -3"] + PAIRS[16:]), BEST, "column 0: empty interval")
+    yield refused("a wide range", text(PAIRS[:13] + ["    RG  R1  1e-40"] + PAIRS[14:]), BEST, "row 1: too wide")
+    yield refused("a wide coefficient", WHOLE.replace("TWO 2/", "TWO 1e40/"), BEST, "row 3: too wide")
+    yield refused("a wide objective", WHOLE.replace("X COST 1 ", "X COST 1e-40 "), BEST, "row 0: too wide")
+    yield judged("a wide N row that is not looked at", WHOLE.replace("OTHER 5", "OTHER 1e40"), BEST, "optimal 2")
+    yield refused("a row past the last", WHOLE, "bound 0 2 / duals 1 / 2 1", "file 2 line 4: index out of range")
+    yield refused("a column past the last", WHOLE, "feasible 0 / point 1 / 2 1", "file 2 line 4: index out of range")
+    yield refused("a split on a continuous column", WHOLE, "bound 0 2 / split 1 0", "file 2 line 3: not whole")
+    yield refused("a certificate that ends early", WHOLE, "optimal 0", "file 2 line 3: short file")
+    yield texts.missing("no certificate of a program", "verify_mps", mps(WHOLE).encode())
+    yield texts.Case("no program", ("verify_mps", "missing", "A"), {"A": lines("certificate 1")}, 4, "", "input fault\n")
+    yield bad_words("verify_mps alone", "verify_mps")
+    yield bad_words("verify_fixed with one file", "verify_fixed", "A")
+
+
+def fixed_cases():
+    """min X - 3 Y with 2 X at most 7, X whole and at least 0, Y free."""
+    program = text(FIXED)
+    yield judged("fixed columns", program, "feasible 0 / point 2 / 0 3 / 1 2/3", "feasible 1", command="verify_fixed")
+    yield judged("fixed columns without end", program, "unbounded 0 / point 0 / ray 1 / 1 1", "unbounded", command="verify_fixed")
+    yield judged("a row of fixed columns broken", program, "feasible 0 / point 1 / 0 4", "row 0 broken", 1, command="verify_fixed")
+    yield refused("free form is no text of fixed columns", WHOLE, BEST, "line 3: bad line", command="verify_fixed")
+
+
+def cases():
+    for group in (claim_cases, objective_cases, range_cases, bound_cases, fault_cases, fixed_cases):
+        yield from group()

@@ -1,0 +1,27 @@
+-- What the verdict on a certificate means of the problem that it is about.
+use Rattle.std.specs.Prelude.{◌≡◌, false, true}
+use Rattle.linear_programs.specs.Linear.{Linear}
+use Rattle.duality.specs.Certificate.{Cause, fails}
+use Rattle.duality.specs.Problem.{Problem}
+use Rattle.duality.specs.ProblemSays.{Denies}
+use Rattle.duality.specs.Told.{Told, IsTrueOf}
+use Rattle.linear_program.specs.Numbers.{spread}
+use Rattle.certificates.specs.Certificates.{CertificateValue, certificate_over}
+use Rattle.certificates.specs.Reading.{given_in}
+use Rattle.bridge_tool.specs.CertificateTold.{outcome_line, told_line}
+use Rattle.bridge_tool.specs.Outcome.{Outcome, Done}
+
+-- What a yes means: what its line tells is true of the problem, for the point that the certificate
+-- gives.
+pub record IsClaimTrue (p : Problem) (c : CertificateValue) (outcome : Outcome) : Type 0 where
+  pub told : Told
+  pub line : outcome ≡ Done true (told_line c.claim told)
+  pub true_of : IsTrueOf p (spread p.variables (given_in c).point) told
+
+-- What a no means: what its line tells is so, of the point or of the leaf that it names. Leaves are
+-- those over the linear program f.
+pub record IsClaimDenied (p : Problem) (f : Linear) (c : CertificateValue)
+    (outcome : Outcome) : Type 0 where
+  pub cause : Cause
+  pub line : outcome ≡ Done false (outcome_line c.claim (fails cause))
+  pub denies : Denies p f (certificate_over p.variables p.constraints c.claim (given_in c)) cause

@@ -1,0 +1,113 @@
+-- The commands verify_mps and verify_fixed: what a certificate shows of an MPS text.
+use Rattle.std.specs.Prelude.{◌≡◌, ◌⊎◌, ℕ, nat_lt, Bool, true, false, List, codes}
+use Rattle.std.specs.declared.option.Option.{Option}
+use Rattle.std.specs.declared.option.Option.TheVariants.{None, Some}
+use Rattle.duality.specs.Certificate.{Outcome as ClaimOutcome}
+use Rattle.desk.specs.Desk.{Texts}
+use Rattle.linear_programs.specs.Linear.{Linear}
+use Rattle.exact_numbers.specs.declared.dec.Dec.{Dec}
+use Rattle.mps_model.specs.Mps.{Mps}
+use Rattle.mps_reader.specs.Reader.{IsMpsText}
+use Rattle.fixed_mps.specs.Reader.{IsFixedText}
+use Rattle.mps_program.specs.Faults.{mps_fault}
+use Rattle.mps_program.specs.Program.{linear_of, values_of}
+use Rattle.mps_program.specs.declared.mps_fault.MpsFault.{MpsFault}
+use Rattle.mps_program.specs.declared.mps_fault.MpsFault.TheVariants.{TooLarge as ProgramTooLarge, TooWide as ProgramTooWide, EmptyInterval as ProgramEmptyInterval}
+use Rattle.mps_import.specs.declared.import_fault.ImportFault.{ImportFault}
+use Rattle.mps_import.specs.declared.import_fault.ImportFault.TheVariants.{EmptyInterval, TooWide, TooLarge}
+use Rattle.certificates.specs.Certificates.{CertificateValue, claim_outcome, objective_of}
+use Rattle.certificates.specs.Reading.{given_in}
+use Rattle.certificate_text.specs.Reader.{IsCertificateText}
+use Rattle.mps_certificates.specs.Problem.{mps_problem}
+use Rattle.mps_certificates.specs.Setting.{mps_setting}
+use Rattle.bridge_tool.specs.Claims.{IsClaimDenied, IsClaimTrue}
+use Rattle.bridge_tool.specs.Fixed.{IsFixedRefused}
+use Rattle.bridge_tool.specs.ImportTold.{import_line}
+use Rattle.bridge_tool.specs.Mps.{IsMpsRefused}
+use Rattle.bridge_tool.specs.Outcome.{Outcome, Refused}
+use Rattle.bridge_tool.specs.Promise.{Promise}
+use Rattle.bridge_tool.specs.SeveralFiles.{after_file, desk_promise, judges_last}
+use Rattle.bridge_tool.specs.Told.{refusal}
+use Rattle.bridge_tool.specs.Verify.{IsCertificateRefused, by_claim}
+use Rattle.bridge_tool.specs.declared.verify_mps.Form.{Form}
+use Rattle.bridge_tool.specs.declared.verify_mps.Form.TheVariants.{Free, Fixed}
+
+-- ---- the first file: an MPS text in free form or in fixed columns, whose program has a linear
+-- program
+
+abbrev pub IsTextIn : Form → List ℕ → Mps Dec → Type 0
+IsTextIn Free text m = IsMpsText text m
+IsTextIn Fixed text m = IsFixedText text m
+
+abbrev pub IsTextRefused : Form → List ℕ → List ℕ → Type 0
+IsTextRefused Free text line = IsMpsRefused text line
+IsTextRefused Fixed text line = IsFixedRefused text line
+
+-- the text says this program, which has no fault
+pub record HasProgram (form : Form) (text : List ℕ) (m : Mps Dec) : Type 0 where
+  pub says : IsTextIn form text m
+  pub clean : mps_fault m ≡ None
+
+-- a fault of a program as import has it, which tells it so
+abbrev pub as_import : MpsFault → ImportFault
+as_import ProgramTooLarge = TooLarge
+as_import (ProgramTooWide row) = TooWide row
+as_import (ProgramEmptyInterval column) = EmptyInterval column
+
+-- this line tells the first fault of a program
+pub record HasNoLinear (m : Mps Dec) (line : List ℕ) : Type 0 where
+  pub fault : MpsFault
+  pub first : mps_fault m ≡ Some fault
+  pub told : line ≡ import_line (as_import fault)
+
+-- it says a program with a fault
+pub record SaysNoLinear (form : Form) (text line : List ℕ) : Type 0 where
+  pub program : Mps Dec
+  pub says : IsTextIn form text program
+  pub fails : HasNoLinear program line
+
+-- the text has a first fault, or its program has
+abbrev pub IsProgramRefused : Form → List ℕ → List ℕ → Type 0
+IsProgramRefused form text line = IsTextRefused form text line ⊎ SaysNoLinear form text line
+
+-- ---- what the values of both files come to
+
+-- the verdict on what is given for the claim, in a linear program
+abbrev pub program_shown : Linear → CertificateValue → ClaimOutcome
+program_shown f c = claim_outcome f c.claim (given_in c)
+
+abbrev pub by_objective : Linear → CertificateValue → Bool → Outcome
+by_objective f c true =
+    Refused (refusal 1 (codes "objective") (objective_of c.claim) (codes "no such objective"))
+by_objective f c false = by_claim c.claim (program_shown f c)
+
+-- an MPS program has objective 0 alone
+abbrev pub program_outcome : Linear → CertificateValue → Outcome
+program_outcome f c = by_objective f c (nat_lt 0 (objective_of c.claim))
+
+abbrev pub verify_mps_outcome : Mps Dec → CertificateValue → Outcome
+verify_mps_outcome m c = program_outcome (linear_of (values_of m)) c
+
+-- what a yes means: the line is true of the points that satisfy the program
+abbrev pub IsVerifiedMps : Mps Dec → CertificateValue → Type 0
+IsVerifiedMps m c = IsClaimTrue (mps_problem (values_of m)) c (verify_mps_outcome m c)
+
+-- what a no means
+abbrev pub IsDeniedMps : Mps Dec → CertificateValue → Type 0
+IsDeniedMps m c =
+    IsClaimDenied (mps_problem (values_of m)) (linear_of (values_of m)) c (verify_mps_outcome m c)
+
+-- ---- the promise
+
+-- no steps are counted
+abbrev pub verify_mps_told : Form → List ℕ → List ℕ → Texts → Promise
+verify_mps_told form mps certificate texts =
+    after_file (HasProgram form) (IsProgramRefused form) texts mps (λ m.
+    after_file (IsCertificateText (mps_setting m)) (IsCertificateRefused (mps_setting m) 2) texts
+    certificate (λ c.
+    judges_last texts certificate (λ outcome. outcome ≡ verify_mps_outcome m c)
+    (λ old new. new ≡ old) (IsVerifiedMps m c) (IsDeniedMps m c)))
+
+abbrev pub verify_mps_promise : Option Texts → Form → List ℕ → List ℕ → Promise
+verify_mps_promise texts form mps certificate =
+    desk_promise true (verify_mps_told form mps certificate) texts

@@ -1,0 +1,148 @@
+// The commands verify_mps and verify_fixed: from an MPS text and a certificate to the line of a
+// verdict, or to a refusal.
+ghost use Rattle.std.specs.Prelude.{◌≡◌, ◌≢◌, IfErr, IfOk};
+ghost use Rattle.linear_program.specs.Programs.{IsLinear, linear_value};
+ghost use Rattle.certificates.specs.Certificates.{IsCertificateOf};
+ghost use Rattle.certificates.specs.Setting.{IsCertificateFor, program_setting};
+ghost use Rattle.certificate_text.specs.Reader.{IsCertificateText};
+ghost use Rattle.bridge_tool.specs.CertificateTold.{HasFittingBound};
+ghost use Rattle.bridge_tool.specs.InsideAnswer.{IsAtRest, status_of};
+ghost use Rattle.bridge_tool.specs.InsideVerifyMps.{GivesProgram};
+ghost use Rattle.bridge_tool.specs.SeveralFiles.{Comes, ReadsFile, itself};
+ghost use Rattle.bridge_tool.specs.Verify.{IsCertificateRefused};
+ghost use Rattle.bridge_tool.specs.VerifyMps.{IsTextIn, IsTextRefused, as_import, program_outcome, verify_mps_promise};
+
+use crate::answer::Answer;
+use crate::certificate_input::open_certificate_over;
+use crate::certificate_told::objective_of;
+use crate::mps_input::{open_fixed, open_mps};
+use crate::one_file::{answered, end};
+use crate::refusal::Refusal;
+use crate::verify::{outcome_on, told_outcome};
+use certificates::Certificate;
+use linear_fold::{FoldFault, Linear};
+use mps_import::ImportFault;
+use mps_model::Mps;
+use mps_program::{MpsFault, linear_of};
+use std::alloc::Global;
+use text_base::{Desk, Stop};
+
+/// How an MPS text stands on its lines: in free form, or in fixed columns.
+#[derive(Clone, Copy)]
+pub(crate) enum Form {
+    Free,
+    Fixed,
+}
+
+// What a file says as an MPS text in this form, or the answer that ends the command.
+fn open_text<D: Desk>(alloc: Global, desk: &mut D, form: Form, file: &str) -> Result<Mps, Answer>
+    ensures reads { ReadsFile itself (IsTextIn form) (IsTextRefused form) file.now
+        (D.meaning desk.old) (D.meaning desk.new) result }
+    ensures known { IfErr result (λ answer. status_of answer ≢ 3) }
+{
+    match form {
+        Form::Free => open_mps(alloc, desk, file),
+        Form::Fixed => open_fixed(alloc, desk, file),
+    }
+}
+
+// A fault of a program as import has it.
+fn as_import(fault: MpsFault) -> ImportFault
+    ensures { result ≡ as_import fault }
+{
+    match fault {
+        MpsFault::TooLarge => ImportFault::TooLarge,
+        MpsFault::TooWide(row) => ImportFault::TooWide(row),
+        MpsFault::EmptyInterval(column) => ImportFault::EmptyInterval(column),
+    }
+}
+
+// The linear program of an MPS program, or why it has none.
+fn to_linear(alloc: Global, mps: &Mps) -> Result<Linear, Stop<Refusal>>
+    ensures { GivesProgram mps.now result }
+{
+    match linear_of(alloc, mps) {
+        Ok(linear) => Ok(linear),
+        Err(Stop::Fault(fault)) => Err(Stop::Fault(Refusal::Import(as_import(fault)))),
+        Err(Stop::Memory) => Err(Stop::Memory),
+    }
+}
+
+// The certificate for a linear program that the second file says, or the answer that ends the
+// command.
+fn open_for<D: Desk>(
+    alloc: Global,
+    desk: &mut D,
+    linear: &Linear,
+    name: &str,
+) -> Result<Certificate, Answer>
+    ensures reads { ReadsFile itself (IsCertificateText (program_setting linear.now))
+        (IsCertificateRefused (program_setting linear.now) 2) name.now (D.meaning desk.old)
+        (D.meaning desk.new) result }
+    ensures for_setting { IfOk result (λ c. IsCertificateFor (program_setting linear.now) c) }
+    ensures valid { IsLinear linear.now }
+    ensures known { IfErr result (λ answer. status_of answer ≢ 3) }
+{
+    let rows = linear.bodies().len() as u32;
+    match Vec::from_slice(alloc, linear.kinds()) {
+        Ok(kinds) => open_certificate_over(alloc, desk, rows, kinds, name, 2),
+        Err(_) => Err(Answer::NoMemory),
+    }
+}
+
+// The verdict on a certificate for a linear program, or that it has no objective of its number.
+fn to_verdict(
+    alloc: Global,
+    linear: &Linear,
+    certificate: &Certificate,
+) -> Result<(bool, Vec<u8>), Stop<Refusal>>
+    requires certificate { IsCertificateOf (linear_value linear.now) certificate.now }
+    requires fits { HasFittingBound certificate.now.claim }
+    ensures { Comes (λ outcome. outcome
+        ≡ program_outcome (linear_value linear.now) certificate.now) result }
+{
+    let objective = objective_of(certificate.claim());
+    if objective > 0 {
+        let fault = FoldFault::NoSuchObjective(objective);
+        return Err(Stop::Fault(Refusal::Fold(objective, fault)));
+    }
+    let outcome = outcome_on(alloc, linear, certificate)?;
+    let told = told_outcome(alloc, certificate, outcome)?;
+    Ok(told)
+}
+
+/// Judges a certificate for a claim on an MPS program: reads both texts and writes the verdict that
+/// they come to. Tells nothing.
+pub(crate) fn verify_program<D: Desk>(
+    alloc: Global,
+    form: Form,
+    mps: &str,
+    certificate: &str,
+    desk: &mut D,
+) -> Answer
+    ensures { IsAtRest
+        (verify_mps_promise (D.meaning desk.old).texts form mps.now certificate.now)
+        (D.meaning desk.old) (D.meaning desk.new) result }
+{
+    let read = match open_text(alloc, desk, form, mps) {
+        Ok(read) => read,
+        Err(ended) => return ended,
+    };
+    let judged = to_linear(alloc, &read);
+    drop(read);
+    let linear = match answered(judged) {
+        Ok(linear) => linear,
+        Err(ended) => return ended,
+    };
+    let given = match open_for(alloc, desk, &linear, certificate) {
+        Ok(given) => given,
+        Err(ended) => {
+            drop(linear);
+            return ended;
+        }
+    };
+    let verdict = to_verdict(alloc, &linear, &given);
+    drop(linear);
+    drop(given);
+    end(desk, verdict)
+}

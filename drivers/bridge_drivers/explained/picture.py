@@ -1,0 +1,280 @@
+"""The tree of a certificate as a picture in SVG: each node with the part that it is, the bound that
+is shown there, and how it goes on or closes. Large trees are folded to a depth."""
+
+from __future__ import annotations
+
+import time
+from fractions import Fraction
+from html import escape
+from typing import Iterator, NamedTuple
+
+from ..values import exact_decimal
+from .bounds import Bounds
+from .reading import DUALS, LEMMA, PLANE, ROOT, SPLIT, WEIGHTS, Certificate
+from .words import Wording
+
+MOST_SHOWN = 64                 # nodes before a tree is folded
+MOST_DEPTH = 8
+MOST_PATH = 40                  # levels down to a leaf that fails, which are shown unfolded
+SECONDS = 5.0                   # in which bounds are worked out
+WIDTH, HEIGHT, ACROSS, DOWN, MARGIN = 196, 58, 236, 70, 12
+MOST_TEXT, MOST_PART = 26, 24   # characters of a line in a node, of its first, which is bold
+STYLE = """
+.tree text { font: 12px system-ui, sans-serif; fill: #1b1f24; }
+.tree .part { font-weight: 600; }
+.tree rect { fill: #f6f8fa; stroke: #8c959f; stroke-width: 1; }
+.tree path { fill: none; stroke: #8c959f; stroke-width: 1.2; }
+.tree .duals rect { fill: #dafbe1; stroke: #2da44e; }
+.tree .weights rect { fill: #ddf4ff; stroke: #218bff; }
+.tree .folded rect { stroke-dasharray: 5 3; }
+.tree .fails rect { fill: #ffebe9; stroke: #cf222e; stroke-width: 2; }
+.tree .proof { stroke-dasharray: 2 3; }
+"""
+DARK = """
+@media (prefers-color-scheme: dark) {
+  .tree text { fill: #e6edf3; }
+  .tree rect { fill: #21262d; stroke: #6e7681; }
+  .tree path { stroke: #6e7681; }
+  .tree .duals rect { fill: #12361f; stroke: #3fb950; }
+  .tree .weights rect { fill: #0c2d4d; stroke: #388bfd; }
+  .tree .fails rect { fill: #4a1414; stroke: #f85149; }
+}
+"""
+
+
+class Drawn(NamedTuple):
+    """A node at its place in the picture."""
+
+    place: int
+    x: int
+    y: int
+
+
+def short(value: Fraction) -> str:
+    """A number in few characters."""
+    text = exact_decimal(value)
+    if text is not None and len(text) <= 12:
+        return text
+    try:
+        return f"\u2248 {float(value):.6g}"
+    except OverflowError:
+        return "beyond doubles"
+
+
+def cut(text: str, most: int = MOST_TEXT) -> str:
+    return text if len(text) <= most else text[:most - 1] + "\u2026"
+
+
+class Picture:
+    """Of one certificate. `fails` is the place of the first leaf that does not close; `holds`: all
+    of them do."""
+
+    def __init__(self, certificate: Certificate, wording: Wording, bounds: Bounds | None,
+                 fails: int | None = None, holds: bool = True) -> None:
+        self.certificate, self.wording, self.fails = certificate, wording, fails
+        self.bounds, self.holds = bounds, holds
+        path = certificate.path(fails)[:MOST_PATH] if fails is not None else []
+        self.on_path = set(path)
+        self.depth = self.folded_depth()
+        self.values: dict[int, Fraction | None] = {}
+        nodes = certificate.nodes
+        if bounds is not None and nodes:
+            self.values = bounds_of(certificate, bounds)
+        self.drawn: list[Drawn] = []
+        self.lowest = MARGIN
+        self.lay_out()
+
+    # which nodes, and where ----------------------------------------------------------
+
+    def folded_depth(self) -> int:
+        """The greatest depth down to which there are few nodes."""
+        counts: dict[int, int] = {}
+        for node in self.certificate.nodes:
+            counts[node.depth] = counts.get(node.depth, 0) + 1
+        total = depth = 0
+        for depth in sorted(counts):
+            total += counts[depth]
+            if total > MOST_SHOWN or depth > MOST_DEPTH:
+                return max(depth - 1, 1)
+        return depth
+
+    def is_folded(self, place: int) -> bool:
+        node = self.certificate.nodes[place]
+        return not node.is_leaf() and node.depth >= self.depth and place not in self.on_path
+
+    def shown_below(self, place: int) -> list[int]:
+        return [] if self.is_folded(place) else self.certificate.children(place)
+
+    def lay_out(self) -> None:
+        """Leaves one below the other, each node beside its first part."""
+        heights: dict[int, int] = {}
+        order, stack = [], [0] if self.certificate.nodes else []
+        while stack:
+            place = stack.pop()
+            order.append(place)
+            stack += reversed(self.shown_below(place))
+        for place in order:
+            if not self.shown_below(place):
+                heights[place] = self.lowest
+                self.lowest += DOWN
+        for place in reversed(order):
+            below = self.shown_below(place)
+            if below:
+                heights[place] = heights[below[0]]
+        self.drawn = [Drawn(place, MARGIN + ACROSS * self.certificate.nodes[place].depth,
+                            heights[place]) for place in order]
+
+    # what a node says ----------------------------------------------------------------
+
+    def texts(self, place: int) -> list[str]:
+        """Its lines: the part, the bound, how it goes on or closes."""
+        return list(filter(None, (self.part_text(place), self.bound_text(place),
+                                  self.way_text(place))))
+
+    def part_text(self, place: int, most: int = 0) -> str:
+        """`z \u2264 0`; of a long form the start alone stands before the sign."""
+        node = self.certificate.nodes[place]
+        if node.parent == ROOT:
+            return "all points"
+        above = self.certificate.nodes[node.parent]
+        is_up = above.kind != LEMMA and node.part == 1
+        side = f" \u2265 {Fraction(above.at) + 1}" if is_up else f" \u2264 {above.at}"
+        left = self.wording.left_side(above)
+        if above.kind == LEMMA:
+            left = ("with " if node.part else "proof: ") + left
+        return (cut(left, max(most - len(side), 6)) if most else left) + side
+
+    def bound_text(self, place: int) -> str:
+        node = self.certificate.nodes[place]
+        if node.kind == WEIGHTS:
+            return "no point" if self.closes(place) else ""
+        if place not in self.values:
+            return ""
+        value = self.values[place]
+        return "no point" if value is None else f"bound {short(value)}"
+
+    def closes(self, place: int) -> bool | None:
+        """Whether a leaf does; None where that is not known. The verdict is of the first one that
+        does not, so that those before it do."""
+        leaf = self.certificate.nodes[place].leaf
+        if self.holds or self.fails is not None and leaf < self.certificate.nodes[self.fails].leaf:
+            return True
+        if place == self.fails:
+            return False
+        if self.bounds is None or not self.values:
+            return None
+        part = self.bounds.part(place)
+        shown, target = self.bounds.shown(place, part), part.goal.target
+        if self.certificate.nodes[place].kind == WEIGHTS:
+            return shown is not None and shown > 0
+        if shown is None or target is None:
+            return False
+        return shown <= target if part.goal.maximise else shown >= target
+
+    def way_text(self, place: int) -> str:
+        node = self.certificate.nodes[place]
+        if node.is_leaf():
+            closes = self.closes(place)
+            if not closes:
+                return f"leaf {node.leaf} " + ("is not judged" if closes is None
+                                               else "does not close")
+            count, how = len(node.pairs), "closes: rows contradict" if node.kind == WEIGHTS \
+                else "closes by duals"
+            return f"{how} ({count})" if count else "closes by bounds alone"
+        if self.is_folded(place):
+            return f"+ {node.size - 1} nodes, {node.leaves} leaves"
+        return {SPLIT: "split ", PLANE: "plane ", LEMMA: "lemma "}[node.kind] + \
+            self.wording.left_side(node)
+
+    def css_class(self, place: int) -> str:
+        node = self.certificate.nodes[place]
+        if self.is_folded(place):
+            return "folded"
+        if node.is_leaf() and not self.closes(place):
+            return "fails" if self.closes(place) is False else "cut"
+        return node.kind if node.kind in (DUALS, WEIGHTS) else "cut"
+
+    # svg -----------------------------------------------------------------------------
+
+    def size(self) -> tuple[int, int]:
+        across = max((d.x for d in self.drawn), default=MARGIN) + WIDTH + MARGIN
+        return across, max(self.lowest - (DOWN - HEIGHT) + MARGIN, HEIGHT)
+
+    def svg(self, alone: bool) -> str:
+        """The picture, as a file of its own on white, or as a part of a page, light or dark."""
+        width, height = self.size()
+        nodes = self.certificate.nodes
+        said = f"the tree of the certificate: {len(nodes)} nodes, {nodes[0].leaves} leaves" \
+            if nodes else "the certificate has no tree"
+        return "\n".join([
+            f'<svg xmlns="http://www.w3.org/2000/svg" class="tree" width="{width}" '
+            f'height="{height}" viewBox="0 0 {width} {height}" role="img" aria-label="{said}">',
+            f"<title>{said}</title>", f"<style>{STYLE + ('' if alone else DARK)}</style>",
+            *([f'<path d="M0 0H{width}V{height}H0Z" style="fill: #fff; stroke: none"/>'] if alone
+              else []), *self.lines(), *self.boxes(),
+            *([f'<text x="{MARGIN}" y="{HEIGHT // 2}">{said}</text>'] if not nodes else []),
+            "</svg>", ""])
+
+    def lines(self) -> Iterator[str]:
+        at = {d.place: d for d in self.drawn}
+        for d in self.drawn:
+            for part, child in enumerate(self.shown_below(d.place)):
+                x, y = d.x + WIDTH, d.y + HEIGHT // 2
+                to = at[child]
+                middle, end = (x + to.x) // 2, to.y + HEIGHT // 2
+                is_proof = self.certificate.nodes[d.place].kind == LEMMA and part == 0
+                mark = ' class="proof"' if is_proof else ""
+                yield f'<path{mark} d="M{x} {y} C{middle} {y} {middle} {end} {to.x} {end}"/>'
+
+    def boxes(self) -> Iterator[str]:
+        for d in self.drawn:
+            texts = self.texts(d.place)
+            line = self.certificate.nodes[d.place].line
+            whole = escape("\n".join([*filter(None, texts), f"line {line}"]))
+            yield (f'<g class="{self.css_class(d.place)}"><title>{whole}</title>'
+                   f'<rect x="{d.x}" y="{d.y}" width="{WIDTH}" height="{HEIGHT}" rx="6"/>')
+            for k, text in enumerate([self.part_text(d.place, MOST_PART), *texts[1:]]):
+                mark = ' class="part"' if k == 0 else ""
+                yield (f'<text{mark} x="{d.x + 8}" y="{d.y + 18 + 16 * k}">'
+                       f'{escape(cut(text))}</text>')
+            yield "</g>"
+
+
+def bounds_of(certificate: Certificate, bounds: Bounds) -> dict[int, Fraction | None]:
+    """The bound that is shown at each node: that of a leaf's numbers, and else of the worse part;
+    None where there is no point. A lemma has that of its second tree. Nodes with a leaf whose
+    numbers show nothing are left out, and those that are left when time is over."""
+    values: dict[int, Fraction | None] = {}
+    nodes, end = certificate.nodes, time.monotonic() + SECONDS
+    for place in range(len(nodes) - 1, -1, -1):
+        node = nodes[place]
+        if time.monotonic() > end:
+            break
+        if node.kind == WEIGHTS:
+            values[place] = None
+        elif node.kind == DUALS:
+            part = bounds.part(place)
+            shown = bounds.shown(place, part)
+            if shown is not None:
+                values[place] = shown
+        else:
+            below = certificate.children(place)[1 if node.kind == LEMMA else 0:]
+            if all(child in values for child in below):
+                worst = [v for v in (values[child] for child in below) if v is not None]
+                values[place] = worse(worst, is_maximised(place, certificate, bounds))
+    return values
+
+
+def is_maximised(place: int, certificate: Certificate, bounds: Bounds) -> bool:
+    """Whether the goal at a node is to be maximised."""
+    path = certificate.path(place)
+    for above, below in zip(path, path[1:]):
+        if certificate.nodes[above].kind == LEMMA and certificate.nodes[below].part == 0:
+            return True
+    return bounds.goal.maximise
+
+
+def worse(values: list[Fraction], maximise: bool) -> Fraction | None:
+    if not values:
+        return None
+    return max(values) if maximise else min(values)

@@ -1,0 +1,281 @@
+"""A certificate in words: what it claims, what its tree is made of, where and by how much it does
+not hold."""
+
+from __future__ import annotations
+
+import re
+from collections import Counter
+from fractions import Fraction
+from typing import Mapping, NamedTuple, Sequence
+
+from .. import verdicts
+from ..names import Names
+from ..verdicts import Said, decimal, share
+from .bounds import Bounds, Part
+from .reading import LEMMA, PLANE, SPLIT, WEIGHTS, Certificate, Node
+
+MOST_TERMS = 6                  # of a form that is told
+MOST_LISTED = 12                # values of a point, rows
+FAULT = re.compile(r"leaf (\d+) (?:(gap) (\S+)|(too wide)|(row|bound) (\d+) has no side)")
+POINT_FAULT = re.compile(r"(ray )?(row|bound|variable) (\d+) (broken|not whole)")
+WIDE = re.compile(r"too wide at (ray )?(?:(row|bound) (\d+)|objective)")
+
+
+class Tally(NamedTuple):
+    """What a tree is made of; `rows` says in how many leaves each constraint is used, `added` how
+    often rows that were added are."""
+
+    nodes: int
+    splits: int
+    planes: int
+    lemmas: int
+    leaves: int
+    weights: int
+    depth: int
+    rows: Mapping[int, int]
+    added: int
+
+
+def tally(certificate: Certificate, constraints: int) -> Tally:
+    kinds = Counter(node.kind for node in certificate.nodes)
+    rows: Counter[int] = Counter()
+    added = 0
+    for node in certificate.nodes:
+        if node.is_leaf():
+            for number, text in node.pairs:
+                if number < constraints:
+                    rows[number] += 1
+                else:
+                    added += 1
+    leaves = sum(node.is_leaf() for node in certificate.nodes)
+    depth = max((node.depth for node in certificate.nodes), default=0)
+    return Tally(len(certificate.nodes), kinds[SPLIT], kinds[PLANE], kinds[LEMMA], leaves,
+                 kinds[WEIGHTS], depth, rows, added)
+
+
+def counted(count: int, thing: str) -> str:
+    return f"{count} {thing}{'' if count == 1 else 'es' if thing.endswith('s') else 's'}"
+
+
+class Wording:
+    """Names of a model in the sentences of one certificate. `bounds` are None where the program
+    could not be read in exact numbers."""
+
+    def __init__(self, certificate: Certificate, names: Names, bounds: Bounds | None,
+                 constraints: int) -> None:
+        self.certificate, self.names, self.bounds = certificate, names, bounds
+        self.constraints = constraints
+
+    # parts of the model ------------------------------------------------------------
+
+    def column(self, number: int) -> str:
+        return self.names.column(number) or f"x{number}"
+
+    def row(self, number: int, place: int = -1) -> str:
+        """A constraint, or a row that was added above the node."""
+        if number < self.constraints:
+            return self.names.constraint(number)
+        added = self.added_above(place)
+        if number - self.constraints < len(added):
+            node = self.certificate.nodes[added[number - self.constraints]]
+            return f"the {node.kind} of line {node.line}"
+        return f"row {number}"
+
+    def added_above(self, place: int) -> list[int]:
+        """The planes above a node, and the lemmas in whose second tree it is."""
+        nodes, path = self.certificate.nodes, self.certificate.path(place)
+        return [above for above, below in zip(path, path[1:])
+                if nodes[above].kind == PLANE
+                or nodes[above].kind == LEMMA and nodes[below].part == 1]
+
+    def form(self, pairs: Sequence[tuple[int, str]]) -> str:
+        """`10 a + 7 b - z`, of many terms the first."""
+        text = ""
+        for j, number in pairs[:MOST_TERMS]:
+            value = Fraction(number)
+            size = "" if abs(value) == 1 else f"{abs(value)} "
+            sign = ("-" if value < 0 else "") if not text else (" - " if value < 0 else " + ")
+            text += sign + size + self.column(j)
+        return text + (f" + .. ({len(pairs)} terms)" if len(pairs) > MOST_TERMS else "")
+
+    def left_side(self, node: Node) -> str:
+        return self.column(node.column) if node.kind == SPLIT else self.form(node.pairs)
+
+    def cut(self, node: Node, part: int) -> str:
+        """One part of a node, as `z at most 0`."""
+        if node.kind == LEMMA:
+            how = "by the lemma" if part else "in the proof of the lemma"
+            return f"{how}: {self.left_side(node)} at most {node.at}"
+        at = f"at least {Fraction(node.at) + 1}" if part else f"at most {node.at}"
+        return f"{self.left_side(node)} {at}" + (" (plane)" if node.kind == PLANE else "")
+
+    def path(self, place: int) -> list[str]:
+        """The cuts from the root to a node, each with its line."""
+        nodes, path = self.certificate.nodes, self.certificate.path(place)
+        return [f"{self.cut(nodes[above], nodes[below].part)} (line {nodes[above].line})"
+                for above, below in zip(path, path[1:])]
+
+    # what holds ----------------------------------------------------------------------
+
+    def values(self, point: Mapping[int, Fraction]) -> str:
+        texts = [f"{self.column(j)} {value}" for j, value in list(point.items())[:MOST_LISTED]]
+        more = len(point) - MOST_LISTED
+        rest = f" and {more} more" if more > 0 else ""
+        return (", ".join(texts) or "all 0") + rest + ("; the others 0" if texts else "")
+
+    def lines(self) -> list[str]:
+        """What the certificate is made of."""
+        c, told = self.certificate, []
+        if c.point is not None:
+            told.append("point     " + self.values(c.point))
+        if c.ray is not None:
+            told.append("ray       " + self.values(c.ray))
+        if not c.nodes:
+            return told
+        t = tally(c, self.constraints)
+        told.append(f"tree      {counted(t.nodes, 'node')}: {counted(t.splits, 'split')}, "
+                    f"{counted(t.planes, 'plane')}, {counted(t.lemmas, 'lemma')}, "
+                    f"{t.leaves} {'leaf' if t.leaves == 1 else 'leaves'} ({t.weights} by weights); "
+                    f"depth {t.depth}")
+        return told + self.rows_lines(t)
+
+    def rows_lines(self, t: Tally) -> list[str]:
+        """Which rows the leaves use, and how often."""
+        used = sorted(t.rows.items(), key=lambda item: (-item[1], item[0]))
+        told = [f"uses      {self.row(i)} in {times} of {t.leaves} leaves"
+                for i, times in used[:MOST_LISTED]]
+        if len(used) > MOST_LISTED:
+            told.append(f"uses      {len(used) - MOST_LISTED} more constraints")
+        if t.added:
+            told.append(f"uses      planes and lemmas {counted(t.added, 'time')}")
+        if not used and not t.added:
+            told.append("uses      no row: the bounds of variables alone")
+        return told
+
+    # what does not -------------------------------------------------------------------
+
+    def failing_leaf(self, verdict: str) -> int | None:
+        """The place of the leaf that the verdict names."""
+        found = FAULT.fullmatch(verdict)
+        return None if found is None else self.certificate.place_of_leaf(int(found.group(1)))
+
+    def failure(self, verdict: str) -> list[str]:
+        """Why the verdict is none of the claim, and by how much."""
+        found = FAULT.fullmatch(verdict)
+        if found is not None:
+            place = self.certificate.place_of_leaf(int(found.group(1)))
+            node = self.certificate.nodes[place]
+            told = [f"fails     leaf {node.leaf} (line {node.line}): {self.fault(place, found)}"]
+            cuts = self.path(place)
+            return told + [f"path      {k + 1}. {text}" for k, text in enumerate(cuts)] + (
+                [] if cuts else ["path      it is the whole tree"])
+        found = POINT_FAULT.fullmatch(verdict)
+        if found is not None and self.bounds is not None:
+            return ["fails     " + self.point_fault(*found.groups())]
+        found = WIDE.fullmatch(verdict)
+        if found is not None:
+            return ["fails     " + self.wide(*found.groups())]
+        if verdict == "ray does not improve" and self.bounds is not None:
+            return ["fails     along the ray the objective changes by "
+                    f"{self.bounds.change(self.certificate.ray or {})}, which is no better"]
+        return ["fails     " + verdict]
+
+    def wide(self, ray: str | None, kind: str | None, number: str | None) -> str:
+        what = "the objective" if number is None else \
+            self.row(int(number)) if kind == "row" else self.names.variable(int(number))
+        where = "along the ray" if ray else "at the point"
+        return f"a sum of {what} {where}, or a side of it, passes 128 bits: numbers with fewer " \
+               "digits are wanted"
+
+    def fault(self, place: int, found: re.Match[str]) -> str:
+        _, gap, value, wide, kind, number = found.groups()
+        if gap:
+            return self.gap(place, Fraction(value))
+        if wide:
+            return "a sum passes 128 bits: numbers with fewer digits are wanted"
+        return self.no_side(place, kind, int(number))
+
+    def gap(self, place: int, value: Fraction) -> str:
+        if self.certificate.nodes[place].kind == WEIGHTS:
+            return (f"its weights show {value}, and contradict each other only above 0: "
+                    f"{decimal(-value)} too little")
+        part = self.part(place)
+        shows = f"its duals show that {{}} is better than {value}"
+        if part is None or part.goal.target is None:
+            return shows.format("no point") + ", which is not what is claimed"
+        goal, what = part.goal, "no point of this part"
+        wanted = "the claim needs"
+        if goal.lemma >= 0:
+            line = self.certificate.nodes[goal.lemma].line
+            wanted = f"the lemma of line {line} needs"
+        assert goal.target is not None
+        away = abs(value - goal.target)
+        sense = "too high" if goal.maximise else "too low"
+        return (f"{shows.format(what)}, and {wanted} {goal.target}: {decimal(away)}"
+                f"{share(away, goal.target)} {sense}")
+
+    def part(self, place: int) -> Part | None:
+        return None if self.bounds is None else self.bounds.part(place)
+
+    def no_side(self, place: int, kind: str, number: int) -> str:
+        what = self.row(number, place) if kind == "row" else self.names.variable(number)
+        part = self.part(place)
+        if part is None or self.bounds is None:
+            return f"a number asks for a side that {what} has not"
+        if kind == "row":
+            value = Fraction(dict(self.certificate.nodes[place].pairs)[number])
+            said = f"the number {value} of {what} asks for its"
+        else:
+            value = self.bounds.left(place, part)[1].get(number, Fraction(0))
+            said = f"the numbers leave {what} the cost {value}, which asks for its"
+        side = "lower" if self.bounds.is_lower(place, part, value) else "upper"
+        thing = "side" if kind == "row" else "bound"
+        return f"{said} {side} {thing}, and there is none"
+
+    def point_fault(self, ray: str | None, kind: str, text: str, how: str) -> str:
+        assert self.bounds is not None
+        number = int(text)
+        what = self.row(number) if kind == "row" else self.names.variable(number)
+        values = (self.certificate.ray if ray else self.certificate.point) or {}
+        if how == "not whole":
+            value = values.get(number, Fraction(0))
+            return f"{what} is {value} at the point, {decimal(abs(round(value) - value))} from " \
+                   "a whole number"
+        if kind == "row":
+            value, row = self.bounds.activity(number, values), self.bounds.row(number)
+            ends = row.low, row.high
+        else:
+            value, ends = values.get(number, Fraction(0)), self.bounds.ends(number)
+        if ray:
+            return f"{what} changes by {value} along the ray, past a side that it has"
+        low, high = ends
+        if low is not None and value < low:
+            return f"{what} is {value} at the point, and at least {low}: {decimal(low - value)} " \
+                   "too little"
+        assert high is not None
+        return f"{what} is {value} at the point, and at most {high}: {decimal(value - high)} " \
+               "too much"
+
+
+def claim_words(certificate: Certificate, said: Said | None, bounds: Bounds | None) -> str:
+    """The claim, where it holds or not."""
+    maximise = bounds.model.maximise if bounds is not None else False
+    if said is None:
+        said = claimed(certificate, bounds)
+    if said is None:
+        return certificate.claim
+    return verdicts.in_words(said, maximise)
+
+
+def claimed(certificate: Certificate, bounds: Bounds | None) -> Said | None:
+    """What it claims, with the value of its point."""
+    claim, numbers = certificate.claim, certificate.numbers
+    if claim in ("infeasible", "unbounded"):
+        return Said(claim)
+    if claim == "bound":
+        return Said(claim, None, numbers[0])
+    if bounds is None or certificate.point is None:
+        return None
+    value = bounds.value(certificate.point)
+    bound = {"optimal": value, "within": numbers[0] if numbers else None}.get(claim)
+    return Said(claim, value, bound)

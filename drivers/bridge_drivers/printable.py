@@ -1,0 +1,23 @@
+"""Text that a terminal shows and does not obey: names and bytes of a file may hold its escapes."""
+
+from __future__ import annotations
+
+import re
+
+# of C0 all but the tab and the line's end, DEL, C1, and single bytes that stand for C1
+CONTROLS = re.compile("[\x00-\x08\x0b-\x1f\x7f-\x9f\udc80-\udc9f]")
+IN_A_LINE = re.compile("[\t\n]")
+
+
+def printable(text: str) -> str:
+    """Controls as `\\x1b`; lines and tabs stay."""
+    return CONTROLS.sub(escaped, text)
+
+
+def in_a_line(text: str) -> str:
+    """The same of a word or line: line ends and tabs too."""
+    return IN_A_LINE.sub(escaped, printable(text))
+
+
+def escaped(found: re.Match[str]) -> str:
+    return f"\\x{ord(found.group()) & 0xff:02x}"

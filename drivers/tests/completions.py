@@ -1,0 +1,142 @@
+"""Completion of the commands for bash and zsh, by the shells themselves where they are there."""
+
+from __future__ import annotations
+
+import os
+import pty
+import select
+import shutil
+import signal
+import subprocess
+import time
+import unittest
+
+from support import HERE, Case
+
+from bridge_drivers import front, solvers
+from bridge_drivers.options import COMMON, BadOption, Options
+
+BIN = os.path.join(HERE, "..", "bin")
+ASK = """source {folder}/completion
+COMP_WORDS=({words}) COMP_CWORD=$(({count} - 1))
+_nl_bridge 2>/dev/null
+printf '%s\\n' "${{COMPREPLY[@]}}"
+"""
+
+
+@unittest.skipUnless(shutil.which("bash"), "no bash")
+class Bash(Case):
+    def answers(self, *words: str) -> list[str]:
+        with open(os.path.join(self.folder, "completion"), "w", encoding="utf-8") as f:
+            f.write(front.completion("bash"))
+        quoted = " ".join("'" + word + "'" for word in words)
+        ran = subprocess.run(["bash", "-c", ASK.format(folder=self.folder, words=quoted,
+                                                       count=len(words))],
+                             cwd=self.folder, capture_output=True, text=True, check=False)
+        self.assertEqual(ran.stderr, "")
+        return sorted(ran.stdout.split())
+
+    def test_options_and_values(self) -> None:
+        self.assertEqual(self.answers("bridge-cbc", "knap", "pro"), ["prove="])
+        self.assertEqual(self.answers("bridge-cbc", "knap", "prove", "="), ["0", "1"])
+        self.assertEqual(self.answers("bridge-cbc", "knap", "only", "=", "m"), ["mps"])
+        self.assertEqual(self.answers("/usr/bin/bridge-certify", "knap", "driver", "=", "c"),
+                         ["cbc", "clp"])
+        self.assertEqual(self.answers("bridge-glpsol", "k", "x"), ["xcheck="])
+        self.assertEqual(self.answers("bridge-cbc", "k", "x"), [])
+        self.assertEqual(self.answers("bridge-cbc", "k", "-A"), ["-AMPL"])
+
+    def test_files(self) -> None:
+        for name in ("a.nl", "a.certificate", "b.txt"):
+            open(os.path.join(self.folder, name), "w", encoding="ascii").close()
+        self.assertEqual(self.answers("bridge-cbc", "a"), ["a.nl"])
+        self.assertEqual(self.answers("bridge-cbc", "a", "certificate", "=", "a.c"),
+                         ["a.certificate"])
+        self.assertEqual(self.answers("nl-bridge", "verify", "a.nl", "a"),
+                         ["a.certificate", "a.nl"])
+
+    def test_commands(self) -> None:
+        self.assertEqual(self.answers("nl-bridge", "ex"), ["explain", "export"])
+        self.assertEqual(self.answers("nl-bridge", "explain", "--h"), ["--html"])
+        self.assertEqual(self.answers("nl-bridge", "stats", "m.nl", "js"), ["json=1"])
+        self.assertEqual(self.answers("nl-bridge", "completion", ""),
+                         sorted(["bash", "zsh", "completion"]))
+
+
+class Texts(Case):
+    def test_all_commands(self) -> None:
+        """Both name each command that is installed."""
+        for shell in ("bash", "zsh"):
+            text = front.completion(shell)
+            for name in os.listdir(BIN):
+                self.assertIn(f" {name}", text)
+
+    @unittest.skipUnless(shutil.which("zsh"), "no zsh")
+    def test_zsh(self) -> None:
+        """It loads by its name, and answers."""
+        with open(os.path.join(self.folder, "_nl-bridge"), "w", encoding="utf-8") as f:
+            f.write(front.completion("zsh"))
+        code = (f"fpath=({self.folder} $fpath); autoload -Uz compinit && compinit -u -d "
+                f"{self.folder}/dump; print $_comps[bridge-cbc] $_comps[nl-bridge]; "
+                "autoload +X _nl-bridge && which _nl-bridge | wc -l")
+        ran = subprocess.run(["zsh", "-f", "-c", code], capture_output=True, text=True,
+                             check=False)
+        lines = ran.stdout.split("\n")
+        self.assertEqual((lines[0], ran.stderr), ("_nl-bridge _nl-bridge", ""))
+        self.assertGreater(int(lines[1]), 50)
+
+
+    @unittest.skipUnless(shutil.which("zsh"), "no zsh")
+    def test_zsh_answers(self) -> None:
+        """As it is typed, on a terminal of its own."""
+        with open(os.path.join(self.folder, "_nl-bridge"), "w", encoding="utf-8") as f:
+            f.write(front.completion("zsh"))
+        child, terminal = pty.fork()
+        if child == 0:
+            os.execvpe("zsh", ["zsh", "-f", "-i"], {**os.environ, "TERM": "dumb"})
+        try:
+            os.write(terminal, f"PS1='> '; fpath=({self.folder} $fpath); autoload -Uz compinit; "
+                               f"compinit -u -d {self.folder}/dump; print rea''dy\n".encode())
+            seen(terminal, "ready")
+            for typed, answer in (("bridge-cbc knap prov\t", "e="), ("nl-bridge veri\t", "fy"),
+                                  ("bridge-certify knap driver=gl\t", "psol")):
+                os.write(terminal, typed.encode())
+                self.assertIn(typed[:-1] + answer, seen(terminal, answer).replace("\x07", ""))
+                os.write(terminal, b"\x15\n")
+        finally:
+            os.kill(child, signal.SIGKILL)
+            os.waitpid(child, 0)
+            os.close(terminal)
+
+
+def seen(terminal: int, text: str) -> str:
+    """What a terminal shows until the text is there, or thirty seconds are over."""
+    shown, end = "", time.monotonic() + 30
+    while text not in shown and time.monotonic() < end:
+        if select.select([terminal], [], [], 0.2)[0]:
+            shown += os.read(terminal, 4096).decode("utf-8", "replace")
+    return shown
+
+
+class Near(unittest.TestCase):
+    def test_did_you_mean(self) -> None:
+        for word, meant in (("proove", "prove"), ("timelimit", "timelim"), ("certficate",
+                                                                            "certificate")):
+            with self.assertRaisesRegex(BadOption, f"^unknown option {word}; did you mean "
+                                                   f"`{meant}`\\? -= lists the options$"):
+                Options().take([word + "=1"])
+        with self.assertRaisesRegex(BadOption, "^unknown option foo; -= lists the options$"):
+            Options().take(["foo=1"])
+
+    def test_help(self) -> None:
+        """Each command's has its options, one a line, and an example that can be read."""
+        for name in ["certify", *solvers.NAMES]:
+            ran = subprocess.run([os.path.join(BIN, "bridge-" + name), "--help"],
+                                 capture_output=True, text=True, check=False)
+            self.assertEqual(ran.returncode, 0, ran.stderr)
+            example = ran.stdout.rstrip("\n").split("\n")[-1]
+            self.assertTrue(example.startswith(f"example: bridge-{name} "), example)
+            if name != "certify":
+                for option in COMMON:
+                    self.assertRegex(ran.stdout, f"(?m)^  {option.name} ")
+                Options().take(example.split()[3:])

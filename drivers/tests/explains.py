@@ -1,0 +1,318 @@
+"""Certificates in words, as pictures and pages."""
+
+from __future__ import annotations
+
+import contextlib
+import io
+import os
+import re
+import shutil
+import subprocess
+import unittest
+import xml.etree.ElementTree as xml
+from fractions import Fraction as F
+
+from support import HERE, NEEDS_PROGRAM, PROGRAM, Case
+from models import MODELS, nl
+
+from bridge_drivers.bridge import Bridge
+from bridge_drivers.explained import command, reading
+from bridge_drivers.explained.command import BadWords, Explaining, Files, explained, files_of
+from bridge_drivers.explained.picture import MOST_DEPTH, MOST_SHOWN, Picture
+from bridge_drivers.printable import printable
+
+EXAMPLES = os.path.join(HERE, "..", "..", "packaging", "examples")
+BROWSER = shutil.which("chromium") or shutil.which("google-chrome")
+SVG = "{http://www.w3.org/2000/svg}"
+# 12 a + 21 b + 33 c = 500; max y with y <= 10 x and y <= 7; max x + y with x - y <= 2
+PARITY = nl([("I", None, None)] * 3, [(500, 500, {0: 12, 1: 21, 2: 33})])
+FLOW = nl([("C", 0, 7), ("B", 0, 1)], [(None, 0, {0: 1, 1: -10})], [("max", 0, {0: 1})])
+ENDLESS = nl([("C", 0, None), ("I", 0, None)], [(None, 2, {0: 1, 1: -1})],
+             [("max", 0, {0: 1, 1: 1})])
+WIDE = nl([("B", 0, 1)] * 9, [], [("max", 0, {j: j + 1 for j in range(9)})])
+
+
+def text_of(lines: str) -> bytes:
+    """The lines of a certificate, which stand here between `/`."""
+    return "\n".join(["certificate 1", *lines.split("/")]).encode() + b"\n"
+
+
+def full_tree(depth: int, claim: str) -> bytes:
+    """All splits of `depth` binary variables, with leaves without numbers."""
+    lines = [claim]
+
+    def below(level: int) -> None:
+        if level == depth:
+            lines.append("duals 0")
+            return
+        lines.append(f"split {level} 0")
+        below(level + 1)
+        below(level + 1)
+    below(0)
+    return text_of("/".join(lines))
+
+
+class Texts(Case):
+    def test_reading(self) -> None:
+        self.put(text_of("optimal 0/point 1/1 1/lemma 2 0/0 1/1 -7/split 1 0/duals 1/0 1/duals 0/"
+                         "plane 1 2/1 3/weights 1/0 .5/duals 1/1 1"), ".certificate")
+        c = reading.read(self.stub + ".certificate")
+        self.assertEqual((c.claim, c.objective, c.point, c.ray), ("optimal", 0, {1: F(1)}, None))
+        self.assertEqual([(n.kind, n.line, n.parent, n.part, n.depth, n.leaf, n.size, n.leaves)
+                          for n in c.nodes],
+                         [("lemma", 5, -1, 0, 0, -1, 7, 4), ("split", 8, 0, 0, 1, -1, 3, 2),
+                          ("duals", 9, 1, 0, 2, 0, 1, 1), ("duals", 11, 1, 1, 2, 1, 1, 1),
+                          ("plane", 12, 0, 1, 1, -1, 3, 2), ("weights", 14, 4, 0, 2, 2, 1, 1),
+                          ("duals", 16, 4, 1, 2, 3, 1, 1)])
+        self.assertEqual((c.children(0), c.children(4), c.children(6), c.path(6)),
+                         ([1, 4], [5, 6], [], [0, 4, 6]))
+        self.assertEqual((c.nodes[5].pairs, c.place_of_leaf(3)), ([(0, ".5")], 6))
+
+    def test_what_ends_too_soon(self) -> None:
+        self.put(text_of("bound 0 1/split 0 0/duals 0"), ".certificate")
+        self.assertRaises(ValueError, reading.read, self.stub + ".certificate")
+
+    def test_words_of_the_call(self) -> None:
+        self.assertEqual(files_of(["--svg=s", "m", "c", "--html", "h"]), Files("m", "c", "h", "s"))
+        for words in (["m"], ["m", "c", "d"], ["m", "c", "--pdf", "x"], ["m", "c", "--html"]):
+            self.assertRaises(BadWords, files_of, words)
+
+
+@NEEDS_PROGRAM
+class Explained(Case):
+    """By the verdicts of the program."""
+
+    def explain(self, model: bytes, certificate: bytes, names: str = "") -> list[str]:
+        self.put(model)
+        self.put(certificate, ".certificate")
+        if names:
+            self.put(names.replace(" ", "\n").encode() + b"\n", ".col")
+        out = io.StringIO()
+        with contextlib.redirect_stdout(out):
+            self.status = explained(Bridge(PROGRAM, lambda argv: None),
+                                    Files(self.stub + ".nl", self.stub + ".certificate"))
+        return out.getvalue().replace(self.stub, "m").split("\n")[:-1]
+
+    def object(self, model: bytes, certificate: bytes) -> Explaining:
+        self.put(model)
+        self.put(certificate, ".certificate")
+        bridge = Bridge(PROGRAM, lambda argv: None)
+        files = Files(self.stub + ".nl", self.stub + ".certificate")
+        reply = bridge.call("verify", *files[:2])
+        return Explaining(bridge, files, reply.out.decode().strip(), reply.status == 0)
+
+    def example(self, name: str) -> bytes:
+        with open(os.path.join(EXAMPLES, name), "rb") as f:
+            return f.read()
+
+    def test_one_that_holds(self) -> None:
+        lines = self.explain(self.example("knap.nl"), self.example("knap.certificate"), "a b z")
+        self.assertEqual((self.status, lines), (0, [
+            "m.certificate holds of m.nl: optimal 17",
+            "claim     a point has the objective 17, and none is better",
+            "point     a 1, b 1; the others 0",
+            "tree      7 nodes: 3 splits, 0 planes, 0 lemmas, 4 leaves (2 by weights); depth 3",
+            "uses      constraint 0 in 2 of 4 leaves"]))
+
+    def test_a_leaf_that_fails(self) -> None:
+        """The path to it by names, and by how much."""
+        text = self.example("knap.certificate").replace(b"optimal 0\npoint 2\n0 1\n1 1\n",
+                                                        b"bound 0 16\n")
+        lines = self.explain(self.example("knap.nl"), text, "a b z")
+        self.assertEqual((self.status, lines[:4]), (1, [
+            "m.certificate does not hold of m.nl: leaf 0 gap 17",
+            "claim     it claims: no point has more than 16",
+            "fails     leaf 0 (line 4): its duals show that no point of this part is better than "
+            "17, and the claim needs 16: 1 (6.25 %) too high",
+            "path      1. z at most 0 (line 3)"]))
+
+    def test_planes_and_weights(self) -> None:
+        good = "infeasible/plane 3 166/0 4/1 7/2 11/weights 2/0 1/3/1 -1/weights 2/0 -1/3/1 1"
+        text = good.replace("0 1/3", "0 1:3").replace("0 -1/3", "0 -1:3")
+        lines = self.explain(PARITY, text_of(text).replace(b":", b"/"), "a b c")
+        self.assertEqual(lines[0], "m.certificate holds of m.nl: infeasible")
+        self.assertIn("tree      3 nodes: 0 splits, 1 plane, 0 lemmas, 2 leaves (2 by weights); "
+                      "depth 1", lines)
+        self.assertIn("uses      planes and lemmas 2 times", lines)
+        lines = self.explain(PARITY, text_of(text.replace("1 -1", "1 -2")).replace(b":", b"/"),
+                             "a b c")
+        self.assertEqual(lines[2], "fails     leaf 0 (line 7): the numbers leave variable 0 (a) "
+                                   "the cost 4, which asks for its lower bound, and there is none")
+        self.assertEqual(lines[3], "path      1. 4 a + 7 b + 11 c at most 166 (plane) (line 3)")
+        lines = self.explain(PARITY, text_of("infeasible/plane 3 167/0 4/1 7/2 11/weights 2/0 1:3/"
+                                             "1 -1/weights 2/0 -1:3/1 1").replace(b":", b"/"))
+        self.assertEqual(lines[2], "fails     leaf 0 (line 7): its weights show -1/3, and "
+                                   "contradict each other only above 0: about 0.3333333333 too "
+                                   "little")
+
+    def test_lemmas(self) -> None:
+        good = "bound 0 7/lemma 2 0/0 1/1 -7/split 1 0/duals 1/0 1/duals 0/duals 1/1 1"
+        lines = self.explain(FLOW, text_of(good), "y x")
+        self.assertEqual((self.status, lines[0]), (0, "m.certificate holds of m.nl: bound 7"))
+        lines = self.explain(FLOW, text_of(good.replace("lemma 2 0", "lemma 2 -1")), "y x")
+        self.assertEqual(lines[2:5], [
+            "fails     leaf 0 (line 7): its duals show that no point of this part is better than "
+            "0, and the lemma of line 3 needs -1: 1 (100.00 %) too high",
+            "path      1. in the proof of the lemma: y - 7 x at most -1 (line 3)",
+            "path      2. x at most 0 (line 6)"])
+
+    def test_points_and_rays(self) -> None:
+        for text, line in (
+                ("unbounded 0/point 0/ray 1/0 1", "constraint 0 changes by 1 along the ray, past a "
+                                                  "side that it has"),
+                ("feasible 0/point 1/0 3", "constraint 0 is 3 at the point, and at most 2: 1 too "
+                                           "much"),
+                ("feasible 0/point 1/0 -.5", "variable 0 is -1/2 at the point, and at least 0: 0.5 "
+                                             "too little"),
+                ("feasible 0/point 1/1 .25", "variable 1 is 1/4 at the point, 0.25 from a whole "
+                                             "number"),
+                ("unbounded 0/point 0/ray 0", "along the ray the objective changes by 0, which is "
+                                              "no better")):
+            lines = self.explain(ENDLESS, text_of(text))
+            self.assertEqual((self.status, lines[2]), (1, "fails     " + line))
+        wide = "1" + "0" * 36
+        lines = self.explain(nl([("C", 0, None)] * 2, [(None, 2, {0: 3, 1: 5})],
+                                [("max", 0, {0: 1})]),
+                             text_of(f"feasible 0/point 2/0 1e-36/1 {wide}"))
+        self.assertEqual(lines[2], "fails     a sum of constraint 0 at the point, or a side of it, "
+                                   "passes 128 bits: numbers with fewer digits are wanted")
+        lines = self.explain(ENDLESS, text_of("unbounded 0/point 0/ray 2/0 1/1 1"))
+        self.assertEqual(lines[1:], ["claim     the objective goes above every number",
+                                     "point     all 0", "ray       x0 1, x1 1; the others 0"])
+
+    def test_what_is_refused(self) -> None:
+        lines = self.explain(ENDLESS, b"certificate 1\nfeasible 0\npoint 1\n7 1\n")
+        self.assertEqual((self.status, lines[0]),
+                         (2, "m.certificate line 4: index out of range"))
+        self.assertIn("  >      4 7 1", lines)
+        lines = self.explain(ENDLESS, b"letters\n")
+        self.assertEqual(lines[0], "m.certificate line 1: bad first line (it does not begin with "
+                                   "`certificate 1`)")
+
+    def test_bounds_are_those_of_the_program(self) -> None:
+        """What is worked out here of a leaf is what the program tells of it."""
+        knap = self.example("knap.nl")
+        for model, text, place in (
+                (knap, full_tree(3, "bound 0 -1"), None),
+                (knap, text_of("bound 0 16/duals 1/0 3/2"), None),
+                (knap, text_of("bound 0 18/plane 3 1/0 1/1 1/2 1/duals 2/0 1/1 5/duals 1/0 7/4"),
+                 None), (FLOW, text_of("bound 0 -3/split 1 0/duals 1/0 1/duals 1/0 .5"), None),
+                (MODELS["diet"].text, text_of("bound 0 9/duals 2/0 .25/1 .125"), None)):
+            told = self.object(model, text)
+            found = re.fullmatch(r"leaf (\d+) gap (\S+)", told.verdict)
+            if found is None:
+                continue
+            at = told.certificate.place_of_leaf(int(found.group(1)))
+            assert told.bounds is not None
+            self.assertEqual(told.bounds.shown(at, told.bounds.part(at)), F(found.group(2)))
+
+    def test_leaves_meet_what_is_claimed(self) -> None:
+        """Each leaf of a certificate that holds, by what is worked out here."""
+        told = self.object(self.example("knap.nl"), self.example("knap.certificate"))
+        assert told.bounds is not None
+        for at, node in enumerate(told.certificate.nodes):
+            if node.is_leaf():
+                part = told.bounds.part(at)
+                shown = told.bounds.shown(at, part)
+                assert shown is not None
+                self.assertTrue(shown > 0 if node.kind == "weights" else shown <= 17)
+
+    # pictures ------------------------------------------------------------------------
+
+    def test_picture(self) -> None:
+        told = self.object(self.example("knap.nl"), self.example("knap.certificate"))
+        root = xml.fromstring(told.picture(True))
+        groups = root.findall(SVG + "g")
+        self.assertEqual([g.get("class") for g in groups],
+                         ["cut", "duals", "cut", "cut", "duals", "weights", "weights"])
+        self.assertEqual([[t.text for t in g.findall(SVG + "text")] for g in groups[:3]],
+                         [["all points", "bound 17", "split x2"],
+                          ["x2 \u2264 0", "bound 17", "closes by bounds alone"],
+                          ["x2 \u2265 1", "bound 12", "split x0"]])
+        self.assertEqual(len(root.findall(SVG + "path")), 6 + 1)
+
+    def test_without_a_tree(self) -> None:
+        told = self.object(ENDLESS, text_of("feasible 0/point 0"))
+        texts = [t.text for t in xml.fromstring(told.picture(True)).iter(SVG + "text")]
+        self.assertEqual(texts, ["the certificate has no tree"])
+        self.assertNotIn("Its tree", told.page())
+
+    def test_folded(self) -> None:
+        """A large tree is folded to a depth, but for the path to the leaf that fails."""
+        for claim, fails in (("bound 0 45", False), ("bound 0 40", True)):
+            told = self.object(WIDE, full_tree(9, claim))
+            picture = Picture(told.certificate, told.wording, told.bounds, told.fails, told.holds)
+            depths = [told.certificate.nodes[d.place].depth for d in picture.drawn]
+            root = xml.fromstring(picture.svg(True))
+            kinds = [g.get("class") for g in root.findall(SVG + "g")]
+            if fails:
+                self.assertIn(told.fails, [d.place for d in picture.drawn])
+                self.assertGreaterEqual(kinds.count("fails"), 1)
+            else:
+                self.assertNotIn("fails", kinds)
+                self.assertLessEqual(len(depths), MOST_SHOWN)
+                self.assertLessEqual(max(depths), MOST_DEPTH)
+            self.assertGreater(kinds.count("folded"), 1)
+            self.assertIn("+ 30 nodes, 16 leaves", [t.text for t in root.iter(SVG + "text")])
+
+    def test_all_that_do_not_close_are_marked(self) -> None:
+        told = self.object(self.example("knap.nl"), full_tree(3, "bound 0 10"))
+        picture = Picture(told.certificate, told.wording, told.bounds, told.fails, told.holds)
+        self.assertEqual([picture.closes(at) for at, node in enumerate(told.certificate.nodes)
+                          if node.is_leaf()], [True, False, True, False, True, False, False, False])
+
+    def test_names_are_escaped(self) -> None:
+        self.put(b"<b>&\n\x1b[31mb\nz\n", ".col")
+        told = self.object(self.example("knap.nl"), self.example("knap.certificate"))
+        for text in (told.page(), told.picture(True)):
+            self.assertNotIn("<b>", text)
+            self.assertEqual(printable(text), text)
+            self.assertIn("&lt;b&gt;&amp; \u2264 0", text)
+        xml.fromstring(told.picture(True))
+
+    def test_pages_that_cannot_be_written(self) -> None:
+        self.put(self.example("knap.nl"))
+        self.put(self.example("knap.certificate"), ".certificate")
+        out = io.StringIO()
+        with contextlib.redirect_stdout(out):
+            status = explained(Bridge(PROGRAM, lambda argv: None), Files(
+                self.stub + ".nl", self.stub + ".certificate", "/nonexistent/x.html"))
+        self.assertEqual((status, out.getvalue().split("\n")[-2]),
+                         (command.UNWRITTEN, "/nonexistent/x.html is not written: No such file or "
+                                             "directory"))
+
+    def test_pages_do_not_overwrite_what_they_are_of(self) -> None:
+        self.put(self.example("knap.nl"))
+        text = self.example("knap.certificate")
+        self.put(text, ".certificate")
+        nl, certificate = self.stub + ".nl", self.stub + ".certificate"
+        with contextlib.redirect_stdout(io.StringIO()):
+            status = explained(Bridge(PROGRAM, lambda argv: None),
+                               Files(nl, certificate, "", certificate))
+        with open(certificate, "rb") as f:
+            self.assertEqual((status, f.read()), (command.UNWRITTEN, text))
+
+    @unittest.skipUnless(BROWSER, "no chromium")
+    def test_in_a_browser(self) -> None:
+        """In two widths: nothing but the tree is wider than the page, nothing is fetched, and the
+        tree is drawn."""
+        told = self.object(WIDE, full_tree(9, "bound 0 40"))
+        page = told.page()
+        self.assertNotRegex(page, r"""(?i)<script|<link|<img|url\(|src=|href=""")
+        probe = ("<script>document.title = [document.documentElement.scrollWidth <= innerWidth, "
+                 "document.querySelectorAll('svg rect').length, "
+                 "document.querySelector('.fails rect').getBoundingClientRect().width > 100, "
+                 "innerWidth].join(' ')</script></body>")
+        self.put(page.replace("</body>", probe).encode(), ".html")
+        boxes = page.count("<rect ")
+        for width in (1280, 500):
+            ran = subprocess.run([BROWSER, "--headless=new", "--no-sandbox", "--disable-gpu",
+                                  f"--user-data-dir={self.folder}/profile",
+                                  f"--window-size={width},900", "--dump-dom",
+                                  f"file://{self.stub}.html"], capture_output=True, text=True,
+                                 timeout=120, check=False)
+            self.assertIn(f"<title>true {boxes} true {width}</title>", ran.stdout, ran.stderr)
+
+
+if __name__ == "__main__":
+    unittest.main()

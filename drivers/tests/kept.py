@@ -1,0 +1,306 @@
+"""Certificates that are kept: nothing that stands there is lost, and what cannot be written is
+told."""
+
+from __future__ import annotations
+
+import contextlib
+import io
+import os
+import resource
+import shutil
+import signal
+import subprocess
+import sys
+import time
+import unittest
+from fractions import Fraction as F
+from unittest import mock
+
+from support import HERE, NEEDS_PROGRAM, PROGRAM, Case
+from models import MODELS
+
+from bridge_drivers import files, verdicts
+from bridge_drivers.bridge import Bridge, Late, Reply
+from bridge_drivers.certify import clp, command
+from bridge_drivers.certify.command import Finding
+from bridge_drivers.keeping import Keeper, Kept
+from bridge_drivers.program import Program
+from bridge_drivers.verdicts import Said
+
+CERTIFY = os.path.join(HERE, "..", "bin", "bridge-certify")
+OPTIMAL = b"certificate 1\noptimal 0\npoint 0\nduals 0\n"
+
+
+class Covers(unittest.TestCase):
+    def test_which_says_as_much(self) -> None:
+        """New, old, and whether the new one says all that the old one says, maximising."""
+        def said(line: str) -> Said:
+            found = verdicts.read(line)
+            assert found is not None, line
+            return found
+        for new, old, wanted in (
+                ("optimal 7", "optimal 7", True), ("optimal 7", "within 9 7", True),
+                ("feasible 7", "optimal 7", False), ("feasible 8", "feasible 7", True),
+                ("feasible 6", "feasible 7", False), ("within 9 7", "within 8 7", False),
+                ("within 8 7", "within 9 7", True), ("within 8 6", "within 9 7", False),
+                ("bound 8", "feasible 7", False), ("bound 8", "bound 9", True),
+                ("bound 9", "within 9 7", False), ("within 9 7", "bound 9", True),
+                ("infeasible", "optimal 7", True), ("feasible 7", "infeasible", False),
+                ("optimal 7 of objective 1", "feasible 3", False),
+                ("unbounded", "bound 9 of objective 1", False)):
+            self.assertEqual(verdicts.covers(said(new), said(old), True), wanted, (new, old))
+        self.assertTrue(verdicts.covers(said("feasible 6"), said("feasible 7"), False))
+
+    def test_lines(self) -> None:
+        self.assertEqual(verdicts.read("within 19 35/2 of objective 2"),
+                         Said("within", F(35, 2), F(19), 2))
+        self.assertEqual(verdicts.read("unbounded of objective 1"),
+                         Said("unbounded", None, None, 1))
+        for line in ("leaf 0 gap 17", "optimal", "optimal x", "not proved: x", "feasible 1/0"):
+            self.assertIsNone(verdicts.read(line))
+
+
+class InWords(unittest.TestCase):
+    """Claims in words: which number is the bound, from which side, and by how much."""
+
+    def words(self, line: str, maximise: bool = True,
+              steps: "verdicts.Multiples | None" = None) -> str:
+        said = verdicts.read(line)
+        assert said is not None
+        return verdicts.in_words(said, maximise, steps)
+
+    def test_claims(self) -> None:
+        for line, maximise, words in (
+                ("within 19 17", True, "a point has the objective 17, and no point has more than "
+                 "the bound 19; the bound is 2 (11.76 %) above the point's"),
+                ("within 5/3 2", False, "a point has the objective 2, and no point has less than "
+                 "the bound about 1.666666667; the bound is about 0.3333333333 (16.67 %) below the "
+                 "point's"),
+                ("within 1 0", True, "a point has the objective 0, and no point has more than the "
+                 "bound 1; the bound is 1 above the point's"),
+                ("bound 173/4", False, "no point has less than 43.25"),
+                ("feasible 22/5", False, "a point has the objective 4.4"),
+                ("optimal 22/5 of objective 2", False,
+                 "a point has the objective 4.4, and none is better"),
+                ("infeasible", True, "no point satisfies the model"),
+                ("unbounded", False, "the objective goes below every number")):
+            self.assertEqual(self.words(line, maximise), words)
+        self.assertEqual(self.words("bound 1" + "0" * 400), "no point has more than 1e400")
+        self.assertRegex(self.words("bound 12345678901234567/3"), r"than about 4\.1152263e\+15$")
+
+    def test_a_bound_of_a_whole_objective(self) -> None:
+        """It is rounded to a value that the objective can have."""
+        program = Program(b"NAME nl\nROWS\n N obj\n L c0\nCOLUMNS\n M0 'MARKER' 'INTORG'\n"
+                          b" x0 obj 0.5\n x1 obj 1.5\n M1 'MARKER' 'INTEND'\n x2 c0 1\nRHS\n"
+                          b" RHS obj -0.25\nBOUNDS\nENDATA\n")
+        steps = verdicts.multiples(program)
+        self.assertEqual(steps, verdicts.Multiples(F(1, 4), F(1, 2)))
+        self.assertEqual(self.words("bound 59.6", True, steps), "no point has more than 59.6, and "
+                         "at whole points the objective goes by 0.5: none has more than 59.25")
+        self.assertEqual(self.words("bound 59.6", False, steps), "no point has less than 59.6, and "
+                         "at whole points the objective goes by 0.5: none has less than 59.75")
+        self.assertEqual(self.words("bound 59.75", True, steps), "no point has more than 59.75")
+        program.costs["x2"] = "1"
+        self.assertIsNone(verdicts.multiples(program))
+
+
+class Keeping(Case):
+    """Over a `bridge` that says a line of each older certificate."""
+
+    def keep(self, line: str, says: str, overwrite: bool = False) -> Kept:
+        bridge, source = Bridge([], lambda argv: None), os.path.join(self.folder, "source")
+        self.put(b"model")
+        with open(source, "wb") as f:
+            f.write(OPTIMAL)
+        status = int(verdicts.read(says) is None)
+        with mock.patch.object(bridge, "call",
+                               lambda *words: Reply(status, says.encode() + b"\n", "")):
+            keeper = Keeper(bridge, self.stub + ".nl", True, overwrite)
+            return keeper.kept(source, line, self.target)
+
+    @property
+    def target(self) -> str:
+        return self.stub + ".certificate"
+
+    def text(self) -> bytes:
+        with open(self.target, "rb") as f:
+            return f.read()
+
+    def test_what_stays(self) -> None:
+        older = b"certificate 1\noptimal 0\npoint 1\n0 1\nduals 0\n"
+        for line, says, stays in (("feasible 17", "optimal 17", True),
+                                  ("feasible 17", "leaf 0 gap 16", False),
+                                  ("optimal 17", "optimal 17", False),
+                                  ("within 19 17", "within 18 17", True)):
+            self.put(older, ".certificate")
+            kept = self.keep(line, says)
+            self.assertEqual((self.text() == older, kept.path is None, kept.failed),
+                             (stays, stays, False), kept.line)
+            if stays:
+                self.assertEqual(kept.line, f"{self.target} stays as it is: it proves `{says}`, "
+                                            "which says more; overwrite=1 replaces it")
+                self.assertEqual(self.keep(line, says, True).path, self.target)
+                self.assertEqual(self.text(), OPTIMAL)
+
+    def test_verdicts_that_take_long(self) -> None:
+        self.put(OPTIMAL, ".certificate")
+        self.put(b"model")
+        bridge = Bridge([], lambda argv: None)
+        with mock.patch.object(bridge, "call", side_effect=Late("verify")):
+            kept = Keeper(bridge, self.stub + ".nl", True, False).kept("s", "bound 1", self.target)
+        self.assertIn("stays as it is: the verdict on it takes long", kept.line)
+
+    def test_other_files(self) -> None:
+        """What is no certificate stays, an empty file does not, and the model always does."""
+        self.put(b"letters\n", ".certificate")
+        kept = self.keep("optimal 17", "")
+        self.assertEqual((kept.failed, self.text()), (True, b"letters\n"))
+        self.assertIn("is no certificate; overwrite=1 replaces it", kept.line)
+        self.put(b"", ".certificate")
+        self.assertEqual(self.keep("optimal 17", "").line, f"{self.target} is written: the "
+                         f"certificate of `optimal 17`, {len(OPTIMAL)} bytes")
+        with mock.patch.object(Keeping, "target", self.stub + ".nl"):
+            kept = self.keep("optimal 17", "", True)
+            self.assertEqual((kept.failed, self.text()), (True, b"model"))
+
+    def test_what_cannot_be_written(self) -> None:
+        """No empty or partial file is left."""
+        for target, why in (("/nonexistent/x", "No such file or directory"),
+                            (self.folder, "Is a directory"),
+                            ("/dev/full", "No space left on device")):
+            with mock.patch.object(Keeping, "target", target):
+                kept = self.keep("optimal 17", "")
+            self.assertEqual(kept, Kept(f"the certificate is not kept: {target}: {why}", None,
+                                        True))
+        self.put(OPTIMAL[:-8], ".certificate")
+        os.chmod(self.target, 0o444)
+        kept = self.keep("optimal 17", "")
+        self.assertEqual((kept.failed, self.text()), (True, OPTIMAL[:-8]))
+        self.assertIn("it may not be written", kept.line)
+        self.assertEqual(sorted(os.listdir(self.folder)), ["source", "stub.certificate", "stub.nl"])
+
+    def test_standard_output(self) -> None:
+        """Where it is a file, the certificate is added to it."""
+        code = ("import os, sys; sys.path[:0] = sys.argv[1:2]; from bridge_drivers.files import "
+                "put; print('before'); put(sys.argv[2], '/dev/stdout'); print('behind')")
+        self.put(OPTIMAL, ".certificate")
+        with open(self.stub, "wb") as out:
+            subprocess.run([sys.executable, "-c", code, os.path.join(HERE, ".."), self.target],
+                           stdout=out, check=True)
+        with open(self.stub, "rb") as f:
+            self.assertEqual(f.read(), b"before\n" + OPTIMAL + b"behind\n")
+
+    def test_links_and_modes(self) -> None:
+        """A link stays one, and a file keeps its mode."""
+        real = os.path.join(self.folder, "real")
+        with open(real, "wb"):
+            os.chmod(real, 0o640)
+        os.symlink(real, self.target)
+        self.assertIsNotNone(self.keep("optimal 17", "").path)
+        self.assertEqual((os.path.islink(self.target), os.stat(real).st_mode & 0o777, self.text()),
+                         (True, 0o640, OPTIMAL))
+
+    def test_interrupts_wait(self) -> None:
+        """A signal while it is written comes after that."""
+        seen: list[bool] = []
+        with mock.patch("os.replace", lambda *words: seen.append(files.SIGNALS.is_held)):
+            self.keep("optimal 17", "")
+        self.assertEqual(seen, [True])
+
+
+@NEEDS_PROGRAM
+class Certify(Case):
+    """bridge-certify as a process, over a cbc that is a script."""
+
+    def certify(self, *words: str, **others: object) -> "subprocess.CompletedProcess[str]":
+        return subprocess.run([sys.executable, CERTIFY, self.stub, *words],
+                              stdin=subprocess.DEVNULL, capture_output=True, text=True,
+                              check=False, **others)                       # type: ignore
+
+    def older(self) -> bytes:
+        self.put(OPTIMAL, ".certificate")
+        return OPTIMAL
+
+    def test_failures_leave_an_older_one(self) -> None:
+        for model, words, status in (("nonlinear", (), 2), ("knap", ("bridge=/nonexistent/b",), 1),
+                                     ("knap", ("driver=clp",), 2)):
+            self.put(MODELS[model].text)
+            older = self.older()
+            ended = self.certify(*words)
+            if "clp" in ended.stderr and "not found" in ended.stderr:
+                continue
+            self.assertEqual(ended.returncode, status, ended.stderr)
+            self.assertIn(f"{self.stub}.certificate stays as it was\n", ended.stderr)
+            with open(self.stub + ".certificate", "rb") as f:
+                self.assertEqual(f.read(), older)
+
+    def test_interrupt_leaves_an_older_one(self) -> None:
+        """Ctrl-C while the solver runs."""
+        mark, slow = os.path.join(self.folder, "started"), os.path.join(self.folder, "cbc")
+        with open(slow, "w", encoding="ascii") as f:
+            f.write(f"#!/bin/sh\necho on >{mark}\nexec sleep 60\n")
+        os.chmod(slow, 0o755)
+        self.put(MODELS["knap"].text)
+        older = self.older()
+        child = subprocess.Popen([sys.executable, CERTIFY, self.stub], stderr=subprocess.PIPE,
+                                 stdout=subprocess.PIPE, text=True, preexec_fn=lambda:
+                                 signal.signal(signal.SIGINT, signal.SIG_DFL),
+                                 env={**os.environ, "PATH": self.folder + os.pathsep
+                                      + os.environ["PATH"]})
+        for _ in range(600):
+            if os.path.exists(mark) and os.path.getsize(mark):
+                break
+            time.sleep(0.05)
+        child.send_signal(signal.SIGINT)
+        _, err = child.communicate(timeout=30)
+        self.assertEqual(child.returncode, 130, err)
+        with open(self.stub + ".certificate", "rb") as f:
+            self.assertEqual(f.read(), older)
+
+    def test_statuses(self) -> None:
+        """The verdict is told, and the status says that the certificate is not there."""
+        self.put(MODELS["product"].text)
+        for driver in ("cbc", "glpsol", "clp"):
+            for target in ("/nonexistent/x", "/dev/full"):
+                ended = self.certify("certificate=" + target, "driver=" + driver)
+                if "not found" in ended.stderr:
+                    break
+                self.assertEqual(ended.returncode, 5, ended.stderr)
+                self.assertEqual(ended.stdout.split("\n")[-2], "optimal 19")
+                self.assertIn(f"the certificate is not kept: {target}: ", ended.stdout)
+
+    @unittest.skipUnless(shutil.which("cbc"), "no cbc")
+    def test_without_clp(self) -> None:
+        """A search that cannot be made is told, with the package that it needs, and status 1."""
+        self.put(MODELS["knap"].text)
+        out = io.StringIO()
+        with mock.patch.object(clp, "LOADED", [None]), contextlib.redirect_stdout(out), \
+                mock.patch.object(Finding, "stream", out):
+            status = command.run([self.stub])
+        self.assertEqual(status, 1)
+        self.assertIn("(Debian: apt install coinor-libclp1)\n", out.getvalue())
+        self.assertEqual(out.getvalue().split("\n")[-2],
+                         "not proved: there was no search; without it: feasible 17")
+
+    def test_a_full_disk_is_named(self) -> None:
+        """Files that may not grow: the fault has the name of its file."""
+        self.put(MODELS["product"].text)
+
+        def small() -> None:
+            signal.signal(signal.SIGXFSZ, signal.SIG_IGN)
+            resource.setrlimit(resource.RLIMIT_FSIZE, (64, 64))
+        ended = self.certify("bridge=" + " ".join(PROGRAM), preexec_fn=small)
+        self.assertNotEqual(ended.returncode, 0)
+        self.assertRegex(ended.stderr + ended.stdout,
+                         r"/\S+( could not be run or written)?: File too large")
+        self.assertNotIn("None", ended.stderr + ended.stdout)
+
+
+class Naming(Case):
+    def test_faults_without_a_file(self) -> None:
+        with self.assertRaises(OSError) as caught, files.naming("the file"):
+            raise OSError(28, "No space left on device")
+        self.assertEqual(caught.exception.filename, "the file")
+        with self.assertRaises(OSError) as caught, files.naming("the file"):
+            raise OSError(28, "No space left on device", "another")
+        self.assertEqual(caught.exception.filename, "another")

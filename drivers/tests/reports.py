@@ -1,0 +1,165 @@
+"""`json=1`: one object that is as its schema says."""
+
+from __future__ import annotations
+
+import json
+import os
+import re
+import subprocess
+import sys
+import unittest
+from typing import Any
+
+from support import HAS_CLP, HERE, NEEDS_PROGRAM, PROGRAM, Case
+from models import MODELS
+
+from bridge_drivers import VERSION, report
+from bridge_drivers.verdicts import Said
+from fractions import Fraction as F
+
+BIN = os.path.join(HERE, "..", "bin")
+TYPES = {"null": type(None), "string": str, "integer": int, "number": (int, float), "array": list,
+         "object": dict, "boolean": bool}
+KNOWN = {"type", "enum", "anyOf", "required", "additionalProperties", "properties", "items",
+         "minimum", "maximum", "minItems", "maxItems", "pattern", "description", "title", "$schema"}
+
+
+def schema() -> dict[str, Any]:
+    with open(os.path.join(HERE, "..", "report.schema.json"), encoding="ascii") as f:
+        found: dict[str, Any] = json.load(f)
+    return found
+
+
+def faults(value: Any, rule: dict[str, Any], place: str = "$") -> list[str]:
+    """What of a value is not as its rule says; rules of few words, all of which are known here."""
+    assert set(rule) <= KNOWN, rule
+    kinds = rule.get("type", list(TYPES))
+    kinds = [kinds] if isinstance(kinds, str) else kinds
+    if not any(isinstance(value, TYPES[k]) and not (isinstance(value, bool) and k != "boolean")
+               for k in kinds):
+        return [f"{place} is {value!r}"]
+    told = []
+    if "enum" in rule and value not in rule["enum"]:
+        told.append(f"{place} is {value!r}")
+    if "anyOf" in rule and all(faults(value, one, place) for one in rule["anyOf"]):
+        told.append(f"{place} is {value!r}")
+    if isinstance(value, str) and not re.search(rule.get("pattern", ""), value):
+        told.append(f"{place} is {value!r}")
+    if isinstance(value, (int, float)) and not isinstance(value, bool):
+        if not rule.get("minimum", value) <= value <= rule.get("maximum", value):
+            told.append(f"{place} is {value!r}")
+    if isinstance(value, list):
+        if not rule.get("minItems", 0) <= len(value) <= rule.get("maxItems", len(value)):
+            told.append(f"{place} has {len(value)}")
+        for k, one in enumerate(value):
+            told += faults(one, rule.get("items", {}), f"{place}[{k}]")
+    if isinstance(value, dict):
+        told += [f"{place} lacks {key}" for key in rule.get("required", ()) if key not in value]
+        for key, one in value.items():
+            known = rule.get("properties", {}).get(key, rule.get("additionalProperties", {}))
+            told += [f"{place} has {key}"] if known is False else faults(one, known,
+                                                                        f"{place}.{key}")
+    return told
+
+
+class Schema(unittest.TestCase):
+    def test_the_rules_are_followed(self) -> None:
+        """The check itself finds what is wrong."""
+        good = report.Report("c").object()
+        self.assertEqual(faults(good, schema()), [])
+        for key, value in (("status", "0"), ("claim", "proved"), ("value", {"exact": "1"}),
+                           ("value", {"exact": "1.5", "double": 1.5}), ("lines", "x"),
+                           ("code", 600), ("sums", {}), ("other", 1), ("seconds", True)):
+            self.assertNotEqual(faults({**good, key: value}, schema()), [], key)
+        self.assertEqual(faults({k: v for k, v in good.items() if k != "bound"}, schema()),
+                         ["$ lacks bound"])
+
+    def test_numbers(self) -> None:
+        self.assertEqual(report.number(F(173, 4)), {"exact": "173/4", "double": 43.25})
+        self.assertEqual(report.number(F(10) ** 400), {"exact": "1" + "0" * 400, "double": None})
+        self.assertIsNone(report.number(None))
+
+    def test_claims(self) -> None:
+        told = report.Report("c")
+        told.take_line("within 19 35/2 of objective 2")
+        self.assertEqual(told.said, Said("within", F(35, 2), F(19), 2))
+        said = told.object()
+        self.assertEqual((said["claim"], said["objective"], said["value"]["exact"],
+                          said["bound"]["double"]), ("within", 2, "35/2", 19.0))
+        self.assertEqual(faults(said, schema()), [])
+
+
+@NEEDS_PROGRAM
+class Objects(Case):
+    """Of commands as processes; nothing else is on standard output."""
+
+    def call(self, *words: str) -> dict[str, Any]:
+        ran = subprocess.run([sys.executable, os.path.join(BIN, words[0]), *words[1:]],
+                             stdin=subprocess.DEVNULL, capture_output=True, text=True, check=False)
+        told: dict[str, Any] = json.loads(ran.stdout)
+        self.assertEqual(faults(told, schema()), [])
+        self.assertEqual((told["status"], told["command"], told["version"]),
+                         (ran.returncode, words[0], VERSION))
+        self.err = ran.stderr
+        return told
+
+    def put_knap(self) -> None:
+        for name in os.listdir(os.path.join(HERE, "..", "..", "packaging", "examples")):
+            if name.startswith("knap"):
+                with open(os.path.join(HERE, "..", "..", "packaging", "examples", name), "rb") as f:
+                    self.put(f.read(), name[4:])
+
+    def test_verify(self) -> None:
+        self.put_knap()
+        told = self.call("nl-bridge", "verify", self.stub + ".nl", self.stub + ".certificate",
+                         "json=1")
+        self.assertEqual((told["claim"], told["value"], told["bound"]), (
+            "optimal", {"exact": "17", "double": 17.0}, {"exact": "17", "double": 17.0}))
+        self.assertEqual((told["text"], told["sums"]["program"]),
+                         ("optimal 17", report.sum_of(PROGRAM[0])))
+        self.assertEqual(told["sums"]["certificate"], report.sum_of(self.stub + ".certificate"))
+        self.put(b"certificate 1\nbound 0 16\nduals 0\n", ".certificate")
+        told = self.call("nl-bridge", "verify", self.stub + ".nl", self.stub + ".certificate",
+                         "json=1")
+        self.assertEqual((told["status"], told["claim"], told["text"]), (1, None, "leaf 0 gap 29"))
+        told = self.call("nl-bridge", "verify", self.stub + ".nl", "/nonexistent", "json=1")
+        self.assertEqual((told["status"], self.err), (4, told["text"] + "\n"))
+
+    def test_stats_and_version(self) -> None:
+        self.put_knap()
+        told = self.call("nl-bridge", "stats", self.stub + ".nl", "json=1")
+        keys = ("sense", "columns", "binary", "rows", "sides")
+        self.assertEqual([told["stats"][k] for k in keys], ["maximise", 3, 3, 1, [10.0, 10.0]])
+        told = self.call("nl-bridge", "version", "json=1")
+        self.assertEqual((told["program"], told["proved"]), (PROGRAM, None))
+        self.put(MODELS["nonlinear"].text)
+        told = self.call("nl-bridge", "stats", self.stub + ".nl", "json=1")
+        self.assertEqual((told["status"], told["text"] + "\n"), (2, self.err))
+
+    @unittest.skipUnless(HAS_CLP, "no library of CLP")
+    def test_drivers(self) -> None:
+        self.put_knap()
+        for driver in ("cbc", "glpsol", "lp_solve"):
+            told = self.call("bridge-" + driver, self.stub, "-AMPL", "json=1", "prove=1",
+                             "wantsol=2", "outlev=1", f"certificate={self.stub}.new", "overwrite=1")
+            if told["code"] == 503:
+                continue
+            self.assertEqual((told["code"], told["claim"], told["values"], told["certificate"]),
+                             (0, "optimal", {"a": "1", "b": "1", "z": "0"}, self.stub + ".new"))
+            self.assertEqual(self.sol().message, told["lines"])
+            told = self.call("bridge-certify", self.stub, "json=1", "driver=" + driver)
+            self.assertEqual((told["claim"], told["certificate"]),
+                             ("optimal", self.stub + ".certificate"))
+
+    def test_failures(self) -> None:
+        self.put(MODELS["nonlinear"].text)
+        for command in ("bridge-cbc", "bridge-certify"):
+            for words, status, code in (((), 2, 501), (("speed=9",), 3, 502)):
+                told = self.call(command, self.stub, "json=1", *words)
+                if told["code"] == 503:
+                    continue
+                self.assertEqual((told["status"], told["code"], told["claim"]),
+                                 (status, code, None))
+                self.assertTrue(self.err.rstrip().endswith(told["text"]), self.err)
+        told = self.call("bridge-certify", self.stub, "json=1", "certificate=-")
+        self.assertEqual(told["status"], 3)
