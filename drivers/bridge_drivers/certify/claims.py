@@ -385,6 +385,9 @@ class Certifying:
 
     def whole_optimum(self, point: Point) -> Iterator[Verdict]:
         p = self.model
+        if short.trivial(p) == p.value(point):      # bounds of columns alone say it
+            nothing = Closed(Multipliers({}, 1, False), [], 0)
+            yield self.one_leaf(nothing, "optimal", None, point)._replace(duals={})
         for _ in range(MOST_BETTER):
             plans = Plans(p, p.value(point), self.exact, self.folder, self.watch, self.shortens)
             self.point, self.plans = point, plans
@@ -439,9 +442,7 @@ class Certifying:
         yield Verdict(WITHOUT + ("interrupted" if self.watch.is_stopped else "time"))
 
     def planned(self, plans: Plans) -> None:
-        if not any(self.model.costs):
-            plans.run("plain", [], ONE_LEAF)
-        elif self.proves:
+        if self.proves:
             plans.try_all()
         else:
             plans.run("plain", [], ONE_LEAF)
