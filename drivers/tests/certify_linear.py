@@ -161,6 +161,48 @@ class Shorts(TestCase):
         self.assertLessEqual(over_one(found.point)[1], 10 ** 9)
 
 
+    @NEEDS_CLP
+    def test_step_by_step(self) -> None:
+        """Rows without room between them are met exactly, others get room."""
+        text = b"""NAME nl
+ROWS
+ N obj
+ L c0
+ G c1
+ G c2
+ E c3
+COLUMNS
+ x0 obj 1.1
+ x0 c0 1.3
+ x0 c1 1.3
+ x0 c2 7.1
+ x1 obj 2.3
+ x1 c0 0.7
+ x1 c1 0.7
+ x1 c2 3.3
+ x2 obj 3.1
+ x2 c2 1
+ x2 c3 1.9
+ x3 obj 0.3
+ x3 c3 -0.7
+RHS
+ RHS c0 2.9
+ RHS c1 2.9
+ RHS c2 13
+ RHS c3 0.1
+ENDATA
+"""
+        p = Model(text, {}, 4)
+        clp = p.relaxation()
+        self.assertIs(clp.solve(), State.OPTIMAL)
+        rounding = short.Rounding(p, clp.keep(), clp.values(), 1.0)
+        self.assertEqual((rounding.alone, rounding.equations), ({3: 3}, {}))
+        self.assertIsNone(rounding.solved(9))
+        found = next(rounding.points())
+        self.assertEqual(found.way, "rounding is taken up by a basis of 1 equation and 1 row")
+        self.assertTrue(p.fits(found.point))
+        self.assertLess(abs(p.value(found.point) - F(clp.objective())), F(1, 10 ** 6))
+
 @NEEDS_CLP
 class Starts(TestCase):
     def test_basis(self) -> None:

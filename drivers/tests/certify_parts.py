@@ -258,6 +258,13 @@ class Texts(Case):
 
 
 class Lattices(TestCase):
+    def test_without_equations(self) -> None:
+        """Forms that equations make the same have small coefficients."""
+        self.assertEqual(directions.without({0: 128 * 12134 + 1, 1: 128 * 12202 + 1},
+                                            [{0: 12134, 1: 12202}]), {0: 1, 1: 1})
+        self.assertEqual(directions.without({0: 6, 1: 10}, [{0: 3, 1: 5}]), {})
+        self.assertEqual(directions.without({2: 7}, []), {2: 7})
+
     def test_reduction(self) -> None:
         rows = [[1, 0, 0, 12223], [0, 1, 0, 12224], [0, 0, 1, 36674]]
         reduction = directions.Reduction(rows)

@@ -22,6 +22,7 @@ from bridge_drivers.certify.search import Better, Search
 from bridge_drivers.certify.short import trivial
 from bridge_drivers.certify.watch import Watch
 from bridge_drivers.program import Program
+import families
 from claim_models import BINARY, CLAIMED
 from models import MODELS, nl, real, whole
 
@@ -205,6 +206,17 @@ class Spines(Certified):
         verdict = self.found(made)
         self.assertEqual(verdict.line, "infeasible")
         self.assertLess(os.path.getsize(verdict.path), 2000)
+
+    def test_no_point(self) -> None:
+        """Numbers that no sum of coins makes: forms of a lattice, also where a solver has
+        nothing."""
+        for size in (4, 5):
+            for claim in ("infeasible", "nothing"):
+                work = self.work(families.made("frobenius", size))
+                with mock.patch("bridge_drivers.certify.claims.PLAIN", 0.2):
+                    verdict = certified(work, claim)
+                self.assertEqual(verdict.line, "infeasible")
+                self.assertLess(os.path.getsize(verdict.path), 20_000)
 
     def test_bounds(self) -> None:
         """What a search has that was stopped, for objectives with steps and without."""

@@ -232,13 +232,11 @@ def greatest(coins: List[int]) -> int:
 
 
 def split(size: int, rnd: random.Random) -> bytes:
-    """Market split: SIZE equations over 10 (SIZE - 1) binary columns."""
+    """Market split: SIZE equations over 10 (SIZE - 1) binary columns, without a point."""
     n = 10 * (size - 1)
     a = [[rnd.randint(0, 99) for _ in range(n)] for _ in range(size)]
-    rows = [(sum(row) // 2, sum(row) // 2, {**dict(enumerate(row)), n + 2 * i: 1,
-                                            n + 2 * i + 1: -1}) for i, row in enumerate(a)]
-    columns = [real(0, None)] * 0 + [("B", 0, 1)] * n + [whole(0, None)] * (2 * size)
-    return nl(columns, rows, [("min", 0, dict.fromkeys(range(n, n + 2 * size), 1))])
+    return nl([("B", 0, 1)] * n, [(sum(row) // 2, sum(row) // 2, dict(enumerate(row)))
+                                  for row in a], [("min", 0, {0: 1})])
 
 
 FAMILIES = {f.__name__: f for f in (transport, assignment, flow, decimal_flow, covering,

@@ -2,6 +2,7 @@
 
 from __future__ import annotations
 
+import itertools
 import math
 import os
 import shutil
@@ -36,6 +37,7 @@ ONE_LEAF = 1.0                  # seconds for it
 LOOSER = (1e-9, 1e-7, 1e-5, 1e-3)       # of a value: what a bound may lie away
 SAFER = (1e-9, 1e-7, 1e-5)              # of the greatest cost: room for rounding
 MOST_CLP_SECONDS = 30.0
+SEARCHED = 0.9                  # of the seconds that are left, for a last search
 MOST_MENDED = 200               # nodes of a search beside an answer
 TREE = 0.75                     # of the seconds that are left, to judge a tree
 
@@ -216,8 +218,11 @@ class Certifying:
         return verdict._replace(contradicted=self.contradicted)
 
     def of_nothing(self, given: Given = Given()) -> Verdict:
-        """A bound, where there is no point."""
+        """Where the solver has no point: a contradiction or a point where a search finds it, else
+        a bound."""
         self.load()
+        if self.proves and not self.linear and not self.relaxed:
+            return self.best(itertools.chain(self.infeasible(), self.bounds()))
         return self.best(self.bounds())
 
     # linear programs ---------------------------------------------------------------
@@ -385,6 +390,9 @@ class Certifying:
 
     def whole_optimum(self, point: Point) -> Iterator[Verdict]:
         p = self.model
+        if short.trivial(p) == p.value(point):      # bounds of columns alone say it
+            nothing = Closed(Multipliers({}, 1, False), [], 0)
+            yield self.one_leaf(nothing, "optimal", None, point)._replace(duals={})
         for _ in range(MOST_BETTER):
             plans = Plans(p, p.value(point), self.exact, self.folder, self.watch, self.shortens)
             self.point, self.plans = point, plans
@@ -440,9 +448,7 @@ class Certifying:
                       contradicted=self.contradicted)
 
     def planned(self, plans: Plans) -> None:
-        if not any(self.model.costs):
-            plans.run("plain", [], ONE_LEAF)
-        elif self.proves:
+        if self.proves:
             plans.try_all()
         else:
             plans.run("plain", [], ONE_LEAF)
@@ -504,7 +510,7 @@ class Certifying:
                 pass
         found = [c for c in (plain, last) if c is not None]
         yield min(found, key=lambda c: c.nodes) if found else \
-            self.contradiction([], self.watch.left())
+            self.contradiction([], self.watch.left() * SEARCHED)
 
     def contradiction(self, forms: Sequence[Mapping[int, int]], seconds: float) -> Contradiction:
         p, spool = self.model, Spool()

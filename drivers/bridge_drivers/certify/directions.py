@@ -7,6 +7,7 @@ numbers.
 from __future__ import annotations
 
 from fractions import Fraction
+from math import gcd
 from typing import Dict, List, Mapping, NamedTuple, Sequence
 
 from .model import Model
@@ -19,6 +20,7 @@ PRECISION = 10 ** 6
 MOST_STEPS = 200_000
 LOVASZ = (99, 100)
 MOST_COEFFICIENT = 2 ** 31
+MOST_ROUNDS = 20                # of taking equations away from a form
 
 Form = Dict[int, int]
 Matrix = List[List[int]]
@@ -180,9 +182,40 @@ def directions(p: Model, objective: Mapping[int, int] = {},
     back, d = inverse(reduction.steps), reduction.d
     order = sorted(range(len(wide)), key=lambda k: -Fraction(d[k + 1], d[k]))
     found: list[Form] = []
+    equations = whole_equations(p, place)
     for k in order:
         form = {wide[j]: back[j][k] for j in range(len(wide)) if back[j][k]}
+        form = without(form, equations)
         if len(form) > 1 and max(abs(a) for a in form.values()) < MOST_COEFFICIENT:
             sign = 1 if form[min(form)] > 0 else -1
             found.append({j: sign * a for j, a in form.items()})
     return found[:MOST_FORMS]
+
+
+def whole_equations(p: Model, place: Mapping[int, int]) -> list[Form]:
+    """Equations over wide columns in whole numbers without a common factor."""
+    found = []
+    for row, lo, hi in zip(p.rows, p.side_lo, p.side_hi):
+        if lo is not None and lo == hi and row and all(j in place for j, _ in row):
+            g = gcd(*(a for _, a in row))
+            found.append({j: a // g for j, a in row})
+    return found
+
+
+def without(form: Form, equations: Sequence[Form]) -> Form:
+    """The form that is the same at all points, with smaller coefficients: multiples of equations
+    are taken away."""
+    for _ in range(MOST_ROUNDS):
+        changed = False
+        for terms in equations:
+            product = sum(a * form.get(j, 0) for j, a in terms.items())
+            size = sum(a * a for a in terms.values())
+            q = (2 * product + size) // (2 * size)
+            if q:
+                changed = True
+                for j, a in terms.items():
+                    form[j] = form.get(j, 0) - q * a
+        form = {j: a for j, a in form.items() if a}
+        if not changed:
+            break
+    return form

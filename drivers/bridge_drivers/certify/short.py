@@ -14,7 +14,7 @@ from typing import Iterator, Mapping, NamedTuple, Sequence
 from .clp import Clp, Linear, State
 from .exact import solved
 from .leaves import MOST_MENDED, Closer, Judged, Multipliers
-from .model import Box, Model, Point
+from .model import Box, Model, Point, over_one
 from .numbers import is_narrow
 
 PLACES = (9, 8, 7, 6, 5)         # decimals of a point
@@ -24,6 +24,7 @@ DUAL_PLACES = (8, 10)           # beyond the first of the greatest dual
 DIGITS = 9                      # of a bound
 APART = 20                      # rooms between the ends of what is tightened
 FREE = 1e3                      # rooms that a column of a basis of equations has
+ROUNDS = 12                     # of giving room to rows
 ZERO = Fraction(0)
 
 
@@ -49,47 +50,104 @@ class ShortDuals(NamedTuple):
 
 class Rounding:
     """Points of one program in decimals. `alone` has by equation a column that stands in it and
-    nowhere else; `equations` are the others."""
+    nowhere else. `exact` has the sides that other rows meet exactly: those of equations, and of
+    rows that have no room. `tight` are the rows that get room, None for all of them."""
 
     def __init__(self, p: Model, kept: bytes, x: Sequence[float], seconds: float) -> None:
         self.p, self.kept, self.seconds = p, kept, seconds
         self.size = max([abs(v) for v in x], default=0.0)
         self.alone = alone(p)
-        self.equations = [i for i in range(p.m) if p.side_lo[i] is not None
-                          and p.side_lo[i] == p.side_hi[i] and i not in self.alone]
+        self.equations = {i: side for i, side in enumerate(p.side_lo) if side is not None
+                          and side == p.side_hi[i] and i not in self.alone}
+        self.exact = dict(self.equations)
+        self.tight: set[int] | None = None
 
     def points(self) -> Iterator[ShortPoint]:
-        """Those that fit, of many decimals first."""
+        """Those that fit, of many decimals first; then with room where rounding breaks rows
+        alone."""
         left = MOST_PLACES - max(0, math.ceil(math.log10(max(self.size, 1.0))))
-        for places in dict.fromkeys(min(places, left) for places in PLACES):
-            room = 10.0 ** -places
-            clp = Clp(self.tightened(room))
-            clp.limit(self.seconds)
-            clp.tighten(room / 10)
-            clp.restore(self.kept)
-            if clp.solve() is not State.OPTIMAL and clp.solve(again=True) is not State.OPTIMAL:
-                continue
-            self.kept = clp.keep()
-            found = self.point(clp.values(), places)
-            if found is not None and all(map(is_narrow, found.point)) \
-                    and self.p.fits(found.point):
+        wanted = list(dict.fromkeys(min(places, left) for places in PLACES))
+        for places in wanted:
+            found = self.solved(places)
+            if found is not None and self.fits(found):
+                yield found
+        for places in wanted[:2]:
+            found = self.step_by_step(places)
+            if found is not None:
                 yield found
 
+    def fits(self, found: ShortPoint) -> bool:
+        return all(map(is_narrow, found.point)) and self.p.fits(found.point)
+
+    def solved(self, places: int) -> ShortPoint | None:
+        """The program with room, its point rounded; None where it has none."""
+        x = self.relaxed(10.0 ** -places)
+        return None if x is None else self.point(x, places)
+
+    def relaxed(self, room: float) -> list[float] | None:
+        clp = Clp(self.tightened(room))
+        clp.limit(self.seconds)
+        clp.tighten(room / 10)
+        clp.restore(self.kept)
+        if clp.solve() is not State.OPTIMAL and clp.solve(again=True) is not State.OPTIMAL:
+            return None
+        self.kept = clp.keep()
+        return clp.values()
+
+    def step_by_step(self, places: int) -> ShortPoint | None:
+        """Rows that rounding breaks get room; where the program has no point then, they are met
+        exactly. No column is alone."""
+        last: dict[int, int] = {}
+        self.equations.update((i, side) for i, side in enumerate(self.p.side_lo)
+                              if side is not None and i in self.alone)
+        self.tight, self.exact, self.alone = set(), dict(self.equations), {}
+        for _ in range(ROUNDS):
+            x = self.relaxed(10.0 ** -places)
+            if x is None:
+                if not last:
+                    return None
+                self.tight -= set(last)
+                self.exact.update(last)
+                last = {}
+                continue
+            found = self.point(x, places)
+            if found is None:
+                return None
+            last = self.broken(found.point)
+            if not last:
+                return found if self.fits(found) else None
+            self.exact.update({i: side for i, side in last.items() if i in self.tight})
+            self.tight |= set(last)
+        return None
+
+    def broken(self, x: Point) -> dict[int, int]:
+        """Rows that a point breaks, with the side."""
+        p, (over, den) = self.p, over_one(x)
+        found = {}
+        for i, (row, lo, hi) in enumerate(zip(p.rows, p.side_lo, p.side_hi)):
+            at = sum([a * over[j] for j, a in row]) * p.unit
+            if lo is not None and at < lo * den * p.scale:
+                found[i] = lo
+            elif hi is not None and at > hi * den * p.scale:
+                found[i] = hi
+        return found
+
     def tightened(self, unit: float) -> Linear:
-        """With room for rounding to `unit` in each row, and in the bounds of what takes up the
+        """With room for rounding to `unit` in rows, and in the bounds of what takes up the
         rest."""
         p, linear = self.p, self.p.linear()
         sides, lo, hi = linear.sides, linear.lo, linear.hi
         rooms = [(sum([abs(a) for _, a in row]) / p.scale + 1) * unit for row in p.rows]
         for i, room in enumerate(rooms):
-            sides[i] = inner(*sides[i], room)
+            if self.tight is None or i in self.tight:
+                sides[i] = inner(*sides[i], room)
         for i, j in self.alone.items():
             a = abs(p.by_column[j][0][1]) / p.scale
             lo[j], hi[j] = inner(lo[j], hi[j], 2 * rooms[i] / a)
         return linear
 
     def point(self, x: Sequence[float], places: int) -> ShortPoint | None:
-        """Rounded, over 10^places times `unit`."""
+        """Rounded, over 10^places times `unit`; None where rows are not met exactly."""
         p, ten = self.p, 10 ** places
         over = [round(v * ten) * p.unit for v in x]
         for j, (lo, hi) in enumerate(zip(p.lo, p.hi)):
@@ -99,15 +157,15 @@ class Rounding:
                 over[j] = hi * ten
         den = ten * p.unit
         moved: dict[int, Fraction] = {}
-        if self.equations:
+        if self.exact:
             found = self.by_basis(over, ten)
             if found is None:
                 return None
             moved = found
         for i, j in self.alone.items():
-            moved[j] = self.rest(i, over, ten, moved) / p.by_column[j][0][1]
-        ways = [f"columns of {len(self.alone)} equations alone"] if self.alone else []
-        ways += [f"a basis of {len(self.equations)} equations"] if self.equations else []
+            side = p.side_lo[i]
+            assert side is not None
+            moved[j] = self.rest(i, side, over, ten, moved) / p.by_column[j][0][1]
         shared: dict[int, Fraction] = {}
         point = []
         for j, v in enumerate(over):
@@ -117,14 +175,19 @@ class Rounding:
             if v not in shared:
                 shared[v] = Fraction(v, den)
             point.append(shared[v])
-        way = "rounding is taken up by " + " and ".join(ways) if ways else ""
-        return ShortPoint(point, way)
+        return ShortPoint(point, self.way())
 
-    def rest(self, i: int, over: Sequence[int], ten: int,
+    def way(self) -> str:
+        rows = len(self.exact) - len(self.equations)
+        ways = [f"columns of {counted(len(self.alone), 'equation')} alone"] if self.alone else []
+        ways += [f"a basis of {counted(len(self.equations), 'equation')}" +
+                 (f" and {counted(rows, 'row')}" if rows else "")] if self.exact else []
+        return "rounding is taken up by " + " and ".join(ways) if ways else ""
+
+    def rest(self, i: int, side: int, over: Sequence[int], ten: int,
              moved: Mapping[int, Fraction] = {}) -> Fraction:
-        """What is left of an equation, over 10^places times `unit` and `scale`."""
-        p, side = self.p, self.p.side_lo[i]
-        assert side is not None
+        """What a row lacks of its side, over 10^places times `unit` and `scale`."""
+        p = self.p
         left = Fraction(side * p.scale * ten - sum([a * over[j] for j, a in p.rows[i]]))
         if moved:
             left -= sum((a * moved[j] for j, a in p.rows[i] if j in moved), ZERO)
@@ -137,13 +200,17 @@ class Rounding:
         free = [(lo is None or v - lo * ten > far) and (hi is None or hi * ten - v > far)
                 for v, lo, hi in zip(over, p.lo, p.hi)]
         system = []
-        for i in self.equations:
+        for i, side in self.exact.items():
             terms = {j: a for j, a in p.rows[i] if free[j]}
-            left = self.rest(i, over, ten)
+            left = self.rest(i, side, over, ten)
             if terms or left:
                 system.append((terms, left))
         found = solved(system)
         return None if found is None else {j: v for j, v in found.items() if v}
+
+
+def counted(number: int, word: str) -> str:
+    return f"{number} {word}{'' if number == 1 else 's'}"
 
 
 def alone(p: Model) -> dict[int, int]:
