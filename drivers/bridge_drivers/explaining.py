@@ -24,7 +24,8 @@ HEAD_LINES = 10
 NL_FIRST = ("export", "nl", "return", "check", "prove", "verify")     # commands of an .nl file
 
 
-FIRST_LINES = {"verify": "certificate 1", "prove": "proof 1", "return": "answer 1"}
+FIRST_LINES = {"verify": "certificate 1", "verify_mps": "certificate 1",
+               "verify_fixed": "certificate 1", "prove": "proof 1", "return": "answer 1"}
 
 
 class Meaning(NamedTuple):

@@ -14,7 +14,6 @@ from typing import TYPE_CHECKING, Any, Callable, Dict, Optional, Sequence
 
 from . import VERSION, verdicts, words
 from .codes import Code
-from .names import Names
 from .options import BadOption, Options
 from .verdicts import Said
 
@@ -138,8 +137,8 @@ def numbers_of(driver: Driver) -> Object:
     """Values and duals by name, as `wantsol` asks for them."""
     found: Object = {}
     answer = driver.result.answer if driver.result else None
-    names = Names(driver.nl[:-3])
     if answer is not None:
+        names = driver.names(answer)
         for wanted, key, texts, of_list in ((2, "values", answer.values, names.column),
                                             (4, "duals", answer.duals, names.row)):
             if driver.options.wantsol & wanted and texts is not None:

@@ -214,8 +214,9 @@ class Kinds(Case):
 
     def test_named_ones(self) -> None:
         for name, data, told in (
-                ("model.mps", b"* made\nNAME x\nROWS\n", "is an MPS file: `nl-bridge import "
-                 "model.mps model.nl` makes model.nl of it"),
+                ("model.mps", b"* made\nNAME x\nROWS\n", "is an MPS file: `bridge-certify "
+                 "model.mps` and the drivers take it, `nl-bridge import model.mps model.nl` makes "
+                 "model.nl of it"),
                 ("model.txt", b"NAME\nROWS\n", "is an MPS file: "),
                 ("model.lp", b"\\ made\nMinimize\n obj: x\n", "is an LP file, which no command "
                  "here reads: `glpsol --lp model.lp --check --wfreemps model.mps`"),
@@ -242,8 +243,8 @@ class Kinds(Case):
         self.assertEqual(explaining.in_words(["export", self.stub + ".nl"],
                                              "refused line 1: bad first line",
                                              {self.stub + ".nl": "m.nl"}),
-                         "m.nl line 1: bad first line: it is an MPS file: `nl-bridge import m.nl "
-                         "m.nl` makes m.nl of it")
+                         "m.nl line 1: bad first line: it is an MPS file: `bridge-certify m.nl` "
+                         "and the drivers take it, `nl-bridge import m.nl m.nl` makes m.nl of it")
 
 
 class UnknownWords(unittest.TestCase):

@@ -15,7 +15,7 @@ from .clp import Clp, NoClp, State, library
 from .directions import directions
 from .equations import parity
 from .leaves import Closed, Closer, Multipliers
-from .model import Added, Box, Model, Point, Unfit, factors
+from .model import Added, Box, Model, Point, Unfit, model_of
 from .numbers import is_narrow
 from .plans import MOST_THIN, PLAIN, SHORT, Plans, Shaped, written
 from .points import Basis
@@ -26,7 +26,6 @@ from .tree import Spool, Tree, count
 from .watch import KEPT, Over, Stopped, Watch
 from ..bridge import Bridge, Late, Refused
 from ..files import naming
-from ..nl import header
 from ..program import Program
 
 WITHOUT = "not proved: "
@@ -104,9 +103,7 @@ class Certifying:
         self.path = os.path.join(folder, "certificate")
 
     def load(self) -> None:
-        names = [name for name in self.program.constraints if name != "zdef"]
-        self.factors = factors(self.bridge, self.nl, self.folder, names)
-        self.model = Model(self.program.text, self.factors, header(self.nl).constraints)
+        self.model, self.factors = model_of(self.bridge, self.nl, self.folder, self.program)
         self.linear = not any(self.model.whole)
         if not self.proves:
             self.watch.restart()
