@@ -13,8 +13,8 @@ from support import NEEDS_CLP, NEEDS_PROGRAM
 from bridge_drivers.certify import bases, linear, points, short, sparse
 from bridge_drivers.certify.claims import Given, certified
 from bridge_drivers.certify.clp import State
-from bridge_drivers.certify.leaves import Closer
-from bridge_drivers.certify.model import Model, over_one
+from bridge_drivers.certify.leaves import Closer, Multipliers
+from bridge_drivers.certify.model import Box, Model, over_one
 from bridge_drivers.certify.refined import Refining
 from bridge_drivers.certify.sparse import NoSolution, Wide
 from families import made
@@ -145,9 +145,25 @@ class Shorts(TestCase):
                                                                                 [None, None])))
         self.assertEqual(short.shortened(p, F(1, 10 ** 12)), 0)
         self.assertEqual(short.shortened(p, F(10, 3)), F("3.333333333"))
-        found = short.best_rounding(Closer(p, None), [12 / 13, -10 / 13])
+        found = max(short.roundings(Closer(p, None), [12 / 13, -10 / 13]),
+                    key=lambda one: one.bound())
         self.assertLess(0, F(71, 26) - found.bound())
         self.assertLess(F(71, 26) - found.bound(), F(1, 10 ** 9))
+
+    def test_met_exactly(self) -> None:
+        """Columns without an upper bound, of which rounding leaves a reduced cost below 0."""
+        p = two().with_bounds([0, 0], [None, None])
+        closer, leaf = Closer(p, None), Multipliers({0: 93, 1: -76}, 100, False)
+        judged = closer.judge(leaf, Box(p.lo, p.hi))
+        self.assertEqual(judged.sideless, [0])
+        found = short.met_exactly(closer, leaf, judged)
+        self.assertEqual((found.judged.sideless, found.judged.reduced[0]), ([], 0))
+        self.assertLess(abs(found.bound() - F(71, 26)), F(1, 10))
+        leaf = Multipliers({0: 10}, 10, False)
+        fixed = p.with_bounds([0, 0], [None, None]).with_costs([F(2), F(1)])
+        judged = Closer(fixed, None).judge(leaf, Box(p.lo, p.hi))
+        self.assertEqual(judged.sideless, [0, 1])
+        self.assertIsNone(short.met_exactly(Closer(fixed, None), leaf, judged))
 
     @NEEDS_CLP
     def test_points(self) -> None:

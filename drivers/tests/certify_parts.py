@@ -324,6 +324,42 @@ class Rows(TestCase):
         self.assertEqual((found.form, found.low), ({1: -1}, -1))
 
 
+class Cliques(TestCase):
+    def test_cliques(self) -> None:
+        """Of conflicts in rows of two and in a knapsack, a complement among them."""
+        rows = b"".join(b" L c%d\n" % i for i in range(4))
+        p = Model(b"NAME nl\nROWS\n N obj\n" + rows + b"""COLUMNS
+ M0 'MARKER' 'INTORG'
+ x0 c0 1
+ x0 c1 1
+ x0 c3 5
+ x1 c0 1
+ x1 c2 -1
+ x1 c3 4
+ x2 c1 1
+ x2 c2 -1
+ x2 c3 1
+ M1 'MARKER' 'INTEND'
+RHS
+ RHS c0 1
+ RHS c1 1
+ RHS c2 -1
+ RHS c3 7
+BOUNDS
+ UP BND x0 1
+ UP BND x1 1
+ UP BND x2 1
+ENDATA
+""", {}, 4)
+        near = cuts.conflicts(p, [0.5, 0.5, 0.5])
+        self.assertEqual(near[(0, 1)], {(1, 1), (2, 1)})
+        self.assertEqual(near[(1, -1)], {(2, -1)})
+        q = p.with_rows([({1: 1, 2: 1}, None, 1)])
+        found = list(cuts.cliques(q, None, [0.5, 0.5, 0.5]))
+        self.assertEqual([(c.depth, c.terms, c.at) for c in found],
+                         [(0.5, {0: 1, 1: 1, 2: 1}, 1)])
+
+
 class Points(TestCase):
     def test_near(self) -> None:
         p = model()

@@ -207,6 +207,17 @@ class Spines(Certified):
         self.assertEqual(verdict.line, "infeasible")
         self.assertLess(os.path.getsize(verdict.path), 2000)
 
+    def test_cliques(self) -> None:
+        """Pigeons of which no two share a hole: the program with cliques has no point."""
+        work = self.work(families.made("pigeons", 6))
+        work.load()
+        found = work.below_cuts(SECONDS)
+        with open(os.path.join(self.folder, "cliques"), "w") as f:
+            f.writelines(line + "\n" for line in found.lines)
+        self.assertLess(found.nodes, 150)
+        reply = work.bridge.call("verify", work.nl, os.path.join(self.folder, "cliques"))
+        self.assertEqual((reply.status, reply.out.strip()), (0, b"infeasible"))
+
     def test_no_point(self) -> None:
         """Numbers that no sum of coins makes: forms of a lattice, also where a solver has
         nothing."""

@@ -21,6 +21,7 @@ from .plans import MOST_THIN, PLAIN, SHORT, Plans, Shaped, written
 from .points import Basis
 from .refined import Near
 from .search import Better, Goal, Search
+from .spine import Maker, Spined, Value
 from .text import Naming
 from .tree import Spool, Tree, count
 from .watch import KEPT, Over, Stopped, Watch
@@ -78,12 +79,14 @@ class Verdict(NamedTuple):
 
 
 class Contradiction(NamedTuple):
-    """A tree of weights: the program with the forms that it splits, and its leaves' file."""
+    """A tree of weights: the program with the forms that it splits, its leaves' file, and its
+    lines."""
 
     searched: Model
     tree: Tree
     spool: Spool
     nodes: int
+    lines: Iterator[str]
 
 
 class Certifying:
@@ -286,18 +289,16 @@ class Certifying:
     def short(self, clp: Clp, found: list[Point], note: str) -> Iterator[Verdict]:
         """`within` by short numbers, or `bound` where there is no short point."""
         p, seconds = self.model, self.clp_seconds()
-        duals = short.short_duals(p, clp, seconds)
-        value, leaf = None, None
-        if duals is not None:
-            leaf = Closed(duals.leaf, duals.judged.reduced, 0)
-            value = p.sign * short.shortened(p, duals.bound())
+        leaves = [(p.sign * short.shortened(p, duals.bound()),
+                   Closed(duals.leaf, duals.judged.reduced, 0))
+                  for duals in short.short_duals(p, clp, seconds)]
         for made in short.Rounding(p, clp.keep(), clp.values(), seconds).points():
             self.point = made.point
             found.insert(0, made.point)
-            if leaf is not None:
+            for value, leaf in leaves:
                 verdict = self.one_leaf(leaf, "within", value, made.point)
                 yield verdict._replace(note=f"{note}; {made.way}" if made.way else note)
-        if leaf is not None:
+        for value, leaf in leaves:
             yield self.one_leaf(leaf, "bound", value, None)._replace(note=note)
 
     def linear_points(self, given: Given, clp: Clp | None) -> Iterator[Point]:
@@ -475,9 +476,9 @@ class Certifying:
             self.figures = "equations without a whole solution"
             yield self.judged(text.parity_lines(odd, self.model.m))
         try:
-            for searched, tree, spool, nodes in self.contradictions():
-                self.figures = f"{nodes} nodes"
-                yield self.judged(text.infeasible_lines(self.model, searched, tree, spool))
+            for found in self.contradictions():
+                self.figures = f"{found.nodes} nodes"
+                yield self.judged(found.lines)
         except (NoClp, Stopped) as fault:
             yield Verdict(f"{WITHOUT}{fault}")
         except Better as better:
@@ -486,26 +487,28 @@ class Certifying:
             yield self.feasible(better.point)
 
     def contradictions(self) -> Iterator[Contradiction]:
-        """A tree whose leaves are all weights: one that splits thin forms too where it is the
-        shorter one."""
-        p = self.model
-        left = self.watch.left()
-        small = self.proves and all(p.whole) and sum(p.whole) <= MOST_THIN
-        forms = directions(p) if small else []
-        if not forms:
-            yield self.contradiction([], left)
-            return
-        plain, last = None, None
-        try:
-            plain = self.contradiction([], min(PLAIN, left / 2))
-        except Stopped:
-            pass
-        if plain is None or self.shortens and plain.nodes > SHORT:
+        """A tree whose leaves are all weights: a plain one, one that splits thin forms too, one
+        below cliques and other cuts, a plain one again. The shortest, where that is wanted."""
+        p, left = self.model, self.watch.left()
+        is_small = self.proves and all(p.whole) and sum(p.whole) <= MOST_THIN
+        forms = directions(p) if is_small else []
+        tries: list[Callable[[], Contradiction | None]] = [
+            lambda: self.contradiction([], min(PLAIN, left / 2))]
+        if forms:
+            tries.append(lambda: self.contradiction(forms, self.watch.left() / 3))
+        if self.proves and not self.linear:
+            tries.append(lambda: self.below_cuts(self.watch.left() / 2))
+        found: list[Contradiction] = []
+        for one in tries if len(tries) > 1 else []:
             try:
-                last = self.contradiction(forms, self.watch.left() / 2)
+                made = one()
             except Stopped:
-                pass
-        found = [c for c in (plain, last) if c is not None]
+                if self.watch.is_stopped:
+                    raise
+                continue
+            found += [made] if made is not None else []
+            if found and not (self.shortens and found[0].nodes > SHORT):
+                break
         yield min(found, key=lambda c: c.nodes) if found else \
             self.contradiction([], self.watch.left() * SEARCHED)
 
@@ -515,7 +518,22 @@ class Certifying:
         search = Search(searched, Goal(None, False, self.exact), spool, self.watch,
                         self.watch.spent() + seconds, forms=range(p.m, searched.m))
         tree = search.run()
-        return Contradiction(searched, tree, spool, count(tree))
+        return Contradiction(searched, tree, spool, count(tree),
+                             text.infeasible_lines(p, searched, tree, spool))
+
+    def below_cuts(self, seconds: float) -> Contradiction | None:
+        """None where there are no cuts."""
+        p, spool, until = self.model.without_cost(), Spool(), self.watch.spent() + seconds
+        value = Value(p, p.constant, None)
+        rows = Maker(p, value, spool, self.watch).cuts(
+            ("cover", "clique", "row"), [], self.watch.spent() + seconds / 2)
+        if not rows:
+            return None
+        searched = p.with_rows([row.added() for row in rows])
+        tree = Search(searched, Goal(None, False, self.exact), spool, self.watch, until).run()
+        spined = Spined(p, searched, value, rows, tree, spool)
+        return Contradiction(searched, tree, spool, spined.figures().nodes,
+                             itertools.chain(text.head("infeasible", None), spined.lines()))
 
     def unbounded(self, given: Given) -> Verdict:
         p = self.model

@@ -1,5 +1,5 @@
 """Forms of whole columns that are at most a number at all whole points, but not in the relaxation:
-extended covers, single rows and rows of the tableau that are divided and rounded.
+extended covers, cliques, single rows and rows of the tableau that are divided and rounded.
 
 Each is only proposed here: it is kept where a tree closes the part beyond it.
 """
@@ -22,6 +22,9 @@ MOST_DIVISORS = 12
 MOST_TABLEAU_ROWS = 30
 MOST_BASIC = 900
 MOST_COEFFICIENT = 10 ** 4
+MOST_IN_ROW = 100               # terms of a row whose conflicts are looked for
+MOST_CLIQUES = 200
+SIZES = (8, 4)                  # of cliques that a small tree proves
 
 
 class Proposal(NamedTuple):
@@ -116,6 +119,52 @@ def covers(m: Model, clp: Clp, x: Sequence[float]) -> Iterator[Proposal]:
             yield Proposal(sum(t.value for t in whole) - (len(taken) - 1),
                            {t.column: t.sign for t in whole},
                            len(taken) - 1 - sum(t.sign < 0 for t in whole))
+
+
+# cliques ------------------------------------------------------------------------------
+
+
+Literal = Tuple[int, int]       # a binary column, and 1, or -1 for its complement
+
+
+def conflicts(m: Model, x: Sequence[float]) -> Dict[Literal, set[Literal]]:
+    """Literals of which two cannot be 1 together, by one row."""
+    found: Dict[Literal, set[Literal]] = {}
+    for row in sides(m):
+        if len(row.terms) > MOST_IN_ROW:
+            continue
+        made = knapsack(m, row, x)
+        items, side = made if made is not None else ([], Fraction(0))
+        for k, a in enumerate(items):
+            for b in items[:k]:
+                if a.weight + b.weight > side:
+                    one, other = (a.column, a.sign), (b.column, b.sign)
+                    found.setdefault(one, set()).add(other)
+                    found.setdefault(other, set()).add(one)
+    return found
+
+
+def cliques(m: Model, clp: Clp, x: Sequence[float]) -> Iterator[Proposal]:
+    """At most one literal of those of which each two are in conflict; from each literal the
+    clique that grows by the greatest values, and the first of its literals."""
+    near, value = conflicts(m, x), {}
+    for literal in near:
+        j, sign = literal
+        value[literal] = x[j] if sign > 0 else 1 - x[j]
+    order = sorted(near, key=lambda literal: (-value[literal], literal))
+    seen: set[frozenset[Literal]] = set()
+    for first in order[:MOST_CLIQUES]:
+        taken, left = [first], near[first]
+        while left:
+            best = min(left, key=lambda literal: (-value[literal], literal))
+            taken.append(best)
+            left = left & near[best]
+        for size in dict.fromkeys((len(taken), *SIZES)):
+            few = taken[:size]
+            if len(few) == size > 2 and frozenset(few) not in seen:
+                seen.add(frozenset(few))
+                yield Proposal(sum(value[t] for t in few) - 1, {j: sign for j, sign in few},
+                               1 - sum(sign < 0 for _, sign in few))
 
 
 # rows that are divided and rounded ------------------------------------------------------
@@ -280,4 +329,4 @@ def combined(m: Model, x: Sequence[float], u: dict[int, float]) -> Proposal | No
     return found
 
 
-KINDS: dict[str, Kind] = {"cover": covers, "row": single_rows, "tableau": tableau}
+KINDS: dict[str, Kind] = {"cover": covers, "clique": cliques, "row": single_rows, "tableau": tableau}

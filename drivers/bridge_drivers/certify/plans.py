@@ -2,7 +2,7 @@
 shortest, since cuts make some trees longer.
 
 *plain*: no spine; *thin*: forms of a reduced lattice are split beside columns; *lemma*:
-mixed-integer rounding, where there are continuous columns; *cover*: covers and rounded rows;
+mixed-integer rounding, where there are continuous columns; *cover*: covers, cliques, rounded rows;
 *tableau*: rows of the tableau on top of them.
 """
 
@@ -187,9 +187,9 @@ class Plans:
             if rows and gain >= LEAST_GAIN and all(len(rows) > len(s.rows) or name == "lemma"
                                                    for s in found):
                 found.append(Spine(name, rows, gain))
-        few = self.maker.cuts(("cover", "row"), [], self.until(seconds))
+        few = self.maker.cuts(("cover", "clique", "row"), [], self.until(seconds))
         made("cover", few)
-        more = self.maker.cuts(("tableau", "cover", "row"), few, self.until(seconds))
+        more = self.maker.cuts(("tableau", "cover", "clique", "row"), few, self.until(seconds))
         made("tableau", more)
         if not all(self.model.whole):
             made("lemma", self.maker.lemmas(self.until(seconds)))

@@ -9,6 +9,7 @@ from __future__ import annotations
 
 import math
 from fractions import Fraction
+from math import lcm
 from typing import Iterator, Mapping, NamedTuple, Sequence
 
 from .clp import Clp, Linear, State
@@ -19,8 +20,10 @@ from .numbers import is_narrow
 
 PLACES = (9, 8, 7, 6, 5)         # decimals of a point
 MOST_PLACES = 14                # digits of its largest value
+MOVED = 1e-6                    # of the greatest dual, from which on others move
 SHARES = (0.0, 1e-9, 1e-7, 1e-5)        # room of costs, of the largest one
-DUAL_PLACES = (8, 10)           # beyond the first of the greatest dual
+NEAR = 1e-6                     # of the objective: a bound that is good enough
+DUAL_PLACES = (8, 10, 12)       # beyond the first of the greatest dual
 DIGITS = 9                      # of a bound
 APART = 20                      # rooms between the ends of what is tightened
 FREE = 1e3                      # rooms that a column of a basis of equations has
@@ -237,18 +240,19 @@ def inner(lo: float | None, hi: float | None, room: float) -> tuple[float | None
 # duals -------------------------------------------------------------------------------
 
 
-def short_duals(p: Model, clp: Clp, seconds: float) -> ShortDuals | None:
-    """The best of the least room that closes."""
+def short_duals(p: Model, clp: Clp, seconds: float) -> list[ShortDuals]:
+    """Those of the least room whose bound is near CLP's objective, else all; the best first."""
     closer, kept = Closer(p, None), clp.keep()
+    found: list[ShortDuals] = []
     size = max((abs(float(c)) for c in p.cost), default=0.0)
+    top = clp.objective() + float(p.constant)
     for share in SHARES:
-        y = clp.duals()
-        if share:
-            y = with_room(p, share * size, kept, seconds)
-        found = best_rounding(closer, y)
-        if found is not None:
-            return found
-    return None
+        y = with_room(p, share * size, kept, seconds) if share else clp.duals()
+        found += roundings(closer, y)
+        found.sort(key=lambda one: -one.bound())
+        if found and top - float(found[0].bound()) <= NEAR * max(1.0, abs(top)):
+            break
+    return found
 
 
 def with_room(p: Model, room: float, kept: bytes, seconds: float) -> list[float]:
@@ -261,7 +265,8 @@ def with_room(p: Model, room: float, kept: bytes, seconds: float) -> list[float]
     return other.duals() if other.solve() is State.OPTIMAL else []
 
 
-def best_rounding(closer: Closer, y: Sequence[float]) -> ShortDuals | None:
+def roundings(closer: Closer, y: Sequence[float]) -> list[ShortDuals]:
+    """Those that close."""
     p, found = closer.model, []
     box, given = Box(p.lo, p.hi), {i: v for i, v in enumerate(y) if v}
     first = -math.floor(math.log10(max((abs(v) for v in given.values()), default=1.0)))
@@ -269,11 +274,46 @@ def best_rounding(closer: Closer, y: Sequence[float]) -> ShortDuals | None:
         leaf = closer.rounded(given, first + places, False)
         judged = closer.judge(leaf, box)
         if 0 < len(judged.sideless) <= MOST_MENDED:
-            leaf = closer.mended(leaf, box, judged.sideless)
-            judged = closer.judge(leaf, box)
-        if not judged.sideless:
-            found.append(ShortDuals(leaf, judged))
-    return max(found, key=lambda one: one.bound()) if found else None
+            mended = closer.mended(leaf, box, judged.sideless)
+            second = closer.judge(mended, box)
+            if not second.sideless:
+                leaf, judged = mended, second
+        if judged.sideless:
+            met = met_exactly(closer, leaf, judged)
+            if met is None:
+                continue
+            leaf, judged = met
+        found.append(ShortDuals(leaf, judged))
+    return found
+
+
+def met_exactly(closer: Closer, leaf: Multipliers, judged: Judged) -> ShortDuals | None:
+    """Columns that lack the bound that their reduced cost needs get the reduced cost 0: duals move
+    that stand far enough from 0, or are those of equations."""
+    p, columns, base = closer.model, set(judged.sideless), judged.reduced
+    box = Box(p.lo, p.hi)
+    far = max((abs(v) for v in leaf.numbers.values()), default=0) * MOVED
+    free = [lo is not None and lo == hi or abs(leaf.numbers.get(i, 0)) > far
+            for i, (lo, hi) in enumerate(zip(p.side_lo, p.side_hi))]
+    for _ in range(ROUNDS):
+        system = [({i: a * p.cost_scale for i, a in p.by_column[j] if free[i]}, base[j])
+                  for j in columns]
+        moves = solved(system)
+        if moves is None:
+            return None
+        over = lcm(1, *{v.denominator for v in moves.values()})
+        numbers = {i: v * over for i, v in leaf.numbers.items()}
+        for i, v in moves.items():
+            numbers[i] = numbers.get(i, 0) + int(v * over)
+        if any(not closer.has_side(i, v) for i, v in numbers.items()):
+            return None
+        made = Multipliers({i: v for i, v in numbers.items() if v}, leaf.den * over, False)
+        found = closer.judge(made, box)
+        if not found.sideless:
+            is_short = all(is_narrow(Fraction(v, made.den)) for v in made.numbers.values())
+            return ShortDuals(made, found) if is_short else None
+        columns |= set(found.sideless)
+    return None
 
 
 def trivial(p: Model) -> Fraction | None:

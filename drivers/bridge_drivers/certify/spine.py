@@ -81,6 +81,7 @@ class Maker:
         self.model, self.value, self.spool, self.watch = model, value, spool, watch
         self.goal = float(value.value) - (float(value.step.size) if value.step else 0.0)
         self.base = -math.inf           # of the last relaxation
+        self.stalled = STALLED if any(model.costs) else ROUNDS
 
     def relaxed(self, rows: Sequence[Row]) -> Tableau | None:
         """The relaxation under the rows; the plane on the objective is there without its side,
@@ -91,7 +92,7 @@ class Maker:
         if clp.solve() is not State.OPTIMAL:
             return None
         self.base = clp.objective() + float(self.model.constant)
-        if self.watch.is_due():
+        if self.watch.is_due() and any(self.model.costs):
             self.watch.tell(cuts=len(rows), bound=self.model.sign * self.base)
         return Tableau(m, clp, clp.values(), self.base)
 
@@ -111,7 +112,7 @@ class Maker:
                 break
             gain = relaxed.base - last
             stalled = stalled + 1 if gain < GAIN * max(1.0, self.goal - relaxed.base) else 0
-            if stalled > STALLED:
+            if stalled > self.stalled:
                 break
             last = relaxed.base
             found = self.proposed(relaxed, kinds, seen, until)
