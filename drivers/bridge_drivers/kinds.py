@@ -82,7 +82,7 @@ def stub_of(path: str) -> str:
     """The path of an MPS file without its ends: `model` of `model.mps.gz`."""
     stub, end = os.path.splitext(path)
     if end.lower() in PACKED:
-        path, (stub, end) = stub, os.path.splitext(stub)
+        stub, end = os.path.splitext(stub)
     return stub if end.lower() == ".mps" else path
 
 

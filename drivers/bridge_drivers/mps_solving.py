@@ -3,8 +3,6 @@ file's own, and certificates are judged by `verify_mps` or `verify_fixed`."""
 
 from __future__ import annotations
 
-import os
-
 from . import kinds
 from .answer import Answer
 from .bridge import Refused

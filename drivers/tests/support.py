@@ -48,6 +48,7 @@ def knows(command: str) -> bool:
 
 
 NEEDS_PROGRAM = unittest.skipUnless(knows("verify"), "no bridge that knows `verify`")
+NEEDS_MPS = unittest.skipUnless(knows("verify_mps"), "no bridge that knows `verify_mps`")
 NEEDS_CLP = unittest.skipUnless(HAS_CLP, "no library of CLP")
 
 

@@ -442,7 +442,7 @@ class Front(Case):
     def test_commands_are_those_of_the_table(self) -> None:
         path = os.path.join(TOP, "docs", "user", "commands.md")
         with open(path, encoding="utf-8") as f:
-            words = set(re.findall(r"`([a-z]+) [A-Z]", "".join(
+            words = set(re.findall(r"`([a-z_]+) [A-Z]", "".join(
                 line.split("|")[1] for line in f if line.startswith("| `"))))
         self.assertEqual({c.word for c in front.COMMANDS}, words)
 
