@@ -92,6 +92,7 @@ class Model:
         self.rows: list[list[tuple[int, int]]] = [[] for _ in range(self.m)]
         for row, column, a in s.entries:
             self.rows[place[row]].append((at[column], over[id(a)]))
+        s.entries = []                  # the most room that reading takes
         for entries in self.rows:
             entries.sort()
         self.set_columns()
