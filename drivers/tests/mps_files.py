@@ -140,10 +140,10 @@ class Read(Case):
         self.assertEqual((read.form, read.notes), ("fixed", []))
 
     def test_refusals(self) -> None:
-        self.assertEqual(self.refused(BLANK), "m.mps line 8: bad line (in free form; in fixed "
-                         "columns line 8: bad line): names with blanks are not read")
+        self.assertEqual(self.refused(BLANK), "m.mps line 8: bad line: names with blanks are not "
+                                              "read")
         self.assertRegex(self.refused(FIXED_TEXT.replace("ENDATA", "SOS")),
-                         r"^m\.mps line 18: bad section .*in fixed columns line 18: bad section\)$")
+                         r"^m\.mps line 18: bad section \(a section of another kind of model")
         self.assertRegex(self.refused(MODELS["free"].text.replace("-1", "one")),
                          r"^m\.mps line 6: bad number .*; in fixed columns line 3: bad line\)$")
 
