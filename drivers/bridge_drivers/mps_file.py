@@ -76,7 +76,8 @@ def unpacked(path: str, target: str) -> Unpacked:
         if fault.errno is None:                     # of gzip and bz2
             raise Damaged(f"{path}: the packed file is damaged ({fault})") from None
         raise
-    return Unpacked(target, [f"what is judged is the text that {os.path.basename(path)} unpacks to"])
+    return Unpacked(target, ["what is judged is the text that "
+                             f"{os.path.basename(path)} unpacks to"])
 
 
 def reading(bridge: Bridge, path: str, form: str = "") -> Reading:

@@ -78,9 +78,10 @@ class Kinds(Case):
     def test_what_is_one(self) -> None:
         text = FIXED_TEXT.encode()
         for name, data, wanted in (
-                ("m.mps", text, True), ("afiro", text, True), ("m.mps.gz", gzip.compress(text), True),
-                ("m.bz2", bz2.compress(text), True), ("m.xz", lzma.compress(text), True),
-                ("m.MPS", b"", True), ("m.mps.gz", b"\x1f\x8b\x08", True), ("m.nl", b"g3 1 1\n", False),
+                ("m.mps", text, True), ("afiro", text, True),
+                ("m.mps.gz", gzip.compress(text), True), ("m.bz2", bz2.compress(text), True),
+                ("m.xz", lzma.compress(text), True), ("m.MPS", b"", True),
+                ("m.mps.gz", b"\x1f\x8b\x08", True), ("m.nl", b"g3 1 1\n", False),
                 ("m.lp", b"Minimize\n obj: x\n", False), ("m.gz", b"\x1f\x8b\x08", False)):
             path = os.path.join(self.folder, name)
             with open(path, "wb") as f:
