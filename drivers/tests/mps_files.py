@@ -82,7 +82,9 @@ class Kinds(Case):
                 ("m.mps.gz", gzip.compress(text), True), ("m.bz2", bz2.compress(text), True),
                 ("m.xz", lzma.compress(text), True), ("m.MPS", b"", True),
                 ("m.mps.gz", b"\x1f\x8b\x08", True), ("m.nl", b"g3 1 1\n", False),
-                ("m.lp", b"Minimize\n obj: x\n", False), ("m.gz", b"\x1f\x8b\x08", False)):
+                ("m.lp", b"Minimize\n obj: x\n", False), ("m", b"\n" * 4000, False),
+                ("m", b"\n" * 99 + b"* \r\n \t\r\nNAME\r\n", True), ("m", b"", False),
+                ("m.gz", b"\x1f\x8b\x08", False)):
             path = os.path.join(self.folder, name)
             with open(path, "wb") as f:
                 f.write(data)
