@@ -10,8 +10,8 @@ from .options import COMMON, Option
 
 FILES = ("bridge", "certificate", "solver")     # options whose values are paths
 FOLDERS = ("keep",)
-VALUES = {"only": "mps", "format": "free fixed", "driver": " ".join(solvers.NAMES), "outlev": "0 1 2",
-          "wantsol": "1 2 4 6 7 8"}
+VALUES = {"only": "mps", "format": "free fixed", "driver": " ".join(solvers.NAMES),
+          "outlev": "0 1 2", "wantsol": "1 2 4 6 7 8"}
 DASHED = {"-AMPL": "called by a modelling system", "-s": "write the .sol",
           "-e": "no echo of options", "-=": "list the options", "-v": "versions", "-h": "help"}
 BASH = """# bash completion of nl-bridge and its drivers; made by `nl-bridge completion bash`

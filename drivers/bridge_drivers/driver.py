@@ -248,7 +248,8 @@ class Driver:
         line = f"{self.name}: {fault.text}"
         sys.stderr.write(line + "\n")
         minizinc.tell(line, is_error=True)
-        if self.words.ampl and not self.is_mps and fault.code != Code.STOPPED and not self.options.failexit:
+        if self.words.ampl and not self.is_mps and fault.code != Code.STOPPED \
+                and not self.options.failexit:
             try:
                 self.put(bare(self.nl, fault.code, max(self.options.objno, 1) - 1, [line]))
                 return Status.DONE

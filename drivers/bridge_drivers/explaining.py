@@ -86,8 +86,8 @@ MEANING: Mapping[str, Meaning] = {
     "reserved name": Meaning("it begins with @, or is 'MARKER'"),
     "repeated name": Meaning("an earlier line has it"),
     "bad name": Meaning("not one word of 1 to 255 bytes"),
-    "bad section": Meaning("a section of another kind of model (SOS, QUADOBJ, CSECTION), or one out "
-                           "of its order"),
+    "bad section": Meaning("a section of another kind of model (SOS, QUADOBJ, CSECTION), or one "
+                           "out of its order"),
     "bad bound kind": Meaning("not LO, UP, FX, FR, MI, PL, BV, LI or UI"),
     "unknown row": Meaning("no line of ROWS has it"),
     "unknown column": Meaning("no line of COLUMNS has it"),

@@ -45,8 +45,8 @@ ENDS = {
 }
 STARTS = ((b"\x1f\x8b", ".gz"), (b"BZh", ".bz2"), (b"\xfd7zXZ", ".xz"), (b"PK\x03\x04", ".zip"),
           (b"certificate 1", ".certificate"))
-IS_MPS = re.compile(rb"(?:(?:\*[^\n]*|\s*)\n)*(?:NAME\b|OBJSENSE\b|ROWS\b)")
-IS_LP = re.compile(rb"(?:(?:\\[^\n]*|\s*|//[^\n]*)\n|/\*.*?\*/\s*)*"
+IS_MPS = re.compile(rb"(?:(?:\*[^\n]*|[^\S\n]*)\n)*(?:NAME\b|OBJSENSE\b|ROWS\b)")
+IS_LP = re.compile(rb"(?:(?:\\[^\n]*|[^\S\n]*|//[^\n]*)\n|/\*.*?\*/[^\S\n]*)*"
                    rb"(?:min|max)(?:imi[sz]e|imum)?\s*(?::|\n|\s)", re.I | re.S)
 
 

@@ -76,7 +76,8 @@ def unpacked(path: str, target: str) -> Unpacked:
         if fault.errno is None:                     # of gzip and bz2
             raise Damaged(f"{path}: the packed file is damaged ({fault})") from None
         raise
-    return Unpacked(target, [f"what is judged is the text that {os.path.basename(path)} unpacks to"])
+    return Unpacked(target, ["what is judged is the text that "
+                             f"{os.path.basename(path)} unpacks to"])
 
 
 def reading(bridge: Bridge, path: str, form: str = "") -> Reading:
@@ -96,14 +97,15 @@ def reading(bridge: Bridge, path: str, form: str = "") -> Reading:
 
 
 def both_refused(bridge: Bridge, path: str, replies: dict[str, Reply]) -> Refused:
-    """The fault of the form that goes further; of the other one behind it."""
+    """The fault of the form that goes further; another one of the other form behind it."""
     if any(reply.status != FAULT for reply in replies.values()):
         form = next(form for form, reply in replies.items() if reply.status != FAULT)
         return bridge.refused((READS[form], path), replies[form])
     first, other = sorted(READS, key=lambda form: -line_of(replies[form].told))
     fault = FormRefused(READS[first], replies[first], (READS[first], path), bridge.shown)
     told = replies[other].told.removeprefix("refused ")
-    fault.other = f" ({CALLED[first]}; {CALLED[other]} {told})"
+    if replies[other].told != replies[first].told:
+        fault.other = f" ({CALLED[first]}; {CALLED[other]} {told})"
     if has_blank_name(path, line_of(replies[FIXED].told)):
         fault.other += ": names with blanks are not read"
     return fault

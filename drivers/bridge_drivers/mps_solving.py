@@ -1,5 +1,5 @@
-"""One solve of an MPS file: as one of an .nl file, but that no .sol is made, rows and columns are the
-file's own, and certificates are judged by `verify_mps` or `verify_fixed`."""
+"""One solve of an MPS file: as one of an .nl file, but that no .sol is made, rows and columns are
+the file's own, and certificates are judged by `verify_mps` or `verify_fixed`."""
 
 from __future__ import annotations
 
@@ -60,9 +60,9 @@ class MpsSolving(Solving):
     def prepared(self, target: str) -> Prepared:
         """Unpacked, in the form that it has."""
         if self.options.objno != 1:
-            raise Failure(Code.REFUSED, f"{self.nl}: objno={self.options.objno}: no such objective: "
-                          "the first N row of an MPS file is its objective, and its only one",
-                          Status.REFUSED)
+            raise Failure(Code.REFUSED, f"{self.nl}: objno={self.options.objno}: no such "
+                          "objective: the first N row of an MPS file is its objective, and its "
+                          "only one", Status.REFUSED)
         try:
             plain = unpacked(self.nl, target)
         except Damaged as fault:

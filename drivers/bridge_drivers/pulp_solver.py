@@ -3,8 +3,8 @@
     from bridge_drivers.pulp_solver import BridgeCmd
     problem.solve(BridgeCmd("bridge-cbc", prove=True))
 
-PuLP writes MPS, which the driver takes as it stands. Its message, with what is certified, is then in
-`message`, with PuLP's names. PuLP writes 13 digits of each number; what is certified is of those
+PuLP writes MPS, which the driver takes as it stands. Its message, with what is certified, is then
+in `message`, with PuLP's names. PuLP writes 13 digits of each number; what is certified is of those
 numbers.
 """
 

@@ -78,10 +78,13 @@ class Kinds(Case):
     def test_what_is_one(self) -> None:
         text = FIXED_TEXT.encode()
         for name, data, wanted in (
-                ("m.mps", text, True), ("afiro", text, True), ("m.mps.gz", gzip.compress(text), True),
-                ("m.bz2", bz2.compress(text), True), ("m.xz", lzma.compress(text), True),
-                ("m.MPS", b"", True), ("m.mps.gz", b"\x1f\x8b\x08", True), ("m.nl", b"g3 1 1\n", False),
-                ("m.lp", b"Minimize\n obj: x\n", False), ("m.gz", b"\x1f\x8b\x08", False)):
+                ("m.mps", text, True), ("afiro", text, True),
+                ("m.mps.gz", gzip.compress(text), True), ("m.bz2", bz2.compress(text), True),
+                ("m.xz", lzma.compress(text), True), ("m.MPS", b"", True),
+                ("m.mps.gz", b"\x1f\x8b\x08", True), ("m.nl", b"g3 1 1\n", False),
+                ("m.lp", b"Minimize\n obj: x\n", False), ("m", b"\n" * 4000, False),
+                ("m", b"\n" * 99 + b"* \r\n \t\r\nNAME\r\n", True), ("m", b"", False),
+                ("m.gz", b"\x1f\x8b\x08", False)):
             path = os.path.join(self.folder, name)
             with open(path, "wb") as f:
                 f.write(data)
@@ -140,10 +143,10 @@ class Read(Case):
         self.assertEqual((read.form, read.notes), ("fixed", []))
 
     def test_refusals(self) -> None:
-        self.assertEqual(self.refused(BLANK), "m.mps line 8: bad line (in free form; in fixed "
-                         "columns line 8: bad line): names with blanks are not read")
+        self.assertEqual(self.refused(BLANK), "m.mps line 8: bad line: names with blanks are not "
+                                              "read")
         self.assertRegex(self.refused(FIXED_TEXT.replace("ENDATA", "SOS")),
-                         r"^m\.mps line 18: bad section .*in fixed columns line 18: bad section\)$")
+                         r"^m\.mps line 18: bad section \(a section of another kind of model")
         self.assertRegex(self.refused(MODELS["free"].text.replace("-1", "one")),
                          r"^m\.mps line 6: bad number .*; in fixed columns line 3: bad line\)$")
 

@@ -1,5 +1,5 @@
-"""The PuLP solver class; skipped without PuLP, without a solver, or without a bridge that judges MPS
-files."""
+"""The PuLP solver class; skipped without PuLP, without a solver, or without a bridge that judges
+MPS files."""
 
 from __future__ import annotations
 

@@ -22,8 +22,8 @@ os.environ["PYTHONDONTWRITEBYTECODE"] = "1"         # also where drivers are pro
 HERE = os.path.dirname(os.path.abspath(__file__))
 sys.path[:0] = [HERE]
 MODULES = ("units", "stored_runs", "manners", "kept", "processes", "end_to_end", "mps_files",
-           "pulp_class", "certify_parts", "certify_search", "certify_linear", "settled_table", "test_front",
-           "explains", "reports", "completions", "colours", "packages")
+           "pulp_class", "certify_parts", "certify_search", "certify_linear", "settled_table",
+           "test_front", "explains", "reports", "completions", "colours", "packages")
 
 
 def main() -> int:

@@ -163,7 +163,8 @@ class Refusals(Case):
                 (("import", "p.mps"), "refused column 2: empty interval",
                  "p.mps: column 2: empty interval (a lower bound is above its upper bound, so "
                  "nothing satisfies the model)"),
-                (("mps", "p.mps"), "refused line 7: unknown row", "p.mps line 7: unknown row")):
+                (("mps", "p.mps"), "refused line 7: unknown row",
+                 "p.mps line 7: unknown row (no line of ROWS has it)")):
             self.assertEqual(self.line(told, *words), line)
 
     def test_input_faults(self) -> None:
