@@ -21,6 +21,7 @@ from bridge_drivers.bridge import Bridge, Refused
 from bridge_drivers.importing import lists_of
 from bridge_drivers.mps_text import program_of
 from bridge_drivers.sections import Sections
+from reports import faults, schema
 from mps_models import BLANK, EMPTY_INTERVAL, FIXED_TEXT, MODELS, sections
 
 SOLVERS = [name for name in solvers.NAMES if solvers.load(name).place()]
@@ -208,7 +209,7 @@ class Driven(Case):
         self.put(gzip.compress(text.encode()) if end.endswith("gz") else text.encode(), end)
         ran = called("bridge-" + solver, self.stub + end, "json=1", "wantsol=6", *words)
         found: dict = json.loads(ran.stdout)
-        self.assertEqual(found["status"], ran.returncode)
+        self.assertEqual((found["status"], faults(found, schema())), (ran.returncode, []))
         return found
 
     @NEEDS_CLP
@@ -321,9 +322,12 @@ class Front(Case):
         told = json.loads(ran.stdout)
         self.assertEqual((told["claim"], told["value"]["exact"], told["model"]),
                          ("feasible", "-23/2", "m.mps"))
+        self.assertEqual(faults(told, schema()), [])
+        told = json.loads(self.call("stats", ".mps.gz", "json=1").stdout)
+        self.assertEqual((told["stats"]["columns"], faults(told, schema())), (3, []))
         self.put(b"\x1f\x8b", ".mps.gz")
         told = json.loads(self.call("stats", ".mps.gz", "json=1").stdout)
-        self.assertEqual((told["status"], told["claim"]), (2, None))
+        self.assertEqual((told["status"], told["claim"], faults(told, schema())), (2, None, []))
 
     def test_explain(self) -> None:
         ran = self.call("explain", ".mps", ".certificate")
