@@ -1,5 +1,5 @@
 -- Leaves, and what sums of them come to.
-use Rattle.std.proofs.Common.{◌≡◌, ◌≢◌, ℕ, suc, ◌+◌, ◌*◌, ◌<◌, ◌≤◌, ◌∙◌, sym, ap, ap₂, refl, subst, subst₂, ◌==◌, arith, ⊎_elim, Bool, true, false, ◌&&◌, Some, None, Option, List, [], ◌∷◌, ◌++◌, drop, length, get_or, map, unwrap_or, option_and_then, IfSome, if◌then◌else◌}
+use Rattle.std.proofs.Common.{◌≡◌, ◌≢◌, ℕ, suc, ◌+◌, ◌*◌, ◌<◌, ◌≤◌, ◌∙◌, sym, ap, ap₂, refl, subst, subst₂, ◌==◌, arith, ⊎_elim, Bool, true, false, ◌&&◌, Some, None, Option, List, [], ◌∷◌, ◌++◌, drop, length, get_or, unwrap_or, option_and_then, IfSome, if◌then◌else◌}
 use Rattle.std.specs.Option.{option_or}
 use Rattle.std.proofs.lemmas.Bool.{and_from, and_parts, cases_eq}
 use Rattle.std.proofs.lemmas.List.{drop_more, map-append}
@@ -16,8 +16,8 @@ use Rattle.fractions.specs.Rational.{ℚ, whole, zero_ℚ, one_ℚ, ◌+ℚ◌, 
 use Rattle.fractions.proofs.Arithmetic.{zero-+ℚ, +ℚ_zero, *ℚ_one}
 use Rattle.fractions.proofs.Values.{own_value, same_value}
 use Rattle.fractions.proofs.Adding.{sum_over_nil}
-use Rattle.linear_programs.specs.Lines.{Line, Point, constant_line, is_constant, line_scaled, line_sum, line_value, one_if, products_fit, running_line, running_sums_fit, sums_fit, all_below}
-use Rattle.nl_meaning.specs.Faults.{fault_at, operator_fault, operator_line, too_wide_unless, trees_fault, trees_lines, tree_fault, tree_line}
+use Rattle.linear_programs.specs.Lines.{Line, Point, constant_line, is_constant, line_scaled, line_sum, line_value, one_if, products_fit, running_line, running_sums_fit, sums_fit}
+use Rattle.nl_meaning.specs.Faults.{fault_at, operator_fault, operator_line, too_wide_unless, trees_fault, trees_lines, tree_line}
 use Rattle.nl_meaning.specs.Trees.{Known, Tree, Trees, number, variable, operator, none, more, first_trees, operator_value, tree_size, tree_value, on_values}
 use Rattle.nl_meaning.proofs.Linear.{all_there-some, constant_value, operator_has_line}
 use Rattle.nl_model.specs.declared.node.Node.{Node}
@@ -37,7 +37,7 @@ use Rattle.linear_fold.specs.declared.leaf_sums.Leaf.{Leaf}
 use Rattle.linear_fold.specs.declared.leaf_sums.LeafSum.{LeafSum}
 use Rattle.linear_fold.specs.declared.parts.PartialForm.{PartialForm}
 use Rattle.linear_fold.specs.declared.parts.PartialForm.TheVariants.{Number, Variable}
-use Rattle.linear_fold.specs.InsideFolds.{AreOperandsOf, HasLine, HasLineOf, IsFolded, IsLined}
+use Rattle.linear_fold.specs.InsideFolds.{AreOperandsOf, IsFolded, IsLined}
 use Rattle.linear_fold.specs.InsideLeafSums.{AddsLeaf, AreLeaves, IsLeafAt, IsListOf, IsNoLeaf, IsVariableOf, SumsUpTo, factors_in, factors_leaf, leaf_line, leaves_line, number_count, seen}
 use Rattle.linear_fold.specs.InsideOperates.{AreOperands, lines_of_parts, multiple_line, zero_line}
 use Rattle.linear_fold.proofs.Folding.{constant_lined, is_line_by, multiple_within, number_within, operands_are, operator_folded, same_values, values_are, variable_lined}
