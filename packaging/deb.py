@@ -14,7 +14,7 @@ from sources import TOP
 
 ARCHITECTURE = "amd64"
 MODULES = "usr/lib/python3/dist-packages"
-SOLVERS = "coinor-clp, glpk-utils, lp-solve, minizinc, python3-pulp, python3-scipy, qsopt-ex"
+SOLVERS = "coinor-clp, glpk-utils, lp-solve, minizinc, python3-pulp, qsopt-ex"
 COMMAND = """#!/usr/bin/python3
 import signal
 if signal.getsignal(signal.SIGINT) is signal.default_int_handler:
@@ -101,7 +101,7 @@ def control(project: Project, inside: list[File]) -> list[File]:
               f"Architecture: {ARCHITECTURE}", f"Maintainer: {project.maintainer()}",
               f"Installed-Size: {size}", f"Depends: libc6 (>= {major}.{minor}), python3 (>= 3.9), "
               "coinor-libclp1",
-              "Recommends: coinor-cbc", f"Suggests: {SOLVERS}", "Section: math",
+              "Recommends: coinor-cbc, python3-scipy", f"Suggests: {SOLVERS}", "Section: math",
               "Priority: optional", f"Description: {project.table['description']}"]
     sums = [f"{hashlib.md5(f.data).hexdigest()}  {f.path}\n" for f in inside]
     return [File("DEBIAN/control", ("\n".join(fields) + "\n" + DESCRIPTION).encode()),

@@ -253,6 +253,8 @@ class Linear(Certified):
         """Decimals: equations with columns of their own, and inequalities."""
         self.within(made("staircase", 757),
                     "; rounding is taken up by columns of 80 equations alone")
+        self.within(made("staircase", 1000),
+                    "; rounding is taken up by columns of 108 equations alone")
         self.within(made("diet", 100_000), "")
         with without_scipy():
             self.within(made("staircase", 757),

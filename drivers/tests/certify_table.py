@@ -7,6 +7,7 @@
     certify_table.py [-jN] SECONDS FOLDER FILE ..       .nl files, or MPS files as they stand;
                                                 certificates go to FOLDER, N models at once (1)
     certify_table.py readme TABLE ..            the tables of drivers/README.md of such lines
+    certify_table.py sizes TABLE ..             all of them in one
 
 The models, from two packages of Debian (examples of the one, samples of the other):
 
@@ -31,6 +32,7 @@ import sys
 import tempfile
 import threading
 from concurrent.futures import ThreadPoolExecutor
+from fractions import Fraction
 from typing import NamedTuple
 
 HERE = os.path.dirname(os.path.abspath(__file__))
@@ -206,20 +208,37 @@ def largest(rows: list[dict[str, str]], count: int = 8) -> list[str]:
                   for row in exact[:count]]
 
 
-def readme(tables: list[str]) -> None:
+def read(tables: list[str]) -> list[dict[str, str]]:
     rows = []
     for path in tables:
         with open(path, encoding="utf-8") as f:
             words = [text.rstrip("\n").split("\t") for text in f]
         rows += [dict(zip(HEAD, row)) for row in words if len(row) == len(HEAD)
                  and row[0] != HEAD[0]]
+    return rows
+
+
+def sizes(tables: list[str]) -> None:
+    """Each model with its last line, long numbers as doubles."""
+    print("| model | columns (whole) | rows | nodes | bytes | seconds | search | last line |\n"
+          "|---|---|---|---|---|---|---|---|")
+    for row in read(tables):
+        told = " ".join(word if len(word) < 16 or not word[-1].isdigit()
+                        else f"{float(Fraction(word)):.10g}.." for word in row["line"].split())
+        print(f"| {row['model']} | {row['columns']} ({row['whole']}) | {row['rows']} "
+              f"| {row['nodes']} | {row['bytes']} | {row['seconds']} | {row['search']} "
+              f"| `{told}` |")
+
+
+def readme(tables: list[str]) -> None:
+    rows = read(tables)
     print("\n".join([f"{len(rows)} models.", "", *summary(rows), "", *largest(rows)]))
 
 
 def main() -> None:
     arguments = sys.argv[1:]
-    if arguments[:1] == ["readme"]:
-        readme(arguments[1:])
+    if arguments[:1] in (["readme"], ["sizes"]):
+        (readme if arguments[0] == "readme" else sizes)(arguments[1:])
         return
     bridge = find("", BESIDE)
     if arguments[:1] == ["models"]:

@@ -9,6 +9,7 @@ from typing import Iterator, Mapping, NamedTuple, Optional, Sequence
 
 from .exact import Equation, solved
 from .model import Box, Model
+from .numbers import is_narrow
 
 TINY = 1e-11                    # smaller duals count as 0
 DIGITS = (0, 1, 2, 3, 4, 5, 6, 7, 8, 9, 10, 12, 14)     # beyond the first of the greatest dual
@@ -30,6 +31,10 @@ class Multipliers(NamedTuple):
     numbers: dict[int, int]
     den: int
     weights: bool
+
+    def is_narrow(self) -> bool:
+        """Whether a certificate can hold them."""
+        return all(is_narrow(Fraction(v, self.den)) for v in self.numbers.values())
 
 
 class Closed(NamedTuple):
@@ -244,7 +249,9 @@ class Closer:
         return None
 
     def exactly(self, y: Mapping[int, Fraction] | None, weights: bool, box: Box) -> Closed | None:
-        return None if y is None else self.attempt(self.of_fractions(y, weights), box)
+        """None where they do not close, or a certificate cannot hold them."""
+        closed = None if y is None else self.attempt(self.of_fractions(y, weights), box)
+        return closed if closed is not None and closed.leaf.is_narrow() else None
 
     def thinned(self, closed: Closed, box: Box) -> Closed:
         """Fewer duals, where the greatest of them close the leaf too."""

@@ -68,10 +68,15 @@ class Model:
         if list(s.bounds) != [f"x{j}" for j in range(self.n)]:
             raise Unfit("the exported program has other columns than the file")
         self.whole = [name in s.whole for name in s.bounds]
-        self.cost = [sign * s.costs.get(name, Fraction(0)) for name in s.bounds]
+        zero = Fraction(0)
+        costs = [s.costs.get(name, zero) for name in s.bounds]
+        different = {id(c): sign * c for c in costs}
+        self.cost = [different[id(c)] for c in costs]
         self.constant = sign * constant
-        self.cost_scale = lcm(*(c.denominator for c in [*self.cost, self.constant]))
-        self.costs = [int(c * self.cost_scale) for c in self.cost]
+        self.cost_scale = scale = lcm(self.constant.denominator,
+                                      *{c.denominator for c in different.values()})
+        over = {key: c.numerator * (scale // c.denominator) for key, c in different.items()}
+        self.costs = [over[id(c)] for c in costs]
         self.start = int(self.constant * self.cost_scale)
         self.set_rows(s, factors)
         self.set_sides(s, factors)
@@ -89,6 +94,7 @@ class Model:
         self.rows: list[list[tuple[int, int]]] = [[] for _ in range(self.m)]
         for row, column, a in s.entries:
             self.rows[place[row]].append((at[column], over[id(a)]))
+        s.entries = []                  # the most room that reading takes
         for entries in self.rows:
             entries.sort()
         self.set_columns()

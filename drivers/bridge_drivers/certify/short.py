@@ -310,8 +310,7 @@ def met_exactly(closer: Closer, leaf: Multipliers, judged: Judged) -> ShortDuals
         made = Multipliers({i: v for i, v in numbers.items() if v}, leaf.den * over, False)
         found = closer.judge(made, box)
         if not found.sideless:
-            is_short = all(is_narrow(Fraction(v, made.den)) for v in made.numbers.values())
-            return ShortDuals(made, found) if is_short else None
+            return ShortDuals(made, found) if made.is_narrow() else None
         columns |= set(found.sideless)
     return None
 
