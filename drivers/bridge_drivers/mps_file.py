@@ -165,5 +165,6 @@ def opened(bridge: Bridge, path: str) -> Iterator[Opened]:
         plain = unpacked(path, os.path.join(folder, "text.mps"))
         bridge.shown[plain.path] = path
         read = reading(bridge, plain.path)
-        yield Opened(plain.path, judged(bridge, plain.path, folder, read),
-                     [*plain.notes, *read.notes])
+        program = judged(bridge, plain.path, folder, read)
+        yield Opened(plain.path, program,
+                     [*plain.notes, *read.notes, *program.notes])

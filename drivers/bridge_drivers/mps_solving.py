@@ -10,6 +10,7 @@ from .certificates import Certifier
 from .certify.text import answer_lines
 from .codes import Code, Failure, Status
 from .mps_file import Damaged, Reading, judged, reading, unpacked
+from .mps_text import MpsProgram
 from .nl import BadFile, Prepared
 from .program import Program
 from .solving import Solving
@@ -74,6 +75,6 @@ class MpsSolving(Solving):
         """Its own program, and what `bridge` makes of the file."""
         clock, form = self.clock, self.options.format
         read: Reading = clock.timed("reading", reading, self.bridge, nl, form)
-        self.notes += read.notes
-        program: Program = clock.timed("export", judged, self.bridge, nl, self.folder, read)
+        program: MpsProgram = clock.timed("export", judged, self.bridge, nl, self.folder, read)
+        self.notes += [*read.notes, *program.notes]
         return program

@@ -19,16 +19,18 @@ WHOLE = (b"BV", b"LI", b"UI")           # kinds of bounds that make a column who
 LOW = {b"LO": None, b"LI": None, b"FX": None, b"BV": b"0", b"MI": b"", b"FR": b""}
 HIGH = {b"UP": None, b"UI": None, b"FX": None, b"BV": b"1", b"PL": b"", b"FR": b""}
 MARKS = (b"'INTORG'", b"'INTEND'")
+MOST_NAMED = 3                          # columns that a note names
 
 
 class MpsProgram(Program):
-    """An MPS file's own program, with the file's own names."""
+    """An MPS file's own program, with the file's own names. `notes` say what other readers take
+    otherwise."""
 
     is_exported = False
 
-    def __init__(self, text: bytes, names: Names) -> None:
+    def __init__(self, text: bytes, names: Names, notes: list[str]) -> None:
         super().__init__(text)
-        self.names = names
+        self.names, self.notes = names, notes
 
 
 class Column:
@@ -164,12 +166,31 @@ class Written:
         if in_whole:
             yield b" M%d 'MARKER' %s" % (marks, MARKS[1])
 
+    def notes(self) -> list[str]:
+        """On columns whose bounds other readers take otherwise."""
+        columns, told = self.columns.values(), []
+        bare = [c.name for c in columns if c.whole and c.low is None and c.high is None]
+        if bare:
+            told.append(f"whole columns without bounds go from 0 on: {some(bare)}; cbc and glpsol, "
+                        "where they read the file, take 0 and 1 for their bounds")
+        below = [c.name for c in columns if c.low is None and is_below_zero(c.high or b"")]
+        if below:
+            told.append(f"columns with an upper bound below 0 and no lower one have no lower end: "
+                        f"{some(below)}")
+        return told
+
     def names(self) -> Names:
         found = Names("", len(self.columns), len(self.constraints))
         objective = [name for name, row in self.rows.items() if row == b"obj"]
         found.lists = {".row": list(map(shown, self.constraints + objective)),
                        ".col": list(map(shown, self.columns))}
         return found
+
+
+def some(names: list[bytes]) -> str:
+    """The first of a list, and how many more."""
+    more = len(names) - MOST_NAMED
+    return ", ".join(map(shown, names[:MOST_NAMED])) + (f" and {more} more" if more > 0 else "")
 
 
 def shown(name: bytes) -> str:
@@ -179,4 +200,4 @@ def shown(name: bytes) -> str:
 def program_of(text: bytes) -> MpsProgram:
     """Of a text in its written form."""
     read = Written(text)
-    return MpsProgram(b"\n".join(read.lines()) + b"\n", read.names())
+    return MpsProgram(b"\n".join(read.lines()) + b"\n", read.names(), read.notes())

@@ -62,6 +62,18 @@ class Texts(unittest.TestCase):
         self.assertEqual((names.row(1), names.column(4), names.objective(0)),
                          ("l", "f", "objective 0 (cost)"))
 
+    def test_notes(self) -> None:
+        """On what other readers take otherwise, and on nothing else."""
+        columns = "".join(f" {name} o 1\n" for name in "abcdefg")
+        p = program_of((f"ROWS\n N o\nCOLUMNS\n M0 'MARKER' 'INTORG'\n{columns}"
+                        " M1 'MARKER' 'INTEND'\n x o 1\n y o 1\n z o 1\nRHS\nBOUNDS\n"
+                        " PL BND b\n UP BND c 3\n LO BND d 0\n UP BND x -1\n UP BND y 0\n"
+                        " MI BND z\n UP BND z -3\nENDATA\n").encode())
+        self.assertEqual(p.notes, [
+            "whole columns without bounds go from 0 on: a, e, f and 1 more; cbc and glpsol, where "
+            "they read the file, take 0 and 1 for their bounds",
+            "columns with an upper bound below 0 and no lower one have no lower end: x"])
+
     def test_nothing_but_an_objective(self) -> None:
         p = program_of(b"ROWS\n N o\nCOLUMNS\nRHS\n RHS o 0\nENDATA\n")
         self.assertEqual((p.columns, p.constraints, p.objective_rhs, p.has_objective()),

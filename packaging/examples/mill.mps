@@ -21,5 +21,6 @@ RANGES
  RNG orders 24
 BOUNDS
  UP BND desk 9
+ PL BND chair
  UP BND overtime 8.2
 ENDATA
