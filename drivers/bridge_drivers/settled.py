@@ -11,7 +11,7 @@ from .certify.claims import Verdict
 from .codes import Code
 from .program import Program
 
-FAR = 1e-6                  # of the largest term or the sum: between objectives that are not the same
+FAR = 1e-6                  # of the largest term or the sum: between unequal objectives
 DIGITS = 1e-5               # of values that are the same: a solver may print six digits
 FINAL = ("optimal", "infeasible", "unbounded")
 WORDS = {Code.SOLVED: "optimal solution", Code.UNSURE: "feasible solution",

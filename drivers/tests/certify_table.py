@@ -2,8 +2,8 @@
 """Certificates of larger models: one line a model, parted by tabs.
 
     certify_table.py models FOLDER              writes FOLDER/NAME.nl, of collections
-    certify_table.py families FOLDER [MOST]     the same of families, by size (`families.py`); linear
-                                                programs of at most MOST nonzeros (100000)
+    certify_table.py families FOLDER [MOST]     the same of families, by size (`families.py`);
+                                                linear programs of at most MOST nonzeros (100000)
     certify_table.py [-jN] SECONDS FOLDER FILE ..       .nl files, or MPS files as they stand;
                                                 certificates go to FOLDER, N models at once (1)
     certify_table.py readme TABLE ..            the tables of drivers/README.md of such lines
@@ -19,7 +19,8 @@ The models, from two packages of Debian (examples of the one, samples of the oth
 The first makes text .nl files of them, as GLPK reads them, by `bridge import`; MPS files need no
 such, as /usr/share/coin/Data/Sample/*.mps. The second runs
 `bridge-certify` with that limit for the solver, and again for the search: lines come in the order
-of the files, with processor seconds of all processes and of the search alone. Needs BRIDGE (or the program of the gate), glpsol, cbc and CLP's library.
+of the files, with processor seconds of all processes and of the search alone. Needs BRIDGE (or the
+program of the gate), glpsol, cbc and CLP's library.
 """
 
 from __future__ import annotations

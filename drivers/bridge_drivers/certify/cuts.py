@@ -329,4 +329,5 @@ def combined(m: Model, x: Sequence[float], u: dict[int, float]) -> Proposal | No
     return found
 
 
-KINDS: dict[str, Kind] = {"cover": covers, "clique": cliques, "row": single_rows, "tableau": tableau}
+KINDS: dict[str, Kind] = {"cover": covers, "clique": cliques, "row": single_rows,
+                          "tableau": tableau}
