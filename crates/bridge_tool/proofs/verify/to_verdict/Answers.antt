@@ -5,8 +5,8 @@ use Rattle.bridge_tool.proofs.Verdicts.{bound_fits, certificate_so, claim_done, 
 use Rattle.bridge_tool.proofs.Exporting.{folded_at}
 use Rattle.bridge_tool.proofs.verify.to_verdict.Goals as goal
 
-pub outcome_on-outcome-requires : goal.outcome_on-outcome-requires
-outcome_on-outcome-requires g c =
+pub outcome_on-requires : goal.outcome_on-requires
+outcome_on-requires g c =
     let folds = folded_at _ _ _ _ (c.objective_of-objective.ensures ∙ ap objective_of c.claim.ensures) c.in_ok-linear.ensures.folds in
     certificate_so (value_of c.args.read) c.args.certificate.now c.requires.certificate c.in_ok-linear.linear folds
 
