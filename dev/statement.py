@@ -274,7 +274,7 @@ THEOREMS = (
             "value and its text are, `dual_return/Return` what the answer is returned as.", 16),
     Theorem("verify", (HEADLINE, "bridge_tool/Verify:verify_promise"),
             "What `verify` answers: `certificate_text` says which texts are certificates, `duality/Parts`, `Branch`, `Ray` "
-            "and `Certificate` when one holds, `duality/Problem` what is then true of the problem that the file states.", 26),
+            "and `Certificate` when one holds, `duality/Problem` what is then true of the problem that the file states.", 10),
     Theorem("which texts are certificates", ("certificate_text/Written:IsWrittenFor",),
             "What the lines of a certificate are, by the value that they say: the readable definition (law of `certificate_text` "
             "that exactly these texts are read as the value)."),
@@ -285,7 +285,7 @@ THEOREMS = (
     Theorem("check", (HEADLINE, "bridge_tool/Check:check_promise"),
             "What `check` answers on a point and duals: `duality/Verdict` has the phases of a verdict in their order.", 21),
     Theorem("prove", (HEADLINE, "bridge_tool/Prove:prove_promise"),
-            "What `prove` answers: `proof_text` says which texts are proofs, `certificates/Proofs` what tree each is.", 21),
+            "What `prove` answers: `proof_text` says which texts are proofs, `certificates/Proofs` what tree each is.", 6),
     Theorem("what proved means", ("bridge_tool/Prove:IsProvedOf",),
             "What is true of the file where `prove` says yes."),
     Theorem("all commands", (HEADLINE, "bridge_tool/Commands:promise_of"),

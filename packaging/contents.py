@@ -159,6 +159,11 @@ class Project:
             for name in sorted(os.listdir(os.path.join(TOP, "docs", folder))):
                 if name.endswith(".md"):
                     found.append(File(f"docs/{folder}/{name}", read("docs", folder, name)))
+        for name in sorted(os.listdir(os.path.join(TOP, "docs", "pictures"))):
+            found.append(File(f"docs/pictures/{name}", read("docs", "pictures", name)))
+        for crate in sorted(os.listdir(os.path.join(TOP, "crates"))):
+            if os.path.isfile(os.path.join(TOP, "crates", crate, "README.md")):
+                found.append(File(f"crates/{crate}/README.md", read("crates", crate, "README.md")))
         found.append(File("docs/verify/definitions.txt", statement.all_texts().encode()))
         dead = dead_links(found)
         if dead:

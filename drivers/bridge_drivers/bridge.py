@@ -104,9 +104,11 @@ class Late(Exception):
 
 class Bridge:
     """Calls of `bridge`. `note` is told the words of each; `limit` is for one call, in seconds.
-    `shown` has the paths that the user knows files by, where they are others."""
+    `shown` has the paths that the user knows files by, where they are others, `spelled` commands
+    that stand for others, such as `verify_mps` for `verify` over an MPS file."""
 
     limit: float | None = None
+    spelled: Mapping[str, str] = {}
 
     def __init__(self, words: Sequence[str], note: Callable[[Sequence[str]], None]) -> None:
         self.words, self.note = list(words), note
@@ -114,7 +116,7 @@ class Bridge:
         self.links: tempfile.TemporaryDirectory[str] | None = None
 
     def call(self, *words: str) -> Reply:
-        argv = self.words + [self.reachable(word) for word in words]
+        argv = self.words + [self.reachable(word) for word in self.in_full(words)]
         self.note(argv)
         try:
             return with_child(self.reply, argv, stdin=subprocess.DEVNULL, stdout=subprocess.PIPE,
@@ -140,7 +142,12 @@ class Bridge:
             os.symlink(os.path.abspath(word), link)
         return link
 
+    def in_full(self, words: Sequence[str]) -> list[str]:
+        """The words with the command that is called."""
+        return [self.spelled.get(words[0], words[0]), *words[1:]]
+
     def refused(self, words: Sequence[str], reply: Reply) -> Refused:
+        words = self.in_full(words)
         return Refused(words[0], reply, words, self.shown)
 
     def text(self, *words: str) -> bytes:

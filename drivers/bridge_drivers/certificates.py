@@ -50,7 +50,10 @@ class End(NamedTuple):
 
 
 class Certifier:
-    """Asks `bridge` over the .nl file at `nl`. `stub` is where AMPL writes names beside it."""
+    """Asks `bridge` over the .nl file at `nl`. `stub` is where AMPL writes names beside it.
+    `checks` is what `checked` is about."""
+
+    checks = "bridge check of the .sol: "
 
     def __init__(self, bridge: Bridge, nl: str, job: Job, stub: str) -> None:
         self.bridge, self.nl, self.job, self.stub = bridge, nl, job, stub
@@ -107,7 +110,7 @@ class Certifier:
     def as_it_stands(self, work: Certifying, sol: bytes) -> Verdict:
         """A large program: the .sol's values and duals are the certificate, without duals that of
         a feasible point; where they do not pass, the same numbers in fewer digits."""
-        values, duals = values_of(sol), duals_of(sol) if self.linear else []
+        values, duals = self.numbers(sol)
         try:
             verdict = work.judged(answer_lines(values, duals, work.objective))
             if verdict.is_proved():
@@ -119,6 +122,10 @@ class Certifier:
             return verdict
         except Refused as fault:
             return Verdict(WITHOUT + fault.line())
+
+    def numbers(self, sol: bytes) -> tuple[list[str], list[str]]:
+        """The values and duals of an answer as they are written."""
+        return values_of(sol), duals_of(sol) if self.linear else []
 
     def given(self, answer: Answer) -> Given:
         """The answer by position: the solver's numbers, whole ones as they are written."""
@@ -210,7 +217,7 @@ class Certifier:
 
     def thing(self, kind: str, number: int) -> str:
         """A constraint or variable, by its name where AMPL wrote stub.row or stub.col."""
-        names = Names(self.stub)
+        names = self.program.names or Names(self.stub)
         return names.constraint(number) if kind == "row" else names.variable(number)
 
     def named(self, exported: str) -> str:

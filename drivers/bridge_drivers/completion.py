@@ -10,8 +10,8 @@ from .options import COMMON, Option
 
 FILES = ("bridge", "certificate", "solver")     # options whose values are paths
 FOLDERS = ("keep",)
-VALUES = {"only": "mps", "driver": " ".join(solvers.NAMES), "outlev": "0 1 2",
-          "wantsol": "1 2 4 6 7 8"}
+VALUES = {"only": "mps", "format": "free fixed", "driver": " ".join(solvers.NAMES),
+          "outlev": "0 1 2", "wantsol": "1 2 4 6 7 8"}
 DASHED = {"-AMPL": "called by a modelling system", "-s": "write the .sol",
           "-e": "no echo of options", "-=": "list the options", "-v": "versions", "-h": "help"}
 BASH = """# bash completion of nl-bridge and its drivers; made by `nl-bridge completion bash`
@@ -53,7 +53,8 @@ _nl_bridge() {
         COMPREPLY+=($(compgen -f -- "$cur"))
     elif [[ $COMP_CWORD -eq 1 && $cur != -* ]]; then
         compopt -o filenames 2>/dev/null
-        COMPREPLY=($(compgen -f -X '!*.nl' -- "$cur") $(compgen -d -- "$cur"))
+        COMPREPLY=($(compgen -f -X '!*.nl' -- "$cur") $(compgen -f -X '!*.mps' -- "$cur"))
+        COMPREPLY+=($(compgen -f -X '!*.mps.gz' -- "$cur") $(compgen -d -- "$cur"))
     else
         compopt -o nospace 2>/dev/null
         COMPREPLY=($(compgen -W "$(_nl_bridge_options "$command")" -- "$cur"))
@@ -92,7 +93,7 @@ _nl_bridge() {
         return
     fi
     if (( CURRENT == 2 )) && [[ $PREFIX != -* ]]; then
-        _files -g '*.nl'
+        _files -g '*.(nl|mps|mps.gz)'
         return
     fi
     case $service in

@@ -10,10 +10,12 @@ import tempfile
 from typing import Sequence
 
 from . import VERSION, colour, console, kinds, minizinc, report, solvers, words
+from .answer import Answer
 from .bridge import BESIDE, Bridge, Missing, find
 from .codes import Code, Failure, Status
 from .interrupts import SIGNALS, Interrupted
 from .job import Clock
+from .mps_solving import MpsSolving
 from .names import Names
 from .options import BadOption, Options
 from .sol import bare, with_message
@@ -24,6 +26,7 @@ class Driver:
     """One call of bridge-NAME. Tests put other things in the place of `bridge` and the solver."""
 
     make_solving = Solving
+    make_mps_solving = MpsSolving
 
     def __init__(self, name: str) -> None:
         self.solver = solvers.load(name)
@@ -32,7 +35,7 @@ class Driver:
         self.words = words.Words()
         self.clock = Clock(self.name)
         self.nl = self.sol = ""
-        self.is_put = False
+        self.is_put = self.is_mps = False
         self.result: Result | None = None
         self.fault: Failure | None = None
         self.bridge_words: Sequence[str] = ()
@@ -48,6 +51,10 @@ class Driver:
             return Status.BAD_WORDS
         base = self.words.stub[:-3] if self.words.stub.endswith(".nl") else self.words.stub
         self.nl, self.sol = base + ".nl", base + ".sol"
+        self.is_mps = kinds.is_mps(self.words.stub)
+        if self.is_mps:
+            self.nl = self.words.stub
+            self.sol = kinds.stub_of(self.nl) + ".sol"
         try:
             self.take_options()
             return self.deliver(self.shown())
@@ -78,7 +85,7 @@ class Driver:
     def take_options(self) -> None:
         """An older .sol is removed before anything can go wrong: it must not pass for this
         run's."""
-        if self.words.ampl or self.words.save:
+        if (self.words.ampl or self.words.save) and not self.is_mps:
             self.remove_older()
         try:
             self.options.environment(self.name)
@@ -88,12 +95,24 @@ class Driver:
         if self.options.objno == 0:
             raise Failure(Code.BAD_OPTION, "objno=0: solving without an objective is not offered",
                           Status.BAD_WORDS)
+        if self.is_mps:
+            self.suit_mps()
         self.options.prove = int(bool(self.options.prove or self.options.strict))
         self.clock.tells = self.options.outlev >= 2
         if self.options.given and self.words.echo and not self.options.failexit:
             print(f"{self.name} {VERSION}: {' '.join(self.options.given)}", flush=True)
         if self.writes():
             self.remove_older()
+
+    def suit_mps(self) -> None:
+        """An MPS file has no .sol, and is judged as it stands."""
+        if self.writes():
+            raise Failure(Code.BAD_OPTION, "a .sol is the answer to an .nl file: wantsol=2 prints "
+                          f"the values of {self.nl}, `nl-bridge import` makes an .nl of it",
+                          Status.BAD_WORDS)
+        if self.options.shortest:
+            raise Failure(Code.BAD_OPTION, "shortest=1 is for .nl files: an MPS file is read as it "
+                          "stands", Status.BAD_WORDS)
 
     def remove_older(self) -> None:
         try:
@@ -151,8 +170,9 @@ class Driver:
     def work_in(self, folder: str, bridge: Bridge, solver_path: str) -> Result:
         try:
             os.makedirs(folder, exist_ok=True)
-            return self.make_solving(self.solver, self.options, bridge, self.clock, self.nl,
-                                     solver_path, os.path.abspath(folder)).result()
+            make = self.make_mps_solving if self.is_mps else self.make_solving
+            return make(self.solver, self.options, bridge, self.clock, self.nl, solver_path,
+                        os.path.abspath(folder)).result()
         except Missing as fault:
             raise Failure(Code.NOT_FOUND, str(fault)) from None
         except OSError as fault:
@@ -165,14 +185,8 @@ class Driver:
         o, lines, self.result = self.options, result.lines, result
         if result.sol is None:
             lines = [f"{self.name}: {lines[0]}", *lines[1:]]
-            sol = bare(self.nl, result.code, o.objno - 1, lines)
-        else:
-            sol = with_message(result.sol, lines)
-        if self.writes():
-            self.put(sol)
-        if o.keep:
-            with open(os.path.join(o.keep, "bridge.sol"), "wb") as f:
-                f.write(sol)
+        if not self.is_mps:
+            self.deliver_sol(result, lines)
         if (not self.words.ampl or o.failexit) and not o.wantsol & 8:
             if result.end is None:              # no verdict
                 print("\n".join(lines), flush=True)
@@ -187,12 +201,27 @@ class Driver:
             print(self.clock.summary(), flush=True)
         return Status.DONE if result.is_final or self.words.ampl else Status.NOT_PROVED
 
+    def deliver_sol(self, result: Result, lines: Sequence[str]) -> None:
+        """Where it is asked for, and in a folder that is kept."""
+        o = self.options
+        sol = bare(self.nl, result.code, o.objno - 1, lines) if result.sol is None \
+            else with_message(result.sol, lines)
+        if self.writes():
+            self.put(sol)
+        if o.keep:
+            with open(os.path.join(o.keep, "bridge.sol"), "wb") as f:
+                f.write(sol)
+
+    def names(self, answer: Answer) -> Names:
+        """Those of the file, or beside the stub."""
+        return answer.program.names or Names(self.nl[:-3])
+
     def show(self, result: Result) -> None:
-        """Values of variables and duals of constraints, one a line, by their names beside the
-        stub."""
-        answer, names = result.answer, Names(self.nl[:-3])
+        """Values of variables and duals of constraints, one a line, by their names."""
+        answer = result.answer
         if answer is None:
             return
+        names = self.names(answer)
         for wanted, texts, of_list in ((2, answer.values, names.column),
                                        (4, answer.duals, names.row)):
             if self.options.wantsol & wanted and texts is not None:
@@ -219,7 +248,8 @@ class Driver:
         line = f"{self.name}: {fault.text}"
         sys.stderr.write(line + "\n")
         minizinc.tell(line, is_error=True)
-        if self.words.ampl and fault.code != Code.STOPPED and not self.options.failexit:
+        if self.words.ampl and not self.is_mps and fault.code != Code.STOPPED \
+                and not self.options.failexit:
             try:
                 self.put(bare(self.nl, fault.code, max(self.options.objno, 1) - 1, [line]))
                 return Status.DONE

@@ -24,7 +24,8 @@ HEAD_LINES = 10
 NL_FIRST = ("export", "nl", "return", "check", "prove", "verify")     # commands of an .nl file
 
 
-FIRST_LINES = {"verify": "certificate 1", "prove": "proof 1", "return": "answer 1"}
+FIRST_LINES = {"verify": "certificate 1", "verify_mps": "certificate 1",
+               "verify_fixed": "certificate 1", "prove": "proof 1", "return": "answer 1"}
 
 
 class Meaning(NamedTuple):
@@ -85,6 +86,16 @@ MEANING: Mapping[str, Meaning] = {
     "reserved name": Meaning("it begins with @, or is 'MARKER'"),
     "repeated name": Meaning("an earlier line has it"),
     "bad name": Meaning("not one word of 1 to 255 bytes"),
+    "bad section": Meaning("a section of another kind of model (SOS, QUADOBJ, CSECTION), or one "
+                           "out of its order"),
+    "bad bound kind": Meaning("not LO, UP, FX, FR, MI, PL, BV, LI or UI"),
+    "unknown row": Meaning("no line of ROWS has it"),
+    "unknown column": Meaning("no line of COLUMNS has it"),
+    "column again": Meaning("the lines of a column must stand together", "sort them by columns"),
+    "second set": Meaning("two right sides, ranges or sets of bounds", "keep one"),
+    "range on free row": Meaning("a range for an N row", "leave it out"),
+    "no objective": Meaning("no N row", "add one"),
+    "no end": Meaning("the text ends before ENDATA"),
     "other count": Meaning("names that are not as many as the model has"),
 }
 OPCODE = re.compile(r"refused opcode (\d+)$")

@@ -12,17 +12,19 @@ import subprocess
 import sys
 from typing import Callable, NamedTuple, Sequence
 
-from . import VERSION, colour, console, explaining
+from . import VERSION, colour, console, explaining, kinds
 from .bridge import BESIDE, PACKAGE, Bridge, Missing, Refused, find, is_plain
 from .explained import command as certificates
 from .importing import imported
+from .mps_file import Damaged
 from .near import near
 from .report import Report, sum_of
 from .stats import Stats, stats
+from .subjects import subject
 
 NAME = "nl-bridge"
 DONE, REFUSED, BAD_WORDS, INPUT_FAULT, OUTPUT_FAULT, NOT_THERE = 0, 2, 3, 4, 5, 127
-VERDICTS = ("verify", "check", "prove")
+VERDICTS = ("verify", "verify_mps", "verify_fixed", "check", "prove")
 NUMBERS = ("K", "SEED", "SIZE")             # words of the table that are no files
 NUMBER, MOST = re.compile("0|[1-9][0-9]*"), 4294967295
 
@@ -46,6 +48,8 @@ COMMANDS = (
     Command("check", "NL SOL", "one verdict on a point and duals"),
     Command("prove", "NL PROOF", "one verdict on a proof by branches"),
     Command("verify", "NL CERTIFICATE", "one verdict on a certificate"),
+    Command("verify_mps", "MPS CERTIFICATE", "the same over an MPS text in free form"),
+    Command("verify_fixed", "MPS CERTIFICATE", "the same over one in fixed columns"),
     Command("nl", "FILE", "an .nl text in its one written form"),
     Command("mps", "FILE", "an MPS text in its one written form"),
     Command("fixed", "FILE", "an MPS text of fixed columns, in free ones"),
@@ -55,11 +59,13 @@ COMMANDS = (
 )
 OWN = (
     Command("explain", "FILE [K]", "what a refusal is about: the expression, the lines, names"),
-    Command("explain", "NL CERTIFICATE", "what a certificate says, or where it fails; --html FILE, "
-                                         "--svg FILE"),
+    Command("explain", "MODEL CERTIFICATE", "what a certificate says, or where it fails; --html "
+                                            "FILE, --svg FILE"),
     Command("explain", "COMMAND FILE ..", "the same for a call of another command"),
     Command("import", "FILE NL", "the .nl text in NL, the names beside it in .row and .col"),
     Command("stats", "FILE [K]", "sizes and kinds, numbers that are no doubles, scaled rows"),
+    Command("verify", "MPS CERTIFICATE", "one verdict, over an MPS file as it stands: either form, "
+                                         "also packed"),
     Command("completion", "bash|zsh", "completion of all commands for a shell"),
     Command("version", "", "the program with its sum, the toolchain, the drivers"),
     Command("help", "", "this text"),
@@ -116,6 +122,10 @@ def explain(bridge: Bridge, words: Sequence[str]) -> int:
             return certificates.explained(bridge, certificates.files_of(words))
         except certificates.BadWords as fault:
             return wrong(str(fault))
+        except (Refused, Damaged) as fault:
+            return told_fault(fault)
+    if len(words) == 1 and kinds.is_mps(words[0]):
+        return explain_mps(bridge, words[0])
     call = list(words) if len(words) > 1 and words[0] in known else ["export", *words]
     reply = bridge.call(*call)
     if reply.status in (0, 1):
@@ -127,6 +137,23 @@ def explain(bridge: Bridge, words: Sequence[str]) -> int:
         print("".join(f"  {line}\n" for line in explaining.Refusal(call, reply.told, {}).more()),
               end="")
     return reply.status
+
+
+def explain_mps(bridge: Bridge, path: str) -> int:
+    """Why an MPS file is refused."""
+    try:
+        with subject(bridge, path) as model:
+            print("\n".join([*model.notes, f"{path}: is not refused"]))
+            return DONE
+    except Damaged as fault:
+        print(fault)
+        return REFUSED
+    except Refused as fault:
+        print(fault.line())
+        if fault.status == REFUSED:
+            more = explaining.Refusal(fault.words, fault.told, fault.shown).more()
+            print("".join(f"  {line}\n" for line in more), end="")
+        return fault.status
 
 
 def show_import(bridge: Bridge, words: Sequence[str]) -> int:
@@ -142,13 +169,35 @@ def show_import(bridge: Bridge, words: Sequence[str]) -> int:
         return OUTPUT_FAULT
 
 
+def told_fault(fault: Refused | Damaged) -> int:
+    """Tells why a model cannot be had; the status."""
+    line, status = (fault.line(), fault.status) if isinstance(fault, Refused) \
+        else (str(fault), REFUSED)
+    sys.stderr.write(f"{NAME}: {line}\n")
+    return status
+
+
 def show_stats(bridge: Bridge, words: Sequence[str]) -> int:
     try:
         print("\n".join(stats(bridge, *words)))
         return DONE
-    except Refused as fault:
-        sys.stderr.write(f"{NAME}: {fault.line()}\n")
-        return fault.status
+    except (Refused, Damaged) as fault:
+        return told_fault(fault)
+
+
+def verify_mps(bridge: Bridge, words: Sequence[str]) -> int:
+    """One verdict over an MPS file as it stands; what there is to say of how it was read goes to
+    standard error."""
+    try:
+        with subject(bridge, words[0]) as model:
+            sys.stderr.write("".join(f"{NAME}: {note}\n" for note in model.notes))
+            reply = bridge.call("verify", model.path, words[1])
+            if reply.status not in (0, 1):
+                raise bridge.refused(("verify", model.path, words[1]), reply)
+            colour.tell(reply.out.decode("utf-8", "replace").rstrip("\n"), sys.stdout)
+            return reply.status
+    except (Refused, Damaged) as fault:
+        return told_fault(fault)
 
 
 def wrong_words(words: Sequence[str]) -> str:
@@ -236,6 +285,8 @@ def reported(words: Sequence[str]) -> int:
         told.status = REPORTED[words[0]](told, Bridge(place, lambda argv: None), words)
     except Refused as fault:
         told.status, told.text = fault.status, f"{NAME}: {fault.line()}"
+    except Damaged as fault:
+        told.status, told.text = REFUSED, f"{NAME}: {fault}"
     except Missing as fault:
         told.status, told.text = NOT_THERE, f"{NAME}: {fault}"
     if told.status not in (0, 1):
@@ -246,7 +297,9 @@ def reported(words: Sequence[str]) -> int:
 
 def report_verify(told: Report, bridge: Bridge, words: Sequence[str]) -> int:
     told.model, told.certificate = words[1:]
-    line = bridge.verdict("verify", *words[1:])
+    with subject(bridge, words[1]) as model:
+        line = bridge.verdict("verify", model.path, words[2])
+        told.lines = [*model.notes, line]
     told.take_line(line)
     return 0 if told.said else 1
 
@@ -280,7 +333,7 @@ def command(words: Sequence[str]) -> int:
     if "json=1" in words and words[0] in REPORTED:
         plain = [word for word in words if word != "json=1"]
         if len(plain) not in COUNTS[words[0]]:
-            takes = {"verify": "NL CERTIFICATE", "stats": "FILE [K]"}.get(words[0], "no more")
+            takes = {"verify": "MODEL CERTIFICATE", "stats": "FILE [K]"}.get(words[0], "no more")
             return wrong(f"{words[0]} json=1 takes {takes}")
         return reported(plain)
     if not words:
@@ -310,6 +363,8 @@ def command(words: Sequence[str]) -> int:
             return DONE
         if first == "import" and len(rest) == 2:
             return show_import(Bridge(place, lambda argv: None), rest)
+        if first == "verify" and len(rest) == 2 and kinds.is_mps(rest[0]):
+            return verify_mps(Bridge(place, lambda argv: None), rest)
         if first in own:
             return own[first](Bridge(place, lambda argv: None), rest)
         return passed_on(place, words)

@@ -34,7 +34,8 @@ class Keeper:
 
     def kept(self, source: str, line: str, target: str) -> Kept:
         """The certificate in the file `source`, whose verdict is the line, at `target`."""
-        if os.path.exists(target) and os.path.samefile(target, self.nl):
+        models = {self.nl, self.bridge.shown.get(self.nl, self.nl)}
+        if os.path.exists(target) and any(os.path.samefile(target, nl) for nl in models):
             return Kept(f"the certificate is not kept: {target} is the model", None, True)
         if not self.overwrite and is_other(target):
             return Kept(f"the certificate is not kept: {target} is no certificate; overwrite=1 "

@@ -2,11 +2,19 @@
 
 from __future__ import annotations
 
+import bz2
+import gzip
+import lzma
 import os
 import re
-from typing import NamedTuple
+import zlib
+from typing import Any, BinaryIO, Callable, NamedTuple, cast
 
 READ = 4096                     # bytes of a file's start that tell what it is
+OPENERS: dict[bytes, Callable[..., Any]] = {
+    b"\x1f\x8b": gzip.open, b"BZh": bz2.open, b"\xfd7zXZ": lzma.open}
+PACKED = (".gz", ".bz2", ".xz")
+DAMAGED = (EOFError, ValueError, zlib.error, lzma.LZMAError)
 
 
 class Kind(NamedTuple):
@@ -17,10 +25,11 @@ class Kind(NamedTuple):
     help: str
 
 
-MPS = Kind("an MPS file", "`nl-bridge import {path} {stub}.nl` makes {stub}.nl of it")
+MPS = Kind("an MPS file", "`bridge-certify {path}` and the drivers take it, "
+                          "`nl-bridge import {path} {stub}.nl` makes {stub}.nl of it")
 LP = Kind("an LP file, which no command here reads",
           "`glpsol --lp {path} --check --wfreemps {stub}.mps` (Debian: glpk-utils) writes MPS, "
-          "`nl-bridge import {stub}.mps {stub}.nl` makes .nl of that")
+          "which `bridge-certify {stub}.mps` and the drivers take")
 AMPL = Kind("a text of AMPL", "in AMPL, `write g{stub};` writes {stub}.nl")
 MINIZINC = Kind("a text of MiniZinc", "`minizinc --solver bridge-cbc {path}`")
 ENDS = {
@@ -36,9 +45,45 @@ ENDS = {
 }
 STARTS = ((b"\x1f\x8b", ".gz"), (b"BZh", ".bz2"), (b"\xfd7zXZ", ".xz"), (b"PK\x03\x04", ".zip"),
           (b"certificate 1", ".certificate"))
-IS_MPS = re.compile(rb"(?:(?:\*[^\n]*|\s*)\n)*(?:NAME\b|OBJSENSE\b|ROWS\b)")
-IS_LP = re.compile(rb"(?:(?:\\[^\n]*|\s*|//[^\n]*)\n|/\*.*?\*/\s*)*"
+IS_MPS = re.compile(rb"(?:(?:\*[^\n]*|[^\S\n]*)\n)*(?:NAME\b|OBJSENSE\b|ROWS\b)")
+IS_LP = re.compile(rb"(?:(?:\\[^\n]*|[^\S\n]*|//[^\n]*)\n|/\*.*?\*/[^\S\n]*)*"
                    rb"(?:min|max)(?:imi[sz]e|imum)?\s*(?::|\n|\s)", re.I | re.S)
+
+
+def opened(path: str) -> BinaryIO:
+    """A file, unpacked where its start says that it is packed."""
+    with open(path, "rb") as f:
+        start = f.read(6)
+    for mark, opener in OPENERS.items():
+        if start.startswith(mark):
+            return cast(BinaryIO, opener(path, "rb"))
+    return open(path, "rb")
+
+
+def is_packed(path: str) -> bool:
+    with open(path, "rb") as f:
+        start = f.read(6)
+    return any(start.startswith(mark) for mark in OPENERS)
+
+
+def is_mps(path: str) -> bool:
+    """Whether it is an MPS file, packed or not: by what it starts with, or by its name's end."""
+    if not os.path.isfile(path):
+        return False
+    try:
+        with opened(path) as f:
+            start = f.read(READ)
+    except (OSError, *DAMAGED):
+        start = b""
+    return bool(IS_MPS.match(start)) or stub_of(path) != path
+
+
+def stub_of(path: str) -> str:
+    """The path of an MPS file without its ends: `model` of `model.mps.gz`."""
+    stub, end = os.path.splitext(path)
+    if end.lower() in PACKED:
+        stub, end = os.path.splitext(stub)
+    return stub if end.lower() == ".mps" else path
 
 
 def kind_of(path: str) -> Kind | None:

@@ -9,7 +9,18 @@ from typing import Callable, Iterable, Union
 from .near import near
 
 Value = Union[int, float, str]
-KINDS: dict[object, str] = {int: "a whole number", float: "a number", str: "a text"}
+FORMS = ("free", "fixed")
+
+
+def form(word: str) -> str:
+    """That of an MPS file."""
+    if word not in FORMS:
+        raise ValueError(word)
+    return word
+
+
+KINDS: dict[object, str] = {int: "a whole number", float: "a number", str: "a text",
+                            form: "free or fixed"}
 
 
 class BadOption(Exception):
@@ -40,6 +51,8 @@ COMMON = (
     Option("extra", "", str, "further words for the solver, in quotes"),
     Option("failexit", 0, int, "1: where there is no answer, write no .sol and end with another "
                                "status than 0 (MiniZinc)"),
+    Option("format", "", form, "of an MPS file: free or fixed (what it is read as where nothing is "
+                               "said)"),
     Option("json", 0, int, "1: standard output gets one object of JSON, and nothing else"),
     Option("keep", "", str, "folder that keeps the files in between"),
     Option("objno", 1, int, "which objective, from 1"),
@@ -76,6 +89,7 @@ class Options:
     check: int
     extra: str
     failexit: int
+    format: str
     json: int
     keep: str
     objno: int

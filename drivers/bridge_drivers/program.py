@@ -10,6 +10,8 @@ import math
 import re
 from typing import Mapping
 
+from .names import Names
+
 LAST_COLUMN = re.compile(rb" x(\d+) ")
 MARKER = re.compile(rb"^ M\d+ 'MARKER' '(INTORG|INTEND)'\n(?: x(\d+) )?", re.M)
 FAR = re.compile(rb"^ \S+(?: BND)? (\S+) (-?(?:\d{20,}[\d.]*|[\d.]+e\d+))$", re.M)
@@ -20,7 +22,12 @@ CONSTANT = re.compile(rb"^ RHS obj (\S+)$", re.M)
 class Program:
     """`rows` are the names in order, the objective's first, `kinds` their letters (N, E, L, G);
     `columns` the names in order, `whole` those that are integer. `costs` are the objective's
-    coefficients as texts, `objective_rhs` is minus its constant."""
+    coefficients as texts, `objective_rhs` is minus its constant. `is_exported`: `bridge export`
+    wrote it, which scales rows and leaves those without sides out; `names` are those of a file that
+    has its own."""
+
+    is_exported = True
+    names: Names | None = None
 
     def __init__(self, text: bytes) -> None:
         self.text = text

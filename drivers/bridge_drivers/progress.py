@@ -3,6 +3,7 @@ first second on, elsewhere it is a line each 5 s."""
 
 from __future__ import annotations
 
+import math
 import os
 import sys
 import threading
@@ -99,7 +100,9 @@ def width(stream: TextIO) -> int:
 
 
 def detailed(known: Mapping[str, float]) -> str:
-    """The words of what is known: incumbent, bound, gap, nodes and others by their names."""
+    """The words of what is known, and finite: incumbent, bound, gap, nodes and others by their
+    names."""
+    known = {name: value for name, value in known.items() if math.isfinite(value)}
     parts = [f"{name} {value:.10g}" for name, value in known.items()
              if name in ("incumbent", "bound", "objective")]
     if "incumbent" in known and "bound" in known:

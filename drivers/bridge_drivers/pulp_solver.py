@@ -1,27 +1,27 @@
-"""PuLP through `bridge import` and an AMPL driver.
+"""PuLP through a driver.
 
     from bridge_drivers.pulp_solver import BridgeCmd
     problem.solve(BridgeCmd("bridge-cbc", prove=True))
 
-PuLP writes MPS, not .nl, so `bridge import` makes the .nl. It orders variables as .nl files do,
-continuous, binary, integer, and does not write that order: it is worked out again here. The
-driver's message, with what is certified, is then in `message`, with PuLP's names. PuLP writes 13
-digits of each number; what is certified is of those numbers.
+PuLP writes MPS, which the driver takes as it stands. Its message, with what is certified, is then
+in `message`, with PuLP's names. PuLP writes 13 digits of each number; what is certified is of those
+numbers.
 """
 
 from __future__ import annotations
 
+import json
 import os
 import shutil
 import subprocess
 import sys
-from typing import Mapping, NamedTuple, Sequence
+from typing import Any, Iterable, Mapping, NamedTuple, Sequence
 
 import pulp
 
-from .bridge import BESIDE, Bridge, Missing, Refused, find
-
-FILES = ("mps", "nl", "sol", "row", "col")
+FILES = ("mps", "json")         # the problem, and what the driver answers
+MOST_BYTES = 255                # of a name in an MPS file
+ALWAYS = ("format=free", "json=1", "wantsol=6")
 WORDS = (("relax=1", "mip=False"), ("prove=1", "prove=True"), ("timelim=", "timeLimit="),
          ("mipgap=", "gapRel="), ("solver=PATH", "options=['solver=PATH']"),
          ("bridge=PATH", "bridge='PATH'"))              # a driver's, and what they are here
@@ -65,7 +65,7 @@ class BridgeCmd(pulp.LpSolver_CMD):
                                        "PATH")
         paths = dict(zip(FILES, self.create_tmp_files(lp.name, *FILES)))
         try:
-            order = self.written(lp, paths)
+            names = self.written(lp, paths["mps"])
             answer = self.answered(paths)
         finally:
             self.delete_tmp_files(*paths.values())
@@ -74,21 +74,22 @@ class BridgeCmd(pulp.LpSolver_CMD):
             print(self.message)
         if answer.code >= 500:
             raise pulp.PulpSolverError(self.message)
-        self.take(lp, answer, [variable.name for variable in order])
+        self.take(lp, answer, names)
         return self.assigned(lp, *statuses_of(answer.code, answer.message.split("\n")[-1]))
 
     @staticmethod
-    def take(lp: pulp.LpProblem, answer: Answer, names: Sequence[str]) -> None:
-        """Values, slacks, duals and reduced costs, each where there are any."""
+    def take(lp: pulp.LpProblem, answer: Answer, names: Mapping[str, str]) -> None:
+        """Values, slacks, duals and reduced costs, each where there are any. `names` are those of
+        the file by PuLP's."""
         if answer.values:
-            lp.assignVarsVals(dict(zip(names, answer.values)))
+            lp.assignVarsVals({name: answer.values[own] for name, own in names.items()})
             lp.assignConsSlack({name: sum(a * x.varValue for x, a in constraint.items())
                                 for name, constraint in lp.constraints.items()}, activity=True)
         else:
             lp.assignVarsVals(dict.fromkeys(names))
         lp.assignConsPi(dict(zip(lp.constraints, answer.duals)))
-        if answer.costs is not None:
-            lp.assignVarsDj({name: answer.costs.get(j, 0.0) for j, name in enumerate(names)})
+        if answer.costs:
+            lp.assignVarsDj({name: answer.costs[own] for name, own in names.items()})
 
     def assigned(self, lp: pulp.LpProblem, status: int, solution: int) -> int:
         if self.msg and status == pulp.LpStatusInfeasible and self.message.startswith("inf"):
@@ -96,44 +97,45 @@ class BridgeCmd(pulp.LpSolver_CMD):
         lp.assignStatus(status, solution)
         return status
 
-    def written(self, lp: pulp.LpProblem, paths: Mapping[str, str]) -> list[pulp.LpVariable]:
-        """The problem as an .nl file, with names beside it; its variables in that file's order."""
-        variables, _, _, objective = lp.writeMPS(paths["mps"], rename=1)
-        with open(paths["mps"], encoding="utf-8") as f:
+    def written(self, lp: pulp.LpProblem, path: str) -> Mapping[str, str]:
+        """The problem as an MPS file; the names of its variables there, by PuLP's: the same where
+        an MPS file can have them."""
+        names, objective = None, lp.objective.name or "OBJ"
+        if are_words([objective, *lp.constraints]) and are_words(v.name for v in lp.variables()):
+            try:
+                lp.writeMPS(path)
+                names = {v.name: v.name for v in lp.variables()}
+            except UnicodeError:                # of a place that is not in UTF-8
+                pass
+        if names is None:
+            _, names, _, objective = lp.writeMPS(path, rename=1)
+        with open(path, encoding="utf-8") as f:
             text = f.read()
-        with open(paths["mps"], "w", encoding="utf-8") as f:
+        with open(path, "w", encoding="utf-8") as f:
             f.write(completed(text, lp.sense == pulp.LpMaximize, objective,
                               lp.objective.constant))
-        with open(paths["nl"], "wb") as nl:
-            nl.write(self.imported(paths["mps"]))
-        order = sorted(variables, key=place)            # stable, as the import is
-        for end, names in (("row", list(lp.constraints)), ("col", [v.name for v in order])):
-            with open(paths[end], "w", encoding="utf-8") as f:
-                f.writelines(name.replace("\n", " ") + "\n" for name in names)
-        return order
-
-    def imported(self, mps: str) -> bytes:
-        try:
-            return Bridge(find(self.bridge, BESIDE), lambda argv: None).text("import", mps)
-        except (Missing, Refused) as fault:
-            told = fault.line() if isinstance(fault, Refused) else str(fault)
-            raise pulp.PulpSolverError(f"bridge import: {told}") from None
+        return dict(names)
 
     def answered(self, paths: Mapping[str, str]) -> Answer:
-        """What the driver wrote."""
+        """What the driver told."""
         try:
-            ran = subprocess.run(self.words(paths["nl"]), stderr=subprocess.PIPE, text=True,
-                                 errors="replace",
-                                 stdout=None if self.msg else subprocess.DEVNULL)
-            if ran.returncode != 0:
-                raise pulp.PulpSolverError(in_words(ran.stderr.strip())
-                                           or f"{self.path} ended with {ran.returncode}")
-            return read_sol(paths["sol"])
+            with open(paths["json"], "wb") as out:
+                ran = subprocess.run(self.words(paths["mps"]), stdout=out, stderr=subprocess.PIPE
+                                     if not self.msg else None)
+            with open(paths["json"], encoding="utf-8") as f:
+                told = json.load(f)
+            answer = answer_of(told)
         except OSError as fault:
             raise pulp.PulpSolverError(f"{fault.filename or self.path}: {fault.strerror}") from None
+        except (ValueError, KeyError):
+            raise pulp.PulpSolverError(f"{self.path} ended with {ran.returncode}, without an "
+                                       "answer") from None
+        if told["code"] is None or told["code"] >= 500:
+            raise pulp.PulpSolverError(in_words(str(told["text"])))
+        return answer
 
-    def words(self, nl: str) -> list[str]:
-        words = [self.available() or self.path, nl, "-AMPL", "-e", *self.options]
+    def words(self, mps: str) -> list[str]:
+        words = [self.available() or self.path, mps, "-e", *ALWAYS, *self.options]
         given = (("bridge", self.bridge), ("timelim", self.timeLimit),
                  ("mipgap", self.optionsDict.get("gapRel")),
                  ("threads", self.optionsDict.get("threads")))
@@ -144,14 +146,31 @@ class BridgeCmd(pulp.LpSolver_CMD):
 
 
 class Answer(NamedTuple):
-    """What a .sol says; `duals` and `values` are empty where there are none, `costs` are reduced
-    costs, those that are not told being 0, None where there are none."""
+    """What a driver tells: values and reduced costs by name, duals in the order of the rows; empty
+    where there are none."""
 
     code: int
     message: str
     duals: list[float]
-    values: list[float]
-    costs: dict[int, float] | None
+    values: dict[str, float]
+    costs: dict[str, float]
+
+
+def answer_of(told: Mapping[str, Any]) -> Answer:
+    """KeyError or ValueError where it is none."""
+    values, costs, duals = ({name: float(text) for name, text in told.get(key, {}).items()}
+                            for key in ("values", "costs", "duals"))
+    code = told["code"]
+    return Answer(599 if code is None else int(code), "\n".join(told["lines"]),
+                  list(duals.values()), values, costs)
+
+
+def are_words(names: Iterable[str]) -> bool:
+    """Whether each is one word that an MPS file can have, and none stands twice."""
+    listed = list(names)
+    return len(set(listed)) == len(listed) and all(
+        name.isprintable() and name.split() == [name] and len(name.encode()) <= MOST_BYTES
+        for name in listed)
 
 
 def forget(lp: pulp.LpProblem) -> None:
@@ -187,38 +206,6 @@ def completed(mps: str, maximise: bool, objective: str, constant: float | None) 
     if constant:
         lines.insert(lines.index("RHS") + 1, f"    RHS       {objective}  {-constant!r}")
     return "\n".join(lines)
-
-
-def place(variable: pulp.LpVariable) -> int:
-    """0 for continuous, 1 for binary, 2 for integer variables."""
-    if variable.cat != pulp.LpInteger:
-        return 0
-    lower, upper = variable.lowBound, variable.upBound
-    return 1 if lower is not None and upper is not None and lower >= 0 and upper <= 1 else 2
-
-
-def read_sol(path: str) -> Answer:
-    with open(path, encoding="utf-8", errors="replace") as f:
-        lines = f.read().split("\n")
-    at = lines.index("")
-    message = "\n".join(lines[:at])
-    at += 3 + int(lines[at + 2])
-    _, y, _, x = (int(w) for w in lines[at:at + 4])
-    numbers = [float(w) for w in lines[at + 4:at + 4 + y + x]]
-    at += 4 + y + x
-    return Answer(int(lines[at].split()[2]), message, numbers[:y], numbers[y:],
-                  reduced_costs(lines[at + 1:]))
-
-
-def reduced_costs(lines: Sequence[str]) -> dict[int, float] | None:
-    """The suffix `rc` of variables."""
-    for at, line in enumerate(lines):
-        words = line.split()
-        if words[:1] == ["suffix"] and int(words[1]) & 3 == 0 and lines[at + 1] == "rc":
-            start = at + 2 + int(words[5])
-            pairs = (pair.split() for pair in lines[start:start + int(words[2])])
-            return {int(j): float(cost) for j, cost in pairs}
-    return None
 
 
 def statuses_of(code: int, last: str = "") -> tuple[int, int]:

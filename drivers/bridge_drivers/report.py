@@ -14,7 +14,6 @@ from typing import TYPE_CHECKING, Any, Callable, Dict, Optional, Sequence
 
 from . import VERSION, verdicts, words
 from .codes import Code
-from .names import Names
 from .options import BadOption, Options
 from .verdicts import Said
 
@@ -135,13 +134,14 @@ def fill(told: Report, driver: Driver) -> None:
 
 
 def numbers_of(driver: Driver) -> Object:
-    """Values and duals by name, as `wantsol` asks for them."""
+    """Values, duals and reduced costs by name, as `wantsol` asks for them."""
     found: Object = {}
     answer = driver.result.answer if driver.result else None
-    names = Names(driver.nl[:-3])
     if answer is not None:
+        names = driver.names(answer)
         for wanted, key, texts, of_list in ((2, "values", answer.values, names.column),
-                                            (4, "duals", answer.duals, names.row)):
+                                            (4, "duals", answer.duals, names.row),
+                                            (4, "costs", answer.costs, names.column)):
             if driver.options.wantsol & wanted and texts is not None:
                 found[key] = {of_list(int(name[1:])) or name: text
                               for name, text in texts.items() if name[1:].isdigit()}

@@ -16,7 +16,7 @@ from .codes import Code, Failure, Status
 from .interrupts import Interrupted
 from .job import Clock, Job
 from .miss import NONE, Miss, largest_share, miss, missing
-from .nl import BadFile, header, prepared
+from .nl import BadFile, Prepared, header, prepared
 from .options import Options
 from .program import Program
 from .settled import is_final, settled
@@ -46,6 +46,8 @@ class Solving:
     """`nl` is the path of the model, `solver_path` that of the solver, `folder` one for files."""
 
     make_job = Job
+    make_certifier = Certifier
+    kept_name = "text.nl"
 
     def __init__(self, solver: Solver, options: Options, bridge: Bridge, clock: Clock, nl: str,
                  solver_path: str, folder: str) -> None:
@@ -54,9 +56,9 @@ class Solving:
 
     def result(self) -> Result:
         """The outcome. Failure where there is none."""
-        kept = os.path.join(self.folder, "text.nl")
+        kept = os.path.join(self.folder, self.kept_name)
         try:
-            text_form = prepared(self.nl, kept, bool(self.options.shortest))
+            text_form = self.prepared(kept)
         except BadFile as fault:
             raise Failure(Code.REFUSED, str(fault), Status.REFUSED) from None
         self.bridge.shown[text_form.path] = self.nl
@@ -66,8 +68,10 @@ class Solving:
             program = self.exported(text_form.path)
         except Refused as fault:
             if fault.told.endswith(": empty interval"):
-                return Result(Code.INFEASIBLE, [f"infeasible: {fault.line()}",
-                                                WITHOUT + "bridge refuses the model for this"])
+                strict = bool(self.options.strict)
+                return Result(Code.UNSURE if strict else Code.INFEASIBLE,
+                              [f"infeasible: {fault.line()}",
+                               WITHOUT + "bridge refuses the model for this"], is_final=not strict)
             status = Status.REFUSED if fault.status == 2 else Status.FAILED
             raise Failure(Code.REFUSED, self.refusal(fault, text_form.path), status) from None
         if self.options.only:
@@ -83,6 +87,10 @@ class Solving:
         if self.options.keep:
             job.write("model.mps", program.text)
         return self.told(job, text_form.path, *self.answered(job), text_form.notes)
+
+    def prepared(self, target: str) -> Prepared:
+        """The model as the proved program reads it."""
+        return prepared(self.nl, target, bool(self.options.shortest))
 
     def refusal(self, fault: Refused, nl: str) -> str:
         """In words; an objective that is not there by the number that the option says."""
@@ -104,12 +112,16 @@ class Solving:
         if self.options.only != "mps":
             raise Failure(Code.BAD_OPTION, f"only={self.options.only}: mps is what there is",
                           Status.BAD_WORDS)
-        path = f"{self.nl[:-3]}.{self.solver.name}.mps"
+        path = f"{self.stub()}.{self.solver.name}.mps"
         with open(path, "wb") as f:
             f.write(self.solver.text(program))
         words = shlex.join(self.solver.command(program, path, self.options.solver))
         return Result(Code.LIMIT, [f"{path} is written, and nothing was solved; "
                                    f"{self.solver.title} reads and solves it by", words])
+
+    def stub(self) -> str:
+        """The model's path without its end."""
+        return self.nl[:-3]
 
     def extra(self) -> list[str]:
         try:
@@ -194,7 +206,7 @@ class Solving:
     def told(self, job: Job, nl: str, outcome: Outcome, answer: Answer, missed: Miss,
              notes: list[str]) -> Result:
         """The .sol by `bridge return`, with a message whose last line is the verdict."""
-        certifier = Certifier(self.bridge, nl, job, self.nl[:-3])
+        certifier = self.make_certifier(self.bridge, nl, job, self.stub())
         lines = [*notes, *outcome.notes]
         far = self.solver.far_note(job.program)
         lines += [far] if far else []
@@ -224,7 +236,7 @@ class Solving:
                 if told.endswith(" is broken"):
                     told += self.broken(answer)
                 told += certifier.rounding(verdict, answer, told)
-                lines.append("bridge check of the .sol: " + told)
+                lines.append(certifier.checks + told)
         except Refused as fault:
             raise Failure(Code.NOT_RETURNED, f"return: {fault.line()}") from None
         if self.options.outlev and verdict.figures:

@@ -18,6 +18,7 @@ from typing import Iterator, Union
 from .bridge import Bridge
 from .names import Names
 from .sol import duals_of
+from .subjects import subject
 
 Exact = Union[int, Fraction]
 MOST_NAMED = 5                  # rows and numbers that are named of a long list
@@ -267,15 +268,32 @@ def factors_of(bridge: Bridge, nl: str, objective: str, rows: list[str]) -> dict
 
 
 class Stats:
-    """Of an .nl file. Refused where `bridge` refuses it."""
+    """Of an .nl file, or of an MPS file's own program. Refused or mps_file.Damaged where there is
+    no program."""
 
-    def __init__(self, bridge: Bridge, nl: str, objective: str = "0") -> None:
-        self.figures = figures_of(bridge.text("export", nl, objective))
-        self.factors = factors_of(bridge, nl, objective, self.figures.rows())
-        self.names = Names(nl[:-3] if nl.endswith(".nl") else nl)
+    def __init__(self, bridge: Bridge, path: str, objective: str = "0") -> None:
+        with subject(bridge, path) as model:
+            if model.own is None:
+                text = bridge.text("export", path, objective)
+            else:
+                text = model.program(objective).text
+            self.figures, self.notes = figures_of(text), list(model.notes)
+            self.factors: dict[str, str] = {}
+            if model.own is None:
+                self.factors = factors_of(bridge, path, objective, self.figures.rows())
+            self.names = model.names()
+            if model.own is not None:
+                self.figures.lost = [(self.in_names(where), text)
+                                     for where, text in self.figures.lost]
+
+    def in_names(self, where: str) -> str:
+        """Rows and columns of an MPS file as they are called there."""
+        lists = {"c": self.names.row, "x": self.names.column}
+        return " ".join(lists[word[0]](int(word[1:])) if word[1:].isdigit() else word
+                        for word in where.split())
 
     def lines(self) -> list[str]:
-        return lines_of(self.figures, self.factors, self.names)
+        return lines_of(self.figures, self.factors, self.names) + self.notes
 
     def object(self) -> dict[str, object]:
         """The same for programs: counts, and ranges in doubles."""
@@ -294,6 +312,6 @@ class Stats:
                                 for row, factor in self.factors.items() if factor != "1"}}
 
 
-def stats(bridge: Bridge, nl: str, objective: str = "0") -> list[str]:
-    """The lines on an .nl file. Refused where `bridge` refuses it."""
-    return Stats(bridge, nl, objective).lines()
+def stats(bridge: Bridge, path: str, objective: str = "0") -> list[str]:
+    """The lines on a model, as Stats is."""
+    return Stats(bridge, path, objective).lines()

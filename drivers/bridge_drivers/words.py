@@ -7,7 +7,8 @@ from typing import Sequence
 
 USAGE = """usage: {name} stub [-AMPL] [option=value ..]
 
-  reads stub.nl (stub may end in .nl), runs {title}, and tells the answer
+  reads stub.nl (stub may end in .nl), runs {title}, and tells the answer; where stub is an MPS
+  file itself (model.mps, model.mps.gz) it is read, and no .sol is written
   -AMPL   called by a modelling system: stub.sol is always written, the outcome in it
   -s      without -AMPL: write stub.sol         -e  do not echo options
   -=      list the options                      -v  versions

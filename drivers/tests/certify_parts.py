@@ -151,8 +151,8 @@ class Models(TestCase):
     def test_miss_by_a_row_of_its_own_size(self) -> None:
         """Without a floor; what is near 0 beside a coefficient is measured by that."""
         def program(a: str, b: str, side: str, bound: str = "20") -> Program:
-            return Program(f"NAME nl\nROWS\n N obj\n L c0\nCOLUMNS\n x0 c0 {a}\n x1 c0 {b}\nRHS\n"
-                           f" RHS c0 {side}\nBOUNDS\n UP BND x0 {bound}\nENDATA\n".encode())
+            return Program(f"NAME nl\nROWS\n N obj\n L c0\nCOLUMNS\n x0 c0 {a}\n x1 c0 {b}\n"
+                           f"RHS\n RHS c0 {side}\nBOUNDS\n UP BND x0 {bound}\nENDATA\n".encode())
         for words, x, share, is_much in (
                 (("3e-11", "2e-11", "5e-11"), ("20", "20"), 95 / 60, True),
                 (("3e-11", "2e-11", "5e-11"), ("1", "1"), 0, False),
@@ -165,9 +165,10 @@ class Models(TestCase):
 
     def test_miss_of_whole_numbers(self) -> None:
         """More than rounding is much there."""
-        for side, is_much in (("3.000001", True), ("3.00000000001", True), ("2.9999999999999", False),
-                              ("3.0000000000000004", False)):
-            text = f"NAME nl\nROWS\n N obj\n G c0\nCOLUMNS\n x0 c0 1\n x1 c0 1\nRHS\n RHS c0 {side}\n"
+        for side, is_much in (("3.000001", True), ("3.00000000001", True),
+                              ("2.9999999999999", False), ("3.0000000000000004", False)):
+            text = "NAME nl\nROWS\n N obj\n G c0\nCOLUMNS\n x0 c0 1\n x1 c0 1\nRHS\n" \
+                   f" RHS c0 {side}\n"
             program, x = Program(text.encode() + b"ENDATA\n"), {"x0": "1", "x1": "2"}
             self.assertEqual(miss.miss(program, x, ["x0", "x1"]).is_much(), is_much)
             self.assertFalse(miss.miss(program, x, ["x0"]).is_much())

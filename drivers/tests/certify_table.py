@@ -4,7 +4,7 @@
     certify_table.py models FOLDER              writes FOLDER/NAME.nl, of collections
     certify_table.py families FOLDER [MOST]     the same of families, by size (`families.py`);
                                                 linear programs of at most MOST nonzeros (100000)
-    certify_table.py [-jN] SECONDS FOLDER FILE.nl ..
+    certify_table.py [-jN] SECONDS FOLDER FILE ..       .nl files, or MPS files as they stand;
                                                 certificates go to FOLDER, N models at once (1)
     certify_table.py readme TABLE ..            the tables of drivers/README.md of such lines
     certify_table.py sizes TABLE ..             all of them in one
@@ -16,7 +16,8 @@ The models, from two packages of Debian (examples of the one, samples of the oth
     drivers/tests/certify_table.py -j2 60 /tmp/certificates /tmp/collections/*.nl >/tmp/table.tsv
     drivers/tests/certify_table.py readme /tmp/table.tsv
 
-The first makes text .nl files of them, as GLPK reads them, by `bridge import`. The second runs
+The first makes text .nl files of them, as GLPK reads them, by `bridge import`; MPS files need no
+such, as /usr/share/coin/Data/Sample/*.mps. The second runs
 `bridge-certify` with that limit for the solver, and again for the search: lines come in the order
 of the files, with processor seconds of all processes and of the search alone. Needs BRIDGE (or the
 program of the gate), glpsol, cbc and CLP's library.
@@ -39,8 +40,10 @@ HERE = os.path.dirname(os.path.abspath(__file__))
 sys.path[:0] = [os.path.join(HERE, ".."), HERE]
 
 import families                                         # noqa: E402
-from bridge_drivers.bridge import BESIDE, find          # noqa: E402
-from bridge_drivers.program import Program              # noqa: E402
+from bridge_drivers import kinds                        # noqa: E402
+from bridge_drivers.bridge import BESIDE, Bridge, Refused, find     # noqa: E402
+from bridge_drivers.mps_file import Damaged             # noqa: E402
+from bridge_drivers.subjects import subject             # noqa: E402
 
 SOURCES = ("/usr/share/doc/glpk-utils/examples/*.mod", "/usr/share/doc/glpk-utils/examples/*.mps",
            "/usr/share/coin/Data/Sample/*.mps")
@@ -112,10 +115,11 @@ def written_families(target: str, most: int) -> None:
 
 
 def shape(bridge: list[str], path: str) -> list[str]:
-    ran = subprocess.run([*bridge, "export", path], capture_output=True)
-    if ran.returncode:
+    try:
+        with subject(Bridge(bridge, lambda argv: None), path) as model:
+            p = model.program()
+    except (Refused, Damaged):
         return ["", "", ""]
-    p = Program(ran.stdout)
     return [str(len(p.columns)), str(len(p.whole)), str(len(p.constraints))]
 
 
@@ -158,7 +162,7 @@ def ended(words: list[str], limit: float) -> Ended:
 
 
 def line(bridge: list[str], path: str, seconds: str, folder: str) -> list[str]:
-    name = os.path.basename(path)[:-3]
+    name = os.path.basename(kinds.stub_of(path).removesuffix(".nl"))
     certificate = os.path.join(folder, name + ".certificate")
     program = os.path.join(HERE, "..", "bin", "bridge-certify")
     told, spent = ended([sys.executable, program, path, f"timelim={seconds}", "stats=1",

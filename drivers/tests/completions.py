@@ -47,9 +47,11 @@ class Bash(Case):
         self.assertEqual(self.answers("bridge-cbc", "k", "-A"), ["-AMPL"])
 
     def test_files(self) -> None:
-        for name in ("a.nl", "a.certificate", "b.txt"):
+        for name in ("a.nl", "a.certificate", "b.txt", "c.mps", "c.mps.gz", "c.gz"):
             open(os.path.join(self.folder, name), "w", encoding="ascii").close()
         self.assertEqual(self.answers("bridge-cbc", "a"), ["a.nl"])
+        self.assertEqual(self.answers("bridge-cbc", "c"), ["c.mps", "c.mps.gz"])
+        self.assertEqual(self.answers("bridge-cbc", "c.mps", "format", "=", "f"), ["fixed", "free"])
         self.assertEqual(self.answers("bridge-cbc", "a", "certificate", "=", "a.c"),
                          ["a.certificate"])
         self.assertEqual(self.answers("nl-bridge", "verify", "a.nl", "a"),

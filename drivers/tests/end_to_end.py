@@ -7,11 +7,16 @@ import os
 import subprocess
 import sys
 import unittest
+from unittest import mock
 
 from support import HAS_CLP, HERE, Case, Sol, knows
-from bridge_drivers import solvers
+from bridge_drivers import certificates, solvers
 from claim_models import CLAIMED
 from models import FAR, MODELS
+import misleading
+import misled
+
+EACH_MISLED = 2                 # models of a kind
 
 
 class EndToEnd(Case):
@@ -96,6 +101,18 @@ class FarBounds(Case):
                     self.assertEqual((sol.code, sol.values[0]), (0, optimum), sol.text)
 
 
+class Misled(Case):
+    """The first models of each kind of misleading.py: none ends with code 0 and a wrong or
+    impossible answer. `misled.py` runs all of them."""
+
+    def through(self, driver: str) -> None:
+        for model in misleading.models(EACH_MISLED):
+            with self.subTest(model=model.name):
+                with mock.patch.object(certificates, "ONE_LEAF", 30.0):     # a busy machine
+                    code, fault = misled.judged(self.folder, driver, model, [])
+                self.assertEqual(fault, "", code)
+
+
 def add_tests() -> None:
     there = knows("verify")
     for driver in solvers.NAMES:
@@ -112,6 +129,11 @@ def add_tests() -> None:
         def far(self: FarBounds, driver: str = driver) -> None:
             self.through(driver)
         setattr(FarBounds, f"test_{driver}", unittest.skipUnless(solver, reason)(far))
+        if driver in misled.DRIVERS:
+            def misleads(self: Misled, driver: str = driver) -> None:
+                self.through(driver)
+            setattr(Misled, f"test_{driver}", unittest.skipUnless(
+                solver and HAS_CLP, f"no {driver}, or no library of CLP")(misleads))
         if solvers.load(driver).integers:
             def factors(self: LargeFactors, driver: str = driver) -> None:
                 self.through(driver)

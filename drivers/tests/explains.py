@@ -18,6 +18,7 @@ from models import MODELS, nl
 from bridge_drivers.bridge import Bridge
 from bridge_drivers.explained import command, reading
 from bridge_drivers.explained.command import BadWords, Explaining, Files, explained, files_of
+from bridge_drivers.subjects import Subject
 from bridge_drivers.explained.picture import MOST_DEPTH, MOST_SHOWN, Picture
 from bridge_drivers.printable import printable
 
@@ -99,7 +100,8 @@ class Explained(Case):
         bridge = Bridge(PROGRAM, lambda argv: None)
         files = Files(self.stub + ".nl", self.stub + ".certificate")
         reply = bridge.call("verify", *files[:2])
-        return Explaining(bridge, files, reply.out.decode().strip(), reply.status == 0)
+        return Explaining(Subject(bridge, files.nl, files.nl), files,
+                          reply.out.decode().strip(), reply.status == 0)
 
     def example(self, name: str) -> bytes:
         with open(os.path.join(EXAMPLES, name), "rb") as f:

@@ -240,6 +240,18 @@ class Claims(Case):
             self.assertEqual(self.sol().values, point)
             self.assertEqual(f"{kind} point was found" in self.sol().text, bool(kind))
 
+    def test_strict(self) -> None:
+        """A status and a code of its own where the question is left open."""
+        self.put(MODELS["knap"].text)
+        for line, status, code in (("feasible 17", 6, 100), ("within 19 17", 6, 100),
+                                   ("optimal 17", 0, 0)):
+            verdict = Verdict(line, [F(1), F(1), F(0)], "kept", value=F(17))
+            with mock.patch.object(Certifier, "verdict", lambda *_: verdict):
+                self.assertEqual(self.last("cbc", "knap", "strict=1"), line)
+                self.assertEqual(self.sol().code, code)
+                ended = self.replay("cbc", "knap", self.stub, "strict=1")
+                self.assertEqual(ended.returncode, status)
+
     def test_fractions_are_written_as_nearest(self) -> None:
         self.put(MODELS["thirds"].text)
         self.assertEqual(self.last("esolver", "thirds"), "optimal 1/3")

@@ -3,7 +3,8 @@
 
     misled.py [DRIVER ..] [option=value ..]     cbc, glpsol, lp_solve and highs, where they are
 
-BRIDGE names the program. A line for each wrong answer, and one for each driver: how many end with
+BRIDGE names the program. `second=5` makes five of the second that a run without `prove=1` has for
+its certificate: on a machine that does much else. A line for each wrong answer, and one for each driver: how many end with
 which code. The status is 1 where an answer is wrong.
 """
 
@@ -14,18 +15,19 @@ import os
 import sys
 import tempfile
 import time
-from concurrent.futures import ThreadPoolExecutor
+from concurrent.futures import ProcessPoolExecutor
 
 sys.dont_write_bytecode = True
 HERE = os.path.dirname(os.path.abspath(__file__))
 sys.path[:0] = [HERE]
 
 from misleading import Misleading, models       # noqa: E402
-from support import Sol, driven                 # noqa: E402
-from bridge_drivers import solvers              # noqa: E402
+from support import Sol                         # noqa: E402
+from bridge_drivers import certificates, solvers    # noqa: E402
+from bridge_drivers.driver import Driver        # noqa: E402
 
 DRIVERS = ("cbc", "glpsol", "lp_solve", "highs")
-THREADS = 8
+WORKERS, SECONDS = 4, 20        # lp_solve goes on for ever at some of them
 
 
 def judged(folder: str, driver: str, model: Misleading, options: list[str]) -> tuple[int, str]:
@@ -33,10 +35,8 @@ def judged(folder: str, driver: str, model: Misleading, options: list[str]) -> t
     stub = os.path.join(folder, f"{driver}-{model.name}")
     with open(stub + ".nl", "wb") as f:
         f.write(model.text())
-    ended = driven(driver, stub, "-AMPL", "-e", *options)
-    if ended.returncode != 0:
-        return -1, ended.stderr
-    return told(model, Sol(stub + ".sol"))
+    status = Driver(driver).main([stub, "-AMPL", "-e", f"timelim={SECONDS}", *options])
+    return told(model, Sol(stub + ".sol")) if status == 0 else (-1, f"it ended with {status}")
 
 
 def told(model: Misleading, sol: Sol) -> tuple[int, str]:
@@ -51,7 +51,10 @@ def told(model: Misleading, sol: Sol) -> tuple[int, str]:
 
 def main() -> int:
     drivers = [w for w in sys.argv[1:] if "=" not in w] or list(DRIVERS)
-    options = [w for w in sys.argv[1:] if "=" in w]
+    options = [w for w in sys.argv[1:] if "=" in w and not w.startswith("second=")]
+    for word in sys.argv[1:]:
+        if word.startswith("second="):
+            certificates.ONE_LEAF = float(word.partition("=")[2])
     family, wrong = list(models()), 0
     print(f"{len(family)} models, {sum(m.best is None for m in family)} without a point")
     for driver in drivers:
@@ -59,9 +62,11 @@ def main() -> int:
             print(f"{driver}: not there")
             continue
         start, codes = time.monotonic(), collections.Counter()
-        with tempfile.TemporaryDirectory(prefix="misled-") as folder, ThreadPoolExecutor(THREADS) as pool:
-            for model, (code, fault) in zip(family, pool.map(
-                    lambda m: judged(folder, driver, m, options), family)):
+        with tempfile.TemporaryDirectory(prefix="misled-") as folder, \
+                ProcessPoolExecutor(WORKERS) as pool:
+            jobs = [pool.submit(judged, folder, driver, model, options) for model in family]
+            for model, job in zip(family, jobs):
+                code, fault = job.result()
                 codes[code] += 1
                 wrong += bool(fault)
                 if fault:

@@ -1,4 +1,5 @@
-"""The PuLP solver class; skipped without PuLP, without cbc, or without a bridge that imports."""
+"""The PuLP solver class; skipped without PuLP, without a solver, or without a bridge that judges
+MPS files."""
 
 from __future__ import annotations
 
@@ -6,8 +7,7 @@ import os
 import shutil
 import unittest
 
-from support import HERE, Case
-from end_to_end import knows
+from support import HERE, NEEDS_MPS, Case
 
 try:
     import pulp
@@ -30,8 +30,8 @@ class Texts(unittest.TestCase):
         self.assertEqual(pulp_solver.completed(text, False, "OBJ", 0), text)
 
 
-@unittest.skipUnless(pulp and SOLVERS and knows("import") and knows("return"),
-                     "no PuLP, no solver or no bridge that imports")
+@NEEDS_MPS
+@unittest.skipUnless(pulp and SOLVERS, "no PuLP or no solver")
 class Solves(Case):
     def solve(self, solver: str, problem: "pulp.LpProblem", **words) -> "pulp_solver.BridgeCmd":
         driver = os.path.join(HERE, "..", "bin", "bridge-" + solver)
@@ -110,6 +110,26 @@ class Solves(Case):
             self.assertEqual({(c.slack, c.pi) for c in problem.constraints.values()},
                              {(None, None)})
 
+    def test_names_in_verdicts(self) -> None:
+        """PuLP's own, also where the MPS file cannot have them."""
+        for name, told in (("both", "both"), ("both sides", "C0000000")):
+            problem = pulp.LpProblem("p", pulp.LpMinimize)
+            x = pulp.LpVariable("left", 0, 9, pulp.LpInteger)
+            problem += 2 * x
+            problem.addConstraint(pulp.LpConstraint(2 * x, pulp.LpConstraintGE, name, 3))
+            problem.constraints = {name: next(iter(problem.constraints.values()))}
+            command = self.solve(SOLVERS[0], problem, options=["outlev=0"])
+            self.assertEqual((x.value(), command.message.split("\n")[-1]), (2, "optimal 4"))
+            self.assertIn(f" G  {told}\n", self.written(command, problem))
+
+    def written(self, command: "pulp_solver.BridgeCmd", problem: "pulp.LpProblem") -> str:
+        path = os.path.join(self.folder, "written.mps")
+        command.written(problem, path)
+        with open(path) as f:
+            text = f.read()
+        os.unlink(path)
+        return text
+
     @unittest.skipUnless(shutil.which("clp"), "no clp")
     def test_errors_in_words_of_pulp(self) -> None:
         problem = pulp.LpProblem("p", pulp.LpMinimize)
@@ -132,9 +152,9 @@ class Solves(Case):
             problem.solve(command)
         finally:
             os.chdir(here)
-        with open(os.path.join(self.folder, "kept-pulp.row")) as row, \
-                open(os.path.join(self.folder, "kept-pulp.col")) as col:
-            self.assertEqual((row.read(), col.read()), ("both\n", "left\n"))
+        self.assertEqual(sorted(os.listdir(self.folder)), ["kept-pulp.json", "kept-pulp.mps"])
+        with open(os.path.join(self.folder, "kept-pulp.mps")) as mps:
+            self.assertIn(" G  both\n", mps.read())
 
 
 @unittest.skipIf(pulp is None, "no PuLP")
@@ -160,15 +180,15 @@ class Manners(unittest.TestCase):
         with self.assertRaisesRegex(pulp.PulpSolverError, "/nonexistent was not found"):
             self.problem(0, 1).solve(pulp_solver.BridgeCmd("/nonexistent", msg=False))
         self.assertFalse(pulp_solver.BridgeCmd("/nonexistent").available())
-        with self.assertRaisesRegex(pulp.PulpSolverError, "no-bridge could not be run"):
-            self.problem(0, 1).solve(pulp_solver.BridgeCmd("/bin/true", "/no-bridge", msg=False))
+        with self.assertRaisesRegex(pulp.PulpSolverError, "true ended with 0, without an answer"):
+            self.problem(0, 1).solve(pulp_solver.BridgeCmd("/bin/true", msg=False))
 
     def test_words(self) -> None:
         command = pulp_solver.BridgeCmd("d", mip=False, timeLimit=2.5, gapRel=0.1, threads=3,
                                         prove=True, options=["outlev=1"])
-        self.assertEqual(command.words("a.nl"),
-                         ["d", "a.nl", "-AMPL", "-e", "outlev=1", "timelim=2.5", "mipgap=0.1",
-                          "threads=3", "relax=1", "prove=1"])
+        self.assertEqual(command.words("a.mps"),
+                         ["d", "a.mps", "-e", "format=free", "json=1", "wantsol=6", "outlev=1",
+                          "timelim=2.5", "mipgap=0.1", "threads=3", "relax=1", "prove=1"])
 
     def test_statuses(self) -> None:
         for last, solution in (("feasible 3", pulp.LpSolutionIntegerFeasible),

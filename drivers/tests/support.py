@@ -17,6 +17,7 @@ from typing import Callable, NamedTuple
 from unittest import mock
 
 HERE = os.path.dirname(os.path.abspath(__file__))
+BIN = os.path.join(HERE, "..", "bin")
 sys.path[:0] = [os.path.join(HERE, ".."), HERE]
 
 from bridge_drivers import solvers                      # noqa: E402
@@ -48,6 +49,7 @@ def knows(command: str) -> bool:
 
 
 NEEDS_PROGRAM = unittest.skipUnless(knows("verify"), "no bridge that knows `verify`")
+NEEDS_MPS = unittest.skipUnless(knows("verify_mps"), "no bridge that knows `verify_mps`")
 NEEDS_CLP = unittest.skipUnless(HAS_CLP, "no library of CLP")
 
 
@@ -57,6 +59,14 @@ class Ended(NamedTuple):
     returncode: int
     stdout: str
     stderr: str
+
+
+def driven(driver: str, *words: str, place: str = BIN, **environment: str) -> Ended:
+    """A driver as a process of its own."""
+    ran = subprocess.run([sys.executable, os.path.join(place, "bridge-" + driver), *words],
+                         stdin=subprocess.DEVNULL, capture_output=True, text=True,
+                         env={**os.environ, **environment})
+    return Ended(ran.returncode, ran.stdout, ran.stderr)
 
 
 class Sol:

@@ -163,7 +163,8 @@ class Refusals(Case):
                 (("import", "p.mps"), "refused column 2: empty interval",
                  "p.mps: column 2: empty interval (a lower bound is above its upper bound, so "
                  "nothing satisfies the model)"),
-                (("mps", "p.mps"), "refused line 7: unknown row", "p.mps line 7: unknown row")):
+                (("mps", "p.mps"), "refused line 7: unknown row",
+                 "p.mps line 7: unknown row (no line of ROWS has it)")):
             self.assertEqual(self.line(told, *words), line)
 
     def test_input_faults(self) -> None:
@@ -214,8 +215,9 @@ class Kinds(Case):
 
     def test_named_ones(self) -> None:
         for name, data, told in (
-                ("model.mps", b"* made\nNAME x\nROWS\n", "is an MPS file: `nl-bridge import "
-                 "model.mps model.nl` makes model.nl of it"),
+                ("model.mps", b"* made\nNAME x\nROWS\n", "is an MPS file: `bridge-certify "
+                 "model.mps` and the drivers take it, `nl-bridge import model.mps model.nl` makes "
+                 "model.nl of it"),
                 ("model.txt", b"NAME\nROWS\n", "is an MPS file: "),
                 ("model.lp", b"\\ made\nMinimize\n obj: x\n", "is an LP file, which no command "
                  "here reads: `glpsol --lp model.lp --check --wfreemps model.mps`"),
@@ -242,8 +244,8 @@ class Kinds(Case):
         self.assertEqual(explaining.in_words(["export", self.stub + ".nl"],
                                              "refused line 1: bad first line",
                                              {self.stub + ".nl": "m.nl"}),
-                         "m.nl line 1: bad first line: it is an MPS file: `nl-bridge import m.nl "
-                         "m.nl` makes m.nl of it")
+                         "m.nl line 1: bad first line: it is an MPS file: `bridge-certify m.nl` "
+                         "and the drivers take it, `nl-bridge import m.nl m.nl` makes m.nl of it")
 
 
 class UnknownWords(unittest.TestCase):
@@ -441,7 +443,7 @@ class Front(Case):
     def test_commands_are_those_of_the_table(self) -> None:
         path = os.path.join(TOP, "docs", "user", "commands.md")
         with open(path, encoding="utf-8") as f:
-            words = set(re.findall(r"`([a-z]+) [A-Z]", "".join(
+            words = set(re.findall(r"`([a-z_]+) [A-Z]", "".join(
                 line.split("|")[1] for line in f if line.startswith("| `"))))
         self.assertEqual({c.word for c in front.COMMANDS}, words)
 

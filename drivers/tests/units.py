@@ -184,6 +184,8 @@ class Shown(Case):
                                       "open": 12.0}))
         self.assertEqual(shown.line(), "bridge-cbc: cbc, 0 of 60 s, incumbent 45, bound 50, "
                                        "gap 10 %, 100 nodes, 12 open")
+        self.assertEqual(progress.detailed({"incumbent": 4.0, "bound": float("-inf")}),
+                         "incumbent 4")
         shown.begin("certificate")
         self.assertEqual(shown.line(), "bridge-cbc: certificate, 0 s")
         self.assertEqual([progress.gap(*pair) for pair in ((0, 0), (0, 3), (-4, -5))],

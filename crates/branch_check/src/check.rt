@@ -2,7 +2,7 @@
 ghost use Rattle.std.specs.Prelude.{◌≡◌, IfOk, true};
 ghost use Rattle.fractions.specs.Fits.{fits};
 ghost use Rattle.exact_numbers.specs.Values.{frac_value};
-ghost use Rattle.dual_bounds.specs.Programs.{program_of};
+ghost use Rattle.dual_bounds.specs.Programs.{linear_of, program_of};
 ghost use Rattle.branch_check.specs.Leaves.{IsProved, IsVerdictOn};
 ghost use Rattle.certificates.specs.Proofs.{IsProofOf, claim_value};
 
@@ -10,7 +10,7 @@ use crate::leaf::{ProofVerdict, verdict_of};
 use crate::tree::tree_of;
 use certificate_walk::check_tree;
 use certificates::proof::{Claim, Proof};
-use dual_bounds::Columns;
+use dual_bounds::{Columns, Program};
 use exact_numbers::Frac;
 use std::alloc::{AllocError, Global};
 
@@ -29,26 +29,40 @@ fn stated_value(claim: Claim) -> Frac
 }
 
 /// Whether a proof shows its claim of a linear program: the first leaf that does not close, or Yes.
-/// The columns have the objective of the claim. The memory for the proof as a certificate is taken
-/// first. The work for a leaf is that of the terms of its rows and of the objective, and of putting
-/// the rows in order; for a split it is constant.
+/// The program has the objective of the claim. The memory for the proof as a certificate is taken
+/// first, and then that of the walk. The work for a leaf is that of the terms of its rows and of the
+/// objective, and of putting the rows in order; for a split it is constant.
+pub fn check_proof_by_rows(
+    alloc: Global,
+    program: &Program,
+    proof: &Proof,
+) -> Result<ProofVerdict, AllocError>
+    requires { IsProofOf (linear_of program.now) proof.now }
+
+    // The first leaf, in order, that does not close under the bounds of the splits above it.
+    ensures exact { IfOk result (λ v. IsVerdictOn (linear_of program.now) proof.now v) }
+
+    // With Yes no feasible point is better than the stated value, or there is no relaxed point.
+    ensures proved { IfOk result (λ v. IsProved (linear_of program.now) proof.now.claim v) }
+{
+    let tree = tree_of(alloc, program, proof)?;
+    let value = stated_value(proof.claim());
+    let found = check_tree(alloc, program, &tree.nodes, &tree.pairs, value);
+    drop(tree);
+    let verdict = verdict_of(found?);
+    Ok(verdict)
+}
+
+/// Whether a proof shows its claim of a linear program, as `check_proof_by_rows`: the columns are
+/// not read.
 pub fn check_proof(
     alloc: Global,
     columns: &Columns,
     proof: &Proof,
 ) -> Result<ProofVerdict, AllocError>
     requires { IsProofOf (program_of columns.now) proof.now }
-
-    // The first leaf, in order, that does not close under the bounds of the splits above it.
     ensures exact { IfOk result (λ v. IsVerdictOn (program_of columns.now) proof.now v) }
-
-    // With Yes no feasible point is better than the stated value, or there is no relaxed point.
     ensures proved { IfOk result (λ v. IsProved (program_of columns.now) proof.now.claim v) }
 {
-    let tree = tree_of(alloc, columns, proof)?;
-    let value = stated_value(proof.claim());
-    let found = check_tree(alloc, columns, &tree.nodes, &tree.pairs, value);
-    drop(tree);
-    let verdict = verdict_of(found?);
-    Ok(verdict)
+    check_proof_by_rows(alloc, columns.program(), proof)
 }

@@ -7,5 +7,5 @@ mod leaf;
 mod numbers;
 mod tree;
 
-pub use check::check_proof;
+pub use check::{check_proof, check_proof_by_rows};
 pub use leaf::ProofVerdict;

@@ -1,7 +1,7 @@
 // The tree of a proof as that of a certificate.
 ghost use Rattle.std.specs.Prelude.{◌≡◌, [], IfOk, length};
 ghost use Rattle.linear_programs.specs.Linear.{Linear, row_count};
-ghost use Rattle.dual_bounds.specs.Programs.{program_of};
+ghost use Rattle.dual_bounds.specs.Programs.{linear_of};
 ghost use Rattle.branch_check.specs.InsideConverted.{HasCutNumber, IsTreeFor, node_with, pair_count};
 ghost use Rattle.branch_check.specs.InsideNumbers.{AreReady};
 ghost use Rattle.certificates.specs.Proofs.{IsProofOf};
@@ -9,7 +9,7 @@ ghost use Rattle.certificates.specs.Proofs.{IsProofOf};
 use crate::numbers::Numbers;
 use certificates::CertificateNode;
 use certificates::proof::{Proof, ProofNode};
-use dual_bounds::Columns;
+use dual_bounds::Program;
 use linear_program::Number;
 use std::alloc::{AllocError, Global};
 
@@ -75,14 +75,23 @@ fn write(proof: &Proof, numbers: &mut Numbers, tree: &mut Tree) -> Result<(), Al
     Ok(())
 }
 
+// The most pairs that a node has: room alone, so no clause speaks of the number.
+fn most_pairs(nodes: &[ProofNode]) -> u32 {
+    let mut most = 0;
+    for node in nodes {
+        most = most.max(pair_count(*node));
+    }
+    most
+}
+
 // The tree of a proof as that of a certificate.
-pub(crate) fn tree_of(alloc: Global, columns: &Columns, proof: &Proof) -> Result<Tree, AllocError>
-    requires { IsProofOf (program_of columns.now) proof.now }
-    ensures tree { IfOk result (λ t. (h : IsProofOf (program_of columns.now) proof.now)
-        → IsTreeFor (program_of columns.now) h.tree t.nodes.items t.pairs.items) }
+pub(crate) fn tree_of(alloc: Global, program: &Program, proof: &Proof) -> Result<Tree, AllocError>
+    requires { IsProofOf (linear_of program.now) proof.now }
+    ensures tree { IfOk result (λ t. (h : IsProofOf (linear_of program.now) proof.now)
+        → IsTreeFor (linear_of program.now) h.tree t.nodes.items t.pairs.items) }
     ensures count { IfOk result (λ t. length t.nodes.items ≡ length proof.now.nodes) }
 {
-    let mut numbers = Numbers::new(alloc, columns.n_con())?;
+    let mut numbers = Numbers::new(alloc, program.n_con(), most_pairs(proof.nodes()) as usize)?;
     let mut tree = room(alloc, proof)?;
     write(proof, &mut numbers, &mut tree)?;
     Ok(tree)

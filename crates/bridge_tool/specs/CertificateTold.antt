@@ -14,7 +14,7 @@ use Rattle.certificates.specs.declared.certificate.Claim.{Claim}
 use Rattle.certificates.specs.declared.certificate.Claim.TheVariants.{Optimal, Within, Bound, Feasible, Infeasible, Unbounded}
 use Rattle.certificate_text.specs.declared.fault.CertificateReason.{CertificateReason}
 use Rattle.certificate_text.specs.declared.fault.CertificateReason.TheVariants.{LineTooLong, InputTooLong, BadFirst, Extra, BadLine, BadNumber, IndexOut, NotWhole, IndexOrder, TooLarge, Short}
-use Rattle.bridge_tool.specs.LeafTold.{leaf_text}
+use Rattle.bridge_tool.specs.LeafTold.{leaf_fault_text}
 use Rattle.bridge_tool.specs.Told.{number_text, refusal}
 use Rattle.bridge_tool.specs.VerdictTold.{cause_text as point_text}
 
@@ -70,7 +70,7 @@ failed_text (at_point g) = point_text g
 failed_text (not_whole j) = codes "variable " ++ decimal j ++ codes " not whole"
 failed_text objective_wide = codes "too wide at objective"
 failed_text (at_ray g) = ray_text g
-failed_text (at_leaf g) = leaf_text g
+failed_text (at_leaf g) = leaf_fault_text g
 
 abbrev pub outcome_text : Claim → Outcome → List ℕ
 outcome_text claim (holds value) = option_map_or told_text (told_claim claim value) []

@@ -8,10 +8,10 @@ use Rattle.bridge_tool.specs.Told.{number_text}
 abbrev pub leaf_number : ℕ → List ℕ
 leaf_number leaf = codes "leaf " ++ decimal leaf
 
-abbrev pub leaf_text : LeafFault → List ℕ
-leaf_text (row_side leaf row) =
+abbrev pub leaf_fault_text : LeafFault → List ℕ
+leaf_fault_text (row_side leaf row) =
     leaf_number leaf ++ (codes " row " ++ decimal row ++ codes " has no side")
-leaf_text (bound_side leaf variable) =
+leaf_fault_text (bound_side leaf variable) =
     leaf_number leaf ++ (codes " bound " ++ decimal variable ++ codes " has no side")
-leaf_text (wide leaf) = leaf_number leaf ++ codes " too wide"
-leaf_text (open_gap leaf bound) = leaf_number leaf ++ codes " gap " ++ number_text bound
+leaf_fault_text (wide leaf) = leaf_number leaf ++ codes " too wide"
+leaf_fault_text (open_gap leaf bound) = leaf_number leaf ++ codes " gap " ++ number_text bound

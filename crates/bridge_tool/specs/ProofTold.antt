@@ -4,7 +4,7 @@ use Rattle.duality.specs.Branch.{LeafFault}
 use Rattle.texts.specs.declared.fault.TextFault.{TextFault}
 use Rattle.proof_text.specs.declared.fault.ProofReason.{ProofReason}
 use Rattle.proof_text.specs.declared.fault.ProofReason.TheVariants.{LineTooLong, InputTooLong, BadFirst, Extra, BadLine, BadNumber, IndexOut, NotWhole, RepeatedIndex, TooLarge, Short}
-use Rattle.bridge_tool.specs.LeafTold.{leaf_text}
+use Rattle.bridge_tool.specs.LeafTold.{leaf_fault_text}
 use Rattle.bridge_tool.specs.Told.{refusal}
 
 -- what is said of a fault of a proof text
@@ -28,4 +28,4 @@ proof_line file f = refusal file (codes "line") f.line (proof_reason_text f.reas
 -- the line of a verdict: the first leaf that does not close, or none
 abbrev pub leaf_line : Option LeafFault → List ℕ
 leaf_line None = codes "proved\n"
-leaf_line (Some fault) = leaf_text fault ++ codes "\n"
+leaf_line (Some fault) = leaf_fault_text fault ++ codes "\n"

@@ -11,7 +11,7 @@ ghost use Rattle.certificates.specs.Certificates.{objective_of};
 ghost use Rattle.certificates.specs.Told.{told_claim};
 ghost use Rattle.certificate_walk.specs.Outcomes.{cause_of, leaf_fault_of, outcome_of, point_fault_of, ray_fault_of};
 ghost use Rattle.bridge_tool.specs.CertificateTold.{certificate_reason_text, failed_text, HasFittingBound, is_held, objective_text, outcome_line, outcome_text, ray_text, told_text};
-ghost use Rattle.bridge_tool.specs.LeafTold.{leaf_text};
+ghost use Rattle.bridge_tool.specs.LeafTold.{leaf_fault_text};
 ghost use Rattle.bridge_tool.specs.Told.{number_text};
 ghost use Rattle.bridge_tool.specs.VerdictTold.{cause_text};
 
@@ -187,7 +187,7 @@ fn put_ray(line: &mut Vec<u8>, fault: RayFault) -> Result<(), AllocError>
 // Why a leaf does not close.
 fn put_leaf(line: &mut Vec<u8>, leaf: u32, fault: LeafFault) -> Result<(), AllocError>
     ensures { OnOk result (line.new.items
-        ≡ line.old.items ++ leaf_text (leaf_fault_of leaf fault)) }
+        ≡ line.old.items ++ leaf_fault_text (leaf_fault_of leaf fault)) }
 {
     match fault {
         LeafFault::RowSide(row) => put_side(line, leaf, b" row ", row),

@@ -18,9 +18,10 @@ use crate::one_file::end;
 use crate::proof_input::open_proof;
 use crate::proof_told::leaf_line;
 use crate::refusal::Refusal;
-use crate::stages::fold;
-use branch_proof::{Claim, Proof, ProofVerdict, check_proof};
-use certificate_check::Columns;
+use crate::stages::fold_read;
+use branch_check::check_proof_by_rows;
+use branch_proof::{Claim, Proof, ProofVerdict};
+use dual_bounds::Program;
 use linear_fold::Linear;
 use nl_segments::NlRead;
 use std::alloc::{AllocError, Global};
@@ -36,14 +37,16 @@ fn claimed_objective(proof: &Proof) -> u32
     }
 }
 
-// The verdict on a proof of a linear program.
-fn verdict_of(alloc: Global, linear: &Linear, proof: &Proof) -> Result<ProofVerdict, AllocError>
-    requires { IsProofOf (linear_value linear.now) proof.now }
-    ensures exact { IfOk result (λ v. IsVerdictOn (linear_value linear.now) proof.now v) }
-    ensures proved { IfOk result (λ v. IsProved (linear_value linear.now) proof.now.claim v) }
+// The verdict on a proof of a linear program, which is let go as soon as its rows are held.
+fn verdict_of(alloc: Global, linear: Linear, proof: &Proof) -> Result<ProofVerdict, AllocError>
+    requires { IsProofOf (linear_value linear) proof.now }
+    ensures exact { IfOk result (λ v. IsVerdictOn (linear_value linear) proof.now v) }
+    ensures proved { IfOk result (λ v. IsProved (linear_value linear) proof.now.claim v) }
 {
-    let columns = Columns::of(alloc, linear)?;
-    let verdict = check_proof(alloc, &columns, proof)?;
+    let made = Program::of(alloc, &linear);
+    drop(linear);
+    let program = made?;
+    let verdict = check_proof_by_rows(alloc, &program, proof)?;
     Ok(verdict)
 }
 
@@ -62,28 +65,27 @@ fn told_verdict(alloc: Global, verdict: ProofVerdict) -> Result<(bool, Vec<u8>),
     Ok((is_yes(verdict), line))
 }
 
-// The verdict on a proof of a file, or the first fault of the fold.
+// The verdict on a proof of a file, which is let go with the fold, or its first fault.
 fn to_verdict<L: Ledger>(
     alloc: Global,
-    read: &NlRead,
+    read: NlRead,
     proof: &Proof,
     steps: &mut Steps<L>,
 ) -> Result<(bool, Vec<u8>), Stop<Refusal>>
-    requires lines { HasLines read.now }
-    requires proof { IsProofIn read.now.file proof.now }
-    ensures comes { Comes (λ outcome. outcome ≡ prove_outcome (value_of read.now) proof.now)
+    requires lines { HasLines read }
+    requires proof { IsProofIn read.file proof.now }
+    ensures comes { Comes (λ outcome. outcome ≡ prove_outcome (value_of read) proof.now)
         result }
-    ensures says { IfOk result (λ t. ByVerdict t.0 (IsProvedOf (value_of read.now) proof.now)
-        (IsLeftOpen (value_of read.now) proof.now)) }
+    ensures says { IfOk result (λ t. ByVerdict t.0 (IsProvedOf (value_of read) proof.now)
+        (IsLeftOpen (value_of read) proof.now)) }
     ensures above { steps.old ≤ steps.new }
-    ensures counts { steps.new ≤ steps.old + fold_steps (value_of read.now)
+    ensures counts { steps.new ≤ steps.old + fold_steps (value_of read)
         (claimed_objective proof.now.claim) }
 {
     let objective = claimed_objective(proof);
-    let linear = fold(alloc, read, objective, steps)?;
-    let verdict = verdict_of(alloc, &linear, proof);
-    drop(linear);
-    let told = told_verdict(alloc, verdict?)?;
+    let linear = fold_read(alloc, read, objective, steps)?;
+    let verdict = verdict_of(alloc, linear, proof)?;
+    let told = told_verdict(alloc, verdict)?;
     Ok(told)
 }
 
@@ -110,8 +112,7 @@ pub(crate) fn prove<D: Desk, L: Ledger>(
             return answer;
         }
     };
-    let judged = to_verdict(alloc, &read, &given, steps);
-    drop(read);
+    let judged = to_verdict(alloc, read, &given, steps);
     drop(given);
     end(desk, judged)
 }

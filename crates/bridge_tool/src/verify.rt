@@ -18,27 +18,29 @@ use crate::certificate_told::{is_held, objective_of, outcome_line};
 use crate::nl_input::open_nl;
 use crate::one_file::end;
 use crate::refusal::Refusal;
-use crate::stages::fold;
-use certificate_check::Columns;
+use crate::stages::fold_read;
 use certificate_walk::{Outcome, check_certificate};
 use certificates::Certificate;
+use dual_bounds::Program;
 use linear_fold::Linear;
 use nl_segments::NlRead;
 use std::alloc::{AllocError, Global};
 use text_base::{Desk, Ledger, Steps, Stop};
 
-/// The verdict on a certificate for a linear program.
+/// The verdict on a certificate for a linear program, which is let go as soon as its rows are held.
 pub(crate) fn outcome_on(
     alloc: Global,
-    linear: &Linear,
+    linear: Linear,
     certificate: &Certificate,
 ) -> Result<Outcome, AllocError>
-    requires { IsCertificateOf (linear_value linear.now) certificate.now }
-    ensures { IfOk result (λ o. (h : IsCertificateOf (linear_value linear.now) certificate.now)
-        → outcome_of o ≡ claim_outcome (linear_value linear.now) certificate.now.claim h.given) }
+    requires { IsCertificateOf (linear_value linear) certificate.now }
+    ensures { IfOk result (λ o. (h : IsCertificateOf (linear_value linear) certificate.now)
+        → outcome_of o ≡ claim_outcome (linear_value linear) certificate.now.claim h.given) }
 {
-    let columns = Columns::of(alloc, linear)?;
-    let outcome = check_certificate(alloc, &columns, certificate)?;
+    let made = Program::of(alloc, &linear);
+    drop(linear);
+    let program = made?;
+    let outcome = check_certificate(alloc, &program, certificate)?;
     Ok(outcome)
 }
 
@@ -57,28 +59,27 @@ pub(crate) fn told_outcome(
     Ok((is_held(outcome), line))
 }
 
-// The verdict on a certificate for a file, or the first fault of the fold.
+// The verdict on a certificate for a file, which is let go with the fold, or its first fault.
 fn to_verdict<L: Ledger>(
     alloc: Global,
-    read: &NlRead,
+    read: NlRead,
     certificate: &Certificate,
     steps: &mut Steps<L>,
 ) -> Result<(bool, Vec<u8>), Stop<Refusal>>
-    requires lines { HasLines read.now }
-    requires certificate { IsCertificateIn read.now.file certificate.now }
-    ensures comes { Comes (λ outcome. outcome ≡ verify_outcome (value_of read.now)
+    requires lines { HasLines read }
+    requires certificate { IsCertificateIn read.file certificate.now }
+    ensures comes { Comes (λ outcome. outcome ≡ verify_outcome (value_of read)
         certificate.now) result }
-    ensures says { IfOk result (λ t. ByVerdict t.0 (IsVerified (value_of read.now) certificate.now)
-        (IsDenied (value_of read.now) certificate.now)) }
+    ensures says { IfOk result (λ t. ByVerdict t.0 (IsVerified (value_of read) certificate.now)
+        (IsDenied (value_of read) certificate.now)) }
     ensures above { steps.old ≤ steps.new }
-    ensures counts { steps.new ≤ steps.old + fold_steps (value_of read.now)
+    ensures counts { steps.new ≤ steps.old + fold_steps (value_of read)
         (objective_of certificate.now.claim) }
 {
     let objective = objective_of(certificate.claim());
-    let linear = fold(alloc, read, objective, steps)?;
-    let outcome = outcome_on(alloc, &linear, certificate);
-    drop(linear);
-    let told = told_outcome(alloc, certificate, outcome?)?;
+    let linear = fold_read(alloc, read, objective, steps)?;
+    let outcome = outcome_on(alloc, linear, certificate)?;
+    let told = told_outcome(alloc, certificate, outcome)?;
     Ok(told)
 }
 
@@ -105,8 +106,7 @@ pub(crate) fn verify<D: Desk, L: Ledger>(
             return answer;
         }
     };
-    let judged = to_verdict(alloc, &read, &given, steps);
-    drop(read);
+    let judged = to_verdict(alloc, read, &given, steps);
     drop(given);
     end(desk, judged)
 }

@@ -90,19 +90,21 @@ fn open_for<D: Desk>(
     }
 }
 
-// The verdict on a certificate for a linear program, or that it has no objective of its number.
+// The verdict on a certificate for a linear program, which is let go, or that it has no objective
+// of its number.
 fn to_verdict(
     alloc: Global,
-    linear: &Linear,
+    linear: Linear,
     certificate: &Certificate,
 ) -> Result<(bool, Vec<u8>), Stop<Refusal>>
-    requires certificate { IsCertificateOf (linear_value linear.now) certificate.now }
+    requires certificate { IsCertificateOf (linear_value linear) certificate.now }
     requires fits { HasFittingBound certificate.now.claim }
     ensures { Comes (λ outcome. outcome
-        ≡ program_outcome (linear_value linear.now) certificate.now) result }
+        ≡ program_outcome (linear_value linear) certificate.now) result }
 {
     let objective = objective_of(certificate.claim());
     if objective > 0 {
+        drop(linear);
         let fault = FoldFault::NoSuchObjective(objective);
         return Err(Stop::Fault(Refusal::Fold(objective, fault)));
     }
@@ -141,8 +143,7 @@ pub(crate) fn verify_program<D: Desk>(
             return ended;
         }
     };
-    let verdict = to_verdict(alloc, &linear, &given);
-    drop(linear);
+    let verdict = to_verdict(alloc, linear, &given);
     drop(given);
     end(desk, verdict)
 }

@@ -10,8 +10,8 @@ use Rattle.linear_program.specs.Coefs.{Term, coef_in}
 use Rattle.linear_program.specs.Numbers.{Pair, spread}
 use Rattle.dual_bounds.specs.Leaves.{HasRows, IsOver}
 use Rattle.dual_bounds.specs.Lists.{bounds_in, form_of}
-use Rattle.dual_bounds.specs.Programs.{asked, program_of}
-use Rattle.dual_bounds.specs.declared.columns.Columns.{Columns}
+use Rattle.dual_bounds.specs.Programs.{asked, linear_of}
+use Rattle.dual_bounds.specs.declared.program.Program.{Program}
 use Rattle.dual_bounds.specs.declared.form.Row.{Row}
 use Rattle.dual_bounds.specs.declared.verdict.Goal.TheVariants.{Objective, Zero}
 use Rattle.certificate_walk.specs.InsidePaths.{IsAt, IsPath, Turn, last_of, part_under, sides_of}
@@ -25,7 +25,7 @@ use Rattle.certificate_walk.proofs.Overs.{HasGoal, IsPartHeld, path_held, maximi
 goals_alike : (g f : Linear) (o u : Form) (m n : Bool) → AreAlike g f → AreAlike (record g { objective = o; maximise = m }) (record f { objective = u; maximise = n })
 goals_alike g f o u m n h = record { rows = h.rows; variables = h.variables; row = h.row }
 
-over_goal : (c : Columns) (rows : List Row) (f : Linear) (o : Form) (m : Bool) → HasRows c rows f → o ≡ form_of c.objective → m ≡ c.maximise → IsOver c rows (record f { objective = o; maximise = m })
+over_goal : (c : Program) (rows : List Row) (f : Linear) (o : Form) (m : Bool) → HasRows c rows f → o ≡ form_of c.objective → m ≡ c.maximise → IsOver c rows (record f { objective = o; maximise = m })
 over_goal c rows f o m h objective maximise =
     record {
       rows = h.rows;
@@ -35,9 +35,9 @@ over_goal c rows f o m h objective maximise =
       maximise = maximise;
     }
 
-module _ (c : Columns) (v : ℚ) (turns : List Turn) (path : Path) (at : IsAt (whole_part (program_of c) v) turns path) (fine : IsPath (length c.columns.items) path) where
+module _ (c : Program) (v : ℚ) (turns : List Turn) (path : Path) (at : IsAt (whole_part (linear_of c) v) turns path) (fine : IsPath (length c.lower.items) path) where
   abbrev here : Part
-  here = part_under (whole_part (program_of c) v) turns
+  here = part_under (whole_part (linear_of c) v) turns
 
   held : IsPartHeld c v (sides_of path) here
   held = path_held c v turns path at fine
@@ -47,17 +47,17 @@ module _ (c : Columns) (v : ℚ) (turns : List Turn) (path : Path) (at : IsAt (w
 
   -- ---- the sense and the value of the part
   module _ (l : Lemma) (last : last_of path.lemmas.items ≡ Some l) where
-    pub lemma_sense : (part_under (whole_part (program_of c) v) turns).program.maximise ≡ true
+    pub lemma_sense : (part_under (whole_part (linear_of c) v) turns).program.maximise ≡ true
     lemma_sense = (goal_here (Some l) last).1
 
-    pub lemma_value : (part_under (whole_part (program_of c) v) turns).value ≡ frac_value l.most
+    pub lemma_value : (part_under (whole_part (linear_of c) v) turns).value ≡ frac_value l.most
     lemma_value = (goal_here (Some l) last).2
 
   module _ (last : last_of path.lemmas.items ≡ None) where
-    pub own_sense : (part_under (whole_part (program_of c) v) turns).program.maximise ≡ c.maximise
+    pub own_sense : (part_under (whole_part (linear_of c) v) turns).program.maximise ≡ c.maximise
     own_sense = (goal_here None last).1
 
-    pub own_value : (part_under (whole_part (program_of c) v) turns).value ≡ v
+    pub own_value : (part_under (whole_part (linear_of c) v) turns).value ≡ v
     own_value = (goal_here None last).2
 
   -- ---- the bound
@@ -73,7 +73,7 @@ module _ (c : Columns) (v : ℚ) (turns : List Turn) (path : Path) (at : IsAt (w
 
     pub sum_here : (l : Lemma) → last_of path.lemmas.items ≡ Some l → (ts : List Term) → ts ≡ l.terms.items
         → ((f : Linear) → HasRows c rows f → b ≡ dual_bound (maximising f (record { constant = zero_ℚ; coefficient = coef_in ts })) (bounds_in lo hi) (spread (row_count f) ps))
-        → b ≡ bound_in (part_under (whole_part (program_of c) v) turns) Objective ps
+        → b ≡ bound_in (part_under (whole_part (linear_of c) v) turns) Objective ps
     sum_here l last ts terms q =
         let form : Form = record { constant = zero_ℚ; coefficient = coef_in ts } in
         q held.rows.same rows_held
@@ -82,7 +82,7 @@ module _ (c : Columns) (v : ℚ) (turns : List Turn) (path : Path) (at : IsAt (w
 
     pub objective_here : last_of path.lemmas.items ≡ None
         → ((f : Linear) → IsOver c rows f → b ≡ dual_bound (asked Objective f) (bounds_in lo hi) (spread (row_count f) ps))
-        → b ≡ bound_in (part_under (whole_part (program_of c) v) turns) Objective ps
+        → b ≡ bound_in (part_under (whole_part (linear_of c) v) turns) Objective ps
     objective_here last q =
         let o = here.program.objective in
         let m = here.program.maximise in
@@ -90,7 +90,7 @@ module _ (c : Columns) (v : ℚ) (turns : List Turn) (path : Path) (at : IsAt (w
         ∙ moved (record held.rows.same { objective = o; maximise = m }) here.program (goals_alike held.rows.same here.program o o m m held.rows.alike) refl refl
 
     pub zero_here : ((f : Linear) → IsOver c rows f → b ≡ dual_bound (asked Zero f) (bounds_in lo hi) (spread (row_count f) ps))
-        → b ≡ bound_in (part_under (whole_part (program_of c) v) turns) Zero ps
+        → b ≡ bound_in (part_under (whole_part (linear_of c) v) turns) Zero ps
     zero_here q =
         let o = form_of c.objective in
         let of = record held.rows.same { objective = o; maximise = c.maximise } in

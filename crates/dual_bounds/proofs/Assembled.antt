@@ -1,4 +1,4 @@
--- Columns that are put together from a linear program.
+-- Rows and columns that are put together from a linear program.
 use Rattle.std.proofs.Common.{◌≡◌, ℕ, ◌+◌, ◌≤◌, arith, ◌^◌, ◌∙◌, sym, ap, ap₂, subst, Bool, List, length, map, Option}
 use Rattle.std.specs.Global.{Vec}
 use Rattle.std.specs.Prelude.{slice_get}
@@ -12,7 +12,7 @@ use Rattle.linear_program.specs.Programs.{IsLinear, LinearValue, linear_value}
 use Rattle.dual_bounds.specs.declared.form.Body.{Body}
 use Rattle.dual_bounds.specs.declared.form.Row.{Row}
 use Rattle.dual_bounds.specs.Built.{AreColumnsOf, AreCostsOf, AreRowsOf, AreWithin, IsCopy}
-use Rattle.dual_bounds.specs.Lists.{AreSound}
+use Rattle.dual_bounds.specs.Lists.{AreSound, AreTransposed}
 use Rattle.dual_bounds.specs.Programs.{form_of, program_row, program_variable}
 use Rattle.dual_bounds.specs.Terms.{AreTerms}
 use Rattle.dual_bounds.proofs.Copied.{are_terms, copy_is, rows_are, rows_count, variables_are}
@@ -24,55 +24,51 @@ objective_within l objective bounds folded copy up e =
     subst (λ n. AreTerms 0 n objective.terms.items) (sym e)
     (are_terms 0 (length l.bounds) objective.terms.items up (subst (AreBelow (length l.bounds)) (sym copy.terms) folded.objective))
 
-module _ (l : LinearValue) (folded : IsLinear l) (rows : List Row) (columns : List (Vec Term)) (costs : List Frac) (objective : Body) (n : ℕ) (width : n ≡ length l.bounds)
-    (copies : AreRowsOf l.bodies l.sides rows) (within : AreWithin (length l.bounds) rows) (by_column : AreColumnsOf n rows columns) (priced : AreCostsOf n objective.terms.items costs)
-    (copy : IsCopy l.objective objective) (up : AreAscending 0 objective.terms.items) where
-  columns_count : length columns ≡ length l.bounds
-  columns_count = by_column.count ∙ width
+module _ (l : LinearValue) (folded : IsLinear l) (rows : List Row) (objective : Body) (lower upper : List (Option Dec)) (copies : AreRowsOf l.bodies l.sides rows) (within : AreWithin (length l.bounds) rows) (copy : IsCopy l.objective objective)
+    (up : AreAscending 0 objective.terms.items) (lows : lower ≡ map (λ b. b.lo) l.bounds) (highs : upper ≡ map (λ b. b.hi) l.bounds) where
+  lower_count : length lower ≡ length l.bounds
+  lower_count = ap length lows ∙ length-map l.bounds (λ b. b.lo)
 
-  pub costed : length costs ≡ length columns
-  costed = priced.count ∙ sym by_column.count
+  pub upper_count : length upper ≡ length lower
+  upper_count = ap length highs ∙ length-map l.bounds (λ b. b.hi) ∙ sym lower_count
 
-  pub sound : AreSound rows columns costs objective
+  pub sound : AreSound (length lower) rows objective
   sound =
-      let below = subst (λ m. AreWithin m rows) (sym width) within in
       record {
         few_rows = subst (λ m. m ≤ 2 ^ 20) (sym (rows_count l.bodies l.sides rows copies)) folded.few_rows;
-        few_columns = subst (λ m. m ≤ 2 ^ 20) (sym columns_count) folded.few_columns;
-        objective_terms = objective_within l objective (length columns) folded copy up columns_count;
-        rows_terms = subst (λ m. AreWithin m rows) (sym columns_count) within;
-        columns_terms = columns_terms n rows columns below by_column;
-        priced = priced.values;
-        same = columns_same n rows columns below by_column;
+        few_columns = subst (λ m. m ≤ 2 ^ 20) (sym lower_count) folded.few_columns;
+        objective_terms = objective_within l objective (length lower) folded copy up lower_count;
+        rows_terms = subst (λ m. AreWithin m rows) (sym lower_count) within;
       }
 
-  module _ (lower upper : List (Option Dec)) (lows : lower ≡ map (λ b. b.lo) l.bounds) (highs : upper ≡ map (λ b. b.hi) l.bounds) where
-    pub lower_count : length lower ≡ length columns
-    lower_count = ap length lows ∙ length-map l.bounds (λ b. b.lo) ∙ sym columns_count
+  pub program_is : (kinds : List Kind) (max : Bool) → kinds ≡ l.kinds → max ≡ l.maximise →
+      record {
+        rows = elements_from (program_row rows) 0 (length rows);
+        variables = elements_from (program_variable lower upper kinds) 0 (length lower);
+        objective = form_of objective;
+        maximise = max;
+      }
+      ≡ linear_value l
+  unfolding linear_value
+  program_is kinds max same sense =
+      let variables =
+      ap₂ (λ lo hi. elements_from (program_variable lo hi kinds) 0 (length lower)) lows highs
+      ∙ ap₂ (λ ks m. elements_from (program_variable (map (λ b. b.lo) l.bounds) (map (λ b. b.hi) l.bounds) ks) 0 m) same lower_count
+      ∙ variables_are l.bounds l.kinds folded.kinds in
+      let all = rows_are (length l.bounds) rows 0 l.bodies l.sides rows folded.bodies copies (λ k r at. let same : 0 + k ≡ k = omega arith in ap (slice_get rows) same ∙ at) in
+      λ q. record {
+        rows = all q;
+        variables = variables q;
+        objective = copy_is l.objective objective copy q;
+        maximise = sense q;
+      }
 
-    pub upper_count : length upper ≡ length columns
-    upper_count = ap length highs ∙ length-map l.bounds (λ b. b.hi) ∙ sym columns_count
-
-    pub program_is : (kinds : List Kind) (max : Bool) → kinds ≡ l.kinds → max ≡ l.maximise →
-        record {
-          rows = elements_from (program_row rows) 0 (length rows);
-          variables = elements_from (program_variable lower upper kinds) 0 (length columns);
-          objective = form_of objective;
-          maximise = max;
-        }
-        ≡ linear_value l
-    unfolding linear_value
-    program_is kinds max same sense =
-        let variables =
-        ap₂ (λ lo hi. elements_from (program_variable lo hi kinds) 0 (length columns)) lows highs
-        ∙ ap₂ (λ ks m. elements_from (program_variable (map (λ b. b.lo) l.bounds) (map (λ b. b.hi) l.bounds) ks) 0 m) same columns_count
-        ∙ variables_are l.bounds l.kinds folded.kinds in
-        let all = rows_are (length l.bounds) rows 0 l.bodies l.sides rows folded.bodies copies (λ k r at. let same : 0 + k ≡ k = omega arith in ap (slice_get rows) same ∙ at) in
-        λ q. record {
-          rows = all q;
-          variables = variables q;
-          objective = copy_is l.objective objective copy q;
-          maximise = sense q;
-        }
+pub columns_are : (n : ℕ) (rows : List Row) (columns : List (Vec Term)) (costs : List Frac) (objective : Body) → AreSound n rows objective → AreColumnsOf n rows columns → AreCostsOf n objective.terms.items costs → AreTransposed rows columns costs objective
+columns_are n rows columns costs objective sound by_column priced =
+    record {
+      columns_terms = columns_terms n rows columns sound.rows_terms by_column;
+      priced = priced.values;
+      same = columns_same n rows columns sound.rows_terms by_column;
+    }
 
 pub ruleset assembled = (objective_within, program_is, rows_count)

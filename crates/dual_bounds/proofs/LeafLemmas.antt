@@ -12,7 +12,7 @@ use Rattle.duality.specs.Verdict.{Fault as Cause, BoundVerdict as Answer, at_cos
 use Rattle.exact_numbers.specs.Values.{frac_value}
 use Rattle.linear_program.specs.Coefs.{Term, coef_in}
 use Rattle.linear_program.specs.Numbers.{Pair, spread}
-use Rattle.dual_bounds.specs.declared.columns.Columns.{Columns}
+use Rattle.dual_bounds.specs.declared.program.Program.{Program}
 use Rattle.dual_bounds.specs.declared.form.Row.{Row}
 use Rattle.dual_bounds.specs.declared.verdict.Goal.{Goal}
 use Rattle.dual_bounds.specs.declared.verdict.Goal.TheVariants.{Objective, Zero}
@@ -44,12 +44,12 @@ pub side_lacks : (f : Linear) (box : Box) (ys : List ℚ) (g : Cause) → Some g
 unfolding dual_bound dual_fault
 side_lacks f box ys g e = ap (λ o. bound_or_fault (option_or o (first_fault (cost_fault f box (value_at ys)) (variable_count f))) (bound_total f box (value_at ys))) e
 
-pub bound_is : (c : Columns) (planes : List Row) (f : Linear) (held : HasRows c planes f) (max : Bool) (constant : ℚ) (terms : List Term) (goal : IsGoal max constant terms f) (box : Box) (ps : List Pair) (start costs : ℕ → Option ℚ) (n : ℕ) (v : Answer)
+pub bound_is : (c : Program) (planes : List Row) (f : Linear) (held : HasRows c planes f) (max : Bool) (constant : ℚ) (terms : List Term) (goal : IsGoal max constant terms f) (box : Box) (ps : List Pair) (start costs : ℕ → Option ℚ) (n : ℕ) (v : Answer)
     → AreIndices 0 (length c.rows.items + length planes) ps
     → None ≡ first_fault (side_fault f (value_at (spread (row_count f) ps))) (row_count f)
     → ((j : ℕ) → start j ≡ Some (coef_in terms j))
     → ((j : ℕ) → costs j ≡ run_pairs (cost_act f j) (start j) ps)
-    → n ≡ length c.columns.items
+    → n ≡ length c.lower.items
     → v ≡ bound_by f box (value_at (spread (row_count f) ps)) costs n
     → v ≡ dual_bound f box (spread (row_count f) ps)
 bound_is c planes f held max constant terms goal box ps start costs n v ok none starts taken count h =
@@ -67,10 +67,10 @@ bound_is c planes f held max constant terms goal box ps start costs n v ok none 
         ∙ sym (cost_paired c planes f held ps ok j (ap fits (sym (coefficient j)) ∙ coef_fits terms j))
 
 -- the held program with a goal, and with a sum to be maximised
-pub rows_asked : (c : Columns) (planes : List Row) (f : Linear) (goal : Goal) → IsOver c planes f → HasRows c planes (asked goal f)
+pub rows_asked : (c : Program) (planes : List Row) (f : Linear) (goal : Goal) → IsOver c planes f → HasRows c planes (asked goal f)
 rows_asked c planes f goal over = record { rows = over.rows; row = λ i r at. let h = over.row i r at in record { body = h.body; side = h.side; terms = h.terms }; variables = over.variables }
 
-pub rows_maximised : (c : Columns) (planes : List Row) (f : Linear) (form : Form) → HasRows c planes f → HasRows c planes (maximising f form)
+pub rows_maximised : (c : Program) (planes : List Row) (f : Linear) (form : Form) → HasRows c planes f → HasRows c planes (maximising f form)
 rows_maximised c planes f form held = record { rows = held.rows; row = λ i r at. let h = held.row i r at in record { body = h.body; side = h.side; terms = h.terms }; variables = held.variables }
 
 -- a sum without terms
@@ -81,7 +81,7 @@ no_terms n = tt
 pub zero_goal : (f : Linear) (z : ℚ) → z ≡ zero_ℚ → IsGoal false z [] (asked Zero f)
 zero_goal f z e = record { sense = refl; sum = ap (λ (x : ℚ). record { constant = x; coefficient = λ j. zero_ℚ }) (sym e) }
 
-pub own_goal : (c : Columns) (planes : List Row) (f : Linear) → IsOver c planes f → IsGoal c.maximise (frac_value c.objective.constant) c.objective.terms.items (asked Objective f)
+pub own_goal : (c : Program) (planes : List Row) (f : Linear) → IsOver c planes f → IsGoal c.maximise (frac_value c.objective.constant) c.objective.terms.items (asked Objective f)
 own_goal c planes f over = record { sense = over.maximise; sum = over.objective }
 
 pub sum_goal : (f : Linear) (terms : List Term) (z : ℚ) → z ≡ zero_ℚ → IsGoal true z terms (maximising f (record { constant = zero_ℚ; coefficient = coef_in terms }))

@@ -17,7 +17,7 @@ use Rattle.exact_numbers.specs.declared.frac.Frac.{Frac}
 use Rattle.linear_program.specs.Intervals.{interval_of}
 use Rattle.linear_program.specs.Coefs.{Term, coef_in, found, value_or_zero}
 use Rattle.linear_program.specs.Numbers.{Pair, spread, number_value}
-use Rattle.dual_bounds.specs.declared.columns.Columns.{Columns}
+use Rattle.dual_bounds.specs.declared.program.Program.{Program}
 use Rattle.dual_bounds.specs.declared.costs.Costs.{Costs}
 use Rattle.dual_bounds.specs.declared.form.Row.{Row}
 use Rattle.dual_bounds.specs.Built.{AreWithin}
@@ -34,7 +34,7 @@ append_cases [] ys i x h = inr (i, h)
 append_cases (z ∷ xs) ys zero x h = inl h
 append_cases (z ∷ xs) ys (suc i) x h = append_cases xs ys i x h
 
-pub terms_of_row : (c : Columns) (planes : List Row) (i : ℕ) (r : Row) → AreWithin (length c.columns.items) planes → slice_get (c.rows.items ++ planes) i ≡ Some r → AreTerms 0 (length c.columns.items) r.body.terms.items
+pub terms_of_row : (c : Program) (planes : List Row) (i : ℕ) (r : Row) → AreWithin (length c.lower.items) planes → slice_get (c.rows.items ++ planes) i ≡ Some r → AreTerms 0 (length c.lower.items) r.body.terms.items
 terms_of_row c planes i r fine at =
     ⊎_elim
     (λ (a : slice_get c.rows.items i ≡ Some r). c.sound.rows_terms i r a)
@@ -83,7 +83,7 @@ coef_fits ts j = by (found ts j)
     by (Some f) = frac_fits_lem f
 
 -- ---- a program over such rows
-module _ (c : Columns) (planes : List Row) (f : Linear) (held : HasRows c planes f) where
+module _ (c : Program) (planes : List Row) (f : Linear) (held : HasRows c planes f) where
   rows_counted : length c.rows.items + length planes ≡ row_count f
   rows_counted = sym (length-append c.rows.items planes) ∙ sym held.rows
 
@@ -123,12 +123,12 @@ module _ (c : Columns) (planes : List Row) (f : Linear) (held : HasRows c planes
         ∙ ap (λ x. option_and_then (lessened x (coef_in r.body.terms.items j)) o) (sym e)
 
 -- ---- the loop over the sides
-pub record OnSides (c : Columns) (planes : List Row) (max : Bool) (ps : List Pair) (k : ℕ) : Type 0 where
+pub record OnSides (c : Program) (planes : List Row) (max : Bool) (ps : List Pair) (k : ℕ) : Type 0 where
   from : ℕ
   fine : AreIndices from (length c.rows.items + length planes) (drop k ps)
   rest : (f : Linear) → HasRows c planes f → f.maximise ≡ max → first_fault (side_fault f (value_at (spread (row_count f) ps))) (row_count f) ≡ first_in (side_act f) (drop k ps)
 
-module _ (c : Columns) (planes : List Row) (max : Bool) (ps : List Pair) where
+module _ (c : Program) (planes : List Row) (max : Bool) (ps : List Pair) where
   pub sides_begin : AreIndices 0 (length c.rows.items + length planes) ps → OnSides c planes max ps 0
   sides_begin ok = record { from = 0; fine = ok; rest = λ f held sense. sides_paired c planes f held ps ok }
 
@@ -159,12 +159,12 @@ module _ (c : Columns) (planes : List Row) (max : Bool) (ps : List Pair) where
             }
 
 -- ---- the loop over the parts of the rows
-pub record OnTotal (c : Columns) (planes : List Row) (max : Bool) (start : ℚ) (ps : List Pair) (k : ℕ) (s : ℚ) : Type 0 where
+pub record OnTotal (c : Program) (planes : List Row) (max : Bool) (start : ℚ) (ps : List Pair) (k : ℕ) (s : ℚ) : Type 0 where
   from : ℕ
   fine : AreIndices from (length c.rows.items + length planes) (drop k ps)
   rest : (f : Linear) → HasRows c planes f → f.maximise ≡ max → run (row_part f (value_at (spread (row_count f) ps))) start (row_count f) ≡ run_pairs (row_act f) (Some s) (drop k ps)
 
-module _ (c : Columns) (planes : List Row) (max : Bool) (start : ℚ) (ps : List Pair) where
+module _ (c : Program) (planes : List Row) (max : Bool) (start : ℚ) (ps : List Pair) where
   abbrev RowsTotal : Linear → Option ℚ
   RowsTotal f = run (row_part f (value_at (spread (row_count f) ps))) start (row_count f)
 
@@ -198,17 +198,17 @@ module _ (c : Columns) (planes : List Row) (max : Bool) (start : ℚ) (ps : List
             }
 
 -- ---- the loop over the costs
-pub record OnTaken (c : Columns) (planes : List Row) (ps : List Pair) (old now : Costs) (k : ℕ) : Type 0 where
+pub record OnTaken (c : Program) (planes : List Row) (ps : List Pair) (old now : Costs) (k : ℕ) : Type 0 where
   pub kept : AreKept now
   pub count : cost_count now ≡ cost_count old
   from : ℕ
   fine : AreIndices from (length c.rows.items + length planes) (drop k ps)
   rest : (f : Linear) → HasRows c planes f → (j : ℕ) → run_pairs (cost_act f j) (cost_in now j) (drop k ps) ≡ run_pairs (cost_act f j) (cost_in old j) ps
 
-pub taken_begins : (c : Columns) (planes : List Row) (ps : List Pair) (old : Costs) → AreKept old → AreIndices 0 (length c.rows.items + length planes) ps → OnTaken c planes ps old old 0
+pub taken_begins : (c : Program) (planes : List Row) (ps : List Pair) (old : Costs) → AreKept old → AreIndices 0 (length c.rows.items + length planes) ps → OnTaken c planes ps old old 0
 taken_begins c planes ps old kept ok = record { kept = kept; count = refl; from = 0; fine = ok; rest = λ f held j. refl }
 
-module _ (c : Columns) (planes : List Row) (ps : List Pair) (old now : Costs) (k : ℕ) (on : OnTaken c planes ps old now k) where
+module _ (c : Program) (planes : List Row) (ps : List Pair) (old now : Costs) (k : ℕ) (on : OnTaken c planes ps old now k) where
   pub taken_ends : length ps ≤ k → (f : Linear) → HasRows c planes f → (j : ℕ) → cost_in now j ≡ run_pairs (cost_act f j) (cost_in old j) ps
   taken_ends l f held j = sym (ap (run_pairs (cost_act f j) (cost_in now j)) (drop_all k ps l)) ∙ on.rest f held j
 

@@ -23,10 +23,11 @@ use Rattle.linear_program.specs.declared.kind.Kind.TheVariants.{Continuous}
 use Rattle.linear_program.specs.Coefs.{Term, coef_in}
 use Rattle.dual_bounds.specs.declared.form.Row.{Row}
 use Rattle.dual_bounds.specs.declared.columns.Columns.{Columns}
+use Rattle.dual_bounds.specs.declared.program.Program.{Program}
 use Rattle.dual_bounds.specs.declared.verdict.Goal.{Goal}
 use Rattle.dual_bounds.specs.declared.verdict.Goal.TheVariants.{Objective, Zero}
 use Rattle.dual_bounds.specs.InsideCosts.{column_step, column_cost}
-use Rattle.dual_bounds.specs.Programs.{form_of, body_in, side_in, side_listed, bounds_in, program_row, program_variable, program_of, asked, goal_form, goal_cost}
+use Rattle.dual_bounds.specs.Programs.{form_of, body_in, side_in, side_listed, bounds_in, program_row, program_variable, linear_of, program_of, asked, goal_form, goal_cost}
 use Rattle.dual_bounds.specs.Terms.{AreTerms, side_value, values_of}
 use Rattle.dual_bounds.proofs.Points.{point_of, point_at, count_of_values}
 
@@ -34,13 +35,13 @@ abbrev constant_part : Form → ℚ
 constant_part b = b.constant
 
 -- ---- counts
-pub rows_counted : (c : Columns) → row_count (program_of c) ≡ length c.rows.items
-unfolding program_of
+pub rows_counted : (c : Program) → row_count (linear_of c) ≡ length c.rows.items
+unfolding linear_of
 rows_counted c = elements_length (program_row c.rows.items) 0 (length c.rows.items)
 
-pub variables_counted : (c : Columns) → variable_count (program_of c) ≡ length c.columns.items
-unfolding program_of
-variables_counted c = elements_length (program_variable c.lower.items c.upper.items c.kinds.items) 0 (length c.columns.items)
+pub variables_counted : (c : Program) → variable_count (linear_of c) ≡ length c.lower.items
+unfolding linear_of
+variables_counted c = elements_length (program_variable c.lower.items c.upper.items c.kinds.items) 0 (length c.lower.items)
 
 -- ---- elements
 element_at : {A : Type 0} (g : ℕ → A) (n i : ℕ) (d : A) → i < n → get_or (elements_from g 0 n) i d ≡ g i
@@ -58,39 +59,39 @@ side_of_row : (rows : List Row) (i : ℕ) (r : Row) → slice_get rows i ≡ Som
 unfolding side_in
 side_of_row rows i r h = ap (λ o. option_map_or (λ (r : Row). interval_of r.side) o unbounded) h
 
-module _ (c : Columns) (i : ℕ) (r : Row) (at : slice_get c.rows.items i ≡ Some r) where
-  row_here : get_or (program_of c).rows i no_row ≡ program_row c.rows.items i
-  unfolding program_of
+module _ (c : Program) (i : ℕ) (r : Row) (at : slice_get c.rows.items i ≡ Some r) where
+  row_here : get_or (linear_of c).rows i no_row ≡ program_row c.rows.items i
+  unfolding linear_of
   row_here = element_at (program_row c.rows.items) (length c.rows.items) i no_row (slice_get_within c.rows.items i r at)
 
-  pub body_here : (row_at (program_of c) i).body ≡ form_of r.body
+  pub body_here : (row_at (linear_of c) i).body ≡ form_of r.body
   body_here = ap (λ (x : LinearRow). x.body) row_here ∙ body_listed c.rows.items i r at
 
-  pub side_here : (row_at (program_of c) i).side ≡ interval_of r.side
+  pub side_here : (row_at (linear_of c) i).side ≡ interval_of r.side
   side_here = ap (λ (x : LinearRow). x.side) row_here ∙ side_of_row c.rows.items i r at
 
-pub bound_here : (c : Columns) (j : ℕ) → j < length c.columns.items → bounds_of (program_of c) j ≡ bounds_in c.lower.items c.upper.items j
-unfolding program_of
-bound_here c j l = ap (λ (x : Variable). x.bound) (element_at (program_variable c.lower.items c.upper.items c.kinds.items) (length c.columns.items) j no_variable l)
+pub bound_here : (c : Program) (j : ℕ) → j < length c.lower.items → bounds_of (linear_of c) j ≡ bounds_in c.lower.items c.upper.items j
+unfolding linear_of
+bound_here c j l = ap (λ (x : Variable). x.bound) (element_at (program_variable c.lower.items c.upper.items c.kinds.items) (length c.lower.items) j no_variable l)
 
-pub whole_here : (c : Columns) (j : ℕ) → j < length c.columns.items → is_whole_kind (get_or c.kinds.items j Continuous) ≡ (variable_at (program_of c) j).whole
-unfolding program_of
-whole_here c j l = sym (ap (λ (x : Variable). x.whole) (element_at (program_variable c.lower.items c.upper.items c.kinds.items) (length c.columns.items) j no_variable l))
+pub whole_here : (c : Program) (j : ℕ) → j < length c.lower.items → is_whole_kind (get_or c.kinds.items j Continuous) ≡ (variable_at (linear_of c) j).whole
+unfolding linear_of
+whole_here c j l = sym (ap (λ (x : Variable). x.whole) (element_at (program_variable c.lower.items c.upper.items c.kinds.items) (length c.lower.items) j no_variable l))
 
-past_bound : (c : Columns) (j : ℕ) → length c.columns.items ≤ j → bounds_in c.lower.items c.upper.items j ≡ bounds_of (program_of c) j
-unfolding program_of side_listed
+past_bound : (c : Program) (j : ℕ) → length c.lower.items ≤ j → bounds_in c.lower.items c.upper.items j ≡ bounds_of (linear_of c) j
+unfolding linear_of side_listed
 past_bound c j l =
     ap₂ (λ a b. record { lower = option_map_or side_value a None; upper = option_map_or side_value b None })
-    (slice_get_past c.lower.items j (subst (λ n. n ≤ j) (sym c.lowers) l))
+    (slice_get_past c.lower.items j l)
     (slice_get_past c.upper.items j (subst (λ n. n ≤ j) (sym c.uppers) l))
-    ∙ ap (λ (x : Variable). x.bound) (sym (get_or_past (program_of c).variables j no_variable (subst (λ n. n ≤ j) (sym (variables_counted c)) l)))
+    ∙ ap (λ (x : Variable). x.bound) (sym (get_or_past (linear_of c).variables j no_variable (subst (λ n. n ≤ j) (sym (variables_counted c)) l)))
 
 -- the bounds of the program are the lists' own, also past the last variable
-pub own_bounds : (c : Columns) → bounds_in c.lower.items c.upper.items ≡ bounds_of (program_of c)
+pub own_bounds : (c : Program) → bounds_in c.lower.items c.upper.items ≡ bounds_of (linear_of c)
 own_bounds c = λ q j. by j q
   where
-    by : (j : ℕ) → bounds_in c.lower.items c.upper.items j ≡ bounds_of (program_of c) j
-    by j = ⊎_elim (λ (l : j < length c.columns.items). sym (bound_here c j l)) (past_bound c j) (cases_lt j (length c.columns.items))
+    by : (j : ℕ) → bounds_in c.lower.items c.upper.items j ≡ bounds_of (linear_of c) j
+    by j = ⊎_elim (λ (l : j < length c.lower.items). sym (bound_here c j l)) (past_bound c j) (cases_lt j (length c.lower.items))
 
 pub side_at_index : (xs : List (Option Dec)) (j : ℕ) (o : Option Dec) → slice_get xs j ≡ Some o → side_listed xs j ≡ side_value o
 unfolding side_listed
@@ -104,38 +105,38 @@ pub bounds_read : (lo hi : List (Option Dec)) (j : ℕ) (a b : Option Dec) → j
 bounds_read lo hi j a b l e k f = ap₂ (λ v w. record { lower = v; upper = w }) (side_read lo j a l e) (side_read hi j b k f)
 
 -- ---- the rows at a point
-module _ (c : Columns) (xs : List Dec) (len : length xs ≡ length c.columns.items) (i : ℕ) (r : Row) (at : slice_get c.rows.items i ≡ Some r) where
+module _ (c : Program) (xs : List Dec) (len : length xs ≡ length c.lower.items) (i : ℕ) (r : Row) (at : slice_get c.rows.items i ≡ Some r) where
   pub row_terms : AreTerms 0 (length xs) r.body.terms.items
   row_terms = subst (λ n. AreTerms 0 n r.body.terms.items) (sym len) (c.sound.rows_terms i r at)
 
-  pub row_fault_is : (o : Option ℚ) (f : Option Cause) → o ≡ run_form (length xs) (form_of r.body) (point_of xs) → f ≡ row_check i (interval_of r.side) o → f ≡ row_fault (program_of c) (point_of xs) i
+  pub row_fault_is : (o : Option ℚ) (f : Option Cause) → o ≡ run_form (length xs) (form_of r.body) (point_of xs) → f ≡ row_check i (interval_of r.side) o → f ≡ row_fault (linear_of c) (point_of xs) i
   unfolding row_fault
   row_fault_is o f e h =
       h
       ∙ ap₂ (row_check i) (sym (side_here c i r at))
       (e ∙ ap₂ (λ n b. run_form n b (point_of xs)) (len ∙ sym (variables_counted c)) (sym (body_here c i r at)))
 
-module _ (c : Columns) (xs : List Dec) (len : length xs ≡ length c.columns.items) (j : ℕ) (d : Dec) (l : j < length xs) (is : d ≡ get_or xs j d) where
-  pub bound_fault_is : (i : Interval) (b : Bool) → i ≡ bounds_in c.lower.items c.upper.items j → b ≡ is_inside (dec_value d) i → (if b then None else Some (bound_broken j)) ≡ bound_fault (program_of c) (point_of xs) j
+module _ (c : Program) (xs : List Dec) (len : length xs ≡ length c.lower.items) (j : ℕ) (d : Dec) (l : j < length xs) (is : d ≡ get_or xs j d) where
+  pub bound_fault_is : (i : Interval) (b : Bool) → i ≡ bounds_in c.lower.items c.upper.items j → b ≡ is_inside (dec_value d) i → (if b then None else Some (bound_broken j)) ≡ bound_fault (linear_of c) (point_of xs) j
   unfolding bound_fault
   bound_fault_is i b h e =
       ap (λ t. if t then None else Some (bound_broken j))
       (e ∙ ap₂ is_inside (sym (point_at xs j d l is)) (h ∙ sym (bound_here c j (subst (λ n. j < n) len l))))
 
 -- ---- the duals
-module _ (c : Columns) (goal : Goal) (max : Bool) (same_sense : max ≡ (asked goal (program_of c)).maximise) (ys : List Dec) (i : ℕ) (r : Row) (at : slice_get c.rows.items i ≡ Some r) (d : Dec) (l : i < length ys) (is : d ≡ get_or ys i d) where
-  pub side_fault_is : (b : Bool) → b ≡ has_needed max (dec_value d) (interval_of r.side) → (if b then None else Some (row_side_missing i)) ≡ side_fault (asked goal (program_of c)) (point_of ys) i
+module _ (c : Program) (goal : Goal) (max : Bool) (same_sense : max ≡ (asked goal (linear_of c)).maximise) (ys : List Dec) (i : ℕ) (r : Row) (at : slice_get c.rows.items i ≡ Some r) (d : Dec) (l : i < length ys) (is : d ≡ get_or ys i d) where
+  pub side_fault_is : (b : Bool) → b ≡ has_needed max (dec_value d) (interval_of r.side) → (if b then None else Some (row_side_missing i)) ≡ side_fault (asked goal (linear_of c)) (point_of ys) i
   side_fault_is b e =
       ap (λ t. if t then None else Some (row_side_missing i))
-      (e ∙ ap (λ m. has_needed m (dec_value d) (interval_of r.side)) same_sense ∙ ap₂ (has_needed (asked goal (program_of c)).maximise) (sym (point_at ys i d l is)) (sym (side_here c i r at)))
+      (e ∙ ap (λ m. has_needed m (dec_value d) (interval_of r.side)) same_sense ∙ ap₂ (has_needed (asked goal (linear_of c)).maximise) (sym (point_at ys i d l is)) (sym (side_here c i r at)))
 
   -- the part of a row in the bound
-  pub row_part_is : (s : ℚ) (o : Option ℚ) → o ≡ row_part_of max (interval_of r.side) (frac_value r.body.constant) s (dec_value d) → o ≡ row_part (asked goal (program_of c)) (point_of ys) s i
+  pub row_part_is : (s : ℚ) (o : Option ℚ) → o ≡ row_part_of max (interval_of r.side) (frac_value r.body.constant) s (dec_value d) → o ≡ row_part (asked goal (linear_of c)) (point_of ys) s i
   row_part_is s o e =
       e
       ∙ ap (λ m. row_part_of m (interval_of r.side) (frac_value r.body.constant) s (dec_value d)) same_sense
-      ∙ ap (λ v. row_part_of (asked goal (program_of c)).maximise (interval_of r.side) (frac_value r.body.constant) s v) (sym (point_at ys i d l is))
-      ∙ ap₂ (λ t b. row_part_of (asked goal (program_of c)).maximise t (constant_part b) s (point_of ys i)) (sym (side_here c i r at)) (sym (body_here c i r at))
+      ∙ ap (λ v. row_part_of (asked goal (linear_of c)).maximise (interval_of r.side) (frac_value r.body.constant) s v) (sym (point_at ys i d l is))
+      ∙ ap₂ (λ t b. row_part_of (asked goal (linear_of c)).maximise t (constant_part b) s (point_of ys i)) (sym (side_here c i r at)) (sym (body_here c i r at))
 
 -- runs whose steps agree
 and_then_alike : (f g : ℚ → Option ℚ) (o : Option ℚ) → ((s : ℚ) → f s ≡ g s) → option_and_then f o ≡ option_and_then g o
@@ -148,25 +149,25 @@ run_same f g start zero h = refl
 run_same f g start (suc n) h = and_then_alike (λ s. f s n) (λ s. g s n) (run f start n) (λ s. h s n (omega arith)) ∙ ap (option_and_then (λ s. g s n)) (run_same f g start n (λ s i l. h s i (omega arith)))
 
 -- the coefficient of a variable in the goal
-cost_is : (c : Columns) (goal : Goal) (j : ℕ) (v : Frac) → slice_get c.costs.items j ≡ Some v → goal_cost goal v ≡ (goal_form goal (form_of c.objective)).coefficient j
-cost_is c Objective j v at = c.sound.priced j v at
+cost_is : (c : Columns) (goal : Goal) (j : ℕ) (v : Frac) → slice_get c.costs.items j ≡ Some v → goal_cost goal v ≡ (goal_form goal (form_of c.program.objective)).coefficient j
+cost_is c Objective j v at = c.transposed.priced j v at
 cost_is c Zero j v at = refl
 
-body_within : (c : Columns) (i : ℕ) → i < length c.rows.items → (row_at (program_of c) i).body ≡ body_in c.rows.items i
-unfolding program_of
+body_within : (c : Program) (i : ℕ) → i < length c.rows.items → (row_at (linear_of c) i).body ≡ body_in c.rows.items i
+unfolding linear_of
 body_within c i l = ap (λ (x : LinearRow). x.body) (element_at (program_row c.rows.items) (length c.rows.items) i no_row l)
 
 -- a column's coefficient in a row of the program
-coefficient_is : (c : Columns) (i j : ℕ) (k : Vec Term) → slice_get c.columns.items j ≡ Some k → i < length c.rows.items → coef_in k.items i ≡ (row_at (program_of c) i).body.coefficient j
-coefficient_is c i j k at l = c.sound.same i j k at ∙ ap (λ (b : Form). b.coefficient j) (sym (body_within c i l))
+coefficient_is : (c : Columns) (i j : ℕ) (k : Vec Term) → slice_get c.columns.items j ≡ Some k → i < length c.program.rows.items → coef_in k.items i ≡ (row_at (program_of c) i).body.coefficient j
+coefficient_is c i j k at l = c.transposed.same i j k at ∙ ap (λ (b : Form). b.coefficient j) (sym (body_within c.program i l))
 
-module _ (c : Columns) (goal : Goal) (ys : List Dec) (len : length ys ≡ length c.rows.items) (j : ℕ) (k : Vec Term) (at : slice_get c.columns.items j ≡ Some k) where
+module _ (c : Columns) (goal : Goal) (ys : List Dec) (len : length ys ≡ length c.program.rows.items) (j : ℕ) (k : Vec Term) (at : slice_get c.columns.items j ≡ Some k) where
   pub column_terms : AreTerms 0 (length ys) k.items
-  column_terms = subst (λ n. AreTerms 0 n k.items) (sym len) (c.sound.columns_terms j k at)
+  column_terms = subst (λ n. AreTerms 0 n k.items) (sym len) (c.transposed.columns_terms j k at)
 
   module _ (v : Frac) (priced : slice_get c.costs.items j ≡ Some v) (start : ℚ) (starts : start ≡ goal_cost goal v) where
     cost_start : start ≡ (asked goal (program_of c)).objective.coefficient j
-    unfolding program_of
+    unfolding linear_of
     cost_start = starts ∙ cost_is c goal j v priced
 
     pub column_cost_is : column_cost start k.items (values_of ys) ≡ reduced_cost (asked goal (program_of c)) (point_of ys) j
@@ -174,7 +175,7 @@ module _ (c : Columns) (goal : Goal) (ys : List Dec) (len : length ys ≡ length
     column_cost_is =
         run_same (column_step k.items (values_of ys)) (cost_step (asked goal (program_of c)) (point_of ys) j) start (length (values_of ys))
         (λ s i l. ap (λ a. if is_zero a then Some s else option_and_then (λ v. less_product s v a) (fitting (point_of ys i))) (coefficient_is c i j k at (subst (λ n. i < n) (count_of_values ys ∙ len) l)))
-        ∙ ap₂ (λ a n. run (cost_step (asked goal (program_of c)) (point_of ys) j) a n) cost_start (count_of_values ys ∙ len ∙ sym (rows_counted c))
+        ∙ ap₂ (λ a n. run (cost_step (asked goal (program_of c)) (point_of ys) j) a n) cost_start (count_of_values ys ∙ len ∙ sym (rows_counted c.program))
 
 -- ---- the bounds against the reduced costs
 module _ (f : Linear) (box : Box) (y : Numbers) (j : ℕ) (max : Bool) (sense : max ≡ f.maximise) (i : Interval) (bounds : i ≡ box j) where

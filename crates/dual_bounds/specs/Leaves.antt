@@ -7,7 +7,7 @@ use Rattle.duality.specs.Checked.{fitting, less_product}
 use Rattle.linear_program.specs.Intervals.{interval_of}
 use Rattle.linear_program.specs.Coefs.{Term, coef_in}
 use Rattle.linear_program.specs.Numbers.{Pair, number_value}
-use Rattle.dual_bounds.specs.declared.columns.Columns.{Columns}
+use Rattle.dual_bounds.specs.declared.program.Program.{Program}
 use Rattle.dual_bounds.specs.declared.form.Row.{Row}
 use Rattle.dual_bounds.specs.Lists.{form_of}
 use Rattle.dual_bounds.specs.Terms.{AreTerms}
@@ -24,10 +24,10 @@ pub record IsRowAt (f : Linear) (i : ℕ) (r : Row) : Type 0 where
   pub terms : AreTerms 0 (variable_count f) r.body.terms.items
 
 -- the rows that are held, with those of planes after them, are the program's
-pub record HasRows (c : Columns) (planes : List Row) (f : Linear) : Type 0 where
+pub record HasRows (c : Program) (planes : List Row) (f : Linear) : Type 0 where
   pub rows : row_count f ≡ length (c.rows.items ++ planes)
   pub row : (i : ℕ) (r : Row) → slice_get (c.rows.items ++ planes) i ≡ Some r → IsRowAt f i r
-  pub variables : variable_count f ≡ length c.columns.items
+  pub variables : variable_count f ≡ length c.lower.items
 
 -- the goal is this sum, maximised or minimised
 pub record IsGoal (maximise : Bool) (constant : ℚ) (terms : List Term) (f : Linear) : Type 0 where
@@ -35,10 +35,10 @@ pub record IsGoal (maximise : Bool) (constant : ℚ) (terms : List Term) (f : Li
   pub sum : f.objective ≡ record { constant = constant; coefficient = coef_in terms }
 
 -- the program that is held with the rows of planes after its own
-pub record IsOver (c : Columns) (planes : List Row) (f : Linear) : Type 0 where
+pub record IsOver (c : Program) (planes : List Row) (f : Linear) : Type 0 where
   pub rows : row_count f ≡ length (c.rows.items ++ planes)
   pub row : (i : ℕ) (r : Row) → slice_get (c.rows.items ++ planes) i ≡ Some r → IsRowAt f i r
-  pub variables : variable_count f ≡ length c.columns.items
+  pub variables : variable_count f ≡ length c.lower.items
   pub objective : f.objective ≡ form_of c.objective
   pub maximise : f.maximise ≡ c.maximise
 

@@ -34,15 +34,17 @@ side_listed xs j = option_map_or side_value (slice_get xs j) None
 abbrev pub bounds_in : List (Option Dec) → List (Option Dec) → ℕ → Interval
 bounds_in lo hi j = record { lower = side_listed lo j; upper = side_listed hi j }
 
--- rows and columns hold the same coefficients, in order, and none is 0; the costs are the
--- objective's coefficients
-pub record AreSound (rows : List Row) (columns : List (Vec Term)) (costs : List Frac)
-    (objective : Body) : Type 0 where
+-- rows and an objective have coefficients of n variables, in order, and none is 0
+pub record AreSound (n : ℕ) (rows : List Row) (objective : Body) : Type 0 where
   pub few_rows : length rows ≤ 2 ^ 20
-  pub few_columns : length columns ≤ 2 ^ 20
-  pub objective_terms : AreTerms 0 (length columns) objective.terms.items
-  pub rows_terms : (i : ℕ) (r : Row) → slice_get rows i ≡ Some r
-      → AreTerms 0 (length columns) r.body.terms.items
+  pub few_columns : n ≤ 2 ^ 20
+  pub objective_terms : AreTerms 0 n objective.terms.items
+  pub rows_terms : (i : ℕ) (r : Row) → slice_get rows i ≡ Some r → AreTerms 0 n r.body.terms.items
+
+-- columns hold the coefficients of rows, in order, and none is 0; the costs are the objective's
+-- coefficients
+pub record AreTransposed (rows : List Row) (columns : List (Vec Term)) (costs : List Frac)
+    (objective : Body) : Type 0 where
   pub columns_terms : (j : ℕ) (k : Vec Term) → slice_get columns j ≡ Some k
       → AreTerms 0 (length rows) k.items
   pub priced : (j : ℕ) (k : Frac) → slice_get costs j ≡ Some k
@@ -53,6 +55,10 @@ pub record AreSound (rows : List Row) (columns : List (Vec Term)) (costs : List 
 ℚ_set : IsSet ℚ
 ℚ_set = hlevel (ℕ_set, ℤ_set, le_prop)
 
-pub AreSound-prop : (rows : List Row) (columns : List (Vec Term)) (costs : List Frac)
-    (objective : Body) → IsProp (AreSound rows columns costs objective)
-AreSound-prop rows columns costs objective = hlevel (ℚ_set, AreTerms-prop, le_prop)
+pub AreSound-prop : (n : ℕ) (rows : List Row) (objective : Body)
+    → IsProp (AreSound n rows objective)
+AreSound-prop n rows objective = hlevel (AreTerms-prop, le_prop)
+
+pub AreTransposed-prop : (rows : List Row) (columns : List (Vec Term)) (costs : List Frac)
+    (objective : Body) → IsProp (AreTransposed rows columns costs objective)
+AreTransposed-prop rows columns costs objective = hlevel (ℚ_set, AreTerms-prop)

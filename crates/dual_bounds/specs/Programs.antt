@@ -1,4 +1,4 @@
--- The linear program that a value of Columns is.
+-- The linear program that a value of Program, or of Columns, is.
 use Rattle.std.specs.Prelude.{ℕ, Bool, false, List, length, get_or, Option}
 use Rattle.fractions.specs.Rational.{ℚ, zero_ℚ}
 use Rattle.linear_programs.specs.Linear.{Form, Row as LinearRow, Variable, Linear}
@@ -13,10 +13,11 @@ use Rattle.linear_programs.specs.Names.{row_name, variable_name}
 use Rattle.linear_program.specs.Intervals.{is_whole_kind}
 use Rattle.dual_bounds.specs.declared.columns.Columns.{Columns}
 use Rattle.dual_bounds.specs.declared.form.Row.{Row}
+use Rattle.dual_bounds.specs.declared.program.Program.{Program}
 use Rattle.dual_bounds.specs.declared.verdict.Goal.{Goal}
 use Rattle.dual_bounds.specs.declared.verdict.Goal.TheVariants.{Objective, Zero}
 unfoldable pub use Rattle.dual_bounds.specs.Lists.{form_of, body_in, side_in, side_listed, bounds_in}
-pub use Rattle.dual_bounds.specs.Lists.{AreSound}
+pub use Rattle.dual_bounds.specs.Lists.{AreSound, AreTransposed}
 
 abbrev pub program_row : List Row → ℕ → LinearRow
 program_row rows i = record { name = row_name i; body = body_in rows i; side = side_in rows i }
@@ -30,16 +31,19 @@ program_variable lo hi kinds j =
     }
 
 -- the program that is held
-unfoldable pub program_of : Columns → Linear
-program_of c =
+unfoldable pub linear_of : Program → Linear
+linear_of c =
     record {
       rows = elements_from (program_row c.rows.items) 0 (length c.rows.items);
       variables =
           elements_from (program_variable c.lower.items c.upper.items c.kinds.items) 0
-          (length c.columns.items);
+          (length c.lower.items);
       objective = form_of c.objective;
       maximise = c.maximise;
     }
+
+abbrev pub program_of : Columns → Linear
+program_of c = linear_of c.program
 
 abbrev pub goal_form : Goal → Form → Form
 goal_form Objective g = g

@@ -37,14 +37,14 @@ fn first_dual_fault(
     hi: &[Option<Dec>],
     y: &[Dec],
 ) -> Option<Fault>
-    requires numbers { length y.now ≡ length columns.now.rows.items }
-    requires lowers { length lo.now ≡ length columns.now.columns.items }
-    requires uppers { length hi.now ≡ length columns.now.columns.items }
+    requires numbers { length y.now ≡ length columns.now.program.rows.items }
+    requires lowers { length lo.now ≡ length columns.now.program.lower.items }
+    requires uppers { length hi.now ≡ length columns.now.program.lower.items }
     ensures { cause_found result
         ≡ dual_fault (asked goal (program_of columns.now)) (bounds_in lo.now hi.now)
         (value_at (values_of y.now)) }
 {
-    if let Some(fault) = first_side_fault(columns, goal, y) {
+    if let Some(fault) = first_side_fault(&columns.program, goal, y) {
         return Some(fault);
     }
     first_cost_fault(columns, goal, lo, hi, y)
@@ -52,41 +52,41 @@ fn first_dual_fault(
 
 // The first fault of the duals within the program's own bounds.
 fn own_dual_fault(columns: &Columns, y: &[Dec]) -> Option<Fault>
-    requires { length y.now ≡ length columns.now.rows.items }
+    requires { length y.now ≡ length columns.now.program.rows.items }
     ensures { cause_found result
         ≡ dual_fault (program_of columns.now) (bounds_of (program_of columns.now))
         (value_at (values_of y.now)) }
 {
-    let lower: &[Option<Dec>] = &columns.lower;
-    let upper: &[Option<Dec>] = &columns.upper;
+    let lower: &[Option<Dec>] = &columns.program.lower;
+    let upper: &[Option<Dec>] = &columns.program.upper;
     first_dual_fault(columns, Goal::Objective, lower, upper, y)
 }
 
 // The bound of the duals within the program's own bounds.
 fn own_bound(columns: &Columns, y: &[Dec]) -> Option<Frac>
-    requires { length y.now ≡ length columns.now.rows.items }
+    requires { length y.now ≡ length columns.now.program.rows.items }
     ensures { value_found result
         ≡ bound_total (program_of columns.now) (bounds_of (program_of columns.now))
         (value_at (values_of y.now)) }
 {
-    let lower: &[Option<Dec>] = &columns.lower;
-    let upper: &[Option<Dec>] = &columns.upper;
+    let lower: &[Option<Dec>] = &columns.program.lower;
+    let upper: &[Option<Dec>] = &columns.program.upper;
     bound_total(columns, Goal::Objective, lower, upper, y)
 }
 
 // The first fault of the first four phases.
 #[tactic(auto, unfolding(duality::specs::Verdict::early_fault))]
 fn first_early_fault(columns: &Columns, x: &[Dec], y: &[Dec]) -> Option<Fault>
-    requires numbers { length x.now ≡ length columns.now.columns.items }
-    requires duals { length y.now ≡ length columns.now.rows.items }
+    requires numbers { length x.now ≡ length columns.now.program.lower.items }
+    requires duals { length y.now ≡ length columns.now.program.rows.items }
     ensures { cause_found result
         ≡ early_fault (program_of columns.now) (value_at (values_of x.now))
         (value_at (values_of y.now)) }
 {
-    if let Some(fault) = first_row_fault(columns, x) {
+    if let Some(fault) = first_row_fault(&columns.program, x) {
         return Some(fault);
     }
-    if let Some(fault) = first_bound_fault(columns, x) {
+    if let Some(fault) = first_bound_fault(&columns.program, x) {
         return Some(fault);
     }
     own_dual_fault(columns, y)
@@ -106,15 +106,15 @@ fn compared(value: Frac, bound: Frac) -> Verdict
 // The first verdict of the six phases that applies.
 #[tactic(auto, unfolding(duality::specs::Verdict::verdict))]
 fn verdict_on(columns: &Columns, x: &[Dec], y: &[Dec]) -> Verdict
-    requires numbers { length x.now ≡ length columns.now.columns.items }
-    requires duals { length y.now ≡ length columns.now.rows.items }
+    requires numbers { length x.now ≡ length columns.now.program.lower.items }
+    requires duals { length y.now ≡ length columns.now.program.rows.items }
     ensures { answer_of result
         ≡ verdict (program_of columns.now) (values_of x.now) (values_of y.now) }
 {
     if let Some(fault) = first_early_fault(columns, x, y) {
         return refusal(fault);
     }
-    let Some(value) = objective_at(columns, x) else {
+    let Some(value) = objective_at(&columns.program, x) else {
         return Verdict::TooWide(Spot::Objective);
     };
     match own_bound(columns, y) {
@@ -160,9 +160,9 @@ fn bound_on(
     hi: &[Option<Dec>],
     y: &[Dec],
 ) -> BoundVerdict
-    requires numbers { length y.now ≡ length columns.now.rows.items }
-    requires lowers { length lo.now ≡ length columns.now.columns.items }
-    requires uppers { length hi.now ≡ length columns.now.columns.items }
+    requires numbers { length y.now ≡ length columns.now.program.rows.items }
+    requires lowers { length lo.now ≡ length columns.now.program.lower.items }
+    requires uppers { length hi.now ≡ length columns.now.program.lower.items }
     ensures { bound_answer_of result
         ≡ dual_bound (asked goal (program_of columns.now)) (bounds_in lo.now hi.now)
         (values_of y.now) }

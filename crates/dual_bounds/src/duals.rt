@@ -8,12 +8,13 @@ ghost use Rattle.exact_numbers.specs.Values.{frac_value};
 ghost use Rattle.linear_program.specs.Intervals.{interval_of};
 ghost use Rattle.dual_bounds.specs.Answers.{cause_found};
 ghost use Rattle.dual_bounds.specs.InsideCosts.{column_cost};
-ghost use Rattle.dual_bounds.specs.Programs.{asked, bounds_in, form_of, goal_cost, goal_form, goal_sense, program_of};
+ghost use Rattle.dual_bounds.specs.Programs.{asked, bounds_in, form_of, goal_cost, goal_form, goal_sense, linear_of, program_of};
 ghost use Rattle.dual_bounds.specs.Terms.{AreTerms, side_value, value_found, values_of};
 
 use crate::columns::Columns;
 use crate::number::{fraction, is_negative, is_zero, less_number, plus_product};
 use crate::pairs::{has_row_side, plus_row};
+use crate::program::Program;
 use crate::sides::interval_at;
 use crate::verdict::{Fault, Goal, Spot};
 use exact_numbers::{Dec, Frac};
@@ -39,26 +40,26 @@ fn has_cost_side(maximise: bool, cost: Frac, bounds: Interval) -> bool
 }
 
 // The sense of a goal.
-#[tactic(auto, unfolding(crate::specs::Programs::program_of))]
-pub(crate) fn sense(goal: Goal, columns: &Columns) -> bool
-    ensures { result ≡ (asked goal (program_of columns.now)).maximise }
+#[tactic(auto, unfolding(crate::specs::Programs::linear_of))]
+pub(crate) fn sense(goal: Goal, program: &Program) -> bool
+    ensures { result ≡ (asked goal (linear_of program.now)).maximise }
 {
     match goal {
-        Goal::Objective => columns.maximise,
+        Goal::Objective => program.maximise,
         Goal::Zero => false,
     }
 }
 
 // Third: the fault of the first row whose dual lacks its side.
 #[tactic(auto, using(crate::proofs::Firsts::firsts, crate::proofs::Rows::rows_counted))]
-pub(crate) fn first_side_fault(columns: &Columns, goal: Goal, y: &[Dec]) -> Option<Fault>
-    requires numbers { length y.now ≡ length columns.now.rows.items }
+pub(crate) fn first_side_fault(program: &Program, goal: Goal, y: &[Dec]) -> Option<Fault>
+    requires numbers { length y.now ≡ length program.now.rows.items }
     ensures { cause_found result
-        ≡ first_fault (side_fault (asked goal (program_of columns.now))
-        (value_at (values_of y.now))) (row_count (program_of columns.now)) }
+        ≡ first_fault (side_fault (asked goal (linear_of program.now))
+        (value_at (values_of y.now))) (row_count (linear_of program.now)) }
 {
-    let maximise = sense(goal, columns);
-    for (i, row) in columns.rows.iter().enumerate() {
+    let maximise = sense(goal, program);
+    for (i, row) in program.rows.iter().enumerate() {
         let dual = Number::Decimal(y[i]);
         if !has_row_side(maximise, &dual, row.side) {
             return Some(Fault::RowSideMissing(i as u32));
@@ -78,12 +79,12 @@ fn goal_cost(goal: Goal, cost: Frac) -> Frac
 }
 
 // The constant of the goal.
-#[tactic(auto, unfolding(crate::specs::Programs::program_of))]
-pub(crate) fn goal_constant(goal: Goal, columns: &Columns) -> Frac
-    ensures { frac_value result ≡ (asked goal (program_of columns.now)).objective.constant }
+#[tactic(auto, unfolding(crate::specs::Programs::linear_of))]
+pub(crate) fn goal_constant(goal: Goal, program: &Program) -> Frac
+    ensures { frac_value result ≡ (asked goal (linear_of program.now)).objective.constant }
 {
     match goal {
-        Goal::Objective => columns.objective.constant,
+        Goal::Objective => program.objective.constant,
         Goal::Zero => Frac::zero(),
     }
 }
@@ -107,8 +108,8 @@ fn cost_at(start: Frac, terms: &[(u32, Frac)], y: &[Dec]) -> Option<Frac>
 // The reduced cost of variable j in the goal.
 #[tactic(auto, using(crate::proofs::Rows::column_costs))]
 fn reduced_cost_of(columns: &Columns, goal: Goal, j: usize, y: &[Dec]) -> Option<Frac>
-    requires variable { j < length columns.now.columns.items }
-    requires numbers { length y.now ≡ length columns.now.rows.items }
+    requires variable { j < length columns.now.program.lower.items }
+    requires numbers { length y.now ≡ length columns.now.program.rows.items }
     ensures { value_found result
         ≡ reduced_cost (asked goal (program_of columns.now)) (value_at (values_of y.now)) j }
 {
@@ -150,15 +151,15 @@ pub(crate) fn first_cost_fault(
     hi: &[Option<Dec>],
     y: &[Dec],
 ) -> Option<Fault>
-    requires numbers { length y.now ≡ length columns.now.rows.items }
-    requires lowers { length lo.now ≡ length columns.now.columns.items }
-    requires uppers { length hi.now ≡ length columns.now.columns.items }
+    requires numbers { length y.now ≡ length columns.now.program.rows.items }
+    requires lowers { length lo.now ≡ length columns.now.program.lower.items }
+    requires uppers { length hi.now ≡ length columns.now.program.lower.items }
     ensures { cause_found result
         ≡ first_fault (cost_fault (asked goal (program_of columns.now)) (bounds_in lo.now hi.now)
         (value_at (values_of y.now))) (variable_count (program_of columns.now)) }
 {
-    let maximise = sense(goal, columns);
-    for j in 0..columns.columns.len() {
+    let maximise = sense(goal, &columns.program);
+    for j in 0..columns.program.lower.len() {
         let bounds = interval_at(lo, hi, j);
         let cost = reduced_cost_of(columns, goal, j, y);
         if let Some(fault) = cost_fault_at(j as u32, maximise, bounds, cost) {
@@ -194,16 +195,16 @@ pub(crate) fn plus_bound(sum: Frac, maximise: bool, bounds: Interval, cost: Frac
 
 // The goal's constant with the parts of the rows.
 #[tactic(auto, using(crate::proofs::Runs::runs, crate::proofs::Rows::rows_counted))]
-fn rows_total(columns: &Columns, goal: Goal, y: &[Dec]) -> Option<Frac>
-    requires numbers { length y.now ≡ length columns.now.rows.items }
+fn rows_total(program: &Program, goal: Goal, y: &[Dec]) -> Option<Frac>
+    requires numbers { length y.now ≡ length program.now.rows.items }
     ensures { value_found result
-        ≡ run (row_part (asked goal (program_of columns.now)) (value_at (values_of y.now)))
-        (asked goal (program_of columns.now)).objective.constant
-        (row_count (program_of columns.now)) }
+        ≡ run (row_part (asked goal (linear_of program.now)) (value_at (values_of y.now)))
+        (asked goal (linear_of program.now)).objective.constant
+        (row_count (linear_of program.now)) }
 {
-    let maximise = sense(goal, columns);
-    let mut sum = goal_constant(goal, columns);
-    for (i, row) in columns.rows.iter().enumerate() {
+    let maximise = sense(goal, program);
+    let mut sum = goal_constant(goal, program);
+    for (i, row) in program.rows.iter().enumerate() {
         let dual = Number::Decimal(y[i]);
         match plus_row(sum, maximise, row, &dual) {
             Some(next) => sum = next,
@@ -223,16 +224,16 @@ fn columns_total(
     hi: &[Option<Dec>],
     y: &[Dec],
 ) -> Option<Frac>
-    requires numbers { length y.now ≡ length columns.now.rows.items }
-    requires lowers { length lo.now ≡ length columns.now.columns.items }
-    requires uppers { length hi.now ≡ length columns.now.columns.items }
+    requires numbers { length y.now ≡ length columns.now.program.rows.items }
+    requires lowers { length lo.now ≡ length columns.now.program.lower.items }
+    requires uppers { length hi.now ≡ length columns.now.program.lower.items }
     ensures { value_found result
         ≡ run (cost_part (asked goal (program_of columns.now)) (bounds_in lo.now hi.now)
         (value_at (values_of y.now))) (frac_value start) (variable_count (program_of columns.now)) }
 {
-    let maximise = sense(goal, columns);
+    let maximise = sense(goal, &columns.program);
     let mut sum = start;
-    for j in 0..columns.columns.len() {
+    for j in 0..columns.program.lower.len() {
         let bounds = interval_at(lo, hi, j);
         let Some(cost) = reduced_cost_of(columns, goal, j, y) else {
             return None;
@@ -254,14 +255,14 @@ pub(crate) fn bound_total(
     hi: &[Option<Dec>],
     y: &[Dec],
 ) -> Option<Frac>
-    requires numbers { length y.now ≡ length columns.now.rows.items }
-    requires lowers { length lo.now ≡ length columns.now.columns.items }
-    requires uppers { length hi.now ≡ length columns.now.columns.items }
+    requires numbers { length y.now ≡ length columns.now.program.rows.items }
+    requires lowers { length lo.now ≡ length columns.now.program.lower.items }
+    requires uppers { length hi.now ≡ length columns.now.program.lower.items }
     ensures { value_found result
         ≡ bound_total (asked goal (program_of columns.now)) (bounds_in lo.now hi.now)
         (value_at (values_of y.now)) }
 {
-    match rows_total(columns, goal, y) {
+    match rows_total(&columns.program, goal, y) {
         Some(sum) => columns_total(sum, columns, goal, lo, hi, y),
         None => None,
     }

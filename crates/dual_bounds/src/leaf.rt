@@ -14,10 +14,10 @@ ghost use Rattle.dual_bounds.specs.Programs.{asked, bounds_in};
 ghost use Rattle.dual_bounds.specs.Sums.{AreZero, cost_count};
 ghost use Rattle.dual_bounds.specs.Terms.{AreTerms};
 
-use crate::columns::Columns;
 use crate::costs::Costs;
 use crate::form::Row;
 use crate::pairs::{first_lacking_side, rows_total, take_rows};
+use crate::program::Program;
 use crate::verdict::{BoundVerdict, Goal};
 use exact_numbers::{Dec, Frac};
 use linear_program::Number;
@@ -27,7 +27,7 @@ use std::alloc::AllocError;
 #[tactic(auto, using(crate::proofs::LeafLemmas::side_lacks, crate::proofs::Rows::variables_counted))]
 fn bound_of_goal(
     costs: &mut Costs,
-    columns: &Columns,
+    program: &Program,
     planes: &[Row],
     maximise: bool,
     constant: Frac,
@@ -36,26 +36,26 @@ fn bound_of_goal(
     hi: &[Option<Dec>],
     pairs: &[(u32, Number)],
 ) -> Result<BoundVerdict, AllocError>
-    requires pairs { AreIndices 0 (length columns.now.rows.items + length planes.now) pairs.now }
-    requires planes { AreWithin (length columns.now.columns.items) planes.now }
-    requires terms { AreTerms 0 (length columns.now.columns.items) terms.now }
+    requires pairs { AreIndices 0 (length program.now.rows.items + length planes.now) pairs.now }
+    requires planes { AreWithin (length program.now.lower.items) planes.now }
+    requires terms { AreTerms 0 (length program.now.lower.items) terms.now }
     requires zero { AreZero costs.old }
-    requires count { cost_count costs.old ≡ length columns.now.columns.items }
-    requires lowers { length lo.now ≡ length columns.now.columns.items }
-    requires uppers { length hi.now ≡ length columns.now.columns.items }
-    ensures exact { IfOk result (λ v. (f : Linear) → HasRows columns.now planes.now f
+    requires count { cost_count costs.old ≡ length program.now.lower.items }
+    requires lowers { length lo.now ≡ length program.now.lower.items }
+    requires uppers { length hi.now ≡ length program.now.lower.items }
+    ensures exact { IfOk result (λ v. (f : Linear) → HasRows program.now planes.now f
         → IsGoal maximise (frac_value constant) terms.now f → bound_answer_of v
         ≡ dual_bound f (bounds_in lo.now hi.now) (spread (row_count f) pairs.now)) }
     ensures zero { IfOk result (λ v. AreZero costs.new) }
     ensures count { IfOk result (λ v. cost_count costs.new ≡ cost_count costs.old) }
 {
-    if let Some(row) = first_lacking_side(columns, planes, maximise, pairs) {
+    if let Some(row) = first_lacking_side(program, planes, maximise, pairs) {
         return Ok(BoundVerdict::RowSideMissing(row));
     }
-    costs.begin(columns.n_var(), terms)?;
-    take_rows(costs, columns, planes, pairs)?;
+    costs.begin(program.n_var(), terms)?;
+    take_rows(costs, program, planes, pairs)?;
     costs.order();
-    let start = rows_total(columns, planes, maximise, constant, pairs);
+    let start = rows_total(program, planes, maximise, constant, pairs);
     let verdict = costs.bound(start, maximise, lo, hi);
     costs.clear();
     Ok(verdict)
@@ -67,20 +67,20 @@ fn bound_of_goal(
 #[tactic(auto, using(crate::proofs::LeafLemmas::no_terms))]
 pub fn leaf_bound(
     costs: &mut Costs,
-    columns: &Columns,
+    program: &Program,
     planes: &[Row],
     goal: Goal,
     lo: &[Option<Dec>],
     hi: &[Option<Dec>],
     pairs: &[(u32, Number)],
 ) -> Result<BoundVerdict, AllocError>
-    requires pairs { AreIndices 0 (length columns.now.rows.items + length planes.now) pairs.now }
-    requires planes { AreWithin (length columns.now.columns.items) planes.now }
+    requires pairs { AreIndices 0 (length program.now.rows.items + length planes.now) pairs.now }
+    requires planes { AreWithin (length program.now.lower.items) planes.now }
     requires zero { AreZero costs.old }
-    requires count { cost_count costs.old ≡ length columns.now.columns.items }
-    requires lowers { length lo.now ≡ length columns.now.columns.items }
-    requires uppers { length hi.now ≡ length columns.now.columns.items }
-    ensures exact { IfOk result (λ v. (f : Linear) → IsOver columns.now planes.now f
+    requires count { cost_count costs.old ≡ length program.now.lower.items }
+    requires lowers { length lo.now ≡ length program.now.lower.items }
+    requires uppers { length hi.now ≡ length program.now.lower.items }
+    ensures exact { IfOk result (λ v. (f : Linear) → IsOver program.now planes.now f
         → bound_answer_of v ≡ dual_bound (asked goal f) (bounds_in lo.now hi.now)
         (spread (row_count f) pairs.now)) }
     ensures zero { IfOk result (λ v. AreZero costs.new) }
@@ -88,12 +88,12 @@ pub fn leaf_bound(
 {
     match goal {
         Goal::Objective => {
-            let maximise = columns.maximise;
-            let body = &columns.objective;
+            let maximise = program.maximise;
+            let body = &program.objective;
             let terms: &[(u32, Frac)] = &body.terms;
             bound_of_goal(
                 costs,
-                columns,
+                program,
                 planes,
                 maximise,
                 body.constant,
@@ -105,7 +105,7 @@ pub fn leaf_bound(
         }
         Goal::Zero => bound_of_goal(
             costs,
-            columns,
+            program,
             planes,
             false,
             Frac::zero(),
@@ -120,21 +120,21 @@ pub fn leaf_bound(
 /// The bound on a sum of terms, maximised, in place of the objective: otherwise as `leaf_bound`.
 pub fn sum_bound(
     costs: &mut Costs,
-    columns: &Columns,
+    program: &Program,
     planes: &[Row],
     terms: &[(u32, Frac)],
     lo: &[Option<Dec>],
     hi: &[Option<Dec>],
     pairs: &[(u32, Number)],
 ) -> Result<BoundVerdict, AllocError>
-    requires pairs { AreIndices 0 (length columns.now.rows.items + length planes.now) pairs.now }
-    requires planes { AreWithin (length columns.now.columns.items) planes.now }
-    requires terms { AreTerms 0 (length columns.now.columns.items) terms.now }
+    requires pairs { AreIndices 0 (length program.now.rows.items + length planes.now) pairs.now }
+    requires planes { AreWithin (length program.now.lower.items) planes.now }
+    requires terms { AreTerms 0 (length program.now.lower.items) terms.now }
     requires zero { AreZero costs.old }
-    requires count { cost_count costs.old ≡ length columns.now.columns.items }
-    requires lowers { length lo.now ≡ length columns.now.columns.items }
-    requires uppers { length hi.now ≡ length columns.now.columns.items }
-    ensures exact { IfOk result (λ v. (f : Linear) → HasRows columns.now planes.now f
+    requires count { cost_count costs.old ≡ length program.now.lower.items }
+    requires lowers { length lo.now ≡ length program.now.lower.items }
+    requires uppers { length hi.now ≡ length program.now.lower.items }
+    ensures exact { IfOk result (λ v. (f : Linear) → HasRows program.now planes.now f
         → bound_answer_of v
         ≡ dual_bound (maximising f (record { constant = zero_ℚ; coefficient = coef_in terms.now }))
         (bounds_in lo.now hi.now) (spread (row_count f) pairs.now)) }
@@ -143,7 +143,7 @@ pub fn sum_bound(
 {
     bound_of_goal(
         costs,
-        columns,
+        program,
         planes,
         true,
         Frac::zero(),

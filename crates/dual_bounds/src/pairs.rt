@@ -13,13 +13,13 @@ ghost use Rattle.dual_bounds.specs.Leaves.{AreIndices, HasRows, cost_act, run_pa
 ghost use Rattle.dual_bounds.specs.Sums.{AreKept, cost_count, cost_in};
 ghost use Rattle.dual_bounds.specs.Terms.{value_found};
 
-use crate::columns::Columns;
 use crate::costs::Costs;
 use crate::duals::{needed, side_fraction};
 use crate::form::Row;
 use crate::number::{
     difference, is_negative_number, is_zero_number, plus_product, written_fraction,
 };
+use crate::program::Program;
 use crate::sums::sum_of;
 use exact_numbers::Frac;
 use linear_program::{Interval, Number};
@@ -46,17 +46,17 @@ pub(crate) fn has_row_side(maximise: bool, number: &Number, sides: Interval) -> 
 
 // The first row whose number lacks its side.
 pub(crate) fn first_lacking_side(
-    columns: &Columns,
+    program: &Program,
     planes: &[Row],
     maximise: bool,
     pairs: &[(u32, Number)],
 ) -> Option<u32>
-    requires { AreIndices 0 (length columns.now.rows.items + length planes.now) pairs.now }
-    ensures { (f : Linear) → HasRows columns.now planes.now f → f.maximise ≡ maximise
+    requires { AreIndices 0 (length program.now.rows.items + length planes.now) pairs.now }
+    ensures { (f : Linear) → HasRows program.now planes.now f → f.maximise ≡ maximise
         → option_map row_side_missing result
         ≡ first_fault (side_fault f (value_at (spread (row_count f) pairs.now))) (row_count f) }
 {
-    let rows: &[Row] = &columns.rows;
+    let rows: &[Row] = &program.rows;
     for pair in pairs {
         let row = row_at(rows, planes, pair.0 as usize);
         if !has_row_side(maximise, &pair.1, row.side) {
@@ -70,20 +70,20 @@ pub(crate) fn first_lacking_side(
 #[tactic(auto, using(crate::proofs::PartRows::terms_of_row))]
 pub(crate) fn take_rows(
     costs: &mut Costs,
-    columns: &Columns,
+    program: &Program,
     planes: &[Row],
     pairs: &[(u32, Number)],
 ) -> Result<(), AllocError>
-    requires pairs { AreIndices 0 (length columns.now.rows.items + length planes.now) pairs.now }
-    requires planes { AreWithin (length columns.now.columns.items) planes.now }
+    requires pairs { AreIndices 0 (length program.now.rows.items + length planes.now) pairs.now }
+    requires planes { AreWithin (length program.now.lower.items) planes.now }
     requires kept { AreKept costs.old }
-    requires count { cost_count costs.old ≡ length columns.now.columns.items }
-    ensures costs { IfOk result (λ u. (f : Linear) → HasRows columns.now planes.now f → (j : ℕ)
+    requires count { cost_count costs.old ≡ length program.now.lower.items }
+    ensures costs { IfOk result (λ u. (f : Linear) → HasRows program.now planes.now f → (j : ℕ)
         → cost_in costs.new j ≡ run_pairs (cost_act f j) (cost_in costs.old j) pairs.now) }
     ensures kept { IfOk result (λ u. AreKept costs.new) }
     ensures count { IfOk result (λ u. cost_count costs.new ≡ cost_count costs.old) }
 {
-    let rows: &[Row] = &columns.rows;
+    let rows: &[Row] = &program.rows;
     for pair in pairs {
         let row = row_at(rows, planes, pair.0 as usize);
         let weight = sum_of(written_fraction(&pair.1));
@@ -125,19 +125,19 @@ pub(crate) fn plus_row(sum: Frac, maximise: bool, row: &Row, number: &Number) ->
 
 // The goal's constant with the parts of the rows.
 pub(crate) fn rows_total(
-    columns: &Columns,
+    program: &Program,
     planes: &[Row],
     maximise: bool,
     constant: Frac,
     pairs: &[(u32, Number)],
 ) -> Option<Frac>
-    requires { AreIndices 0 (length columns.now.rows.items + length planes.now) pairs.now }
-    ensures { (f : Linear) → HasRows columns.now planes.now f → f.maximise ≡ maximise
+    requires { AreIndices 0 (length program.now.rows.items + length planes.now) pairs.now }
+    ensures { (f : Linear) → HasRows program.now planes.now f → f.maximise ≡ maximise
         → value_found result
         ≡ run (row_part f (value_at (spread (row_count f) pairs.now))) (frac_value constant)
         (row_count f) }
 {
-    let rows: &[Row] = &columns.rows;
+    let rows: &[Row] = &program.rows;
     let mut sum = constant;
     for pair in pairs {
         let row = row_at(rows, planes, pair.0 as usize);

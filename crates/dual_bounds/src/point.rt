@@ -6,12 +6,12 @@ ghost use Rattle.duality.specs.Verdict.{run_form, row_check, row_fault, bound_fa
 ghost use Rattle.exact_numbers.specs.Values.{dec_value, frac_value};
 ghost use Rattle.linear_program.specs.Intervals.{interval_of};
 ghost use Rattle.dual_bounds.specs.Answers.{cause_found};
-ghost use Rattle.dual_bounds.specs.Programs.{form_of, program_of};
+ghost use Rattle.dual_bounds.specs.Programs.{form_of, linear_of};
 ghost use Rattle.dual_bounds.specs.Terms.{AreTerms, side_value, value_found, values_of};
 
-use crate::columns::Columns;
 use crate::form::Body;
 use crate::number::{frac_is_at_most, fraction, is_at_most, plus_number};
+use crate::program::Program;
 use crate::sides::interval_at;
 use crate::verdict::{Fault, Spot};
 use exact_numbers::{Dec, Frac};
@@ -35,14 +35,14 @@ fn value_at(form: &Body, x: &[Dec]) -> Option<Frac>
 }
 
 // The value of the objective at a point.
-#[tactic(auto, using(crate::proofs::Rows::variables_counted), unfolding(crate::specs::Programs::program_of))]
-pub(crate) fn objective_at(columns: &Columns, x: &[Dec]) -> Option<Frac>
-    requires { length x.now ≡ length columns.now.columns.items }
+#[tactic(auto, using(crate::proofs::Rows::variables_counted), unfolding(crate::specs::Programs::linear_of))]
+pub(crate) fn objective_at(program: &Program, x: &[Dec]) -> Option<Frac>
+    requires { length x.now ≡ length program.now.lower.items }
     ensures { value_found result
-        ≡ run_form (variable_count (program_of columns.now)) (program_of columns.now).objective
+        ≡ run_form (variable_count (linear_of program.now)) (linear_of program.now).objective
         (value_at (values_of x.now)) }
 {
-    value_at(&columns.objective, x)
+    value_at(&program.objective, x)
 }
 
 // Whether the value is not below the side; none where the side does not fit.
@@ -117,13 +117,13 @@ fn row_fault_at(number: u32, sides: Interval, body: Option<Frac>) -> Option<Faul
 
 // First: the fault of the first row that has one.
 #[tactic(auto, using(crate::proofs::Firsts::firsts, crate::proofs::Rows::row_faults))]
-pub(crate) fn first_row_fault(columns: &Columns, x: &[Dec]) -> Option<Fault>
-    requires numbers { length x.now ≡ length columns.now.columns.items }
+pub(crate) fn first_row_fault(program: &Program, x: &[Dec]) -> Option<Fault>
+    requires numbers { length x.now ≡ length program.now.lower.items }
     ensures { cause_found result
-        ≡ first_fault (row_fault (program_of columns.now) (value_at (values_of x.now)))
-        (row_count (program_of columns.now)) }
+        ≡ first_fault (row_fault (linear_of program.now) (value_at (values_of x.now)))
+        (row_count (linear_of program.now)) }
 {
-    for (i, row) in columns.rows.iter().enumerate() {
+    for (i, row) in program.rows.iter().enumerate() {
         if let Some(fault) = row_fault_at(i as u32, row.side, value_at(&row.body, x)) {
             return Some(fault);
         }
@@ -133,14 +133,14 @@ pub(crate) fn first_row_fault(columns: &Columns, x: &[Dec]) -> Option<Fault>
 
 // Second: the fault of the first variable that is outside its bounds.
 #[tactic(auto, using(crate::proofs::Firsts::firsts, crate::proofs::Rows::variables_counted))]
-pub(crate) fn first_bound_fault(columns: &Columns, x: &[Dec]) -> Option<Fault>
-    requires numbers { length x.now ≡ length columns.now.columns.items }
+pub(crate) fn first_bound_fault(program: &Program, x: &[Dec]) -> Option<Fault>
+    requires numbers { length x.now ≡ length program.now.lower.items }
     ensures { cause_found result
-        ≡ first_fault (bound_fault (program_of columns.now) (value_at (values_of x.now)))
-        (variable_count (program_of columns.now)) }
+        ≡ first_fault (bound_fault (linear_of program.now) (value_at (values_of x.now)))
+        (variable_count (linear_of program.now)) }
 {
     for (j, number) in x.iter().enumerate() {
-        let bounds = interval_at(&columns.lower, &columns.upper, j);
+        let bounds = interval_at(&program.lower, &program.upper, j);
         if !is_within_bounds(*number, bounds) {
             return Some(Fault::BoundBroken(j as u32));
         }

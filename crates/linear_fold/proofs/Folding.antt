@@ -77,7 +77,7 @@ module _ (known : Point → Known) (n : ℕ) where
   lines_are (more t ts) (l ∷ ls) w h = ap₂ ◌∷◌ (is_line_by n (λ at. tree_value (known at) at t) l w.0 h.0) (lines_are ts ls w.1 h.1)
   lines_are ts ls w h = absurd h
 
-  values_are : (ts : Trees) (ls : List Line) → AreLinesOf known n ts ls → (at : Point) → trees_values (known at) at ts ≡ some_values n at ls
+  pub values_are : (ts : Trees) (ls : List Line) → AreLinesOf known n ts ls → (at : Point) → trees_values (known at) at ts ≡ some_values n at ls
   values_are none [] h at = refl
   values_are (more t ts) (l ∷ ls) h at = ap₂ ◌∷◌ (h.0 at) (values_are ts ls h.1 at)
   values_are ts ls h at = absurd h

@@ -6,5 +6,6 @@ pub mod Folding
 pub mod Operators
 pub mod OwnerLemmas
 mod HeldLemmas
+mod LeafLemmas
 mod CompletionLemmas
 mod HeldBodies

@@ -47,10 +47,10 @@ pub total_fits : (s : Sum) → FitsLine (sum_line s)
 total_fits s = record { constant = frac_fits_lem s.constant; coefs = place_fits s.accumulator.value }
 
 -- ---- the coefficients of a multiple
-multiple_at : (i j : ℕ) (k : ℚ) → i ≡ j → (multiple_line j k).coef i ≡ k
+pub multiple_at : (i j : ℕ) (k : ℚ) → i ≡ j → (multiple_line j k).coef i ≡ k
 multiple_at i j k e = zero-+ℚ (k *ℚ one_if (i == j)) ∙ ap (λ b. k *ℚ one_if b) (eq-eqb i j e) ∙ *ℚ_one k
 
-multiple_apart : (i j : ℕ) (k : ℚ) → i ≢ j → (multiple_line j k).coef i ≡ zero_ℚ
+pub multiple_apart : (i j : ℕ) (k : ℚ) → i ≢ j → (multiple_line j k).coef i ≡ zero_ℚ
 multiple_apart i j k n = zero-+ℚ (k *ℚ one_if (i == j)) ∙ ap (λ x. k *ℚ x) (apart-eqb i j n) ∙ *ℚ_zero k
 
 -- what holds of k and of 0 holds of each coefficient
@@ -204,7 +204,7 @@ scaled_by_minus k x b e f =
     turned : k ≡ neg_ℚ one_ℚ → (y : ℚ) → k *ℚ y ≡ neg_ℚ y
     turned m y = ap (λ w. w *ℚ y) m ∙ neg-*ℚ one_ℚ y ∙ ap neg_ℚ (one-*ℚ y)
 
-zero_line_sum : (a : Line) → line_sum zero_line a ≡ a
+pub zero_line_sum : (a : Line) → line_sum zero_line a ≡ a
 zero_line_sum a = same_line _ _ (zero-+ℚ a.constant) (λ j. zero-+ℚ (a.coef j))
 
 -- a test that holds below n, and from n on, holds everywhere

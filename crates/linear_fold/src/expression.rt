@@ -14,6 +14,7 @@ ghost use Rattle.linear_fold.specs.InsideOperates.{IsBlank, StaysBlank};
 use crate::ascending::{are_ascending, are_zero, form_of_ascending};
 use crate::entries::Entry;
 use crate::fold::fold_tree;
+use crate::leaf_sums::leaf_sum;
 use exact_numbers::{Dec, Frac};
 use linear_program::{Form, Sum, Terms};
 use nl_meaning::{Fault, Reason};
@@ -55,7 +56,13 @@ fn tree_entry<L: Ledger>(
         ≤ steps.old + 2 * (variables + 1) * option_map_or tree_size (option_copied tree.entry) 0 }
 {
     match tree {
-        Some(expr) => fold_tree(alloc, expr.nodes(), slots, total, steps, variables),
+        Some(expr) => {
+            let nodes = expr.nodes();
+            match leaf_sum(alloc, nodes, variables, steps)? {
+                Some(form) => Ok(Entry::Linear(form)),
+                None => fold_tree(alloc, nodes, slots, total, steps, variables),
+            }
+        }
         None => Ok(Entry::Linear(Form::new(alloc))),
     }
 }

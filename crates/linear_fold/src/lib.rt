@@ -11,6 +11,7 @@ mod expression;
 mod fold;
 mod fold_fault;
 mod held;
+mod leaf_sums;
 mod operate;
 mod owners;
 mod parts;

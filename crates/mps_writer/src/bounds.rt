@@ -10,8 +10,8 @@ use mps_model::{BoundKind, MpsColumn};
 use std::alloc::AllocError;
 use written_texts::{LineText, put, put_end, put_line, put_next_dec};
 
-// The words before the column's name, with a space before and after each.
-fn bound_front(kind: BoundKind) -> &'static [u8]
+/// The words before the column's name, with a space before and after each.
+pub fn bound_front(kind: BoundKind) -> &'static [u8]
     ensures text { result.now ≡ codes " " ++ bound_text kind ++ codes " BND " }
     ensures short { length result.now ≤ 8 }
 {

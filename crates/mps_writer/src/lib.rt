@@ -11,8 +11,8 @@ mod bounds;
 mod columns;
 mod lines;
 
-pub use bounds::put_bound;
 use bounds::put_bounds;
+pub use bounds::{bound_front, put_bound};
 pub use columns::put_change;
 use columns::put_columns;
 pub use lines::put_entry;
@@ -43,8 +43,8 @@ pub fn put_sense(out: &mut Vec<u8>, maximise: bool) -> Result<(), AllocError>
     Ok(())
 }
 
-// The letter of a kind of row, with a space before and after it.
-fn row_front(kind: RowKind) -> &'static [u8]
+/// The letter of a kind of row, with a space before and after it.
+pub fn row_front(kind: RowKind) -> &'static [u8]
     ensures text { result.now ≡ codes " " ++ kind_text kind ++ codes " " }
     ensures short { length result.now ≤ 3 }
 {

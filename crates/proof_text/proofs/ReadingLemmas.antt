@@ -14,8 +14,8 @@ use Rattle.certificates.specs.Proofs.{Pair, ProofValue}
 use Rattle.proof_text.specs.declared.fault.ProofReason.{ProofReason}
 use Rattle.certificates.specs.Setting.{IsProofFor, Setting}
 use Rattle.proof_text.specs.Rows.{rows_in}
-use Rattle.proof_text.specs.Standing.{IsSaid, Standing, is_whole, standing}
-use Rattle.proof_text.specs.Tests.{end_tests}
+use Rattle.proof_text.specs.Standing.{IsSaid, ProofStanding, is_whole_proof, proof_standing}
+use Rattle.proof_text.specs.Tests.{proof_end_tests}
 use Rattle.proof_text.specs.Grammar.{proof_rules}
 use Rattle.proof_text.specs.Reader.{HasOneReading, IsFed, IsProofText, Reading, ReadsProof}
 use Rattle.proof_text.proofs.GrammarLemmas.{read_for}
@@ -36,16 +36,16 @@ parts c ns ps = record { claim = c; nodes = ns; pairs = ps }
 same_parts : (c d : Claim) (ns ms : List ProofNode) (ps qs : List Pair) → c ≡ d → ns ≡ ms → ps ≡ qs → parts c ns ps ≡ parts d ms qs
 same_parts c d ns ms ps qs e f g = cc
 
-one_said : (st : Standing) (p q : ProofValue) → IsSaid st p → IsSaid st q → p ≡ q
+one_said : (st : ProofStanding) (p q : ProofValue) → IsSaid st p → IsSaid st q → p ≡ q
 unfolding parts
 one_said st p q h g = same_parts p.claim q.claim p.nodes q.nodes p.pairs q.pairs (let a = h.claim in let b = g.claim in cc) (h.nodes ∙ sym g.nodes) (h.pairs ∙ sym g.pairs)
 
 clean_said : (s : Setting) (text : List ℕ) → IsClean (proof_rules s) (lines_of text) (last_of text) → (p : ProofValue) × IsProofText s text p
-unfolding end_tests
+unfolding proof_end_tests
 clean_said s text clean =
-    let st = standing (rows_in (lines_of text)) in
-    let tests = none_each (end_tests st) (text_ends s text clean) in
-    let claim = some_claim st.claim (first_of_whole (is_some st.claim) _ _ (not-false (is_whole st) tests.1.0)) in
+    let st = proof_standing (rows_in (lines_of text)) in
+    let tests = none_each (proof_end_tests st) (text_ends s text clean) in
+    let claim = some_claim st.claim (first_of_whole (is_some st.claim) _ _ (not-false (is_whole_proof st) tests.1.0)) in
     (record { claim = claim.0; nodes = st.nodes; pairs = st.pairs }, record { clean = clean; said = record { claim = claim.1; nodes = refl; pairs = refl } })
 
 fault_at : ℕ → ProofReason → TextFault ProofReason
@@ -61,7 +61,7 @@ one_reading s text =
         | inr fault ↦ inr (record { reason = fault.1; line = fault.0 }, fault.2)
       ];
       not_both = λ p fault h f. one.not_both h.clean fault.line fault.reason f;
-      one_value = λ p q h g. one_said (standing (rows_in (lines_of text))) p q h.said g.said;
+      one_value = λ p q h g. one_said (proof_standing (rows_in (lines_of text))) p q h.said g.said;
       one_fault = λ a b f g.
           let same = one.one_fault a.line b.line a.reason b.reason f g in
           ap₂ fault_at same.0 same.1;
@@ -74,7 +74,7 @@ proof_from s text t same (Err stop) reads = tt
 
 -- the same for a reader
 pub proof_read : (inside held : Reading) (result : Result ProofValue (Stop (TextFault ProofReason))) → inside ≡ held
-    → ((text : List ℕ) → Stands inside.stopped (proof_rules inside.read.setting) (λ lines. inside.read.standing ≡ standing (rows_in lines)) inside.lines text → ReadsProof inside.read.setting text result)
+    → ((text : List ℕ) → Stands inside.stopped (proof_rules inside.read.setting) (λ lines. inside.read.standing ≡ proof_standing (rows_in lines)) inside.lines text → ReadsProof inside.read.setting text result)
     → IfOk result (λ p. (s : Setting) (text : List ℕ) → IsFed s held text → IsProofFor s p)
 proof_read inside held (Ok p) same reads = λ s text fed. text_is_proof s text p (read_for inside held (Ok p) same reads s text fed)
 proof_read inside held (Err stop) same reads = tt

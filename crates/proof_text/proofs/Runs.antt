@@ -26,10 +26,10 @@ use Rattle.certificates.specs.declared.proof.ProofNode.TheVariants.{Split, Weigh
 use Rattle.proof_text.specs.declared.fault.ProofReason.TheVariants.{Extra}
 use Rattle.certificates.specs.Proofs.{Pair, claim_value}
 use Rattle.certificates.specs.Setting.{IsWholeFor, Setting}
-use Rattle.proof_text.specs.Rows.{Row, claim_in, is_alone, is_node_row, is_row, leaf_in, node_in, pair_in, rows_in, value_claim}
-use Rattle.proof_text.specs.Standing.{Standing, is_whole, pairs_left, standing, subtrees_left}
+use Rattle.proof_text.specs.Rows.{ProofRow, claim_in, is_alone, is_node_row, is_row, leaf_in, proof_node_in, proof_pair_in, rows_in, value_claim}
+use Rattle.proof_text.specs.Standing.{ProofStanding, is_whole_proof, pairs_left, proof_standing, subtrees_left}
 use Rattle.proof_text.specs.Steps.{with_claim, with_line, with_node, with_pair, with_row}
-use Rattle.proof_text.specs.Tests.{claim_tests, end_tests, first_tests, is_pair_out, is_split_continuous, is_split_out, line_tests, node_tests, pair_tests, row_tests}
+use Rattle.proof_text.specs.Tests.{claim_tests, first_tests, is_pair_out, is_split_continuous, is_split_out, proof_end_tests, proof_line_tests, proof_node_tests, proof_pair_tests, proof_row_tests}
 use Rattle.proof_text.specs.Grammar.{proof_rules}
 use Rattle.proof_text.proofs.RowLemmas.{Says, claim_is, claim_row_says, first_is, first_row_says, node_is, node_row_says, pair_is, pair_row_says}
 use Rattle.proof_text.proofs.Steps.{line_push}
@@ -54,12 +54,12 @@ abbrev pub as_pair : Piece → Option Pair
 as_pair (pair_row p) = Some p
 as_pair q = None
 
-abbrev pub with_piece : Standing → Piece → Standing
+abbrev pub with_piece : ProofStanding → Piece → ProofStanding
 with_piece st (claim_row c) = with_claim st (Some c)
 with_piece st (node_row n) = with_node st (Some n)
 with_piece st (pair_row p) = with_pair st (Some p)
 
-abbrev Is : Row → Piece → Type 0
+abbrev Is : ProofRow → Piece → Type 0
 Is words p = Says words (as_claim p) (as_node p) (as_pair p)
 
 -- under `infeasible` there is one leaf with weights
@@ -71,23 +71,23 @@ abbrev pub FitsNode : Setting → ProofNode → Type 0
 FitsNode s (Split j t) = IsWholeFor s j
 FitsNode s n = Unit {0}
 
-abbrev pub MayCome : Setting → Standing → Piece → Type 0
+abbrev pub MayCome : Setting → ProofStanding → Piece → Type 0
 MayCome s st (claim_row c) = (is_none st.claim ≡ true) × (fits (claim_value c) ≡ true)
 MayCome s st (node_row n) =
     (is_some st.claim ≡ true) × (pairs_left st ≡ 0) × (0 < subtrees_left st) × (length st.nodes < 2 ^ 16) × FitsNode s n × MayStand st.claim n
 MayCome s st (pair_row p) = (is_some st.claim ≡ true) × (0 < pairs_left st) × (p.0 < s.rows)
 
 -- each may come, and behind them all has come
-unfoldable pub IsRun : Setting → Standing → List Piece → Type 0
-IsRun s st [] = is_whole st ≡ true
+unfoldable pub IsRun : Setting → ProofStanding → List Piece → Type 0
+IsRun s st [] = is_whole_proof st ≡ true
 IsRun s st (p ∷ ps) = MayCome s st p × IsRun s (with_piece st p) ps
 
 -- behind the first row
-abbrev pub begun_only : Standing
+abbrev pub begun_only : ProofStanding
 begun_only = record { begun = true; claim = None; nodes = []; pairs = [] }
 
 -- the row says a piece that may come
-record Here (s : Setting) (st : Standing) (words : Row) : Type 0 where
+record Here (s : Setting) (st : ProofStanding) (words : ProofRow) : Type 0 where
   piece : Piece
   may : MayCome s st piece
   is : Is words piece
@@ -120,7 +120,7 @@ none_fits : fits zero_ℚ ≡ true
 unfolding whole
 none_fits = refl
 
-claim_in_fits : (words : Row) (c : Claim) → claim_in words ≡ Some c → fits (claim_value c) ≡ true
+claim_in_fits : (words : ProofRow) (c : Claim) → claim_in words ≡ Some c → fits (claim_value c) ≡ true
 unfolding claim_in
 claim_in_fits words c e = by (is_row (codes "infeasible") 1 words) e
   where
@@ -132,14 +132,14 @@ claim_in_fits words c e = by (is_row (codes "infeasible") 1 words) e
     by true e = (let same : Infeasible ≡ c = cc in subst (λ (d : Claim). fits (claim_value d) ≡ true) same none_fits)
     by false e = value (is_row (codes "value") 3 words) e
 
-claim_may : (s : Setting) (st : Standing) (words : Row) (o : Option Claim) → claim_in words ≡ o → Says words o None None → is_none st.claim ≡ true → is_none o ≡ false → st.begun ≡ true → Here s st words
+claim_may : (s : Setting) (st : ProofStanding) (words : ProofRow) (o : Option Claim) → claim_in words ≡ o → Says words o None None → is_none st.claim ≡ true → is_none o ≡ false → st.begun ≡ true → Here s st words
 claim_may s st words None e says none given b = absurd cc
 claim_may s st words (Some c) e says none given b = record { piece = claim_row c; may = (none, claim_in_fits words c e); is = says; next = sym (claim_is st words (Some c) says b none) }
 
 -- ---- a node
 
-weights_node : (words : Row) → is_row (codes "weights") 2 words ≡ true → node_in words ≡ leaf_in Weights (whole_of (word_at words 1))
-unfolding node_in
+weights_node : (words : ProofRow) → is_row (codes "weights") 2 words ≡ true → proof_node_in words ≡ leaf_in Weights (whole_of (word_at words 1))
+unfolding proof_node_in
 weights_node words e =
     let same : word_at words 0 ≡ codes "weights" = bytes_same (word_at words 0) (codes "weights") (and_parts (begins words (codes "weights")) (length words == 2) e).0 in
     let no_split : begins words (codes "split") ≡ false = ap (λ w. bytes_eq w (codes "split")) same in
@@ -158,7 +158,7 @@ not_true : (b : Bool) → not b ≡ true → b ≡ false
 not_true true e = absurd cc
 not_true false e = refl
 
-may_stand : (c : Option Claim) (words : Row) (n : ProofNode) → node_in words ≡ Some n → is_node_row c words ≡ true → MayStand c n
+may_stand : (c : Option Claim) (words : ProofRow) (n : ProofNode) → proof_node_in words ≡ Some n → is_node_row c words ≡ true → MayStand c n
 may_stand c words n is row = by (is_row (codes "weights") 2 words) refl row
   where
     by : (b : Bool) → is_row (codes "weights") 2 words ≡ b → (b || (not (is_alone c) && (is_row (codes "duals") 2 words || is_row (codes "split") 3 words))) ≡ true → MayStand c n
@@ -172,7 +172,7 @@ fits_node s n out continuous = tt
 
 -- ---- a row
 
-node_may : (s : Setting) (st : Standing) (words : Row) (o : Option ProofNode) → node_in words ≡ o → Says words None o None → st.begun ≡ true → is_some st.claim ≡ true → pairs_left st ≡ 0 → 0 < subtrees_left st
+node_may : (s : Setting) (st : ProofStanding) (words : ProofRow) (o : Option ProofNode) → proof_node_in words ≡ o → Says words None o None → st.begun ≡ true → is_some st.claim ≡ true → pairs_left st ≡ 0 → 0 < subtrees_left st
     → is_node_row st.claim words ≡ true → is_none o ≡ false → is_split_out s.kinds o ≡ false
     → is_split_continuous s.kinds o ≡ false → nat_le (2 ^ 16) (length st.nodes) ≡ false → Here s st words
 node_may s st words None e says b claim none some row given out continuous few = absurd cc
@@ -184,44 +184,44 @@ node_may s st words (Some n) e says b claim none some row given out continuous f
       next = sym (node_is st words (Some n) says b);
     }
 
-pair_may : (s : Setting) (st : Standing) (words : Row) (o : Option Pair) → Says words None None o → st.begun ≡ true → is_some st.claim ≡ true → 0 < pairs_left st → is_none o ≡ false → is_pair_out s.rows o ≡ false → Here s st words
+pair_may : (s : Setting) (st : ProofStanding) (words : ProofRow) (o : Option Pair) → Says words None None o → st.begun ≡ true → is_some st.claim ≡ true → 0 < pairs_left st → is_none o ≡ false → is_pair_out s.rows o ≡ false → Here s st words
 pair_may s st words None says b claim left given out = absurd cc
 pair_may s st words (Some p) says b claim left given out =
     record { piece = pair_row p; may = (claim, left, le_false s.rows p.0 out); is = says; next = sym (pair_is st words (Some p) says b) }
 
-claim_here : (s : Setting) (st : Standing) (words : Row) → st.begun ≡ true → is_none st.claim ≡ true → first_reason (claim_tests words) ≡ None → Here s st words
+claim_here : (s : Setting) (st : ProofStanding) (words : ProofRow) → st.begun ≡ true → is_none st.claim ≡ true → first_reason (claim_tests words) ≡ None → Here s st words
 unfolding claim_tests
 claim_here s st words b none tests =
     let each = none_each (claim_tests words) tests in
     claim_may s st words (claim_in words) refl (claim_row_says words tests) none each.1.0 b
 
-node_here : (s : Setting) (st : Standing) (words : Row) → st.begun ≡ true → is_some st.claim ≡ true → pairs_left st ≡ 0 → 0 < subtrees_left st → first_reason (node_tests s st words) ≡ None → Here s st words
-unfolding node_tests
+node_here : (s : Setting) (st : ProofStanding) (words : ProofRow) → st.begun ≡ true → is_some st.claim ≡ true → pairs_left st ≡ 0 → 0 < subtrees_left st → first_reason (proof_node_tests s st words) ≡ None → Here s st words
+unfolding proof_node_tests
 node_here s st words b claim none some tests =
-    let each = none_each (node_tests s st words) tests in
-    node_may s st words (node_in words) refl (node_row_says s st words tests) b claim none some (not-false (is_node_row st.claim words) each.0) each.1.0 each.1.1.0 each.1.1.1.0 each.1.1.1.1.0
+    let each = none_each (proof_node_tests s st words) tests in
+    node_may s st words (proof_node_in words) refl (node_row_says s st words tests) b claim none some (not-false (is_node_row st.claim words) each.0) each.1.0 each.1.1.0 each.1.1.1.0 each.1.1.1.1.0
 
-pair_here : (s : Setting) (st : Standing) (words : Row) → st.begun ≡ true → is_some st.claim ≡ true → 0 < pairs_left st → first_reason (pair_tests s st words) ≡ None → Here s st words
-unfolding pair_tests
+pair_here : (s : Setting) (st : ProofStanding) (words : ProofRow) → st.begun ≡ true → is_some st.claim ≡ true → 0 < pairs_left st → first_reason (proof_pair_tests s st words) ≡ None → Here s st words
+unfolding proof_pair_tests
 pair_here s st words b claim left tests =
-    let each = none_each (pair_tests s st words) tests in
-    pair_may s st words (pair_in words) (pair_row_says s st words tests) b claim left each.1.0 each.1.1.0
+    let each = none_each (proof_pair_tests s st words) tests in
+    pair_may s st words (proof_pair_in words) (pair_row_says s st words tests) b claim left each.1.0 each.1.1.0
 
-row_may : (s : Setting) (st : Standing) (words : Row) → st.begun ≡ true → first_reason (row_tests s st words) ≡ None → Here s st words
-unfolding row_tests pair_tests node_tests
+row_may : (s : Setting) (st : ProofStanding) (words : ProofRow) → st.begun ≡ true → first_reason (proof_row_tests s st words) ≡ None → Here s st words
+unfolding proof_row_tests proof_pair_tests proof_node_tests
 row_may s st words begun tests = claim (is_none st.claim) refl (rw begun at tests)
   where
-    node : is_some st.claim ≡ true → pairs_left st ≡ 0 → (b : Bool) → nat_lt 0 (subtrees_left st) ≡ b → first_reason (cond b (node_tests s st words) ((true, Extra) ∷ [])) ≡ None → Here s st words
+    node : is_some st.claim ≡ true → pairs_left st ≡ 0 → (b : Bool) → nat_lt 0 (subtrees_left st) ≡ b → first_reason (cond b (proof_node_tests s st words) ((true, Extra) ∷ [])) ≡ None → Here s st words
     node claim none true is tests = node_here s st words begun claim none (ltb-true 0 (subtrees_left st) is) tests
     node claim none false is tests = absurd cc
 
     pair : is_some st.claim ≡ true → (b : Bool) → nat_lt 0 (pairs_left st) ≡ b
-        → first_reason (cond b (pair_tests s st words) (cond (nat_lt 0 (subtrees_left st)) (node_tests s st words) ((true, Extra) ∷ []))) ≡ None → Here s st words
+        → first_reason (cond b (proof_pair_tests s st words) (cond (nat_lt 0 (subtrees_left st)) (proof_node_tests s st words) ((true, Extra) ∷ []))) ≡ None → Here s st words
     pair claim true is tests = pair_here s st words begun claim (ltb-true 0 (pairs_left st) is) tests
     pair claim false is tests = node claim (zero_left (pairs_left st) is) (nat_lt 0 (subtrees_left st)) refl tests
 
     claim : (b : Bool) → is_none st.claim ≡ b
-        → first_reason (cond b (claim_tests words) (cond (nat_lt 0 (pairs_left st)) (pair_tests s st words) (cond (nat_lt 0 (subtrees_left st)) (node_tests s st words) ((true, Extra) ∷ [])))) ≡ None
+        → first_reason (cond b (claim_tests words) (cond (nat_lt 0 (pairs_left st)) (proof_pair_tests s st words) (cond (nat_lt 0 (subtrees_left st)) (proof_node_tests s st words) ((true, Extra) ∷ [])))) ≡ None
         → Here s st words
     claim true is tests = claim_here s st words begun is tests
     claim false is tests = pair (is_there st.claim is) (nat_lt 0 (pairs_left st)) refl tests
@@ -232,7 +232,7 @@ at_here : (s : Setting) (last : Last) (before rest : List (List ℕ)) → reason
 at_here s last before rest = rw (take_at before rest (length before) refl, drop_at before rest (length before) refl) refl
 
 -- what is said at a line, and at the end
-line_clean : (s : Setting) (last : Last) (before rest : List (List ℕ)) (line : List ℕ) → IsClean (proof_rules s) (before ++ line ∷ rest) last → first_reason (line_tests s (standing (rows_in before)) line) ≡ None
+line_clean : (s : Setting) (last : Last) (before rest : List (List ℕ)) (line : List ℕ) → IsClean (proof_rules s) (before ++ line ∷ rest) last → first_reason (proof_line_tests s (proof_standing (rows_in before)) line) ≡ None
 line_clean s last before rest line clean = sym (at_here s last before (line ∷ rest)) ∙ clean.clean (length before) (omega (arith, length-append before (line ∷ rest)))
 
 end_clean : (s : Setting) (last : Last) (before : List (List ℕ)) → IsClean (proof_rules s) (before ++ []) last → last_reason (proof_rules s) before last ≡ None
@@ -243,96 +243,96 @@ after_line before rest line s last clean = subst (λ ls. IsClean (proof_rules s)
 
 -- the end has no fault
 abbrev EndsFine : Setting → Last → Type 0
-EndsFine s last = (lines : List (List ℕ)) → last_reason (proof_rules s) lines last ≡ None → first_reason (end_tests (standing (rows_in lines))) ≡ None
+EndsFine s last = (lines : List (List ℕ)) → last_reason (proof_rules s) lines last ≡ None → first_reason (proof_end_tests (proof_standing (rows_in lines))) ≡ None
 
 -- the rows are those of a run of pieces
-pub record Runs (s : Setting) (st : Standing) (rows : List Row) : Type 0 where
+pub record Runs (s : Setting) (st : ProofStanding) (rows : List ProofRow) : Type 0 where
   pub pieces : List Piece
   pub run : IsRun s st pieces
   pub claims : filter_map claim_in rows ≡ filter_map as_claim pieces
-  pub nodes : filter_map node_in rows ≡ filter_map as_node pieces
-  pub pairs : filter_map pair_in rows ≡ filter_map as_pair pieces
+  pub nodes : filter_map proof_node_in rows ≡ filter_map as_node pieces
+  pub pairs : filter_map proof_pair_in rows ≡ filter_map as_pair pieces
 
 -- a row before them
-runs_more : (s : Setting) (st : Standing) (words : Row) (rows : List Row) → Here s st words → Runs s (with_row st words) rows → Runs s st (words ∷ rows)
+runs_more : (s : Setting) (st : ProofStanding) (words : ProofRow) (rows : List ProofRow) → Here s st words → Runs s (with_row st words) rows → Runs s st (words ∷ rows)
 unfolding IsRun
 runs_more s st words rows here more =
     record {
       pieces = here.piece ∷ more.pieces;
-      run = (here.may, subst (λ (now : Standing). IsRun s now more.pieces) here.next more.run);
+      run = (here.may, subst (λ (now : ProofStanding). IsRun s now more.pieces) here.next more.run);
       claims = ap₂ cons_option here.is.claim more.claims;
       nodes = ap₂ cons_option here.is.node more.nodes;
       pairs = ap₂ cons_option here.is.pair more.pairs;
     }
 
-runs_from : (s : Setting) (last : Last) → EndsFine s last → (rest before : List (List ℕ)) → (standing (rows_in before)).begun ≡ true → IsClean (proof_rules s) (before ++ rest) last
-    → Runs s (standing (rows_in before)) (rows_in rest)
-unfolding IsRun end_tests line_tests rows_in
+runs_from : (s : Setting) (last : Last) → EndsFine s last → (rest before : List (List ℕ)) → (proof_standing (rows_in before)).begun ≡ true → IsClean (proof_rules s) (before ++ rest) last
+    → Runs s (proof_standing (rows_in before)) (rows_in rest)
+unfolding IsRun proof_end_tests proof_line_tests rows_in
 runs_from s last ends [] before begun clean =
-    let tests = none_each (end_tests (standing (rows_in before))) (ends before (end_clean s last before clean)) in
-    record { pieces = []; run = not-false (is_whole (standing (rows_in before))) tests.1.0; claims = refl; nodes = refl; pairs = refl }
+    let tests = none_each (proof_end_tests (proof_standing (rows_in before))) (ends before (end_clean s last before clean)) in
+    record { pieces = []; run = not-false (is_whole_proof (proof_standing (rows_in before))) tests.1.0; claims = refl; nodes = refl; pairs = refl }
 runs_from s last ends (line ∷ rest) before begun clean =
     by (length (row_of line) == 0) (line_clean s last before rest line clean) (line_push before line)
     (λ more. runs_from s last ends rest (before ++ line ∷ []) more (after_line before rest line s last clean))
   where
-    st : Standing
-    st = standing (rows_in before)
+    st : ProofStanding
+    st = proof_standing (rows_in before)
 
-    words : Row
+    words : ProofRow
     words = row_of line
 
-    by : (b : Bool) → first_reason (cond b [] (row_tests s st words)) ≡ None → standing (rows_in (before ++ line ∷ [])) ≡ cond b st (with_row st words)
-        → ((standing (rows_in (before ++ line ∷ []))).begun ≡ true → Runs s (standing (rows_in (before ++ line ∷ []))) (rows_in rest))
+    by : (b : Bool) → first_reason (cond b [] (proof_row_tests s st words)) ≡ None → proof_standing (rows_in (before ++ line ∷ [])) ≡ cond b st (with_row st words)
+        → ((proof_standing (rows_in (before ++ line ∷ []))).begun ≡ true → Runs s (proof_standing (rows_in (before ++ line ∷ []))) (rows_in rest))
         → Runs s st (cond (not b) (words ∷ rows_in rest) (rows_in rest))
-    by true tests is next = subst (λ (now : Standing). Runs s now (rows_in rest)) is (next (ap (λ (now : Standing). now.begun) is ∙ begun))
+    by true tests is next = subst (λ (now : ProofStanding). Runs s now (rows_in rest)) is (next (ap (λ (now : ProofStanding). now.begun) is ∙ begun))
     by false tests is next =
         runs_more s st words (rows_in rest) (row_may s st words begun tests)
-        (subst (λ (now : Standing). Runs s now (rows_in rest)) is (next (ap (λ (now : Standing). now.begun) is)))
+        (subst (λ (now : ProofStanding). Runs s now (rows_in rest)) is (next (ap (λ (now : ProofStanding). now.begun) is)))
 
 -- the first row, and a run behind it
-first_runs : (s : Setting) (words : Row) (rows : List Row) → first_reason (first_tests words) ≡ None → Runs s (with_row (standing []) words) rows → Runs s begun_only (words ∷ rows)
+first_runs : (s : Setting) (words : ProofRow) (rows : List ProofRow) → first_reason (first_tests words) ≡ None → Runs s (with_row (proof_standing []) words) rows → Runs s begun_only (words ∷ rows)
 first_runs s words rows tests more =
     let says = first_row_says words tests in
     record {
       pieces = more.pieces;
-      run = subst (λ (now : Standing). IsRun s now more.pieces) (sym (first_is (standing []) words says)) more.run;
+      run = subst (λ (now : ProofStanding). IsRun s now more.pieces) (sym (first_is (proof_standing []) words says)) more.run;
       claims = ap₂ cons_option says.claim more.claims;
       nodes = ap₂ cons_option says.node more.nodes;
       pairs = ap₂ cons_option says.pair more.pairs;
     }
 
-begins_from : (s : Setting) (last : Last) → EndsFine s last → (rest before : List (List ℕ)) → standing (rows_in before) ≡ standing [] → IsClean (proof_rules s) (before ++ rest) last → Runs s begun_only (rows_in rest)
-unfolding end_tests line_tests row_tests rows_in
+begins_from : (s : Setting) (last : Last) → EndsFine s last → (rest before : List (List ℕ)) → proof_standing (rows_in before) ≡ proof_standing [] → IsClean (proof_rules s) (before ++ rest) last → Runs s begun_only (rows_in rest)
+unfolding proof_end_tests proof_line_tests proof_row_tests rows_in
 begins_from s last ends [] before none clean =
-    let tests = none_each (end_tests (standing (rows_in before))) (ends before (end_clean s last before clean)) in
-    absurd (let wrong = tests.0 in let no_rows = ap (λ (st : Standing). not st.begun) none in cc)
+    let tests = none_each (proof_end_tests (proof_standing (rows_in before))) (ends before (end_clean s last before clean)) in
+    absurd (let wrong = tests.0 in let no_rows = ap (λ (st : ProofStanding). not st.begun) none in cc)
 begins_from s last ends (line ∷ rest) before none clean =
-    by (length (row_of line) == 0) (subst (λ (st : Standing). first_reason (line_tests s st line) ≡ None) none (line_clean s last before rest line clean))
+    by (length (row_of line) == 0) (subst (λ (st : ProofStanding). first_reason (proof_line_tests s st line) ≡ None) none (line_clean s last before rest line clean))
     (line_push before line ∙ ap (λ st. with_line st line) none)
     (λ more. begins_from s last ends rest (before ++ line ∷ []) more (after_line before rest line s last clean))
     (λ more. runs_from s last ends rest (before ++ line ∷ []) more (after_line before rest line s last clean))
   where
-    words : Row
+    words : ProofRow
     words = row_of line
 
-    now : Standing
-    now = standing (rows_in (before ++ line ∷ []))
+    now : ProofStanding
+    now = proof_standing (rows_in (before ++ line ∷ []))
 
-    by : (b : Bool) → first_reason (cond b [] (first_tests words)) ≡ None → now ≡ cond b (standing []) (with_row (standing []) words) → (now ≡ standing [] → Runs s begun_only (rows_in rest))
+    by : (b : Bool) → first_reason (cond b [] (first_tests words)) ≡ None → now ≡ cond b (proof_standing []) (with_row (proof_standing []) words) → (now ≡ proof_standing [] → Runs s begun_only (rows_in rest))
         → (now.begun ≡ true → Runs s now (rows_in rest)) → Runs s begun_only (cond (not b) (words ∷ rows_in rest) (rows_in rest))
     by true tests is next run = next is
-    by false tests is next run = first_runs s words (rows_in rest) tests (subst (λ (st : Standing). Runs s st (rows_in rest)) is (run (ap (λ (st : Standing). st.begun) is)))
+    by false tests is next run = first_runs s words (rows_in rest) tests (subst (λ (st : ProofStanding). Runs s st (rows_in rest)) is (run (ap (λ (st : ProofStanding). st.begun) is)))
 
 last_fine : (s : Setting) (fault : Option LineFault) → EndsFine s (last_by fault End)
 last_fine s None lines e = e
 last_fine s (Some fault) lines e = absurd cc
 
-no_rows : standing (rows_in []) ≡ standing []
+no_rows : proof_standing (rows_in []) ≡ proof_standing []
 unfolding rows_in
 no_rows = refl
 
 -- at the end of a text without faults all has come
-pub text_ends : (s : Setting) (text : List ℕ) → IsClean (proof_rules s) (lines_of text) (last_of text) → first_reason (end_tests (standing (rows_in (lines_of text)))) ≡ None
+pub text_ends : (s : Setting) (text : List ℕ) → IsClean (proof_rules s) (lines_of text) (last_of text) → first_reason (proof_end_tests (proof_standing (rows_in (lines_of text)))) ≡ None
 unfolding last_of
 text_ends s text clean =
     last_fine s (scan text).fault (lines_of text)

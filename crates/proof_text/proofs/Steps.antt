@@ -7,8 +7,8 @@ use Rattle.std.proofs.lemmas.Bool.{lt-ltb}
 use Rattle.std.proofs.lemmas.List.{map-append}
 use Rattle.std.proofs.lemmas.List.Elements.{filter-append, filter_map-append}
 use Rattle.texts.specs.Words.{row_of}
-use Rattle.proof_text.specs.Rows.{Row, claim_in, node_in, pair_in, rows_in}
-use Rattle.proof_text.specs.Standing.{standing}
+use Rattle.proof_text.specs.Rows.{ProofRow, claim_in, proof_node_in, proof_pair_in, rows_in}
+use Rattle.proof_text.specs.Standing.{proof_standing}
 use Rattle.proof_text.specs.Steps.{with_line, with_row}
 use Rattle.proof_text.proofs.RowLemmas.{full, full_same}
 
@@ -25,22 +25,22 @@ first_more [] (Some x) = refl
 first_more (x ∷ xs) o = refl
 
 -- a row more
-pub standing_push : (rows : List Row) (words : Row) → standing (rows ++ words ∷ []) ≡ with_row (standing rows) words
+pub standing_push : (rows : List ProofRow) (words : ProofRow) → proof_standing (rows ++ words ∷ []) ≡ with_row (proof_standing rows) words
 unfolding full
 standing_push rows words =
     full_same _ _ _ _ _ _ _ _ (lt-ltb 0 (length (rows ++ words ∷ [])) (omega (arith, length-append rows (words ∷ []))))
-    (ap (λ cs. slice_get cs 0) (one_more claim_in rows words) ∙ first_more (filter_map claim_in rows) (claim_in words)) (one_more node_in rows words) (one_more pair_in rows words)
+    (ap (λ cs. slice_get cs 0) (one_more claim_in rows words) ∙ first_more (filter_map claim_in rows) (claim_in words)) (one_more proof_node_in rows words) (one_more proof_pair_in rows words)
 
 -- a line more
 pub rows_push : (lines : List (List ℕ)) (line : List ℕ) → rows_in (lines ++ line ∷ []) ≡ rows_in lines ++ cond (not (length (row_of line) == 0)) (row_of line ∷ []) []
 unfolding rows_in
 rows_push lines line =
-    ap (λ rows. filter (λ (words : Row). not (length words == 0)) rows) (map-append row_of lines (line ∷ []))
-    ∙ filter-append (λ (words : Row). not (length words == 0)) (map row_of lines) (row_of line ∷ [])
+    ap (λ rows. filter (λ (words : ProofRow). not (length words == 0)) rows) (map-append row_of lines (line ∷ []))
+    ∙ filter-append (λ (words : ProofRow). not (length words == 0)) (map row_of lines) (row_of line ∷ [])
 
-pub line_push : (lines : List (List ℕ)) (line : List ℕ) → standing (rows_in (lines ++ line ∷ [])) ≡ with_line (standing (rows_in lines)) line
+pub line_push : (lines : List (List ℕ)) (line : List ℕ) → proof_standing (rows_in (lines ++ line ∷ [])) ≡ with_line (proof_standing (rows_in lines)) line
 line_push lines line = by (length (row_of line) == 0) (rows_push lines line)
   where
-    by : (b : Bool) → rows_in (lines ++ line ∷ []) ≡ rows_in lines ++ cond (not b) (row_of line ∷ []) [] → standing (rows_in (lines ++ line ∷ [])) ≡ cond b (standing (rows_in lines)) (with_row (standing (rows_in lines)) (row_of line))
-    by true e = ap standing (e ∙ append-nil (rows_in lines))
-    by false e = ap standing e ∙ standing_push (rows_in lines) (row_of line)
+    by : (b : Bool) → rows_in (lines ++ line ∷ []) ≡ rows_in lines ++ cond (not b) (row_of line ∷ []) [] → proof_standing (rows_in (lines ++ line ∷ [])) ≡ cond b (proof_standing (rows_in lines)) (with_row (proof_standing (rows_in lines)) (row_of line))
+    by true e = ap proof_standing (e ∙ append-nil (rows_in lines))
+    by false e = ap proof_standing e ∙ standing_push (rows_in lines) (row_of line)

@@ -13,9 +13,9 @@ use Rattle.certificates.specs.declared.proof.ProofNode.{ProofNode}
 use Rattle.certificates.specs.declared.proof.ProofNode.TheVariants.{Split, Duals, Weights}
 use Rattle.certificates.specs.Proofs.{IsAlone, Pair, ProofTree, ProofValue, split, duals, weights, claim_value, nodes_of, pairs_of}
 use Rattle.proof_text.specs.Reader.{IsProofText}
-use Rattle.proof_text.specs.Rows.{Row, claim_in, node_in, pair_in, rows_in}
+use Rattle.proof_text.specs.Rows.{ProofRow, claim_in, proof_node_in, proof_pair_in, rows_in}
 use Rattle.certificates.specs.Setting.{IsProofFor, IsTreeFor, Setting}
-use Rattle.proof_text.specs.Standing.{IsSaid, Standing, is_leaf, is_split, node_count, pairs_left, standing, subtrees_left}
+use Rattle.proof_text.specs.Standing.{IsSaid, ProofStanding, is_leaf, is_split, node_count, pairs_left, proof_standing, subtrees_left}
 use Rattle.proof_text.specs.InsideReader.{AreAwaited}
 use Rattle.proof_text.proofs.Counted.{node_awaited, none_awaited, pair_awaited}
 use Rattle.proof_text.proofs.Runs.{FitsNode, IsRun, MayStand, Piece, Runs, as_claim, as_node, as_pair, begun_only, claim_row, node_row, pair_row, text_runs}
@@ -27,7 +27,7 @@ AreTrees s c [] = Unit {0}
 AreTrees s c (tree ∷ trees) = IsTreeFor s tree × IsAlone c tree × AreTrees s c trees
 
 -- after the claim c
-abbrev claimed : Claim → List ProofNode → List Pair → Standing
+abbrev claimed : Claim → List ProofNode → List Pair → ProofStanding
 claimed c nodes pairs = record { begun = true; claim = Some c; nodes = nodes; pairs = pairs }
 
 -- they come
@@ -187,8 +187,8 @@ grows s c (pair_row p ∷ ps) = pair_grows s c p ps (grows s c ps)
 
 -- ---- the claim
 
-tree_ends : (s : Setting) (c : Claim) (rows : List Row) (ps : List Piece) (p : ProofValue) → fits (claim_value c) ≡ true → filter_map claim_in rows ≡ c ∷ filter_map as_claim ps → filter_map node_in rows ≡ filter_map as_node ps
-    → filter_map pair_in rows ≡ filter_map as_pair ps → (g : Grows s c [] 1 0 ps) → (trees : List ProofTree) → g.trees ≡ trees → IsSaid (standing rows) p → IsProofFor s p
+tree_ends : (s : Setting) (c : Claim) (rows : List ProofRow) (ps : List Piece) (p : ProofValue) → fits (claim_value c) ≡ true → filter_map claim_in rows ≡ c ∷ filter_map as_claim ps → filter_map proof_node_in rows ≡ filter_map as_node ps
+    → filter_map proof_pair_in rows ≡ filter_map as_pair ps → (g : Grows s c [] 1 0 ps) → (trees : List ProofTree) → g.trees ≡ trees → IsSaid (proof_standing rows) p → IsProofFor s p
 unfolding AreTrees
 tree_ends s c rows ps p fit claims nodes pairs g [] e said = absurd (let n = g.tree_count in let m = ap (λ (l : List ProofTree). length l) e in omega (arith, n, m))
 tree_ends s c rows ps p fit claims nodes pairs g (tree ∷ other ∷ rest) e said = absurd (let n = g.tree_count in let m = ap (λ (l : List ProofTree). length l) e in omega (arith, n, m))
@@ -206,7 +206,7 @@ tree_ends s c rows ps p fit claims nodes pairs g (tree ∷ []) e said =
       few = (let few = g.few_nodes in let are = ap length (said.nodes ∙ nodes) in omega (arith, few, are));
     }
 
-runs_end : (s : Setting) (rows : List Row) (p : ProofValue) (r : Runs s begun_only rows) (ps : List Piece) → r.pieces ≡ ps → IsSaid (standing rows) p → IsProofFor s p
+runs_end : (s : Setting) (rows : List ProofRow) (p : ProofValue) (r : Runs s begun_only rows) (ps : List Piece) → r.pieces ≡ ps → IsSaid (proof_standing rows) p → IsProofFor s p
 unfolding IsRun
 runs_end s rows p r [] e said = absurd (let run = subst (IsRun s begun_only) e r.run in cc)
 runs_end s rows p r (claim_row c ∷ ps) e said =

@@ -9,20 +9,20 @@ use Rattle.proof_text.specs.declared.fault.ProofReason.{ProofReason}
 use Rattle.proof_text.specs.declared.fault.ProofReason.TheVariants.{LineTooLong, InputTooLong}
 use Rattle.certificates.specs.Setting.{Setting}
 use Rattle.proof_text.specs.Rows.{rows_in}
-use Rattle.proof_text.specs.Standing.{IsSaid, standing}
-use Rattle.proof_text.specs.Tests.{end_tests, line_tests}
+use Rattle.proof_text.specs.Standing.{IsSaid, proof_standing}
+use Rattle.proof_text.specs.Tests.{proof_end_tests, proof_line_tests}
 
-abbrev pub reason_of : LineFault → ProofReason
-reason_of LongLine = LineTooLong
-reason_of LongInput = InputTooLong
+abbrev pub proof_reason_of : LineFault → ProofReason
+proof_reason_of LongLine = LineTooLong
+proof_reason_of LongInput = InputTooLong
 
 abbrev pub proof_rules : Setting → Rules ProofReason
 proof_rules s = record {
-  at_line = λ before line. first_reason (line_tests s (standing (rows_in before)) line);
-  at_fault = λ before fault. reason_of fault;
-  at_end = λ lines. first_reason (end_tests (standing (rows_in lines)));
+  at_line = λ before line. first_reason (proof_line_tests s (proof_standing (rows_in before)) line);
+  at_fault = λ before fault. proof_reason_of fault;
+  at_end = λ lines. first_reason (proof_end_tests (proof_standing (rows_in lines)));
 }
 
 -- these lines say this
 abbrev pub SaysProof : List (List ℕ) → ProofValue → Type 0
-SaysProof lines p = IsSaid (standing (rows_in lines)) p
+SaysProof lines p = IsSaid (proof_standing (rows_in lines)) p

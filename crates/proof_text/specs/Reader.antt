@@ -8,7 +8,7 @@ use Rattle.certificates.specs.Proofs.{ProofValue}
 use Rattle.proof_text.specs.declared.fault.ProofReason.{ProofReason}
 use Rattle.certificates.specs.Setting.{Setting}
 use Rattle.proof_text.specs.Rows.{rows_in}
-use Rattle.proof_text.specs.Standing.{standing}
+use Rattle.proof_text.specs.Standing.{proof_standing}
 use Rattle.proof_text.specs.Steps.{ReadSoFar}
 use Rattle.proof_text.specs.Grammar.{SaysProof, proof_rules}
 
@@ -48,4 +48,4 @@ pub record Reading : Type 0 where
 pub record IsFed (s : Setting) (r : Reading) (text : List ℕ) : Type 0 where
   pub same : r.read.setting ≡ s
   pub stands : Stands r.stopped (proof_rules r.read.setting)
-      (λ lines. r.read.standing ≡ standing (rows_in lines)) r.lines text
+      (λ lines. r.read.standing ≡ proof_standing (rows_in lines)) r.lines text

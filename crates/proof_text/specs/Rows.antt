@@ -15,19 +15,19 @@ use Rattle.certificates.specs.declared.proof.ProofNode.TheVariants.{Split, Duals
 use Rattle.certificates.specs.Proofs.{Pair}
 
 -- the words of a line
-abbrev pub Row : Type 0
-Row = List (List ℕ)
+abbrev pub ProofRow : Type 0
+ProofRow = List (List ℕ)
 
 -- a line without words is left out
-unfoldable pub rows_in : List (List ℕ) → List Row
+unfoldable pub rows_in : List (List ℕ) → List ProofRow
 rows_in lines = filter (λ words. not (length words == 0)) (map row_of lines)
 
 -- ---- first words, and how many words there are
 
-abbrev pub is_row : List ℕ → ℕ → Row → Bool
+abbrev pub is_row : List ℕ → ℕ → ProofRow → Bool
 is_row first count words = begins words first && (length words == count)
 
-abbrev pub is_claim_row : Row → Bool
+abbrev pub is_claim_row : ProofRow → Bool
 is_claim_row words = is_row (codes "infeasible") 1 words || is_row (codes "value") 3 words
 
 -- the claim is that there is no relaxed point
@@ -36,7 +36,7 @@ is_alone (Some Infeasible) = true
 is_alone claim = false
 
 -- a row of a node under this claim: under `infeasible` it is `weights`
-abbrev pub is_node_row : Option Claim → Row → Bool
+abbrev pub is_node_row : Option Claim → ProofRow → Bool
 is_node_row claim words =
     is_row (codes "weights") 2 words
     || (not (is_alone claim) && (is_row (codes "duals") 2 words || is_row (codes "split") 3 words))
@@ -48,7 +48,7 @@ value_claim (Some k) (Some v) = if fits (dec_value v) then Some (Value k v) else
 value_claim k v = None
 
 -- `value K V`, where V is a fraction too, or `infeasible`
-unfoldable pub claim_in : Row → Option Claim
+unfoldable pub claim_in : ProofRow → Option Claim
 claim_in words =
     if is_row (codes "infeasible") 1 words then Some Infeasible
     else if is_row (codes "value") 3 words
@@ -64,8 +64,8 @@ leaf_in node None = None
 leaf_in node (Some n) = Some (node n)
 
 -- `split J T`, `duals N` or `weights N`
-unfoldable pub node_in : Row → Option ProofNode
-node_in words =
+unfoldable pub proof_node_in : ProofRow → Option ProofNode
+proof_node_in words =
     if is_row (codes "split") 3 words
     then split_node (whole_of (word_at words 1)) (signed_of (word_at words 2))
     else if is_row (codes "duals") 2 words then leaf_in Duals (whole_of (word_at words 1))
@@ -77,5 +77,5 @@ pair_of (Some i) (Some v) = Some (i, v)
 pair_of i v = None
 
 -- `I VALUE`
-unfoldable pub pair_in : Row → Option Pair
-pair_in words = pair_of (whole_of (word_at words 0)) (dec_of (word_at words 1))
+unfoldable pub proof_pair_in : ProofRow → Option Pair
+proof_pair_in words = pair_of (whole_of (word_at words 0)) (dec_of (word_at words 1))

@@ -5,22 +5,22 @@ use Rattle.certificates.specs.declared.proof.Claim.{Claim}
 use Rattle.certificates.specs.declared.proof.ProofNode.{ProofNode}
 use Rattle.certificates.specs.declared.proof.ProofNode.TheVariants.{Split, Duals, Weights}
 use Rattle.certificates.specs.Proofs.{Pair, ProofValue}
-use Rattle.proof_text.specs.Rows.{Row, claim_in, node_in, pair_in}
+use Rattle.proof_text.specs.Rows.{ProofRow, claim_in, proof_node_in, proof_pair_in}
 
 -- whether a row has come; the claim, the nodes and the pairs
-pub record Standing : Type 0 where
+pub record ProofStanding : Type 0 where
   pub begun : Bool
   pub claim : Option Claim
   pub nodes : List ProofNode
   pub pairs : List Pair
 
 -- what the rows say, each by itself
-abbrev pub standing : List Row → Standing
-standing rows = record {
+abbrev pub proof_standing : List ProofRow → ProofStanding
+proof_standing rows = record {
   begun = nat_lt 0 (length rows);
   claim = slice_get (filter_map claim_in rows) 0;
-  nodes = filter_map node_in rows;
-  pairs = filter_map pair_in rows;
+  nodes = filter_map proof_node_in rows;
+  pairs = filter_map proof_pair_in rows;
 }
 
 -- ---- what is awaited
@@ -41,16 +41,16 @@ node_count (Duals n) = n
 node_count (Weights n) = n
 
 -- how many subtrees: at first one, the whole tree
-abbrev pub subtrees_left : Standing → ℕ
+abbrev pub subtrees_left : ProofStanding → ℕ
 subtrees_left st = (1 + count_by is_split st.nodes) - count_by is_leaf st.nodes
 
 -- how many pairs of the last leaf
-abbrev pub pairs_left : Standing → ℕ
+abbrev pub pairs_left : ProofStanding → ℕ
 pairs_left st = sum_by node_count st.nodes - length st.pairs
 
 -- all has come
-abbrev pub is_whole : Standing → Bool
-is_whole st = is_some st.claim && (pairs_left st == 0) && (subtrees_left st == 0)
+abbrev pub is_whole_proof : ProofStanding → Bool
+is_whole_proof st = is_some st.claim && (pairs_left st == 0) && (subtrees_left st == 0)
 
 -- ---- the pairs of the last leaf: those behind the pairs of the nodes before it
 
@@ -65,7 +65,7 @@ abbrev pub has_pair : List Pair → ℕ → Bool
 has_pair own i = list_any (λ q. q.0 == i) own
 
 -- ---- what is said
-pub record IsSaid (st : Standing) (p : ProofValue) : Type 0 where
+pub record IsSaid (st : ProofStanding) (p : ProofValue) : Type 0 where
   pub claim : st.claim ≡ Some p.claim
   pub nodes : p.nodes ≡ st.nodes
   pub pairs : p.pairs ≡ st.pairs

@@ -6,34 +6,34 @@ use Rattle.texts.specs.Words.{row_of}
 use Rattle.certificates.specs.declared.proof.Claim.{Claim}
 use Rattle.certificates.specs.declared.proof.ProofNode.{ProofNode}
 use Rattle.certificates.specs.Proofs.{Pair}
-use Rattle.proof_text.specs.Rows.{Row, claim_in, node_in, pair_in}
+use Rattle.proof_text.specs.Rows.{ProofRow, claim_in, proof_node_in, proof_pair_in}
 use Rattle.certificates.specs.Setting.{Setting}
-use Rattle.proof_text.specs.Standing.{Standing}
+use Rattle.proof_text.specs.Standing.{ProofStanding}
 
 -- what it is judged by, and what was read of it
 pub record ReadSoFar : Type 0 where
   pub setting : Setting
-  pub standing : Standing
+  pub standing : ProofStanding
 
-abbrev pub moved : ReadSoFar → Standing → ReadSoFar
+abbrev pub moved : ReadSoFar → ProofStanding → ReadSoFar
 moved read st = record read { standing = st }
 
-abbrev pub with_claim : Standing → Option Claim → Standing
+abbrev pub with_claim : ProofStanding → Option Claim → ProofStanding
 with_claim st c = record st { claim = c }
 
-abbrev pub with_node : Standing → Option ProofNode → Standing
+abbrev pub with_node : ProofStanding → Option ProofNode → ProofStanding
 with_node st n = record st { nodes = st.nodes ++ option_to_list n }
 
-abbrev pub with_pair : Standing → Option Pair → Standing
+abbrev pub with_pair : ProofStanding → Option Pair → ProofStanding
 with_pair st p = record st { pairs = st.pairs ++ option_to_list p }
 
-abbrev pub with_row : Standing → Row → Standing
+abbrev pub with_row : ProofStanding → ProofRow → ProofStanding
 with_row st words = record {
   begun = true;
   claim = option_or st.claim (claim_in words);
-  nodes = st.nodes ++ option_to_list (node_in words);
-  pairs = st.pairs ++ option_to_list (pair_in words);
+  nodes = st.nodes ++ option_to_list (proof_node_in words);
+  pairs = st.pairs ++ option_to_list (proof_pair_in words);
 }
 
-abbrev pub with_line : Standing → List ℕ → Standing
+abbrev pub with_line : ProofStanding → List ℕ → ProofStanding
 with_line st line = if length (row_of line) == 0 then st else with_row st (row_of line)

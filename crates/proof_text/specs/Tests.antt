@@ -12,23 +12,23 @@ use Rattle.certificates.specs.Proofs.{Pair}
 use Rattle.proof_text.specs.declared.fault.ProofReason.{ProofReason}
 use Rattle.proof_text.specs.declared.fault.ProofReason.TheVariants.{BadFirst, BadLine, BadNumber, IndexOut, NotWhole, RepeatedIndex, Short, Extra, TooLarge}
 use Rattle.certificates.specs.Setting.{Setting}
-use Rattle.proof_text.specs.Rows.{Row, claim_in, is_claim_row, is_node_row, node_in, pair_in}
-use Rattle.proof_text.specs.Standing.{Standing, has_pair, is_whole, last_pairs, pairs_left, subtrees_left}
+use Rattle.proof_text.specs.Rows.{ProofRow, claim_in, is_claim_row, is_node_row, proof_node_in, proof_pair_in}
+use Rattle.proof_text.specs.Standing.{ProofStanding, has_pair, is_whole_proof, last_pairs, pairs_left, subtrees_left}
 
-abbrev pub Tests : Type 0
-Tests = List (Bool × ProofReason)
+abbrev pub ProofTests : Type 0
+ProofTests = List (Bool × ProofReason)
 
 -- ---- the first row, and the claim
 
-abbrev pub is_first : Row → Bool
+abbrev pub is_first : ProofRow → Bool
 is_first words =
     (length words == 2)
     && bytes_eq (word_at words 0) (codes "proof") && bytes_eq (word_at words 1) (codes "1")
 
-unfoldable pub first_tests : Row → Tests
+unfoldable pub first_tests : ProofRow → ProofTests
 first_tests words = (not (is_first words), BadFirst) ∷ []
 
-unfoldable pub claim_tests : Row → Tests
+unfoldable pub claim_tests : ProofRow → ProofTests
 claim_tests words =
     (not (is_claim_row words), BadLine) ∷ (is_none (claim_in words), BadNumber) ∷ []
 
@@ -42,12 +42,12 @@ abbrev pub is_split_continuous : List Kind → Option ProofNode → Bool
 is_split_continuous kinds (Some (Split j t)) = not (is_whole_kind (get_or kinds j Continuous))
 is_split_continuous kinds other = false
 
-unfoldable pub node_tests : Setting → Standing → Row → Tests
-node_tests s st words =
+unfoldable pub proof_node_tests : Setting → ProofStanding → ProofRow → ProofTests
+proof_node_tests s st words =
     (not (is_node_row st.claim words), BadLine)
-    ∷ (is_none (node_in words), BadNumber)
-    ∷ (is_split_out s.kinds (node_in words), IndexOut)
-    ∷ (is_split_continuous s.kinds (node_in words), NotWhole)
+    ∷ (is_none (proof_node_in words), BadNumber)
+    ∷ (is_split_out s.kinds (proof_node_in words), IndexOut)
+    ∷ (is_split_continuous s.kinds (proof_node_in words), NotWhole)
     ∷ (nat_le (2 ^ 16) (length st.nodes), TooLarge) ∷ []
 
 -- ---- pairs: at most 2^22 in all
@@ -55,30 +55,31 @@ node_tests s st words =
 abbrev pub is_pair_out : ℕ → Option Pair → Bool
 is_pair_out rows pair = option_map_or (λ p. nat_le rows p.0) pair false
 
-abbrev pub is_repeated : List Pair → Option Pair → Bool
-is_repeated own pair = option_map_or (λ p. has_pair own p.0) pair false
+abbrev pub is_repeated_pair : List Pair → Option Pair → Bool
+is_repeated_pair own pair = option_map_or (λ p. has_pair own p.0) pair false
 
-unfoldable pub pair_tests : Setting → Standing → Row → Tests
-pair_tests s st words =
+unfoldable pub proof_pair_tests : Setting → ProofStanding → ProofRow → ProofTests
+proof_pair_tests s st words =
     (not (length words == 2), BadLine)
-    ∷ (is_none (pair_in words), BadNumber)
-    ∷ (is_pair_out s.rows (pair_in words), IndexOut)
-    ∷ (is_repeated (last_pairs st.nodes st.pairs) (pair_in words), RepeatedIndex)
+    ∷ (is_none (proof_pair_in words), BadNumber)
+    ∷ (is_pair_out s.rows (proof_pair_in words), IndexOut)
+    ∷ (is_repeated_pair (last_pairs st.nodes st.pairs) (proof_pair_in words), RepeatedIndex)
     ∷ (nat_le (2 ^ 22) (length st.pairs), TooLarge) ∷ []
 
 -- ---- all rows: by what is awaited
 
-unfoldable pub row_tests : Setting → Standing → Row → Tests
-row_tests s st words =
+unfoldable pub proof_row_tests : Setting → ProofStanding → ProofRow → ProofTests
+proof_row_tests s st words =
     if not st.begun then first_tests words
     else if is_none st.claim then claim_tests words
-    else if nat_lt 0 (pairs_left st) then pair_tests s st words
-    else if nat_lt 0 (subtrees_left st) then node_tests s st words
+    else if nat_lt 0 (pairs_left st) then proof_pair_tests s st words
+    else if nat_lt 0 (subtrees_left st) then proof_node_tests s st words
     else (true, Extra) ∷ []
 
-unfoldable pub line_tests : Setting → Standing → List ℕ → Tests
-line_tests s st line = if length (row_of line) == 0 then [] else row_tests s st (row_of line)
+unfoldable pub proof_line_tests : Setting → ProofStanding → List ℕ → ProofTests
+proof_line_tests s st line =
+    if length (row_of line) == 0 then [] else proof_row_tests s st (row_of line)
 
 -- the end of the text
-unfoldable pub end_tests : Standing → Tests
-end_tests st = (not st.begun, BadFirst) ∷ (not (is_whole st), Short) ∷ []
+unfoldable pub proof_end_tests : ProofStanding → ProofTests
+proof_end_tests st = (not st.begun, BadFirst) ∷ (not (is_whole_proof st), Short) ∷ []

@@ -3,11 +3,11 @@ ghost use Rattle.std.specs.Prelude.{◌≡◌, ◌<◌, ◌^◌, ◌+◌, ◌∷
 ghost use Rattle.texts.specs.Judged.{DecidesOrStops, Takes};
 ghost use Rattle.texts.specs.Words.{texts};
 ghost use Rattle.proof_text.specs.Grammar.{SaysProof, proof_rules};
-ghost use Rattle.proof_text.specs.Rows.{claim_in, node_in, pair_in, rows_in};
+ghost use Rattle.proof_text.specs.Rows.{claim_in, proof_node_in, proof_pair_in, rows_in};
 ghost use Rattle.certificates.specs.Setting.{Setting};
-ghost use Rattle.proof_text.specs.Standing.{IsSaid, has_pair, is_leaf, is_split, is_whole, last_pairs, node_count, pairs_left, standing, subtrees_left};
+ghost use Rattle.proof_text.specs.Standing.{IsSaid, has_pair, is_leaf, is_split, is_whole_proof, last_pairs, node_count, pairs_left, proof_standing, subtrees_left};
 ghost use Rattle.proof_text.specs.Steps.{moved, with_claim, with_line, with_node, with_pair, with_row};
-ghost use Rattle.proof_text.specs.Tests.{claim_tests, end_tests, first_tests, is_split_continuous, is_split_out, line_tests, node_tests, pair_tests, row_tests};
+ghost use Rattle.proof_text.specs.Tests.{claim_tests, first_tests, is_split_continuous, is_split_out, proof_end_tests, proof_line_tests, proof_node_tests, proof_pair_tests, proof_row_tests};
 
 use crate::fault::ProofReason;
 use crate::rows::{judge_first, read_claim};
@@ -72,7 +72,7 @@ impl Grammar for ProofGrammar {
 
     ghost rules = { λ s. proof_rules s };
 
-    ghost took = { λ g lines. g.standing ≡ standing (rows_in lines) };
+    ghost took = { λ g lines. g.standing ≡ proof_standing (rows_in lines) };
 
     ghost says = { λ s lines proof. SaysProof lines proof };
 
@@ -150,7 +150,7 @@ impl ProofGrammar {
     ) -> Result<ProofGrammar, AllocError>
         ensures setting { IfOk result (λ g. g.setting
             ≡ record { rows = rows; kinds = kinds.items }) }
-        ensures standing { IfOk result (λ g. g.standing ≡ standing (rows_in [])) }
+        ensures standing { IfOk result (λ g. g.standing ≡ proof_standing (rows_in [])) }
     {
         let marks = Marks::new(alloc, rows as usize)?;
         Ok(ProofGrammar {
@@ -196,7 +196,7 @@ impl ProofGrammar {
 
     // Whether all has come.
     fn is_whole(&self) -> bool
-        ensures { result ≡ is_whole self.now.standing }
+        ensures { result ≡ is_whole_proof self.now.standing }
     {
         self.has_claim() && self.pairs_left() == 0 && self.subtrees_left() == 0
     }
@@ -247,12 +247,12 @@ impl ProofGrammar {
     }
 
     // A node of the tree.
-    #[tactic(auto, unfolding(crate::specs::Tests::node_tests))]
+    #[tactic(auto, unfolding(crate::specs::Tests::proof_node_tests))]
     fn take_node(&mut self, words: &[&[u8]]) -> Result<(), Stop<ProofReason>>
         requires pairs { pairs_left self.old.standing ≡ 0 }
         requires subtrees { 0 < subtrees_left self.old.standing }
-        ensures row { Takes (node_tests self.old.setting self.old.standing (texts words.now))
-            (moved self.old (with_node self.old.standing (node_in (texts words.now))))
+        ensures row { Takes (proof_node_tests self.old.setting self.old.standing (texts words.now))
+            (moved self.old (with_node self.old.standing (proof_node_in (texts words.now))))
             result self.new }
         ensures setting { self.new.setting ≡ self.old.setting }
     {
@@ -300,11 +300,11 @@ impl ProofGrammar {
     }
 
     // A pair of the last leaf.
-    #[tactic(auto, unfolding(crate::specs::Tests::pair_tests))]
+    #[tactic(auto, unfolding(crate::specs::Tests::proof_pair_tests))]
     fn take_pair(&mut self, words: &[&[u8]]) -> Result<(), Stop<ProofReason>>
         requires { 0 < pairs_left self.old.standing }
-        ensures row { Takes (pair_tests self.old.setting self.old.standing (texts words.now))
-            (moved self.old (with_pair self.old.standing (pair_in (texts words.now))))
+        ensures row { Takes (proof_pair_tests self.old.setting self.old.standing (texts words.now))
+            (moved self.old (with_pair self.old.standing (proof_pair_in (texts words.now))))
             result self.new }
         ensures setting { self.new.setting ≡ self.old.setting }
     {
@@ -328,9 +328,9 @@ impl ProofGrammar {
     }
 
     // Takes a row with a word.
-    #[tactic(auto, unfolding(crate::specs::Tests::row_tests))]
+    #[tactic(auto, unfolding(crate::specs::Tests::proof_row_tests))]
     fn take_row(&mut self, words: &[&[u8]]) -> Result<(), Stop<ProofReason>>
-        ensures row { Takes (row_tests self.old.setting self.old.standing (texts words.now))
+        ensures row { Takes (proof_row_tests self.old.setting self.old.standing (texts words.now))
             (moved self.old (with_row self.old.standing (texts words.now))) result self.new }
         ensures setting { self.new.setting ≡ self.old.setting }
     {
@@ -350,9 +350,9 @@ impl ProofGrammar {
     }
 
     // Takes a line; one without words is left out.
-    #[tactic(auto, unfolding(crate::specs::Tests::line_tests))]
+    #[tactic(auto, unfolding(crate::specs::Tests::proof_line_tests))]
     fn take_line(&mut self, line: &[u8]) -> Result<(), Stop<ProofReason>>
-        ensures row { Takes (line_tests self.old.setting self.old.standing line.now)
+        ensures row { Takes (proof_line_tests self.old.setting self.old.standing line.now)
             (moved self.old (with_line self.old.standing line.now)) result self.new }
         ensures setting { self.new.setting ≡ self.old.setting }
     {
@@ -365,9 +365,9 @@ impl ProofGrammar {
     }
 
     // The proof, at the end of the text.
-    #[tactic(auto, unfolding(crate::specs::Tests::end_tests))]
+    #[tactic(auto, unfolding(crate::specs::Tests::proof_end_tests))]
     fn end(self) -> Result<Proof, Stop<ProofReason>>
-        ensures { DecidesOrStops (end_tests self.standing) (λ p. IsSaid self.standing p) result }
+        ensures { DecidesOrStops (proof_end_tests self.standing) (λ p. IsSaid self.standing p) result }
     {
         if !self.begun {
             return Err(Stop::Fault(ProofReason::BadFirst));

@@ -9,7 +9,7 @@ ghost use Rattle.certificates.specs.Setting.{IsProofFor, Setting};
 ghost use Rattle.file_certificates.specs.Setting.{setting_of};
 ghost use Rattle.proof_text.specs.Reader.{IsFed, ReadsProof};
 ghost use Rattle.proof_text.specs.Rows.{rows_in};
-ghost use Rattle.proof_text.specs.Standing.{standing};
+ghost use Rattle.proof_text.specs.Standing.{proof_standing};
 
 use crate::fault::ProofFault;
 use crate::grammar::ProofGrammar;
@@ -40,7 +40,7 @@ impl Model for ProofReader {
 // No lines of a proof of this file.
 fn grammar_of(alloc: Global, file: &NlFile) -> Result<ProofGrammar, AllocError>
     ensures setting { IfOk result (λ g. g.setting ≡ setting_of file.now) }
-    ensures standing { IfOk result (λ g. g.standing ≡ standing (rows_in [])) }
+    ensures standing { IfOk result (λ g. g.standing ≡ proof_standing (rows_in [])) }
 {
     let kinds = all_kinds(alloc, file)?;
     ProofGrammar::new(alloc, file.header().counts().n_con, kinds)

@@ -1,7 +1,7 @@
 // The words of rows, and what they say.
 ghost use Rattle.std.specs.Prelude.{◌≡◌};
 ghost use Rattle.texts.specs.Words.{texts};
-ghost use Rattle.proof_text.specs.Rows.{claim_in, is_alone, is_claim_row, is_node_row, is_row, node_in, pair_in, split_node, value_claim};
+ghost use Rattle.proof_text.specs.Rows.{claim_in, is_alone, is_claim_row, is_node_row, is_row, proof_node_in, proof_pair_in, split_node, value_claim};
 
 use certificates::proof::{Claim, ProofNode};
 use exact_numbers::{Dec, Frac, dec_of, signed_of, whole_of};
@@ -77,9 +77,9 @@ fn split_node(variable: Option<u32>, most: Option<i32>) -> Option<ProofNode>
 }
 
 /// The node of a row.
-#[tactic(auto, unfolding(crate::specs::Rows::node_in))]
+#[tactic(auto, unfolding(crate::specs::Rows::proof_node_in))]
 pub(crate) fn node_in(words: &[&[u8]]) -> Option<ProofNode>
-    ensures { result ≡ node_in (texts words.now) }
+    ensures { result ≡ proof_node_in (texts words.now) }
 {
     let number = whole_of(word_at(words, 1));
     if is_row(b"split".as_slice(), 3, words) {
@@ -98,9 +98,9 @@ pub(crate) fn node_in(words: &[&[u8]]) -> Option<ProofNode>
 }
 
 /// The pair of a row.
-#[tactic(auto, unfolding(crate::specs::Rows::pair_in))]
+#[tactic(auto, unfolding(crate::specs::Rows::proof_pair_in))]
 pub(crate) fn pair_in(words: &[&[u8]]) -> Option<(u32, Dec)>
-    ensures { result ≡ pair_in (texts words.now) }
+    ensures { result ≡ proof_pair_in (texts words.now) }
 {
     let Some(row) = whole_of(word_at(words, 0)) else {
         return None;

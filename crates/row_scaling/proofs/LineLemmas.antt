@@ -6,7 +6,7 @@ use Rattle.exact_numbers.specs.declared.dec.Dec.{Dec}
 use Rattle.exact_numbers.specs.Values.{dec_value, text_of, value_text}
 use Rattle.exact_numbers.proofs.Spelling.{value_text-decimal}
 use Rattle.written_texts.specs.Lines.{WordLine, indented, line_text, lines_text, unless_empty}
-use Rattle.written_texts.proofs.Writing.{lines_after, line_after, rest_written}
+use Rattle.written_texts.proofs.Writing.{lines_after, rest_written}
 use Rattle.mps_model.specs.Mps.{MpsRow, Entry, no_mps_row, Bound, Column, no_column}
 use Rattle.mps_model.specs.declared.kinds.RowKind.TheVariants.{N}
 use Rattle.mps_model.specs.Text.{entry_line, entry_lines, row_line, section, name_of_row as name_at, bound_line, bound_text, change_lines, column_lines, markers_after, value_words}
@@ -14,7 +14,7 @@ use Rattle.mps_writer.proofs.Writing.{unless_map, column_written, last_change}
 use Rattle.exported_program.specs.Program.{ScaledRow, entries_of, mps_row, nonzero, obj_name, with_entry, bound_record, bounds_of, column_bounds, column_entries, columns_of, fixed_or_both, or_obj_zero, z_variable}
 use Rattle.scaling.specs.Scaled.{ScaledValue, IsScaled}
 use Rattle.scaling.specs.Exported.{program_objective, program_rows, exported_from, program_variables, tied_rows}
-use Rattle.row_scaling.specs.InsideSections.{all_ranges, all_rows, all_sides, range_lines, row_lines, side_lines, value_lines, all_bounds, all_columns, lines_from, named_bound}
+use Rattle.row_scaling.specs.InsideSections.{all_ranges, all_rows, all_sides, range_lines, row_lines, side_lines, value_lines, all_bounds, all_columns, lines_from, named_bound, bound_by}
 use Rattle.row_scaling.specs.InsideSides.{range_in, right_side_of}
 use Rattle.row_scaling.proofs.AddLemmas.{others_left, column_rising, columns_more, column_sides, all_variables, bounds_left, bounds_more, bounds_none, variables_end, left_variables, variable_at}
 use Rattle.row_scaling.proofs.ColumnLemmas.{entries_more, entries_none, Rows, left, left_some}
@@ -233,18 +233,19 @@ row_is_named s numbers row k e some h is =
     ∙ ap (name_at (all_rows s)) (sym step)
 
 -- ---- bounds
-pub bound_written : (name : List ℕ) (kind : BoundKind) (value : Dec) (v : ℚ) (j : ℕ) (out0 out1 : List ℕ) → dec_value value ≡ v →
-    out1 ≡ out0 ++ line_text (indented (bound_text kind ∷ codes "BND" ∷ name ∷ value_words kind (text_of value))) → out1 ≡ out0 ++ line_text (named_bound name (bound_record kind j v))
-bound_written name kind value v j out0 out1 e now = now ∙ ap (λ t. out0 ++ line_text (indented (bound_text kind ∷ codes "BND" ∷ name ∷ value_words kind t))) (same_text value ∙ ap value_text e)
+pub one_written : (name : List ℕ) (kind : BoundKind) (value : Dec) (v : ℚ) (j : ℕ) (records : List (Bound ℚ)) (out0 out1 : List ℕ) → dec_value value ≡ v → records ≡ bound_record kind j v ∷ [] →
+    out1 ≡ out0 ++ lines_text (bound_by name kind value ∷ []) → out1 ≡ out0 ++ lines_text (map (named_bound name) records)
+one_written name kind value v j records out0 out1 e is now =
+    now
+    ∙ ap (λ t. out0 ++ lines_text (indented (bound_text kind ∷ codes "BND" ∷ name ∷ value_words kind t) ∷ [])) (same_text value ∙ ap value_text e)
+    ∙ ap (λ bs. out0 ++ lines_text (map (named_bound name) bs)) (sym is)
 
-pub one_bound : (name : List ℕ) (b : Bound ℚ) (records : List (Bound ℚ)) (out0 out1 : List ℕ) → records ≡ b ∷ [] → out1 ≡ out0 ++ line_text (named_bound name b) → out1 ≡ out0 ++ lines_text (map (named_bound name) records)
-one_bound name b records out0 out1 e now = now ∙ ap (λ x. out0 ++ x) (sym (append-nil (line_text (named_bound name b)))) ∙ ap (λ bs. out0 ++ lines_text (map (named_bound name) bs)) (sym e)
-
-pub two_bounds : (name : List ℕ) (b c : Bound ℚ) (records : List (Bound ℚ)) (out0 out1 out2 : List ℕ) → records ≡ b ∷ c ∷ [] → out1 ≡ out0 ++ line_text (named_bound name b) → out2 ≡ out1 ++ line_text (named_bound name c) →
-    out2 ≡ out0 ++ lines_text (map (named_bound name) records)
-two_bounds name b c records out0 out1 out2 e first second =
-    line_after out0 out1 out2 (named_bound name b ∷ []) (named_bound name c) (first ∙ ap (λ x. out0 ++ x) (sym (append-nil (line_text (named_bound name b))))) second
-    ∙ ap (λ bs. out0 ++ lines_text (map (named_bound name) bs)) (sym e)
+pub both_written : (name : List ℕ) (k m : BoundKind) (c d : Dec) (v w : ℚ) (j : ℕ) (records : List (Bound ℚ)) (out0 out1 : List ℕ) → dec_value c ≡ v → dec_value d ≡ w → records ≡ bound_record k j v ∷ bound_record m j w ∷ [] →
+    out1 ≡ out0 ++ lines_text (bound_by name k c ∷ bound_by name m d ∷ []) → out1 ≡ out0 ++ lines_text (map (named_bound name) records)
+both_written name k m c d v w j records out0 out1 e f is now =
+    now
+    ∙ ap₂ (λ t u. out0 ++ lines_text (indented (bound_text k ∷ codes "BND" ∷ name ∷ value_words k t) ∷ indented (bound_text m ∷ codes "BND" ∷ name ∷ value_words m u) ∷ [])) (same_text c ∙ ap value_text e) (same_text d ∙ ap value_text f)
+    ∙ ap (λ bs. out0 ++ lines_text (map (named_bound name) bs)) (sym is)
 
 -- the bounds of column j, by its name
 named_lines : (cols : List (Column ℚ)) (j : ℕ) (l u : Option ℚ) → map (bound_line value_text cols) (column_bounds j l u) ≡ map (named_bound (get_or cols j no_column).name) (column_bounds j l u)

@@ -1,9 +1,11 @@
 -- The program of a scaled linear program, section by section, and the lines of its rows.
 use Rattle.std.specs.Prelude.{ℕ, Bool, List, [], ◌∷◌, drop, map, codes, Option, Some, None}
 use Rattle.fractions.specs.Rational.{ℚ, neg_ℚ}
-use Rattle.exact_numbers.specs.Values.{value_text}
+use Rattle.exact_numbers.specs.declared.dec.Dec.{Dec}
+use Rattle.exact_numbers.specs.Values.{text_of, value_text}
 use Rattle.written_texts.specs.Lines.{WordLine, indented}
 use Rattle.mps_model.specs.Mps.{MpsRow, Entry, Column, Bound}
+use Rattle.mps_model.specs.declared.kinds.BoundKind.{BoundKind}
 use Rattle.mps_model.specs.declared.kinds.RowKind.TheVariants.{N}
 use Rattle.mps_model.specs.Text.{bound_text, column_lines, row_line, value_words}
 use Rattle.exported_program.specs.Program.{ScaledRow, bounds_of, columns_of, entries_of, mps_row, nonzero, obj_name, with_entry}
@@ -50,6 +52,11 @@ side_lines r = value_lines (codes "RHS") r.name (right_side_of r)
 -- the line of a row's range, where it has one
 abbrev pub range_lines : ScaledRow → List WordLine
 range_lines r = value_lines (codes "RNG") r.name (range_in r)
+
+-- the line of a bound of this kind and value, of the column of this name
+abbrev pub bound_by : List ℕ → BoundKind → Dec → WordLine
+bound_by name kind value =
+    indented (bound_text kind ∷ codes "BND" ∷ name ∷ value_words kind (text_of value))
 
 -- the line of a bound of the column of this name
 abbrev pub named_bound : List ℕ → Bound ℚ → WordLine

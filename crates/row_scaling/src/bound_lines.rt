@@ -1,49 +1,142 @@
 // The lines of the bounds.
-ghost use Rattle.std.specs.Prelude.{◌≡◌, ℕ, ◌++◌, ◌∷◌, map, codes, OnOk};
-ghost use Rattle.exact_numbers.specs.Values.{value_text};
+ghost use Rattle.std.specs.Prelude.{◌≡◌, ◌+◌, ◌≤◌, ◌++◌, ◌∷◌, [], length, map, codes, OnOk};
+ghost use Rattle.exact_numbers.specs.Values.{text_of, value_text};
 ghost use Rattle.exported_program.specs.Program.{column_bounds};
-ghost use Rattle.mps_model.specs.Text.{bound_line, section};
+ghost use Rattle.mps_model.specs.Text.{bound_line, section, value_words};
 ghost use Rattle.scaling.specs.Rows.{side_value};
-ghost use Rattle.written_texts.specs.Lines.{lines_text, unless_empty};
-ghost use Rattle.row_scaling.specs.InsideSections.{all_bounds, all_columns, named_bound};
+ghost use Rattle.written_texts.specs.Lines.{line_text, lines_text, spaced, unless_empty};
+ghost use Rattle.row_scaling.specs.InsideColumns.{column_in};
+ghost use Rattle.row_scaling.specs.InsideSections.{all_bounds, all_columns, bound_by, named_bound};
 
-use crate::names::column_name;
+use crate::names::put_column_name;
 use crate::numbers::{same_value, zero};
+use exact_numbers::Dec;
 use linear_program::Interval;
 use mps_model::BoundKind;
-use mps_writer::put_bound;
+use mps_writer::bound_front;
 use scaling::Scaled;
 use std::alloc::AllocError;
-use written_texts::put_line;
+use written_texts::{LineText, put, put_line};
 
-// The bounds of a column, both sides by name.
-fn put_column_bounds(out: &mut Vec<u8>, column: &[u8], side: Interval) -> Result<(), AllocError>
-    ensures { (j : ℕ) → OnOk result (out.new.items ≡ out.old.items ++ lines_text
-        (map (named_bound column.now)
+// Writes the name of column j in front, and the value behind it where the kind has one.
+fn put_tail(lines: &mut LineText<256>, n: usize, j: u32, kind: BoundKind, value: Dec)
+    requires { length lines.old ≤ 128 }
+    ensures text { lines.new
+        ≡ spaced (column_in n j ∷ value_words kind (text_of value)) ++ lines.old }
+    ensures short { length lines.new ≤ length lines.old + 80 }
+{
+    match kind {
+        BoundKind::Fr | BoundKind::Mi | BoundKind::Pl | BoundKind::Bv => {
+            put_column_name(lines, n, j);
+        }
+        _ => {
+            lines.put_dec(value);
+            lines.put_byte(b' ');
+            put_column_name(lines, n, j);
+        }
+    }
+}
+
+// Writes the line of a bound of column j in front.
+fn put_bound_before(lines: &mut LineText<256>, n: usize, j: u32, kind: BoundKind, value: Dec)
+    requires { length lines.old ≤ 100 }
+    ensures text { lines.new
+        ≡ line_text (bound_by (column_in n j) kind value) ++ lines.old }
+    ensures short { length lines.new ≤ length lines.old + 100 }
+{
+    lines.put_byte(b'\n');
+    put_tail(lines, n, j, kind, value);
+    lines.put_word(bound_front(kind));
+}
+
+// The line of the one bound of a column.
+fn put_one(
+    out: &mut Vec<u8>,
+    lines: &mut LineText<256>,
+    n: usize,
+    j: u32,
+    kind: BoundKind,
+    value: Dec,
+) -> Result<(), AllocError>
+    ensures { OnOk result (out.new.items
+        ≡ out.old.items ++ lines_text (bound_by (column_in n j) kind value ∷ [])) }
+{
+    lines.clear();
+    put_bound_before(lines, n, j, kind, value);
+    put(out, lines.bytes())
+}
+
+// The lines of both bounds of a column, the second of which is written first.
+fn put_both(
+    out: &mut Vec<u8>,
+    lines: &mut LineText<256>,
+    n: usize,
+    j: u32,
+    lower: (BoundKind, Dec),
+    upper: (BoundKind, Dec),
+) -> Result<(), AllocError>
+    ensures { OnOk result (out.new.items ≡ out.old.items ++ lines_text
+        (bound_by (column_in n j) lower.0 lower.1
+        ∷ bound_by (column_in n j) upper.0 upper.1 ∷ [])) }
+{
+    lines.clear();
+    put_bound_before(lines, n, j, upper.0, upper.1);
+    put_bound_before(lines, n, j, lower.0, lower.1);
+    put(out, lines.bytes())
+}
+
+// The bounds of column j, both sides by name.
+fn put_column_bounds(
+    out: &mut Vec<u8>,
+    lines: &mut LineText<256>,
+    n: usize,
+    j: u32,
+    side: Interval,
+) -> Result<(), AllocError>
+    ensures { OnOk result (out.new.items ≡ out.old.items ++ lines_text
+        (map (named_bound (column_in n j))
         (column_bounds j (side_value side.lo) (side_value side.hi)))) }
 {
     match (side.lo, side.hi) {
         (None, None) => {
-            put_bound(out, column, BoundKind::Fr, zero())?;
+            put_one(out, lines, n, j, BoundKind::Fr, zero())?;
             Ok(())
         }
         (None, Some(upper)) => {
-            put_bound(out, column, BoundKind::Mi, zero())?;
-            put_bound(out, column, BoundKind::Up, upper)?;
+            put_both(
+                out,
+                lines,
+                n,
+                j,
+                (BoundKind::Mi, zero()),
+                (BoundKind::Up, upper),
+            )?;
             Ok(())
         }
         (Some(lower), None) => {
-            put_bound(out, column, BoundKind::Lo, lower)?;
-            put_bound(out, column, BoundKind::Pl, zero())?;
+            put_both(
+                out,
+                lines,
+                n,
+                j,
+                (BoundKind::Lo, lower),
+                (BoundKind::Pl, zero()),
+            )?;
             Ok(())
         }
         (Some(lower), Some(upper)) => {
             if same_value(lower, upper) {
-                put_bound(out, column, BoundKind::Fx, lower)?;
+                put_one(out, lines, n, j, BoundKind::Fx, lower)?;
                 return Ok(());
             }
-            put_bound(out, column, BoundKind::Lo, lower)?;
-            put_bound(out, column, BoundKind::Up, upper)?;
+            put_both(
+                out,
+                lines,
+                n,
+                j,
+                (BoundKind::Lo, lower),
+                (BoundKind::Up, upper),
+            )?;
             Ok(())
         }
     }
@@ -56,9 +149,9 @@ fn put_listed_bounds(out: &mut Vec<u8>, scaled: &Scaled) -> Result<(), AllocErro
 {
     let n = scaled.variables();
     let bounds = scaled.program_bounds();
+    let mut lines = LineText::<256>::new();
     for (j, side) in bounds.iter().enumerate() {
-        let name = column_name(n, j as u32);
-        put_column_bounds(out, name.bytes(), *side)?;
+        put_column_bounds(out, &mut lines, n, j as u32, *side)?;
     }
     Ok(())
 }

@@ -125,10 +125,11 @@ fn put_parts(
         marked: false,
         markers: 0,
     };
+    let mut columns = Vec::new(alloc);
     let mut done = 0usize;
     'parts: while done < sizes.len() {
         let end = part_end(done, sizes.len());
-        let columns = batches.part(alloc, done as u32, &sizes[done..end])?;
+        batches.part(alloc, done as u32, &sizes[done..end], &mut columns)?;
         place = put_part(out, scaled, numbers, done as u32, &columns, place)?;
         done = end;
     }

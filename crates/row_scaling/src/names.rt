@@ -99,3 +99,39 @@ pub(crate) fn column_name(n: usize, j: u32) -> ShortName
         ShortName::numbered(b'x', j)
     }
 }
+
+// Writes a letter and a number in front of a line.
+fn put_numbered(line: &mut LineText<256>, letter: u8, number: u32)
+    requires { length line.old + 11 ≤ 256 }
+    ensures written { line.new ≡ letter ∷ decimal number ++ line.old }
+    ensures short { length line.new ≤ length line.old + 11 }
+{
+    line.put_number(number as u64);
+    line.put_byte(letter);
+}
+
+// Writes the name of row i in front of a line.
+pub(crate) fn put_row_name(line: &mut LineText<256>, n: usize, i: u32)
+    requires { length line.old + 11 ≤ 256 }
+    ensures written { line.new ≡ name_in n i ++ line.old }
+    ensures short { length line.new ≤ length line.old + 11 }
+{
+    if i as usize == n {
+        line.put_word(b"zdef");
+    } else {
+        put_numbered(line, b'c', i);
+    }
+}
+
+// Writes the name of column j in front of a line.
+pub(crate) fn put_column_name(line: &mut LineText<256>, n: usize, j: u32)
+    requires { length line.old + 11 ≤ 256 }
+    ensures written { line.new ≡ column_in n j ++ line.old }
+    ensures short { length line.new ≤ length line.old + 11 }
+{
+    if j as usize == n {
+        line.put_word(b"z");
+    } else {
+        put_numbered(line, b'x', j);
+    }
+}

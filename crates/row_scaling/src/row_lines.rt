@@ -3,17 +3,36 @@ ghost use Rattle.std.specs.Prelude.{◌≡◌, ◌+◌, ◌≤◌, ◌^◌, ◌+
 ghost use Rattle.std.specs.List.{flat_map};
 ghost use Rattle.mps_model.specs.Text.{row_line, section};
 ghost use Rattle.scaling.specs.Parts.{name_in, rows_in};
-ghost use Rattle.written_texts.specs.Lines.{lines_text};
+ghost use Rattle.written_texts.specs.Lines.{line_text, lines_text};
 ghost use Rattle.row_scaling.specs.InsideSections.{all_rows, row_lines};
 
-use crate::names::row_name;
+use crate::names::put_row_name;
 use crate::rows::kind_of;
 use mps_model::RowKind;
-use mps_writer::put_row;
+use mps_writer::{put_row, row_front};
 use scaling::{FactoredRow, Scaled};
 use std::alloc::AllocError;
-use written_texts::put_line;
+use written_texts::{LineText, put, put_line};
 
+// The line of row i, in the room of a line.
+fn put_row_line(
+    out: &mut Vec<u8>,
+    line: &mut LineText<256>,
+    n: usize,
+    i: u32,
+    kind: RowKind,
+) -> Result<(), AllocError>
+    ensures { OnOk result (out.new.items ≡ out.old.items ++ line_text
+        (row_line (record { name = name_in n i; kind = kind }))) }
+{
+    line.clear();
+    line.put_byte(b'\n');
+    put_row_name(line, n, i);
+    line.put_word(row_front(kind));
+    put(out, line.bytes())
+}
+
+// The rows of a list, row n being that of a tie.
 fn put_listed_rows(
     out: &mut Vec<u8>,
     rows: &[Option<FactoredRow>],
@@ -23,12 +42,12 @@ fn put_listed_rows(
     ensures { OnOk result (out.new.items
         ≡ out.old.items ++ lines_text (flat_map row_lines (rows_in (name_in n) 0 rows.now))) }
 {
+    let mut line = LineText::<256>::new();
     for (i, row) in rows.iter().enumerate() {
         let Some(factored) = row else {
             continue;
         };
-        let name = row_name(n, i as u32);
-        put_row(out, name.bytes(), kind_of(&factored.row))?;
+        put_row_line(out, &mut line, n, i as u32, kind_of(&factored.row))?;
     }
     Ok(())
 }

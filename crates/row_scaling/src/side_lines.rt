@@ -1,21 +1,21 @@
 // The lines of the right sides and ranges.
 ghost use Rattle.std.specs.Prelude.{◌≡◌, ℕ, ◌+◌, ◌≤◌, ◌^◌, ◌++◌, ◌∷◌, [], length, codes, OnOk, cond, List};
 ghost use Rattle.std.specs.List.{flat_map};
-ghost use Rattle.exact_numbers.specs.Values.{value_text};
+ghost use Rattle.exact_numbers.specs.Values.{text_of, value_text};
 ghost use Rattle.mps_model.specs.Text.{entry_lines, section};
 ghost use Rattle.scaling.specs.Parts.{name_in, rows_in};
 ghost use Rattle.scaling.specs.Rows.{side_value};
-ghost use Rattle.written_texts.specs.Lines.{WordLine, lines_text, unless_empty};
+ghost use Rattle.written_texts.specs.Lines.{WordLine, indented, line_text, lines_text, unless_empty};
 ghost use Rattle.row_scaling.specs.InsideSections.{all_ranges, all_rows, all_sides, range_lines, side_lines, value_lines};
 
-use crate::names::row_name;
+use crate::names::put_row_name;
 use crate::numbers::{negated, nonzero};
 use crate::sides::right_side;
 use exact_numbers::Dec;
 use mps_writer::put_entry;
 use scaling::{FactoredRow, Scaled};
 use std::alloc::AllocError;
-use written_texts::put_line;
+use written_texts::{LineText, put, put_line};
 
 // The line of a value at a name, where there is one.
 fn put_value(
@@ -34,6 +34,30 @@ fn put_value(
     Ok(())
 }
 
+// The line of a value in row i, in the room of a line.
+fn put_row_value(
+    out: &mut Vec<u8>,
+    line: &mut LineText<256>,
+    word: &[u8],
+    n: usize,
+    i: u32,
+    value: Dec,
+) -> Result<(), AllocError>
+    requires { length word.now ≤ 32 }
+    ensures { OnOk result (out.new.items ≡ out.old.items ++ line_text
+        (indented (word.now ∷ name_in n i ∷ text_of value ∷ []))) }
+{
+    line.clear();
+    line.put_byte(b'\n');
+    line.put_dec(value);
+    line.put_byte(b' ');
+    put_row_name(line, n, i);
+    line.put_byte(b' ');
+    line.put_word(word);
+    line.put_byte(b' ');
+    put(out, line.bytes())
+}
+
 // The right sides of the rows of a list, row n being that of a tie.
 fn put_row_sides(
     out: &mut Vec<u8>,
@@ -44,6 +68,7 @@ fn put_row_sides(
     ensures { OnOk result (out.new.items
         ≡ out.old.items ++ lines_text (flat_map side_lines (rows_in (name_in n) 0 rows.now))) }
 {
+    let mut line = LineText::<256>::new();
     for (i, row) in rows.iter().enumerate() {
         let Some(factored) = row else {
             continue;
@@ -51,8 +76,7 @@ fn put_row_sides(
         let Some(side) = right_side(&factored.row) else {
             continue;
         };
-        let name = row_name(n, i as u32);
-        put_entry(out, b"RHS", name.bytes(), side)?;
+        put_row_value(out, &mut line, b"RHS", n, i as u32, side)?;
     }
     Ok(())
 }
@@ -99,6 +123,7 @@ fn put_row_ranges(
     ensures { OnOk result (out.new.items
         ≡ out.old.items ++ lines_text (flat_map range_lines (rows_in (name_in n) 0 rows.now))) }
 {
+    let mut line = LineText::<256>::new();
     for (i, row) in rows.iter().enumerate() {
         let Some(factored) = row else {
             continue;
@@ -106,8 +131,7 @@ fn put_row_ranges(
         let Some(range) = factored.row.range() else {
             continue;
         };
-        let name = row_name(n, i as u32);
-        put_entry(out, b"RNG", name.bytes(), range)?;
+        put_row_value(out, &mut line, b"RNG", n, i as u32, range)?;
     }
     Ok(())
 }

@@ -15,7 +15,7 @@ from .clp import Clp, NoClp, State, library
 from .directions import directions
 from .equations import parity
 from .leaves import Closed, Closer, Multipliers
-from .model import Added, Box, Model, Point, Unfit, factors
+from .model import Added, Box, Model, Point, Unfit, model_of
 from .numbers import is_narrow
 from .plans import MOST_THIN, PLAIN, SHORT, Plans, Shaped, written
 from .points import Basis
@@ -27,12 +27,11 @@ from .tree import Spool, Tree, count
 from .watch import KEPT, Over, Stopped, Watch
 from ..bridge import Bridge, Late, Refused
 from ..files import naming
-from ..nl import header
 from ..program import Program
 
 WITHOUT = "not proved: "
 NO_EXACT = "no exact point has the answer's whole variables"
-ROUNDING = Fraction(1, 10 ** 12)        # of the largest term of a row
+ZERO, ROUNDING = Fraction(0), Fraction(1, 10 ** 12)     # of the largest term of a row
 MOST_BETTER = 100               # points that a search may find
 ONE_LEAF = 1.0                  # seconds for it
 LOOSER = (1e-9, 1e-7, 1e-5, 1e-3)       # of a value: what a bound may lie away
@@ -103,12 +102,11 @@ class Certifying:
         self.program, self.figures, self.shortens = program, "", shortens
         self.point: Point | None = None         # the best that is known
         self.plans: Plans | None = None
+        self.contradicted = False               # the answer's whole variables are
         self.path = os.path.join(folder, "certificate")
 
     def load(self) -> None:
-        names = [name for name in self.program.constraints if name != "zdef"]
-        self.factors = factors(self.bridge, self.nl, self.folder, names)
-        self.model = Model(self.program.text, self.factors, header(self.nl).constraints)
+        self.model, self.factors = model_of(self.bridge, self.nl, self.folder, self.program)
         self.linear = not any(self.model.whole)
         if not self.proves:
             self.watch.restart()
@@ -176,11 +174,17 @@ class Certifying:
             return self.best(self.linear_optimum(given))
         assert given.values is not None
         point = self.exact(given.values)
-        if point is None and points.broken(self.model, given.values) > ROUNDING:
-            point = self.mended(given.values)
+        by = ZERO
+        if point is None:
+            by = points.broken(self.model, given.values)
+            seconds = min(max(self.watch.left(), ONE_LEAF), MOST_CLP_SECONDS)
+            self.contradicted = by > ROUNDING or points.is_contradicted(self.model, given.values,
+                                                                        seconds)
+            if by > ROUNDING:
+                point = self.mended(given.values)
         if point is not None:
             return self.best(self.whole_optimum(point))
-        return self.without_exact(given.values)
+        return self.without_exact(given.values, by)
 
     def mended(self, x: Sequence[float | Fraction]) -> Point | None:
         """A point beside an answer some of whose whole values are off by the digits that a solver
@@ -196,24 +200,22 @@ class Certifying:
                 pass
         return None
 
-    def without_exact(self, x: Sequence[float | Fraction]) -> Verdict:
-        """Where no exact point has the answer's whole variables: a contradiction, or whatever the
-        search finds. An answer that breaks rows by rounding alone is meant, and stands: only with
-        `proves` more is tried, and no worse point takes its place."""
+    def without_exact(self, x: Sequence[float | Fraction], by: Fraction) -> Verdict:
+        """Where no exact point has the answer's whole variables, which miss rows by that share: a
+        contradiction, or whatever the search finds. An answer that breaks rows by rounding alone
+        is meant, and stands: only with `proves` more is tried, and no worse point takes its
+        place."""
         p, verdict = self.model, Verdict(WITHOUT + NO_EXACT)
-        by = points.broken(p, x)
         if 0 < by <= ROUNDING:
             verdict = Verdict(f"{WITHOUT}rows of whole variables are missed by {float(by):.2g} of "
                               "their largest term, which is rounding")
-        seconds = min(max(self.watch.left(), ONE_LEAF), MOST_CLP_SECONDS)
-        contradicted = by > ROUNDING or points.is_contradicted(p, x, seconds)
-        if self.proves or contradicted or not by:
+        if self.proves or self.contradicted or not by:
             found = self.best(self.infeasible())
             is_worse = found.point is not None and found.claim() != "optimal" and \
                 p.value(found.point) > p.value([Fraction(v) for v in x])
-            if found.is_proved() and (contradicted or not is_worse):
+            if found.is_proved() and (self.contradicted or not is_worse):
                 return found
-        return verdict._replace(contradicted=contradicted)
+        return verdict._replace(contradicted=self.contradicted)
 
     def of_nothing(self, given: Given = Given()) -> Verdict:
         """Where the solver has no point: a contradiction or a point where a search finds it, else
@@ -440,7 +442,8 @@ class Certifying:
                 self.watch.disarm()
         if point is not None:
             yield self.feasible(point)
-        yield Verdict(WITHOUT + ("interrupted" if self.watch.is_stopped else "time"))
+        yield Verdict(WITHOUT + ("interrupted" if self.watch.is_stopped else "time"),
+                      contradicted=self.contradicted)
 
     def planned(self, plans: Plans) -> None:
         if self.proves:

@@ -10,13 +10,13 @@ import tempfile
 import time
 from typing import Sequence, TextIO
 
-from .. import VERSION, colour, console, solvers
+from .. import VERSION, colour, console, kinds, solvers
 from ..codes import Code, Failure, Status
 from ..driver import Driver
 from ..interrupts import SIGNALS
 from ..keeping import Kept
 from ..near import near
-from ..options import BadOption, Option
+from ..options import BadOption, Option, form
 from ..report import Report, fill, silently
 from ..solving import Result
 
@@ -26,6 +26,8 @@ OPTIONS = (
     Option("certificate", "", str, "where the certificate is written (MODEL.certificate; - is "
                                    "standard output)"),
     Option("driver", "cbc", str, "the driver that finds a point"),
+    Option("format", "", form, "of an MPS file: free or fixed (what it is read as where nothing is "
+                               "said)"),
     Option("json", 0, int, "1: standard output gets one object of JSON, and nothing else"),
     Option("objno", 1, int, "which objective, from 1"),
     Option("overwrite", 0, int, "1: the certificate replaces what stands there, also one that says "
@@ -41,7 +43,8 @@ OPTIONS = (
 PASSED = ("objno", "overwrite", "shorten", "shortest", "timelim")
 USAGE = f"""usage: {NAME} MODEL [option=value ..]
 
-  finds what is true of MODEL.nl by a solver and a search, writes a certificate of it, and tells
+  finds what is true of MODEL.nl, or of the MPS file MODEL (MODEL.mps, MODEL.mps.gz), by a solver
+  and a search, writes a certificate of it, and tells
   the verdict of `bridge verify`. Status 1 where nothing is proved, 5 where the certificate could
   not be written.
 
@@ -75,12 +78,14 @@ class Finding(Driver):
 
 
 class Command:
-    """One call: `stub` is the model's path without its end."""
+    """One call: `model` is what is named, `stub` its path without its end."""
 
     def __init__(self, argv: Sequence[str]) -> None:
         self.options = {o.name: o.default for o in OPTIONS}
         known = {o.name: o for o in OPTIONS}
-        self.stub = argv[0][:-3] if argv[0].endswith(".nl") else argv[0]
+        self.model = argv[0]
+        is_mps = kinds.is_mps(self.model)
+        self.stub = kinds.stub_of(self.model) if is_mps else self.model.removesuffix(".nl")
         for word in argv[1:]:
             name, equal, value = word.partition("=")
             if not equal or name not in known:
@@ -125,8 +130,9 @@ class Command:
 
     def found(self, place: str) -> int:
         """By a driver with its option `prove`."""
-        words = [self.stub, "-e", "prove=1", "certificate=" + place]
+        words = [self.model, "-e", "prove=1", "certificate=" + place]
         words += [f"{name}={self.options[name]}" for name in PASSED]
+        words += [f"format={self.options['format']}"] if self.options["format"] else []
         words += ["bridge=" + str(self.options["bridge"])] if self.options["bridge"] else []
         self.driver = driver = Finding(str(self.options["driver"]))
         driver.is_hidden = self.path == "-"

@@ -11,6 +11,8 @@ from typing import Iterable, List, Mapping, NamedTuple, Optional, Sequence
 
 from ..bridge import Bridge
 from ..files import naming
+from ..nl import header
+from ..program import Program
 from ..sections import Sections
 from ..sol import duals_of
 from .clp import Clp, Linear, enlarging
@@ -253,6 +255,16 @@ def scaled(end: Side, by: int) -> Side:
 
 def is_outside(value: int, lo: Side, hi: Side) -> bool:
     return lo is not None and value < lo or hi is not None and value > hi
+
+
+def model_of(bridge: Bridge, nl: str, folder: str,
+             program: Program) -> tuple[Model, dict[int, int]]:
+    """The model of a file, and what its rows were multiplied by where that is not 1."""
+    names = [name for name in program.constraints if name != "zdef"]
+    if not program.is_exported:
+        return Model(program.text, {}, len(names)), {}
+    known = factors(bridge, nl, folder, names)
+    return Model(program.text, known, header(nl).constraints), known
 
 
 def factors(bridge: Bridge, nl: str, folder: str, constraints: Sequence[str]) -> dict[int, int]:

@@ -11,12 +11,10 @@ from typing import Callable, NamedTuple, Sequence
 
 from .. import colour, explaining, verdicts
 from ..bridge import Bridge, Refused
-from ..certify.model import Model, Unfit, factors
+from ..certify.model import Model, Unfit, model_of
 from ..files import write
-from ..names import Names
-from ..nl import header
 from ..printable import in_a_line
-from ..program import Program
+from ..subjects import Subject, subject
 from .bounds import Bounds
 from .page import Page, Used, text_of
 from .picture import Picture
@@ -68,30 +66,25 @@ def sum_of(path: str) -> str:
 class Explaining:
     """One certificate of one model, after its verdict."""
 
-    def __init__(self, bridge: Bridge, files: Files, verdict: str, holds: bool) -> None:
+    def __init__(self, model: Subject, files: Files, verdict: str, holds: bool) -> None:
         self.files, self.verdict, self.holds = files, verdict, holds
         self.certificate: Certificate = read(files.certificate)
-        stub = files.nl[:-3] if files.nl.endswith(".nl") else files.nl
-        head = header(files.nl)
-        self.names = Names(stub, head.variables, head.constraints)
+        self.names, constraints = model.names(), model.constraints()
         self.note = ""
         self.drawn: Picture | None = None
-        self.bounds = self.exact(bridge, head.constraints)
-        self.wording = Wording(self.certificate, self.names, self.bounds, head.constraints)
-        self.tally = tally(self.certificate, head.constraints)
+        self.bounds = self.exact(model)
+        self.wording = Wording(self.certificate, self.names, self.bounds, constraints)
+        self.tally = tally(self.certificate, constraints)
         self.fails = None if holds else self.wording.failing_leaf(verdict)
         self.claim = claim_words(self.certificate, verdicts.read(verdict) if holds else None,
                                  self.bounds)
 
-    def exact(self, bridge: Bridge, constraints: int) -> Bounds | None:
+    def exact(self, given: Subject) -> Bounds | None:
         """The program in exact numbers; None, with a note, where it is not to be had."""
-        objective = str(self.certificate.objective or 0)
         try:
-            program = Program(bridge.text("export", self.files.nl, objective))
-            names = [name for name in program.constraints if name != "zdef"]
+            program = given.program(str(self.certificate.objective or 0))
             with tempfile.TemporaryDirectory(prefix="nl-bridge-") as folder:
-                model = Model(program.text, factors(bridge, self.files.nl, folder, names),
-                              constraints)
+                model, _ = model_of(given.bridge, given.path, folder, program)
         except (Refused, Unfit) as fault:
             told = fault.line() if isinstance(fault, Refused) else str(fault)
             self.note = f"without bounds: {told}"
@@ -145,20 +138,27 @@ class Explaining:
 
 def explained(bridge: Bridge, files: Files) -> int:
     """Prints what a certificate says, and writes the pages that are asked for. The status is that
-    of `verify`; 5 where a page cannot be written."""
-    reply = bridge.call("verify", files.nl, files.certificate)
+    of `verify`; 5 where a page cannot be written. Refused or mps_file.Damaged where an MPS file is
+    none."""
+    with subject(bridge, files.nl) as model:
+        return explained_of(model, files)
+
+
+def explained_of(model: Subject, files: Files) -> int:
+    bridge = model.bridge
+    reply = bridge.call("verify", model.path, files.certificate)
     if reply.status not in (0, 1):
-        words = ["verify", files.nl, files.certificate]
-        print(Refused("verify", reply, words).line())
+        words = bridge.in_full(("verify", model.path, files.certificate))
+        print(Refused(words[0], reply, words, bridge.shown).line())
         if reply.status == REFUSED:
-            more = explaining.Refusal(words, reply.told, {}).more()
+            more = explaining.Refusal(words, reply.told, bridge.shown).more()
             print("".join(f"  {line}\n" for line in more), end="")
         return reply.status
     verdict = reply.out.decode("utf-8", "replace").strip()
-    told = Explaining(bridge, files, verdict, reply.status == 0)
+    told = Explaining(model, files, verdict, reply.status == 0)
     first, *lines = map(in_a_line, told.lines())
     colour.tell(first, sys.stdout, verdict)
-    print("\n".join(lines))
+    print("\n".join([*lines, *model.notes]))
     pages: Sequence[tuple[str, Callable[[], str]]] = (
         (files.html, told.page), (files.svg, lambda: told.picture(True)))
     for path, text in pages:

@@ -4,4 +4,4 @@ use Rattle.branch_check.specs.Leaves.{IsVerdictOn}
 use Rattle.bridge_tool.proofs.prove.verdict_of.Goals as goal
 
 pub returns-clause-exact : goal.returns-clause-exact
-returns-clause-exact c = subst (λ (f : Linear). IsVerdictOn f c.args.proof.now c.in_ok-verdict.verdict) c.in_ok-columns.ensures c.in_ok-verdict.ensures.exact
+returns-clause-exact c = subst (λ (f : Linear). IsVerdictOn f c.args.proof.now c.in_ok-verdict.verdict) c.in_ok-program.ensures c.in_ok-verdict.ensures.exact

@@ -6,4 +6,4 @@ use Rattle.bridge_tool.proofs.verify.outcome_on.Goals as goal
 
 pub returns : goal.returns
 returns c =
-    subst (λ (f : Linear). (h : IsCertificateOf f c.args.certificate.now) → outcome_of c.in_ok-outcome.outcome ≡ claim_outcome f c.args.certificate.now.claim h.given) c.in_ok-columns.ensures c.in_ok-outcome.ensures.exact
+    subst (λ (f : Linear). (h : IsCertificateOf f c.args.certificate.now) → outcome_of c.in_ok-outcome.outcome ≡ claim_outcome f c.args.certificate.now.claim h.given) c.in_ok-program.ensures c.in_ok-outcome.ensures.exact

@@ -4,7 +4,7 @@ use Rattle.duality.specs.Branch.{proof_fault}
 use Rattle.duality.specs.Certificate.{judged, with_leaves}
 use Rattle.exact_numbers.specs.Values.{frac_value}
 use Rattle.certificates.specs.Certificates.{tree_over}
-use Rattle.dual_bounds.specs.Programs.{program_of}
+use Rattle.dual_bounds.specs.Programs.{linear_of}
 use Rattle.dual_bounds.proofs.SumLemmas.{if_put}
 use Rattle.certificate_walk.specs.InsidePoints.{fractions_of}
 use Rattle.certificate_walk.proofs.check.near_outcome.Goals as goal
@@ -14,6 +14,6 @@ returns-in-Ok c =
     if_put c.tree_outcome.result c.tree_outcome.ensures
     (λ o q h tree e.
     q h tree e
-    ∙ ap (with_leaves (proof_fault (program_of c.args.columns.now) (frac_value c.args.stated) (tree_over (row_count (program_of c.args.columns.now)) tree)))
+    ∙ ap (with_leaves (proof_fault (linear_of c.args.program.now) (frac_value c.args.stated) (tree_over (row_count (linear_of c.args.program.now)) tree)))
     (c.in-Ok.ensures
-    ∙ ap (judged (program_of c.args.columns.now)) (ap fractions_of c.deref.ensures.value ∙ c.in_ok-x.ensures.numbers h)))
+    ∙ ap (judged (linear_of c.args.program.now)) (ap fractions_of c.deref.ensures.value ∙ c.in_ok-x.ensures.numbers h)))

@@ -10,4 +10,4 @@ pub returns : goal.returns
 returns c =
     c.bound_total.ensures
     ∙ ap₂ (λ lo hi. bound_total (asked Objective (program_of c.args.columns.now)) (bounds_in lo hi) (point_of c.args.y.now)) c.deref-lower.ensures.value c.deref-upper.ensures.value
-    ∙ ap (λ box. bound_total (program_of c.args.columns.now) box (point_of c.args.y.now)) (own_bounds c.args.columns.now)
+    ∙ ap (λ box. bound_total (program_of c.args.columns.now) box (point_of c.args.y.now)) (own_bounds c.args.columns.now.program)

@@ -10,4 +10,4 @@ pub returns : goal.returns
 returns c =
     c.first_dual_fault.ensures
     ∙ ap₂ (λ lo hi. dual_fault (asked Objective (program_of c.args.columns.now)) (bounds_in lo hi) (point_of c.args.y.now)) c.deref-lower.ensures.value c.deref-upper.ensures.value
-    ∙ ap (λ box. dual_fault (program_of c.args.columns.now) box (point_of c.args.y.now)) (own_bounds c.args.columns.now)
+    ∙ ap (λ box. dual_fault (program_of c.args.columns.now) box (point_of c.args.y.now)) (own_bounds c.args.columns.now.program)

@@ -1,7 +1,7 @@
 use Rattle.std.proofs.Common.{◌<◌, arith, ap₂, ◌∙◌}
 use Rattle.duality.specs.Verdict.{bound_fault}
 use Rattle.dual_bounds.proofs.Points.{point_of}
-use Rattle.dual_bounds.specs.Programs.{program_of, bounds_in}
+use Rattle.dual_bounds.specs.Programs.{linear_of, bounds_in}
 use Rattle.dual_bounds.proofs.Firsts.{first_goes_on, first_stops}
 use Rattle.dual_bounds.proofs.Rows.{bound_fault_is, variables_counted}
 use Rattle.linear_programs.specs.Linear.{variable_count}
@@ -9,9 +9,9 @@ use Rattle.dual_bounds.proofs.point.first_bound_fault.Goals as goal
 
 pub returns-then-not-is_within_bounds : goal.returns-then-not-is_within_bounds
 returns-then-not-is_within_bounds c =
-    let l : c.loop-j.j < variable_count (program_of c.args.columns.now) = omega (arith, variables_counted c.args.columns.now) in
-    first_stops (bound_fault (program_of c.args.columns.now) (point_of c.args.x.now)) c.loop-j.j (variable_count (program_of c.args.columns.now)) _ l c.loop-j.invariant
-    (bound_fault_is c.args.columns.now c.args.x.now c.requires.numbers c.loop-j.j c.index-x-j.result c.loop-j-test.true c.index-x-j.is _ _ (c.interval_at-bounds.ensures ∙ ap₂ (λ a b. bounds_in a b c.loop-j.j) c.deref.ensures.value c.deref-in-loop-j.ensures.value) c.if-not-is_within_bounds.ensures)
+    let l : c.loop-j.j < variable_count (linear_of c.args.program.now) = omega (arith, variables_counted c.args.program.now) in
+    first_stops (bound_fault (linear_of c.args.program.now) (point_of c.args.x.now)) c.loop-j.j (variable_count (linear_of c.args.program.now)) _ l c.loop-j.invariant
+    (bound_fault_is c.args.program.now c.args.x.now c.requires.numbers c.loop-j.j c.index-x-j.result c.loop-j-test.true c.index-x-j.is _ _ (c.interval_at-bounds.ensures ∙ ap₂ (λ a b. bounds_in a b c.loop-j.j) c.deref.ensures.value c.deref-in-loop-j.ensures.value) c.if-not-is_within_bounds.ensures)
 
 pub loop-j-preserved : goal.loop-j-preserved
-loop-j-preserved c = first_goes_on (bound_fault (program_of c.args.columns.now) (point_of c.args.x.now)) c.loop-j.j c.loop-j.invariant (bound_fault_is c.args.columns.now c.args.x.now c.requires.numbers c.loop-j.j c.index-x-j.result c.loop-j-test.true c.index-x-j.is _ _ (c.interval_at-bounds.ensures ∙ ap₂ (λ a b. bounds_in a b c.loop-j.j) c.deref.ensures.value c.deref-in-loop-j.ensures.value) c.if-not-is_within_bounds.ensures)
+loop-j-preserved c = first_goes_on (bound_fault (linear_of c.args.program.now) (point_of c.args.x.now)) c.loop-j.j c.loop-j.invariant (bound_fault_is c.args.program.now c.args.x.now c.requires.numbers c.loop-j.j c.index-x-j.result c.loop-j-test.true c.index-x-j.is _ _ (c.interval_at-bounds.ensures ∙ ap₂ (λ a b. bounds_in a b c.loop-j.j) c.deref.ensures.value c.deref-in-loop-j.ensures.value) c.if-not-is_within_bounds.ensures)

@@ -1,7 +1,7 @@
 use Rattle.std.proofs.Common.{◌<◌, arith}
 use Rattle.duality.specs.Verdict.{row_fault}
 use Rattle.dual_bounds.proofs.Points.{point_of}
-use Rattle.dual_bounds.specs.Programs.{program_of}
+use Rattle.dual_bounds.specs.Programs.{linear_of}
 use Rattle.dual_bounds.proofs.Firsts.{first_stops}
 use Rattle.dual_bounds.proofs.Rows.{item_at, row_fault_is, rows_counted}
 use Rattle.linear_programs.specs.Linear.{row_count}
@@ -9,6 +9,6 @@ use Rattle.dual_bounds.proofs.point.first_row_fault.Goals as goal
 
 pub returns-in-Some : goal.returns-in-Some
 returns-in-Some c =
-    let l : c.loop-i.i < row_count (program_of c.args.columns.now) = omega (arith, rows_counted c.args.columns.now) in
-    first_stops (row_fault (program_of c.args.columns.now) (point_of c.args.x.now)) c.loop-i.i (row_count (program_of c.args.columns.now)) _ l c.loop-i.invariant
-    (row_fault_is c.args.columns.now c.args.x.now c.requires.numbers c.loop-i.i c.row-item.result (item_at c.args.columns.now.rows.items c.deref-row-items.result.now c.loop-i.i c.row-item.result c.deref-row-items.ensures.value c.loop-i-test.true c.row-item.is) _ _ c.value_at.ensures c.in-Some.ensures)
+    let l : c.loop-i.i < row_count (linear_of c.args.program.now) = omega (arith, rows_counted c.args.program.now) in
+    first_stops (row_fault (linear_of c.args.program.now) (point_of c.args.x.now)) c.loop-i.i (row_count (linear_of c.args.program.now)) _ l c.loop-i.invariant
+    (row_fault_is c.args.program.now c.args.x.now c.requires.numbers c.loop-i.i c.row-item.result (item_at c.args.program.now.rows.items c.deref-row-items.result.now c.loop-i.i c.row-item.result c.deref-row-items.ensures.value c.loop-i-test.true c.row-item.is) _ _ c.value_at.ensures c.in-Some.ensures)

@@ -1,18 +1,37 @@
-use Rattle.std.proofs.Common.{IfSome, length, option_copied, subst}
+use Rattle.std.proofs.Common.{◌≡◌, [], ◌∷◌, IfSome, ap, length, option_copied, subst}
 use Rattle.fractions.specs.Rational.{zero_ℚ}
-use Rattle.nl_meaning.specs.Trees.{tree_size}
-use Rattle.linear_fold.specs.InsideFolds.{IsTreeGiven}
-use Rattle.linear_fold.proofs.Expressions.{prefix_size, prefix_within, same_bound, zero_folded}
-use Rattle.linear_fold.proofs.Folding.{constant_within}
+use Rattle.linear_programs.specs.Lines.{Point}
+use Rattle.nl_meaning.specs.Trees.{Known, Tree, tree_size}
+use Rattle.nl_model.specs.Nodes.{trees_of}
+use Rattle.linear_fold.specs.declared.entries.Entry.TheVariants.{Linear}
+use Rattle.linear_fold.specs.InsideFolds.{IsFolded, IsTreeGiven}
+use Rattle.linear_fold.proofs.Expressions.{prefix_size, prefix_within, zero_folded}
+use Rattle.linear_fold.proofs.Folding.{constant_within, some_node}
+use Rattle.linear_fold.proofs.LeafLemmas.{leaf_bound, some_holds, tree_bound}
 use Rattle.linear_fold.proofs.expression.tree_entry.Goals as goal
 
 pub fold_tree-requires-clause-within : goal.fold_tree-requires-clause-within
 fold_tree-requires-clause-within g c =
-    prefix_within c.args.variables c.args.slots.now c.nodes.ensures.prefix (subst (λ t. IfSome (option_copied t) (IsTreeGiven c.args.variables c.args.slots.now)) c.in-Some.is c.requires.given)
+    prefix_within c.args.variables c.args.slots.now c.nodes-nodes.ensures.prefix (subst (λ t. IfSome (option_copied t) (IsTreeGiven c.args.variables c.args.slots.now)) c.in-Some.is c.requires.given)
 
-pub returns-in-Some-clause-below : goal.returns-in-Some-clause-below
-returns-in-Some-clause-below g c =
-    rw c.in-Some.is (same_bound c.args.variables c.fold_tree.new.steps c.args.steps.now (length c.nodes.result.now) (tree_size c.in-Some.expr.now) (prefix_size c.nodes.ensures.prefix) c.fold_tree.ensures.below)
+pub returns-in_err-form-in-Some-clause-below : goal.returns-in_err-form-in-Some-clause-below
+returns-in_err-form-in-Some-clause-below g c =
+    let nodes = c.nodes-nodes.result.now in
+    rw c.in-Some.is (leaf_bound c.args.variables c.leaf_sum.new.steps c.args.steps.now (length nodes) (tree_size c.in-Some.expr.now) (prefix_size c.nodes-nodes.ensures.prefix) (some_node nodes (ap length c.nodes-nodes.ensures.trees)) c.leaf_sum.ensures.below)
+
+pub returns-in-Some-2-clause-entry : goal.returns-in-Some-2-clause-entry
+returns-in-Some-2-clause-entry g c known are =
+    rw c.in-Some.is
+    (some_holds _ c.in-Some-2.form (λ f. (at : Point → Known) (t : Tree) → trees_of c.nodes-nodes.result.now ≡ t ∷ [] → IsFolded at c.args.variables 0 t (Linear f)) c.in-Some-2.is c.in_ok-form-in-Some.ensures.form known c.in-Some.expr.now c.nodes-nodes.ensures.trees)
+
+pub returns-in-Some-2-clause-below : goal.returns-in-Some-2-clause-below
+returns-in-Some-2-clause-below g c =
+    let nodes = c.nodes-nodes.result.now in
+    rw c.in-Some.is (leaf_bound c.args.variables c.leaf_sum.new.steps c.args.steps.now (length nodes) (tree_size c.in-Some.expr.now) (prefix_size c.nodes-nodes.ensures.prefix) (some_node nodes (ap length c.nodes-nodes.ensures.trees)) c.leaf_sum.ensures.below)
+
+pub returns-in-None-2-clause-below : goal.returns-in-None-2-clause-below
+returns-in-None-2-clause-below g c =
+    rw c.in-Some.is (tree_bound c.args.variables c.fold_tree.new.steps c.leaf_sum.new.steps c.args.steps.now (length c.nodes-nodes.result.now) (tree_size c.in-Some.expr.now) (prefix_size c.nodes-nodes.ensures.prefix) c.leaf_sum.ensures.below c.fold_tree.ensures.below)
 
 pub returns-in-None-clause-entry : goal.returns-in-None-clause-entry
 returns-in-None-clause-entry g c known are = rw c.in-None.is (zero_folded known c.args.variables c.new.result c.new.ensures.line)

@@ -1,4 +1,4 @@
-use Rattle.std.proofs.Common.{◌≡◌, ◌+◌, ◌<◌, ◌∙◌, ◌++◌, ◌∷◌, [], ℕ, List, Option, Some, ap, append-nil, arith, get_or, length, sym}
+use Rattle.std.proofs.Common.{◌≡◌, ◌+◌, ◌<◌, ◌∙◌, ◌++◌, ◌∷◌, [], ℕ, List, Option, Some, ap, append-nil, arith, get_or, length, refl, sym}
 use Rattle.std.specs.List.{flat_map}
 use Rattle.mps_model.specs.Text.{row_line}
 use Rattle.mps_model.specs.declared.kinds.RowKind.{RowKind}
@@ -33,7 +33,7 @@ loop-i-preserved-in_default c =
 
 pub loop-i-preserved : goal.loop-i-preserved
 loop-i-preserved c =
-    row_written (name_in c.args.n) c.args.rows.now c.loop-i.i c.index-rows-i.result c.in-Some.factored c.kind_of.result c.bytes.result.now c.loop-i.out.items c.put_row.new.out.items _ (omega arith) c.index-rows-i.is c.in-Some.is c.kind_of.ensures (c.bytes.ensures ∙ c.row_name-name.ensures) c.loop-i.invariant c.in_ok-put_row.ensures
+    row_written (name_in c.args.n) c.args.rows.now c.loop-i.i c.index-rows-i.result c.in-Some.factored c.kind_of.result (name_in c.args.n c.loop-i.i) c.loop-i.out.items c.put_row_line.new.out.items _ (omega arith) c.index-rows-i.is c.in-Some.is c.kind_of.ensures refl c.loop-i.invariant c.in_ok-put_row_line.ensures
 
 pub returns : goal.returns
 returns c = rows_end (name_in c.args.n) c.args.rows.now c.loop-i.i c.loop-i.out.items _ (omega arith) c.loop-i.invariant

@@ -1,7 +1,7 @@
 use Rattle.std.proofs.Common.{◌∙◌, ap, ap₂}
 use Rattle.dual_bounds.specs.Programs.{bounds_in}
 use Rattle.dual_bounds.proofs.Rows.{own_bounds}
-use Rattle.dual_bounds.proofs.columns.Columns.bound.Goals as goal
+use Rattle.dual_bounds.proofs.program.Program.bound.Goals as goal
 
 pub returns : goal.returns
 returns c =

@@ -3,7 +3,7 @@ use Rattle.std.proofs.lemmas.List.{get_or_past}
 use Rattle.linear_program.specs.Intervals.{is_whole_kind}
 use Rattle.linear_program.specs.declared.kind.Kind.TheVariants.{Continuous}
 use Rattle.dual_bounds.proofs.Rows.{variables_counted, whole_here}
-use Rattle.dual_bounds.proofs.columns.Columns.is_whole.Goals as goal
+use Rattle.dual_bounds.proofs.program.Program.is_whole.Goals as goal
 
 pub returns-in-Some : goal.returns-in-Some
 returns-in-Some c =

@@ -1,0 +1,372 @@
+-- Leaves, and what sums of them come to.
+use Rattle.std.proofs.Common.{◌≡◌, ◌≢◌, ℕ, suc, ◌+◌, ◌*◌, ◌<◌, ◌≤◌, ◌∙◌, sym, ap, ap₂, refl, subst, subst₂, ◌==◌, arith, ⊎_elim, Bool, true, false, ◌&&◌, Some, None, Option, List, [], ◌∷◌, ◌++◌, drop, length, get_or, unwrap_or, option_and_then, IfSome, if◌then◌else◌}
+use Rattle.std.specs.Option.{option_or}
+use Rattle.std.proofs.lemmas.Bool.{and_from, and_parts, cases_eq}
+use Rattle.std.proofs.lemmas.List.{drop_more, map-append}
+use Rattle.code_tables.specs.declared.class.OpClass.TheVariants.{Product, List as SumOfAll}
+use Rattle.code_tables.specs.Opcodes.{class_of}
+use Rattle.exact_numbers.specs.declared.dec.Dec.{Dec}
+use Rattle.exact_numbers.specs.declared.frac.Frac.{Frac}
+use Rattle.exact_numbers.specs.Values.{dec_value, frac_value}
+use Rattle.exact_numbers.proofs.Bridge.{frac_fits_lem}
+use Rattle.exact_numbers.proofs.Zeros.{fits_zero, sum_fits_zero, zero_sum_fits}
+use Rattle.fractions.specs.Fits.{fits, sum_fits}
+use Rattle.fractions.specs.Functions.{is_zero}
+use Rattle.fractions.specs.Rational.{ℚ, whole, zero_ℚ, one_ℚ, ◌+ℚ◌, ◌*ℚ◌}
+use Rattle.fractions.proofs.Arithmetic.{zero-+ℚ, +ℚ_zero, *ℚ_one}
+use Rattle.fractions.proofs.Values.{own_value, same_value}
+use Rattle.fractions.proofs.Adding.{sum_over_nil}
+use Rattle.linear_programs.specs.Lines.{Line, Point, constant_line, is_constant, line_scaled, line_sum, line_value, one_if, products_fit, running_line, running_sums_fit, sums_fit}
+use Rattle.nl_meaning.specs.Faults.{fault_at, operator_fault, operator_line, too_wide_unless, trees_fault, trees_lines, tree_line}
+use Rattle.nl_meaning.specs.Trees.{Known, Tree, Trees, number, variable, operator, none, more, first_trees, operator_value, tree_size, tree_value, on_values}
+use Rattle.nl_meaning.proofs.Linear.{all_there-some, constant_value, operator_has_line}
+use Rattle.nl_model.specs.declared.node.Node.{Node}
+use Rattle.nl_model.specs.declared.node.Node.TheVariants.{Num, Var, Defined, Op}
+use Rattle.nl_model.specs.Nodes.{first_of_trees, trees_of}
+use Rattle.linear_program.specs.declared.form.Form.{Form}
+use Rattle.linear_program.specs.Coefs.{AreBelow, Term, coef_in, value_or_zero}
+use Rattle.linear_program.specs.Decimals.{AreDecimals, DecimalTerm, frac_of, frac_where, fraction_term, fraction_terms}
+use Rattle.linear_program.specs.Forms.{IsWithin, IsZeroFrom, form_line, parts_line}
+use Rattle.linear_program.proofs.Closing.{found_last, found_other}
+use Rattle.linear_program.proofs.CoefLemmas.{adds_at, below_append, below_from, found_beyond}
+use Rattle.linear_program.proofs.DecimalLemmas.{frac_of-value}
+use Rattle.linear_program.proofs.FracLemmas.{coef_fits}
+use Rattle.linear_program.proofs.Scaled.{all_below-intro, same_line}
+use Rattle.linear_fold.specs.declared.entries.Entry.TheVariants.{Linear as Whole}
+use Rattle.linear_fold.specs.declared.leaf_sums.Leaf.{Leaf}
+use Rattle.linear_fold.specs.declared.leaf_sums.LeafSum.{LeafSum}
+use Rattle.linear_fold.specs.declared.parts.PartialForm.{PartialForm}
+use Rattle.linear_fold.specs.declared.parts.PartialForm.TheVariants.{Number, Variable}
+use Rattle.linear_fold.specs.InsideFolds.{AreOperandsOf, IsFolded, IsLined}
+use Rattle.linear_fold.specs.InsideLeafSums.{AddsLeaf, AreLeaves, IsLeafAt, IsListOf, IsNoLeaf, IsVariableOf, SumsUpTo, factors_in, factors_leaf, leaf_line, leaves_line, number_count, seen}
+use Rattle.linear_fold.specs.InsideOperates.{AreOperands, lines_of_parts, multiple_line, zero_line}
+use Rattle.linear_fold.proofs.Folding.{constant_lined, is_line_by, multiple_within, number_within, operands_are, operator_folded, same_values, values_are, variable_lined}
+use Rattle.linear_fold.proofs.Operators.{fault_first, fault_second, few_steps, multiple_apart, multiple_at, multiple_constant, multiple_fits, multiple_scaled, multiple_zero_from, number_constant, zero_line_sum}
+
+-- ---- 1 as a fraction
+fits_one : fits one_ℚ ≡ true
+unfolding whole
+fits_one = refl
+
+one_is_some : is_zero one_ℚ ≡ false
+unfolding whole
+one_is_some = refl
+
+one_frac : Frac
+one_frac = frac_where one_ℚ true fits_one
+
+one_value : frac_value one_frac ≡ one_ℚ
+unfolding one_frac whole
+one_value = same_value (own_value (frac_value (frac_where one_ℚ true fits_one))) (own_value one_ℚ) refl
+
+-- ---- leaves
+number_lined : (known : Point → Known) (n i : ℕ) (d : Dec) → fits (dec_value d) ≡ true → IsLined known n i (number d.m d.e) (constant_line (dec_value d))
+number_lined known n i d fit = (ap (λ b. fault_at i (too_wide_unless b)) fit, constant_lined n (dec_value d))
+
+multiple_lined : (known : Point → Known) (n i j : ℕ) (k : ℚ) → k ≡ one_ℚ → j < n → IsLined known n i (variable j) (multiple_line j k)
+multiple_lined known n i j k one low = (refl, λ at. variable_lined n j low at ∙ ap (λ x. Some (line_value n (multiple_line j x) at)) (sym one))
+
+chosen_first : (p : Bool) (x y : Line) → p ≡ true → (if p then x else y) ≡ x
+chosen_first true x y e = refl
+chosen_first false x y e = cc
+
+chosen_second : (p : Bool) (x y : Line) → p ≡ false → (if p then x else y) ≡ y
+chosen_second true x y e = cc
+chosen_second false x y e = refl
+
+-- a number times a variable, in either order
+module _ (known : Point → Known) (n i j : ℕ) (d : Dec) (fit : fits (dec_value d) ≡ true) (low : j < n) where
+  abbrev k : Frac
+  k = frac_of d
+
+  value : frac_value (frac_of d) ≡ dec_value d
+  value = frac_of-value d fit
+
+  number_here : (p : ℕ) → IsLined known n p (number d.m d.e) (constant_line (frac_value (frac_of d)))
+  number_here p = subst (λ x. IsLined known n p (number d.m d.e) (constant_line x)) (sym value) (number_lined known n p d fit)
+
+  variable_here : (p : ℕ) → IsLined known n p (variable j) (multiple_line j (frac_value one_frac))
+  variable_here p = multiple_lined known n p j (frac_value one_frac) one_value low
+
+  fine : products_fit n (frac_value (frac_of d)) (multiple_line j (frac_value one_frac)) ≡ true
+  fine = multiple_fits n (frac_value (frac_of d)) (frac_value one_frac) j low ∙ ap fits (ap₂ (λ x y. x *ℚ y) value one_value ∙ *ℚ_one (dec_value d)) ∙ fit
+
+  product_line : multiple_line j (frac_value (frac_of d)) ≡ line_scaled (frac_value (frac_of d)) (multiple_line j (frac_value one_frac))
+  product_line = multiple_scaled n (frac_value (frac_of d)) (frac_value one_frac) j (frac_value (frac_of d)) (sym (ap (λ y. frac_value (frac_of d) *ℚ y) one_value ∙ *ℚ_one (frac_value (frac_of d))))
+
+  constant_here : is_constant n (constant_line (frac_value (frac_of d))) ≡ true
+  constant_here = sym (number_constant n (frac_value (frac_of d)))
+
+  some_here : is_constant n (multiple_line j (frac_value one_frac)) ≡ false
+  some_here = sym (multiple_constant n j (frac_value one_frac) low) ∙ ap is_zero one_value ∙ one_is_some
+
+  abbrev number_first : List PartialForm
+  number_first = Number (frac_of d) ∷ Variable j one_frac ∷ []
+
+  abbrev number_last : List PartialForm
+  number_last = Variable j one_frac ∷ Number (frac_of d) ∷ []
+
+  abbrev first_trees_here : Trees
+  first_trees_here = more (number d.m d.e) (more (variable j) none)
+
+  abbrev last_trees_here : Trees
+  last_trees_here = more (variable j) (more (number d.m d.e) none)
+
+  product_first : IsLined known n i (operator Product first_trees_here) (multiple_line j (dec_value d))
+  product_first =
+      let operands : AreOperandsOf known n (i + 1) first_trees_here number_first = operands_are known n (i + 1) 2 (number d.m d.e ∷ variable j ∷ []) number_first (omega arith) (number_here (i + 1), (variable_here (i + 1 + 1), tt)) in
+      let within : AreOperands n number_first = (number_within n (frac_of d), (multiple_within n j one_frac low, tt)) in
+      let clean : operator_fault n Product (lines_of_parts number_first) ≡ None = fault_first _ _ _ constant_here ∙ ap too_wide_unless fine in
+      let line : multiple_line j (frac_value (frac_of d)) ≡ operator_line n Product (lines_of_parts number_first) = product_line ∙ sym (chosen_first _ _ _ constant_here) in
+      subst (λ x. IsLined known n i (operator Product first_trees_here) (multiple_line j x)) value
+      (operator_folded known n i Product first_trees_here number_first refl refl within operands (Variable j (frac_of d)) clean line low)
+
+  product_last : IsLined known n i (operator Product last_trees_here) (multiple_line j (dec_value d))
+  product_last =
+      let operands : AreOperandsOf known n (i + 1) last_trees_here number_last = operands_are known n (i + 1) 2 (variable j ∷ number d.m d.e ∷ []) number_last (omega arith) (variable_here (i + 1), (number_here (i + 1 + 1), tt)) in
+      let within : AreOperands n number_last = (multiple_within n j one_frac low, (number_within n (frac_of d), tt)) in
+      let clean : operator_fault n Product (lines_of_parts number_last) ≡ None = fault_second _ _ _ some_here ∙ fault_first _ _ _ constant_here ∙ ap too_wide_unless fine in
+      let line : multiple_line j (frac_value (frac_of d)) ≡ operator_line n Product (lines_of_parts number_last) = product_line ∙ sym (chosen_second _ _ _ some_here) in
+      subst (λ x. IsLined known n i (operator Product last_trees_here) (multiple_line j x)) value
+      (operator_folded known n i Product last_trees_here number_last refl refl within operands (Variable j (frac_of d)) clean line low)
+
+-- ---- leaves at a place
+node_here : (ns : List Node) (p : ℕ) (x : Node) → p < length ns → x ≡ get_or ns p x → drop p ns ≡ x ∷ drop (p + 1) ns
+node_here ns p x h e = drop_more ns p x h ∙ ap (λ y. y ∷ drop (p + 1) ns) (sym e)
+
+pub number_leaf : (ns : List Node) (p : ℕ) (x : Node) (d : Dec) → p < length ns → x ≡ get_or ns p x → x ≡ Num d → IsLeafAt ns p (record { variable = None; factor = d; size = 1 })
+number_leaf ns p x d h e is =
+    record {
+      tree = number d.m d.e;
+      trees = ap trees_of (node_here ns p x h e ∙ ap (λ y. y ∷ drop (p + 1) ns) is);
+      size = refl;
+      within = omega arith;
+      lined = λ known n i fit low. number_lined known n i d fit;
+    }
+
+pub variable_leaf : (ns : List Node) (p : ℕ) (x : Node) (j : ℕ) (d : Dec) → dec_value d ≡ one_ℚ → p < length ns → x ≡ get_or ns p x → x ≡ Var j → IsLeafAt ns p (record { variable = Some j; factor = d; size = 1 })
+variable_leaf ns p x j d one h e is =
+    record {
+      tree = variable j;
+      trees = ap trees_of (node_here ns p x h e ∙ ap (λ y. y ∷ drop (p + 1) ns) is);
+      size = refl;
+      within = omega arith;
+      lined = λ known n i fit low. multiple_lined known n i j (dec_value d) one low;
+    }
+
+product_class : class_of 2 ≡ Product
+unfolding class_of
+product_class = refl
+
+module _ (ns : List Node) (p : ℕ) (within : p + 3 ≤ length ns) where
+  factors_at : (a b : Node) (l : Leaf) → drop p ns ≡ Op 2 2 ∷ a ∷ b ∷ drop (p + 3) ns → factors_in a b ≡ Some l → IsLeafAt ns p l
+  factors_at (Num d) (Var j) l here e =
+      subst (IsLeafAt ns p) (ap (λ o. unwrap_or o (factors_leaf j d)) e)
+      (record {
+        tree = operator (class_of 2) (more (number d.m d.e) (more (variable j) none));
+        trees = ap trees_of here;
+        size = refl;
+        within = within;
+        lined = λ known n i fit low. subst (λ c. IsLined known n i (operator c (more (number d.m d.e) (more (variable j) none))) (multiple_line j (dec_value d))) (sym product_class) (product_first known n i j d fit low);
+      })
+  factors_at (Var j) (Num d) l here e =
+      subst (IsLeafAt ns p) (ap (λ o. unwrap_or o (factors_leaf j d)) e)
+      (record {
+        tree = operator (class_of 2) (more (variable j) (more (number d.m d.e) none));
+        trees = ap trees_of here;
+        size = refl;
+        within = within;
+        lined = λ known n i fit low. subst (λ c. IsLined known n i (operator c (more (variable j) (more (number d.m d.e) none))) (multiple_line j (dec_value d))) (sym product_class) (product_last known n i j d fit low);
+      })
+  factors_at (Num d) (Num e) l here h = cc
+  factors_at (Num d) (Defined i) l here h = cc
+  factors_at (Num d) (Op o k) l here h = cc
+  factors_at (Var j) (Var i) l here h = cc
+  factors_at (Var j) (Defined i) l here h = cc
+  factors_at (Var j) (Op o k) l here h = cc
+  factors_at (Defined i) b l here h = cc
+  factors_at (Op o k) b l here h = cc
+
+  pub product_leaf : (x a b : Node) (o k : ℕ) (l : Leaf) → x ≡ get_or ns p x → x ≡ Op o k → o ≡ 2 → k ≡ 2 → a ≡ get_or ns (p + 1) a → b ≡ get_or ns (p + 2) b → factors_in a b ≡ Some l → IsLeafAt ns p l
+  product_leaf x a b o k l at is two pair first second e =
+      let head : x ≡ Op 2 2 = is ∙ ap₂ (λ m q. Op m q) two pair in
+      let m : p + 1 + 1 ≡ p + 2 = omega arith in
+      let q : p + 2 + 1 ≡ p + 3 = omega arith in
+      let third : drop (p + 2) ns ≡ b ∷ drop (p + 3) ns = node_here ns (p + 2) b (omega arith) second ∙ ap (λ s. b ∷ drop s ns) q in
+      let next : drop (p + 1) ns ≡ a ∷ drop (p + 2) ns = node_here ns (p + 1) a (omega arith) first ∙ ap (λ s. a ∷ drop s ns) m in
+      factors_at a b l (node_here ns p x (omega arith) at ∙ ap₂ (λ y t. y ∷ t) head (next ∙ ap (λ t. a ∷ t) third)) e
+
+pub list_at : (ns : List Node) (x : Node) (o k : ℕ) → 0 < length ns → x ≡ get_or ns 0 x → x ≡ Op o k → o ≡ 54 → IsListOf ns k
+list_at ns x o k some at is list = record { some = omega arith; first = node_here ns 0 x some at ∙ ap (λ y. y ∷ drop 1 ns) (is ∙ ap (λ m. Op m k) list) }
+
+-- ---- one leaf more
+decimals_more : (n v : ℕ) (ds : List DecimalTerm) (d : DecimalTerm) → n ≤ v → AreDecimals n ds → AreBelow v (fraction_terms ds) → v ≤ d.0 → dec_value d.1 ≢ zero_ℚ → fits (dec_value d.1) ≡ true → AreDecimals n (ds ++ d ∷ [])
+decimals_more n v [] d low a b up live fit = (omega arith, live, fit, tt)
+decimals_more n v (x ∷ ds) d low a b up live fit = (a.0, a.1, a.2, decimals_more (suc x.0) v ds d b.0 a.3 b.1 up live fit)
+
+one_fraction : (ds : List DecimalTerm) (d : DecimalTerm) → fraction_terms (ds ++ d ∷ []) ≡ fraction_terms ds ++ (d.0, frac_of d.1) ∷ []
+one_fraction ds d = map-append fraction_term ds (d ∷ [])
+
+number_small : (o : Option Frac) → fits (value_or_zero o) ≡ true
+number_small None = fits_zero
+number_small (Some f) = frac_fits_lem f
+
+module _ (n : ℕ) (old : LeafSum) (held : AreLeaves n old) (j : ℕ) (d : Dec) (up : old.least ≤ j) (low : j < n) (live : dec_value d ≢ zero_ℚ) (fit : fits (dec_value d) ≡ true) where
+  abbrev terms : List Term
+  terms = fraction_terms old.terms
+
+  abbrev c : ℚ
+  c = value_or_zero old.number
+
+  free : coef_in (fraction_terms old.terms) j ≡ zero_ℚ
+  free = ap value_or_zero (found_beyond old.least (fraction_terms old.terms) j held.below up)
+
+  coef_fine : (i : ℕ) → sum_fits (coef_in (fraction_terms old.terms) i) ((multiple_line j (dec_value d)).coef i) ≡ true
+  coef_fine i =
+      ⊎_elim
+      (λ (e : i ≡ j). ap₂ sum_fits (ap (coef_in (fraction_terms old.terms)) e ∙ free) (multiple_at i j (dec_value d) e) ∙ zero_sum_fits (dec_value d) fit)
+      (λ (apart : i ≢ j). ap (sum_fits (coef_in (fraction_terms old.terms) i)) (multiple_apart i j (dec_value d) apart) ∙ sum_fits_zero (coef_in (fraction_terms old.terms) i) (coef_fits (fraction_terms old.terms) i))
+      (cases_eq i j)
+
+  more_terms : (t : DecimalTerm) (coefs : ℕ → ℚ) → t ≡ (j, d) → coefs ≡ coef_in (fraction_terms (old.terms ++ t ∷ [])) → (i : ℕ) → coefs i ≡ coef_in (fraction_terms old.terms) i +ℚ (multiple_line j (dec_value d)).coef i
+  more_terms t coefs is same i =
+      ap (λ f. f i) same ∙ ap (λ (s : DecimalTerm). coef_in (fraction_terms (old.terms ++ s ∷ [])) i) is ∙ ap (λ ts. coef_in ts i) (one_fraction old.terms (j, d))
+      ∙ adds_at (coef_in (fraction_terms old.terms)) (coef_in (fraction_terms old.terms ++ (j, frac_of d) ∷ [])) j (dec_value d)
+      (ap value_or_zero (found_last (fraction_terms old.terms) (j, frac_of d) (found_beyond old.least (fraction_terms old.terms) j held.below up)) ∙ frac_of-value d fit ∙ sym (zero-+ℚ (dec_value d)) ∙ ap (λ x. x +ℚ dec_value d) (sym free))
+      (λ q apart. ap value_or_zero (found_other (fraction_terms old.terms) (j, frac_of d) q apart)) i
+      ∙ ap (λ x. coef_in (fraction_terms old.terms) i +ℚ x) (sym (zero-+ℚ (dec_value d *ℚ one_if (i == j))))
+
+  pub multiple_added : (new : LeafSum) → new.terms ≡ old.terms ++ (j, d) ∷ [] → new.number ≡ old.number → new.least ≡ j + 1 → AddsLeaf n old (Some j) d new
+  multiple_added new terms_are number_is least_is =
+      let coefs = more_terms (j, d) (coef_in (fraction_terms new.terms)) refl (ap (λ ts. coef_in (fraction_terms ts)) terms_are) in
+      record {
+        leaves =
+            record {
+              decimals = subst (AreDecimals 0) (sym terms_are) (decimals_more 0 old.least old.terms (j, d) (omega arith) held.decimals held.below up live fit);
+              below =
+                  subst₂ (λ m ts. AreBelow m ts) (sym least_is) (sym (ap fraction_terms terms_are ∙ one_fraction old.terms (j, d)))
+                  (below_append (j + 1) (fraction_terms old.terms) ((j, frac_of d) ∷ []) (below_from old.least (j + 1) (fraction_terms old.terms) (omega arith) held.below) (omega arith, tt));
+              few = (let e = least_is in omega arith);
+            };
+        fine = fit;
+        inside = low;
+        fit = and_from _ _ (sum_fits_zero (value_or_zero old.number) (number_small old.number)) (all_below-intro (λ i. sum_fits (coef_in (fraction_terms old.terms) i) ((multiple_line j (dec_value d)).coef i)) n (λ i p. coef_fine i));
+        line = same_line (leaves_line new) (line_sum (leaves_line old) (multiple_line j (dec_value d))) (ap value_or_zero number_is ∙ sym (+ℚ_zero (value_or_zero old.number))) coefs;
+        more = (let e = least_is in let f : number_count new.number ≡ number_count old.number = ap number_count number_is in omega arith);
+      }
+
+pub number_added : (n : ℕ) (old new : LeafSum) (d : Dec) (f : Frac) → AreLeaves n old → old.number ≡ None → fits (dec_value d) ≡ true → frac_value f ≡ dec_value d → new.terms ≡ old.terms → new.number ≡ Some f → new.least ≡ old.least → AddsLeaf n old None d new
+number_added n old new d f held free fit is terms_are number_is least_is =
+    record {
+      leaves =
+          record {
+            decimals = subst (AreDecimals 0) (sym terms_are) held.decimals;
+            below = subst₂ (λ m ts. AreBelow m (fraction_terms ts)) (sym least_is) (sym terms_are) held.below;
+            few = (let e = least_is in let h = held.few in omega arith);
+          };
+      fine = fit;
+      inside = tt;
+      fit =
+          and_from _ _ (ap (λ o. sum_fits (value_or_zero o) (dec_value d)) free ∙ zero_sum_fits (dec_value d) fit)
+          (all_below-intro (λ i. sum_fits (coef_in (fraction_terms old.terms) i) zero_ℚ) n (λ i p. sum_fits_zero (coef_in (fraction_terms old.terms) i) (coef_fits (fraction_terms old.terms) i)));
+      line =
+          same_line (leaves_line new) (line_sum (leaves_line old) (constant_line (dec_value d)))
+          (ap value_or_zero number_is ∙ is ∙ sym (zero-+ℚ (dec_value d)) ∙ ap (λ o. value_or_zero o +ℚ dec_value d) (sym free))
+          (λ i. ap (λ ts. coef_in (fraction_terms ts) i) terms_are ∙ sym (+ℚ_zero (coef_in (fraction_terms old.terms) i)));
+      more = (let e = least_is in let g : number_count new.number ≡ 1 = ap number_count number_is in let h : number_count old.number ≡ 0 = ap number_count free in omega arith);
+    }
+
+-- ---- sums
+leaf_zero_from : (n : ℕ) (j : Option ℕ) (x : ℚ) → IsVariableOf n j → IsZeroFrom n (leaf_line j x)
+leaf_zero_from n None x low = λ i g. refl
+leaf_zero_from n (Some j) x low = multiple_zero_from n j x low
+
+pub nothing_more : (known : Point → Known) (n i : ℕ) (l : Line) → SumsUpTo known n i none l l
+nothing_more known n i l = record { clean = refl; lines = tt; fit = refl; sum = refl }
+
+-- a leaf before trees
+one_more : (known : Point → Known) (n i : ℕ) (t : Tree) (ts : Trees) (a b l leaf : Line) → IsLined known n i t leaf → IsZeroFrom n leaf → sums_fit n a leaf ≡ true → b ≡ line_sum a leaf → SumsUpTo known n (i + tree_size t) ts b l → SumsUpTo known n i (more t ts) a l
+one_more known n i t ts a b l leaf lined zero_from fit line rest =
+    let same : leaf ≡ tree_line known t = is_line_by n (λ at. tree_value (known at) at t) leaf zero_from lined.1 in
+    record {
+      clean = ap (λ o. option_or o (trees_fault known n (i + tree_size t) ts)) lined.0 ∙ rest.clean;
+      lines = (same_values n (λ at. tree_value (known at) at t) (tree_line known t) leaf (sym same) lined.1, rest.lines);
+      fit = subst (λ m. sums_fit n a m && running_sums_fit n (line_sum a m) (trees_lines known ts) ≡ true) same (and_from _ _ fit (ap (λ m. running_sums_fit n m (trees_lines known ts)) (sym line) ∙ rest.fit));
+      sum = subst (λ m. running_line (line_sum a m) (trees_lines known ts) ≡ l) same (ap (λ m. running_line m (trees_lines known ts)) (sym line) ∙ rest.sum);
+    }
+
+-- a sum of trees that begins at 0
+pub sum_folded : (known : Point → Known) (n : ℕ) (ts : Trees) (l : Line) (form : Form) → SumsUpTo known n 1 ts zero_line l → form_line form ≡ l → IsFolded known n 0 (operator SumOfAll ts) (Whole form)
+sum_folded known n none l form s is = (refl, λ at. ap Some (sum_over_nil (λ x. x) ∙ sym (ap (λ m. line_value n m at) (is ∙ sym s.sum) ∙ constant_value n zero_ℚ at)))
+sum_folded known n (more t ts) l form s is =
+    let first = tree_line known t in
+    let rest = trees_lines known ts in
+    let same : line_sum zero_line first ≡ first = zero_line_sum first in
+    let clean : operator_fault n SumOfAll (first ∷ rest) ≡ None = ap too_wide_unless (ap (λ m. running_sums_fit n m rest) (sym same) ∙ (and_parts _ _ s.fit).1) in
+    let line : form_line form ≡ operator_line n SumOfAll (first ∷ rest) = is ∙ sym s.sum ∙ ap (λ m. running_line m rest) same in (
+      ap₂ option_or s.clean (ap (fault_at 0) clean),
+      same_values n _ (form_line form) _ line
+          (λ at.
+          ap (operator_value SumOfAll) (values_are known n (more t ts) (first ∷ rest) s.lines at) ∙ ap (option_and_then (on_values SumOfAll)) (all_there-some n at (first ∷ rest))
+          ∙ operator_has_line n SumOfAll (first ∷ rest) (omega arith) clean at),
+    )
+
+list_class : class_of 54 ≡ SumOfAll
+unfolding class_of
+list_class = refl
+
+-- the leaf at a place before trees of the nodes after it
+pub leaf_more : (known : Point → Known) (n : ℕ) (ns : List Node) (place m count : ℕ) (leaf : Leaf) (old new : LeafSum) (l : Line) → IsLeafAt ns place leaf → AddsLeaf n old leaf.variable leaf.factor new → count ≡ suc m → SumsUpTo known n (place + leaf.size) (first_trees m (trees_of (drop (place + leaf.size) ns))) (leaves_line new) l → SumsUpTo known n place (first_trees count (trees_of (drop place ns))) (leaves_line old) l
+leaf_more known n ns place m count leaf old new l at adds e rest =
+    let left = trees_of (drop (place + leaf.size) ns) in
+    subst₂ (λ k ts. SumsUpTo known n place (first_trees k ts) (leaves_line old) l) (sym e) (sym at.trees)
+    (one_more known n place at.tree (first_trees m left) (leaves_line old) (leaves_line new) l (leaf_line leaf.variable (dec_value leaf.factor)) (at.lined known n place adds.fine adds.inside) (leaf_zero_from n leaf.variable (dec_value leaf.factor) adds.inside) adds.fit adds.line
+    (subst (λ s. SumsUpTo known n (place + s) (first_trees m left) (leaves_line new) l) (sym at.size) rest))
+
+-- no leaf is left
+pub leaves_end : (known : Point → Known) (n place left : ℕ) (ts : List Tree) (l : Line) → left ≡ 0 → SumsUpTo known n place (first_trees left ts) l l
+leaves_end known n place left ts l e = subst (λ k. SumsUpTo known n place (first_trees k ts) l l) (sym e) (nothing_more known n place l)
+
+pub no_leaf_line : (s : LeafSum) → IsNoLeaf s → leaves_line s ≡ zero_line
+no_leaf_line s h = ap₂ (λ o ts. parts_line (value_or_zero o) (fraction_terms ts)) h.number h.terms
+
+pub no_leaf_held : (n : ℕ) (s : LeafSum) → IsNoLeaf s → AreLeaves n s
+no_leaf_held n s h =
+    record {
+      decimals = subst (AreDecimals 0) (sym h.terms) tt;
+      below = subst (λ ts. AreBelow s.least (fraction_terms ts)) (sym h.terms) tt;
+      few = let e = h.least in omega arith;
+    }
+
+one_number : (o : Option Frac) → number_count o ≤ 1
+one_number None = omega arith
+one_number (Some f) = omega arith
+
+-- ascending variables below n, and one number
+pub few_leaves : (n : ℕ) (s : LeafSum) → AreLeaves n s → seen s ≤ n + 1
+few_leaves n s h = (let a = h.few in let b = one_number s.number in omega arith)
+
+-- ---- the form
+pub list_folded : (known : Point → Known) (n : ℕ) (ns : List Node) (k : ℕ) (l : Line) (form : Form) (t : Tree) → IsListOf ns k → trees_of ns ≡ t ∷ [] → SumsUpTo known n 1 (first_trees k (trees_of (drop 1 ns))) zero_line l → form_line form ≡ l → IsFolded known n 0 t (Whole form)
+list_folded known n ns k l form t list one s is =
+    let ts = first_trees k (trees_of (drop 1 ns)) in
+    let same : operator (class_of 54) ts ≡ t = sym (ap (λ xs. first_of_trees (trees_of xs)) list.first) ∙ ap first_of_trees one in
+    subst (λ u. IsFolded known n 0 u (Whole form)) (ap (λ c. operator c ts) (sym list_class) ∙ same) (sum_folded known n ts l form s is)
+
+pub leaves_within : (n : ℕ) (s : LeafSum) (form : Form) → AreLeaves n s → form_line form ≡ leaves_line s → IsWithin n form
+leaves_within n s form held line j g = ap (λ l. l.coef j) line ∙ ap value_or_zero (found_beyond s.least (fraction_terms s.terms) j held.below (let h = held.few in omega arith))
+
+pub if_some : {A : Type 0} (o : Option A) (P Q : A → Type 0) → ((x : A) → P x → Q x) → IfSome o P → IfSome o Q
+if_some None P Q f h = h
+if_some (Some x) P Q f h = f x h
+
+-- ---- steps
+pub leaf_bound : (n new from len size : ℕ) → len ≡ size → 0 < len → new ≤ from + (n + 1) → new ≤ from + 2 * (n + 1) * size
+leaf_bound n new from len size e some h = subst (λ k. new ≤ from + 2 * (n + 1) * k) e (few_steps (2 * (n + 1)) len from new some (omega arith))
+
+-- those of leaves that were given up, and those of the tree
+pub tree_bound : (n new mid from len size : ℕ) → len ≡ size → mid ≤ from + (n + 1) → new + (n + 1) ≤ mid + 2 * (n + 1) * len → new ≤ from + 2 * (n + 1) * size
+tree_bound n new mid from len size e h k = subst (λ s. new ≤ from + 2 * (n + 1) * s) e (omega arith)
+
+pub some_holds : {A : Type 0} (o : Option A) (x : A) (P : A → Type 0) → o ≡ Some x → IfSome o P → P x
+some_holds o x P e h = subst (λ p. IfSome p P) e h

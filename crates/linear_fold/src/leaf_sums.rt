@@ -1,0 +1,272 @@
+// Sums of leaves: numbers, and factors times variables. Where the variables ascend, the factors are the
+// coefficients of a form as they stand.
+ghost use Rattle.std.specs.Prelude.{◌≡◌, ◌∷◌, [], ℕ, ◌+◌, ◌≤◌, None, Some, drop, IfOk, IfSome, length, true};
+ghost use Rattle.exact_numbers.specs.Values.{dec_value, frac_value};
+ghost use Rattle.linear_programs.specs.Lines.{Point};
+ghost use Rattle.nl_meaning.specs.Trees.{Known, Tree, first_trees};
+ghost use Rattle.nl_model.specs.Nodes.{trees_of};
+ghost use Rattle.linear_program.specs.Coefs.{value_or_zero};
+ghost use Rattle.linear_program.specs.Forms.{IsWithin};
+ghost use Rattle.linear_fold.specs.declared.entries.Entry.TheVariants.{Linear};
+ghost use Rattle.linear_fold.specs.InsideFolds.{IsFolded};
+ghost use Rattle.linear_fold.specs.InsideLeafSums.{AddsLeaf, AreLeaves, IsLeafAt, IsListOf, IsNoLeaf, SumsUpTo, factors_in, leaves_line, seen};
+ghost use Rattle.linear_fold.specs.InsideOperates.{zero_line};
+
+use exact_numbers::{Dec, Frac};
+use linear_program::{Form, Terms};
+use nl_model::Node;
+use std::alloc::{AllocError, Global};
+use texts::{Ledger, Steps};
+
+const PRODUCT: u32 = 2;
+
+const LIST: u32 = 54;
+
+/// A number, or a factor times a variable, and how many nodes it has.
+#[derive(Clone, Copy)]
+pub(crate) struct Leaf {
+    pub(crate) variable: Option<u32>,
+    pub(crate) factor: Dec,
+    pub(crate) size: usize,
+}
+
+/// What leaves come to: terms that ascend, of variables below one of them, and the one number.
+#[derive(Drop)]
+pub(crate) struct LeafSum {
+    pub(crate) terms: Terms,
+    pub(crate) number: Option<Frac>,
+    pub(crate) least: u32,
+}
+
+// The product of a number and a variable.
+#[inline]
+fn factors_of(first: Node, second: Node) -> Option<Leaf>
+    ensures { IfSome result (λ l. factors_in first second ≡ Some l) }
+{
+    match first {
+        Node::Num(factor) => {
+            let Node::Var(variable) = second else {
+                return None;
+            };
+            Some(Leaf {
+                variable: Some(variable),
+                factor,
+                size: 3,
+            })
+        }
+        Node::Var(variable) => {
+            let Node::Num(factor) = second else {
+                return None;
+            };
+            Some(Leaf {
+                variable: Some(variable),
+                factor,
+                size: 3,
+            })
+        }
+        _ => None,
+    }
+}
+
+// The product of a number and a variable that stands at a place.
+#[inline]
+fn product_at(nodes: &[Node], place: usize) -> Option<Leaf>
+    requires { place ≤ length nodes.now }
+    ensures { IfSome result (λ l. IsLeafAt nodes.now place l) }
+{
+    if nodes.len() - place < 3 {
+        return None;
+    }
+    let node = nodes[place];
+    let Node::Op(opcode, count) = node else {
+        return None;
+    };
+    if opcode != PRODUCT {
+        return None;
+    }
+    if count != 2 {
+        return None;
+    }
+    let first = nodes[place + 1];
+    let second = nodes[place + 2];
+    factors_of(first, second)
+}
+
+// The leaf at a place.
+#[inline]
+fn leaf_at(nodes: &[Node], place: usize) -> Option<Leaf>
+    requires { place ≤ length nodes.now }
+    ensures { IfSome result (λ l. IsLeafAt nodes.now place l) }
+{
+    if place == nodes.len() {
+        return None;
+    }
+    let node = nodes[place];
+    match node {
+        Node::Num(factor) => Some(Leaf {
+            variable: None,
+            factor,
+            size: 1,
+        }),
+        Node::Var(variable) => Some(Leaf {
+            variable: Some(variable),
+            factor: Dec::of_whole(1),
+            size: 1,
+        }),
+        Node::Defined(_) => None,
+        Node::Op(_, _) => product_at(nodes, place),
+    }
+}
+
+// Adds a number, where there is none yet and this has a fraction.
+#[inline]
+fn add_number(sum: &mut LeafSum, number: Dec) -> bool
+    ensures { (n : ℕ) → result ≡ true → AreLeaves n sum.old
+        → AddsLeaf n sum.old None number sum.new }
+{
+    let None = sum.number else {
+        return false;
+    };
+    let Some(fraction) = Frac::of_dec(number) else {
+        return false;
+    };
+    sum.number = Some(fraction);
+    true
+}
+
+// Adds a factor times a variable behind those so far, where the factor is not 0 and has a fraction.
+#[inline]
+fn add_multiple(
+    sum: &mut LeafSum,
+    variable: u32,
+    factor: Dec,
+    variables: u32,
+) -> Result<bool, AllocError>
+    requires { AreLeaves variables sum.old }
+    ensures { IfOk result
+        (λ added. added ≡ true → AddsLeaf variables sum.old (Some variable) factor sum.new) }
+{
+    if variable < sum.least {
+        return Ok(false);
+    }
+    if variable >= variables {
+        return Ok(false);
+    }
+    if factor.is_zero() {
+        return Ok(false);
+    }
+    if !factor.has_fraction() {
+        return Ok(false);
+    }
+    sum.terms.push((variable, factor))?;
+    sum.least = variable + 1;
+    Ok(true)
+}
+
+// Adds a leaf, where it can be.
+#[inline]
+fn add_leaf(sum: &mut LeafSum, leaf: &Leaf, variables: u32) -> Result<bool, AllocError>
+    requires { AreLeaves variables sum.old }
+    ensures { IfOk result
+        (λ added. added ≡ true
+        → AddsLeaf variables sum.old leaf.now.variable leaf.now.factor sum.new) }
+{
+    match leaf.variable {
+        Some(variable) => add_multiple(sum, variable, leaf.factor, variables),
+        None => Ok(add_number(sum, leaf.factor)),
+    }
+}
+
+// Adds so many leaves, of which the first is the second node; a step for each.
+fn add_leaves<L: Ledger>(
+    nodes: &[Node],
+    count: u32,
+    sum: &mut LeafSum,
+    variables: u32,
+    steps: &mut Steps<L>,
+) -> Result<bool, AllocError>
+    requires some { 1 ≤ length nodes.now }
+    requires leaves { AreLeaves variables sum.old }
+    requires none { IsNoLeaf sum.old }
+    ensures leaves { IfOk result (λ all. all ≡ true → AreLeaves variables sum.new) }
+    ensures sum { IfOk result
+        (λ all. (known : Point → Known) → all ≡ true
+        → SumsUpTo known variables 1 (first_trees count (trees_of (drop 1 nodes.now))) zero_line
+        (leaves_line sum.new)) }
+    ensures above { steps.old ≤ steps.new }
+    ensures below { steps.new ≤ steps.old + (variables + 1) }
+{
+    let mut place: usize = 1;
+    for _ in 0..count {
+        let Some(leaf) = leaf_at(nodes, place) else {
+            return Ok(false);
+        };
+        let added = add_leaf(sum, &leaf, variables)?;
+        if !added {
+            return Ok(false);
+        }
+        steps.tick();
+        place += leaf.size;
+    }
+    Ok(true)
+}
+
+// The number of leaves, 0 where there is none.
+fn number_or_zero(number: Option<Frac>) -> Frac
+    ensures { frac_value result ≡ value_or_zero number }
+{
+    match number {
+        Some(number) => number,
+        None => Frac::zero(),
+    }
+}
+
+// The number of operands, where the first node is a sum of any number of them.
+fn list_count(nodes: &[Node]) -> Option<u32>
+    ensures { IfSome result (λ k. IsListOf nodes.now k) }
+{
+    if nodes.len() == 0 {
+        return None;
+    }
+    let node = nodes[0];
+    let Node::Op(opcode, count) = node else {
+        return None;
+    };
+    if opcode != LIST {
+        return None;
+    }
+    Some(count)
+}
+
+/// The form of a sum of leaves whose variables ascend, below the number of variables, and at most one
+/// of which is a number; none of other trees. A step for each leaf.
+pub(crate) fn leaf_sum<L: Ledger>(
+    alloc: Global,
+    nodes: &[Node],
+    variables: u32,
+    steps: &mut Steps<L>,
+) -> Result<Option<Form>, AllocError>
+    ensures form { IfOk result
+        (λ o. IfSome o
+        (λ form. (known : Point → Known) (tree : Tree) → trees_of nodes.now ≡ tree ∷ []
+        → IsFolded known variables 0 tree (Linear form))) }
+    ensures within { IfOk result (λ o. IfSome o (λ form. IsWithin variables form)) }
+    ensures above { steps.old ≤ steps.new }
+    ensures below { steps.new ≤ steps.old + (variables + 1) }
+{
+    let Some(count) = list_count(nodes) else {
+        return Ok(None);
+    };
+    let mut sum = LeafSum {
+        terms: Terms::new(alloc),
+        number: None,
+        least: 0,
+    };
+    sum.terms.make_room(count as usize)?;
+    let all = add_leaves(nodes, count, &mut sum, variables, steps)?;
+    if !all {
+        return Ok(None);
+    }
+    let LeafSum { terms, number, .. } = sum;
+    Ok(Some(Form::of_terms(number_or_zero(number), terms)))
+}

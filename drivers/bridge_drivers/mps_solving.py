@@ -1,0 +1,80 @@
+"""One solve of an MPS file: as one of an .nl file, but that no .sol is made, rows and columns are
+the file's own, and certificates are judged by `verify_mps` or `verify_fixed`."""
+
+from __future__ import annotations
+
+from . import kinds
+from .answer import Answer
+from .bridge import Refused
+from .certificates import Certifier
+from .certify.text import answer_lines
+from .codes import Code, Failure, Status
+from .mps_file import Damaged, Reading, judged, reading, unpacked
+from .mps_text import MpsProgram
+from .nl import BadFile, Prepared
+from .program import Program
+from .solving import Solving
+
+
+class MpsCertifier(Certifier):
+    """Over an MPS file. Values are judged as the point of a certificate."""
+
+    checks = "bridge check of the values: "
+    answer: Answer | None = None
+
+    def returned(self, answer: Answer, message: list[str], name: str = "bridge") -> bytes:
+        """No .sol is made."""
+        self.answer = answer
+        return b""
+
+    def numbers(self, sol: bytes) -> tuple[list[str], list[str]]:
+        assert self.answer is not None and self.answer.values is not None
+        duals = self.answer.duals if self.linear else None
+        return list(self.answer.values.values()), list((duals or {}).values())
+
+    def checked(self, answer: Answer) -> str:
+        assert answer.values is not None
+        lines = answer_lines(list(answer.values.values()), [], 0)
+        path = self.job.write("values.certificate", ("\n".join(lines) + "\n").encode())
+        try:
+            verdict = self.job.clock.timed("check", self.bridge.verdict, "verify", self.nl, path)
+        except Refused as fault:
+            return fault.line().removeprefix(path + ": ")
+        words = verdict.split()
+        if words[0] == "feasible":
+            return self.reading(f"yes {words[1]}", False)
+        if words[0] == "variable":
+            return f"{self.thing('column', int(words[1]))} is not whole"
+        return self.reading(verdict, False)
+
+
+class MpsSolving(Solving):
+    """`nl` is the path of the MPS file."""
+
+    make_certifier = MpsCertifier
+    kept_name = "text.mps"
+    notes: list[str]                    # on the file, as far as it was read
+
+    def stub(self) -> str:
+        return kinds.stub_of(self.nl)
+
+    def prepared(self, target: str) -> Prepared:
+        """Unpacked, in the form that it has."""
+        if self.options.objno != 1:
+            raise Failure(Code.REFUSED, f"{self.nl}: objno={self.options.objno}: no such "
+                          "objective: the first N row of an MPS file is its objective, and its "
+                          "only one", Status.REFUSED)
+        try:
+            plain = unpacked(self.nl, target)
+        except Damaged as fault:
+            raise BadFile(str(fault)) from None
+        self.notes = [*plain.notes]
+        return Prepared(plain.path, self.notes)
+
+    def exported(self, nl: str) -> Program:
+        """Its own program, and what `bridge` makes of the file."""
+        clock, form = self.clock, self.options.format
+        read: Reading = clock.timed("reading", reading, self.bridge, nl, form)
+        program: MpsProgram = clock.timed("export", judged, self.bridge, nl, self.folder, read)
+        self.notes += [*read.notes, *program.notes]
+        return program

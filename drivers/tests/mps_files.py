@@ -1,0 +1,393 @@
+"""MPS files as models: how they are told apart and read, and what drivers and `nl-bridge` say."""
+
+from __future__ import annotations
+
+import bz2
+import gzip
+import json
+import lzma
+import os
+import random
+import shutil
+import subprocess
+import sys
+import unittest
+from fractions import Fraction as F
+
+from support import HERE, NEEDS_CLP, NEEDS_MPS, PROGRAM, Case, Ended
+
+from bridge_drivers import kinds, mps_file, solvers
+from bridge_drivers.bridge import Bridge, Refused
+from bridge_drivers.importing import lists_of
+from bridge_drivers.mps_text import program_of
+from bridge_drivers.sections import Sections
+from reports import faults, schema
+from mps_models import BLANK, EMPTY_INTERVAL, FIXED_TEXT, MODELS, sections
+
+SOLVERS = [name for name in solvers.NAMES if solvers.load(name).place()]
+CERTIFICATE = b"certificate 1\nfeasible 0\npoint 2\n0 1\n1 1\n"
+
+
+def bridge() -> Bridge:
+    return Bridge(PROGRAM, lambda argv: None)
+
+
+def called(command: str, *words: str) -> Ended:
+    """A command as a process of its own."""
+    ran = subprocess.run([sys.executable, os.path.join(HERE, "..", "bin", command), *words],
+                         stdin=subprocess.DEVNULL, capture_output=True, text=True)
+    return Ended(ran.returncode, ran.stdout, ran.stderr)
+
+
+class Texts(unittest.TestCase):
+    """The written form in the words of `bridge export`."""
+
+    def text(self, written: str) -> str:
+        return program_of(written.encode()).text.decode()
+
+    def test_all_sections(self) -> None:
+        written = ("NAME p\nOBJSENSE\n MAX\nROWS\n E e\n N cost\n L l\n N other\n G g\nCOLUMNS\n"
+                   " a cost 1\n a e 2\n M0 'MARKER' 'INTORG'\n b other 3\n c l -4\n"
+                   " M1 'MARKER' 'INTEND'\n d g 1\n f e 0\nRHS\n RHS cost -5\n RHS e 6\n"
+                   " RHS other 9\nRANGES\n RNG e -2\n RNG l -3\n RNG g 1\nBOUNDS\n UP BND a -1\n"
+                   " UI BND d 7\n FX BND c 2\n MI BND f\nENDATA\n")
+        self.assertEqual(self.text(written), (
+            "NAME nl\nOBJSENSE\n MAX\nROWS\n N obj\n L c0\n L c1\n G c2\nCOLUMNS\n x0 obj 1\n"
+            " x0 c0 2\n M0 'MARKER' 'INTORG'\n x1 obj 0\n x2 c1 -4\n x3 c2 1\n"
+            " M1 'MARKER' 'INTEND'\n x4 c0 0\nRHS\n RHS obj -5\n RHS c0 6\nRANGES\n RNG c0 2\n"
+            " RNG c1 3\n RNG c2 1\nBOUNDS\n MI BND x0\n UP BND x0 -1\n LO BND x1 0\n PL BND x1\n"
+            " FX BND x2 2\n LO BND x3 0\n UP BND x3 7\n FR BND x4\nENDATA\n"))
+        names = program_of(written.encode()).names
+        assert names is not None
+        self.assertEqual((names.row(1), names.column(4), names.objective(0)),
+                         ("l", "f", "objective 0 (cost)"))
+
+    def test_notes(self) -> None:
+        """On what other readers take otherwise, and on nothing else."""
+        columns = "".join(f" {name} o 1\n" for name in "abcdefg")
+        p = program_of((f"ROWS\n N o\nCOLUMNS\n M0 'MARKER' 'INTORG'\n{columns}"
+                        " M1 'MARKER' 'INTEND'\n x o 1\n y o 1\n z o 1\nRHS\nBOUNDS\n"
+                        " PL BND b\n UP BND c 3\n LO BND d 0\n UP BND x -1\n UP BND y 0\n"
+                        " MI BND z\n UP BND z -3\nENDATA\n").encode())
+        self.assertEqual(p.notes, [
+            "whole columns without bounds go from 0 on: a, e, f and 1 more; cbc and glpsol, where "
+            "they read the file, take 0 and 1 for their bounds",
+            "columns with an upper bound below 0 and no lower one have no lower end: x"])
+
+    def test_nothing_but_an_objective(self) -> None:
+        p = program_of(b"ROWS\n N o\nCOLUMNS\nRHS\n RHS o 0\nENDATA\n")
+        self.assertEqual((p.columns, p.constraints, p.objective_rhs, p.has_objective()),
+                         ([], [], "0", False))
+
+    def test_names_that_look_like_other_words(self) -> None:
+        """A column 'MARKER', and names with spaces that are none to bridge."""
+        p = program_of("ROWS\n N 'MARKER'\n L a\u00a0b\nCOLUMNS\n 'MARKER' 'MARKER' 2\n"
+                       " 'MARKER' a\u00a0b 3\nRHS\nENDATA\n".encode())
+        assert p.names is not None
+        self.assertEqual((p.costs, p.names.row(0)), ({"x0": "2"}, "a\u00a0b"))
+
+
+class Kinds(Case):
+    def test_what_is_one(self) -> None:
+        text = FIXED_TEXT.encode()
+        for name, data, wanted in (
+                ("m.mps", text, True), ("afiro", text, True),
+                ("m.mps.gz", gzip.compress(text), True), ("m.bz2", bz2.compress(text), True),
+                ("m.xz", lzma.compress(text), True), ("m.MPS", b"", True),
+                ("m.mps.gz", b"\x1f\x8b\x08", True), ("m.nl", b"g3 1 1\n", False),
+                ("m.lp", b"Minimize\n obj: x\n", False), ("m", b"\n" * 4000, False),
+                ("m", b"\n" * 99 + b"* \r\n \t\r\nNAME\r\n", True), ("m", b"", False),
+                ("m.gz", b"\x1f\x8b\x08", False)):
+            path = os.path.join(self.folder, name)
+            with open(path, "wb") as f:
+                f.write(data)
+            self.assertEqual(kinds.is_mps(path), wanted, name)
+            os.unlink(path)
+        self.assertFalse(kinds.is_mps(self.folder))
+
+    def test_stubs(self) -> None:
+        for path, stub in (("a/m.mps", "a/m"), ("m.mps.gz", "m"), ("m.MPS.XZ", "m"),
+                           ("afiro", "afiro"), ("m.gz", "m.gz"), ("a.mps/m", "a.mps/m")):
+            self.assertEqual(kinds.stub_of(path), stub)
+
+    def test_names_with_blanks(self) -> None:
+        self.put(BLANK.encode(), ".mps")
+        line = BLANK[:BLANK.index("MY ONE")].count("\n") + 1
+        self.assertTrue(mps_file.has_blank_name(self.stub + ".mps", line))
+        self.assertFalse(mps_file.has_blank_name(self.stub + ".mps", line + 1))
+        self.assertFalse(mps_file.has_blank_name(self.stub + ".mps", 1000))
+
+
+@NEEDS_MPS
+class Read(Case):
+    """What the program reads."""
+
+    def read(self, text: str, form: str = "") -> mps_file.Reading:
+        self.put(text.encode(), ".mps")
+        return mps_file.reading(bridge(), self.stub + ".mps", form)
+
+    def refused(self, text: str) -> str:
+        with self.assertRaises(Refused) as caught:
+            self.read(text)
+        return caught.exception.line().replace(self.stub, "m")
+
+    def test_forms(self) -> None:
+        for name, model in MODELS.items():
+            for form in ("free", "fixed"):
+                if form in model.forms:
+                    self.assertEqual(self.read(model.text, form).form, form, name)
+                else:
+                    with self.assertRaises(Refused, msg=name):
+                        self.read(model.text, form)
+            read = self.read(model.text)
+            self.assertEqual(read.form, "free", name)
+            self.assertEqual(bool(read.notes), name == "cut", name)
+        blanks = FIXED_TEXT.replace("    RHS       COST", "              COST")
+        self.assertEqual(self.read(blanks).form, "free")
+        number = FIXED_TEXT.replace(" BV BND       TWO", " FR BND       TWO                  3 ")
+        self.assertEqual(self.read(number).form, "free")
+
+    def test_fixed_alone(self) -> None:
+        """What stands beyond column 61, and would be more words in free form."""
+        text = FIXED_TEXT.replace("    RHS       COST              -5.5   CAP                 10",
+                                  "    RHS       COST              -5.5   CAP                 10"
+                                  "   a remark")
+        read = self.read(text)
+        self.assertEqual((read.form, read.notes), ("fixed", []))
+
+    def test_refusals(self) -> None:
+        self.assertEqual(self.refused(BLANK), "m.mps line 8: bad line: names with blanks are not "
+                                              "read")
+        self.assertRegex(self.refused(FIXED_TEXT.replace("ENDATA", "SOS")),
+                         r"^m\.mps line 18: bad section \(a section of another kind of model")
+        self.assertRegex(self.refused(MODELS["free"].text.replace("-1", "one")),
+                         r"^m\.mps line 6: bad number .*; in fixed columns line 3: bad line\)$")
+
+    def test_as_import_has_it(self) -> None:
+        """Random programs against those that `import` and `export` make of them."""
+        made = random.Random(3)
+        for _ in range(40):
+            text = random_text(made)
+            read = self.read(text)
+            own = Sections(program_of(read.text).text)
+            order = lists_of(read.text).columns
+            self.put(bridge().text("import", self.stub + ".mps"))
+            other = Sections(bridge().text("export", self.stub + ".nl"))
+            names = program_of(read.text).names
+            assert names is not None
+            at = {names.column(j): f"x{j}" for j in range(len(own.bounds))}
+            place = {f"x{k}": at[name] for k, name in enumerate(order)}
+            self.assertEqual({place[x]: ends for x, ends in other.bounds.items()}, own.bounds, text)
+            self.assertEqual({place[x] for x in other.whole}, own.whole, text)
+            self.assertEqual({place[x]: c for x, c in other.costs.items() if c},
+                             {x: c for x, c in own.costs.items() if c}, text)
+            self.assertEqual({(row, place[x]): a for row, x, a in other.entries},
+                             {(row, x): a for row, x, a in own.entries}, text)
+            self.assertEqual({row: other.sides(row) for row in other.kinds if row != "obj"},
+                             {row: own.sides(row) for row in own.kinds if row != "obj"}, text)
+            self.assertEqual((other.maximise, other.untie()), (own.maximise, own.untie()), text)
+
+
+def random_text(made: random.Random) -> str:
+    """With rows, ranges and bounds of all kinds."""
+    def number() -> str:
+        return made.choice(["1", "-2", "0.5", "3e1", "-1.25", "7", "0"])
+    rows = [(made.choice("LGEN"), f"r{i}") for i in range(made.randint(1, 5))]
+    rows.insert(made.randint(0, len(rows)), ("N", "o"))
+    columns, bounds = [], []
+    for j in range(made.randint(1, 5)):
+        line = [f"v{j} {name} {number()}" for _, name in rows if made.random() < 0.7]
+        line = line or [f"v{j} o 1"]
+        columns += [f"M 'MARKER' 'INTORG' / {' / '.join(line)} / M 'MARKER' 'INTEND'"] \
+            if made.random() < 0.4 else line
+        for kind in made.choice([(), ("UP",), ("LO",), ("FX",), ("FR",), ("MI",), ("PL",), ("BV",),
+                                 ("MI", "UP"), ("LI",), ("UI",), ("PL", "LO")]):
+            low = kind in ("LO", "LI")
+            value = "" if kind in ("FR", "MI", "PL", "BV") else "-4" if low else number()
+            bounds.append(f"{kind} B v{j} {value}")
+    sides = [f"{name} {number()}" for _, name in rows if made.random() < 0.7]
+    ranges = [f"{name} {number()}" for kind, name in rows if kind != "N" and made.random() < 0.5]
+    return sections(" / ".join(" ".join(row) for row in rows), " / ".join(columns),
+                    f"RHS {' / '.join(sides)} ; RANGES {' / '.join(ranges)} ; "
+                    f"BOUNDS {' / '.join(bounds)}", made.choice(["", "MAX", "MIN"]))
+
+
+@NEEDS_MPS
+@unittest.skipUnless(SOLVERS, "no solver")
+class Driven(Case):
+    """With solvers."""
+
+    def told(self, solver: str, text: str, *words: str, end: str = ".mps") -> dict:
+        self.put(gzip.compress(text.encode()) if end.endswith("gz") else text.encode(), end)
+        ran = called("bridge-" + solver, self.stub + end, "json=1", "wantsol=6", *words)
+        found: dict = json.loads(ran.stdout)
+        self.assertEqual((found["status"], faults(found, schema())), (ran.returncode, []))
+        return found
+
+    @NEEDS_CLP
+    def test_all(self) -> None:
+        """Each model through two drivers, in turn."""
+        for at, (name, model) in enumerate(MODELS.items()):
+            for solver in {SOLVERS[(at + k) % len(SOLVERS)] for k in (0, 3)}:
+                with self.subTest(driver=solver, model=name):
+                    told = self.told(solver, model.text, "prove=1")
+                    if told["code"] == 505:
+                        self.assertIn(solver, ("clp", "esolver"))
+                        continue
+                    self.assertEqual((told["text"], told["code"]), (model.line, model.code))
+                    if model.values is not None:
+                        values = {x: F(told["values"][x]) for x in model.values}
+                        self.assertEqual(values, {x: F(v) for x, v in model.values.items()})
+
+    def test_packed(self) -> None:
+        told = self.told(SOLVERS[0], MODELS["free"].text, end=".mps.gz")
+        self.assertEqual((told["text"], told["values"]), ("optimal -3/2", {"x": "1.5"}))
+        self.assertIn("what is judged is the text that stub.mps.gz unpacks to", told["lines"])
+
+    def test_forms_that_differ(self) -> None:
+        """The second pair of a line stands beyond what fixed columns have."""
+        told = self.told(SOLVERS[0], MODELS["cut"].text)
+        self.assertIn("it is read in free form; in fixed columns it is another program, which "
+                      "format=fixed reads", told["lines"])
+        told = self.told(SOLVERS[0], MODELS["cut"].text, "format=fixed")
+        self.assertEqual(told["text"], "optimal -33/2")
+
+    def test_names_in_messages(self) -> None:
+        text = sections("N o / E row", "M 'MARKER' 'INTORG' / col o 1 row 1 / M 'MARKER' 'INTEND'",
+                        "RHS row 1.5")
+        told = self.told(SOLVERS[0], text, "relax=1")
+        self.assertIn("variable 0 (col) is not whole", "\n".join(told["lines"]))
+
+    def test_refusals(self) -> None:
+        for text, words, status, line in (
+                (BLANK, [], 2, "names with blanks are not read"),
+                (FIXED_TEXT, ["objno=2"], 2, "objno=2: no such objective"),
+                (FIXED_TEXT, ["shortest=1"], 3, "shortest=1 is for .nl files"),
+                (FIXED_TEXT, ["format=nl"], 3, "format=nl: not free or fixed"),
+                (FIXED_TEXT, ["-AMPL"], 3, "a .sol is the answer to an .nl file: wantsol=2 "),
+                (FIXED_TEXT, ["-s"], 3, "a .sol is the answer to an .nl file: wantsol=2 ")):
+            self.put(text.encode(), ".mps")
+            ran = called("bridge-" + SOLVERS[0], self.stub + ".mps", *words)
+            self.assertEqual((ran.returncode, line in ran.stderr), (status, True), ran.stderr)
+        self.assertEqual(os.listdir(self.folder), ["stub.mps"])
+
+    def test_empty_interval(self) -> None:
+        told = self.told(SOLVERS[0], EMPTY_INTERVAL)
+        self.assertEqual((told["code"], told["claim"]), (200, None))
+        self.assertIn("stub.mps: column 1 (low): empty interval", told["lines"][0])
+
+    def test_damaged(self) -> None:
+        self.put(gzip.compress(FIXED_TEXT.encode())[:60], ".mps.gz")
+        ran = called("bridge-" + SOLVERS[0], self.stub + ".mps.gz")
+        self.assertEqual(ran.returncode, 2)
+        self.assertIn("stub.mps.gz: the packed file ends too soon or is damaged", ran.stderr)
+
+    def test_certificates(self) -> None:
+        """Beside the model, for each of its ends; the model itself is never written over."""
+        for end in (".mps", ".mps.gz"):
+            text = MODELS["free"].text.encode()
+            self.put(gzip.compress(text) if end.endswith("gz") else text, end)
+            ran = called("bridge-certify", self.stub + end, f"driver={SOLVERS[0]}")
+            self.assertEqual(ran.stdout.split("\n")[-2], "optimal -3/2", ran.stderr)
+            ran = called("nl-bridge", "verify", self.stub + end, self.stub + ".certificate")
+            self.assertEqual((ran.returncode, ran.stdout), (0, "optimal -3/2\n"))
+            os.unlink(self.stub + ".certificate")
+            told = self.told(SOLVERS[0], MODELS["free"].text, "overwrite=1",
+                             f"certificate={self.stub}{end}", end=end)
+            self.assertIn("the certificate is not kept: ", "\n".join(told["lines"]))
+            self.assertIn("is the model", "\n".join(told["lines"]))
+
+
+@NEEDS_MPS
+class Front(Case):
+    """`nl-bridge`."""
+
+    def setUp(self) -> None:
+        super().setUp()
+        self.put(FIXED_TEXT.encode(), ".mps")
+        self.put(gzip.compress(FIXED_TEXT.encode()), ".mps.gz")
+        self.put(CERTIFICATE, ".certificate")
+
+    def call(self, command: str, *ends: str) -> Ended:
+        words = [self.stub + word if word.startswith(".") else word for word in ends]
+        ran = called("nl-bridge", command, *words)
+        return Ended(ran.returncode, ran.stdout.replace(self.stub, "m"),
+                     ran.stderr.replace(self.stub, "m"))
+
+    def test_verify(self) -> None:
+        for command, end in (("verify", ".mps"), ("verify_mps", ".mps"), ("verify_fixed", ".mps"),
+                             ("verify", ".mps.gz")):
+            ran = self.call(command, end, ".certificate")
+            self.assertEqual((ran.returncode, ran.stdout), (0, "feasible -23/2\n"), command)
+        self.put(CERTIFICATE.replace(b"1 1\n", b"1 3/2\n"), ".certificate")
+        ran = self.call("verify", ".mps", ".certificate")
+        self.assertEqual((ran.returncode, ran.stdout), (1, "row 0 broken\n"))
+        self.put(b"certificate 1\nfeasible 1\npoint 0\n", ".certificate")
+        ran = self.call("verify", ".mps", ".certificate")
+        self.assertEqual((ran.returncode, ran.stdout), (2, ""))
+        self.assertIn("nl-bridge: m.mps: objective 1: no such objective", ran.stderr)
+        ran = self.call("verify", ".mps", ".mps")
+        self.assertIn("line 1: bad first line (it does not begin with `certificate 1`)", ran.stderr)
+
+    def test_json(self) -> None:
+        ran = self.call("verify", ".mps", ".certificate", "json=1")
+        told = json.loads(ran.stdout)
+        self.assertEqual((told["claim"], told["value"]["exact"], told["model"]),
+                         ("feasible", "-23/2", "m.mps"))
+        self.assertEqual(faults(told, schema()), [])
+        told = json.loads(self.call("stats", ".mps.gz", "json=1").stdout)
+        self.assertEqual((told["stats"]["columns"], faults(told, schema())), (3, []))
+        self.put(b"\x1f\x8b", ".mps.gz")
+        told = json.loads(self.call("stats", ".mps.gz", "json=1").stdout)
+        self.assertEqual((told["status"], told["claim"], faults(told, schema())), (2, None, []))
+
+    def test_explain(self) -> None:
+        ran = self.call("explain", ".mps", ".certificate")
+        self.assertEqual((ran.returncode, ran.stdout.split("\n")[:3]),
+                         (0, ["m.certificate holds of m.mps: feasible -23/2",
+                              "claim     a point has the objective -11.5",
+                              "point     ONE 1, TWO 1; the others 0"]))
+        self.put(CERTIFICATE.replace(b"1 1\n", b"2 1\n"), ".certificate")
+        ran = self.call("explain", ".mps.gz", ".certificate")
+        self.assertEqual(ran.returncode, 1)
+        self.assertIn("fails     constraint 0 (CAP) is 23/2 at the point, and at most 10: 1.5 too "
+                      "much", ran.stdout)
+        self.assertEqual(self.call("explain", ".mps"), (0, "m.mps: is not refused\n", ""))
+        self.put(BLANK.encode(), ".mps")
+        ran = self.call("explain", ".mps")
+        self.assertEqual(ran.returncode, 2)
+        self.assertIn("  >      8     MY ONE    COST", ran.stdout)
+
+    def test_stats(self) -> None:
+        ran = self.call("stats", ".mps.gz")
+        self.assertEqual(ran.returncode, 0)
+        self.assertIn("sense         minimise, constant 11/2\n", ran.stdout)
+        self.assertIn("columns       3: 0 continuous, 3 binary, 0 integer; 0 free, 0 fixed\n",
+                      ran.stdout)
+        self.assertEqual(self.call("stats", ".mps", "1").returncode, 2)
+        self.put(MODELS["free"].text.replace("RHS\n cap 3", "RHS\n cap 0.1234567890123456789")
+                 .encode(), ".mps")
+        self.assertIn("not doubles   1 numbers: 0.1234567890123456789 (cap)\n",
+                      self.call("stats", ".mps").stdout)
+
+
+@unittest.skipUnless(PROGRAM and shutil.which("sh"), "no bridge, or no shell")
+class OlderProgram(Case):
+    def test_one_that_judges_no_mps_files(self) -> None:
+        """It is told by the command that it lacks."""
+        program = os.path.join(self.folder, "older")
+        with open(program, "w") as f:
+            f.write("#!/bin/sh\ncase $1 in verify_*) echo 'bad words' >&2; exit 3;; esac\n"
+                    f"exec {PROGRAM[0]} \"$@\"\n")
+        os.chmod(program, 0o755)
+        self.put(FIXED_TEXT.encode(), ".mps")
+        read = mps_file.reading(Bridge([program], lambda argv: None), self.stub + ".mps")
+        with self.assertRaises(Refused) as caught:
+            mps_file.judged(Bridge([program], lambda argv: None), self.stub + ".mps", self.folder,
+                            read)
+        self.assertEqual(caught.exception.line(), "this bridge does not know the command "
+                                                  "`verify_mps` (bad words)")
+
+
+if __name__ == "__main__":
+    unittest.main()
