@@ -1,10 +1,19 @@
-// Proofs by branches of a small file, as they are read.
+// Proofs by branches of a small file: read, and checked over its folded rows by columns.
+ghost use Rattle.std.specs.Prelude.{◌≡◌, ◌<◌};
+ghost use Rattle.file_certificates.specs.Files.{IsProofIn};
+
 use crate::segments::file_of;
-use branch_proof::{Claim, Proof, ProofNode};
+use branch_proof::{Claim, Proof, ProofNode, ProofVerdict, check_proof};
+use certificate_check::Columns;
 use exact_numbers::Dec;
 use example_texts::proof_texts::{ONE_WHOLE, TWO_LEAVES};
+use linear_fold::fold_all;
+use nl_model::NlFile;
 use proof_text::{ProofFault, ProofReader, ProofReason, read_proof};
-use text_base::Stop;
+use std::alloc::Global;
+use std::marker::Brand;
+use std::process::Abort;
+use text_base::{Blank, Ledger, Steps, Stop};
 
 // Whether it claims that no point has a better value of this objective.
 fn says_value(claim: Claim, objective: u32, value: Dec) -> bool {
@@ -33,6 +42,39 @@ fn a_proof_is_read(rt: HostRuntime) {
     drop(file);
     assert!(rt; is_two_leaves(&proof));
     drop(proof);
+}
+
+// The verdict on a proof of a file with its objective 0.
+#[tactic(auto, using(file_certificates::proofs::ProofFiles::proof_of))]
+fn verdict_on<L: Ledger>(
+    rt: &impl Abort,
+    alloc: Global,
+    file: &NlFile,
+    proof: &Proof,
+    blank: Blank,
+) -> ProofVerdict
+    requires proof { IsProofIn file.now proof.now }
+    requires name { blank.name ≡ L.name }
+    requires parts { blank.parts ≡ L.parts }
+    requires some { 0 < blank.parts }
+{
+    let mut steps = Steps::<L>::new(blank);
+    let linear = fold_all(alloc, file, 0, &mut steps).expect(rt, "a program");
+    let columns = Columns::of(alloc, &linear).expect(rt, "memory");
+    drop(linear);
+    let verdict = check_proof(alloc, &columns, proof);
+    drop(columns);
+    verdict.expect(rt, "memory")
+}
+
+#[test]
+fn a_proof_is_checked(rt: HostRuntime) {
+    let file = file_of(&rt, rt.alloc(), ONE_WHOLE);
+    let proof = read_proof(rt.alloc(), &file, TWO_LEAVES.as_bytes()).expect(&rt, "a proof");
+    let verdict = verdict_on::<Brand>(&rt, rt.alloc(), &file, &proof, Blank::new(1));
+    drop(proof);
+    drop(file);
+    assert!(rt; verdict == ProofVerdict::Yes);
 }
 
 #[test]
