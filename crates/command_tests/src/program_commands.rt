@@ -6,8 +6,21 @@ use example_texts::mps_texts::{FIXED, WHOLE_IN_TWO};
 use std::alloc::Global;
 use std::process::Abort;
 
-// Whether the status is this, and the verdict, or the line told, of a certificate with its first
-// line before this.
+// Whether the status is this, and the verdict, or the line told, of a certificate.
+fn comes_so(
+    rt: &impl Abort,
+    alloc: Global,
+    command: &str,
+    mps: &str,
+    certificate: &str,
+    wanted: (u8, &str),
+) -> bool {
+    let texts = [("m", mps.as_bytes()), ("c", certificate.as_bytes())];
+    let words = [command, "m", "c"];
+    comes_to(rt, alloc, &texts, &words, wanted.0, wanted.1)
+}
+
+// The same, of a certificate with its first line before this.
 fn judges_so(
     rt: &impl Abort,
     alloc: Global,
@@ -18,8 +31,7 @@ fn judges_so(
 ) -> bool {
     let mut certificate = String::from_str(alloc, "certificate 1\n").expect(rt, "memory");
     certificate.push_str(rest).expect(rt, "memory");
-    let texts = [("m", mps.as_bytes()), ("c", certificate.as_bytes())];
-    comes_to(rt, alloc, &texts, &[command, "m", "c"], wanted.0, wanted.1)
+    comes_so(rt, alloc, command, mps, &certificate, wanted)
 }
 
 // The least whole X from 0 to 5 with 2 X at least 3 is 2; that is the second row that is no N row.
