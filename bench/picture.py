@@ -19,7 +19,7 @@ TOP = Path(__file__).resolve().parent.parent
 PICTURES = TOP / "docs" / "pictures"
 WIDTH, LEFT, HIGH, STEP = 900, 330, 16, 30
 NUMBER = re.compile(r"^\d+\.\d+")
-# Of each scheme the paper, the ink, our bar, the bar of what stands beside it, and the mark of the floor.
+# Of each scheme the ground, the ink, our bar, the bar of what stands beside it, and the mark of the floor.
 SCHEMES = {
     "light": ("#ffffff", "#1f2328", "#1a7f37", "#e2e5e9", "#bf8700"),
     "dark": ("#0d1117", "#e6edf3", "#3fb950", "#2a313a", "#d29922"),
@@ -48,12 +48,12 @@ def bars() -> list[Bar]:
 
 
 def picture(scheme: str, found: list[Bar]) -> str:
-    paper, ink, ours, other, mark = SCHEMES[scheme]
+    ground, ink, ours, other, mark = SCHEMES[scheme]
     height = STEP * len(found) + 40
     unit = (WIDTH - LEFT - 60) / max([1.0, *(bar.part for bar in found)])
     out = [f'<svg xmlns="http://www.w3.org/2000/svg" viewBox="0 0 {WIDTH} {height}" font-family="sans-serif" font-size="13">',
            "<title>Time of bridge beside that of a converter in doubles, or of clp reading alone, which is 1</title>",
-           f'<rect width="{WIDTH}" height="{height}" fill="{paper}"/>']
+           f'<rect width="{WIDTH}" height="{height}" fill="{ground}"/>']
     for place, bar in enumerate(found):
         y = 8 + place * STEP
         out.append(f'<text x="{LEFT - 10}" y="{y + 13}" text-anchor="end" fill="{ink}">{escape(bar.name)}</text>'

@@ -20,7 +20,7 @@ DESIGN = TOP / "docs" / "dev" / "design.md"
 PICTURES = TOP / "docs" / "pictures"
 BEGIN, END = "<!-- the crates: dev/map.py --write -->", "<!-- end of the crates -->"
 
-# The colours of a picture: paper, ink, faint lines, a box and its edge.
+# The colours of a picture: ground, ink, faint lines, a box and its edge.
 SCHEMES = {
     "light": ("#ffffff", "#1f2328", "#b8c0ca", "#eef3fb", "#7d95b8"),
     "dark": ("#0d1117", "#e6edf3", "#3d4754", "#16202e", "#4f6a92"),
@@ -117,11 +117,11 @@ def places(found: list[Room]) -> tuple[dict[str, tuple[float, float, float]], li
 def picture(found: list[Room], uses: dict[str, list[str]], scheme: str) -> str:
     """The graph: rooms as bands, the program above what it stands on, a line for each crate that another one stands on
     and that is not below a further one of these. The tests have no lines: they stand on nearly all."""
-    paper, ink, faint, fill, edge = SCHEMES[scheme]
+    ground, ink, faint, fill, edge = SCHEMES[scheme]
     boxes, heads, height = places(found)
     out = [f'<svg xmlns="http://www.w3.org/2000/svg" viewBox="0 0 {WIDTH} {height:.0f}" font-family="sans-serif">',
            "<title>The crates, by room: each stands on those that lines lead down to</title>",
-           f'<rect width="{WIDTH}" height="{height:.0f}" fill="{paper}"/>']
+           f'<rect width="{WIDTH}" height="{height:.0f}" fill="{ground}"/>']
     tests = {crate for room in found if room.name == "tests" for crate in room.crates}
     for name, used in reduced(uses).items():
         if name in tests:

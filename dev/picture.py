@@ -56,7 +56,7 @@ LEGEND = [
     ("outside", "trusted in nothing"),
     ("trusted", "trusted: toolchain, files as the machine gives them"),
 ]
-# Of each scheme the paper, the ink, a faint ink, and the fill and the edge of each kind.
+# Of each scheme the ground, the ink, a faint ink, and the fill and the edge of each kind.
 SCHEMES = {
     "light": ("#ffffff", "#1f2328", "#59636e", {
         "proved": ("#d7f0dc", "#1a7f37"), "tested": ("#dbe9ff", "#3b6fd4"), "outside": ("#f1f2f4", "#8b949e"),
@@ -85,13 +85,13 @@ def drawn(box: Box, ink: str, faint: str, fill: str, edge: str) -> str:
 
 
 def picture(scheme: str) -> str:
-    paper, ink, faint, colours = SCHEMES[scheme]
+    ground, ink, faint, colours = SCHEMES[scheme]
     out = [f'<svg xmlns="http://www.w3.org/2000/svg" viewBox="0 0 {WIDTH} {HEIGHT}" font-family="sans-serif" '
            'text-anchor="middle">',
            "<title>A model goes through bridge to a solver and back, and a certificate is judged of the model itself</title>",
            f'<defs><marker id="tip" viewBox="0 0 10 10" refX="9" refY="5" markerWidth="7" markerHeight="7" orient="auto">'
            f'<path d="M0 0 L10 5 L0 10 z" fill="{faint}"/></marker></defs>',
-           f'<rect width="{WIDTH}" height="{HEIGHT}" fill="{paper}"/>']
+           f'<rect width="{WIDTH}" height="{HEIGHT}" fill="{ground}"/>']
     for start, end, through in ARROWS:
         first, last = ends(BOXES[start], BOXES[end])
         if through:
