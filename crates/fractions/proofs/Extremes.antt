@@ -1,14 +1,11 @@
 -- Powers, least and greatest, whole parts and absolute values: what their definitions say.
-use Rattle.std.proofs.Common.{◌≡◌, ℕ, zero, suc, ◌+◌, ◌*◌, ◌/◌, ◌<◌, ◌⊎◌, inl, inr, ⊎_elim, ◌∙◌, sym, ap, refl, subst, subst₂, one-mul, arith, Bool, true, false, if◌then◌else◌, ℤ, pos, negsuc, ◌+ℤ◌, ◌*ℤ◌, ◌≤ℤ◌, ◌<ℤ◌, neg_ℤ, List, [], ◌∷◌, All, Contains}
-use Rattle.std.specs.Int.{int_div_euclid}
+use Rattle.std.proofs.Common.{◌≡◌, ℕ, suc, ◌+◌, ◌*◌, ◌<◌, ◌⊎◌, ◌↔◌, IsTrue, inl, inr, ⊎_elim, ◌∙◌, sym, ap, refl, subst, subst₂, arith, Bool, true, false, if◌then◌else◌, ℤ, pos, negsuc, ◌*ℤ◌, ◌≤ℤ◌, ◌<ℤ◌, neg_ℤ, List, [], ◌∷◌, All, Contains}
 use Rattle.std.proofs.lemmas.Int.{ints}
-use Rattle.std.proofs.lemmas.Nat.{div-add-mod'}
-use Rattle.std.proofs.Math.Nat.{mod-lt}
 use Rattle.std.proofs.lemmas.List.Elements.{All-nil, All-cons}
 use Rattle.fractions.specs.Functions.{power_of, is_smaller, lesser_of, greater_of, least_of, greatest_of, floor_of, ceiling_of, without_sign, absolute_of}
 use Rattle.fractions.specs.Rational.{ℚ, whole, zero_ℚ, one_ℚ, ◌+ℚ◌, ◌-ℚ◌, ◌*ℚ◌, neg_ℚ, ◌≤ℚ◌, ◌<ℚ◌, IsWhole}
-use Rattle.fractions.proofs.Signed.{neg-*ℤ}
-use Rattle.fractions.proofs.Values.{HasValue, scaled_value, own_value, whole_value, value_le, value_lt}
+use Rattle.fractions.specs.FloorLemmas.{a_floor}
+use Rattle.fractions.proofs.Values.{own_value, value_le}
 use Rattle.fractions.proofs.Arithmetic.{≤ℚ_refl, ≤ℚ_trans, neg-≤ℚ, neg-neg, neg-+ℚ, neg_zero, -ℚ_lem, not_both, le_or_lt, zero_value, whole_of, whole-+ℚ, whole-neg, IsWhole-whole}
 
 -- ---- powers
@@ -21,6 +18,13 @@ unfolding power_of
 power_of-suc x n = refl
 
 -- ---- least and greatest
+pub is_smaller_test : (x y : ℚ) → IsTrue (is_smaller x y) ↔ (x <ℚ y)
+is_smaller_test x y = ((λ e. record { crosswise = omega (arith, ints) }), (λ h. by (is_smaller x y) refl h.crosswise))
+  where
+    by : (b : Bool) → is_smaller x y ≡ b → (x.top *ℤ pos y.bottom) <ℤ (y.top *ℤ pos x.bottom) → is_smaller x y ≡ true
+    by true e h = e
+    by false e h = absurd (omega (arith, ints))
+
 -- the lesser of two is one of them, and at most both
 pub record IsLesser (x y z : ℚ) : Type 0 where
   pub one : (z ≡ x) ⊎ (z ≡ y)
@@ -107,46 +111,17 @@ pub greatest_law : (x : ℚ) (xs : List ℚ) → Contains (x ∷ xs) (greatest_o
 greatest_law x xs = let r = greatest_is x xs in (among x xs (greatest_of x xs) r.one, All-cons (λ y. y ≤ℚ greatest_of x xs) x xs r.first r.rest)
 
 -- ---- whole parts
-floor_below_ℤ : (z : ℤ) (b : ℕ) → 0 < b → (int_div_euclid z (pos b) *ℤ pos b) ≤ℤ z
-floor_below_ℤ (pos a) b some = let split = div-add-mod' a b in let h : pos (a / b * b) ≤ℤ pos a = omega (arith, ints) in h
-floor_below_ℤ (negsuc a) b some =
-    let split = div-add-mod' a b in let small = mod-lt a some in
-    let q = a / b in
-    omega (arith, ints)
-
-floor_near_ℤ : (z : ℤ) (b : ℕ) → 0 < b → z <ℤ ((int_div_euclid z (pos b) +ℤ pos 1) *ℤ pos b)
-floor_near_ℤ (pos a) b some = let split = div-add-mod' a b in let small = mod-lt a some in let h : pos a <ℤ pos ((a / b + 1) * b) = omega (arith, ints) in h
-floor_near_ℤ (negsuc a) b some =
-    let q = a / b in
-    let split = div-add-mod' a b in
-    let below : negsuc a <ℤ neg_ℤ (pos (q * b)) = omega (arith, ints, split) in
-    subst (λ z. negsuc a <ℤ (z *ℤ pos b)) (sym (one_more q)) (subst (λ z. negsuc a <ℤ z) (sym (neg-*ℤ (pos q) (pos b))) below)
-  where
-    one_more : (q : ℕ) → negsuc q +ℤ pos 1 ≡ neg_ℤ (pos q)
-    one_more zero = refl
-    one_more (suc q) = omega (arith, ints)
-
 -- the greatest whole number that is not above x
 pub record IsFloor (x z : ℚ) : Type 0 where
   pub whole : IsWhole z
   pub below : z ≤ℚ x
   pub near : x <ℚ (z +ℚ one_ℚ)
 
-at_most_by : (x : ℚ) (q : ℤ) → (q *ℤ pos x.bottom) ≤ℤ x.top → whole q ≤ℚ x
-at_most_by x q h = value_le (subst (λ n. HasValue (whole q) (q *ℤ pos x.bottom) n) (one-mul x.bottom) (scaled_value x.bottom x.above (whole_value q))) (own_value x) h
-
-above_by : (x : ℚ) (q : ℤ) → x.top <ℤ (q *ℤ pos x.bottom) → x <ℚ whole q
-above_by x q h = value_lt (own_value x) (subst (λ n. HasValue (whole q) (q *ℤ pos x.bottom) n) (one-mul x.bottom) (scaled_value x.bottom x.above (whole_value q))) h
-
 pub floor_is : (x : ℚ) → IsFloor x (floor_of x)
 unfolding floor_of
 floor_is x =
-    let q = int_div_euclid x.top (pos x.bottom) in
-    record {
-      whole = IsWhole-whole q;
-      below = at_most_by x q (floor_below_ℤ x.top x.bottom x.above);
-      near = subst (λ v. x <ℚ v) (sym (whole-+ℚ q (pos 1))) (above_by x (q +ℤ pos 1) (floor_near_ℤ x.top x.bottom x.above));
-    }
+    let f = a_floor x in
+    record { whole = IsWhole-whole f.0; below = f.1; near = subst (λ v. x <ℚ v) (sym (whole-+ℚ f.0 (pos 1))) f.2 }
 
 -- the least whole number that is not below x
 pub record IsCeiling (x z : ℚ) : Type 0 where
