@@ -1,12 +1,11 @@
 -- Powers, least and greatest, whole parts and absolute values: what their definitions say.
-use Rattle.std.proofs.Common.{◌≡◌, ℕ, suc, ◌+◌, ◌*◌, ◌<◌, ◌⊎◌, ◌↔◌, IsTrue, inl, inr, ⊎_elim, ◌∙◌, sym, ap, refl, subst, subst₂, arith, Bool, true, false, if◌then◌else◌, ℤ, pos, negsuc, ◌*ℤ◌, ◌≤ℤ◌, ◌<ℤ◌, neg_ℤ, List, [], ◌∷◌, All, Contains}
+use Rattle.std.proofs.Common.{◌≡◌, ℕ, suc, ◌+◌, ◌*◌, ◌<◌, ◌⊎◌, ◌↔◌, IsTrue, inl, inr, ⊎_elim, ◌∙◌, sym, ap, refl, subst, subst₂, arith, Bool, true, false, if◌then◌else◌, ℤ, pos, ◌*ℤ◌, ◌<ℤ◌, neg_ℤ, List, [], ◌∷◌, All, Contains}
 use Rattle.std.proofs.lemmas.Int.{ints}
 use Rattle.std.proofs.lemmas.List.Elements.{All-nil, All-cons}
-use Rattle.fractions.specs.Functions.{power_of, is_smaller, lesser_of, greater_of, least_of, greatest_of, floor_of, ceiling_of, without_sign, absolute_of}
+use Rattle.fractions.specs.Functions.{power_of, is_smaller, lesser_of, greater_of, least_of, greatest_of, floor_of, ceiling_of, absolute_of}
 use Rattle.fractions.specs.Rational.{ℚ, whole, zero_ℚ, one_ℚ, ◌+ℚ◌, ◌-ℚ◌, ◌*ℚ◌, neg_ℚ, ◌≤ℚ◌, ◌<ℚ◌, IsWhole}
 use Rattle.fractions.specs.FloorLemmas.{a_floor}
-use Rattle.fractions.proofs.Values.{own_value, value_le}
-use Rattle.fractions.proofs.Arithmetic.{≤ℚ_refl, ≤ℚ_trans, neg-≤ℚ, neg-neg, neg-+ℚ, neg_zero, -ℚ_lem, not_both, le_or_lt, zero_value, whole_of, whole-+ℚ, whole-neg, IsWhole-whole}
+use Rattle.fractions.proofs.Arithmetic.{≤ℚ_refl, ≤ℚ_of_<ℚ, ≤ℚ_trans, neg-≤ℚ, neg-neg, neg-+ℚ, neg_zero, -ℚ_lem, not_both, le_or_lt, whole_of, whole-+ℚ, whole-neg, IsWhole-whole}
 
 -- ---- powers
 pub power_of-zero : (x : ℚ) → power_of x 0 ≡ one_ℚ
@@ -75,7 +74,7 @@ one_of x y w z ys (inr e) (inl f) = inr (subst (Contains (y ∷ ys)) (sym (f ∙
 one_of x y w z ys h (inr c) = inr (contains_later y z ys c)
 
 least_is : (x : ℚ) (xs : List ℚ) → IsLeast x xs (least_of x xs)
-unfolding least_of
+unfolding least_of lesser_of
 least_is x [] = record { one = inl refl; first = ≤ℚ_refl x; rest = All-nil (λ y. x ≤ℚ y) }
 least_is x (y ∷ ys) =
     let w = lesser_of x y in
@@ -88,7 +87,7 @@ least_is x (y ∷ ys) =
     }
 
 greatest_is : (x : ℚ) (xs : List ℚ) → IsGreatest x xs (greatest_of x xs)
-unfolding greatest_of
+unfolding greatest_of greater_of
 greatest_is x [] = record { one = inl refl; first = ≤ℚ_refl x; rest = All-nil (λ y. y ≤ℚ x) }
 greatest_is x (y ∷ ys) =
     let w = greater_of x y in
@@ -151,15 +150,23 @@ pub record IsAbsolute (x z : ℚ) : Type 0 where
   pub one : (z ≡ x) ⊎ (z ≡ neg_ℚ x)
   pub above : zero_ℚ ≤ℚ z
 
-zero_below : (x : ℚ) → pos 0 ≤ℤ x.top → zero_ℚ ≤ℚ x
-zero_below x h = value_le (zero_value x.bottom x.above) (own_value x) h
+pub absolute_below : (x : ℚ) → x <ℚ zero_ℚ → absolute_of x ≡ neg_ℚ x
+unfolding absolute_of
+absolute_below x h = ap (λ b. if b then neg_ℚ x else x) ((is_smaller_test x zero_ℚ).1 h)
+
+pub absolute_above : (x : ℚ) → zero_ℚ ≤ℚ x → absolute_of x ≡ x
+unfolding absolute_of
+absolute_above x h = by (is_smaller x zero_ℚ) refl
+  where
+    by : (b : Bool) → is_smaller x zero_ℚ ≡ b → (if b then neg_ℚ x else x) ≡ x
+    by true e = absurd (not_both zero_ℚ x h ((is_smaller_test x zero_ℚ).0 e))
+    by false e = refl
 
 pub absolute_is : (x : ℚ) → IsAbsolute x (absolute_of x)
-unfolding absolute_of
-absolute_is x = by x.top refl
-  where
-    by : (t : ℤ) → x.top ≡ t → IsAbsolute x (without_sign t x)
-    by (pos n) e = record { one = inl refl; above = zero_below x (subst (λ z. pos 0 ≤ℤ z) (sym e) (omega (arith, ints))) }
-    by (negsuc n) e =
-        let low : x ≤ℚ zero_ℚ = value_le (own_value x) (zero_value x.bottom x.above) (subst (λ z. z ≤ℤ pos 0) (sym e) (omega (arith, ints))) in
-        record { one = inr refl; above = subst (λ v. v ≤ℚ neg_ℚ x) neg_zero (neg-≤ℚ x zero_ℚ low) }
+absolute_is x =
+    ⊎_elim
+    (λ (h : zero_ℚ ≤ℚ x). record { one = inl (absolute_above x h); above = subst (λ v. zero_ℚ ≤ℚ v) (sym (absolute_above x h)) h })
+    (λ (h : x <ℚ zero_ℚ).
+    let e = absolute_below x h in
+    record { one = inr e; above = subst₂ (λ a b. a ≤ℚ b) neg_zero (sym e) (neg-≤ℚ x zero_ℚ (≤ℚ_of_<ℚ x zero_ℚ h)) })
+    (le_or_lt zero_ℚ x)

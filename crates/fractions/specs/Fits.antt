@@ -14,7 +14,7 @@ fits x = is_small (unsigned_abs x.top) && is_small x.bottom
 
 -- the least common multiple
 abbrev pub least_multiple : ℕ → ℕ → ℕ
-least_multiple a b = (let found : (m : ℕ) × IsLcm a b m = a_least_multiple a b in found.0)
+least_multiple a b = (let it : (m : ℕ) × IsLcm a b m = a_least_multiple a b in it.0)
 
 -- a common denominator, two numerators over it and their sum are small
 abbrev pub parts_fit : ℕ → ℤ → ℤ → Bool

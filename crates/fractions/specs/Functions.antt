@@ -35,25 +35,21 @@ greater_of x y = (if is_smaller x y then y else x)
 -- the least, and the greatest, of a number and those of a list
 unfoldable pub least_of : ℚ → List ℚ → ℚ
 least_of x [] = x
-least_of x (y ∷ ys) = least_of (lesser_of x y) ys
+least_of x (y ∷ ys) = least_of (if is_smaller y x then y else x) ys
 
 unfoldable pub greatest_of : ℚ → List ℚ → ℚ
 greatest_of x [] = x
-greatest_of x (y ∷ ys) = greatest_of (greater_of x y) ys
+greatest_of x (y ∷ ys) = greatest_of (if is_smaller x y then y else x) ys
 
 -- the whole number z with z ≤ x < z + 1
 unfoldable pub floor_of : ℚ → ℚ
 floor_of x =
-    let found : (z : ℤ) × (whole z ≤ℚ x) × (x <ℚ whole (z +ℤ pos 1)) = a_floor x in whole found.0
+    let it : (z : ℤ) × (whole z ≤ℚ x) × (x <ℚ whole (z +ℤ pos 1)) = a_floor x in whole it.0
 
 -- the least whole number that is at least x: -z, where z is the greatest that is at most -x
 unfoldable pub ceiling_of : ℚ → ℚ
 ceiling_of x = neg_ℚ (floor_of (neg_ℚ x))
 
 -- x, or -x where x is below 0
-abbrev pub without_sign : ℤ → ℚ → ℚ
-without_sign (pos n) x = x
-without_sign (negsuc n) x = neg_ℚ x
-
 unfoldable pub absolute_of : ℚ → ℚ
-absolute_of x = without_sign x.top x
+absolute_of x = (if is_smaller x zero_ℚ then neg_ℚ x else x)
