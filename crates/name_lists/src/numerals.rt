@@ -1,7 +1,7 @@
 // Names that are a letter and a number.
 ghost use Rattle.std.specs.Prelude.{◌≡◌, ◌≢◌, ◌<◌, ◌≤◌, ◌^◌, ◌∷◌, ℕ, drop, MatchOption};
 ghost use Rattle.std.specs.Fmt.{decimal};
-ghost use Rattle.name_files.specs.Renamed.{index_named};
+ghost use Rattle.name_lists.specs.Names.{index_named};
 
 use exact_numbers::whole_of;
 

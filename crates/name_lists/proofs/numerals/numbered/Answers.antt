@@ -1,6 +1,6 @@
 use Rattle.std.proofs.Common.{◌∙◌, sym}
-use Rattle.name_files.proofs.NumeralLemmas.{glued, index_of, none_empty, none_other, none_plain, none_below}
-use Rattle.name_files.proofs.numerals.numbered.Goals as goal
+use Rattle.name_lists.proofs.NumeralLemmas.{glued, index_of, none_empty, none_other, none_plain, none_below}
+use Rattle.name_lists.proofs.numerals.numbered.Goals as goal
 
 pub returns-in_default : goal.returns-in_default
 returns-in_default c = none_empty c.args.letter c.args.count c.args.text.now c.in_default.len_below

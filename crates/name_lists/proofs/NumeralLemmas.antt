@@ -15,7 +15,7 @@ use Rattle.std.proofs.lemmas.Str.Parse.{IsNumeralModel}
 use Rattle.exact_numbers.specs.Numbers.{are_digits, whole_of}
 use Rattle.exact_numbers.proofs.NumberLemmas.{first_of_both, second_of_both, digits_are, are_digits-some, are_digits-all}
 use Rattle.texts.proofs.NamePlaces.{bytes_other}
-use Rattle.name_files.specs.Renamed.{index_named}
+use Rattle.name_lists.specs.Names.{index_named}
 
 -- ---- numbers without zeros in front
 
