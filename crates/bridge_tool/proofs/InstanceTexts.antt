@@ -20,7 +20,7 @@ use Rattle.nl_round_trip.proofs.Room.{writable_by}
 use Rattle.nl_round_trip.proofs.WholeLaw.{written_is_read}
 use Rattle.nl_lines.specs.Tests.{is_binary}
 use Rattle.instances.specs.Instance.{each, zero_dec, counts_of, definition_of, body_of, slope_of, goal_of, instance}
-use Rattle.instance_texts.proofs.Files.{all_each, is_file, term_total}
+use Rattle.bridge_tool.proofs.InstanceFiles.{all_each, is_file, term_total}
 
 -- ---- trees
 

@@ -15,7 +15,7 @@ use Rattle.instances.specs.InsideMaking.{drafted}
 use Rattle.instances.proofs.Drafting.{can_add}
 use Rattle.instances.proofs.NumberLemmas.{is_headed}
 use Rattle.instances.proofs.RowLemmas.{is_one, not_defined, terms_so_far}
-use Rattle.instance_texts.proofs.Numbers.{above_zero}
+use Rattle.bridge_tool.proofs.InstanceNumbers.{above_zero}
 
 -- what holds of each number below the limit holds of m of them from a on
 all_from : {A : Type 0} (P : A → Type 0) (f : ℕ → A) (limit a m : ℕ) → a + m ≤ limit → ((k : ℕ) → k < limit → P (f k)) → All P (map f (range_with_len a m))
