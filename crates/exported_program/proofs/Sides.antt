@@ -1,10 +1,10 @@
 -- The sides that a program's rows and columns have.
-use Rattle.std.proofs.Common.{◌≡◌, ℕ, zero, suc, ◌+◌, ◌<◌, ◌∙◌, sym, ap, ap₂, refl, arith, Bool, true, false, cond, nat_eq, List, [], ◌∷◌, ◌++◌, length, get_or, Option, Some, None, pos, negsuc, ◌⊎◌, ⊎_elim, ◌||◌, ◌&&◌}
+use Rattle.std.proofs.Common.{◌≡◌, if◌then◌else◌, ℕ, zero, suc, ◌+◌, ◌<◌, ◌∙◌, sym, ap, ap₂, refl, arith, Bool, true, false, cond, nat_eq, List, [], ◌∷◌, ◌++◌, length, get_or, Option, Some, None, pos, negsuc, ◌⊎◌, ⊎_elim, ◌||◌, ◌&&◌}
 use Rattle.std.specs.Option.{option_or}
 use Rattle.std.proofs.lemmas.Bool.{eq-eqb, ne_eqb}
 use Rattle.std.proofs.lemmas.Int.{ints}
-use Rattle.fractions.specs.Rational.{ℚ, zero_ℚ, whole, ◌+ℚ◌, ◌-ℚ◌, neg_ℚ, ◌≤ℚ◌, unless_zero}
-use Rattle.fractions.proofs.Arithmetic.{+ℚ_comm, +ℚ_assoc, +ℚ_zero, +ℚ-neg, -ℚ_lem, zero_top, difference_above}
+use Rattle.fractions.specs.Rational.{ℚ, zero_ℚ, whole, ◌+ℚ◌, ◌-ℚ◌, neg_ℚ, ◌≤ℚ◌, is_zero}
+use Rattle.fractions.proofs.Arithmetic.{+ℚ_comm, +ℚ_assoc, +ℚ_zero, +ℚ-neg, -ℚ_lem, difference_above, is_zero-true}
 use Rattle.linear_programs.specs.Linear.{Interval, AreOrdered, Variable}
 use Rattle.mps_model.specs.declared.kinds.BoundKind.{BoundKind}
 use Rattle.mps_model.specs.Mps.{row_sides, is_negative, size_of, Bound, side_set, lower_set, upper_set, usual_lower, or_usual, has_whole_record, is_below_zero}
@@ -31,12 +31,11 @@ size_above x h = ap (λ b. cond b (neg_ℚ x) x) (above_not_negative x h)
 
 -- the two cases of a number that is left out where it is 0
 pub nonzero_cases : (x : ℚ) → ((nonzero x ≡ None) × (x ≡ zero_ℚ)) ⊎ (nonzero x ≡ Some x)
-nonzero_cases x = elim x.top as (λ t. x.top ≡ t → ((unless_zero t x ≡ None) × (x ≡ zero_ℚ)) ⊎ (unless_zero t x ≡ Some x))
-    [ pos n ↦ from_pos n | negsuc n ↦ λ e. ◌⊎◌.inr refl ] refl
+nonzero_cases x = by (is_zero x) refl
   where
-    from_pos : (n : ℕ) → x.top ≡ pos n → ((unless_zero (pos n) x ≡ None) × (x ≡ zero_ℚ)) ⊎ (unless_zero (pos n) x ≡ Some x)
-    from_pos zero e = ◌⊎◌.inl (refl, zero_top x e)
-    from_pos (suc n) e = ◌⊎◌.inr refl
+    by : (b : Bool) → is_zero x ≡ b → (((if b then None else Some x) ≡ None) × (x ≡ zero_ℚ)) ⊎ ((if b then None else Some x) ≡ Some x)
+    by true e = ◌⊎◌.inl (refl, is_zero-true x e)
+    by false e = ◌⊎◌.inr refl
 
 -- a row's kind, right side and range say its sides
 pub row_sides_back : (l u : Option ℚ) → AreOrdered l u → row_sides (kind_of_row l u) (rhs_of l u) (range_of l u) ≡ sides l u
