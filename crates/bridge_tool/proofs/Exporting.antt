@@ -7,13 +7,13 @@ use Rattle.std.proofs.lemmas.List.{get_or_past}
 use Rattle.std.proofs.lemmas.List.Elements.{All-nil, All-cons, All-head, All-tail}
 use Rattle.fractions.specs.Fits.{fits, sum_fits}
 use Rattle.fractions.specs.Rational.{ℚ, neg_ℚ, whole, ◌-ℚ◌, ◌*ℚ◌}
-use Rattle.linear_programs.specs.Linear.{Row, Linear, variable_count, no_row, row_at, objective_value as program_objective}
+use Rattle.linear_programs.specs.Linear.{Row, Linear, variable_count, no_row, row_at, objective_value as program_objective, row_at as exported_row}
 use Rattle.exact_numbers.specs.Values.{FitsDec, fits_dec, value_text}
 use Rattle.exact_numbers.proofs.Spelling.{fits_dec_in, fits_dec_out}
-use Rattle.exported_program.specs.Export.{ScaledFits, SideFits, RangeFits, IfSide, IfBoth, RowFits, ExportFits, IsRowTooWide, IsDecimal, ObjectiveFits, factor_of_row, factor_of_objective}
-use Rattle.exported_program.specs.Factor.{coefficients_below, objective_numbers, row_numbers}
-use Rattle.exported_program.specs.Program.{nonzero, scaled_side, program, tied_program}
-use Rattle.exported_program.specs.Return.{is_exported, row_at as exported_row}
+use Rattle.scaled_program.specs.Fits.{ScaledFits, SideFits, RangeFits, IfSide, IfBoth, RowFits, ExportFits, IsRowTooWide, IsDecimal, ObjectiveFits, factor_of_row, factor_of_objective}
+use Rattle.scaled_program.specs.Factor.{coefficients_below, objective_numbers, row_numbers}
+use Rattle.scaled_program.specs.Program.{nonzero, scaled_side, is_exported}
+use Rattle.exported_program.specs.Program.{program, tied_program}
 use Rattle.scaling.specs.Scaling.{HasNoScaleFault, HasScaleFault, IsExportOf}
 use Rattle.scaling.specs.declared.scale_fault.ScaleFault.{ScaleFault}
 use Rattle.scaling.specs.declared.scale_fault.ScaleFault.TheVariants.{RowTooWide, ObjectiveTooWide}
@@ -44,7 +44,7 @@ use Rattle.bridge_tool.proofs.SeveralFiles.{AreRead, read_so, IsEither, IsLast, 
 use Rattle.export_round_trip.specs.ReadAs.{IsReadAs}
 use Rattle.export_round_trip.proofs.ReadBack.{exported_back}
 use Rattle.exported_program.proofs.Export.{same_points, same_objective, same_sense, tied_points, tied_objective, tied_sense}
-use Rattle.exported_program.proofs.Factor.{factor_above}
+use Rattle.scaled_program.proofs.Factor.{factor_above}
 use Rattle.file_meaning.proofs.Files.{count_lem, same_feasible, same_objective as same_value, same_sense as sense_of, linear_lem}
 use Rattle.file_meaning.proofs.Folding.{clean_has_lines}
 use Rattle.file_meaning.proofs.Formed.{file_formed}

@@ -4,7 +4,7 @@ use Rattle.std.specs.List.{count_by, sum_by}
 use Rattle.std.proofs.lemmas.List.Sums.{count_by-le-length, sum_by-cons, sum_by-drop_more, sum_by-le-sum_by}
 use Rattle.exact_numbers.specs.declared.dec.Dec.{Dec}
 use Rattle.exact_numbers.specs.Values.{dec_value, value_text}
-use Rattle.exported_program.specs.Return.{is_exported}
+use Rattle.scaled_program.specs.Program.{is_exported}
 use Rattle.linear_program.specs.declared.form.Form.{Form}
 use Rattle.linear_program.specs.Programs.{LinearValue, form_of, linear_value, rows_from}
 use Rattle.linear_programs.specs.Names.{row_name}

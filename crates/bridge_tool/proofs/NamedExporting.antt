@@ -25,7 +25,7 @@ use Rattle.linear_programs.specs.Names.{row_name, variable_name}
 use Rattle.texts.specs.Reading.{last_of, lines_of}
 use Rattle.exact_numbers.specs.declared.dec.Dec.{Dec}
 use Rattle.export_round_trip.specs.ReadAs.{IsReadAs}
-use Rattle.exported_program.specs.Export.{IsDecimal, factor_of_row, factor_of_objective}
+use Rattle.scaled_program.specs.Fits.{IsDecimal, factor_of_row, factor_of_objective}
 use Rattle.linear_programs.specs.Elements.{elements_from}
 use Rattle.linear_programs.proofs.Elements.{all_elements, elements_length}
 use Rattle.mps_model.specs.Valid.{IsMps}

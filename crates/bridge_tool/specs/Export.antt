@@ -3,7 +3,7 @@ use Rattle.std.specs.Prelude.{◌≡◌, ◌↔◌, ℕ, ◌+◌, ◌≤◌, fal
 use Rattle.std.specs.declared.option.Option.{Option}
 use Rattle.fractions.specs.Rational.{ℚ}
 use Rattle.exact_numbers.specs.Values.{value_text}
-use Rattle.exported_program.specs.Export.{IsDecimal}
+use Rattle.scaled_program.specs.Fits.{IsDecimal}
 use Rattle.file_meaning.specs.Expressions.{maximises}
 use Rattle.file_meaning.specs.LinearFile.{linear_of}
 use Rattle.file_meaning.specs.Meaning.{IsFeasible, objective_value}

@@ -4,7 +4,7 @@ use Rattle.std.specs.Fmt.{decimal}
 use Rattle.std.specs.List.{count_by, sum_by}
 use Rattle.fractions.specs.Rational.{ℚ}
 use Rattle.linear_programs.specs.Linear.{Linear}
-use Rattle.exported_program.specs.Return.{is_exported}
+use Rattle.scaled_program.specs.Program.{is_exported}
 use Rattle.file_meaning.specs.LinearFile.{linear_of}
 use Rattle.instances.specs.Instance.{instance}
 use Rattle.linear_fold.specs.FoldedFaults.{step_bound}

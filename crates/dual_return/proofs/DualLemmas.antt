@@ -7,13 +7,13 @@ use Rattle.fractions.specs.Rational.{whole, zero_ℚ, ◌*ℚ◌}
 use Rattle.fractions.proofs.Arithmetic.{whole-*ℚ}
 use Rattle.exact_numbers.specs.declared.dec.Dec.{Dec}
 use Rattle.exact_numbers.specs.Values.{dec_value, IsInReach}
-use Rattle.linear_programs.specs.Linear.{Linear}
+use Rattle.linear_programs.specs.Linear.{Linear, row_at}
 use Rattle.nl_model.specs.File.{File}
 use Rattle.file_meaning.specs.Expressions.{maximises}
 use Rattle.file_meaning.specs.LinearFile.{linear_of}
-use Rattle.exported_program.specs.Export.{factor_of_row}
-use Rattle.exported_program.specs.Program.{program_of}
-use Rattle.exported_program.specs.Return.{is_exported, row_at}
+use Rattle.scaled_program.specs.Fits.{factor_of_row}
+use Rattle.exported_program.specs.Program.{mps_of}
+use Rattle.scaled_program.specs.Program.{is_exported}
 use Rattle.scaling.specs.Exported.{exported_as}
 use Rattle.scaling.specs.Scaled.{ScaledValue}
 use Rattle.scaling.specs.Scaling.{IsScaledOf, factor_at}

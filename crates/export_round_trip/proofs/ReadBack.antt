@@ -12,9 +12,10 @@ use Rattle.linear_programs.specs.Linear.{Form, Row, Variable, row_at, variable_c
 use Rattle.mps_model.specs.Mps.{Mps, with_values}
 use Rattle.mps_model.specs.Text.{mps_text_by}
 use Rattle.mps_model.specs.Valid.{IsMps}
-use Rattle.exported_program.specs.Export.{ExportFits, IsDecimal, IsProgramOf, ObjectiveFits, RowFits, ScaledFits, factor_of_objective, factor_of_row}
-use Rattle.exported_program.specs.Factor.{objective_numbers}
-use Rattle.exported_program.specs.Program.{ScaledRow, exported_rows, nonzero, program, program_of, scaled_row, tie, tied_program, z_form, z_variable}
+use Rattle.scaled_program.specs.Fits.{ExportFits, IsDecimal, ObjectiveFits, RowFits, ScaledFits, factor_of_objective, factor_of_row}
+use Rattle.exported_program.specs.Program.{IsProgramOf, program, mps_of, tied_program}
+use Rattle.scaled_program.specs.Factor.{objective_numbers}
+use Rattle.scaled_program.specs.Program.{ScaledRow, exported_rows, nonzero, scaled_row, tie, z_form, z_variable}
 use Rattle.nl_model.specs.File.{File}
 use Rattle.nl_model.specs.Rules.{IsFile}
 use Rattle.nl_model.proofs.Headers.{counts_of_header}

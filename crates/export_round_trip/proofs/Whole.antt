@@ -12,7 +12,8 @@ use Rattle.linear_programs.specs.Linear.{Form, Variable}
 use Rattle.mps_model.specs.declared.kinds.RowKind.TheVariants.{N}
 use Rattle.mps_model.specs.Mps.{MpsRow, Entry, Column, Bound, no_mps_row, objective_row}
 use Rattle.mps_model.specs.Valid.{AreRows, AreEntries, AreRanges, IsPartOfMps, IsMps, IsBounded, IsOtherRow, HasEntries, marker_word, entry_count}
-use Rattle.exported_program.specs.Program.{ScaledRow, nonzero, with_entry, entries_of, or_obj_zero, column_entries, columns_of, kind_of_row, mps_row, obj_name, program_of, range_of, rhs_of, bounds_of}
+use Rattle.scaled_program.specs.Program.{ScaledRow, nonzero, range_of}
+use Rattle.exported_program.specs.Program.{with_entry, entries_of, or_obj_zero, column_entries, columns_of, kind_of_row, mps_row, obj_name, mps_of, rhs_of, bounds_of}
 use Rattle.exported_program.proofs.Entries.{columns_length}
 use Rattle.exported_program.proofs.Names.{nl_is_name, obj_is_name, obj_not_marker}
 use Rattle.exact_numbers.proofs.Fitting.{zero_fits}

@@ -11,10 +11,10 @@ use Rattle.file_meaning.proofs.Files.{linear_lem, same_feasible, same_objective 
 use Rattle.file_meaning.proofs.Formed.{file_formed}
 use Rattle.file_meaning.proofs.Plain.{plain_has_lines}
 use Rattle.mps_model.specs.Mps.{IsMpsFeasible, Mps, mps_objective}
-use Rattle.exported_program.specs.Export.{IsDecimal, factor_of_row}
-use Rattle.exported_program.specs.Factor.{row_numbers}
+use Rattle.scaled_program.specs.Fits.{IsDecimal, factor_of_row}
+use Rattle.scaled_program.specs.Factor.{row_numbers}
 use Rattle.exported_program.proofs.Export.{same_objective as objective_of_program, same_points as points_of, same_sense as sense_of_program}
-use Rattle.exported_program.proofs.Factor.{factor_above}
+use Rattle.scaled_program.proofs.Factor.{factor_above}
 use Rattle.scaling.specs.Scaling.{IsExportOf}
 use Rattle.mps_import.specs.Faults.{import_fault}
 use Rattle.mps_program.specs.Program.{constraints, values_of}

@@ -6,7 +6,7 @@ ghost use Rattle.exact_numbers.specs.Values.{dec_value};
 ghost use Rattle.file_meaning.specs.LinearFile.{linear_of};
 ghost use Rattle.mps_model.specs.Mps.{IsMpsFeasible, Mps, mps_objective};
 ghost use Rattle.mps_model.specs.Valid.{IsMps};
-ghost use Rattle.exported_program.specs.Export.{IsDecimal};
+ghost use Rattle.scaled_program.specs.Fits.{IsDecimal};
 ghost use Rattle.mps_import.specs.Faults.{import_fault};
 ghost use Rattle.mps_import.specs.Import.{import_of};
 ghost use Rattle.mps_import.specs.Variables.{in_order};

@@ -7,7 +7,8 @@ use Rattle.linear_programs.specs.Linear.{Form, Row, Variable, Linear, has_side}
 use Rattle.linear_programs.specs.Names.{row_name, variable_name}
 use Rattle.mps_model.specs.Mps.{MpsRow, Column}
 use Rattle.fractions.specs.Rational.{ℚ}
-use Rattle.exported_program.specs.Program.{ScaledRow, scaled_row, exported_rows, mps_row, columns_of, program_of, program, tied_program, tie, z_form, z_variable}
+use Rattle.scaled_program.specs.Program.{ScaledRow, scaled_row, exported_rows, tie, z_form, z_variable}
+use Rattle.exported_program.specs.Program.{mps_row, columns_of, mps_of, program, tied_program}
 use Rattle.name_files.specs.Renamed.{IsExportedName, HasExportedNames, IsNamedLinear}
 
 with_last : {X : Type 0} (P : X → Type 0) (xs : List X) (x : X) → AllByRecursion P xs → P x → AllByRecursion P (xs ++ x ∷ [])

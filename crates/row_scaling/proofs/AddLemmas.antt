@@ -15,7 +15,8 @@ use Rattle.std.proofs.lemmas.Fmt.{decimal_injective}
 use Rattle.fractions.specs.Rational.{ℚ, zero_ℚ, ◌-ℚ◌, neg_ℚ}
 use Rattle.texts.specs.Names.{IsName}
 use Rattle.mps_model.specs.declared.kinds.RowKind.{RowKind}
-use Rattle.exported_program.specs.Program.{ScaledRow, kind_of_row, mps_row, with_entry, entries_of, zdef_name, bounds_of, bound_record, column_bounds, fixed_or_both, nonzero, z_name, columns_of, column_entries, or_obj_zero, two_sided, obj_name, nl_name, program_of}
+use Rattle.scaled_program.specs.Program.{ScaledRow, zdef_name, nonzero, z_name}
+use Rattle.exported_program.specs.Program.{kind_of_row, mps_row, with_entry, entries_of, bounds_of, bound_record, column_bounds, fixed_or_both, columns_of, column_entries, or_obj_zero, two_sided, obj_name, nl_name, mps_of}
 use Rattle.exact_numbers.specs.Values.{dec_value}
 use Rattle.linear_programs.specs.Names.{row_name, variable_name}
 use Rattle.scaling.specs.Scaled.{ScaledValue, IsScaled, term_count, IsRowOver}
@@ -36,7 +37,7 @@ use Rattle.scaling.specs.declared.row.Tie.{Tie}
 use Rattle.row_scaling.specs.InsideColumns.{column_in, entry_value, entries_in_column, total_of}
 use Rattle.scaling.proofs.SharedLemmas.{rest_of}
 use Rattle.scaling.proofs.TieLemmas.{no_difference}
-use Rattle.exported_program.proofs.Sides.{nonzero_cases, difference_zero}
+use Rattle.scaled_program.proofs.Sides.{nonzero_cases, difference_zero}
 use Rattle.std.proofs.lemmas.List.Kept.{AllPairs-cons}
 use Rattle.std.proofs.lemmas.List.Sums.{sum_by-cons, sum_by-append}
 use Rattle.row_scaling.specs.InsideFilled.{AreFilled}

@@ -1,6 +1,6 @@
 use Rattle.std.proofs.Common.{◌≡◌, ◌++◌, ◌∷◌, [], ◌∙◌, ap, codes, false, map}
 use Rattle.exact_numbers.specs.Values.{value_text}
-use Rattle.exported_program.specs.Program.{nl_name, program_of}
+use Rattle.exported_program.specs.Program.{nl_name, mps_of}
 use Rattle.mps_model.specs.Text.{bound_line, column_lines, entry_lines, mps_lines, name_lines, row_line, section, sense_lines}
 use Rattle.scaling.specs.Exported.{exported_as}
 use Rattle.written_texts.specs.Lines.{lines_text, unless_empty}
