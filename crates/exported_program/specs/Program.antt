@@ -94,17 +94,16 @@ obj_name = 111 ∷ 98 ∷ 106 ∷ []
 
 -- the MPS program of a scaled program
 unfoldable pub mps_of : ScaledProgram → Mps ℚ
-mps_of s =
-    record {
-      name = nl_name;
-      maximise = s.maximise;
-      rows = record { name = obj_name; kind = N } ∷ map mps_row s.rows;
-      columns = columns_of s.objective s.rows 0 s.variables;
-      rhs = with_entry 0 (nonzero (neg_ℚ s.objective.constant))
-          (entries_of (λ r. nonzero (rhs_of r.side.lower r.side.upper)) 1 s.rows);
-      ranges = entries_of (λ r. range_of r.side.lower r.side.upper) 1 s.rows;
-      bounds = bounds_of 0 s.variables;
-    }
+mps_of s = record {
+  name = nl_name;
+  maximise = s.maximise;
+  rows = record { name = obj_name; kind = N } ∷ map mps_row s.rows;
+  columns = columns_of s.objective s.rows 0 s.variables;
+  rhs = with_entry 0 (nonzero (neg_ℚ s.objective.constant))
+      (entries_of (λ r. nonzero (rhs_of r.side.lower r.side.upper)) 1 s.rows);
+  ranges = entries_of (λ r. range_of r.side.lower r.side.upper) 1 s.rows;
+  bounds = bounds_of 0 s.variables;
+}
 
 -- ---- of a linear program
 -- the program of an objective with finite decimals

@@ -23,7 +23,7 @@ use Rattle.scaling.specs.Scaled.{ScaledValue, IsScaled, term_count, IsRowOver}
 use Rattle.scaling.specs.Parts.{name_in, row_named, rows_in, column_count, tied_bounds, tied_count, tied_kinds, AreProgramRows}
 use Rattle.scaling.specs.declared.row.FactoredRow.{FactoredRow}
 use Rattle.scaling.specs.Rows.{side_value}
-use Rattle.scaling.specs.Exported.{program_rows, tied_variables, program_variables, program_objective, exported_as}
+use Rattle.scaling.specs.Exported.{program_rows, tied_variables, program_variables, program_objective, scaled_as}
 use Rattle.row_scaling.specs.InsideSides.{IsEntryAdded, right_side_of, range_in}
 use Rattle.row_scaling.proofs.ColumnLemmas.{Rows, left, left_none, left_some, left_end, entries_more, entries_none, entry_front}
 use Rattle.linear_programs.specs.Linear.{Variable, unbounded, Form}
@@ -556,8 +556,8 @@ complete s m columns e same a =
 -- ---- the parts together
 pub whole_program : (s : ScaledValue) (m : Mps Dec) → m.name ≡ nl_name → m.maximise ≡ s.maximise → m.rows ≡ record { name = obj_name; kind = N } ∷ map mps_row (program_rows s) → AreFilled s m.columns →
     map (entry_with dec_value) m.rhs ≡ with_entry 0 (nonzero (neg_ℚ (program_objective s).constant)) (entries_of right_side_of 1 (program_rows s)) →
-    map (entry_with dec_value) m.ranges ≡ entries_of range_in 1 (program_rows s) → map (bound_with dec_value) m.bounds ≡ bounds_of 0 (program_variables s) → with_values dec_value m ≡ exported_as s
-unfolding with_values program_of exported_as
+    map (entry_with dec_value) m.ranges ≡ entries_of range_in 1 (program_rows s) → map (bound_with dec_value) m.bounds ≡ bounds_of 0 (program_variables s) → with_values dec_value m ≡ mps_of (scaled_as s)
+unfolding with_values mps_of scaled_as
 whole_program s m name sense rows a rhs ranges bounds = λ i. record {
   name = name i;
   maximise = sense i;

@@ -1,5 +1,5 @@
--- Which numbers fit when a linear program is scaled, which fault comes first, and its scaled program
--- with the least factors.
+-- Which numbers of a scaled program fit, which fault comes first, and the scaled program of a linear
+-- one with the least factors.
 use Rattle.std.specs.Prelude.{◌≡◌, ℕ, ◌<◌, ◌^◌, pos, IsTrue, Option, Some, None, All}
 use Rattle.fractions.specs.Fits.{fits, sum_fits}
 use Rattle.fractions.specs.Rational.{neg_ℚ, ℚ, whole, ◌-ℚ◌, ◌*ℚ◌}

@@ -23,15 +23,14 @@ scaled_side k constant (Some s) = Some (k *ℚ (s -ℚ constant))
 
 -- a row times k
 abbrev pub scaled_row : ℕ → Row → ScaledRow
-scaled_row k r =
-    record {
-      name = r.name;
-      coefficient = λ j. whole (pos k) *ℚ r.body.coefficient j;
-      side = record {
-        lower = scaled_side (whole (pos k)) r.body.constant r.side.lower;
-        upper = scaled_side (whole (pos k)) r.body.constant r.side.upper;
-      };
-    }
+scaled_row k r = record {
+  name = r.name;
+  coefficient = λ j. whole (pos k) *ℚ r.body.coefficient j;
+  side = record {
+    lower = scaled_side (whole (pos k)) r.body.constant r.side.lower;
+    upper = scaled_side (whole (pos k)) r.body.constant r.side.upper;
+  };
+}
 
 -- the row has a finite side
 abbrev pub is_exported : Row → Bool
@@ -56,13 +55,12 @@ range_of _ _ = None
 
 -- each row times its factor, the objective as it is
 abbrev pub scaled_by : Linear → (ℕ → ℕ) → ScaledProgram
-scaled_by f factor =
-    record {
-      rows = exported_rows factor 0 f.rows;
-      objective = f.objective;
-      variables = f.variables;
-      maximise = f.maximise;
-    }
+scaled_by f factor = record {
+  rows = exported_rows factor 0 f.rows;
+  objective = f.objective;
+  variables = f.variables;
+  maximise = f.maximise;
+}
 
 -- ---- an objective that is tied to a column z
 -- the text z
@@ -79,15 +77,14 @@ then_at n v c j = cond (nat_eq j n) v (c j)
 
 -- objective - z = 0, z being variable n
 abbrev pub tie : ℕ → Form → Row
-tie n objective =
-    record {
-      name = zdef_name;
-      body = record {
-        constant = objective.constant;
-        coefficient = then_at n (neg_ℚ one_ℚ) objective.coefficient;
-      };
-      side = record { lower = Some zero_ℚ; upper = Some zero_ℚ };
-    }
+tie n objective = record {
+  name = zdef_name;
+  body = record {
+    constant = objective.constant;
+    coefficient = then_at n (neg_ℚ one_ℚ) objective.coefficient;
+  };
+  side = record { lower = Some zero_ℚ; upper = Some zero_ℚ };
+}
 
 -- a variable with any value
 abbrev pub z_variable : Variable
@@ -99,11 +96,9 @@ z_form n = record { constant = zero_ℚ; coefficient = then_at n one_ℚ (λ j. 
 
 -- z is the last variable and zdef, times g, the last row
 abbrev pub scaled_and_tied : Linear → (ℕ → ℕ) → ℕ → ScaledProgram
-scaled_and_tied f factor g =
-    let n = variable_count f in
-    record {
-      rows = exported_rows factor 0 f.rows ++ scaled_row g (tie n f.objective) ∷ [];
-      objective = z_form n;
-      variables = f.variables ++ z_variable ∷ [];
-      maximise = f.maximise;
-    }
+scaled_and_tied f factor g = record {
+  rows = exported_rows factor 0 f.rows ++ scaled_row g (tie (variable_count f) f.objective) ∷ [];
+  objective = z_form (variable_count f);
+  variables = f.variables ++ z_variable ∷ [];
+  maximise = f.maximise;
+}

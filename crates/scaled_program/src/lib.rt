@@ -1,5 +1,5 @@
-//! What a linear program is scaled to, each row times the least factor that makes its numbers finite
-//! decimals, and that it means the same. There is no code.
+//! Scaled linear programs, each row times a factor that makes its numbers finite decimals, and that
+//! they mean the same. There is no code.
 #![tactic(auto)]
 
 pub mod laws;

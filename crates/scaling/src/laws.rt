@@ -1,5 +1,5 @@
-// How a scaled program as data reads in the terms of linear programs. Each law is proved by a function
-// with an empty body.
+// How a scaled program as data reads in the terms of linear programs. Each law is proved by a
+// function with an empty body.
 ghost use Rattle.std.specs.Prelude.{◌≡◌, ℕ, pos, None};
 ghost use Rattle.fractions.specs.Rational.{whole, ◌*ℚ◌};
 ghost use Rattle.linear_programs.specs.Linear.{Form};
