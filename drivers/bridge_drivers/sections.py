@@ -46,7 +46,8 @@ class Sections:
     def read_columns(self, lines: list[str]) -> None:
         """`NAME ROW VALUE`, or a marker, between which columns are whole."""
         known, is_whole = self.known, False
-        last, entries = "", []
+        last = ""
+        entries: list[tuple[str, Fraction]] = []
         for line in lines:
             name, row, value = line.split()
             if name != last:
