@@ -6,8 +6,9 @@ use Rattle.fractions.specs.Rational.{ℚ, whole, ◌*ℚ◌, ◌-ℚ◌}
 use Rattle.linear_programs.specs.Linear.{Row, form_value, no_row, row_at, variable_count}
 use Rattle.exact_numbers.specs.declared.dec.Dec.{Dec}
 use Rattle.exact_numbers.specs.Values.{dec_value}
-use Rattle.exported_program.specs.Export.{factor_of_row, factor_of_objective}
-use Rattle.exported_program.specs.Return.{is_exported, dual_of}
+use Rattle.scaled_program.specs.Fits.{factor_of_row, factor_of_objective}
+use Rattle.scaled_program.specs.Program.{is_exported}
+use Rattle.scaled_program.specs.Return.{dual_of}
 use Rattle.exported_program.proofs.Return.{law_of_return, law_of_return_tied}
 use Rattle.nl_model.specs.File.{File}
 use Rattle.nl_model.specs.Rules.{IsFile}

@@ -9,7 +9,8 @@ use Rattle.fractions.proofs.Tests.{is_zero-true, option_or-none}
 use Rattle.linear_programs.specs.Linear.{Form, Row, Variable, has_side}
 use Rattle.mps_model.specs.Mps.{Entry, Column}
 use Rattle.mps_model.specs.Valid.{entry_count}
-use Rattle.exported_program.specs.Program.{ScaledRow, nonzero, with_entry, entries_of, or_obj_zero, column_entries, columns_of, exported_rows, scaled_row}
+use Rattle.scaled_program.specs.Program.{ScaledRow, nonzero, exported_rows, scaled_row}
+use Rattle.exported_program.specs.Program.{with_entry, entries_of, or_obj_zero, column_entries, columns_of}
 use Rattle.linear_programs.specs.Lines.{Line}
 use Rattle.nl_meaning.specs.Trees.{nothing_known}
 use Rattle.nl_model.specs.File.{File}

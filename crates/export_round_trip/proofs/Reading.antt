@@ -8,9 +8,10 @@ use Rattle.linear_programs.specs.Linear.{Linear, variable_count}
 use Rattle.exact_numbers.specs.declared.dec.Dec.{Dec}
 use Rattle.exact_numbers.specs.Values.{dec_value, value_text, FitsDec, fits_dec, text_of}
 use Rattle.exact_numbers.proofs.Spelling.{fits_dec_in, fits_dec_out, value_text-decimal}
-use Rattle.exported_program.specs.Export.{IsDecimal, IsProgramOf, factor_of_row, factor_of_objective}
-use Rattle.exported_program.specs.Factor.{objective_numbers}
-use Rattle.exported_program.specs.Program.{program, tied_program, exported_rows, scaled_row, tie, z_form, z_variable}
+use Rattle.scaled_program.specs.Fits.{IsDecimal, factor_of_row, factor_of_objective}
+use Rattle.exported_program.specs.Program.{IsProgramOf, program, tied_program}
+use Rattle.scaled_program.specs.Factor.{objective_numbers}
+use Rattle.scaled_program.specs.Program.{exported_rows, scaled_row, tie, z_form, z_variable}
 use Rattle.file_meaning.specs.LinearFile.{linear_of}
 use Rattle.mps_model.specs.Mps.{Column, Mps, column_with, with_values}
 use Rattle.mps_model.specs.Text.{mps_text_by}

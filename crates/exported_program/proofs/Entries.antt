@@ -6,7 +6,8 @@ use Rattle.fractions.specs.Sums.{sum_over}
 use Rattle.fractions.proofs.Arithmetic.{+ℚ_zero, zero-+ℚ, zero-*ℚ, zero_top}
 use Rattle.linear_programs.specs.Linear.{Form, Variable}
 use Rattle.mps_model.specs.Mps.{Entry, at_row, part_of_row, or_zero, no_column}
-use Rattle.exported_program.specs.Program.{ScaledRow, nonzero, with_entry, entries_of, or_obj_zero, column_entries, columns_of}
+use Rattle.scaled_program.specs.Program.{ScaledRow, nonzero}
+use Rattle.exported_program.specs.Program.{with_entry, entries_of, or_obj_zero, column_entries, columns_of}
 
 same_row : (i : ℕ) → nat_eq i i ≡ true
 same_row i = eq-eqb i i refl

@@ -17,8 +17,8 @@ use Rattle.file_meaning.proofs.Plain.{plain_coefficient, plain_constant}
 use Rattle.linear_programs.specs.Linear.{variable_count}
 use Rattle.mps_model.specs.Mps.{Entry, Mps, no_column, objective_row, rhs_at, with_values}
 use Rattle.mps_model.specs.Valid.{IsMps}
-use Rattle.exported_program.specs.Export.{IsDecimal}
-use Rattle.exported_program.specs.Factor.{coefficients_below}
+use Rattle.scaled_program.specs.Fits.{IsDecimal}
+use Rattle.scaled_program.specs.Factor.{coefficients_below}
 use Rattle.mps_import.specs.Decimals.{number_tree}
 use Rattle.mps_import.specs.Import.{entries_at, import_of, objective_constant, objective_terms, row_terms, terms_from}
 use Rattle.mps_program.specs.Terms.{is_zero_dec, term_of}

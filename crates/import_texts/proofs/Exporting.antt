@@ -11,11 +11,12 @@ use Rattle.file_meaning.proofs.Files.{linear_lem, same_feasible, same_objective 
 use Rattle.file_meaning.proofs.Formed.{file_formed}
 use Rattle.file_meaning.proofs.Plain.{plain_has_lines}
 use Rattle.mps_model.specs.Mps.{IsMpsFeasible, Mps, mps_objective}
-use Rattle.exported_program.specs.Export.{IsDecimal, factor_of_row}
-use Rattle.exported_program.specs.Factor.{row_numbers}
+use Rattle.scaled_program.specs.Fits.{IsDecimal, IsScaledProgramOf, factor_of_row}
+use Rattle.scaled_program.specs.Program.{ScaledProgram}
+use Rattle.exported_program.specs.Program.{mps_of}
+use Rattle.scaled_program.specs.Factor.{row_numbers}
 use Rattle.exported_program.proofs.Export.{same_objective as objective_of_program, same_points as points_of, same_sense as sense_of_program}
-use Rattle.exported_program.proofs.Factor.{factor_above}
-use Rattle.scaling.specs.Scaling.{IsExportOf}
+use Rattle.scaled_program.proofs.Factor.{factor_above}
 use Rattle.mps_import.specs.Faults.{import_fault}
 use Rattle.mps_program.specs.Program.{constraints, values_of}
 use Rattle.mps_import.specs.Import.{import_counts, import_of}
@@ -34,7 +35,7 @@ plain_import m = record {
 the_same : (a b : ℚ) → Some a ≡ Some b → b ≡ a
 the_same a b e = cc
 
-module _ (m : Mps Dec) (clean : import_fault m ≡ None) (p : Mps ℚ) (exports : IsExportOf (linear_of (import_of m) 0) p) (d : IsDecimal (linear_of (import_of m) 0)) where
+module _ (m : Mps Dec) (clean : import_fault m ≡ None) (s : ScaledProgram) (scaled : IsScaledProgramOf (linear_of (import_of m) 0) s) (d : IsDecimal (linear_of (import_of m) 0)) where
   abbrev folded : Linear
   folded = linear_of (import_of m) 0
 
@@ -47,21 +48,21 @@ module _ (m : Mps Dec) (clean : import_fault m ≡ None) (p : Mps ℚ) (exports 
   lines : HasLines (import_of m) 0
   lines = plain_has_lines (import_of m) 0 formed (plain_import m)
 
-  pub same_points : (xs : List ℚ) → IsMpsFeasible (values_of m) xs ↔ IsMpsFeasible p (in_order m xs)
+  pub same_points : (xs : List ℚ) → IsMpsFeasible (values_of m) xs ↔ IsMpsFeasible (mps_of s) (in_order m xs)
   same_points xs =
       let ys = in_order m xs in
       let imported = feasible_lem m clean xs in
       let meant = same_feasible (import_of m) 0 lines ys in
       let program_points = points_of folded factors ys (linear_lem (import_of m) 0 formed) (λ i. factor_above (row_numbers (variable_count folded) (row_at folded i))) in
-      let exported : IsMpsFeasible p ys ↔ IsFeasible folded ys = subst (λ t. IsMpsFeasible t ys ↔ IsFeasible folded ys) (sym (exports.plain d)) program_points in
+      let exported : IsMpsFeasible (mps_of s) ys ↔ IsFeasible folded ys = subst (λ t. IsMpsFeasible (mps_of t) ys ↔ IsFeasible folded ys) (sym (scaled.plain d)) program_points in
       (λ h. exported.1 (meant.0 (imported.0 h)), λ h. imported.1 (meant.1 (exported.0 h)))
 
-  pub same_objective : (xs : List ℚ) → mps_objective p (in_order m xs) ≡ mps_objective (values_of m) xs
+  pub same_objective : (xs : List ℚ) → mps_objective (mps_of s) (in_order m xs) ≡ mps_objective (values_of m) xs
   same_objective xs =
       let ys = in_order m xs in
-      ap (λ t. mps_objective t ys) (exports.plain d)
+      ap (λ t. mps_objective (mps_of t) ys) (scaled.plain d)
       ∙ objective_of_program folded factors ys
       ∙ the_same (mps_objective (values_of m) xs) (program_objective folded ys) (sym (objective_lem m xs) ∙ same_value (import_of m) 0 lines ys)
 
-  pub same_sense : p.maximise ≡ m.maximise
-  same_sense = ap (λ (t : Mps ℚ). t.maximise) (exports.plain d) ∙ sense_of_program folded factors ∙ sense_of (import_of m) 0 ∙ sense_lem m
+  pub same_sense : (mps_of s).maximise ≡ m.maximise
+  same_sense = ap (λ t. (mps_of t).maximise) (scaled.plain d) ∙ sense_of_program folded factors ∙ sense_of (import_of m) 0 ∙ sense_lem m

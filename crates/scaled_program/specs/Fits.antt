@@ -1,14 +1,12 @@
--- Which decimal program a file is exported as, and which row or objective has a fault.
+-- Which numbers of a scaled program fit, which fault comes first, and the scaled program of a linear
+-- one with the least factors.
 use Rattle.std.specs.Prelude.{◌≡◌, ℕ, ◌<◌, ◌^◌, pos, IsTrue, Option, Some, None, All}
 use Rattle.fractions.specs.Fits.{fits, sum_fits}
 use Rattle.fractions.specs.Rational.{neg_ℚ, ℚ, whole, ◌-ℚ◌, ◌*ℚ◌}
-use Rattle.exported_program.specs.Factor.{least_factor, row_numbers, objective_numbers, coefficients_below}
+use Rattle.scaled_program.specs.Factor.{least_factor, row_numbers, objective_numbers, coefficients_below}
 use Rattle.linear_programs.specs.Linear.{Row, Linear, variable_count, row_at}
-use Rattle.mps_model.specs.Mps.{Mps, with_values}
-use Rattle.exact_numbers.specs.declared.dec.Dec.{Dec}
-use Rattle.exact_numbers.specs.Values.{dec_value, FitsDec}
-use Rattle.exported_program.specs.Program.{program, tied_program, scaled_side, nonzero}
-use Rattle.exported_program.specs.Return.{is_exported}
+use Rattle.exact_numbers.specs.Values.{FitsDec}
+use Rattle.scaled_program.specs.Program.{ScaledProgram, scaled_by, scaled_and_tied, scaled_side, nonzero, is_exported}
 
 -- ---- factors
 abbrev pub factor_of_row : Linear → ℕ → ℕ
@@ -80,7 +78,8 @@ pub record IsObjectiveTooWide (f : Linear) : Type 0 where
   pub wide : ¬ ObjectiveFits f
 
 -- ---- the program
-pub record IsProgramOf (f : Linear) (m : Mps Dec) : Type 0 where
-  pub plain : IsDecimal f → with_values dec_value m ≡ program f (factor_of_row f)
-  pub tied : ¬ IsDecimal f
-      → with_values dec_value m ≡ tied_program f (factor_of_row f) (factor_of_objective f)
+-- the scaled program of a linear program: with the least factors, and tied exactly where the
+-- objective is not decimal
+pub record IsScaledProgramOf (f : Linear) (s : ScaledProgram) : Type 0 where
+  pub plain : IsDecimal f → s ≡ scaled_by f (factor_of_row f)
+  pub tied : ¬ IsDecimal f → s ≡ scaled_and_tied f (factor_of_row f) (factor_of_objective f)

@@ -1,5 +1,5 @@
-use Rattle.exported_program.proofs.Factor.{least_factor_is_least, factor_multiples, only_cofactor}
-use Rattle.exported_program.proofs.laws.least_factors.Goals as goal
+use Rattle.scaled_program.proofs.Factor.{least_factor_is_least, factor_multiples, only_cofactor}
+use Rattle.scaled_program.proofs.laws.least_factors.Goals as goal
 
 pub returns-clause-least : goal.returns-clause-least
 returns-clause-least c = least_factor_is_least

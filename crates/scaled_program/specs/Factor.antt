@@ -2,9 +2,9 @@
 use Rattle.std.specs.Prelude.{ℕ, zero, suc, List, [], ◌∷◌, ◌++◌, Option, Some, None}
 use Rattle.fractions.specs.Rational.{ℚ, ◌-ℚ◌}
 use Rattle.linear_programs.specs.Linear.{Form, Row}
-pub use Rattle.exported_program.specs.Finite.{IsFinite, IsFactor, IsLeastFactor}
-use Rattle.exported_program.specs.FactorLemmas.{a_least_factor}
-pub use Rattle.exported_program.specs.FactorLemmas.{steps_to_cofactor, cofactor_of}
+pub use Rattle.scaled_program.specs.Finite.{IsFinite, IsFactor, IsLeastFactor}
+use Rattle.scaled_program.specs.FactorLemmas.{a_least_factor}
+pub use Rattle.scaled_program.specs.FactorLemmas.{steps_to_cofactor, cofactor_of}
 
 -- the coefficients of the first n variables
 abbrev pub coefficients_below : (ℕ → ℚ) → ℕ → List ℚ

@@ -2,9 +2,9 @@
 use Prim.Native.Nat.{◌∣◌}
 use Rattle.std.proofs.Common.{◌≡◌, ℕ, ◌<◌, ◌↔◌, refl, pos, List, All}
 use Rattle.fractions.specs.Rational.{ℚ, whole, ◌*ℚ◌}
-use Rattle.exported_program.specs.Factor.{IsFinite, IsLeastFactor, least_factor}
-use Rattle.exported_program.specs.FactorLemmas.{factor_by_steps, steps_above, steps_multiples, steps_are_least}
-pub use Rattle.exported_program.specs.FactorLemmas.{is_lcm, cofactor_above, finite_multiple, only_cofactor}
+use Rattle.scaled_program.specs.Factor.{IsFinite, IsLeastFactor, least_factor}
+use Rattle.scaled_program.specs.FactorLemmas.{factor_by_steps, steps_above, steps_multiples, steps_are_least}
+pub use Rattle.scaled_program.specs.FactorLemmas.{is_lcm, cofactor_above, finite_multiple, only_cofactor}
 
 pub factor_is : (xs : List ℚ) → least_factor xs ≡ factor_by_steps xs
 unfolding least_factor

@@ -13,7 +13,7 @@ use Rattle.fractions.specs.Rational.{ℚ, whole, ◌*ℚ◌, decimal_value, abov
 use Rattle.fractions.proofs.Arithmetic.{decimal_value_lem}
 use Rattle.fractions.proofs.Coprimes.{coprime-pow}
 use Rattle.fractions.proofs.Values.{HasValue, sizes_of, own_value, whole_value, product_value, scaled_value, same_over}
-use Rattle.exported_program.specs.Finite.{IsFinite, IsLeastFactor}
+use Rattle.scaled_program.specs.Finite.{IsFinite, IsLeastFactor}
 
 -- ---- by divisors
 
