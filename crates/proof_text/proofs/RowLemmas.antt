@@ -183,4 +183,3 @@ pub at_node : (read new : ReadSoFar) (words : TextRow) (r : Answer) → read.sta
 unfolding proof_row_tests proof_node_tests
 at_node read new words r a b d e h =
     rw (a, b, d, e) (takes_next (proof_node_tests read.setting read.standing words) _ _ new r (λ none. ap (moved read) (node_is read.standing words (proof_node_in words) (node_row_says read.setting read.standing words none) a)) h)
-
