@@ -1,6 +1,6 @@
 -- The value and the faults of the example.
 use Rattle.std.proofs.Common.{◌≡◌, ap, refl, pos, negsuc, Some, []}
-use Rattle.fractions.specs.Divisors.{gcd_of, steps_of_euclid}
+use Rattle.fractions.specs.LowestLemmas.{gcd_of, steps_of_euclid}
 use Rattle.fractions.specs.Functions.{power_of, lesser_of, least_of, floor_of, ceiling_of}
 use Rattle.fractions.specs.Rational.{over, whole, ◌+ℚ◌, ◌*ℚ◌, ◌-ℚ◌, neg_ℚ, decimal_value}
 use Rattle.fractions.proofs.Values.{same_parts}
