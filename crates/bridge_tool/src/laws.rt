@@ -1,12 +1,21 @@
 // Each law is proved by a function with an empty body.
 ghost use Rattle.std.specs.Prelude.{◌≡◌, ◌↔◌, ◌+◌, ◌≤◌, ◌^◌, List, ℕ, None, Option, Some, length, take};
 ghost use Rattle.answer_file.specs.Names.{Setting as AnswerSetting};
+ghost use Rattle.branch_check.specs.Leaves.{IsProved};
+ghost use Rattle.branch_check.specs.declared.leaf.ProofVerdict.TheVariants.{Yes};
+ghost use Rattle.certificates.specs.declared.proof.Claim.{Claim as ClaimValue};
+ghost use Rattle.certificates.specs.ProofSays.{IsProvedTrueOf};
 ghost use Rattle.certificates.specs.Setting.{Setting as CertificateSetting};
 ghost use Rattle.export_round_trip.specs.ReadAs.{IsReadAs};
+ghost use Rattle.exported_program.specs.Program.{mps_of};
+ghost use Rattle.file_certificates.specs.FileProblem.{problem_of};
+ghost use Rattle.file_meaning.specs.FoldFaults.{fold_fault};
+ghost use Rattle.file_meaning.specs.LinearFile.{linear_of};
 ghost use Rattle.linear_fold.specs.FoldedFaults.{HasFaultPlace};
 ghost use Rattle.linear_fold.specs.declared.fold_fault.FoldFault.{FoldFault};
 ghost use Rattle.name_files.specs.Names.{Counts};
 ghost use Rattle.name_files.specs.Renamed.{named};
+ghost use Rattle.nl_model.specs.File.{File};
 ghost use Rattle.nl_model.specs.Rules.{IsFile};
 ghost use Rattle.nl_segments.specs.Grammar.{NlValue};
 ghost use Rattle.fixed_mps.specs.Reader.{IsFixedText};
@@ -24,6 +33,7 @@ ghost use Rattle.bridge_tool.specs.Export.{IsExportMeant, IsExported, MeansTheFi
 ghost use Rattle.bridge_tool.specs.ByText.{IsByText, IsWritingByText};
 ghost use Rattle.bridge_tool.specs.Fixed.{IsFixedRefused, fixed_told};
 ghost use Rattle.bridge_tool.specs.Import.{CannotBeImported, IsImportedAs, MeansTheProgram, import_told};
+ghost use Rattle.bridge_tool.specs.Instances.{InstancesAreSaid, InstancesAreWritable};
 ghost use Rattle.bridge_tool.specs.Mps.{IsMpsMeant, IsMpsRefused, mps_told};
 ghost use Rattle.bridge_tool.specs.NameLists.{AreListed, IsListRefused, column_counts, row_counts};
 ghost use Rattle.bridge_tool.specs.NamedExport.{IsNamedExport, Named};
@@ -76,13 +86,13 @@ pub fn commands_by_text()
 /// The program of a file that is exported means what the file means.
 pub fn programs_mean_their_files()
     ensures { (nl : NlValue) (k : ℕ) (bytes : List ℕ) (e : IsExported nl k bytes) → IsFile nl.file
-        → MeansTheFile nl.file k e.program }
+        → MeansTheFile nl.file k (mps_of e.program) }
 {}
 
 /// What is exported of a text is read as the program that was exported.
 pub fn exports_are_read_back()
     ensures { (text : List ℕ) (nl : NlValue) → IsNl text nl → (k : ℕ) (bytes : List ℕ)
-        (e : IsExported nl k bytes) → IsReadAs bytes e.program }
+        (e : IsExported nl k bytes) → IsReadAs bytes (mps_of e.program) }
 {}
 
 /// What is exported with the names of two lists is read as the program with these names, where the
@@ -92,7 +102,7 @@ pub fn named_exports_are_read_back()
         → AreListed (row_counts n.nl.file) rows n.rows
         → AreListed (column_counts n.nl.file) columns n.columns
         → (bytes : List ℕ) (e : IsNamedExport n bytes) → length bytes ≤ 2 ^ 31
-        → IsReadAs bytes (named e.program n.rows n.columns) }
+        → IsReadAs bytes (named (mps_of e.program) n.rows n.columns) }
 {}
 
 /// What is told of a text that is refused, whichever reader refuses it, names the text by its number
@@ -125,4 +135,22 @@ pub fn told_lines_are_lines()
 pub fn names_change_no_verdict()
     ensures { (n : Named) → ((bytes : List ℕ) × IsExported n.nl n.objective bytes)
         ↔ ((bytes : List ℕ) × IsNamedExport n bytes) }
+{}
+
+/// The instance of a seed and a size of at most 20,000 can be written, whatever the seed.
+pub fn instances_are_writable()
+    ensures { InstancesAreWritable }
+{}
+
+/// What is written of the instance of a seed and a size is a text of the profile, without faults,
+/// that says the instance.
+pub fn instances_are_said()
+    ensures { InstancesAreSaid }
+{}
+
+/// What a yes shows of the linear program of a file without fold faults, it shows of the file.
+#[tactic(auto, using(crate::proofs::ProofClaims::claim_true))]
+pub fn claims_are_of_files()
+    ensures { (f : File) (k : ℕ) → IsFile f → fold_fault f k ≡ None → (claim : ClaimValue)
+        → IsProved (linear_of f k) claim Yes → IsProvedTrueOf (problem_of f k) claim }
 {}

@@ -6,8 +6,9 @@ ghost use Rattle.exact_numbers.specs.declared.dec.Dec.{Dec};
 ghost use Rattle.exact_numbers.specs.Values.{dec_value};
 ghost use Rattle.mps_model.specs.Mps.{Mps, with_values};
 ghost use Rattle.mps_model.specs.Valid.{IsMps};
-ghost use Rattle.name_files.specs.Names.{AreNames, Counts, name_rules, SaysNames};
-ghost use Rattle.linear_programs.specs.Linear.{Linear};
+ghost use Rattle.name_lists.specs.Names.{AreNames};
+ghost use Rattle.name_files.specs.Names.{Counts, name_rules, SaysNames};
+ghost use Rattle.program_meaning.specs.Linear.{Linear};
 ghost use Rattle.exported_program.specs.Program.{program, tied_program};
 ghost use Rattle.name_files.specs.Renamed.{named, HasExportedNames, HaveOneMeaning, IsNamedLinear};
 
