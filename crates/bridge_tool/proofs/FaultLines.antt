@@ -8,7 +8,7 @@ use Rattle.fractions.specs.Rational.{decimal_value}
 use Rattle.nl_meaning.specs.declared.Fault.{Fault}
 use Rattle.linear_programs.specs.Lines.{constant_line, line_by}
 use Rattle.nl_meaning.specs.Faults.{expression_fault}
-use Rattle.nl_meaning.specs.Trees.{Expression, Tree, expression_value}
+use Rattle.nl_meaning.specs.Trees.{Expression, Tree, expression_given}
 use Rattle.nl_meaning.proofs.Linear.{terms_added}
 use Rattle.linear_programs.proofs.LineLemmas.{same_coef}
 use Rattle.nl_model.specs.declared.at.Owner.{Owner}
@@ -93,8 +93,8 @@ module _ (f : File) (o : Owner) where
       let empty : Expression = record { tree = zero_tree; terms = [] } in
       let zero_line = constant_line (decimal_value (pos 0) (pos 0)) in
       let constant = terms_added width known empty zero_line tt (constant_lined width (decimal_value (pos 0) (pos 0))) in
-      subst₂ (λ t ts. coefficient_count width (line_by (λ at. expression_value (known at) at (record { tree = tree_or_zero t; terms = linear_terms ts }))) ≡ 0) (sym e) (sym g)
-      (count_zero width (line_by (λ at. expression_value (known at) at empty)) (λ j lt. same_coef width (λ at. expression_value (known at) at empty) zero_line constant j lt))
+      subst₂ (λ t ts. coefficient_count width (line_by (λ at. expression_given (known at) (record { tree = tree_or_zero t; terms = linear_terms ts }) at)) ≡ 0) (sym e) (sym g)
+      (count_zero width (line_by (λ at. expression_given (known at) empty at)) (λ j lt. same_coef width (λ at. expression_given (known at) empty at) zero_line constant j lt))
 
   has_head : (t : Option Tree) (ts : List Term) → (t ≡ None → ts ≡ [] → ⊥) → IsTrue (is_some t || not (length ts == 0))
   has_head None [] h = absurd (h refl refl)

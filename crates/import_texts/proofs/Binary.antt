@@ -1,5 +1,5 @@
 -- Each binary variable of an imported file is within 0 and 1.
-use Rattle.std.proofs.Common.{◌≡◌, ◌∙◌, ℕ, ◌+◌, ◌-◌, ◌<◌, ◌≤◌, Bool, true, false, not, ◌&&◌, List, [], ◌∷◌, ◌++◌, length, get_or, refl, sym, subst, arith, Option, Some, None, if◌then◌else◌, pos, ap₂, ℤ, ◌*ℤ◌, ◌<ℤ◌}
+use Rattle.std.proofs.Common.{◌≡◌, ◌∙◌, ℕ, ◌+◌, ◌-◌, ◌<◌, ◌≤◌, Bool, true, false, not, ◌&&◌, List, [], ◌∷◌, ◌++◌, length, get_or, refl, sym, subst, arith, Option, Some, None, if◌then◌else◌, pos, ap, ap₂, ℤ, ◌*ℤ◌, ◌<ℤ◌}
 use Rattle.std.specs.Prelude.{nat_lt, sum_by}
 use Rattle.std.specs.List.{AllByRecursion}
 use Rattle.std.specs.Option.{option_map}
@@ -20,7 +20,9 @@ use Rattle.linear_program.specs.Intervals.{interval_of}
 use Rattle.linear_program.specs.declared.interval.Interval.{Interval as Sides}
 use Rattle.linear_program.specs.declared.kind.Kind.{Kind}
 use Rattle.linear_program.specs.declared.kind.Kind.TheVariants.{Continuous, Binary, Integer}
-use Rattle.nl_model.specs.Kinds.{Group, group_of, kind_among, variable_kind}
+use Rattle.nl_model.specs.InsideKinds.{Run, run_of, kind_among}
+use Rattle.nl_model.specs.Kinds.{variable_kind}
+use Rattle.nl_model.proofs.KindRuns.{variable_kind_by_runs}
 use Rattle.nl_lines.specs.Tests.{is_binary, is_within_unit}
 use Rattle.mps_model.specs.Mps.{Mps, column_interval, with_values}
 use Rattle.mps_program.specs.Decimals.{sides_from}
@@ -34,31 +36,31 @@ use Rattle.mps_program.proofs.SideLemmas.{column_fits, sides_back}
 
 -- ---- the places of binary variables
 
-abbrev total : List Group → ℕ
-total gs = sum_by (λ (g : Group). g.size) gs
+abbrev total : List Run → ℕ
+total gs = sum_by (λ (g : Run). g.size) gs
 
--- they follow groups of other kinds
-binary_place : (gs : List Group) (b i j : ℕ) → AllByRecursion (λ (g : Group). is_binary g.kind ≡ false) gs → is_binary (kind_among (gs ++ group_of b Binary ∷ group_of i Integer ∷ []) j) ≡ true → (total gs ≤ j) × (j < total gs + b)
+-- they follow runs of other kinds
+binary_place : (gs : List Run) (b i j : ℕ) → AllByRecursion (λ (g : Run). is_binary g.kind ≡ false) gs → is_binary (kind_among (gs ++ run_of b Binary ∷ run_of i Integer ∷ []) j) ≡ true → (total gs ≤ j) × (j < total gs + b)
 binary_place [] b i j others e = by (nat_lt j b) refl e
   where
     last : (c : Bool) → is_binary (if c then Integer else Continuous) ≡ false
     last true = refl
     last false = refl
 
-    by : (c : Bool) → nat_lt j b ≡ c → is_binary (if c then Binary else kind_among (group_of i Integer ∷ []) (j - b)) ≡ true → (0 ≤ j) × (j < 0 + b)
+    by : (c : Bool) → nat_lt j b ≡ c → is_binary (if c then Binary else kind_among (run_of i Integer ∷ []) (j - b)) ≡ true → (0 ≤ j) × (j < 0 + b)
     by true h e = let below = ltb-true j b h in (omega arith, omega (arith, below))
-    by false h e = absurd (not_both_ways (is_binary (kind_among (group_of i Integer ∷ []) (j - b))) e (last (nat_lt (j - b) i)))
+    by false h e = absurd (not_both_ways (is_binary (kind_among (run_of i Integer ∷ []) (j - b))) e (last (nat_lt (j - b) i)))
 binary_place (g ∷ gs) b i j others e = by (nat_lt j g.size) refl (binary_place gs b i (j - g.size) others.1) e
   where
     Later : Type 0
-    Later = is_binary (kind_among (gs ++ group_of b Binary ∷ group_of i Integer ∷ []) (j - g.size)) ≡ true → (total gs ≤ j - g.size) × (j - g.size < total gs + b)
+    Later = is_binary (kind_among (gs ++ run_of b Binary ∷ run_of i Integer ∷ []) (j - g.size)) ≡ true → (total gs ≤ j - g.size) × (j - g.size < total gs + b)
 
-    by : (c : Bool) → nat_lt j g.size ≡ c → Later → is_binary (if c then g.kind else kind_among (gs ++ group_of b Binary ∷ group_of i Integer ∷ []) (j - g.size)) ≡ true → (total (g ∷ gs) ≤ j) × (j < total (g ∷ gs) + b)
+    by : (c : Bool) → nat_lt j g.size ≡ c → Later → is_binary (if c then g.kind else kind_among (gs ++ run_of b Binary ∷ run_of i Integer ∷ []) (j - g.size)) ≡ true → (total (g ∷ gs) ≤ j) × (j < total (g ∷ gs) + b)
     by true h later e = absurd (not_both_ways (is_binary g.kind) e others.0)
     by false h later e =
         let above = ltb-false j g.size h in
         let rest = later e in
-        let sum = sum_by-cons (λ (g : Group). g.size) g gs in
+        let sum = sum_by-cons (λ (g : Run). g.size) g gs in
         (omega (arith, above, rest.0, sum), omega (arith, above, rest.1, sum))
 
 module _ (m : Mps Dec) (j : ℕ) where
@@ -67,7 +69,7 @@ module _ (m : Mps Dec) (j : ℕ) where
 
   -- the column of a binary variable has both sides, from 0 to 1
   unit_column : is_binary (variable_kind (import_counts m) j) ≡ true → is_zero_to_one m column ≡ true
-  unfolding variable_kind import_counts order_of_columns
+  unfolding import_counts order_of_columns
   unit_column e =
       let n = length m.columns in
       let w = is_whole m in
@@ -78,9 +80,9 @@ module _ (m : Mps Dec) (j : ℕ) where
       let b = length seconds in
       let i = length thirds in
       let c = n - 0 - b - i in
-      let none : Kind → Group = group_of 0 in
-      let before : List Group = none Continuous ∷ none Integer ∷ none Continuous ∷ none Integer ∷ none Continuous ∷ none Integer ∷ group_of c Continuous ∷ [] in
-      let place = binary_place before b i j (refl, (refl, (refl, (refl, (refl, (refl, (refl, tt))))))) e in
+      let none : Kind → Run = run_of 0 in
+      let before : List Run = none Continuous ∷ none Integer ∷ none Continuous ∷ none Integer ∷ none Continuous ∷ none Integer ∷ run_of c Continuous ∷ [] in
+      let place = binary_place before b i j (refl, (refl, (refl, (refl, (refl, (refl, (refl, tt))))))) (sym (ap is_binary (variable_kind_by_runs (import_counts m) j)) ∙ e) in
       let size = parts_length w z n in
       let from : length firsts ≤ j = omega (arith, place.0, size) in
       let below : j - length firsts < length seconds = omega (arith, place.0, place.1, size) in

@@ -3,7 +3,8 @@ ghost use Rattle.std.specs.Prelude.{◌≡◌, ◌<◌, ◌^◌, ◌+◌, ◌∷
 ghost use Rattle.texts.specs.Judged.{DecidesOrStops, Takes};
 ghost use Rattle.texts.specs.Words.{texts};
 ghost use Rattle.proof_text.specs.Grammar.{SaysProof, proof_rules};
-ghost use Rattle.proof_text.specs.Rows.{claim_in, proof_node_in, proof_pair_in, rows_in};
+ghost use Rattle.proof_text.specs.Rows.{claim_in, proof_node_in, proof_pair_in};
+ghost use Rattle.tree_text.specs.Rows.{rows_in};
 ghost use Rattle.certificates.specs.Setting.{Setting};
 ghost use Rattle.proof_text.specs.Standing.{IsSaid, has_pair, is_leaf, is_split, is_whole_proof, last_pairs, node_count, pairs_left, proof_standing, subtrees_left};
 ghost use Rattle.proof_text.specs.Steps.{moved, with_claim, with_line, with_node, with_pair, with_row};

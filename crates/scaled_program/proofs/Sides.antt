@@ -1,7 +1,7 @@
 -- The difference of two sides.
-use Rattle.std.proofs.Common.{◌≡◌, ℕ, zero, suc, ◌∙◌, sym, ap, refl, Some, None, pos, negsuc, ◌⊎◌}
-use Rattle.fractions.specs.Rational.{ℚ, zero_ℚ, ◌+ℚ◌, ◌-ℚ◌, neg_ℚ, unless_zero}
-use Rattle.fractions.proofs.Arithmetic.{+ℚ_comm, +ℚ_assoc, +ℚ_zero, +ℚ-neg, -ℚ_lem, zero_top}
+use Rattle.std.proofs.Common.{◌≡◌, if◌then◌else◌, ◌∙◌, sym, ap, refl, Bool, true, false, Some, None, ◌⊎◌}
+use Rattle.fractions.specs.Rational.{ℚ, zero_ℚ, ◌+ℚ◌, ◌-ℚ◌, neg_ℚ, is_zero}
+use Rattle.fractions.proofs.Arithmetic.{+ℚ_comm, +ℚ_assoc, +ℚ_zero, +ℚ-neg, -ℚ_lem, is_zero-true}
 use Rattle.scaled_program.specs.Program.{nonzero}
 
 -- l + (u - l) = u
@@ -13,9 +13,8 @@ difference_zero l u e = sym (+ℚ_zero l) ∙ ap (λ v. l +ℚ v) (sym e) ∙ th
 
 -- the two cases of a number that is left out where it is 0
 pub nonzero_cases : (x : ℚ) → ((nonzero x ≡ None) × (x ≡ zero_ℚ)) ⊎ (nonzero x ≡ Some x)
-nonzero_cases x = elim x.top as (λ t. x.top ≡ t → ((unless_zero t x ≡ None) × (x ≡ zero_ℚ)) ⊎ (unless_zero t x ≡ Some x))
-    [ pos n ↦ from_pos n | negsuc n ↦ λ e. ◌⊎◌.inr refl ] refl
+nonzero_cases x = by (is_zero x) refl
   where
-    from_pos : (n : ℕ) → x.top ≡ pos n → ((unless_zero (pos n) x ≡ None) × (x ≡ zero_ℚ)) ⊎ (unless_zero (pos n) x ≡ Some x)
-    from_pos zero e = ◌⊎◌.inl (refl, zero_top x e)
-    from_pos (suc n) e = ◌⊎◌.inr refl
+    by : (b : Bool) → is_zero x ≡ b → (((if b then None else Some x) ≡ None) × (x ≡ zero_ℚ)) ⊎ ((if b then None else Some x) ≡ Some x)
+    by true e = ◌⊎◌.inl (refl, is_zero-true x e)
+    by false e = ◌⊎◌.inr refl

@@ -7,8 +7,8 @@ use Rattle.std.proofs.lemmas.Int.{ints, unsigned_abs-mul}
 use Rattle.std.proofs.lemmas.Nat.Gcd.{dvd_trans, dvd_refl, dvd_antisymm, le_of_dvd}
 use Rattle.std.proofs.lemmas.List.Elements.{All-nil, All-cons, All-head, All-tail}
 use Rattle.fractions.specs.Fits.{least_multiple}
-use Rattle.fractions.specs.Divisors.{AreCoprime, gcd_of}
-use Rattle.fractions.specs.LowestLemmas.{is_gcd, dvd_other, coprime-swap, Reduced, reduced_lem}
+use Rattle.fractions.specs.Divisors.{AreCoprime}
+use Rattle.fractions.specs.LowestLemmas.{gcd_of, is_gcd, dvd_other, coprime-swap, Reduced, reduced_lem}
 use Rattle.fractions.specs.Rational.{ℚ, whole, ◌*ℚ◌, decimal_value, above_zero, below_zero}
 use Rattle.fractions.proofs.Arithmetic.{decimal_value_lem}
 use Rattle.fractions.proofs.Coprimes.{coprime-pow}

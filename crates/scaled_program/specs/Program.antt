@@ -1,6 +1,6 @@
 -- Scaled linear programs, and the one of a linear program with its factors.
-use Rattle.std.specs.Prelude.{ℕ, suc, pos, nat_eq, Bool, false, cond, List, [], ◌∷◌, ◌++◌, Option, Some, None}
-use Rattle.fractions.specs.Rational.{ℚ, whole, unless_zero, zero_ℚ, one_ℚ, ◌-ℚ◌, ◌*ℚ◌, neg_ℚ}
+use Rattle.std.specs.Prelude.{ℕ, suc, pos, nat_eq, Bool, false, cond, if◌then◌else◌, List, [], ◌∷◌, ◌++◌, Option, Some, None}
+use Rattle.fractions.specs.Rational.{ℚ, whole, is_zero, zero_ℚ, one_ℚ, ◌-ℚ◌, ◌*ℚ◌, neg_ℚ}
 use Rattle.linear_programs.specs.Linear.{Interval, Form, Row, Variable, Linear, unbounded, variable_count, has_side}
 
 -- a row times its factor, its constant taken to its sides
@@ -46,7 +46,7 @@ exported_rows factor i (r ∷ rs) =
 
 -- x, but none where it is 0
 abbrev pub nonzero : ℚ → Option ℚ
-nonzero x = unless_zero x.top x
+nonzero x = (if is_zero x then None else Some x)
 
 -- the upper side less the lower, where both are there and differ
 abbrev pub range_of : Option ℚ → Option ℚ → Option ℚ
