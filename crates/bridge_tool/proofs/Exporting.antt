@@ -7,7 +7,7 @@ use Rattle.std.proofs.lemmas.List.{get_or_past}
 use Rattle.std.proofs.lemmas.List.Elements.{All-nil, All-cons, All-head, All-tail}
 use Rattle.fractions.specs.Fits.{fits, sum_fits}
 use Rattle.fractions.specs.Rational.{ℚ, neg_ℚ, whole, ◌-ℚ◌, ◌*ℚ◌}
-use Rattle.linear_programs.specs.Linear.{Row, Linear, variable_count, no_row, row_at, objective_value as program_objective, row_at as exported_row}
+use Rattle.program_meaning.specs.Linear.{Row, Linear, variable_count, no_row, row_at, objective_value as program_objective, row_at as exported_row}
 use Rattle.exact_numbers.specs.Values.{FitsDec, fits_dec, value_text}
 use Rattle.exact_numbers.proofs.Spelling.{fits_dec_in, fits_dec_out}
 use Rattle.scaled_program.specs.Fits.{ScaledFits, SideFits, RangeFits, IfSide, IfBoth, RowFits, ExportFits, IsRowTooWide, IsDecimal, ObjectiveFits, factor_of_row, factor_of_objective, IsScaledProgramOf}

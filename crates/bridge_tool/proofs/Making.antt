@@ -8,7 +8,7 @@ use Rattle.scaled_program.specs.Program.{is_exported}
 use Rattle.exported_program.specs.Program.{mps_of}
 use Rattle.linear_program.specs.declared.form.Form.{Form}
 use Rattle.linear_program.specs.Programs.{LinearValue, form_of, linear_value, rows_from}
-use Rattle.linear_programs.specs.Names.{row_name}
+use Rattle.program_meaning.specs.Names.{row_name}
 use Rattle.linear_program.specs.Intervals.{interval_of, is_sided}
 use Rattle.mps_model.specs.Built.{entry_of}
 use Rattle.mps_model.specs.Mps.{Column, Mps, column_with, with_values}

@@ -20,16 +20,16 @@ use Rattle.bridge_tool.specs.Stages.{HasFolded, HasScaled, CannotBeExported, fol
 use Rattle.bridge_tool.proofs.NameLists.{list_read, listed_count}
 use Rattle.bridge_tool.proofs.SeveralFiles.{IsEither, IsLast, IsSound, either_last, one_of_both, sound_end}
 use Rattle.bridge_tool.proofs.Exporting.{a_program, exports_so, one_program, staged_either, staged_so, file_program, text_file, decimal_decided}
-use Rattle.linear_programs.specs.Linear.{Linear, Row, Variable}
-use Rattle.linear_programs.specs.Names.{row_name, variable_name}
+use Rattle.program_meaning.specs.Linear.{Linear, Row, Variable}
+use Rattle.program_meaning.specs.Names.{row_name, variable_name}
 use Rattle.texts.specs.Reading.{last_of, lines_of}
 use Rattle.exact_numbers.specs.declared.dec.Dec.{Dec}
 use Rattle.export_round_trip.specs.ReadAs.{IsReadAs}
 use Rattle.scaled_program.specs.Fits.{IsDecimal, IsScaledProgramOf, factor_of_row, factor_of_objective}
 use Rattle.scaled_program.specs.Program.{ScaledProgram}
 use Rattle.exported_program.specs.Program.{mps_of}
-use Rattle.linear_programs.specs.Elements.{elements_from}
-use Rattle.linear_programs.proofs.Elements.{all_elements, elements_length}
+use Rattle.program_meaning.specs.Elements.{elements_from}
+use Rattle.program_meaning.proofs.Elements.{all_elements, elements_length}
 use Rattle.mps_model.specs.Valid.{IsMps}
 use Rattle.mps_reader.specs.Reader.{IsMpsText}
 use Rattle.mps_reader.specs.Written.{mps_text}

@@ -3,7 +3,7 @@ use Rattle.std.specs.Prelude.{◌≡◌, ◌≢◌, ◌&&◌, Bool, ℕ, ◌+◌
 use Rattle.std.specs.Fmt.{decimal}
 use Rattle.std.specs.List.{count_by, sum_by}
 use Rattle.fractions.specs.Rational.{ℚ}
-use Rattle.linear_programs.specs.Linear.{Linear}
+use Rattle.program_meaning.specs.Linear.{Linear}
 use Rattle.scaled_program.specs.Program.{is_exported}
 use Rattle.exported_program.specs.Program.{mps_of}
 use Rattle.file_meaning.specs.LinearFile.{linear_of}

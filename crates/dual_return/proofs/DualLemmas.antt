@@ -7,7 +7,7 @@ use Rattle.fractions.specs.Rational.{whole, zero_ℚ, ◌*ℚ◌}
 use Rattle.fractions.proofs.Arithmetic.{whole-*ℚ}
 use Rattle.exact_numbers.specs.declared.dec.Dec.{Dec}
 use Rattle.exact_numbers.specs.Values.{dec_value, IsInReach}
-use Rattle.linear_programs.specs.Linear.{Linear, row_at}
+use Rattle.program_meaning.specs.Linear.{Linear, row_at}
 use Rattle.nl_model.specs.File.{File}
 use Rattle.file_meaning.specs.Expressions.{maximises}
 use Rattle.file_meaning.specs.LinearFile.{linear_of}

@@ -15,7 +15,7 @@ use Rattle.exact_numbers.proofs.NumberLemmas.{dec_from-some, dec_from-fits}
 use Rattle.exact_numbers.proofs.Spelling.{fits_dec_in, fits_dec_out}
 use Rattle.scaled_program.specs.Fits.{factor_of_row}
 use Rattle.scaled_program.specs.Program.{is_exported}
-use Rattle.linear_programs.specs.Linear.{row_at}
+use Rattle.program_meaning.specs.Linear.{row_at}
 use Rattle.scaled_program.specs.Return.{dual_of}
 use Rattle.nl_model.specs.File.{File}
 use Rattle.answer_file.specs.Grammar.{AnswerValue}

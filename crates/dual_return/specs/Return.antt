@@ -5,7 +5,7 @@ use Rattle.std.specs.List.{list_any}
 use Rattle.fractions.specs.Rational.{ℚ, whole, zero_ℚ, ◌*ℚ◌, ◌-ℚ◌}
 use Rattle.exact_numbers.specs.declared.dec.Dec.{Dec}
 use Rattle.exact_numbers.specs.Values.{dec_value, IsInReach}
-use Rattle.linear_programs.specs.Linear.{Linear, row_at}
+use Rattle.program_meaning.specs.Linear.{Linear, row_at}
 use Rattle.nl_model.specs.File.{File}
 use Rattle.nl_model.specs.declared.suffix.Suffix.{Suffix}
 use Rattle.file_meaning.specs.Expressions.{maximises}

@@ -5,11 +5,11 @@ use Rattle.std.specs.Fmt.{decimal}
 use Rattle.std.proofs.lemmas.Fmt.{length-decimal-le}
 use Rattle.std.proofs.lemmas.List.Elements.{All-cons, All-map}
 use Rattle.fractions.specs.Rational.{ℚ}
-use Rattle.linear_programs.specs.Linear.{Form, Row, Variable, no_row}
+use Rattle.program_meaning.specs.Linear.{Form, Row, Variable, no_row}
 use Rattle.scaled_program.specs.Program.{ScaledProgram, ScaledRow, exported_rows}
 use Rattle.exported_program.specs.Program.{mps_row, obj_name, mps_of}
 use Rattle.file_meaning.specs.LinearFile.{linear_row, linear_variable, linear_of}
-use Rattle.linear_programs.proofs.Elements.{all_elements}
+use Rattle.program_meaning.proofs.Elements.{all_elements}
 use Rattle.mps_model.specs.Mps.{MpsRow, Column, Mps}
 use Rattle.mps_model.specs.declared.kinds.RowKind.TheVariants.{N}
 use Rattle.nl_model.specs.File.{File}

@@ -6,7 +6,7 @@ use Rattle.std.proofs.lemmas.List.Elements.{All-nil, All-cons, All-weaker, All-h
 use Rattle.std.proofs.lemmas.List.Kept.{AllPairs-cons}
 use Rattle.fractions.specs.Rational.{ℚ, zero_ℚ, ◌-ℚ◌}
 use Rattle.exact_numbers.specs.Values.{FitsDec}
-use Rattle.linear_programs.specs.Linear.{Form, Row, Variable, no_row}
+use Rattle.program_meaning.specs.Linear.{Form, Row, Variable, no_row}
 use Rattle.mps_model.specs.declared.kinds.BoundKind.TheVariants.{Lo, Up, Fx, Fr, Mi, Pl}
 use Rattle.mps_model.specs.Mps.{Entry, Column, Bound}
 use Rattle.mps_model.specs.Valid.{AreEntries, IsOtherBound, IsWithoutNumber, SetOtherSides}

@@ -8,7 +8,7 @@ use Rattle.fractions.specs.Rational.{ℚ, zero_ℚ, one_ℚ, neg_ℚ, whole, ◌
 use Rattle.fractions.proofs.Arithmetic.{*ℚ_zero}
 use Rattle.exact_numbers.specs.declared.dec.Dec.{Dec}
 use Rattle.exact_numbers.specs.Values.{FitsDec, value_text}
-use Rattle.linear_programs.specs.Linear.{Form, Row, Variable, row_at, variable_count}
+use Rattle.program_meaning.specs.Linear.{Form, Row, Variable, row_at, variable_count}
 use Rattle.mps_model.specs.Mps.{Mps, with_values}
 use Rattle.mps_model.specs.Text.{mps_text_by}
 use Rattle.mps_model.specs.Valid.{IsMps}
@@ -20,9 +20,9 @@ use Rattle.nl_model.specs.File.{File}
 use Rattle.nl_model.specs.Rules.{IsFile}
 use Rattle.nl_model.proofs.Headers.{counts_of_header}
 use Rattle.file_meaning.specs.FoldFaults.{fold_fault}
-use Rattle.linear_programs.specs.Elements.{elements_from}
+use Rattle.program_meaning.specs.Elements.{elements_from}
 use Rattle.file_meaning.specs.LinearFile.{linear_of, objective_form, linear_row, linear_variable}
-use Rattle.linear_programs.proofs.Elements.{elements_length}
+use Rattle.program_meaning.proofs.Elements.{elements_length}
 use Rattle.file_meaning.proofs.Files.{linear_lem}
 use Rattle.file_meaning.proofs.Formed.{file_formed}
 use Rattle.export_round_trip.specs.ReadAs.{IsReadAs}

@@ -4,7 +4,7 @@ use Rattle.std.specs.Prelude.{All}
 use Rattle.std.proofs.lemmas.List.{length-map, get_or-map}
 use Rattle.std.proofs.lemmas.List.Elements.{All-nil, All-cons, All-head, All-tail, All-push}
 use Rattle.fractions.specs.Rational.{ℚ}
-use Rattle.linear_programs.specs.Linear.{Linear, variable_count}
+use Rattle.program_meaning.specs.Linear.{Linear, variable_count}
 use Rattle.exact_numbers.specs.declared.dec.Dec.{Dec}
 use Rattle.exact_numbers.specs.Values.{dec_value, value_text, FitsDec, fits_dec, text_of}
 use Rattle.exact_numbers.proofs.Spelling.{fits_dec_in, fits_dec_out, value_text-decimal}

@@ -2,7 +2,7 @@
 -- has those of the scaled one.
 use Rattle.std.proofs.Common.{◌≡◌, ℕ, ◌<◌, ◌∙◌, List, [], ◌∷◌, ◌++◌, length, ◌↔◌}
 use Rattle.fractions.specs.Rational.{ℚ}
-use Rattle.linear_programs.specs.Linear.{IsFeasible, IsLinear, Linear, objective_value, variable_count}
+use Rattle.program_meaning.specs.Linear.{IsFeasible, IsLinear, Linear, objective_value, variable_count}
 use Rattle.mps_model.specs.Mps.{IsMpsFeasible, mps_objective}
 use Rattle.scaled_program.specs.Program.{scaled_and_tied, scaled_by}
 use Rattle.scaled_program.proofs.Meaning.{ordered, same_points as scaled_points, same_objective as scaled_objective_same, tied_objective as tied_objective_same, tied_ordered, tied_points as scaled_tied_points}

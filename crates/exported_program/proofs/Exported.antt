@@ -1,7 +1,7 @@
 -- The law of export for the decimal program.
 use Rattle.std.proofs.Common.{◌≡◌, ℕ, ◌<◌, ◌∙◌, sym, ap, subst, List, [], ◌∷◌, ◌++◌, length, ◌↔◌}
 use Rattle.fractions.specs.Rational.{ℚ}
-use Rattle.linear_programs.specs.Linear.{Linear, IsLinear, IsFeasible, objective_value, variable_count, row_at}
+use Rattle.program_meaning.specs.Linear.{Linear, IsLinear, IsFeasible, objective_value, variable_count, row_at}
 use Rattle.exact_numbers.specs.declared.dec.Dec.{Dec}
 use Rattle.exact_numbers.specs.Values.{dec_value}
 use Rattle.mps_model.specs.Mps.{Mps, with_values, IsMpsFeasible, mps_objective}

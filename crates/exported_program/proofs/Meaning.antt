@@ -6,7 +6,7 @@ use Rattle.fractions.specs.Rational.{ℚ, ◌+ℚ◌, ◌-ℚ◌, ◌*ℚ◌, ne
 use Rattle.fractions.specs.Sums.{sum_below}
 use Rattle.fractions.proofs.Arithmetic.{+ℚ_comm, neg-neg, -ℚ_lem}
 use Rattle.fractions.proofs.Adding.{sum_below_same}
-use Rattle.linear_programs.specs.Linear.{AreOrdered, IsInside, linear_part, value_at, unbounded, no_variable}
+use Rattle.program_meaning.specs.Linear.{AreOrdered, IsInside, linear_part, value_at, unbounded, no_variable}
 use Rattle.mps_model.specs.Mps.{Column, at_row, or_zero, part_of_row, row_value, row_sides, row_interval, column_at, column_interval, is_whole_column, has_whole_record, IsMpsFeasible, mps_objective, objective_row}
 use Rattle.scaled_program.specs.Meaning.{HasOrderedSides, IsScaledFeasible, ScaledHolds, no_scaled_row, scaled_objective, scaled_row_value}
 use Rattle.scaled_program.specs.Program.{ScaledProgram, ScaledRow, nonzero, range_of}

@@ -1,7 +1,7 @@
 -- The law of return, for the rows of the MPS program.
 use Rattle.std.proofs.Common.{◌≡◌, ℕ, ◌<◌, ◌∙◌, sym, ap, List, [], ◌∷◌, ◌++◌, length, IsTrue}
 use Rattle.fractions.specs.Rational.{ℚ, ◌-ℚ◌, ◌*ℚ◌}
-use Rattle.linear_programs.specs.Linear.{IsLinear, Linear, form_value, row_at, variable_count}
+use Rattle.program_meaning.specs.Linear.{IsLinear, Linear, form_value, row_at, variable_count}
 use Rattle.mps_model.specs.Mps.{row_value}
 use Rattle.scaled_program.specs.Program.{is_exported, scaled_and_tied, scaled_by}
 use Rattle.scaled_program.specs.Return.{dual_of, place_of}

@@ -1,7 +1,7 @@
 -- The MPS program of a scaled program.
 use Rattle.std.specs.Prelude.{◌≡◌, ℕ, suc, List, [], ◌∷◌, ◌++◌, map, Option, Some, None}
 use Rattle.fractions.specs.Rational.{ℚ, zero_ℚ, ◌-ℚ◌, neg_ℚ}
-use Rattle.linear_programs.specs.Linear.{Form, Variable, Linear}
+use Rattle.program_meaning.specs.Linear.{Form, Variable, Linear}
 use Rattle.exact_numbers.specs.declared.dec.Dec.{Dec}
 use Rattle.exact_numbers.specs.Values.{dec_value}
 use Rattle.mps_model.specs.declared.kinds.RowKind.{RowKind}

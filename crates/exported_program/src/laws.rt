@@ -1,8 +1,8 @@
 // Each law is proved by a function with an empty body.
 ghost use Rattle.std.specs.Prelude.{◌≡◌, ◌≢◌, ◌↔◌, ℕ, suc, ◌<◌, ◌^◌, List, [], ◌∷◌, ◌++◌, length, IsTrue};
 ghost use Rattle.fractions.specs.Rational.{ℚ, ◌-ℚ◌, ◌*ℚ◌};
-ghost use Rattle.linear_programs.specs.Linear.{Linear, IsLinear, IsFeasible, objective_value, variable_count, form_value, row_at};
-ghost use Rattle.linear_programs.specs.Names.{row_name, variable_name};
+ghost use Rattle.program_meaning.specs.Linear.{Linear, IsLinear, IsFeasible, objective_value, variable_count, form_value, row_at};
+ghost use Rattle.program_meaning.specs.Names.{row_name, variable_name};
 ghost use Rattle.texts.specs.Names.{IsName};
 ghost use Rattle.exact_numbers.specs.declared.dec.Dec.{Dec};
 ghost use Rattle.exact_numbers.specs.Values.{dec_value};

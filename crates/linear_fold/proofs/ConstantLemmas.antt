@@ -17,7 +17,7 @@ use Rattle.fractions.proofs.Coprimes.{coprime-mul, coprime-pow}
 use Rattle.fractions.proofs.Extremes.{absolute_above, absolute_below, power_of-zero, power_of-suc}
 use Rattle.fractions.proofs.Arithmetic.{over_lowest, over_parts, zero_value}
 use Rattle.fractions.proofs.Values.{own_value, value_le, value_lt}
-use Rattle.linear_programs.specs.Lines.{constant_line, Line, is_constant, are_constant, constants_of}
+use Rattle.program_meaning.specs.Lines.{constant_line, Line, is_constant, are_constant, constants_of}
 use Rattle.nl_meaning.specs.Faults.{constants_line, nonlinear_unless, operator_fault, operator_line, power_fault, too_wide_unless}
 use Rattle.nl_meaning.specs.declared.Reason.TheVariants.{Nonlinear, RefusedPower, TooWide}
 use Rattle.nl_meaning.specs.Trees.{applied, rule_of}

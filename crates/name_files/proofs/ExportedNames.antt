@@ -3,8 +3,8 @@ use Rattle.std.proofs.Common.{inl, inr, ℕ, zero, suc, List, [], ◌∷◌, ◌
 use Rattle.std.specs.List.{AllByRecursion}
 use Rattle.std.proofs.lemmas.Bool.{cond_both}
 use Rattle.std.proofs.lemmas.List.Elements.{All-cons, recursion_from_All}
-use Rattle.linear_programs.specs.Linear.{Form, Row, Variable, Linear, has_side}
-use Rattle.linear_programs.specs.Names.{row_name, variable_name}
+use Rattle.program_meaning.specs.Linear.{Form, Row, Variable, Linear, has_side}
+use Rattle.program_meaning.specs.Names.{row_name, variable_name}
 use Rattle.mps_model.specs.Mps.{MpsRow, Column}
 use Rattle.fractions.specs.Rational.{ℚ}
 use Rattle.scaled_program.specs.Program.{ScaledRow, scaled_row, exported_rows, tie, z_form, z_variable}

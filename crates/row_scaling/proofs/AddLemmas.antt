@@ -18,7 +18,7 @@ use Rattle.mps_model.specs.declared.kinds.RowKind.{RowKind}
 use Rattle.scaled_program.specs.Program.{ScaledRow, zdef_name, nonzero, z_name}
 use Rattle.exported_program.specs.Program.{kind_of_row, mps_row, with_entry, entries_of, bounds_of, bound_record, column_bounds, fixed_or_both, columns_of, column_entries, or_obj_zero, two_sided, obj_name, nl_name, mps_of}
 use Rattle.exact_numbers.specs.Values.{dec_value}
-use Rattle.linear_programs.specs.Names.{row_name, variable_name}
+use Rattle.program_meaning.specs.Names.{row_name, variable_name}
 use Rattle.scaling.specs.Scaled.{ScaledValue, IsScaled, term_count, IsRowOver}
 use Rattle.scaling.specs.Parts.{name_in, row_named, rows_in, column_count, tied_bounds, tied_count, tied_kinds, AreProgramRows}
 use Rattle.scaling.specs.declared.row.FactoredRow.{FactoredRow}
@@ -26,7 +26,7 @@ use Rattle.scaling.specs.Rows.{side_value}
 use Rattle.scaling.specs.Exported.{program_rows, tied_variables, program_variables, program_objective, scaled_as}
 use Rattle.row_scaling.specs.InsideSides.{IsEntryAdded, right_side_of, range_in}
 use Rattle.row_scaling.proofs.ColumnLemmas.{Rows, left, left_none, left_some, left_end, entries_more, entries_none, entry_front}
-use Rattle.linear_programs.specs.Linear.{Variable, unbounded, Form}
+use Rattle.program_meaning.specs.Linear.{Variable, unbounded, Form}
 use Rattle.mps_model.specs.declared.kinds.BoundKind.TheVariants.{Lo, Up, Fx}
 use Rattle.linear_program.specs.declared.interval.Interval.{Interval}
 use Rattle.linear_program.specs.declared.kind.Kind.{Kind}

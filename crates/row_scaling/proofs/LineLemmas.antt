@@ -20,8 +20,8 @@ use Rattle.row_scaling.specs.InsideSides.{range_in, right_side_of}
 use Rattle.row_scaling.proofs.AddLemmas.{others_left, column_rising, columns_more, column_sides, all_variables, bounds_left, bounds_more, bounds_none, variables_end, left_variables, variable_at}
 use Rattle.row_scaling.proofs.ColumnLemmas.{entries_more, entries_none, Rows, left, left_some}
 use Rattle.std.proofs.Math.ListN.{get_or-append}
-use Rattle.linear_programs.specs.Names.{row_name}
-use Rattle.linear_programs.specs.Linear.{Form, Variable}
+use Rattle.program_meaning.specs.Names.{row_name}
+use Rattle.program_meaning.specs.Linear.{Form, Variable}
 use Rattle.linear_program.specs.declared.interval.Interval.{Interval}
 use Rattle.linear_program.specs.Decimals.{DecimalTerm as TermOf}
 use Rattle.mps_model.specs.declared.kinds.BoundKind.{BoundKind}

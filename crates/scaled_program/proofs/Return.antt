@@ -4,7 +4,7 @@ use Rattle.std.proofs.Math.ListN.{get_or-append}
 use Rattle.fractions.specs.Rational.{ℚ, zero_ℚ, whole, ◌+ℚ◌, ◌-ℚ◌, ◌*ℚ◌, neg_ℚ}
 use Rattle.fractions.proofs.Arithmetic.{+ℚ_comm, +ℚ_assoc, +ℚ_zero, +ℚ-neg, -ℚ_lem, *ℚ_assoc, *ℚ_comm, *ℚ_zero, zero-*ℚ}
 use Rattle.fractions.proofs.Adding.{sum_below_all_zero}
-use Rattle.linear_programs.specs.Linear.{Form, Row, Linear, form_value, linear_part, value_at, variable_count, IsLinear, no_row, row_at}
+use Rattle.program_meaning.specs.Linear.{Form, Row, Linear, form_value, linear_part, value_at, variable_count, IsLinear, no_row, row_at}
 use Rattle.scaled_program.specs.Meaning.{no_scaled_row, scaled_row_value}
 use Rattle.scaled_program.specs.Program.{ScaledRow, exported_rows, is_exported, scaled_and_tied, scaled_by, scaled_row, tie, z_variable}
 use Rattle.scaled_program.specs.Return.{place_of, dual_of}

@@ -6,8 +6,8 @@ use Rattle.std.proofs.lemmas.List.Elements.{All-nil, All-cons, All-head, All-tai
 use Rattle.fractions.specs.Rational.{ℚ, zero_ℚ, whole, ◌+ℚ◌, ◌-ℚ◌, ◌*ℚ◌, neg_ℚ, ◌≤ℚ◌}
 use Rattle.fractions.proofs.Arithmetic.{+ℚ_comm, +ℚ_assoc, +ℚ_zero, +ℚ-neg, -ℚ_lem, +ℚ-≤ℚ, *ℚ_assoc, *ℚ_comm, *ℚ-≤ℚ, le_or_lt, ≤ℚ_antisymm, ≤ℚ_of_<ℚ, ≤ℚ_of_same, *ℚ_cancel, whole-≤ℚ, same_whole}
 use Rattle.fractions.proofs.Adding.{sum_below_same, sum_below-*ℚ}
-use Rattle.linear_programs.specs.Linear.{AreOrdered, Row, RowHolds, form_value, linear_part, value_at, has_side}
-use Rattle.linear_programs.proofs.Sides.{AtLeast, AtMost}
+use Rattle.program_meaning.specs.Linear.{AreOrdered, Row, RowHolds, form_value, linear_part, value_at, has_side}
+use Rattle.program_meaning.proofs.Sides.{AtLeast, AtMost}
 use Rattle.scaled_program.specs.Program.{ScaledRow, scaled_side, scaled_row, exported_rows}
 use Rattle.scaled_program.specs.Meaning.{ScaledHolds}
 use Rattle.scaled_program.proofs.Sides.{there_and_back}

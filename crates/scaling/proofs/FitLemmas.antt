@@ -16,7 +16,7 @@ use Rattle.scaling.proofs.SharedLemmas.{zero_decimal, nothing_in, first_in, late
 use Rattle.linear_program.specs.Decimals.{coefficient_of}
 use Rattle.exact_numbers.specs.declared.dec.Dec.{Dec}
 use Rattle.scaling.specs.Rows.{TermOf, IsSparse, IsBelow, side_value, RowValue, IsScaledRow}
-use Rattle.linear_programs.specs.Linear.{Row}
+use Rattle.program_meaning.specs.Linear.{Row}
 use Rattle.scaled_program.specs.Fits.{RowFits, ScaledFits, SideFits, IfSide, IfBoth, RangeFits}
 use Rattle.scaled_program.specs.Program.{scaled_side, range_of, scaled_row}
 use Rattle.linear_program.specs.declared.interval.Interval.{Interval}
@@ -27,7 +27,7 @@ use Rattle.linear_program.specs.Forms.{form_line, form_terms}
 use Rattle.scaling.specs.Factored.{row_for, factor_for, IsFactored}
 use Rattle.std.proofs.lemmas.Int.{ints}
 use Rattle.exact_numbers.specs.declared.frac.Frac.{Frac}
-use Rattle.linear_programs.specs.Names.{row_name}
+use Rattle.program_meaning.specs.Names.{row_name}
 use Rattle.linear_program.specs.declared.too_wide.Wide.{Wide}
 use Rattle.texts.specs.Stopped.{IfFault}
 use Rattle.texts.specs.declared.stop.Stop.{Stop}

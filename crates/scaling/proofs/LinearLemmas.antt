@@ -8,7 +8,7 @@ use Rattle.linear_program.specs.Intervals.{is_sided}
 use Rattle.texts.specs.Stopped.{IfFault}
 use Rattle.texts.specs.declared.stop.Stop.{Stop}
 use Rattle.texts.specs.declared.stop.Stop.TheVariants.{Fault, Memory}
-use Rattle.linear_programs.specs.Linear.{Row, Linear, variable_count, no_row, row_at, Form as LinearForm, row_at as row_of_program, has_side}
+use Rattle.program_meaning.specs.Linear.{Row, Linear, variable_count, no_row, row_at, Form as LinearForm, row_at as row_of_program, has_side}
 use Rattle.scaled_program.specs.Fits.{IsScaledProgramOf, ExportFits, RowFits, IsDecimal, ObjectiveFits, ScaledFits, factor_of_objective, IsObjectiveTooWide, factor_of_row}
 use Rattle.scaled_program.specs.Program.{ScaledProgram, scaled_by, scaled_and_tied, scaled_row, tie, then_at, zdef_name, exported_rows, tie as tie_row, z_form, z_variable, is_exported}
 use Rattle.linear_program.specs.declared.interval.Interval.{Interval}

@@ -1,11 +1,11 @@
 -- The scaled program that is held as data.
 use Rattle.std.specs.Prelude.{ℕ, suc, ℤ, List, [], ◌∷◌, ◌++◌, length, Option, Some, None}
 use Rattle.fractions.specs.Rational.{whole, neg_ℚ}
-use Rattle.linear_programs.specs.Linear.{Form, Variable}
+use Rattle.program_meaning.specs.Linear.{Form, Variable}
 use Rattle.scaled_program.specs.Program.{ScaledProgram, ScaledRow, then_at, z_form, z_variable, zdef_name}
 use Rattle.exact_numbers.specs.Values.{dec_value}
 use Rattle.linear_program.specs.Decimals.{coefficient_of}
-use Rattle.linear_programs.specs.Names.{row_name}
+use Rattle.program_meaning.specs.Names.{row_name}
 use Rattle.linear_program.specs.Intervals.{interval_of}
 use Rattle.linear_program.specs.Programs.{variables_from}
 use Rattle.scaling.specs.declared.row.FactoredRow.{FactoredRow}

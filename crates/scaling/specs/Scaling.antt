@@ -1,7 +1,7 @@
 -- What scaling the rows of a folded file answers.
 use Rattle.std.specs.Prelude.{◌≡◌, ◌⊎◌, ℕ, ℤ, pos, IsTrue, Option, Some, None}
 use Rattle.std.specs.Option.{option_map}
-use Rattle.linear_programs.specs.Linear.{Linear, row_at as row_of_program}
+use Rattle.program_meaning.specs.Linear.{Linear, row_at as row_of_program}
 use Rattle.scaled_program.specs.Fits.{ExportFits, IsDecimal, IsScaledProgramOf, ObjectiveFits, IsRowTooWide, IsObjectiveTooWide, factor_of_row, factor_of_objective}
 use Rattle.scaled_program.specs.Program.{is_exported}
 use Rattle.scaling.specs.declared.scale_fault.ScaleFault.{ScaleFault}

@@ -2,7 +2,7 @@
 // function with an empty body.
 ghost use Rattle.std.specs.Prelude.{◌≡◌, ℕ, pos, None};
 ghost use Rattle.fractions.specs.Rational.{whole, ◌*ℚ◌};
-ghost use Rattle.linear_programs.specs.Linear.{Form};
+ghost use Rattle.program_meaning.specs.Linear.{Form};
 ghost use Rattle.scaled_program.specs.Program.{scaled_row, tie};
 ghost use Rattle.linear_program.specs.Programs.{variables_from};
 ghost use Rattle.scaling.specs.Exported.{scaled_as, exported_from, form_of, tied_row};

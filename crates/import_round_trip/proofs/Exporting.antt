@@ -2,7 +2,7 @@
 use Rattle.std.proofs.Common.{◌≡◌, ◌∙◌, ◌↔◌, ℕ, List, length, sym, ap, subst, Option, Some, None}
 use Rattle.std.proofs.lemmas.List.{get_or-replicate}
 use Rattle.fractions.specs.Rational.{ℚ}
-use Rattle.linear_programs.specs.Linear.{IsFeasible, Linear, objective_value as program_objective, row_at, variable_count}
+use Rattle.program_meaning.specs.Linear.{IsFeasible, Linear, objective_value as program_objective, row_at, variable_count}
 use Rattle.exact_numbers.specs.declared.dec.Dec.{Dec}
 use Rattle.nl_meaning.specs.Trees.{Tree}
 use Rattle.file_meaning.specs.Expressions.{tree_or_zero}
@@ -22,7 +22,7 @@ use Rattle.mps_program.specs.Program.{constraints, values_of}
 use Rattle.mps_import.specs.Import.{import_counts, import_of}
 use Rattle.mps_import.specs.Variables.{in_order}
 use Rattle.mps_import.proofs.LawLemmas.{feasible_lem, objective_lem, sense_lem}
-use Rattle.import_texts.proofs.Files.{is_file}
+use Rattle.import_round_trip.proofs.Files.{is_file}
 
 -- each tree of an imported file is one number
 pub plain_import : (m : Mps Dec) → IsPlain (import_of m) 0

@@ -14,7 +14,7 @@ use Rattle.file_meaning.specs.Expressions.{definitions_of}
 use Rattle.linear_program.specs.Decimals.{coefficient_of}
 use Rattle.file_meaning.specs.LinearFile.{linear_of, objective_form}
 use Rattle.file_meaning.proofs.Plain.{plain_coefficient, plain_constant}
-use Rattle.linear_programs.specs.Linear.{variable_count}
+use Rattle.program_meaning.specs.Linear.{variable_count}
 use Rattle.mps_model.specs.Mps.{Entry, Mps, no_column, objective_row, rhs_at, with_values}
 use Rattle.mps_model.specs.Valid.{IsMps}
 use Rattle.scaled_program.specs.Fits.{IsDecimal}
@@ -27,7 +27,7 @@ use Rattle.mps_program.specs.Program.{values_of}
 use Rattle.mps_import.proofs.PartLemmas.{all_columns}
 use Rattle.mps_program.proofs.SideLemmas.{rhs_fits, spelled_value}
 use Rattle.exact_numbers.proofs.Fitting.{dec_fits, neg_fits, zero_fits}
-use Rattle.import_texts.proofs.Files.{all_terms_from, column_terms}
+use Rattle.import_round_trip.proofs.Files.{all_terms_from, column_terms}
 
 differ : (a b : ℕ) → a ≢ b → nat_eq a b ≡ false
 differ a b other = by (nat_eq a b) refl

@@ -1,6 +1,6 @@
 -- Lists of the first elements of a sequence.
 use Rattle.std.proofs.Common.{◌≡◌, ℕ, zero, suc, ◌+◌, ◌-◌, ◌<◌, ◌≤◌, ◌∙◌, List, [], ◌∷◌, ◌++◌, sym, ap, refl, subst, arith, length, get_or, All, append-nil, append_assoc}
-use Rattle.linear_programs.specs.Elements.{elements_from}
+use Rattle.program_meaning.specs.Elements.{elements_from}
 
 module _ {A : Type 0} (g : ℕ → A) where
   pub elements_length : (i n : ℕ) → length (elements_from g i n) ≡ n

@@ -13,7 +13,7 @@ ghost use Rattle.mps_import.specs.Faults.{import_fault};
 ghost use Rattle.mps_import.specs.Import.{import_of};
 ghost use Rattle.mps_import.specs.Variables.{in_order};
 ghost use Rattle.mps_program.specs.Program.{values_of};
-ghost use Rattle.import_texts.specs.Imports.{ImportsAreSaid, ImportsAreWritable, NoOtherFileIsSaid};
+ghost use Rattle.import_round_trip.specs.Imports.{ImportsAreSaid, ImportsAreWritable, NoOtherFileIsSaid};
 
 /// The file of a program that is imported can be written.
 pub fn imports_are_writable()

@@ -31,8 +31,8 @@ use Rattle.mps_import.proofs.PartLemmas.{clean_large, number_is}
 use Rattle.mps_program.proofs.SideLemmas.{rhs_fits}
 use Rattle.exact_numbers.proofs.Fitting.{neg_fits}
 use Rattle.mps_import.proofs.TermLemmas.{few_terms}
-use Rattle.import_texts.proofs.Binary.{binary_within}
-use Rattle.import_texts.proofs.Files.{is_file, one}
+use Rattle.import_round_trip.proofs.Binary.{binary_within}
+use Rattle.import_round_trip.proofs.Files.{is_file, one}
 
 -- ---- the objective's tree
 

@@ -15,7 +15,7 @@ use Rattle.exact_numbers.specs.declared.dec.Dec.{Dec}
 use Rattle.exact_numbers.specs.Values.{dec_value, order_of}
 use Rattle.exact_numbers.proofs.Bridge.{and_true}
 use Rattle.fractions.specs.Rational.{ℚ, zero_ℚ, one_ℚ, whole}
-use Rattle.linear_programs.specs.Linear.{Interval}
+use Rattle.program_meaning.specs.Linear.{Interval}
 use Rattle.linear_program.specs.Intervals.{interval_of}
 use Rattle.linear_program.specs.declared.interval.Interval.{Interval as Sides}
 use Rattle.linear_program.specs.declared.kind.Kind.{Kind}

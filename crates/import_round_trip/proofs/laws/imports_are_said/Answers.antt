@@ -1,5 +1,5 @@
-use Rattle.import_texts.proofs.Writing.{no_other, said}
-use Rattle.import_texts.proofs.laws.imports_are_said.Goals as goal
+use Rattle.import_round_trip.proofs.Writing.{no_other, said}
+use Rattle.import_round_trip.proofs.laws.imports_are_said.Goals as goal
 
 pub returns-clause-said : goal.returns-clause-said
 returns-clause-said c = said

@@ -1,6 +1,6 @@
-use Rattle.import_texts.proofs.Decimals.{objective_decimal}
-use Rattle.import_texts.proofs.Exporting.{same_points, same_objective, same_sense}
-use Rattle.import_texts.proofs.laws.imports_are_exported.Goals as goal
+use Rattle.import_round_trip.proofs.Decimals.{objective_decimal}
+use Rattle.import_round_trip.proofs.Exporting.{same_points, same_objective, same_sense}
+use Rattle.import_round_trip.proofs.laws.imports_are_exported.Goals as goal
 
 pub returns-clause-decimal : goal.returns-clause-decimal
 returns-clause-decimal c = objective_decimal

@@ -5,7 +5,7 @@ use Rattle.fractions.specs.Functions.{or_zero}
 use Rattle.fractions.specs.Rational.{ℚ, zero_ℚ, one_ℚ, ◌+ℚ◌, ◌-ℚ◌, ◌*ℚ◌, neg_ℚ}
 use Rattle.fractions.specs.Sums.{sum_below}
 use Rattle.fractions.specs.Fits.{fits, sum_fits}
-use Rattle.linear_programs.specs.Linear.{Form}
+use Rattle.program_meaning.specs.Linear.{Form}
 
 -- a value of each variable: `at j` is that of variable j
 abbrev pub Point : Type 0
