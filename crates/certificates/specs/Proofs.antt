@@ -42,6 +42,12 @@ pairs_of (split j t low high) = pairs_of low ++ pairs_of high
 pairs_of (duals ps) = ps
 pairs_of (weights ps) = ps
 
+-- how many pairs a node announces
+abbrev pub announced_pairs : ProofNode → ℕ
+announced_pairs (Split j t) = 0
+announced_pairs (Duals n) = n
+announced_pairs (Weights n) = n
+
 -- the stated value; an infeasibility proof has none, and none of its leaves asks for it
 abbrev pub claim_value : Claim → ℚ
 claim_value (Value k d) = dec_value d
