@@ -1,15 +1,9 @@
-pub mod Ending
 pub mod Exporting
-pub mod FaultLines
 pub mod Headline
-pub mod Known
 pub mod Making
-pub mod NameLists
 pub mod NamedExporting
 pub mod Numbers
 pub mod OneFile
 pub mod Returning
-pub mod SeveralFiles
-pub mod Certificates
 pub mod Verdicts
 pub mod Programs

@@ -1,0 +1,10 @@
+-- The lines that tell faults of an import.
+use Rattle.std.specs.Prelude.{ℕ, List, codes}
+use Rattle.mps_import.specs.declared.import_fault.ImportFault.{ImportFault}
+use Rattle.mps_import.specs.declared.import_fault.ImportFault.TheVariants.{EmptyInterval, TooWide, TooLarge}
+use Rattle.command_parts.specs.Told.{refusal}
+
+abbrev pub import_line : ImportFault → List ℕ
+import_line TooLarge = codes "refused program: too large\n"
+import_line (TooWide row) = refusal 1 (codes "row") row (codes "too wide")
+import_line (EmptyInterval column) = refusal 1 (codes "column") column (codes "empty interval")
