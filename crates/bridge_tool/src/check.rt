@@ -14,7 +14,6 @@ ghost use Rattle.bridge_tool.specs.Check.{by_fold, check_outcome, check_promise,
 ghost use Rattle.command_parts.specs.SeveralFiles.{Comes};
 ghost use Rattle.command_parts.specs.VerdictTold.{is_yes, verdict_line};
 
-use certificate_check::fit;
 use command_parts::{Answer, Refusal, end, fold, is_yes, open_nl, open_sol, verdict_line};
 use desk::Desk;
 use dual_bounds::{Columns, Verdict, certify};
@@ -22,7 +21,7 @@ use exact_numbers::Dec;
 use linear_program::Linear;
 use nl_model::NlFile;
 use nl_segments::NlRead;
-use sol_files::Sol;
+use sol_files::{Sol, fit};
 use std::alloc::{AllocError, Global};
 use texts::{Ledger, Steps, Stop};
 

@@ -46,15 +46,16 @@ use Rattle.nl_segments.specs.Grammar.{NlValue}
 use Rattle.nl_segments.specs.Reader.{IsNl}
 use Rattle.nl_lines.specs.Saying.{PlaceLines, place_line}
 use Rattle.nl_segments.proofs.CleanTexts.{has_lines_up_to}
-use Rattle.command_parts.specs.AnswerTold.{answer_reason_text}
-use Rattle.command_parts.specs.CertificateTold.{certificate_reason_text}
-use Rattle.command_parts.specs.MpsTold.{mps_reason_text}
+use Rattle.answer_file.specs.Reasons.{reason_text as answer_reason_text}
+use Rattle.certificate_text.specs.Reasons.{reason_text as certificate_reason_text}
+use Rattle.mps_reader.specs.Reasons.{reason_text as mps_reason_text}
 use Rattle.command_parts.specs.NameLists.{IsListRefused}
-use Rattle.command_parts.specs.NamesTold.{name_reason_text}
-use Rattle.command_parts.specs.NlTold.{HasFaultLine, HasLineUpTo, fold_line, opcode_text, placed_line, reason_text, scale_line}
-use Rattle.command_parts.specs.ProofTold.{proof_reason_text}
+use Rattle.name_files.specs.Reasons.{reason_text as name_reason_text}
+use Rattle.command_parts.specs.NlTold.{HasFaultLine, HasLineUpTo, fold_line, placed_line, scale_line}
+use Rattle.nl_lines.specs.Reasons.{opcode_text, reason_text}
+use Rattle.proof_text.specs.Reasons.{reason_text as proof_reason_text}
 use Rattle.command_parts.specs.Refusal.{HasTextRefusal, IsAnswerRefused, IsCertificateRefused, IsFixedRefused, IsMpsRefused, IsProofRefused, IsSolRefused}
-use Rattle.command_parts.specs.SolTold.{sol_reason_text}
+use Rattle.sol_files.specs.Reasons.{reason_text as sol_reason_text}
 use Rattle.command_parts.specs.Told.{refusal, refused_at, IsRefusalLine, file_text}
 use Rattle.command_parts.specs.ToldLines.{TellsLine, TellsPlace}
 use Rattle.sol_files.proofs.FaultLines.{sol_fault_line}
@@ -63,8 +64,10 @@ use Rattle.std.specs.Fmt.{decimal, signed_decimal}
 use Rattle.dual_return.specs.declared.fault.ReturnFault.TheVariants.{DualTooWide}
 use Rattle.mps_import.specs.declared.import_fault.ImportFault.TheVariants.{EmptyInterval, TooWide as TooWideImport, TooLarge}
 use Rattle.command_parts.specs.InsideAnswer.{status_of, told_by}
-use Rattle.command_parts.specs.InsideRefusal.{fold_text, fold_what, refusal_line}
-use Rattle.command_parts.specs.VerdictTold.{fit_text, negative_line}
+use Rattle.command_parts.specs.InsideRefusal.{fold_what, refusal_line}
+use Rattle.linear_fold.specs.Reasons.{fault_text as fold_text}
+use Rattle.command_parts.specs.VerdictTold.{negative_line}
+use Rattle.sol_files.specs.Fits.{fit_text}
 use Rattle.command_parts.specs.declared.answer.Answer.{Answer as Ended}
 use Rattle.command_parts.specs.declared.answer.Answer.TheVariants.{Done, Refused}
 use Rattle.command_parts.specs.declared.refusal.Refusal.{Refusal}

@@ -13,24 +13,10 @@ use Rattle.certificates.specs.Told.{told_claim}
 use Rattle.certificates.specs.declared.certificate.Claim.{Claim}
 use Rattle.certificates.specs.declared.certificate.Claim.TheVariants.{Optimal, Within, Bound, Feasible, Infeasible, Unbounded}
 use Rattle.certificate_text.specs.declared.fault.CertificateReason.{CertificateReason}
-use Rattle.certificate_text.specs.declared.fault.CertificateReason.TheVariants.{LineTooLong, InputTooLong, BadFirst, Extra, BadLine, BadNumber, IndexOut, NotWhole, IndexOrder, TooLarge, Short}
+use Rattle.certificate_text.specs.Reasons.{reason_text as certificate_reason_text}
 use Rattle.command_parts.specs.LeafTold.{leaf_fault_text}
 use Rattle.command_parts.specs.Told.{number_text, refusal}
 use Rattle.command_parts.specs.VerdictTold.{cause_text as point_text}
-
--- what is said of a fault of a certificate's text
-abbrev pub certificate_reason_text : CertificateReason → List ℕ
-certificate_reason_text LineTooLong = codes "line too long"
-certificate_reason_text InputTooLong = codes "input too long"
-certificate_reason_text BadFirst = codes "bad first line"
-certificate_reason_text Extra = codes "extra line"
-certificate_reason_text BadLine = codes "bad line"
-certificate_reason_text BadNumber = codes "bad number"
-certificate_reason_text IndexOut = codes "index out of range"
-certificate_reason_text NotWhole = codes "not whole"
-certificate_reason_text IndexOrder = codes "index out of order"
-certificate_reason_text TooLarge = codes "too large"
-certificate_reason_text Short = codes "short file"
 
 -- the line of a fault of a certificate's text, which is this file of its command
 abbrev pub certificate_line : ℕ → TextFault CertificateReason → List ℕ

@@ -1,7 +1,8 @@
 -- Why the input is refused, and the line that tells it.
 use Rattle.std.specs.Prelude.{ℕ, List, codes, Result, Ok, Err}
 use Rattle.linear_fold.specs.declared.fold_fault.FoldFault.{FoldFault}
-use Rattle.linear_fold.specs.declared.fold_fault.FoldFault.TheVariants.{Nonlinear, DivideByZero, TooWide, RefusedPower, FoldTooLarge, NoSuchObjective}
+use Rattle.linear_fold.specs.declared.fold_fault.FoldFault.TheVariants.{NoSuchObjective}
+use Rattle.linear_fold.specs.Reasons.{fault_text}
 use Rattle.texts.specs.declared.stop.Stop.{Stop}
 use Rattle.texts.specs.declared.stop.Stop.TheVariants.{Fault, Memory}
 use Rattle.command_parts.specs.AnswerTold.{answer_line, return_line}
@@ -22,19 +23,10 @@ abbrev pub fold_what : FoldFault → List ℕ
 fold_what (NoSuchObjective k) = codes "objective"
 fold_what fault = codes "line"
 
--- what is said of it
-abbrev pub fold_text : FoldFault → List ℕ
-fold_text (Nonlinear at) = codes "nonlinear"
-fold_text (DivideByZero at) = codes "division by zero"
-fold_text (TooWide at) = codes "too wide"
-fold_text (RefusedPower at) = codes "refused power"
-fold_text (FoldTooLarge at) = codes "fold too large"
-fold_text (NoSuchObjective k) = codes "no such objective"
-
 -- the line that tells a refusal
 abbrev pub refusal_line : Refusal → List ℕ
 refusal_line (Nl fault) = nl_line fault
-refusal_line (Fold number fault) = refusal 1 (fold_what fault) number (fold_text fault)
+refusal_line (Fold number fault) = refusal 1 (fold_what fault) number (fault_text fault)
 refusal_line (Scale k fault) = scale_line k fault
 refusal_line (Mps fault) = mps_line 1 fault
 refusal_line (Sol file fault) = sol_line file fault

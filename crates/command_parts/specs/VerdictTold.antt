@@ -2,8 +2,8 @@
 use Rattle.std.specs.Prelude.{ℕ, ℤ, Bool, true, false, List, ◌++◌, codes}
 use Rattle.std.specs.Fmt.{decimal, signed_decimal}
 use Rattle.duality.specs.Verdict.{Verdict, yes, gap, refused, Place, at_row, at_bound, at_cost, at_objective, at_total, Fault, row_broken, bound_broken, row_side_missing, bound_side_missing, too_wide}
-use Rattle.certificate_check.specs.declared.fitting.FitFault.{FitFault}
-use Rattle.certificate_check.specs.declared.fitting.FitFault.TheVariants.{OtherCounts, NoPrimal, NoDual}
+use Rattle.sol_files.specs.declared.fitting.FitFault.{FitFault}
+use Rattle.sol_files.specs.Fits.{fit_text}
 use Rattle.command_parts.specs.Told.{number_text}
 
 -- ---- verdicts
@@ -36,11 +36,6 @@ is_yes (gap v b) = false
 is_yes (refused cause) = false
 
 -- ---- refusals
-
-abbrev pub fit_text : FitFault → List ℕ
-fit_text OtherCounts = codes "other counts"
-fit_text NoPrimal = codes "no primal values"
-fit_text NoDual = codes "no dual values"
 
 -- the solution, which is the second file of its command, does not fit the first
 abbrev pub fit_line : FitFault → List ℕ

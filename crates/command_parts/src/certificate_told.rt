@@ -1,5 +1,5 @@
-// What is told of faults of certificates' texts, and the lines of verdicts on certificates.
-ghost use Rattle.std.specs.Prelude.{[], ◌≡◌, ◌≤◌, ◌++◌, codes, length, IfOk, OnOk, true};
+// The lines of verdicts on certificates.
+ghost use Rattle.std.specs.Prelude.{[], ◌≡◌, ◌++◌, codes, IfOk, OnOk, true};
 ghost use Rattle.std.specs.Fmt.{decimal};
 ghost use Rattle.std.specs.Option.{option_map_or};
 ghost use Rattle.fractions.specs.Fits.{fits};
@@ -10,39 +10,18 @@ ghost use Rattle.dual_bounds.specs.Terms.{value_found};
 ghost use Rattle.certificates.specs.Certificates.{objective_of};
 ghost use Rattle.certificates.specs.Told.{told_claim};
 ghost use Rattle.certificate_walk.specs.Outcomes.{cause_of, leaf_fault_of, outcome_of, point_fault_of, ray_fault_of};
-ghost use Rattle.command_parts.specs.CertificateTold.{certificate_reason_text, failed_text, HasFittingBound, is_held, objective_text, outcome_line, outcome_text, ray_text, told_text};
+ghost use Rattle.command_parts.specs.CertificateTold.{failed_text, HasFittingBound, is_held, objective_text, outcome_line, outcome_text, ray_text, told_text};
 ghost use Rattle.command_parts.specs.LeafTold.{leaf_fault_text};
 ghost use Rattle.command_parts.specs.Told.{number_text};
 ghost use Rattle.command_parts.specs.VerdictTold.{cause_text};
 
 use crate::leaf_told::{put_gap, put_side, put_wide};
 use crate::told::{put, put_decimal, put_frac, put_index};
-use certificate_text::CertificateReason;
 use certificate_walk::{Cause, LeafFault, Outcome, PointFault, RayFault};
 use certificates::Claim;
 use exact_numbers::Frac;
 use linear_program::Number;
 use std::alloc::{AllocError, Global};
-
-/// What is said of a fault of a certificate's text.
-pub fn certificate_reason_text(reason: CertificateReason) -> &'static [u8]
-    ensures text { result.now ≡ certificate_reason_text reason }
-    ensures brief { length result.now ≤ 24 }
-{
-    match reason {
-        CertificateReason::LineTooLong => b"line too long",
-        CertificateReason::InputTooLong => b"input too long",
-        CertificateReason::BadFirst => b"bad first line",
-        CertificateReason::Extra => b"extra line",
-        CertificateReason::BadLine => b"bad line",
-        CertificateReason::BadNumber => b"bad number",
-        CertificateReason::IndexOut => b"index out of range",
-        CertificateReason::NotWhole => b"not whole",
-        CertificateReason::IndexOrder => b"index out of order",
-        CertificateReason::TooLarge => b"too large",
-        CertificateReason::Short => b"short file",
-    }
-}
 
 // A number as it was given, in lowest terms.
 fn put_given(line: &mut Vec<u8>, number: &Number) -> Result<(), AllocError>

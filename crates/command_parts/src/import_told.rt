@@ -11,8 +11,13 @@ pub fn import_line(fault: ImportFault) -> LineText<128>
     ensures { result ≡ import_line fault }
 {
     match fault {
-        ImportFault::TooLarge => fixed(b"refused program: too large\n"),
-        ImportFault::TooWide(row) => refusal(1, b"row", row, b"too wide"),
-        ImportFault::EmptyInterval(column) => refusal(1, b"column", column, b"empty interval"),
+        ImportFault::TooLarge => {
+            let mut line = fixed(b"\n");
+            line.put_word(fault.text().as_bytes());
+            line.put_word(b"refused program: ");
+            line
+        }
+        ImportFault::TooWide(row) => refusal(1, b"row", row, fault.text()),
+        ImportFault::EmptyInterval(column) => refusal(1, b"column", column, fault.text()),
     }
 }

@@ -1,33 +1,12 @@
-// What is told of faults of proof texts, and the lines of verdicts on proofs.
-ghost use Rattle.std.specs.Prelude.{◌≡◌, ◌≤◌, ◌++◌, codes, length, IfOk, OnOk};
+// The lines of verdicts on proofs.
+ghost use Rattle.std.specs.Prelude.{◌≡◌, ◌++◌, codes, IfOk, OnOk};
 ghost use Rattle.branch_check.specs.Leaves.{fault_of};
-ghost use Rattle.command_parts.specs.ProofTold.{leaf_line, proof_reason_text};
+ghost use Rattle.command_parts.specs.ProofTold.{leaf_line};
 
 use crate::leaf_told::{put_gap, put_side, put_wide};
 use crate::told::put;
 use branch_check::ProofVerdict;
-use proof_text::ProofReason;
 use std::alloc::{AllocError, Global};
-
-/// What is said of a fault of a proof text.
-pub fn proof_reason_text(reason: ProofReason) -> &'static [u8]
-    ensures text { result.now ≡ proof_reason_text reason }
-    ensures brief { length result.now ≤ 24 }
-{
-    match reason {
-        ProofReason::LineTooLong => b"line too long",
-        ProofReason::InputTooLong => b"input too long",
-        ProofReason::BadFirst => b"bad first line",
-        ProofReason::Extra => b"extra line",
-        ProofReason::BadLine => b"bad line",
-        ProofReason::BadNumber => b"bad number",
-        ProofReason::IndexOut => b"index out of range",
-        ProofReason::NotWhole => b"not whole",
-        ProofReason::RepeatedIndex => b"repeated index",
-        ProofReason::TooLarge => b"too large",
-        ProofReason::Short => b"short file",
-    }
-}
 
 // What is told of a verdict on a proof, but for the end of its line.
 fn put_verdict(line: &mut Vec<u8>, verdict: ProofVerdict) -> Result<(), AllocError>

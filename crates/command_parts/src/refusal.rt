@@ -2,18 +2,12 @@
 ghost use Rattle.std.specs.Prelude.{◌≡◌};
 ghost use Rattle.command_parts.specs.InsideRefusal.{refusal_line};
 
-use crate::answer_told::{answer_reason_text, return_line};
-use crate::certificate_told::certificate_reason_text;
+use crate::answer_told::return_line;
 use crate::import_told::import_line;
-use crate::mps_told::mps_reason_text;
-use crate::names_told::name_reason_text;
-use crate::nl_told::{fold_text, fold_what, nl_line, scale_line};
-use crate::proof_told::proof_reason_text;
-use crate::sol_told::sol_reason_text;
+use crate::nl_told::{fold_what, nl_line, scale_line};
 use crate::told::refusal;
 use crate::verdict_told::{fit_line, negative_line};
 use answer_file::AnswerFault;
-use certificate_check::FitFault;
 use certificate_text::CertificateFault;
 use dual_return::ReturnFault;
 use linear_fold::FoldFault;
@@ -23,7 +17,7 @@ use name_files::NameFault;
 use nl_lines::NlFault;
 use proof_text::ProofFault;
 use scaling::ScaleFault;
-use sol_files::SolFault;
+use sol_files::{FitFault, SolFault};
 use written_texts::LineText;
 
 /// Why the input is refused: a fault of any stage, with what is told of it beside. A number in
@@ -56,30 +50,19 @@ impl Refusal {
     {
         match self {
             Refusal::Nl(fault) => nl_line(fault),
-            Refusal::Fold(number, fault) => refusal(1, fold_what(fault), number, fold_text(fault)),
+            Refusal::Fold(number, fault) => refusal(1, fold_what(fault), number, fault.text()),
             Refusal::Scale(objective, fault) => scale_line(objective, fault),
-            Refusal::Mps(fault) => {
-                refusal(1, b"line", fault.line, mps_reason_text(fault.reason))
-            }
-            Refusal::Sol(file, fault) => {
-                refusal(file, b"line", fault.line, sol_reason_text(fault.reason))
-            }
-            Refusal::Answer(fault) => {
-                refusal(2, b"line", fault.line, answer_reason_text(fault.reason))
-            }
+            Refusal::Mps(fault) => { refusal(1, b"line", fault.line, fault.reason.text()) }
+            Refusal::Sol(file, fault) => { refusal(file, b"line", fault.line, fault.reason.text()) }
+            Refusal::Answer(fault) => { refusal(2, b"line", fault.line, fault.reason.text()) }
             Refusal::Names(file, fault) => {
-                refusal(file, b"line", fault.line, name_reason_text(fault.reason))
+                refusal(file, b"line", fault.line, fault.reason.text())
             }
             Refusal::Proof(file, fault) => {
-                refusal(file, b"line", fault.line, proof_reason_text(fault.reason))
+                refusal(file, b"line", fault.line, fault.reason.text())
             }
             Refusal::Certificate(file, fault) => {
-                refusal(
-                    file,
-                    b"line",
-                    fault.line,
-                    certificate_reason_text(fault.reason),
-                )
+                refusal(file, b"line", fault.line, fault.reason.text())
             }
             Refusal::Import(fault) => import_line(fault),
             Refusal::Fit(fault) => fit_line(fault),

@@ -99,14 +99,14 @@ pub fn put_refused_at(line: &mut LineText<128>, file: u32, what: &[u8], number: 
 }
 
 /// The line of a refusal of this file.
-pub fn refusal(file: u32, what: &[u8], number: u32, text: &[u8]) -> LineText<128>
+pub fn refusal(file: u32, what: &[u8], number: u32, text: &str) -> LineText<128>
     requires what { length what.now ≤ 9 }
     requires text { length text.now ≤ 24 }
     ensures { result ≡ refusal file what.now number text.now }
 {
     let mut line = LineText::new();
     line.put_word(b"\n");
-    line.put_word(text);
+    line.put_word(text.as_bytes());
     put_refused_at(&mut line, file, what, number);
     line
 }

@@ -1,13 +1,13 @@
 // The lines of verdicts, and of faults of solutions that do not fit their file.
-ghost use Rattle.std.specs.Prelude.{◌≡◌, ◌≤◌, ◌++◌, length, IfOk, OnOk};
+ghost use Rattle.std.specs.Prelude.{◌≡◌, ◌++◌, IfOk, OnOk};
 ghost use Rattle.dual_bounds.specs.Answers.{answer_of, place_of};
 ghost use Rattle.dual_bounds.specs.declared.verdict.Verdict.TheVariants.{Gap, TooWide, Yes};
-ghost use Rattle.command_parts.specs.VerdictTold.{fit_line, fit_text, is_yes, negative_line, place_text, verdict_line, verdict_text};
+ghost use Rattle.command_parts.specs.VerdictTold.{fit_line, is_yes, negative_line, place_text, verdict_line, verdict_text};
 
 use crate::told::{fixed, put, put_frac, put_index, put_signed};
-use certificate_check::FitFault;
 use dual_bounds::{Spot, Verdict};
 use exact_numbers::Frac;
+use sol_files::FitFault;
 use std::alloc::{AllocError, Global};
 use written_texts::LineText;
 
@@ -91,25 +91,13 @@ pub fn is_yes(verdict: Verdict) -> bool
     }
 }
 
-// What is said of a solution that does not fit its file.
-fn fit_text(fault: FitFault) -> &'static [u8]
-    ensures text { result.now ≡ fit_text fault }
-    ensures brief { length result.now ≤ 24 }
-{
-    match fault {
-        FitFault::OtherCounts => b"other counts",
-        FitFault::NoPrimal => b"no primal values",
-        FitFault::NoDual => b"no dual values",
-    }
-}
-
 /// The line of a solution, the second file of its command, that does not fit the first.
 pub fn fit_line(fault: FitFault) -> LineText<128>
     ensures { result ≡ fit_line fault }
 {
     let mut line = LineText::new();
     line.put_word(b"\n");
-    line.put_word(fit_text(fault));
+    line.put_word(fault.text().as_bytes());
     line.put_word(b"refused file 2: ");
     line
 }
