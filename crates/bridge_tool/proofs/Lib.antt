@@ -1,9 +1,13 @@
 pub mod Exporting
 pub mod Headline
+pub mod InstanceFiles
+pub mod InstanceNumbers
+pub mod InstanceTexts
 pub mod Making
 pub mod NamedExporting
 pub mod Numbers
 pub mod OneFile
 pub mod Returning
 pub mod Verdicts
+pub mod ProofClaims
 pub mod Programs

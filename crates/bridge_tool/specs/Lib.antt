@@ -7,6 +7,7 @@ pub mod Export
 pub mod InsideExport
 pub mod Import
 pub mod Fixed
+pub mod Instances
 pub mod Make
 pub mod Mps
 pub mod NamedExport

@@ -16,7 +16,8 @@ use command_parts::{
 use desk::Desk;
 use mps_model::Mps;
 use mps_writer::write_mps;
-use name_files::{NameList, rename};
+use name_files::rename;
+use name_lists::NameList;
 use nl_segments::NlRead;
 use scaling::Scaled;
 use std::alloc::{AllocError, Global};

@@ -13,7 +13,7 @@ use crate::input::{Input, open};
 use crate::refusal::Refusal;
 use answer_file::{Answer as Given, AnswerReader};
 use desk::Desk;
-use name_files::NameList;
+use name_lists::NameList;
 use nl_model::NlFile;
 use std::alloc::Global;
 use texts::Stop;
