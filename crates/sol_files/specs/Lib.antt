@@ -15,3 +15,5 @@ pub mod Built
 pub mod Written
 pub mod InsideFields
 pub mod InsideJudging
+pub mod Reasons
+pub mod Fits

@@ -1,9 +1,10 @@
-//! Reading and writing .sol files, and building their values.
+//! Reading and writing .sol files, building their values, and whether one belongs to an .nl file.
 #![tactic(auto)]
 
 mod awaited;
 mod builder;
 mod fault;
+mod fitting;
 mod grammar;
 pub mod laws;
 mod number_lines;
@@ -17,6 +18,7 @@ mod write;
 
 pub use builder::SolBuilder;
 pub use fault::{SolFault, SolReason};
+pub use fitting::{FitFault, SolutionCounts, fit, fit_counts};
 pub use reader::SolReader;
 pub use sol::Sol;
 pub use suffix::SolSuffix;
