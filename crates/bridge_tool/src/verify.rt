@@ -15,7 +15,8 @@ ghost use Rattle.bridge_tool.specs.Verify.{IsDenied, IsVerified, verify_outcome,
 use certificate_walk::{Outcome, check_certificate};
 use certificates::Certificate;
 use command_parts::{
-    Answer, Refusal, end, fold_read, is_held, claim_objective, open_certificate, open_nl, outcome_line,
+    Answer, Refusal, claim_objective, end, fold_read, is_held, open_certificate, open_nl,
+    outcome_line,
 };
 use desk::Desk;
 use dual_bounds::Program;

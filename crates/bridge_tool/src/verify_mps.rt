@@ -15,7 +15,7 @@ ghost use Rattle.bridge_tool.specs.VerifyMps.{IsTextIn, IsTextRefused, as_import
 use crate::verify::{outcome_on, told_outcome};
 use certificates::Certificate;
 use command_parts::{
-    Answer, Refusal, answered, end, claim_objective, open_certificate_over, open_fixed, open_mps,
+    Answer, Refusal, answered, claim_objective, end, open_certificate_over, open_fixed, open_mps,
 };
 use desk::Desk;
 use linear_fold::FoldFault;
