@@ -1,13 +1,13 @@
 -- The sides that a program's rows and columns have.
-use Rattle.std.proofs.Common.{◌≡◌, if◌then◌else◌, ℕ, zero, suc, ◌+◌, ◌<◌, ◌∙◌, sym, ap, ap₂, refl, arith, Bool, true, false, cond, nat_eq, List, [], ◌∷◌, ◌++◌, length, get_or, Option, Some, None, pos, negsuc, ◌⊎◌, ⊎_elim, ◌||◌, ◌&&◌}
+use Rattle.std.proofs.Common.{◌≡◌, if◌then◌else◌, ℕ, zero, suc, ◌+◌, ◌<◌, ◌∙◌, sym, ap, ap₂, refl, arith, Bool, true, false, cond, nat_eq, List, [], ◌∷◌, ◌++◌, length, get_or, Option, Some, None, ◌⊎◌, ⊎_elim, ◌||◌, ◌&&◌}
 use Rattle.std.specs.Option.{option_or}
 use Rattle.std.proofs.lemmas.Bool.{eq-eqb, ne_eqb}
-use Rattle.std.proofs.lemmas.Int.{ints}
 use Rattle.fractions.specs.Rational.{ℚ, zero_ℚ, whole, ◌+ℚ◌, ◌-ℚ◌, neg_ℚ, ◌≤ℚ◌, is_zero}
-use Rattle.fractions.proofs.Arithmetic.{+ℚ_comm, +ℚ_assoc, +ℚ_zero, +ℚ-neg, -ℚ_lem, difference_above, is_zero-true}
+use Rattle.fractions.proofs.Arithmetic.{+ℚ_comm, +ℚ_assoc, +ℚ_zero, +ℚ-neg, -ℚ_lem, difference_above, is_zero-true, not_both}
+use Rattle.fractions.proofs.Extremes.{is_smaller_test}
 use Rattle.linear_programs.specs.Linear.{Interval, AreOrdered, Variable}
 use Rattle.mps_model.specs.declared.kinds.BoundKind.{BoundKind}
-use Rattle.mps_model.specs.Mps.{row_sides, is_negative, size_of, Bound, side_set, lower_set, upper_set, usual_lower, or_usual, has_whole_record, is_below_zero}
+use Rattle.mps_model.specs.Mps.{row_sides, is_negative, size_of, Bound, side_set, lower_set, upper_set, usual_lower, or_usual, has_whole_record}
 use Rattle.mps_model.specs.declared.kinds.BoundKind.TheVariants.{Lo, Up, Fx, Fr, Mi, Pl}
 use Rattle.exported_program.specs.Program.{nonzero, range_of, rhs_of, kind_of_row, two_sided, column_bounds, fixed_or_both, bound_record, bounds_of}
 
@@ -23,8 +23,11 @@ difference_zero l u e = sym (+ℚ_zero l) ∙ ap (λ v. l +ℚ v) (sym e) ∙ th
 
 -- a number at least 0 is its own size
 above_not_negative : (x : ℚ) → zero_ℚ ≤ℚ x → is_negative x ≡ false
-unfolding whole
-above_not_negative x h = elim x.top as (λ t. x.top ≡ t → is_below_zero t ≡ false) [ pos n ↦ λ e. refl | negsuc n ↦ λ e. absurd (omega (arith, ints, h.crosswise, e)) ] refl
+above_not_negative x h = by (is_negative x) refl
+  where
+    by : (b : Bool) → is_negative x ≡ b → is_negative x ≡ false
+    by true e = absurd (not_both zero_ℚ x h ((is_smaller_test x zero_ℚ).0 e))
+    by false e = e
 
 pub size_above : (x : ℚ) → zero_ℚ ≤ℚ x → size_of x ≡ x
 size_above x h = ap (λ b. cond b (neg_ℚ x) x) (above_not_negative x h)
